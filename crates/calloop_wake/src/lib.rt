@@ -1,2 +1,7 @@
 //! What the loop stands on: tokens, refusals, slots, and the wake machine of pings.
 #![tactic(auto)]
+
+pub mod error;
+pub mod token;
+
+pub use error::{Error, InsertError, Result};

@@ -1,0 +1,16 @@
+-- What the conversions of a refusal give.
+use Rattle.std.specs.Prelude.{◌≡◌}
+use Rattle.std.specs.IoError.{error_kind}
+use Rattle.std.specs.declared.io.Error.{Error as IoErr}
+use Rattle.std.specs.declared.io.ErrorKind.TheVariants.{InvalidInput, Other}
+use Rattle.calloop_wake.specs.declared.error.Error.{Error}
+use Rattle.calloop_wake.specs.declared.error.Error.TheVariants.{InvalidToken, IoError, OtherError, OutOfMemory, TooManySources, TooManyTokens}
+
+-- the io::Error made of a refusal, as in calloop's error.rs: the content, or one of this kind
+abbrev pub AsIo : Error → IoErr → Type 0
+AsIo (IoError cause) made = made ≡ cause
+AsIo InvalidToken made = error_kind made ≡ InvalidInput
+AsIo (OtherError cause) made = error_kind made ≡ Other
+AsIo OutOfMemory made = error_kind made ≡ Other
+AsIo TooManySources made = error_kind made ≡ Other
+AsIo TooManyTokens made = error_kind made ≡ Other

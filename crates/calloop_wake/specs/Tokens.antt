@@ -1,0 +1,27 @@
+-- Tokens and their keys.
+use Rattle.std.specs.Prelude.{ℕ, ◌+◌, ◌*◌, ◌^◌, ◌<◌}
+use Rattle.calloop_wake.specs.declared.token.Token.{Token}
+use Rattle.calloop_wake.specs.declared.token.RegistrationToken.{RegistrationToken}
+use Rattle.calloop_wake.specs.declared.token.TokenFactory.{TokenFactory}
+
+-- the token as one word: calloop's token.rs packs the three into a usize, on 64 bits in these widths
+abbrev pub key_of : Token → ℕ
+key_of t = t.slot * 2 ^ 32 + t.version * 2 ^ 16 + t.sub_id
+
+-- its numbers fit their widths; the types of calloop's TokenInner say so
+pub record IsToken (t : Token) : Type 0 where
+  pub slot : t.slot < 2 ^ 32
+  pub version : t.version < 2 ^ 16
+  pub sub_id : t.sub_id < 2 ^ 16
+
+-- the token without its part: calloop's forget_sub_id sets the part to 0, here it is left out
+abbrev pub registration_of : Token → RegistrationToken
+registration_of t = record { slot = t.slot; version = t.version }
+
+-- what a factory gives next: the count is the sub-id, as in calloop's TokenFactory
+abbrev pub next_token : TokenFactory → Token
+next_token f = record { slot = f.registration.slot; version = f.registration.version; sub_id = f.given }
+
+-- the factory after it gave a token; calloop panics where the count is used up, here it refuses
+abbrev pub after_token : TokenFactory → TokenFactory
+after_token f = record f { given = f.given + 1 }

@@ -1,0 +1,131 @@
+//! The names of registrations and of their parts. From calloop's `token.rs`, and its `TokenFactory`.
+ghost use Rattle.std.specs.Prelude.{◌≡◌, ◌≢◌, ◌↔◌, ℕ, ◌-◌, ◌^◌, ◌<◌, IfOk, IfErr, IsErr};
+ghost use Rattle.calloop_wake.specs.Tokens.{IsToken, key_of, registration_of, next_token, after_token};
+ghost use Rattle.calloop_wake.specs.declared.error.Error.TheVariants.{TooManyTokens};
+ghost use Rattle.calloop_wake.specs.declared.token.Token.{Token};
+ghost use Rattle.calloop_wake.specs.declared.token.TokenFactory.{TokenFactory};
+
+use crate::error::{Error, Result};
+
+// One less than the sub-ids of 16 bits, so that no token has the poller's own key.
+const MOST_TOKENS: u16 = 65_535;
+
+/// Which registration an event is for, and which part of its source.
+#[derive(Clone, Copy, Debug, PartialEq, Eq)]
+pub struct Token {
+    slot: u32,
+    version: u16,
+    sub_id: u16,
+}
+
+impl Token {
+    /// The token as one word, by which the poller names it: 32 bits of slot, 16 of version and 16 of sub-id.
+    pub fn key(self) -> u64
+        ensures { result ≡ key_of self }
+    {
+        self.slot as u64 * 0x1_0000_0000 + self.version as u64 * 0x1_0000 + self.sub_id as u64
+    }
+
+    /// The token of a word. The greatest word is the poller's own key, and no token's.
+    pub fn from_key(key: u64) -> Token
+        requires { key ≢ 2 ^ 64 - 1 }
+        ensures token { IsToken result }
+        ensures key { key_of result ≡ key }
+    {
+        Token {
+            slot: (key / 0x1_0000_0000) as u32,
+            version: (key / 0x1_0000 % 0x1_0000) as u16,
+            sub_id: (key % 0x1_0000) as u16,
+        }
+    }
+
+    /// The registration that the token is a part of.
+    pub fn registration(self) -> RegistrationToken
+        ensures { result ≡ registration_of self }
+    {
+        RegistrationToken {
+            slot: self.slot,
+            version: self.version,
+        }
+    }
+}
+
+/// Which use of which slot: it names one source, and nothing once that source is gone.
+#[derive(Clone, Copy, Debug, PartialEq, Eq)]
+pub struct RegistrationToken {
+    slot: u32,
+    version: u16,
+}
+
+impl RegistrationToken {
+    /// The registration of this slot under this version.
+    pub fn new(slot: u32, version: u16) -> RegistrationToken
+        ensures { result ≡ record { slot = slot; version = version } }
+    {
+        RegistrationToken { slot, version }
+    }
+
+    /// The number of the slot.
+    pub fn slot(self) -> u32
+        ensures { result ≡ self.slot }
+    {
+        self.slot
+    }
+
+    /// How often the slot was used again, modulo 65,536.
+    pub fn version(self) -> u16
+        ensures { result ≡ self.version }
+    {
+        self.version
+    }
+}
+
+/// Gives a source the tokens of its registration, each once.
+#[derive(Clone, Copy, Debug)]
+pub struct TokenFactory {
+    registration: RegistrationToken,
+    given: u16,
+}
+
+impl TokenFactory {
+    /// A factory that has given no token yet.
+    pub fn new(registration: RegistrationToken) -> TokenFactory
+        ensures { result ≡ record { registration = registration; given = 0 } }
+    {
+        TokenFactory {
+            registration,
+            given: 0,
+        }
+    }
+
+    /// The next token: sub-ids 0 to 65,534 in order.
+    ///
+    /// After these it refuses with `TooManyTokens`, each time, and stays as it is. Calloop panics there.
+    pub fn token(&mut self) -> Result<Token>
+        ensures ok { IfOk result (λ t. (t ≡ next_token self.old) × (self.new ≡ after_token self.old)) }
+        ensures refuses { IsErr result ↔ (self.old.given ≡ 65535) }
+        ensures err { IfErr result (λ e. (e ≡ TooManyTokens) × (self.new ≡ self.old)) }
+        ensures not_the_poller { IfOk result (λ t. key_of t ≢ 2 ^ 64 - 1) }
+    {
+        if self.given == MOST_TOKENS {
+            return Err(Error::TooManyTokens);
+        }
+        let token = Token {
+            slot: self.registration.slot,
+            version: self.registration.version,
+            sub_id: self.given,
+        };
+        self.given += 1;
+        Ok(token)
+    }
+}
+
+/// Different tokens have different keys.
+pub fn keys_differ()
+    ensures { (a b : Token) → IsToken a → IsToken b → key_of a ≡ key_of b → a ≡ b }
+{}
+
+/// Tokens that factories of one registration give at different counts differ, and so do their keys.
+pub fn factory_tokens_differ()
+    ensures { (f g : TokenFactory) → f.registration ≡ g.registration → f.given < 65535 → g.given < 65535 → f.given ≢ g.given → (next_token f ≢ next_token g) × (key_of (next_token f) ≢ key_of (next_token g)) }
+{}
