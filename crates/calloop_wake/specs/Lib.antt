@@ -1,2 +1,5 @@
 pub mod Errors
 pub mod Tokens
+pub mod Passes
+pub mod Cells
+pub mod Boards

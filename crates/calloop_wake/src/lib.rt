@@ -3,5 +3,6 @@
 
 pub mod error;
 pub mod token;
+pub mod wake;
 
 pub use error::{Error, InsertError, Result};

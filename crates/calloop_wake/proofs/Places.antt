@@ -1,0 +1,140 @@
+-- What each step of the board does to the keys that are open and to those that are marked.
+use Rattle.std.proofs.Common.{◌≡◌, ◌≢◌, ℕ, zero, suc, ◌+◌, ◌<◌, ◌≤◌, Bool, true, false, ◌&&◌, ◌||◌, not, cond, if◌then◌else◌, ◌⊎◌, inl, List, [], ◌∷◌, nat_eq, nat_lt, map, filter, length, get_or, take, refl, sym, ◌∙◌, ap, arith, ltb-true, ltb-false, lt-ltb, le-ltb, false-eqb}
+use Rattle.std.proofs.lemmas.Bool.Decides.{nat_tests}
+use Rattle.std.specs.List.{insert}
+use Rattle.calloop_wake.specs.Boards.{place, is_open, is_marked, any_marked, after_open_place, after_close_place, after_post, after_unpost, taken_keys, AllAbove, IsAscending}
+use Rattle.calloop_wake.specs.declared.wake.board.Place.{Place}
+
+pub is_open-after_open : (j k : ℕ) (ps : List Place) → is_open j (after_open_place k ps) ≡ (nat_eq k j || is_open j ps)
+is_open-after_open j k [] = refl
+is_open-after_open j k (p ∷ ps) = let h = is_open-after_open j k ps in grind arith
+
+pub is_marked-after_open : (j k : ℕ) (ps : List Place) → is_marked j (after_open_place k ps) ≡ is_marked j ps
+is_marked-after_open j k [] = grind arith
+is_marked-after_open j k (p ∷ ps) = let h = is_marked-after_open j k ps in grind arith
+
+pub is_open-after_close : (j k : ℕ) (ps : List Place) → is_open j (after_close_place k ps) ≡ (is_open j ps && not (nat_eq j k))
+is_open-after_close j k [] = refl
+is_open-after_close j k (p ∷ ps) = let h = is_open-after_close j k ps in grind (arith, nat_tests)
+
+pub is_marked-after_close : (j k : ℕ) (ps : List Place) → is_marked j (after_close_place k ps) ≡ (is_marked j ps && not (nat_eq j k))
+is_marked-after_close j k [] = refl
+is_marked-after_close j k (p ∷ ps) = let h = is_marked-after_close j k ps in grind (arith, nat_tests)
+
+pub is_open-after_post : (j k : ℕ) (ps : List Place) → is_open j (after_post k ps) ≡ is_open j ps
+is_open-after_post j k [] = refl
+is_open-after_post j k (p ∷ ps) = ap (λ b. nat_eq p.key j || b) (is_open-after_post j k ps)
+
+pub is_marked-after_post : (j k : ℕ) (ps : List Place) → is_marked j (after_post k ps) ≡ (is_marked j ps || (nat_eq j k && is_open j ps))
+is_marked-after_post j k [] = grind arith
+is_marked-after_post j k (p ∷ ps) = let h = is_marked-after_post j k ps in grind (arith, nat_tests)
+
+pub is_open-after_unpost : (j : ℕ) (ps : List Place) → is_open j (after_unpost ps) ≡ is_open j ps
+is_open-after_unpost j [] = refl
+is_open-after_unpost j (p ∷ ps) = ap (λ b. nat_eq p.key j || b) (is_open-after_unpost j ps)
+
+pub is_marked-after_unpost : (j : ℕ) (ps : List Place) → is_marked j (after_unpost ps) ≡ false
+is_marked-after_unpost j [] = refl
+is_marked-after_unpost j (p ∷ ps) = let h = is_marked-after_unpost j ps in grind arith
+
+pub none_marked : (j : ℕ) (ps : List Place) → any_marked ps ≡ false → is_marked j ps ≡ false
+none_marked j [] h = refl
+none_marked j (p ∷ ps) h = let ih = none_marked j ps in grind arith
+
+-- The order of the keys.
+
+pub AllAbove-less : (j k : ℕ) (ps : List Place) → j ≤ k → AllAbove k ps → AllAbove j ps
+AllAbove-less j k [] le h = tt
+AllAbove-less j k (p ∷ ps) le h = (omega arith, AllAbove-less j k ps le h.1)
+
+pub AllAbove-map : (f : Place → Place) → ((p : Place) → (f p).key ≡ p.key) → (k : ℕ) (ps : List Place) → AllAbove k ps → AllAbove k (map f ps)
+AllAbove-map f same k [] h = tt
+AllAbove-map f same k (p ∷ ps) h = (let e = same p in omega arith, AllAbove-map f same k ps h.1)
+
+pub IsAscending-map : (f : Place → Place) → ((p : Place) → (f p).key ≡ p.key) → (ps : List Place) → IsAscending ps → IsAscending (map f ps)
+IsAscending-map f same [] h = tt
+IsAscending-map f same (p ∷ ps) h = (AllAbove-less (f p).key p.key (map f ps) (let e = same p in omega arith) (AllAbove-map f same p.key ps h.0), IsAscending-map f same ps h.1)
+
+pub AllAbove-filter : (t : Place → Bool) (k : ℕ) (ps : List Place) → AllAbove k ps → AllAbove k (filter t ps)
+AllAbove-filter t k [] h = tt
+AllAbove-filter t k (p ∷ ps) h =
+    elim (t p) as (λ b. AllAbove k (cond b (p ∷ filter t ps) (filter t ps))) [
+      | true ↦ (h.0, AllAbove-filter t k ps h.1)
+      | false ↦ AllAbove-filter t k ps h.1
+    ]
+
+pub IsAscending-filter : (t : Place → Bool) (ps : List Place) → IsAscending ps → IsAscending (filter t ps)
+IsAscending-filter t [] h = tt
+IsAscending-filter t (p ∷ ps) h =
+    elim (t p) as (λ b. IsAscending (cond b (p ∷ filter t ps) (filter t ps))) [
+      | true ↦ (AllAbove-filter t p.key ps h.0, IsAscending-filter t ps h.1)
+      | false ↦ IsAscending-filter t ps h.1
+    ]
+
+pub AllAbove-open : (j k : ℕ) (ps : List Place) → j < k → AllAbove j ps → AllAbove j (after_open_place k ps)
+AllAbove-open j k [] lt h = (lt, tt)
+AllAbove-open j k (p ∷ ps) lt h =
+    elim (nat_lt k p.key) as (λ b. AllAbove j (if b then place k ∷ p ∷ ps else p ∷ after_open_place k ps)) [
+      | true ↦ (lt, (h.0, h.1))
+      | false ↦ (h.0, AllAbove-open j k ps lt h.1)
+    ]
+
+or-false_left : (a b : Bool) → (a || b) ≡ false → a ≡ false
+or-false_left true b h = h
+or-false_left false b h = refl
+
+or-false_right : (a b : Bool) → (a || b) ≡ false → b ≡ false
+or-false_right true b h = absurd (cc)
+or-false_right false b h = h
+
+ascending_open-at : (k : ℕ) (p : Place) (ps rest : List Place) (b : Bool) → nat_lt k p.key ≡ b → nat_eq p.key k ≡ false → IsAscending (p ∷ ps)
+    → AllAbove p.key ps → ((p.key < k) → AllAbove p.key rest) → IsAscending rest → IsAscending (if b then place k ∷ p ∷ ps else p ∷ rest)
+ascending_open-at k p ps rest true is ne h above more sorted =
+    let lt : k < p.key = ltb-true k p.key is in ((lt, AllAbove-less k p.key ps (omega arith) above), h)
+ascending_open-at k p ps rest false is ne h above more sorted =
+    let le : p.key ≤ k = ltb-false k p.key is in let d : p.key ≢ k = false-eqb p.key k (sym ne) in (more (omega arith), sorted)
+
+pub IsAscending-open : (k : ℕ) (ps : List Place) → is_open k ps ≡ false → IsAscending ps → IsAscending (after_open_place k ps)
+IsAscending-open k [] shut h = (tt, tt)
+IsAscending-open k (p ∷ ps) shut h =
+    ascending_open-at k p ps (after_open_place k ps) (nat_lt k p.key) refl (or-false_left (nat_eq p.key k) (is_open k ps) shut) h h.0
+    (λ lt. AllAbove-open p.key k ps lt h.0)
+    (IsAscending-open k ps (or-false_right (nat_eq p.key k) (is_open k ps) shut) h.1)
+
+-- where a new place goes in: behind the places of keys that aren't greater, before one that is
+pub insert_place : (k i : ℕ) (d : Place) (ps : List Place) → i ≤ length ps → ((j : ℕ) (e : Place) → j < i → (get_or ps j e).key ≤ k)
+    → (i < length ps → k < (get_or ps i d).key) → insert ps i (place k) ≡ after_open_place k ps
+insert_place k zero d [] within below above = refl
+insert_place k (suc i) d [] within below above = absurd (omega arith)
+insert_place k zero d (p ∷ ps) within below above =
+    let lt : nat_lt k p.key ≡ true = lt-ltb k p.key (above (omega arith)) in
+    sym (ap (λ b. if b then place k ∷ p ∷ ps else p ∷ after_open_place k ps) lt)
+insert_place k (suc i) d (p ∷ ps) within below above =
+    let le : nat_lt k p.key ≡ false = le-ltb k p.key (below 0 p (omega arith)) in
+    let rest = insert_place k i d ps (omega arith) (λ j e h. below (suc j) e (omega arith)) (λ h. above (omega arith)) in
+    ap (λ l. p ∷ l) rest ∙ sym (ap (λ b. if b then place k ∷ p ∷ ps else p ∷ after_open_place k ps) le)
+
+-- a marked place has a key that is still to be taken
+pub taken_keys-more : (ps : List Place) (i : ℕ) (d : Place) → i < length ps → (get_or ps i d).marked ≡ true
+    → length (taken_keys (take i ps)) + 1 ≤ length (taken_keys ps)
+taken_keys-more [] i d lt is = absurd (omega arith)
+taken_keys-more (p ∷ ps) zero d lt is =
+    let e : taken_keys (p ∷ ps) ≡ p.key ∷ taken_keys ps = ap (λ b. map (λ q. q.key) (cond b (p ∷ filter (λ q. q.marked) ps) (filter (λ q. q.marked) ps))) is in
+    rw e (omega arith)
+taken_keys-more (p ∷ ps) (suc i) d lt is =
+    let h = taken_keys-more ps i d (omega arith) is in
+    elim p.marked as (λ b. length (map (λ q. q.key) (cond b (p ∷ filter (λ q. q.marked) (take i ps)) (filter (λ q. q.marked) (take i ps)))) + 1
+    ≤ length (map (λ q. q.key) (cond b (p ∷ filter (λ q. q.marked) ps) (filter (λ q. q.marked) ps)))) [
+      | true ↦ omega arith
+      | false ↦ h
+    ]
+
+-- no more keys are taken than places are open
+pub length-taken_keys-le : (ps : List Place) → length (taken_keys ps) ≤ length ps
+length-taken_keys-le [] = omega arith
+length-taken_keys-le (p ∷ ps) =
+    let h = length-taken_keys-le ps in
+    elim p.marked as (λ b. length (map (λ q. q.key) (cond b (p ∷ filter (λ q. q.marked) ps) (filter (λ q. q.marked) ps))) ≤ suc (length ps)) [
+      | true ↦ omega arith
+      | false ↦ omega arith
+    ]

@@ -1,0 +1,9 @@
+use Rattle.std.proofs.Common.{◌≡◌, ◌+◌, ◌++◌, map, take, length, deque_len, deque_capacity}
+use Rattle.calloop_wake.specs.Boards.{taken, taken_keys}
+use Rattle.calloop_wake.proofs.wake.board.take.Given as goal
+
+abbrev pub invariant-loop-p : goal.invariant-loop-p
+invariant-loop-p l = record {
+  items : l.passes.items ≡ l.initial.passes.items ++ map taken (taken_keys (take l.p-index l.places));
+  capacity : deque_capacity l.passes ≡ deque_capacity l.initial.passes;
+}

@@ -1,0 +1,119 @@
+//! The wake machine of pings: values that must be spent, the cell that the ends of a ping share, and
+//! the board of the posted keys.
+//!
+//! In calloop the kernel does this work, through an eventfd or a pipe for each ping and the poller.
+//! The values of this module have no `Drop`: who has one has to hand it on or to spend it.
+ghost use Rattle.std.specs.Prelude.{◌≡◌};
+
+use std::marker::Model;
+
+pub mod board;
+pub mod ping;
+
+/// Its key has to be posted on the board.
+#[must_use]
+pub struct Debt {
+    key: u64,
+}
+
+impl Model for Debt {
+    ghost use Rattle.std.specs.Prelude.{ℕ};
+
+    ghost Value = { ℕ };
+
+    ghost view = { λ d. d.key };
+}
+
+/// The place of its key was opened, so one cell may now take that key.
+#[must_use]
+pub struct OpenedPass {
+    key: u64,
+}
+
+impl Model for OpenedPass {
+    ghost use Rattle.std.specs.Prelude.{ℕ};
+
+    ghost Value = { ℕ };
+
+    ghost view = { λ p. p.key };
+}
+
+/// The cell of its key has another key now, so the place may be closed.
+#[must_use]
+pub struct LeaveToClose {
+    key: u64,
+}
+
+impl Model for LeaveToClose {
+    ghost use Rattle.std.specs.Prelude.{ℕ};
+
+    ghost Value = { ℕ };
+
+    ghost view = { λ l. l.key };
+}
+
+/// Its key was taken from the board. It opens a turn, or goes back to the board as a debt.
+#[must_use]
+pub struct TakenPass {
+    key: u64,
+    refused: bool,
+}
+
+impl Model for TakenPass {
+    ghost use Rattle.calloop_wake.specs.Passes.{Taken};
+
+    ghost Value = { Taken };
+
+    ghost view = { λ p. record { key = p.key; refused = p.refused } };
+}
+
+impl TakenPass {
+    /// The key that was taken.
+    pub fn key(&self) -> u64
+        ensures { result ≡ self.now.key }
+    {
+        self.key
+    }
+
+    /// Whether a cell refused to open a turn with it.
+    pub fn is_refused(&self) -> bool
+        ensures { result ≡ self.now.refused }
+    {
+        self.refused
+    }
+
+    /// Gives the key back to the board, as a debt.
+    pub fn back(self) -> Debt
+        ensures { result ≡ self.key }
+    {
+        let TakenPass { key, refused: _ } = self;
+        Debt { key }
+    }
+}
+
+/// A turn of a ping's cell stands open. Its value is the key of the pass that opened it.
+#[must_use]
+pub struct PingTurn {
+    key: u64,
+}
+
+impl Model for PingTurn {
+    ghost use Rattle.std.specs.Prelude.{ℕ};
+
+    ghost Value = { ℕ };
+
+    ghost view = { λ t. t.key };
+}
+
+/// No key was marked on the board, so the loop may wait once.
+#[must_use]
+pub struct LeaveToSleep {
+    of_wake: (),
+}
+
+impl LeaveToSleep {
+    /// Spends the leave, by the wait that it allows.
+    pub fn spend(self) {
+        let LeaveToSleep { of_wake: _ } = self;
+    }
+}

@@ -1,0 +1,206 @@
+//! The board: one place for each open key, which is marked while the key is posted.
+ghost use Rattle.std.specs.Prelude.{◌≡◌, ◌≤◌, ◌+◌, ◌++◌, ◌∷◌, [], false, true, not, map, length, is_ok, is_some, Err, MatchResult, if◌then◌else◌};
+ghost use Rattle.std.specs.VecDeque.{deque_len, deque_capacity};
+ghost use Rattle.std.specs.List.{insert};
+ghost use Rattle.calloop_wake.specs.Boards.{place, is_open, any_marked, marked_at, after_open_place, after_close_place, after_post, after_unpost, taken, taken_keys};
+ghost use Rattle.calloop_wake.specs.declared.wake.board.OpenRefusal.TheVariants.{AlreadyExists, OutOfMemory};
+
+use super::{Debt, LeaveToClose, LeaveToSleep, OpenedPass, TakenPass};
+use std::alloc::Global;
+use std::collections::VecDeque;
+use std::marker::Model;
+
+/// The place of a key on the board.
+#[derive(Clone, Copy, Debug, PartialEq, Eq)]
+pub struct Place {
+    /// The key.
+    pub key: u64,
+    /// Whether the key is posted.
+    pub marked: bool,
+}
+
+/// Why a place could not be opened.
+#[derive(Clone, Copy, Debug, PartialEq, Eq)]
+pub enum OpenRefusal {
+    /// The key has a place already.
+    AlreadyExists,
+    /// No memory was left for a place.
+    OutOfMemory,
+}
+
+/// The places in ascending order of their keys. In calloop the kernel's poller keeps such a table.
+#[derive(Drop)]
+pub struct Board {
+    places: Vec<Place>,
+}
+
+impl Model for Board {
+    ghost use Rattle.std.specs.Prelude.{List};
+    ghost use Rattle.calloop_wake.specs.Boards.{IsAscending};
+    ghost use Rattle.calloop_wake.specs.declared.wake.board.Place.{Place};
+
+    ghost Value = { List Place };
+
+    ghost view = { λ b. b.places.items };
+
+    ghost invariant = { λ b. IsAscending b.places.items };
+}
+
+// At how many places a new one goes in.
+fn place_for(places: &[Place], key: u64) -> usize
+    ensures within { result ≤ length places.now }
+    ensures sorted { insert places.now result (place key) ≡ after_open_place key places.now }
+{
+    for (i, p) in places.iter().enumerate() {
+        if key < p.key {
+            return i;
+        }
+    }
+    places.len()
+}
+
+fn has_place(places: &[Place], key: u64) -> bool
+    ensures { result ≡ is_open key places.now }
+{
+    places.iter().any(|p| p.key == key)
+}
+
+fn has_mark(places: &[Place]) -> bool
+    ensures { result ≡ any_marked places.now }
+{
+    places.iter().any(|p| p.marked)
+}
+
+fn marked(place: Place, key: u64) -> Place
+    ensures { result ≡ marked_at key place }
+{
+    Place {
+        key: place.key,
+        marked: place.marked || place.key == key,
+    }
+}
+
+fn remove_place(places: &mut Vec<Place>, key: u64)
+    ensures { places.new.items ≡ after_close_place key places.old.items }
+{
+    places.retain(|p| p.key != key);
+}
+
+fn mark(places: &mut Vec<Place>, key: u64)
+    ensures { places.new.items ≡ after_post key places.old.items }
+{
+    for p in places.iter_mut() {
+        *p = marked(*p, key);
+    }
+}
+
+fn unmark(places: &mut Vec<Place>)
+    ensures { places.new.items ≡ after_unpost places.old.items }
+{
+    for p in places.iter_mut() {
+        *p = Place {
+            key: p.key,
+            marked: false,
+        };
+    }
+}
+
+// Appends a pass for each mark.
+fn take(places: &[Place], passes: &mut VecDeque<TakenPass>)
+    requires { deque_len passes.old + length (taken_keys places.now) ≤ deque_capacity passes.old }
+    ensures items { passes.new.items ≡ passes.old.items ++ map taken (taken_keys places.now) }
+    ensures len { deque_len passes.new ≡ deque_len passes.old + length (taken_keys places.now) }
+    ensures capacity { deque_capacity passes.new ≡ deque_capacity passes.old }
+{
+    for p in places {
+        if p.marked {
+            let pass = TakenPass {
+                key: p.key,
+                refused: false,
+            };
+            match passes.push_back(pass) {
+                Ok(()) => {}
+                Err(_) => unreachable!(),
+            }
+        }
+    }
+}
+
+impl Board {
+    /// A board with no place. It allocates nothing yet.
+    pub fn new(alloc: Global) -> Board
+        ensures { result ≡ [] }
+    {
+        Board {
+            places: Vec::new(alloc),
+        }
+    }
+
+    /// How many places are open.
+    pub fn places(&self) -> usize
+        ensures { result ≡ length self.now }
+    {
+        self.places.len()
+    }
+
+    /// Opens a place for the key, not marked, as calloop adds a descriptor to the poller.
+    ///
+    /// It refuses with `AlreadyExists` exactly where the key has a place, and with `OutOfMemory` where there is no
+    /// memory for one. After a refusal the board is as it was.
+    pub fn open_place(&mut self, key: u64) -> Result<OpenedPass, OpenRefusal>
+        ensures board { self.new ≡ (if is_ok result then after_open_place key self.old else self.old) }
+        ensures open { is_open key self.old ≡ true → result ≡ Err AlreadyExists }
+        ensures shut { is_open key self.old ≡ false → MatchResult result (λ pass. pass ≡ key) (λ e. e ≡ OutOfMemory) }
+    {
+        if has_place(&self.places, key) {
+            return Err(OpenRefusal::AlreadyExists);
+        }
+        let at = place_for(&self.places, key);
+        let place = Place { key, marked: false };
+        match self.places.insert(at, place) {
+            Ok(()) => Ok(OpenedPass { key }),
+            Err(_) => Err(OpenRefusal::OutOfMemory),
+        }
+    }
+
+    /// Closes the place of a key that no cell has any more, with its mark.
+    pub fn close_place(&mut self, leave: LeaveToClose)
+        ensures { self.new ≡ after_close_place leave self.old }
+    {
+        let LeaveToClose { key } = leave;
+        remove_place(&mut self.places, key);
+    }
+
+    /// Marks the key of a debt, where its place is open. The debt of a key with no place is spent all the same.
+    pub fn post(&mut self, debt: Debt)
+        ensures { self.new ≡ after_post debt self.old }
+    {
+        let Debt { key } = debt;
+        mark(&mut self.places, key);
+    }
+
+    /// Gives the leave to sleep where no key is marked.
+    pub fn look(&self) -> Option<LeaveToSleep>
+        ensures { is_some result ≡ not (any_marked self.now) }
+    {
+        if has_mark(&self.places) {
+            None
+        } else {
+            Some(LeaveToSleep { of_wake: () })
+        }
+    }
+
+    /// Takes all marked keys, ascending, and appends a pass for each.
+    ///
+    /// The queue needs room for them: at most `places()` passes.
+    pub fn unpost(&mut self, passes: &mut VecDeque<TakenPass>)
+        requires { deque_len passes.old + length (taken_keys self.old) ≤ deque_capacity passes.old }
+        ensures board { self.new ≡ after_unpost self.old }
+        ensures gives { passes.new.items ≡ passes.old.items ++ map taken (taken_keys self.old) }
+        ensures len { deque_len passes.new ≡ deque_len passes.old + length (taken_keys self.old) }
+        ensures capacity { deque_capacity passes.new ≡ deque_capacity passes.old }
+    {
+        take(&self.places, passes);
+        unmark(&mut self.places);
+    }
+}
