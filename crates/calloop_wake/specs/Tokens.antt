@@ -1,5 +1,5 @@
 -- Tokens and their keys.
-use Rattle.std.specs.Prelude.{ℕ, ◌+◌, ◌*◌, ◌^◌, ◌<◌}
+use Rattle.std.specs.Prelude.{ℕ, ◌+◌, ◌*◌, ◌/◌, ◌%◌, ◌^◌, ◌<◌}
 use Rattle.calloop_wake.specs.declared.token.Token.{Token}
 use Rattle.calloop_wake.specs.declared.token.RegistrationToken.{RegistrationToken}
 use Rattle.calloop_wake.specs.declared.token.TokenFactory.{TokenFactory}
@@ -7,6 +7,10 @@ use Rattle.calloop_wake.specs.declared.token.TokenFactory.{TokenFactory}
 -- the token as one word: calloop's token.rs packs the three into a usize, on 64 bits in these widths
 abbrev pub key_of : Token → ℕ
 key_of t = t.slot * 2 ^ 32 + t.version * 2 ^ 16 + t.sub_id
+
+-- the token of a word
+abbrev pub token_of : ℕ → Token
+token_of key = record { slot = key / 2 ^ 32; version = key / 2 ^ 16 % 2 ^ 16; sub_id = key % 2 ^ 16 }
 
 -- its numbers fit their widths; the types of calloop's TokenInner say so
 pub record IsToken (t : Token) : Type 0 where

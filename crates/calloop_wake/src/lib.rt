@@ -4,5 +4,6 @@
 pub mod error;
 pub mod token;
 pub mod wake;
+pub mod wheel;
 
 pub use error::{Error, InsertError, Result};

@@ -1,6 +1,6 @@
 //! The names of registrations and of their parts. From calloop's `token.rs`, and its `TokenFactory`.
 ghost use Rattle.std.specs.Prelude.{◌≡◌, ◌≢◌, ◌↔◌, ℕ, ◌-◌, ◌^◌, ◌<◌, IfOk, IfErr, IsErr};
-ghost use Rattle.calloop_wake.specs.Tokens.{IsToken, key_of, registration_of, next_token, after_token};
+ghost use Rattle.calloop_wake.specs.Tokens.{IsToken, key_of, token_of, registration_of, next_token, after_token};
 ghost use Rattle.calloop_wake.specs.declared.error.Error.TheVariants.{TooManyTokens};
 ghost use Rattle.calloop_wake.specs.declared.token.Token.{Token};
 ghost use Rattle.calloop_wake.specs.declared.token.TokenFactory.{TokenFactory};
@@ -29,6 +29,7 @@ impl Token {
     /// The token of a word. The greatest word is the poller's own key, and no token's.
     pub fn from_key(key: u64) -> Token
         requires { key ≢ 2 ^ 64 - 1 }
+        ensures value { result ≡ token_of key }
         ensures token { IsToken result }
         ensures key { key_of result ≡ key }
     {

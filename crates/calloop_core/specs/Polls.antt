@@ -1,0 +1,173 @@
+-- What a source reads of `Poll`, and what it can do to it; and what the loop does with the batch.
+-- calloop's `Poll` stands on the machine's poller and on files for its pings; here pings have a board, and the
+-- loop owns the batch that calloop hands out from a buffer.
+use Rattle.std.specs.Prelude.{◌≡◌, ℕ, ◌+◌, ◌-◌, ◌^◌, ◌≤◌, List, [], ◌∷◌, ◌++◌, map, filter, length, not, nat_eq, Bool, true, false, Option, Some, None, Result, Ok, Err, if◌then◌else◌, vec_capacity, ◌⊎◌}
+use Rattle.std.specs.VecDeque.{deque_len, deque_capacity}
+use Rattle.std.specs.declared.io.Error.{Error as Cause}
+use Rattle.calloop_wake.specs.declared.error.Error.{Error}
+use Rattle.calloop_wake.specs.declared.error.Error.TheVariants.{IoError, OutOfMemory}
+use Rattle.std.specs.IoError.{error_kind}
+use Rattle.std.specs.declared.io.ErrorKind.{ErrorKind}
+use Rattle.std.specs.declared.io.ErrorKind.TheVariants.{AlreadyExists}
+use Rattle.calloop_wake.specs.declared.wake.board.Place.{Place}
+use Rattle.calloop_wake.specs.Tokens.{token_of}
+use Rattle.calloop_wake.specs.Passes.{Taken}
+use Rattle.calloop_wake.specs.Boards.{is_open, any_marked, after_open_place, after_close_place, after_post, after_unpost, taken, taken_keys}
+use Rattle.calloop_core.specs.declared.sys.Readiness.{Readiness}
+use Rattle.calloop_core.specs.declared.sys.poll.Pending.{Pending}
+use Rattle.calloop_core.specs.declared.sys.poll.Poll.{Poll}
+use Rattle.calloop_core.specs.Pollers.{Outside}
+
+-- the poller, the board, the events that wait for their turn, the passes of the posted ones among them in their
+-- order, and the pass of the event whose turn it is
+pub record PollView (P : Type 0) : Type 0 where
+  pub poller : P
+  pub board : List Place
+  pub batch : List Pending
+  pub passes : List Taken
+  pub pass : Option Taken
+
+abbrev pub poll_view : {P C : Type 0} → Poll P C → PollView P
+poll_view p = record { poller = p.poller; board = p.board; batch = p.batch.items; passes = p.passes.items; pass = p.pass }
+
+-- a pass that isn't spent goes back: its key is posted again
+abbrev pub given_back : Option Taken → List Place → List Place
+given_back None places = places
+given_back (Some t) places = after_post t.key places
+
+-- another pass, or none, for the event whose turn it is; the one before goes back
+abbrev pub with_pass : {P : Type 0} → Option Taken → PollView P → PollView P
+with_pass pass v = record v { pass = pass; board = given_back v.pass v.board }
+
+-- what a source can do
+pub data PollStep : Type 0 where
+  OpenPlace : (key : ℕ) → PollStep
+  ClosePlace : (key : ℕ) → PollStep
+  Post : (key : ℕ) → PollStep
+  TakePass : PollStep
+  PutBack : (pass : Taken) → PollStep
+
+abbrev pub poll_after : {P : Type 0} → PollView P → PollStep → PollView P
+poll_after v (OpenPlace key) = record v { board = after_open_place key v.board }
+poll_after v (ClosePlace key) = record v { board = after_close_place key v.board }
+poll_after v (Post key) = record v { board = after_post key v.board }
+poll_after v TakePass = record v { pass = None }
+poll_after v (PutBack pass) = with_pass (Some pass) v
+
+abbrev pub polls_after : {P : Type 0} → PollView P → List PollStep → PollView P
+polls_after v [] = v
+polls_after v (s ∷ ss) = polls_after (poll_after v s) ss
+
+-- when a step can be made
+abbrev pub Allowed : {P : Type 0} → PollView P → PollStep → Type 0
+Allowed v (OpenPlace key) = is_open key v.board ≡ false
+Allowed v (ClosePlace key) = Unit {0}
+Allowed v (Post key) = Unit {0}
+Allowed v TakePass = Unit {0}
+Allowed v (PutBack pass) = Unit {0}
+
+abbrev pub AllAllowed : {P : Type 0} → PollView P → List PollStep → Type 0
+AllAllowed v [] = Unit {0}
+AllAllowed v (s ∷ ss) = Allowed v s × AllAllowed (poll_after v s) ss
+
+-- these steps can be made, and lead there
+abbrev pub AllStepped : {P : Type 0} → PollView P → List PollStep → PollView P → Type 0
+AllStepped v steps v' = AllAllowed v steps × (v' ≡ polls_after v steps)
+
+-- the posts of a debt, where there is one, and the close of a place
+abbrev pub posts : Option ℕ → List PollStep
+posts None = []
+posts (Some key) = Post key ∷ []
+
+abbrev pub closes : Option ℕ → List PollStep
+closes None = []
+closes (Some key) = ClosePlace key ∷ []
+
+-- the poller's own key, which no token has
+abbrev pub own_key : ℕ
+own_key = 2 ^ 64 - 1
+
+abbrev pub is_tokens : ℕ → Bool
+is_tokens key = not (nat_eq key own_key)
+
+-- found ready to be read, and nothing else
+abbrev pub ready_to_read : Readiness
+ready_to_read = record { readable = true; writable = false; error = false }
+
+abbrev pub posted_event : ℕ → Pending
+posted_event key = record { readiness = ready_to_read; token = token_of key; posted = true }
+
+abbrev pub polled_event : ℕ × Readiness → Pending
+polled_event given = record { readiness = given.1; token = token_of given.0; posted = false }
+
+abbrev pub is_for_a_token : ℕ × Readiness → Bool
+is_for_a_token given = is_tokens given.0
+
+-- the events of posted keys, and those that the poller gave; the poller's own key names none
+abbrev pub posted_events : List ℕ → List Pending
+posted_events keys = map posted_event (filter is_tokens keys)
+
+abbrev pub polled_events : List (ℕ × Readiness) → List Pending
+polled_events given = map polled_event (filter is_for_a_token given)
+
+-- the posted keys are taken, and the batch is what was left over, then they, then what the poller gave
+abbrev pub gathered : {P : Type 0} → List ℕ → List (ℕ × Readiness) → PollView P → PollView P
+gathered posted given v =
+    record v {
+      board = after_unpost v.board;
+      batch = (v.batch ++ posted_events posted) ++ polled_events given;
+      passes = v.passes ++ map taken posted;
+    }
+
+-- zero where a posted key stands, else the caller's timeout
+abbrev pub asked_for : (is_posted : Bool) → (timeout : Option ℕ) → Option ℕ
+asked_for is_posted timeout = if is_posted then Some 0 else timeout
+
+abbrev pub polling : {P : Type 0} → P → PollView P → PollView P
+polling p v = record v { poller = p }
+
+-- a wait and, where it had no fault, the gathering
+abbrev pub Polled : {P : Type 0} → Outside P → (timeout : Option ℕ) → Result (Unit {0}) Error → PollView P → PollView P → Type 0
+Polled {P} O timeout (Ok u) v v' = (given : List (ℕ × Readiness)) × (p : P) × O.waits v.poller (asked_for (any_marked v.board) timeout) (Ok tt) given p × (v' ≡ gathered (taken_keys v.board) given (polling p v))
+Polled {P} O timeout (Err e) v v' = (given : List (ℕ × Readiness)) × (p : P) × (cause : Cause) × (e ≡ IoError cause) × O.waits v.poller (asked_for (any_marked v.board) timeout) (Err cause) given p × (v' ≡ polling p v)
+
+abbrev pub tail_of : {A : Type 0} → List A → List A
+tail_of [] = []
+tail_of (x ∷ xs) = xs
+
+abbrev pub head_of : {A : Type 0} → List A → Option A
+head_of [] = None
+head_of (x ∷ xs) = Some x
+
+-- the event leaves the batch for its turn, a posted one with its pass
+abbrev pub begun : {P : Type 0} → Pending → PollView P → PollView P
+begun e v =
+    if e.posted
+    then record (with_pass (head_of v.passes) v) { batch = tail_of v.batch; passes = tail_of v.passes }
+    else record (with_pass None v) { batch = tail_of v.batch }
+
+-- the first event is cut from the batch
+abbrev pub cut_from : {P : Type 0} → List Pending → PollView P → PollView P
+cut_from [] v = v
+cut_from (e ∷ es) v = begun e v
+
+abbrev pub cut : {P : Type 0} → PollView P → PollView P
+cut v = cut_from v.batch v
+
+abbrev pub key_of_pass : Taken → ℕ
+key_of_pass t = t.key
+
+-- an error of the system of this kind
+abbrev pub IsOfKind : ErrorKind → Error → Type 0
+IsOfKind kind e = (cause : Cause) × (e ≡ IoError cause) × (error_kind cause ≡ kind)
+
+-- why a place can't be opened
+abbrev pub CannotOpen : (key : ℕ) → List Place → Error → Type 0
+CannotOpen key places e = ((is_open key places ≡ true) × IsOfKind AlreadyExists e) ⊎ ((is_open key places ≡ false) × (e ≡ OutOfMemory))
+
+-- there is room for what one poll can gather
+pub record IsReady {P C : Type 0} (p : Poll P C) : Type 0 where
+  pub batch : deque_len p.batch + (length p.board + 1024) ≤ deque_capacity p.batch
+  pub passes : deque_len p.passes + length p.board ≤ deque_capacity p.passes
+  pub events : p.events.items ≡ []
+  pub room : 1024 ≤ vec_capacity p.events

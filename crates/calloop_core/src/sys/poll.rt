@@ -1,0 +1,296 @@
+//! What sources register with: the poller, the board of pings, and the batch of events.
+ghost use Rattle.std.specs.Prelude.{◌≡◌, ℕ, ◌+◌, ◌≤◌, ◌++◌, [], ◌∷◌, List, Option, Some, None, true, false, map, drop, length, vec_len, vec_capacity, IsOk, OnOk, OnErr, IfOk, IfErr, is_ok, Ok, Err, option_to_list};
+ghost use Rattle.std.specs.VecDeque.{deque_len, deque_capacity};
+ghost use Rattle.std.specs.Borrow.{Lends, sem};
+ghost use Rattle.std.specs.IoError.{error_kind};
+ghost use Rattle.std.specs.declared.io.ErrorKind.TheVariants.{AlreadyExists};
+ghost use Rattle.calloop_wake.specs.declared.error.Error.TheVariants.{IoError, OutOfMemory};
+ghost use Rattle.calloop_wake.specs.Boards.{is_open, any_marked, taken_keys};
+ghost use Rattle.calloop_wake.specs.Tokens.{key_of};
+ghost use Rattle.calloop_core.specs.Pollers.{nanos_of};
+ghost use Rattle.calloop_core.specs.Polls.{PollView, PollStep, OpenPlace, ClosePlace, Post, TakePass, PutBack, poll_view, poll_after, with_pass, posted_event, posted_events, polled_event, polled_events, Polled, CannotOpen, key_of_pass, IsReady, cut, head_of, polls_after, posts, closes, gathered, asked_for, own_key};
+ghost use Rattle.calloop_core.specs.Lending.{with_poller};
+ghost use Rattle.calloop_core.specs.contracts.sys.poll.Poll.{the_row};
+ghost use Rattle.calloop_core.specs.declared.sys.Readiness.{Readiness};
+
+use super::{EVENTS_PER_WAIT, Poller, Readiness};
+use calloop_wake::error::{Error, Result};
+use calloop_wake::token::Token;
+use calloop_wake::wake::board::{Board, OpenRefusal};
+use calloop_wake::wake::{Debt, LeaveToClose, OpenedPass, TakenPass};
+use std::alloc::Global;
+use std::collections::VecDeque;
+use std::time::Duration;
+use std::{io, mem};
+
+/// The poller's own key, which no token has.
+const OWN_KEY: u64 = u64::MAX;
+
+/// An event that waits for its turn.
+#[derive(Clone, Copy, Debug)]
+pub struct Pending {
+    pub readiness: Readiness,
+    pub token: Token,
+    /// It came from the board, so a pass lies behind it.
+    pub posted: bool,
+}
+
+/// What sources register with. It owns the poller, the board of pings, and the events that wait for their turn.
+pub struct Poll<P, C> {
+    poller: P,
+    clock: C,
+    board: Board,
+    batch: VecDeque<Pending>,
+    passes: VecDeque<TakenPass>,
+    pass: Option<TakenPass>,
+    events: Vec<(u64, Readiness)>,
+}
+
+impl<P: Drop, C: Drop> Drop for Poll<P, C> {
+    fn drop(self) {
+        let Poll {
+            poller: _,
+            clock: _,
+            mut board,
+            batch: _,
+            passes,
+            pass,
+            events: _,
+        } = self;
+        if let Some(pass) = pass {
+            board.post(pass.back());
+        }
+        give_all_back(&mut board, passes);
+    }
+}
+
+fn give_all_back(board: &mut Board, mut passes: VecDeque<TakenPass>) {
+    while let Some(pass) = passes.pop_front() {
+        board.post(pass.back());
+    }
+    passes.destroy_empty();
+}
+
+fn posted_event(key: u64) -> Pending
+    requires { ¬ (key ≡ own_key) }
+    ensures { result ≡ posted_event key }
+{
+    Pending {
+        readiness: Readiness {
+            readable: true,
+            writable: false,
+            error: false,
+        },
+        token: Token::from_key(key),
+        posted: true,
+    }
+}
+
+fn polled_event(key: u64, readiness: Readiness) -> Pending
+    requires { ¬ (key ≡ own_key) }
+    ensures { result ≡ polled_event (key, readiness) }
+{
+    Pending {
+        readiness,
+        token: Token::from_key(key),
+        posted: false,
+    }
+}
+
+// The events of the passes from the first new one on.
+fn append_posted(batch: &mut VecDeque<Pending>, passes: &VecDeque<TakenPass>, first: usize)
+    requires first { first ≤ deque_len passes.now }
+    requires room { deque_len batch.old + deque_len passes.now ≤ deque_capacity batch.old + first }
+    ensures items { batch.new.items ≡ batch.old.items ++ posted_events (map key_of_pass (drop first passes.now.items)) }
+    ensures len { deque_len batch.new + first ≤ deque_len batch.old + deque_len passes.now }
+    ensures capacity { deque_capacity batch.new ≡ deque_capacity batch.old }
+{
+    for i in first..passes.len() {
+        let key = passes[i].key();
+        if key != OWN_KEY {
+            batch.push_back_reserved(posted_event(key));
+        }
+    }
+}
+
+// The events that the poller gave.
+fn append_polled(batch: &mut VecDeque<Pending>, events: &[(u64, Readiness)])
+    requires { deque_len batch.old + length events.now ≤ deque_capacity batch.old }
+    ensures { batch.new.items ≡ batch.old.items ++ polled_events events.now }
+{
+    for event in events {
+        let (key, readiness) = *event;
+        if key != OWN_KEY {
+            batch.push_back_reserved(polled_event(key, readiness));
+        }
+    }
+}
+
+impl<P, C> Poll<P, C> {
+    /// Over this poller, with an empty board and an empty batch.
+    pub fn new(alloc: Global, poller: P, clock: C) -> Poll<P, C>
+        ensures { poll_view result ≡ record { poller = poller; board = []; batch = []; passes = []; pass = None } }
+    {
+        Poll {
+            poller,
+            clock,
+            board: Board::new(alloc),
+            batch: VecDeque::new(alloc),
+            passes: VecDeque::new(alloc),
+            pass: None,
+            events: Vec::new(alloc),
+        }
+    }
+
+    /// The clock for callers that tell time.
+    pub fn clock(&self) -> &C
+        ensures { result.now ≡ self.now.clock }
+    {
+        &self.clock
+    }
+
+    /// The poller itself, as to give a scripted one its answers.
+    pub fn poller_mut(&mut self) -> &mut P
+        ensures* writes_back { sem 𝓛 (Lends (the_row P.row C.row) P.row self.entry result (λ w. with_poller w self.old)) }
+        ensures value { result.now ≡ self.old.poller }
+    {
+        &mut self.poller
+    }
+
+    /// Opens the place of a ping on the board. An open one is `IoError` of kind `AlreadyExists`; want of memory is
+    /// `OutOfMemory`. A refusal changes nothing.
+    pub fn open_place(&mut self, token: Token) -> Result<OpenedPass>
+        ensures ok { IfOk result (λ pass. (pass ≡ key_of token) × (is_open (key_of token) self.old.board ≡ false) × (poll_view self.new ≡ poll_after (poll_view self.old) (OpenPlace (key_of token)))) }
+        ensures err { IfErr result (λ e. CannotOpen (key_of token) self.old.board e × (poll_view self.new ≡ poll_view self.old)) }
+    {
+        match self.board.open_place(token.key()) {
+            Ok(pass) => Ok(pass),
+            Err(OpenRefusal::AlreadyExists) => Err(Error::IoError(io::Error::from(
+                io::ErrorKind::AlreadyExists,
+            ))),
+            Err(OpenRefusal::OutOfMemory) => Err(Error::OutOfMemory),
+        }
+    }
+
+    /// Closes the place of a key that no cell has any more, where there is one.
+    pub fn close_place(&mut self, leave: Option<LeaveToClose>)
+        ensures { poll_view self.new ≡ polls_after (poll_view self.old) (closes leave) }
+    {
+        if let Some(leave) = leave {
+            self.board.close_place(leave);
+        }
+    }
+
+    /// Posts the key of a debt, where there is one.
+    pub fn settle(&mut self, debt: Option<Debt>)
+        ensures { poll_view self.new ≡ polls_after (poll_view self.old) (posts debt) }
+    {
+        if let Some(debt) = debt {
+            self.board.post(debt);
+        }
+    }
+
+    fn replace_pass(&mut self, pass: Option<TakenPass>)
+        ensures { poll_view self.new ≡ with_pass pass (poll_view self.old) }
+    {
+        if let Some(other) = mem::replace(&mut self.pass, pass) {
+            self.board.post(other.back());
+        }
+    }
+
+    /// Takes the pass of the event whose turn it is, where one lies behind it and wasn't taken yet.
+    pub fn take_pass(&mut self) -> Option<TakenPass>
+        ensures pass { result ≡ (poll_view self.old).pass }
+        ensures view { poll_view self.new ≡ poll_after (poll_view self.old) TakePass }
+    {
+        self.pass.take()
+    }
+
+    /// Puts back a pass that a cell refused.
+    pub fn put_back(&mut self, pass: TakenPass)
+        ensures { poll_view self.new ≡ poll_after (poll_view self.old) (PutBack pass) }
+    {
+        self.replace_pass(Some(pass));
+    }
+
+    /// Reserves what one `poll` can gather. Want of memory changes nothing.
+    pub fn reserve(&mut self) -> Result<()>
+        ensures view { poll_view self.new ≡ poll_view self.old }
+        ensures ready { OnOk result (IsReady self.new) }
+        ensures err { IfErr result (λ e. e ≡ OutOfMemory) }
+    {
+        let places = self.board.places();
+        let Some(room) = places.checked_add(EVENTS_PER_WAIT) else {
+            return Err(Error::OutOfMemory);
+        };
+        self.events.clear();
+        self.batch.reserve(room)?;
+        self.passes.reserve(places)?;
+        self.events.reserve(EVENTS_PER_WAIT)?;
+        Ok(())
+    }
+
+    /// The first event of the batch leaves it for its turn, a posted one with its pass.
+    pub fn next_event(&mut self) -> Option<Pending>
+        ensures event { result ≡ head_of (poll_view self.old).batch }
+        ensures view { poll_view self.new ≡ cut (poll_view self.old) }
+    {
+        let event = self.batch.pop_front()?;
+        let pass = if event.posted {
+            self.passes.pop_front()
+        } else {
+            None
+        };
+        self.replace_pass(pass);
+        Some(event)
+    }
+
+    /// The turn of an event is over: a pass that is unspent goes back, and its key is posted again.
+    pub fn end_event(&mut self)
+        ensures { poll_view self.new ≡ with_pass None (poll_view self.old) }
+    {
+        self.replace_pass(None);
+    }
+
+    fn gather(&mut self)
+        requires batch { deque_len self.old.batch + (length self.old.board + 1024) ≤ deque_capacity self.old.batch }
+        requires passes { deque_len self.old.passes + length self.old.board ≤ deque_capacity self.old.passes }
+        requires events { vec_len self.old.events ≤ 1024 }
+        ensures { poll_view self.new ≡ gathered (taken_keys self.old.board) self.old.events.items (poll_view self.old) }
+    {
+        let first = self.passes.len();
+        self.board.unpost(&mut self.passes);
+        append_posted(&mut self.batch, &self.passes, first);
+        append_polled(&mut self.batch, &self.events);
+    }
+}
+
+impl<P: Poller, C> Poll<P, C> {
+    // A wait that isn't zero spends the leave to sleep that the look at the board gave.
+    fn wait(&mut self, timeout: Option<Duration>) -> io::Result<()>
+        requires events { self.old.events.items ≡ [] }
+        requires room { 1024 ≤ vec_capacity self.old.events }
+        ensures waits { (p : P) × P.outside.waits self.old.poller (asked_for (any_marked self.old.board) (nanos_of timeout)) result self.new.events.items p × (self.new ≡ record self.old { poller = p; events = self.new.events }) }
+        ensures few { vec_len self.new.events ≤ 1024 }
+    {
+        match self.board.look() {
+            Some(leave) => {
+                leave.spend();
+                self.poller.wait(timeout, &mut self.events)
+            }
+            None => self.poller.wait(Some(Duration::ZERO), &mut self.events),
+        }
+    }
+
+    /// Waits for events, at most for `timeout` and not at all where a posted key stands, and puts the batch
+    /// together: what was left over, the posted keys in ascending order, and what the poller gave in its order.
+    /// A fault of the wait is `IoError`; then the batch and the posted keys are as they were.
+    pub fn poll(&mut self, timeout: Option<Duration>) -> Result<()>
+        requires { IsReady self.old }
+        ensures { Polled P.outside (nanos_of timeout) result (poll_view self.old) (poll_view self.new) }
+    {
+        self.wait(timeout)?;
+        self.gather();
+        Ok(())
+    }
+}

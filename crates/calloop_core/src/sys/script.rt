@@ -1,0 +1,175 @@
+//! A poller that answers what it was told to, with a clock of its own: for tests and for recorded answers.
+ghost use Rattle.std.specs.Prelude.{◌≡◌, ℕ, ◌+◌, ◌≤◌, ◌++◌, [], ◌∷◌, List, Option, vec_len, vec_capacity, IsOk, OnOk, OnErr, IfOk, IfErr, is_ok, if◌then◌else◌};
+ghost use Rattle.calloop_core.specs.Scripts.{kept_waits};
+ghost use Rattle.calloop_core.specs.declared.sys.Readiness.{Readiness};
+
+use super::{Clock, Poller, Readiness};
+use calloop_wake::wheel::Instant;
+use std::alloc::{AllocError, AllocFailed, Global};
+use std::collections::VecDeque;
+use std::io;
+use std::time::Duration;
+
+/// The events of one scripted wait, at most 1,024 of them.
+#[derive(Drop)]
+pub struct ScriptEvents {
+    events: Vec<(u64, Readiness)>,
+    ghost few: { vec_len events ≤ 1024 },
+}
+
+impl ScriptEvents {
+    /// No events.
+    pub fn new(alloc: Global) -> ScriptEvents
+        ensures { result.events.items ≡ [] }
+    {
+        ScriptEvents {
+            events: Vec::new(alloc),
+        }
+    }
+
+    /// Adds an event. The 1,025th is handed back, and one for which there is no memory too; then nothing changes.
+    pub fn push(&mut self, key: u64, readiness: Readiness) -> Result<(), (u64, Readiness)>
+        ensures ok { OnOk result (self.new.events.items ≡ self.old.events.items ++ (key, readiness) ∷ []) }
+        ensures err { IfErr result (λ event. (event ≡ (key, readiness)) × (self.new.events.items ≡ self.old.events.items)) }
+    {
+        if self.events.len() >= 1024 {
+            return Err((key, readiness));
+        }
+        match self.events.push((key, readiness)) {
+            Ok(()) => Ok(()),
+            Err(failed) => Err(failed.value),
+        }
+    }
+}
+
+/// What a scripted wait gives next: events, and the moment that the clock then shows.
+#[derive(Drop)]
+pub struct ScriptAnswer {
+    pub moment: Instant,
+    pub events: ScriptEvents,
+}
+
+/// Answers what it was told to. With no answer left a wait gives no event and moves the clock by the asked
+/// wait, at most to 2^64 - 1 nanoseconds; a wait without limit then moves nothing.
+#[derive(Drop)]
+pub struct ScriptPoller {
+    moment: Instant,
+    answers: VecDeque<ScriptAnswer>,
+    waits: Vec<Option<Duration>>,
+}
+
+/// Shows the moment at which it was made.
+#[derive(Clone, Copy, Debug)]
+pub struct ScriptClock {
+    moment: Instant,
+}
+
+impl Clock for ScriptClock {
+    fn now(&self) -> Instant {
+        self.moment
+    }
+}
+
+impl ScriptPoller {
+    /// With the clock at 0, no answer, and no room for asked waits.
+    pub fn new(alloc: Global) -> ScriptPoller
+        ensures { (result.moment.nanos ≡ 0) × (result.answers.items ≡ []) × (result.waits.items ≡ []) }
+    {
+        ScriptPoller {
+            moment: Instant { nanos: 0 },
+            answers: VecDeque::new(alloc),
+            waits: Vec::new(alloc),
+        }
+    }
+
+    /// A clock that shows the moment of now.
+    pub fn clock(&self) -> ScriptClock
+        ensures { result.moment ≡ self.now.moment }
+    {
+        ScriptClock {
+            moment: self.moment,
+        }
+    }
+
+    /// Adds the answer of one more wait, behind those that are there.
+    pub fn script(&mut self, answer: ScriptAnswer) -> Result<(), AllocFailed<ScriptAnswer>>
+        ensures answers { self.new.answers.items ≡ (if is_ok result then self.old.answers.items ++ answer ∷ [] else self.old.answers.items) }
+        ensures value_returned { IfErr result (λ failed. failed.value ≡ answer) }
+        ensures moment { self.new.moment ≡ self.old.moment }
+        ensures waits { self.new.waits ≡ self.old.waits }
+    {
+        self.answers.push_back(answer)
+    }
+
+    /// Empties the list of asked waits, and makes room for `n`. Want of memory leaves the list as it was;
+    /// where there is room for `n` already, it takes no memory.
+    pub fn keep_waits(&mut self, n: usize) -> Result<(), AllocError>
+        ensures waits { self.new.waits.items ≡ (if is_ok result then [] else self.old.waits.items) }
+        ensures room { OnOk result (n ≤ vec_capacity self.new.waits) }
+        ensures succeeds { n ≤ vec_capacity self.old.waits → IsOk result }
+        ensures moment { self.new.moment ≡ self.old.moment }
+        ensures answers { self.new.answers ≡ self.old.answers }
+    {
+        self.waits
+            .try_reserve_exact(n.saturating_sub(self.waits.len()))?;
+        self.waits.clear();
+        Ok(())
+    }
+
+    /// The waits that were asked since `keep_waits`, in order, as far as the room goes.
+    pub fn waits(&self) -> &[Option<Duration>]
+        ensures { result.now ≡ self.now.waits.items }
+    {
+        self.waits.as_slice()
+    }
+
+    fn note(&mut self, timeout: Option<Duration>)
+        ensures waits { self.new.waits.items ≡ kept_waits self.old.waits.items (vec_capacity self.old.waits) timeout }
+        ensures room { vec_capacity self.new.waits ≡ vec_capacity self.old.waits }
+        ensures moment { self.new.moment ≡ self.old.moment }
+        ensures answers { self.new.answers ≡ self.old.answers }
+    {
+        if self.waits.len() < self.waits.capacity() {
+            self.waits.push_reserved(timeout);
+        }
+    }
+}
+
+fn append(mut events: Vec<(u64, Readiness)>, out: &mut Vec<(u64, Readiness)>)
+    requires { vec_len out.old + vec_len events ≤ vec_capacity out.old }
+    ensures items { out.new.items ≡ out.old.items ++ events.items }
+    ensures room { vec_capacity out.old ≤ vec_capacity out.new }
+{
+    // There is room, so it takes no memory.
+    out.append(&mut events).unwrap()
+}
+
+impl Poller for ScriptPoller {
+    ghost use Rattle.calloop_core.specs.ScriptPollers.{script_outside};
+
+    ghost outside = { script_outside };
+
+    fn now(&mut self) -> Instant {
+        self.moment
+    }
+
+    fn wait(
+        &mut self,
+        timeout: Option<Duration>,
+        events: &mut Vec<(u64, Readiness)>,
+    ) -> io::Result<()> {
+        self.note(timeout);
+        match self.answers.pop_front() {
+            Some(answer) => {
+                self.moment = answer.moment;
+                append(answer.events.events, events);
+            }
+            None => {
+                if let Some(asked) = timeout {
+                    self.moment = self.moment.after(asked);
+                }
+            }
+        }
+        Ok(())
+    }
+}
