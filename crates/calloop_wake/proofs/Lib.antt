@@ -1,1 +1,4 @@
+pub mod Indexed
+pub mod Named
 pub mod Places
+pub mod Vacancy

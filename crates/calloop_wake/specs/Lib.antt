@@ -3,3 +3,4 @@ pub mod Tokens
 pub mod Passes
 pub mod Cells
 pub mod Boards
+pub mod Slots

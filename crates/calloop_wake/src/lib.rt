@@ -2,6 +2,7 @@
 #![tactic(auto)]
 
 pub mod error;
+pub mod list;
 pub mod token;
 pub mod wake;
 pub mod wheel;

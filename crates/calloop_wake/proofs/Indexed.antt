@@ -1,0 +1,25 @@
+use Rattle.std.proofs.Common.{◌≡◌, ℕ, suc, zero, ◌+◌, ◌<◌, ◌≤◌, List, [], ◌∷◌, length, get_or, refl, ap, sym, ◌∙◌, subst, arith, slice_get, Some, None, Option, map}
+use Rattle.std.proofs.Math.ListN.{set}
+use Rattle.calloop_wake.specs.Slots.{changed}
+
+-- a change at an index is a write of the changed element
+pub changed-set : {A : Type 0} (f : A → A) (xs : List A) (i : ℕ) (x : A) → x ≡ get_or xs i x → i < length xs → set xs i (f x) ≡ changed f xs i
+changed-set f [] i x e h = absurd (omega arith)
+changed-set f (y ∷ ys) zero x e h = ap (λ v. f v ∷ ys) e
+changed-set f (y ∷ ys) (suc i) x e h = ap (λ vs. y ∷ vs) (changed-set f ys i x e (omega arith))
+
+-- a change passes through a map
+pub map-changed : {A B : Type 0} (g : A → B) (f : A → A) (f' : B → B) (xs : List A) (i : ℕ) → ((x : A) → g (f x) ≡ f' (g x)) → map g (changed f xs i) ≡ changed f' (map g xs) i
+map-changed g f f' [] i h = refl
+map-changed g f f' (x ∷ xs) zero h = ap (λ v. v ∷ map g xs) (h x)
+map-changed g f f' (x ∷ xs) (suc i) h = ap (λ vs. g x ∷ vs) (map-changed g f f' xs i h)
+
+pub get_some : {A : Type 0} (xs : List A) (i : ℕ) (x d : A) → slice_get xs i ≡ Some x → get_or xs i d ≡ x
+get_some [] i x d e = cc
+get_some (y ∷ ys) zero x d e = cc
+get_some (y ∷ ys) (suc i) x d e = get_some ys i x d e
+
+pub length-changed : {A : Type 0} (f : A → A) (xs : List A) (i : ℕ) → length (changed f xs i) ≡ length xs
+length-changed f [] i = refl
+length-changed f (x ∷ xs) zero = refl
+length-changed f (x ∷ xs) (suc i) = ap suc (length-changed f xs i)

@@ -1,0 +1,36 @@
+use Rattle.std.proofs.Common.{◌≡◌, ℕ, ◌<◌, List, [], ◌∷◌, length, refl, ap, sym, ◌∙◌, arith, Some, None, Option, Bool, true, false, if◌then◌else◌, nat_eq, slice_get, is_some}
+use Rattle.std.proofs.lemmas.Option.{slice_get_within}
+use Rattle.calloop_wake.specs.declared.token.RegistrationToken.{RegistrationToken}
+use Rattle.calloop_wake.specs.declared.list.Content.{Content}
+use Rattle.calloop_wake.specs.declared.list.Content.TheVariants.{Vacant, Source, InTurn}
+use Rattle.calloop_wake.specs.declared.list.Slot.{Slot}
+use Rattle.calloop_wake.specs.Slots.{named, is_empty, content_under, source_of}
+
+-- nothing but a vacant slot is empty
+pub empty_is : {S : Type 0} (c : Content S) → is_empty c ≡ true → c ≡ Vacant
+empty_is Vacant e = refl
+empty_is (Source s) e = cc
+empty_is InTurn e = cc
+
+-- a source is no vacant slot
+pub source_filled : {S : Type 0} (c : Content S) → is_some (source_of c) ≡ true → is_empty c ≡ false
+source_filled Vacant e = cc
+source_filled (Source s) e = refl
+source_filled InTurn e = cc
+
+pub source_is : {S : Type 0} (c : Content S) (s : S) → source_of c ≡ Some s → c ≡ Source s
+source_is Vacant s e = cc
+source_is (Source r) s e = cc
+source_is InTurn s e = cc
+
+under : {S : Type 0} (v : ℕ) (o : Option (Slot S)) → is_empty (content_under v o) ≡ false → (s : Slot S) × (o ≡ Some s) × (nat_eq s.version v ≡ true) × (content_under v o ≡ s.content)
+under v None e = cc
+under {S} v (Some s) e =
+    elim (nat_eq s.version v) as (λ b. nat_eq s.version v ≡ b → is_empty (if b then s.content else Vacant) ≡ false → (s' : Slot S) × (◌≡◌ {A = Option (Slot S)} (Some s) (Some s')) × (nat_eq s'.version v ≡ true) × ((if b then s.content else Vacant) ≡ s'.content)) [ true ↦ λ same h. (s, refl, same, refl) | false ↦ λ _ h. cc ] refl e
+
+-- a token that names something stands for what is in its slot
+pub named_slot : {S : Type 0} (xs : List (Slot S)) (t : RegistrationToken) → is_empty (named xs t) ≡ false → (s : Slot S) × (slice_get xs t.slot ≡ Some s) × (nat_eq s.version t.version ≡ true) × (named xs t ≡ s.content)
+named_slot xs t e = under t.version (slice_get xs t.slot) e
+
+pub named_within : {S : Type 0} (xs : List (Slot S)) (t : RegistrationToken) → is_empty (named xs t) ≡ false → t.slot < length xs
+named_within xs t e = let s = named_slot xs t e in slice_get_within xs t.slot s.0 s.1

@@ -1,0 +1,55 @@
+use Rattle.std.proofs.Common.{◌≡◌, ℕ, suc, zero, ◌+◌, ◌%◌, ◌<◌, ◌≤◌, List, [], ◌∷◌, ◌++◌, length, get_or, drop, refl, ap, sym, ◌∙◌, arith, Bool, true, false, add-one, if◌then◌else◌}
+use Rattle.std.proofs.Math.Seq.{drop-cons}
+use Rattle.std.proofs.Math.ListN.{set}
+use Rattle.calloop_wake.specs.declared.token.RegistrationToken.{RegistrationToken}
+use Rattle.calloop_wake.proofs.Indexed.{changed-set}
+use Rattle.calloop_wake.specs.declared.list.Content.TheVariants.{Vacant}
+use Rattle.calloop_wake.specs.declared.list.Slot.{Slot}
+use Rattle.calloop_wake.specs.Slots.{changed, first_vacant, next_version, claimed, used_again, is_vacant, next_registration}
+
+pub first_vacant-le : {S : Type 0} (ss : List (Slot S)) → first_vacant ss ≤ length ss
+first_vacant-le [] = omega arith
+first_vacant-le (s ∷ ss) = elim (is_vacant s) as (λ b. (if b then 0 else suc (first_vacant ss)) ≤ suc (length ss)) [ true ↦ omega arith | false ↦ omega (arith, first_vacant-le ss) ]
+
+pub vacant_here : {S : Type 0} (ss : List (Slot S)) (i : ℕ) (d : Slot S) → i < length ss → is_vacant (get_or ss i d) ≡ true → first_vacant (drop i ss) ≡ 0
+vacant_here ss i d h e = rw (drop-cons ss i d) (rw e refl)
+
+pub vacant_later : {S : Type 0} (ss : List (Slot S)) (i : ℕ) (d : Slot S) → i < length ss → is_vacant (get_or ss i d) ≡ false → first_vacant (drop i ss) ≡ suc (first_vacant (drop (i + 1) ss))
+vacant_later ss i d h e = rw (add-one, drop-cons ss i d) (rw e refl)
+
+-- a vacant slot is used again
+pub claimed_within : {S : Type 0} (ss : List (Slot S)) → first_vacant ss < length ss → claimed ss ≡ changed used_again ss (first_vacant ss)
+claimed_within [] h = absurd (omega arith)
+claimed_within {S} (s ∷ ss) h =
+    elim (is_vacant s) as (λ b. (if b then 0 else suc (first_vacant ss)) < suc (length ss) → (if b then used_again s ∷ ss else s ∷ claimed ss) ≡ changed used_again (s ∷ ss) (if b then 0 else suc (first_vacant ss))) [ true ↦ λ _. refl | false ↦ λ h'. ap (λ r. s ∷ r) (claimed_within ss (omega arith)) ] h
+
+-- its version
+pub version_within : {S : Type 0} (ss : List (Slot S)) (d : Slot S) → first_vacant ss < length ss → next_version ss ≡ ((get_or ss (first_vacant ss) d).version + 1) % 65536
+version_within [] d h = absurd (omega arith)
+version_within {S} (s ∷ ss) d h =
+    elim (is_vacant s) as (λ b. (if b then 0 else suc (first_vacant ss)) < suc (length ss) → (if b then (s.version + 1) % 65536 else next_version ss) ≡ ((get_or (s ∷ ss) (if b then 0 else suc (first_vacant ss)) d).version + 1) % 65536) [ true ↦ λ _. refl | false ↦ λ h'. version_within ss d (omega arith) ] h
+
+-- with none a new one is added
+pub claimed_past : {S : Type 0} (ss : List (Slot S)) → first_vacant ss ≡ length ss → claimed ss ≡ ss ++ record { version = 0; content = Vacant } ∷ []
+claimed_past [] h = refl
+claimed_past {S} (s ∷ ss) h =
+    elim (is_vacant s) as (λ b. (if b then 0 else suc (first_vacant ss)) ≡ suc (length ss) → (if b then used_again s ∷ ss else s ∷ claimed ss) ≡ s ∷ (ss ++ record { version = 0; content = Vacant } ∷ [])) [ true ↦ λ h'. absurd (omega arith) | false ↦ λ h'. ap (λ r. s ∷ r) (claimed_past ss (omega arith)) ] h
+
+pub version_past : {S : Type 0} (ss : List (Slot S)) → first_vacant ss ≡ length ss → next_version ss ≡ 0
+version_past [] h = refl
+version_past {S} (s ∷ ss) h =
+    elim (is_vacant s) as (λ b. (if b then 0 else suc (first_vacant ss)) ≡ suc (length ss) → (if b then (s.version + 1) % 65536 else next_version ss) ≡ 0) [ true ↦ λ h'. absurd (omega arith) | false ↦ λ h'. version_past ss (omega arith) ] h
+
+pub reused : {S : Type 0} (xs : List (Slot S)) (place : ℕ) (s : Slot S) → place ≡ first_vacant xs → place < length xs → s ≡ get_or xs place s
+    → (◌≡◌ {A = RegistrationToken} (record { slot = place; version = (s.version + 1) % 65536 }) (next_registration xs)) × (set xs place (used_again s) ≡ claimed xs)
+reused {S} xs place s e h is =
+    let h' : first_vacant xs < length xs = omega arith in
+    let is' : s ≡ get_or xs (first_vacant xs) s = rw e at is in
+    let v : (s.version + 1) % 65536 ≡ next_version xs = ap (λ (t : Slot S). (t.version + 1) % 65536) is' ∙ sym (version_within xs s h') in
+    rw e (ap (λ v. record { slot = first_vacant xs; version = v }) v, changed-set used_again xs (first_vacant xs) s is' h' ∙ sym (claimed_within xs h'))
+
+pub added : {S : Type 0} (xs : List (Slot S)) (place : ℕ) → place ≡ first_vacant xs → place ≡ length xs
+    → (◌≡◌ {A = RegistrationToken} (record { slot = place; version = 0 }) (next_registration xs)) × (xs ++ record { version = 0; content = Vacant } ∷ [] ≡ claimed xs)
+added {S} xs place e h =
+    let h' : first_vacant xs ≡ length xs = omega arith in
+    rw e (ap (λ v. record { slot = first_vacant xs; version = v }) (sym (version_past xs h')), sym (claimed_past xs h'))

@@ -1,0 +1,75 @@
+-- Slots, and what the calls of a source list do to them. A list's value is the list of its slots.
+use Rattle.std.specs.Prelude.{◌≡◌, ℕ, suc, zero, ◌+◌, ◌%◌, ◌^◌, ◌<◌, ◌≤◌, List, [], ◌∷◌, length, if◌then◌else◌, nat_eq, Bool, true, false, Option, Some, None, slice_get}
+use Rattle.calloop_wake.specs.declared.error.Error.{Error}
+use Rattle.calloop_wake.specs.declared.error.Error.TheVariants.{InvalidToken, IoError, OtherError, OutOfMemory, TooManySources, TooManyTokens}
+use Rattle.calloop_wake.specs.declared.token.RegistrationToken.{RegistrationToken}
+use Rattle.calloop_wake.specs.declared.list.Content.{Content}
+use Rattle.calloop_wake.specs.declared.list.Content.TheVariants.{Vacant, Source, InTurn}
+use Rattle.calloop_wake.specs.declared.list.Slot.{Slot}
+
+-- the list with f of the element at this index in its place
+abbrev pub changed : {A : Type 0} → (A → A) → List A → ℕ → List A
+changed f [] i = []
+changed f (x ∷ xs) zero = f x ∷ xs
+changed f (x ∷ xs) (suc i) = x ∷ changed f xs i
+
+-- the slot with this in it: calloop sets the entry's Option, where a source in its turn stays
+abbrev pub with_content : {S : Type 0} → Content S → Slot S → Slot S
+with_content c s = record { version = s.version; content = c }
+
+-- the slot used once more: calloop's increment_version, which wraps at 16 bits too
+abbrev pub used_again : {S : Type 0} → Slot S → Slot S
+used_again s = record { version = (s.version + 1) % 65536; content = s.content }
+
+-- what stands in a slot, if it is there and has this version
+abbrev pub content_under : {S : Type 0} → ℕ → Option (Slot S) → Content S
+content_under version None = Vacant
+content_under version (Some s) = if nat_eq s.version version then s.content else Vacant
+
+-- what stands in the slot that the token names: calloop's get compares the versions likewise, and answers an error
+abbrev pub named : {S : Type 0} → List (Slot S) → RegistrationToken → Content S
+named slots token = content_under token.version (slice_get slots token.slot)
+
+-- the source, where it is not in its turn
+abbrev pub source_of : {S : Type 0} → Content S → Option S
+source_of Vacant = None
+source_of (Source s) = Some s
+source_of InTurn = None
+
+-- nothing stands here: calloop's entry has None
+abbrev pub is_empty : {S : Type 0} → Content S → Bool
+is_empty Vacant = true
+is_empty (Source s) = false
+is_empty InTurn = false
+
+-- the slot can be used again
+abbrev pub is_vacant : {S : Type 0} → Slot S → Bool
+is_vacant s = is_empty s.content
+
+-- the least index of a vacant slot, or the length: calloop's vacant_entry searches so
+abbrev pub first_vacant : {S : Type 0} → List (Slot S) → ℕ
+first_vacant [] = 0
+first_vacant (s ∷ ss) = if is_vacant s then 0 else suc (first_vacant ss)
+
+-- the version under which the first vacant slot is used next
+abbrev pub next_version : {S : Type 0} → List (Slot S) → ℕ
+next_version [] = 0
+next_version (s ∷ ss) = if is_vacant s then (s.version + 1) % 65536 else next_version ss
+
+-- the list after calloop's vacant_entry: the first vacant slot is used again, or a new one is added; it stays vacant
+abbrev pub claimed : {S : Type 0} → List (Slot S) → List (Slot S)
+claimed [] = record { version = 0; content = Vacant } ∷ []
+claimed (s ∷ ss) = if is_vacant s then used_again s ∷ ss else s ∷ claimed ss
+
+-- the name of the slot that is claimed next: in calloop the token that vacant_entry leaves in the entry
+abbrev pub next_registration : {S : Type 0} → List (Slot S) → RegistrationToken
+next_registration ss = record { slot = first_vacant ss; version = next_version ss }
+
+-- why no slot can be claimed; calloop panics at too many, and aborts with no memory for a new slot
+abbrev pub CannotClaim : {S : Type 0} → List (Slot S) → Error → Type 0
+CannotClaim ss OutOfMemory = (first_vacant ss ≡ length ss) × (first_vacant ss < 2 ^ 32)
+CannotClaim ss TooManySources = 2 ^ 32 ≤ first_vacant ss
+CannotClaim ss InvalidToken = ⊥
+CannotClaim ss (IoError cause) = ⊥
+CannotClaim ss (OtherError cause) = ⊥
+CannotClaim ss TooManyTokens = ⊥

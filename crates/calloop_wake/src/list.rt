@@ -1,0 +1,188 @@
+//! The slots of the loop's sources, told apart by their versions. From calloop's `list.rs`.
+ghost use Rattle.std.specs.Prelude.{◌≡◌, ◌↔◌, ℕ, ◌+◌, ◌^◌, ◌<◌, ◌≤◌, List, [], ◌∷◌, ◌++◌, length, slice_get, is_some, if◌then◌else◌, IfOk, IfErr, IsErr, IsErrOf, OnOk, OnSome};
+ghost use Rattle.calloop_wake.specs.Slots.{named, changed, with_content, source_of, first_vacant, next_registration, claimed, CannotClaim};
+ghost use Rattle.calloop_wake.specs.declared.error.Error.TheVariants.{InvalidToken, OutOfMemory, TooManySources};
+ghost use Rattle.calloop_wake.specs.declared.list.Content.TheVariants.{Vacant, Source, InTurn};
+ghost use Rattle.calloop_wake.specs.declared.list.Slot.{Slot};
+
+use crate::error::{Error, Result};
+use crate::token::RegistrationToken;
+use std::alloc::Global;
+use std::marker::Model;
+use std::mem;
+
+/// What stands in a slot.
+#[derive(Drop)]
+pub enum Content<S> {
+    /// Nothing, so the slot can be used again.
+    Vacant,
+    /// A source.
+    Source(S),
+    /// A source that is taken out for its turn.
+    InTurn,
+}
+
+/// A slot of the list.
+#[derive(Drop)]
+pub struct Slot<S> {
+    /// How often the slot was used again, modulo 65,536.
+    pub version: u16,
+    /// What stands in it.
+    pub content: Content<S>,
+}
+
+/// The slots of the loop's sources. It never shrinks, as in calloop.
+#[derive(Drop)]
+pub struct SourceList<S> {
+    slots: Vec<Slot<S>>,
+}
+
+impl<S> Model for SourceList<S> {
+    ghost use Rattle.std.specs.Prelude.{List};
+    ghost use Rattle.calloop_wake.specs.declared.list.Slot.{Slot};
+
+    ghost Value = { List (Slot S) };
+
+    ghost view = { λ l. l.slots.items };
+}
+
+// Whether the token names a source that is not in its turn.
+fn has_source<S>(slots: &[Slot<S>], token: RegistrationToken) -> bool
+    ensures { result ≡ is_some (source_of (named slots.now token)) }
+{
+    match slots.get(token.slot() as usize) {
+        Some(slot) => slot.version == token.version() && matches!(slot.content, Content::Source(_)),
+        None => false,
+    }
+}
+
+// The least index of a vacant slot, or the length.
+fn vacant_place<S>(slots: &[Slot<S>]) -> usize
+    ensures { result ≡ first_vacant slots.now }
+{
+    for (place, slot) in slots.iter().enumerate() {
+        if matches!(slot.content, Content::Vacant) {
+            return place;
+        }
+    }
+    slots.len()
+}
+
+// A new slot, which is vacant.
+fn add<S: Drop>(slots: &mut Vec<Slot<S>>) -> Result<()>
+    ensures ok { OnOk result (slots.new.items ≡ slots.old.items ++ record { version = 0; content = Vacant } ∷ []) }
+    ensures err { IfErr result (λ e. (e ≡ OutOfMemory) × (slots.new.items ≡ slots.old.items)) }
+{
+    slots.push(Slot {
+        version: 0,
+        content: Content::Vacant,
+    })?;
+    Ok(())
+}
+
+// Claims a slot of the list.
+fn claim<S: Drop>(slots: &mut Vec<Slot<S>>) -> Result<RegistrationToken>
+    ensures ok { IfOk result (λ t. (t ≡ next_registration slots.old.items) × (slots.new.items ≡ claimed slots.old.items)) }
+    ensures within { IfOk result (λ t. (t.slot < length slots.new.items) × (t.slot < 2 ^ 32)) }
+    ensures full { IsErrOf result TooManySources ↔ (2 ^ 32 ≤ first_vacant slots.old.items) }
+    ensures err { IfErr result (λ e. (slots.new.items ≡ slots.old.items) × CannotClaim slots.old.items e) }
+{
+    let place = vacant_place(slots);
+    if place > 0xffff_ffff {
+        return Err(Error::TooManySources);
+    }
+    if place == slots.len() {
+        add(slots)?;
+        return Ok(RegistrationToken::new(place as u32, 0));
+    }
+    let slot = &mut slots[place];
+    slot.version = slot.version.wrapping_add(1);
+    Ok(RegistrationToken::new(place as u32, slot.version))
+}
+
+// Puts this into the slot, and gives what stood there.
+fn put<S: Drop>(slots: &mut Vec<Slot<S>>, place: usize, content: Content<S>) -> Content<S>
+    requires { place < length slots.old.items }
+    ensures items { slots.new.items ≡ changed (with_content content) slots.old.items place }
+    ensures value { (s : Slot S) → slice_get slots.old.items place ≡ Some s → result ≡ s.content }
+{
+    let slot = &mut slots[place];
+    mem::replace(&mut slot.content, content)
+}
+
+// The source of a slot's content.
+fn source<S>(content: &Content<S>) -> Result<&S>
+    ensures ok { IfOk result (λ s. content.now ≡ Source s.now) }
+    ensures refuses { IsErr result ↔ (source_of content.now ≡ None) }
+    ensures err { IfErr result (λ e. e ≡ InvalidToken) }
+{
+    match content {
+        Content::Source(s) => Ok(s),
+        _ => Err(Error::InvalidToken),
+    }
+}
+
+impl<S: Drop> SourceList<S> {
+    /// A list with no slot. It allocates nothing yet.
+    pub fn new(alloc: Global) -> SourceList<S>
+        ensures { result ≡ [] }
+    {
+        SourceList {
+            slots: Vec::new(alloc),
+        }
+    }
+
+    /// The source that the token names.
+    ///
+    /// It refuses with `InvalidToken` exactly where the token names none, as after the source was removed, or where
+    /// the source is in its turn.
+    pub fn get(&self, token: RegistrationToken) -> Result<&S>
+        ensures ok { IfOk result (λ s. named self.now token ≡ Source s.now) }
+        ensures refuses { IsErr result ↔ (source_of (named self.now token) ≡ None) }
+        ensures err { IfErr result (λ e. e ≡ InvalidToken) }
+    {
+        match self.slots.get(token.slot() as usize) {
+            Some(slot) if slot.version == token.version() => source(&slot.content),
+            _ => Err(Error::InvalidToken),
+        }
+    }
+
+    /// Claims the first vacant slot, or a new one, under its next version, and gives its name. It stays vacant.
+    ///
+    /// It refuses with `TooManySources` exactly where the slot's number would not fit 32 bits, and with `OutOfMemory`
+    /// only where a new slot is to be added. After a refusal the list is as it was. Calloop panics or aborts there.
+    pub fn vacant(&mut self) -> Result<RegistrationToken>
+        ensures ok { IfOk result (λ t. (t ≡ next_registration self.old) × (self.new ≡ claimed self.old)) }
+        ensures within { IfOk result (λ t. (t.slot < length self.new) × (t.slot < 2 ^ 32)) }
+        ensures full { IsErrOf result TooManySources ↔ (2 ^ 32 ≤ first_vacant self.old) }
+        ensures err { IfErr result (λ e. (self.new ≡ self.old) × CannotClaim self.old e) }
+    {
+        claim(&mut self.slots)
+    }
+
+    /// Puts this into the slot of that number, whatever its version, and gives what stood there.
+    pub fn replace(&mut self, slot: u32, content: Content<S>) -> Content<S>
+        requires { slot < length self.old }
+        ensures list { self.new ≡ changed (with_content content) self.old slot }
+        ensures value { (s : Slot S) → slice_get self.old slot ≡ Some s → result ≡ s.content }
+    {
+        put(&mut self.slots, slot as usize, content)
+    }
+
+    /// Takes out the source that the token names, for its turn, and leaves the slot in its turn.
+    ///
+    /// It gives `None`, and the list stays as it is, where the token names none, or where the source is in its turn.
+    pub fn begin_turn(&mut self, token: RegistrationToken) -> Option<S>
+        ensures value { result ≡ source_of (named self.old token) }
+        ensures list { self.new ≡ (if is_some result then changed (with_content InTurn) self.old token.slot else self.old) }
+        ensures within { OnSome result (token.slot < length self.new) }
+    {
+        if !has_source(&self.slots, token) {
+            return None;
+        }
+        match put(&mut self.slots, token.slot() as usize, Content::InTurn) {
+            Content::Source(s) => Some(s),
+            _ => unreachable!(),
+        }
+    }
+}
