@@ -1,0 +1,50 @@
+-- Reuse counts only grow, and are seen modulo 65,536.
+use Rattle.std.proofs.Common.{◌≡◌, ℕ, suc, zero, ◌+◌, ◌-◌, ◌*◌, ◌/◌, ◌%◌, ◌≤◌, ◌<◌, ◌⊎◌, List, [], ◌∷◌, refl, ap, sym, ◌∙◌, arith, inl, inr, Some, true, false, if◌then◌else◌, slice_get}
+use Rattle.std.proofs.Math.Nat.{mod-add-div}
+use Rattle.calloop_wake.specs.declared.list.Content.{Content}
+use Rattle.calloop_wake.specs.Slots.{changed, is_empty}
+use Rattle.calloop.specs.Machine.{World, Registration, Change, Put, Claim, Polls, Polling, Gathered, Cut, Ended, holding, reused, claimed_of, done, all_done}
+use Rattle.calloop.specs.Laws.{NamesLater}
+
+abbrev pub Older : {D : Type 0} → List (Registration D) → ℕ → Registration D → Type 0
+Older {D} rs i r = (r' : Registration D) × (slice_get rs i ≡ Some r') × (r.reuse ≤ r'.reuse)
+
+older_changed : {D : Type 0} (c : Content D) (rs : List (Registration D)) (j i : ℕ) (r : Registration D) → Older rs i r → Older (changed (holding c) rs j) i r
+older_changed c [] j i r h = h
+older_changed c (x ∷ xs) zero zero r h = (holding c x, refl, let e : x ≡ h.0 = cc in omega (arith, h.2, ap (λ (y : Registration _). y.reuse) e))
+older_changed c (x ∷ xs) zero (suc i) r h = h
+older_changed c (x ∷ xs) (suc j) zero r h = h
+older_changed c (x ∷ xs) (suc j) (suc i) r h = older_changed c xs j i r h
+
+older_claimed : {D : Type 0} (rs : List (Registration D)) (i : ℕ) (r : Registration D) → Older rs i r → Older (claimed_of rs) i r
+older_claimed [] i r h = cc
+older_claimed {D} (x ∷ xs) zero r h =
+    let e : x ≡ h.0 = cc in
+    elim (is_empty x.content) as (λ b. Older (if b then reused x ∷ xs else x ∷ claimed_of xs) zero r) [ true ↦ (reused x, refl, omega (arith, h.2, ap (λ (y : Registration D). y.reuse) e)) | false ↦ (x, refl, omega (arith, h.2, ap (λ (y : Registration D). y.reuse) e)) ]
+older_claimed {D} (x ∷ xs) (suc i) r h =
+    elim (is_empty x.content) as (λ b. Older (if b then reused x ∷ xs else x ∷ claimed_of xs) (suc i) r) [ true ↦ h | false ↦ older_claimed xs i r h ]
+
+older_done : {D P : Type 0} (w : World D P) (c : Change D P) (i : ℕ) (r : Registration D) → Older w.slots i r → Older (done w c).slots i r
+older_done w (Put slot content) i r h = older_changed content w.slots slot i r h
+older_done w Claim i r h = older_claimed w.slots i r h
+older_done w (Polls steps) i r h = h
+older_done w (Polling poller) i r h = h
+older_done w (Gathered posted given) i r h = h
+older_done w (Cut slot) i r h = h
+older_done w Ended i r h = h
+
+older_all : {D P : Type 0} (w : World D P) (cs : List (Change D P)) (i : ℕ) (r : Registration D) → Older w.slots i r → Older (all_done w cs).slots i r
+older_all w [] i r h = h
+older_all w (c ∷ cs) i r h = older_all (done w c) cs i r (older_done w c i r h)
+
+-- the same version at a count that is no smaller
+wraps : (n m : ℕ) → n ≤ m → m % 65536 ≡ n % 65536 → (m ≡ n) ⊎ ((k : ℕ) × (0 < k) × (m ≡ n + 65536 * k))
+wraps n m h e =
+    elim (m / 65536 - n / 65536) as (λ k. m / 65536 - n / 65536 ≡ k → (m ≡ n) ⊎ ((k : ℕ) × (0 < k) × (m ≡ n + 65536 * k)))
+    [ zero ↦ λ is. inl (omega (arith, mod-add-div n 65536, mod-add-div m 65536)) | suc k ↦ λ is. inr (m / 65536 - n / 65536, omega (arith, is), omega (arith, mod-add-div n 65536, mod-add-div m 65536)) ] refl
+
+pub names_later : {D P : Type 0} (w : World D P) (cs : List (Change D P)) → NamesLater w (all_done w cs)
+names_later {D} {P} w cs token r r' here there =
+    let old = older_all w cs token.slot r (r, here.0, omega arith) in
+    let same : old.0 ≡ r' = let e : Some old.0 ≡ Some r' = sym old.1 ∙ there.0 in cc in
+    wraps r.reuse r'.reuse (omega (arith, old.2, ap (λ (y : Registration D). y.reuse) same)) (there.1 ∙ sym here.1)

@@ -1,0 +1,101 @@
+-- Each event that is cut goes right.
+use Rattle.std.proofs.Common.{◌≡◌, ℕ, ◌%◌, List, [], ◌∷◌, ◌++◌, map, refl, ap, sym, ◌∙◌, subst, arith, Some, None, Option, Result, Ok, Err, inl, inr, true, false, if◌then◌else◌, nat_eq, slice_get}
+use Rattle.std.specs.Option.{option_map}
+use Rattle.std.proofs.lemmas.Bool.Decides.{nat_tests}
+use Rattle.std.proofs.lemmas.Option.{slice_get-map}
+use Rattle.calloop_wake.specs.declared.error.Error.{Error}
+use Rattle.calloop_wake.specs.declared.error.InsertError.{InsertError}
+use Rattle.calloop_wake.specs.declared.token.RegistrationToken.{RegistrationToken}
+use Rattle.calloop_wake.specs.declared.list.Content.{Content}
+use Rattle.calloop_wake.specs.declared.list.Content.TheVariants.{Vacant, Source, InTurn}
+use Rattle.calloop_wake.specs.Tokens.{registration_of}
+use Rattle.calloop_wake.specs.Slots.{named, content_under}
+use Rattle.calloop_core.specs.declared.sys.poll.Pending.{Pending}
+use Rattle.calloop_core.specs.Pollers.{Outside}
+use Rattle.calloop.specs.declared.loop_logic.Call.{Call}
+use Rattle.calloop.specs.declared.loop_logic.Call.TheVariants.{Insert, Ring, Dispatch, Poller as NewPoller}
+use Rattle.calloop.specs.declared.loop_logic.Answer.{Answer}
+use Rattle.calloop.specs.declared.loop_logic.Answer.TheVariants.{Inserted, Rung, Dispatched, Poller as OldPoller}
+use Rattle.calloop.specs.Meanings.{Meaning}
+use Rattle.calloop.specs.Machine.{World, View, Registration, Change, seen, slot_of, done, all_done}
+use Rattle.calloop.specs.Rules.{Doing, Waiting, Gathering, Cutting, Ending, Leaving, Step, Steps, CutTo, CutFrom, Case, Run, InsertedBy, RungIn, all_traced}
+use Rattle.calloop.specs.Laws.{IsSource, AllRight, joined, changes_of}
+use Rattle.calloop.proofs.Seen.{seen-all_done}
+
+source_under : {D : Type 0} (v : ℕ) (o : Option (Registration D)) (d : D) → content_under v (option_map slot_of o) ≡ Source d → (r : Registration D) × (o ≡ Some r) × (r.reuse % 65536 ≡ v) × IsSource r.content
+source_under v None d e = cc
+source_under {D} v (Some r) d e =
+    elim (nat_eq (r.reuse % 65536) v) as (λ b. nat_eq (r.reuse % 65536) v ≡ b → (if b then r.content else Vacant) ≡ Source d → (r' : Registration D) × (◌≡◌ {A = Option (Registration D)} (Some r) (Some r')) × (r'.reuse % 65536 ≡ v) × IsSource r'.content)
+    [ true ↦ λ same full. (r, refl, grind (arith, nat_tests), (d, full)) | false ↦ λ _ none. cc ] refl e
+
+named_is : {D : Type 0} (v : ℕ) (o : Option (Registration D)) (r : Registration D) → o ≡ Some r → r.reuse % 65536 ≡ v → content_under v (option_map slot_of o) ≡ r.content
+named_is {D} v o r e same =
+    let yes : nat_eq (r.reuse % 65536) v ≡ true = grind (arith, nat_tests) in
+    rw (e, yes) refl
+
+module _ {D P X : Type 0} (M : Meaning D P X) (O : Outside P) where
+  cut_right : (w : World D P) (e : Pending) (es : List Pending) (x : X) (cs : List (Change D P)) (b : Doing D X) (c : Content D) → w.poll.batch ≡ e ∷ es → content_under e.token.version (option_map slot_of (slice_get w.slots e.token.slot)) ≡ c
+      → CutTo M e c (seen w) x cs b → AllRight w cs
+  cut_right w e es x cs b Vacant batch is h = rw (h.0, batch) ((λ r here same full. let n : r.content ≡ Vacant = sym (named_is e.token.version (slice_get w.slots e.token.slot) r here same) ∙ is in let f : r.content ≡ Source full.0 = full.1 in cc), (tt, tt))
+  cut_right w e es x cs b InTurn batch is h = rw (h.0, batch) ((λ r here same full. let n : r.content ≡ InTurn = sym (named_is e.token.version (slice_get w.slots e.token.slot) r here same) ∙ is in let f : r.content ≡ Source full.0 = full.1 in cc), (tt, tt))
+  cut_right w e es x cs b (Source d) batch is h = rw (h.5, batch) ((let f = source_under e.token.version (slice_get w.slots e.token.slot) d is in (refl, f.0, f.1, f.2, f.3)), (tt, (tt, tt)))
+
+  from_right : (w : World D P) (es : List Pending) (x : X) (cs : List (Change D P)) (b : Doing D X) → w.poll.batch ≡ es → CutFrom M es (seen w) x cs b → AllRight w cs
+  from_right w [] x cs b batch h = rw h.0 tt
+  from_right w (e ∷ es) x cs b batch h =
+      let is : named (map slot_of w.slots) (registration_of e.token) ≡ content_under e.token.version (option_map slot_of (slice_get w.slots e.token.slot)) = ap (content_under e.token.version) (slice_get-map slot_of w.slots e.token.slot) in
+      cut_right w e es x cs b (named (map slot_of w.slots) (registration_of e.token)) batch (sym is) h
+
+  step_right : (w : World D P) (a b : Doing D X) (cs : List (Change D P)) → Step M O (seen w) a cs b → AllRight w cs
+  step_right w (Waiting timeout x) b cs h = rw h.4 (tt, tt)
+  step_right w (Gathering given x) b cs h = rw h.1 (tt, tt)
+  step_right w (Cutting x) b cs h = from_right w w.poll.batch x cs b refl h
+  step_right w (Ending token d answer x) b cs h = rw h.0 (tt, (tt, tt))
+  step_right w (Leaving answer x) b cs h = absurd h
+
+  pub right-append : (w : World D P) (cs ds : List (Change D P)) → AllRight w cs → AllRight (all_done w cs) ds → AllRight w (cs ++ ds)
+  right-append w [] ds h k = k
+  right-append w (c ∷ cs) ds h k = (h.0, right-append (done w c) cs ds h.1 k)
+
+  pub done-append : (w : World D P) (cs ds : List (Change D P)) → all_done w (cs ++ ds) ≡ all_done (all_done w cs) ds
+  done-append w [] ds = refl
+  done-append w (c ∷ cs) ds = done-append (done w c) cs ds
+
+  pub done-joined : (w : World D P) (css : List (List (Change D P))) → all_done w (joined css) ≡ all_traced w css
+  done-joined w [] = refl
+  done-joined w (cs ∷ css) = done-append w cs (joined css) ∙ done-joined (all_done w cs) css
+
+  steps_right : (w : World D P) (a b : Doing D X) (css : List (List (Change D P))) → Steps M O (seen w) a css b → AllRight w (joined css)
+  steps_right w a b [] h = tt
+  steps_right w a b (cs ∷ css) h =
+      right-append w cs (joined css) (step_right w a h.0 cs h.1) (steps_right (all_done w cs) h.0 b css (subst (λ (v : View D P). Steps M O v h.0 css b) (sym (seen-all_done w cs)) h.3))
+
+  inserted_right : (w : World D P) (d : D) (answer : Result RegistrationToken (InsertError D)) (cs : List (Change D P)) → InsertedBy M d answer (seen w) cs → AllRight w cs
+  inserted_right w d (Ok token) cs h = rw h.6 (tt, (tt, (tt, tt)))
+  inserted_right w d (Err refused) cs h = elim h [ inl k ↦ rw k.2 tt | inr k ↦ rw k.4 (tt, (tt, tt)) ]
+
+  rung_right : (w : World D P) (token : RegistrationToken) (c : Content D) (answer : Result (Unit {0}) Error) (cs : List (Change D P)) → RungIn M token c answer cs → AllRight w cs
+  rung_right w token Vacant answer cs h = rw h.1 tt
+  rung_right w token InTurn answer cs h = rw h.1 tt
+  rung_right w token (Source d) answer cs h = rw h.5 (tt, (tt, (tt, tt)))
+
+  right-one : (w : World D P) (cs : List (Change D P)) → AllRight w cs → AllRight w (cs ++ [])
+  right-one w cs h = right-append w cs [] h tt
+
+  case_right : (w : World D P) (call : Call D P X) (answer : Answer D P X) (css : List (List (Change D P))) → Case M O call answer (seen w) css → AllRight w (joined css)
+  case_right w (Insert d) (Inserted answer) (cs ∷ []) h = right-one w cs (inserted_right w d answer cs h.0)
+  case_right w (Insert d) (Inserted answer) [] h = absurd h
+  case_right w (Insert d) (Inserted answer) (cs ∷ ds ∷ css) h = absurd h
+  case_right w (Ring token) (Rung answer) (cs ∷ []) h = right-one w cs (rung_right w token (named (map slot_of w.slots) token) answer cs h.0)
+  case_right w (Ring token) (Rung answer) [] h = absurd h
+  case_right w (Ring token) (Rung answer) (cs ∷ ds ∷ css) h = absurd h
+  case_right w (Dispatch timeout x) (Dispatched answer x') css h = elim h [ inl k ↦ rw k.2 tt | inr k ↦ steps_right w _ _ css k ]
+  case_right w (NewPoller p) (OldPoller q) css h = rw h.1 (tt, tt)
+  case_right w call answer css h = absurd h
+
+  pub run_right : (calls : List (Call D P X)) (answers : List (Answer D P X)) (csss : List (List (List (Change D P)))) (w w' : World D P) → Run M O calls answers csss w w' → AllRight w (changes_of csss)
+  run_right [] [] [] w w' h = tt
+  run_right (call ∷ calls) (answer ∷ answers) (css ∷ csss) w w' h =
+      right-append w (joined css) (changes_of csss) (case_right w call answer css h.0)
+      (subst (λ (u : World D P). AllRight u (changes_of csss)) (sym (done-joined w css)) (run_right calls answers csss (all_traced w css) w' h.1))
+  run_right calls answers csss w w' h = absurd h

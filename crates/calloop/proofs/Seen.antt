@@ -1,0 +1,45 @@
+-- A change of the machine is seen as the change of what the loop holds.
+use Rattle.std.proofs.Common.{◌≡◌, ℕ, ◌+◌, ◌*◌, ◌/◌, ◌%◌, List, [], ◌∷◌, map, refl, ap, sym, ◌∙◌, arith, subst, true, false, if◌then◌else◌}
+use Rattle.std.proofs.Math.Nat.{mod-add-div, add-mul-mod_self_left}
+use Rattle.calloop_wake.specs.Slots.{claimed, used_again, is_empty, with_content}
+use Rattle.calloop_wake.proofs.Indexed.{map-changed}
+use Rattle.calloop.specs.Machine.{World, View, Registration, Change, Put, Claim, Polls, Polling, Gathered, Cut, Ended, seen, slot_of, holding, reused, claimed_of, viewed, all_viewed, done, all_done}
+use Rattle.calloop.specs.Rules.{traced, all_traced, Did, Leads}
+
+-- counted on or wrapped, a reuse count has the same version
+again : (n : ℕ) → (n + 1) % 65536 ≡ (n % 65536 + 1) % 65536
+again n =
+    let split : n ≡ n % 65536 + 65536 * (n / 65536) = sym (mod-add-div n 65536) in
+    let sum : n + 1 ≡ n % 65536 + 1 + 65536 * (n / 65536) = omega (arith, split) in
+    ap (λ k. k % 65536) sum ∙ add-mul-mod_self_left (n % 65536 + 1) 65536 (n / 65536)
+
+slot_of-reused : {D : Type 0} (r : Registration D) → slot_of (reused r) ≡ used_again (slot_of r)
+slot_of-reused r = ap (λ v. record { version = v; content = r.content }) (again r.reuse)
+
+seen-claimed_of : {D : Type 0} (rs : List (Registration D)) → map slot_of (claimed_of rs) ≡ claimed (map slot_of rs)
+seen-claimed_of [] = refl
+seen-claimed_of {D} (r ∷ rs) =
+    elim (is_empty r.content) as (λ b. map slot_of (if b then reused r ∷ rs else r ∷ claimed_of rs) ≡ (if b then used_again (slot_of r) ∷ map slot_of rs else slot_of r ∷ claimed (map slot_of rs)))
+    [ true ↦ ap (λ s. s ∷ map slot_of rs) (slot_of-reused r) | false ↦ ap (λ ss. slot_of r ∷ ss) (seen-claimed_of rs) ]
+
+pub seen-done : {D P : Type 0} (w : World D P) (c : Change D P) → seen (done w c) ≡ viewed (seen w) c
+seen-done w (Put slot content) = ap (λ ss. record (seen w) { slots = ss }) (map-changed slot_of (holding content) (with_content content) w.slots slot (λ r. refl))
+seen-done w Claim = ap (λ ss. record (seen w) { slots = ss }) (seen-claimed_of w.slots)
+seen-done w (Polls steps) = refl
+seen-done w (Polling poller) = refl
+seen-done w (Gathered posted given) = refl
+seen-done w (Cut slot) = refl
+seen-done w Ended = refl
+
+pub seen-all_done : {D P : Type 0} (w : World D P) (cs : List (Change D P)) → seen (all_done w cs) ≡ all_viewed (seen w) cs
+seen-all_done w [] = refl
+seen-all_done {D} {P} w (c ∷ cs) = seen-all_done (done w c) cs ∙ ap (λ (v : View D P). all_viewed v cs) (seen-done w c)
+
+pub seen-all_traced : {D P : Type 0} (w : World D P) (css : List (List (Change D P))) → seen (all_traced w css) ≡ traced (seen w) css
+seen-all_traced w [] = refl
+seen-all_traced {D} {P} w (cs ∷ css) = seen-all_traced (all_done w cs) css ∙ ap (λ (v : View D P). traced v css) (seen-all_done w cs)
+
+-- what a function did by what is seen, every machine that agreed does, and agrees again
+pub did_leads : {D P : Type 0} (R : View D P → List (List (Change D P)) → Type 0) (old new : View D P) → Did R old new → Leads R old new
+did_leads {D} {P} R old new h w e =
+    (h.0, subst (λ (v : View D P). R v h.0) (sym e) h.1, seen-all_traced w h.0 ∙ ap (λ (v : View D P). traced v h.0) e ∙ sym h.2)

@@ -1,0 +1,14 @@
+use Rattle.std.proofs.Common.{◌≡◌, [], List, refl, sym, ap, ◌∙◌, None}
+use Rattle.calloop_wake.specs.declared.list.Slot.{Slot}
+use Rattle.calloop_core.specs.Polls.{PollView, poll_view}
+use Rattle.calloop.proofs.loop_logic.EventLoop.try_new.Goals as goal
+
+pub returns : goal.returns
+returns g c =
+    let new : PollView g.row.P.Denot = record { poller = c.args.poller; board = []; batch = []; passes = []; pass = None } in
+    let polls : poll_view c.reserve.new.self ≡ new = c.in_ok-reserve.ensures.view ∙ c.new-poll.ensures in (
+      record { slots = []; poll = new; history = [] },
+      record { slots = refl; board = refl; batch = refl; passes = refl; pass = refl; history = refl },
+      refl,
+      sym (ap (λ (s : List (Slot g.row.D.Denot)). record { slots = s; poll = poll_view c.reserve.new.self }) c.new.ensures ∙ ap (λ (p : PollView g.row.P.Denot). record { slots = []; poll = p }) polls),
+    )

@@ -1,0 +1,122 @@
+-- The machine of the loop: its state, and the changes of it. What the code holds of the state is a `View`; the state
+-- itself also has reuse counts without bound and a history, which calloop keeps nowhere.
+use Rattle.std.specs.Prelude.{◌≡◌, ℕ, ◌+◌, ◌%◌, List, [], ◌∷◌, ◌++◌, map, if◌then◌else◌, Option, None}
+use Rattle.calloop_wake.specs.declared.list.Content.{Content}
+use Rattle.calloop_wake.specs.declared.list.Content.TheVariants.{Vacant}
+use Rattle.calloop_wake.specs.declared.list.Slot.{Slot}
+use Rattle.calloop_wake.specs.Slots.{changed, with_content, claimed, is_empty}
+use Rattle.calloop_wake.specs.Boards.{taken_keys}
+use Rattle.calloop_core.specs.declared.sys.Readiness.{Readiness}
+use Rattle.calloop_core.specs.declared.sys.poll.Pending.{Pending}
+use Rattle.calloop_core.specs.Polls.{PollView, PollStep, poll_view, polls_after, AllAllowed, gathered, polling, with_pass, cut}
+use Rattle.calloop.specs.declared.loop_logic.EventLoop.{EventLoop}
+
+-- a slot: how often it was used again, without bound, and what stands in it
+pub record Registration (D : Type 0) : Type 0 where
+  pub reuse : ℕ
+  pub content : Content D
+
+-- the machine's state between two steps
+pub record World (D P : Type 0) : Type 0 where
+  pub slots : List (Registration D)
+  pub poll : PollView P
+  -- the events that were cut from the batch, in order
+  pub history : List Pending
+
+-- what the loop holds of it
+pub record View (D P : Type 0) : Type 0 where
+  pub slots : List (Slot D)
+  pub poll : PollView P
+
+abbrev pub slot_of : {D : Type 0} → Registration D → Slot D
+slot_of r = record { version = r.reuse % 65536; content = r.content }
+
+-- reuse counts are known modulo 65,536, and the history isn't
+abbrev pub seen : {D P : Type 0} → World D P → View D P
+seen w = record { slots = map slot_of w.slots; poll = w.poll }
+
+abbrev pub view_of : {D P C : Type 0} → EventLoop D P C → View D P
+view_of l = record { slots = l.sources; poll = poll_view l.poll }
+
+-- every change of the state is one of these
+pub data Change (D P : Type 0) : Type 0 where
+  -- this content is put into a slot
+  Put : (slot : ℕ) (content : Content D) → Change D P
+  -- the first vacant slot is used once more, or a slot is added
+  Claim : Change D P
+  -- a source's steps
+  Polls : (steps : List PollStep) → Change D P
+  -- the poller changed
+  Polling : (poller : P) → Change D P
+  -- the batch is put together, of these posted keys and of what the poller gave
+  Gathered : (posted : List ℕ) (given : List (ℕ × Readiness)) → Change D P
+  -- the first event leaves the batch, for this slot or for none
+  Cut : (slot : Option ℕ) → Change D P
+  -- its turn is over
+  Ended : Change D P
+
+-- by what is seen
+abbrev pub viewed : {D P : Type 0} → View D P → Change D P → View D P
+viewed v (Put slot content) = record v { slots = changed (with_content content) v.slots slot }
+viewed v Claim = record v { slots = claimed v.slots }
+viewed v (Polls steps) = record v { poll = polls_after v.poll steps }
+viewed v (Polling poller) = record v { poll = polling poller v.poll }
+viewed v (Gathered posted given) = record v { poll = gathered posted given v.poll }
+viewed v (Cut slot) = record v { poll = cut v.poll }
+viewed v Ended = record v { poll = with_pass None v.poll }
+
+abbrev pub all_viewed : {D P : Type 0} → View D P → List (Change D P) → View D P
+all_viewed v [] = v
+all_viewed v (c ∷ cs) = all_viewed (viewed v c) cs
+
+-- in the machine
+
+abbrev pub holding : {D : Type 0} → Content D → Registration D → Registration D
+holding c r = record { reuse = r.reuse; content = c }
+
+abbrev pub reused : {D : Type 0} → Registration D → Registration D
+reused r = record { reuse = r.reuse + 1; content = r.content }
+
+abbrev pub claimed_of : {D : Type 0} → List (Registration D) → List (Registration D)
+claimed_of [] = record { reuse = 0; content = Vacant } ∷ []
+claimed_of (r ∷ rs) = if is_empty r.content then reused r ∷ rs else r ∷ claimed_of rs
+
+abbrev pub heads_of : {A : Type 0} → List A → List A
+heads_of [] = []
+heads_of (x ∷ xs) = x ∷ []
+
+abbrev pub done : {D P : Type 0} → World D P → Change D P → World D P
+done w (Put slot content) = record w { slots = changed (holding content) w.slots slot }
+done w Claim = record w { slots = claimed_of w.slots }
+done w (Polls steps) = record w { poll = polls_after w.poll steps }
+done w (Polling poller) = record w { poll = polling poller w.poll }
+done w (Gathered posted given) = record w { poll = gathered posted given w.poll }
+done w (Cut slot) = record w { poll = cut w.poll; history = w.history ++ heads_of w.poll.batch }
+done w Ended = record w { poll = with_pass None w.poll }
+
+abbrev pub all_done : {D P : Type 0} → World D P → List (Change D P) → World D P
+all_done w [] = w
+all_done w (c ∷ cs) = all_done (done w c) cs
+
+-- what every change keeps to: a source's steps can be made, and the posted keys are those that are marked
+abbrev pub Fits : {D P : Type 0} → View D P → Change D P → Type 0
+Fits v (Put slot content) = Unit {0}
+Fits v Claim = Unit {0}
+Fits v (Polls steps) = AllAllowed v.poll steps
+Fits v (Polling poller) = Unit {0}
+Fits v (Gathered posted given) = posted ≡ taken_keys v.poll.board
+Fits v (Cut slot) = Unit {0}
+Fits v Ended = Unit {0}
+
+abbrev pub AllFit : {D P : Type 0} → View D P → List (Change D P) → Type 0
+AllFit v [] = Unit {0}
+AllFit v (c ∷ cs) = Fits v c × AllFit (viewed v c) cs
+
+-- nothing has happened yet
+pub record IsNew {D P : Type 0} (w : World D P) : Type 0 where
+  pub slots : w.slots ≡ []
+  pub board : w.poll.board ≡ []
+  pub batch : w.poll.batch ≡ []
+  pub passes : w.poll.passes ≡ []
+  pub pass : w.poll.pass ≡ None
+  pub history : w.history ≡ []

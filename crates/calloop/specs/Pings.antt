@@ -1,0 +1,61 @@
+-- A ping as a source: its registration, a ring, and its turn. calloop's ping is a file that is written and read;
+-- here it is a cell and a place on the board, and what it does to `Poll` is a list of steps.
+use Rattle.std.specs.Prelude.{◌≡◌, List, [], ◌∷◌, ◌++◌, Bool, true, false, nat_eq, Option, Some, None, IsSome, Result, Ok, Err}
+use Rattle.std.specs.declared.io.ErrorKind.TheVariants.{AlreadyExists}
+use Rattle.calloop_wake.specs.declared.error.Error.{Error}
+use Rattle.calloop_wake.specs.declared.error.Error.TheVariants.{TooManyTokens}
+use Rattle.calloop_wake.specs.declared.token.Token.{Token}
+use Rattle.calloop_wake.specs.declared.token.TokenFactory.{TokenFactory}
+use Rattle.calloop_wake.specs.declared.wake.board.Place.{Place}
+use Rattle.calloop_wake.specs.declared.wake.ping.OpenedTurn.{OpenedTurn}
+use Rattle.calloop_wake.specs.Tokens.{key_of, next_token, after_token}
+use Rattle.calloop_wake.specs.Passes.{Taken}
+use Rattle.calloop_wake.specs.Cells.{Cell, owed, owed_at, after_ring, after_set_key, after_open_turn, after_end_turn, turn_of}
+use Rattle.calloop_core.specs.Polls.{PollView, PollStep, OpenPlace, TakePass, PutBack, posts, closes, CannotOpen, IsOfKind}
+use Rattle.calloop.specs.declared.ping.PingSource.{PingSource}
+
+abbrev pub with_core : Cell → PingSource → PingSource
+with_core c s = record s { core = c }
+
+-- why a registration is refused: it is registered already, the factory has no more tokens, or the place can't be opened
+pub data RefusedPing (s : PingSource) (f : TokenFactory) (v : List Place) (e : Error) (g : TokenFactory) : Type 0 where
+  Registered : IsSome s.token → IsOfKind AlreadyExists e → g ≡ f → RefusedPing s f v e g
+  NoToken : e ≡ TooManyTokens → f.given ≡ 65535 → g ≡ f → RefusedPing s f v e g
+  NoPlace : CannotOpen (key_of (next_token f)) v e → g ≡ after_token f → RefusedPing s f v e g
+
+-- the place of its token is opened, the key is set, and what stood is posted
+abbrev pub IsPingReg : {P : Type 0} → PingSource → PollView P → TokenFactory → Result (Unit {0}) Error → List PollStep → PingSource → TokenFactory → Type 0
+IsPingReg s v f (Ok u) steps t g =
+    (s.token ≡ None) × (steps ≡ OpenPlace (key_of (next_token f)) ∷ (closes s.core.key ++ posts (owed_at (key_of (next_token f)) s.core)))
+    × (t ≡ record { core = after_set_key (key_of (next_token f)) s.core; token = Some (next_token f) }) × (g ≡ after_token f)
+IsPingReg s v f (Err e) steps t g = (steps ≡ []) × (t ≡ s) × RefusedPing s f v.board e g
+
+-- a ring pings the cell, and posts its key where it stood unpinged
+abbrev pub IsPingRing : PingSource → List PollStep → PingSource → Type 0
+IsPingRing s steps t = (steps ≡ posts (owed s.core)) × (t ≡ with_core (after_ring s.core) s)
+
+abbrev pub is_token : Token → Option Token → Bool
+is_token token None = false
+is_token token (Some own) = nat_eq (key_of own) (key_of token)
+
+-- what opening a turn gave: a turn is ended at once, and a pass that was refused is put back
+abbrev pub PingTurned : PingSource → Taken → Result OpenedTurn Taken → (rang : Bool) → List PollStep → PingSource → Type 0
+PingTurned s p (Ok opened) rang steps t = (rang ≡ opened.rung) × (steps ≡ TakePass ∷ []) × (t ≡ with_core (after_end_turn (after_open_turn p.key s.core)) s)
+PingTurned s p (Err refused) rang steps t = (rang ≡ false) × (steps ≡ TakePass ∷ PutBack refused ∷ []) × (t ≡ s)
+
+abbrev pub PingTurnWith : PingSource → Option Taken → (rang : Bool) → List PollStep → PingSource → Type 0
+PingTurnWith s None rang steps t = (rang ≡ false) × (steps ≡ TakePass ∷ []) × (t ≡ s)
+PingTurnWith s (Some p) rang steps t = PingTurned s p (turn_of p s.core) rang steps t
+
+abbrev pub PingTurnFor : (is_own : Bool) → PingSource → Option Taken → (rang : Bool) → List PollStep → PingSource → Type 0
+PingTurnFor true s pass rang steps t = PingTurnWith s pass rang steps t
+PingTurnFor false s pass rang steps t = (rang ≡ false) × (steps ≡ []) × (t ≡ s)
+
+-- a turn: under another token nothing; without a pass nothing; else by what the cell answers to the pass
+abbrev pub IsPingTurn : {P : Type 0} → PingSource → Token → PollView P → (rang : Bool) → List PollStep → PingSource → Type 0
+IsPingTurn s token v rang steps t = PingTurnFor (is_token token s.token) s v.pass rang steps t
+
+-- the callback is called where a ping stood, and else it and the data are as they were
+abbrev pub Called : {F X : Type 0} → (F → Unit {0} → Unit {0} → X → Unit {0} → F → Unit {0} → X → Type 0) → (rang : Bool) → F → X → F → X → Type 0
+Called may true f x g y = may f tt tt x tt g tt y
+Called may false f x g y = (g ≡ f) × (y ≡ x)

@@ -1,0 +1,166 @@
+-- The rules of the loop: which changes each call may make. A rule speaks of what the loop holds before, and allows
+-- lists of changes; what source, poller and callback answer, it leaves open.
+use Rattle.std.specs.Prelude.{◌≡◌, ℕ, ◌^◌, ◌<◌, List, [], ◌∷◌, ◌⊎◌, Bool, true, false, Option, Some, None, Result, Ok, Err}
+use Rattle.std.specs.declared.io.Error.{Error as Cause}
+use Rattle.calloop_wake.specs.declared.error.Error.{Error}
+use Rattle.calloop_wake.specs.declared.error.Error.TheVariants.{InvalidToken, IoError, OutOfMemory}
+use Rattle.calloop_wake.specs.declared.error.InsertError.{InsertError}
+use Rattle.calloop_wake.specs.declared.token.Token.{Token}
+use Rattle.calloop_wake.specs.declared.token.TokenFactory.{TokenFactory}
+use Rattle.calloop_wake.specs.declared.token.RegistrationToken.{RegistrationToken}
+use Rattle.calloop_wake.specs.declared.list.Content.{Content}
+use Rattle.calloop_wake.specs.declared.list.Content.TheVariants.{Vacant, Source, InTurn}
+use Rattle.calloop_wake.specs.Tokens.{registration_of}
+use Rattle.calloop_wake.specs.Slots.{named, first_vacant, next_registration, CannotClaim}
+use Rattle.calloop_wake.specs.Boards.{any_marked}
+use Rattle.calloop_core.specs.declared.sys.Readiness.{Readiness}
+use Rattle.calloop_core.specs.declared.sys.poll.Pending.{Pending}
+use Rattle.calloop_core.specs.declared.sources.Dispatcher.{Dispatcher}
+use Rattle.calloop_core.specs.Pollers.{Outside, nanos_of}
+use Rattle.calloop_core.specs.Polls.{PollStep, asked_for, cut}
+use Rattle.calloop.specs.declared.loop_logic.Call.{Call}
+use Rattle.calloop.specs.declared.loop_logic.Call.TheVariants.{Insert, Ring, Dispatch, Poller as NewPoller}
+use Rattle.calloop.specs.declared.loop_logic.Answer.{Answer}
+use Rattle.calloop.specs.declared.loop_logic.Answer.TheVariants.{Inserted, Rung, Dispatched, Poller as OldPoller}
+use Rattle.calloop.specs.declared.ping.PingSource.{PingSource}
+use Rattle.calloop.specs.Meanings.{Meaning}
+use Rattle.calloop.specs.Machine.{World, View, Change, Put, Claim, Polls, Polling, Gathered, Cut, Ended, AllFit, all_viewed, all_done, seen}
+
+-- a factory that has given no token
+abbrev pub factory_of : RegistrationToken → TokenFactory
+factory_of t = record { registration = t; given = 0 }
+
+-- a source is registered in the first vacant slot; where its registration is refused, the slot stays vacant under its
+-- new version, and the poller is as that registration left it
+abbrev pub InsertedBy : {D P X : Type 0} → Meaning D P X → D → Result RegistrationToken (InsertError D) → View D P → List (Change D P) → Type 0
+InsertedBy {D} M d (Ok token) v cs =
+    (first_vacant v.slots < 2 ^ 32) × (token ≡ next_registration v.slots)
+    × (e : D) × (f : TokenFactory) × (steps : List PollStep) × M.reg d v.poll (factory_of token) (Ok tt) steps e f
+    × (cs ≡ Claim ∷ Polls steps ∷ Put token.slot (Source e) ∷ [])
+InsertedBy M d (Err refused) v cs =
+    ((refused.inserted ≡ d) × CannotClaim v.slots refused.error × (cs ≡ []))
+    ⊎ ((first_vacant v.slots < 2 ^ 32) × (f : TokenFactory) × (steps : List PollStep) × M.reg d v.poll (factory_of (next_registration v.slots)) (Err refused.error) steps refused.inserted f
+    × (cs ≡ Claim ∷ Polls steps ∷ []))
+
+-- a ring of what a token names
+abbrev pub ring_answer : (is_ping : Bool) → Result (Unit {0}) Error
+ring_answer true = Ok tt
+ring_answer false = Err InvalidToken
+
+abbrev pub RungIn : {D P X : Type 0} → Meaning D P X → RegistrationToken → Content D → Result (Unit {0}) Error → List (Change D P) → Type 0
+RungIn M token Vacant answer cs = (answer ≡ Err InvalidToken) × (cs ≡ [])
+RungIn M token InTurn answer cs = (answer ≡ Err InvalidToken) × (cs ≡ [])
+RungIn {D} M token (Source d) answer cs =
+    (e : D) × (is_ping : Bool) × (steps : List PollStep) × M.ring d is_ping steps e × (answer ≡ ring_answer is_ping)
+    × (cs ≡ Put token.slot InTurn ∷ Polls steps ∷ Put token.slot (Source e) ∷ [])
+
+abbrev pub RungBy : {D P X : Type 0} → Meaning D P X → RegistrationToken → Result (Unit {0}) Error → View D P → List (Change D P) → Type 0
+RungBy M token answer v cs = RungIn M token (named v.slots token) answer cs
+
+-- what the loop is doing within a dispatch; X is the data that the caller lends
+pub data Doing (D X : Type 0) : Type 0 where
+  Waiting : (timeout : Option ℕ) (x : X) → Doing D X
+  Gathering : (given : List (ℕ × Readiness)) (x : X) → Doing D X
+  Cutting : (x : X) → Doing D X
+  Ending : (token : Token) (source : D) (answer : Result (Unit {0}) Error) (x : X) → Doing D X
+  Leaving : (answer : Result (Unit {0}) Error) (x : X) → Doing D X
+
+abbrev pub after_wait : {D X : Type 0} → Result (Unit {0}) Cause → List (ℕ × Readiness) → X → Doing D X
+after_wait (Ok u) given x = Gathering given x
+after_wait (Err cause) given x = Leaving (Err (IoError cause)) x
+
+-- the event that was cut goes to the source that its token names, which has its own turn, or to none
+abbrev pub CutTo : {D P X : Type 0} → Meaning D P X → Pending → Content D → View D P → X → List (Change D P) → Doing D X → Type 0
+CutTo M e Vacant v x cs b = (cs ≡ Cut None ∷ Ended ∷ []) × (b ≡ Cutting x)
+CutTo M e InTurn v x cs b = (cs ≡ Cut None ∷ Ended ∷ []) × (b ≡ Cutting x)
+CutTo {D} {P} {X} M e (Source d) v x cs b =
+    (d' : D) × (answer : Result (Unit {0}) Error) × (steps : List PollStep) × (x' : X) × M.turn d e.readiness e.token (cut v.poll) x answer steps d' x'
+    × (cs ≡ Cut (Some e.token.slot) ∷ Put e.token.slot InTurn ∷ Polls steps ∷ []) × (b ≡ Ending e.token d' answer x')
+
+abbrev pub CutFrom : {D P X : Type 0} → Meaning D P X → List Pending → View D P → X → List (Change D P) → Doing D X → Type 0
+CutFrom M [] v x cs b = (cs ≡ []) × (b ≡ Leaving (Ok tt) x)
+CutFrom M (e ∷ es) v x cs b = CutTo M e (named v.slots (registration_of e.token)) v x cs b
+
+-- an error leaves the rest of the batch for the next dispatch
+abbrev pub after_turn : {D X : Type 0} → Result (Unit {0}) Error → X → Doing D X
+after_turn (Ok u) x = Cutting x
+after_turn (Err e) x = Leaving (Err e) x
+
+-- one small step, by what is seen
+abbrev pub Step : {D P X : Type 0} → Meaning D P X → Outside P → View D P → Doing D X → List (Change D P) → Doing D X → Type 0
+Step {D} {P} M O v (Waiting timeout x) cs b =
+    (answer : Result (Unit {0}) Cause) × (given : List (ℕ × Readiness)) × (p : P) × O.waits v.poll.poller (asked_for (any_marked v.poll.board) timeout) answer given p
+    × (cs ≡ Polling p ∷ []) × (b ≡ after_wait answer given x)
+Step M O v (Gathering given x) cs b = (posted : List ℕ) × (cs ≡ Gathered posted given ∷ []) × (b ≡ Cutting x)
+Step M O v (Cutting x) cs b = CutFrom M v.poll.batch v x cs b
+Step M O v (Ending token d answer x) cs b = (cs ≡ Ended ∷ Put token.slot (Source d) ∷ []) × (b ≡ after_turn answer x)
+Step M O v (Leaving answer x) cs b = ⊥
+
+-- a list of small steps, with the changes of each
+abbrev pub Steps : {D P X : Type 0} → Meaning D P X → Outside P → View D P → Doing D X → List (List (Change D P)) → Doing D X → Type 0
+Steps M O v a [] b = b ≡ a
+Steps {D} {P} {X} M O v a (cs ∷ css) b = (c : Doing D X) × Step M O v a cs c × AllFit v cs × Steps M O (all_viewed v cs) c css b
+
+abbrev pub traced : {D P : Type 0} → View D P → List (List (Change D P)) → View D P
+traced v [] = v
+traced v (cs ∷ css) = traced (all_viewed v cs) css
+
+abbrev pub all_traced : {D P : Type 0} → World D P → List (List (Change D P)) → World D P
+all_traced w [] = w
+all_traced w (cs ∷ css) = all_traced (all_done w cs) css
+
+-- a case of one step
+abbrev pub Once : {D P : Type 0} → (View D P → List (Change D P) → Type 0) → View D P → List (List (Change D P)) → Type 0
+Once R v [] = ⊥
+Once R v (cs ∷ []) = R v cs × AllFit v cs
+Once R v (cs ∷ ds ∷ css) = ⊥
+
+-- where the batch finds no memory, nothing is changed; else a dispatch begins with a wait and goes on until it leaves
+abbrev pub DispatchedBy : {D P X : Type 0} → Meaning D P X → Outside P → Option ℕ → X → Result (Unit {0}) Error → X → View D P → List (List (Change D P)) → Type 0
+DispatchedBy M O timeout x answer x' v css = ((answer ≡ Err OutOfMemory) × (x' ≡ x) × (css ≡ [])) ⊎ Steps M O v (Waiting timeout x) css (Leaving answer x')
+
+abbrev pub Case : {D P X : Type 0} → Meaning D P X → Outside P → Call D P X → Answer D P X → View D P → List (List (Change D P)) → Type 0
+Case M O (Insert d) (Inserted answer) v css = Once (InsertedBy M d answer) v css
+Case M O (Ring token) (Rung answer) v css = Once (RungBy M token answer) v css
+Case M O (Dispatch timeout x) (Dispatched answer x') v css = DispatchedBy M O (nanos_of timeout) x answer x' v css
+Case M O (NewPoller p) (OldPoller q) v css = (q ≡ v.poll.poller) × (css ≡ (Polling p ∷ []) ∷ [])
+Case M O call answer v css = ⊥
+
+-- a list of cases, each beginning where the one before ended; the changes of each are told
+abbrev pub Run : {D P X : Type 0} → Meaning D P X → Outside P → List (Call D P X) → List (Answer D P X) → List (List (List (Change D P))) → World D P → World D P → Type 0
+Run M O [] [] [] w w' = w' ≡ w
+Run M O (call ∷ calls) (answer ∷ answers) (css ∷ csss) w w' = Case M O call answer (seen w) css × Run M O calls answers csss (all_traced w css) w'
+Run M O calls answers csss w w' = ⊥
+
+-- what a function of the loop did, by what is seen
+abbrev pub Did : {D P : Type 0} → (View D P → List (List (Change D P)) → Type 0) → View D P → View D P → Type 0
+Did {D} {P} R old new = (css : List (List (Change D P))) × R old css × (new ≡ traced old css)
+
+-- from every machine state that agrees with what the loop held, the call is a case, and ends in one that agrees again
+abbrev pub Leads : {D P : Type 0} → (View D P → List (List (Change D P)) → Type 0) → View D P → View D P → Type 0
+Leads {D} {P} R old new = (w : World D P) → seen w ≡ old → (css : List (List (Change D P))) × R (seen w) css × (seen (all_traced w css) ≡ new)
+
+-- within a dispatch
+abbrev pub Goes : {D P X : Type 0} → Meaning D P X → Outside P → Doing D X → Doing D X → View D P → View D P → Type 0
+Goes M O a b old new = Did (λ v css. Steps M O v a css b) old new
+
+-- what handing out the first event leads to: another one, or the end where there was none, or an error
+abbrev pub after_hand_out : {D X : Type 0} → Result Bool Error → X → Doing D X
+after_hand_out (Ok true) x = Cutting x
+after_hand_out (Ok false) x = Leaving (Ok tt) x
+after_hand_out (Err e) x = Leaving (Err e) x
+
+-- an event was handed out, and its turn answered
+abbrev pub handed_out : Result (Unit {0}) Error → Result Bool Error
+handed_out (Ok u) = Ok true
+handed_out (Err e) = Err e
+
+-- the answer of an insertion of a ping, where it is held with its callback
+abbrev pub held_answer : {D F : Type 0} → (Dispatcher PingSource F → D) → F → Result RegistrationToken (InsertError PingSource) → Result RegistrationToken (InsertError D)
+held_answer held f (Ok token) = Ok token
+held_answer held f (Err refused) = Err (record { inserted = held (record { source = refused.inserted; callback = f }); error = refused.error })
+
+-- from every machine state that agrees, a list of calls is a run, which ends in one that agrees again
+abbrev pub RunLeads : {D P X : Type 0} → Meaning D P X → Outside P → List (Call D P X) → List (Answer D P X) → View D P → View D P → Type 0
+RunLeads {D} {P} M O calls answers old new =
+    (w : World D P) → seen w ≡ old → (csss : List (List (List (Change D P)))) × (w' : World D P) × Run M O calls answers csss w w' × (seen w' ≡ new)

@@ -1,0 +1,13 @@
+//! A callback event loop, after the Rust crate calloop: every call of the loop is proved a case of a small machine.
+#![tactic(auto)]
+
+pub mod loop_logic;
+pub mod ping;
+
+pub use calloop_core::sources::{Callback, Dispatcher};
+pub use calloop_core::sys::poll::Poll;
+pub use calloop_core::sys::{Clock, Poller, Readiness};
+pub use calloop_wake::error::{Error, InsertError, Result};
+pub use calloop_wake::token::{RegistrationToken, Token, TokenFactory};
+pub use calloop_wake::wheel::Instant;
+pub use loop_logic::{EventDispatcher, EventLoop, Hold, LoopHandle};

@@ -1,0 +1,96 @@
+//! The loop, and what it asks of the caller's sources.
+use crate::ping::PingSource;
+use calloop_core::sources::{Callback, Dispatcher};
+use calloop_core::sys::poll::Poll;
+use calloop_core::sys::{Poller, Readiness};
+use calloop_wake::error::{InsertError, Result};
+use calloop_wake::list::SourceList;
+use calloop_wake::token::{RegistrationToken, Token, TokenFactory};
+use std::time::Duration;
+
+mod calls;
+mod dispatch;
+mod handle;
+mod laws;
+
+pub use laws::once;
+
+/// A loop over sources of one type `D` of the caller, a poller and a clock. It owns its sources.
+#[derive(Drop)]
+pub struct EventLoop<D, P, C> {
+    sources: SourceList<D>,
+    poll: Poll<P, C>,
+}
+
+/// The calls on a loop that act at once. It is lent by the loop.
+pub struct LoopHandle<'l, D, P, C> {
+    inner: &'l mut EventLoop<D, P, C>,
+}
+
+/// A call on a loop, as a value.
+#[derive(Drop)]
+pub enum Call<D, P, X> {
+    Insert(D),
+    Ring(RegistrationToken),
+    Dispatch(Option<Duration>, X),
+    Poller(P),
+}
+
+/// What a call answered. A dispatch gives its data back, and a change of the poller the one before.
+#[derive(Drop)]
+pub enum Answer<D, P, X> {
+    Inserted(std::result::Result<RegistrationToken, InsertError<D>>),
+    Rung(Result<()>),
+    Dispatched(Result<()>, X),
+    Poller(P),
+}
+
+/// What a loop calls: an enum of the caller's dispatchers, each a source with its callback. Its meaning says, as
+/// relations, what each call may do; the loop is proved for every meaning.
+pub trait EventDispatcher<P: Poller, C>: Drop + Sized {
+    ghost use Rattle.std.specs.Prelude.{◌≡◌, List};
+    ghost use Rattle.calloop_core.specs.Polls.{PollStep, poll_view, AllStepped};
+    ghost use Rattle.calloop.specs.Meanings.{Meaning};
+
+    /// What a dispatch lends to the callbacks.
+    type Data;
+
+    ghost means: { Meaning Self P Self.Data };
+
+    /// Registers the source with tokens of the factory.
+    fn register(&mut self, poll: &mut Poll<P, C>, factory: &mut TokenFactory) -> Result<()>
+        ensures { (steps : List PollStep) × means.reg self.old (poll_view poll.old) factory.old result steps self.new factory.new × AllStepped (poll_view poll.old) steps (poll_view poll.new) };
+
+    /// Rings the source where it is a ping, and says whether it is one.
+    fn ring(&mut self, poll: &mut Poll<P, C>) -> bool
+        ensures { (steps : List PollStep) × means.ring self.old result steps self.new × AllStepped (poll_view poll.old) steps (poll_view poll.new) };
+
+    /// A turn of the source, for an event of this token.
+    fn process_events(
+        &mut self,
+        readiness: Readiness,
+        token: Token,
+        poll: &mut Poll<P, C>,
+        data: &mut Self::Data,
+    ) -> Result<()>
+        ensures { (steps : List PollStep) × means.turn self.old readiness token (poll_view poll.old) «data».old result steps self.new «data».new × AllStepped (poll_view poll.old) steps (poll_view poll.new) };
+}
+
+/// A dispatcher type that has a place for a ping with a callback `F`; what is held means the ping.
+pub trait Hold<F, P: Poller, C>: EventDispatcher<P, C>
+where
+    F: Callback<(), (), (), Self::Data>,
+{
+    ghost use Rattle.std.specs.Prelude.{◌≡◌};
+    ghost use Rattle.calloop_core.specs.declared.sources.Dispatcher.{Dispatcher};
+    ghost use Rattle.calloop.specs.declared.ping.PingSource.{PingSource};
+    ghost use Rattle.calloop.specs.Meanings.{ping_meaning};
+    ghost use Rattle.calloop.specs.Holding.{IsHeld};
+
+    ghost held: { Dispatcher PingSource F → Self };
+
+    fn hold(dispatcher: Dispatcher<PingSource, F>) -> Self
+        ensures { result ≡ held dispatcher };
+
+    ghost held_means: { IsHeld held (ping_meaning F.may) Self.means };
+}

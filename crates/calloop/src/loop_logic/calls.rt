@@ -1,0 +1,51 @@
+//! Lists of calls, as values.
+ghost use Rattle.std.specs.Prelude.{◌≡◌, IfOk, IfErr, OnErr};
+ghost use Rattle.calloop.specs.Machine.{view_of};
+ghost use Rattle.calloop.specs.Rules.{Case, Did, RunLeads};
+
+use super::{Answer, Call, EventDispatcher, EventLoop};
+use calloop_core::sys::{Clock, Poller};
+use std::alloc::Global;
+use std::collections::VecDeque;
+use std::mem;
+
+impl<D: EventDispatcher<P, C>, P: Poller, C: Clock> EventLoop<D, P, C> {
+    /// Carries out one call.
+    pub fn carry_out(&mut self, call: Call<D, P, D::Data>) -> Answer<D, P, D::Data>
+        ensures { Did (Case D.means P.outside call result) (view_of self.old) (view_of self.new) }
+    {
+        match call {
+            Call::Insert(dispatcher) => Answer::Inserted(self.insert(dispatcher)),
+            Call::Ring(token) => Answer::Rung(self.ring(token)),
+            Call::Dispatch(timeout, data) => {
+                let mut data = data;
+                let answer = self.dispatch(timeout, &mut data);
+                Answer::Dispatched(answer, data)
+            }
+            Call::Poller(poller) => { Answer::Poller(mem::replace(self.poll.poller_mut(), poller)) }
+        }
+    }
+
+    /// Carries out a list of calls in order. Where there is no memory for the answers, the calls are handed back and
+    /// none is carried out.
+    pub fn carry_out_all(
+        &mut self,
+        alloc: Global,
+        calls: VecDeque<Call<D, P, D::Data>>,
+    ) -> Result<Vec<Answer<D, P, D::Data>>, VecDeque<Call<D, P, D::Data>>>
+    where
+        D::Data: Drop,
+        ensures run { IfOk result (λ answers. RunLeads D.means P.outside calls.items answers.items (view_of self.old) (view_of self.new)) }
+        ensures err { IfErr result (λ back. (back.items ≡ calls.items) × (self.new ≡ self.old)) }
+    {
+        let Ok(mut answers) = Vec::with_capacity(alloc, calls.len()) else {
+            return Err(calls);
+        };
+        let mut calls = calls;
+        while let Some(call) = calls.pop_front() {
+            let answer = self.carry_out(call);
+            answers.push_reserved(answer);
+        }
+        Ok(answers)
+    }
+}

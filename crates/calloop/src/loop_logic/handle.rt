@@ -1,0 +1,134 @@
+//! The calls on a loop that act at once.
+ghost use Rattle.std.specs.Prelude.{◌≡◌, Ok, Err};
+ghost use Rattle.std.specs.Borrow.{Lends, sem};
+ghost use Rattle.std.specs.Prelude.{[]};
+ghost use mir.Syntax.{named};
+ghost use Rattle.calloop.specs.contracts.loop_logic.LoopHandle.{the_row};
+ghost use Rattle.calloop.specs.Lending.{with_handle_poller};
+ghost use Rattle.calloop.specs.declared.loop_logic.Call.TheVariants.{Insert, Ring};
+ghost use Rattle.calloop.specs.declared.loop_logic.Answer.TheVariants.{Inserted, Rung};
+ghost use Rattle.calloop.specs.Machine.{view_of};
+ghost use Rattle.calloop.specs.Rules.{Case, Did, Leads, held_answer};
+
+use super::{EventDispatcher, EventLoop, Hold, LoopHandle};
+use crate::ping::PingSource;
+use calloop_core::sources::{Callback, Dispatcher};
+use calloop_core::sys::{Clock, Poller};
+use calloop_wake::error::{Error, InsertError, Result};
+use calloop_wake::list::Content;
+use calloop_wake::token::{RegistrationToken, TokenFactory};
+
+impl<D: EventDispatcher<P, C>, P: Poller, C: Clock> EventLoop<D, P, C> {
+    // Registers a ping in the first vacant slot.
+    fn insert_source<F>(
+        &mut self,
+        source: PingSource,
+        callback: F,
+    ) -> std::result::Result<RegistrationToken, InsertError<PingSource>>
+    where
+        D: Hold<F, P, C>,
+        F: Callback<(), (), (), D::Data> + Drop,
+        ensures { Did (Case D.means P.outside (Insert (D.held (record { source = source; callback = callback }))) (Inserted (held_answer D.held callback result))) (view_of self.old) (view_of self.new) }
+    {
+        let mut source = source;
+        let token = match self.sources.vacant() {
+            Ok(token) => token,
+            Err(error) => {
+                return Err(InsertError {
+                    inserted: source,
+                    error,
+                });
+            }
+        };
+        let mut factory = TokenFactory::new(token);
+        match source.register(&mut self.poll, &mut factory) {
+            Ok(()) => {
+                let held = D::hold(Dispatcher { source, callback });
+                let _was = self.sources.replace(token.slot(), Content::Source(held));
+                Ok(token)
+            }
+            Err(error) => Err(InsertError {
+                inserted: source,
+                error,
+            }),
+        }
+    }
+
+    // Registers a dispatcher in the first vacant slot.
+    pub(super) fn insert(
+        &mut self,
+        dispatcher: D,
+    ) -> std::result::Result<RegistrationToken, InsertError<D>>
+        ensures { Did (Case D.means P.outside (Insert dispatcher) (Inserted result)) (view_of self.old) (view_of self.new) }
+    {
+        let mut inserted = dispatcher;
+        let token = match self.sources.vacant() {
+            Ok(token) => token,
+            Err(error) => return Err(InsertError { inserted, error }),
+        };
+        let mut factory = TokenFactory::new(token);
+        match inserted.register(&mut self.poll, &mut factory) {
+            Ok(()) => {
+                let _was = self
+                    .sources
+                    .replace(token.slot(), Content::Source(inserted));
+                Ok(token)
+            }
+            Err(error) => Err(InsertError { inserted, error }),
+        }
+    }
+
+    // Rings the ping that the token names.
+    pub(super) fn ring(&mut self, token: RegistrationToken) -> Result<()>
+        ensures { Did (Case D.means P.outside (Ring token) (Rung result)) (view_of self.old) (view_of self.new) }
+    {
+        let Some(mut source) = self.sources.begin_turn(token) else {
+            return Err(Error::InvalidToken);
+        };
+        let is_ping = source.ring(&mut self.poll);
+        let _was = self.sources.replace(token.slot(), Content::Source(source));
+        if is_ping {
+            Ok(())
+        } else {
+            Err(Error::InvalidToken)
+        }
+    }
+}
+
+impl<D: EventDispatcher<P, C>, P: Poller, C: Clock> LoopHandle<'_, D, P, C> {
+    /// Registers a ping in the first vacant slot, with a callback for its events.
+    ///
+    /// A refusal hands the source back: `TooManySources` and want of memory for a new slot leave everything as it
+    /// was; where the registration is refused, the slot stays vacant under its new version.
+    pub fn insert_source<F>(
+        &mut self,
+        source: PingSource,
+        callback: F,
+    ) -> std::result::Result<RegistrationToken, InsertError<PingSource>>
+    where
+        D: Hold<F, P, C>,
+        F: Callback<(), (), (), D::Data> + Drop,
+        ensures same { self.new.inner.ghost_name ≡ self.old.inner.ghost_name }
+        ensures case { Did (Case D.means P.outside (Insert (D.held (record { source = source; callback = callback }))) (Inserted (held_answer D.held callback result))) (view_of self.old.inner.now) (view_of self.new.inner.now) }
+        ensures machine { Leads (Case D.means P.outside (Insert (D.held (record { source = source; callback = callback }))) (Inserted (held_answer D.held callback result))) (view_of self.old.inner.now) (view_of self.new.inner.now) }
+    {
+        self.inner.insert_source(source, callback)
+    }
+
+    /// Rings the ping that the token names. Where it names none the answer is `InvalidToken`, and nothing changes.
+    pub fn ring(&mut self, token: &RegistrationToken) -> Result<()>
+        ensures same { self.new.inner.ghost_name ≡ self.old.inner.ghost_name }
+        ensures case { Did (Case D.means P.outside (Ring token.now) (Rung result)) (view_of self.old.inner.now) (view_of self.new.inner.now) }
+        ensures machine { Leads (Case D.means P.outside (Ring token.now) (Rung result)) (view_of self.old.inner.now) (view_of self.new.inner.now) }
+    {
+        self.inner.ring(*token)
+    }
+
+    /// The poller itself, as to give a scripted one its answers.
+    pub fn poller_mut(&mut self) -> &mut P
+        ensures* writes_back { sem 𝓛 (Lends (the_row (record { mir = named 1; lft = [] }) D.row P.row C.row) P.row self.entry result (λ w. with_handle_poller w self.old)) }
+        ensures value { result.now ≡ self.old.inner.now.poll.poller }
+    {
+        self.inner.poll.poller_mut()
+    }
+}
