@@ -2,6 +2,8 @@
 #![tactic(auto)]
 
 pub mod command;
+pub mod driver;
+pub mod lines;
 pub mod name;
 pub mod text;
 
