@@ -1,6 +1,10 @@
 -- What is printed, a line each.
-use Rattle.std.specs.Prelude.{ℕ, ◌+◌, ◌-◌, ◌^◌, min, List, ◌++◌, Option, Some, None, codes}
+use Rattle.std.specs.Prelude.{◌≡◌, ℕ, ◌+◌, ◌-◌, ◌^◌, min, List, ◌++◌, Option, Some, None, codes}
 use Rattle.std.specs.Fmt.{decimal}
+
+-- a list begins with these items
+abbrev pub BeginsWith : List ℕ → List ℕ → Type 0
+BeginsWith all front = (rest : List ℕ) × (all ≡ front ++ rest)
 
 -- a source of this name was put into a slot at a version
 abbrev pub insert_text : List ℕ → ℕ → ℕ → List ℕ
