@@ -1,0 +1,57 @@
+-- The commands of a script, a line each.
+use Rattle.std.specs.Prelude.{ℕ, ◌+◌, ◌-◌, ◌*◌, ◌^◌, Bool, ◌&&◌, ◌||◌, List, [], ◌∷◌, length, drop, Option, Some, None, nat_lt, nat_le, nat_eq, ◌==◌, if◌then◌else◌, codes}
+use Rattle.std.specs.List.{list_all, starts_with}
+use Rattle.std.specs.Option.{option_map}
+use Rattle.std.specs.Cmp.Lexicographic.{pointwise}
+use Rattle.looptrace.specs.declared.command.Command.{Command}
+use Rattle.looptrace.specs.declared.command.Command.TheVariants.{Nothing, Ping, Ring, Dispatch}
+
+-- `0` to `9`
+abbrev pub is_digit : ℕ → Bool
+is_digit b = nat_le 48 b && nat_le b 57
+
+-- `0` to `9` and `a` to `z`
+abbrev pub is_name_byte : ℕ → Bool
+is_name_byte b = is_digit b || (nat_le 97 b && nat_le b 122)
+
+-- 1 to 32 bytes of a name
+abbrev pub is_name : List ℕ → Bool
+is_name word = nat_le 1 (length word) && nat_le (length word) 32 && list_all is_name_byte word
+
+-- the word itself, where it is a name
+abbrev pub name_of : List ℕ → Option (List ℕ)
+name_of word = if is_name word then Some word else None
+
+-- the value of more digits after those of this value, where it fits 64 bits
+abbrev pub digits_from : ℕ → List ℕ → Option ℕ
+digits_from value [] = Some value
+digits_from value (b ∷ bs) = if is_digit b && nat_lt (value * 10 + (b - 48)) (2 ^ 64) then digits_from (value * 10 + (b - 48)) bs else None
+
+-- a decimal number of 64 bits with no leading zero but 0 itself
+abbrev pub number_of : List ℕ → Option ℕ
+number_of [] = None
+number_of (b ∷ bs) = if b == 48 && nat_lt 0 (length bs) then None else digits_from 0 (b ∷ bs)
+
+-- a timeout in nanoseconds, or `-` for none
+abbrev pub timeout_of : List ℕ → Option (Option ℕ)
+timeout_of word = if pointwise nat_eq word (codes "-") then Some None else option_map Some (number_of word)
+
+-- a command that makes a ping
+abbrev pub ping_of : List ℕ → Option Command
+ping_of word = option_map Ping (name_of word)
+
+-- a command that rings a ping
+abbrev pub ring_of : List ℕ → Option Command
+ring_of word = option_map Ring (name_of word)
+
+-- a command with a timeout
+abbrev pub dispatch_of : List ℕ → Option Command
+dispatch_of line = if starts_with nat_eq line (codes "dispatch ") then option_map Dispatch (timeout_of (drop 9 line)) else None
+
+-- the command of a line, where the line can be read
+abbrev pub command_of : List ℕ → Option Command
+command_of line =
+    if length line == 0 then Some Nothing
+    else if starts_with nat_eq line (codes "ping ") then ping_of (drop 5 line)
+    else if starts_with nat_eq line (codes "ring ") then ring_of (drop 5 line)
+    else dispatch_of line

@@ -1,0 +1,4 @@
+pub mod Commands
+pub mod Lines
+pub mod Texts
+pub mod Traces

@@ -1,0 +1,117 @@
+ghost use Rattle.std.specs.Prelude.{◌≡◌, IfOk};
+ghost use Rattle.std.specs.List.{list_all};
+ghost use Rattle.looptrace.specs.Commands.{is_name, is_name_byte, name_of, number_of, timeout_of, ping_of, ring_of, dispatch_of, command_of};
+
+use crate::name::Name;
+use std::alloc::{AllocError, Global};
+
+/// One line of a script.
+#[derive(Drop)]
+pub enum Command {
+    /// An empty line.
+    Nothing,
+    /// Makes a ping source of this name.
+    Ping(Name),
+    /// Rings the ping of this name.
+    Ring(Name),
+    /// Dispatches with a timeout in nanoseconds, or with none.
+    Dispatch(Option<u64>),
+}
+
+fn is_for_names(b: u8) -> bool
+    ensures { result ≡ is_name_byte b }
+{
+    (b >= b'0' && b <= b'9') || (b >= b'a' && b <= b'z')
+}
+
+fn are_for_names(word: &[u8]) -> bool
+    ensures { result ≡ list_all is_name_byte word.now }
+{
+    word.iter().all(|b| is_for_names(*b))
+}
+
+fn is_a_name(word: &[u8]) -> bool
+    ensures { result ≡ is_name word.now }
+{
+    if word.is_empty() || word.len() > 32 {
+        return false;
+    }
+    are_for_names(word)
+}
+
+fn parse_name(alloc: Global, word: &[u8]) -> Result<Option<Name>, AllocError>
+    ensures { IfOk result (λ name. name ≡ name_of word.now) }
+{
+    if !is_a_name(word) {
+        return Ok(None);
+    }
+    Ok(Some(Name::new(alloc, word)?))
+}
+
+fn parse_number(word: &[u8]) -> Option<u64>
+    ensures { result ≡ number_of word.now }
+{
+    if word.is_empty() || (word[0] == b'0' && word.len() > 1) {
+        return None;
+    }
+    let mut value = 0u64;
+    for b in word {
+        if *b < b'0' || *b > b'9' {
+            return None;
+        }
+        value = value.checked_mul(10)?.checked_add((*b - b'0') as u64)?;
+    }
+    Some(value)
+}
+
+fn parse_timeout(word: &[u8]) -> Option<Option<u64>>
+    ensures { result ≡ timeout_of word.now }
+{
+    if word == b"-".as_slice() {
+        return Some(None);
+    }
+    Some(Some(parse_number(word)?))
+}
+
+fn parse_dispatch(line: &[u8]) -> Option<Command>
+    ensures { result ≡ dispatch_of line.now }
+{
+    if !line.starts_with(b"dispatch ") {
+        return None;
+    }
+    Some(Command::Dispatch(parse_timeout(&line[9..])?))
+}
+
+fn parse_ping(alloc: Global, word: &[u8]) -> Result<Option<Command>, AllocError>
+    ensures { IfOk result (λ command. command ≡ ping_of word.now) }
+{
+    match parse_name(alloc, word)? {
+        Some(name) => Ok(Some(Command::Ping(name))),
+        None => Ok(None),
+    }
+}
+
+fn parse_ring(alloc: Global, word: &[u8]) -> Result<Option<Command>, AllocError>
+    ensures { IfOk result (λ command. command ≡ ring_of word.now) }
+{
+    match parse_name(alloc, word)? {
+        Some(name) => Ok(Some(Command::Ring(name))),
+        None => Ok(None),
+    }
+}
+
+/// The command of a line without its line feed. `None` where the line can't be read.
+/// An `Err` is want of memory.
+pub fn parse(alloc: Global, line: &[u8]) -> Result<Option<Command>, AllocError>
+    ensures { IfOk result (λ command. command ≡ command_of line.now) }
+{
+    if line.is_empty() {
+        Ok(Some(Command::Nothing))
+    } else if line.starts_with(b"ping ") {
+        parse_ping(alloc, &line[5..])
+    } else if line.starts_with(b"ring ") {
+        parse_ring(alloc, &line[5..])
+    } else {
+        Ok(parse_dispatch(line))
+    }
+}

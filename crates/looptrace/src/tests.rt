@@ -1,0 +1,325 @@
+ghost use Rattle.std.specs.Prelude.{◌≡◌, Some, None, nat_eq, codes, if◌then◌else◌};
+ghost use Rattle.std.specs.Cmp.Lexicographic.{pointwise};
+ghost use Rattle.looptrace.specs.Texts.{call_text, next_number};
+
+use crate::command::{Command, parse};
+use crate::driver::{Runner, drive};
+use crate::lines::{read_line, without_feed};
+use crate::name::Name;
+use crate::text::{append_call, append_insert, append_refused, append_wait};
+use std::alloc::Global;
+use std::io;
+use std::io::{BufRead, Read, Write};
+use std::test::Fail;
+
+#[test]
+fn lines_that_cannot_be_read(rt: HostRuntime) -> Result<(), Fail> {
+    let lines = [
+        b"ping".as_slice(),
+        b"ping ".as_slice(),
+        b"ping  a".as_slice(),
+        b"ping a ".as_slice(),
+        b"ping a\r".as_slice(),
+        b" ping a".as_slice(),
+        b"ping A".as_slice(),
+        b"ping a_b".as_slice(),
+        b"ping \xff".as_slice(),
+        b"\xc3\x28".as_slice(),
+        b"Ping a".as_slice(),
+        b"ping a b".as_slice(),
+        b"ping abcdefghijklmnopqrstuvwxyz0123456".as_slice(),
+        b"ring".as_slice(),
+        b"ring ".as_slice(),
+        b"ring `".as_slice(),
+        b"ring {".as_slice(),
+        b"ring /".as_slice(),
+        b"ring :".as_slice(),
+        b"dispatch".as_slice(),
+        b"dispatch ".as_slice(),
+        b"dispatch -1".as_slice(),
+        b"dispatch --".as_slice(),
+        b"dispatch +1".as_slice(),
+        b"dispatch 01".as_slice(),
+        b"dispatch 00".as_slice(),
+        b"dispatch 1 ".as_slice(),
+        b"dispatch 1\r".as_slice(),
+        b"dispatch 1a".as_slice(),
+        b"dispatch 18446744073709551616".as_slice(),
+        b"dispatch 100000000000000000000".as_slice(),
+        b"clock 5".as_slice(),
+        b"timer a 5".as_slice(),
+        b"close a".as_slice(),
+        b" ".as_slice(),
+        b"\r".as_slice(),
+    ];
+    for line in lines {
+        assert!(rt; parse(rt.alloc(), line)?.is_none(), "{line:?}");
+    }
+    Ok(())
+}
+
+#[test]
+fn names(rt: HostRuntime) -> Result<(), Fail> {
+    for name in [
+        b"a".as_slice(),
+        b"0".as_slice(),
+        b"z9".as_slice(),
+        b"abcdefghijklmnopqrstuvwxyz012345".as_slice(),
+    ] {
+        let (mut ping, mut ring) = (Vec::new(rt.alloc()), Vec::new(rt.alloc()));
+        ping.extend_from_slice(b"ping ")?;
+        ping.extend_from_slice(name)?;
+        ring.extend_from_slice(b"ring ")?;
+        ring.extend_from_slice(name)?;
+        match &parse(rt.alloc(), &ping)? {
+            Some(Command::Ping(read)) => assert_eq!(rt; read.as_slice(), name),
+            _ => assert!(rt; false),
+        }
+        match &parse(rt.alloc(), &ring)? {
+            Some(Command::Ring(read)) => assert_eq!(rt; read.as_slice(), name),
+            _ => assert!(rt; false),
+        }
+        assert_eq!(rt; Name::new(rt.alloc(), name)?.as_slice(), name);
+    }
+    Ok(())
+}
+
+#[test]
+fn timeouts(rt: HostRuntime) -> Result<(), Fail> {
+    for (line, timeout) in [
+        (b"dispatch -".as_slice(), None),
+        (b"dispatch 0".as_slice(), Some(0)),
+        (b"dispatch 10".as_slice(), Some(10)),
+        (b"dispatch 18446744073709551615".as_slice(), Some(u64::MAX)),
+    ] {
+        match parse(rt.alloc(), line)? {
+            Some(Command::Dispatch(read)) => assert_eq!(rt; read, timeout),
+            _ => assert!(rt; false),
+        }
+    }
+    match parse(rt.alloc(), b"")? {
+        Some(Command::Nothing) => Ok(()),
+        _ => {
+            assert!(rt; false);
+            Ok(())
+        }
+    }
+}
+
+#[test]
+fn texts(rt: HostRuntime) -> Result<(), Fail> {
+    let mut out = Vec::new(rt.alloc());
+    append_insert(&mut out, b"a0", 0, 0)?;
+    append_insert(&mut out, b"b", u32::MAX, u16::MAX)?;
+    append_wait(&mut out, None)?;
+    append_wait(&mut out, Some(u64::MAX))?;
+    append_call(&mut out, b"a0")?;
+    append_refused(&mut out, "InvalidToken")?;
+    assert_eq!(rt;
+        out.as_slice(),
+        b"insert a0 0 0\ninsert b 4294967295 65535\nwait -\nwait 18446744073709551615\ncall a0\nrefused InvalidToken\n".as_slice()
+    );
+    Ok(())
+}
+
+#[test]
+fn lines(rt: HostRuntime) -> Result<(), Fail> {
+    let mut input = b"a\n\nb".as_slice();
+    let mut line = Vec::new(rt.alloc());
+    for want in [b"a".as_slice(), b"".as_slice(), b"b".as_slice()] {
+        assert!(rt; read_line(&mut input, &mut line)?);
+        assert_eq!(rt; without_feed(&line), want);
+    }
+    assert!(rt; !read_line(&mut input, &mut line)?);
+    Ok(())
+}
+
+// Counts the lines `up`, and reads no other.
+#[derive(Drop)]
+struct Counter {
+    count: u64,
+}
+
+impl Runner for Counter {
+    ghost step = { λ counter line done. done ≡ (if pointwise nat_eq line (codes "up") then Some (record { count = next_number counter.count }, call_text line) else None) };
+
+    fn line(&mut self, line: &[u8], text: &mut Vec<u8>) -> io::Result<bool> {
+        if line != b"up".as_slice() {
+            return Ok(false);
+        }
+        append_call(text, line)?;
+        self.count = self.count.saturating_add(1);
+        Ok(true)
+    }
+}
+
+// The status, the count, and what was written to the two outputs.
+fn counted(alloc: Global, script: &[u8]) -> io::Result<(u8, u64, Vec<u8>, Vec<u8>)> {
+    let mut counter = Counter { count: 0 };
+    let (mut out, mut err) = (Vec::new(alloc), Vec::new(alloc));
+    let mut input = script;
+    let status = drive(alloc, &mut counter, &mut input, &mut out, &mut err)?;
+    Ok((status, counter.count, out, err))
+}
+
+#[test]
+fn runs(rt: HostRuntime) -> Result<(), Fail> {
+    let (status, count, out, err) = counted(rt.alloc(), b"up\nup")?;
+    assert_eq!(rt; (status, count), (0, 2));
+    assert_eq!(rt; out.as_slice(), b"call up\ncall up\n".as_slice());
+    assert!(rt; err.is_empty());
+    let (status, count, out, err) = counted(rt.alloc(), b"up\ndown\nup\n")?;
+    assert_eq!(rt; (status, count), (2, 1));
+    assert_eq!(rt; out.as_slice(), b"call up\n".as_slice());
+    assert_eq!(rt; err.as_slice(), b"error line 2\n".as_slice());
+    let (status, count, out, err) = counted(rt.alloc(), b"")?;
+    assert_eq!(rt; (status, count), (0, 0));
+    assert!(rt; out.is_empty() && err.is_empty());
+    Ok(())
+}
+
+// Takes so many bytes, and then fails.
+#[derive(Drop)]
+struct Full {
+    left: usize,
+    taken: Vec<u8>,
+}
+
+impl Write for Full {
+    fn write(&mut self, buf: &[u8]) -> io::Result<usize> {
+        if self.left == 0 {
+            return Err(io::Error::from(io::ErrorKind::StorageFull));
+        }
+        let count = buf.len().min(self.left);
+        self.taken.extend_from_slice(&buf[..count])?;
+        self.left -= count;
+        Ok(count)
+    }
+
+    fn flush(&mut self) -> io::Result<()> {
+        Ok(())
+    }
+}
+
+fn make_full(alloc: Global, left: usize) -> Full {
+    Full {
+        left,
+        taken: Vec::new(alloc),
+    }
+}
+
+fn is_fault(answer: io::Result<u8>, kind: io::ErrorKind) -> bool {
+    match answer {
+        Ok(_) => false,
+        Err(error) => error.kind() == kind,
+    }
+}
+
+#[test]
+fn an_output_that_is_full(rt: HostRuntime) -> Result<(), Fail> {
+    let all = b"call up\ncall up\n";
+    for left in 0..16 {
+        let mut output = make_full(rt.alloc(), left);
+        let mut errors = Vec::new(rt.alloc());
+        let answer = drive(
+            rt.alloc(),
+            &mut Counter { count: 0 },
+            &mut b"up\nup\n".as_slice(),
+            &mut output,
+            &mut errors,
+        );
+        assert!(rt; is_fault(answer, io::ErrorKind::StorageFull));
+        assert_eq!(rt; output.taken.as_slice(), &all[..left]);
+        assert!(rt; errors.is_empty());
+    }
+    let mut output = make_full(rt.alloc(), 16);
+    let mut errors = Vec::new(rt.alloc());
+    let answer = drive(
+        rt.alloc(),
+        &mut Counter { count: 0 },
+        &mut b"up\nup\n".as_slice(),
+        &mut output,
+        &mut errors,
+    )?;
+    assert_eq!(rt; answer, 0);
+    Ok(())
+}
+
+#[test]
+fn errors_that_are_full(rt: HostRuntime) -> Result<(), Fail> {
+    let all = b"error line 2\n";
+    for left in 0..13 {
+        let mut output = Vec::new(rt.alloc());
+        let mut errors = make_full(rt.alloc(), left);
+        let answer = drive(
+            rt.alloc(),
+            &mut Counter { count: 0 },
+            &mut b"up\ndown\n".as_slice(),
+            &mut output,
+            &mut errors,
+        );
+        assert!(rt; is_fault(answer, io::ErrorKind::StorageFull));
+        assert_eq!(rt; errors.taken.as_slice(), &all[..left]);
+        assert_eq!(rt; output.as_slice(), b"call up\n".as_slice());
+    }
+    Ok(())
+}
+
+// Gives one line, and then fails.
+#[derive(Drop)]
+struct Broken {
+    given: usize,
+}
+
+fn broken_pipe() -> io::Error {
+    io::Error::from(io::ErrorKind::BrokenPipe)
+}
+
+impl Read for Broken {
+    fn read(&mut self, _buf: &mut [u8]) -> io::Result<usize> {
+        Err(broken_pipe())
+    }
+}
+
+impl BufRead for Broken {
+    fn fill_buf(&mut self) -> io::Result<&[u8]> {
+        if self.given < 3 {
+            let line = b"up\n".as_slice();
+            Ok(&line[self.given..])
+        } else {
+            Err(broken_pipe())
+        }
+    }
+
+    fn consume(&mut self, amount: usize) {
+        self.given = self.given.saturating_add(amount);
+    }
+}
+
+#[test]
+fn a_reader_that_is_broken(rt: HostRuntime) -> Result<(), Fail> {
+    for (given, want) in [
+        (0, b"call up\n".as_slice()),
+        (1, b"".as_slice()),
+        (3, b"".as_slice()),
+    ] {
+        let mut counter = Counter { count: 0 };
+        let (mut output, mut errors) = (Vec::new(rt.alloc()), Vec::new(rt.alloc()));
+        let answer = drive(
+            rt.alloc(),
+            &mut counter,
+            &mut Broken { given },
+            &mut output,
+            &mut errors,
+        );
+        if given == 1 {
+            assert_eq!(rt; answer.ok(), Some(2));
+            assert_eq!(rt; errors.as_slice(), b"error line 1\n".as_slice());
+        } else {
+            assert!(rt; is_fault(answer, io::ErrorKind::BrokenPipe));
+            assert!(rt; errors.is_empty());
+        }
+        assert_eq!(rt; output.as_slice(), want);
+    }
+    Ok(())
+}
