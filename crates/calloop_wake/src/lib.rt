@@ -7,3 +7,6 @@ pub mod token;
 pub mod wake;
 
 pub use error::{Error, InsertError, Result};
+
+#[cfg(test)]
+mod tests;
