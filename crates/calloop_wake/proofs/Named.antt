@@ -1,4 +1,4 @@
-use Rattle.std.proofs.Common.{◌≡◌, ℕ, ◌<◌, List, [], ◌∷◌, length, refl, ap, sym, ◌∙◌, arith, Some, None, Option, Bool, true, false, if◌then◌else◌, nat_eq, slice_get, is_some, get_or}
+use Rattle.std.proofs.Common.{◌≡◌, ℕ, ◌<◌, List, length, refl, ap, sym, ◌∙◌, Some, None, Option, true, false, if◌then◌else◌, nat_eq, slice_get, is_some, get_or}
 use Rattle.calloop_wake.proofs.Indexed.{get_some}
 use Rattle.std.proofs.lemmas.Option.{slice_get_within}
 use Rattle.calloop_wake.specs.declared.token.RegistrationToken.{RegistrationToken}

@@ -3,7 +3,7 @@ use Rattle.std.proofs.Common.{◌≡◌, ◌<◌, ◌↔◌, length, get_or, tru
 use Rattle.std.proofs.Math.ListN.{set}
 use Rattle.std.proofs.lemmas.List.{set-get_or}
 use Rattle.std.specs.Borrow.{name_if_ok}
-use Rattle.calloop_wake.specs.Slots.{named, source_of, with_content, changed}
+use Rattle.calloop_wake.specs.Slots.{named, source_of, with_content}
 use Rattle.calloop_wake.specs.declared.list.Content.{Content}
 use Rattle.calloop_wake.specs.declared.list.Content.TheVariants.{Source}
 use Rattle.calloop_wake.proofs.Indexed.{changed-set}
