@@ -1,4 +1,4 @@
-use Rattle.std.proofs.Common.{◌≡◌, ℕ, suc, zero, ◌+◌, ◌<◌, ◌≤◌, List, [], ◌∷◌, length, get_or, refl, ap, sym, ◌∙◌, subst, arith, slice_get, Some, None, Option, map}
+use Rattle.std.proofs.Common.{◌≡◌, ◌≢◌, ℕ, suc, zero, ◌<◌, List, [], ◌∷◌, length, get_or, refl, ap, arith, slice_get, Some, map}
 use Rattle.std.proofs.Math.ListN.{set}
 use Rattle.calloop_wake.specs.Slots.{changed}
 
@@ -23,3 +23,15 @@ pub length-changed : {A : Type 0} (f : A → A) (xs : List A) (i : ℕ) → leng
 length-changed f [] i = refl
 length-changed f (x ∷ xs) zero = refl
 length-changed f (x ∷ xs) (suc i) = ap suc (length-changed f xs i)
+
+pub slice_get-changed_at : {A : Type 0} (f : A → A) (xs : List A) (i : ℕ) (x : A) → slice_get xs i ≡ Some x → slice_get (changed f xs i) i ≡ Some (f x)
+slice_get-changed_at f [] i x e = cc
+slice_get-changed_at f (y ∷ ys) zero x e = let same : y ≡ x = cc in ap (λ v. Some (f v)) same
+slice_get-changed_at f (y ∷ ys) (suc i) x e = slice_get-changed_at f ys i x e
+
+pub slice_get-changed_other : {A : Type 0} (f : A → A) (xs : List A) (i j : ℕ) → j ≢ i → slice_get (changed f xs i) j ≡ slice_get xs j
+slice_get-changed_other f [] i j d = refl
+slice_get-changed_other f (y ∷ ys) zero zero d = absurd (d refl)
+slice_get-changed_other f (y ∷ ys) zero (suc j) d = refl
+slice_get-changed_other f (y ∷ ys) (suc i) zero d = refl
+slice_get-changed_other f (y ∷ ys) (suc i) (suc j) d = slice_get-changed_other f ys i j (λ e. d (ap suc e))

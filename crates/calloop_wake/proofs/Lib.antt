@@ -1,4 +1,5 @@
 pub mod Indexed
+pub mod Inserted
 pub mod Named
 pub mod Places
 pub mod Vacancy

@@ -1,4 +1,5 @@
-use Rattle.std.proofs.Common.{◌≡◌, ℕ, ◌<◌, List, [], ◌∷◌, length, refl, ap, sym, ◌∙◌, arith, Some, None, Option, Bool, true, false, if◌then◌else◌, nat_eq, slice_get, is_some}
+use Rattle.std.proofs.Common.{◌≡◌, ℕ, ◌<◌, List, length, refl, ap, sym, ◌∙◌, Some, None, Option, true, false, if◌then◌else◌, nat_eq, slice_get, is_some, get_or}
+use Rattle.calloop_wake.proofs.Indexed.{get_some}
 use Rattle.std.proofs.lemmas.Option.{slice_get_within}
 use Rattle.calloop_wake.specs.declared.token.RegistrationToken.{RegistrationToken}
 use Rattle.calloop_wake.specs.declared.list.Content.{Content}
@@ -34,3 +35,7 @@ named_slot xs t e = under t.version (slice_get xs t.slot) e
 
 pub named_within : {S : Type 0} (xs : List (Slot S)) (t : RegistrationToken) → is_empty (named xs t) ≡ false → t.slot < length xs
 named_within xs t e = let s = named_slot xs t e in slice_get_within xs t.slot s.0 s.1
+
+-- what a token names is what stands in its slot
+pub named_at : {S : Type 0} (xs : List (Slot S)) (t : RegistrationToken) (x : Slot S) → is_empty (named xs t) ≡ false → x ≡ get_or xs t.slot x → named xs t ≡ x.content
+named_at xs t x e at = let s = named_slot xs t e in s.3 ∙ ap (λ y. y.content) (sym (get_some xs t.slot s.0 x s.1) ∙ sym at)

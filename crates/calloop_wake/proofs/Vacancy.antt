@@ -1,8 +1,10 @@
-use Rattle.std.proofs.Common.{◌≡◌, ℕ, suc, zero, ◌+◌, ◌%◌, ◌<◌, ◌≤◌, List, [], ◌∷◌, ◌++◌, length, get_or, drop, refl, ap, sym, ◌∙◌, arith, Bool, true, false, add-one, if◌then◌else◌}
+use Rattle.std.proofs.Common.{◌≡◌, ◌≢◌, ℕ, suc, zero, ◌+◌, ◌%◌, ◌<◌, ◌≤◌, List, [], ◌∷◌, ◌++◌, length, get_or, drop, refl, ap, sym, ◌∙◌, arith, true, false, add-one, if◌then◌else◌, slice_get, Option, Some}
 use Rattle.std.proofs.Math.Seq.{drop-cons}
 use Rattle.std.proofs.Math.ListN.{set}
 use Rattle.calloop_wake.specs.declared.token.RegistrationToken.{RegistrationToken}
 use Rattle.calloop_wake.proofs.Indexed.{changed-set}
+use Rattle.calloop_wake.proofs.Named.{empty_is}
+use Rattle.calloop_wake.specs.declared.list.Content.{Content}
 use Rattle.calloop_wake.specs.declared.list.Content.TheVariants.{Vacant}
 use Rattle.calloop_wake.specs.declared.list.Slot.{Slot}
 use Rattle.calloop_wake.specs.Slots.{changed, first_vacant, next_version, claimed, used_again, is_vacant, next_registration}
@@ -53,3 +55,18 @@ pub added : {S : Type 0} (xs : List (Slot S)) (place : ℕ) → place ≡ first_
 added {S} xs place e h =
     let h' : first_vacant xs ≡ length xs = omega arith in
     rw e (ap (λ v. record { slot = first_vacant xs; version = v }) (sym (version_past xs h')), sym (claimed_past xs h'))
+
+-- the slot that is claimed is vacant, under its next version
+pub slice_get-claimed_at : {S : Type 0} (ss : List (Slot S)) → slice_get (claimed ss) (first_vacant ss) ≡ Some (record { version = next_version ss; content = Vacant })
+slice_get-claimed_at [] = refl
+slice_get-claimed_at {S} (s ∷ ss) =
+    elim (is_vacant s) as (λ b. is_vacant s ≡ b → ◌≡◌ {A = Option (Slot S)} (slice_get (if b then used_again s ∷ ss else s ∷ claimed ss) (if b then 0 else suc (first_vacant ss))) (Some (record { version = if b then (s.version + 1) % 65536 else next_version ss; content = Vacant }))) [ true ↦ λ e. ap (λ (c : Content S). Some (record { version = (s.version + 1) % 65536; content = c })) (empty_is s.content e) | false ↦ λ _. slice_get-claimed_at ss ] refl
+
+-- the others stay
+pub slice_get-claimed_other : {S : Type 0} (ss : List (Slot S)) (i : ℕ) → i ≢ first_vacant ss → slice_get (claimed ss) i ≡ slice_get ss i
+slice_get-claimed_other [] zero d = absurd (d refl)
+slice_get-claimed_other [] (suc i) d = refl
+slice_get-claimed_other {S} (s ∷ ss) zero d =
+    elim (is_vacant s) as (λ b. 0 ≢ (if b then 0 else suc (first_vacant ss)) → ◌≡◌ {A = Option (Slot S)} (slice_get (if b then used_again s ∷ ss else s ∷ claimed ss) 0) (Some s)) [ true ↦ λ h. absurd (h refl) | false ↦ λ _. refl ] d
+slice_get-claimed_other {S} (s ∷ ss) (suc i) d =
+    elim (is_vacant s) as (λ b. suc i ≢ (if b then 0 else suc (first_vacant ss)) → ◌≡◌ {A = Option (Slot S)} (slice_get (if b then used_again s ∷ ss else s ∷ claimed ss) (suc i)) (slice_get ss i)) [ true ↦ λ _. refl | false ↦ λ h. slice_get-claimed_other ss i (λ e. h (ap suc e)) ] d

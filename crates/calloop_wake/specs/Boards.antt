@@ -1,43 +1,52 @@
--- The board: one place for each open key, in ascending order of the keys.
+-- The board: one place for each open key, in ascending order of the keys. Calloop has the kernel's poller here: a place
+-- is a descriptor in its table, and a mark says that it is ready.
 use Rattle.std.specs.Prelude.{ℕ, Bool, false, ◌&&◌, ◌||◌, not, if◌then◌else◌, List, [], ◌∷◌, nat_eq, nat_lt, map, filter, ◌<◌}
 use Rattle.std.specs.List.{list_any}
 use Rattle.calloop_wake.specs.declared.wake.board.Place.{Place}
 use Rattle.calloop_wake.specs.Passes.{Taken}
 
--- a place for this key, not marked
+-- a place for this key, not marked: a descriptor that is added, and not ready
 abbrev pub place : ℕ → Place
 place k = record { key = k; marked = false }
 
+-- the key has a place
 abbrev pub is_open : ℕ → List Place → Bool
 is_open k ps = list_any (λ p. nat_eq p.key k) ps
 
+-- the key has a place, and is posted
 abbrev pub is_marked : ℕ → List Place → Bool
 is_marked k ps = list_any (λ p. nat_eq p.key k && p.marked) ps
 
--- some key is marked
+-- some key is posted, so the poller would not wait
 abbrev pub any_marked : List Place → Bool
 any_marked ps = list_any (λ p. p.marked) ps
 
+-- the place goes behind all lesser keys; calloop's Poll::register adds a descriptor, in no order
 abbrev pub after_open_place : ℕ → List Place → List Place
 after_open_place k [] = place k ∷ []
 after_open_place k (p ∷ ps) = if nat_lt k p.key then place k ∷ p ∷ ps else p ∷ after_open_place k ps
 
+-- the place goes, with its mark; calloop's Poll::unregister deletes a descriptor
 abbrev pub after_close_place : ℕ → List Place → List Place
 after_close_place k ps = filter (λ p. not (nat_eq p.key k)) ps
 
+-- the place, marked if it is the key's
 abbrev pub marked_at : ℕ → Place → Place
 marked_at k p = record { key = p.key; marked = p.marked || nat_eq p.key k }
 
+-- the key's place is marked, if it has one; in calloop a write makes the descriptor ready
 abbrev pub after_post : ℕ → List Place → List Place
 after_post k ps = map (marked_at k) ps
 
+-- the place with no mark
 abbrev pub unmarked : Place → Place
 unmarked p = record { key = p.key; marked = false }
 
+-- no place is marked; calloop's poller takes the events likewise
 abbrev pub after_unpost : List Place → List Place
 after_unpost ps = map unmarked ps
 
--- the marked keys, ascending
+-- the marked keys, ascending; the kernel gives its events in no promised order
 abbrev pub taken_keys : List Place → List ℕ
 taken_keys ps = map (λ p. p.key) (filter (λ p. p.marked) ps)
 

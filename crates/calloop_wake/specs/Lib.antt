@@ -4,3 +4,4 @@ pub mod Passes
 pub mod Cells
 pub mod Boards
 pub mod Slots
+pub mod Lendings

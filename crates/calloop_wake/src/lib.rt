@@ -8,3 +8,6 @@ pub mod wake;
 pub mod wheel;
 
 pub use error::{Error, InsertError, Result};
+
+#[cfg(test)]
+mod tests;

@@ -1,6 +1,8 @@
 //! The slots of the loop's sources, told apart by their versions. From calloop's `list.rs`.
 ghost use Rattle.std.specs.Prelude.{◌≡◌, ◌↔◌, ℕ, ◌+◌, ◌^◌, ◌<◌, ◌≤◌, List, [], ◌∷◌, ◌++◌, length, slice_get, is_some, if◌then◌else◌, IfOk, IfErr, IsErr, IsErrOf, OnOk, OnSome};
 ghost use Rattle.calloop_wake.specs.Slots.{named, changed, with_content, source_of, first_vacant, next_registration, claimed, CannotClaim};
+ghost use Rattle.std.specs.Borrow.{sem};
+ghost use Rattle.calloop_wake.specs.Lendings.{LendsSource, LendsNamed};
 ghost use Rattle.calloop_wake.specs.declared.error.Error.TheVariants.{InvalidToken, OutOfMemory, TooManySources};
 ghost use Rattle.calloop_wake.specs.declared.list.Content.TheVariants.{Vacant, Source, InTurn};
 ghost use Rattle.calloop_wake.specs.declared.list.Slot.{Slot};
@@ -122,6 +124,19 @@ fn source<S>(content: &Content<S>) -> Result<&S>
     }
 }
 
+// The source of a slot's content.
+fn source_mut<S>(content: &mut Content<S>) -> Result<&mut S>
+    ensures* writes_back { sem 𝓛 (LendsSource S.row content.entry result) }
+    ensures ok { IfOk result (λ s. content.old ≡ Source s.now) }
+    ensures refuses { IsErr result ↔ (source_of content.old ≡ None) }
+    ensures err { IfErr result (λ e. e ≡ InvalidToken) }
+{
+    match content {
+        Content::Source(s) => Ok(s),
+        _ => Err(Error::InvalidToken),
+    }
+}
+
 impl<S: Drop> SourceList<S> {
     /// A list with no slot. It allocates nothing yet.
     pub fn new(alloc: Global) -> SourceList<S>
@@ -145,6 +160,22 @@ impl<S: Drop> SourceList<S> {
             Some(slot) if slot.version == token.version() => source(&slot.content),
             _ => Err(Error::InvalidToken),
         }
+    }
+
+    /// The source that the token names, to be changed.
+    ///
+    /// It refuses as `get` does, and the list is then as it was.
+    pub fn get_mut(&mut self, token: RegistrationToken) -> Result<&mut S>
+        ensures* writes_back { sem 𝓛 (LendsNamed S.row self.entry token result) }
+        ensures ok { IfOk result (λ s. named self.old token ≡ Source s.now) }
+        ensures refuses { IsErr result ↔ (source_of (named self.old token) ≡ None) }
+        ensures err { IfErr result (λ e. e ≡ InvalidToken) }
+    {
+        if !has_source(&self.slots, token) {
+            return Err(Error::InvalidToken);
+        }
+        let slot = &mut self.slots[token.slot() as usize];
+        source_mut(&mut slot.content)
     }
 
     /// Claims the first vacant slot, or a new one, under its next version, and gives its name. It stays vacant.

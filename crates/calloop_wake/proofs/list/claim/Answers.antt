@@ -1,6 +1,6 @@
-use Rattle.std.proofs.Common.{◌≡◌, ◌%◌, ◌+◌, ◌<◌, ◌≤◌, length, arith, sym, ◌∙◌, ap, refl}
-use Rattle.std.proofs.Math.ListN.{length-set, set}
-use Rattle.calloop_wake.specs.Slots.{used_again, claimed, next_registration, first_vacant}
+use Rattle.std.proofs.Common.{length, arith, ◌∙◌, ap}
+use Rattle.std.proofs.Math.ListN.{length-set}
+use Rattle.calloop_wake.specs.Slots.{first_vacant}
 use Rattle.calloop_wake.specs.declared.token.RegistrationToken.{RegistrationToken}
 use Rattle.calloop_wake.proofs.Vacancy.{first_vacant-le, reused, added}
 use Rattle.calloop_wake.proofs.list.claim.Goals as goal

@@ -1,4 +1,4 @@
-use Rattle.std.proofs.Common.{◌≡◌, arith, sym, ◌∙◌, ap}
+use Rattle.std.proofs.Common.{◌∙◌, ap}
 use Rattle.calloop_wake.specs.Slots.{with_content}
 use Rattle.calloop_wake.proofs.Indexed.{changed-set, get_some}
 use Rattle.calloop_wake.proofs.list.put.Goals as goal

@@ -1,4 +1,4 @@
-use Rattle.std.proofs.Common.{◌≡◌, ◌+◌, ◌<◌, ◌∙◌, arith, ap, false, length, length-append, map, take, deque_len, deque_capacity}
+use Rattle.std.proofs.Common.{◌<◌, ◌∙◌, arith, ap, false, length, length-append, map, take, deque_len, deque_capacity}
 use Rattle.std.proofs.lemmas.Grind.{common_steps}
 use Rattle.std.proofs.lemmas.List.{length-map}
 use Rattle.calloop_wake.specs.Boards.{taken, taken_keys}

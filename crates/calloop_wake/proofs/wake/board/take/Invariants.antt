@@ -1,4 +1,4 @@
-use Rattle.std.proofs.Common.{◌≡◌, ◌+◌, ◌++◌, map, take, length, deque_len, deque_capacity}
+use Rattle.std.proofs.Common.{◌≡◌, ◌++◌, map, take, deque_capacity}
 use Rattle.calloop_wake.specs.Boards.{taken, taken_keys}
 use Rattle.calloop_wake.proofs.wake.board.take.Given as goal
 

@@ -1,0 +1,219 @@
+use crate::error::{Error, InsertError};
+use crate::list::{Content, SourceList};
+use crate::token::{RegistrationToken, Token, TokenFactory};
+use crate::wake::board::{Board, OpenRefusal};
+use crate::wake::ping::{OpenedTurn, PingCore};
+use crate::wake::{Debt, TakenPass};
+use std::alloc::{AllocError, Global};
+use std::collections::VecDeque;
+use std::io;
+use std::test::Fail;
+
+#[test]
+fn texts(rt: HostRuntime) -> Result<(), Fail> {
+    let refusals = [
+        (
+            Error::InvalidToken,
+            "invalid token provided to internal function",
+            io::ErrorKind::InvalidInput,
+        ),
+        (Error::OutOfMemory, "out of memory", io::ErrorKind::Other),
+        (
+            Error::TooManySources,
+            "too many event sources",
+            io::ErrorKind::Other,
+        ),
+        (
+            Error::TooManyTokens,
+            "too many tokens for one event source",
+            io::ErrorKind::Other,
+        ),
+    ];
+    for (refusal, text, kind) in refusals {
+        assert_eq!(rt; format!(in rt.alloc(); "{refusal}")?.as_str(), text);
+        let made = io::Error::from(refusal);
+        assert_eq!(rt; format!(in rt.alloc(); "{made}")?.as_str(), text);
+        assert_eq!(rt; made.kind(), kind);
+    }
+    let cause = Error::from(io::Error::new(io::ErrorKind::NotFound, "gone"));
+    assert_eq!(rt;
+        format!(in rt.alloc(); "{cause}")?.as_str(),
+        "underlying IO error: gone"
+    );
+    let refused = InsertError {
+        inserted: 5u8,
+        error: cause,
+    };
+    assert_eq!(rt;
+        format!(in rt.alloc(); "{refused}")?.as_str(),
+        "error inserting event source: underlying IO error: gone"
+    );
+    let made = io::Error::from(Error::from(refused));
+    assert_eq!(rt; made.kind(), io::ErrorKind::NotFound);
+    Ok(())
+}
+
+#[test]
+fn keys(rt: HostRuntime) {
+    let table = [
+        (4_295_098_371, 1, 2),
+        (65_536, 0, 1),
+        (18_446_744_073_709_551_614, 4_294_967_295, 65_535),
+    ];
+    for (key, slot, version) in table {
+        let token = Token::from_key(key);
+        assert_eq!(rt; token.key(), key);
+        assert_eq!(rt; token.registration(), RegistrationToken::new(slot, version));
+    }
+}
+
+#[test]
+fn factory(rt: HostRuntime) {
+    let mut factory = TokenFactory::new(RegistrationToken::new(1, 2));
+    let mut last = None;
+    for _ in 0..65_535 {
+        last = factory.token().ok();
+        assert!(rt; last.is_some());
+    }
+    assert_eq!(rt; last, Some(Token::from_key(4_295_163_902)));
+    for _ in 0..2 {
+        assert!(rt; matches!(factory.token(), Err(Error::TooManyTokens)));
+    }
+}
+
+#[test]
+fn slots(rt: HostRuntime) {
+    let mut list = SourceList::new(rt.alloc());
+    let first = list.vacant().expect(&rt, "a slot");
+    assert_eq!(rt; first, RegistrationToken::new(0, 0));
+    let _ = list.replace(first.slot(), Content::Source(5u8));
+    assert_eq!(rt; list.vacant().ok(), Some(RegistrationToken::new(1, 0)));
+    if let Ok(source) = list.get_mut(first) {
+        *source = 6;
+    }
+    assert!(rt; matches!(list.get(first), Ok(6)));
+    assert_eq!(rt; list.begin_turn(first), Some(6));
+    assert_eq!(rt; list.begin_turn(first), None);
+    assert!(rt; matches!(list.get(first), Err(Error::InvalidToken)));
+    let _ = list.replace(first.slot(), Content::Vacant);
+    for reuse in 0..u16::MAX {
+        assert_eq!(rt;
+            list.vacant().ok(),
+            Some(RegistrationToken::new(0, reuse + 1))
+        );
+    }
+    let again = list.vacant().expect(&rt, "the slot");
+    assert_eq!(rt; again, first);
+    let _ = list.replace(again.slot(), Content::Source(7));
+    assert!(rt; matches!(list.get(first), Ok(7)));
+    assert!(rt;
+        matches!(
+            list.get(RegistrationToken::new(0, 1)),
+            Err(Error::InvalidToken)
+        )
+    );
+}
+
+// Opens a place, and gives the cell its key.
+fn register(board: &mut Board, cell: &mut PingCore, key: u64) -> Result<(), OpenRefusal> {
+    let pass = board.open_place(key)?;
+    let (debt, leave) = cell.set_key(pass);
+    settle(board, debt);
+    if let Some(leave) = leave {
+        board.close_place(leave);
+    }
+    Ok(())
+}
+
+// Posts what is owed, and says whether there was a debt.
+fn settle(board: &mut Board, debt: Option<Debt>) -> bool {
+    match debt {
+        Some(debt) => {
+            board.post(debt);
+            true
+        }
+        None => false,
+    }
+}
+
+// Whether the loop may sleep.
+fn is_quiet(board: &Board) -> bool {
+    match board.look() {
+        Some(leave) => {
+            leave.spend();
+            true
+        }
+        None => false,
+    }
+}
+
+// One turn with this pass: whether somebody rang, or None where it is refused.
+fn serve(board: &mut Board, cell: &mut PingCore, pass: TakenPass) -> Option<bool> {
+    match cell.open_turn(pass) {
+        Ok(OpenedTurn { turn, rung }) => {
+            let debt = cell.end_turn(turn);
+            settle(board, debt);
+            Some(rung)
+        }
+        Err(pass) => {
+            board.post(pass.back());
+            None
+        }
+    }
+}
+
+// Takes the marked keys, and has the cell serve each.
+fn serve_all(
+    alloc: Global,
+    board: &mut Board,
+    cell: &mut PingCore,
+) -> Result<Vec<Option<bool>>, AllocError> {
+    let mut turns = Vec::with_capacity(alloc, board.places())?;
+    let mut passes = VecDeque::with_capacity(alloc, board.places())?;
+    board.unpost(&mut passes);
+    while let Some(pass) = passes.pop_front() {
+        let turn = serve(board, cell, pass);
+        let _ = turns.push(turn);
+    }
+    passes.destroy_empty();
+    Ok(turns)
+}
+
+#[test]
+fn one_ring(rt: HostRuntime) -> Result<(), Fail> {
+    let alloc = rt.alloc();
+    let mut board = Board::new(alloc);
+    let mut cell = PingCore::new();
+    let mut other = PingCore::new();
+    assert!(rt; register(&mut board, &mut cell, 7).is_ok());
+    assert!(rt; register(&mut board, &mut other, 5).is_ok());
+    assert_eq!(rt;
+        register(&mut board, &mut other, 7),
+        Err(OpenRefusal::AlreadyExists)
+    );
+    assert_eq!(rt; board.places(), 2);
+    assert!(rt; is_quiet(&board));
+
+    assert!(rt; settle(&mut board, cell.ring()));
+    assert!(rt; !settle(&mut board, cell.ring()));
+    assert!(rt; !is_quiet(&board));
+    assert_eq!(rt;
+        serve_all(alloc, &mut board, &mut cell)?.as_slice(),
+        [Some(true)].as_slice()
+    );
+    assert!(rt; is_quiet(&board));
+
+    assert!(rt; settle(&mut board, cell.ring()));
+    assert_eq!(rt;
+        serve_all(alloc, &mut board, &mut other)?.as_slice(),
+        [None].as_slice()
+    );
+    assert!(rt; !is_quiet(&board));
+    assert!(rt; register(&mut board, &mut cell, 6).is_ok());
+    assert_eq!(rt; board.places(), 2);
+    assert_eq!(rt;
+        serve_all(alloc, &mut board, &mut cell)?.as_slice(),
+        [Some(true)].as_slice()
+    );
+    Ok(())
+}
