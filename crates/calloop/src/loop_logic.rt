@@ -23,6 +23,7 @@ pub struct EventLoop<D, P, C> {
 }
 
 /// The calls on a loop that act at once. It is lent by the loop.
+#[derive(Drop)]
 pub struct LoopHandle<'l, D, P, C> {
     inner: &'l mut EventLoop<D, P, C>,
 }

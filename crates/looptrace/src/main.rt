@@ -5,6 +5,8 @@ pub mod command;
 pub mod driver;
 pub mod lines;
 pub mod name;
+pub mod runner;
+pub mod source;
 #[cfg(test)]
 mod tests;
 pub mod text;
