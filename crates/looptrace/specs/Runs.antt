@@ -25,6 +25,8 @@ use Rattle.looptrace.specs.declared.source.Source.{Source}
 use Rattle.looptrace.specs.declared.source.Source.TheVariants.{Ping as PingSourceIn}
 use Rattle.looptrace.specs.declared.runner.NamedPing.{NamedPing}
 use Rattle.looptrace.specs.declared.runner.ScriptLoop.{ScriptLoop}
+use Rattle.looptrace.specs.Lines.{lines_of}
+use Rattle.looptrace.specs.Traces.{Written, Writes}
 use Rattle.looptrace.specs.Commands.{command_of}
 use Rattle.looptrace.specs.Texts.{insert_text, wait_text, refused_text}
 use Rattle.looptrace.specs.Sources.{source_meaning}
@@ -135,3 +137,7 @@ state_and_text p = (state_of p.0, p.1)
 
 abbrev pub line_step : ScriptLoop → List ℕ → Option (ScriptLoop × List ℕ) → Type 0
 line_step s line outcome = trace_step (state_of s) line (option_map state_and_text outcome)
+
+-- from a machine to which nothing has happened, the lines of a script may write this
+abbrev pub MayWrite : List ℕ → Written → Type 0
+MayWrite script w = (start : State) × IsStart start × Writes trace_step start 1 (lines_of script) w

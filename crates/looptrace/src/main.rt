@@ -10,5 +10,21 @@ pub mod source;
 #[cfg(test)]
 mod tests;
 pub mod text;
+pub mod trace;
 
-fn main() {}
+use crate::trace::trace;
+use std::io;
+use std::io::BufReader;
+use std::process::ExitCode;
+
+fn run(rt: &HostRuntime) -> io::Result<u8> {
+    let mut input = BufReader::new(rt.alloc(), rt.reader())?;
+    trace(rt.alloc(), &mut input, &mut rt.stdout(), &mut rt.stderr())
+}
+
+fn main(rt: HostRuntime) -> ExitCode {
+    match run(&rt) {
+        Ok(status) => ExitCode::from(status),
+        Err(_) => ExitCode::FAILURE,
+    }
+}
