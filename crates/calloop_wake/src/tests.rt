@@ -48,6 +48,11 @@ fn texts(rt: HostRuntime) -> Result<(), Fail> {
         format!(in rt.alloc(); "{refused}")?.as_str(),
         "error inserting event source: underlying IO error: gone"
     );
+    let bare = InsertError {
+        inserted: 5u8,
+        error: Error::OutOfMemory,
+    };
+    assert_eq!(rt; format!(in rt.alloc(); "{bare:?}")?.as_str(), "OutOfMemory");
     let made = io::Error::from(Error::from(refused));
     assert_eq!(rt; made.kind(), io::ErrorKind::NotFound);
     Ok(())
