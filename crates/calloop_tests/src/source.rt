@@ -2,9 +2,7 @@
 
 use calloop::loop_logic::{EventDispatcher, Hold};
 use calloop::ping::PingSource;
-use calloop::{
-    Callback, Dispatcher, Error, Poll, Poller, Readiness, Result, Token, TokenFactory,
-};
+use calloop::{Callback, Dispatcher, Error, Poll, Poller, Readiness, Result, Token, TokenFactory};
 use std::io;
 
 /// Says its number.
