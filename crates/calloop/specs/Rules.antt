@@ -12,7 +12,6 @@ use Rattle.calloop_wake.specs.declared.list.Content.{Content}
 use Rattle.calloop_wake.specs.declared.list.Content.TheVariants.{Vacant, Source, InTurn}
 use Rattle.calloop_wake.specs.Tokens.{registration_of}
 use Rattle.calloop_wake.specs.Slots.{named, first_vacant, next_registration, CannotClaim}
-use Rattle.calloop_wake.specs.Boards.{any_marked}
 use Rattle.calloop_core.specs.declared.sys.Readiness.{Readiness}
 use Rattle.calloop_core.specs.declared.sys.poll.Pending.{Pending}
 use Rattle.calloop_core.specs.declared.sources.Dispatcher.{Dispatcher}
@@ -89,7 +88,7 @@ after_turn (Err e) x = Leaving (Err e) x
 -- one small step, by what is seen
 abbrev pub Step : {D P X : Type 0} → Meaning D P X → Outside P → View D P → Doing D X → List (Change D P) → Doing D X → Type 0
 Step {D} {P} M O v (Waiting timeout x) cs b =
-    (answer : Result (Unit {0}) Cause) × (given : List (ℕ × Readiness)) × (p : P) × O.waits v.poll.poller (asked_for (any_marked v.poll.board) timeout) answer given p
+    (answer : Result (Unit {0}) Cause) × (given : List (ℕ × Readiness)) × (p : P) × O.waits v.poll.poller (asked_for v.poll timeout) answer given p
     × (cs ≡ Polling p ∷ []) × (b ≡ after_wait answer given x)
 Step M O v (Gathering given x) cs b = (posted : List ℕ) × (cs ≡ Gathered posted given ∷ []) × (b ≡ Cutting x)
 Step M O v (Cutting x) cs b = CutFrom M v.poll.batch v x cs b

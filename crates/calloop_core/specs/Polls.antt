@@ -1,7 +1,7 @@
 -- What a source reads of `Poll`, and what it can do to it; and what the loop does with the batch.
 -- calloop's `Poll` stands on the machine's poller and on files for its pings; here pings have a board, and the
 -- loop owns the batch that calloop hands out from a buffer.
-use Rattle.std.specs.Prelude.{◌≡◌, ℕ, ◌+◌, ◌-◌, ◌^◌, ◌≤◌, List, [], ◌∷◌, ◌++◌, map, filter, length, not, nat_eq, Bool, true, false, Option, Some, None, Result, Ok, Err, if◌then◌else◌, vec_capacity, ◌⊎◌}
+use Rattle.std.specs.Prelude.{◌≡◌, ℕ, ◌+◌, ◌-◌, ◌^◌, ◌≤◌, List, [], ◌∷◌, ◌++◌, map, filter, length, not, nat_eq, Bool, true, false, ◌||◌, Option, Some, None, Result, Ok, Err, if◌then◌else◌, vec_capacity, ◌⊎◌}
 use Rattle.std.specs.VecDeque.{deque_len, deque_capacity}
 use Rattle.std.specs.declared.io.Error.{Error as Cause}
 use Rattle.calloop_wake.specs.declared.error.Error.{Error}
@@ -119,17 +119,21 @@ gathered posted given v =
       passes = v.passes ++ map taken posted;
     }
 
--- zero where a posted key stands, else the caller's timeout
-abbrev pub asked_for : (is_posted : Bool) → (timeout : Option ℕ) → Option ℕ
-asked_for is_posted timeout = if is_posted then Some 0 else timeout
+abbrev pub is_filled : {A : Type 0} → List A → Bool
+is_filled [] = false
+is_filled (x ∷ xs) = true
+
+-- zero where an event was left over or a posted key stands, else the caller's timeout
+abbrev pub asked_for : {P : Type 0} → PollView P → (timeout : Option ℕ) → Option ℕ
+asked_for v timeout = if is_filled v.batch || any_marked v.board then Some 0 else timeout
 
 abbrev pub polling : {P : Type 0} → P → PollView P → PollView P
 polling p v = record v { poller = p }
 
 -- a wait and, where it had no fault, the gathering
 abbrev pub Polled : {P : Type 0} → Outside P → (timeout : Option ℕ) → Result (Unit {0}) Error → PollView P → PollView P → Type 0
-Polled {P} O timeout (Ok u) v v' = (given : List (ℕ × Readiness)) × (p : P) × O.waits v.poller (asked_for (any_marked v.board) timeout) (Ok tt) given p × (v' ≡ gathered (taken_keys v.board) given (polling p v))
-Polled {P} O timeout (Err e) v v' = (given : List (ℕ × Readiness)) × (p : P) × (cause : Cause) × (e ≡ IoError cause) × O.waits v.poller (asked_for (any_marked v.board) timeout) (Err cause) given p × (v' ≡ polling p v)
+Polled {P} O timeout (Ok u) v v' = (given : List (ℕ × Readiness)) × (p : P) × O.waits v.poller (asked_for v timeout) (Ok tt) given p × (v' ≡ gathered (taken_keys v.board) given (polling p v))
+Polled {P} O timeout (Err e) v v' = (given : List (ℕ × Readiness)) × (p : P) × (cause : Cause) × (e ≡ IoError cause) × O.waits v.poller (asked_for v timeout) (Err cause) given p × (v' ≡ polling p v)
 
 abbrev pub tail_of : {A : Type 0} → List A → List A
 tail_of [] = []

@@ -4,4 +4,5 @@ pub mod Texts
 pub mod Traces
 pub mod Says
 pub mod Sources
+pub mod Held
 pub mod Runs

@@ -114,7 +114,7 @@ impl<P: Poller, C> EventDispatcher<P, C> for Source {
 impl<P: Poller, C> Hold<Teller, P, C> for Source {
     ghost use Rattle.std.specs.Prelude.{◌≡◌};
     ghost use Rattle.looptrace.specs.declared.source.Source.TheVariants.{Ping};
-    ghost use Rattle.looptrace.specs.Sources.{held_means};
+    ghost use Rattle.looptrace.specs.Held.{held_means};
 
     ghost held = { λ d. Ping d };
 

@@ -1,6 +1,7 @@
 //! A dispatch: the wait, the batch, and the turns of its events.
-ghost use Rattle.std.specs.Prelude.{◌≡◌, ◌<◌, Ok, Err, IfOk, true};
+ghost use Rattle.std.specs.Prelude.{◌≡◌, ◌<◌, Ok, Err, IfOk, IfErr, true};
 ghost use Rattle.std.specs.VecDeque.{deque_len};
+ghost use Rattle.calloop_wake.specs.declared.error.Error.TheVariants.{OutOfMemory};
 ghost use Rattle.calloop_core.specs.Pollers.{nanos_of};
 ghost use Rattle.calloop.specs.declared.loop_logic.Call.TheVariants.{Dispatch};
 ghost use Rattle.calloop.specs.declared.loop_logic.Answer.TheVariants.{Dispatched};
@@ -18,7 +19,8 @@ use std::time::Duration;
 impl<D: EventDispatcher<P, C>, P: Poller, C: Clock> EventLoop<D, P, C> {
     /// A loop over this poller and this clock, without sources. Want of memory is `OutOfMemory`.
     pub fn try_new(alloc: Global, poller: P, clock: C) -> Result<EventLoop<D, P, C>>
-        ensures { IfOk result (λ made. (w : World D P) × IsNew w × (w.poll.poller ≡ poller) × (seen w ≡ view_of made)) }
+        ensures ok { IfOk result (λ made. (w : World D P) × IsNew w × (w.poll.poller ≡ poller) × (seen w ≡ view_of made)) }
+        ensures err { IfErr result (λ e. e ≡ OutOfMemory) }
     {
         let mut poll = Poll::new(alloc, poller, clock);
         poll.reserve()?;

@@ -5,7 +5,7 @@ ghost use Rattle.std.specs.Borrow.{Lends, sem};
 ghost use Rattle.std.specs.IoError.{error_kind};
 ghost use Rattle.std.specs.declared.io.ErrorKind.TheVariants.{AlreadyExists};
 ghost use Rattle.calloop_wake.specs.declared.error.Error.TheVariants.{IoError, OutOfMemory};
-ghost use Rattle.calloop_wake.specs.Boards.{is_open, any_marked, taken_keys};
+ghost use Rattle.calloop_wake.specs.Boards.{is_open, taken_keys};
 ghost use Rattle.calloop_wake.specs.Tokens.{key_of};
 ghost use Rattle.calloop_core.specs.Pollers.{nanos_of};
 ghost use Rattle.calloop_core.specs.Polls.{PollView, PollStep, OpenPlace, ClosePlace, Post, TakePass, PutBack, poll_view, poll_after, with_pass, posted_event, posted_events, polled_event, polled_events, Polled, CannotOpen, key_of_pass, IsReady, cut, head_of, polls_after, posts, closes, gathered, asked_for, own_key};
@@ -270,9 +270,12 @@ impl<P: Poller, C> Poll<P, C> {
     fn wait(&mut self, timeout: Option<Duration>) -> io::Result<()>
         requires events { self.old.events.items ≡ [] }
         requires room { 1024 ≤ vec_capacity self.old.events }
-        ensures waits { (p : P) × P.outside.waits self.old.poller (asked_for (any_marked self.old.board) (nanos_of timeout)) result self.new.events.items p × (self.new ≡ record self.old { poller = p; events = self.new.events }) }
+        ensures waits { (p : P) × P.outside.waits self.old.poller (asked_for (poll_view self.old) (nanos_of timeout)) result self.new.events.items p × (self.new ≡ record self.old { poller = p; events = self.new.events }) }
         ensures few { vec_len self.new.events ≤ 1024 }
     {
+        if !self.batch.is_empty() {
+            return self.poller.wait(Some(Duration::ZERO), &mut self.events);
+        }
         match self.board.look() {
             Some(leave) => {
                 leave.spend();
@@ -282,8 +285,8 @@ impl<P: Poller, C> Poll<P, C> {
         }
     }
 
-    /// Waits for events, at most for `timeout` and not at all where a posted key stands, and puts the batch
-    /// together: what was left over, the posted keys in ascending order, and what the poller gave in its order.
+    /// Waits for events, at most for `timeout` and not at all where an event was left over or a posted key stands,
+    /// and puts the batch together: what was left over, the posted keys in ascending order, and what the poller gave in its order.
     /// A fault of the wait is `IoError`; then the batch and the posted keys are as they were.
     pub fn poll(&mut self, timeout: Option<Duration>) -> Result<()>
         requires { IsReady self.old }

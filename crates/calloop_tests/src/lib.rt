@@ -1,0 +1,6 @@
+//! Loops over sources of a caller: what the tests call, and their tests.
+#![tactic(auto)]
+
+pub mod source;
+#[cfg(test)]
+mod tests;

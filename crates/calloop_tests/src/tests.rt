@@ -1,0 +1,272 @@
+use crate::source::{Failing, Source, Teller};
+use calloop::loop_logic::{Answer, Call, EventLoop, once};
+use calloop::ping::PingSource;
+use calloop::{Error, InsertError, Instant, Readiness, RegistrationToken};
+use calloop_core::sys::script::{ScriptAnswer, ScriptClock, ScriptEvents, ScriptPoller};
+use std::alloc::Global;
+use std::collections::VecDeque;
+use std::io;
+use std::test::Fail;
+use std::time::Duration;
+
+type TestLoop = EventLoop<Source, ScriptPoller, ScriptClock>;
+
+const OWN_KEY: u64 = u64::MAX;
+
+const FIRST_OF_SLOT_1: u64 = 4294967296;
+
+const READABLE: Readiness = Readiness {
+    readable: true,
+    writable: false,
+    error: false,
+};
+
+// A loop whose poller keeps eight waits.
+fn test_loop(alloc: Global) -> io::Result<TestLoop> {
+    let mut poller = ScriptPoller::new(alloc);
+    poller.keep_waits(8)?;
+    let clock = poller.clock();
+    match EventLoop::try_new(alloc, poller, clock) {
+        Ok(made) => Ok(made),
+        Err(error) => Err(io::Error::from(error)),
+    }
+}
+
+// Inserts a ping that says this number.
+fn ping(test_loop: &mut TestLoop, number: u32) -> io::Result<RegistrationToken> {
+    match test_loop
+        .handle()
+        .insert_source(PingSource::new(), Teller { number })
+    {
+        Ok(token) => Ok(token),
+        Err(refused) => Err(io::Error::from(refused.error)),
+    }
+}
+
+fn ring(test_loop: &mut TestLoop, token: RegistrationToken) -> io::Result<()> {
+    match test_loop.handle().ring(&token) {
+        Ok(()) => Ok(()),
+        Err(error) => Err(io::Error::from(error)),
+    }
+}
+
+// What the callbacks of a dispatch say.
+fn said(test_loop: &mut TestLoop, alloc: Global, timeout: Option<u64>) -> io::Result<Vec<u32>> {
+    let limit = match timeout {
+        Some(millis) => Some(Duration::from_millis(millis)),
+        None => None,
+    };
+    let mut numbers = Vec::new(alloc);
+    match test_loop.dispatch(limit, &mut numbers) {
+        Ok(()) => Ok(numbers),
+        Err(error) => Err(io::Error::from(error)),
+    }
+}
+
+// Scripts a wait that gives events of these keys at once.
+fn script(test_loop: &mut TestLoop, alloc: Global, keys: &[u64]) -> io::Result<()> {
+    let mut events = ScriptEvents::new(alloc);
+    for key in keys {
+        if events.push(*key, READABLE).is_err() {
+            return Err(io::Error::from(io::ErrorKind::OutOfMemory));
+        }
+    }
+    let answer = ScriptAnswer {
+        moment: Instant { nanos: 0 },
+        events,
+    };
+    match test_loop.handle().poller_mut().script(answer) {
+        Ok(()) => Ok(()),
+        Err(_) => Err(io::Error::from(io::ErrorKind::OutOfMemory)),
+    }
+}
+
+// Inserts a source whose turns fail.
+fn failing(test_loop: &mut TestLoop, registers: bool) -> Option<RegistrationToken> {
+    match test_loop.carry_out(Call::Insert(Source::Failing(Failing { registers }))) {
+        Answer::Inserted(Ok(token)) => Some(token),
+        _ => None,
+    }
+}
+
+#[test]
+fn empty_loop(rt: HostRuntime) -> Result<(), Fail> {
+    let mut test_loop = test_loop(rt.alloc())?;
+    assert_eq!(rt; said(&mut test_loop, rt.alloc(), Some(0))?.len(), 0);
+    let waits = [Some(Duration::ZERO)];
+    assert_eq!(rt; test_loop.handle().poller_mut().waits(), waits.as_slice());
+    Ok(())
+}
+
+#[test]
+fn one_ping(rt: HostRuntime) -> Result<(), Fail> {
+    let mut test_loop = test_loop(rt.alloc())?;
+    let token = ping(&mut test_loop, 7)?;
+    assert_eq!(rt; token, RegistrationToken::new(0, 0));
+    ring(&mut test_loop, token)?;
+    assert_eq!(rt;
+        said(&mut test_loop, rt.alloc(), Some(0))?.as_slice(),
+        [7].as_slice()
+    );
+    assert_eq!(rt; said(&mut test_loop, rt.alloc(), Some(0))?.len(), 0);
+    Ok(())
+}
+
+#[test]
+fn three_pings(rt: HostRuntime) -> Result<(), Fail> {
+    let mut test_loop = test_loop(rt.alloc())?;
+    let first = ping(&mut test_loop, 1)?;
+    let second = ping(&mut test_loop, 2)?;
+    let third = ping(&mut test_loop, 3)?;
+    for token in [third, first, second, first] {
+        ring(&mut test_loop, token)?;
+    }
+    assert_eq!(rt;
+        said(&mut test_loop, rt.alloc(), Some(0))?.as_slice(),
+        [1, 2, 3].as_slice()
+    );
+    ring(&mut test_loop, second)?;
+    assert_eq!(rt;
+        said(&mut test_loop, rt.alloc(), Some(0))?.as_slice(),
+        [2].as_slice()
+    );
+    assert_eq!(rt; said(&mut test_loop, rt.alloc(), Some(0))?.len(), 0);
+    Ok(())
+}
+
+#[test]
+fn asked_waits(rt: HostRuntime) -> Result<(), Fail> {
+    let mut test_loop = test_loop(rt.alloc())?;
+    let token = ping(&mut test_loop, 1)?;
+    ring(&mut test_loop, token)?;
+    said(&mut test_loop, rt.alloc(), None)?;
+    said(&mut test_loop, rt.alloc(), None)?;
+    said(&mut test_loop, rt.alloc(), Some(10))?;
+    let waits = [Some(Duration::ZERO), None, Some(Duration::from_millis(10))];
+    assert_eq!(rt; test_loop.handle().poller_mut().waits(), waits.as_slice());
+    Ok(())
+}
+
+#[test]
+fn polled_key_of_a_ping_calls_nothing(rt: HostRuntime) -> Result<(), Fail> {
+    let mut test_loop = test_loop(rt.alloc())?;
+    let token = ping(&mut test_loop, 1)?;
+    script(&mut test_loop, rt.alloc(), &[0, FIRST_OF_SLOT_1, OWN_KEY])?;
+    assert_eq!(rt; said(&mut test_loop, rt.alloc(), Some(0))?.len(), 0);
+    ring(&mut test_loop, token)?;
+    assert_eq!(rt;
+        said(&mut test_loop, rt.alloc(), Some(0))?.as_slice(),
+        [1].as_slice()
+    );
+    Ok(())
+}
+
+#[test]
+fn rings_that_are_refused(rt: HostRuntime) -> Result<(), Fail> {
+    let mut test_loop = test_loop(rt.alloc())?;
+    let token = ping(&mut test_loop, 1)?;
+    let failing = failing(&mut test_loop, true);
+    assert_eq!(rt; failing, Some(RegistrationToken::new(1, 0)));
+    for refused in [
+        RegistrationToken::new(0, 1),
+        RegistrationToken::new(1, 0),
+        RegistrationToken::new(2, 0),
+    ] {
+        match test_loop.handle().ring(&refused) {
+            Err(Error::InvalidToken) => {}
+            _ => assert!(rt; false),
+        }
+    }
+    ring(&mut test_loop, token)?;
+    assert_eq!(rt;
+        said(&mut test_loop, rt.alloc(), Some(0))?.as_slice(),
+        [1].as_slice()
+    );
+    Ok(())
+}
+
+#[test]
+fn refused_insertion(rt: HostRuntime) -> Result<(), Fail> {
+    let mut test_loop = test_loop(rt.alloc())?;
+    match &test_loop.carry_out(Call::Insert(Source::Failing(Failing { registers: false }))) {
+        Answer::Inserted(
+            Err(
+                InsertError {
+                    inserted: Source::Failing(back),
+                    error: Error::IoError(cause),
+                },
+            ),
+        ) => {
+            assert!(rt; !back.registers);
+            assert_eq!(rt; cause.kind(), io::ErrorKind::NotFound);
+        }
+        _ => assert!(rt; false),
+    }
+    let token = ping(&mut test_loop, 1)?;
+    assert_eq!(rt; token, RegistrationToken::new(0, 1));
+    ring(&mut test_loop, token)?;
+    assert_eq!(rt;
+        said(&mut test_loop, rt.alloc(), Some(0))?.as_slice(),
+        [1].as_slice()
+    );
+    Ok(())
+}
+
+#[test]
+fn error_keeps_the_rest(rt: HostRuntime) -> Result<(), Fail> {
+    let mut test_loop = test_loop(rt.alloc())?;
+    let token = ping(&mut test_loop, 1)?;
+    failing(&mut test_loop, true);
+    script(
+        &mut test_loop,
+        rt.alloc(),
+        &[FIRST_OF_SLOT_1, FIRST_OF_SLOT_1],
+    )?;
+    ring(&mut test_loop, token)?;
+    let mut numbers = Vec::new(rt.alloc());
+    for _ in 0..2 {
+        match test_loop.dispatch(None, &mut numbers) {
+            Err(Error::IoError(cause)) => assert_eq!(rt; cause.kind(), io::ErrorKind::BrokenPipe),
+            _ => assert!(rt; false),
+        }
+    }
+    assert!(rt; test_loop.dispatch(None, &mut numbers).is_ok());
+    assert_eq!(rt; numbers.as_slice(), [1].as_slice());
+    let waits = [Some(Duration::ZERO), Some(Duration::ZERO), None];
+    assert_eq!(rt; test_loop.handle().poller_mut().waits(), waits.as_slice());
+    Ok(())
+}
+
+#[test]
+fn list_of_calls(rt: HostRuntime) -> Result<(), Fail> {
+    let mut test_loop = test_loop(rt.alloc())?;
+    let mut calls = VecDeque::new(rt.alloc());
+    calls.push_back(Call::Insert(Source::Failing(Failing { registers: true })))?;
+    calls.push_back(Call::Ring(RegistrationToken::new(0, 0)))?;
+    calls.push_back(Call::Dispatch(Some(Duration::ZERO), Vec::new(rt.alloc())))?;
+    calls.push_back(Call::Poller(ScriptPoller::new(rt.alloc())))?;
+    let Ok(answers) = test_loop.carry_out_all(rt.alloc(), calls) else {
+        assert!(rt; false);
+        return Ok(());
+    };
+    match answers.as_slice() {
+        [
+            Answer::Inserted(Ok(token)),
+            Answer::Rung(Err(Error::InvalidToken)),
+            Answer::Dispatched(Ok(()), numbers),
+            Answer::Poller(before),
+        ] => {
+            assert_eq!(rt; *token, RegistrationToken::new(0, 0));
+            assert_eq!(rt; numbers.len(), 0);
+            assert_eq!(rt; before.waits(), [Some(Duration::ZERO)].as_slice());
+        }
+        _ => assert!(rt; false),
+    }
+    Ok(())
+}
+
+#[test]
+fn laws(_rt: HostRuntime) -> Result<(), Fail> {
+    once::<Source, ScriptPoller, ScriptClock>();
+    Ok(())
+}
