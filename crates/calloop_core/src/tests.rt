@@ -246,6 +246,27 @@ fn left_over_events_come_first(rt: HostRuntime) -> Result<(), Fail> {
     Ok(())
 }
 
+#[test]
+fn no_wait_beside_a_left_over_event(rt: HostRuntime) -> Result<(), Fail> {
+    let mut poll = new_poll(rt.alloc());
+    let (first, second) = (token(0)?, token(1)?);
+    let keys = [first.key(), second.key()];
+    let given = answer(rt.alloc(), 1, &keys).expect(&rt, "an answer");
+    poll.poller_mut().script(given)?;
+    poll.poller_mut().keep_waits(3)?;
+    poll_once(&mut poll, None)?;
+    assert_eq!(rt; next(&mut poll), Some((first.key(), false, false)));
+    poll_once(&mut poll, None)?;
+    assert_eq!(rt; next(&mut poll), Some((second.key(), false, false)));
+    assert_eq!(rt; next(&mut poll), None);
+    poll_once(&mut poll, nanos(9))?;
+    assert_eq!(rt;
+        poll.poller_mut().waits(),
+        [None, nanos(0), nanos(9)].as_slice()
+    );
+    Ok(())
+}
+
 // The kind of the system's error that a refusal holds.
 fn kind_of<T: Drop>(answer: Result<T, Error>) -> Option<io::ErrorKind> {
     match answer {
