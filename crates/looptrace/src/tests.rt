@@ -7,6 +7,7 @@ use crate::driver::{Runner, drive};
 use crate::lines::{read_line, without_feed};
 use crate::name::Name;
 use crate::text::{append_call, append_insert, append_refused, append_wait};
+use crate::trace::trace;
 use std::alloc::Global;
 use std::io;
 use std::io::{BufRead, Read, Write};
@@ -320,6 +321,78 @@ fn a_reader_that_is_broken(rt: HostRuntime) -> Result<(), Fail> {
             assert!(rt; errors.is_empty());
         }
         assert_eq!(rt; output.as_slice(), want);
+    }
+    Ok(())
+}
+
+// The status of a whole run, and what was written to the two outputs.
+fn traced(alloc: Global, script: &[u8]) -> io::Result<(u8, Vec<u8>, Vec<u8>)> {
+    let (mut out, mut err) = (Vec::new(alloc), Vec::new(alloc));
+    let mut input = script;
+    let status = trace(alloc, &mut input, &mut out, &mut err)?;
+    Ok((status, out, err))
+}
+
+#[test]
+fn first_run(rt: HostRuntime) -> Result<(), Fail> {
+    for script in [
+        b"ping a\nring a\ndispatch 0\n".as_slice(),
+        b"ping a\nring a\ndispatch 0".as_slice(),
+    ] {
+        let (status, out, err) = traced(rt.alloc(), script)?;
+        assert_eq!(rt; status, 0);
+        assert_eq!(rt;
+            out.as_slice(),
+            b"insert a 0 0\nwait 0\ncall a\n".as_slice()
+        );
+        assert!(rt; err.is_empty());
+    }
+    let (status, out, err) = traced(rt.alloc(), b"")?;
+    assert_eq!(rt; status, 0);
+    assert!(rt; out.is_empty() && err.is_empty());
+    Ok(())
+}
+
+#[test]
+fn runs_that_end_early(rt: HostRuntime) -> Result<(), Fail> {
+    for line in [
+        b"ping a".as_slice(),
+        b"ring b".as_slice(),
+        b"ping ".as_slice(),
+        b"ping abcdefghijklmnopqrstuvwxyz0123456".as_slice(),
+        b"ping A".as_slice(),
+        b"ping \xff".as_slice(),
+        b"ping  b".as_slice(),
+        b"dispatch 00".as_slice(),
+        b"dispatch 01".as_slice(),
+        b"dispatch +1".as_slice(),
+        b"dispatch 18446744073709551616".as_slice(),
+        b"dispatch 0\r".as_slice(),
+        b"remove 0 0".as_slice(),
+    ] {
+        let mut script = Vec::new(rt.alloc());
+        script.extend_from_slice(b"ping a\n")?;
+        script.extend_from_slice(line)?;
+        script.extend_from_slice(b"\nping c\n")?;
+        let (status, out, err) = traced(rt.alloc(), &script)?;
+        assert_eq!(rt; status, 2);
+        assert_eq!(rt; out.as_slice(), b"insert a 0 0\n".as_slice());
+        assert_eq!(rt; err.as_slice(), b"error line 2\n".as_slice());
+    }
+    Ok(())
+}
+
+#[test]
+fn run_to_a_full_output(rt: HostRuntime) -> Result<(), Fail> {
+    let all = b"insert a 0 0\nwait 0\ncall a\n";
+    for left in 0..27 {
+        let mut output = make_full(rt.alloc(), left);
+        let mut errors = Vec::new(rt.alloc());
+        let mut input = b"ping a\nring a\ndispatch 0\n".as_slice();
+        let answer = trace(rt.alloc(), &mut input, &mut output, &mut errors);
+        assert!(rt; is_fault(answer, io::ErrorKind::StorageFull));
+        assert_eq!(rt; output.taken.as_slice(), &all[..left]);
+        assert!(rt; errors.is_empty());
     }
     Ok(())
 }

@@ -20,9 +20,9 @@ moved : (limit : Option Duration) (answer : Result (Unit {0}) Error) (x x' y y' 
     → Calls (DispatchCall limit x) (Dispatched answer y) v w → Calls (DispatchCall limit x') (Dispatched answer y') v' w'
 moved limit answer x x' y y' v v' w w' same_x same_y same_v same_w call =
     subst (λ (w : View Source ScriptPoller). Calls (DispatchCall limit x') (Dispatched answer y') v' w) same_w
-        (subst (λ (v : View Source ScriptPoller). Calls (DispatchCall limit x') (Dispatched answer y') v w) same_v
-            (subst (λ (y : Option (List ℕ)). Calls (DispatchCall limit x') (Dispatched answer y) v w) same_y
-                (subst (λ (x : Option (List ℕ)). Calls (DispatchCall limit x) (Dispatched answer y) v w) same_x call)))
+    (subst (λ (v : View Source ScriptPoller). Calls (DispatchCall limit x') (Dispatched answer y') v w) same_v
+    (subst (λ (y : Option (List ℕ)). Calls (DispatchCall limit x') (Dispatched answer y) v w) same_y
+    (subst (λ (x : Option (List ℕ)). Calls (DispatchCall limit x) (Dispatched answer y) v w) same_x call)))
 
 -- three texts, one behind the other
 three : (old a b d t u v : List ℕ) → t ≡ old ++ a → u ≡ t ++ b → v ≡ u ++ d → v ≡ old ++ ((a ++ b) ++ d)
@@ -38,31 +38,33 @@ returns c =
     let poller : c.poller_mut.result.now ≡ s.loop.poll.poller = c.poller_mut.ensures.value ∙ ap (λ (e : EventLoop Source ScriptPoller _). e.poll.poller) held in
     let before : view_of (with_loop_poller new c.handle.result.inner.now) ≡ mid = ap (λ (e : EventLoop Source ScriptPoller ScriptClock). view_of (with_loop_poller new e)) held in
     let after : view_of c.dispatch-answer.new.self ≡ view_of (with_loop_poller c.poller_mut-2.result.now c.handle-2.result.inner.now) =
-        sym (ap (λ (p : ScriptPoller). view_of (with_loop_poller p c.handle-2.result.inner.now)) c.poller_mut-2.ensures.value ∙ ap view_of c.handle-2.ensures.value) in
+    sym (ap (λ (p : ScriptPoller). view_of (with_loop_poller p c.handle-2.result.inner.now)) c.poller_mut-2.ensures.value ∙ ap view_of c.handle-2.ensures.value) in
     let forgets : ForgetsWaits s.loop.poll.poller new =
-        record {
-          moment = c.in_ok-keep_waits.ensures.moment ∙ ap (λ (p : ScriptPoller). p.moment) poller;
-          answers = c.in_ok-keep_waits.ensures.answers ∙ ap (λ (p : ScriptPoller). p.answers) poller;
-          none = c.in_ok-keep_waits.ensures.waits;
-          room = c.in_ok-keep_waits.ensures.room;
-        } in
+    record {
+      moment = c.in_ok-keep_waits.ensures.moment ∙ ap (λ (p : ScriptPoller). p.moment) poller;
+      answers = c.in_ok-keep_waits.ensures.answers ∙ ap (λ (p : ScriptPoller). p.answers) poller;
+      none = c.in_ok-keep_waits.ensures.waits;
+      room = c.in_ok-keep_waits.ensures.room;
+    } in
     let waits = waits_text c.poller_mut-2.result.now.waits.items in
     let said : List ℕ = (waits ++ c.in-Some.called.now) ++ answer_text c.dispatch-answer.result in
     let text = three c.args.text.now.items waits c.in-Some.called.now (answer_text c.dispatch-answer.result) c.append_waits.new.text.items c.extend_from_slice.new.self.items c.append_answer.new.text.items
-        (c.in_ok-append_waits.ensures ∙ ap (λ ws. c.args.text.now.items ++ waits_text ws) c.waits.ensures) c.in_ok-extend_from_slice.ensures.items c.in_ok-append_answer.ensures in
-    (said, text,
-    record {
-      old = s.loop.poll.poller;
-      new = new;
-      forgets = forgets;
-      mid = mid;
-      lent = ((Polling new ∷ []) ∷ [], (refl, refl), refl);
-      limit = c.timeout_of.result;
-      limit_is = c.timeout_of.ensures;
-      answer = c.dispatch-answer.result;
-      called = c.in-Some.called.now;
-      dispatched = moved c.timeout_of.result c.dispatch-answer.result _ (Some []) _ (Some c.in-Some.called.now) _ mid _ _ c.new-said.ensures (sym c.in-Some.ensures)
-          before after c.dispatch-answer.ensures.case;
-      pings = refl;
-      text = refl;
-    })
+    (c.in_ok-append_waits.ensures ∙ ap (λ ws. c.args.text.now.items ++ waits_text ws) c.waits.ensures) c.in_ok-extend_from_slice.ensures.items c.in_ok-append_answer.ensures in (
+      said,
+      text,
+      record {
+        old = s.loop.poll.poller;
+        new = new;
+        forgets = forgets;
+        mid = mid;
+        lent = ((Polling new ∷ []) ∷ [], (refl, refl), refl);
+        limit = c.timeout_of.result;
+        limit_is = c.timeout_of.ensures;
+        answer = c.dispatch-answer.result;
+        called = c.in-Some.called.now;
+        dispatched = moved c.timeout_of.result c.dispatch-answer.result _ (Some []) _ (Some c.in-Some.called.now) _ mid _ _ c.new-said.ensures (sym c.in-Some.ensures)
+            before after c.dispatch-answer.ensures.case;
+        pings = refl;
+        text = refl;
+      },
+    )

@@ -44,10 +44,10 @@ returns-in_ok-append_insert-in-Ok c =
     let source = new_is c.new-3.result.core c.new-3.result.token c.in_ok-new.field-0 name c.new-3.ensures.core c.new-3.ensures.token (c.in_ok-new.ensures ∙ c.as_slice-2.ensures) in
     let kept : c.in_ok-kept.kept ≡ name = c.in_ok-kept.ensures ∙ c.as_slice-3.ensures in
     let said : insert_text c.as_slice-in-Ok.result.now c.slot.result c.version.result ≡ insert_text name c.in-Ok.token.slot c.in-Ok.token.version =
-        ap (λ (name : List ℕ). insert_text name c.slot.result c.version.result) c.as_slice-in-Ok.ensures
-        ∙ ap (λ slot. insert_text name slot c.version.result) c.slot.ensures ∙ ap (λ version. insert_text name c.in-Ok.token.slot version) c.version.ensures in
+    ap (λ (name : List ℕ). insert_text name c.slot.result c.version.result) c.as_slice-in-Ok.ensures
+    ∙ ap (λ slot. insert_text name slot c.version.result) c.slot.ensures ∙ ap (λ version. insert_text name c.in-Ok.token.slot version) c.version.ensures in
     let pings = c.push_reserved.ensures.items ∙ ap (λ (ps : List NamedPing). ps ++ record { name = c.in_ok-kept.kept; token = c.in-Ok.token } ∷ []) c.in_ok-reserve.ensures.items
-        ∙ ap (λ (n : List ℕ). c.args.self.now.pings.items ++ record { name = n; token = c.in-Ok.token } ∷ []) kept in
+    ∙ ap (λ (n : List ℕ). c.args.self.now.pings.items ++ record { name = n; token = c.in-Ok.token } ∷ []) kept in
     (_, c.in_ok-append_insert-in-Ok.ensures.ok, (none, Ok c.in-Ok.token, moved _ (new_ping name) (Ok c.in-Ok.token) _ (view_of c.args.self.now.event_loop) _ source (ap view_of c.handle.ensures.value) c.in-Ok.ensures.case, (pings, said)))
 
 pub returns-in_ok-append_refused-in-Err : goal.returns-in_ok-append_refused-in-Err
