@@ -3,3 +3,5 @@
 
 pub mod sources;
 pub mod sys;
+#[cfg(test)]
+mod tests;

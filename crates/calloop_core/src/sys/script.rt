@@ -65,7 +65,9 @@ pub struct ScriptClock {
 }
 
 impl Clock for ScriptClock {
-    fn now(&self) -> Instant {
+    fn now(&self) -> Instant
+        ensures { result ≡ self.now.moment }
+    {
         self.moment
     }
 }
@@ -73,7 +75,7 @@ impl Clock for ScriptClock {
 impl ScriptPoller {
     /// With the clock at 0, no answer, and no room for asked waits.
     pub fn new(alloc: Global) -> ScriptPoller
-        ensures { (result.moment.nanos ≡ 0) × (result.answers.items ≡ []) × (result.waits.items ≡ []) }
+        ensures { (result.moment.nanos ≡ 0) × (result.answers.items ≡ []) × (result.waits.items ≡ []) × (vec_capacity result.waits ≡ 0) }
     {
         ScriptPoller {
             moment: Instant { nanos: 0 },

@@ -1,0 +1,370 @@
+use crate::sources::{Callback, Dispatcher};
+use crate::sys::poll::Poll;
+use crate::sys::script::{ScriptAnswer, ScriptClock, ScriptEvents, ScriptPoller};
+use crate::sys::{Clock, Poller, Readiness};
+use calloop_wake::error::Error;
+use calloop_wake::token::{RegistrationToken, Token, TokenFactory};
+use calloop_wake::wake::ping::{OpenedTurn, PingCore};
+use calloop_wake::wheel::Instant;
+use std::alloc::Global;
+use std::io;
+use std::test::Fail;
+use std::time::Duration;
+
+const WRITABLE: Readiness = Readiness {
+    readable: false,
+    writable: true,
+    error: false,
+};
+
+fn nanos(nanos: u64) -> Option<Duration> {
+    Some(Duration::from_nanos(nanos))
+}
+
+// An answer with an event for each key, or None without memory.
+fn answer(alloc: Global, moment: u64, keys: &[u64]) -> Option<ScriptAnswer> {
+    let mut events = ScriptEvents::new(alloc);
+    for key in keys {
+        events.push(*key, WRITABLE).ok()?;
+    }
+    Some(ScriptAnswer {
+        moment: Instant { nanos: moment },
+        events,
+    })
+}
+
+#[test]
+fn answers_of_a_script(rt: HostRuntime) -> Result<(), Fail> {
+    let mut poller = ScriptPoller::new(rt.alloc());
+    assert_eq!(rt; poller.now().nanos, 0);
+    let late = answer(rt.alloc(), 30, &[4, 2]).expect(&rt, "an answer");
+    poller.script(late)?;
+    let early = answer(rt.alloc(), 20, &[9]).expect(&rt, "an answer");
+    poller.script(early)?;
+    let mut events = Vec::with_capacity(rt.alloc(), 5120)?;
+    poller.wait(nanos(5), &mut events)?;
+    assert_eq!(rt; (events.len(), poller.now().nanos), (2, 30));
+    poller.wait(None, &mut events)?;
+    assert_eq!(rt; (events.len(), poller.now().nanos), (3, 20));
+    poller.wait(nanos(7), &mut events)?;
+    assert_eq!(rt; (events.len(), poller.now().nanos), (3, 27));
+    poller.wait(None, &mut events)?;
+    assert_eq!(rt; (events.len(), poller.now().nanos), (3, 27));
+    poller.wait(nanos(u64::MAX), &mut events)?;
+    assert_eq!(rt; (events.len(), poller.now().nanos), (3, u64::MAX));
+    for ((key, readiness), wanted) in events.iter().zip([4, 2, 9]) {
+        assert_eq!(rt; *key, wanted);
+        assert!(rt; readiness.writable && !readiness.readable);
+    }
+    Ok(())
+}
+
+#[test]
+fn asked_waits(rt: HostRuntime) -> Result<(), Fail> {
+    let mut poller = ScriptPoller::new(rt.alloc());
+    let mut events = Vec::with_capacity(rt.alloc(), 4096)?;
+    poller.wait(nanos(1), &mut events)?;
+    assert!(rt; poller.waits().is_empty());
+    poller.keep_waits(2)?;
+    poller.wait(nanos(5), &mut events)?;
+    poller.wait(None, &mut events)?;
+    assert_eq!(rt; poller.waits(), [nanos(5), None].as_slice());
+    let only = answer(rt.alloc(), 50, &[]).expect(&rt, "an answer");
+    poller.script(only)?;
+    poller.keep_waits(1)?;
+    assert!(rt; poller.waits().is_empty());
+    assert_eq!(rt; poller.now().nanos, 6);
+    poller.wait(nanos(8), &mut events)?;
+    assert_eq!(rt; poller.waits(), [nanos(8)].as_slice());
+    assert_eq!(rt; poller.now().nanos, 50);
+    Ok(())
+}
+
+#[test]
+fn at_most_so_many_events(rt: HostRuntime) {
+    let mut events = ScriptEvents::new(rt.alloc());
+    for key in 0..1024 {
+        assert!(rt; events.push(key, Readiness::EMPTY).is_ok());
+    }
+    match events.push(1024, WRITABLE) {
+        Ok(()) => assert!(rt; false),
+        Err((key, readiness)) => {
+            assert_eq!(rt; key, 1024);
+            assert!(rt; readiness.writable);
+        }
+    }
+}
+
+#[test]
+fn clocks(rt: HostRuntime) -> Result<(), Fail> {
+    let mut poller = ScriptPoller::new(rt.alloc());
+    let mut events = Vec::with_capacity(rt.alloc(), 1024)?;
+    poller.wait(nanos(3), &mut events)?;
+    let clock = poller.clock();
+    let mut poll = Poll::new(rt.alloc(), poller, clock);
+    poll_once(&mut poll, nanos(4))?;
+    assert_eq!(rt; poll.clock().now().nanos, 3);
+    assert_eq!(rt; poll.clock().clone()?.now().nanos, 3);
+    assert_eq!(rt; poll.poller_mut().now().nanos, 7);
+    Ok(())
+}
+
+fn new_poll(alloc: Global) -> Poll<ScriptPoller, ScriptClock> {
+    let poller = ScriptPoller::new(alloc);
+    let clock = poller.clock();
+    Poll::new(alloc, poller, clock)
+}
+
+// Tokens of slots 0 and up, in ascending order of their keys: 0, 4,294,967,296 and so on.
+fn token(slot: u32) -> Result<Token, Error> {
+    TokenFactory::new(RegistrationToken::new(slot, 0)).token()
+}
+
+// Opens the token's place, and gives the cell its key.
+fn register<P, C>(poll: &mut Poll<P, C>, cell: &mut PingCore, token: Token) -> Result<(), Error> {
+    let pass = poll.open_place(token)?;
+    let (debt, leave) = cell.set_key(pass);
+    poll.settle(debt);
+    poll.close_place(leave);
+    Ok(())
+}
+
+fn poll_once<P: Poller, C>(poll: &mut Poll<P, C>, timeout: Option<Duration>) -> Result<(), Error> {
+    poll.reserve()?;
+    poll.poll(timeout)
+}
+
+// What is seen of the next event: its key, whether it is ready to be read, and whether it was posted.
+fn next<P, C>(poll: &mut Poll<P, C>) -> Option<(u64, bool, bool)> {
+    let event = poll.next_event()?;
+    Some((event.token.key(), event.readiness.readable, event.posted))
+}
+
+// A turn of the cell with the pass that lies behind the event: whether somebody rang, if it opens.
+fn turn<P, C>(poll: &mut Poll<P, C>, cell: &mut PingCore) -> Option<bool> {
+    let pass = poll.take_pass()?;
+    match cell.open_turn(pass) {
+        Ok(OpenedTurn { turn, rung }) => {
+            poll.settle(cell.end_turn(turn));
+            Some(rung)
+        }
+        Err(pass) => {
+            poll.put_back(pass);
+            None
+        }
+    }
+}
+
+#[test]
+fn one_poll(rt: HostRuntime) -> Result<(), Fail> {
+    let mut poll = new_poll(rt.alloc());
+    let (first, second, third) = (token(0)?, token(1)?, token(2)?);
+    let mut cell = PingCore::new();
+    let mut other = PingCore::new();
+    register(&mut poll, &mut other, second)?;
+    register(&mut poll, &mut cell, first)?;
+    poll.settle(other.ring());
+    poll.settle(cell.ring());
+    let keys = [third.key(), u64::MAX, second.key()];
+    let given = answer(rt.alloc(), 1, &keys).expect(&rt, "an answer");
+    poll.poller_mut().script(given)?;
+    poll.poller_mut().keep_waits(2)?;
+
+    poll_once(&mut poll, None)?;
+    assert_eq!(rt; poll.poller_mut().waits(), [nanos(0)].as_slice());
+    assert_eq!(rt; next(&mut poll), Some((first.key(), true, true)));
+    assert_eq!(rt; turn(&mut poll, &mut cell), Some(true));
+    assert_eq!(rt; turn(&mut poll, &mut cell), None);
+    poll.end_event();
+    assert_eq!(rt; next(&mut poll), Some((second.key(), true, true)));
+    assert_eq!(rt; turn(&mut poll, &mut cell), None);
+    poll.end_event();
+    assert_eq!(rt; next(&mut poll), Some((third.key(), false, false)));
+    assert_eq!(rt; turn(&mut poll, &mut other), None);
+    poll.end_event();
+    assert_eq!(rt; next(&mut poll), Some((second.key(), false, false)));
+    poll.end_event();
+    assert_eq!(rt; next(&mut poll), None);
+
+    poll_once(&mut poll, None)?;
+    assert_eq!(rt; next(&mut poll), Some((second.key(), true, true)));
+    assert_eq!(rt; turn(&mut poll, &mut other), Some(true));
+    poll.end_event();
+    assert_eq!(rt; next(&mut poll), None);
+    poll.poller_mut().keep_waits(1)?;
+    poll_once(&mut poll, nanos(9))?;
+    assert_eq!(rt; poll.poller_mut().waits(), [nanos(9)].as_slice());
+    assert_eq!(rt; next(&mut poll), None);
+    Ok(())
+}
+
+#[test]
+fn an_unspent_pass_goes_back(rt: HostRuntime) -> Result<(), Fail> {
+    let mut poll = new_poll(rt.alloc());
+    let (first, second) = (token(0)?, token(1)?);
+    let mut cell = PingCore::new();
+    let mut other = PingCore::new();
+    register(&mut poll, &mut cell, first)?;
+    register(&mut poll, &mut other, second)?;
+    poll.settle(cell.ring());
+    poll.settle(other.ring());
+    poll_once(&mut poll, None)?;
+    assert_eq!(rt; next(&mut poll), Some((first.key(), true, true)));
+    assert_eq!(rt; next(&mut poll), Some((second.key(), true, true)));
+    poll.end_event();
+    poll_once(&mut poll, None)?;
+    assert_eq!(rt; next(&mut poll), Some((first.key(), true, true)));
+    assert_eq!(rt; turn(&mut poll, &mut cell), Some(true));
+    poll.end_event();
+    assert_eq!(rt; next(&mut poll), Some((second.key(), true, true)));
+    assert_eq!(rt; turn(&mut poll, &mut other), Some(true));
+    poll.end_event();
+    assert_eq!(rt; next(&mut poll), None);
+    Ok(())
+}
+
+#[test]
+fn left_over_events_come_first(rt: HostRuntime) -> Result<(), Fail> {
+    let mut poll = new_poll(rt.alloc());
+    let (first, second, third) = (token(0)?, token(1)?, token(2)?);
+    let mut cell = PingCore::new();
+    register(&mut poll, &mut cell, first)?;
+    for keys in [[third.key(), second.key()], [second.key(), u64::MAX]] {
+        let given = answer(rt.alloc(), 1, &keys).expect(&rt, "an answer");
+        poll.poller_mut().script(given)?;
+    }
+    poll_once(&mut poll, None)?;
+    assert_eq!(rt; next(&mut poll), Some((third.key(), false, false)));
+    poll.end_event();
+    poll.settle(cell.ring());
+    poll_once(&mut poll, None)?;
+    assert_eq!(rt; next(&mut poll), Some((second.key(), false, false)));
+    assert_eq!(rt; next(&mut poll), Some((first.key(), true, true)));
+    assert_eq!(rt; turn(&mut poll, &mut cell), Some(true));
+    assert_eq!(rt; next(&mut poll), Some((second.key(), false, false)));
+    assert_eq!(rt; next(&mut poll), None);
+    Ok(())
+}
+
+#[test]
+fn no_wait_beside_a_left_over_event(rt: HostRuntime) -> Result<(), Fail> {
+    let mut poll = new_poll(rt.alloc());
+    let (first, second) = (token(0)?, token(1)?);
+    let keys = [first.key(), second.key()];
+    let given = answer(rt.alloc(), 1, &keys).expect(&rt, "an answer");
+    poll.poller_mut().script(given)?;
+    poll.poller_mut().keep_waits(3)?;
+    poll_once(&mut poll, None)?;
+    assert_eq!(rt; next(&mut poll), Some((first.key(), false, false)));
+    poll_once(&mut poll, None)?;
+    assert_eq!(rt; next(&mut poll), Some((second.key(), false, false)));
+    assert_eq!(rt; next(&mut poll), None);
+    poll_once(&mut poll, nanos(9))?;
+    assert_eq!(rt;
+        poll.poller_mut().waits(),
+        [None, nanos(0), nanos(9)].as_slice()
+    );
+    Ok(())
+}
+
+// The kind of the system's error that a refusal holds.
+fn kind_of<T: Drop>(answer: Result<T, Error>) -> Option<io::ErrorKind> {
+    match answer {
+        Err(Error::IoError(cause)) => Some(cause.kind()),
+        _ => None,
+    }
+}
+
+#[test]
+fn places(rt: HostRuntime) -> Result<(), Fail> {
+    let mut poll = new_poll(rt.alloc());
+    let (first, second) = (token(0)?, token(1)?);
+    let mut cell = PingCore::new();
+    let mut other = PingCore::new();
+    register(&mut poll, &mut cell, first)?;
+    poll.settle(cell.ring());
+    assert_eq!(rt;
+        kind_of(register(&mut poll, &mut other, first)),
+        Some(io::ErrorKind::AlreadyExists)
+    );
+    register(&mut poll, &mut cell, second)?;
+    register(&mut poll, &mut other, first)?;
+    poll_once(&mut poll, None)?;
+    assert_eq!(rt; next(&mut poll), Some((second.key(), true, true)));
+    assert_eq!(rt; turn(&mut poll, &mut cell), Some(true));
+    poll.end_event();
+    assert_eq!(rt; next(&mut poll), None);
+    Ok(())
+}
+
+// Its first wait gives an event and fails. Later ones give none.
+#[derive(Drop)]
+struct FailsFirst {
+    waits: u8,
+}
+
+impl Poller for FailsFirst {
+    ghost outside = { record { reads = λ _ _ _. Unit {0}; waits = λ _ _ _ _ _. Unit {0} } };
+
+    fn now(&mut self) -> Instant {
+        Instant { nanos: 0 }
+    }
+
+    fn wait(
+        &mut self,
+        _timeout: Option<Duration>,
+        events: &mut Vec<(u64, Readiness)>,
+    ) -> io::Result<()> {
+        if self.waits > 0 {
+            return Ok(());
+        }
+        self.waits = 1;
+        events.push_reserved((7, WRITABLE));
+        Err(io::Error::from(io::ErrorKind::PermissionDenied))
+    }
+}
+
+#[test]
+fn a_fault_changes_nothing(rt: HostRuntime) -> Result<(), Fail> {
+    let mut poll = Poll::new(rt.alloc(), FailsFirst { waits: 0 }, ());
+    let first = token(0)?;
+    let mut cell = PingCore::new();
+    register(&mut poll, &mut cell, first)?;
+    poll.settle(cell.ring());
+    assert_eq!(rt;
+        kind_of(poll_once(&mut poll, None)),
+        Some(io::ErrorKind::PermissionDenied)
+    );
+    assert_eq!(rt; next(&mut poll), None);
+    poll_once(&mut poll, None)?;
+    assert_eq!(rt; next(&mut poll), Some((first.key(), true, true)));
+    assert_eq!(rt; turn(&mut poll, &mut cell), Some(true));
+    poll.end_event();
+    assert_eq!(rt; next(&mut poll), None);
+    Ok(())
+}
+
+// Adds the event to the data, counts its calls in the metadata, and answers with the count.
+#[derive(Drop)]
+struct Adder;
+
+impl Callback<u8, u8, u8, u8> for Adder {
+    ghost may = { λ _ _ _ _ _ _ _ _. Unit {0} };
+
+    fn call(&mut self, event: u8, metadata: &mut u8, data: &mut u8) -> u8 {
+        *data = data.saturating_add(event);
+        *metadata = metadata.saturating_add(1);
+        *metadata
+    }
+}
+
+#[test]
+fn a_callback(rt: HostRuntime) {
+    let mut held = Dispatcher {
+        source: 4,
+        callback: Adder,
+    };
+    let mut data = 10;
+    let count = held.callback.call(5, &mut held.source, &mut data);
+    assert_eq!(rt; (count, held.source, data), (5, 5, 15));
+}
