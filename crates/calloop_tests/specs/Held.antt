@@ -1,6 +1,6 @@
 -- What holds a ping means the ping. The impl of `Hold` cites this proof, so it stands here.
-use Rattle.std.specs.Prelude.{◌≡◌, ◌↔◌, ℕ, List}
-use Rattle.std.proofs.Common.{refl, subst, sym, ap}
+use Rattle.std.specs.Prelude.{◌≡◌, ◌↔◌, List}
+use Rattle.std.proofs.Common.{refl, subst, sym}
 use Rattle.calloop_core.specs.Polls.{PollStep}
 use Rattle.calloop_core.specs.declared.sources.Dispatcher.{Dispatcher}
 use Rattle.calloop.specs.declared.ping.PingSource.{PingSource}

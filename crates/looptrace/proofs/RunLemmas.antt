@@ -4,7 +4,7 @@ use Rattle.looptrace.specs.declared.runner.ScriptLoop.{ScriptLoop}
 use Rattle.looptrace.specs.Lines.{lines_of}
 use Rattle.looptrace.specs.Texts.{next_number}
 use Rattle.looptrace.specs.Traces.{Written, Writes}
-use Rattle.looptrace.specs.Runs.{State, IsStart, state_of, trace_step, line_step, MayWrite}
+use Rattle.looptrace.specs.Runs.{IsStart, state_of, trace_step, line_step, MayWrite}
 
 pub writes_of : (lines : List (List ℕ)) (s : ScriptLoop) (number : ℕ) (w : Written) → Writes line_step s number lines w → Writes trace_step (state_of s) number lines w
 writes_of [] s number w h = h

@@ -1,5 +1,5 @@
 -- What a callback says.
-use Rattle.std.specs.Prelude.{◌≡◌, ℕ, List, ◌++◌, ◌⊎◌, Option, Some, None}
+use Rattle.std.specs.Prelude.{◌≡◌, ℕ, List, ◌++◌, ◌⊎◌, Option, None}
 use Rattle.std.specs.Option.{option_map}
 use Rattle.looptrace.specs.Texts.{call_text}
 

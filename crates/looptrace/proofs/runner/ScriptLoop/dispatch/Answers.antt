@@ -1,4 +1,4 @@
-use Rattle.std.proofs.Common.{◌≡◌, ℕ, List, [], ◌∷◌, ◌++◌, ◌∙◌, sym, ap, subst, refl, Some, None, Option, Result}
+use Rattle.std.proofs.Common.{◌≡◌, ℕ, List, [], ◌∷◌, ◌++◌, ◌∙◌, sym, ap, subst, refl, Some, Option, Result}
 use Rattle.std.proofs.lemmas.List.{append_assoc}
 use Rattle.std.specs.declared.time.Duration.{Duration}
 use Rattle.calloop_wake.specs.declared.error.Error.{Error}
@@ -10,7 +10,6 @@ use Rattle.calloop.specs.declared.loop_logic.Call.TheVariants.{Dispatch as Dispa
 use Rattle.calloop.specs.declared.loop_logic.Answer.TheVariants.{Dispatched}
 use Rattle.calloop.specs.Lending.{with_loop_poller}
 use Rattle.calloop.specs.Machine.{View, Polling, view_of}
-use Rattle.calloop.specs.Rules.{Case, Did}
 use Rattle.looptrace.specs.declared.source.Source.{Source}
 use Rattle.looptrace.specs.Runs.{ForgetsWaits, State, state_of, Calls, waits_text, answer_text}
 use Rattle.looptrace.proofs.runner.ScriptLoop.dispatch.Goals as goal

@@ -1,12 +1,11 @@
 use Rattle.std.specs.Option.{is_some}
-use Rattle.std.proofs.Common.{MatchBool, Bool, false, ◌≡◌, ℕ, List, ◌∷◌, [], ◌++◌, ◌∙◌, sym, ap, subst, refl, Some, None, Option, Result, Ok, Err}
+use Rattle.std.proofs.Common.{MatchBool, false, ◌≡◌, ℕ, List, ◌∷◌, [], ◌++◌, ◌∙◌, sym, ap, subst, refl, Some, None, Option, Result, Ok, Err}
 use Rattle.calloop_wake.specs.declared.error.InsertError.{InsertError}
 use Rattle.calloop_wake.specs.declared.token.RegistrationToken.{RegistrationToken}
 use Rattle.calloop_wake.specs.declared.token.Token.{Token}
 use Rattle.calloop_wake.specs.declared.wake.ping.PingCore.{PingCore}
 use Rattle.calloop_wake.specs.Cells.{fresh}
 use Rattle.calloop_core.specs.declared.sys.script.ScriptPoller.{ScriptPoller}
-use Rattle.calloop.specs.declared.loop_logic.EventLoop.{EventLoop}
 use Rattle.calloop.specs.declared.loop_logic.Call.TheVariants.{Insert}
 use Rattle.calloop.specs.declared.loop_logic.Answer.TheVariants.{Inserted}
 use Rattle.calloop.specs.Machine.{View, view_of}
