@@ -9,7 +9,7 @@ use thiserror::Error as ThisError;
 /// Why a call refused.
 ///
 /// Calloop panics or aborts where this crate answers `OutOfMemory`, `TooManySources` and
-/// `TooManyTokens`.
+/// `TooManyTokens`, and its counters of timers run over where this crate answers `TooManyTimers`.
 #[derive(Debug, Drop, ThisError)]
 pub enum Error {
     /// The token names no source, as after the source was removed.
@@ -30,6 +30,9 @@ pub enum Error {
     /// A factory has given out all 65,535 tokens of its registration.
     #[error("too many tokens for one event source")]
     TooManyTokens,
+    /// The wheel has given out all 2^64 - 1 counters of timers.
+    #[error("too many timers")]
+    TooManyTimers,
 }
 
 /// What a call of the loop answers.
@@ -88,6 +91,7 @@ impl From<Error> for io::Error {
             Error::OutOfMemory => io::Error::other("out of memory"),
             Error::TooManySources => io::Error::other("too many event sources"),
             Error::TooManyTokens => io::Error::other("too many tokens for one event source"),
+            Error::TooManyTimers => io::Error::other("too many timers"),
         }
     }
 }

@@ -1,0 +1,104 @@
+-- The armed deadlines of timers. calloop's wheel is a heap, whose entries are found again by counter; here it is a list
+-- in the order in which they come due, and what a heap leaves open (which of one deadline comes first) is decided.
+use Rattle.std.specs.Prelude.{◌≡◌, ◌≢◌, ◌⊎◌, ℕ, ◌+◌, ◌<◌, ◌≤◌, ◌&&◌, ◌||◌, ◌∷◌, [], List, Bool, true, not, filter, nat_eq, nat_lt, nat_le, if◌then◌else◌, Option, None, Some}
+use Rattle.std.specs.List.{list_any}
+use Rattle.calloop_wake.specs.declared.error.Error.{Error}
+use Rattle.calloop_wake.specs.declared.error.Error.TheVariants.{InvalidToken, OutOfMemory}
+use Rattle.calloop_wake.specs.declared.token.Token.{Token}
+use Rattle.calloop_wake.specs.declared.wheel.Entry.{Entry}
+use Rattle.calloop_wake.specs.declared.wheel.Instant.{Instant}
+
+-- the entries in their order, and the counter that the next new one gets
+pub record Deadlines : Type 0 where
+  pub entries : List Entry
+  pub next : ℕ
+
+-- by deadline, and by counter where the deadlines are one
+abbrev pub is_before : Entry → Entry → Bool
+is_before x y = nat_lt x.deadline.nanos y.deadline.nanos || (nat_eq x.deadline.nanos y.deadline.nanos && nat_lt x.counter y.counter)
+
+-- with one more, in its place
+abbrev pub inserted : Entry → List Entry → List Entry
+inserted e [] = e ∷ []
+inserted e (x ∷ xs) = if is_before x e then x ∷ inserted e xs else e ∷ x ∷ xs
+
+abbrev pub entry_of : (counter : ℕ) → (deadline : Instant) → Token → Entry
+entry_of counter deadline token = record { deadline = deadline; counter = counter; token = token }
+
+abbrev pub with_entries : List Entry → Deadlines → Deadlines
+with_entries entries d = record { entries = entries; next = d.next }
+
+-- with one more, under a new counter
+abbrev pub with_new : (deadline : Instant) → Token → Deadlines → Deadlines
+with_new deadline token d = record { entries = inserted (entry_of d.next deadline token) d.entries; next = d.next + 1 }
+
+-- with one more, under a counter that was given before
+abbrev pub with_again : (counter : ℕ) → (deadline : Instant) → Token → Deadlines → Deadlines
+with_again counter deadline token d = with_entries (inserted (entry_of counter deadline token) d.entries) d
+
+abbrev pub is_other : (counter : ℕ) → Entry → Bool
+is_other counter e = not (nat_eq e.counter counter)
+
+abbrev pub without_counter : (counter : ℕ) → List Entry → List Entry
+without_counter counter entries = filter (is_other counter) entries
+
+-- without the entries of this counter
+abbrev pub cancelled : (counter : ℕ) → Deadlines → Deadlines
+cancelled counter d = with_entries (without_counter counter d.entries) d
+
+abbrev pub is_of : (counter : ℕ) → Entry → Bool
+is_of counter e = nat_eq e.counter counter
+
+abbrev pub has_counter : (counter : ℕ) → List Entry → Bool
+has_counter counter entries = list_any (is_of counter) entries
+
+abbrev pub is_armed : (counter : ℕ) → Deadlines → Bool
+is_armed counter d = has_counter counter d.entries
+
+abbrev pub first_deadline : List Entry → Option Instant
+first_deadline [] = None
+first_deadline (e ∷ es) = Some e.deadline
+
+abbrev pub is_due : (now : ℕ) → Entry → Bool
+is_due now e = nat_le e.deadline.nanos now
+
+-- the first entry where it is due, and what is left then
+abbrev pub first_due : (now : ℕ) → List Entry → Option Entry
+first_due now [] = None
+first_due now (e ∷ es) = if is_due now e then Some e else None
+
+abbrev pub after_first_due : (now : ℕ) → List Entry → List Entry
+after_first_due now [] = []
+after_first_due now (e ∷ es) = if is_due now e then es else e ∷ es
+
+-- the longest front of which nothing is later than now, and what is left behind it
+abbrev pub due : (now : ℕ) → List Entry → List Entry
+due now [] = []
+due now (e ∷ es) = if is_due now e then e ∷ due now es else []
+
+abbrev pub not_due : (now : ℕ) → List Entry → List Entry
+not_due now [] = []
+not_due now (e ∷ es) = if is_due now e then not_due now es else e ∷ es
+
+-- this entry comes before all of these, and none of them has its counter
+abbrev pub IsAhead : Entry → List Entry → Type 0
+IsAhead x [] = Unit {0}
+IsAhead x (y ∷ ys) = (is_before x y ≡ true) × (x.counter ≢ y.counter) × IsAhead x ys
+
+-- sorted, and no counter twice
+abbrev pub IsSorted : List Entry → Type 0
+IsSorted [] = Unit {0}
+IsSorted (x ∷ xs) = IsAhead x xs × IsSorted xs
+
+-- each counter is below this one
+abbrev pub AllBelow : ℕ → List Entry → Type 0
+AllBelow n [] = Unit {0}
+AllBelow n (x ∷ xs) = (x.counter < n) × AllBelow n xs
+
+pub record IsOrdered (d : Deadlines) : Type 0 where
+  pub sorted : IsSorted d.entries
+  pub below : AllBelow d.next d.entries
+
+-- why a counter can't be armed again: this wheel never gave it, or there is no memory
+abbrev pub CannotArmAgain : (counter : ℕ) → Deadlines → Error → Type 0
+CannotArmAgain counter d e = ((d.next ≤ counter) × (e ≡ InvalidToken)) ⊎ ((counter < d.next) × (e ≡ OutOfMemory))
