@@ -1,5 +1,6 @@
 pub mod Pollers
 pub mod Polls
+pub mod Waits
 pub mod Scripts
 pub mod Lending
 pub mod ScriptPollers

@@ -1,8 +1,10 @@
 -- What the calls of a poller may do. A poller is seen from outside: the loop is proved for all of its answers.
-use Rattle.std.specs.Prelude.{ℕ, List, Option, Some, None, Result}
+use Rattle.std.specs.Prelude.{◌≡◌, ℕ, ◌+◌, List, Option, Some, None, Result, Ok, Err}
 use Rattle.std.specs.Duration.{as_nanos}
 use Rattle.std.specs.declared.time.Duration.{Duration}
 use Rattle.std.specs.declared.io.Error.{Error as IoError}
+use Rattle.std.specs.IoError.{error_kind}
+use Rattle.std.specs.declared.io.ErrorKind.TheVariants.{Interrupted}
 use Rattle.calloop_core.specs.declared.sys.Readiness.{Readiness}
 
 -- a time in nanoseconds, where there is one
@@ -15,3 +17,10 @@ pub record Outside (P : Type 0) : Type 1 where
   pub reads : P → (now : ℕ) → P → Type 0
   -- the asked wait in nanoseconds, and the events: keys of tokens with what was found
   pub waits : P → (asked : Option ℕ) → Result (Unit {0}) IoError → (given : List (ℕ × Readiness)) → P → Type 0
+  -- how many faults there were
+  pub faults : P → ℕ
+
+-- each wait with a fault is counted, and an interruption is none
+abbrev pub IsCounted : ℕ → Result (Unit {0}) IoError → ℕ → Type 0
+IsCounted before (Ok u) after = after ≡ before
+IsCounted before (Err cause) after = (error_kind cause ≡ Interrupted → after ≡ before) × (¬ (error_kind cause ≡ Interrupted) → after ≡ before + 1)

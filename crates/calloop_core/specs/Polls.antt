@@ -1,7 +1,7 @@
 -- What a source reads of `Poll`, and what it can do to it; and what the loop does with the batch.
 -- calloop's `Poll` stands on the machine's poller and on files for its pings; here pings have a board, and the
 -- loop owns the batch that calloop hands out from a buffer.
-use Rattle.std.specs.Prelude.{◌≡◌, ℕ, ◌+◌, ◌-◌, ◌^◌, ◌≤◌, List, [], ◌∷◌, ◌++◌, map, filter, length, not, nat_eq, Bool, true, false, ◌||◌, Option, Some, None, Result, Ok, Err, if◌then◌else◌, vec_capacity, ◌⊎◌}
+use Rattle.std.specs.Prelude.{◌≡◌, ℕ, ◌+◌, ◌-◌, ◌^◌, ◌≤◌, ◌<◌, List, [], ◌∷◌, ◌++◌, map, filter, length, not, nat_eq, Bool, true, false, ◌||◌, Option, Some, None, Result, Ok, Err, if◌then◌else◌, vec_capacity, ◌⊎◌}
 use Rattle.std.specs.VecDeque.{deque_len, deque_capacity}
 use Rattle.std.specs.declared.io.Error.{Error as Cause}
 use Rattle.calloop_wake.specs.declared.error.Error.{Error}
@@ -10,6 +10,10 @@ use Rattle.std.specs.IoError.{error_kind}
 use Rattle.std.specs.declared.io.ErrorKind.{ErrorKind}
 use Rattle.std.specs.declared.io.ErrorKind.TheVariants.{AlreadyExists}
 use Rattle.calloop_wake.specs.declared.wake.board.Place.{Place}
+use Rattle.calloop_wake.specs.declared.token.Token.{Token}
+use Rattle.calloop_wake.specs.declared.wheel.Entry.{Entry}
+use Rattle.calloop_wake.specs.declared.wheel.Instant.{Instant}
+use Rattle.calloop_wake.specs.Deadlines.{Deadlines, with_new, with_again, with_entries, cancelled, is_armed, due, not_due}
 use Rattle.calloop_wake.specs.Tokens.{token_of}
 use Rattle.calloop_wake.specs.Passes.{Taken}
 use Rattle.calloop_wake.specs.Boards.{is_open, any_marked, after_open_place, after_close_place, after_post, after_unpost, taken, taken_keys}
@@ -18,17 +22,18 @@ use Rattle.calloop_core.specs.declared.sys.poll.Pending.{Pending}
 use Rattle.calloop_core.specs.declared.sys.poll.Poll.{Poll}
 use Rattle.calloop_core.specs.Pollers.{Outside}
 
--- the poller, the board, the events that wait for their turn, the passes of the posted ones among them in their
--- order, and the pass of the event whose turn it is
+-- the poller, the board, the armed deadlines, the events that wait for their turn, the passes of the posted ones among
+-- them in their order, and the pass of the event whose turn it is
 pub record PollView (P : Type 0) : Type 0 where
   pub poller : P
   pub board : List Place
+  pub deadlines : Deadlines
   pub batch : List Pending
   pub passes : List Taken
   pub pass : Option Taken
 
 abbrev pub poll_view : {P C : Type 0} → Poll P C → PollView P
-poll_view p = record { poller = p.poller; board = p.board; batch = p.batch.items; passes = p.passes.items; pass = p.pass }
+poll_view p = record { poller = p.poller; board = p.board; deadlines = p.wheel; batch = p.batch.items; passes = p.passes.items; pass = p.pass }
 
 -- a pass that isn't spent goes back: its key is posted again
 abbrev pub given_back : Option Taken → List Place → List Place
@@ -39,47 +44,70 @@ given_back (Some t) places = after_post t.key places
 abbrev pub with_pass : {P : Type 0} → Option Taken → PollView P → PollView P
 with_pass pass v = record v { pass = pass; board = given_back v.pass v.board }
 
--- what a source can do
-pub data PollStep : Type 0 where
-  OpenPlace : (key : ℕ) → PollStep
-  ClosePlace : (key : ℕ) → PollStep
-  Post : (key : ℕ) → PollStep
-  TakePass : PollStep
-  PutBack : (pass : Taken) → PollStep
+abbrev pub with_deadlines : {P : Type 0} → Deadlines → PollView P → PollView P
+with_deadlines d v = record v { deadlines = d }
 
-abbrev pub poll_after : {P : Type 0} → PollView P → PollStep → PollView P
+abbrev pub polling : {P : Type 0} → P → PollView P → PollView P
+polling p v = record v { poller = p }
+
+-- what a source can do
+pub data PollStep (P : Type 0) : Type 0 where
+  OpenPlace : (key : ℕ) → PollStep P
+  ClosePlace : (key : ℕ) → PollStep P
+  Post : (key : ℕ) → PollStep P
+  TakePass : PollStep P
+  PutBack : (pass : Taken) → PollStep P
+  -- a deadline under a new counter, under one that was given before, and none under this one any more
+  Arm : (deadline : Instant) (token : Token) → PollStep P
+  ArmAgain : (counter : ℕ) (deadline : Instant) (token : Token) → PollStep P
+  Cancel : (counter : ℕ) → PollStep P
+  -- the callback of the timer of this counter is called
+  Call : (counter : ℕ) → PollStep P
+  ReadClock : (now : ℕ) (after : P) → PollStep P
+
+abbrev pub poll_after : {P : Type 0} → PollView P → PollStep P → PollView P
 poll_after v (OpenPlace key) = record v { board = after_open_place key v.board }
 poll_after v (ClosePlace key) = record v { board = after_close_place key v.board }
 poll_after v (Post key) = record v { board = after_post key v.board }
 poll_after v TakePass = record v { pass = None }
 poll_after v (PutBack pass) = with_pass (Some pass) v
+poll_after v (Arm deadline token) = with_deadlines (with_new deadline token v.deadlines) v
+poll_after v (ArmAgain counter deadline token) = with_deadlines (with_again counter deadline token v.deadlines) v
+poll_after v (Cancel counter) = with_deadlines (cancelled counter v.deadlines) v
+poll_after v (Call counter) = v
+poll_after v (ReadClock now after) = polling after v
 
-abbrev pub polls_after : {P : Type 0} → PollView P → List PollStep → PollView P
+abbrev pub polls_after : {P : Type 0} → PollView P → List (PollStep P) → PollView P
 polls_after v [] = v
 polls_after v (s ∷ ss) = polls_after (poll_after v s) ss
 
--- when a step can be made
-abbrev pub Allowed : {P : Type 0} → PollView P → PollStep → Type 0
-Allowed v (OpenPlace key) = is_open key v.board ≡ false
-Allowed v (ClosePlace key) = Unit {0}
-Allowed v (Post key) = Unit {0}
-Allowed v TakePass = Unit {0}
-Allowed v (PutBack pass) = Unit {0}
+-- when a step can be made; a counter is armed again, or its callback is called, only while it has no deadline
+abbrev pub Allowed : {P : Type 0} → Outside P → PollView P → PollStep P → Type 0
+Allowed O v (OpenPlace key) = is_open key v.board ≡ false
+Allowed O v (ClosePlace key) = Unit {0}
+Allowed O v (Post key) = Unit {0}
+Allowed O v TakePass = Unit {0}
+Allowed O v (PutBack pass) = Unit {0}
+Allowed O v (Arm deadline token) = Unit {0}
+Allowed O v (ArmAgain counter deadline token) = (is_armed counter v.deadlines ≡ false) × (counter < v.deadlines.next)
+Allowed O v (Cancel counter) = Unit {0}
+Allowed O v (Call counter) = is_armed counter v.deadlines ≡ false
+Allowed O v (ReadClock now after) = O.reads v.poller now after
 
-abbrev pub AllAllowed : {P : Type 0} → PollView P → List PollStep → Type 0
-AllAllowed v [] = Unit {0}
-AllAllowed v (s ∷ ss) = Allowed v s × AllAllowed (poll_after v s) ss
+abbrev pub AllAllowed : {P : Type 0} → Outside P → PollView P → List (PollStep P) → Type 0
+AllAllowed O v [] = Unit {0}
+AllAllowed O v (s ∷ ss) = Allowed O v s × AllAllowed O (poll_after v s) ss
 
 -- these steps can be made, and lead there
-abbrev pub AllStepped : {P : Type 0} → PollView P → List PollStep → PollView P → Type 0
-AllStepped v steps v' = AllAllowed v steps × (v' ≡ polls_after v steps)
+abbrev pub AllStepped : {P : Type 0} → Outside P → PollView P → List (PollStep P) → PollView P → Type 0
+AllStepped O v steps v' = AllAllowed O v steps × (v' ≡ polls_after v steps)
 
 -- the posts of a debt, where there is one, and the close of a place
-abbrev pub posts : Option ℕ → List PollStep
+abbrev pub posts : {P : Type 0} → Option ℕ → List (PollStep P)
 posts None = []
 posts (Some key) = Post key ∷ []
 
-abbrev pub closes : Option ℕ → List PollStep
+abbrev pub closes : {P : Type 0} → Option ℕ → List (PollStep P)
 closes None = []
 closes (Some key) = ClosePlace key ∷ []
 
@@ -110,30 +138,26 @@ posted_events keys = map posted_event (filter is_tokens keys)
 abbrev pub polled_events : List (ℕ × Readiness) → List Pending
 polled_events given = map polled_event (filter is_for_a_token given)
 
--- the posted keys are taken, and the batch is what was left over, then they, then what the poller gave
-abbrev pub gathered : {P : Type 0} → List ℕ → List (ℕ × Readiness) → PollView P → PollView P
-gathered posted given v =
+abbrev pub timer_event : Entry → Pending
+timer_event entry = record { readiness = ready_to_read; token = entry.token; posted = false }
+
+abbrev pub timer_events : List Entry → List Pending
+timer_events entries = map timer_event entries
+
+-- the posted keys and the deadlines that are due are taken, and the batch is what was left over, then the posted keys,
+-- then what the poller gave, then the timers
+abbrev pub gathered : {P : Type 0} → (posted : List ℕ) → (given : List (ℕ × Readiness)) → (now : ℕ) → PollView P → PollView P
+gathered posted given now v =
     record v {
       board = after_unpost v.board;
-      batch = (v.batch ++ posted_events posted) ++ polled_events given;
+      deadlines = with_entries (not_due now v.deadlines.entries) v.deadlines;
+      batch = ((v.batch ++ posted_events posted) ++ polled_events given) ++ timer_events (due now v.deadlines.entries);
       passes = v.passes ++ map taken posted;
     }
 
 abbrev pub is_filled : {A : Type 0} → List A → Bool
 is_filled [] = false
 is_filled (x ∷ xs) = true
-
--- zero where an event was left over or a posted key stands, else the caller's timeout
-abbrev pub asked_for : {P : Type 0} → PollView P → (timeout : Option ℕ) → Option ℕ
-asked_for v timeout = if is_filled v.batch || any_marked v.board then Some 0 else timeout
-
-abbrev pub polling : {P : Type 0} → P → PollView P → PollView P
-polling p v = record v { poller = p }
-
--- a wait and, where it had no fault, the gathering
-abbrev pub Polled : {P : Type 0} → Outside P → (timeout : Option ℕ) → Result (Unit {0}) Error → PollView P → PollView P → Type 0
-Polled {P} O timeout (Ok u) v v' = (given : List (ℕ × Readiness)) × (p : P) × O.waits v.poller (asked_for v timeout) (Ok tt) given p × (v' ≡ gathered (taken_keys v.board) given (polling p v))
-Polled {P} O timeout (Err e) v v' = (given : List (ℕ × Readiness)) × (p : P) × (cause : Cause) × (e ≡ IoError cause) × O.waits v.poller (asked_for v timeout) (Err cause) given p × (v' ≡ polling p v)
 
 abbrev pub tail_of : {A : Type 0} → List A → List A
 tail_of [] = []
@@ -171,7 +195,7 @@ CannotOpen key places e = ((is_open key places ≡ true) × IsOfKind AlreadyExis
 
 -- there is room for what one poll can gather
 pub record IsReady {P C : Type 0} (p : Poll P C) : Type 0 where
-  pub batch : deque_len p.batch + (length p.board + 1024) ≤ deque_capacity p.batch
+  pub batch : deque_len p.batch + (length p.board + (1024 + length p.wheel.entries)) ≤ deque_capacity p.batch
   pub passes : deque_len p.passes + length p.board ≤ deque_capacity p.passes
   pub events : p.events.items ≡ []
   pub room : 1024 ≤ vec_capacity p.events

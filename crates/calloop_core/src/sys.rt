@@ -1,12 +1,13 @@
 //! Pollers and clocks, and what sources register with.
 ghost use Rattle.std.specs.Prelude.{◌≡◌, ℕ, ◌+◌, ◌≤◌, ◌++◌, List, length, vec_len, vec_capacity};
-ghost use Rattle.calloop_core.specs.Pollers.{Outside, nanos_of};
+ghost use Rattle.calloop_core.specs.Pollers.{Outside, IsCounted, nanos_of};
 ghost use Rattle.calloop_core.specs.declared.sys.Readiness.{Readiness};
 
 use calloop_wake::wheel::Instant;
 use std::io;
 use std::time::Duration;
 
+pub mod faults;
 pub mod poll;
 pub mod script;
 
@@ -38,7 +39,7 @@ pub trait Clock: Clone + Drop {
 /// Waits for events, and tells the moment. The loop is proved for every answer that a poller may give.
 pub trait Poller: Drop {
     ghost use Rattle.std.specs.Prelude.{◌≡◌, ℕ, ◌+◌, ◌≤◌, ◌++◌, List, length, vec_len, vec_capacity};
-    ghost use Rattle.calloop_core.specs.Pollers.{Outside, nanos_of};
+    ghost use Rattle.calloop_core.specs.Pollers.{Outside, IsCounted, nanos_of};
     ghost use Rattle.calloop_core.specs.declared.sys.Readiness.{Readiness};
 
     /// What its calls may do.
@@ -46,11 +47,13 @@ pub trait Poller: Drop {
 
     /// The moment that the poller's clock shows.
     fn now(&mut self) -> Instant
-        ensures { outside.reads self.old result.nanos self.new };
+        ensures reads { outside.reads self.old result.nanos self.new }
+        ensures faults { outside.faults self.new ≡ outside.faults self.old };
 
     /// Waits, at most for `timeout`, and appends at most 1,024 events to `events`, whose room the caller
     /// reserved: each is the key of a token and what was found. Without a timeout it may wait for ever.
-    /// An `Err` is a fault, and gives no event that is handed out.
+    /// An `Err` gives no event that is handed out. One of kind `Interrupted` is an interruption, after which the loop
+    /// waits anew; any other is a fault, and is counted.
     fn wait(
         &mut self,
         timeout: Option<Duration>,
@@ -58,5 +61,6 @@ pub trait Poller: Drop {
     ) -> io::Result<()>
         requires { vec_len events.old + 1024 ≤ vec_capacity events.old }
         ensures waits { (given : List (ℕ × Readiness)) × outside.waits self.old (nanos_of timeout) result given self.new × (events.new.items ≡ events.old.items ++ given) × (length given ≤ 1024) }
-        ensures room { vec_capacity events.old ≤ vec_capacity events.new };
+        ensures room { vec_capacity events.old ≤ vec_capacity events.new }
+        ensures faults { IsCounted (outside.faults self.old) result (outside.faults self.new) };
 }

@@ -1,9 +1,9 @@
 -- The armed deadlines of timers. calloop's wheel is a heap, whose entries are found again by counter; here it is a list
 -- in the order in which they come due, and what a heap leaves open (which of one deadline comes first) is decided.
-use Rattle.std.specs.Prelude.{◌≡◌, ◌≢◌, ◌⊎◌, ℕ, ◌+◌, ◌<◌, ◌≤◌, ◌&&◌, ◌||◌, ◌∷◌, [], List, Bool, true, not, filter, nat_eq, nat_lt, nat_le, if◌then◌else◌, Option, None, Some}
+use Rattle.std.specs.Prelude.{◌≡◌, ◌≢◌, ◌⊎◌, ℕ, ◌+◌, ◌-◌, ◌^◌, ◌<◌, ◌≤◌, ◌&&◌, ◌||◌, ◌∷◌, [], List, Bool, true, not, filter, nat_eq, nat_lt, nat_le, if◌then◌else◌, Option, None, Some}
 use Rattle.std.specs.List.{list_any}
 use Rattle.calloop_wake.specs.declared.error.Error.{Error}
-use Rattle.calloop_wake.specs.declared.error.Error.TheVariants.{InvalidToken, OutOfMemory}
+use Rattle.calloop_wake.specs.declared.error.Error.TheVariants.{InvalidToken, OutOfMemory, TooManyTimers}
 use Rattle.calloop_wake.specs.declared.token.Token.{Token}
 use Rattle.calloop_wake.specs.declared.wheel.Entry.{Entry}
 use Rattle.calloop_wake.specs.declared.wheel.Instant.{Instant}
@@ -98,6 +98,10 @@ AllBelow n (x ∷ xs) = (x.counter < n) × AllBelow n xs
 pub record IsOrdered (d : Deadlines) : Type 0 where
   pub sorted : IsSorted d.entries
   pub below : AllBelow d.next d.entries
+
+-- why no deadline can be armed: no counter is left, or there is no memory
+abbrev pub CannotArm : Deadlines → Error → Type 0
+CannotArm d e = ((d.next ≡ 2 ^ 64 - 1) × (e ≡ TooManyTimers)) ⊎ ((d.next < 2 ^ 64 - 1) × (e ≡ OutOfMemory))
 
 -- why a counter can't be armed again: this wheel never gave it, or there is no memory
 abbrev pub CannotArmAgain : (counter : ℕ) → Deadlines → Error → Type 0

@@ -1,5 +1,5 @@
-//! What sources register with: the poller, the board of pings, and the batch of events.
-ghost use Rattle.std.specs.Prelude.{◌≡◌, ℕ, ◌+◌, ◌≤◌, ◌++◌, [], ◌∷◌, List, Option, Some, None, true, false, map, drop, length, vec_len, vec_capacity, IsOk, OnOk, OnErr, IfOk, IfErr, is_ok, Ok, Err, option_to_list};
+//! What sources register with: the poller, the board of pings, the deadlines of timers, and the batch of events.
+ghost use Rattle.std.specs.Prelude.{◌≡◌, ℕ, ◌+◌, ◌≤◌, ◌++◌, [], ◌∷◌, List, Option, Some, None, true, false, map, drop, length, vec_len, vec_capacity, IsOk, OnOk, OnErr, IfOk, IfErr, IfSome, is_ok, Ok, Err, option_to_list};
 ghost use Rattle.std.specs.VecDeque.{deque_len, deque_capacity};
 ghost use Rattle.std.specs.Borrow.{Lends, sem};
 ghost use Rattle.std.specs.IoError.{error_kind};
@@ -7,21 +7,24 @@ ghost use Rattle.std.specs.declared.io.ErrorKind.TheVariants.{AlreadyExists};
 ghost use Rattle.calloop_wake.specs.declared.error.Error.TheVariants.{IoError, OutOfMemory};
 ghost use Rattle.calloop_wake.specs.Boards.{is_open, taken_keys};
 ghost use Rattle.calloop_wake.specs.Tokens.{key_of};
-ghost use Rattle.calloop_core.specs.Pollers.{nanos_of};
-ghost use Rattle.calloop_core.specs.Polls.{PollView, PollStep, OpenPlace, ClosePlace, Post, TakePass, PutBack, poll_view, poll_after, with_pass, posted_event, posted_events, polled_event, polled_events, Polled, CannotOpen, key_of_pass, IsReady, cut, head_of, polls_after, posts, closes, gathered, asked_for, own_key};
+ghost use Rattle.calloop_wake.specs.Deadlines.{due, not_due, with_entries};
+ghost use Rattle.calloop_core.specs.Polls.{PollView, PollStep, OpenPlace, ClosePlace, Post, TakePass, PutBack, poll_view, poll_after, with_pass, posted_event, posted_events, polled_event, polled_events, timer_event, timer_events, CannotOpen, key_of_pass, IsReady, cut, head_of, polls_after, posts, closes, gathered, own_key};
 ghost use Rattle.calloop_core.specs.Lending.{with_poller};
 ghost use Rattle.calloop_core.specs.contracts.sys.poll.Poll.{the_row};
 ghost use Rattle.calloop_core.specs.declared.sys.Readiness.{Readiness};
 
-use super::{EVENTS_PER_WAIT, Poller, Readiness};
+use super::{EVENTS_PER_WAIT, Readiness};
 use calloop_wake::error::{Error, Result};
 use calloop_wake::token::Token;
 use calloop_wake::wake::board::{Board, OpenRefusal};
 use calloop_wake::wake::{Debt, LeaveToClose, OpenedPass, TakenPass};
+use calloop_wake::wheel::{Entry, Instant, Wheel};
 use std::alloc::Global;
 use std::collections::VecDeque;
-use std::time::Duration;
 use std::{io, mem};
+
+mod timers;
+mod waiting;
 
 /// The poller's own key, which no token has.
 const OWN_KEY: u64 = u64::MAX;
@@ -35,11 +38,13 @@ pub struct Pending {
     pub posted: bool,
 }
 
-/// What sources register with. It owns the poller, the board of pings, and the events that wait for their turn.
+/// What sources register with. It owns the poller, the board of pings, the deadlines of timers, and the events that
+/// wait for their turn.
 pub struct Poll<P, C> {
     poller: P,
     clock: C,
     board: Board,
+    wheel: Wheel,
     batch: VecDeque<Pending>,
     passes: VecDeque<TakenPass>,
     pass: Option<TakenPass>,
@@ -52,6 +57,7 @@ impl<P: Drop, C: Drop> Drop for Poll<P, C> {
             poller: _,
             clock: _,
             mut board,
+            wheel: _,
             batch: _,
             passes,
             pass,
@@ -97,6 +103,20 @@ fn polled_event(key: u64, readiness: Readiness) -> Pending
     }
 }
 
+fn timer_event(entry: Entry) -> Pending
+    ensures { result ≡ timer_event entry }
+{
+    Pending {
+        readiness: Readiness {
+            readable: true,
+            writable: false,
+            error: false,
+        },
+        token: entry.token,
+        posted: false,
+    }
+}
+
 // The events of the passes from the first new one on.
 fn append_posted(batch: &mut VecDeque<Pending>, passes: &VecDeque<TakenPass>, first: usize)
     requires first { first ≤ deque_len passes.now }
@@ -116,7 +136,9 @@ fn append_posted(batch: &mut VecDeque<Pending>, passes: &VecDeque<TakenPass>, fi
 // The events that the poller gave.
 fn append_polled(batch: &mut VecDeque<Pending>, events: &[(u64, Readiness)])
     requires { deque_len batch.old + length events.now ≤ deque_capacity batch.old }
-    ensures { batch.new.items ≡ batch.old.items ++ polled_events events.now }
+    ensures items { batch.new.items ≡ batch.old.items ++ polled_events events.now }
+    ensures len { deque_len batch.new ≤ deque_len batch.old + length events.now }
+    ensures capacity { deque_capacity batch.new ≡ deque_capacity batch.old }
 {
     for event in events {
         let (key, readiness) = *event;
@@ -126,15 +148,27 @@ fn append_polled(batch: &mut VecDeque<Pending>, events: &[(u64, Readiness)])
     }
 }
 
+// The events of the deadlines that are due, which leave the wheel.
+fn append_due(batch: &mut VecDeque<Pending>, wheel: &mut Wheel, now: Instant)
+    requires { deque_len batch.old + length wheel.old.entries ≤ deque_capacity batch.old }
+    ensures items { batch.new.items ≡ batch.old.items ++ timer_events (due now.nanos wheel.old.entries) }
+    ensures wheel { wheel.new ≡ with_entries (not_due now.nanos wheel.old.entries) wheel.old }
+{
+    while let Some(entry) = wheel.next_expired(now) {
+        batch.push_back_reserved(timer_event(entry));
+    }
+}
+
 impl<P, C> Poll<P, C> {
-    /// Over this poller, with an empty board and an empty batch.
+    /// Over this poller, with an empty board, no deadline and an empty batch.
     pub fn new(alloc: Global, poller: P, clock: C) -> Poll<P, C>
-        ensures { poll_view result ≡ record { poller = poller; board = []; batch = []; passes = []; pass = None } }
+        ensures { poll_view result ≡ record { poller = poller; board = []; deadlines = record { entries = []; next = 0 }; batch = []; passes = []; pass = None } }
     {
         Poll {
             poller,
             clock,
             board: Board::new(alloc),
+            wheel: Wheel::new(alloc),
             batch: VecDeque::new(alloc),
             passes: VecDeque::new(alloc),
             pass: None,
@@ -213,6 +247,15 @@ impl<P, C> Poll<P, C> {
         self.replace_pass(Some(pass));
     }
 
+    // How many events one `poll` can gather at most.
+    fn room(&self) -> Option<usize>
+        ensures { IfSome result (λ n. n ≡ length self.now.board + (1024 + length self.now.wheel.entries)) }
+    {
+        EVENTS_PER_WAIT
+            .checked_add(self.wheel.len())?
+            .checked_add(self.board.places())
+    }
+
     /// Reserves what one `poll` can gather. Want of memory changes nothing.
     pub fn reserve(&mut self) -> Result<()>
         ensures view { poll_view self.new ≡ poll_view self.old }
@@ -220,7 +263,7 @@ impl<P, C> Poll<P, C> {
         ensures err { IfErr result (λ e. e ≡ OutOfMemory) }
     {
         let places = self.board.places();
-        let Some(room) = places.checked_add(EVENTS_PER_WAIT) else {
+        let Some(room) = self.room() else {
             return Err(Error::OutOfMemory);
         };
         self.events.clear();
@@ -252,48 +295,16 @@ impl<P, C> Poll<P, C> {
         self.replace_pass(None);
     }
 
-    fn gather(&mut self)
-        requires batch { deque_len self.old.batch + (length self.old.board + 1024) ≤ deque_capacity self.old.batch }
+    fn gather(&mut self, now: Instant)
+        requires batch { deque_len self.old.batch + (length self.old.board + (1024 + length self.old.wheel.entries)) ≤ deque_capacity self.old.batch }
         requires passes { deque_len self.old.passes + length self.old.board ≤ deque_capacity self.old.passes }
         requires events { vec_len self.old.events ≤ 1024 }
-        ensures { poll_view self.new ≡ gathered (taken_keys self.old.board) self.old.events.items (poll_view self.old) }
+        ensures { poll_view self.new ≡ gathered (taken_keys self.old.board) self.old.events.items now.nanos (poll_view self.old) }
     {
         let first = self.passes.len();
         self.board.unpost(&mut self.passes);
         append_posted(&mut self.batch, &self.passes, first);
         append_polled(&mut self.batch, &self.events);
-    }
-}
-
-impl<P: Poller, C> Poll<P, C> {
-    // A wait that isn't zero spends the leave to sleep that the look at the board gave.
-    fn wait(&mut self, timeout: Option<Duration>) -> io::Result<()>
-        requires events { self.old.events.items ≡ [] }
-        requires room { 1024 ≤ vec_capacity self.old.events }
-        ensures waits { (p : P) × P.outside.waits self.old.poller (asked_for (poll_view self.old) (nanos_of timeout)) result self.new.events.items p × (self.new ≡ record self.old { poller = p; events = self.new.events }) }
-        ensures few { vec_len self.new.events ≤ 1024 }
-    {
-        if !self.batch.is_empty() {
-            return self.poller.wait(Some(Duration::ZERO), &mut self.events);
-        }
-        match self.board.look() {
-            Some(leave) => {
-                leave.spend();
-                self.poller.wait(timeout, &mut self.events)
-            }
-            None => self.poller.wait(Some(Duration::ZERO), &mut self.events),
-        }
-    }
-
-    /// Waits for events, at most for `timeout` and not at all where an event was left over or a posted key stands,
-    /// and puts the batch together: what was left over, the posted keys in ascending order, and what the poller gave in its order.
-    /// A fault of the wait is `IoError`; then the batch and the posted keys are as they were.
-    pub fn poll(&mut self, timeout: Option<Duration>) -> Result<()>
-        requires { IsReady self.old }
-        ensures { Polled P.outside (nanos_of timeout) result (poll_view self.old) (poll_view self.new) }
-    {
-        self.wait(timeout)?;
-        self.gather();
-        Ok(())
+        append_due(&mut self.batch, &mut self.wheel, now);
     }
 }

@@ -3,7 +3,8 @@ ghost use Rattle.std.specs.Prelude.{◌≡◌, ℕ, ◌+◌, ◌≤◌, ◌++◌
 ghost use Rattle.calloop_core.specs.Scripts.{kept_waits};
 ghost use Rattle.calloop_core.specs.declared.sys.Readiness.{Readiness};
 
-use super::{Clock, Poller, Readiness};
+use super::faults::FaultCount;
+use super::{Clock, EVENTS_PER_WAIT, Poller, Readiness};
 use calloop_wake::wheel::Instant;
 use std::alloc::{AllocError, AllocFailed, Global};
 use std::collections::VecDeque;
@@ -32,7 +33,7 @@ impl ScriptEvents {
         ensures ok { OnOk result (self.new.events.items ≡ self.old.events.items ++ (key, readiness) ∷ []) }
         ensures err { IfErr result (λ event. (event ≡ (key, readiness)) × (self.new.events.items ≡ self.old.events.items)) }
     {
-        if self.events.len() >= 1024 {
+        if self.events.len() >= EVENTS_PER_WAIT {
             return Err((key, readiness));
         }
         match self.events.push((key, readiness)) {
@@ -42,11 +43,21 @@ impl ScriptEvents {
     }
 }
 
-/// What a scripted wait gives next: events, and the moment that the clock then shows.
+/// What a scripted wait ends with.
+#[derive(Drop)]
+pub enum ScriptEnd {
+    Events(ScriptEvents),
+    /// An error of kind `Interrupted`, after which the loop waits anew.
+    Interrupted,
+    /// A fault, of kind `Other`.
+    Fault,
+}
+
+/// What a scripted wait gives next, and the moment that the clock then shows.
 #[derive(Drop)]
 pub struct ScriptAnswer {
     pub moment: Instant,
-    pub events: ScriptEvents,
+    pub end: ScriptEnd,
 }
 
 /// Answers what it was told to. With no answer left a wait gives no event and moves the clock by the asked
@@ -56,6 +67,7 @@ pub struct ScriptPoller {
     moment: Instant,
     answers: VecDeque<ScriptAnswer>,
     waits: Vec<Option<Duration>>,
+    faults: FaultCount,
 }
 
 /// Shows the moment at which it was made.
@@ -75,12 +87,13 @@ impl Clock for ScriptClock {
 impl ScriptPoller {
     /// With the clock at 0, no answer, and no room for asked waits.
     pub fn new(alloc: Global) -> ScriptPoller
-        ensures { (result.moment.nanos ≡ 0) × (result.answers.items ≡ []) × (result.waits.items ≡ []) × (vec_capacity result.waits ≡ 0) }
+        ensures { (result.moment.nanos ≡ 0) × (result.answers.items ≡ []) × (result.waits.items ≡ []) × (vec_capacity result.waits ≡ 0) × (result.faults.count ≡ 0) }
     {
         ScriptPoller {
             moment: Instant { nanos: 0 },
             answers: VecDeque::new(alloc),
             waits: Vec::new(alloc),
+            faults: FaultCount::new(),
         }
     }
 
@@ -93,12 +106,20 @@ impl ScriptPoller {
         }
     }
 
+    /// Sets the clock.
+    pub fn set_clock(&mut self, moment: Instant)
+        ensures { self.new ≡ record self.old { moment = moment } }
+    {
+        self.moment = moment;
+    }
+
     /// Adds the answer of one more wait, behind those that are there.
     pub fn script(&mut self, answer: ScriptAnswer) -> Result<(), AllocFailed<ScriptAnswer>>
         ensures answers { self.new.answers.items ≡ (if is_ok result then self.old.answers.items ++ answer ∷ [] else self.old.answers.items) }
         ensures value_returned { IfErr result (λ failed. failed.value ≡ answer) }
         ensures moment { self.new.moment ≡ self.old.moment }
         ensures waits { self.new.waits ≡ self.old.waits }
+        ensures faults { self.new.faults ≡ self.old.faults }
     {
         self.answers.push_back(answer)
     }
@@ -111,6 +132,7 @@ impl ScriptPoller {
         ensures succeeds { n ≤ vec_capacity self.old.waits → IsOk result }
         ensures moment { self.new.moment ≡ self.old.moment }
         ensures answers { self.new.answers ≡ self.old.answers }
+        ensures faults { self.new.faults ≡ self.old.faults }
     {
         self.waits
             .try_reserve_exact(n.saturating_sub(self.waits.len()))?;
@@ -130,6 +152,7 @@ impl ScriptPoller {
         ensures room { vec_capacity self.new.waits ≡ vec_capacity self.old.waits }
         ensures moment { self.new.moment ≡ self.old.moment }
         ensures answers { self.new.answers ≡ self.old.answers }
+        ensures faults { self.new.faults ≡ self.old.faults }
     {
         if self.waits.len() < self.waits.capacity() {
             self.waits.push_reserved(timeout);
@@ -161,17 +184,23 @@ impl Poller for ScriptPoller {
         events: &mut Vec<(u64, Readiness)>,
     ) -> io::Result<()> {
         self.note(timeout);
-        match self.answers.pop_front() {
-            Some(answer) => {
-                self.moment = answer.moment;
-                append(answer.events.events, events);
+        let Some(answer) = self.answers.pop_front() else {
+            if let Some(asked) = timeout {
+                self.moment = self.moment.after(asked);
             }
-            None => {
-                if let Some(asked) = timeout {
-                    self.moment = self.moment.after(asked);
-                }
+            return Ok(());
+        };
+        self.moment = answer.moment;
+        match answer.end {
+            ScriptEnd::Events(given) => {
+                append(given.events, events);
+                Ok(())
+            }
+            ScriptEnd::Interrupted => Err(io::Error::from(io::ErrorKind::Interrupted)),
+            ScriptEnd::Fault => {
+                self.faults = FaultCount::after(&self.faults);
+                Err(io::Error::other("a scripted fault"))
             }
         }
-        Ok(())
     }
 }

@@ -1,0 +1,20 @@
+use Rattle.std.proofs.Common.{◌≡◌, ℕ, ◌≤◌, List, [], Result, vec_capacity}
+use Rattle.std.specs.declared.io.Error.{Error as Cause}
+use Rattle.calloop_core.specs.declared.sys.Readiness.{Readiness}
+use Rattle.calloop_core.specs.Pollers.{nanos_of}
+use Rattle.calloop_core.specs.Polls.{poll_view}
+use Rattle.calloop_core.specs.Waits.{Interruption, Waits, Waited}
+use Rattle.calloop_core.proofs.sys.poll.Poll.wait.Given as goal
+
+-- what the waits from now on end with, the whole wait ends with
+abbrev pub invariant-loop : goal.invariant-loop
+invariant-loop g l = record {
+  can : (goal.iterator-loop g).can_next l.iterator';
+  finite : (goal.iterator-loop g).is_finite l.iterator';
+  leads : (is : List (Interruption g.row.P.Denot)) (answer : Result ℕ Cause) (given : List (ℕ × Readiness)) (q : g.row.P.Denot)
+      → Waits g.P.Poller.outside (poll_view l.fn.self) (nanos_of l.timeout) l.start.nanos l.now.nanos l.self.poller is answer given q
+      → Waited g.P.Poller.outside (poll_view l.fn.self) (nanos_of l.timeout) answer given q;
+  others : l.self ≡ record l.fn.self { poller = l.self.poller; events = l.self.events };
+  events : l.self.events.items ≡ [];
+  room : 1024 ≤ vec_capacity l.self.events;
+}

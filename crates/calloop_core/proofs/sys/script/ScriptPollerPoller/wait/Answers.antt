@@ -1,0 +1,33 @@
+use Rattle.std.proofs.Common.{sym, [], refl, arith}
+use Rattle.std.proofs.lemmas.List.{append-nil}
+use Rattle.calloop_core.specs.Pollers.{nanos_of}
+use Rattle.calloop_core.proofs.Scripted.{interrupted, faulted}
+use Rattle.calloop_core.proofs.sys.script.ScriptPollerPoller.wait.Goals as goal
+
+pub returns-in-Interrupted-clause-waits : goal.returns-in-Interrupted-clause-waits
+returns-in-Interrupted-clause-waits c = (
+  [],
+  record {
+    answered = interrupted _ _ c.in-Some.answer c.args.self.now.moment.nanos (nanos_of c.args.timeout) c.from.result (rw c.note.ensures.answers at c.in-Some.ensures.items) c.in-Interrupted.is c.from.ensures;
+    timeout = c.args.timeout;
+    asked_is = refl;
+    noted = c.note.ensures.waits;
+    room = c.note.ensures.room;
+  },
+  sym (append-nil c.args.events.now.items),
+  omega (arith),
+)
+
+pub returns-in-Fault-clause-waits : goal.returns-in-Fault-clause-waits
+returns-in-Fault-clause-waits c = (
+  [],
+  record {
+    answered = faulted _ _ c.in-Some.answer c.args.self.now.moment.nanos (nanos_of c.args.timeout) c.other.result (rw c.note.ensures.answers at c.in-Some.ensures.items) c.in-Fault.is c.other.ensures.kind;
+    timeout = c.args.timeout;
+    asked_is = refl;
+    noted = c.note.ensures.waits;
+    room = c.note.ensures.room;
+  },
+  sym (append-nil c.args.events.now.items),
+  omega (arith),
+)

@@ -1,0 +1,118 @@
+//! The wait.
+ghost use Rattle.std.specs.Prelude.{◌≡◌, ◌↔◌, ℕ, ◌≤◌, true, [], List, Result, Ok, Err, IfOk, IfErr, vec_len, vec_capacity, map};
+ghost use Rattle.calloop_core.specs.Pollers.{nanos_of};
+ghost use Rattle.calloop_core.specs.Polls.{poll_view, IsReady};
+ghost use Rattle.calloop_core.specs.declared.sys.Readiness.{Readiness};
+ghost use Rattle.calloop_core.specs.Waits.{IsInterruption, asked_for, is_zero, lesser, time_left, time_to_first, Waited, Polled};
+
+use super::Poll;
+use crate::sys::Poller;
+use calloop_wake::error::Result;
+use calloop_wake::wheel::Instant;
+use std::io;
+use std::sync::Wait;
+use std::time::Duration;
+
+fn lesser(a: Option<Duration>, b: Option<Duration>) -> Option<Duration>
+    ensures { nanos_of result ≡ lesser (nanos_of a) (nanos_of b) }
+{
+    match (a, b) {
+        (None, _) => b,
+        (Some(_), None) => a,
+        (Some(x), Some(y)) => Some(if x < y { x } else { y }),
+    }
+}
+
+fn is_zero(time: Option<Duration>) -> bool
+    ensures { result ≡ is_zero (nanos_of time) }
+{
+    match time {
+        None => false,
+        Some(time) => time.is_zero(),
+    }
+}
+
+// What is left of the timeout, counted from the start.
+fn time_left(timeout: Option<Duration>, start: Instant, now: Instant) -> Option<Duration>
+    ensures { nanos_of result ≡ time_left (nanos_of timeout) start.nanos now.nanos }
+{
+    let passed = Duration::from_nanos(now.nanos.saturating_sub(start.nanos));
+    Some(timeout?.saturating_sub(passed))
+}
+
+fn is_interruption(cause: &io::Error) -> bool
+    ensures { (result ≡ true) ↔ IsInterruption cause.now }
+{
+    matches!(cause.kind(), io::ErrorKind::Interrupted)
+}
+
+impl<P, C> Poll<P, C> {
+    fn time_to_first(&self, now: Instant) -> Option<Duration>
+        ensures { nanos_of result ≡ time_to_first self.now.wheel.entries now.nanos }
+    {
+        let first = self.wheel.next_deadline()?;
+        Some(Duration::from_nanos(first.nanos.saturating_sub(now.nanos)))
+    }
+
+    // How long to wait. It spends the leave to sleep that the look at the board gives, without which it is zero.
+    fn asked(&self, timeout: Option<Duration>, start: Instant, now: Instant) -> Option<Duration>
+        ensures { nanos_of result ≡ asked_for (poll_view self.now) (nanos_of timeout) start.nanos now.nanos }
+    {
+        if !self.batch.is_empty() {
+            return Some(Duration::ZERO);
+        }
+        match self.board.look() {
+            Some(leave) => {
+                leave.spend();
+                lesser(time_left(timeout, start, now), self.time_to_first(now))
+            }
+            None => Some(Duration::ZERO),
+        }
+    }
+}
+
+impl<P: Poller, C> Poll<P, C> {
+    // Waits until the poller answers or nothing is left to wait for, and gives the moment of the gathering.
+    fn wait<R: Wait>(&mut self, rt: &R, timeout: Option<Duration>) -> io::Result<Instant>
+        requires events { self.old.events.items ≡ [] }
+        requires room { 1024 ≤ vec_capacity self.old.events }
+        ensures ok { IfOk result (λ now. Waited P.outside (poll_view self.old) (nanos_of timeout) (Ok now.nanos) self.new.events.items self.new.poller) }
+        ensures err { IfErr result (λ cause. (given : List (ℕ × Readiness)) × Waited P.outside (poll_view self.old) (nanos_of timeout) (Err cause) given self.new.poller) }
+        ensures others { self.new ≡ record self.old { poller = self.new.poller; events = self.new.events } }
+        ensures few { vec_len self.new.events ≤ 1024 }
+    {
+        let start = self.poller.now();
+        let mut now = start;
+        for _ in rt.forever() {
+            let asked = self.asked(timeout, start, now);
+            let answer = self.poller.wait(asked, &mut self.events);
+            let Err(cause) = answer else {
+                return Ok(self.poller.now());
+            };
+            if !is_interruption(&cause) {
+                return Err(cause);
+            }
+            self.events.clear();
+            now = self.poller.now();
+            if is_zero(self.asked(timeout, start, now)) {
+                return Ok(now);
+            }
+        }
+        unreachable!()
+    }
+
+    /// Waits for events, at most for `timeout`, at most until the first deadline, and not at all where an event was left
+    /// over or a posted key stands. Then it puts the batch together: what was left over, the posted keys in ascending
+    /// order, what the poller gave in its order, and the timers that are due, by deadline and counter.
+    ///
+    /// An interruption asks anew, for what is left of the timeout since the start. A fault of the wait is `IoError`; then
+    /// the batch, the posted keys and the deadlines are as they were.
+    pub fn poll<R: Wait>(&mut self, rt: &R, timeout: Option<Duration>) -> Result<()>
+        requires { IsReady self.old }
+        ensures { Polled P.outside (nanos_of timeout) result (poll_view self.old) (poll_view self.new) }
+    {
+        let now = self.wait(rt, timeout)?;
+        self.gather(now);
+        Ok(())
+    }
+}
