@@ -10,7 +10,8 @@ use Rattle.calloop_wake.proofs.Named.{source_is}
 use Rattle.calloop_wake.specs.Boards.{taken_keys}
 use Rattle.calloop_core.specs.declared.sys.poll.Pending.{Pending}
 use Rattle.calloop_core.specs.Pollers.{Outside}
-use Rattle.calloop_core.specs.Polls.{PollView, PollStep, AllStepped, Polled, polling, with_pass, cut, cut_from, begun, tail_of, head_of, poll_after, polls_after, OpenPlace, ClosePlace, Post, TakePass, PutBack}
+use Rattle.calloop_core.specs.Waits.{Polled}
+use Rattle.calloop_core.specs.Polls.{PollView, PollStep, AllStepped, polling, with_pass, cut, cut_from, begun, tail_of, head_of, poll_after, polls_after, OpenPlace, ClosePlace, Post, TakePass, PutBack, Arm, ArmAgain, Cancel, Call, ReadClock}
 use Rattle.calloop.specs.Meanings.{Meaning}
 use Rattle.calloop.specs.Machine.{View, Change, Put, Polls, Polling, Gathered, Cut, Ended, all_viewed, AllFit}
 use Rattle.calloop.specs.Rules.{Goes, Steps, Step, Doing, Waiting, Gathering, Cutting, Ending, Leaving, traced, after_turn, CutTo, CutFrom, DispatchedBy, Did, after_hand_out, handed_out}
@@ -28,14 +29,19 @@ cons_of_head [] e h = cc
 cons_of_head (f ∷ es) e h = (es, cc)
 
 -- a source's steps leave the batch as it is
-batch-after : {P : Type 0} (v : PollView P) (s : PollStep) → (poll_after v s).batch ≡ v.batch
+batch-after : {P : Type 0} (v : PollView P) (s : PollStep P) → (poll_after v s).batch ≡ v.batch
 batch-after v (OpenPlace key) = refl
 batch-after v (ClosePlace key) = refl
 batch-after v (Post key) = refl
 batch-after v TakePass = refl
 batch-after v (PutBack pass) = refl
+batch-after v (Arm deadline token) = refl
+batch-after v (ArmAgain counter deadline token) = refl
+batch-after v (Cancel counter) = refl
+batch-after v (Call counter) = refl
+batch-after v (ReadClock now after) = refl
 
-pub batch-stepped : {P : Type 0} (v : PollView P) (steps : List PollStep) → (polls_after v steps).batch ≡ v.batch
+pub batch-stepped : {P : Type 0} (v : PollView P) (steps : List (PollStep P)) → (polls_after v steps).batch ≡ v.batch
 batch-stepped v [] = refl
 batch-stepped v (s ∷ ss) = batch-stepped (poll_after v s) ss ∙ batch-after v s
 
@@ -70,19 +76,20 @@ module _ {D P X : Type 0} (M : Meaning D P X) (O : Outside P) where
   goes_nowhere a v = ([], refl, refl)
 
   -- one step
-  pub goes_by : (a b : Doing D X) (cs : List (Change D P)) (v u : View D P) → Step M O v a cs b → AllFit v cs → u ≡ all_viewed v cs → Goes M O a b v u
+  pub goes_by : (a b : Doing D X) (cs : List (Change D P)) (v u : View D P) → Step M O v a cs b → AllFit O v cs → u ≡ all_viewed v cs → Goes M O a b v u
   goes_by a b cs v u step fit is = (cs ∷ [], (b, step, fit, refl), is)
 
   -- the wait and the gathering
   pub polled : (v : View D P) (p' : PollView P) (timeout : Option ℕ) (x : X) → Polled O timeout (Ok tt) v.poll p' → Goes M O (Waiting timeout x) (Cutting x) v (record v { poll = p' })
   polled v p' timeout x h =
-      let given = h.0 in
-      let p = h.1 in
+      let now = h.0 in
+      let given = h.1 in
+      let p = h.2 in
       let u : View D P = record v { poll = polling p v.poll } in
-      goes_on (Waiting timeout x) (Gathering given x) (Cutting x) v u (record v { poll = p' })
-      (goes_by (Waiting timeout x) (Gathering given x) (Polling p ∷ []) v u (Ok tt, given, p, h.2, refl, refl) (tt, tt) refl)
-      (goes_by (Gathering given x) (Cutting x) (Gathered (taken_keys v.poll.board) given ∷ []) u (record v { poll = p' }) (taken_keys v.poll.board, refl, refl) (refl, tt)
-      (ap (λ (q : PollView P). record v { poll = q }) h.3))
+      goes_on (Waiting timeout x) (Gathering now given x) (Cutting x) v u (record v { poll = p' })
+      (goes_by (Waiting timeout x) (Gathering now given x) (Polling p ∷ []) v u (Ok now, given, p, h.3, refl, refl) (tt, tt) refl)
+      (goes_by (Gathering now given x) (Cutting x) (Gathered (taken_keys v.poll.board) given now ∷ []) u (record v { poll = p' }) (taken_keys v.poll.board, refl, refl) (refl, tt)
+      (ap (λ (q : PollView P). record v { poll = q }) h.4))
 
   pub not_polled : (v : View D P) (p' : PollView P) (timeout : Option ℕ) (x : X) (e : Error) → Polled O timeout (Err e) v.poll p' → Goes M O (Waiting timeout x) (Leaving (Err e) x) v (record v { poll = p' })
   not_polled v p' timeout x e h =
@@ -113,7 +120,7 @@ module _ {D P X : Type 0} (M : Meaning D P X) (O : Outside P) where
 
   -- an event whose token names a source: its turn, and the end of it
   pub whole_turn : (e : Pending) (v : View D P) (d d' : D) (answer : Result (Unit {0}) Error) (p' : PollView P) (x x' : X) → Some e ≡ head_of v.poll.batch → named v.slots (registration_of e.token) ≡ Source d
-      → (u : (steps : List PollStep) × M.turn d e.readiness e.token (cut v.poll) x answer steps d' x' × AllStepped (cut v.poll) steps p')
+      → (u : (steps : List (PollStep P)) × M.turn d e.readiness e.token (cut v.poll) x answer steps d' x' × AllStepped O (cut v.poll) steps p')
       → Goes M O (Cutting x) (after_turn answer x') v (record { slots = changed (with_content (Source d')) (changed (with_content InTurn) v.slots e.token.slot) e.token.slot; poll = with_pass None p' })
   whole_turn e v d d' answer p' x x' first full u =
       let f = cons_of_head v.poll.batch e first in
@@ -137,8 +144,8 @@ module _ {D P X : Type 0} (M : Meaning D P X) (O : Outside P) where
   after_handed (Err e) x = refl
 
   pub whole_hand_out : (e : Pending) (v : View D P) (d d' : D) (answer : Result (Unit {0}) Error) (q p' : PollView P) (x x' : X) → Some e ≡ head_of v.poll.batch → Some d ≡ source_of (named v.slots (registration_of e.token)) → q ≡ cut v.poll
-      → (u : (steps : List PollStep) × M.turn d e.readiness e.token q x answer steps d' x' × AllStepped q steps p')
+      → (u : (steps : List (PollStep P)) × M.turn d e.readiness e.token q x answer steps d' x' × AllStepped O q steps p')
       → Goes M O (Cutting x) (after_hand_out (handed_out answer) x') v (record { slots = changed (with_content (Source d')) (changed (with_content InTurn) v.slots e.token.slot) e.token.slot; poll = with_pass None p' })
   whole_hand_out e v d d' answer q p' x x' first named_as is u =
       subst (λ (b : Doing D X). Goes M O (Cutting x) b v (record { slots = changed (with_content (Source d')) (changed (with_content InTurn) v.slots e.token.slot) e.token.slot; poll = with_pass None p' })) (after_handed answer x')
-      (whole_turn e v d d' answer p' x x' first (source_is (named v.slots (registration_of e.token)) d (sym named_as)) (subst (λ (r : PollView P). (steps : List PollStep) × M.turn d e.readiness e.token r x answer steps d' x' × AllStepped r steps p') is u))
+      (whole_turn e v d d' answer p' x x' first (source_is (named v.slots (registration_of e.token)) d (sym named_as)) (subst (λ (r : PollView P). (steps : List (PollStep P)) × M.turn d e.readiness e.token r x answer steps d' x' × AllStepped O r steps p') is u))

@@ -21,7 +21,7 @@ module _ {P : Type 0} (s : PingSource) (token : Token) (v : PollView P) (own : i
   pub turn_without : v.pass ≡ None → IsPingTurn s token v false (TakePass ∷ []) s
   turn_without none = rw (own, none) (refl, refl, refl)
 
-  turned : (p : Taken) (answer : Result OpenedTurn Taken) (rang : Bool) (steps : List PollStep) (t : PingSource) → v.pass ≡ Some p → turn_of p s.core ≡ answer → PingTurned s p answer rang steps t → IsPingTurn s token v rang steps t
+  turned : (p : Taken) (answer : Result OpenedTurn Taken) (rang : Bool) (steps : List (PollStep P)) (t : PingSource) → v.pass ≡ Some p → turn_of p s.core ≡ answer → PingTurned s p answer rang steps t → IsPingTurn s token v rang steps t
   turned p answer rang steps t some is h = rw (own, some, is) h
 
   pub turn_opened : (p : Taken) (opened : OpenedTurn) (c : Cell) → v.pass ≡ Some p → turn_of p s.core ≡ Ok opened → c ≡ after_end_turn (after_open_turn p.key s.core) → IsPingTurn s token v opened.rung (TakePass ∷ []) (with_core c s)

@@ -29,7 +29,7 @@ older_done w (Put slot content) i r h = older_changed content w.slots slot i r h
 older_done w Claim i r h = older_claimed w.slots i r h
 older_done w (Polls steps) i r h = h
 older_done w (Polling poller) i r h = h
-older_done w (Gathered posted given) i r h = h
+older_done w (Gathered posted given now) i r h = h
 older_done w (Cut slot) i r h = h
 older_done w Ended i r h = h
 

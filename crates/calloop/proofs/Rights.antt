@@ -48,7 +48,7 @@ module _ {D P X : Type 0} (M : Meaning D P X) (O : Outside P) where
 
   step_right : (w : World D P) (a b : Doing D X) (cs : List (Change D P)) → Step M O (seen w) a cs b → AllRight w cs
   step_right w (Waiting timeout x) b cs h = rw h.4 (tt, tt)
-  step_right w (Gathering given x) b cs h = rw h.1 (tt, tt)
+  step_right w (Gathering now given x) b cs h = rw h.1 (tt, tt)
   step_right w (Cutting x) b cs h = from_right w w.poll.batch x cs b refl h
   step_right w (Ending token d answer x) b cs h = rw h.0 (tt, (tt, tt))
   step_right w (Leaving answer x) b cs h = absurd h

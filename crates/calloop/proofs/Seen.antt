@@ -27,7 +27,7 @@ seen-done w (Put slot content) = ap (λ ss. record (seen w) { slots = ss }) (map
 seen-done w Claim = ap (λ ss. record (seen w) { slots = ss }) (seen-claimed_of w.slots)
 seen-done w (Polls steps) = refl
 seen-done w (Polling poller) = refl
-seen-done w (Gathered posted given) = refl
+seen-done w (Gathered posted given now) = refl
 seen-done w (Cut slot) = refl
 seen-done w Ended = refl
 

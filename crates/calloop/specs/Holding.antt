@@ -12,6 +12,6 @@ abbrev pub MeansStep : {A D : Type 0} → (A → D) → (A → A → Type 0) →
 MeansStep {A} {D} held R S a = (t : D) → (S (held a) t) ↔ ((b : A) × (t ≡ held b) × R a b)
 
 pub record IsHeld {A D P X : Type 0} (held : A → D) (m : Meaning A P X) (n : Meaning D P X) : Type 0 where
-  pub reg : (s : A) (v : PollView P) (f g : TokenFactory) (a : Result (Unit {0}) Error) (l : List PollStep) → MeansStep held (λ s t. m.reg s v f a l t g) (λ s t. n.reg s v f a l t g) s
-  pub ring : (s : A) (b : Bool) (l : List PollStep) → MeansStep held (λ s t. m.ring s b l t) (λ s t. n.ring s b l t) s
-  pub turn : (s : A) (r : Readiness) (k : Token) (v : PollView P) (x y : X) (a : Result (Unit {0}) Error) (l : List PollStep) → MeansStep held (λ s t. m.turn s r k v x a l t y) (λ s t. n.turn s r k v x a l t y) s
+  pub reg : (s : A) (v : PollView P) (f g : TokenFactory) (a : Result (Unit {0}) Error) (l : List (PollStep P)) → MeansStep held (λ s t. m.reg s v f a l t g) (λ s t. n.reg s v f a l t g) s
+  pub ring : (s : A) (b : Bool) (l : List (PollStep P)) → MeansStep held (λ s t. m.ring s b l t) (λ s t. n.ring s b l t) s
+  pub turn : (s : A) (r : Readiness) (k : Token) (v : PollView P) (x y : X) (a : Result (Unit {0}) Error) (l : List (PollStep P)) → MeansStep held (λ s t. m.turn s r k v x a l t y) (λ s t. n.turn s r k v x a l t y) s

@@ -27,7 +27,7 @@ IsRight w (Put slot content) = Unit {0}
 IsRight w Claim = Unit {0}
 IsRight w (Polls steps) = Unit {0}
 IsRight w (Polling poller) = Unit {0}
-IsRight w (Gathered posted given) = Unit {0}
+IsRight w (Gathered posted given now) = Unit {0}
 IsRight w Ended = Unit {0}
 
 -- each event that is cut in these changes goes right at its moment

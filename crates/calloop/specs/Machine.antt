@@ -8,6 +8,7 @@ use Rattle.calloop_wake.specs.Slots.{changed, with_content, claimed, is_empty}
 use Rattle.calloop_wake.specs.Boards.{taken_keys}
 use Rattle.calloop_core.specs.declared.sys.Readiness.{Readiness}
 use Rattle.calloop_core.specs.declared.sys.poll.Pending.{Pending}
+use Rattle.calloop_core.specs.Pollers.{Outside}
 use Rattle.calloop_core.specs.Polls.{PollView, PollStep, poll_view, polls_after, AllAllowed, gathered, polling, with_pass, cut}
 use Rattle.calloop.specs.declared.loop_logic.EventLoop.{EventLoop}
 
@@ -45,11 +46,11 @@ pub data Change (D P : Type 0) : Type 0 where
   -- the first vacant slot is used once more, or a slot is added
   Claim : Change D P
   -- a source's steps
-  Polls : (steps : List PollStep) → Change D P
+  Polls : (steps : List (PollStep P)) → Change D P
   -- the poller changed
   Polling : (poller : P) → Change D P
-  -- the batch is put together, of these posted keys and of what the poller gave
-  Gathered : (posted : List ℕ) (given : List (ℕ × Readiness)) → Change D P
+  -- the batch is put together, of these posted keys, of what the poller gave, and of the timers that are due at this moment
+  Gathered : (posted : List ℕ) (given : List (ℕ × Readiness)) (now : ℕ) → Change D P
   -- the first event leaves the batch, for this slot or for none
   Cut : (slot : Option ℕ) → Change D P
   -- its turn is over
@@ -61,7 +62,7 @@ viewed v (Put slot content) = record v { slots = changed (with_content content) 
 viewed v Claim = record v { slots = claimed v.slots }
 viewed v (Polls steps) = record v { poll = polls_after v.poll steps }
 viewed v (Polling poller) = record v { poll = polling poller v.poll }
-viewed v (Gathered posted given) = record v { poll = gathered posted given v.poll }
+viewed v (Gathered posted given now) = record v { poll = gathered posted given now v.poll }
 viewed v (Cut slot) = record v { poll = cut v.poll }
 viewed v Ended = record v { poll = with_pass None v.poll }
 
@@ -90,7 +91,7 @@ done w (Put slot content) = record w { slots = changed (holding content) w.slots
 done w Claim = record w { slots = claimed_of w.slots }
 done w (Polls steps) = record w { poll = polls_after w.poll steps }
 done w (Polling poller) = record w { poll = polling poller w.poll }
-done w (Gathered posted given) = record w { poll = gathered posted given w.poll }
+done w (Gathered posted given now) = record w { poll = gathered posted given now w.poll }
 done w (Cut slot) = record w { poll = cut w.poll; history = w.history ++ heads_of w.poll.batch }
 done w Ended = record w { poll = with_pass None w.poll }
 
@@ -99,23 +100,24 @@ all_done w [] = w
 all_done w (c ∷ cs) = all_done (done w c) cs
 
 -- what every change keeps to: a source's steps can be made, and the posted keys are those that are marked
-abbrev pub Fits : {D P : Type 0} → View D P → Change D P → Type 0
-Fits v (Put slot content) = Unit {0}
-Fits v Claim = Unit {0}
-Fits v (Polls steps) = AllAllowed v.poll steps
-Fits v (Polling poller) = Unit {0}
-Fits v (Gathered posted given) = posted ≡ taken_keys v.poll.board
-Fits v (Cut slot) = Unit {0}
-Fits v Ended = Unit {0}
+abbrev pub Fits : {D P : Type 0} → Outside P → View D P → Change D P → Type 0
+Fits O v (Put slot content) = Unit {0}
+Fits O v Claim = Unit {0}
+Fits O v (Polls steps) = AllAllowed O v.poll steps
+Fits O v (Polling poller) = Unit {0}
+Fits O v (Gathered posted given now) = posted ≡ taken_keys v.poll.board
+Fits O v (Cut slot) = Unit {0}
+Fits O v Ended = Unit {0}
 
-abbrev pub AllFit : {D P : Type 0} → View D P → List (Change D P) → Type 0
-AllFit v [] = Unit {0}
-AllFit v (c ∷ cs) = Fits v c × AllFit (viewed v c) cs
+abbrev pub AllFit : {D P : Type 0} → Outside P → View D P → List (Change D P) → Type 0
+AllFit O v [] = Unit {0}
+AllFit O v (c ∷ cs) = Fits O v c × AllFit O (viewed v c) cs
 
 -- nothing has happened yet
 pub record IsNew {D P : Type 0} (w : World D P) : Type 0 where
   pub slots : w.slots ≡ []
   pub board : w.poll.board ≡ []
+  pub deadlines : w.poll.deadlines ≡ record { entries = []; next = 0 }
   pub batch : w.poll.batch ≡ []
   pub passes : w.poll.passes ≡ []
   pub pass : w.poll.pass ≡ None

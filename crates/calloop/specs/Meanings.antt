@@ -11,11 +11,11 @@ use Rattle.calloop.specs.declared.ping.PingSource.{PingSource}
 use Rattle.calloop.specs.Pings.{IsPingReg, IsPingRing, IsPingTurn, Called}
 
 pub record Meaning (D P X : Type 0) : Type 1 where
-  pub reg : D → PollView P → TokenFactory → Result (Unit {0}) Error → List PollStep → D → TokenFactory → Type 0
+  pub reg : D → PollView P → TokenFactory → Result (Unit {0}) Error → List (PollStep P) → D → TokenFactory → Type 0
   -- a ring, and whether there is a ping
-  pub ring : D → (is_ping : Bool) → List PollStep → D → Type 0
+  pub ring : D → (is_ping : Bool) → List (PollStep P) → D → Type 0
   -- a turn, with the data before and after it
-  pub turn : D → Readiness → Token → PollView P → X → Result (Unit {0}) Error → List PollStep → D → X → Type 0
+  pub turn : D → Readiness → Token → PollView P → X → Result (Unit {0}) Error → List (PollStep P) → D → X → Type 0
 
 -- a ping with its callback
 abbrev pub ping_meaning : {F P X : Type 0} → (F → Unit {0} → Unit {0} → X → Unit {0} → F → Unit {0} → X → Type 0) → Meaning (Dispatcher PingSource F) P X

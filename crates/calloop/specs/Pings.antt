@@ -24,14 +24,14 @@ pub data RefusedPing (s : PingSource) (f : TokenFactory) (v : List Place) (e : E
   NoPlace : CannotOpen (key_of (next_token f)) v e → g ≡ after_token f → RefusedPing s f v e g
 
 -- the place of its token is opened, the key is set, and what stood is posted
-abbrev pub IsPingReg : {P : Type 0} → PingSource → PollView P → TokenFactory → Result (Unit {0}) Error → List PollStep → PingSource → TokenFactory → Type 0
+abbrev pub IsPingReg : {P : Type 0} → PingSource → PollView P → TokenFactory → Result (Unit {0}) Error → List (PollStep P) → PingSource → TokenFactory → Type 0
 IsPingReg s v f (Ok u) steps t g =
     (s.token ≡ None) × (steps ≡ OpenPlace (key_of (next_token f)) ∷ (closes s.core.key ++ posts (owed_at (key_of (next_token f)) s.core)))
     × (t ≡ record { core = after_set_key (key_of (next_token f)) s.core; token = Some (next_token f) }) × (g ≡ after_token f)
 IsPingReg s v f (Err e) steps t g = (steps ≡ []) × (t ≡ s) × RefusedPing s f v.board e g
 
 -- a ring pings the cell, and posts its key where it stood unpinged
-abbrev pub IsPingRing : PingSource → List PollStep → PingSource → Type 0
+abbrev pub IsPingRing : {P : Type 0} → PingSource → List (PollStep P) → PingSource → Type 0
 IsPingRing s steps t = (steps ≡ posts (owed s.core)) × (t ≡ with_core (after_ring s.core) s)
 
 abbrev pub is_token : Token → Option Token → Bool
@@ -39,20 +39,20 @@ is_token token None = false
 is_token token (Some own) = nat_eq (key_of own) (key_of token)
 
 -- what opening a turn gave: a turn is ended at once, and a pass that was refused is put back
-abbrev pub PingTurned : PingSource → Taken → Result OpenedTurn Taken → (rang : Bool) → List PollStep → PingSource → Type 0
+abbrev pub PingTurned : {P : Type 0} → PingSource → Taken → Result OpenedTurn Taken → (rang : Bool) → List (PollStep P) → PingSource → Type 0
 PingTurned s p (Ok opened) rang steps t = (rang ≡ opened.rung) × (steps ≡ TakePass ∷ []) × (t ≡ with_core (after_end_turn (after_open_turn p.key s.core)) s)
 PingTurned s p (Err refused) rang steps t = (rang ≡ false) × (steps ≡ TakePass ∷ PutBack refused ∷ []) × (t ≡ s)
 
-abbrev pub PingTurnWith : PingSource → Option Taken → (rang : Bool) → List PollStep → PingSource → Type 0
+abbrev pub PingTurnWith : {P : Type 0} → PingSource → Option Taken → (rang : Bool) → List (PollStep P) → PingSource → Type 0
 PingTurnWith s None rang steps t = (rang ≡ false) × (steps ≡ TakePass ∷ []) × (t ≡ s)
 PingTurnWith s (Some p) rang steps t = PingTurned s p (turn_of p s.core) rang steps t
 
-abbrev pub PingTurnFor : (is_own : Bool) → PingSource → Option Taken → (rang : Bool) → List PollStep → PingSource → Type 0
+abbrev pub PingTurnFor : {P : Type 0} → (is_own : Bool) → PingSource → Option Taken → (rang : Bool) → List (PollStep P) → PingSource → Type 0
 PingTurnFor true s pass rang steps t = PingTurnWith s pass rang steps t
 PingTurnFor false s pass rang steps t = (rang ≡ false) × (steps ≡ []) × (t ≡ s)
 
 -- a turn: under another token nothing; without a pass nothing; else by what the cell answers to the pass
-abbrev pub IsPingTurn : {P : Type 0} → PingSource → Token → PollView P → (rang : Bool) → List PollStep → PingSource → Type 0
+abbrev pub IsPingTurn : {P : Type 0} → PingSource → Token → PollView P → (rang : Bool) → List (PollStep P) → PingSource → Type 0
 IsPingTurn s token v rang steps t = PingTurnFor (is_token token s.token) s v.pass rang steps t
 
 -- the callback is called where a ping stood, and else it and the data are as they were

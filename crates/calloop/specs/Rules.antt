@@ -16,7 +16,8 @@ use Rattle.calloop_core.specs.declared.sys.Readiness.{Readiness}
 use Rattle.calloop_core.specs.declared.sys.poll.Pending.{Pending}
 use Rattle.calloop_core.specs.declared.sources.Dispatcher.{Dispatcher}
 use Rattle.calloop_core.specs.Pollers.{Outside, nanos_of}
-use Rattle.calloop_core.specs.Polls.{PollStep, asked_for, cut}
+use Rattle.calloop_core.specs.Polls.{PollStep, cut}
+use Rattle.calloop_core.specs.Waits.{Waited}
 use Rattle.calloop.specs.declared.loop_logic.Call.{Call}
 use Rattle.calloop.specs.declared.loop_logic.Call.TheVariants.{Insert, Ring, Dispatch, Poller as NewPoller}
 use Rattle.calloop.specs.declared.loop_logic.Answer.{Answer}
@@ -32,13 +33,13 @@ factory_of t = record { registration = t; given = 0 }
 -- a source is registered in the first vacant slot; where its registration is refused, the slot stays vacant under its
 -- new version, and the poller is as that registration left it
 abbrev pub InsertedBy : {D P X : Type 0} → Meaning D P X → D → Result RegistrationToken (InsertError D) → View D P → List (Change D P) → Type 0
-InsertedBy {D} M d (Ok token) v cs =
+InsertedBy {D} {P} M d (Ok token) v cs =
     (first_vacant v.slots < 2 ^ 32) × (token ≡ next_registration v.slots)
-    × (e : D) × (f : TokenFactory) × (steps : List PollStep) × M.reg d v.poll (factory_of token) (Ok tt) steps e f
+    × (e : D) × (f : TokenFactory) × (steps : List (PollStep P)) × M.reg d v.poll (factory_of token) (Ok tt) steps e f
     × (cs ≡ Claim ∷ Polls steps ∷ Put token.slot (Source e) ∷ [])
-InsertedBy M d (Err refused) v cs =
+InsertedBy {D} {P} M d (Err refused) v cs =
     ((refused.inserted ≡ d) × CannotClaim v.slots refused.error × (cs ≡ []))
-    ⊎ ((first_vacant v.slots < 2 ^ 32) × (f : TokenFactory) × (steps : List PollStep) × M.reg d v.poll (factory_of (next_registration v.slots)) (Err refused.error) steps refused.inserted f
+    ⊎ ((first_vacant v.slots < 2 ^ 32) × (f : TokenFactory) × (steps : List (PollStep P)) × M.reg d v.poll (factory_of (next_registration v.slots)) (Err refused.error) steps refused.inserted f
     × (cs ≡ Claim ∷ Polls steps ∷ []))
 
 -- a ring of what a token names
@@ -49,8 +50,8 @@ ring_answer false = Err InvalidToken
 abbrev pub RungIn : {D P X : Type 0} → Meaning D P X → RegistrationToken → Content D → Result (Unit {0}) Error → List (Change D P) → Type 0
 RungIn M token Vacant answer cs = (answer ≡ Err InvalidToken) × (cs ≡ [])
 RungIn M token InTurn answer cs = (answer ≡ Err InvalidToken) × (cs ≡ [])
-RungIn {D} M token (Source d) answer cs =
-    (e : D) × (is_ping : Bool) × (steps : List PollStep) × M.ring d is_ping steps e × (answer ≡ ring_answer is_ping)
+RungIn {D} {P} M token (Source d) answer cs =
+    (e : D) × (is_ping : Bool) × (steps : List (PollStep P)) × M.ring d is_ping steps e × (answer ≡ ring_answer is_ping)
     × (cs ≡ Put token.slot InTurn ∷ Polls steps ∷ Put token.slot (Source e) ∷ [])
 
 abbrev pub RungBy : {D P X : Type 0} → Meaning D P X → RegistrationToken → Result (Unit {0}) Error → View D P → List (Change D P) → Type 0
@@ -59,13 +60,13 @@ RungBy M token answer v cs = RungIn M token (named v.slots token) answer cs
 -- what the loop is doing within a dispatch; X is the data that the caller lends
 pub data Doing (D X : Type 0) : Type 0 where
   Waiting : (timeout : Option ℕ) (x : X) → Doing D X
-  Gathering : (given : List (ℕ × Readiness)) (x : X) → Doing D X
+  Gathering : (now : ℕ) (given : List (ℕ × Readiness)) (x : X) → Doing D X
   Cutting : (x : X) → Doing D X
   Ending : (token : Token) (source : D) (answer : Result (Unit {0}) Error) (x : X) → Doing D X
   Leaving : (answer : Result (Unit {0}) Error) (x : X) → Doing D X
 
-abbrev pub after_wait : {D X : Type 0} → Result (Unit {0}) Cause → List (ℕ × Readiness) → X → Doing D X
-after_wait (Ok u) given x = Gathering given x
+abbrev pub after_wait : {D X : Type 0} → Result ℕ Cause → List (ℕ × Readiness) → X → Doing D X
+after_wait (Ok now) given x = Gathering now given x
 after_wait (Err cause) given x = Leaving (Err (IoError cause)) x
 
 -- the event that was cut goes to the source that its token names, which has its own turn, or to none
@@ -73,7 +74,7 @@ abbrev pub CutTo : {D P X : Type 0} → Meaning D P X → Pending → Content D 
 CutTo M e Vacant v x cs b = (cs ≡ Cut None ∷ Ended ∷ []) × (b ≡ Cutting x)
 CutTo M e InTurn v x cs b = (cs ≡ Cut None ∷ Ended ∷ []) × (b ≡ Cutting x)
 CutTo {D} {P} {X} M e (Source d) v x cs b =
-    (d' : D) × (answer : Result (Unit {0}) Error) × (steps : List PollStep) × (x' : X) × M.turn d e.readiness e.token (cut v.poll) x answer steps d' x'
+    (d' : D) × (answer : Result (Unit {0}) Error) × (steps : List (PollStep P)) × (x' : X) × M.turn d e.readiness e.token (cut v.poll) x answer steps d' x'
     × (cs ≡ Cut (Some e.token.slot) ∷ Put e.token.slot InTurn ∷ Polls steps ∷ []) × (b ≡ Ending e.token d' answer x')
 
 abbrev pub CutFrom : {D P X : Type 0} → Meaning D P X → List Pending → View D P → X → List (Change D P) → Doing D X → Type 0
@@ -88,9 +89,9 @@ after_turn (Err e) x = Leaving (Err e) x
 -- one small step, by what is seen
 abbrev pub Step : {D P X : Type 0} → Meaning D P X → Outside P → View D P → Doing D X → List (Change D P) → Doing D X → Type 0
 Step {D} {P} M O v (Waiting timeout x) cs b =
-    (answer : Result (Unit {0}) Cause) × (given : List (ℕ × Readiness)) × (p : P) × O.waits v.poll.poller (asked_for v.poll timeout) answer given p
+    (answer : Result ℕ Cause) × (given : List (ℕ × Readiness)) × (p : P) × Waited O v.poll timeout answer given p
     × (cs ≡ Polling p ∷ []) × (b ≡ after_wait answer given x)
-Step M O v (Gathering given x) cs b = (posted : List ℕ) × (cs ≡ Gathered posted given ∷ []) × (b ≡ Cutting x)
+Step M O v (Gathering now given x) cs b = (posted : List ℕ) × (cs ≡ Gathered posted given now ∷ []) × (b ≡ Cutting x)
 Step M O v (Cutting x) cs b = CutFrom M v.poll.batch v x cs b
 Step M O v (Ending token d answer x) cs b = (cs ≡ Ended ∷ Put token.slot (Source d) ∷ []) × (b ≡ after_turn answer x)
 Step M O v (Leaving answer x) cs b = ⊥
@@ -98,7 +99,7 @@ Step M O v (Leaving answer x) cs b = ⊥
 -- a list of small steps, with the changes of each
 abbrev pub Steps : {D P X : Type 0} → Meaning D P X → Outside P → View D P → Doing D X → List (List (Change D P)) → Doing D X → Type 0
 Steps M O v a [] b = b ≡ a
-Steps {D} {P} {X} M O v a (cs ∷ css) b = (c : Doing D X) × Step M O v a cs c × AllFit v cs × Steps M O (all_viewed v cs) c css b
+Steps {D} {P} {X} M O v a (cs ∷ css) b = (c : Doing D X) × Step M O v a cs c × AllFit O v cs × Steps M O (all_viewed v cs) c css b
 
 abbrev pub traced : {D P : Type 0} → View D P → List (List (Change D P)) → View D P
 traced v [] = v
@@ -109,18 +110,18 @@ all_traced w [] = w
 all_traced w (cs ∷ css) = all_traced (all_done w cs) css
 
 -- a case of one step
-abbrev pub Once : {D P : Type 0} → (View D P → List (Change D P) → Type 0) → View D P → List (List (Change D P)) → Type 0
-Once R v [] = ⊥
-Once R v (cs ∷ []) = R v cs × AllFit v cs
-Once R v (cs ∷ ds ∷ css) = ⊥
+abbrev pub Once : {D P : Type 0} → Outside P → (View D P → List (Change D P) → Type 0) → View D P → List (List (Change D P)) → Type 0
+Once O R v [] = ⊥
+Once O R v (cs ∷ []) = R v cs × AllFit O v cs
+Once O R v (cs ∷ ds ∷ css) = ⊥
 
 -- where the batch finds no memory, nothing is changed; else a dispatch begins with a wait and goes on until it leaves
 abbrev pub DispatchedBy : {D P X : Type 0} → Meaning D P X → Outside P → Option ℕ → X → Result (Unit {0}) Error → X → View D P → List (List (Change D P)) → Type 0
 DispatchedBy M O timeout x answer x' v css = ((answer ≡ Err OutOfMemory) × (x' ≡ x) × (css ≡ [])) ⊎ Steps M O v (Waiting timeout x) css (Leaving answer x')
 
 abbrev pub Case : {D P X : Type 0} → Meaning D P X → Outside P → Call D P X → Answer D P X → View D P → List (List (Change D P)) → Type 0
-Case M O (Insert d) (Inserted answer) v css = Once (InsertedBy M d answer) v css
-Case M O (Ring token) (Rung answer) v css = Once (RungBy M token answer) v css
+Case M O (Insert d) (Inserted answer) v css = Once O (InsertedBy M d answer) v css
+Case M O (Ring token) (Rung answer) v css = Once O (RungBy M token answer) v css
 Case M O (Dispatch timeout x) (Dispatched answer x') v css = DispatchedBy M O (nanos_of timeout) x answer x' v css
 Case M O (NewPoller p) (OldPoller q) v css = (q ≡ v.poll.poller) × (css ≡ (Polling p ∷ []) ∷ [])
 Case M O call answer v css = ⊥

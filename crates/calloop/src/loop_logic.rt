@@ -60,11 +60,11 @@ pub trait EventDispatcher<P: Poller, C>: Drop + Sized {
 
     /// Registers the source with tokens of the factory.
     fn register(&mut self, poll: &mut Poll<P, C>, factory: &mut TokenFactory) -> Result<()>
-        ensures { (steps : List PollStep) × means.reg self.old (poll_view poll.old) factory.old result steps self.new factory.new × AllStepped (poll_view poll.old) steps (poll_view poll.new) };
+        ensures { (steps : List (PollStep P)) × means.reg self.old (poll_view poll.old) factory.old result steps self.new factory.new × AllStepped P.outside (poll_view poll.old) steps (poll_view poll.new) };
 
     /// Rings the source where it is a ping, and says whether it is one.
     fn ring(&mut self, poll: &mut Poll<P, C>) -> bool
-        ensures { (steps : List PollStep) × means.ring self.old result steps self.new × AllStepped (poll_view poll.old) steps (poll_view poll.new) };
+        ensures { (steps : List (PollStep P)) × means.ring self.old result steps self.new × AllStepped P.outside (poll_view poll.old) steps (poll_view poll.new) };
 
     /// A turn of the source, for an event of this token.
     fn process_events(
@@ -74,7 +74,7 @@ pub trait EventDispatcher<P: Poller, C>: Drop + Sized {
         poll: &mut Poll<P, C>,
         data: &mut Self::Data,
     ) -> Result<()>
-        ensures { (steps : List PollStep) × means.turn self.old readiness token (poll_view poll.old) «data».old result steps self.new «data».new × AllStepped (poll_view poll.old) steps (poll_view poll.new) };
+        ensures { (steps : List (PollStep P)) × means.turn self.old readiness token (poll_view poll.old) «data».old result steps self.new «data».new × AllStepped P.outside (poll_view poll.old) steps (poll_view poll.new) };
 }
 
 /// A dispatcher type that has a place for a ping with a callback `F`; what is held means the ping.

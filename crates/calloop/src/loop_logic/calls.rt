@@ -8,10 +8,11 @@ use calloop_core::sys::{Clock, Poller};
 use std::alloc::Global;
 use std::collections::VecDeque;
 use std::mem;
+use std::sync::Wait;
 
 impl<D: EventDispatcher<P, C>, P: Poller, C: Clock> EventLoop<D, P, C> {
     /// Carries out one call.
-    pub fn carry_out(&mut self, call: Call<D, P, D::Data>) -> Answer<D, P, D::Data>
+    pub fn carry_out<R: Wait>(&mut self, rt: &R, call: Call<D, P, D::Data>) -> Answer<D, P, D::Data>
         ensures { Did (Case D.means P.outside call result) (view_of self.old) (view_of self.new) }
     {
         match call {
@@ -19,7 +20,7 @@ impl<D: EventDispatcher<P, C>, P: Poller, C: Clock> EventLoop<D, P, C> {
             Call::Ring(token) => Answer::Rung(self.ring(token)),
             Call::Dispatch(timeout, data) => {
                 let mut data = data;
-                let answer = self.dispatch(timeout, &mut data);
+                let answer = self.dispatch(rt, timeout, &mut data);
                 Answer::Dispatched(answer, data)
             }
             Call::Poller(poller) => { Answer::Poller(mem::replace(self.poll.poller_mut(), poller)) }
@@ -28,8 +29,9 @@ impl<D: EventDispatcher<P, C>, P: Poller, C: Clock> EventLoop<D, P, C> {
 
     /// Carries out a list of calls in order. Where there is no memory for the answers, the calls are handed back and
     /// none is carried out.
-    pub fn carry_out_all(
+    pub fn carry_out_all<R: Wait>(
         &mut self,
+        rt: &R,
         alloc: Global,
         calls: VecDeque<Call<D, P, D::Data>>,
     ) -> Result<Vec<Answer<D, P, D::Data>>, VecDeque<Call<D, P, D::Data>>>
@@ -43,7 +45,7 @@ impl<D: EventDispatcher<P, C>, P: Poller, C: Clock> EventLoop<D, P, C> {
         };
         let mut calls = calls;
         while let Some(call) = calls.pop_front() {
-            let answer = self.carry_out(call);
+            let answer = self.carry_out(rt, call);
             answers.push_reserved(answer);
         }
         Ok(answers)

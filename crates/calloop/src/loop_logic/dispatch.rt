@@ -14,6 +14,7 @@ use calloop_core::sys::{Clock, Poller};
 use calloop_wake::error::Result;
 use calloop_wake::list::{Content, SourceList};
 use std::alloc::Global;
+use std::sync::Wait;
 use std::time::Duration;
 
 impl<D: EventDispatcher<P, C>, P: Poller, C: Clock> EventLoop<D, P, C> {
@@ -38,16 +39,17 @@ impl<D: EventDispatcher<P, C>, P: Poller, C: Clock> EventLoop<D, P, C> {
         LoopHandle { inner: self }
     }
 
-    /// Waits for events, at most for `timeout` and without one for ever, and gives each source its turn.
+    /// Waits for events, at most for `timeout`, without one until the first deadline, and for ever where there is none,
+    /// and gives each source its turn.
     ///
     /// Want of memory for the batch changes nothing. A fault of the wait is `IoError`, and leaves posted keys
     /// posted. The error of a turn ends the dispatch; the rest of the batch comes first in the next one.
-    pub fn dispatch(&mut self, timeout: Option<Duration>, data: &mut D::Data) -> Result<()>
+    pub fn dispatch<R: Wait>(&mut self, rt: &R, timeout: Option<Duration>, data: &mut D::Data) -> Result<()>
         ensures case { Did (Case D.means P.outside (Dispatch timeout «data».old) (Dispatched result «data».new)) (view_of self.old) (view_of self.new) }
         ensures machine { Leads (Case D.means P.outside (Dispatch timeout «data».old) (Dispatched result «data».new)) (view_of self.old) (view_of self.new) }
     {
         self.poll.reserve()?;
-        self.poll.poll(timeout)?;
+        self.poll.poll(rt, timeout)?;
         self.hand_out_all(data)
     }
 

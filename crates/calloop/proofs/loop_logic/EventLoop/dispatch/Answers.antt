@@ -1,7 +1,8 @@
 use Rattle.std.proofs.Common.{subst, Ok, Err}
 use Rattle.std.proofs.lemmas.Result.{err_from_is_err_and}
 use Rattle.calloop_core.specs.Pollers.{nanos_of}
-use Rattle.calloop_core.specs.Polls.{PollView, poll_view, Polled}
+use Rattle.calloop_core.specs.Polls.{PollView, poll_view}
+use Rattle.calloop_core.specs.Waits.{Polled}
 use Rattle.calloop.specs.Machine.{View, view_of}
 use Rattle.calloop.specs.Rules.{Waiting, Cutting, Leaving, DispatchedBy}
 use Rattle.calloop.proofs.Going.{dispatched, polled, not_polled, goes_on}

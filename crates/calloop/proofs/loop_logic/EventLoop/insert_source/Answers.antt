@@ -14,11 +14,11 @@ returns-in-Ok-register g c =
     rw (c.replace-was.ensures.list, c.slot.ensures, c.in-Ok.ensures.ok.1, c.hold-held.ensures)
     (registered g.D.EventDispatcher.means g.P.Poller.outside (view_of c.args.self.now) (g.D.Hold.held (record { source = c.args.source; callback = c.args.callback })) (g.D.Hold.held (record { source = c.register.new.self; callback = c.args.callback }))
     c.in-Ok.token c.register.new.factory (poll_view c.register.new.poll) c.in-Ok.ensures.ok.0 c.in-Ok.ensures.within.1
-    (held_reg g.D.Hold.held g.F.Callback.may g.D.EventDispatcher.means g.met.D.Hold.held_means c.args.source c.register.new.self c.args.callback _ _ _ _ _ (rw (c.new-factory.ensures, c.in-Ok-register.is) at c.register.ensures)))
+    (held_reg g.P.Poller.outside g.D.Hold.held g.F.Callback.may g.D.EventDispatcher.means g.met.D.Hold.held_means c.args.source c.register.new.self c.args.callback _ _ _ _ _ (rw (c.new-factory.ensures, c.in-Ok-register.is) at c.register.ensures)))
 
 pub returns-in-Err-register : goal.returns-in-Err-register
 returns-in-Err-register g c =
     rw c.in-Ok.ensures.ok.1
     (not_registered g.D.EventDispatcher.means g.P.Poller.outside (view_of c.args.self.now) (g.D.Hold.held (record { source = c.args.source; callback = c.args.callback })) (g.D.Hold.held (record { source = c.register.new.self; callback = c.args.callback })) c.in-Err-register.error
     c.in-Ok.token c.register.new.factory (poll_view c.register.new.poll) c.in-Ok.ensures.ok.0 c.in-Ok.ensures.within.1
-    (held_reg g.D.Hold.held g.F.Callback.may g.D.EventDispatcher.means g.met.D.Hold.held_means c.args.source c.register.new.self c.args.callback _ _ _ _ _ (rw (c.new-factory.ensures, c.in-Err-register.is) at c.register.ensures)))
+    (held_reg g.P.Poller.outside g.D.Hold.held g.F.Callback.may g.D.EventDispatcher.means g.met.D.Hold.held_means c.args.source c.register.new.self c.args.callback _ _ _ _ _ (rw (c.new-factory.ensures, c.in-Err-register.is) at c.register.ensures)))

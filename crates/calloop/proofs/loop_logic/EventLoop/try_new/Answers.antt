@@ -5,12 +5,12 @@ use Rattle.calloop.proofs.loop_logic.EventLoop.try_new.Goals as goal
 
 pub returns : goal.returns
 returns g c =
-    let new : PollView g.row.P.Denot = record { poller = c.args.poller; board = []; batch = []; passes = []; pass = None } in
+    let new : PollView g.row.P.Denot = record { poller = c.args.poller; board = []; deadlines = record { entries = []; next = 0 }; batch = []; passes = []; pass = None } in
     let polls : poll_view c.reserve.new.self ≡ new = c.in_ok-reserve.ensures.view ∙ c.new-poll.ensures in
     record {
       ok = (
         record { slots = []; poll = new; history = [] },
-        record { slots = refl; board = refl; batch = refl; passes = refl; pass = refl; history = refl },
+        record { slots = refl; board = refl; deadlines = refl; batch = refl; passes = refl; pass = refl; history = refl },
         refl,
         sym (ap (λ (s : List (Slot g.row.D.Denot)). record { slots = s; poll = poll_view c.reserve.new.self }) c.new.ensures ∙ ap (λ (p : PollView g.row.P.Denot). record { slots = []; poll = p }) polls),
       );

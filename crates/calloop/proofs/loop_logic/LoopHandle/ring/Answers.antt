@@ -4,4 +4,4 @@ use Rattle.calloop.proofs.Seen.{did_leads}
 use Rattle.calloop.proofs.loop_logic.LoopHandle.ring.Goals as goal
 
 pub returns-clause-machine : goal.returns-clause-machine
-returns-clause-machine g c = did_leads (Once (RungBy g.D.EventDispatcher.means c.args.token.now c.ring.result)) (view_of c.args.self.now.inner.now) (view_of c.ring.new.self) c.ring.ensures
+returns-clause-machine g c = did_leads (Once g.P.Poller.outside (RungBy g.D.EventDispatcher.means c.args.token.now c.ring.result)) (view_of c.args.self.now.inner.now) (view_of c.ring.new.self) c.ring.ensures
