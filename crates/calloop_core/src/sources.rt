@@ -37,7 +37,7 @@ pub trait IntoError: Drop {
 /// A source of events. Its meaning is said by relations between what it was before a call, what the call read of `Poll`,
 /// its answer, the steps that it made there, and what it is after it.
 pub trait EventSource<P: Poller, C> {
-    ghost use Rattle.std.specs.Prelude.{ℕ, List, Result};
+    ghost use Rattle.std.specs.Prelude.{ℕ, Bool, List, Result};
     ghost use Rattle.calloop_wake.specs.declared.error.Error.{Error};
     ghost use Rattle.calloop_wake.specs.declared.token.Token.{Token};
     ghost use Rattle.calloop_wake.specs.declared.token.TokenFactory.{TokenFactory};
@@ -66,6 +66,9 @@ pub trait EventSource<P: Poller, C> {
 
     ghost unreg: { Self → PollView P → Result (Unit {0}) Error → List (PollStep P) → Self → Type 0 };
 
+    /// A ring, and whether there is a ping.
+    ghost rung: { Self → Bool → List (PollStep P) → Self → Type 0 };
+
     ghost turn: { Self → Readiness → Token → PollView P → List (Call Self.Event Self.Metadata Self.Ret) → Result PostAction Self.Error → List (PollStep P) → Self → Type 0 };
 
     /// Its turn, for an event of this token. It calls back for each event that it finds.
@@ -89,10 +92,16 @@ pub trait EventSource<P: Poller, C> {
     fn unregister(&mut self, poll: &mut Poll<P, C>) -> LoopResult<()>
         ensures { (steps : List (PollStep P)) × unreg self.old (poll_view poll.old) result steps self.new × AllStepped P.outside (poll_view poll.old) steps (poll_view poll.new) };
 
+    /// Rings it where it is a ping, and says whether it is one.
+    fn ring(&mut self, poll: &mut Poll<P, C>) -> bool
+        ensures { (steps : List (PollStep P)) × rung self.old result steps self.new × AllStepped P.outside (poll_view poll.old) steps (poll_view poll.new) };
+
     /// It leaves the counters of others alone, and calls once for each arming of its own.
     ghost reg_keeps: { (s t : Self) (v : PollView P) (f g : TokenFactory) (a : Result (Unit {0}) Error) (l : List (PollStep P)) → reg s v f a l t g → Keeps (holds s) v.deadlines.next l (holds t) };
 
     ghost unreg_keeps: { (s t : Self) (v : PollView P) (a : Result (Unit {0}) Error) (l : List (PollStep P)) → unreg s v a l t → Keeps (holds s) v.deadlines.next l (holds t) };
+
+    ghost ring_keeps: { (s t : Self) (v : PollView P) (b : Bool) (l : List (PollStep P)) → rung s b l t → Keeps (holds s) v.deadlines.next l (holds t) };
 
     ghost turn_keeps: { (s t : Self) (r : Readiness) (k : Token) (v : PollView P) (cs : List (Call Self.Event Self.Metadata Self.Ret)) (a : Result PostAction Self.Error) (l : List (PollStep P)) → turn s r k v cs a l t → Keeps (holds s) v.deadlines.next l (holds t) };
 }
@@ -102,4 +111,89 @@ pub trait EventSource<P: Poller, C> {
 pub struct Dispatcher<S, F> {
     pub source: S,
     pub callback: F,
+}
+
+/// What a loop calls: a source with its callback, or an enum of such. `X` is the data that a dispatch lends.
+pub trait Dispatch<P: Poller, C, X> {
+    ghost use Rattle.std.specs.Prelude.{List};
+    ghost use Rattle.calloop_core.specs.Polls.{PollStep, poll_view, AllStepped};
+    ghost use Rattle.calloop_core.specs.Meanings.{Meaning, IsKeeping};
+
+    ghost means: { Meaning Self P X };
+
+    /// Registers the source with tokens of the factory.
+    fn register(&mut self, poll: &mut Poll<P, C>, factory: &mut TokenFactory) -> LoopResult<()>
+        ensures { (steps : List (PollStep P)) × means.reg self.old (poll_view poll.old) factory.old result steps self.new factory.new × AllStepped P.outside (poll_view poll.old) steps (poll_view poll.new) };
+
+    /// Takes its registration back.
+    fn unregister(&mut self, poll: &mut Poll<P, C>) -> LoopResult<()>
+        ensures { (steps : List (PollStep P)) × means.unreg self.old (poll_view poll.old) result steps self.new × AllStepped P.outside (poll_view poll.old) steps (poll_view poll.new) };
+
+    /// Rings the source where it is a ping, and says whether it is one.
+    fn ring(&mut self, poll: &mut Poll<P, C>) -> bool
+        ensures { (steps : List (PollStep P)) × means.ring self.old result steps self.new × AllStepped P.outside (poll_view poll.old) steps (poll_view poll.new) };
+
+    /// A turn of the source, for an event of this token.
+    fn process_events(
+        &mut self,
+        readiness: Readiness,
+        token: Token,
+        poll: &mut Poll<P, C>,
+        data: &mut X,
+    ) -> LoopResult<PostAction>
+        ensures { (steps : List (PollStep P)) × means.turn self.old readiness token (poll_view poll.old) «data».old result steps self.new «data».new × AllStepped P.outside (poll_view poll.old) steps (poll_view poll.new) };
+
+    ghost keeps: { IsKeeping means };
+}
+
+impl<P: Poller, C, X, S, F> Dispatch<P, C, X> for Dispatcher<S, F>
+where
+    S: EventSource<P, C>,
+    F: Callback<S::Event, S::Metadata, S::Ret, X>,
+{
+    ghost use Rattle.std.specs.Prelude.{◌≡◌};
+    ghost use Rattle.calloop_core.specs.Meanings.{IsDispatched, IsKeeping};
+
+    ghost means = { record {
+      holds = λ s. S.holds s.source;
+      reg = λ s v f a l t g. S.reg s.source v f a l t.source g × (t.callback ≡ s.callback);
+      unreg = λ s v a l t. S.unreg s.source v a l t.source × (t.callback ≡ s.callback);
+      ring = λ s b l t. S.rung s.source b l t.source × (t.callback ≡ s.callback);
+      turn = IsDispatched S.turn F.may S.Error.becomes;
+    } };
+
+    fn register(&mut self, poll: &mut Poll<P, C>, factory: &mut TokenFactory) -> LoopResult<()> {
+        self.source.register(poll, factory)
+    }
+
+    fn unregister(&mut self, poll: &mut Poll<P, C>) -> LoopResult<()> {
+        self.source.unregister(poll)
+    }
+
+    fn ring(&mut self, poll: &mut Poll<P, C>) -> bool {
+        self.source.ring(poll)
+    }
+
+    fn process_events(
+        &mut self,
+        readiness: Readiness,
+        token: Token,
+        poll: &mut Poll<P, C>,
+        data: &mut X,
+    ) -> LoopResult<PostAction> {
+        match self
+            .source
+            .process_events(readiness, token, poll, &mut self.callback, data)
+        {
+            Ok(action) => Ok(action),
+            Err(cause) => Err(cause.into_error()),
+        }
+    }
+
+    ghost keeps = { record {
+      reg = λ s t v f g a l h. S.reg_keeps s.source t.source v f g a l h.0;
+      unreg = λ s t v a l h. S.unreg_keeps s.source t.source v a l h.0;
+      ring = λ s t v b l h. S.ring_keeps s.source t.source v b l h.0;
+      turn = λ s t r k v x y a l h. S.turn_keeps s.source t.source r k v h.calls h.inner l h.turned;
+    } };
 }
