@@ -3,6 +3,8 @@ pub mod Polls
 pub mod Calls
 pub mod Holdings
 pub mod Meanings
+pub mod Timers
+pub mod Keeping
 pub mod Waits
 pub mod Scripts
 pub mod Lending

@@ -3,5 +3,6 @@
 
 pub mod sources;
 pub mod sys;
+pub mod timer;
 #[cfg(test)]
 mod tests;

@@ -2,11 +2,17 @@
 -- in the order in which they come due, and what a heap leaves open (which of one deadline comes first) is decided.
 use Rattle.std.specs.Prelude.{◌≡◌, ◌≢◌, ◌⊎◌, ℕ, ◌+◌, ◌-◌, ◌^◌, ◌<◌, ◌≤◌, ◌&&◌, ◌||◌, ◌∷◌, [], List, Bool, true, not, filter, nat_eq, nat_lt, nat_le, if◌then◌else◌, Option, None, Some}
 use Rattle.std.specs.List.{list_any}
+use Rattle.std.specs.Duration.{as_nanos}
+use Rattle.std.specs.declared.time.Duration.{Duration}
 use Rattle.calloop_wake.specs.declared.error.Error.{Error}
 use Rattle.calloop_wake.specs.declared.error.Error.TheVariants.{InvalidToken, OutOfMemory, TooManyTimers}
 use Rattle.calloop_wake.specs.declared.token.Token.{Token}
 use Rattle.calloop_wake.specs.declared.wheel.Entry.{Entry}
 use Rattle.calloop_wake.specs.declared.wheel.Instant.{Instant}
+
+-- the moment that is so much later, where it fits 64 bits of nanoseconds
+abbrev pub moment_after : Instant → Duration → Option Instant
+moment_after moment time = if nat_lt (moment.nanos + as_nanos time) (2 ^ 64) then Some (record { nanos = moment.nanos + as_nanos time }) else None
 
 -- the entries in their order, and the counter that the next new one gets
 pub record Deadlines : Type 0 where
@@ -100,8 +106,8 @@ pub record IsOrdered (d : Deadlines) : Type 0 where
   pub below : AllBelow d.next d.entries
 
 -- why no deadline can be armed: no counter is left, or there is no memory
-abbrev pub CannotArm : Deadlines → Error → Type 0
-CannotArm d e = ((d.next ≡ 2 ^ 64 - 1) × (e ≡ TooManyTimers)) ⊎ ((d.next < 2 ^ 64 - 1) × (e ≡ OutOfMemory))
+abbrev pub CannotArm : (next : ℕ) → Error → Type 0
+CannotArm next e = ((next ≡ 2 ^ 64 - 1) × (e ≡ TooManyTimers)) ⊎ ((next < 2 ^ 64 - 1) × (e ≡ OutOfMemory))
 
 -- why a counter can't be armed again: this wheel never gave it, or there is no memory
 abbrev pub CannotArmAgain : (counter : ℕ) → Deadlines → Error → Type 0

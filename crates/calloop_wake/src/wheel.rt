@@ -2,7 +2,7 @@
 ghost use Rattle.std.specs.Prelude.{◌≡◌, ◌↔◌, ◌+◌, ◌-◌, ◌^◌, ◌≤◌, ◌<◌, min, [], false, true, length, IfOk, IfErr, OnOk, OnErr, IsErrOf};
 ghost use Rattle.std.specs.Duration.{as_nanos};
 ghost use Rattle.std.specs.List.{insert};
-ghost use Rattle.calloop_wake.specs.Deadlines.{is_before, inserted, has_counter, without_counter, with_new, with_again, cancelled, is_armed, first_deadline, first_due, after_first_due, with_entries, IsOrdered, CannotArm, CannotArmAgain};
+ghost use Rattle.calloop_wake.specs.Deadlines.{moment_after, is_before, inserted, has_counter, without_counter, with_new, with_again, cancelled, is_armed, first_deadline, first_due, after_first_due, with_entries, IsOrdered, CannotArm, CannotArmAgain};
 ghost use Rattle.calloop_wake.specs.declared.error.Error.TheVariants.{OutOfMemory, TooManyTimers};
 
 use crate::error::{Error, Result};
@@ -29,6 +29,15 @@ impl Instant {
         Instant {
             nanos: self.nanos.saturating_add(nanos as u64),
         }
+    }
+
+    /// The moment that is so much later, or none past 2^64 - 1 nanoseconds.
+    pub fn checked_add(self, time: Duration) -> Option<Instant>
+        ensures { result ≡ moment_after self time }
+    {
+        let nanos = u64::try_from(time.as_nanos()).ok()?;
+        let nanos = self.nanos.checked_add(nanos)?;
+        Some(Instant { nanos })
     }
 }
 
@@ -143,7 +152,7 @@ impl Wheel {
     pub fn insert(&mut self, deadline: Instant, token: Token) -> Result<u64>
         ensures ok { IfOk result (λ c. (c ≡ self.old.next) × (self.new ≡ with_new deadline token self.old)) }
         ensures full { IsErrOf result TooManyTimers ↔ (self.old.next ≡ 2 ^ 64 - 1) }
-        ensures err { IfErr result (λ e. CannotArm self.old e × (self.new ≡ self.old)) }
+        ensures err { IfErr result (λ e. CannotArm self.old.next e × (self.new ≡ self.old)) }
     {
         let counter = self.counter;
         if counter == u64::MAX {

@@ -14,7 +14,7 @@ impl<P: Poller, C> Poll<P, C> {
     /// nothing.
     pub fn insert_timer(&mut self, deadline: Instant, token: Token) -> Result<u64>
         ensures ok { IfOk result (λ counter. (counter ≡ (poll_view self.old).deadlines.next) × (poll_view self.new ≡ poll_after (poll_view self.old) (Arm deadline token))) }
-        ensures err { IfErr result (λ e. CannotArm (poll_view self.old).deadlines e × (poll_view self.new ≡ poll_view self.old)) }
+        ensures err { IfErr result (λ e. CannotArm (poll_view self.old).deadlines.next e × (poll_view self.new ≡ poll_view self.old)) }
     {
         self.wheel.insert(deadline, token)
     }

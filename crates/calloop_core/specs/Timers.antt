@@ -1,0 +1,112 @@
+-- A timer as a source: its registration and its turn. As calloop's, but the deadline that is handed out is the armed one,
+-- an arming is called for once, and an older arming is taken back.
+use Rattle.std.specs.Prelude.{◌≡◌, ◌⊎◌, ℕ, ◌++◌, ◌∷◌, [], List, nat_eq, if◌then◌else◌, Bool, true, false, Option, None, Some, Result, Ok, Err}
+use Rattle.calloop_wake.specs.declared.error.Error.{Error}
+use Rattle.calloop_wake.specs.declared.error.Error.TheVariants.{OutOfMemory, TooManyTokens, TooManyTimers}
+use Rattle.calloop_wake.specs.declared.token.Token.{Token}
+use Rattle.calloop_wake.specs.declared.token.TokenFactory.{TokenFactory}
+use Rattle.calloop_wake.specs.declared.wheel.Instant.{Instant}
+use Rattle.calloop_wake.specs.Deadlines.{is_armed, moment_after, CannotArm}
+use Rattle.calloop_wake.specs.Tokens.{next_token, after_token}
+use Rattle.calloop_core.specs.declared.sources.PostAction.{PostAction}
+use Rattle.calloop_core.specs.declared.sources.PostAction.TheVariants.{Continue, Remove}
+use Rattle.calloop_core.specs.declared.timer.TimeoutAction.{TimeoutAction}
+use Rattle.calloop_core.specs.declared.timer.TimeoutAction.TheVariants.{Drop, ToInstant, ToDuration}
+use Rattle.calloop_core.specs.declared.timer.TimerError.{TimerError}
+use Rattle.calloop_core.specs.declared.timer.Timer.{Timer}
+use Rattle.calloop_core.specs.declared.timer.Registration.{Registration}
+use Rattle.calloop_core.specs.Calls.{Call as OneCall}
+use Rattle.calloop_core.specs.Holdings.{Hold, Free, Spent, Standing}
+use Rattle.calloop_core.specs.Polls.{PollView, PollStep, Arm, ArmAgain, Cancel, Call, ReadClock}
+
+-- a timer without a registration
+abbrev pub unarmed : (deadline : Option Instant) → Timer
+unarmed deadline = record { registration = None; deadline = deadline }
+
+abbrev pub registered_as : Registration → (deadline : Option Instant) → Timer
+registered_as r deadline = record { registration = Some r; deadline = deadline }
+
+-- its arming was called for
+abbrev pub spent : Registration → Registration
+spent r = record r { spent = true }
+
+-- armed again under the same counter
+abbrev pub armed_for : (deadline : Instant) → Registration → Registration
+armed_for deadline r = record r { armed = deadline; spent = false }
+
+-- the counter that a timer holds
+abbrev pub held_as : Option Registration → ℕ → Hold
+held_as None counter = Free
+held_as (Some r) counter = if nat_eq counter r.counter then (if r.spent then Spent else Standing) else Free
+
+abbrev pub timer_holds : Timer → ℕ → Hold
+timer_holds t = held_as t.registration
+
+-- what takes the older arming back
+abbrev pub releases : {P : Type 0} → Option Registration → List (PollStep P)
+releases None = []
+releases (Some r) = Cancel r.counter ∷ []
+
+-- why a timer can't be armed: the factory has no more tokens, or the wheel refuses
+abbrev pub RefusedTimer : TokenFactory → (next : ℕ) → Error → TokenFactory → Type 0
+RefusedTimer f next e g = ((e ≡ TooManyTokens) × (f.given ≡ 65535) × (g ≡ f)) ⊎ (CannotArm next e × (g ≡ after_token f))
+
+-- armed for its deadline under the next counter, where it has one
+abbrev pub Armed : {P : Type 0} → (deadline : Option Instant) → (next : ℕ) → TokenFactory → Result (Unit {0}) Error → List (PollStep P) → Timer → TokenFactory → Type 0
+Armed None next f answer steps t g = (answer ≡ Ok tt) × (steps ≡ []) × (t ≡ unarmed None) × (g ≡ f)
+Armed (Some at) next f (Ok u) steps t g =
+    (steps ≡ Arm at (next_token f) ∷ []) × (t ≡ registered_as (record { token = next_token f; counter = next; armed = at; spent = false }) (Some at)) × (g ≡ after_token f)
+Armed (Some at) next f (Err e) steps t g = (steps ≡ []) × (t ≡ unarmed (Some at)) × RefusedTimer f next e g
+
+-- the older arming is taken back, then it is armed
+abbrev pub IsTimerReg : {P : Type 0} → Timer → PollView P → TokenFactory → Result (Unit {0}) Error → List (PollStep P) → Timer → TokenFactory → Type 0
+IsTimerReg {P} s v f answer steps t g = (more : List (PollStep P)) × (steps ≡ releases s.registration ++ more) × Armed s.deadline v.deadlines.next f answer more t g
+
+abbrev pub IsTimerUnreg : {P : Type 0} → Timer → Result (Unit {0}) Error → List (PollStep P) → Timer → Type 0
+IsTimerUnreg s answer steps t = (answer ≡ Ok tt) × (steps ≡ releases s.registration) × (t ≡ unarmed s.deadline)
+
+-- armed again under its counter, or refused for memory: then it is unarmed, with the asked deadline
+abbrev pub ArmedAgain : {P : Type 0} → Registration → (deadline : Instant) → Result PostAction TimerError → List (PollStep P) → Timer → Type 0
+ArmedAgain r at (Ok action) steps t = (action ≡ Continue) × (steps ≡ ArmAgain r.counter at r.token ∷ []) × (t ≡ registered_as (armed_for at r) (Some at))
+ArmedAgain r at (Err e) steps t = (steps ≡ []) × (t ≡ unarmed (Some at))
+
+-- armed again for this moment, or removed without a deadline where there is none
+abbrev pub ArmedFor : {P : Type 0} → Registration → (moment : Option Instant) → Result PostAction TimerError → List (PollStep P) → Timer → Type 0
+ArmedFor r (Some at) answer steps t = ArmedAgain r at answer steps t
+ArmedFor r None answer steps t = (answer ≡ Ok Remove) × (steps ≡ []) × (t ≡ registered_as (spent r) None)
+
+-- what follows from the answer of a call
+abbrev pub Answered : {P : Type 0} → Timer → Registration → TimeoutAction → Result PostAction TimerError → List (PollStep P) → Timer → Type 0
+Answered s r Drop answer steps t = (answer ≡ Ok Remove) × (steps ≡ []) × (t ≡ registered_as (spent r) s.deadline)
+Answered s r (ToInstant at) answer steps t = ArmedAgain r at answer steps t
+Answered {P} s r (ToDuration time) answer steps t =
+    (now : Instant) × (after : P) × (more : List (PollStep P)) × (steps ≡ ReadClock now.nanos after ∷ more) × ArmedFor r (moment_after now time) answer more t
+
+-- one call, with the armed deadline, and what follows from its answer
+pub record IsCalled {P : Type 0} (s : Timer) (token : Token) (v : PollView P) (calls : List (OneCall Instant (Unit {0}) TimeoutAction))
+    (answer : Result PostAction TimerError) (steps : List (PollStep P)) (t : Timer) (r : Registration) : Type 0 where
+  pub registered : s.registration ≡ Some r
+  pub named : r.token ≡ token
+  pub unspent : r.spent ≡ false
+  pub unarmed : is_armed r.counter v.deadlines ≡ false
+  pub action : TimeoutAction
+  pub called : calls ≡ record { event = r.armed; before = tt; after = tt; answer = action } ∷ []
+  pub more : List (PollStep P)
+  pub steps_are : steps ≡ Call r.counter ∷ more
+  pub answered : Answered s r action answer more t
+
+-- no call: the token isn't the timer's, its arming was called for, or its counter has a deadline
+pub record IsIgnored {P : Type 0} (s : Timer) (token : Token) (v : PollView P) (calls : List (OneCall Instant (Unit {0}) TimeoutAction))
+    (answer : Result PostAction TimerError) (steps : List (PollStep P)) (t : Timer) : Type 0 where
+  pub why : (r : Registration) → s.registration ≡ Some r → r.token ≡ token → r.spent ≡ false → is_armed r.counter v.deadlines ≡ true
+  pub called : calls ≡ []
+  pub answered : answer ≡ Ok Continue
+  pub no_steps : steps ≡ []
+  pub same : t ≡ s
+
+abbrev pub IsTimerTurn : {P : Type 0} → Timer → Token → PollView P → List (OneCall Instant (Unit {0}) TimeoutAction) → Result PostAction TimerError → List (PollStep P) → Timer → Type 0
+IsTimerTurn s token v calls answer steps t = ((r : Registration) × IsCalled s token v calls answer steps t r) ⊎ IsIgnored s token v calls answer steps t
+
+-- a timer is no ping
+abbrev pub IsNoPing : {P : Type 0} → Timer → (is_ping : Bool) → List (PollStep P) → Timer → Type 0
+IsNoPing s is_ping steps t = (is_ping ≡ false) × (steps ≡ []) × (t ≡ s)
