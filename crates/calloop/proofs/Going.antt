@@ -4,17 +4,20 @@ use Rattle.calloop_wake.specs.declared.error.Error.{Error}
 use Rattle.calloop_wake.specs.declared.error.Error.TheVariants.{OutOfMemory}
 use Rattle.calloop_wake.specs.declared.list.Content.{Content}
 use Rattle.calloop_wake.specs.declared.list.Content.TheVariants.{Vacant, Source, InTurn}
+use Rattle.calloop_wake.specs.declared.token.Token.{Token}
 use Rattle.calloop_wake.specs.Tokens.{registration_of}
 use Rattle.calloop_wake.specs.Slots.{changed, with_content, named, source_of}
 use Rattle.calloop_wake.proofs.Named.{source_is}
 use Rattle.calloop_wake.specs.Boards.{taken_keys}
 use Rattle.calloop_core.specs.declared.sys.poll.Pending.{Pending}
+use Rattle.calloop_core.specs.declared.sources.PostAction.{PostAction}
+use Rattle.calloop_core.specs.declared.sources.PostAction.TheVariants.{Continue, Remove}
 use Rattle.calloop_core.specs.Pollers.{Outside}
 use Rattle.calloop_core.specs.Waits.{Polled}
 use Rattle.calloop_core.specs.Polls.{PollView, PollStep, AllStepped, polling, with_pass, cut, cut_from, begun, tail_of, head_of, poll_after, polls_after, OpenPlace, ClosePlace, Post, TakePass, PutBack, Arm, ArmAgain, Cancel, Call, ReadClock}
-use Rattle.calloop.specs.Meanings.{Meaning}
+use Rattle.calloop_core.specs.Meanings.{Meaning}
 use Rattle.calloop.specs.Machine.{View, Change, Put, Polls, Polling, Gathered, Cut, Ended, all_viewed, AllFit}
-use Rattle.calloop.specs.Rules.{Goes, Steps, Step, Doing, Waiting, Gathering, Cutting, Ending, Leaving, traced, after_turn, CutTo, CutFrom, DispatchedBy, Did, after_hand_out, handed_out}
+use Rattle.calloop.specs.Rules.{Goes, Steps, Step, Doing, Waiting, Gathering, Cutting, Ending, Leaving, traced, EndedBy, CutTo, CutFrom, DispatchedBy, Did, after_hand_out}
 
 traced-append : {D P : Type 0} (v : View D P) (css dss : List (List (Change D P))) → traced v (css ++ dss) ≡ traced (traced v css) dss
 traced-append v [] dss = refl
@@ -118,34 +121,37 @@ module _ {D P X : Type 0} (M : Meaning D P X) (O : Outside P) where
       goes_by (Cutting x) (Cutting x) (Cut None ∷ Ended ∷ []) v (record v { poll = with_pass None (cut v.poll) })
       (from_cons v.poll.batch f.0 e v x (Cut None ∷ Ended ∷ []) (Cutting x) f.1 (none_named e v x (named v.slots (registration_of e.token)) none)) (tt, (tt, tt)) refl
 
-  -- an event whose token names a source: its turn, and the end of it
-  pub whole_turn : (e : Pending) (v : View D P) (d d' : D) (answer : Result (Unit {0}) Error) (p' : PollView P) (x x' : X) → Some e ≡ head_of v.poll.batch → named v.slots (registration_of e.token) ≡ Source d
-      → (u : (steps : List (PollStep P)) × M.turn d e.readiness e.token (cut v.poll) x answer steps d' x' × AllStepped O (cut v.poll) steps p')
-      → Goes M O (Cutting x) (after_turn answer x') v (record { slots = changed (with_content (Source d')) (changed (with_content InTurn) v.slots e.token.slot) e.token.slot; poll = with_pass None p' })
-  whole_turn e v d d' answer p' x x' first full u =
+  -- an event whose token names a source has its turn
+  pub turned : (e : Pending) (v : View D P) (d d' : D) (answer : Result PostAction Error) (q p' : PollView P) (x x' : X) → Some e ≡ head_of v.poll.batch → Some d ≡ source_of (named v.slots (registration_of e.token)) → q ≡ cut v.poll
+      → (u : (steps : List (PollStep P)) × M.turn d e.readiness e.token q x answer steps d' x' × AllStepped O q steps p')
+      → Goes M O (Cutting x) (Ending e.token d' answer x') v (record { slots = changed (with_content InTurn) v.slots e.token.slot; poll = p' })
+  turned e v d d' answer q p' x x' first named_as is u =
       let f = cons_of_head v.poll.batch e first in
+      let full = source_is (named v.slots (registration_of e.token)) d (sym named_as) in
+      let t = subst (λ (r : PollView P). (steps : List (PollStep P)) × M.turn d e.readiness e.token r x answer steps d' x' × AllStepped O r steps p') is u in
       let mid : View D P = record { slots = changed (with_content InTurn) v.slots e.token.slot; poll = p' } in
       let a : Doing D X = Ending e.token d' answer x' in
-      let end : View D P = record { slots = changed (with_content (Source d')) (changed (with_content InTurn) v.slots e.token.slot) e.token.slot; poll = with_pass None p' } in
-      goes_on (Cutting x) a (after_turn answer x') v mid end
-      (goes_by (Cutting x) a (Cut (Some e.token.slot) ∷ Put e.token.slot InTurn ∷ Polls u.0 ∷ []) v mid
-      (from_cons v.poll.batch f.0 e v x (Cut (Some e.token.slot) ∷ Put e.token.slot InTurn ∷ Polls u.0 ∷ []) a f.1 (rw full (d', answer, u.0, x', u.1, refl, refl))) (tt, (tt, (u.2.0, tt)))
-      (ap (λ (q : PollView P). record { slots = changed (with_content InTurn) v.slots e.token.slot; poll = q }) u.2.1))
-      (goes_by a (after_turn answer x') (Ended ∷ Put e.token.slot (Source d') ∷ []) mid end (refl, refl) (tt, (tt, tt)) refl)
+      goes_by (Cutting x) a (Cut (Some e.token.slot) ∷ Put e.token.slot InTurn ∷ Polls t.0 ∷ []) v mid
+      (from_cons v.poll.batch f.0 e v x (Cut (Some e.token.slot) ∷ Put e.token.slot InTurn ∷ Polls t.0 ∷ []) a f.1 (rw full (d', answer, t.0, x', t.1, refl, refl))) (tt, (tt, (t.2.0, tt)))
+      (ap (λ (q : PollView P). record { slots = changed (with_content InTurn) v.slots e.token.slot; poll = q }) t.2.1)
+
+  -- the source goes back to its slot
+  pub stays : (token : Token) (v : View D P) (d : D) (answer : Result PostAction Error) (b : Doing D X) (x : X) → EndedBy M token d answer v x (Ended ∷ Put token.slot (Source d) ∷ []) b
+      → Goes M O (Ending token d answer x) b v (record { slots = changed (with_content (Source d)) v.slots token.slot; poll = with_pass None v.poll })
+  stays token v d answer b x h =
+      goes_by (Ending token d answer x) b (Ended ∷ Put token.slot (Source d) ∷ []) v (record { slots = changed (with_content (Source d)) v.slots token.slot; poll = with_pass None v.poll }) h (tt, (tt, tt)) refl
+
+  -- it leaves the loop
+  pub leaves : (token : Token) (v : View D P) (d d' : D) (answer : Result (Unit {0}) Error) (p p' : PollView P) (x : X) → p ≡ with_pass None v.poll
+      → (u : (steps : List (PollStep P)) × M.unreg d p answer steps d' × AllStepped O p steps p')
+      → Goes M O (Ending token d (Ok Remove) x) (Cutting x) v (record { slots = changed (with_content Vacant) v.slots token.slot; poll = p' })
+  leaves token v d d' answer p p' x is u =
+      let t = subst (λ (r : PollView P). (steps : List (PollStep P)) × M.unreg d r answer steps d' × AllStepped O r steps p') is u in
+      goes_by (Ending token d (Ok Remove) x) (Cutting x) (Ended ∷ Put token.slot Vacant ∷ Polls t.0 ∷ []) v (record { slots = changed (with_content Vacant) v.slots token.slot; poll = p' }) (d', answer, t.0, t.1, refl, refl) (tt, (tt, (t.2.0, tt)))
+      (ap (λ (q : PollView P). record { slots = changed (with_content Vacant) v.slots token.slot; poll = q }) t.2.1)
 
   pub dispatched : (v u : View D P) (timeout : Option ℕ) (x x' : X) (answer : Result (Unit {0}) Error) → Goes M O (Waiting timeout x) (Leaving answer x') v u → Did (DispatchedBy M O timeout x answer x') v u
   dispatched v u timeout x x' answer h = (h.0, inr h.1, h.2)
 
   pub refused : (v : View D P) (timeout : Option ℕ) (x : X) (e : Error) → e ≡ OutOfMemory → Did (DispatchedBy M O timeout x (Err e) x) v v
   refused v timeout x e is = ([], inl (ap (λ (r : Error). Err r) is, refl, refl), refl)
-
-  after_handed : (answer : Result (Unit {0}) Error) (x : X) → ◌≡◌ {A = Doing D X} (after_turn answer x) (after_hand_out (handed_out answer) x)
-  after_handed (Ok u) x = refl
-  after_handed (Err e) x = refl
-
-  pub whole_hand_out : (e : Pending) (v : View D P) (d d' : D) (answer : Result (Unit {0}) Error) (q p' : PollView P) (x x' : X) → Some e ≡ head_of v.poll.batch → Some d ≡ source_of (named v.slots (registration_of e.token)) → q ≡ cut v.poll
-      → (u : (steps : List (PollStep P)) × M.turn d e.readiness e.token q x answer steps d' x' × AllStepped O q steps p')
-      → Goes M O (Cutting x) (after_hand_out (handed_out answer) x') v (record { slots = changed (with_content (Source d')) (changed (with_content InTurn) v.slots e.token.slot) e.token.slot; poll = with_pass None p' })
-  whole_hand_out e v d d' answer q p' x x' first named_as is u =
-      subst (λ (b : Doing D X). Goes M O (Cutting x) b v (record { slots = changed (with_content (Source d')) (changed (with_content InTurn) v.slots e.token.slot) e.token.slot; poll = with_pass None p' })) (after_handed answer x')
-      (whole_turn e v d d' answer p' x x' first (source_is (named v.slots (registration_of e.token)) d (sym named_as)) (subst (λ (r : PollView P). (steps : List (PollStep P)) × M.turn d e.readiness e.token r x answer steps d' x' × AllStepped O r steps p') is u))

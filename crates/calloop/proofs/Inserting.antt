@@ -11,7 +11,7 @@ use Rattle.calloop_core.specs.Polls.{PollView, PollStep, AllStepped}
 use Rattle.calloop_core.specs.Pollers.{Outside}
 use Rattle.calloop.specs.declared.loop_logic.Call.TheVariants.{Insert, Ring}
 use Rattle.calloop.specs.declared.loop_logic.Answer.TheVariants.{Inserted, Rung}
-use Rattle.calloop.specs.Meanings.{Meaning}
+use Rattle.calloop_core.specs.Meanings.{Meaning}
 use Rattle.calloop.specs.Machine.{View, Change, Put, Claim, Polls, AllFit, all_viewed}
 use Rattle.calloop.specs.Rules.{Did, Case, Once, InsertedBy, RungBy, RungIn, factory_of, ring_answer}
 

@@ -11,12 +11,13 @@ use Rattle.calloop_wake.specs.declared.list.Content.TheVariants.{Vacant, Source,
 use Rattle.calloop_wake.specs.Tokens.{registration_of}
 use Rattle.calloop_wake.specs.Slots.{named, content_under}
 use Rattle.calloop_core.specs.declared.sys.poll.Pending.{Pending}
+use Rattle.calloop_core.specs.declared.sources.PostAction.TheVariants.{Continue, Remove}
 use Rattle.calloop_core.specs.Pollers.{Outside}
 use Rattle.calloop.specs.declared.loop_logic.Call.{Call}
 use Rattle.calloop.specs.declared.loop_logic.Call.TheVariants.{Insert, Ring, Dispatch, Poller as NewPoller}
 use Rattle.calloop.specs.declared.loop_logic.Answer.{Answer}
 use Rattle.calloop.specs.declared.loop_logic.Answer.TheVariants.{Inserted, Rung, Dispatched, Poller as OldPoller}
-use Rattle.calloop.specs.Meanings.{Meaning}
+use Rattle.calloop_core.specs.Meanings.{Meaning}
 use Rattle.calloop.specs.Machine.{World, View, Registration, Change, seen, slot_of, done, all_done}
 use Rattle.calloop.specs.Rules.{Doing, Waiting, Gathering, Cutting, Ending, Leaving, Step, Steps, CutTo, CutFrom, Case, Run, InsertedBy, RungIn, all_traced}
 use Rattle.calloop.specs.Laws.{IsSource, AllRight, joined, changes_of}
@@ -50,7 +51,9 @@ module _ {D P X : Type 0} (M : Meaning D P X) (O : Outside P) where
   step_right w (Waiting timeout x) b cs h = rw h.4 (tt, tt)
   step_right w (Gathering now given x) b cs h = rw h.1 (tt, tt)
   step_right w (Cutting x) b cs h = from_right w w.poll.batch x cs b refl h
-  step_right w (Ending token d answer x) b cs h = rw h.0 (tt, (tt, tt))
+  step_right w (Ending token d (Ok Continue) x) b cs h = rw h.0 (tt, (tt, tt))
+  step_right w (Ending token d (Ok Remove) x) b cs h = rw h.4 (tt, (tt, (tt, tt)))
+  step_right w (Ending token d (Err e) x) b cs h = rw h.0 (tt, (tt, tt))
   step_right w (Leaving answer x) b cs h = absurd h
 
   pub right-append : (w : World D P) (cs ds : List (Change D P)) → AllRight w cs → AllRight (all_done w cs) ds → AllRight w (cs ++ ds)

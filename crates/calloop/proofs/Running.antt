@@ -3,7 +3,7 @@ use Rattle.std.proofs.Common.{List, [], ◌∷◌, refl}
 use Rattle.calloop_core.specs.Pollers.{Outside}
 use Rattle.calloop.specs.declared.loop_logic.Call.{Call}
 use Rattle.calloop.specs.declared.loop_logic.Answer.{Answer}
-use Rattle.calloop.specs.Meanings.{Meaning}
+use Rattle.calloop_core.specs.Meanings.{Meaning}
 use Rattle.calloop.specs.Machine.{View}
 use Rattle.calloop.specs.Rules.{Case, Did, RunLeads, all_traced}
 use Rattle.calloop.proofs.Seen.{did_leads}

@@ -1,7 +1,6 @@
 pub mod Pings
-pub mod Meanings
+pub mod Quiet
 pub mod Machine
 pub mod Rules
 pub mod Laws
-pub mod Holding
 pub mod Lending

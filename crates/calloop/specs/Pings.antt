@@ -1,7 +1,7 @@
 -- A ping as a source: its registration, a ring, and its turn. calloop's ping is a file that is written and read;
 -- here it is a cell and a place on the board, and what it does to `Poll` is a list of steps.
 use Rattle.std.specs.Prelude.{◌≡◌, List, [], ◌∷◌, ◌++◌, Bool, true, false, nat_eq, Option, Some, None, IsSome, Result, Ok, Err}
-use Rattle.std.specs.declared.io.ErrorKind.TheVariants.{AlreadyExists}
+use Rattle.std.specs.declared.io.ErrorKind.TheVariants.{AlreadyExists, NotFound}
 use Rattle.calloop_wake.specs.declared.error.Error.{Error}
 use Rattle.calloop_wake.specs.declared.error.Error.TheVariants.{TooManyTokens}
 use Rattle.calloop_wake.specs.declared.token.Token.{Token}
@@ -10,8 +10,12 @@ use Rattle.calloop_wake.specs.declared.wake.board.Place.{Place}
 use Rattle.calloop_wake.specs.declared.wake.ping.OpenedTurn.{OpenedTurn}
 use Rattle.calloop_wake.specs.Tokens.{key_of, next_token, after_token}
 use Rattle.calloop_wake.specs.Passes.{Taken}
-use Rattle.calloop_wake.specs.Cells.{Cell, owed, owed_at, after_ring, after_set_key, after_open_turn, after_end_turn, turn_of}
+use Rattle.calloop_wake.specs.Cells.{Cell, owed, owed_at, after_ring, after_set_key, after_clear_key, after_open_turn, after_end_turn, turn_of}
+use Rattle.calloop_core.specs.declared.sources.PostAction.{PostAction}
+use Rattle.calloop_core.specs.declared.sources.PostAction.TheVariants.{Continue}
+use Rattle.calloop_core.specs.Calls.{Call}
 use Rattle.calloop_core.specs.Polls.{PollView, PollStep, OpenPlace, TakePass, PutBack, posts, closes, CannotOpen, IsOfKind}
+use Rattle.calloop.specs.declared.ping.PingError.{PingError}
 use Rattle.calloop.specs.declared.ping.PingSource.{PingSource}
 
 abbrev pub with_core : Cell → PingSource → PingSource
@@ -30,9 +34,14 @@ IsPingReg s v f (Ok u) steps t g =
     × (t ≡ record { core = after_set_key (key_of (next_token f)) s.core; token = Some (next_token f) }) × (g ≡ after_token f)
 IsPingReg s v f (Err e) steps t g = (steps ≡ []) × (t ≡ s) × RefusedPing s f v.board e g
 
+-- the key is cleared and its place is closed; a ring that stands stays
+abbrev pub IsPingUnreg : {P : Type 0} → PingSource → Result (Unit {0}) Error → List (PollStep P) → PingSource → Type 0
+IsPingUnreg s (Ok u) steps t = IsSome s.token × (steps ≡ closes s.core.key) × (t ≡ record { core = after_clear_key s.core; token = None })
+IsPingUnreg s (Err e) steps t = (s.token ≡ None) × IsOfKind NotFound e × (steps ≡ []) × (t ≡ s)
+
 -- a ring pings the cell, and posts its key where it stood unpinged
-abbrev pub IsPingRing : {P : Type 0} → PingSource → List (PollStep P) → PingSource → Type 0
-IsPingRing s steps t = (steps ≡ posts (owed s.core)) × (t ≡ with_core (after_ring s.core) s)
+abbrev pub IsPingRing : {P : Type 0} → PingSource → (is_ping : Bool) → List (PollStep P) → PingSource → Type 0
+IsPingRing s is_ping steps t = (is_ping ≡ true) × (steps ≡ posts (owed s.core)) × (t ≡ with_core (after_ring s.core) s)
 
 abbrev pub is_token : Token → Option Token → Bool
 is_token token None = false
@@ -51,11 +60,15 @@ abbrev pub PingTurnFor : {P : Type 0} → (is_own : Bool) → PingSource → Opt
 PingTurnFor true s pass rang steps t = PingTurnWith s pass rang steps t
 PingTurnFor false s pass rang steps t = (rang ≡ false) × (steps ≡ []) × (t ≡ s)
 
--- a turn: under another token nothing; without a pass nothing; else by what the cell answers to the pass
-abbrev pub IsPingTurn : {P : Type 0} → PingSource → Token → PollView P → (rang : Bool) → List (PollStep P) → PingSource → Type 0
-IsPingTurn s token v rang steps t = PingTurnFor (is_token token s.token) s v.pass rang steps t
+-- under another token nothing; without a pass nothing; else by what the cell answers to the pass
+abbrev pub IsPingTurned : {P : Type 0} → PingSource → Token → PollView P → (rang : Bool) → List (PollStep P) → PingSource → Type 0
+IsPingTurned s token v rang steps t = PingTurnFor (is_token token s.token) s v.pass rang steps t
 
--- the callback is called where a ping stood, and else it and the data are as they were
-abbrev pub Called : {F X : Type 0} → (F → Unit {0} → Unit {0} → X → Unit {0} → F → Unit {0} → X → Type 0) → (rang : Bool) → F → X → F → X → Type 0
-Called may true f x g y = may f tt tt x tt g tt y
-Called may false f x g y = (g ≡ f) × (y ≡ x)
+-- one call where a ping stood, and else none
+abbrev pub calls_of : (rang : Bool) → List (Call (Unit {0}) (Unit {0}) (Unit {0}))
+calls_of true = record { event = tt; before = tt; after = tt; answer = tt } ∷ []
+calls_of false = []
+
+-- a turn, which never fails, and after which the ping stays
+abbrev pub IsPingTurn : {P : Type 0} → PingSource → Token → PollView P → List (Call (Unit {0}) (Unit {0}) (Unit {0})) → Result PostAction PingError → List (PollStep P) → PingSource → Type 0
+IsPingTurn s token v calls answer steps t = (rang : Bool) × (calls ≡ calls_of rang) × (answer ≡ Ok Continue) × IsPingTurned s token v rang steps t

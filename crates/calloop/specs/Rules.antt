@@ -15,15 +15,16 @@ use Rattle.calloop_wake.specs.Slots.{named, first_vacant, next_registration, Can
 use Rattle.calloop_core.specs.declared.sys.Readiness.{Readiness}
 use Rattle.calloop_core.specs.declared.sys.poll.Pending.{Pending}
 use Rattle.calloop_core.specs.declared.sources.Dispatcher.{Dispatcher}
+use Rattle.calloop_core.specs.declared.sources.PostAction.{PostAction}
+use Rattle.calloop_core.specs.declared.sources.PostAction.TheVariants.{Continue, Remove}
+use Rattle.calloop_core.specs.Meanings.{Meaning}
 use Rattle.calloop_core.specs.Pollers.{Outside, nanos_of}
-use Rattle.calloop_core.specs.Polls.{PollStep, cut}
+use Rattle.calloop_core.specs.Polls.{PollStep, cut, with_pass}
 use Rattle.calloop_core.specs.Waits.{Waited}
 use Rattle.calloop.specs.declared.loop_logic.Call.{Call}
 use Rattle.calloop.specs.declared.loop_logic.Call.TheVariants.{Insert, Ring, Dispatch, Poller as NewPoller}
 use Rattle.calloop.specs.declared.loop_logic.Answer.{Answer}
 use Rattle.calloop.specs.declared.loop_logic.Answer.TheVariants.{Inserted, Rung, Dispatched, Poller as OldPoller}
-use Rattle.calloop.specs.declared.ping.PingSource.{PingSource}
-use Rattle.calloop.specs.Meanings.{Meaning}
 use Rattle.calloop.specs.Machine.{World, View, Change, Put, Claim, Polls, Polling, Gathered, Cut, Ended, AllFit, all_viewed, all_done, seen}
 
 -- a factory that has given no token
@@ -62,7 +63,7 @@ pub data Doing (D X : Type 0) : Type 0 where
   Waiting : (timeout : Option ℕ) (x : X) → Doing D X
   Gathering : (now : ℕ) (given : List (ℕ × Readiness)) (x : X) → Doing D X
   Cutting : (x : X) → Doing D X
-  Ending : (token : Token) (source : D) (answer : Result (Unit {0}) Error) (x : X) → Doing D X
+  Ending : (token : Token) (source : D) (answer : Result PostAction Error) (x : X) → Doing D X
   Leaving : (answer : Result (Unit {0}) Error) (x : X) → Doing D X
 
 abbrev pub after_wait : {D X : Type 0} → Result ℕ Cause → List (ℕ × Readiness) → X → Doing D X
@@ -74,17 +75,21 @@ abbrev pub CutTo : {D P X : Type 0} → Meaning D P X → Pending → Content D 
 CutTo M e Vacant v x cs b = (cs ≡ Cut None ∷ Ended ∷ []) × (b ≡ Cutting x)
 CutTo M e InTurn v x cs b = (cs ≡ Cut None ∷ Ended ∷ []) × (b ≡ Cutting x)
 CutTo {D} {P} {X} M e (Source d) v x cs b =
-    (d' : D) × (answer : Result (Unit {0}) Error) × (steps : List (PollStep P)) × (x' : X) × M.turn d e.readiness e.token (cut v.poll) x answer steps d' x'
+    (d' : D) × (answer : Result PostAction Error) × (steps : List (PollStep P)) × (x' : X) × M.turn d e.readiness e.token (cut v.poll) x answer steps d' x'
     × (cs ≡ Cut (Some e.token.slot) ∷ Put e.token.slot InTurn ∷ Polls steps ∷ []) × (b ≡ Ending e.token d' answer x')
 
 abbrev pub CutFrom : {D P X : Type 0} → Meaning D P X → List Pending → View D P → X → List (Change D P) → Doing D X → Type 0
 CutFrom M [] v x cs b = (cs ≡ []) × (b ≡ Leaving (Ok tt) x)
 CutFrom M (e ∷ es) v x cs b = CutTo M e (named v.slots (registration_of e.token)) v x cs b
 
--- an error leaves the rest of the batch for the next dispatch
-abbrev pub after_turn : {D X : Type 0} → Result (Unit {0}) Error → X → Doing D X
-after_turn (Ok u) x = Cutting x
-after_turn (Err e) x = Leaving (Err e) x
+-- the turn is over: the source goes back to its slot, or leaves the loop, and is unregistered last; a failure of that
+-- isn't answered. An error leaves the rest of the batch for the next dispatch.
+abbrev pub EndedBy : {D P X : Type 0} → Meaning D P X → Token → D → Result PostAction Error → View D P → X → List (Change D P) → Doing D X → Type 0
+EndedBy M token d (Ok Continue) v x cs b = (cs ≡ Ended ∷ Put token.slot (Source d) ∷ []) × (b ≡ Cutting x)
+EndedBy {D} {P} M token d (Ok Remove) v x cs b =
+    (d' : D) × (answer : Result (Unit {0}) Error) × (steps : List (PollStep P)) × M.unreg d (with_pass None v.poll) answer steps d'
+    × (cs ≡ Ended ∷ Put token.slot Vacant ∷ Polls steps ∷ []) × (b ≡ Cutting x)
+EndedBy M token d (Err e) v x cs b = (cs ≡ Ended ∷ Put token.slot (Source d) ∷ []) × (b ≡ Leaving (Err e) x)
 
 -- one small step, by what is seen
 abbrev pub Step : {D P X : Type 0} → Meaning D P X → Outside P → View D P → Doing D X → List (Change D P) → Doing D X → Type 0
@@ -93,7 +98,7 @@ Step {D} {P} M O v (Waiting timeout x) cs b =
     × (cs ≡ Polling p ∷ []) × (b ≡ after_wait answer given x)
 Step M O v (Gathering now given x) cs b = (posted : List ℕ) × (cs ≡ Gathered posted given now ∷ []) × (b ≡ Cutting x)
 Step M O v (Cutting x) cs b = CutFrom M v.poll.batch v x cs b
-Step M O v (Ending token d answer x) cs b = (cs ≡ Ended ∷ Put token.slot (Source d) ∷ []) × (b ≡ after_turn answer x)
+Step M O v (Ending token d answer x) cs b = EndedBy M token d answer v x cs b
 Step M O v (Leaving answer x) cs b = ⊥
 
 -- a list of small steps, with the changes of each
@@ -150,13 +155,8 @@ after_hand_out (Ok true) x = Cutting x
 after_hand_out (Ok false) x = Leaving (Ok tt) x
 after_hand_out (Err e) x = Leaving (Err e) x
 
--- an event was handed out, and its turn answered
-abbrev pub handed_out : Result (Unit {0}) Error → Result Bool Error
-handed_out (Ok u) = Ok true
-handed_out (Err e) = Err e
-
--- the answer of an insertion of a ping, where it is held with its callback
-abbrev pub held_answer : {D F : Type 0} → (Dispatcher PingSource F → D) → F → Result RegistrationToken (InsertError PingSource) → Result RegistrationToken (InsertError D)
+-- the answer of an insertion of a source, where it is held with its callback
+abbrev pub held_answer : {D S F : Type 0} → (Dispatcher S F → D) → F → Result RegistrationToken (InsertError S) → Result RegistrationToken (InsertError D)
 held_answer held f (Ok token) = Ok token
 held_answer held f (Err refused) = Err (record { inserted = held (record { source = refused.inserted; callback = f }); error = refused.error })
 

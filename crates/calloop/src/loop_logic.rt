@@ -1,6 +1,5 @@
 //! The loop, and what it asks of the caller's sources.
-use crate::ping::PingSource;
-use calloop_core::sources::{Callback, Dispatcher};
+use calloop_core::sources::{Callback, Dispatch, Dispatcher, EventSource, PostAction};
 use calloop_core::sys::poll::Poll;
 use calloop_core::sys::{Poller, Readiness};
 use calloop_wake::error::{InsertError, Result};
@@ -49,9 +48,9 @@ pub enum Answer<D, P, X> {
 /// What a loop calls: an enum of the caller's dispatchers, each a source with its callback. Its meaning says, as
 /// relations, what each call may do; the loop is proved for every meaning.
 pub trait EventDispatcher<P: Poller, C>: Drop + Sized {
-    ghost use Rattle.std.specs.Prelude.{◌≡◌, List};
+    ghost use Rattle.std.specs.Prelude.{List};
     ghost use Rattle.calloop_core.specs.Polls.{PollStep, poll_view, AllStepped};
-    ghost use Rattle.calloop.specs.Meanings.{Meaning};
+    ghost use Rattle.calloop_core.specs.Meanings.{Meaning, IsKeeping};
 
     /// What a dispatch lends to the callbacks.
     type Data;
@@ -61,6 +60,10 @@ pub trait EventDispatcher<P: Poller, C>: Drop + Sized {
     /// Registers the source with tokens of the factory.
     fn register(&mut self, poll: &mut Poll<P, C>, factory: &mut TokenFactory) -> Result<()>
         ensures { (steps : List (PollStep P)) × means.reg self.old (poll_view poll.old) factory.old result steps self.new factory.new × AllStepped P.outside (poll_view poll.old) steps (poll_view poll.new) };
+
+    /// Takes its registration back.
+    fn unregister(&mut self, poll: &mut Poll<P, C>) -> Result<()>
+        ensures { (steps : List (PollStep P)) × means.unreg self.old (poll_view poll.old) result steps self.new × AllStepped P.outside (poll_view poll.old) steps (poll_view poll.new) };
 
     /// Rings the source where it is a ping, and says whether it is one.
     fn ring(&mut self, poll: &mut Poll<P, C>) -> bool
@@ -73,25 +76,27 @@ pub trait EventDispatcher<P: Poller, C>: Drop + Sized {
         token: Token,
         poll: &mut Poll<P, C>,
         data: &mut Self::Data,
-    ) -> Result<()>
+    ) -> Result<PostAction>
         ensures { (steps : List (PollStep P)) × means.turn self.old readiness token (poll_view poll.old) «data».old result steps self.new «data».new × AllStepped P.outside (poll_view poll.old) steps (poll_view poll.new) };
+
+    /// It leaves the counters of others alone, and calls once for each arming of its own.
+    ghost keeps: { IsKeeping means };
 }
 
-/// A dispatcher type that has a place for a ping with a callback `F`; what is held means the ping.
-pub trait Hold<F, P: Poller, C>: EventDispatcher<P, C>
+/// A dispatcher type that has a place for a source `S` with a callback `F`; what is held means the source with it.
+pub trait Hold<S, F, P: Poller, C>: EventDispatcher<P, C>
 where
-    F: Callback<(), (), (), Self::Data>,
+    S: EventSource<P, C>,
+    F: Callback<S::Event, S::Metadata, S::Ret, Self::Data>,
 {
     ghost use Rattle.std.specs.Prelude.{◌≡◌};
     ghost use Rattle.calloop_core.specs.declared.sources.Dispatcher.{Dispatcher};
-    ghost use Rattle.calloop.specs.declared.ping.PingSource.{PingSource};
-    ghost use Rattle.calloop.specs.Meanings.{ping_meaning};
-    ghost use Rattle.calloop.specs.Holding.{IsHeld};
+    ghost use Rattle.calloop_core.specs.Meanings.{IsHeld};
 
-    ghost held: { Dispatcher PingSource F → Self };
+    ghost held: { Dispatcher S F → Self };
 
-    fn hold(dispatcher: Dispatcher<PingSource, F>) -> Self
+    fn hold(dispatcher: Dispatcher<S, F>) -> Self
         ensures { result ≡ held dispatcher };
 
-    ghost held_means: { IsHeld held (ping_meaning F.may) Self.means };
+    ghost held_means: { IsHeld held ⟦<Dispatcher<S, F> as Dispatch<P, C, Self::Data>>⟧.means Self.means };
 }

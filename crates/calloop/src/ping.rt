@@ -1,13 +1,15 @@
 //! Pings: a source that is woken by hand.
-ghost use Rattle.std.specs.Prelude.{◌≡◌, Bool, List, Option, None, Some};
+ghost use Rattle.std.specs.Prelude.{◌≡◌, Bool, List, Option, Result, None, Some};
+ghost use Rattle.calloop_wake.specs.declared.token.Token.{Token};
 ghost use Rattle.calloop_wake.specs.Cells.{fresh};
 ghost use Rattle.calloop_core.specs.Polls.{PollStep, poll_view, AllStepped};
-ghost use Rattle.calloop.specs.Pings.{IsPingReg, IsPingRing, IsPingTurn, is_token, Called};
+ghost use Rattle.calloop_core.specs.Calls.{Call, Went};
+ghost use Rattle.calloop.specs.Pings.{is_token, calls_of};
 
-use calloop_core::sources::Callback;
-use calloop_core::sys::Poller;
+use calloop_core::sources::{Callback, EventSource, IntoError, PostAction};
 use calloop_core::sys::poll::Poll;
-use calloop_wake::error::{Error, Result};
+use calloop_core::sys::{Poller, Readiness};
+use calloop_wake::error::{Error, Result as LoopResult};
 use calloop_wake::token::{Token, TokenFactory};
 use calloop_wake::wake::ping::{OpenedTurn, PingCore};
 use std::io;
@@ -19,9 +21,27 @@ pub struct PingSource {
     token: Option<Token>,
 }
 
+/// Why a ping's turn could fail. No turn of this crate's pings does: all that they need was reserved.
+#[derive(Debug, Drop)]
+pub enum PingError {
+    OutOfMemory,
+}
+
+impl IntoError for PingError {
+    ghost use Rattle.std.specs.Prelude.{◌≡◌};
+    ghost use Rattle.calloop_wake.specs.declared.error.Error.TheVariants.{OutOfMemory};
+
+    ghost becomes = { λ _ e. e ≡ OutOfMemory };
+
+    /// `OutOfMemory`.
+    fn into_error(self) -> Error {
+        Error::OutOfMemory
+    }
+}
+
 // Calls back, where a ping stood.
 fn call_if<F: Callback<(), (), (), X>, X>(rang: bool, callback: &mut F, data: &mut X)
-    ensures { Called F.may rang callback.old «data».old callback.new «data».new }
+    ensures { Went F.may callback.old «data».old (calls_of rang) callback.new «data».new }
 {
     if rang {
         callback.call((), &mut (), data);
@@ -48,18 +68,67 @@ impl PingSource {
             None => false,
         }
     }
+}
+
+impl<P: Poller, C> EventSource<P, C> for PingSource {
+    ghost use Rattle.calloop_core.specs.Holdings.{holds_none};
+    ghost use Rattle.calloop.specs.Pings.{IsPingReg, IsPingUnreg, IsPingRing, IsPingTurn};
+    ghost use Rattle.calloop.specs.Quiet.{ping_reg_keeps, ping_unreg_keeps, ping_ring_keeps, ping_turn_keeps};
+
+    type Event = ();
+
+    type Metadata = ();
+
+    type Ret = ();
+
+    type Error = PingError;
+
+    ghost holds = { λ s. holds_none };
+
+    ghost reg = { IsPingReg };
+
+    ghost unreg = { λ s v a l t. IsPingUnreg s a l t };
+
+    ghost rung = { IsPingRing };
+
+    ghost turn = { λ s r token v calls a l t. IsPingTurn s token v calls a l t };
+
+    /// Its turn: calls back once where a ping stands. An event of another token, or without a posted key behind it,
+    /// calls nothing.
+    fn process_events<F, X>(
+        &mut self,
+        _readiness: Readiness,
+        token: Token,
+        poll: &mut Poll<P, C>,
+        callback: &mut F,
+        data: &mut X,
+    ) -> Result<PostAction, PingError>
+    where
+        F: Callback<(), (), (), X>,
+    {
+        if !self.is_mine(token) {
+            return Ok(PostAction::Continue);
+        }
+        let Some(pass) = poll.take_pass() else {
+            return Ok(PostAction::Continue);
+        };
+        match self.core.open_turn(pass) {
+            Ok(opened) => {
+                let OpenedTurn { turn, rung } = opened;
+                call_if(rung, callback, data);
+                let debt = self.core.end_turn(turn);
+                poll.settle(debt);
+            }
+            Err(pass) => poll.put_back(pass),
+        }
+        Ok(PostAction::Continue)
+    }
 
     /// Registers the ping under the factory's next token. One that was rung before is posted at once.
     ///
     /// Where it is registered already the answer is `IoError` of kind `AlreadyExists`; a factory without tokens is
     /// `TooManyTokens`, and want of memory `OutOfMemory`. A refusal leaves the ping and the board as they were.
-    pub fn register<P: Poller, C>(
-        &mut self,
-        poll: &mut Poll<P, C>,
-        factory: &mut TokenFactory,
-    ) -> Result<()>
-        ensures { (steps : List (PollStep P)) × IsPingReg self.old (poll_view poll.old) factory.old result steps self.new factory.new × AllStepped P.outside (poll_view poll.old) steps (poll_view poll.new) }
-    {
+    fn register(&mut self, poll: &mut Poll<P, C>, factory: &mut TokenFactory) -> LoopResult<()> {
         if self.token.is_some() {
             let cause = io::Error::from(io::ErrorKind::AlreadyExists);
             return Err(Error::IoError(cause));
@@ -73,39 +142,31 @@ impl PingSource {
         Ok(())
     }
 
-    /// Rings. Where the ping is registered and no ring stands, its key is posted on the board.
-    pub fn ring<P: Poller, C>(&mut self, poll: &mut Poll<P, C>)
-        ensures { (steps : List (PollStep P)) × IsPingRing self.old steps self.new × AllStepped P.outside (poll_view poll.old) steps (poll_view poll.new) }
-    {
-        let debt = self.core.ring();
-        poll.settle(debt);
+    /// Takes the registration back. A ring that stands is told after the next registration. Where the ping isn't registered
+    /// the answer is `IoError` of kind `NotFound`, and nothing changes.
+    fn unregister(&mut self, poll: &mut Poll<P, C>) -> LoopResult<()> {
+        if self.token.is_none() {
+            let cause = io::Error::from(io::ErrorKind::NotFound);
+            return Err(Error::IoError(cause));
+        }
+        let leave = self.core.clear_key();
+        poll.close_place(leave);
+        self.token = None;
+        Ok(())
     }
 
-    /// Its turn: calls back once where a ping stands. An event of another token, or without a posted key behind it,
-    /// calls nothing.
-    pub fn process_events<F: Callback<(), (), (), X>, X, P: Poller, C>(
-        &mut self,
-        token: Token,
-        poll: &mut Poll<P, C>,
-        callback: &mut F,
-        data: &mut X,
-    )
-        ensures { (rang : Bool) × (steps : List (PollStep P)) × IsPingTurn self.old token (poll_view poll.old) rang steps self.new × AllStepped P.outside (poll_view poll.old) steps (poll_view poll.new) × Called F.may rang callback.old «data».old callback.new «data».new }
-    {
-        if !self.is_mine(token) {
-            return;
-        }
-        let Some(pass) = poll.take_pass() else {
-            return;
-        };
-        match self.core.open_turn(pass) {
-            Ok(opened) => {
-                let OpenedTurn { turn, rung } = opened;
-                call_if(rung, callback, data);
-                let debt = self.core.end_turn(turn);
-                poll.settle(debt);
-            }
-            Err(pass) => poll.put_back(pass),
-        }
+    /// Rings. Where the ping is registered and no ring stands, its key is posted on the board.
+    fn ring(&mut self, poll: &mut Poll<P, C>) -> bool {
+        let debt = self.core.ring();
+        poll.settle(debt);
+        true
     }
+
+    ghost reg_keeps = { ping_reg_keeps };
+
+    ghost unreg_keeps = { ping_unreg_keeps };
+
+    ghost ring_keeps = { ping_ring_keeps };
+
+    ghost turn_keeps = { λ s t r k v cs a l h. ping_turn_keeps s t k v cs a l h };
 }

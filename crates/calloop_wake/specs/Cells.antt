@@ -38,6 +38,10 @@ after_ring c = record c { rung = true; pinged = true }
 abbrev pub after_set_key : ℕ → Cell → Cell
 after_set_key k c = record c { key = Some k }
 
+-- calloop takes the descriptor out of the poller
+abbrev pub after_clear_key : Cell → Cell
+after_clear_key c = record c { key = None }
+
 -- the debt that setting the key gives: the poller tells at once of a descriptor that was written before
 abbrev pub owed_at : ℕ → Cell → Option ℕ
 owed_at k c = if c.pinged then Some k else None

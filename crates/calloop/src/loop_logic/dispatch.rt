@@ -1,18 +1,20 @@
 //! A dispatch: the wait, the batch, and the turns of its events.
-ghost use Rattle.std.specs.Prelude.{◌≡◌, ◌<◌, Ok, Err, IfOk, IfErr, true};
+ghost use Rattle.std.specs.Prelude.{◌≡◌, ◌<◌, length, Ok, Err, IfOk, IfErr, true};
 ghost use Rattle.std.specs.VecDeque.{deque_len};
 ghost use Rattle.calloop_wake.specs.declared.error.Error.TheVariants.{OutOfMemory};
 ghost use Rattle.calloop_core.specs.Pollers.{nanos_of};
 ghost use Rattle.calloop.specs.declared.loop_logic.Call.TheVariants.{Dispatch};
 ghost use Rattle.calloop.specs.declared.loop_logic.Answer.TheVariants.{Dispatched};
 ghost use Rattle.calloop.specs.Machine.{World, IsNew, seen, view_of};
-ghost use Rattle.calloop.specs.Rules.{Case, Did, Leads, Goes, Cutting, Leaving, after_hand_out, handed_out};
+ghost use Rattle.calloop.specs.Rules.{Case, Did, Leads, Goes, Cutting, Ending, Leaving, after_hand_out};
 
 use super::{EventDispatcher, EventLoop, LoopHandle};
+use calloop_core::sources::PostAction;
 use calloop_core::sys::poll::Poll;
 use calloop_core::sys::{Clock, Poller};
 use calloop_wake::error::Result;
 use calloop_wake::list::{Content, SourceList};
+use calloop_wake::token::Token;
 use std::alloc::Global;
 use std::sync::Wait;
 use std::time::Duration;
@@ -61,15 +63,38 @@ impl<D: EventDispatcher<P, C>, P: Poller, C: Clock> EventLoop<D, P, C> {
         let Some(event) = self.poll.next_event() else {
             return Ok(false);
         };
-        let token = event.token.registration();
-        let Some(mut source) = self.sources.begin_turn(token) else {
+        let Some(mut source) = self.sources.begin_turn(event.token.registration()) else {
             self.poll.end_event();
             return Ok(true);
         };
         let answer = source.process_events(event.readiness, event.token, &mut self.poll, data);
+        self.end_turn(event.token, source, answer)
+    }
+
+    // The turn of a source is over: it goes back to its slot, or leaves the loop.
+    fn end_turn(&mut self, token: Token, source: D, answer: Result<PostAction>) -> Result<bool>
+        requires { token.slot < length self.old.sources }
+        ensures machine { (x : D.Data) → Goes D.means P.outside (Ending token source answer x) (after_hand_out result x) (view_of self.old) (view_of self.new) }
+        ensures batch { self.new.poll.batch.items ≡ self.old.poll.batch.items }
+    {
+        let slot = token.registration().slot();
         self.poll.end_event();
-        let _was = self.sources.replace(token.slot(), Content::Source(source));
-        handed_out(answer)
+        match answer {
+            Ok(PostAction::Continue) => {
+                let _was = self.sources.replace(slot, Content::Source(source));
+                Ok(true)
+            }
+            Ok(PostAction::Remove) => {
+                let _was = self.sources.replace(slot, Content::Vacant);
+                let mut source = source;
+                let _ = source.unregister(&mut self.poll);
+                Ok(true)
+            }
+            Err(error) => {
+                let _was = self.sources.replace(slot, Content::Source(source));
+                Err(error)
+            }
+        }
     }
 
     fn hand_out_all(&mut self, data: &mut D::Data) -> Result<()>
@@ -77,15 +102,5 @@ impl<D: EventDispatcher<P, C>, P: Poller, C: Clock> EventLoop<D, P, C> {
     {
         'batch: while self.hand_out(data)? {}
         Ok(())
-    }
-}
-
-// The turn of an event was taken.
-fn handed_out(answer: Result<()>) -> Result<bool>
-    ensures { result ≡ handed_out answer }
-{
-    match answer {
-        Ok(()) => Ok(true),
-        Err(error) => Err(error),
     }
 }

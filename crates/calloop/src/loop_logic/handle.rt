@@ -11,23 +11,23 @@ ghost use Rattle.calloop.specs.Machine.{view_of};
 ghost use Rattle.calloop.specs.Rules.{Case, Did, Leads, held_answer};
 
 use super::{EventDispatcher, EventLoop, Hold, LoopHandle};
-use crate::ping::PingSource;
-use calloop_core::sources::{Callback, Dispatcher};
+use calloop_core::sources::{Callback, Dispatcher, EventSource};
 use calloop_core::sys::{Clock, Poller};
 use calloop_wake::error::{Error, InsertError, Result};
 use calloop_wake::list::Content;
 use calloop_wake::token::{RegistrationToken, TokenFactory};
 
 impl<D: EventDispatcher<P, C>, P: Poller, C: Clock> EventLoop<D, P, C> {
-    // Registers a ping in the first vacant slot.
-    fn insert_source<F>(
+    // Registers a source in the first vacant slot.
+    fn insert_source<S, F>(
         &mut self,
-        source: PingSource,
+        source: S,
         callback: F,
-    ) -> std::result::Result<RegistrationToken, InsertError<PingSource>>
+    ) -> std::result::Result<RegistrationToken, InsertError<S>>
     where
-        D: Hold<F, P, C>,
-        F: Callback<(), (), (), D::Data> + Drop,
+        D: Hold<S, F, P, C>,
+        S: EventSource<P, C>,
+        F: Callback<S::Event, S::Metadata, S::Ret, D::Data> + Drop,
         ensures { Did (Case D.means P.outside (Insert (D.held (record { source = source; callback = callback }))) (Inserted (held_answer D.held callback result))) (view_of self.old) (view_of self.new) }
     {
         let mut source = source;
@@ -96,18 +96,19 @@ impl<D: EventDispatcher<P, C>, P: Poller, C: Clock> EventLoop<D, P, C> {
 }
 
 impl<D: EventDispatcher<P, C>, P: Poller, C: Clock> LoopHandle<'_, D, P, C> {
-    /// Registers a ping in the first vacant slot, with a callback for its events.
+    /// Registers a source in the first vacant slot, with a callback for its events.
     ///
     /// A refusal hands the source back: `TooManySources` and want of memory for a new slot leave everything as it
     /// was; where the registration is refused, the slot stays vacant under its new version.
-    pub fn insert_source<F>(
+    pub fn insert_source<S, F>(
         &mut self,
-        source: PingSource,
+        source: S,
         callback: F,
-    ) -> std::result::Result<RegistrationToken, InsertError<PingSource>>
+    ) -> std::result::Result<RegistrationToken, InsertError<S>>
     where
-        D: Hold<F, P, C>,
-        F: Callback<(), (), (), D::Data> + Drop,
+        D: Hold<S, F, P, C>,
+        S: EventSource<P, C>,
+        F: Callback<S::Event, S::Metadata, S::Ret, D::Data> + Drop,
         ensures same { self.new.inner.ghost_name ≡ self.old.inner.ghost_name }
         ensures case { Did (Case D.means P.outside (Insert (D.held (record { source = source; callback = callback }))) (Inserted (held_answer D.held callback result))) (view_of self.old.inner.now) (view_of self.new.inner.now) }
         ensures machine { Leads (Case D.means P.outside (Insert (D.held (record { source = source; callback = callback }))) (Inserted (held_answer D.held callback result))) (view_of self.old.inner.now) (view_of self.new.inner.now) }

@@ -1,6 +1,6 @@
 //! The cell of a ping, which its ends share.
 ghost use Rattle.std.specs.Prelude.{◌≡◌, None};
-ghost use Rattle.calloop_wake.specs.Cells.{fresh, IsLit, IsStanding, owed, owed_at, after_ring, after_set_key, after_open_turn, after_end_turn, turn_of};
+ghost use Rattle.calloop_wake.specs.Cells.{fresh, IsLit, IsStanding, owed, owed_at, after_ring, after_set_key, after_clear_key, after_open_turn, after_end_turn, turn_of};
 
 use super::{Debt, LeaveToClose, OpenedPass, PingTurn, TakenPass};
 use std::marker::Model;
@@ -99,6 +99,17 @@ impl PingCore {
         } else {
             (None, leave)
         }
+    }
+
+    /// Takes the cell's key back, as calloop takes the descriptor out of the poller. A ring that stands stays.
+    ///
+    /// It gives the leave to close the place of the key, where the cell had one.
+    pub fn clear_key(&mut self) -> Option<LeaveToClose>
+        ensures cell { self.new ≡ after_clear_key self.old }
+        ensures leaves { result ≡ self.old.key }
+    {
+        let key = self.key.take()?;
+        Some(LeaveToClose { key })
     }
 
     /// Opens a turn with a pass of the cell's own key, and takes the ring that stands.
