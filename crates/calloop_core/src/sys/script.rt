@@ -3,7 +3,7 @@ ghost use Rattle.std.specs.Prelude.{◌≡◌, ℕ, ◌+◌, ◌≤◌, ◌++◌
 ghost use Rattle.calloop_core.specs.Scripts.{kept_waits};
 ghost use Rattle.calloop_core.specs.declared.sys.Readiness.{Readiness};
 
-use super::{Clock, Poller, Readiness};
+use super::{Clock, EVENTS_PER_WAIT, Poller, Readiness};
 use calloop_wake::wheel::Instant;
 use std::alloc::{AllocError, AllocFailed, Global};
 use std::collections::VecDeque;
@@ -32,7 +32,7 @@ impl ScriptEvents {
         ensures ok { OnOk result (self.new.events.items ≡ self.old.events.items ++ (key, readiness) ∷ []) }
         ensures err { IfErr result (λ event. (event ≡ (key, readiness)) × (self.new.events.items ≡ self.old.events.items)) }
     {
-        if self.events.len() >= 1024 {
+        if self.events.len() >= EVENTS_PER_WAIT {
             return Err((key, readiness));
         }
         match self.events.push((key, readiness)) {
