@@ -1,6 +1,6 @@
 use crate::error::{Error, InsertError};
 use crate::list::{Content, SourceList};
-use crate::token::{RegistrationToken, Token, TokenFactory};
+use crate::token::{RegistrationToken, Token, TokenFactory, factory_tokens_differ, keys_differ};
 use crate::wake::board::{Board, OpenRefusal};
 use crate::wake::ping::{OpenedTurn, PingCore};
 use crate::wake::{Debt, TakenPass};
@@ -87,6 +87,17 @@ fn factory(rt: HostRuntime) {
 }
 
 #[test]
+fn tokens_that_differ(rt: HostRuntime) {
+    keys_differ();
+    factory_tokens_differ();
+    let mut factory = TokenFactory::new(RegistrationToken::new(1, 2));
+    let first = factory.token().expect(&rt, "a token");
+    let second = factory.token().expect(&rt, "another token");
+    assert!(rt; first != second);
+    assert_eq!(rt; (first.key(), second.key()), (4_295_098_368, 4_295_098_369));
+}
+
+#[test]
 fn slots(rt: HostRuntime) {
     let mut list = SourceList::new(rt.alloc());
     let first = list.vacant().expect(&rt, "a slot");
@@ -152,7 +163,7 @@ fn is_quiet(board: &Board) -> bool {
     }
 }
 
-// One turn with this pass: whether somebody rang, or None where it is refused.
+// One turn with this pass: whether somebody rang, or None where the pass comes back as refused.
 fn serve(board: &mut Board, cell: &mut PingCore, pass: TakenPass) -> Option<bool> {
     match cell.open_turn(pass) {
         Ok(OpenedTurn { turn, rung }) => {
@@ -161,8 +172,9 @@ fn serve(board: &mut Board, cell: &mut PingCore, pass: TakenPass) -> Option<bool
             Some(rung)
         }
         Err(pass) => {
+            let refused = pass.is_refused();
             board.post(pass.back());
-            None
+            if refused { None } else { Some(false) }
         }
     }
 }
@@ -221,4 +233,16 @@ fn one_ring(rt: HostRuntime) -> Result<(), Fail> {
         [Some(true)].as_slice()
     );
     Ok(())
+}
+
+#[test]
+fn cells_that_stand(rt: HostRuntime) {
+    let mut board = Board::new(rt.alloc());
+    let mut cell = PingCore::new();
+    cell.stands();
+    assert!(rt; !settle(&mut board, cell.ring()));
+    cell.stands();
+    assert!(rt; register(&mut board, &mut cell, 7).is_ok());
+    assert!(rt; !is_quiet(&board));
+    cell.stands();
 }

@@ -1,5 +1,7 @@
 //! The loop of a script, and what each command does with it.
-ghost use Rattle.std.specs.Prelude.{◌≡◌, ℕ, List, [], ◌∷◌, ◌++◌, Option, Some, None, IfOk, OnOk, MatchBool, true, false, map};
+ghost use Rattle.std.specs.Prelude.{◌≡◌, ℕ, List, [], ◌∷◌, ◌++◌, Option, Some, None, IfOk, IfErr, OnOk, MatchBool, true, false, map};
+ghost use Rattle.std.specs.IoError.{error_kind};
+ghost use Rattle.std.specs.declared.io.ErrorKind.TheVariants.{OutOfMemory};
 ghost use Rattle.calloop_core.specs.Pollers.{nanos_of};
 ghost use Rattle.looptrace.specs.Runs.{token_named, word_of, waits_text, answer_text, nanos_in, IsStart, state_of, PingLine, RingLine, DispatchLine, Carried};
 
@@ -104,7 +106,8 @@ fn timeout_of(nanos: Option<u64>) -> Option<Duration>
 impl ScriptLoop {
     /// A loop with the clock at 0 and without sources. An `Err` is want of memory.
     pub fn new(alloc: Global) -> io::Result<ScriptLoop>
-        ensures { IfOk result (λ made. IsStart (state_of made)) }
+        ensures ok { IfOk result (λ made. IsStart (state_of made)) }
+        ensures err { IfErr result (λ e. error_kind e ≡ OutOfMemory) }
     {
         let mut poller = ScriptPoller::new(alloc);
         poller.keep_waits(1)?;
@@ -115,14 +118,15 @@ impl ScriptLoop {
                 event_loop,
                 pings: Vec::new(alloc),
             }),
-            Err(error) => Err(io::Error::from(error)),
+            Err(_) => Err(io::Error::from(io::ErrorKind::OutOfMemory)),
         }
     }
 
     fn ping(&mut self, name: &Name, text: &mut Vec<u8>) -> io::Result<bool>
-        ensures { IfOk result (λ read. MatchBool read
+        ensures ok { IfOk result (λ read. MatchBool read
             ((said : List ℕ) × (text.new.items ≡ text.old.items ++ said) × PingLine (state_of self.old) name.now (Some (state_of self.new, said)))
             (PingLine (state_of self.old) name.now None)) }
+        ensures err { IfErr result (λ e. error_kind e ≡ OutOfMemory) }
     {
         if token_named(&self.pings, name.as_slice()).is_some() {
             return Ok(false);
@@ -147,9 +151,10 @@ impl ScriptLoop {
     }
 
     fn ring(&mut self, name: &Name, text: &mut Vec<u8>) -> io::Result<bool>
-        ensures { IfOk result (λ read. MatchBool read
+        ensures ok { IfOk result (λ read. MatchBool read
             ((said : List ℕ) × (text.new.items ≡ text.old.items ++ said) × RingLine (state_of self.old) name.now (Some (state_of self.new, said)))
             (RingLine (state_of self.old) name.now None)) }
+        ensures err { IfErr result (λ e. error_kind e ≡ OutOfMemory) }
     {
         let Some(token) = token_named(&self.pings, name.as_slice()) else {
             return Ok(false);
@@ -160,7 +165,8 @@ impl ScriptLoop {
     }
 
     fn dispatch(&mut self, timeout: Option<u64>, text: &mut Vec<u8>) -> io::Result<()>
-        ensures { OnOk result ((said : List ℕ) × (text.new.items ≡ text.old.items ++ said) × DispatchLine (state_of self.old) timeout (state_of self.new) said) }
+        ensures ok { OnOk result ((said : List ℕ) × (text.new.items ≡ text.old.items ++ said) × DispatchLine (state_of self.old) timeout (state_of self.new) said) }
+        ensures err { IfErr result (λ e. error_kind e ≡ OutOfMemory) }
     {
         self.event_loop.handle().poller_mut().keep_waits(1)?;
         let mut said = Said::new(self.alloc);
@@ -180,7 +186,12 @@ impl Runner for ScriptLoop {
 
     ghost step = { line_step };
 
-    fn line(&mut self, line: &[u8], text: &mut Vec<u8>) -> io::Result<bool> {
+    fn line(&mut self, line: &[u8], text: &mut Vec<u8>) -> io::Result<bool>
+        ensures read { IfOk result (λ read. MatchBool read
+            ((said : List ℕ) × (text.new.items ≡ text.old.items ++ said) × line_step self.old line.now (Some (self.new, said)))
+            (line_step self.old line.now None)) }
+        ensures err { IfErr result (λ e. error_kind e ≡ OutOfMemory) }
+    {
         match &parse(self.alloc, line)? {
             None => Ok(false),
             Some(Command::Nothing) => Ok(true),

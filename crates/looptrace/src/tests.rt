@@ -179,21 +179,23 @@ fn runs(rt: HostRuntime) -> Result<(), Fail> {
     Ok(())
 }
 
-// Takes so many bytes, and then fails.
+// Takes a byte at each call, but fails at one call.
 #[derive(Drop)]
 struct Full {
-    left: usize,
+    calls: usize,
+    fault: usize,
     taken: Vec<u8>,
 }
 
 impl Write for Full {
     fn write(&mut self, buf: &[u8]) -> io::Result<usize> {
-        if self.left == 0 {
+        let call = self.calls;
+        self.calls = call.saturating_add(1);
+        if call == self.fault {
             return Err(io::Error::from(io::ErrorKind::StorageFull));
         }
-        let count = buf.len().min(self.left);
+        let count = buf.len().min(1);
         self.taken.extend_from_slice(&buf[..count])?;
-        self.left -= count;
         Ok(count)
     }
 
@@ -202,9 +204,10 @@ impl Write for Full {
     }
 }
 
-fn make_full(alloc: Global, left: usize) -> Full {
+fn make_full(alloc: Global, fault: usize) -> Full {
     Full {
-        left,
+        calls: 0,
+        fault,
         taken: Vec::new(alloc),
     }
 }
@@ -219,8 +222,8 @@ fn is_fault(answer: io::Result<u8>, kind: io::ErrorKind) -> bool {
 #[test]
 fn an_output_that_is_full(rt: HostRuntime) -> Result<(), Fail> {
     let all = b"call up\ncall up\n";
-    for left in 0..16 {
-        let mut output = make_full(rt.alloc(), left);
+    for fault in 0..17 {
+        let mut output = make_full(rt.alloc(), fault);
         let mut errors = Vec::new(rt.alloc());
         let answer = drive(
             rt.alloc(),
@@ -229,29 +232,23 @@ fn an_output_that_is_full(rt: HostRuntime) -> Result<(), Fail> {
             &mut output,
             &mut errors,
         );
-        assert!(rt; is_fault(answer, io::ErrorKind::StorageFull));
-        assert_eq!(rt; output.taken.as_slice(), &all[..left]);
+        if fault == 16 {
+            assert_eq!(rt; answer?, 0);
+        } else {
+            assert!(rt; is_fault(answer, io::ErrorKind::StorageFull));
+        }
+        assert_eq!(rt; output.taken.as_slice(), &all[..fault]);
         assert!(rt; errors.is_empty());
     }
-    let mut output = make_full(rt.alloc(), 16);
-    let mut errors = Vec::new(rt.alloc());
-    let answer = drive(
-        rt.alloc(),
-        &mut Counter { count: 0 },
-        &mut b"up\nup\n".as_slice(),
-        &mut output,
-        &mut errors,
-    )?;
-    assert_eq!(rt; answer, 0);
     Ok(())
 }
 
 #[test]
 fn errors_that_are_full(rt: HostRuntime) -> Result<(), Fail> {
     let all = b"error line 2\n";
-    for left in 0..13 {
+    for fault in 0..14 {
         let mut output = Vec::new(rt.alloc());
-        let mut errors = make_full(rt.alloc(), left);
+        let mut errors = make_full(rt.alloc(), fault);
         let answer = drive(
             rt.alloc(),
             &mut Counter { count: 0 },
@@ -259,68 +256,81 @@ fn errors_that_are_full(rt: HostRuntime) -> Result<(), Fail> {
             &mut output,
             &mut errors,
         );
-        assert!(rt; is_fault(answer, io::ErrorKind::StorageFull));
-        assert_eq!(rt; errors.taken.as_slice(), &all[..left]);
+        if fault == 13 {
+            assert_eq!(rt; answer?, 2);
+        } else {
+            assert!(rt; is_fault(answer, io::ErrorKind::StorageFull));
+        }
+        assert_eq!(rt; errors.taken.as_slice(), &all[..fault]);
         assert_eq!(rt; output.as_slice(), b"call up\n".as_slice());
     }
     Ok(())
 }
 
-// Gives one line, and then fails.
+// Gives a byte of the script at each call, but fails at one call.
 #[derive(Drop)]
-struct Broken {
-    given: usize,
+struct Broken<'a> {
+    script: &'a [u8],
+    calls: usize,
+    fault: usize,
+}
+
+fn make_broken(script: &[u8], fault: usize) -> Broken<'_> {
+    Broken {
+        script,
+        calls: 0,
+        fault,
+    }
 }
 
 fn broken_pipe() -> io::Error {
     io::Error::from(io::ErrorKind::BrokenPipe)
 }
 
-impl Read for Broken {
+impl Read for Broken<'_> {
     fn read(&mut self, _buf: &mut [u8]) -> io::Result<usize> {
         Err(broken_pipe())
     }
 }
 
-impl BufRead for Broken {
+impl BufRead for Broken<'_> {
     fn fill_buf(&mut self) -> io::Result<&[u8]> {
-        if self.given < 3 {
-            let line = b"up\n".as_slice();
-            Ok(&line[self.given..])
-        } else {
-            Err(broken_pipe())
+        let call = self.calls;
+        self.calls = call.saturating_add(1);
+        if call == self.fault {
+            return Err(broken_pipe());
         }
+        Ok(&self.script[..self.script.len().min(1)])
     }
 
     fn consume(&mut self, amount: usize) {
-        self.given = self.given.saturating_add(amount);
+        self.script = &self.script[amount.min(self.script.len())..];
     }
 }
 
 #[test]
 fn a_reader_that_is_broken(rt: HostRuntime) -> Result<(), Fail> {
-    for (given, want) in [
-        (0, b"call up\n".as_slice()),
-        (1, b"".as_slice()),
-        (3, b"".as_slice()),
-    ] {
-        let mut counter = Counter { count: 0 };
+    for fault in 0..8 {
         let (mut output, mut errors) = (Vec::new(rt.alloc()), Vec::new(rt.alloc()));
         let answer = drive(
             rt.alloc(),
-            &mut counter,
-            &mut Broken { given },
+            &mut Counter { count: 0 },
+            &mut make_broken(b"up\nup\n", fault),
             &mut output,
             &mut errors,
         );
-        if given == 1 {
-            assert_eq!(rt; answer.ok(), Some(2));
-            assert_eq!(rt; errors.as_slice(), b"error line 1\n".as_slice());
+        if fault == 7 {
+            assert_eq!(rt; answer?, 0);
         } else {
             assert!(rt; is_fault(answer, io::ErrorKind::BrokenPipe));
-            assert!(rt; errors.is_empty());
         }
+        let want = match fault {
+            0..3 => b"".as_slice(),
+            3..6 => b"call up\n".as_slice(),
+            _ => b"call up\ncall up\n".as_slice(),
+        };
         assert_eq!(rt; output.as_slice(), want);
+        assert!(rt; errors.is_empty());
     }
     Ok(())
 }
@@ -385,13 +395,58 @@ fn runs_that_end_early(rt: HostRuntime) -> Result<(), Fail> {
 #[test]
 fn run_to_a_full_output(rt: HostRuntime) -> Result<(), Fail> {
     let all = b"insert a 0 0\nwait 0\ncall a\n";
-    for left in 0..27 {
-        let mut output = make_full(rt.alloc(), left);
+    for fault in 0..28 {
+        let mut output = make_full(rt.alloc(), fault);
         let mut errors = Vec::new(rt.alloc());
         let mut input = b"ping a\nring a\ndispatch 0\n".as_slice();
         let answer = trace(rt.alloc(), &mut input, &mut output, &mut errors);
-        assert!(rt; is_fault(answer, io::ErrorKind::StorageFull));
-        assert_eq!(rt; output.taken.as_slice(), &all[..left]);
+        if fault == 27 {
+            assert_eq!(rt; answer?, 0);
+        } else {
+            assert!(rt; is_fault(answer, io::ErrorKind::StorageFull));
+        }
+        assert_eq!(rt; output.taken.as_slice(), &all[..fault]);
+        assert!(rt; errors.is_empty());
+    }
+    Ok(())
+}
+
+#[test]
+fn run_to_full_errors(rt: HostRuntime) -> Result<(), Fail> {
+    let all = b"error line 2\n";
+    for fault in 0..14 {
+        let mut output = Vec::new(rt.alloc());
+        let mut errors = make_full(rt.alloc(), fault);
+        let mut input = b"ping a\nring b\nping c\n".as_slice();
+        let answer = trace(rt.alloc(), &mut input, &mut output, &mut errors);
+        if fault == 13 {
+            assert_eq!(rt; answer?, 2);
+        } else {
+            assert!(rt; is_fault(answer, io::ErrorKind::StorageFull));
+        }
+        assert_eq!(rt; errors.taken.as_slice(), &all[..fault]);
+        assert_eq!(rt; output.as_slice(), b"insert a 0 0\n".as_slice());
+    }
+    Ok(())
+}
+
+#[test]
+fn run_from_a_broken_reader(rt: HostRuntime) -> Result<(), Fail> {
+    for fault in 0..27 {
+        let (mut output, mut errors) = (Vec::new(rt.alloc()), Vec::new(rt.alloc()));
+        let mut input = make_broken(b"ping a\nring a\ndispatch 0\n", fault);
+        let answer = trace(rt.alloc(), &mut input, &mut output, &mut errors);
+        if fault == 26 {
+            assert_eq!(rt; answer?, 0);
+        } else {
+            assert!(rt; is_fault(answer, io::ErrorKind::BrokenPipe));
+        }
+        let want = match fault {
+            0..7 => b"".as_slice(),
+            7..25 => b"insert a 0 0\n".as_slice(),
+            _ => b"insert a 0 0\nwait 0\ncall a\n".as_slice(),
+        };
+        assert_eq!(rt; output.as_slice(), want);
         assert!(rt; errors.is_empty());
     }
     Ok(())

@@ -1,6 +1,9 @@
-use Rattle.std.proofs.Common.{refl}
+use Rattle.std.proofs.Common.{◌≡◌, List, refl, ap, ◌∙◌}
+use Rattle.calloop_wake.specs.declared.list.Content.TheVariants.{Source}
+use Rattle.calloop_wake.specs.declared.list.Slot.{Slot}
+use Rattle.calloop_wake.specs.Slots.{changed, with_content, claimed}
 use Rattle.calloop_core.specs.Polls.{poll_view}
-use Rattle.calloop.specs.Machine.{view_of}
+use Rattle.calloop.specs.Machine.{View, view_of}
 use Rattle.calloop.proofs.Inserting.{not_claimed, not_registered, registered}
 use Rattle.calloop.proofs.Held.{held_reg}
 use Rattle.calloop.proofs.loop_logic.EventLoop.insert_source.Goals as goal
@@ -12,7 +15,12 @@ returns-in-Err g c =
 
 pub returns-in-Ok-register : goal.returns-in-Ok-register
 returns-in-Ok-register g c =
-    rw (c.replace-was.ensures.list, c.slot.ensures, c.in-Ok.ensures.ok.1, c.hold-held.ensures)
+    let v : View g.row.D.Denot g.row.P.Denot = view_of c.args.self.now in
+    let slots : c.replace-was.new.self ≡ changed (with_content (Source (g.D.Hold.held (record { source = c.register.new.self; callback = c.args.callback })))) (claimed v.slots) c.in-Ok.token.slot =
+    c.replace-was.ensures.list ∙ ap (λ n. changed (with_content (Source c.hold-held.result)) c.vacant.new.self n) c.slot.ensures
+    ∙ ap (λ (s : List (Slot g.row.D.Denot)). changed (with_content (Source c.hold-held.result)) s c.in-Ok.token.slot) c.in-Ok.ensures.ok.1
+    ∙ ap (λ (d : g.row.D.Denot). changed (with_content (Source d)) (claimed v.slots) c.in-Ok.token.slot) c.hold-held.ensures in
+    rw slots
     (registered g.D.EventDispatcher.means g.P.Poller.outside (view_of c.args.self.now) (g.D.Hold.held (record { source = c.args.source; callback = c.args.callback })) (g.D.Hold.held (record { source = c.register.new.self; callback = c.args.callback }))
     c.in-Ok.token c.register.new.factory (poll_view c.register.new.poll) c.in-Ok.ensures.ok.0 c.in-Ok.ensures.within.1
     (let r = rw (c.new-factory.ensures, c.in-Ok-register.is) at c.register.ensures in held_reg g.P.Poller.outside g.D.Hold.held _ g.D.EventDispatcher.means g.met.D.Hold.held_means (record { source = c.args.source; callback = c.args.callback }) (record { source = c.register.new.self; callback = c.args.callback }) _ _ _ _ _ (r.0, (r.1, refl), r.2)))

@@ -28,8 +28,8 @@ three : (old a b d t u v : List ℕ) → t ≡ old ++ a → u ≡ t ++ b → v �
 three old a b d t u v first second third =
     third ∙ ap (λ (u : List ℕ). u ++ d) (second ∙ ap (λ (t : List ℕ). t ++ b) first ∙ append_assoc old a b) ∙ append_assoc old (a ++ b) d
 
-pub returns : goal.returns
-returns c =
+pub returns-clause-ok : goal.returns-clause-ok
+returns-clause-ok c =
     let s : State = state_of c.args.self.now in
     let held = c.handle.ensures.value in
     let new : ScriptPoller = c.keep_waits.new.self in

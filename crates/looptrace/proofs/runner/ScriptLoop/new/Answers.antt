@@ -4,8 +4,8 @@ use Rattle.calloop_core.specs.declared.sys.script.ScriptPoller.{ScriptPoller}
 use Rattle.looptrace.specs.declared.source.Source.{Source}
 use Rattle.looptrace.proofs.runner.ScriptLoop.new.Goals as goal
 
-pub returns-in-Ok : goal.returns-in-Ok
-returns-in-Ok c =
+pub returns-in-Ok-clause-ok : goal.returns-in-Ok-clause-ok
+returns-in-Ok-clause-ok c =
     let poller : c.in-Ok.event_loop.poll.poller ≡ c.keep_waits.new.self = sym (ap (λ (v : View Source ScriptPoller). v.poll.poller) c.in-Ok.ensures.ok.3) ∙ c.in-Ok.ensures.ok.2 in
     record {
       world = c.in-Ok.ensures.ok.0;

@@ -36,8 +36,8 @@ new_is core token name asked is_fresh no_token same =
     ∙ ap (λ (token : Option Token). Ping (record { source = record { core = fresh; token = token }; callback = record { name = name } })) no_token
     ∙ ap new_ping same
 
-pub returns-in_ok-append_insert-in-Ok : goal.returns-in_ok-append_insert-in-Ok
-returns-in_ok-append_insert-in-Ok c =
+pub returns-in_ok-append_insert-in-Ok-clause-ok : goal.returns-in_ok-append_insert-in-Ok-clause-ok
+returns-in_ok-append_insert-in-Ok-clause-ok c =
     let name : List ℕ = c.args.name.now in
     let none = free name c.args.self.now.pings.items c.token_named.result c.as_slice.result.now c.deref.result.now c.token_named.ensures c.as_slice.ensures c.deref.ensures.value (sym c.is_some.ensures ∙ c.if-is_some.false) in
     let source = new_is c.new-3.result.core c.new-3.result.token c.in_ok-new.field-0 name c.new-3.ensures.core c.new-3.ensures.token (c.in_ok-new.ensures ∙ c.as_slice-2.ensures) in
@@ -49,8 +49,8 @@ returns-in_ok-append_insert-in-Ok c =
     ∙ ap (λ (n : List ℕ). c.args.self.now.pings.items ++ record { name = n; token = c.in-Ok.token } ∷ []) kept in
     (_, c.in_ok-append_insert-in-Ok.ensures.ok, (none, Ok c.in-Ok.token, moved _ (new_ping name) (Ok c.in-Ok.token) _ (view_of c.args.self.now.event_loop) _ source (ap view_of c.handle.ensures.value) c.in-Ok.ensures.case, (pings, said)))
 
-pub returns-in_ok-append_refused-in-Err : goal.returns-in_ok-append_refused-in-Err
-returns-in_ok-append_refused-in-Err c =
+pub returns-in_ok-append_refused-in-Err-clause-ok : goal.returns-in_ok-append_refused-in-Err-clause-ok
+returns-in_ok-append_refused-in-Err-clause-ok c =
     let name : List ℕ = c.args.name.now in
     let none = free name c.args.self.now.pings.items c.token_named.result c.as_slice.result.now c.deref.result.now c.token_named.ensures c.as_slice.ensures c.deref.ensures.value (sym c.is_some.ensures ∙ c.if-is_some.false) in
     let source = new_is c.new-3.result.core c.new-3.result.token c.in_ok-new.field-0 name c.new-3.ensures.core c.new-3.ensures.token (c.in_ok-new.ensures ∙ c.as_slice-2.ensures) in
