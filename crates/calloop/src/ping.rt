@@ -5,6 +5,7 @@ ghost use Rattle.calloop_core.specs.Polls.{PollStep, poll_view, AllStepped};
 ghost use Rattle.calloop.specs.Pings.{IsPingReg, IsPingRing, IsPingTurn, is_token, Called};
 
 use calloop_core::sources::Callback;
+use calloop_core::sys::Poller;
 use calloop_core::sys::poll::Poll;
 use calloop_wake::error::{Error, Result};
 use calloop_wake::token::{Token, TokenFactory};
@@ -52,7 +53,7 @@ impl PingSource {
     ///
     /// Where it is registered already the answer is `IoError` of kind `AlreadyExists`; a factory without tokens is
     /// `TooManyTokens`, and want of memory `OutOfMemory`. A refusal leaves the ping and the board as they were.
-    pub fn register<P, C>(
+    pub fn register<P: Poller, C>(
         &mut self,
         poll: &mut Poll<P, C>,
         factory: &mut TokenFactory,
@@ -73,7 +74,7 @@ impl PingSource {
     }
 
     /// Rings. Where the ping is registered and no ring stands, its key is posted on the board.
-    pub fn ring<P, C>(&mut self, poll: &mut Poll<P, C>)
+    pub fn ring<P: Poller, C>(&mut self, poll: &mut Poll<P, C>)
         ensures { (steps : List PollStep) × IsPingRing self.old steps self.new × AllStepped (poll_view poll.old) steps (poll_view poll.new) }
     {
         let debt = self.core.ring();
@@ -82,7 +83,7 @@ impl PingSource {
 
     /// Its turn: calls back once where a ping stands. An event of another token, or without a posted key behind it,
     /// calls nothing.
-    pub fn process_events<F: Callback<(), (), (), X>, X, P, C>(
+    pub fn process_events<F: Callback<(), (), (), X>, X, P: Poller, C>(
         &mut self,
         token: Token,
         poll: &mut Poll<P, C>,

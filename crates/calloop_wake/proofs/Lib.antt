@@ -2,4 +2,5 @@ pub mod Indexed
 pub mod Inserted
 pub mod Named
 pub mod Places
+pub mod Schedules
 pub mod Vacancy

@@ -2,8 +2,8 @@ use crate::error::{Error, InsertError};
 use crate::list::{Content, SourceList};
 use crate::token::{RegistrationToken, Token, TokenFactory};
 use crate::wake::board::{Board, OpenRefusal};
-use crate::wake::ping::{OpenedTurn, PingCore};
-use crate::wake::{Debt, TakenPass};
+use crate::wake::ping::{OpenedTurn, PingCore, covered};
+use crate::wake::{Debt, Notify, TakenPass};
 use std::alloc::{AllocError, Global};
 use std::collections::VecDeque;
 use std::io;
@@ -130,15 +130,32 @@ fn register(board: &mut Board, cell: &mut PingCore, key: u64) -> Result<(), Open
     Ok(())
 }
 
-// Posts what is owed, and says whether there was a debt.
-fn settle(board: &mut Board, debt: Option<Debt>) -> bool {
-    match debt {
-        Some(debt) => {
-            board.post(debt);
-            true
-        }
-        None => false,
+// A loop that was told to wake.
+#[derive(Drop)]
+struct Signal {
+    raised: bool,
+}
+
+impl Notify for Signal {
+    ghost use Rattle.std.specs.Prelude.{◌≡◌, true};
+
+    ghost notified = { λ _ signal. signal.raised ≡ true };
+
+    fn notify(&mut self) {
+        self.raised = true;
     }
+}
+
+// Posts what is owed, and says whether that set a mark anew.
+fn settle(board: &mut Board, debt: Option<Debt>) -> bool {
+    let mut signal = Signal { raised: false };
+    if let Some(debt) = debt {
+        if let Some(nudge) = board.post(debt) {
+            nudge.spend(&mut signal);
+            prove!(signal.raised);
+        }
+    }
+    signal.raised
 }
 
 // Whether the loop may sleep.
@@ -161,7 +178,7 @@ fn serve(board: &mut Board, cell: &mut PingCore, pass: TakenPass) -> Option<bool
             Some(rung)
         }
         Err(pass) => {
-            board.post(pass.back());
+            settle(board, Some(pass.back()));
             None
         }
     }
@@ -221,4 +238,25 @@ fn one_ring(rt: HostRuntime) -> Result<(), Fail> {
         [Some(true)].as_slice()
     );
     Ok(())
+}
+
+#[test]
+fn nudges(rt: HostRuntime) {
+    covered();
+    let mut board = Board::new(rt.alloc());
+    let mut cell = PingCore::new();
+    let mut other = PingCore::new();
+    assert!(rt; register(&mut board, &mut cell, 7).is_ok());
+    let of_seven = cell.ring();
+    assert!(rt; register(&mut board, &mut cell, 8).is_ok());
+    assert!(rt; register(&mut board, &mut other, 7).is_ok());
+    let again = other.ring();
+    assert!(rt; settle(&mut board, of_seven));
+    assert!(rt; !settle(&mut board, again));
+
+    let mut third = PingCore::new();
+    assert!(rt; register(&mut board, &mut third, 5).is_ok());
+    let of_five = third.ring();
+    assert!(rt; register(&mut board, &mut third, 6).is_ok());
+    assert!(rt; !settle(&mut board, of_five));
 }

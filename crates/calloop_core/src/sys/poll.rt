@@ -5,7 +5,7 @@ ghost use Rattle.std.specs.Borrow.{Lends, sem};
 ghost use Rattle.std.specs.IoError.{error_kind};
 ghost use Rattle.std.specs.declared.io.ErrorKind.TheVariants.{AlreadyExists};
 ghost use Rattle.calloop_wake.specs.declared.error.Error.TheVariants.{IoError, OutOfMemory};
-ghost use Rattle.calloop_wake.specs.Boards.{is_open, taken_keys};
+ghost use Rattle.calloop_wake.specs.Boards.{is_open, after_post, taken_keys};
 ghost use Rattle.calloop_wake.specs.Tokens.{key_of};
 ghost use Rattle.calloop_core.specs.Pollers.{nanos_of};
 ghost use Rattle.calloop_core.specs.Polls.{PollView, PollStep, OpenPlace, ClosePlace, Post, TakePass, PutBack, poll_view, poll_after, with_pass, posted_event, posted_events, polled_event, polled_events, Polled, CannotOpen, key_of_pass, IsReady, cut, head_of, polls_after, posts, closes, gathered, asked_for, own_key};
@@ -17,7 +17,7 @@ use super::{EVENTS_PER_WAIT, Poller, Readiness};
 use calloop_wake::error::{Error, Result};
 use calloop_wake::token::Token;
 use calloop_wake::wake::board::{Board, OpenRefusal};
-use calloop_wake::wake::{Debt, LeaveToClose, OpenedPass, TakenPass};
+use calloop_wake::wake::{Debt, LeaveToClose, Notify, OpenedPass, TakenPass};
 use std::alloc::Global;
 use std::collections::VecDeque;
 use std::time::Duration;
@@ -58,17 +58,43 @@ impl<P: Drop, C: Drop> Drop for Poll<P, C> {
             events: _,
         } = self;
         if let Some(pass) = pass {
-            board.post(pass.back());
+            give_back(&mut board, pass);
         }
         give_all_back(&mut board, passes);
     }
 }
 
+// A `Poll` that is dropped is in no wait, so its nudges wake nobody.
+#[derive(Drop)]
+struct Nobody;
+
+impl Notify for Nobody {
+    ghost notified = { λ _ _. Unit {0} };
+
+    fn notify(&mut self) {}
+}
+
+fn give_back(board: &mut Board, pass: TakenPass) {
+    if let Some(nudge) = board.post(pass.back()) {
+        nudge.spend(&mut Nobody);
+    }
+}
+
 fn give_all_back(board: &mut Board, mut passes: VecDeque<TakenPass>) {
     while let Some(pass) = passes.pop_front() {
-        board.post(pass.back());
+        give_back(board, pass);
     }
     passes.destroy_empty();
+}
+
+// Posts a debt. Where that set a mark anew, the poller is told, so that a wait ends.
+fn post<P: Poller>(board: &mut Board, poller: &mut P, debt: Debt)
+    ensures board { board.new ≡ after_post debt board.old }
+    ensures poller { poller.new ≡ poller.old }
+{
+    if let Some(nudge) = board.post(debt) {
+        nudge.spend(poller);
+    }
 }
 
 fn posted_event(key: u64) -> Pending
@@ -126,7 +152,7 @@ fn append_polled(batch: &mut VecDeque<Pending>, events: &[(u64, Readiness)])
     }
 }
 
-impl<P, C> Poll<P, C> {
+impl<P: Poller, C> Poll<P, C> {
     /// Over this poller, with an empty board and an empty batch.
     pub fn new(alloc: Global, poller: P, clock: C) -> Poll<P, C>
         ensures { poll_view result ≡ record { poller = poller; board = []; batch = []; passes = []; pass = None } }
@@ -181,12 +207,12 @@ impl<P, C> Poll<P, C> {
         }
     }
 
-    /// Posts the key of a debt, where there is one.
+    /// Posts the key of a debt, where there is one, and spends the nudge that this gives on the poller.
     pub fn settle(&mut self, debt: Option<Debt>)
         ensures { poll_view self.new ≡ polls_after (poll_view self.old) (posts debt) }
     {
         if let Some(debt) = debt {
-            self.board.post(debt);
+            post(&mut self.board, &mut self.poller, debt);
         }
     }
 
@@ -194,7 +220,7 @@ impl<P, C> Poll<P, C> {
         ensures { poll_view self.new ≡ with_pass pass (poll_view self.old) }
     {
         if let Some(other) = mem::replace(&mut self.pass, pass) {
-            self.board.post(other.back());
+            post(&mut self.board, &mut self.poller, other.back());
         }
     }
 

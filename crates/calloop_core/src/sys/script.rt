@@ -4,10 +4,12 @@ ghost use Rattle.calloop_core.specs.Scripts.{kept_waits};
 ghost use Rattle.calloop_core.specs.declared.sys.Readiness.{Readiness};
 
 use super::{Clock, Poller, Readiness};
+use calloop_wake::wake::Notify;
 use calloop_wake::wheel::Instant;
 use std::alloc::{AllocError, AllocFailed, Global};
 use std::collections::VecDeque;
 use std::io;
+use std::marker::Model;
 use std::time::Duration;
 
 /// The events of one scripted wait, at most 1,024 of them.
@@ -49,6 +51,18 @@ pub struct ScriptAnswer {
     pub events: ScriptEvents,
 }
 
+/// Whether a nudge came since the last wait. No contract speaks of it: a scripted wait doesn't heed it.
+#[derive(Drop)]
+pub struct Signal {
+    is_set: bool,
+}
+
+impl Model for Signal {
+    ghost Value = { Unit {0} };
+
+    ghost view = { λ _. tt };
+}
+
 /// Answers what it was told to. With no answer left a wait gives no event and moves the clock by the asked
 /// wait, at most to 2^64 - 1 nanoseconds; a wait without limit then moves nothing.
 #[derive(Drop)]
@@ -56,6 +70,7 @@ pub struct ScriptPoller {
     moment: Instant,
     answers: VecDeque<ScriptAnswer>,
     waits: Vec<Option<Duration>>,
+    signal: Signal,
 }
 
 /// Shows the moment at which it was made.
@@ -81,6 +96,7 @@ impl ScriptPoller {
             moment: Instant { nanos: 0 },
             answers: VecDeque::new(alloc),
             waits: Vec::new(alloc),
+            signal: Signal { is_set: false },
         }
     }
 
@@ -125,6 +141,11 @@ impl ScriptPoller {
         self.waits.as_slice()
     }
 
+    /// Whether a nudge came since the last wait.
+    pub fn is_nudged(&self) -> bool {
+        self.signal.is_set
+    }
+
     fn note(&mut self, timeout: Option<Duration>)
         ensures waits { self.new.waits.items ≡ kept_waits self.old.waits.items (vec_capacity self.old.waits) timeout }
         ensures room { vec_capacity self.new.waits ≡ vec_capacity self.old.waits }
@@ -146,10 +167,20 @@ fn append(mut events: Vec<(u64, Readiness)>, out: &mut Vec<(u64, Readiness)>)
     out.append(&mut events).unwrap()
 }
 
+impl Notify for ScriptPoller {
+    ghost notified = { λ before after. after ≡ before };
+
+    fn notify(&mut self) {
+        self.signal = Signal { is_set: true };
+    }
+}
+
 impl Poller for ScriptPoller {
     ghost use Rattle.calloop_core.specs.ScriptPollers.{script_outside};
 
     ghost outside = { script_outside };
+
+    ghost unseen = { λ before after same. same };
 
     fn now(&mut self) -> Instant {
         self.moment
@@ -161,6 +192,7 @@ impl Poller for ScriptPoller {
         events: &mut Vec<(u64, Readiness)>,
     ) -> io::Result<()> {
         self.note(timeout);
+        self.signal = Signal { is_set: false };
         match self.answers.pop_front() {
             Some(answer) => {
                 self.moment = answer.moment;
