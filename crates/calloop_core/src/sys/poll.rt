@@ -1,5 +1,5 @@
 //! What sources register with: the poller, the board of pings, and the batch of events.
-ghost use Rattle.std.specs.Prelude.{◌≡◌, ℕ, ◌+◌, ◌≤◌, ◌++◌, [], ◌∷◌, List, Option, Some, None, true, false, map, drop, length, vec_len, vec_capacity, IsOk, OnOk, OnErr, IfOk, IfErr, is_ok, Ok, Err, option_to_list};
+ghost use Rattle.std.specs.Prelude.{◌≡◌, ℕ, ◌+◌, ◌≤◌, ◌++◌, [], ◌∷◌, List, Option, Some, None, true, false, map, drop, length, vec_len, vec_capacity, IsOk, OnOk, OnErr, OnSome, IfOk, IfErr, is_ok, Ok, Err, option_to_list};
 ghost use Rattle.std.specs.VecDeque.{deque_len, deque_capacity};
 ghost use Rattle.std.specs.Borrow.{Lends, sem};
 ghost use Rattle.std.specs.IoError.{error_kind};
@@ -8,7 +8,7 @@ ghost use Rattle.calloop_wake.specs.declared.error.Error.TheVariants.{IoError, O
 ghost use Rattle.calloop_wake.specs.Boards.{is_open, after_post, taken_keys};
 ghost use Rattle.calloop_wake.specs.Tokens.{key_of};
 ghost use Rattle.calloop_core.specs.Pollers.{nanos_of};
-ghost use Rattle.calloop_core.specs.Polls.{PollView, PollStep, OpenPlace, ClosePlace, Post, TakePass, PutBack, poll_view, poll_after, with_pass, posted_event, posted_events, polled_event, polled_events, Polled, CannotOpen, key_of_pass, IsReady, cut, head_of, polls_after, posts, closes, gathered, asked_for, own_key};
+ghost use Rattle.calloop_core.specs.Polls.{PollView, PollStep, OpenPlace, ClosePlace, Post, TakePass, PutBack, poll_view, poll_after, with_pass, posted_event, posted_events, polled_event, polled_events, Polled, CannotOpen, key_of_pass, IsReady, cut, head_of, polls_after, posts, closes, gathered, asked_for, own_key, Tells, key_held};
 ghost use Rattle.calloop_core.specs.Lending.{with_poller};
 ghost use Rattle.calloop_core.specs.contracts.sys.poll.Poll.{the_row};
 ghost use Rattle.calloop_core.specs.declared.sys.Readiness.{Readiness};
@@ -91,6 +91,7 @@ fn give_all_back(board: &mut Board, mut passes: VecDeque<TakenPass>) {
 fn post<P: Poller>(board: &mut Board, poller: &mut P, debt: Debt)
     ensures board { board.new ≡ after_post debt board.old }
     ensures poller { poller.new ≡ poller.old }
+    ensures tells { Tells P.notified (Some debt) board.old poller.old poller.new }
 {
     if let Some(nudge) = board.post(debt) {
         nudge.spend(poller);
@@ -209,7 +210,8 @@ impl<P: Poller, C> Poll<P, C> {
 
     /// Posts the key of a debt, where there is one, and spends the nudge that this gives on the poller.
     pub fn settle(&mut self, debt: Option<Debt>)
-        ensures { poll_view self.new ≡ polls_after (poll_view self.old) (posts debt) }
+        ensures view { poll_view self.new ≡ polls_after (poll_view self.old) (posts debt) }
+        ensures tells { Tells P.notified debt self.old.board self.old.poller self.new.poller }
     {
         if let Some(debt) = debt {
             post(&mut self.board, &mut self.poller, debt);
@@ -217,7 +219,8 @@ impl<P: Poller, C> Poll<P, C> {
     }
 
     fn replace_pass(&mut self, pass: Option<TakenPass>)
-        ensures { poll_view self.new ≡ with_pass pass (poll_view self.old) }
+        ensures view { poll_view self.new ≡ with_pass pass (poll_view self.old) }
+        ensures tells { Tells P.notified (key_held self.old.pass) self.old.board self.old.poller self.new.poller }
     {
         if let Some(other) = mem::replace(&mut self.pass, pass) {
             post(&mut self.board, &mut self.poller, other.back());
@@ -234,7 +237,8 @@ impl<P: Poller, C> Poll<P, C> {
 
     /// Puts back a pass that a cell refused.
     pub fn put_back(&mut self, pass: TakenPass)
-        ensures { poll_view self.new ≡ poll_after (poll_view self.old) (PutBack pass) }
+        ensures view { poll_view self.new ≡ poll_after (poll_view self.old) (PutBack pass) }
+        ensures tells { Tells P.notified (key_held self.old.pass) self.old.board self.old.poller self.new.poller }
     {
         self.replace_pass(Some(pass));
     }
@@ -260,6 +264,7 @@ impl<P: Poller, C> Poll<P, C> {
     pub fn next_event(&mut self) -> Option<Pending>
         ensures event { result ≡ head_of (poll_view self.old).batch }
         ensures view { poll_view self.new ≡ cut (poll_view self.old) }
+        ensures tells { OnSome result (Tells P.notified (key_held self.old.pass) self.old.board self.old.poller self.new.poller) }
     {
         let event = self.batch.pop_front()?;
         let pass = if event.posted {
@@ -273,7 +278,8 @@ impl<P: Poller, C> Poll<P, C> {
 
     /// The turn of an event is over: a pass that is unspent goes back, and its key is posted again.
     pub fn end_event(&mut self)
-        ensures { poll_view self.new ≡ with_pass None (poll_view self.old) }
+        ensures view { poll_view self.new ≡ with_pass None (poll_view self.old) }
+        ensures tells { Tells P.notified (key_held self.old.pass) self.old.board self.old.poller self.new.poller }
     {
         self.replace_pass(None);
     }

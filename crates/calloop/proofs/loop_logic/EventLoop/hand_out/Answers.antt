@@ -20,7 +20,7 @@ pub returns-in_default-begin_turn-clause-machine : goal.returns-in_default-begin
 returns-in_default-begin_turn-clause-machine g c =
     let v : View g.row.D.Denot g.row.P.Denot = view_of c.args.self.now in
     let M = g.D.EventDispatcher.means in
-    let polls : poll_view c.end_event.new.self ≡ with_pass None (cut v.poll) = c.end_event.ensures ∙ ap (λ (p : PollView g.row.P.Denot). with_pass None p) c.next_event.ensures.view in
+    let polls : poll_view c.end_event.new.self ≡ with_pass None (cut v.poll) = c.end_event.ensures.view ∙ ap (λ (p : PollView g.row.P.Denot). with_pass None p) c.next_event.ensures.view in
     goes_to M g.P.Poller.outside (Cutting c.args.«data».now) (Cutting c.args.«data».now) v (record v { poll = with_pass None (cut v.poll) }) _
     (ap (λ (s : List (Slot g.row.D.Denot)). record { slots = s; poll = poll_view c.end_event.new.self }) c.in_default-begin_turn.ensures.list ∙ ap (λ (p : PollView g.row.P.Denot). record v { poll = p }) polls)
     (cut_none M g.P.Poller.outside c.in-Some.event v c.args.«data».now c.in-Some.ensures.event (rw c.registration-token.ensures at c.in_default-begin_turn.ensures.value))
@@ -31,7 +31,7 @@ returns-clause-machine g c =
     let M = g.D.EventDispatcher.means in
     let e = c.in-Some.event in
     let own : c.registration-token.result.slot ≡ e.token.slot = ap (λ (t : RegistrationToken). t.slot) c.registration-token.ensures in
-    let polls : poll_view c.end_event-2.new.self ≡ with_pass None (poll_view c.process_events-answer.new.poll) = c.end_event-2.ensures in
+    let polls : poll_view c.end_event-2.new.self ≡ with_pass None (poll_view c.process_events-answer.new.poll) = c.end_event-2.ensures.view in
     let slots : c.replace-was.new.self ≡ changed (with_content (Source c.process_events-answer.new.self)) (changed (with_content InTurn) v.slots e.token.slot) e.token.slot =
     c.replace-was.ensures.list ∙ ap (λ n. changed (with_content (Source c.process_events-answer.new.self)) c.begin_turn.new.self n) (c.slot.ensures ∙ own)
     ∙ ap (λ (s : List (Slot g.row.D.Denot)). changed (with_content (Source c.process_events-answer.new.self)) s e.token.slot) (c.in-Some-begin_turn.ensures.list ∙ ap (λ n. changed (with_content InTurn) v.slots n) own) in
@@ -47,5 +47,5 @@ returns-clause-shorter g c =
     let v = poll_view c.args.self.now.poll in
     let turn = c.process_events-answer.ensures in
     let batch : c.end_event-2.new.self.batch.items ≡ (cut v).batch =
-    ap (λ (p : PollView g.row.P.Denot). p.batch) c.end_event-2.ensures ∙ ap (λ (p : PollView g.row.P.Denot). p.batch) turn.2.1 ∙ batch-stepped (poll_view c.next_event.new.self) turn.0 ∙ ap (λ (p : PollView g.row.P.Denot). p.batch) c.next_event.ensures.view in
+    ap (λ (p : PollView g.row.P.Denot). p.batch) c.end_event-2.ensures.view ∙ ap (λ (p : PollView g.row.P.Denot). p.batch) turn.2.1 ∙ batch-stepped (poll_view c.next_event.new.self) turn.0 ∙ ap (λ (p : PollView g.row.P.Denot). p.batch) c.next_event.ensures.view in
     λ _. omega (arith, ap length batch, length-cut v c.in-Some.event c.in-Some.ensures.event, c.end_event-2.new.self.batch.ok.0, c.args.self.now.poll.batch.ok.0)
