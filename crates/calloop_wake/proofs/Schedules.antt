@@ -2,7 +2,7 @@
 use Rattle.std.proofs.Common.{◌≡◌, ◌≢◌, ℕ, ◌+◌, ◌-◌, ◌<◌, ◌≤◌, Bool, true, false, ◌&&◌, ◌||◌, not, if◌then◌else◌, ◌⊎◌, inl, inr, List, [], ◌∷◌, Option, Some, None, nat_eq, refl, sym, ◌∙◌, ap, ap₂, subst, arith, true≢false, add-zero, eq-eqb, ne_eqb, eqb-true, zero, suc}
 use Rattle.std.proofs.lemmas.Bool.Decides.{nat_tests, eqb_tells}
 use Rattle.std.proofs.Math.Bool.{and-true, or-true, or-false}
-use Rattle.calloop_wake.specs.Cells.{Cell, fresh, owed, owed_at, after_ring, after_set_key, after_open_turn, after_end_turn, opens, is_own, IsLit, IsStanding}
+use Rattle.calloop_wake.specs.Cells.{Cell, owed, owed_at, after_ring, after_set_key, after_end_turn, opens, is_own, IsLit, IsStanding}
 use Rattle.calloop_wake.specs.Boards.{is_open, is_marked, any_marked, after_open_place, after_close_place, after_post, after_unpost}
 use Rattle.calloop_wake.specs.Wakes.{Bag, one, and_one, and_any, less_one, Loop, Awake, Looked, World, start, Step, Ring, EndTurn, SetKey, OpenTurn, OpenPlace, ClosePlace, Post, Back, Look, Unpost, Nudge, Sleep, Return, with_cell, Needs, after, IsSchedule, after_all, IsCovered}
 use Rattle.calloop_wake.specs.declared.wake.board.Place.{Place}
@@ -83,17 +83,7 @@ less_one-same k bag = grind (arith, nat_tests)
 pub and_one-other : (j k : ℕ) (bag : Bag) → k ≢ j → and_one j bag k ≡ bag k
 and_one-other j k bag d = grind (arith, nat_tests)
 
-pub and_one-same : (k : ℕ) (bag : Bag) → and_one k bag k ≡ bag k + 1
-and_one-same k bag = grind (arith, nat_tests)
-
--- Cells: what a step makes of a cell.
-
-pub lit-open_turn : (k : ℕ) (c : Cell) → IsLit c → IsLit (after_open_turn k c)
-lit-open_turn k c l =
-    elim (opens k c) as (λ b. IsLit (if b then record c { pinged = false; draining = true; rung = false } else c)) [
-      | true ↦ λ h. absurd (cc)
-      | false ↦ l
-    ]
+-- Cells.
 
 pub with_cell-all : (P : Cell → Type 0) (n : ℕ) (c : Cell) (cells : ℕ → Cell) → P c → ((j : ℕ) → P (cells j)) → (j : ℕ) → P (with_cell n c cells j)
 with_cell-all P n c cells new old j = with_cell_cases P n j c cells (λ _. new) (λ _. old j)
