@@ -3,6 +3,7 @@ ghost use Rattle.std.specs.Prelude.{◌≡◌, ℕ, ◌+◌, ◌≤◌, ◌++◌
 ghost use Rattle.calloop_core.specs.Pollers.{Outside, IsCounted, nanos_of};
 ghost use Rattle.calloop_core.specs.declared.sys.Readiness.{Readiness};
 
+use calloop_wake::wake::Notify;
 use calloop_wake::wheel::Instant;
 use std::io;
 use std::time::Duration;
@@ -37,7 +38,9 @@ pub trait Clock: Clone + Drop {
 }
 
 /// Waits for events, and tells the moment. The loop is proved for every answer that a poller may give.
-pub trait Poller: Drop {
+///
+/// A nudge is spent on the poller, and changes nothing that is seen of it.
+pub trait Poller: Drop + Notify {
     ghost use Rattle.std.specs.Prelude.{◌≡◌, ℕ, ◌+◌, ◌≤◌, ◌++◌, List, length, vec_len, vec_capacity};
     ghost use Rattle.calloop_core.specs.Pollers.{Outside, IsCounted, nanos_of};
     ghost use Rattle.calloop_core.specs.declared.sys.Readiness.{Readiness};
@@ -63,4 +66,7 @@ pub trait Poller: Drop {
         ensures waits { (given : List (ℕ × Readiness)) × outside.waits self.old (nanos_of timeout) result given self.new × (events.new.items ≡ events.old.items ++ given) × (length given ≤ 1024) }
         ensures room { vec_capacity events.old ≤ vec_capacity events.new }
         ensures faults { IsCounted (outside.faults self.old) result (outside.faults self.new) };
+
+    /// A nudge changes nothing that is seen.
+    ghost unseen: { (before after : Self) → Self.notified before after → after ≡ before };
 }

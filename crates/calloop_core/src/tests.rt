@@ -4,6 +4,7 @@ use crate::sys::script::{ScriptAnswer, ScriptClock, ScriptEvents, ScriptPoller};
 use crate::sys::{Clock, Poller, Readiness};
 use calloop_wake::error::Error;
 use calloop_wake::token::{RegistrationToken, Token, TokenFactory};
+use calloop_wake::wake::Notify;
 use calloop_wake::wake::ping::{OpenedTurn, PingCore};
 use calloop_wake::wheel::Instant;
 use std::alloc::Global;
@@ -121,7 +122,11 @@ fn token(slot: u32) -> Result<Token, Error> {
 }
 
 // Opens the token's place, and gives the cell its key.
-fn register<P, C>(poll: &mut Poll<P, C>, cell: &mut PingCore, token: Token) -> Result<(), Error> {
+fn register<P: Poller, C>(
+    poll: &mut Poll<P, C>,
+    cell: &mut PingCore,
+    token: Token,
+) -> Result<(), Error> {
     let pass = poll.open_place(token)?;
     let (debt, leave) = cell.set_key(pass);
     poll.settle(debt);
@@ -135,13 +140,13 @@ fn poll_once<P: Poller, C>(poll: &mut Poll<P, C>, timeout: Option<Duration>) -> 
 }
 
 // What is seen of the next event: its key, whether it is ready to be read, and whether it was posted.
-fn next<P, C>(poll: &mut Poll<P, C>) -> Option<(u64, bool, bool)> {
+fn next<P: Poller, C>(poll: &mut Poll<P, C>) -> Option<(u64, bool, bool)> {
     let event = poll.next_event()?;
     Some((event.token.key(), event.readiness.readable, event.posted))
 }
 
 // A turn of the cell with the pass that lies behind the event: whether somebody rang, if it opens.
-fn turn<P, C>(poll: &mut Poll<P, C>, cell: &mut PingCore) -> Option<bool> {
+fn turn<P: Poller, C>(poll: &mut Poll<P, C>, cell: &mut PingCore) -> Option<bool> {
     let pass = poll.take_pass()?;
     match cell.open_turn(pass) {
         Ok(OpenedTurn { turn, rung }) => {
@@ -267,6 +272,24 @@ fn no_wait_beside_a_left_over_event(rt: HostRuntime) -> Result<(), Fail> {
     Ok(())
 }
 
+#[test]
+fn a_post_nudges(rt: HostRuntime) -> Result<(), Fail> {
+    let mut poll = new_poll(rt.alloc());
+    let first = token(0)?;
+    let mut cell = PingCore::new();
+    register(&mut poll, &mut cell, first)?;
+    assert!(rt; !poll.poller_mut().is_nudged());
+    poll.settle(cell.ring());
+    assert!(rt; poll.poller_mut().is_nudged());
+    poll_once(&mut poll, None)?;
+    assert!(rt; !poll.poller_mut().is_nudged());
+    assert_eq!(rt; next(&mut poll), Some((first.key(), true, true)));
+    assert!(rt; !poll.poller_mut().is_nudged());
+    poll.end_event();
+    assert!(rt; poll.poller_mut().is_nudged());
+    Ok(())
+}
+
 // The kind of the system's error that a refusal holds.
 fn kind_of<T: Drop>(answer: Result<T, Error>) -> Option<io::ErrorKind> {
     match answer {
@@ -303,7 +326,17 @@ struct FailsFirst {
     waits: u8,
 }
 
+impl Notify for FailsFirst {
+    ghost use Rattle.std.specs.Prelude.{◌≡◌};
+
+    ghost notified = { λ before after. after ≡ before };
+
+    fn notify(&mut self) {}
+}
+
 impl Poller for FailsFirst {
+    ghost unseen = { λ before after same. same };
+
     ghost outside = { record { reads = λ _ _ _. Unit {0}; waits = λ _ _ _ _ _. Unit {0} } };
 
     fn now(&mut self) -> Instant {

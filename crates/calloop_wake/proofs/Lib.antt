@@ -3,4 +3,5 @@ pub mod Inserted
 pub mod Named
 pub mod Places
 pub mod Sorting
+pub mod Schedules
 pub mod Vacancy

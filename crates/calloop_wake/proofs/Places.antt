@@ -1,8 +1,8 @@
 -- What each step of the board does to the keys that are open and to those that are marked.
-use Rattle.std.proofs.Common.{◌≡◌, ◌≢◌, ℕ, zero, suc, ◌+◌, ◌<◌, ◌≤◌, Bool, true, false, ◌&&◌, ◌||◌, not, cond, if◌then◌else◌, List, [], ◌∷◌, nat_eq, nat_lt, map, filter, length, get_or, take, refl, sym, ◌∙◌, ap, arith, ltb-true, ltb-false, lt-ltb, le-ltb, false-eqb}
+use Rattle.std.proofs.Common.{◌≡◌, ◌≢◌, ℕ, zero, suc, ◌+◌, ◌<◌, ◌≤◌, Bool, true, false, ◌&&◌, ◌||◌, not, cond, if◌then◌else◌, ◌⊎◌, inl, List, [], ◌∷◌, nat_eq, nat_lt, map, filter, length, get_or, take, refl, sym, ◌∙◌, ap, arith, ltb-true, ltb-false, lt-ltb, le-ltb, false-eqb}
 use Rattle.std.proofs.lemmas.Bool.Decides.{nat_tests}
 use Rattle.std.specs.List.{insert}
-use Rattle.calloop_wake.specs.Boards.{place, is_open, is_marked, any_marked, after_open_place, after_close_place, after_post, after_unpost, taken_keys, AllAbove, IsAscending}
+use Rattle.calloop_wake.specs.Boards.{place, is_open, is_marked, any_marked, after_open_place, after_close_place, after_post, wakes, after_unpost, taken_keys, AllAbove, IsAscending}
 use Rattle.calloop_wake.specs.declared.wake.board.Place.{Place}
 
 pub is_open-after_open : (j k : ℕ) (ps : List Place) → is_open j (after_open_place k ps) ≡ (nat_eq k j || is_open j ps)
@@ -36,6 +36,11 @@ is_open-after_unpost j (p ∷ ps) = ap (λ b. nat_eq p.key j || b) (is_open-afte
 pub is_marked-after_unpost : (j : ℕ) (ps : List Place) → is_marked j (after_unpost ps) ≡ false
 is_marked-after_unpost j [] = refl
 is_marked-after_unpost j (p ∷ ps) = let h = is_marked-after_unpost j ps in grind arith
+
+-- a mark that a post sets anew wakes
+pub marked-after_post : (j k : ℕ) (ps : List Place) → is_marked j (after_post k ps) ≡ true → (is_marked j ps ≡ true) ⊎ (wakes k ps ≡ true)
+marked-after_post j k [] h = inl h
+marked-after_post j k (p ∷ ps) h = let ih = marked-after_post j k ps in grind (arith, nat_tests)
 
 pub none_marked : (j : ℕ) (ps : List Place) → any_marked ps ≡ false → is_marked j ps ≡ false
 none_marked j [] h = refl

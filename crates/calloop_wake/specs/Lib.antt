@@ -4,5 +4,6 @@ pub mod Passes
 pub mod Cells
 pub mod Boards
 pub mod Deadlines
+pub mod Wakes
 pub mod Slots
 pub mod Lendings

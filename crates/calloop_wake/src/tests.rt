@@ -2,8 +2,8 @@ use crate::error::{Error, InsertError};
 use crate::list::{Content, SourceList};
 use crate::token::{RegistrationToken, Token, TokenFactory, factory_tokens_differ, keys_differ};
 use crate::wake::board::{Board, OpenRefusal};
-use crate::wake::ping::{OpenedTurn, PingCore};
-use crate::wake::{Debt, TakenPass};
+use crate::wake::ping::{OpenedTurn, PingCore, covered};
+use crate::wake::{Debt, Notify, TakenPass};
 use std::alloc::{AllocError, Global};
 use std::collections::VecDeque;
 use std::io;
@@ -141,15 +141,32 @@ fn register(board: &mut Board, cell: &mut PingCore, key: u64) -> Result<(), Open
     Ok(())
 }
 
-// Posts what is owed, and says whether there was a debt.
-fn settle(board: &mut Board, debt: Option<Debt>) -> bool {
-    match debt {
-        Some(debt) => {
-            board.post(debt);
-            true
-        }
-        None => false,
+// A loop that was told to wake.
+#[derive(Drop)]
+struct Signal {
+    raised: bool,
+}
+
+impl Notify for Signal {
+    ghost use Rattle.std.specs.Prelude.{◌≡◌, true};
+
+    ghost notified = { λ _ signal. signal.raised ≡ true };
+
+    fn notify(&mut self) {
+        self.raised = true;
     }
+}
+
+// Posts what is owed, and says whether that set a mark anew.
+fn settle(board: &mut Board, debt: Option<Debt>) -> bool {
+    let mut signal = Signal { raised: false };
+    if let Some(debt) = debt {
+        if let Some(nudge) = board.post(debt) {
+            nudge.spend(&mut signal);
+            prove!(signal.raised);
+        }
+    }
+    signal.raised
 }
 
 // Whether the loop may sleep.
@@ -173,7 +190,7 @@ fn serve(board: &mut Board, cell: &mut PingCore, pass: TakenPass) -> Option<bool
         }
         Err(pass) => {
             let refused = pass.is_refused();
-            board.post(pass.back());
+            settle(board, Some(pass.back()));
             if refused { None } else { Some(false) }
         }
     }
@@ -245,4 +262,25 @@ fn cells_that_stand(rt: HostRuntime) {
     assert!(rt; register(&mut board, &mut cell, 7).is_ok());
     assert!(rt; !is_quiet(&board));
     cell.stands();
+}
+
+#[test]
+fn nudges(rt: HostRuntime) {
+    covered();
+    let mut board = Board::new(rt.alloc());
+    let mut cell = PingCore::new();
+    let mut other = PingCore::new();
+    assert!(rt; register(&mut board, &mut cell, 7).is_ok());
+    let of_seven = cell.ring();
+    assert!(rt; register(&mut board, &mut cell, 8).is_ok());
+    assert!(rt; register(&mut board, &mut other, 7).is_ok());
+    let again = other.ring();
+    assert!(rt; settle(&mut board, of_seven));
+    assert!(rt; !settle(&mut board, again));
+
+    let mut third = PingCore::new();
+    assert!(rt; register(&mut board, &mut third, 5).is_ok());
+    let of_five = third.ring();
+    assert!(rt; register(&mut board, &mut third, 6).is_ok());
+    assert!(rt; !settle(&mut board, of_five));
 }

@@ -105,6 +105,32 @@ impl Model for PingTurn {
     ghost view = { λ t. t.key };
 }
 
+/// A mark was set anew on the board, so a loop that waits has to be woken.
+#[must_use]
+pub struct Nudge {
+    of_wake: (),
+}
+
+/// What wakes a loop that waits. Calloop's `Notifier` does it for the poller.
+pub trait Notify {
+    /// What a notify makes of it, as a relation of before and after.
+    ghost notified: { Self → Self → Type 0 };
+
+    /// Wakes the loop where it waits, and else has its next wait end at once.
+    fn notify(&mut self)
+        ensures { notified self.old self.new };
+}
+
+impl Nudge {
+    /// Spends the nudge: the notifier is notified once.
+    pub fn spend<N: Notify>(self, notifier: &mut N)
+        ensures { N.notified notifier.old notifier.new }
+    {
+        let Nudge { of_wake: _ } = self;
+        notifier.notify();
+    }
+}
+
 /// No key was marked on the board, so the loop may wait once.
 #[must_use]
 pub struct LeaveToSleep {

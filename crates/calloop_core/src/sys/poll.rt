@@ -1,23 +1,23 @@
 //! What sources register with: the poller, the board of pings, the deadlines of timers, and the batch of events.
-ghost use Rattle.std.specs.Prelude.{◌≡◌, ℕ, ◌+◌, ◌≤◌, ◌++◌, [], ◌∷◌, List, Option, Some, None, true, false, map, drop, length, vec_len, vec_capacity, IsOk, OnOk, OnErr, IfOk, IfErr, IfSome, is_ok, Ok, Err, option_to_list};
+ghost use Rattle.std.specs.Prelude.{◌≡◌, ℕ, ◌+◌, ◌≤◌, ◌++◌, [], ◌∷◌, List, Option, Some, None, true, false, map, drop, length, vec_len, vec_capacity, IsOk, OnOk, OnErr, OnSome, IfOk, IfErr, IfSome, is_ok, Ok, Err, option_to_list};
 ghost use Rattle.std.specs.VecDeque.{deque_len, deque_capacity};
 ghost use Rattle.std.specs.Borrow.{Lends, sem};
 ghost use Rattle.std.specs.IoError.{error_kind};
 ghost use Rattle.std.specs.declared.io.ErrorKind.TheVariants.{AlreadyExists};
 ghost use Rattle.calloop_wake.specs.declared.error.Error.TheVariants.{IoError, OutOfMemory};
-ghost use Rattle.calloop_wake.specs.Boards.{is_open, taken_keys};
+ghost use Rattle.calloop_wake.specs.Boards.{is_open, after_post, taken_keys};
 ghost use Rattle.calloop_wake.specs.Tokens.{key_of};
 ghost use Rattle.calloop_wake.specs.Deadlines.{due, not_due, with_entries};
-ghost use Rattle.calloop_core.specs.Polls.{PollView, PollStep, OpenPlace, ClosePlace, Post, TakePass, PutBack, poll_view, poll_after, with_pass, posted_event, posted_events, polled_event, polled_events, timer_event, timer_events, CannotOpen, key_of_pass, IsReady, cut, head_of, polls_after, posts, closes, gathered, own_key};
+ghost use Rattle.calloop_core.specs.Polls.{PollView, PollStep, OpenPlace, ClosePlace, Post, TakePass, PutBack, poll_view, poll_after, with_pass, posted_event, posted_events, polled_event, polled_events, timer_event, timer_events, CannotOpen, key_of_pass, IsReady, cut, head_of, polls_after, posts, closes, gathered, own_key, Tells, key_held};
 ghost use Rattle.calloop_core.specs.Lending.{with_poller};
 ghost use Rattle.calloop_core.specs.contracts.sys.poll.Poll.{the_row};
 ghost use Rattle.calloop_core.specs.declared.sys.Readiness.{Readiness};
 
-use super::{EVENTS_PER_WAIT, Readiness};
+use super::{EVENTS_PER_WAIT, Poller, Readiness};
 use calloop_wake::error::{Error, Result};
 use calloop_wake::token::Token;
 use calloop_wake::wake::board::{Board, OpenRefusal};
-use calloop_wake::wake::{Debt, LeaveToClose, OpenedPass, TakenPass};
+use calloop_wake::wake::{Debt, LeaveToClose, Notify, OpenedPass, TakenPass};
 use calloop_wake::wheel::{Entry, Instant, Wheel};
 use std::alloc::Global;
 use std::collections::VecDeque;
@@ -64,17 +64,44 @@ impl<P: Drop, C: Drop> Drop for Poll<P, C> {
             events: _,
         } = self;
         if let Some(pass) = pass {
-            board.post(pass.back());
+            give_back(&mut board, pass);
         }
         give_all_back(&mut board, passes);
     }
 }
 
+// A `Poll` that is dropped is in no wait, so its nudges wake nobody.
+#[derive(Drop)]
+struct Nobody;
+
+impl Notify for Nobody {
+    ghost notified = { λ _ _. Unit {0} };
+
+    fn notify(&mut self) {}
+}
+
+fn give_back(board: &mut Board, pass: TakenPass) {
+    if let Some(nudge) = board.post(pass.back()) {
+        nudge.spend(&mut Nobody);
+    }
+}
+
 fn give_all_back(board: &mut Board, mut passes: VecDeque<TakenPass>) {
     while let Some(pass) = passes.pop_front() {
-        board.post(pass.back());
+        give_back(board, pass);
     }
     passes.destroy_empty();
+}
+
+// Posts a debt. Where that set a mark anew, the poller is told, so that a wait ends.
+fn post<P: Poller>(board: &mut Board, poller: &mut P, debt: Debt)
+    ensures board { board.new ≡ after_post debt board.old }
+    ensures poller { poller.new ≡ poller.old }
+    ensures tells { Tells P.notified (Some debt) board.old poller.old poller.new }
+{
+    if let Some(nudge) = board.post(debt) {
+        nudge.spend(poller);
+    }
 }
 
 fn posted_event(key: u64) -> Pending
@@ -159,7 +186,7 @@ fn append_due(batch: &mut VecDeque<Pending>, wheel: &mut Wheel, now: Instant)
     }
 }
 
-impl<P, C> Poll<P, C> {
+impl<P: Poller, C> Poll<P, C> {
     /// Over this poller, with an empty board, no deadline and an empty batch.
     pub fn new(alloc: Global, poller: P, clock: C) -> Poll<P, C>
         ensures { poll_view result ≡ record { poller = poller; board = []; deadlines = record { entries = []; next = 0 }; batch = []; passes = []; pass = None } }
@@ -215,20 +242,22 @@ impl<P, C> Poll<P, C> {
         }
     }
 
-    /// Posts the key of a debt, where there is one.
+    /// Posts the key of a debt, where there is one, and spends the nudge that this gives on the poller.
     pub fn settle(&mut self, debt: Option<Debt>)
-        ensures { poll_view self.new ≡ polls_after (poll_view self.old) (posts debt) }
+        ensures view { poll_view self.new ≡ polls_after (poll_view self.old) (posts debt) }
+        ensures tells { Tells P.notified debt self.old.board self.old.poller self.new.poller }
     {
         if let Some(debt) = debt {
-            self.board.post(debt);
+            post(&mut self.board, &mut self.poller, debt);
         }
     }
 
     fn replace_pass(&mut self, pass: Option<TakenPass>)
-        ensures { poll_view self.new ≡ with_pass pass (poll_view self.old) }
+        ensures view { poll_view self.new ≡ with_pass pass (poll_view self.old) }
+        ensures tells { Tells P.notified (key_held self.old.pass) self.old.board self.old.poller self.new.poller }
     {
         if let Some(other) = mem::replace(&mut self.pass, pass) {
-            self.board.post(other.back());
+            post(&mut self.board, &mut self.poller, other.back());
         }
     }
 
@@ -242,7 +271,8 @@ impl<P, C> Poll<P, C> {
 
     /// Puts back a pass that a cell refused.
     pub fn put_back(&mut self, pass: TakenPass)
-        ensures { poll_view self.new ≡ poll_after (poll_view self.old) (PutBack pass) }
+        ensures view { poll_view self.new ≡ poll_after (poll_view self.old) (PutBack pass) }
+        ensures tells { Tells P.notified (key_held self.old.pass) self.old.board self.old.poller self.new.poller }
     {
         self.replace_pass(Some(pass));
     }
@@ -277,6 +307,7 @@ impl<P, C> Poll<P, C> {
     pub fn next_event(&mut self) -> Option<Pending>
         ensures event { result ≡ head_of (poll_view self.old).batch }
         ensures view { poll_view self.new ≡ cut (poll_view self.old) }
+        ensures tells { OnSome result (Tells P.notified (key_held self.old.pass) self.old.board self.old.poller self.new.poller) }
     {
         let event = self.batch.pop_front()?;
         let pass = if event.posted {
@@ -290,7 +321,8 @@ impl<P, C> Poll<P, C> {
 
     /// The turn of an event is over: a pass that is unspent goes back, and its key is posted again.
     pub fn end_event(&mut self)
-        ensures { poll_view self.new ≡ with_pass None (poll_view self.old) }
+        ensures view { poll_view self.new ≡ with_pass None (poll_view self.old) }
+        ensures tells { Tells P.notified (key_held self.old.pass) self.old.board self.old.poller self.new.poller }
     {
         self.replace_pass(None);
     }

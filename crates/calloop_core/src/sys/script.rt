@@ -5,10 +5,12 @@ ghost use Rattle.calloop_core.specs.declared.sys.Readiness.{Readiness};
 
 use super::faults::FaultCount;
 use super::{Clock, EVENTS_PER_WAIT, Poller, Readiness};
+use calloop_wake::wake::Notify;
 use calloop_wake::wheel::Instant;
 use std::alloc::{AllocError, AllocFailed, Global};
 use std::collections::VecDeque;
 use std::io;
+use std::marker::Model;
 use std::time::Duration;
 
 /// The events of one scripted wait, at most 1,024 of them.
@@ -60,6 +62,18 @@ pub struct ScriptAnswer {
     pub end: ScriptEnd,
 }
 
+/// Whether a nudge came since the last wait. No contract speaks of it: a scripted wait doesn't heed it.
+#[derive(Drop)]
+pub struct Signal {
+    is_set: bool,
+}
+
+impl Model for Signal {
+    ghost Value = { Unit {0} };
+
+    ghost view = { λ _. tt };
+}
+
 /// Answers what it was told to. With no answer left a wait gives no event and moves the clock by the asked
 /// wait, at most to 2^64 - 1 nanoseconds; a wait without limit then moves nothing.
 #[derive(Drop)]
@@ -68,6 +82,7 @@ pub struct ScriptPoller {
     answers: VecDeque<ScriptAnswer>,
     waits: Vec<Option<Duration>>,
     faults: FaultCount,
+    signal: Signal,
 }
 
 /// Shows the moment at which it was made.
@@ -94,6 +109,7 @@ impl ScriptPoller {
             answers: VecDeque::new(alloc),
             waits: Vec::new(alloc),
             faults: FaultCount::new(),
+            signal: Signal { is_set: false },
         }
     }
 
@@ -147,6 +163,11 @@ impl ScriptPoller {
         self.waits.as_slice()
     }
 
+    /// Whether a nudge came since the last wait.
+    pub fn is_nudged(&self) -> bool {
+        self.signal.is_set
+    }
+
     fn note(&mut self, timeout: Option<Duration>)
         ensures waits { self.new.waits.items ≡ kept_waits self.old.waits.items (vec_capacity self.old.waits) timeout }
         ensures room { vec_capacity self.new.waits ≡ vec_capacity self.old.waits }
@@ -169,10 +190,20 @@ fn append(mut events: Vec<(u64, Readiness)>, out: &mut Vec<(u64, Readiness)>)
     out.append(&mut events).unwrap()
 }
 
+impl Notify for ScriptPoller {
+    ghost notified = { λ before after. after ≡ before };
+
+    fn notify(&mut self) {
+        self.signal = Signal { is_set: true };
+    }
+}
+
 impl Poller for ScriptPoller {
     ghost use Rattle.calloop_core.specs.ScriptPollers.{script_outside};
 
     ghost outside = { script_outside };
+
+    ghost unseen = { λ before after same. same };
 
     fn now(&mut self) -> Instant {
         self.moment
@@ -184,6 +215,7 @@ impl Poller for ScriptPoller {
         events: &mut Vec<(u64, Readiness)>,
     ) -> io::Result<()> {
         self.note(timeout);
+        self.signal = Signal { is_set: false };
         let Some(answer) = self.answers.pop_front() else {
             if let Some(asked) = timeout {
                 self.moment = self.moment.after(asked);

@@ -2,10 +2,10 @@
 ghost use Rattle.std.specs.Prelude.{◌≡◌, ◌≤◌, ◌+◌, ◌++◌, ◌∷◌, [], false, true, not, map, length, is_ok, is_some, Err, MatchResult, if◌then◌else◌};
 ghost use Rattle.std.specs.VecDeque.{deque_len, deque_capacity};
 ghost use Rattle.std.specs.List.{insert};
-ghost use Rattle.calloop_wake.specs.Boards.{place, is_open, any_marked, marked_at, after_open_place, after_close_place, after_post, after_unpost, taken, taken_keys};
+ghost use Rattle.calloop_wake.specs.Boards.{place, is_open, any_marked, wakes, marked_at, after_open_place, after_close_place, after_post, after_unpost, taken, taken_keys};
 ghost use Rattle.calloop_wake.specs.declared.wake.board.OpenRefusal.TheVariants.{AlreadyExists, OutOfMemory};
 
-use super::{Debt, LeaveToClose, LeaveToSleep, OpenedPass, TakenPass};
+use super::{Debt, LeaveToClose, LeaveToSleep, Nudge, OpenedPass, TakenPass};
 use std::alloc::Global;
 use std::collections::VecDeque;
 use std::marker::Model;
@@ -69,6 +69,13 @@ fn has_mark(places: &[Place]) -> bool
     ensures { result ≡ any_marked places.now }
 {
     places.iter().any(|p| p.marked)
+}
+
+// Whether the key has a place that isn't marked.
+fn has_unmarked(places: &[Place], key: u64) -> bool
+    ensures { result ≡ wakes key places.now }
+{
+    places.iter().any(|p| p.key == key && !p.marked)
 }
 
 fn marked(place: Place, key: u64) -> Place
@@ -171,12 +178,20 @@ impl Board {
         remove_place(&mut self.places, key);
     }
 
-    /// Marks the key of a debt, where its place is open. The debt of a key with no place is spent all the same.
-    pub fn post(&mut self, debt: Debt)
-        ensures { self.new ≡ after_post debt self.old }
+    /// Marks the key of a debt, where its place is open, and gives a nudge exactly where that set a mark anew. The
+    /// debt of a key with no place is spent all the same.
+    pub fn post(&mut self, debt: Debt) -> Option<Nudge>
+        ensures board { self.new ≡ after_post debt self.old }
+        ensures nudges { is_some result ≡ wakes debt self.old }
     {
         let Debt { key } = debt;
+        let anew = has_unmarked(&self.places, key);
         mark(&mut self.places, key);
+        if anew {
+            Some(Nudge { of_wake: () })
+        } else {
+            None
+        }
     }
 
     /// Gives the leave to sleep where no key is marked.

@@ -1,6 +1,7 @@
 //! The cell of a ping, which its ends share.
-ghost use Rattle.std.specs.Prelude.{◌≡◌, None};
+ghost use Rattle.std.specs.Prelude.{◌≡◌, None, List};
 ghost use Rattle.calloop_wake.specs.Cells.{fresh, IsLit, IsStanding, owed, owed_at, after_ring, after_set_key, after_clear_key, after_open_turn, after_end_turn, turn_of};
+ghost use Rattle.calloop_wake.specs.Wakes.{Step, start, after_all, IsSchedule, IsCovered};
 
 use super::{Debt, LeaveToClose, OpenedPass, PingTurn, TakenPass};
 use std::marker::Model;
@@ -144,3 +145,10 @@ impl PingCore {
         None
     }
 }
+
+/// Over every schedule of the wake machine, from the state in which nothing has happened: a standing ring is pinged
+/// or its turn stands open; a pinged cell's key is posted, owed or held as a pass; and where the loop has looked and
+/// found no mark, a posted key is told to it by a nudge that is owed or by the signal.
+pub fn covered()
+    ensures { (steps : List Step) → IsSchedule start steps → IsCovered (after_all start steps) }
+{}
