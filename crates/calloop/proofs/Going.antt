@@ -41,7 +41,7 @@ batch-after v (PutBack pass) = refl
 batch-after v (Arm deadline token) = refl
 batch-after v (ArmAgain counter deadline token) = refl
 batch-after v (Cancel counter) = refl
-batch-after v (Call counter) = refl
+batch-after v (Call counter deadline) = refl
 batch-after v (ReadClock now after) = refl
 
 pub batch-stepped : {P : Type 0} (v : PollView P) (steps : List (PollStep P)) → (polls_after v steps).batch ≡ v.batch

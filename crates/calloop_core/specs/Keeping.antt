@@ -18,13 +18,10 @@ use Rattle.calloop_core.specs.Polls.{PollView, PollStep}
 use Rattle.calloop_core.specs.Holdings.{Hold, Free, Spent, Standing, IsWithin, Keeps, with_hold}
 use Rattle.calloop_core.specs.Timers.{timer_holds, held_as, releases, Armed, IsTimerReg, IsTimerUnreg, ArmedAgain, ArmedFor, Answered, IsTimerTurn, IsNoPing, registered_as, armed_for, spent}
 
-free_standing : Free ≢ Standing
-free_standing e = cc
-
 within_same : (h : Hold) → IsWithin h h
 within_same Free = tt
 within_same Spent = λ e. cc
-within_same Standing = refl
+within_same (Standing deadline) = refl
 
 -- what holds one counter, within what holds it too
 within_one : (counter n : ℕ) (h : Hold) (held : ℕ → Hold) → IsWithin (if nat_eq counter n then h else Free) (with_hold n h held counter)
@@ -36,28 +33,28 @@ same_counter n = grind (arith, nat_tests)
 held_here : (n : ℕ) (h : Hold) (held : ℕ → Hold) → with_hold n h held n ≡ h
 held_here n h held = ap (λ b. if b then h else held n) (same_counter n)
 
-own_state : (r : Registration) → held_as (Some r) r.counter ≡ (if r.spent then Spent else Standing)
-own_state r = ap (λ b. if b then (if r.spent then Spent else Standing) else Free) (same_counter r.counter)
+own_state : (r : Registration) → held_as (Some r) r.counter ≡ (if r.spent then Spent else Standing r.armed)
+own_state r = ap (λ b. if b then (if r.spent then Spent else Standing r.armed) else Free) (same_counter r.counter)
 
-not_free : (b : Bool) → (if b then Spent else Standing) ≢ Free
-not_free true e = cc
-not_free false e = cc
+not_free : (b : Bool) (at : Instant) → (if b then Spent else Standing at) ≢ Free
+not_free true at e = cc
+not_free false at e = cc
 
 keeps_armed : {P : Type 0} (held : ℕ → Hold) (o : Option Instant) (next : ℕ) (f g : TokenFactory) (a : Result (Unit {0}) Error) (l : List (PollStep P)) (t : Timer) → Armed o next f a l t g → Keeps held next l (timer_holds t)
 keeps_armed held None next f g a l t h = rw (h.1, h.2) (λ counter. tt)
-keeps_armed held (Some at) next f g (Ok u) l t h = rw (h.0, h.1) (λ counter. within_one counter next Standing held)
+keeps_armed held (Some at) next f g (Ok u) l t h = rw (h.0, h.1) (λ counter. within_one counter next (Standing at) held)
 keeps_armed held (Some at) next f g (Err e) l t h = rw (h.0, h.1) (λ counter. tt)
 
 keeps_released : {P : Type 0} (o : Option Registration) (next : ℕ) (more : List (PollStep P)) (after : ℕ → Hold) → ((held : ℕ → Hold) → Keeps held next more after) → Keeps (held_as o) next (releases o ++ more) after
 keeps_released None next more after h = h (held_as None)
-keeps_released (Some r) next more after h = (λ e. not_free r.spent (sym (own_state r) ∙ e), h (with_hold r.counter Free (held_as (Some r))))
+keeps_released (Some r) next more after h = (λ e. not_free r.spent r.armed (sym (own_state r) ∙ e), h (with_hold r.counter Free (held_as (Some r))))
 
 pub timer_reg_keeps : {P : Type 0} (s t : Timer) (v : PollView P) (f g : TokenFactory) (a : Result (Unit {0}) Error) (l : List (PollStep P)) → IsTimerReg s v f a l t g → Keeps (timer_holds s) v.deadlines.next l (timer_holds t)
 timer_reg_keeps s t v f g a l h = rw h.1 (keeps_released s.registration v.deadlines.next h.0 (timer_holds t) (λ held. keeps_armed held s.deadline v.deadlines.next f g a h.0 t h.2))
 
 only_released : (P : Type 0) (o : Option Registration) (next : ℕ) → Keeps {P = P} (held_as o) next (releases {P = P} o) (held_as None)
 only_released P None next = λ counter. tt
-only_released P (Some r) next = (λ e. not_free r.spent (sym (own_state r) ∙ e), λ counter. tt)
+only_released P (Some r) next = (λ e. not_free r.spent r.armed (sym (own_state r) ∙ e), λ counter. tt)
 
 pub timer_unreg_keeps : {P : Type 0} (s t : Timer) (v : PollView P) (a : Result (Unit {0}) Error) (l : List (PollStep P)) → IsTimerUnreg s a l t → Keeps (timer_holds s) v.deadlines.next l (timer_holds t)
 timer_unreg_keeps s t v a l h = rw (h.1, h.2) (only_released _ s.registration v.deadlines.next)
@@ -66,7 +63,7 @@ pub timer_ring_keeps : {P : Type 0} (s t : Timer) (v : PollView P) (b : Bool) (l
 timer_ring_keeps s t v b l h = rw (h.1, h.2) (λ counter. within_same (timer_holds s counter))
 
 keeps_again : {P : Type 0} (held : ℕ → Hold) (next : ℕ) (r : Registration) (at : Instant) (a : Result PostAction TimerError) (l : List (PollStep P)) (t : Timer) → held r.counter ≡ Spent → ArmedAgain r at a l t → Keeps held next l (timer_holds t)
-keeps_again held next r at (Ok x) l t mine h = rw (h.1, h.2) (mine, λ counter. within_one counter r.counter Standing held)
+keeps_again held next r at (Ok x) l t mine h = rw (h.1, h.2) (mine, λ counter. within_one counter r.counter (Standing at) held)
 keeps_again held next r at (Err e) l t mine h = rw (h.0, h.1) (λ counter. tt)
 
 keeps_for : {P : Type 0} (held : ℕ → Hold) (next : ℕ) (r : Registration) (moment : Option Instant) (a : Result PostAction TimerError) (l : List (PollStep P)) (t : Timer) → ArmedFor r moment a l t → Keeps (with_hold r.counter Spent held) next l (timer_holds t)
@@ -80,6 +77,6 @@ keeps_answered held next s r (ToDuration time) a l t h = rw h.3 (keeps_for held 
 
 pub timer_turn_keeps : {P : Type 0} (s t : Timer) (k : Token) (v : PollView P) (cs : List (OneCall Instant (Unit {0}) TimeoutAction)) (a : Result PostAction TimerError) (l : List (PollStep P)) → IsTimerTurn s k v cs a l t → Keeps (timer_holds s) v.deadlines.next l (timer_holds t)
 timer_turn_keeps s t k v cs a l (inl (r, h)) =
-    let mine : held_as s.registration r.counter ≡ Standing = ap (λ o. held_as o r.counter) h.registered ∙ own_state r ∙ ap (λ b. if b then Spent else Standing) h.unspent in
+    let mine : held_as s.registration r.counter ≡ Standing r.armed = ap (λ o. held_as o r.counter) h.registered ∙ own_state r ∙ ap (λ b. if b then Spent else Standing r.armed) h.unspent in
     rw h.steps_are (mine, keeps_answered (timer_holds s) v.deadlines.next s r h.action a h.more t h.answered)
 timer_turn_keeps s t k v cs a l (inr h) = rw (h.no_steps, h.same) (λ counter. within_same (timer_holds s counter))

@@ -61,8 +61,8 @@ pub data PollStep (P : Type 0) : Type 0 where
   Arm : (deadline : Instant) (token : Token) → PollStep P
   ArmAgain : (counter : ℕ) (deadline : Instant) (token : Token) → PollStep P
   Cancel : (counter : ℕ) → PollStep P
-  -- the callback of the timer of this counter is called
-  Call : (counter : ℕ) → PollStep P
+  -- the callback of the timer of this counter is called with this deadline
+  Call : (counter : ℕ) (deadline : Instant) → PollStep P
   ReadClock : (now : ℕ) (after : P) → PollStep P
 
 abbrev pub poll_after : {P : Type 0} → PollView P → PollStep P → PollView P
@@ -74,7 +74,7 @@ poll_after v (PutBack pass) = with_pass (Some pass) v
 poll_after v (Arm deadline token) = with_deadlines (with_new deadline token v.deadlines) v
 poll_after v (ArmAgain counter deadline token) = with_deadlines (with_again counter deadline token v.deadlines) v
 poll_after v (Cancel counter) = with_deadlines (cancelled counter v.deadlines) v
-poll_after v (Call counter) = v
+poll_after v (Call counter deadline) = v
 poll_after v (ReadClock now after) = polling after v
 
 abbrev pub polls_after : {P : Type 0} → PollView P → List (PollStep P) → PollView P
@@ -91,7 +91,7 @@ Allowed O v (PutBack pass) = Unit {0}
 Allowed O v (Arm deadline token) = Unit {0}
 Allowed O v (ArmAgain counter deadline token) = (is_armed counter v.deadlines ≡ false) × (counter < v.deadlines.next)
 Allowed O v (Cancel counter) = Unit {0}
-Allowed O v (Call counter) = is_armed counter v.deadlines ≡ false
+Allowed O v (Call counter deadline) = is_armed counter v.deadlines ≡ false
 Allowed O v (ReadClock now after) = O.reads v.poller now after
 
 abbrev pub AllAllowed : {P : Type 0} → Outside P → PollView P → List (PollStep P) → Type 0

@@ -37,7 +37,7 @@ armed_for deadline r = record r { armed = deadline; spent = false }
 -- the counter that a timer holds
 abbrev pub held_as : Option Registration → ℕ → Hold
 held_as None counter = Free
-held_as (Some r) counter = if nat_eq counter r.counter then (if r.spent then Spent else Standing) else Free
+held_as (Some r) counter = if nat_eq counter r.counter then (if r.spent then Spent else Standing r.armed) else Free
 
 abbrev pub timer_holds : Timer → ℕ → Hold
 timer_holds t = held_as t.registration
@@ -92,7 +92,7 @@ pub record IsCalled {P : Type 0} (s : Timer) (token : Token) (v : PollView P) (c
   pub action : TimeoutAction
   pub called : calls ≡ record { event = r.armed; before = tt; after = tt; answer = action } ∷ []
   pub more : List (PollStep P)
-  pub steps_are : steps ≡ Call r.counter ∷ more
+  pub steps_are : steps ≡ Call r.counter r.armed ∷ more
   pub answered : Answered s r action answer more t
 
 -- no call: the token isn't the timer's, its arming was called for, or its counter has a deadline

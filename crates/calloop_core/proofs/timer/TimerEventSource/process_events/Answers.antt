@@ -18,11 +18,11 @@ pub returns : goal.returns
 returns g c =
     (
       record { event = c.in-Some.registration.armed; before = tt; after = tt; answer = c.call.ensures.0 } ∷ [],
-      Call c.in-Some.registration.counter ∷ c.call.ensures.1,
+      Call c.in-Some.registration.counter c.in-Some.registration.armed ∷ c.call.ensures.1,
       inl (
         c.in-Some.registration,
         record { registered = search rules; named = search rules; unspent = search rules; unarmed = search rules; action = c.call.ensures.0; called = refl; more = c.call.ensures.1; steps_are = refl; answered = c.call.ensures.2 },
       ),
-      stepped_first g.P.Poller.outside (poll_view c.args.poll.now) (poll_view c.args.poll.now) (poll_view c.call.new.poll) (Call c.in-Some.registration.counter) c.call.ensures.1 (search rules) refl c.call.ensures.3,
+      stepped_first g.P.Poller.outside (poll_view c.args.poll.now) (poll_view c.args.poll.now) (poll_view c.call.new.poll) (Call c.in-Some.registration.counter c.in-Some.registration.armed) c.call.ensures.1 (search rules) refl c.call.ensures.3,
       c.call.ensures.4,
     )
