@@ -11,13 +11,13 @@ use Rattle.calloop_wake.proofs.Named.{source_is}
 use Rattle.calloop_wake.specs.Boards.{taken_keys}
 use Rattle.calloop_core.specs.declared.sys.poll.Pending.{Pending}
 use Rattle.calloop_core.specs.declared.sources.PostAction.{PostAction}
-use Rattle.calloop_core.specs.declared.sources.PostAction.TheVariants.{Continue, Remove}
+use Rattle.calloop_core.specs.declared.sources.PostAction.TheVariants.{Remove}
 use Rattle.calloop_core.specs.Pollers.{Outside}
 use Rattle.calloop_core.specs.Waits.{Polled}
 use Rattle.calloop_core.specs.Polls.{PollView, PollStep, AllStepped, polling, with_pass, cut, cut_from, begun, tail_of, head_of, poll_after, polls_after, OpenPlace, ClosePlace, Post, TakePass, PutBack, Arm, ArmAgain, Cancel, Call, ReadClock}
 use Rattle.calloop_core.specs.Meanings.{Meaning}
 use Rattle.calloop.specs.Machine.{View, Change, Put, Polls, Polling, Gathered, Cut, Ended, all_viewed, AllFit}
-use Rattle.calloop.specs.Rules.{Goes, Steps, Step, Doing, Waiting, Gathering, Cutting, Ending, Leaving, traced, EndedBy, CutTo, CutFrom, DispatchedBy, Did, after_hand_out}
+use Rattle.calloop.specs.Rules.{Goes, Steps, Step, Doing, Waiting, Gathering, Cutting, Ending, Leaving, traced, EndedBy, CutTo, CutFrom, DispatchedBy, Did}
 
 traced-append : {D P : Type 0} (v : View D P) (css dss : List (List (Change D P))) → traced v (css ++ dss) ≡ traced (traced v css) dss
 traced-append v [] dss = refl

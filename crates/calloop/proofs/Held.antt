@@ -1,5 +1,5 @@
 -- The registration of a source that is held.
-use Rattle.std.proofs.Common.{◌≡◌, refl, List, Result}
+use Rattle.std.proofs.Common.{refl, List, Result}
 use Rattle.calloop_wake.specs.declared.error.Error.{Error}
 use Rattle.calloop_wake.specs.declared.token.TokenFactory.{TokenFactory}
 use Rattle.calloop_core.specs.Pollers.{Outside}

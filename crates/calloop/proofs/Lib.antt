@@ -1,5 +1,8 @@
 pub mod Seen
+pub mod Counting
 pub mod Going
+pub mod Noting
+pub mod Owning
 pub mod Inserting
 pub mod Held
 pub mod Rights

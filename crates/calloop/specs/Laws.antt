@@ -1,9 +1,15 @@
 -- What holds of every run.
-use Rattle.std.specs.Prelude.{◌≡◌, ℕ, ◌+◌, ◌*◌, ◌%◌, ◌<◌, List, [], ◌∷◌, ◌++◌, ◌⊎◌, Option, Some, None, slice_get}
+use Rattle.std.specs.Prelude.{◌≡◌, ℕ, ◌+◌, ◌*◌, ◌%◌, ◌<◌, ◌≤◌, Bool, false, map, nat_eq, nat_lt, if◌then◌else◌, List, [], ◌∷◌, ◌++◌, ◌⊎◌, Option, Some, None, slice_get}
 use Rattle.calloop_wake.specs.declared.token.Token.{Token}
 use Rattle.calloop_wake.specs.declared.list.Content.{Content}
 use Rattle.calloop_wake.specs.declared.list.Content.TheVariants.{Source}
 use Rattle.calloop_core.specs.declared.sys.poll.Pending.{Pending}
+use Rattle.calloop_core.specs.Polls.{PollView}
+use Rattle.calloop_core.specs.Holdings.{Free}
+use Rattle.calloop_core.specs.Meanings.{Meaning}
+use Rattle.calloop.specs.declared.loop_logic.Call.{Call}
+use Rattle.calloop.specs.declared.loop_logic.Call.TheVariants.{Insert, Ring, Dispatch, Poller as NewPoller}
+use Rattle.calloop.specs.Ledgers.{Ledger, Arming, Armed, Origin, Elsewhere, Due, Waiting, Called, entry_in}
 use Rattle.calloop.specs.Machine.{World, Registration, Change, Put, Claim, Polls, Polling, Gathered, Cut, Ended, done, all_done}
 
 -- a source stands there that isn't in its turn
@@ -56,6 +62,90 @@ NamesLater {D} {P} w w' = (token : Token) (r r' : Registration D) → Names w to
 -- between any two moments of these changes
 abbrev pub AllNamesLater : {D P : Type 0} → World D P → List (Change D P) → Type 0
 AllNamesLater {D} {P} w cs = (before between after : List (Change D P)) → cs ≡ before ++ (between ++ after) → NamesLater (all_done w before) (all_done (all_done w before) between)
+
+-- The armings of timers.
+
+abbrev pub one : {A : Type 0} → (A → Bool) → A → ℕ
+one p x = if p x then 1 else 0
+
+-- how many pass
+abbrev pub counted : {A : Type 0} → (A → Bool) → List A → ℕ
+counted p [] = 0
+counted p (x ∷ xs) = one p x + counted p xs
+
+abbrev pub is_armed_as : (number : ℕ) → Armed → Bool
+is_armed_as n a = nat_eq a.number n
+
+abbrev pub is_due_as : (number : ℕ) → Origin → Bool
+is_due_as n Elsewhere = false
+is_due_as n (Due number deadline gathered) = nat_eq number n
+
+abbrev pub waits_as : (number : ℕ) → Waiting → Bool
+waits_as n w = is_due_as n w.origin
+
+abbrev pub is_number : (number : ℕ) → ℕ → Bool
+is_number n m = nat_eq m n
+
+abbrev pub is_arming_as : (number : ℕ) → Option Arming → Bool
+is_arming_as n None = false
+is_arming_as n (Some a) = nat_eq a.number n
+
+abbrev pub is_call_as : (number : ℕ) → Called → Bool
+is_call_as n c = is_arming_as n c.arming
+
+-- how often the arming of this number stands in the deadlines, in the batch, among the cancelled ones, and among the cut ones
+abbrev pub places : (number : ℕ) → Ledger → ℕ
+places n l = counted (is_armed_as n) l.armed + (counted (waits_as n) l.batch + (counted (is_number n) l.cancelled + counted (waits_as n) l.cut))
+
+-- gathered when its deadline had come
+abbrev pub OnTime : Origin → Type 0
+OnTime Elsewhere = Unit {0}
+OnTime (Due number deadline gathered) = deadline ≤ gathered
+
+abbrev pub AllOnTime : List Waiting → Type 0
+AllOnTime [] = Unit {0}
+AllOnTime (w ∷ ws) = OnTime w.origin × AllOnTime ws
+
+-- a call belongs to an arming, and handed out its deadline
+abbrev pub IsOwnCall : Called → Type 0
+IsOwnCall c = (a : Arming) × (c.arming ≡ Some a) × (a.deadline ≡ c.deadline)
+
+abbrev pub AllOwnCalls : List Called → Type 0
+AllOwnCalls [] = Unit {0}
+AllOwnCalls (c ∷ cs) = IsOwnCall c × AllOwnCalls cs
+
+abbrev pub event_of : Waiting → Pending
+event_of w = w.event
+
+-- what the ledger says of a `Poll`
+pub record IsKept {P : Type 0} (l : Ledger) (v : PollView P) : Type 0 where
+  -- the armings in the deadlines are its deadlines, and those in the batch belong to its batch
+  pub entries : map entry_in l.armed ≡ v.deadlines.entries
+  pub events : map event_of l.batch ≡ v.batch
+  -- each arming is in just one place
+  pub placed : (number : ℕ) → places number l ≡ (if nat_lt number l.count then 1 else 0)
+  -- none was gathered before its deadline
+  pub batch_on_time : AllOnTime l.batch
+  pub cut_on_time : AllOnTime l.cut
+  -- each call belongs to an arming of its own, which was gathered, and handed out its deadline
+  pub own : AllOwnCalls l.calls
+  pub once : (number : ℕ) → counted (is_call_as number) l.calls ≤ 1
+  pub gathered : (number : ℕ) → counted (is_call_as number) l.calls ≤ counted (waits_as number) l.batch + counted (waits_as number) l.cut
+
+-- a dispatcher that holds no counter, as one that was never registered
+abbrev pub HoldsNone : {D P X : Type 0} → Meaning D P X → D → Type 0
+HoldsNone m d = (counter : ℕ) → m.holds d counter ≡ Free
+
+-- what a call puts into the loop holds no counter yet: each source is used with one loop
+abbrev pub IsFresh : {D P X : Type 0} → Meaning D P X → Call D P X → Type 0
+IsFresh m (Insert d) = HoldsNone m d
+IsFresh m (Ring token) = Unit {0}
+IsFresh m (Dispatch timeout x) = Unit {0}
+IsFresh m (NewPoller p) = Unit {0}
+
+abbrev pub AllFresh : {D P X : Type 0} → Meaning D P X → List (Call D P X) → Type 0
+AllFresh m [] = Unit {0}
+AllFresh m (c ∷ cs) = IsFresh m c × AllFresh m cs
 
 pub record IsSound {D P : Type 0} (w : World D P) (cs : List (Change D P)) : Type 0 where
   pub reaches : AllRight w cs

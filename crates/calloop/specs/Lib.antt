@@ -1,5 +1,6 @@
 pub mod Pings
 pub mod Quiet
+pub mod Ledgers
 pub mod Machine
 pub mod Rules
 pub mod Laws

@@ -1,15 +1,15 @@
 -- The machine of the loop: its state, and the changes of it. What the code holds of the state is a `View`; the state
--- itself also has reuse counts without bound and a history, which calloop keeps nowhere.
-use Rattle.std.specs.Prelude.{◌≡◌, ℕ, ◌+◌, ◌%◌, List, [], ◌∷◌, ◌++◌, map, if◌then◌else◌, Option, None}
+-- itself also has reuse counts without bound and a ledger of all armings, which calloop keeps nowhere.
+use Rattle.std.specs.Prelude.{◌≡◌, ℕ, ◌+◌, ◌%◌, List, [], ◌∷◌, map, if◌then◌else◌, Option, None}
 use Rattle.calloop_wake.specs.declared.list.Content.{Content}
 use Rattle.calloop_wake.specs.declared.list.Content.TheVariants.{Vacant}
 use Rattle.calloop_wake.specs.declared.list.Slot.{Slot}
 use Rattle.calloop_wake.specs.Slots.{changed, with_content, claimed, is_empty}
 use Rattle.calloop_wake.specs.Boards.{taken_keys}
 use Rattle.calloop_core.specs.declared.sys.Readiness.{Readiness}
-use Rattle.calloop_core.specs.declared.sys.poll.Pending.{Pending}
 use Rattle.calloop_core.specs.Pollers.{Outside}
 use Rattle.calloop_core.specs.Polls.{PollView, PollStep, poll_view, polls_after, AllAllowed, gathered, polling, with_pass, cut}
+use Rattle.calloop.specs.Ledgers.{Ledger, steps_noted, gathering_noted, cut_noted, new_ledger}
 use Rattle.calloop.specs.declared.loop_logic.EventLoop.{EventLoop}
 
 -- a slot: how often it was used again, without bound, and what stands in it
@@ -21,8 +21,8 @@ pub record Registration (D : Type 0) : Type 0 where
 pub record World (D P : Type 0) : Type 0 where
   pub slots : List (Registration D)
   pub poll : PollView P
-  -- the events that were cut from the batch, in order
-  pub history : List Pending
+  -- what is known of the armings of timers
+  pub ledger : Ledger
 
 -- what the loop holds of it
 pub record View (D P : Type 0) : Type 0 where
@@ -32,7 +32,7 @@ pub record View (D P : Type 0) : Type 0 where
 abbrev pub slot_of : {D : Type 0} → Registration D → Slot D
 slot_of r = record { version = r.reuse % 65536; content = r.content }
 
--- reuse counts are known modulo 65,536, and the history isn't
+-- reuse counts are known modulo 65,536, and the ledger isn't
 abbrev pub seen : {D P : Type 0} → World D P → View D P
 seen w = record { slots = map slot_of w.slots; poll = w.poll }
 
@@ -82,17 +82,13 @@ abbrev pub claimed_of : {D : Type 0} → List (Registration D) → List (Registr
 claimed_of [] = record { reuse = 0; content = Vacant } ∷ []
 claimed_of (r ∷ rs) = if is_empty r.content then reused r ∷ rs else r ∷ claimed_of rs
 
-abbrev pub heads_of : {A : Type 0} → List A → List A
-heads_of [] = []
-heads_of (x ∷ xs) = x ∷ []
-
 abbrev pub done : {D P : Type 0} → World D P → Change D P → World D P
 done w (Put slot content) = record w { slots = changed (holding content) w.slots slot }
 done w Claim = record w { slots = claimed_of w.slots }
-done w (Polls steps) = record w { poll = polls_after w.poll steps }
+done w (Polls steps) = record w { poll = polls_after w.poll steps; ledger = steps_noted w.ledger w.poll steps }
 done w (Polling poller) = record w { poll = polling poller w.poll }
-done w (Gathered posted given now) = record w { poll = gathered posted given now w.poll }
-done w (Cut slot) = record w { poll = cut w.poll; history = w.history ++ heads_of w.poll.batch }
+done w (Gathered posted given now) = record w { poll = gathered posted given now w.poll; ledger = gathering_noted w.ledger posted given now }
+done w (Cut slot) = record w { poll = cut w.poll; ledger = cut_noted w.ledger }
 done w Ended = record w { poll = with_pass None w.poll }
 
 abbrev pub all_done : {D P : Type 0} → World D P → List (Change D P) → World D P
@@ -121,4 +117,4 @@ pub record IsNew {D P : Type 0} (w : World D P) : Type 0 where
   pub batch : w.poll.batch ≡ []
   pub passes : w.poll.passes ≡ []
   pub pass : w.poll.pass ≡ None
-  pub history : w.history ≡ []
+  pub ledger : w.ledger ≡ new_ledger

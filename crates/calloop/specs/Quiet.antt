@@ -1,5 +1,5 @@
 -- A ping holds no counter of a timer, and makes no step of one. The impl cites these proofs, so they stand here.
-use Rattle.std.specs.Prelude.{◌≡◌, ℕ, List, [], ◌∷◌, ◌++◌, Bool, true, false, Option, Some, None, Result, Ok, Err}
+use Rattle.std.specs.Prelude.{ℕ, List, ◌++◌, Bool, true, false, Option, Some, None, Result, Ok, Err}
 use Rattle.calloop_wake.specs.declared.error.Error.{Error}
 use Rattle.calloop_wake.specs.declared.token.Token.{Token}
 use Rattle.calloop_wake.specs.declared.token.TokenFactory.{TokenFactory}
@@ -9,10 +9,10 @@ use Rattle.calloop_wake.specs.Cells.{turn_of}
 use Rattle.calloop_core.specs.declared.sources.PostAction.{PostAction}
 use Rattle.calloop_core.specs.Calls.{Call}
 use Rattle.calloop_core.specs.Polls.{PollView, PollStep, posts, closes}
-use Rattle.calloop_core.specs.Holdings.{Hold, Keeps, holds_none}
+use Rattle.calloop_core.specs.Holdings.{Keeps, holds_none}
 use Rattle.calloop.specs.declared.ping.PingError.{PingError}
 use Rattle.calloop.specs.declared.ping.PingSource.{PingSource}
-use Rattle.calloop.specs.Pings.{IsPingReg, IsPingUnreg, IsPingRing, IsPingTurn, IsPingTurned, PingTurnFor, PingTurnWith, PingTurned, is_token}
+use Rattle.calloop.specs.Pings.{IsPingReg, IsPingUnreg, IsPingRing, IsPingTurn, PingTurnFor, PingTurnWith, PingTurned, is_token}
 
 closes_keeps : (P : Type 0) (o : Option ℕ) (next : ℕ) (more : List (PollStep P)) → Keeps holds_none next more holds_none → Keeps holds_none next (closes o ++ more) holds_none
 closes_keeps P None next more h = h

@@ -1,5 +1,4 @@
-use Rattle.std.proofs.Common.{◌≡◌, List, ap, ◌∙◌, refl, sym, subst, None, Ok, Err, Result}
-use Rattle.calloop_wake.specs.declared.error.Error.{Error}
+use Rattle.std.proofs.Common.{◌≡◌, List, ap, ◌∙◌, refl, None, Ok, Err}
 use Rattle.calloop_wake.specs.declared.list.Content.TheVariants.{Source, Vacant}
 use Rattle.calloop_wake.specs.declared.list.Slot.{Slot}
 use Rattle.calloop_wake.specs.declared.token.RegistrationToken.{RegistrationToken}
@@ -8,7 +7,7 @@ use Rattle.calloop_core.specs.declared.sources.PostAction.{PostAction}
 use Rattle.calloop_core.specs.declared.sources.PostAction.TheVariants.{Continue, Remove}
 use Rattle.calloop_core.specs.Polls.{PollView, poll_view, with_pass}
 use Rattle.calloop.specs.Machine.{View, view_of}
-use Rattle.calloop.specs.Rules.{Cutting, Ending, Leaving, EndedBy, Goes}
+use Rattle.calloop.specs.Rules.{Cutting, Ending, Leaving}
 use Rattle.calloop.proofs.Going.{goes_to, stays, leaves, batch-stepped}
 use Rattle.calloop.proofs.loop_logic.EventLoop.end_turn.Goals as goal
 

@@ -1,5 +1,6 @@
 use Rattle.std.proofs.Common.{◌≡◌, [], List, refl, sym, ap, ◌∙◌, None}
 use Rattle.calloop_wake.specs.declared.list.Slot.{Slot}
+use Rattle.calloop.specs.Ledgers.{new_ledger}
 use Rattle.calloop_core.specs.Polls.{PollView, poll_view}
 use Rattle.calloop.proofs.loop_logic.EventLoop.try_new.Goals as goal
 
@@ -9,8 +10,8 @@ returns g c =
     let polls : poll_view c.reserve.new.self ≡ new = c.in_ok-reserve.ensures.view ∙ c.new-poll.ensures in
     record {
       ok = (
-        record { slots = []; poll = new; history = [] },
-        record { slots = refl; board = refl; deadlines = refl; batch = refl; passes = refl; pass = refl; history = refl },
+        record { slots = []; poll = new; ledger = new_ledger },
+        record { slots = refl; board = refl; deadlines = refl; batch = refl; passes = refl; pass = refl; ledger = refl },
         refl,
         sym (ap (λ (s : List (Slot g.row.D.Denot)). record { slots = s; poll = poll_view c.reserve.new.self }) c.new.ensures ∙ ap (λ (p : PollView g.row.P.Denot). record { slots = []; poll = p }) polls),
       );

@@ -1,11 +1,17 @@
 use Rattle.calloop.specs.Machine.{all_done}
 use Rattle.calloop.proofs.Rights.{run_right}
 use Rattle.calloop.proofs.Reuse.{names_later}
+use Rattle.calloop.proofs.Owning.{run_owned, new_owned}
 use Rattle.calloop.proofs.loop_logic.laws.once.Goals as goal
 
 pub returns : goal.returns
-returns g c calls answers csss w w' run =
+returns g c =
     record {
-      reaches = run_right g.D.EventDispatcher.means g.P.Poller.outside calls answers csss w w' run;
-      stale = λ before between after is. names_later (all_done w before) between;
+      sound = λ calls answers csss w w' run.
+          record {
+            reaches = run_right g.D.EventDispatcher.means g.P.Poller.outside calls answers csss w w' run;
+            stale = λ before between after is. names_later (all_done w before) between;
+          };
+      armings = λ calls answers csss w w' new fresh run.
+          (run_owned g.D.EventDispatcher.means g.P.Poller.outside g.met.D.EventDispatcher.keeps calls answers csss w w' fresh run (new_owned g.D.EventDispatcher.means w new)).noted.kept;
     }

@@ -1,0 +1,297 @@
+-- Over every run, each counter is held by one source at most, and what the ledger says is kept.
+use Rattle.std.proofs.Common.{◌≡◌, ◌≢◌, ◌⊎◌, inl, inr, ℕ, zero, suc, ◌%◌, List, [], ◌∷◌, map, refl, ap, sym, ◌∙◌, subst, arith, Some, None, Option, Result, Ok, Err, true, false, if◌then◌else◌, nat_eq, nat_lt, slice_get}
+use Rattle.std.proofs.lemmas.Bool.Decides.{nat_tests}
+use Rattle.calloop_wake.specs.declared.error.Error.{Error}
+use Rattle.calloop_wake.specs.declared.error.InsertError.{InsertError}
+use Rattle.calloop_wake.specs.declared.list.Content.{Content}
+use Rattle.calloop_wake.specs.declared.list.Content.TheVariants.{Vacant, Source, InTurn}
+use Rattle.calloop_wake.specs.declared.token.Token.{Token}
+use Rattle.calloop_wake.specs.declared.token.RegistrationToken.{RegistrationToken}
+use Rattle.std.proofs.lemmas.Option.{slice_get-map}
+use Rattle.std.specs.Option.{option_map}
+use Rattle.std.specs.declared.io.Error.{Error as Cause}
+use Rattle.calloop_wake.specs.Slots.{changed, named, content_under, is_empty, next_registration}
+use Rattle.calloop_wake.specs.Tokens.{registration_of}
+use Rattle.calloop_core.specs.declared.sys.Readiness.{Readiness}
+use Rattle.calloop_core.specs.declared.sys.poll.Pending.{Pending}
+use Rattle.calloop_core.specs.declared.sources.PostAction.{PostAction}
+use Rattle.calloop_core.specs.declared.sources.PostAction.TheVariants.{Continue, Remove}
+use Rattle.calloop_core.specs.Pollers.{Outside, nanos_of}
+use Rattle.calloop_core.specs.Polls.{PollStep, AllAllowed, with_pass, cut}
+use Rattle.calloop_core.specs.Holdings.{Free, Keeps}
+use Rattle.calloop_core.specs.Meanings.{Meaning, IsKeeping}
+use Rattle.calloop.specs.Machine.{World, View, IsNew, Registration, Change, Put, Claim, Polls, Polling, Gathered, Cut, Ended, holding, reused, claimed_of, done, all_done, seen, slot_of, AllFit}
+use Rattle.calloop.specs.declared.loop_logic.Call.{Call}
+use Rattle.calloop.specs.declared.loop_logic.Call.TheVariants.{Insert, Ring, Dispatch, Poller as NewPoller}
+use Rattle.calloop.specs.declared.loop_logic.Answer.{Answer}
+use Rattle.calloop.specs.declared.loop_logic.Answer.TheVariants.{Inserted, Rung, Dispatched, Poller as OldPoller}
+use Rattle.calloop.specs.Rules.{Doing, Waiting, Gathering, Cutting, Ending, Leaving, Step, Steps, CutTo, CutFrom, EndedBy, after_wait, Case, Once, Run, InsertedBy, RungBy, RungIn, factory_of, all_traced}
+use Rattle.calloop.specs.Laws.{HoldsNone, IsFresh, AllFresh}
+use Rattle.calloop.proofs.Seen.{seen-all_done}
+use Rattle.calloop.proofs.Noting.{IsNoted, IsGood, IsApart, apart_sym, noted_alike, noted_gathered, noted_cut, good_gathered, good_cut, cut_deadlines, done_steps}
+
+-- this source stands in this slot
+abbrev pub At : {D : Type 0} → List (Registration D) → ℕ → D → Type 0
+At {D} slots i d = (r : Registration D) × (slice_get slots i ≡ Some r) × (r.content ≡ Source d)
+
+at_put : {D : Type 0} (slots : List (Registration D)) (k i : ℕ) (content : Content D) (d : D) → At (changed (holding content) slots k) i d → ((i ≡ k) × (content ≡ Source d)) ⊎ ((i ≢ k) × At slots i d)
+at_put [] k i content d h = let e = h.1 in cc
+at_put (x ∷ xs) zero zero content d h = let e = h.1 in let f = h.2 in inl (refl, cc)
+at_put (x ∷ xs) zero (suc i) content d h = inr (λ e. cc, (h.0, h.1, h.2))
+at_put (x ∷ xs) (suc k) zero content d h = inr (λ e. cc, (h.0, h.1, h.2))
+at_put (x ∷ xs) (suc k) (suc i) content d h = elim (at_put xs k i content d h) [ inl e ↦ inl (ap suc e.0, e.1) | inr e ↦ inr (λ same. e.0 (omega (arith, same)), e.1) ]
+
+-- no other content is a source
+no_source : {D : Type 0} (r : Registration D) (d : D) → is_empty r.content ≡ true → r.content ≡ Source d → ⊥
+no_source r d empty is = cc
+
+at_claim : {D : Type 0} (slots : List (Registration D)) (i : ℕ) (d : D) → At (claimed_of slots) i d → At slots i d
+at_claim [] zero d h = let e = h.1 in let f = h.2 in cc
+at_claim [] (suc i) d h = let e = h.1 in cc
+at_claim {D} (x ∷ xs) zero d h =
+    elim (is_empty x.content) as (λ b. is_empty x.content ≡ b → slice_get (if b then reused x ∷ xs else x ∷ claimed_of xs) 0 ≡ Some h.0 → At (x ∷ xs) 0 d)
+    [ true ↦ λ empty e. absurd (no_source x d empty (let f = h.2 in cc)) | false ↦ λ full e. (h.0, e, h.2) ] refl h.1
+at_claim {D} (x ∷ xs) (suc i) d h =
+    elim (is_empty x.content) as (λ b. slice_get (if b then reused x ∷ xs else x ∷ claimed_of xs) (suc i) ≡ Some h.0 → At (x ∷ xs) (suc i) d)
+    [ true ↦ λ e. (h.0, e, h.2) | false ↦ λ e. at_claim xs i d (h.0, e, h.2) ] h.1
+
+-- what every machine state keeps, with the source that has its turn
+pub record IsOwned {D P X : Type 0} (M : Meaning D P X) (w : World D P) (aside : Option D) : Type 0 where
+  pub noted : IsNoted w.ledger w.poll
+  pub good : (i : ℕ) (d : D) → At w.slots i d → IsGood w.ledger w.poll.deadlines.next (M.holds d)
+  pub apart : (i j : ℕ) (d e : D) → i ≢ j → At w.slots i d → At w.slots j e → IsApart (M.holds d) (M.holds e)
+  pub own : (d : D) → aside ≡ Some d → IsGood w.ledger w.poll.deadlines.next (M.holds d)
+  pub alone : (d e : D) (i : ℕ) → aside ≡ Some d → At w.slots i e → IsApart (M.holds d) (M.holds e)
+
+module _ {D P X : Type 0} (M : Meaning D P X) (O : Outside P) (law : IsKeeping M) where
+  -- changes that leave slots, deadlines and ledger as they are
+  owned_same : (w w' : World D P) (aside : Option D) → w'.slots ≡ w.slots → w'.ledger ≡ w.ledger → w'.poll.deadlines ≡ w.poll.deadlines → w'.poll.batch ≡ w.poll.batch → IsOwned M w aside → IsOwned M w' aside
+  owned_same w w' aside slots ledger deadlines batch h =
+      record {
+        noted = rw ledger (noted_alike w.ledger w.poll w'.poll deadlines batch h.noted);
+        good = rw (slots, ledger, deadlines) h.good;
+        apart = rw slots h.apart;
+        own = rw (ledger, deadlines) h.own;
+        alone = rw slots h.alone;
+      }
+
+  owned_gathered : (w : World D P) (posted : List ℕ) (given : List (ℕ × Readiness)) (now : ℕ) → IsOwned M w None → IsOwned M (done w (Gathered posted given now)) None
+  owned_gathered w posted given now h =
+      record {
+        noted = noted_gathered w.ledger w.poll posted given now h.noted;
+        good = λ i d is. good_gathered w.ledger w.poll.deadlines.next (M.holds d) posted given now (h.good i d is);
+        apart = h.apart;
+        own = λ d is. cc;
+        alone = h.alone;
+      }
+
+  owned_cut : (w : World D P) (place : Option ℕ) → IsOwned M w None → IsOwned M (done w (Cut place)) None
+  owned_cut w place h =
+      record {
+        noted = noted_cut w.ledger w.poll h.noted;
+        good = λ i d is. rw (cut_deadlines w.poll) (good_cut w.ledger w.poll.deadlines.next (M.holds d) (h.good i d is));
+        apart = h.apart;
+        own = λ d is. cc;
+        alone = h.alone;
+      }
+
+  owned_claim : (w : World D P) (aside : Option D) → IsOwned M w aside → IsOwned M (done w Claim) aside
+  owned_claim w aside h =
+      record {
+        noted = h.noted;
+        good = λ i d is. h.good i d (at_claim w.slots i d is);
+        apart = λ i j d e differ is at. h.apart i j d e differ (at_claim w.slots i d is) (at_claim w.slots j e at);
+        own = h.own;
+        alone = λ d e i is at. h.alone d e i is (at_claim w.slots i e at);
+      }
+
+  -- what is no source is put into a slot
+  owned_emptied : (w : World D P) (aside : Option D) (k : ℕ) (content : Content D) → ((d : D) → content ≡ Source d → ⊥) → IsOwned M w aside → IsOwned M (done w (Put k content)) aside
+  owned_emptied w aside k content none h =
+      let back : (i : ℕ) (d : D) → At (changed (holding content) w.slots k) i d → At w.slots i d = λ i d is. elim (at_put w.slots k i content d is) [ inl e ↦ absurd (none d e.1) | inr e ↦ e.1 ] in
+      record {
+        noted = h.noted;
+        good = λ i d is. h.good i d (back i d is);
+        apart = λ i j d e differ is at. h.apart i j d e differ (back i d is) (back j e at);
+        own = h.own;
+        alone = λ d e i is at. h.alone d e i is (back i e at);
+      }
+
+  -- a source is taken out for its turn
+  owned_out : (w : World D P) (k : ℕ) (d : D) → At w.slots k d → IsOwned M w None → IsOwned M (done w (Put k InTurn)) (Some d)
+  owned_out w k d here h =
+      let rest = owned_emptied w None k InTurn (λ e is. cc) h in
+      record {
+        noted = rest.noted;
+        good = rest.good;
+        apart = rest.apart;
+        own = λ e is. (let same : d ≡ e = cc in rw (← same) (h.good k d here));
+        alone = λ e f i is at. (let same : d ≡ e = cc in elim (at_put w.slots k i InTurn f at) [ inl x ↦ absurd (let y = x.1 in cc) | inr x ↦ rw (← same) (h.apart k i d f (λ eq. x.0 (sym eq)) here x.1) ]);
+      }
+
+  -- it goes back to a slot
+  owned_back : (w : World D P) (k : ℕ) (d : D) → IsOwned M w (Some d) → IsOwned M (done w (Put k (Source d))) None
+  owned_back w k d h =
+      record {
+        noted = h.noted;
+        good = λ i e is. elim (at_put w.slots k i (Source d) e is) [ inl x ↦ (let same : d ≡ e = (let y = x.1 in cc) in h.own e (ap (λ (z : D). Some z) same)) | inr x ↦ h.good i e x.1 ];
+        apart = λ i j e f differ is at.
+            elim (at_put w.slots k i (Source d) e is) [
+              | inl x ↦ (let same : d ≡ e = (let y = x.1 in cc) in
+                elim (at_put w.slots k j (Source d) f at) [ inl y ↦ absurd (differ (x.0 ∙ sym y.0)) | inr y ↦ h.alone e f j (ap (λ (z : D). Some z) same) y.1 ])
+              | inr x ↦ elim (at_put w.slots k j (Source d) f at) [
+                | inl y ↦ (let same : d ≡ f = (let z = y.1 in cc) in apart_sym (M.holds f) (M.holds e) (h.alone f e i (ap (λ (z : D). Some z) same) x.1))
+                | inr y ↦ h.apart i j e f differ x.1 y.1
+              ]
+            ];
+        own = λ e is. cc;
+        alone = λ e f i is at. cc;
+      }
+
+  owned_dropped : (w : World D P) (aside : Option D) → IsOwned M w aside → IsOwned M w None
+  owned_dropped w aside h = record { noted = h.noted; good = h.good; apart = h.apart; own = λ d is. cc; alone = λ d e i is at. cc }
+
+  -- one that holds no counter comes
+  owned_fresh : (w : World D P) (d : D) → ((c : ℕ) → M.holds d c ≡ Free) → IsOwned M w None → IsOwned M w (Some d)
+  owned_fresh w d free h =
+      record {
+        noted = h.noted;
+        good = h.good;
+        apart = h.apart;
+        own = λ e is.
+            (let same : d ≡ e = cc in rw (← same) (record { below = λ c held. absurd (held (free c)); standing = λ c deadline stands. (let none = free c in cc) }));
+        alone = λ e f i is at. (let same : d ≡ e = cc in rw (← same) (λ c. inl (free c)));
+      }
+
+  -- the steps of the one that has its turn
+  owned_polls : (w : World D P) (d d' : D) (steps : List (PollStep P)) → AllAllowed O w.poll steps → Keeps (M.holds d) w.poll.deadlines.next steps (M.holds d') → IsOwned M w (Some d) → IsOwned M (done w (Polls steps)) (Some d')
+  owned_polls w d d' steps allowed keeps h =
+      let x = done_steps O steps w.ledger w.poll (M.holds d) (M.holds d') allowed keeps h.noted (h.own d refl) in
+      record {
+        noted = x.noted;
+        good = λ i e is. (x.others (M.holds e) (h.alone d e i refl is) (h.good i e is)).0;
+        apart = h.apart;
+        own = λ e is. (let same : d' ≡ e = cc in rw (← same) x.good);
+        alone = λ e f i is at. (let same : d' ≡ e = cc in rw (← same) (x.others (M.holds f) (h.alone d f i refl at) (h.good i f at)).1);
+      }
+
+at_under : {D : Type 0} (v : ℕ) (o : Option (Registration D)) (d : D) → content_under v (option_map slot_of o) ≡ Source d → (r : Registration D) × (o ≡ Some r) × (r.content ≡ Source d)
+at_under v None d e = cc
+at_under {D} v (Some r) d e = elim (nat_eq (r.reuse % 65536) v) as (λ b. (if b then r.content else Vacant) ≡ Source d → (r' : Registration D) × (◌≡◌ {A = Option (Registration D)} (Some r) (Some r')) × (r'.content ≡ Source d)) [ true ↦ λ full. (r, refl, full) | false ↦ λ none. cc ] e
+
+-- the source that a token names stands in its slot
+at_named : {D : Type 0} (slots : List (Registration D)) (token : RegistrationToken) (d : D) → named (map slot_of slots) token ≡ Source d → At slots token.slot d
+at_named slots token d is =
+    let h = at_under token.version (slice_get slots token.slot) d (sym (ap (content_under token.version) (slice_get-map slot_of slots token.slot)) ∙ is) in
+    (h.0, h.1, h.2)
+
+abbrev pub aside_of : {D X : Type 0} → Doing D X → Option D
+aside_of (Waiting timeout x) = None
+aside_of (Gathering now given x) = None
+aside_of (Cutting x) = None
+aside_of (Ending token d answer x) = Some d
+aside_of (Leaving answer x) = None
+
+module _ {D P X : Type 0} (M : Meaning D P X) (O : Outside P) (law : IsKeeping M) where
+  aside_wait : (answer : Result ℕ Cause) (given : List (ℕ × Readiness)) (x : X) → aside_of {D = D} (after_wait answer given x) ≡ None
+  aside_wait (Ok now) given x = refl
+  aside_wait (Err cause) given x = refl
+
+  cut_owned : (w : World D P) (e : Pending) (x : X) (cs : List (Change D P)) (b : Doing D X) (c : Content D) → named (map slot_of w.slots) (registration_of e.token) ≡ c → CutTo M e c (seen w) x cs b → AllFit O (seen w) cs → IsOwned M w None → IsOwned M (all_done w cs) (aside_of b)
+  cut_owned w e x cs b Vacant is h fit k = rw (h.0, h.1) (owned_same M O law (done w (Cut None)) (done (done w (Cut None)) Ended) None refl refl refl refl (owned_cut M O law w None k))
+  cut_owned w e x cs b InTurn is h fit k = rw (h.0, h.1) (owned_same M O law (done w (Cut None)) (done (done w (Cut None)) Ended) None refl refl refl refl (owned_cut M O law w None k))
+  cut_owned w e x cs b (Source d) is h fit k =
+      let begun : World D P = done w (Cut (Some e.token.slot)) in
+      let out : World D P = done begun (Put e.token.slot InTurn) in
+      let allowed : AllAllowed O (cut w.poll) h.2 = (rw h.5 at fit).1.1.0 in
+      rw (h.5, h.6)
+      (owned_polls M O law out d h.0 h.2 allowed (law.turn d h.0 e.readiness e.token (cut w.poll) x h.3 h.1 h.2 h.4)
+      (owned_out M O law begun e.token.slot d (at_named w.slots (registration_of e.token) d is) (owned_cut M O law w (Some e.token.slot) k)))
+
+  from_owned : (w : World D P) (es : List Pending) (x : X) (cs : List (Change D P)) (b : Doing D X) → CutFrom M es (seen w) x cs b → AllFit O (seen w) cs → IsOwned M w None → IsOwned M (all_done w cs) (aside_of b)
+  from_owned w [] x cs b h fit k = rw (h.0, h.1) k
+  from_owned w (e ∷ es) x cs b h fit k = cut_owned w e x cs b (named (map slot_of w.slots) (registration_of e.token)) refl h fit k
+
+  ended_owned : (w : World D P) (token : Token) (d : D) (answer : Result PostAction Error) (x : X) (cs : List (Change D P)) (b : Doing D X) → EndedBy M token d answer (seen w) x cs b → AllFit O (seen w) cs → IsOwned M w (Some d) → IsOwned M (all_done w cs) (aside_of b)
+  ended_owned w token d (Ok Continue) x cs b h fit k = rw (h.0, h.1) (owned_back M O law (done w Ended) token.slot d (owned_same M O law w (done w Ended) (Some d) refl refl refl refl k))
+  ended_owned w token d (Err e) x cs b h fit k = rw (h.0, h.1) (owned_back M O law (done w Ended) token.slot d (owned_same M O law w (done w Ended) (Some d) refl refl refl refl k))
+  ended_owned w token d (Ok Remove) x cs b h fit k =
+      let out : World D P = done (done w Ended) (Put token.slot Vacant) in
+      let allowed : AllAllowed O (with_pass None w.poll) h.2 = (rw h.4 at fit).1.1.0 in
+      rw (h.4, h.5)
+      (owned_dropped M O law (done out (Polls h.2)) (Some h.0)
+      (owned_polls M O law out d h.0 h.2 allowed (law.unreg d h.0 (with_pass None w.poll) h.1 h.2 h.3)
+      (owned_emptied M O law (done w Ended) (Some d) token.slot Vacant (λ e is. cc) (owned_same M O law w (done w Ended) (Some d) refl refl refl refl k))))
+
+  step_owned : (w : World D P) (a b : Doing D X) (cs : List (Change D P)) → Step M O (seen w) a cs b → AllFit O (seen w) cs → IsOwned M w (aside_of a) → IsOwned M (all_done w cs) (aside_of b)
+  step_owned w (Waiting timeout x) b cs h fit k = rw (h.4, h.5, aside_wait h.0 h.1 x) (owned_same M O law w (done w (Polling h.2)) None refl refl refl refl k)
+  step_owned w (Gathering now given x) b cs h fit k = rw (h.1, h.2) (owned_gathered M O law w h.0 given now k)
+  step_owned w (Cutting x) b cs h fit k = from_owned w w.poll.batch x cs b h fit k
+  step_owned w (Ending token d answer x) b cs h fit k = ended_owned w token d answer x cs b h fit k
+  step_owned w (Leaving answer x) b cs h fit k = absurd h
+
+  steps_owned : (w : World D P) (a b : Doing D X) (css : List (List (Change D P))) → Steps M O (seen w) a css b → IsOwned M w (aside_of a) → IsOwned M (all_traced w css) (aside_of b)
+  steps_owned w a b [] h k = rw h k
+  steps_owned w a b (cs ∷ css) h k =
+      steps_owned (all_done w cs) h.0 b css (subst (λ (v : View D P). Steps M O v h.0 css b) (sym (seen-all_done w cs)) h.3) (step_owned w a h.0 cs h.1 h.2 k)
+
+  inserted_owned : (w : World D P) (d : D) (answer : Result RegistrationToken (InsertError D)) (cs : List (Change D P)) → HoldsNone M d → InsertedBy M d answer (seen w) cs → AllFit O (seen w) cs → IsOwned M w None → IsOwned M (all_done w cs) None
+  inserted_owned w d (Ok token) cs free h fit k =
+      let claimed : World D P = done w Claim in
+      let allowed : AllAllowed O w.poll h.4 = (rw h.6 at fit).1.0 in
+      rw h.6
+      (owned_back M O law (done claimed (Polls h.4)) token.slot h.2
+      (owned_polls M O law claimed d h.2 h.4 allowed (law.reg d h.2 w.poll (factory_of token) h.3 (Ok tt) h.4 h.5) (owned_fresh M O law claimed d free (owned_claim M O law w None k))))
+  inserted_owned w d (Err refused) cs free (inl h) fit k = rw h.2 k
+  inserted_owned w d (Err refused) cs free (inr h) fit k =
+      let claimed : World D P = done w Claim in
+      let allowed : AllAllowed O w.poll h.2 = (rw h.4 at fit).1.0 in
+      rw h.4
+      (owned_dropped M O law (done claimed (Polls h.2)) (Some refused.inserted)
+      (owned_polls M O law claimed d refused.inserted h.2 allowed (law.reg d refused.inserted w.poll (factory_of (next_registration (map slot_of w.slots))) h.1 (Err refused.error) h.2 h.3) (owned_fresh M O law claimed d free (owned_claim M O law w None k))))
+
+  rung_owned : (w : World D P) (token : RegistrationToken) (answer : Result (Unit {0}) Error) (cs : List (Change D P)) (c : Content D) → named (map slot_of w.slots) token ≡ c → RungIn M token c answer cs → AllFit O (seen w) cs → IsOwned M w None → IsOwned M (all_done w cs) None
+  rung_owned w token answer cs Vacant is h fit k = rw h.1 k
+  rung_owned w token answer cs InTurn is h fit k = rw h.1 k
+  rung_owned w token answer cs (Source d) is h fit k =
+      let out : World D P = done w (Put token.slot InTurn) in
+      let allowed : AllAllowed O w.poll h.2 = (rw h.5 at fit).1.0 in
+      rw h.5
+      (owned_back M O law (done out (Polls h.2)) token.slot h.0
+      (owned_polls M O law out d h.0 h.2 allowed (law.ring d h.0 w.poll h.1 h.2 h.3) (owned_out M O law w token.slot d (at_named w.slots token d is) k)))
+
+  once_owned : (w : World D P) (R : View D P → List (Change D P) → Type 0) (css : List (List (Change D P))) → Once O R (seen w) css → ((cs : List (Change D P)) → R (seen w) cs → AllFit O (seen w) cs → IsOwned M (all_done w cs) None) → IsOwned M (all_traced w css) None
+  once_owned w R [] h f = absurd h
+  once_owned w R (cs ∷ []) h f = f cs h.0 h.1
+  once_owned w R (cs ∷ ds ∷ css) h f = absurd h
+
+  case_owned : (w : World D P) (call : Call D P X) (answer : Answer D P X) (css : List (List (Change D P))) → IsFresh M call → Case M O call answer (seen w) css → IsOwned M w None → IsOwned M (all_traced w css) None
+  case_owned w (Insert d) (Inserted answer) css free h k = once_owned w (InsertedBy M d answer) css h (λ cs r fit. inserted_owned w d answer cs free r fit k)
+  case_owned w (Ring token) (Rung answer) css free h k = once_owned w (RungBy M token answer) css h (λ cs r fit. rung_owned w token answer cs (named (map slot_of w.slots) token) refl r fit k)
+  case_owned w (Dispatch timeout x) (Dispatched answer x') css free (inl h) k = rw h.2 k
+  case_owned w (Dispatch timeout x) (Dispatched answer x') css free (inr h) k = steps_owned w (Waiting (nanos_of timeout) x) (Leaving answer x') css h k
+  case_owned w (NewPoller p) (OldPoller q) css free h k = rw h.1 (owned_same M O law w (done w (Polling p)) None refl refl refl refl k)
+  case_owned w call answer css free h k = absurd h
+
+  pub run_owned : (calls : List (Call D P X)) (answers : List (Answer D P X)) (csss : List (List (List (Change D P)))) (w w' : World D P) → AllFresh M calls → Run M O calls answers csss w w' → IsOwned M w None → IsOwned M w' None
+  run_owned [] [] [] w w' free run k = rw run k
+  run_owned (call ∷ calls) (answer ∷ answers) (css ∷ csss) w w' free run k = run_owned calls answers csss (all_traced w css) w' free.1 run.1 (case_owned w call answer css free.0 run.0 k)
+  run_owned calls answers csss w w' free run k = absurd run
+
+nobody : {D : Type 0} (slots : List (Registration D)) → slots ≡ [] → (i : ℕ) (d : D) → At slots i d → ⊥
+nobody [] none i d h = (let e = h.1 in cc)
+nobody (x ∷ xs) none i d h = cc
+
+none_armed : (n : ℕ) → ◌≡◌ {A = ℕ} 0 (if nat_lt n 0 then 1 else 0)
+none_armed n = grind (arith, nat_tests)
+
+-- a machine to which nothing has happened
+pub new_owned : {D P X : Type 0} (M : Meaning D P X) (w : World D P) → IsNew w → IsOwned M w None
+new_owned {D} {P} M w h =
+    record {
+      noted = record { kept = rw h.ledger (record { entries = sym (ap (λ d. d.entries) h.deadlines); events = sym h.batch; placed = λ n. none_armed n; batch_on_time = tt; cut_on_time = tt; own = tt; once = λ n. omega arith; gathered = λ n. omega arith }); falls = rw h.ledger tt };
+      good = λ i d is. absurd (nobody w.slots h.slots i d is);
+      apart = λ i j d e differ is at. absurd (nobody w.slots h.slots i d is);
+      own = λ d is. cc;
+      alone = λ d e i is at. cc;
+    }
