@@ -2,9 +2,9 @@
 use Rattle.std.proofs.Common.{◌≡◌, ◌≢◌, ℕ, ◌+◌, ◌-◌, ◌<◌, ◌≤◌, Bool, true, false, ◌&&◌, ◌||◌, not, if◌then◌else◌, ◌⊎◌, inl, inr, List, [], ◌∷◌, Option, Some, None, nat_eq, refl, sym, ◌∙◌, ap, ap₂, subst, arith, true≢false, add-zero, eq-eqb, ne_eqb, eqb-true, zero, suc}
 use Rattle.std.proofs.lemmas.Bool.Decides.{nat_tests, eqb_tells}
 use Rattle.std.proofs.Math.Bool.{and-true, or-true, or-false}
-use Rattle.calloop_wake.specs.Cells.{Cell, owed, owed_at, after_ring, after_set_key, after_end_turn, opens, is_own, IsLit, IsStanding}
+use Rattle.calloop_wake.specs.Cells.{Cell, owed, owed_at, after_ring, after_set_key, after_clear_key, after_end_turn, opens, is_own, IsLit, IsStanding}
 use Rattle.calloop_wake.specs.Boards.{is_open, is_marked, any_marked, after_open_place, after_close_place, after_post, after_unpost}
-use Rattle.calloop_wake.specs.Wakes.{Bag, one, and_one, and_any, less_one, Loop, Awake, Looked, World, start, Step, Ring, EndTurn, SetKey, OpenTurn, OpenPlace, ClosePlace, Post, Back, Look, Unpost, Nudge, Sleep, Return, with_cell, Needs, after, IsSchedule, after_all, IsCovered}
+use Rattle.calloop_wake.specs.Wakes.{Bag, one, and_one, and_any, less_one, Loop, Awake, Looked, World, start, Step, Ring, EndTurn, ClearKey, SetKey, OpenTurn, OpenPlace, ClosePlace, Post, Back, Look, Unpost, Nudge, Sleep, Return, with_cell, Needs, after, IsSchedule, after_all, IsCovered}
 use Rattle.calloop_wake.specs.declared.wake.board.Place.{Place}
 use Rattle.calloop_wake.proofs.Places.{is_open-after_open, is_marked-after_open, is_open-after_close, is_marked-after_close, is_open-after_post, is_marked-after_post, is_open-after_unpost, is_marked-after_unpost, marked-after_post, none_marked}
 
@@ -381,6 +381,12 @@ kept-after w (SetKey n k) need h = record {
   known = known-cell w n (after_set_key k (w.cells n)) (owed_at k (w.cells n)) h.known (λ p. inr (owed_at-pinged k (w.cells n) p));
   heard = h.heard;
   placed = placed-set w n k (after_set_key k (w.cells n)) refl need h.placed;
+}
+kept-after w (ClearKey n) need h = record {
+  lit = with_cell-all IsLit n (after_clear_key (w.cells n)) w.cells (h.lit n) h.lit;
+  known = known-cell w n (after_clear_key (w.cells n)) None h.known (λ p. inr refl);
+  heard = h.heard;
+  placed = placed-clear w n (after_clear_key (w.cells n)) refl h.placed;
 }
 kept-after w (OpenTurn n k) need h = kept-open_turn w n k (opens k (w.cells n)) refl h
 kept-after w (OpenPlace k) need h = record {

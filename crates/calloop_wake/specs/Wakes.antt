@@ -1,7 +1,7 @@
 -- The wake machine: cells, a board and a loop, and every step that any party may take, in any order. In calloop the
 -- kernel does these steps, for the descriptors of pings and the poller that waits for them; here they are steps on values.
 use Rattle.std.specs.Prelude.{◌≡◌, ◌≢◌, ℕ, ◌+◌, ◌-◌, ◌<◌, Bool, true, false, if◌then◌else◌, ◌⊎◌, List, [], ◌∷◌, Option, Some, None, nat_eq}
-use Rattle.calloop_wake.specs.Cells.{Cell, fresh, IsStanding, owed, owed_at, after_ring, after_set_key, after_open_turn, after_end_turn, opens}
+use Rattle.calloop_wake.specs.Cells.{Cell, fresh, IsStanding, owed, owed_at, after_ring, after_set_key, after_clear_key, after_open_turn, after_end_turn, opens}
 use Rattle.calloop_wake.specs.Boards.{is_open, is_marked, any_marked, wakes, after_open_place, after_close_place, after_post, after_unpost}
 use Rattle.calloop_wake.specs.declared.wake.board.Place.{Place}
 
@@ -69,10 +69,10 @@ start =
       loop = Awake;
     }
 
--- A step of any party. Ring, set key and the two of a turn are calloop's write to a descriptor, its registration and
--- process_events; place, post, look and unpost are the kernel's poller; nudge, sleep and return are the wait.
+-- A step of any party. Ring, set key, clear key and the two of a turn are calloop's write to a descriptor, its
+-- registration, the taking back of it, and process_events; place, post, look and unpost are the kernel's poller; nudge, sleep and return are the wait.
 pub data Step : Type 0 where
-  Ring EndTurn : (cell : ℕ) → Step
+  Ring ClearKey EndTurn : (cell : ℕ) → Step
   SetKey OpenTurn : (cell key : ℕ) → Step
   OpenPlace ClosePlace Post Back : (key : ℕ) → Step
   Look Unpost Nudge Sleep Return : Step
@@ -88,6 +88,7 @@ abbrev pub Needs : World → Step → Type 0
 Needs w (Ring n) = Unit {0}
 Needs w (SetKey n k) = 0 < w.opened k
 Needs w (OpenTurn n k) = 0 < w.passes k
+Needs w (ClearKey n) = Unit {0}
 Needs w (EndTurn n) = (w.cells n).draining ≡ true
 Needs w (OpenPlace k) = is_open k w.board ≡ false
 Needs w (ClosePlace k) = 0 < w.leaves k
@@ -109,6 +110,7 @@ after w (SetKey n k) =
       debts = and_any (owed_at k (w.cells n)) w.debts;
       leaves = and_any (w.cells n).key w.leaves;
     }
+after w (ClearKey n) = record w { cells = with_cell n (after_clear_key (w.cells n)) w.cells; leaves = and_any (w.cells n).key w.leaves }
 -- a pass that is refused stays where it is
 after w (OpenTurn n k) =
     record w {
