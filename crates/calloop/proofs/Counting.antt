@@ -119,9 +119,10 @@ under_least c n x = elim (nat_eq x.entry.counter c) as (λ b. (if (if b then nat
 pub kept-under : (counter c n : ℕ) (xs : List Armed) → nat_eq counter c ≡ false → counted (is_armed_under c n) (filter (is_under_other counter) xs) ≡ counted (is_armed_under c n) xs
 kept-under counter c n [] differs = refl
 kept-under counter c n (x ∷ xs) differs =
-    elim (nat_eq x.entry.counter counter) as (λ b. nat_eq x.entry.counter counter ≡ b → counted (is_armed_under c n) (if not b then x ∷ filter (is_under_other counter) xs else filter (is_under_other counter) xs) ≡ counted (is_armed_under c n) (x ∷ xs))
-    [ true ↦ λ yes. (let un : nat_eq x.entry.counter c ≡ false = grind (arith, nat_tests) in rw un (omega (arith, kept-under counter c n xs differs)))
-      | false ↦ λ _. ap (λ k. one (is_armed_under c n) x + k) (kept-under counter c n xs differs) ] refl
+    elim (nat_eq x.entry.counter counter) as (λ b. nat_eq x.entry.counter counter ≡ b → counted (is_armed_under c n) (if not b then x ∷ filter (is_under_other counter) xs else filter (is_under_other counter) xs) ≡ counted (is_armed_under c n) (x ∷ xs)) [
+      | true ↦ λ yes. (let un : nat_eq x.entry.counter c ≡ false = grind (arith, nat_tests) in rw un (omega (arith, kept-under counter c n xs differs)))
+      | false ↦ λ _. ap (λ k. one (is_armed_under c n) x + k) (kept-under counter c n xs differs)
+    ] refl
 
 -- where no entry stands under a counter
 pub unarmed : (c n : ℕ) (xs : List Armed) → has_counter c (map entry_in xs) ≡ false → counted (is_armed_under c n) xs ≡ 0
@@ -153,13 +154,16 @@ latest_below n c (m ∷ ms) a h is =
 pub latest_apart : (n c d : ℕ) (ms : List Arming) (a b : Arming) → Falls n ms → latest c ms ≡ Some a → latest d ms ≡ Some b → nat_eq c d ≡ false → nat_eq a.number b.number ≡ false
 latest_apart n c d [] a b h is at differs = absurd (cc)
 latest_apart n c d (m ∷ ms) a b h is at differs =
-    elim (nat_eq m.counter c) as (λ u. nat_eq m.counter c ≡ u → (if u then Some m else latest c ms) ≡ Some a → nat_eq a.number b.number ≡ false)
-    [ true ↦ λ here e.
-        (let same : m ≡ a = cc in
-        elim (nat_eq m.counter d) as (λ w. nat_eq m.counter d ≡ w → (if w then Some m else latest d ms) ≡ Some b → nat_eq a.number b.number ≡ false)
-          [ true ↦ λ there f. absurd (let x : nat_eq c d ≡ true = grind (arith, nat_tests) in cc)
-            | false ↦ λ there f. (let lt = latest_below m.number d ms b h.1 f in let eq : m.number ≡ a.number = ap (λ (k : Arming). k.number) same in grind (arith, nat_tests)) ] refl at)
+    elim (nat_eq m.counter c) as (λ u. nat_eq m.counter c ≡ u → (if u then Some m else latest c ms) ≡ Some a → nat_eq a.number b.number ≡ false) [
+      | true ↦ λ here e.
+          (let same : m ≡ a = cc in
+          elim (nat_eq m.counter d) as (λ w. nat_eq m.counter d ≡ w → (if w then Some m else latest d ms) ≡ Some b → nat_eq a.number b.number ≡ false) [
+            | true ↦ λ there f. absurd (let x : nat_eq c d ≡ true = grind (arith, nat_tests) in cc)
+            | false ↦ λ there f. (let lt = latest_below m.number d ms b h.1 f in let eq : m.number ≡ a.number = ap (λ (k : Arming). k.number) same in grind (arith, nat_tests))
+          ] refl at)
       | false ↦ λ here e.
-        (elim (nat_eq m.counter d) as (λ w. nat_eq m.counter d ≡ w → (if w then Some m else latest d ms) ≡ Some b → nat_eq a.number b.number ≡ false)
-          [ true ↦ λ there f. (let same : m ≡ b = cc in let lt = latest_below m.number c ms a h.1 e in let eq : m.number ≡ b.number = ap (λ (k : Arming). k.number) same in grind (arith, nat_tests))
-            | false ↦ λ there f. latest_apart m.number c d ms a b h.1 e f differs ] refl at) ] refl is
+          (elim (nat_eq m.counter d) as (λ w. nat_eq m.counter d ≡ w → (if w then Some m else latest d ms) ≡ Some b → nat_eq a.number b.number ≡ false) [
+            | true ↦ λ there f. (let same : m ≡ b = cc in let lt = latest_below m.number c ms a h.1 e in let eq : m.number ≡ b.number = ap (λ (k : Arming). k.number) same in grind (arith, nat_tests))
+            | false ↦ λ there f. latest_apart m.number c d ms a b h.1 e f differs
+          ] refl at)
+    ] refl is

@@ -161,10 +161,10 @@ noted_called l v n at idle g h =
                 rw (more number)
                 (one_more number g.arming.number (counted (is_call_as number) l.calls) (counted (waits_as number) l.batch + counted (waits_as number) l.cut) (h.kept.gathered number)
                 (λ here.
-                    let same : g.arming.number ≡ number = grind (arith, nat_tests) in
-                    let none : counted (is_call_as number) l.calls ≡ 0 = ap (λ k. counted (is_call_as k) l.calls) (sym same) ∙ g.uncalled in
-                    let out : 1 ≤ counted (waits_as g.arming.number) l.batch + counted (waits_as g.arming.number) l.cut = omega (arith, under, g.stands) in
-                    omega (arith, none, rw same at out)));
+                let same : g.arming.number ≡ number = grind (arith, nat_tests) in
+                let none : counted (is_call_as number) l.calls ≡ 0 = ap (λ k. counted (is_call_as k) l.calls) (sym same) ∙ g.uncalled in
+                let out : 1 ≤ counted (waits_as g.arming.number) l.batch + counted (waits_as g.arming.number) l.cut = omega (arith, under, g.stands) in
+                omega (arith, none, rw same at out)));
           };
       falls = h.falls;
     }
@@ -198,7 +198,7 @@ noted_gathered l v posted given now h =
     let d = map (from_deadline now) (due_in now l.armed) in
     let sum : (n : ℕ) → counted (waits_as n) (((l.batch ++ a) ++ b) ++ d) ≡ counted (waits_as n) l.batch + counted (waits_as n) d =
     λ n.
-        omega (arith, counted-append (waits_as n) ((l.batch ++ a) ++ b) d, counted-append (waits_as n) (l.batch ++ a) b, counted-append (waits_as n) l.batch a, counted-elsewhere n (posted_events posted), counted-elsewhere n (polled_events given)) in
+    omega (arith, counted-append (waits_as n) ((l.batch ++ a) ++ b) d, counted-append (waits_as n) (l.batch ++ a) b, counted-append (waits_as n) l.batch a, counted-elsewhere n (posted_events posted), counted-elsewhere n (polled_events given)) in
     record {
       kept =
           record {

@@ -138,7 +138,7 @@ module _ {D P X : Type 0} (M : Meaning D P X) (O : Outside P) (law : IsKeeping M
         apart = λ i j e f differ is at.
             elim (at_put w.slots k i (Source d) e is) [
               | inl x ↦ (let same : d ≡ e = (let y = x.1 in cc) in
-                elim (at_put w.slots k j (Source d) f at) [ inl y ↦ absurd (differ (x.0 ∙ sym y.0)) | inr y ↦ h.alone e f j (ap (λ (z : D). Some z) same) y.1 ])
+                  elim (at_put w.slots k j (Source d) f at) [ inl y ↦ absurd (differ (x.0 ∙ sym y.0)) | inr y ↦ h.alone e f j (ap (λ (z : D). Some z) same) y.1 ])
               | inr x ↦ elim (at_put w.slots k j (Source d) f at) [
                 | inl y ↦ (let same : d ≡ f = (let z = y.1 in cc) in apart_sym (M.holds f) (M.holds e) (h.alone f e i (ap (λ (z : D). Some z) same) x.1))
                 | inr y ↦ h.apart i j e f differ x.1 y.1

@@ -8,10 +8,10 @@ pub use calloop_core::sources::{
     Callback, Dispatch, Dispatcher, EventSource, IntoError, PostAction,
 };
 pub use calloop_core::sys::poll::Poll;
-pub use calloop_core::timer::{TimeoutAction, Timer, TimerError};
 pub use calloop_core::sys::{Clock, Poller, Readiness};
+pub use calloop_core::timer::{TimeoutAction, Timer, TimerError};
 pub use calloop_wake::error::{Error, InsertError, Result};
 pub use calloop_wake::token::{RegistrationToken, Token, TokenFactory};
 pub use calloop_wake::wheel::Instant;
-pub use ping::{PingError, PingSource};
 pub use loop_logic::{EventDispatcher, EventLoop, Hold, LoopHandle};
+pub use ping::{PingError, PingSource};

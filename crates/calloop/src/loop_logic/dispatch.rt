@@ -46,7 +46,12 @@ impl<D: EventDispatcher<P, C>, P: Poller, C: Clock> EventLoop<D, P, C> {
     ///
     /// Want of memory for the batch changes nothing. A fault of the wait is `IoError`, and leaves posted keys
     /// posted. The error of a turn ends the dispatch; the rest of the batch comes first in the next one.
-    pub fn dispatch<R: Wait>(&mut self, rt: &R, timeout: Option<Duration>, data: &mut D::Data) -> Result<()>
+    pub fn dispatch<R: Wait>(
+        &mut self,
+        rt: &R,
+        timeout: Option<Duration>,
+        data: &mut D::Data,
+    ) -> Result<()>
         ensures case { Did (Case D.means P.outside (Dispatch timeout «data».old) (Dispatched result «data».new)) (view_of self.old) (view_of self.new) }
         ensures machine { Leads (Case D.means P.outside (Dispatch timeout «data».old) (Dispatched result «data».new)) (view_of self.old) (view_of self.new) }
     {
