@@ -30,6 +30,13 @@ impl Readiness {
         writable: false,
         error: false,
     };
+
+    // Ready to be read, as the events of posted keys and of timers are.
+    pub(crate) const READ: Readiness = Readiness {
+        readable: true,
+        writable: false,
+        error: false,
+    };
 }
 
 /// Tells the moment. Any answer is lawful, also one that is smaller than an earlier one.

@@ -45,7 +45,8 @@ impl<D: EventDispatcher<P, C>, P: Poller, C: Clock> EventLoop<D, P, C> {
     /// and gives each source its turn.
     ///
     /// Want of memory for the batch changes nothing. A fault of the wait is `IoError`, and leaves posted keys
-    /// posted. The error of a turn ends the dispatch; the rest of the batch comes first in the next one.
+    /// posted. The error of a turn ends the dispatch; the rest of the batch comes first in the next one. A source that
+    /// answers `Remove` leaves the loop, and is then unregistered; a failure of that is not answered.
     pub fn dispatch<R: Wait>(
         &mut self,
         rt: &R,

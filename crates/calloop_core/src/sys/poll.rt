@@ -109,11 +109,7 @@ fn posted_event(key: u64) -> Pending
     ensures { result ≡ posted_event key }
 {
     Pending {
-        readiness: Readiness {
-            readable: true,
-            writable: false,
-            error: false,
-        },
+        readiness: Readiness::READ,
         token: Token::from_key(key),
         posted: true,
     }
@@ -134,11 +130,7 @@ fn timer_event(entry: Entry) -> Pending
     ensures { result ≡ timer_event entry }
 {
     Pending {
-        readiness: Readiness {
-            readable: true,
-            writable: false,
-            error: false,
-        },
+        readiness: Readiness::READ,
         token: entry.token,
         posted: false,
     }
