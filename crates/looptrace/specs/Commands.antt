@@ -1,10 +1,10 @@
 -- The commands of a script, a line each.
-use Rattle.std.specs.Prelude.{ℕ, ◌+◌, ◌-◌, ◌*◌, ◌^◌, Bool, ◌&&◌, ◌||◌, List, [], ◌∷◌, length, drop, Option, Some, None, nat_lt, nat_le, nat_eq, ◌==◌, if◌then◌else◌, codes}
-use Rattle.std.specs.List.{list_all, starts_with}
+use Rattle.std.specs.Prelude.{ℕ, ◌+◌, ◌-◌, ◌*◌, ◌^◌, Bool, ◌&&◌, ◌||◌, List, [], ◌∷◌, length, take, drop, Option, Some, None, nat_lt, nat_le, nat_eq, ◌==◌, if◌then◌else◌, codes}
+use Rattle.std.specs.List.{list_all, starts_with, position}
 use Rattle.std.specs.Option.{option_map}
 use Rattle.std.specs.Cmp.Lexicographic.{pointwise}
 use Rattle.looptrace.specs.declared.command.Command.{Command}
-use Rattle.looptrace.specs.declared.command.Command.TheVariants.{Nothing, Ping, Ring, Dispatch}
+use Rattle.looptrace.specs.declared.command.Command.TheVariants.{Nothing, Ping, Ring, Timer, Clock, Fault, Dispatch}
 
 -- `0` to `9`
 abbrev pub is_digit : ℕ → Bool
@@ -44,6 +44,27 @@ ping_of word = option_map Ping (name_of word)
 abbrev pub ring_of : List ℕ → Option Command
 ring_of word = option_map Ring (name_of word)
 
+-- a command that makes a timer, where both words can be read
+abbrev pub timer_with : (name : Option (List ℕ)) → (deadline : Option ℕ) → Option Command
+timer_with None deadline = None
+timer_with (Some name) None = None
+timer_with (Some name) (Some deadline) = Some (Timer name deadline)
+
+-- a name before the first space, and a deadline behind it
+abbrev pub timer_parted : (space : Option ℕ) → List ℕ → Option Command
+timer_parted None words = None
+timer_parted (Some space) words = timer_with (name_of (take space words)) (number_of (drop (space + 1) words))
+
+abbrev pub is_space : ℕ → Bool
+is_space b = b == 32
+
+abbrev pub timer_of : List ℕ → Option Command
+timer_of words = timer_parted (position is_space words) words
+
+-- a command that sets the clock
+abbrev pub clock_of : List ℕ → Option Command
+clock_of word = option_map Clock (number_of word)
+
 -- a command with a timeout
 abbrev pub dispatch_of : List ℕ → Option Command
 dispatch_of line = if starts_with nat_eq line (codes "dispatch ") then option_map Dispatch (timeout_of (drop 9 line)) else None
@@ -54,4 +75,7 @@ command_of line =
     if length line == 0 then Some Nothing
     else if starts_with nat_eq line (codes "ping ") then ping_of (drop 5 line)
     else if starts_with nat_eq line (codes "ring ") then ring_of (drop 5 line)
+    else if starts_with nat_eq line (codes "timer ") then timer_of (drop 6 line)
+    else if starts_with nat_eq line (codes "clock ") then clock_of (drop 6 line)
+    else if pointwise nat_eq line (codes "fault") then Some Fault
     else dispatch_of line

@@ -1,22 +1,49 @@
--- What holds a ping means the ping. The impl of `Hold` cites this proof, so it stands here.
-use Rattle.std.specs.Prelude.{◌≡◌, ◌↔◌}
-use Rattle.std.proofs.Common.{refl, subst, sym, ap}
+-- What holds a source means the source, and keeps to its own counters. The impls cite these proofs, so they stand here.
+use Rattle.std.specs.Prelude.{◌≡◌, ◌⊎◌}
+use Rattle.std.proofs.Common.{inl, inr, refl}
 use Rattle.calloop_core.specs.declared.sources.Dispatcher.{Dispatcher}
+use Rattle.calloop_core.specs.declared.timer.Timer.{Timer}
+use Rattle.calloop_core.specs.Meanings.{IsHeld, IsKeeping, either, held_left, held_right, held_seen, keeping_either, keeping_seen}
+use Rattle.calloop_core.specs.Keeping.{timer_reg_keeps, timer_unreg_keeps, timer_ring_keeps, timer_turn_keeps}
 use Rattle.calloop.specs.declared.ping.PingSource.{PingSource}
-use Rattle.calloop.specs.Meanings.{ping_meaning}
-use Rattle.calloop.specs.Holding.{IsHeld}
+use Rattle.calloop.specs.Quiet.{ping_reg_keeps, ping_unreg_keeps, ping_ring_keeps, ping_turn_keeps}
 use Rattle.looptrace.specs.declared.source.Source.{Source}
-use Rattle.looptrace.specs.declared.source.Source.TheVariants.{Ping}
+use Rattle.looptrace.specs.declared.source.Source.TheVariants.{Ping, Timer as TimerIn}
 use Rattle.looptrace.specs.declared.source.Teller.{Teller}
-use Rattle.looptrace.specs.Sources.{tells, ping_in, source_meaning}
+use Rattle.looptrace.specs.declared.source.Alarm.{Alarm}
+use Rattle.looptrace.specs.Sources.{ping_meaning, timer_meaning, source_meaning, split, join}
 
-means_step : (R : Dispatcher PingSource Teller → Dispatcher PingSource Teller → Type 0) (d : Dispatcher PingSource Teller) (t : Source) → (R d (ping_in t)) ↔ ((b : Dispatcher PingSource Teller) × (t ≡ Ping b) × R d b)
-means_step R d (Ping b) = (λ h. (b, refl, h), λ h. subst (λ (t : Dispatcher PingSource Teller). R d t) (sym (ap ping_in h.1)) h.2)
+split-join : (c : Dispatcher PingSource Teller ⊎ Dispatcher Timer Alarm) → split (join c) ≡ c
+split-join (inl d) = refl
+split-join (inr d) = refl
 
-pub held_means : {P : Type 0} → IsHeld (λ d. Ping d) (ping_meaning {P = P} tells) source_meaning
-held_means {P} =
+join-split : (s : Source) → join (split s) ≡ s
+join-split (Ping d) = refl
+join-split (TimerIn d) = refl
+
+pub ping_held : {P : Type 0} → IsHeld (λ d. Ping d) (ping_meaning {P = P}) source_meaning
+ping_held {P} = held_seen split join split-join join-split inl (ping_meaning {P = P}) (either ping_meaning timer_meaning) (held_left ping_meaning timer_meaning)
+
+pub timer_held : {P : Type 0} → IsHeld (λ d. TimerIn d) (timer_meaning {P = P}) source_meaning
+timer_held {P} = held_seen split join split-join join-split inr (timer_meaning {P = P}) (either ping_meaning timer_meaning) (held_right ping_meaning timer_meaning)
+
+ping_keeps : {P : Type 0} → IsKeeping (ping_meaning {P = P})
+ping_keeps =
     record {
-      reg = λ s v f g a l t. means_step (λ s t. (ping_meaning {P = P} tells).reg s v f a l t g) s t;
-      ring = λ s b l t. means_step (λ s t. (ping_meaning {P = P} tells).ring s b l t) s t;
-      turn = λ s r k v x y a l t. means_step (λ s t. (ping_meaning {P = P} tells).turn s r k v x a l t y) s t;
+      reg = λ s t v f g a l h. ping_reg_keeps s.source t.source v f g a l h.0;
+      unreg = λ s t v a l h. ping_unreg_keeps s.source t.source v a l h.0;
+      ring = λ s t v b l h. ping_ring_keeps s.source t.source v b l h.0;
+      turn = λ s t r k v x y a l h. ping_turn_keeps s.source t.source k v h.calls h.inner l h.turned;
     }
+
+timer_keeps : {P : Type 0} → IsKeeping (timer_meaning {P = P})
+timer_keeps =
+    record {
+      reg = λ s t v f g a l h. timer_reg_keeps s.source t.source v f g a l h.0;
+      unreg = λ s t v a l h. timer_unreg_keeps s.source t.source v a l h.0;
+      ring = λ s t v b l h. timer_ring_keeps s.source t.source v b l h.0;
+      turn = λ s t r k v x y a l h. timer_turn_keeps s.source t.source k v h.calls h.inner l h.turned;
+    }
+
+pub source_keeps : {P : Type 0} → IsKeeping (source_meaning {P = P})
+source_keeps {P} = keeping_seen split (either (ping_meaning {P = P}) timer_meaning) (keeping_either ping_meaning timer_meaning ping_keeps timer_keeps)

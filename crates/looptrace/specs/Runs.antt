@@ -1,18 +1,21 @@
 -- What a line of a script does with the loop, and what it prints: each line is a list of cases of the loop's machine,
 -- and its text is what they answered. The asked waits are those that the scripted poller notes.
-use Rattle.std.specs.Prelude.{◌≡◌, ℕ, ◌-◌, ◌^◌, ◌≤◌, min, List, [], ◌∷◌, ◌++◌, if◌then◌else◌, nat_eq, Option, Some, None, IsSome, Result, Ok, Err, codes, vec_capacity}
+use Rattle.std.specs.Prelude.{◌≡◌, ℕ, ◌-◌, ◌^◌, ◌≤◌, min, List, [], ◌∷◌, ◌++◌, if◌then◌else◌, nat_eq, Option, Some, None, IsSome, Result, Ok, Err, codes, vec_capacity, Bool, true, false}
 use Rattle.std.specs.Cmp.Lexicographic.{pointwise}
 use Rattle.std.specs.Option.{option_map}
 use Rattle.std.specs.Duration.{as_nanos}
 use Rattle.std.specs.declared.time.Duration.{Duration}
 use Rattle.calloop_wake.specs.declared.error.Error.{Error}
-use Rattle.calloop_wake.specs.declared.error.Error.TheVariants.{InvalidToken, IoError, OtherError, OutOfMemory, TooManySources, TooManyTokens}
+use Rattle.calloop_wake.specs.declared.error.Error.TheVariants.{InvalidToken, IoError, OtherError, OutOfMemory, TooManySources, TooManyTokens, TooManyTimers}
 use Rattle.calloop_wake.specs.declared.error.InsertError.{InsertError}
 use Rattle.calloop_wake.specs.declared.token.RegistrationToken.{RegistrationToken}
 use Rattle.calloop_wake.specs.Cells.{fresh}
+use Rattle.calloop_core.specs.declared.sys.script.ScriptAnswer.{ScriptAnswer}
+use Rattle.calloop_core.specs.declared.sys.script.ScriptEnd.TheVariants.{Fault as FaultEnd}
 use Rattle.calloop_core.specs.declared.sys.script.ScriptPoller.{ScriptPoller}
 use Rattle.calloop_core.specs.Pollers.{nanos_of}
 use Rattle.calloop_core.specs.ScriptPollers.{script_outside}
+use Rattle.calloop_core.specs.Timers.{unarmed}
 use Rattle.calloop.specs.declared.loop_logic.Call.{Call}
 use Rattle.calloop.specs.declared.loop_logic.Call.TheVariants.{Insert, Ring as RingCall, Dispatch as DispatchCall, Poller as NewPoller}
 use Rattle.calloop.specs.declared.loop_logic.Answer.{Answer}
@@ -20,10 +23,12 @@ use Rattle.calloop.specs.declared.loop_logic.Answer.TheVariants.{Inserted, Rung,
 use Rattle.calloop.specs.Machine.{World, View, IsNew, seen, view_of}
 use Rattle.calloop.specs.Rules.{Case, Did}
 use Rattle.looptrace.specs.declared.command.Command.{Command}
-use Rattle.looptrace.specs.declared.command.Command.TheVariants.{Nothing, Ping, Ring, Dispatch}
+use Rattle.looptrace.specs.declared.command.Command.TheVariants.{Nothing, Ping, Ring, Timer, Clock, Fault, Dispatch}
 use Rattle.looptrace.specs.declared.source.Source.{Source}
-use Rattle.looptrace.specs.declared.source.Source.TheVariants.{Ping as PingSourceIn}
-use Rattle.looptrace.specs.declared.runner.NamedPing.{NamedPing}
+use Rattle.looptrace.specs.declared.source.Source.TheVariants.{Ping as PingIn, Timer as TimerIn}
+use Rattle.looptrace.specs.declared.runner.Kind.{Kind}
+use Rattle.looptrace.specs.declared.runner.Kind.TheVariants.{Ping as PingKind, Timer as TimerKind}
+use Rattle.looptrace.specs.declared.runner.NamedSource.{NamedSource}
 use Rattle.looptrace.specs.declared.runner.ScriptLoop.{ScriptLoop}
 use Rattle.looptrace.specs.Lines.{lines_of}
 use Rattle.looptrace.specs.Traces.{Written, Writes}
@@ -31,13 +36,14 @@ use Rattle.looptrace.specs.Commands.{command_of}
 use Rattle.looptrace.specs.Texts.{insert_text, wait_text, refused_text}
 use Rattle.looptrace.specs.Sources.{source_meaning}
 
--- what the loop holds, and the pings that were made
+-- what the loop holds, the sources that were made, and whether the next wait is to fail
 pub record State : Type 0 where
   pub loop : View Source ScriptPoller
-  pub pings : List NamedPing
+  pub sources : List NamedSource
+  pub fault : Bool
 
 abbrev pub state_of : ScriptLoop → State
-state_of s = record { loop = view_of s.event_loop; pings = s.pings.items }
+state_of s = record { loop = view_of s.event_loop; sources = s.sources.items; fault = s.fault }
 
 -- a machine to which nothing has happened agrees, over a poller with the clock at 0 and without answers
 pub record IsStart (s : State) : Type 0 where
@@ -46,11 +52,22 @@ pub record IsStart (s : State) : Type 0 where
   pub agrees : seen world ≡ s.loop
   pub moment : s.loop.poll.poller.moment.nanos ≡ 0
   pub answers : s.loop.poll.poller.answers.items ≡ []
-  pub pings : s.pings ≡ []
+  pub sources : s.sources ≡ []
+  pub fault : s.fault ≡ false
 
-abbrev pub token_named : List ℕ → List NamedPing → Option RegistrationToken
-token_named name [] = None
-token_named name (p ∷ ps) = if pointwise nat_eq p.name name then Some p.token else token_named name ps
+-- what a name stands for
+abbrev pub source_named : List ℕ → List NamedSource → Option (Kind × RegistrationToken)
+source_named name [] = None
+source_named name (s ∷ ss) = if pointwise nat_eq s.name name then Some (s.kind, s.token) else source_named name ss
+
+-- a ping by its token
+abbrev pub ping_only : Option (Kind × RegistrationToken) → Option RegistrationToken
+ping_only None = None
+ping_only (Some (PingKind, token)) = Some token
+ping_only (Some (TimerKind, token)) = None
+
+abbrev pub ping_named : List ℕ → List NamedSource → Option RegistrationToken
+ping_named name sources = ping_only (source_named name sources)
 
 -- a call on the loop is a case of its machine
 abbrev pub Calls : Call Source ScriptPoller (Option (List ℕ)) → Answer Source ScriptPoller (Option (List ℕ)) → View Source ScriptPoller → View Source ScriptPoller → Type 0
@@ -64,6 +81,7 @@ word_of (OtherError cause) = codes "OtherError"
 word_of OutOfMemory = codes "OutOfMemory"
 word_of TooManySources = codes "TooManySources"
 word_of TooManyTokens = codes "TooManyTokens"
+word_of TooManyTimers = codes "TooManyTimers"
 
 abbrev pub answer_text : Result (Unit {0}) Error → List ℕ
 answer_text (Ok u) = []
@@ -78,37 +96,60 @@ abbrev pub waits_text : List (Option Duration) → List ℕ
 waits_text [] = []
 waits_text (asked ∷ later) = wait_text (nanos_in asked) ++ waits_text later
 
--- an insertion prints its token, and is kept under its name; a refused one isn't
-abbrev pub InsertSays : List ℕ → Result RegistrationToken (InsertError Source) → List NamedPing → List NamedPing → List ℕ → Type 0
-InsertSays name (Ok token) pings after said = (after ≡ pings ++ record { name = name; token = token } ∷ []) × (said ≡ insert_text name token.slot token.version)
-InsertSays name (Err refused) pings after said = (after ≡ pings) × (said ≡ refused_text (word_of refused.error))
+-- an insertion prints its token, and its name is kept; that of a refused one isn't
+abbrev pub InsertSays : {S : Type 0} → List ℕ → Kind → Result RegistrationToken (InsertError S) → List NamedSource → List NamedSource → List ℕ → Type 0
+InsertSays name kind (Ok token) before after said = (after ≡ before ++ record { name = name; kind = kind; token = token } ∷ []) × (said ≡ insert_text name token.slot token.version)
+InsertSays name kind (Err refused) before after said = (after ≡ before) × (said ≡ refused_text (word_of refused.error))
+
+-- a source is inserted under a name that no source has yet; under another name the line can't be read
+abbrev pub InsertLine : State → List ℕ → Kind → Source → Option (State × List ℕ) → Type 0
+InsertLine s name kind source None = IsSome (source_named name s.sources)
+InsertLine s name kind source (Some (t, said)) =
+    (source_named name s.sources ≡ None) × (answer : Result RegistrationToken (InsertError Source)) × Calls (Insert source) (Inserted answer) s.loop t.loop
+    × InsertSays name kind answer s.sources t.sources said × (t.fault ≡ s.fault)
 
 -- a ping that nobody rang, with a callback that says its name
 abbrev pub new_ping : List ℕ → Source
-new_ping name = PingSourceIn (record { source = record { core = fresh; token = None }; callback = record { name = name } })
+new_ping name = PingIn (record { source = record { core = fresh; token = None }; callback = record { name = name } })
 
-abbrev pub PingLine : State → List ℕ → Option (State × List ℕ) → Type 0
-PingLine s name None = IsSome (token_named name s.pings)
-PingLine s name (Some (t, said)) =
-    (token_named name s.pings ≡ None) × (answer : Result RegistrationToken (InsertError Source)) × Calls (Insert (new_ping name)) (Inserted answer) s.loop t.loop × InsertSays name answer s.pings t.pings said
+-- a timer with a deadline, with a callback that says its name and the deadline
+abbrev pub new_timer : List ℕ → (deadline : ℕ) → Source
+new_timer name deadline = TimerIn (record { source = unarmed (Some (record { nanos = deadline })); callback = record { name = name } })
 
+-- the ping of this name is rung; where there is none, the line can't be read
 abbrev pub RingLine : State → List ℕ → Option (State × List ℕ) → Type 0
-RingLine s name None = token_named name s.pings ≡ None
+RingLine s name None = ping_named name s.sources ≡ None
 RingLine s name (Some (t, said)) =
-    (token : RegistrationToken) × (token_named name s.pings ≡ Some token) × (answer : Result (Unit {0}) Error) × Calls (RingCall token) (Rung answer) s.loop t.loop × (t.pings ≡ s.pings) × (said ≡ answer_text answer)
+    (token : RegistrationToken) × (ping_named name s.sources ≡ Some token) × (answer : Result (Unit {0}) Error) × Calls (RingCall token) (Rung answer) s.loop t.loop
+    × (t.sources ≡ s.sources) × (t.fault ≡ s.fault) × (said ≡ answer_text answer)
 
--- the same poller with an empty list of asked waits, in which there is room for one
-pub record ForgetsWaits (p q : ScriptPoller) : Type 0 where
+-- a poller that shows another moment
+abbrev pub showing : (moment : ℕ) → ScriptPoller → ScriptPoller
+showing moment p = record p { moment = record { nanos = moment } }
+
+-- the clock is set, and nothing else changes
+pub record ClockLine (s : State) (moment : ℕ) (t : State) : Type 0 where
+  pub changed : Calls (NewPoller (showing moment s.loop.poll.poller)) (OldPoller s.loop.poll.poller) s.loop t.loop
+  pub sources : t.sources ≡ s.sources
+  pub fault : t.fault ≡ s.fault
+
+-- the answers of a poller, with a fault behind them where one is asked for, at the moment that the clock shows
+abbrev pub with_fault : (fault : Bool) → ScriptPoller → List ScriptAnswer
+with_fault fault p = if fault then p.answers.items ++ record { moment = p.moment; end = FaultEnd } ∷ [] else p.answers.items
+
+-- the same poller with an empty list of asked waits, in which there is room for one, and with a fault where one is asked for
+pub record IsReady (fault : Bool) (p q : ScriptPoller) : Type 0 where
   pub moment : q.moment ≡ p.moment
-  pub answers : q.answers ≡ p.answers
+  pub answers : q.answers.items ≡ with_fault fault p
+  pub faults : q.faults ≡ p.faults
   pub none : q.waits.items ≡ []
   pub room : 1 ≤ vec_capacity q.waits
 
--- the text of a dispatch: the asked waits, then what the callbacks said, then the refusal
+-- the text of a dispatch: the asked waits, then what the callbacks said, then the refusal; no fault is pending after it
 pub record DispatchLine (s : State) (timeout : Option ℕ) (t : State) (said : List ℕ) : Type 0 where
   pub old : ScriptPoller
   pub new : ScriptPoller
-  pub forgets : ForgetsWaits old new
+  pub ready : IsReady s.fault old new
   pub mid : View Source ScriptPoller
   pub lent : Calls (NewPoller new) (OldPoller old) s.loop mid
   pub limit : Option Duration
@@ -116,15 +157,20 @@ pub record DispatchLine (s : State) (timeout : Option ℕ) (t : State) (said : L
   pub answer : Result (Unit {0}) Error
   pub called : List ℕ
   pub dispatched : Calls (DispatchCall limit (Some [])) (Dispatched answer (Some called)) mid t.loop
-  pub pings : t.pings ≡ s.pings
+  pub sources : t.sources ≡ s.sources
+  pub fault : t.fault ≡ false
   pub text : said ≡ (waits_text t.loop.poll.poller.waits.items ++ called) ++ answer_text answer
 
 -- what a command does, and what it prints; nothing where the line can't be read
 abbrev pub Carried : State → Option Command → Option (State × List ℕ) → Type 0
 Carried s None outcome = outcome ≡ None
 Carried s (Some Nothing) outcome = outcome ≡ Some (s, [])
-Carried s (Some (Ping name)) outcome = PingLine s name outcome
+Carried s (Some (Ping name)) outcome = InsertLine s name PingKind (new_ping name) outcome
 Carried s (Some (Ring name)) outcome = RingLine s name outcome
+Carried s (Some (Timer name deadline)) outcome = InsertLine s name TimerKind (new_timer name deadline) outcome
+Carried s (Some (Clock moment)) None = ⊥
+Carried s (Some (Clock moment)) (Some (t, said)) = ClockLine s moment t × (said ≡ [])
+Carried s (Some Fault) outcome = outcome ≡ Some (record s { fault = true }, [])
 Carried s (Some (Dispatch timeout)) None = ⊥
 Carried s (Some (Dispatch timeout)) (Some (t, said)) = DispatchLine s timeout t said
 

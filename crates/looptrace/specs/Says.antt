@@ -1,8 +1,7 @@
 -- What a callback says.
 use Rattle.std.specs.Prelude.{◌≡◌, ℕ, List, ◌++◌, ◌⊎◌, Option, None}
 use Rattle.std.specs.Option.{option_map}
-use Rattle.looptrace.specs.Texts.{call_text}
 
 -- the text of a call is said behind what was said before; where memory was wanting nothing is known
-abbrev pub Tells : List ℕ → Option (List ℕ) → Option (List ℕ) → Type 0
-Tells name before after = (after ≡ None) ⊎ (after ≡ option_map (λ said. said ++ call_text name) before)
+abbrev pub Tells : (text : List ℕ) → Option (List ℕ) → Option (List ℕ) → Type 0
+Tells text before after = (after ≡ None) ⊎ (after ≡ option_map (λ said. said ++ text) before)

@@ -1,25 +1,63 @@
 -- What the sources of a script mean.
-use Rattle.std.specs.Prelude.{◌≡◌, ℕ, List, Option}
+use Rattle.std.specs.Prelude.{◌≡◌, ◌⊎◌, ℕ, List, Option}
+use Rattle.std.proofs.Common.{inl, inr}
+use Rattle.calloop_wake.specs.declared.error.Error.TheVariants.{OutOfMemory}
+use Rattle.calloop_wake.specs.declared.wheel.Instant.{Instant}
 use Rattle.calloop_core.specs.declared.sources.Dispatcher.{Dispatcher}
+use Rattle.calloop_core.specs.declared.timer.Timer.{Timer}
+use Rattle.calloop_core.specs.declared.timer.TimeoutAction.{TimeoutAction}
+use Rattle.calloop_core.specs.declared.timer.TimeoutAction.TheVariants.{Drop}
+use Rattle.calloop_core.specs.Holdings.{holds_none}
+use Rattle.calloop_core.specs.Meanings.{Meaning, IsDispatched, either, seen_as}
+use Rattle.calloop_core.specs.Timers.{timer_holds, IsTimerReg, IsTimerUnreg, IsTimerTurn, IsNoPing}
 use Rattle.calloop.specs.declared.ping.PingSource.{PingSource}
-use Rattle.calloop.specs.Meanings.{Meaning, ping_meaning}
+use Rattle.calloop.specs.Pings.{IsPingReg, IsPingUnreg, IsPingRing, IsPingTurn}
 use Rattle.looptrace.specs.declared.source.Source.{Source}
-use Rattle.looptrace.specs.declared.source.Source.TheVariants.{Ping}
+use Rattle.looptrace.specs.declared.source.Source.TheVariants.{Ping, Timer as TimerIn}
 use Rattle.looptrace.specs.declared.source.Teller.{Teller}
+use Rattle.looptrace.specs.declared.source.Alarm.{Alarm}
 use Rattle.looptrace.specs.Says.{Tells}
+use Rattle.looptrace.specs.Texts.{call_text, alarm_text}
 
 -- a teller says its name and stays as it is
 abbrev pub tells : Teller → Unit {0} → Unit {0} → Option (List ℕ) → Unit {0} → Teller → Unit {0} → Option (List ℕ) → Type 0
-tells teller event metadata said answer after metadata' said' = (after ≡ teller) × Tells teller.name said said'
+tells teller event metadata said answer after metadata' said' = (after ≡ teller) × Tells (call_text teller.name) said said'
 
-abbrev pub ping_in : Source → Dispatcher PingSource Teller
-ping_in (Ping d) = d
+-- an alarm says its name and the deadline, stays as it is, and lets its timer leave the loop
+abbrev pub rings_out : Alarm → Instant → Unit {0} → Option (List ℕ) → TimeoutAction → Alarm → Unit {0} → Option (List ℕ) → Type 0
+rings_out alarm deadline metadata said answer after metadata' said' = (answer ≡ Drop) × (after ≡ alarm) × Tells (alarm_text alarm.name deadline.nanos) said said'
 
--- a source of a script means its ping with its teller
-abbrev pub source_meaning : {P : Type 0} → Meaning Source P (Option (List ℕ))
-source_meaning {P} =
+-- a ping with its teller
+abbrev pub ping_meaning : {P : Type 0} → Meaning (Dispatcher PingSource Teller) P (Option (List ℕ))
+ping_meaning =
     record {
-      reg = λ s v f a l t g. (ping_meaning {P = P} tells).reg (ping_in s) v f a l (ping_in t) g;
-      ring = λ s b l t. (ping_meaning {P = P} tells).ring (ping_in s) b l (ping_in t);
-      turn = λ s r k v x a l t y. (ping_meaning {P = P} tells).turn (ping_in s) r k v x a l (ping_in t) y;
+      holds = λ s. holds_none;
+      reg = λ s v f a l t g. IsPingReg s.source v f a l t.source g × (t.callback ≡ s.callback);
+      unreg = λ s v a l t. IsPingUnreg s.source a l t.source × (t.callback ≡ s.callback);
+      ring = λ s b l t. IsPingRing s.source b l t.source × (t.callback ≡ s.callback);
+      turn = IsDispatched (λ s r token v calls a l t. IsPingTurn s token v calls a l t) tells (λ cause e. e ≡ OutOfMemory);
     }
+
+-- a timer with its alarm
+abbrev pub timer_meaning : {P : Type 0} → Meaning (Dispatcher Timer Alarm) P (Option (List ℕ))
+timer_meaning =
+    record {
+      holds = λ s. timer_holds s.source;
+      reg = λ s v f a l t g. IsTimerReg s.source v f a l t.source g × (t.callback ≡ s.callback);
+      unreg = λ s v a l t. IsTimerUnreg s.source a l t.source × (t.callback ≡ s.callback);
+      ring = λ s b l t. IsNoPing s.source b l t.source × (t.callback ≡ s.callback);
+      turn = IsDispatched (λ s r token v calls a l t. IsTimerTurn s token v calls a l t) rings_out (λ cause e. e ≡ OutOfMemory);
+    }
+
+-- the sources as a choice of two
+abbrev pub split : Source → Dispatcher PingSource Teller ⊎ Dispatcher Timer Alarm
+split (Ping d) = inl d
+split (TimerIn d) = inr d
+
+abbrev pub join : Dispatcher PingSource Teller ⊎ Dispatcher Timer Alarm → Source
+join (inl d) = Ping d
+join (inr d) = TimerIn d
+
+-- a source of a script means its ping with its teller, or its timer with its alarm
+abbrev pub source_meaning : {P : Type 0} → Meaning Source P (Option (List ℕ))
+source_meaning = seen_as split (either ping_meaning timer_meaning)

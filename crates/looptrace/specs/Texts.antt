@@ -23,6 +23,10 @@ wait_text asked = codes "wait " ++ timeout_text asked ++ codes "\n"
 abbrev pub call_text : List ℕ → List ℕ
 call_text name = codes "call " ++ name ++ codes "\n"
 
+-- the timer of this name was called with this deadline, in nanoseconds
+abbrev pub alarm_text : List ℕ → (deadline : ℕ) → List ℕ
+alarm_text name deadline = codes "call " ++ name ++ codes " " ++ decimal deadline ++ codes "\n"
+
 -- a command was refused with this error
 abbrev pub refused_text : List ℕ → List ℕ
 refused_text word = codes "refused " ++ word ++ codes "\n"

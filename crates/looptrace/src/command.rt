@@ -1,6 +1,6 @@
 ghost use Rattle.std.specs.Prelude.{◌≡◌, IfOk};
-ghost use Rattle.std.specs.List.{list_all};
-ghost use Rattle.looptrace.specs.Commands.{is_name, is_name_byte, name_of, number_of, timeout_of, ping_of, ring_of, dispatch_of, command_of};
+ghost use Rattle.std.specs.List.{list_all, position};
+ghost use Rattle.looptrace.specs.Commands.{is_name, is_name_byte, name_of, number_of, timeout_of, ping_of, ring_of, is_space, timer_with, timer_of, clock_of, dispatch_of, command_of};
 
 use crate::name::Name;
 use std::alloc::{AllocError, Global};
@@ -14,6 +14,12 @@ pub enum Command {
     Ping(Name),
     /// Rings the ping of this name.
     Ring(Name),
+    /// Makes a timer of this name, for this deadline in nanoseconds.
+    Timer(Name, u64),
+    /// Sets the clock to this moment in nanoseconds.
+    Clock(u64),
+    /// Lets the next wait fail.
+    Fault,
     /// Dispatches with a timeout in nanoseconds, or with none.
     Dispatch(Option<u64>),
 }
@@ -100,6 +106,43 @@ fn parse_ring(alloc: Global, word: &[u8]) -> Result<Option<Command>, AllocError>
     }
 }
 
+fn first_space(words: &[u8]) -> Option<usize>
+    ensures { result ≡ position is_space words.now }
+{
+    words.iter().position(|b| *b == b' ')
+}
+
+fn parse_timer_with(
+    alloc: Global,
+    name: &[u8],
+    deadline: &[u8],
+) -> Result<Option<Command>, AllocError>
+    ensures { IfOk result (λ command. command ≡ timer_with (name_of name.now) (number_of deadline.now)) }
+{
+    let Some(name) = parse_name(alloc, name)? else {
+        return Ok(None);
+    };
+    match parse_number(deadline) {
+        Some(deadline) => Ok(Some(Command::Timer(name, deadline))),
+        None => Ok(None),
+    }
+}
+
+fn parse_timer(alloc: Global, words: &[u8]) -> Result<Option<Command>, AllocError>
+    ensures { IfOk result (λ command. command ≡ timer_of words.now) }
+{
+    match first_space(words) {
+        Some(space) => parse_timer_with(alloc, &words[..space], &words[space + 1..]),
+        None => Ok(None),
+    }
+}
+
+fn parse_clock(word: &[u8]) -> Option<Command>
+    ensures { result ≡ clock_of word.now }
+{
+    Some(Command::Clock(parse_number(word)?))
+}
+
 /// The command of a line without its line feed. `None` where the line can't be read.
 /// An `Err` is want of memory.
 pub fn parse(alloc: Global, line: &[u8]) -> Result<Option<Command>, AllocError>
@@ -111,6 +154,12 @@ pub fn parse(alloc: Global, line: &[u8]) -> Result<Option<Command>, AllocError>
         parse_ping(alloc, &line[5..])
     } else if line.starts_with(b"ring ") {
         parse_ring(alloc, &line[5..])
+    } else if line.starts_with(b"timer ") {
+        parse_timer(alloc, &line[6..])
+    } else if line.starts_with(b"clock ") {
+        Ok(parse_clock(&line[6..]))
+    } else if line == b"fault".as_slice() {
+        Ok(Some(Command::Fault))
     } else {
         Ok(parse_dispatch(line))
     }

@@ -8,6 +8,7 @@ use crate::lines::{read_line, without_feed};
 use std::alloc::Global;
 use std::io;
 use std::io::{BufRead, Write};
+use std::sync::Wait;
 
 /// What carries out the lines of a script.
 pub trait Runner {
@@ -16,7 +17,7 @@ pub trait Runner {
 
     /// Carries out one line without its line feed, and appends what it prints to `text`.
     /// False where the line can't be read. After an `Err`, a fault or want of memory, nothing is known of `text`.
-    fn line(&mut self, line: &[u8], text: &mut Vec<u8>) -> io::Result<bool>
+    fn line<Q: Wait>(&mut self, rt: &Q, line: &[u8], text: &mut Vec<u8>) -> io::Result<bool>
         ensures { IfOk result (λ read. MatchBool read
             ((said : List ℕ) × (text.new.items ≡ text.old.items ++ said) × step self.old line.now (Some (self.new, said)))
             (step self.old line.now None)) };
@@ -25,7 +26,8 @@ pub trait Runner {
 /// Carries out the lines of `input`, writes each line's text to `output`, and answers the exit status:
 /// 0 at the end of the input, and 2 at the first line that can't be read, which `errors` then names by its number.
 /// An `Err` is a fault of reading or writing, or want of memory. What was carried out and written before it stays.
-pub fn drive<L: Runner, R: BufRead, W: Write, E: Write>(
+pub fn drive<Q: Wait, L: Runner, R: BufRead, W: Write, E: Write>(
+    rt: &Q,
     alloc: Global,
     runner: &mut L,
     input: &mut R,
@@ -45,7 +47,7 @@ pub fn drive<L: Runner, R: BufRead, W: Write, E: Write>(
             return Ok(0);
         }
         text.clear();
-        if !runner.line(without_feed(&line), &mut text)? {
+        if !runner.line(rt, without_feed(&line), &mut text)? {
             writeln!(errors, "error line {number}")?;
             return Ok(2);
         }

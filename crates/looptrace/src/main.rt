@@ -13,17 +13,20 @@ pub mod text;
 pub mod trace;
 
 use crate::trace::trace;
-use std::io;
 use std::io::BufReader;
 use std::process::ExitCode;
 
-fn run(rt: &HostRuntime) -> io::Result<u8> {
-    let mut input = BufReader::new(rt.alloc(), rt.reader())?;
-    trace(rt.alloc(), &mut input, &mut rt.stdout(), &mut rt.stderr())
-}
-
 fn main(rt: HostRuntime) -> ExitCode {
-    match run(&rt) {
+    let Ok(mut input) = BufReader::new(rt.alloc(), rt.reader()) else {
+        return ExitCode::FAILURE;
+    };
+    match trace(
+        &rt,
+        rt.alloc(),
+        &mut input,
+        &mut rt.stdout(),
+        &mut rt.stderr(),
+    ) {
         Ok(status) => ExitCode::from(status),
         Err(_) => ExitCode::FAILURE,
     }

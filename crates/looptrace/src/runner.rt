@@ -3,45 +3,65 @@ ghost use Rattle.std.specs.Prelude.{◌≡◌, ℕ, List, [], ◌∷◌, ◌++�
 ghost use Rattle.std.specs.IoError.{error_kind};
 ghost use Rattle.std.specs.declared.io.ErrorKind.TheVariants.{OutOfMemory};
 ghost use Rattle.calloop_core.specs.Pollers.{nanos_of};
-ghost use Rattle.looptrace.specs.Runs.{token_named, word_of, waits_text, answer_text, nanos_in, IsStart, state_of, PingLine, RingLine, DispatchLine, Carried};
+ghost use Rattle.looptrace.specs.declared.runner.Kind.TheVariants.{Ping, Timer as TimerKind};
+ghost use Rattle.looptrace.specs.Runs.{source_named, ping_named, word_of, waits_text, answer_text, nanos_in, IsStart, state_of, InsertSays, InsertLine, RingLine, ClockLine, IsReady, DispatchLine, Carried, new_ping, new_timer};
 
 use crate::command::{Command, parse};
 use crate::driver::Runner;
 use crate::name::Name;
-use crate::source::{Said, Source, Teller};
+use crate::source::{Alarm, Said, Source, Teller};
 use crate::text::{append_insert, append_refused, append_wait};
 use calloop::loop_logic::EventLoop;
 use calloop::ping::PingSource;
-use calloop::{Error, RegistrationToken};
-use calloop_core::sys::script::{ScriptClock, ScriptPoller};
+use calloop::{Clock, Error, InsertError, Instant, RegistrationToken, Timer};
+use calloop_core::sys::script::{ScriptAnswer, ScriptClock, ScriptEnd, ScriptPoller};
 use std::alloc::{AllocError, Global};
 use std::io;
+use std::sync::Wait;
 use std::time::Duration;
 
-/// A ping of the script, under its name.
+/// What a name stands for.
+#[derive(Clone, Copy, Debug)]
+pub enum Kind {
+    Ping,
+    Timer,
+}
+
+/// A source of the script, under its name. A name is never given back.
 #[derive(Drop)]
-pub struct NamedPing {
+pub struct NamedSource {
     pub name: Name,
+    pub kind: Kind,
     pub token: RegistrationToken,
 }
 
-/// A loop over a scripted poller, with the pings that the script made.
+/// A loop over a scripted poller, with the sources that the script made, and whether the next wait is to fail.
 #[derive(Drop)]
 pub struct ScriptLoop {
     alloc: Global,
     event_loop: EventLoop<Source, ScriptPoller, ScriptClock>,
-    pings: Vec<NamedPing>,
+    sources: Vec<NamedSource>,
+    fault: bool,
 }
 
-fn token_named(pings: &[NamedPing], name: &[u8]) -> Option<RegistrationToken>
-    ensures { result ≡ token_named name.now pings.now }
+fn source_named(sources: &[NamedSource], name: &[u8]) -> Option<(Kind, RegistrationToken)>
+    ensures { result ≡ source_named name.now sources.now }
 {
-    for ping in pings {
-        if ping.name.as_slice() == name {
-            return Some(ping.token);
+    for source in sources {
+        if source.name.as_slice() == name {
+            return Some((source.kind, source.token));
         }
     }
     None
+}
+
+fn ping_named(sources: &[NamedSource], name: &[u8]) -> Option<RegistrationToken>
+    ensures { result ≡ ping_named name.now sources.now }
+{
+    match source_named(sources, name) {
+        Some((Kind::Ping, token)) => Some(token),
+        _ => None,
+    }
 }
 
 // The name of the refusal.
@@ -55,6 +75,7 @@ fn word_of(error: &Error) -> &'static str
         Error::OutOfMemory => "OutOfMemory",
         Error::TooManySources => "TooManySources",
         Error::TooManyTokens => "TooManyTokens",
+        Error::TooManyTimers => "TooManyTimers",
     }
 }
 
@@ -103,6 +124,44 @@ fn timeout_of(nanos: Option<u64>) -> Option<Duration>
     }
 }
 
+// Says what an insertion answered, and keeps its name where it wasn't refused.
+fn keep<S: Drop>(
+    sources: &mut Vec<NamedSource>,
+    name: Name,
+    kind: Kind,
+    answer: Result<RegistrationToken, InsertError<S>>,
+    text: &mut Vec<u8>,
+) -> Result<(), AllocError>
+    ensures { OnOk result ((said : List ℕ) × (text.new.items ≡ text.old.items ++ said) × InsertSays name kind answer sources.old.items sources.new.items said) }
+{
+    match answer {
+        Ok(token) => {
+            append_insert(text, name.as_slice(), token.slot(), token.version())?;
+            sources.push(NamedSource { name, kind, token })?;
+            Ok(())
+        }
+        Err(refused) => append_refused(text, word_of(&refused.error)),
+    }
+}
+
+// Forgets the asked waits, and scripts a fault where one is asked for.
+fn make_ready(poller: &mut ScriptPoller, fault: bool) -> io::Result<()>
+    ensures ok { OnOk result (IsReady fault poller.old poller.new) }
+    ensures err { IfErr result (λ e. error_kind e ≡ OutOfMemory) }
+{
+    poller.keep_waits(1)?;
+    if fault {
+        let answer = ScriptAnswer {
+            moment: poller.clock().now(),
+            end: ScriptEnd::Fault,
+        };
+        if poller.script(answer).is_err() {
+            return Err(io::Error::from(io::ErrorKind::OutOfMemory));
+        }
+    }
+    Ok(())
+}
+
 impl ScriptLoop {
     /// A loop with the clock at 0 and without sources. An `Err` is want of memory.
     pub fn new(alloc: Global) -> io::Result<ScriptLoop>
@@ -116,7 +175,8 @@ impl ScriptLoop {
             Ok(event_loop) => Ok(ScriptLoop {
                 alloc,
                 event_loop,
-                pings: Vec::new(alloc),
+                sources: Vec::new(alloc),
+                fault: false,
             }),
             Err(_) => Err(io::Error::from(io::ErrorKind::OutOfMemory)),
         }
@@ -124,29 +184,39 @@ impl ScriptLoop {
 
     fn ping(&mut self, name: &Name, text: &mut Vec<u8>) -> io::Result<bool>
         ensures ok { IfOk result (λ read. MatchBool read
-            ((said : List ℕ) × (text.new.items ≡ text.old.items ++ said) × PingLine (state_of self.old) name.now (Some (state_of self.new, said)))
-            (PingLine (state_of self.old) name.now None)) }
+            ((said : List ℕ) × (text.new.items ≡ text.old.items ++ said) × InsertLine (state_of self.old) name.now Ping (new_ping name.now) (Some (state_of self.new, said)))
+            (InsertLine (state_of self.old) name.now Ping (new_ping name.now) None)) }
         ensures err { IfErr result (λ e. error_kind e ≡ OutOfMemory) }
     {
-        if token_named(&self.pings, name.as_slice()).is_some() {
+        if source_named(&self.sources, name.as_slice()).is_some() {
             return Ok(false);
         }
-        self.pings.reserve(1)?;
         let callback = Teller {
             name: Name::new(self.alloc, name.as_slice())?,
         };
         let kept = Name::new(self.alloc, name.as_slice())?;
-        match self
-            .event_loop
-            .handle()
-            .insert_source(PingSource::new(), callback)
-        {
-            Ok(token) => {
-                append_insert(text, name.as_slice(), token.slot(), token.version())?;
-                self.pings.push_reserved(NamedPing { name: kept, token });
-            }
-            Err(refused) => append_refused(text, word_of(&refused.error))?,
+        let source = PingSource::new();
+        let answer = self.event_loop.handle().insert_source(source, callback);
+        keep(&mut self.sources, kept, Kind::Ping, answer, text)?;
+        Ok(true)
+    }
+
+    fn timer(&mut self, name: &Name, deadline: u64, text: &mut Vec<u8>) -> io::Result<bool>
+        ensures ok { IfOk result (λ read. MatchBool read
+            ((said : List ℕ) × (text.new.items ≡ text.old.items ++ said) × InsertLine (state_of self.old) name.now TimerKind (new_timer name.now deadline) (Some (state_of self.new, said)))
+            (InsertLine (state_of self.old) name.now TimerKind (new_timer name.now deadline) None)) }
+        ensures err { IfErr result (λ e. error_kind e ≡ OutOfMemory) }
+    {
+        if source_named(&self.sources, name.as_slice()).is_some() {
+            return Ok(false);
         }
+        let callback = Alarm {
+            name: Name::new(self.alloc, name.as_slice())?,
+        };
+        let kept = Name::new(self.alloc, name.as_slice())?;
+        let source = Timer::from_deadline(Instant { nanos: deadline });
+        let answer = self.event_loop.handle().insert_source(source, callback);
+        keep(&mut self.sources, kept, Kind::Timer, answer, text)?;
         Ok(true)
     }
 
@@ -156,7 +226,7 @@ impl ScriptLoop {
             (RingLine (state_of self.old) name.now None)) }
         ensures err { IfErr result (λ e. error_kind e ≡ OutOfMemory) }
     {
-        let Some(token) = token_named(&self.pings, name.as_slice()) else {
+        let Some(token) = ping_named(&self.sources, name.as_slice()) else {
             return Ok(false);
         };
         let answer = self.event_loop.handle().ring(&token);
@@ -164,13 +234,26 @@ impl ScriptLoop {
         Ok(true)
     }
 
-    fn dispatch(&mut self, timeout: Option<u64>, text: &mut Vec<u8>) -> io::Result<()>
+    fn clock(&mut self, moment: u64)
+        ensures { ClockLine (state_of self.old) moment (state_of self.new) }
+    {
+        let moment = Instant { nanos: moment };
+        self.event_loop.handle().poller_mut().set_clock(moment);
+    }
+
+    fn dispatch<Q: Wait>(
+        &mut self,
+        rt: &Q,
+        timeout: Option<u64>,
+        text: &mut Vec<u8>,
+    ) -> io::Result<()>
         ensures ok { OnOk result ((said : List ℕ) × (text.new.items ≡ text.old.items ++ said) × DispatchLine (state_of self.old) timeout (state_of self.new) said) }
         ensures err { IfErr result (λ e. error_kind e ≡ OutOfMemory) }
     {
-        self.event_loop.handle().poller_mut().keep_waits(1)?;
+        make_ready(self.event_loop.handle().poller_mut(), self.fault)?;
+        self.fault = false;
         let mut said = Said::new(self.alloc);
-        let answer = self.event_loop.dispatch(timeout_of(timeout), &mut said);
+        let answer = self.event_loop.dispatch(rt, timeout_of(timeout), &mut said);
         let Some(called) = said.text() else {
             return Err(io::Error::from(io::ErrorKind::OutOfMemory));
         };
@@ -179,6 +262,37 @@ impl ScriptLoop {
         append_answer(text, &answer)?;
         Ok(())
     }
+
+    fn carry_out<Q: Wait>(
+        &mut self,
+        rt: &Q,
+        command: &Command,
+        text: &mut Vec<u8>,
+    ) -> io::Result<bool>
+        ensures ok { IfOk result (λ read. MatchBool read
+            ((said : List ℕ) × (text.new.items ≡ text.old.items ++ said) × Carried (state_of self.old) (Some command.now) (Some (state_of self.new, said)))
+            (Carried (state_of self.old) (Some command.now) None)) }
+        ensures err { IfErr result (λ e. error_kind e ≡ OutOfMemory) }
+    {
+        match command {
+            Command::Nothing => Ok(true),
+            Command::Ping(name) => self.ping(name, text),
+            Command::Ring(name) => self.ring(name, text),
+            Command::Timer(name, deadline) => self.timer(name, *deadline, text),
+            Command::Clock(moment) => {
+                self.clock(*moment);
+                Ok(true)
+            }
+            Command::Fault => {
+                self.fault = true;
+                Ok(true)
+            }
+            Command::Dispatch(timeout) => {
+                self.dispatch(rt, *timeout, text)?;
+                Ok(true)
+            }
+        }
+    }
 }
 
 impl Runner for ScriptLoop {
@@ -186,21 +300,15 @@ impl Runner for ScriptLoop {
 
     ghost step = { line_step };
 
-    fn line(&mut self, line: &[u8], text: &mut Vec<u8>) -> io::Result<bool>
+    fn line<Q: Wait>(&mut self, rt: &Q, line: &[u8], text: &mut Vec<u8>) -> io::Result<bool>
         ensures read { IfOk result (λ read. MatchBool read
             ((said : List ℕ) × (text.new.items ≡ text.old.items ++ said) × line_step self.old line.now (Some (self.new, said)))
             (line_step self.old line.now None)) }
         ensures err { IfErr result (λ e. error_kind e ≡ OutOfMemory) }
     {
-        match &parse(self.alloc, line)? {
-            None => Ok(false),
-            Some(Command::Nothing) => Ok(true),
-            Some(Command::Ping(name)) => self.ping(name, text),
-            Some(Command::Ring(name)) => self.ring(name, text),
-            Some(Command::Dispatch(timeout)) => {
-                self.dispatch(*timeout, text)?;
-                Ok(true)
-            }
-        }
+        let Some(command) = parse(self.alloc, line)? else {
+            return Ok(false);
+        };
+        self.carry_out(rt, &command, text)
     }
 }

@@ -1,13 +1,17 @@
-//! The sources of a script: pings whose callbacks say their names.
+//! The sources of a script: pings and timers whose callbacks say their names.
 ghost use Rattle.std.specs.Prelude.{◌≡◌, [], Some};
 ghost use Rattle.std.specs.Option.{option_copied};
 ghost use Rattle.looptrace.specs.Says.{Tells};
+ghost use Rattle.looptrace.specs.Texts.{call_text, alarm_text};
 
 use crate::name::Name;
-use crate::text::append_call;
+use crate::text::{append_alarm, append_call};
 use calloop::loop_logic::{EventDispatcher, Hold};
 use calloop::ping::PingSource;
-use calloop::{Callback, Dispatcher, Poll, Poller, Readiness, Result, Token, TokenFactory};
+use calloop::{
+    Callback, Dispatch, Dispatcher, Instant, Poll, Poller, PostAction, Readiness, Result,
+    TimeoutAction, Timer, Token, TokenFactory,
+};
 use std::alloc::Global;
 use std::marker::Model;
 
@@ -49,9 +53,17 @@ impl Said {
     }
 
     fn call(&mut self, name: &[u8])
-        ensures { Tells name.now self.old self.new }
+        ensures { Tells (call_text name.now) self.old self.new }
     {
         if append_call(&mut self.text, name).is_err() {
+            self.lost = true;
+        }
+    }
+
+    fn alarm(&mut self, name: &[u8], deadline: Instant)
+        ensures { Tells (alarm_text name.now deadline.nanos) self.old self.new }
+    {
+        if append_alarm(&mut self.text, name, deadline.nanos).is_err() {
             self.lost = true;
         }
     }
@@ -73,56 +85,103 @@ impl Callback<(), (), (), Said> for Teller {
     }
 }
 
+/// Says the name of the timer that is called, and the deadline that is handed out.
+#[derive(Drop)]
+pub struct Alarm {
+    pub name: Name,
+}
+
+impl Callback<Instant, (), TimeoutAction, Said> for Alarm {
+    ghost use Rattle.looptrace.specs.Sources.{rings_out};
+
+    ghost may = { rings_out };
+
+    fn call(&mut self, deadline: Instant, _metadata: &mut (), said: &mut Said) -> TimeoutAction {
+        said.alarm(self.name.as_slice(), deadline);
+        TimeoutAction::Drop
+    }
+}
+
 /// The sources of a script.
 #[derive(Drop)]
 pub enum Source {
     Ping(Dispatcher<PingSource, Teller>),
+    Timer(Dispatcher<Timer, Alarm>),
 }
 
 impl<P: Poller, C> EventDispatcher<P, C> for Source {
     ghost use Rattle.looptrace.specs.Sources.{source_meaning};
+    ghost use Rattle.looptrace.specs.Held.{source_keeps};
 
     type Data = Said;
 
     ghost means = { source_meaning };
 
     fn register(&mut self, poll: &mut Poll<P, C>, factory: &mut TokenFactory) -> Result<()> {
-        let Source::Ping(ping) = self;
-        ping.source.register(poll, factory)
+        match self {
+            Source::Ping(ping) => Dispatch::<P, C, Said>::register(ping, poll, factory),
+            Source::Timer(timer) => Dispatch::<P, C, Said>::register(timer, poll, factory),
+        }
+    }
+
+    fn unregister(&mut self, poll: &mut Poll<P, C>) -> Result<()> {
+        match self {
+            Source::Ping(ping) => Dispatch::<P, C, Said>::unregister(ping, poll),
+            Source::Timer(timer) => Dispatch::<P, C, Said>::unregister(timer, poll),
+        }
     }
 
     fn ring(&mut self, poll: &mut Poll<P, C>) -> bool {
-        let Source::Ping(ping) = self;
-        ping.source.ring(poll);
-        true
+        match self {
+            Source::Ping(ping) => Dispatch::<P, C, Said>::ring(ping, poll),
+            Source::Timer(timer) => Dispatch::<P, C, Said>::ring(timer, poll),
+        }
     }
 
     fn process_events(
         &mut self,
-        _readiness: Readiness,
+        readiness: Readiness,
         token: Token,
         poll: &mut Poll<P, C>,
         data: &mut Said,
-    ) -> Result<()> {
-        let Source::Ping(ping) = self;
-        ping.source
-            .process_events(token, poll, &mut ping.callback, data);
-        Ok(())
+    ) -> Result<PostAction> {
+        match self {
+            Source::Ping(ping) => ping.process_events(readiness, token, poll, data),
+            Source::Timer(timer) => timer.process_events(readiness, token, poll, data),
+        }
     }
+
+    ghost keeps = { source_keeps };
 }
 
-impl<P: Poller, C> Hold<Teller, P, C> for Source {
+impl<P: Poller, C> Hold<PingSource, Teller, P, C> for Source {
     ghost use Rattle.std.specs.Prelude.{◌≡◌};
     ghost use Rattle.looptrace.specs.declared.source.Source.TheVariants.{Ping};
-    ghost use Rattle.looptrace.specs.Held.{held_means};
+    ghost use Rattle.looptrace.specs.Held.{ping_held};
 
     ghost held = { λ d. Ping d };
-
-    ghost held_means = { held_means };
 
     fn hold(dispatcher: Dispatcher<PingSource, Teller>) -> Source
         ensures { result ≡ Ping dispatcher }
     {
         Source::Ping(dispatcher)
     }
+
+    ghost held_means = { ping_held };
+}
+
+impl<P: Poller, C> Hold<Timer, Alarm, P, C> for Source {
+    ghost use Rattle.std.specs.Prelude.{◌≡◌};
+    ghost use Rattle.looptrace.specs.declared.source.Source.TheVariants.{Timer as TimerIn};
+    ghost use Rattle.looptrace.specs.Held.{timer_held};
+
+    ghost held = { λ d. TimerIn d };
+
+    fn hold(dispatcher: Dispatcher<Timer, Alarm>) -> Source
+        ensures { result ≡ TimerIn dispatcher }
+    {
+        Source::Timer(dispatcher)
+    }
+
+    ghost held_means = { timer_held };
 }

@@ -11,6 +11,7 @@ use crate::trace::trace;
 use std::alloc::Global;
 use std::io;
 use std::io::{BufRead, Read, Write};
+use std::sync::Wait;
 use std::test::Fail;
 
 #[test]
@@ -47,8 +48,6 @@ fn lines_that_cannot_be_read(rt: HostRuntime) -> Result<(), Fail> {
         b"dispatch 1a".as_slice(),
         b"dispatch 18446744073709551616".as_slice(),
         b"dispatch 100000000000000000000".as_slice(),
-        b"clock 5".as_slice(),
-        b"timer a 5".as_slice(),
         b"close a".as_slice(),
         b" ".as_slice(),
         b"\r".as_slice(),
@@ -144,7 +143,7 @@ struct Counter {
 impl Runner for Counter {
     ghost step = { λ counter line done. done ≡ (if pointwise nat_eq line (codes "up") then Some (record { count = next_number counter.count }, call_text line) else None) };
 
-    fn line(&mut self, line: &[u8], text: &mut Vec<u8>) -> io::Result<bool> {
+    fn line<Q: Wait>(&mut self, _rt: &Q, line: &[u8], text: &mut Vec<u8>) -> io::Result<bool> {
         if line != b"up".as_slice() {
             return Ok(false);
         }
@@ -155,25 +154,29 @@ impl Runner for Counter {
 }
 
 // The status, the count, and what was written to the two outputs.
-fn counted(alloc: Global, script: &[u8]) -> io::Result<(u8, u64, Vec<u8>, Vec<u8>)> {
+fn counted<Q: Wait>(
+    rt: &Q,
+    alloc: Global,
+    script: &[u8],
+) -> io::Result<(u8, u64, Vec<u8>, Vec<u8>)> {
     let mut counter = Counter { count: 0 };
     let (mut out, mut err) = (Vec::new(alloc), Vec::new(alloc));
     let mut input = script;
-    let status = drive(alloc, &mut counter, &mut input, &mut out, &mut err)?;
+    let status = drive(rt, alloc, &mut counter, &mut input, &mut out, &mut err)?;
     Ok((status, counter.count, out, err))
 }
 
 #[test]
 fn runs(rt: HostRuntime) -> Result<(), Fail> {
-    let (status, count, out, err) = counted(rt.alloc(), b"up\nup")?;
+    let (status, count, out, err) = counted(&rt, rt.alloc(), b"up\nup")?;
     assert_eq!(rt; (status, count), (0, 2));
     assert_eq!(rt; out.as_slice(), b"call up\ncall up\n".as_slice());
     assert!(rt; err.is_empty());
-    let (status, count, out, err) = counted(rt.alloc(), b"up\ndown\nup\n")?;
+    let (status, count, out, err) = counted(&rt, rt.alloc(), b"up\ndown\nup\n")?;
     assert_eq!(rt; (status, count), (2, 1));
     assert_eq!(rt; out.as_slice(), b"call up\n".as_slice());
     assert_eq!(rt; err.as_slice(), b"error line 2\n".as_slice());
-    let (status, count, out, err) = counted(rt.alloc(), b"")?;
+    let (status, count, out, err) = counted(&rt, rt.alloc(), b"")?;
     assert_eq!(rt; (status, count), (0, 0));
     assert!(rt; out.is_empty() && err.is_empty());
     Ok(())
@@ -226,6 +229,7 @@ fn an_output_that_is_full(rt: HostRuntime) -> Result<(), Fail> {
         let mut output = make_full(rt.alloc(), fault);
         let mut errors = Vec::new(rt.alloc());
         let answer = drive(
+            &rt,
             rt.alloc(),
             &mut Counter { count: 0 },
             &mut b"up\nup\n".as_slice(),
@@ -250,6 +254,7 @@ fn errors_that_are_full(rt: HostRuntime) -> Result<(), Fail> {
         let mut output = Vec::new(rt.alloc());
         let mut errors = make_full(rt.alloc(), fault);
         let answer = drive(
+            &rt,
             rt.alloc(),
             &mut Counter { count: 0 },
             &mut b"up\ndown\n".as_slice(),
@@ -313,6 +318,7 @@ fn a_reader_that_is_broken(rt: HostRuntime) -> Result<(), Fail> {
     for fault in 0..8 {
         let (mut output, mut errors) = (Vec::new(rt.alloc()), Vec::new(rt.alloc()));
         let answer = drive(
+            &rt,
             rt.alloc(),
             &mut Counter { count: 0 },
             &mut make_broken(b"up\nup\n", fault),
@@ -336,10 +342,10 @@ fn a_reader_that_is_broken(rt: HostRuntime) -> Result<(), Fail> {
 }
 
 // The status of a whole run, and what was written to the two outputs.
-fn traced(alloc: Global, script: &[u8]) -> io::Result<(u8, Vec<u8>, Vec<u8>)> {
+fn traced<Q: Wait>(rt: &Q, alloc: Global, script: &[u8]) -> io::Result<(u8, Vec<u8>, Vec<u8>)> {
     let (mut out, mut err) = (Vec::new(alloc), Vec::new(alloc));
     let mut input = script;
-    let status = trace(alloc, &mut input, &mut out, &mut err)?;
+    let status = trace(rt, alloc, &mut input, &mut out, &mut err)?;
     Ok((status, out, err))
 }
 
@@ -349,7 +355,7 @@ fn first_run(rt: HostRuntime) -> Result<(), Fail> {
         b"ping a\nring a\ndispatch 0\n".as_slice(),
         b"ping a\nring a\ndispatch 0".as_slice(),
     ] {
-        let (status, out, err) = traced(rt.alloc(), script)?;
+        let (status, out, err) = traced(&rt, rt.alloc(), script)?;
         assert_eq!(rt; status, 0);
         assert_eq!(rt;
             out.as_slice(),
@@ -357,7 +363,7 @@ fn first_run(rt: HostRuntime) -> Result<(), Fail> {
         );
         assert!(rt; err.is_empty());
     }
-    let (status, out, err) = traced(rt.alloc(), b"")?;
+    let (status, out, err) = traced(&rt, rt.alloc(), b"")?;
     assert_eq!(rt; status, 0);
     assert!(rt; out.is_empty() && err.is_empty());
     Ok(())
@@ -384,7 +390,7 @@ fn runs_that_end_early(rt: HostRuntime) -> Result<(), Fail> {
         script.extend_from_slice(b"ping a\n")?;
         script.extend_from_slice(line)?;
         script.extend_from_slice(b"\nping c\n")?;
-        let (status, out, err) = traced(rt.alloc(), &script)?;
+        let (status, out, err) = traced(&rt, rt.alloc(), &script)?;
         assert_eq!(rt; status, 2);
         assert_eq!(rt; out.as_slice(), b"insert a 0 0\n".as_slice());
         assert_eq!(rt; err.as_slice(), b"error line 2\n".as_slice());
@@ -399,7 +405,7 @@ fn run_to_a_full_output(rt: HostRuntime) -> Result<(), Fail> {
         let mut output = make_full(rt.alloc(), fault);
         let mut errors = Vec::new(rt.alloc());
         let mut input = b"ping a\nring a\ndispatch 0\n".as_slice();
-        let answer = trace(rt.alloc(), &mut input, &mut output, &mut errors);
+        let answer = trace(&rt, rt.alloc(), &mut input, &mut output, &mut errors);
         if fault == 27 {
             assert_eq!(rt; answer?, 0);
         } else {
@@ -418,7 +424,7 @@ fn run_to_full_errors(rt: HostRuntime) -> Result<(), Fail> {
         let mut output = Vec::new(rt.alloc());
         let mut errors = make_full(rt.alloc(), fault);
         let mut input = b"ping a\nring b\nping c\n".as_slice();
-        let answer = trace(rt.alloc(), &mut input, &mut output, &mut errors);
+        let answer = trace(&rt, rt.alloc(), &mut input, &mut output, &mut errors);
         if fault == 13 {
             assert_eq!(rt; answer?, 2);
         } else {
@@ -435,7 +441,7 @@ fn run_from_a_broken_reader(rt: HostRuntime) -> Result<(), Fail> {
     for fault in 0..27 {
         let (mut output, mut errors) = (Vec::new(rt.alloc()), Vec::new(rt.alloc()));
         let mut input = make_broken(b"ping a\nring a\ndispatch 0\n", fault);
-        let answer = trace(rt.alloc(), &mut input, &mut output, &mut errors);
+        let answer = trace(&rt, rt.alloc(), &mut input, &mut output, &mut errors);
         if fault == 26 {
             assert_eq!(rt; answer?, 0);
         } else {

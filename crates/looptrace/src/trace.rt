@@ -9,13 +9,15 @@ use crate::runner::ScriptLoop;
 use std::alloc::Global;
 use std::io;
 use std::io::{BufRead, Write};
+use std::sync::Wait;
 
 /// Runs a loop from the script that `input` holds, and answers the exit status: 0 at the end of the script, and 2 at
 /// the first line that can't be read. What the loop does goes to `output`, and that line's number to `errors`.
 ///
 /// The loop begins with the clock at 0, without sources, and with a poller that gives no events. An `Err` is a fault
 /// of reading or writing, or want of memory; what was written before it stays.
-pub fn trace<R: BufRead, W: Write, E: Write>(
+pub fn trace<Q: Wait, R: BufRead, W: Write, E: Write>(
+    rt: &Q,
     alloc: Global,
     input: &mut R,
     output: &mut W,
@@ -27,5 +29,5 @@ pub fn trace<R: BufRead, W: Write, E: Write>(
         × (status ≡ w.status))) }
 {
     let mut script_loop = ScriptLoop::new(alloc)?;
-    drive(alloc, &mut script_loop, input, output, errors)
+    drive(rt, alloc, &mut script_loop, input, output, errors)
 }

@@ -11,7 +11,7 @@ use Rattle.calloop.specs.declared.loop_logic.Answer.TheVariants.{Dispatched}
 use Rattle.calloop.specs.Lending.{with_loop_poller}
 use Rattle.calloop.specs.Machine.{View, Polling, view_of}
 use Rattle.looptrace.specs.declared.source.Source.{Source}
-use Rattle.looptrace.specs.Runs.{ForgetsWaits, State, state_of, Calls, waits_text, answer_text}
+use Rattle.looptrace.specs.Runs.{IsReady, State, state_of, Calls, waits_text, answer_text}
 use Rattle.looptrace.proofs.runner.ScriptLoop.dispatch.Goals as goal
 
 -- an equal dispatch
@@ -29,22 +29,16 @@ three old a b d t u v first second third =
     third ∙ ap (λ (u : List ℕ). u ++ d) (second ∙ ap (λ (t : List ℕ). t ++ b) first ∙ append_assoc old a b) ∙ append_assoc old (a ++ b) d
 
 pub returns-clause-ok : goal.returns-clause-ok
-returns-clause-ok c =
+returns-clause-ok g c =
     let s : State = state_of c.args.self.now in
     let held = c.handle.ensures.value in
-    let new : ScriptPoller = c.keep_waits.new.self in
+    let new : ScriptPoller = c.make_ready.new.poller in
     let mid : View Source ScriptPoller = record s.loop { poll = polling new s.loop.poll } in
     let poller : c.poller_mut.result.now ≡ s.loop.poll.poller = c.poller_mut.ensures.value ∙ ap (λ (e : EventLoop Source ScriptPoller _). e.poll.poller) held in
     let before : view_of (with_loop_poller new c.handle.result.inner.now) ≡ mid = ap (λ (e : EventLoop Source ScriptPoller ScriptClock). view_of (with_loop_poller new e)) held in
     let after : view_of c.dispatch-answer.new.self ≡ view_of (with_loop_poller c.poller_mut-2.result.now c.handle-2.result.inner.now) =
     sym (ap (λ (p : ScriptPoller). view_of (with_loop_poller p c.handle-2.result.inner.now)) c.poller_mut-2.ensures.value ∙ ap view_of c.handle-2.ensures.value) in
-    let forgets : ForgetsWaits s.loop.poll.poller new =
-    record {
-      moment = c.in_ok-keep_waits.ensures.moment ∙ ap (λ (p : ScriptPoller). p.moment) poller;
-      answers = c.in_ok-keep_waits.ensures.answers ∙ ap (λ (p : ScriptPoller). p.answers) poller;
-      none = c.in_ok-keep_waits.ensures.waits;
-      room = c.in_ok-keep_waits.ensures.room;
-    } in
+    let ready : IsReady s.fault s.loop.poll.poller new = subst (λ (p : ScriptPoller). IsReady s.fault p new) poller c.in_ok-make_ready.ensures.ok in
     let waits = waits_text c.poller_mut-2.result.now.waits.items in
     let said : List ℕ = (waits ++ c.in-Some.called.now) ++ answer_text c.dispatch-answer.result in
     let text = three c.args.text.now.items waits c.in-Some.called.now (answer_text c.dispatch-answer.result) c.append_waits.new.text.items c.extend_from_slice.new.self.items c.append_answer.new.text.items
@@ -54,7 +48,7 @@ returns-clause-ok c =
       record {
         old = s.loop.poll.poller;
         new = new;
-        forgets = forgets;
+        ready = ready;
         mid = mid;
         lent = ((Polling new ∷ []) ∷ [], (refl, refl), refl);
         limit = c.timeout_of.result;
@@ -63,7 +57,8 @@ returns-clause-ok c =
         called = c.in-Some.called.now;
         dispatched = moved c.timeout_of.result c.dispatch-answer.result _ (Some []) _ (Some c.in-Some.called.now) _ mid _ _ c.new-said.ensures (sym c.in-Some.ensures)
             before after c.dispatch-answer.ensures.case;
-        pings = refl;
+        sources = refl;
+        fault = refl;
         text = refl;
       },
     )

@@ -1,4 +1,4 @@
-use Rattle.std.proofs.Common.{◌≡◌, ◌∙◌, sym, ap}
+use Rattle.std.proofs.Common.{◌≡◌, ◌∙◌, sym, ap, refl}
 use Rattle.calloop.specs.Machine.{View}
 use Rattle.calloop_core.specs.declared.sys.script.ScriptPoller.{ScriptPoller}
 use Rattle.looptrace.specs.declared.source.Source.{Source}
@@ -13,5 +13,6 @@ returns-in-Ok-clause-ok c =
       agrees = c.in-Ok.ensures.ok.3;
       moment = ap (λ (p : ScriptPoller). p.moment.nanos) poller ∙ ap (λ m. m.nanos) c.in_ok-keep_waits.ensures.moment ∙ c.new-poller.ensures.0;
       answers = ap (λ (p : ScriptPoller). p.answers.items) poller ∙ ap (λ a. a.items) c.in_ok-keep_waits.ensures.answers ∙ c.new-poller.ensures.1;
-      pings = c.new.ensures.items;
+      sources = c.new.ensures.items;
+      fault = refl;
     }
