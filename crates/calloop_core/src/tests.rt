@@ -1,7 +1,8 @@
-use crate::sources::{Callback, Dispatcher};
+use crate::sources::{Callback, Dispatch, Dispatcher, EventSource, PostAction};
 use crate::sys::poll::Poll;
-use crate::sys::script::{ScriptAnswer, ScriptClock, ScriptEvents, ScriptPoller};
+use crate::sys::script::{ScriptAnswer, ScriptClock, ScriptEnd, ScriptEvents, ScriptPoller};
 use crate::sys::{Clock, Poller, Readiness};
+use crate::timer::{TimeoutAction, Timer};
 use calloop_wake::error::Error;
 use calloop_wake::token::{RegistrationToken, Token, TokenFactory};
 use calloop_wake::wake::Notify;
@@ -9,6 +10,7 @@ use calloop_wake::wake::ping::{OpenedTurn, PingCore};
 use calloop_wake::wheel::Instant;
 use std::alloc::Global;
 use std::io;
+use std::sync::Wait;
 use std::test::Fail;
 use std::time::Duration;
 
@@ -30,7 +32,7 @@ fn answer(alloc: Global, moment: u64, keys: &[u64]) -> Option<ScriptAnswer> {
     }
     Some(ScriptAnswer {
         moment: Instant { nanos: moment },
-        events,
+        end: ScriptEnd::Events(events),
     })
 }
 
@@ -103,14 +105,16 @@ fn clocks(rt: HostRuntime) -> Result<(), Fail> {
     poller.wait(nanos(3), &mut events)?;
     let clock = poller.clock();
     let mut poll = Poll::new(rt.alloc(), poller, clock);
-    poll_once(&mut poll, nanos(4))?;
+    poll_once(&rt, &mut poll, nanos(4))?;
     assert_eq!(rt; poll.clock().now().nanos, 3);
     assert_eq!(rt; poll.clock().clone()?.now().nanos, 3);
     assert_eq!(rt; poll.poller_mut().now().nanos, 7);
     Ok(())
 }
 
-fn new_poll(alloc: Global) -> Poll<ScriptPoller, ScriptClock> {
+type Scripted = Poll<ScriptPoller, ScriptClock>;
+
+fn new_poll(alloc: Global) -> Scripted {
     let poller = ScriptPoller::new(alloc);
     let clock = poller.clock();
     Poll::new(alloc, poller, clock)
@@ -134,9 +138,13 @@ fn register<P: Poller, C>(
     Ok(())
 }
 
-fn poll_once<P: Poller, C>(poll: &mut Poll<P, C>, timeout: Option<Duration>) -> Result<(), Error> {
+fn poll_once<R: Wait, P: Poller, C>(
+    rt: &R,
+    poll: &mut Poll<P, C>,
+    timeout: Option<Duration>,
+) -> Result<(), Error> {
     poll.reserve()?;
-    poll.poll(timeout)
+    poll.poll(rt, timeout)
 }
 
 // What is seen of the next event: its key, whether it is ready to be read, and whether it was posted.
@@ -175,7 +183,7 @@ fn one_poll(rt: HostRuntime) -> Result<(), Fail> {
     poll.poller_mut().script(given)?;
     poll.poller_mut().keep_waits(2)?;
 
-    poll_once(&mut poll, None)?;
+    poll_once(&rt, &mut poll, None)?;
     assert_eq!(rt; poll.poller_mut().waits(), [nanos(0)].as_slice());
     assert_eq!(rt; next(&mut poll), Some((first.key(), true, true)));
     assert_eq!(rt; turn(&mut poll, &mut cell), Some(true));
@@ -191,13 +199,13 @@ fn one_poll(rt: HostRuntime) -> Result<(), Fail> {
     poll.end_event();
     assert_eq!(rt; next(&mut poll), None);
 
-    poll_once(&mut poll, None)?;
+    poll_once(&rt, &mut poll, None)?;
     assert_eq!(rt; next(&mut poll), Some((second.key(), true, true)));
     assert_eq!(rt; turn(&mut poll, &mut other), Some(true));
     poll.end_event();
     assert_eq!(rt; next(&mut poll), None);
     poll.poller_mut().keep_waits(1)?;
-    poll_once(&mut poll, nanos(9))?;
+    poll_once(&rt, &mut poll, nanos(9))?;
     assert_eq!(rt; poll.poller_mut().waits(), [nanos(9)].as_slice());
     assert_eq!(rt; next(&mut poll), None);
     Ok(())
@@ -213,11 +221,11 @@ fn an_unspent_pass_goes_back(rt: HostRuntime) -> Result<(), Fail> {
     register(&mut poll, &mut other, second)?;
     poll.settle(cell.ring());
     poll.settle(other.ring());
-    poll_once(&mut poll, None)?;
+    poll_once(&rt, &mut poll, None)?;
     assert_eq!(rt; next(&mut poll), Some((first.key(), true, true)));
     assert_eq!(rt; next(&mut poll), Some((second.key(), true, true)));
     poll.end_event();
-    poll_once(&mut poll, None)?;
+    poll_once(&rt, &mut poll, None)?;
     assert_eq!(rt; next(&mut poll), Some((first.key(), true, true)));
     assert_eq!(rt; turn(&mut poll, &mut cell), Some(true));
     poll.end_event();
@@ -238,11 +246,11 @@ fn left_over_events_come_first(rt: HostRuntime) -> Result<(), Fail> {
         let given = answer(rt.alloc(), 1, &keys).expect(&rt, "an answer");
         poll.poller_mut().script(given)?;
     }
-    poll_once(&mut poll, None)?;
+    poll_once(&rt, &mut poll, None)?;
     assert_eq!(rt; next(&mut poll), Some((third.key(), false, false)));
     poll.end_event();
     poll.settle(cell.ring());
-    poll_once(&mut poll, None)?;
+    poll_once(&rt, &mut poll, None)?;
     assert_eq!(rt; next(&mut poll), Some((second.key(), false, false)));
     assert_eq!(rt; next(&mut poll), Some((first.key(), true, true)));
     assert_eq!(rt; turn(&mut poll, &mut cell), Some(true));
@@ -259,12 +267,12 @@ fn no_wait_beside_a_left_over_event(rt: HostRuntime) -> Result<(), Fail> {
     let given = answer(rt.alloc(), 1, &keys).expect(&rt, "an answer");
     poll.poller_mut().script(given)?;
     poll.poller_mut().keep_waits(3)?;
-    poll_once(&mut poll, None)?;
+    poll_once(&rt, &mut poll, None)?;
     assert_eq!(rt; next(&mut poll), Some((first.key(), false, false)));
-    poll_once(&mut poll, None)?;
+    poll_once(&rt, &mut poll, None)?;
     assert_eq!(rt; next(&mut poll), Some((second.key(), false, false)));
     assert_eq!(rt; next(&mut poll), None);
-    poll_once(&mut poll, nanos(9))?;
+    poll_once(&rt, &mut poll, nanos(9))?;
     assert_eq!(rt;
         poll.poller_mut().waits(),
         [None, nanos(0), nanos(9)].as_slice()
@@ -281,7 +289,7 @@ fn a_post_nudges(rt: HostRuntime) -> Result<(), Fail> {
     assert!(rt; !poll.poller_mut().is_nudged());
     poll.settle(cell.ring());
     assert!(rt; poll.poller_mut().is_nudged());
-    poll_once(&mut poll, None)?;
+    poll_once(&rt, &mut poll, None)?;
     assert!(rt; !poll.poller_mut().is_nudged());
     assert_eq!(rt; next(&mut poll), Some((first.key(), true, true)));
     assert!(rt; !poll.poller_mut().is_nudged());
@@ -312,7 +320,7 @@ fn places(rt: HostRuntime) -> Result<(), Fail> {
     );
     register(&mut poll, &mut cell, second)?;
     register(&mut poll, &mut other, first)?;
-    poll_once(&mut poll, None)?;
+    poll_once(&rt, &mut poll, None)?;
     assert_eq!(rt; next(&mut poll), Some((second.key(), true, true)));
     assert_eq!(rt; turn(&mut poll, &mut cell), Some(true));
     poll.end_event();
@@ -320,7 +328,7 @@ fn places(rt: HostRuntime) -> Result<(), Fail> {
     Ok(())
 }
 
-// Its first wait gives an event and fails. Later ones give none.
+// Its first wait gives an event and fails, and later ones give none. It counts faults alone.
 #[derive(Drop)]
 struct FailsFirst {
     waits: u8,
@@ -337,7 +345,7 @@ impl Notify for FailsFirst {
 impl Poller for FailsFirst {
     ghost unseen = { λ before after same. same };
 
-    ghost outside = { record { reads = λ _ _ _. Unit {0}; waits = λ _ _ _ _ _. Unit {0} } };
+    ghost outside = { record { reads = λ _ _ _. Unit {0}; waits = λ _ _ _ _ _. Unit {0}; faults = λ p. p.waits } };
 
     fn now(&mut self) -> Instant {
         Instant { nanos: 0 }
@@ -365,11 +373,11 @@ fn a_fault_changes_nothing(rt: HostRuntime) -> Result<(), Fail> {
     register(&mut poll, &mut cell, first)?;
     poll.settle(cell.ring());
     assert_eq!(rt;
-        kind_of(poll_once(&mut poll, None)),
+        kind_of(poll_once(&rt, &mut poll, None)),
         Some(io::ErrorKind::PermissionDenied)
     );
     assert_eq!(rt; next(&mut poll), None);
-    poll_once(&mut poll, None)?;
+    poll_once(&rt, &mut poll, None)?;
     assert_eq!(rt; next(&mut poll), Some((first.key(), true, true)));
     assert_eq!(rt; turn(&mut poll, &mut cell), Some(true));
     poll.end_event();
@@ -400,4 +408,225 @@ fn a_callback(rt: HostRuntime) {
     let mut data = 10;
     let count = held.callback.call(5, &mut held.source, &mut data);
     assert_eq!(rt; (count, held.source, data), (5, 5, 15));
+}
+
+fn millis(millis: u64) -> Option<Duration> {
+    Some(Duration::from_millis(millis))
+}
+
+fn at(millis: u64) -> Instant {
+    Instant {
+        nanos: millis.saturating_mul(1_000_000),
+    }
+}
+
+// Has the next wait end so.
+fn script(poll: &mut Scripted, millis: u64, end: ScriptEnd) -> bool {
+    let answer = ScriptAnswer {
+        moment: at(millis),
+        end,
+    };
+    poll.poller_mut().script(answer).is_ok()
+}
+
+// Has the next wait end with events of these keys.
+fn give(poll: &mut Scripted, alloc: Global, millis: u64, keys: &[u64]) -> Option<()> {
+    let mut events = ScriptEvents::new(alloc);
+    for key in keys {
+        events.push(*key, WRITABLE).ok()?;
+    }
+    script(poll, millis, ScriptEnd::Events(events)).then_some(())
+}
+
+// Whether just these waits were asked, in milliseconds.
+fn has_asked(poll: &mut Scripted, wanted: &[u64]) -> bool {
+    let waits = poll.poller_mut().waits();
+    waits.len() == wanted.len()
+        && waits
+            .iter()
+            .zip(wanted)
+            .all(|(asked, wanted)| *asked == millis(*wanted))
+}
+
+// A wait of 100 ms that is interrupted at these moments.
+fn interrupted<R: Wait>(rt: &R, alloc: Global, moments: &[u64]) -> Result<Scripted, Fail> {
+    let mut poll = new_poll(alloc);
+    for moment in moments {
+        script(&mut poll, *moment, ScriptEnd::Interrupted);
+    }
+    poll.poller_mut().keep_waits(5)?;
+    poll_once(rt, &mut poll, millis(100))?;
+    Ok(poll)
+}
+
+#[test]
+fn interruptions(rt: HostRuntime) -> Result<(), Fail> {
+    let table: [(&[u64], &[u64]); 4] = [
+        (&[40, 70], &[100, 60, 30]),
+        (&[0, 0, 0], &[100, 100, 100, 100]),
+        (&[40, 30], &[100, 60, 70]),
+        (&[100], &[100]),
+    ];
+    for (moments, wanted) in table {
+        let mut poll = interrupted(&rt, rt.alloc(), moments)?;
+        assert!(rt; has_asked(&mut poll, wanted));
+        assert_eq!(rt; next(&mut poll), None);
+    }
+    Ok(())
+}
+
+#[test]
+fn timers_in_order(rt: HostRuntime) -> Result<(), Fail> {
+    let mut poll = new_poll(rt.alloc());
+    for (slot, deadline) in [(0, 30), (1, 10), (2, 20), (3, 10)] {
+        poll.insert_timer(at(deadline), token(slot)?)?;
+    }
+    poll.poller_mut().set_clock(at(50));
+    poll.poller_mut().keep_waits(1)?;
+    poll_once(&rt, &mut poll, None)?;
+    assert!(rt; has_asked(&mut poll, &[0]));
+    for slot in [1, 3, 2, 0] {
+        assert_eq!(rt; next(&mut poll), Some((token(slot)?.key(), true, false)));
+    }
+    assert_eq!(rt; next(&mut poll), None);
+    Ok(())
+}
+
+#[test]
+fn a_scripted_fault(rt: HostRuntime) -> Result<(), Fail> {
+    let mut poll = new_poll(rt.alloc());
+    let (first, second) = (token(0)?, token(1)?);
+    let mut cell = PingCore::new();
+    register(&mut poll, &mut cell, first)?;
+    poll.insert_timer(at(5), second)?;
+    assert!(rt; give(&mut poll, rt.alloc(), 0, &[second.key(), second.key()]).is_some());
+    script(&mut poll, 10, ScriptEnd::Fault);
+    poll_once(&rt, &mut poll, None)?;
+    assert_eq!(rt; next(&mut poll), Some((second.key(), false, false)));
+    poll.settle(cell.ring());
+    let refused = poll_once(&rt, &mut poll, None);
+    assert_eq!(rt; kind_of(refused), Some(io::ErrorKind::Other));
+    assert_eq!(rt; next(&mut poll), Some((second.key(), false, false)));
+    assert_eq!(rt; next(&mut poll), None);
+    poll_once(&rt, &mut poll, None)?;
+    assert_eq!(rt; next(&mut poll), Some((first.key(), true, true)));
+    assert_eq!(rt; next(&mut poll), Some((second.key(), true, false)));
+    assert_eq!(rt; next(&mut poll), None);
+    Ok(())
+}
+
+#[test]
+fn order_of_a_batch(rt: HostRuntime) -> Result<(), Fail> {
+    let mut poll = new_poll(rt.alloc());
+    let (first, second, third) = (token(0)?, token(1)?, token(2)?);
+    let mut cell = PingCore::new();
+    register(&mut poll, &mut cell, third)?;
+    poll.settle(cell.ring());
+    poll.insert_timer(at(5), first)?;
+    assert!(rt; give(&mut poll, rt.alloc(), 5, &[second.key()]).is_some());
+    poll_once(&rt, &mut poll, None)?;
+    assert_eq!(rt; next(&mut poll), Some((third.key(), true, true)));
+    assert_eq!(rt; next(&mut poll), Some((second.key(), false, false)));
+    assert_eq!(rt; next(&mut poll), Some((first.key(), true, false)));
+    assert_eq!(rt; next(&mut poll), None);
+    Ok(())
+}
+
+// Notes the moments that it is called with, and answers with this action.
+#[derive(Drop)]
+struct Noting {
+    action: TimeoutAction,
+}
+
+impl Callback<Instant, (), TimeoutAction, Vec<Instant>> for Noting {
+    ghost may = { λ _ _ _ _ _ _ _ _. Unit {0} };
+
+    fn call(
+        &mut self,
+        event: Instant,
+        _metadata: &mut (),
+        data: &mut Vec<Instant>,
+    ) -> TimeoutAction {
+        let _ = data.push(event);
+        self.action
+    }
+}
+
+type Alarm = Dispatcher<Timer, Noting>;
+
+fn alarm(source: Timer, action: TimeoutAction) -> Alarm {
+    Dispatcher {
+        source,
+        callback: Noting { action },
+    }
+}
+
+// Registers it in the slot 0.
+fn arm(poll: &mut Scripted, alarm: &mut Alarm) -> Result<(), Error> {
+    let mut factory = TokenFactory::new(RegistrationToken::new(0, 0));
+    Dispatch::<ScriptPoller, ScriptClock, Vec<Instant>>::register(alarm, poll, &mut factory)
+}
+
+// Gives the next event to the alarm.
+fn serve(
+    poll: &mut Scripted,
+    alarm: &mut Alarm,
+    moments: &mut Vec<Instant>,
+) -> Option<PostAction> {
+    let event = poll.next_event()?;
+    let answer = alarm.process_events(event.readiness, event.token, poll, moments);
+    poll.end_event();
+    answer.ok()
+}
+
+#[test]
+fn a_timer_without_a_deadline(rt: HostRuntime) -> Result<(), Fail> {
+    let mut poll = new_poll(rt.alloc());
+    let mut timer = Timer::from_duration(&poll.clock().clone()?, Duration::MAX);
+    let mut factory = TokenFactory::new(RegistrationToken::new(0, 0));
+    timer.register(&mut poll, &mut factory)?;
+    assert_eq!(rt; factory.token()?.key(), 0);
+    assert_eq!(rt; timer.current_deadline(), None);
+    poll.poller_mut().keep_waits(2)?;
+    poll_once(&rt, &mut poll, millis(510))?;
+    assert!(rt; has_asked(&mut poll, &[510]));
+    assert_eq!(rt; next(&mut poll), None);
+    Ok(())
+}
+
+#[test]
+fn a_deadline_that_is_set_later(rt: HostRuntime) -> Result<(), Fail> {
+    let mut poll = new_poll(rt.alloc());
+    let mut moments = Vec::new(rt.alloc());
+    let mut alarm = alarm(Timer::from_deadline(at(100)), TimeoutAction::Drop);
+    arm(&mut poll, &mut alarm)?;
+    alarm.source.set_deadline(at(300));
+    poll.poller_mut().keep_waits(2)?;
+    poll_once(&rt, &mut poll, millis(200))?;
+    assert!(rt; has_asked(&mut poll, &[100]));
+    assert_eq!(rt; serve(&mut poll, &mut alarm, &mut moments), Some(PostAction::Remove));
+    assert_eq!(rt; moments.as_slice(), [at(100)].as_slice());
+    assert_eq!(rt; alarm.source.current_deadline(), Some(at(300)));
+    Ok(())
+}
+
+#[test]
+fn a_polled_event_with_the_key_of_a_timer(rt: HostRuntime) -> Result<(), Fail> {
+    for (action, answer) in [
+        (TimeoutAction::Drop, PostAction::Remove),
+        (TimeoutAction::ToInstant(at(70)), PostAction::Continue),
+    ] {
+        let mut poll = new_poll(rt.alloc());
+        let mut moments = Vec::new(rt.alloc());
+        let mut alarm = alarm(Timer::from_deadline(at(10)), action);
+        arm(&mut poll, &mut alarm)?;
+        assert!(rt; give(&mut poll, rt.alloc(), 50, &[0]).is_some());
+        poll_once(&rt, &mut poll, None)?;
+        assert_eq!(rt; serve(&mut poll, &mut alarm, &mut moments), Some(answer));
+        let ignored = serve(&mut poll, &mut alarm, &mut moments);
+        assert_eq!(rt; ignored, Some(PostAction::Continue));
+        assert_eq!(rt; serve(&mut poll, &mut alarm, &mut moments), None);
+        assert_eq!(rt; moments.as_slice(), [at(10)].as_slice());
+    }
+    Ok(())
 }

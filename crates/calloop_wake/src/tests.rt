@@ -4,6 +4,7 @@ use crate::token::{RegistrationToken, Token, TokenFactory, factory_tokens_differ
 use crate::wake::board::{Board, OpenRefusal};
 use crate::wake::ping::{OpenedTurn, PingCore, covered};
 use crate::wake::{Debt, Notify, TakenPass};
+use crate::wheel::{Instant, Wheel};
 use std::alloc::{AllocError, Global};
 use std::collections::VecDeque;
 use std::io;
@@ -26,6 +27,11 @@ fn texts(rt: HostRuntime) -> Result<(), Fail> {
         (
             Error::TooManyTokens,
             "too many tokens for one event source",
+            io::ErrorKind::Other,
+        ),
+        (
+            Error::TooManyTimers,
+            "too many timers",
             io::ErrorKind::Other,
         ),
     ];
@@ -283,4 +289,83 @@ fn nudges(rt: HostRuntime) {
     let of_five = third.ring();
     assert!(rt; register(&mut board, &mut third, 6).is_ok());
     assert!(rt; !settle(&mut board, of_five));
+}
+
+// Takes the cell's key back, and closes its place: whether it had one.
+fn unregister(board: &mut Board, cell: &mut PingCore) -> bool {
+    match cell.clear_key() {
+        Some(leave) => {
+            board.close_place(leave);
+            true
+        }
+        None => false,
+    }
+}
+
+#[test]
+fn keys_that_are_taken_back(rt: HostRuntime) {
+    let mut board = Board::new(rt.alloc());
+    let mut cell = PingCore::new();
+    assert!(rt; register(&mut board, &mut cell, 7).is_ok());
+    assert!(rt; unregister(&mut board, &mut cell));
+    assert!(rt; !unregister(&mut board, &mut cell));
+    assert_eq!(rt; board.places(), 0);
+    assert!(rt; !settle(&mut board, cell.ring()));
+    assert!(rt; register(&mut board, &mut cell, 7).is_ok());
+    assert!(rt; !is_quiet(&board));
+}
+
+fn at(nanos: u64) -> Instant {
+    Instant { nanos }
+}
+
+// The deadline and the counter of the first entry that is due.
+fn take(wheel: &mut Wheel, now: u64) -> Option<(u64, u64)> {
+    let entry = wheel.next_expired(at(now))?;
+    Some((entry.deadline.nanos, entry.counter))
+}
+
+// Arms the counter again, where it isn't armed.
+fn arm_again(wheel: &mut Wheel, counter: u64, deadline: u64) -> Result<(), Error> {
+    if wheel.is_armed(counter) {
+        return Ok(());
+    }
+    wheel.insert_reuse(counter, at(deadline), Token::from_key(0))
+}
+
+#[test]
+fn deadlines(rt: HostRuntime) -> Result<(), Fail> {
+    let mut wheel = Wheel::new(rt.alloc());
+    for deadline in [30, 10, 20, 10] {
+        wheel.insert(at(deadline), Token::from_key(0))?;
+    }
+    wheel.keeps_order();
+    assert_eq!(rt; wheel.len(), 4);
+    assert_eq!(rt; wheel.next_deadline(), Some(at(10)));
+    assert_eq!(rt; take(&mut wheel, 9), None);
+    assert_eq!(rt; take(&mut wheel, 29), Some((10, 1)));
+    assert_eq!(rt; take(&mut wheel, 29), Some((10, 3)));
+    assert_eq!(rt; take(&mut wheel, 29), Some((20, 2)));
+    assert_eq!(rt; take(&mut wheel, 29), None);
+    assert_eq!(rt; take(&mut wheel, 30), Some((30, 0)));
+    assert_eq!(rt; wheel.next_deadline(), None);
+    Ok(())
+}
+
+#[test]
+fn counters_of_deadlines(rt: HostRuntime) -> Result<(), Fail> {
+    let mut wheel = Wheel::new(rt.alloc());
+    for deadline in [20, 20, 30] {
+        wheel.insert(at(deadline), Token::from_key(0))?;
+    }
+    wheel.cancel(1);
+    assert!(rt; wheel.is_armed(0) && !wheel.is_armed(1) && wheel.is_armed(2));
+    arm_again(&mut wheel, 1, 10)?;
+    assert!(rt; matches!(arm_again(&mut wheel, 3, 10), Err(Error::InvalidToken)));
+    assert_eq!(rt; wheel.len(), 3);
+    assert_eq!(rt; take(&mut wheel, 20), Some((10, 1)));
+    assert_eq!(rt; take(&mut wheel, 20), Some((20, 0)));
+    assert_eq!(rt; wheel.insert(at(40), Token::from_key(0))?, 3);
+    assert_eq!(rt; at(5).checked_add(std::time::Duration::MAX), None);
+    Ok(())
 }
