@@ -24,8 +24,8 @@ abbrev pub tells : Teller → Unit {0} → Unit {0} → Option (List ℕ) → Un
 tells teller event metadata said answer after metadata' said' = (after ≡ teller) × Tells (call_text teller.name) said said'
 
 -- an alarm says its name and the deadline, stays as it is, and lets its timer leave the loop
-abbrev pub rings_out : Alarm → Instant → Unit {0} → Option (List ℕ) → TimeoutAction → Alarm → Unit {0} → Option (List ℕ) → Type 0
-rings_out alarm deadline metadata said answer after metadata' said' = (answer ≡ Drop) × (after ≡ alarm) × Tells (alarm_text alarm.name deadline.nanos) said said'
+abbrev pub tells_deadline : Alarm → Instant → Unit {0} → Option (List ℕ) → TimeoutAction → Alarm → Unit {0} → Option (List ℕ) → Type 0
+tells_deadline alarm deadline metadata said answer after metadata' said' = (answer ≡ Drop) × (after ≡ alarm) × Tells (alarm_text alarm.name deadline.nanos) said said'
 
 -- a ping with its teller
 abbrev pub ping_meaning : {P : Type 0} → Meaning (Dispatcher PingSource Teller) P (Option (List ℕ))
@@ -46,7 +46,7 @@ timer_meaning =
       reg = λ s v f a l t g. IsTimerReg s.source v f a l t.source g × (t.callback ≡ s.callback);
       unreg = λ s v a l t. IsTimerUnreg s.source a l t.source × (t.callback ≡ s.callback);
       ring = λ s b l t. IsNoPing s.source b l t.source × (t.callback ≡ s.callback);
-      turn = IsDispatched (λ s r token v calls a l t. IsTimerTurn s token v calls a l t) rings_out (λ cause e. e ≡ OutOfMemory);
+      turn = IsDispatched (λ s r token v calls a l t. IsTimerTurn s token v calls a l t) tells_deadline (λ cause e. e ≡ OutOfMemory);
     }
 
 -- the sources as a choice of two

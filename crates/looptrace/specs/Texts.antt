@@ -20,12 +20,15 @@ abbrev pub wait_text : Option ℕ → List ℕ
 wait_text asked = codes "wait " ++ timeout_text asked ++ codes "\n"
 
 -- the callback of this name was called
-abbrev pub call_text : List ℕ → List ℕ
-call_text name = codes "call " ++ name ++ codes "\n"
+abbrev pub called_text : List ℕ → List ℕ
+called_text name = codes "call " ++ name
 
--- the timer of this name was called with this deadline, in nanoseconds
+abbrev pub call_text : List ℕ → List ℕ
+call_text name = called_text name ++ codes "\n"
+
+-- that of a timer, with its deadline in nanoseconds
 abbrev pub alarm_text : List ℕ → (deadline : ℕ) → List ℕ
-alarm_text name deadline = codes "call " ++ name ++ codes " " ++ decimal deadline ++ codes "\n"
+alarm_text name deadline = called_text name ++ codes " " ++ decimal deadline ++ codes "\n"
 
 -- a command was refused with this error
 abbrev pub refused_text : List ℕ → List ℕ

@@ -92,9 +92,9 @@ pub struct Alarm {
 }
 
 impl Callback<Instant, (), TimeoutAction, Said> for Alarm {
-    ghost use Rattle.looptrace.specs.Sources.{rings_out};
+    ghost use Rattle.looptrace.specs.Sources.{tells_deadline};
 
-    ghost may = { rings_out };
+    ghost may = { tells_deadline };
 
     fn call(&mut self, deadline: Instant, _metadata: &mut (), said: &mut Said) -> TimeoutAction {
         said.alarm(self.name.as_slice(), deadline);

@@ -6,7 +6,7 @@ use crate::command::{Command, parse};
 use crate::driver::{Runner, drive};
 use crate::lines::{read_line, without_feed};
 use crate::name::Name;
-use crate::text::{append_call, append_insert, append_refused, append_wait};
+use crate::text::{append_alarm, append_call, append_insert, append_refused, append_wait};
 use crate::trace::trace;
 use std::alloc::Global;
 use std::io;
@@ -48,6 +48,24 @@ fn lines_that_cannot_be_read(rt: HostRuntime) -> Result<(), Fail> {
         b"dispatch 1a".as_slice(),
         b"dispatch 18446744073709551616".as_slice(),
         b"dispatch 100000000000000000000".as_slice(),
+        b"timer".as_slice(),
+        b"timer ".as_slice(),
+        b"timer a".as_slice(),
+        b"timer a ".as_slice(),
+        b"timer 5".as_slice(),
+        b"timer a 05".as_slice(),
+        b"timer a 18446744073709551616".as_slice(),
+        b"timer  a 5".as_slice(),
+        b"timer a  5".as_slice(),
+        b"timer a 5 ".as_slice(),
+        b"timer A 5".as_slice(),
+        b"timer a -".as_slice(),
+        b"clock".as_slice(),
+        b"clock ".as_slice(),
+        b"clock 01".as_slice(),
+        b"clock -".as_slice(),
+        b"fault x".as_slice(),
+        b"fault ".as_slice(),
         b"close a".as_slice(),
         b" ".as_slice(),
         b"\r".as_slice(),
@@ -114,10 +132,11 @@ fn texts(rt: HostRuntime) -> Result<(), Fail> {
     append_wait(&mut out, None)?;
     append_wait(&mut out, Some(u64::MAX))?;
     append_call(&mut out, b"a0")?;
+    append_alarm(&mut out, b"t", u64::MAX)?;
     append_refused(&mut out, "InvalidToken")?;
     assert_eq!(rt;
         out.as_slice(),
-        b"insert a0 0 0\ninsert b 4294967295 65535\nwait -\nwait 18446744073709551615\ncall a0\nrefused InvalidToken\n".as_slice()
+        b"insert a0 0 0\ninsert b 4294967295 65535\nwait -\nwait 18446744073709551615\ncall a0\ncall t 18446744073709551615\nrefused InvalidToken\n".as_slice()
     );
     Ok(())
 }
@@ -370,9 +389,68 @@ fn first_run(rt: HostRuntime) -> Result<(), Fail> {
 }
 
 #[test]
+fn commands(rt: HostRuntime) -> Result<(), Fail> {
+    for (script, wanted) in [
+        (
+            b"clock 18446744073709551615\ndispatch 5\n".as_slice(),
+            b"wait 5\n".as_slice(),
+        ),
+        (
+            b"ping a\nring a\nfault\ndispatch 5\ndispatch 5\n".as_slice(),
+            b"insert a 0 0\nwait 0\nrefused IoError\nwait 0\ncall a\n".as_slice(),
+        ),
+        (
+            b"timer t 5\nfault\nfault\ndispatch 5\ndispatch 5\n".as_slice(),
+            b"insert t 0 0\nwait 5\nrefused IoError\nwait 5\ncall t 5\n".as_slice(),
+        ),
+        (
+            b"timer a 5\ntimer b 5\nclock 10\ndispatch 0\n".as_slice(),
+            b"insert a 0 0\ninsert b 1 0\nwait 0\ncall a 5\ncall b 5\n".as_slice(),
+        ),
+        (
+            b"timer t 500\ndispatch 250\ndispatch 510\ndispatch 10\n".as_slice(),
+            b"insert t 0 0\nwait 250\nwait 250\ncall t 500\nwait 10\n".as_slice(),
+        ),
+        (
+            b"timer c 30\ntimer a 10\ntimer b 20\nclock 50\ndispatch 0\n".as_slice(),
+            b"insert c 0 0\ninsert a 1 0\ninsert b 2 0\nwait 0\ncall a 10\ncall b 20\ncall c 30\n".as_slice(),
+        ),
+        (
+            b"timer t 5\nping p\nring p\nclock 5\ndispatch 0\n".as_slice(),
+            b"insert t 0 0\ninsert p 1 0\nwait 0\ncall p\ncall t 5\n".as_slice(),
+        ),
+        (
+            b"timer a 0\ndispatch 0\nping b\n".as_slice(),
+            b"insert a 0 0\nwait 0\ncall a 0\ninsert b 0 1\n".as_slice(),
+        ),
+    ] {
+        let (status, out, err) = traced(&rt, rt.alloc(), script)?;
+        assert_eq!(rt; status, 0);
+        assert_eq!(rt; out.as_slice(), wanted);
+        assert!(rt; err.is_empty());
+    }
+    Ok(())
+}
+
+// Whether the first line is carried out, and the second can't be read.
+fn ends_at_second<Q: Wait>(rt: &Q, alloc: Global, first: &[u8], second: &[u8]) -> io::Result<bool> {
+    let mut script = Vec::new(alloc);
+    script.extend_from_slice(first)?;
+    script.extend_from_slice(second)?;
+    script.extend_from_slice(b"\nping c\n")?;
+    let (status, out, err) = traced(rt, alloc, &script)?;
+    Ok(
+        status == 2
+            && out.as_slice() == b"insert a 0 0\n".as_slice()
+            && err.as_slice() == b"error line 2\n".as_slice(),
+    )
+}
+
+#[test]
 fn runs_that_end_early(rt: HostRuntime) -> Result<(), Fail> {
     for line in [
         b"ping a".as_slice(),
+        b"timer a 5".as_slice(),
         b"ring b".as_slice(),
         b"ping ".as_slice(),
         b"ping abcdefghijklmnopqrstuvwxyz0123456".as_slice(),
@@ -386,14 +464,22 @@ fn runs_that_end_early(rt: HostRuntime) -> Result<(), Fail> {
         b"dispatch 0\r".as_slice(),
         b"remove 0 0".as_slice(),
     ] {
-        let mut script = Vec::new(rt.alloc());
-        script.extend_from_slice(b"ping a\n")?;
-        script.extend_from_slice(line)?;
-        script.extend_from_slice(b"\nping c\n")?;
-        let (status, out, err) = traced(&rt, rt.alloc(), &script)?;
-        assert_eq!(rt; status, 2);
-        assert_eq!(rt; out.as_slice(), b"insert a 0 0\n".as_slice());
-        assert_eq!(rt; err.as_slice(), b"error line 2\n".as_slice());
+        assert!(rt; ends_at_second(&rt, rt.alloc(), b"ping a\n", line)?);
+    }
+    for line in [
+        b"timer a 5".as_slice(),
+        b"ping a".as_slice(),
+        b"ring a".as_slice(),
+        b"timer b".as_slice(),
+        b"timer b 05".as_slice(),
+        b"timer b 18446744073709551616".as_slice(),
+        b"timer  b 5".as_slice(),
+        b"clock".as_slice(),
+        b"clock 01".as_slice(),
+        b"clock -".as_slice(),
+        b"fault x".as_slice(),
+    ] {
+        assert!(rt; ends_at_second(&rt, rt.alloc(), b"timer a 5\n", line)?);
     }
     Ok(())
 }

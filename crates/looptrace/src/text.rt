@@ -1,6 +1,6 @@
 ghost use Rattle.std.specs.Prelude.{◌≡◌, ◌++◌, OnOk, OnErr};
 ghost use Rattle.std.specs.Fmt.{decimal};
-ghost use Rattle.looptrace.specs.Texts.{BeginsWith, insert_text, wait_text, timeout_text, call_text, alarm_text, refused_text};
+ghost use Rattle.looptrace.specs.Texts.{BeginsWith, insert_text, wait_text, timeout_text, called_text, call_text, alarm_text, refused_text};
 
 use std::alloc::AllocError;
 
@@ -51,13 +51,20 @@ pub fn append_wait(out: &mut Vec<u8>, asked: Option<u64>) -> Result<(), AllocErr
     out.extend_from_slice(b"\n")
 }
 
+fn append_called(out: &mut Vec<u8>, name: &[u8]) -> Result<(), AllocError>
+    ensures ok { OnOk result (out.new.items ≡ out.old.items ++ called_text name.now) }
+    ensures err { OnErr result (BeginsWith out.new.items out.old.items) }
+{
+    out.extend_from_slice(b"call ")?;
+    out.extend_from_slice(name)
+}
+
 /// Appends `call NAME` and a line feed. An `Err` is want of memory, and a part of it may be appended then.
 pub fn append_call(out: &mut Vec<u8>, name: &[u8]) -> Result<(), AllocError>
     ensures ok { OnOk result (out.new.items ≡ out.old.items ++ call_text name.now) }
     ensures err { OnErr result (BeginsWith out.new.items out.old.items) }
 {
-    out.extend_from_slice(b"call ")?;
-    out.extend_from_slice(name)?;
+    append_called(out, name)?;
     out.extend_from_slice(b"\n")
 }
 
@@ -66,8 +73,7 @@ pub fn append_alarm(out: &mut Vec<u8>, name: &[u8], at: u64) -> Result<(), Alloc
     ensures ok { OnOk result (out.new.items ≡ out.old.items ++ alarm_text name.now at) }
     ensures err { OnErr result (BeginsWith out.new.items out.old.items) }
 {
-    out.extend_from_slice(b"call ")?;
-    out.extend_from_slice(name)?;
+    append_called(out, name)?;
     out.extend_from_slice(b" ")?;
     append_number(out, at)?;
     out.extend_from_slice(b"\n")
