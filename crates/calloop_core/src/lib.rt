@@ -3,6 +3,6 @@
 
 pub mod sources;
 pub mod sys;
-pub mod timer;
 #[cfg(test)]
 mod tests;
+pub mod timer;

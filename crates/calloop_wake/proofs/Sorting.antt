@@ -22,7 +22,6 @@ before-trans x y z h k = grind (arith, nat_tests)
 before-other : (x e : Entry) → is_before x e ≡ false → e.counter ≢ x.counter → is_before e x ≡ true
 before-other x e h ne = grind (arith, nat_tests)
 
-
 pub AllBelow-inserted : (n : ℕ) (e : Entry) (xs : List Entry) → e.counter < n → AllBelow n xs → AllBelow n (inserted e xs)
 AllBelow-inserted n e [] lt h = (lt, tt)
 AllBelow-inserted n e (x ∷ xs) lt h =

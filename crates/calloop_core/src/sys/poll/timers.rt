@@ -21,7 +21,12 @@ impl<P: Poller, C> Poll<P, C> {
 
     /// Arms a deadline under a counter that has none now. The refusals are those of `Wheel::insert_reuse`, and change
     /// nothing.
-    pub fn insert_timer_again(&mut self, counter: u64, deadline: Instant, token: Token) -> Result<()>
+    pub fn insert_timer_again(
+        &mut self,
+        counter: u64,
+        deadline: Instant,
+        token: Token,
+    ) -> Result<()>
         requires { is_armed counter (poll_view self.old).deadlines ≡ false }
         ensures ok { OnOk result (Allowed P.outside (poll_view self.old) (ArmAgain counter deadline token) × (poll_view self.new ≡ poll_after (poll_view self.old) (ArmAgain counter deadline token))) }
         ensures err { IfErr result (λ e. CannotArmAgain counter (poll_view self.old).deadlines e × (poll_view self.new ≡ poll_view self.old)) }

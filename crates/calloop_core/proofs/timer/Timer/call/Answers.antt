@@ -10,8 +10,7 @@ use Rattle.calloop_core.proofs.timer.Timer.call.Goals as goal
 pub returns-in-Some : goal.returns-in-Some
 returns-in-Some g c =
     let more = c.arm_again-in-Some.ensures.0 in
-    let moment : Some c.in-Some.deadline ≡ moment_after c.now.result c.in-ToDuration.duration = sym c.in-Some.is ∙ c.checked_add.ensures in
-    (
+    let moment : Some c.in-Some.deadline ≡ moment_after c.now.result c.in-ToDuration.duration = sym c.in-Some.is ∙ c.checked_add.ensures in (
       c.call.result,
       ReadClock c.now.result.nanos c.now.ensures.0 ∷ more,
       rw c.in-ToDuration.is (
@@ -27,8 +26,7 @@ returns-in-Some g c =
 
 pub returns-in-None : goal.returns-in-None
 returns-in-None g c =
-    let moment : None ≡ moment_after c.now.result c.in-ToDuration.duration = sym c.in-None.is ∙ c.checked_add.ensures in
-    (
+    let moment : None ≡ moment_after c.now.result c.in-ToDuration.duration = sym c.in-None.is ∙ c.checked_add.ensures in (
       c.call.result,
       ReadClock c.now.result.nanos c.now.ensures.0 ∷ [],
       rw c.in-ToDuration.is (

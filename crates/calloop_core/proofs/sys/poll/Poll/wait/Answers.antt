@@ -28,9 +28,11 @@ returns-then-not-is_interruption-clause-err g c =
     let start = c.now-start.result.nanos in
     let asked = c.asked-asked.ensures ∙ ap (λ (s : Poll g.row.P.Denot g.row.C.Denot). asked_for (poll_view s) t start c.loop.now.nanos) c.loop.invariant.others in
     let w = c.in-Err.ensures.waits in
-    let none : ¬ IsInterruption c.in-Err.cause = λ is. let rings = c.is_interruption.ensures.1 is in let quiet = c.if-not-is_interruption.true in absurd (cc) in
-    (w.0, c.loop.invariant.leads [] (Err c.in-Err.cause) w.0 c.wait-answer.new.self
-    (faulted O v t start c.loop.now.nanos (nanos_of c.asked-asked.result) asked c.loop.self.poller c.wait-answer.new.self w.0 c.in-Err.cause w.1 none c.in-Err.ensures.faults))
+    let none : ¬ IsInterruption c.in-Err.cause = λ is. let rings = c.is_interruption.ensures.1 is in let quiet = c.if-not-is_interruption.true in absurd (cc) in (
+      w.0,
+      c.loop.invariant.leads [] (Err c.in-Err.cause) w.0 c.wait-answer.new.self
+          (faulted O v t start c.loop.now.nanos (nanos_of c.asked-asked.result) asked c.loop.self.poller c.wait-answer.new.self w.0 c.in-Err.cause w.1 none c.in-Err.ensures.faults),
+    )
 
 pub returns-then-is_zero-clause-ok : goal.returns-then-is_zero-clause-ok
 returns-then-is_zero-clause-ok g c =
