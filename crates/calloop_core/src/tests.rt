@@ -568,11 +568,7 @@ fn arm(poll: &mut Scripted, alarm: &mut Alarm) -> Result<(), Error> {
 }
 
 // Gives the next event to the alarm.
-fn serve(
-    poll: &mut Scripted,
-    alarm: &mut Alarm,
-    moments: &mut Vec<Instant>,
-) -> Option<PostAction> {
+fn serve(poll: &mut Scripted, alarm: &mut Alarm, moments: &mut Vec<Instant>) -> Option<PostAction> {
     let event = poll.next_event()?;
     let answer = alarm.process_events(event.readiness, event.token, poll, moments);
     poll.end_event();
@@ -604,7 +600,10 @@ fn a_deadline_that_is_set_later(rt: HostRuntime) -> Result<(), Fail> {
     poll.poller_mut().keep_waits(2)?;
     poll_once(&rt, &mut poll, millis(200))?;
     assert!(rt; has_asked(&mut poll, &[100]));
-    assert_eq!(rt; serve(&mut poll, &mut alarm, &mut moments), Some(PostAction::Remove));
+    assert_eq!(rt;
+        serve(&mut poll, &mut alarm, &mut moments),
+        Some(PostAction::Remove)
+    );
     assert_eq!(rt; moments.as_slice(), [at(100)].as_slice());
     assert_eq!(rt; alarm.source.current_deadline(), Some(at(300)));
     Ok(())

@@ -1,8 +1,17 @@
-//! Sources for tests: pings with callbacks that say their number, and a source that fails.
+//! Sources for tests: pings and timers with callbacks that say their number, and a source that fails.
+ghost use Rattle.std.specs.Prelude.{◌≡◌, []};
+ghost use Rattle.std.proofs.Common.{inl, inr};
+ghost use Rattle.calloop_core.specs.Keeping.{timer_reg_keeps, timer_unreg_keeps, timer_ring_keeps, timer_turn_keeps};
+ghost use Rattle.calloop.specs.Quiet.{ping_reg_keeps, ping_unreg_keeps, ping_ring_keeps, ping_turn_keeps};
+ghost use Rattle.calloop_core.specs.Meanings.{either, seen_as, keeping_either, keeping_seen, held_left, held_right, held_seen};
+ghost use Rattle.calloop_tests.specs.Sources.{split, join, split-join, join-split, none_kept, held_through};
+ghost use Rattle.calloop_tests.specs.declared.source.Source.TheVariants.{Ping, Alarm};
 
-use calloop::loop_logic::{EventDispatcher, Hold};
-use calloop::ping::PingSource;
-use calloop::{Callback, Dispatcher, Error, Poll, Poller, Readiness, Result, Token, TokenFactory};
+use calloop::{
+    Callback, Dispatch, Dispatcher, Error, EventDispatcher, EventSource, Hold, Instant, IntoError,
+    PingSource, Poll, Poller, PostAction, Readiness, Result, TimeoutAction, Timer, Token,
+    TokenFactory,
+};
 use std::io;
 
 /// Says its number.
@@ -12,12 +21,26 @@ pub struct Teller {
 }
 
 impl Callback<(), (), (), Vec<u32>> for Teller {
-    ghost use Rattle.calloop_tests.specs.Sources.{says_anything};
-
-    ghost may = { says_anything };
+    ghost may = { λ _ _ _ _ _ _ _ _. Unit {0} };
 
     fn call(&mut self, _event: (), _metadata: &mut (), said: &mut Vec<u32>) {
         let _failed = said.push(self.number);
+    }
+}
+
+/// Says its number, and answers with its action.
+#[derive(Drop)]
+pub struct Waker {
+    pub number: u32,
+    pub action: TimeoutAction,
+}
+
+impl Callback<Instant, (), TimeoutAction, Vec<u32>> for Waker {
+    ghost may = { λ _ _ _ _ _ _ _ _. Unit {0} };
+
+    fn call(&mut self, _event: Instant, _metadata: &mut (), said: &mut Vec<u32>) -> TimeoutAction {
+        let _failed = said.push(self.number);
+        self.action
     }
 }
 
@@ -27,73 +50,154 @@ pub struct Failing {
     pub registers: bool,
 }
 
+/// Why a turn of such a source failed.
+#[derive(Debug, Drop)]
+pub struct Broken;
+
+impl IntoError for Broken {
+    ghost becomes = { λ _ _. Unit {0} };
+
+    fn into_error(self) -> Error {
+        Error::IoError(io::Error::from(io::ErrorKind::BrokenPipe))
+    }
+}
+
+impl<P: Poller, C> EventSource<P, C> for Failing {
+    ghost use Rattle.std.specs.Prelude.{◌≡◌, []};
+    ghost use Rattle.calloop_core.specs.Holdings.{holds_none};
+    ghost use Rattle.calloop_tests.specs.Sources.{none_kept};
+
+    type Event = ();
+
+    type Metadata = ();
+
+    type Ret = ();
+
+    type Error = Broken;
+
+    ghost holds = { λ s. holds_none };
+
+    ghost reg = { λ s v f a l t g. l ≡ [] };
+
+    ghost unreg = { λ s v a l t. l ≡ [] };
+
+    ghost rung = { λ s b l t. l ≡ [] };
+
+    ghost turn = { λ s r k v cs a l t. (l ≡ []) × (cs ≡ []) };
+
+    fn process_events<F, X>(
+        &mut self,
+        _readiness: Readiness,
+        _token: Token,
+        _poll: &mut Poll<P, C>,
+        _callback: &mut F,
+        _data: &mut X,
+    ) -> std::result::Result<PostAction, Broken>
+    where
+        F: Callback<(), (), (), X>,
+    {
+        Err(Broken)
+    }
+
+    fn register(&mut self, _poll: &mut Poll<P, C>, _factory: &mut TokenFactory) -> Result<()> {
+        if self.registers {
+            Ok(())
+        } else {
+            Err(Error::IoError(io::Error::from(io::ErrorKind::NotFound)))
+        }
+    }
+
+    fn unregister(&mut self, _poll: &mut Poll<P, C>) -> Result<()> {
+        Ok(())
+    }
+
+    fn ring(&mut self, _poll: &mut Poll<P, C>) -> bool {
+        false
+    }
+
+    ghost reg_keeps = { λ s t v f g a l h. none_kept v.deadlines.next l h };
+
+    ghost unreg_keeps = { λ s t v a l h. none_kept v.deadlines.next l h };
+
+    ghost ring_keeps = { λ s t v b l h. none_kept v.deadlines.next l h };
+
+    ghost turn_keeps = { λ s t r k v cs a l h. none_kept v.deadlines.next l h.0 };
+}
+
 /// The sources of a test.
 #[derive(Drop)]
 pub enum Source {
     Ping(Dispatcher<PingSource, Teller>),
-    Failing(Failing),
+    Alarm(Dispatcher<Timer, Waker>),
+    Failing(Dispatcher<Failing, Teller>),
 }
 
 impl<P: Poller, C> EventDispatcher<P, C> for Source {
-    ghost use Rattle.calloop_tests.specs.Sources.{source_meaning};
-
     type Data = Vec<u32>;
 
-    ghost means = { source_meaning };
+    ghost means = { seen_as split (either ⟦<Dispatcher<PingSource, Teller> as Dispatch<P, C, Vec<u32>>>⟧.means (either ⟦<Dispatcher<Timer, Waker> as Dispatch<P, C, Vec<u32>>>⟧.means ⟦<Dispatcher<Failing, Teller> as Dispatch<P, C, Vec<u32>>>⟧.means)) };
 
     fn register(&mut self, poll: &mut Poll<P, C>, factory: &mut TokenFactory) -> Result<()> {
         match self {
-            Source::Ping(ping) => ping.source.register(poll, factory),
-            Source::Failing(failing) => {
-                if failing.registers {
-                    Ok(())
-                } else {
-                    Err(Error::IoError(io::Error::from(io::ErrorKind::NotFound)))
-                }
-            }
+            Source::Ping(held) => Dispatch::<P, C, Vec<u32>>::register(held, poll, factory),
+            Source::Alarm(held) => Dispatch::<P, C, Vec<u32>>::register(held, poll, factory),
+            Source::Failing(held) => Dispatch::<P, C, Vec<u32>>::register(held, poll, factory),
+        }
+    }
+
+    fn unregister(&mut self, poll: &mut Poll<P, C>) -> Result<()> {
+        match self {
+            Source::Ping(held) => Dispatch::<P, C, Vec<u32>>::unregister(held, poll),
+            Source::Alarm(held) => Dispatch::<P, C, Vec<u32>>::unregister(held, poll),
+            Source::Failing(held) => Dispatch::<P, C, Vec<u32>>::unregister(held, poll),
         }
     }
 
     fn ring(&mut self, poll: &mut Poll<P, C>) -> bool {
         match self {
-            Source::Ping(ping) => {
-                ping.source.ring(poll);
-                true
-            }
-            Source::Failing(_) => false,
+            Source::Ping(held) => Dispatch::<P, C, Vec<u32>>::ring(held, poll),
+            Source::Alarm(held) => Dispatch::<P, C, Vec<u32>>::ring(held, poll),
+            Source::Failing(held) => Dispatch::<P, C, Vec<u32>>::ring(held, poll),
         }
     }
 
     fn process_events(
         &mut self,
-        _readiness: Readiness,
+        readiness: Readiness,
         token: Token,
         poll: &mut Poll<P, C>,
         data: &mut Vec<u32>,
-    ) -> Result<()> {
+    ) -> Result<PostAction> {
         match self {
-            Source::Ping(ping) => {
-                ping.source
-                    .process_events(token, poll, &mut ping.callback, data);
-                Ok(())
-            }
-            Source::Failing(_) => Err(Error::IoError(io::Error::from(io::ErrorKind::BrokenPipe))),
+            Source::Ping(held) => held.process_events(readiness, token, poll, data),
+            Source::Alarm(held) => held.process_events(readiness, token, poll, data),
+            Source::Failing(held) => held.process_events(readiness, token, poll, data),
         }
     }
+
+    ghost keeps = { keeping_seen split (either ⟦<Dispatcher<PingSource, Teller> as Dispatch<P, C, Vec<u32>>>⟧.means (either ⟦<Dispatcher<Timer, Waker> as Dispatch<P, C, Vec<u32>>>⟧.means ⟦<Dispatcher<Failing, Teller> as Dispatch<P, C, Vec<u32>>>⟧.means)) (keeping_either ⟦<Dispatcher<PingSource, Teller> as Dispatch<P, C, Vec<u32>>>⟧.means (either ⟦<Dispatcher<Timer, Waker> as Dispatch<P, C, Vec<u32>>>⟧.means ⟦<Dispatcher<Failing, Teller> as Dispatch<P, C, Vec<u32>>>⟧.means) (record { reg = λ s t v f g a l h. ping_reg_keeps s.source t.source v f g a l h.0; unreg = λ s t v a l h. ping_unreg_keeps s.source t.source v a l h.0; ring = λ s t v b l h. ping_ring_keeps s.source t.source v b l h.0; turn = λ s t r k v x y a l h. ping_turn_keeps s.source t.source k v h.calls h.inner l h.turned }) (keeping_either ⟦<Dispatcher<Timer, Waker> as Dispatch<P, C, Vec<u32>>>⟧.means ⟦<Dispatcher<Failing, Teller> as Dispatch<P, C, Vec<u32>>>⟧.means (record { reg = λ s t v f g a l h. timer_reg_keeps s.source t.source v f g a l h.0; unreg = λ s t v a l h. timer_unreg_keeps s.source t.source v a l h.0; ring = λ s t v b l h. timer_ring_keeps s.source t.source v b l h.0; turn = λ s t r k v x y a l h. timer_turn_keeps s.source t.source k v h.calls h.inner l h.turned }) (record { reg = λ s t v f g a l h. none_kept v.deadlines.next l h.0; unreg = λ s t v a l h. none_kept v.deadlines.next l h.0; ring = λ s t v b l h. none_kept v.deadlines.next l h.0; turn = λ s t r k v x y a l h. none_kept v.deadlines.next l h.turned.0 }))) };
 }
 
-impl<P: Poller, C> Hold<Teller, P, C> for Source {
-    ghost use Rattle.std.specs.Prelude.{◌≡◌};
-    ghost use Rattle.calloop_tests.specs.declared.source.Source.TheVariants.{Ping};
-    ghost use Rattle.calloop_tests.specs.Held.{held_means};
-
-    ghost held = { λ d. Ping d };
-
-    ghost held_means = { held_means };
+impl<P: Poller, C> Hold<PingSource, Teller, P, C> for Source {
+    ghost held = { λ d. join (inl d) };
 
     fn hold(dispatcher: Dispatcher<PingSource, Teller>) -> Source
         ensures { result ≡ Ping dispatcher }
     {
         Source::Ping(dispatcher)
     }
+
+    ghost held_means = { held_seen split join split-join join-split inl ⟦<Dispatcher<PingSource, Teller> as Dispatch<P, C, Vec<u32>>>⟧.means (either ⟦<Dispatcher<PingSource, Teller> as Dispatch<P, C, Vec<u32>>>⟧.means (either ⟦<Dispatcher<Timer, Waker> as Dispatch<P, C, Vec<u32>>>⟧.means ⟦<Dispatcher<Failing, Teller> as Dispatch<P, C, Vec<u32>>>⟧.means)) (held_left ⟦<Dispatcher<PingSource, Teller> as Dispatch<P, C, Vec<u32>>>⟧.means (either ⟦<Dispatcher<Timer, Waker> as Dispatch<P, C, Vec<u32>>>⟧.means ⟦<Dispatcher<Failing, Teller> as Dispatch<P, C, Vec<u32>>>⟧.means)) };
+}
+
+impl<P: Poller, C> Hold<Timer, Waker, P, C> for Source {
+    ghost held = { λ d. join (inr (inl d)) };
+
+    fn hold(dispatcher: Dispatcher<Timer, Waker>) -> Source
+        ensures { result ≡ Alarm dispatcher }
+    {
+        Source::Alarm(dispatcher)
+    }
+
+    ghost held_means = { held_seen split join split-join join-split (λ d. inr (inl d)) ⟦<Dispatcher<Timer, Waker> as Dispatch<P, C, Vec<u32>>>⟧.means (either ⟦<Dispatcher<PingSource, Teller> as Dispatch<P, C, Vec<u32>>>⟧.means (either ⟦<Dispatcher<Timer, Waker> as Dispatch<P, C, Vec<u32>>>⟧.means ⟦<Dispatcher<Failing, Teller> as Dispatch<P, C, Vec<u32>>>⟧.means)) (held_through inl inr ⟦<Dispatcher<Timer, Waker> as Dispatch<P, C, Vec<u32>>>⟧.means (either ⟦<Dispatcher<Timer, Waker> as Dispatch<P, C, Vec<u32>>>⟧.means ⟦<Dispatcher<Failing, Teller> as Dispatch<P, C, Vec<u32>>>⟧.means) (either ⟦<Dispatcher<PingSource, Teller> as Dispatch<P, C, Vec<u32>>>⟧.means (either ⟦<Dispatcher<Timer, Waker> as Dispatch<P, C, Vec<u32>>>⟧.means ⟦<Dispatcher<Failing, Teller> as Dispatch<P, C, Vec<u32>>>⟧.means)) (held_left ⟦<Dispatcher<Timer, Waker> as Dispatch<P, C, Vec<u32>>>⟧.means ⟦<Dispatcher<Failing, Teller> as Dispatch<P, C, Vec<u32>>>⟧.means) (held_right ⟦<Dispatcher<PingSource, Teller> as Dispatch<P, C, Vec<u32>>>⟧.means (either ⟦<Dispatcher<Timer, Waker> as Dispatch<P, C, Vec<u32>>>⟧.means ⟦<Dispatcher<Failing, Teller> as Dispatch<P, C, Vec<u32>>>⟧.means))) };
 }

@@ -1,11 +1,14 @@
-use crate::source::{Failing, Source, Teller};
+use crate::source::{Failing, Source, Teller, Waker};
 use calloop::loop_logic::{Answer, Call, EventLoop, once};
 use calloop::ping::PingSource;
-use calloop::{Error, InsertError, Instant, Readiness, RegistrationToken};
-use calloop_core::sys::script::{ScriptAnswer, ScriptClock, ScriptEvents, ScriptPoller};
+use calloop::{
+    Dispatcher, Error, InsertError, Instant, Readiness, RegistrationToken, TimeoutAction, Timer,
+};
+use calloop_core::sys::script::{ScriptAnswer, ScriptClock, ScriptEnd, ScriptEvents, ScriptPoller};
 use std::alloc::Global;
 use std::collections::VecDeque;
 use std::io;
+use std::sync::Wait;
 use std::test::Fail;
 use std::time::Duration;
 
@@ -51,13 +54,18 @@ fn ring(test_loop: &mut TestLoop, token: RegistrationToken) -> io::Result<()> {
 }
 
 // What the callbacks of a dispatch say.
-fn said(test_loop: &mut TestLoop, alloc: Global, timeout: Option<u64>) -> io::Result<Vec<u32>> {
+fn said<R: Wait>(
+    rt: &R,
+    test_loop: &mut TestLoop,
+    alloc: Global,
+    timeout: Option<u64>,
+) -> io::Result<Vec<u32>> {
     let limit = match timeout {
         Some(millis) => Some(Duration::from_millis(millis)),
         None => None,
     };
     let mut numbers = Vec::new(alloc);
-    match test_loop.dispatch(limit, &mut numbers) {
+    match test_loop.dispatch(rt, limit, &mut numbers) {
         Ok(()) => Ok(numbers),
         Err(error) => Err(io::Error::from(error)),
     }
@@ -73,7 +81,7 @@ fn script(test_loop: &mut TestLoop, alloc: Global, keys: &[u64]) -> io::Result<(
     }
     let answer = ScriptAnswer {
         moment: Instant { nanos: 0 },
-        events,
+        end: ScriptEnd::Events(events),
     };
     match test_loop.handle().poller_mut().script(answer) {
         Ok(()) => Ok(()),
@@ -81,9 +89,16 @@ fn script(test_loop: &mut TestLoop, alloc: Global, keys: &[u64]) -> io::Result<(
     }
 }
 
+fn failing_source(registers: bool) -> Source {
+    Source::Failing(Dispatcher {
+        source: Failing { registers },
+        callback: Teller { number: 0 },
+    })
+}
+
 // Inserts a source whose turns fail.
-fn failing(test_loop: &mut TestLoop, registers: bool) -> Option<RegistrationToken> {
-    match test_loop.carry_out(Call::Insert(Source::Failing(Failing { registers }))) {
+fn failing<R: Wait>(rt: &R, test_loop: &mut TestLoop) -> Option<RegistrationToken> {
+    match test_loop.carry_out(rt, Call::Insert(failing_source(true))) {
         Answer::Inserted(Ok(token)) => Some(token),
         _ => None,
     }
@@ -92,7 +107,7 @@ fn failing(test_loop: &mut TestLoop, registers: bool) -> Option<RegistrationToke
 #[test]
 fn empty_loop(rt: HostRuntime) -> Result<(), Fail> {
     let mut test_loop = test_loop(rt.alloc())?;
-    assert_eq!(rt; said(&mut test_loop, rt.alloc(), Some(0))?.len(), 0);
+    assert_eq!(rt; said(&rt, &mut test_loop, rt.alloc(), Some(0))?.len(), 0);
     let waits = [Some(Duration::ZERO)];
     assert_eq!(rt; test_loop.handle().poller_mut().waits(), waits.as_slice());
     Ok(())
@@ -105,10 +120,10 @@ fn one_ping(rt: HostRuntime) -> Result<(), Fail> {
     assert_eq!(rt; token, RegistrationToken::new(0, 0));
     ring(&mut test_loop, token)?;
     assert_eq!(rt;
-        said(&mut test_loop, rt.alloc(), Some(0))?.as_slice(),
+        said(&rt, &mut test_loop, rt.alloc(), Some(0))?.as_slice(),
         [7].as_slice()
     );
-    assert_eq!(rt; said(&mut test_loop, rt.alloc(), Some(0))?.len(), 0);
+    assert_eq!(rt; said(&rt, &mut test_loop, rt.alloc(), Some(0))?.len(), 0);
     Ok(())
 }
 
@@ -122,15 +137,15 @@ fn three_pings(rt: HostRuntime) -> Result<(), Fail> {
         ring(&mut test_loop, token)?;
     }
     assert_eq!(rt;
-        said(&mut test_loop, rt.alloc(), Some(0))?.as_slice(),
+        said(&rt, &mut test_loop, rt.alloc(), Some(0))?.as_slice(),
         [1, 2, 3].as_slice()
     );
     ring(&mut test_loop, second)?;
     assert_eq!(rt;
-        said(&mut test_loop, rt.alloc(), Some(0))?.as_slice(),
+        said(&rt, &mut test_loop, rt.alloc(), Some(0))?.as_slice(),
         [2].as_slice()
     );
-    assert_eq!(rt; said(&mut test_loop, rt.alloc(), Some(0))?.len(), 0);
+    assert_eq!(rt; said(&rt, &mut test_loop, rt.alloc(), Some(0))?.len(), 0);
     Ok(())
 }
 
@@ -139,9 +154,9 @@ fn asked_waits(rt: HostRuntime) -> Result<(), Fail> {
     let mut test_loop = test_loop(rt.alloc())?;
     let token = ping(&mut test_loop, 1)?;
     ring(&mut test_loop, token)?;
-    said(&mut test_loop, rt.alloc(), None)?;
-    said(&mut test_loop, rt.alloc(), None)?;
-    said(&mut test_loop, rt.alloc(), Some(10))?;
+    said(&rt, &mut test_loop, rt.alloc(), None)?;
+    said(&rt, &mut test_loop, rt.alloc(), None)?;
+    said(&rt, &mut test_loop, rt.alloc(), Some(10))?;
     let waits = [Some(Duration::ZERO), None, Some(Duration::from_millis(10))];
     assert_eq!(rt; test_loop.handle().poller_mut().waits(), waits.as_slice());
     Ok(())
@@ -152,10 +167,10 @@ fn polled_key_of_a_ping_calls_nothing(rt: HostRuntime) -> Result<(), Fail> {
     let mut test_loop = test_loop(rt.alloc())?;
     let token = ping(&mut test_loop, 1)?;
     script(&mut test_loop, rt.alloc(), &[0, FIRST_OF_SLOT_1, OWN_KEY])?;
-    assert_eq!(rt; said(&mut test_loop, rt.alloc(), Some(0))?.len(), 0);
+    assert_eq!(rt; said(&rt, &mut test_loop, rt.alloc(), Some(0))?.len(), 0);
     ring(&mut test_loop, token)?;
     assert_eq!(rt;
-        said(&mut test_loop, rt.alloc(), Some(0))?.as_slice(),
+        said(&rt, &mut test_loop, rt.alloc(), Some(0))?.as_slice(),
         [1].as_slice()
     );
     Ok(())
@@ -165,7 +180,7 @@ fn polled_key_of_a_ping_calls_nothing(rt: HostRuntime) -> Result<(), Fail> {
 fn rings_that_are_refused(rt: HostRuntime) -> Result<(), Fail> {
     let mut test_loop = test_loop(rt.alloc())?;
     let token = ping(&mut test_loop, 1)?;
-    let failing = failing(&mut test_loop, true);
+    let failing = failing(&rt, &mut test_loop);
     assert_eq!(rt; failing, Some(RegistrationToken::new(1, 0)));
     for refused in [
         RegistrationToken::new(0, 1),
@@ -179,7 +194,7 @@ fn rings_that_are_refused(rt: HostRuntime) -> Result<(), Fail> {
     }
     ring(&mut test_loop, token)?;
     assert_eq!(rt;
-        said(&mut test_loop, rt.alloc(), Some(0))?.as_slice(),
+        said(&rt, &mut test_loop, rt.alloc(), Some(0))?.as_slice(),
         [1].as_slice()
     );
     Ok(())
@@ -188,7 +203,7 @@ fn rings_that_are_refused(rt: HostRuntime) -> Result<(), Fail> {
 #[test]
 fn refused_insertion(rt: HostRuntime) -> Result<(), Fail> {
     let mut test_loop = test_loop(rt.alloc())?;
-    match &test_loop.carry_out(Call::Insert(Source::Failing(Failing { registers: false }))) {
+    match &test_loop.carry_out(&rt, Call::Insert(failing_source(false))) {
         Answer::Inserted(
             Err(
                 InsertError {
@@ -197,7 +212,7 @@ fn refused_insertion(rt: HostRuntime) -> Result<(), Fail> {
                 },
             ),
         ) => {
-            assert!(rt; !back.registers);
+            assert!(rt; !back.source.registers);
             assert_eq!(rt; cause.kind(), io::ErrorKind::NotFound);
         }
         _ => assert!(rt; false),
@@ -206,7 +221,7 @@ fn refused_insertion(rt: HostRuntime) -> Result<(), Fail> {
     assert_eq!(rt; token, RegistrationToken::new(0, 1));
     ring(&mut test_loop, token)?;
     assert_eq!(rt;
-        said(&mut test_loop, rt.alloc(), Some(0))?.as_slice(),
+        said(&rt, &mut test_loop, rt.alloc(), Some(0))?.as_slice(),
         [1].as_slice()
     );
     Ok(())
@@ -216,7 +231,7 @@ fn refused_insertion(rt: HostRuntime) -> Result<(), Fail> {
 fn error_keeps_the_rest(rt: HostRuntime) -> Result<(), Fail> {
     let mut test_loop = test_loop(rt.alloc())?;
     let token = ping(&mut test_loop, 1)?;
-    failing(&mut test_loop, true);
+    failing(&rt, &mut test_loop);
     script(
         &mut test_loop,
         rt.alloc(),
@@ -225,12 +240,12 @@ fn error_keeps_the_rest(rt: HostRuntime) -> Result<(), Fail> {
     ring(&mut test_loop, token)?;
     let mut numbers = Vec::new(rt.alloc());
     for _ in 0..2 {
-        match test_loop.dispatch(None, &mut numbers) {
+        match test_loop.dispatch(&rt, None, &mut numbers) {
             Err(Error::IoError(cause)) => assert_eq!(rt; cause.kind(), io::ErrorKind::BrokenPipe),
             _ => assert!(rt; false),
         }
     }
-    assert!(rt; test_loop.dispatch(None, &mut numbers).is_ok());
+    assert!(rt; test_loop.dispatch(&rt, None, &mut numbers).is_ok());
     assert_eq!(rt; numbers.as_slice(), [1].as_slice());
     let waits = [Some(Duration::ZERO), Some(Duration::ZERO), None];
     assert_eq!(rt; test_loop.handle().poller_mut().waits(), waits.as_slice());
@@ -241,11 +256,11 @@ fn error_keeps_the_rest(rt: HostRuntime) -> Result<(), Fail> {
 fn list_of_calls(rt: HostRuntime) -> Result<(), Fail> {
     let mut test_loop = test_loop(rt.alloc())?;
     let mut calls = VecDeque::new(rt.alloc());
-    calls.push_back(Call::Insert(Source::Failing(Failing { registers: true })))?;
+    calls.push_back(Call::Insert(failing_source(true)))?;
     calls.push_back(Call::Ring(RegistrationToken::new(0, 0)))?;
     calls.push_back(Call::Dispatch(Some(Duration::ZERO), Vec::new(rt.alloc())))?;
     calls.push_back(Call::Poller(ScriptPoller::new(rt.alloc())))?;
-    let Ok(answers) = test_loop.carry_out_all(rt.alloc(), calls) else {
+    let Ok(answers) = test_loop.carry_out_all(&rt, rt.alloc(), calls) else {
         assert!(rt; false);
         return Ok(());
     };
@@ -268,5 +283,75 @@ fn list_of_calls(rt: HostRuntime) -> Result<(), Fail> {
 #[test]
 fn laws(_rt: HostRuntime) -> Result<(), Fail> {
     once::<Source, ScriptPoller, ScriptClock>();
+    Ok(())
+}
+
+fn at(millis: u64) -> Instant {
+    Instant {
+        nanos: millis.saturating_mul(1_000_000),
+    }
+}
+
+// Inserts a timer that says 5.
+fn alarm(
+    test_loop: &mut TestLoop,
+    millis: u64,
+    action: TimeoutAction,
+) -> io::Result<RegistrationToken> {
+    let waker = Waker { number: 5, action };
+    match test_loop
+        .handle()
+        .insert_source(Timer::from_deadline(at(millis)), waker)
+    {
+        Ok(token) => Ok(token),
+        Err(refused) => Err(io::Error::from(refused.error)),
+    }
+}
+
+#[test]
+fn a_timer_that_is_armed_again(rt: HostRuntime) -> Result<(), Fail> {
+    let mut test_loop = test_loop(rt.alloc())?;
+    let action = TimeoutAction::ToDuration(Duration::from_millis(500));
+    alarm(&mut test_loop, 500, action)?;
+    for (timeout, calls) in [(250, 0), (510, 1), (510, 1), (510, 1)] {
+        let numbers = said(&rt, &mut test_loop, rt.alloc(), Some(timeout))?;
+        assert_eq!(rt; numbers.len(), calls);
+    }
+    let waits = [250, 250, 500, 500].map(|millis| Some(Duration::from_millis(millis)));
+    assert_eq!(rt; test_loop.handle().poller_mut().waits(), waits.as_slice());
+    Ok(())
+}
+
+#[test]
+fn an_error_keeps_a_timer(rt: HostRuntime) -> Result<(), Fail> {
+    let mut test_loop = test_loop(rt.alloc())?;
+    alarm(&mut test_loop, 0, TimeoutAction::Drop)?;
+    failing(&rt, &mut test_loop);
+    script(&mut test_loop, rt.alloc(), &[FIRST_OF_SLOT_1])?;
+    assert!(rt; said(&rt, &mut test_loop, rt.alloc(), None).is_err());
+    assert_eq!(rt;
+        said(&rt, &mut test_loop, rt.alloc(), None)?.as_slice(),
+        [5].as_slice()
+    );
+    Ok(())
+}
+
+#[test]
+fn a_timer_that_leaves(rt: HostRuntime) -> Result<(), Fail> {
+    let mut test_loop = test_loop(rt.alloc())?;
+    let first = alarm(&mut test_loop, 10, TimeoutAction::Drop)?;
+    assert_eq!(rt; first, RegistrationToken::new(0, 0));
+    assert_eq!(rt;
+        said(&rt, &mut test_loop, rt.alloc(), None)?.as_slice(),
+        [5].as_slice()
+    );
+    let second = ping(&mut test_loop, 1)?;
+    assert_eq!(rt; second, RegistrationToken::new(0, 1));
+    assert!(rt; ring(&mut test_loop, first).is_err());
+    ring(&mut test_loop, second)?;
+    assert_eq!(rt;
+        said(&rt, &mut test_loop, rt.alloc(), None)?.as_slice(),
+        [1].as_slice()
+    );
     Ok(())
 }
