@@ -1,10 +1,7 @@
 -- What the sources of the tests mean: a choice of three dispatchers. Of callbacks nothing is promised.
 use Rattle.std.specs.Prelude.{List, ℕ, [], ◌≡◌, ◌⊎◌}
 use Rattle.std.proofs.Common.{inl, inr, refl, ap, ◌∙◌}
-use Rattle.calloop_wake.specs.declared.error.Error.{Error}
-use Rattle.calloop_wake.specs.declared.token.Token.{Token}
-use Rattle.calloop_wake.specs.declared.token.TokenFactory.{TokenFactory}
-use Rattle.calloop_core.specs.Polls.{PollView, PollStep}
+use Rattle.calloop_core.specs.Polls.{PollStep}
 use Rattle.calloop_core.specs.Holdings.{Keeps, holds_none}
 use Rattle.calloop_core.specs.Meanings.{Meaning, IsHeld, MeansStep}
 use Rattle.calloop_core.specs.declared.sources.Dispatcher.{Dispatcher}

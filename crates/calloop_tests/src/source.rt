@@ -63,9 +63,7 @@ impl IntoError for Broken {
 }
 
 impl<P: Poller, C> EventSource<P, C> for Failing {
-    ghost use Rattle.std.specs.Prelude.{◌≡◌, []};
     ghost use Rattle.calloop_core.specs.Holdings.{holds_none};
-    ghost use Rattle.calloop_tests.specs.Sources.{none_kept};
 
     type Event = ();
 
