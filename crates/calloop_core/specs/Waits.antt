@@ -1,6 +1,6 @@
 -- How long the loop waits, and what ends a wait. calloop asks for the lesser of its timeout and the first deadline too;
 -- here it is said, too, what follows an interruption, which calloop hands to its caller.
-use Rattle.std.specs.Prelude.{◌≡◌, ℕ, ◌+◌, ◌-◌, min, List, [], ◌∷◌, Bool, true, false, ◌||◌, nat_eq, Option, Some, None, Result, Ok, Err, if◌then◌else◌, MatchBool}
+use Rattle.std.specs.Prelude.{◌≡◌, ℕ, ◌+◌, ◌-◌, min, List, [], ◌∷◌, Bool, false, ◌||◌, nat_eq, Option, Some, None, Result, Ok, Err, if◌then◌else◌, MatchBool}
 use Rattle.std.specs.declared.io.Error.{Error as Cause}
 use Rattle.std.specs.declared.io.ErrorKind.TheVariants.{Interrupted}
 use Rattle.std.specs.IoError.{error_kind}
