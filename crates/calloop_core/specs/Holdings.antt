@@ -1,9 +1,7 @@
 -- Which counters of timers a source holds. calloop's timers keep theirs in their registration, and nothing says there
 -- that no other source uses it.
 use Rattle.std.specs.Prelude.{◌≡◌, ◌≢◌, ℕ, ◌+◌, List, [], ◌∷◌, nat_eq, if◌then◌else◌}
-use Rattle.calloop_wake.specs.declared.token.Token.{Token}
 use Rattle.calloop_wake.specs.declared.wheel.Instant.{Instant}
-use Rattle.calloop_wake.specs.Passes.{Taken}
 use Rattle.calloop_core.specs.Polls.{PollStep, OpenPlace, ClosePlace, Post, TakePass, PutBack, Arm, ArmAgain, Cancel, Call, ReadClock}
 
 -- a counter isn't held; or it is held, and its last arming was called for; or it is held, and its last arming, for this

@@ -1,6 +1,6 @@
 -- A timer makes steps of its own counter alone, and calls once for each arming. The impl cites these proofs, so they
 -- stand here.
-use Rattle.std.proofs.Common.{◌≡◌, ◌≢◌, inl, inr, ℕ, ◌++◌, ◌∷◌, [], List, Option, None, Some, Result, Ok, Err, refl, sym, ◌∙◌, ap, subst, true, false, Bool, nat_eq, if◌then◌else◌, arith}
+use Rattle.std.proofs.Common.{◌≡◌, ◌≢◌, inl, inr, ℕ, ◌++◌, List, Option, None, Some, Result, Ok, Err, refl, sym, ◌∙◌, ap, true, false, Bool, nat_eq, if◌then◌else◌, arith}
 use Rattle.std.proofs.lemmas.Bool.Decides.{nat_tests}
 use Rattle.calloop_wake.specs.declared.error.Error.{Error}
 use Rattle.calloop_wake.specs.declared.token.Token.{Token}
@@ -16,7 +16,7 @@ use Rattle.calloop_core.specs.declared.timer.Registration.{Registration}
 use Rattle.calloop_core.specs.Calls.{Call as OneCall}
 use Rattle.calloop_core.specs.Polls.{PollView, PollStep}
 use Rattle.calloop_core.specs.Holdings.{Hold, Free, Spent, Standing, IsWithin, Keeps, with_hold}
-use Rattle.calloop_core.specs.Timers.{timer_holds, held_as, releases, Armed, IsTimerReg, IsTimerUnreg, ArmedAgain, ArmedFor, Answered, IsTimerTurn, IsNoPing, registered_as, armed_for, spent}
+use Rattle.calloop_core.specs.Timers.{timer_holds, held_as, releases, Armed, IsTimerReg, IsTimerUnreg, ArmedAgain, ArmedFor, Answered, IsTimerTurn, IsNoPing}
 
 within_same : (h : Hold) → IsWithin h h
 within_same Free = tt

@@ -1,7 +1,7 @@
 -- What a source reads of `Poll`, and what it can do to it; and what the loop does with the batch.
 -- calloop's `Poll` stands on the machine's poller and on files for its pings; here pings have a board, and the
 -- loop owns the batch that calloop hands out from a buffer.
-use Rattle.std.specs.Prelude.{◌≡◌, ℕ, ◌+◌, ◌-◌, ◌^◌, ◌≤◌, ◌<◌, List, [], ◌∷◌, ◌++◌, map, filter, length, not, nat_eq, Bool, true, false, ◌||◌, Option, Some, None, Result, Ok, Err, if◌then◌else◌, MatchBool, vec_capacity, ◌⊎◌}
+use Rattle.std.specs.Prelude.{◌≡◌, ℕ, ◌+◌, ◌-◌, ◌^◌, ◌≤◌, ◌<◌, List, [], ◌∷◌, ◌++◌, map, filter, length, not, nat_eq, Bool, true, false, Option, Some, None, if◌then◌else◌, MatchBool, vec_capacity, ◌⊎◌}
 use Rattle.std.specs.VecDeque.{deque_len, deque_capacity}
 use Rattle.std.specs.declared.io.Error.{Error as Cause}
 use Rattle.calloop_wake.specs.declared.error.Error.{Error}
@@ -16,7 +16,7 @@ use Rattle.calloop_wake.specs.declared.wheel.Instant.{Instant}
 use Rattle.calloop_wake.specs.Deadlines.{Deadlines, with_new, with_again, with_entries, cancelled, is_armed, due, not_due}
 use Rattle.calloop_wake.specs.Tokens.{token_of}
 use Rattle.calloop_wake.specs.Passes.{Taken}
-use Rattle.calloop_wake.specs.Boards.{is_open, any_marked, wakes, after_open_place, after_close_place, after_post, after_unpost, taken, taken_keys}
+use Rattle.calloop_wake.specs.Boards.{is_open, wakes, after_open_place, after_close_place, after_post, after_unpost, taken}
 use Rattle.calloop_core.specs.declared.sys.Readiness.{Readiness}
 use Rattle.calloop_core.specs.declared.sys.poll.Pending.{Pending}
 use Rattle.calloop_core.specs.declared.sys.poll.Poll.{Poll}

@@ -1,7 +1,7 @@
 -- How long the loop waits, and what ends a wait. calloop asks for the lesser of its timeout and the first deadline too.
 -- After an interruption it waits again, but takes the time since the start off what it had left by then, and where nothing is
 -- left it returns without the timers that are due; here the time that is left is counted from the start each time.
-use Rattle.std.specs.Prelude.{◌≡◌, ℕ, ◌+◌, ◌-◌, min, List, [], ◌∷◌, Bool, true, false, ◌||◌, nat_eq, Option, Some, None, Result, Ok, Err, if◌then◌else◌, MatchBool}
+use Rattle.std.specs.Prelude.{◌≡◌, ℕ, ◌+◌, ◌-◌, min, List, [], ◌∷◌, Bool, false, ◌||◌, nat_eq, Option, Some, None, Result, Ok, Err, if◌then◌else◌, MatchBool}
 use Rattle.std.specs.declared.io.Error.{Error as Cause}
 use Rattle.std.specs.declared.io.ErrorKind.TheVariants.{Interrupted}
 use Rattle.std.specs.IoError.{error_kind}

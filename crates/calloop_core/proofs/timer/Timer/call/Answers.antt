@@ -1,4 +1,4 @@
-use Rattle.std.proofs.Common.{refl, ◌∷◌, [], sym, ap, ◌∙◌, subst, Option, Some, None, Ok, ◌≡◌}
+use Rattle.std.proofs.Common.{refl, ◌∷◌, [], sym, ◌∙◌, subst, Option, Some, None, Ok, ◌≡◌}
 use Rattle.calloop_wake.specs.declared.wheel.Instant.{Instant}
 use Rattle.calloop_wake.specs.Deadlines.{moment_after}
 use Rattle.calloop_core.specs.declared.sources.PostAction.TheVariants.{Remove}
