@@ -1,19 +1,26 @@
--- Insertions and rings.
-use Rattle.std.proofs.Common.{◌≡◌, ◌<◌, ◌^◌, List, [], ◌∷◌, refl, ap, subst, None, Ok, Err, inl, inr, Bool}
+-- Insertions, rings, and what else is asked of one source.
+use Rattle.std.proofs.Common.{◌≡◌, ◌<◌, ◌^◌, ℕ, zero, suc, List, [], ◌∷◌, refl, ap, ◌∙◌, subst, None, Some, Result, Ok, Err, inl, inr, Bool}
 use Rattle.calloop_wake.specs.declared.error.Error.{Error}
 use Rattle.calloop_wake.specs.declared.error.Error.TheVariants.{InvalidToken}
 use Rattle.calloop_wake.specs.declared.token.TokenFactory.{TokenFactory}
 use Rattle.calloop_wake.specs.declared.token.RegistrationToken.{RegistrationToken}
 use Rattle.calloop_wake.specs.declared.list.Content.{Content}
 use Rattle.calloop_wake.specs.declared.list.Content.TheVariants.{Vacant, Source, InTurn}
+use Rattle.calloop_wake.specs.declared.list.Slot.{Slot}
 use Rattle.calloop_wake.specs.Slots.{changed, with_content, named, source_of, next_registration, claimed, CannotClaim}
 use Rattle.calloop_core.specs.Polls.{PollView, PollStep, AllStepped}
 use Rattle.calloop_core.specs.Pollers.{Outside}
-use Rattle.calloop.specs.declared.loop_logic.Call.TheVariants.{Insert, Ring}
-use Rattle.calloop.specs.declared.loop_logic.Answer.TheVariants.{Inserted, Rung}
+use Rattle.calloop.specs.declared.loop_logic.Call.TheVariants.{Insert, Ring, Enable, Update, Disable, Remove}
+use Rattle.calloop.specs.declared.loop_logic.Answer.TheVariants.{Inserted, Rung, Enabled, Updated, Disabled, Removed}
 use Rattle.calloop_core.specs.Meanings.{Meaning}
 use Rattle.calloop.specs.Machine.{View, Change, Put, Claim, Polls, AllFit, all_viewed}
-use Rattle.calloop.specs.Rules.{Did, Case, Once, InsertedBy, RungBy, RungIn, factory_of, ring_answer}
+use Rattle.calloop.specs.Rules.{Did, Case, Once, InsertedBy, RungBy, RungIn, EnabledBy, UpdatedBy, DisabledBy, RemovedBy, RemovedIn, AskedIn, factory_of, ring_answer}
+
+-- what is put into a slot last stands there
+changed_twice : {D : Type 0} (c d : Content D) (ss : List (Slot D)) (i : ℕ) → changed (with_content c) (changed (with_content d) ss i) i ≡ changed (with_content c) ss i
+changed_twice c d [] i = refl
+changed_twice c d (s ∷ ss) zero = refl
+changed_twice c d (s ∷ ss) (suc i) = ap (λ ts. s ∷ ts) (changed_twice c d ss i)
 
 module _ {D P X : Type 0} (M : Meaning D P X) (O : Outside P) (v : View D P) where
   one_step : (R : View D P → List (Change D P) → Type 0) (cs : List (Change D P)) (u : View D P) → R v cs → AllFit O v cs → u ≡ all_viewed v cs → Did (Once O R) v u
@@ -53,3 +60,60 @@ module _ {D P X : Type 0} (M : Meaning D P X) (O : Outside P) (v : View D P) whe
       one_step (RungBy M token (ring_answer is_ping)) (Put token.slot InTurn ∷ Polls r.0 ∷ Put token.slot (Source e) ∷ []) (record { slots = changed (with_content (Source e)) (changed (with_content InTurn) v.slots token.slot) token.slot; poll = p' })
       (rw is (e, is_ping, r.0, r.1, refl, refl)) (tt, (r.2.0, (tt, tt)))
       (ap (λ (q : PollView P). record { slots = changed (with_content (Source e)) (changed (with_content InTurn) v.slots token.slot) token.slot; poll = q }) r.2.1)
+
+  none_asked : (R : D → Result (Unit {0}) Error → List (PollStep P) → D → Type 0) (token : RegistrationToken) (c : Content D) → None ≡ source_of c → AskedIn R token c (Err InvalidToken) []
+  none_asked R token Vacant h = (refl, refl)
+  none_asked R token InTurn h = (refl, refl)
+  none_asked R token (Source d) h = cc
+
+  asked : (R : D → Result (Unit {0}) Error → List (PollStep P) → D → Type 0) (B : View D P → List (Change D P) → Type 0) (token : RegistrationToken) (d e : D) (answer : Result (Unit {0}) Error) (p' : PollView P)
+      → ((cs : List (Change D P)) → AskedIn R token (named v.slots token) answer cs → B v cs) → named v.slots token ≡ Source d
+      → (r : (steps : List (PollStep P)) × R d answer steps e × AllStepped O v.poll steps p')
+      → Did (Once O B) v (record { slots = changed (with_content (Source e)) (changed (with_content InTurn) v.slots token.slot) token.slot; poll = p' })
+  asked R B token d e answer p' by is r =
+      one_step B (Put token.slot InTurn ∷ Polls r.0 ∷ Put token.slot (Source e) ∷ []) (record { slots = changed (with_content (Source e)) (changed (with_content InTurn) v.slots token.slot) token.slot; poll = p' })
+      (by (Put token.slot InTurn ∷ Polls r.0 ∷ Put token.slot (Source e) ∷ []) (rw is (e, r.0, r.1, refl))) (tt, (r.2.0, (tt, tt)))
+      (ap (λ (q : PollView P). record { slots = changed (with_content (Source e)) (changed (with_content InTurn) v.slots token.slot) token.slot; poll = q }) r.2.1)
+
+  pub not_enabled : (token : RegistrationToken) → None ≡ source_of (named v.slots token) → Did (Case M O (Enable token) (Enabled (Err InvalidToken))) v v
+  not_enabled token h = one_step (EnabledBy M token (Err InvalidToken)) [] v (none_asked _ token (named v.slots token) h) tt refl
+
+  pub not_updated : (token : RegistrationToken) → None ≡ source_of (named v.slots token) → Did (Case M O (Update token) (Updated (Err InvalidToken))) v v
+  not_updated token h = one_step (UpdatedBy M token (Err InvalidToken)) [] v (none_asked _ token (named v.slots token) h) tt refl
+
+  pub not_disabled : (token : RegistrationToken) → None ≡ source_of (named v.slots token) → Did (Case M O (Disable token) (Disabled (Err InvalidToken))) v v
+  not_disabled token h = one_step (DisabledBy M token (Err InvalidToken)) [] v (none_asked _ token (named v.slots token) h) tt refl
+
+  pub enabled : (token : RegistrationToken) (d e : D) (f : TokenFactory) (answer : Result (Unit {0}) Error) (p' : PollView P) → named v.slots token ≡ Source d
+      → (r : (steps : List (PollStep P)) × M.reg d v.poll (factory_of token) answer steps e f × AllStepped O v.poll steps p')
+      → Did (Case M O (Enable token) (Enabled answer)) v (record { slots = changed (with_content (Source e)) (changed (with_content InTurn) v.slots token.slot) token.slot; poll = p' })
+  enabled token d e f answer p' is r =
+      asked (λ d a steps e. (f : TokenFactory) × M.reg d v.poll (factory_of token) a steps e f) (EnabledBy M token answer) token d e answer p' (λ cs h. h) is (r.0, (f, r.1), r.2)
+
+  pub updated : (token : RegistrationToken) (d e : D) (f : TokenFactory) (answer : Result (Unit {0}) Error) (p' : PollView P) → named v.slots token ≡ Source d
+      → (r : (steps : List (PollStep P)) × M.rereg d v.poll (factory_of token) answer steps e f × AllStepped O v.poll steps p')
+      → Did (Case M O (Update token) (Updated answer)) v (record { slots = changed (with_content (Source e)) (changed (with_content InTurn) v.slots token.slot) token.slot; poll = p' })
+  updated token d e f answer p' is r =
+      asked (λ d a steps e. (f : TokenFactory) × M.rereg d v.poll (factory_of token) a steps e f) (UpdatedBy M token answer) token d e answer p' (λ cs h. h) is (r.0, (f, r.1), r.2)
+
+  pub disabled : (token : RegistrationToken) (d e : D) (answer : Result (Unit {0}) Error) (p' : PollView P) → named v.slots token ≡ Source d
+      → (r : (steps : List (PollStep P)) × M.unreg d v.poll answer steps e × AllStepped O v.poll steps p')
+      → Did (Case M O (Disable token) (Disabled answer)) v (record { slots = changed (with_content (Source e)) (changed (with_content InTurn) v.slots token.slot) token.slot; poll = p' })
+  disabled token d e answer p' is r = asked (λ d a steps e. M.unreg d v.poll a steps e) (DisabledBy M token answer) token d e answer p' (λ cs h. h) is r
+
+  none_removed : (token : RegistrationToken) (c : Content D) → None ≡ source_of c → RemovedIn M token c None v []
+  none_removed token Vacant h = (refl, refl)
+  none_removed token InTurn h = (refl, refl)
+  none_removed token (Source d) h = cc
+
+  pub not_removed : (token : RegistrationToken) → None ≡ source_of (named v.slots token) → Did (Case M O (Remove token) (Removed None)) v v
+  not_removed token h = one_step (RemovedBy M token None) [] v (none_removed token (named v.slots token) h) tt refl
+
+  pub removed : (token : RegistrationToken) (d e : D) (told : Result (Unit {0}) Error) (p' : PollView P) → named v.slots token ≡ Source d
+      → (r : (steps : List (PollStep P)) × M.unreg d v.poll told steps e × AllStepped O v.poll steps p')
+      → Did (Case M O (Remove token) (Removed (Some e))) v (record { slots = changed (with_content Vacant) (changed (with_content InTurn) v.slots token.slot) token.slot; poll = p' })
+  removed token d e told p' is r =
+      one_step (RemovedBy M token (Some e)) (Put token.slot Vacant ∷ Polls r.0 ∷ []) (record { slots = changed (with_content Vacant) (changed (with_content InTurn) v.slots token.slot) token.slot; poll = p' })
+      (rw is (e, told, r.0, r.1, refl, refl)) (tt, (r.2.0, tt))
+      (ap (λ (ss : List (Slot D)). record { slots = ss; poll = p' }) (changed_twice Vacant InTurn v.slots token.slot)
+      ∙ ap (λ (q : PollView P). record { slots = changed (with_content Vacant) v.slots token.slot; poll = q }) r.2.1)

@@ -22,10 +22,10 @@ use Rattle.calloop_core.specs.Holdings.{Free, Keeps}
 use Rattle.calloop_core.specs.Meanings.{Meaning, IsKeeping}
 use Rattle.calloop.specs.Machine.{World, View, IsNew, Registration, Change, Put, Claim, Polls, Polling, Gathered, Cut, Ended, holding, reused, claimed_of, done, all_done, seen, slot_of, AllFit}
 use Rattle.calloop.specs.declared.loop_logic.Call.{Call}
-use Rattle.calloop.specs.declared.loop_logic.Call.TheVariants.{Insert, Ring, Dispatch, Poller as NewPoller}
+use Rattle.calloop.specs.declared.loop_logic.Call.TheVariants.{Insert, Ring, Enable, Update, Disable, Remove as RemoveCall, Dispatch, Poller as NewPoller}
 use Rattle.calloop.specs.declared.loop_logic.Answer.{Answer}
-use Rattle.calloop.specs.declared.loop_logic.Answer.TheVariants.{Inserted, Rung, Dispatched, Poller as OldPoller}
-use Rattle.calloop.specs.Rules.{Doing, Waiting, Gathering, Cutting, Ending, Leaving, Step, Steps, CutTo, CutFrom, EndedBy, after_wait, Case, Once, Run, InsertedBy, RungBy, RungIn, factory_of, all_traced}
+use Rattle.calloop.specs.declared.loop_logic.Answer.TheVariants.{Inserted, Rung, Enabled, Updated, Disabled, Removed, Dispatched, Poller as OldPoller}
+use Rattle.calloop.specs.Rules.{Doing, Waiting, Gathering, Cutting, Ending, Leaving, Step, Steps, CutTo, CutFrom, EndedBy, after_wait, Case, Once, Run, InsertedBy, RungBy, RungIn, AskedIn, EnabledBy, UpdatedBy, DisabledBy, RemovedIn, RemovedBy, factory_of, all_traced}
 use Rattle.calloop.specs.Laws.{HoldsNone, IsFresh, AllFresh}
 use Rattle.calloop.proofs.Seen.{seen-all_done}
 use Rattle.calloop.proofs.Noting.{IsNoted, IsGood, IsApart, apart_sym, noted_alike, noted_gathered, noted_cut, good_gathered, good_cut, cut_deadlines, done_steps}
@@ -117,17 +117,21 @@ module _ {D P X : Type 0} (M : Meaning D P X) (O : Outside P) (law : IsKeeping M
         alone = λ d e i is at. h.alone d e i is (back i e at);
       }
 
-  -- a source is taken out for its turn
-  owned_out : (w : World D P) (k : ℕ) (d : D) → At w.slots k d → IsOwned M w None → IsOwned M (done w (Put k InTurn)) (Some d)
-  owned_out w k d here h =
-      let rest = owned_emptied w None k InTurn (λ e is. cc) h in
+  -- a source is taken out of its slot
+  owned_without : (w : World D P) (k : ℕ) (content : Content D) (d : D) → ((e : D) → content ≡ Source e → ⊥) → At w.slots k d → IsOwned M w None → IsOwned M (done w (Put k content)) (Some d)
+  owned_without w k content d none here h =
+      let rest = owned_emptied w None k content none h in
       record {
         noted = rest.noted;
         good = rest.good;
         apart = rest.apart;
         own = λ e is. (let same : d ≡ e = cc in rw (← same) (h.good k d here));
-        alone = λ e f i is at. (let same : d ≡ e = cc in elim (at_put w.slots k i InTurn f at) [ inl x ↦ absurd (let y = x.1 in cc) | inr x ↦ rw (← same) (h.apart k i d f (λ eq. x.0 (sym eq)) here x.1) ]);
+        alone = λ e f i is at. (let same : d ≡ e = cc in elim (at_put w.slots k i content f at) [ inl x ↦ absurd (none f x.1) | inr x ↦ rw (← same) (h.apart k i d f (λ eq. x.0 (sym eq)) here x.1) ]);
       }
+
+  -- for its turn
+  owned_out : (w : World D P) (k : ℕ) (d : D) → At w.slots k d → IsOwned M w None → IsOwned M (done w (Put k InTurn)) (Some d)
+  owned_out w k d here h = owned_without w k InTurn d (λ e is. cc) here h
 
   -- it goes back to a slot
   owned_back : (w : World D P) (k : ℕ) (d : D) → IsOwned M w (Some d) → IsOwned M (done w (Put k (Source d))) None
@@ -260,6 +264,28 @@ module _ {D P X : Type 0} (M : Meaning D P X) (O : Outside P) (law : IsKeeping M
       (owned_back M O law (done out (Polls h.2)) token.slot h.0
       (owned_polls M O law out d h.0 h.2 allowed (law.ring d h.0 w.poll h.1 h.2 h.3) (owned_out M O law w token.slot d (at_named w.slots token d is) k)))
 
+  asked_owned : (w : World D P) (R : D → Result (Unit {0}) Error → List (PollStep P) → D → Type 0) (token : RegistrationToken) (answer : Result (Unit {0}) Error) (cs : List (Change D P)) (c : Content D)
+      → ((d e : D) (l : List (PollStep P)) → R d answer l e → Keeps (M.holds d) w.poll.deadlines.next l (M.holds e))
+      → named (map slot_of w.slots) token ≡ c → AskedIn R token c answer cs → AllFit O (seen w) cs → IsOwned M w None → IsOwned M (all_done w cs) None
+  asked_owned w R token answer cs Vacant keeps is h fit k = rw h.1 k
+  asked_owned w R token answer cs InTurn keeps is h fit k = rw h.1 k
+  asked_owned w R token answer cs (Source d) keeps is h fit k =
+      let out : World D P = done w (Put token.slot InTurn) in
+      let allowed : AllAllowed O w.poll h.1 = (rw h.3 at fit).1.0 in
+      rw h.3
+      (owned_back M O law (done out (Polls h.1)) token.slot h.0
+      (owned_polls M O law out d h.0 h.1 allowed (keeps d h.0 h.1 h.2) (owned_out M O law w token.slot d (at_named w.slots token d is) k)))
+
+  removed_owned : (w : World D P) (token : RegistrationToken) (answer : Option D) (cs : List (Change D P)) (c : Content D) → named (map slot_of w.slots) token ≡ c → RemovedIn M token c answer (seen w) cs → AllFit O (seen w) cs → IsOwned M w None → IsOwned M (all_done w cs) None
+  removed_owned w token answer cs Vacant is h fit k = rw h.1 k
+  removed_owned w token answer cs InTurn is h fit k = rw h.1 k
+  removed_owned w token answer cs (Source d) is h fit k =
+      let out : World D P = done w (Put token.slot Vacant) in
+      let allowed : AllAllowed O w.poll h.2 = (rw h.5 at fit).1.0 in
+      rw h.5
+      (owned_dropped M O law (done out (Polls h.2)) (Some h.0)
+      (owned_polls M O law out d h.0 h.2 allowed (law.unreg d h.0 w.poll h.1 h.2 h.3) (owned_without M O law w token.slot Vacant d (λ e is. cc) (at_named w.slots token d is) k)))
+
   once_owned : (w : World D P) (R : View D P → List (Change D P) → Type 0) (css : List (List (Change D P))) → Once O R (seen w) css → ((cs : List (Change D P)) → R (seen w) cs → AllFit O (seen w) cs → IsOwned M (all_done w cs) None) → IsOwned M (all_traced w css) None
   once_owned w R [] h f = absurd h
   once_owned w R (cs ∷ []) h f = f cs h.0 h.1
@@ -268,6 +294,16 @@ module _ {D P X : Type 0} (M : Meaning D P X) (O : Outside P) (law : IsKeeping M
   case_owned : (w : World D P) (call : Call D P X) (answer : Answer D P X) (css : List (List (Change D P))) → IsFresh M call → Case M O call answer (seen w) css → IsOwned M w None → IsOwned M (all_traced w css) None
   case_owned w (Insert d) (Inserted answer) css free h k = once_owned w (InsertedBy M d answer) css h (λ cs r fit. inserted_owned w d answer cs free r fit k)
   case_owned w (Ring token) (Rung answer) css free h k = once_owned w (RungBy M token answer) css h (λ cs r fit. rung_owned w token answer cs (named (map slot_of w.slots) token) refl r fit k)
+  case_owned w (Enable token) (Enabled answer) css free h k =
+      once_owned w (EnabledBy M token answer) css h
+      (λ cs r fit. asked_owned w _ token answer cs (named (map slot_of w.slots) token) (λ d e l u. law.reg d e w.poll (factory_of token) u.0 answer l u.1) refl r fit k)
+  case_owned w (Update token) (Updated answer) css free h k =
+      once_owned w (UpdatedBy M token answer) css h
+      (λ cs r fit. asked_owned w _ token answer cs (named (map slot_of w.slots) token) (λ d e l u. law.rereg d e w.poll (factory_of token) u.0 answer l u.1) refl r fit k)
+  case_owned w (Disable token) (Disabled answer) css free h k =
+      once_owned w (DisabledBy M token answer) css h
+      (λ cs r fit. asked_owned w _ token answer cs (named (map slot_of w.slots) token) (λ d e l u. law.unreg d e w.poll answer l u) refl r fit k)
+  case_owned w (RemoveCall token) (Removed answer) css free h k = once_owned w (RemovedBy M token answer) css h (λ cs r fit. removed_owned w token answer cs (named (map slot_of w.slots) token) refl r fit k)
   case_owned w (Dispatch timeout x) (Dispatched answer x') css free (inl h) k = rw h.2 k
   case_owned w (Dispatch timeout x) (Dispatched answer x') css free (inr h) k = steps_owned w (Waiting (nanos_of timeout) x) (Leaving answer x') css h k
   case_owned w (NewPoller p) (OldPoller q) css free h k = rw h.1 (owned_same M O law w (done w (Polling p)) None refl refl refl refl k)

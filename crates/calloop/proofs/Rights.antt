@@ -13,13 +13,14 @@ use Rattle.calloop_wake.specs.Slots.{named, content_under}
 use Rattle.calloop_core.specs.declared.sys.poll.Pending.{Pending}
 use Rattle.calloop_core.specs.declared.sources.PostAction.TheVariants.{Continue, Remove}
 use Rattle.calloop_core.specs.Pollers.{Outside}
+use Rattle.calloop_core.specs.Polls.{PollStep}
 use Rattle.calloop.specs.declared.loop_logic.Call.{Call}
-use Rattle.calloop.specs.declared.loop_logic.Call.TheVariants.{Insert, Ring, Dispatch, Poller as NewPoller}
+use Rattle.calloop.specs.declared.loop_logic.Call.TheVariants.{Insert, Ring, Enable, Update, Disable, Remove as RemoveCall, Dispatch, Poller as NewPoller}
 use Rattle.calloop.specs.declared.loop_logic.Answer.{Answer}
-use Rattle.calloop.specs.declared.loop_logic.Answer.TheVariants.{Inserted, Rung, Dispatched, Poller as OldPoller}
+use Rattle.calloop.specs.declared.loop_logic.Answer.TheVariants.{Inserted, Rung, Enabled, Updated, Disabled, Removed, Dispatched, Poller as OldPoller}
 use Rattle.calloop_core.specs.Meanings.{Meaning}
 use Rattle.calloop.specs.Machine.{World, View, Registration, Change, seen, slot_of, done, all_done}
-use Rattle.calloop.specs.Rules.{Doing, Waiting, Gathering, Cutting, Ending, Leaving, Step, Steps, CutTo, CutFrom, Case, Run, InsertedBy, RungIn, all_traced}
+use Rattle.calloop.specs.Rules.{Doing, Waiting, Gathering, Cutting, Ending, Leaving, Step, Steps, CutTo, CutFrom, Case, Run, InsertedBy, RungIn, AskedIn, RemovedIn, EnabledBy, UpdatedBy, DisabledBy, RemovedBy, Once, all_traced}
 use Rattle.calloop.specs.Laws.{IsSource, AllRight, joined, changes_of}
 use Rattle.calloop.proofs.Seen.{seen-all_done}
 
@@ -82,8 +83,23 @@ module _ {D P X : Type 0} (M : Meaning D P X) (O : Outside P) where
   rung_right w token InTurn answer cs h = rw h.1 tt
   rung_right w token (Source d) answer cs h = rw h.5 (tt, (tt, (tt, tt)))
 
+  asked_right : (w : World D P) (R : D → Result (Unit {0}) Error → List (PollStep P) → D → Type 0) (token : RegistrationToken) (c : Content D) (answer : Result (Unit {0}) Error) (cs : List (Change D P)) → AskedIn R token c answer cs → AllRight w cs
+  asked_right w R token Vacant answer cs h = rw h.1 tt
+  asked_right w R token InTurn answer cs h = rw h.1 tt
+  asked_right w R token (Source d) answer cs h = rw h.3 (tt, (tt, (tt, tt)))
+
+  removed_right : (w : World D P) (token : RegistrationToken) (c : Content D) (answer : Option D) (cs : List (Change D P)) → RemovedIn M token c answer (seen w) cs → AllRight w cs
+  removed_right w token Vacant answer cs h = rw h.1 tt
+  removed_right w token InTurn answer cs h = rw h.1 tt
+  removed_right w token (Source d) answer cs h = rw h.5 (tt, (tt, tt))
+
   right-one : (w : World D P) (cs : List (Change D P)) → AllRight w cs → AllRight w (cs ++ [])
   right-one w cs h = right-append w cs [] h tt
+
+  once_right : (w : World D P) (R : View D P → List (Change D P) → Type 0) (css : List (List (Change D P))) → Once O R (seen w) css → ((cs : List (Change D P)) → R (seen w) cs → AllRight w cs) → AllRight w (joined css)
+  once_right w R [] h f = absurd h
+  once_right w R (cs ∷ []) h f = right-one w cs (f cs h.0)
+  once_right w R (cs ∷ ds ∷ css) h f = absurd h
 
   case_right : (w : World D P) (call : Call D P X) (answer : Answer D P X) (css : List (List (Change D P))) → Case M O call answer (seen w) css → AllRight w (joined css)
   case_right w (Insert d) (Inserted answer) (cs ∷ []) h = right-one w cs (inserted_right w d answer cs h.0)
@@ -92,6 +108,10 @@ module _ {D P X : Type 0} (M : Meaning D P X) (O : Outside P) where
   case_right w (Ring token) (Rung answer) (cs ∷ []) h = right-one w cs (rung_right w token (named (map slot_of w.slots) token) answer cs h.0)
   case_right w (Ring token) (Rung answer) [] h = absurd h
   case_right w (Ring token) (Rung answer) (cs ∷ ds ∷ css) h = absurd h
+  case_right w (Enable token) (Enabled answer) css h = once_right w (EnabledBy M token answer) css h (λ cs r. asked_right w _ token (named (map slot_of w.slots) token) answer cs r)
+  case_right w (Update token) (Updated answer) css h = once_right w (UpdatedBy M token answer) css h (λ cs r. asked_right w _ token (named (map slot_of w.slots) token) answer cs r)
+  case_right w (Disable token) (Disabled answer) css h = once_right w (DisabledBy M token answer) css h (λ cs r. asked_right w _ token (named (map slot_of w.slots) token) answer cs r)
+  case_right w (RemoveCall token) (Removed answer) css h = once_right w (RemovedBy M token answer) css h (λ cs r. removed_right w token (named (map slot_of w.slots) token) answer cs r)
   case_right w (Dispatch timeout x) (Dispatched answer x') css h = elim h [ inl k ↦ rw k.2 tt | inr k ↦ steps_right w _ _ css k ]
   case_right w (NewPoller p) (OldPoller q) css h = rw h.1 (tt, tt)
   case_right w call answer css h = absurd h

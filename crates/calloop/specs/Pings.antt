@@ -21,6 +21,11 @@ use Rattle.calloop.specs.declared.ping.PingSource.{PingSource}
 abbrev pub with_core : Cell → PingSource → PingSource
 with_core c s = record s { core = c }
 
+-- the token is the ping's own
+abbrev pub is_token : Token → Option Token → Bool
+is_token token None = false
+is_token token (Some own) = nat_eq (key_of own) (key_of token)
+
 -- why a registration is refused: it is registered already, the factory has no more tokens, or the place can't be opened
 pub data RefusedPing (s : PingSource) (f : TokenFactory) (v : List Place) (e : Error) (g : TokenFactory) : Type 0 where
   Registered : IsSome s.token → IsOfKind AlreadyExists e → g ≡ f → RefusedPing s f v e g
@@ -34,6 +39,26 @@ IsPingReg s v f (Ok u) steps t g =
     × (t ≡ record { core = after_set_key (key_of (next_token f)) s.core; token = Some (next_token f) }) × (g ≡ after_token f)
 IsPingReg s v f (Err e) steps t g = (steps ≡ []) × (t ≡ s) × RefusedPing s f v.board e g
 
+-- why a registration anew is refused: it isn't registered, the factory has no more tokens, or the place of another key
+-- can't be opened
+pub data RefusedAnew (s : PingSource) (f : TokenFactory) (v : List Place) (e : Error) (g : TokenFactory) : Type 0 where
+  NotRegistered : s.token ≡ None → IsOfKind NotFound e → g ≡ f → RefusedAnew s f v e g
+  NoTokenAnew : IsSome s.token → e ≡ TooManyTokens → f.given ≡ 65535 → g ≡ f → RefusedAnew s f v e g
+  NoPlaceAnew : IsSome s.token → is_token (next_token f) s.token ≡ false → CannotOpen (key_of (next_token f)) v e → g ≡ after_token f → RefusedAnew s f v e g
+
+-- under the same key nothing is done; else the place of the other token is opened, the key is set, the old key's place is
+-- closed, and what stood is posted
+abbrev pub MovedTo : {P : Type 0} → (is_same : Bool) → Token → PingSource → List (PollStep P) → PingSource → Type 0
+MovedTo true token s steps t = (steps ≡ []) × (t ≡ s)
+MovedTo false token s steps t =
+    (steps ≡ OpenPlace (key_of token) ∷ (closes s.core.key ++ posts (owed_at (key_of token) s.core)))
+    × (t ≡ record { core = after_set_key (key_of token) s.core; token = Some token })
+
+-- a ping that is registered moves to its next token; calloop's poller changes the descriptor's key in one step
+abbrev pub IsPingRereg : {P : Type 0} → PingSource → PollView P → TokenFactory → Result (Unit {0}) Error → List (PollStep P) → PingSource → TokenFactory → Type 0
+IsPingRereg s v f (Ok u) steps t g = IsSome s.token × MovedTo (is_token (next_token f) s.token) (next_token f) s steps t × (g ≡ after_token f)
+IsPingRereg s v f (Err e) steps t g = (steps ≡ []) × (t ≡ s) × RefusedAnew s f v.board e g
+
 -- the key is cleared and its place is closed; a ring that stands stays
 abbrev pub IsPingUnreg : {P : Type 0} → PingSource → Result (Unit {0}) Error → List (PollStep P) → PingSource → Type 0
 IsPingUnreg s (Ok u) steps t = IsSome s.token × (steps ≡ closes s.core.key) × (t ≡ record { core = after_clear_key s.core; token = None })
@@ -42,10 +67,6 @@ IsPingUnreg s (Err e) steps t = (s.token ≡ None) × IsOfKind NotFound e × (st
 -- a ring pings the cell, and posts its key where it stood unpinged
 abbrev pub IsPingRing : {P : Type 0} → PingSource → (is_ping : Bool) → List (PollStep P) → PingSource → Type 0
 IsPingRing s is_ping steps t = (is_ping ≡ true) × (steps ≡ posts (owed s.core)) × (t ≡ with_core (after_ring s.core) s)
-
-abbrev pub is_token : Token → Option Token → Bool
-is_token token None = false
-is_token token (Some own) = nat_eq (key_of own) (key_of token)
 
 -- what opening a turn gave: a turn is ended at once, and a pass that was refused is put back
 abbrev pub PingTurned : {P : Type 0} → PingSource → Taken → Result OpenedTurn Taken → (rang : Bool) → List (PollStep P) → PingSource → Type 0

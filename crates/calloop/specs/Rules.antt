@@ -22,9 +22,9 @@ use Rattle.calloop_core.specs.Pollers.{Outside, nanos_of}
 use Rattle.calloop_core.specs.Polls.{PollStep, cut, with_pass}
 use Rattle.calloop_core.specs.Waits.{Waited}
 use Rattle.calloop.specs.declared.loop_logic.Call.{Call}
-use Rattle.calloop.specs.declared.loop_logic.Call.TheVariants.{Insert, Ring, Dispatch, Poller as NewPoller}
+use Rattle.calloop.specs.declared.loop_logic.Call.TheVariants.{Insert, Ring, Enable, Update, Disable, Remove as RemoveCall, Dispatch, Poller as NewPoller}
 use Rattle.calloop.specs.declared.loop_logic.Answer.{Answer}
-use Rattle.calloop.specs.declared.loop_logic.Answer.TheVariants.{Inserted, Rung, Dispatched, Poller as OldPoller}
+use Rattle.calloop.specs.declared.loop_logic.Answer.TheVariants.{Inserted, Rung, Enabled, Updated, Disabled, Removed, Dispatched, Poller as OldPoller}
 use Rattle.calloop.specs.Machine.{World, View, Change, Put, Claim, Polls, Polling, Gathered, Cut, Ended, AllFit, all_viewed, all_done, seen}
 
 -- a factory that has given no token
@@ -57,6 +57,36 @@ RungIn {D} {P} M token (Source d) answer cs =
 
 abbrev pub RungBy : {D P X : Type 0} → Meaning D P X → RegistrationToken → Result (Unit {0}) Error → View D P → List (Change D P) → Type 0
 RungBy M token answer v cs = RungIn M token (named v.slots token) answer cs
+
+-- what is asked of the source in a slot: it goes out of the slot, and comes back as that left it, also after a refusal; R
+-- relates the source, its answer, its steps, and what it is then
+abbrev pub AskedIn : {D P : Type 0} → (D → Result (Unit {0}) Error → List (PollStep P) → D → Type 0) → RegistrationToken → Content D → Result (Unit {0}) Error → List (Change D P) → Type 0
+AskedIn R token Vacant answer cs = (answer ≡ Err InvalidToken) × (cs ≡ [])
+AskedIn R token InTurn answer cs = (answer ≡ Err InvalidToken) × (cs ≡ [])
+AskedIn {D} {P} R token (Source d) answer cs = (e : D) × (steps : List (PollStep P)) × R d answer steps e × (cs ≡ Put token.slot InTurn ∷ Polls steps ∷ Put token.slot (Source e) ∷ [])
+
+-- the source that a token names is registered, with a factory that has given no token
+abbrev pub EnabledBy : {D P X : Type 0} → Meaning D P X → RegistrationToken → Result (Unit {0}) Error → View D P → List (Change D P) → Type 0
+EnabledBy M token answer v cs = AskedIn (λ d a steps e. (f : TokenFactory) × M.reg d v.poll (factory_of token) a steps e f) token (named v.slots token) answer cs
+
+-- it is registered anew
+abbrev pub UpdatedBy : {D P X : Type 0} → Meaning D P X → RegistrationToken → Result (Unit {0}) Error → View D P → List (Change D P) → Type 0
+UpdatedBy M token answer v cs = AskedIn (λ d a steps e. (f : TokenFactory) × M.rereg d v.poll (factory_of token) a steps e f) token (named v.slots token) answer cs
+
+-- its registration is taken back
+abbrev pub DisabledBy : {D P X : Type 0} → Meaning D P X → RegistrationToken → Result (Unit {0}) Error → View D P → List (Change D P) → Type 0
+DisabledBy M token answer v cs = AskedIn (λ d a steps e. M.unreg d v.poll a steps e) token (named v.slots token) answer cs
+
+-- it leaves its slot vacant, is unregistered, of which a failure isn't answered, and is handed back
+abbrev pub RemovedIn : {D P X : Type 0} → Meaning D P X → RegistrationToken → Content D → Option D → View D P → List (Change D P) → Type 0
+RemovedIn M token Vacant answer v cs = (answer ≡ None) × (cs ≡ [])
+RemovedIn M token InTurn answer v cs = (answer ≡ None) × (cs ≡ [])
+RemovedIn {D} {P} M token (Source d) answer v cs =
+    (e : D) × (told : Result (Unit {0}) Error) × (steps : List (PollStep P)) × M.unreg d v.poll told steps e × (answer ≡ Some e)
+    × (cs ≡ Put token.slot Vacant ∷ Polls steps ∷ [])
+
+abbrev pub RemovedBy : {D P X : Type 0} → Meaning D P X → RegistrationToken → Option D → View D P → List (Change D P) → Type 0
+RemovedBy M token answer v cs = RemovedIn M token (named v.slots token) answer v cs
 
 -- what the loop is doing within a dispatch; X is the data that the caller lends
 pub data Doing (D X : Type 0) : Type 0 where
@@ -127,6 +157,10 @@ DispatchedBy M O timeout x answer x' v css = ((answer ≡ Err OutOfMemory) × (x
 abbrev pub Case : {D P X : Type 0} → Meaning D P X → Outside P → Call D P X → Answer D P X → View D P → List (List (Change D P)) → Type 0
 Case M O (Insert d) (Inserted answer) v css = Once O (InsertedBy M d answer) v css
 Case M O (Ring token) (Rung answer) v css = Once O (RungBy M token answer) v css
+Case M O (Enable token) (Enabled answer) v css = Once O (EnabledBy M token answer) v css
+Case M O (Update token) (Updated answer) v css = Once O (UpdatedBy M token answer) v css
+Case M O (Disable token) (Disabled answer) v css = Once O (DisabledBy M token answer) v css
+Case M O (RemoveCall token) (Removed answer) v css = Once O (RemovedBy M token answer) v css
 Case M O (Dispatch timeout x) (Dispatched answer x') v css = DispatchedBy M O (nanos_of timeout) x answer x' v css
 Case M O (NewPoller p) (OldPoller q) v css = (q ≡ v.poll.poller) × (css ≡ (Polling p ∷ []) ∷ [])
 Case M O call answer v css = ⊥

@@ -32,6 +32,10 @@ pub struct LoopHandle<'l, D, P, C> {
 pub enum Call<D, P, X> {
     Insert(D),
     Ring(RegistrationToken),
+    Enable(RegistrationToken),
+    Update(RegistrationToken),
+    Disable(RegistrationToken),
+    Remove(RegistrationToken),
     Dispatch(Option<Duration>, X),
     Poller(P),
 }
@@ -41,6 +45,10 @@ pub enum Call<D, P, X> {
 pub enum Answer<D, P, X> {
     Inserted(std::result::Result<RegistrationToken, InsertError<D>>),
     Rung(Result<()>),
+    Enabled(Result<()>),
+    Updated(Result<()>),
+    Disabled(Result<()>),
+    Removed(Option<D>),
     Dispatched(Result<()>, X),
     Poller(P),
 }
@@ -60,6 +68,10 @@ pub trait EventDispatcher<P: Poller, C>: Drop + Sized {
     /// Registers the source with tokens of the factory.
     fn register(&mut self, poll: &mut Poll<P, C>, factory: &mut TokenFactory) -> Result<()>
         ensures { (steps : List (PollStep P)) × means.reg self.old (poll_view poll.old) factory.old result steps self.new factory.new × AllStepped P.outside (poll_view poll.old) steps (poll_view poll.new) };
+
+    /// Registers the source anew with tokens of the factory.
+    fn reregister(&mut self, poll: &mut Poll<P, C>, factory: &mut TokenFactory) -> Result<()>
+        ensures { (steps : List (PollStep P)) × means.rereg self.old (poll_view poll.old) factory.old result steps self.new factory.new × AllStepped P.outside (poll_view poll.old) steps (poll_view poll.new) };
 
     /// Takes its registration back.
     fn unregister(&mut self, poll: &mut Poll<P, C>) -> Result<()>

@@ -72,8 +72,8 @@ impl PingSource {
 
 impl<P: Poller, C> EventSource<P, C> for PingSource {
     ghost use Rattle.calloop_core.specs.Holdings.{holds_none};
-    ghost use Rattle.calloop.specs.Pings.{IsPingReg, IsPingUnreg, IsPingRing, IsPingTurn};
-    ghost use Rattle.calloop.specs.Quiet.{ping_reg_keeps, ping_unreg_keeps, ping_ring_keeps, ping_turn_keeps};
+    ghost use Rattle.calloop.specs.Pings.{IsPingReg, IsPingRereg, IsPingUnreg, IsPingRing, IsPingTurn};
+    ghost use Rattle.calloop.specs.Quiet.{ping_reg_keeps, ping_rereg_keeps, ping_unreg_keeps, ping_ring_keeps, ping_turn_keeps};
 
     type Event = ();
 
@@ -86,6 +86,8 @@ impl<P: Poller, C> EventSource<P, C> for PingSource {
     ghost holds = { λ s. holds_none };
 
     ghost reg = { IsPingReg };
+
+    ghost rereg = { IsPingRereg };
 
     ghost unreg = { λ s v a l t. IsPingUnreg s a l t };
 
@@ -142,6 +144,29 @@ impl<P: Poller, C> EventSource<P, C> for PingSource {
         Ok(())
     }
 
+    /// Moves the registration to the factory's next token; under the same key it does nothing. A ring that stands is posted
+    /// under the new key.
+    ///
+    /// Where the ping isn't registered the answer is `IoError` of kind `NotFound`; a factory without tokens is
+    /// `TooManyTokens`, an open place of the new key `IoError` of kind `AlreadyExists`, and want of memory `OutOfMemory`.
+    /// A refusal leaves the ping and the board as they were.
+    fn reregister(&mut self, poll: &mut Poll<P, C>, factory: &mut TokenFactory) -> LoopResult<()> {
+        if self.token.is_none() {
+            let cause = io::Error::from(io::ErrorKind::NotFound);
+            return Err(Error::IoError(cause));
+        }
+        let token = factory.token()?;
+        if self.is_mine(token) {
+            return Ok(());
+        }
+        let pass = poll.open_place(token)?;
+        let (debt, leave) = self.core.set_key(pass);
+        poll.close_place(leave);
+        poll.settle(debt);
+        let _old = self.token.replace(token);
+        Ok(())
+    }
+
     /// Takes the registration back. A ring that stands is told after the next registration. Where the ping isn't registered
     /// the answer is `IoError` of kind `NotFound`, and nothing changes.
     fn unregister(&mut self, poll: &mut Poll<P, C>) -> LoopResult<()> {
@@ -163,6 +188,8 @@ impl<P: Poller, C> EventSource<P, C> for PingSource {
     }
 
     ghost reg_keeps = { ping_reg_keeps };
+
+    ghost rereg_keeps = { ping_rereg_keeps };
 
     ghost unreg_keeps = { ping_unreg_keeps };
 

@@ -66,6 +66,8 @@ pub trait EventSource<P: Poller, C> {
 
     ghost unreg: { Self → PollView P → Result (Unit {0}) Error → List (PollStep P) → Self → Type 0 };
 
+    ghost rereg: { Self → PollView P → TokenFactory → Result (Unit {0}) Error → List (PollStep P) → Self → TokenFactory → Type 0 };
+
     /// A ring, and whether there is a ping.
     ghost rung: { Self → Bool → List (PollStep P) → Self → Type 0 };
 
@@ -88,6 +90,10 @@ pub trait EventSource<P: Poller, C> {
     fn register(&mut self, poll: &mut Poll<P, C>, factory: &mut TokenFactory) -> LoopResult<()>
         ensures { (steps : List (PollStep P)) × reg self.old (poll_view poll.old) factory.old result steps self.new factory.new × AllStepped P.outside (poll_view poll.old) steps (poll_view poll.new) };
 
+    /// Registers it anew with tokens of the factory, as after a change of what it waits for.
+    fn reregister(&mut self, poll: &mut Poll<P, C>, factory: &mut TokenFactory) -> LoopResult<()>
+        ensures { (steps : List (PollStep P)) × rereg self.old (poll_view poll.old) factory.old result steps self.new factory.new × AllStepped P.outside (poll_view poll.old) steps (poll_view poll.new) };
+
     /// Takes its registration back.
     fn unregister(&mut self, poll: &mut Poll<P, C>) -> LoopResult<()>
         ensures { (steps : List (PollStep P)) × unreg self.old (poll_view poll.old) result steps self.new × AllStepped P.outside (poll_view poll.old) steps (poll_view poll.new) };
@@ -98,6 +104,8 @@ pub trait EventSource<P: Poller, C> {
 
     /// It leaves the counters of others alone, and calls once for each arming of its own.
     ghost reg_keeps: { (s t : Self) (v : PollView P) (f g : TokenFactory) (a : Result (Unit {0}) Error) (l : List (PollStep P)) → reg s v f a l t g → Keeps (holds s) v.deadlines.next l (holds t) };
+
+    ghost rereg_keeps: { (s t : Self) (v : PollView P) (f g : TokenFactory) (a : Result (Unit {0}) Error) (l : List (PollStep P)) → rereg s v f a l t g → Keeps (holds s) v.deadlines.next l (holds t) };
 
     ghost unreg_keeps: { (s t : Self) (v : PollView P) (a : Result (Unit {0}) Error) (l : List (PollStep P)) → unreg s v a l t → Keeps (holds s) v.deadlines.next l (holds t) };
 
@@ -124,6 +132,10 @@ pub trait Dispatch<P: Poller, C, X> {
     /// Registers the source with tokens of the factory.
     fn register(&mut self, poll: &mut Poll<P, C>, factory: &mut TokenFactory) -> LoopResult<()>
         ensures { (steps : List (PollStep P)) × means.reg self.old (poll_view poll.old) factory.old result steps self.new factory.new × AllStepped P.outside (poll_view poll.old) steps (poll_view poll.new) };
+
+    /// Registers the source anew with tokens of the factory.
+    fn reregister(&mut self, poll: &mut Poll<P, C>, factory: &mut TokenFactory) -> LoopResult<()>
+        ensures { (steps : List (PollStep P)) × means.rereg self.old (poll_view poll.old) factory.old result steps self.new factory.new × AllStepped P.outside (poll_view poll.old) steps (poll_view poll.new) };
 
     /// Takes its registration back.
     fn unregister(&mut self, poll: &mut Poll<P, C>) -> LoopResult<()>
@@ -157,6 +169,7 @@ where
     ghost means = { record {
       holds = λ s. S.holds s.source;
       reg = λ s v f a l t g. S.reg s.source v f a l t.source g × (t.callback ≡ s.callback);
+      rereg = λ s v f a l t g. S.rereg s.source v f a l t.source g × (t.callback ≡ s.callback);
       unreg = λ s v a l t. S.unreg s.source v a l t.source × (t.callback ≡ s.callback);
       ring = λ s b l t. S.rung s.source b l t.source × (t.callback ≡ s.callback);
       turn = IsDispatched S.turn F.may S.Error.becomes;
@@ -164,6 +177,10 @@ where
 
     fn register(&mut self, poll: &mut Poll<P, C>, factory: &mut TokenFactory) -> LoopResult<()> {
         self.source.register(poll, factory)
+    }
+
+    fn reregister(&mut self, poll: &mut Poll<P, C>, factory: &mut TokenFactory) -> LoopResult<()> {
+        self.source.reregister(poll, factory)
     }
 
     fn unregister(&mut self, poll: &mut Poll<P, C>) -> LoopResult<()> {
@@ -192,6 +209,7 @@ where
 
     ghost keeps = { record {
       reg = λ s t v f g a l h. S.reg_keeps s.source t.source v f g a l h.0;
+      rereg = λ s t v f g a l h. S.rereg_keeps s.source t.source v f g a l h.0;
       unreg = λ s t v a l h. S.unreg_keeps s.source t.source v a l h.0;
       ring = λ s t v b l h. S.ring_keeps s.source t.source v b l h.0;
       turn = λ s t r k v x y a l h. S.turn_keeps s.source t.source r k v h.calls h.inner l h.turned;

@@ -224,6 +224,8 @@ impl<P: Poller, C> EventSource<P, C> for Timer {
 
     ghost reg = { IsTimerReg };
 
+    ghost rereg = { IsTimerReg };
+
     ghost unreg = { λ s v a l t. IsTimerUnreg s a l t };
 
     ghost rung = { IsNoPing };
@@ -262,6 +264,12 @@ impl<P: Poller, C> EventSource<P, C> for Timer {
         self.arm(poll, factory)
     }
 
+    /// As a registration: the older arming is taken back, and the deadline is armed anew.
+    fn reregister(&mut self, poll: &mut Poll<P, C>, factory: &mut TokenFactory) -> LoopResult<()> {
+        self.release(poll);
+        self.arm(poll, factory)
+    }
+
     /// Takes the arming back, where there is one. It never fails.
     fn unregister(&mut self, poll: &mut Poll<P, C>) -> LoopResult<()> {
         self.release(poll);
@@ -274,6 +282,8 @@ impl<P: Poller, C> EventSource<P, C> for Timer {
     }
 
     ghost reg_keeps = { timer_reg_keeps };
+
+    ghost rereg_keeps = { timer_reg_keeps };
 
     ghost unreg_keeps = { timer_unreg_keeps };
 

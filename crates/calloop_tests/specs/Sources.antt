@@ -56,6 +56,7 @@ held_through f g m n o h k =
     record {
       holds = λ s. k.holds (f s) ∙ h.holds s;
       reg = λ s v p q a l. step_through f g (λ s t. m.reg s v p a l t q) (λ s t. n.reg s v p a l t q) (λ s t. o.reg s v p a l t q) s (h.reg s v p q a l) (k.reg (f s) v p q a l);
+      rereg = λ s v p q a l. step_through f g (λ s t. m.rereg s v p a l t q) (λ s t. n.rereg s v p a l t q) (λ s t. o.rereg s v p a l t q) s (h.rereg s v p q a l) (k.rereg (f s) v p q a l);
       unreg = λ s v a l. step_through f g (λ s t. m.unreg s v a l t) (λ s t. n.unreg s v a l t) (λ s t. o.unreg s v a l t) s (h.unreg s v a l) (k.unreg (f s) v a l);
       ring = λ s b l. step_through f g (λ s t. m.ring s b l t) (λ s t. n.ring s b l t) (λ s t. o.ring s b l t) s (h.ring s b l) (k.ring (f s) b l);
       turn = λ s r j v x y a l. step_through f g (λ s t. m.turn s r j v x a l t y) (λ s t. n.turn s r j v x a l t y) (λ s t. o.turn s r j v x a l t y) s (h.turn s r j v x y a l) (k.turn (f s) r j v x y a l);

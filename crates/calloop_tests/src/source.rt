@@ -2,7 +2,7 @@
 ghost use Rattle.std.specs.Prelude.{◌≡◌, []};
 ghost use Rattle.std.proofs.Common.{inl, inr};
 ghost use Rattle.calloop_core.specs.Keeping.{timer_reg_keeps, timer_unreg_keeps, timer_ring_keeps, timer_turn_keeps};
-ghost use Rattle.calloop.specs.Quiet.{ping_reg_keeps, ping_unreg_keeps, ping_ring_keeps, ping_turn_keeps};
+ghost use Rattle.calloop.specs.Quiet.{ping_reg_keeps, ping_rereg_keeps, ping_unreg_keeps, ping_ring_keeps, ping_turn_keeps};
 ghost use Rattle.calloop_core.specs.Meanings.{either, seen_as, keeping_either, keeping_seen, held_left, held_right, held_seen};
 ghost use Rattle.calloop_tests.specs.Sources.{split, join, split-join, join-split, none_kept, held_through};
 ghost use Rattle.calloop_tests.specs.declared.source.Source.TheVariants.{Ping, Alarm};
@@ -77,6 +77,8 @@ impl<P: Poller, C> EventSource<P, C> for Failing {
 
     ghost reg = { λ s v f a l t g. l ≡ [] };
 
+    ghost rereg = { λ s v f a l t g. l ≡ [] };
+
     ghost unreg = { λ s v a l t. l ≡ [] };
 
     ghost rung = { λ s b l t. l ≡ [] };
@@ -105,6 +107,14 @@ impl<P: Poller, C> EventSource<P, C> for Failing {
         }
     }
 
+    fn reregister(&mut self, _poll: &mut Poll<P, C>, _factory: &mut TokenFactory) -> Result<()> {
+        if self.registers {
+            Ok(())
+        } else {
+            Err(Error::IoError(io::Error::from(io::ErrorKind::NotFound)))
+        }
+    }
+
     fn unregister(&mut self, _poll: &mut Poll<P, C>) -> Result<()> {
         Ok(())
     }
@@ -114,6 +124,8 @@ impl<P: Poller, C> EventSource<P, C> for Failing {
     }
 
     ghost reg_keeps = { λ s t v f g a l h. none_kept v.deadlines.next l h };
+
+    ghost rereg_keeps = { λ s t v f g a l h. none_kept v.deadlines.next l h };
 
     ghost unreg_keeps = { λ s t v a l h. none_kept v.deadlines.next l h };
 
@@ -140,6 +152,14 @@ impl<P: Poller, C> EventDispatcher<P, C> for Source {
             Source::Ping(held) => Dispatch::<P, C, Vec<u32>>::register(held, poll, factory),
             Source::Alarm(held) => Dispatch::<P, C, Vec<u32>>::register(held, poll, factory),
             Source::Failing(held) => Dispatch::<P, C, Vec<u32>>::register(held, poll, factory),
+        }
+    }
+
+    fn reregister(&mut self, poll: &mut Poll<P, C>, factory: &mut TokenFactory) -> Result<()> {
+        match self {
+            Source::Ping(held) => Dispatch::<P, C, Vec<u32>>::reregister(held, poll, factory),
+            Source::Alarm(held) => Dispatch::<P, C, Vec<u32>>::reregister(held, poll, factory),
+            Source::Failing(held) => Dispatch::<P, C, Vec<u32>>::reregister(held, poll, factory),
         }
     }
 
@@ -173,7 +193,7 @@ impl<P: Poller, C> EventDispatcher<P, C> for Source {
         }
     }
 
-    ghost keeps = { keeping_seen split (either ⟦<Dispatcher<PingSource, Teller> as Dispatch<P, C, Vec<u32>>>⟧.means (either ⟦<Dispatcher<Timer, Waker> as Dispatch<P, C, Vec<u32>>>⟧.means ⟦<Dispatcher<Failing, Teller> as Dispatch<P, C, Vec<u32>>>⟧.means)) (keeping_either ⟦<Dispatcher<PingSource, Teller> as Dispatch<P, C, Vec<u32>>>⟧.means (either ⟦<Dispatcher<Timer, Waker> as Dispatch<P, C, Vec<u32>>>⟧.means ⟦<Dispatcher<Failing, Teller> as Dispatch<P, C, Vec<u32>>>⟧.means) (record { reg = λ s t v f g a l h. ping_reg_keeps s.source t.source v f g a l h.0; unreg = λ s t v a l h. ping_unreg_keeps s.source t.source v a l h.0; ring = λ s t v b l h. ping_ring_keeps s.source t.source v b l h.0; turn = λ s t r k v x y a l h. ping_turn_keeps s.source t.source k v h.calls h.inner l h.turned }) (keeping_either ⟦<Dispatcher<Timer, Waker> as Dispatch<P, C, Vec<u32>>>⟧.means ⟦<Dispatcher<Failing, Teller> as Dispatch<P, C, Vec<u32>>>⟧.means (record { reg = λ s t v f g a l h. timer_reg_keeps s.source t.source v f g a l h.0; unreg = λ s t v a l h. timer_unreg_keeps s.source t.source v a l h.0; ring = λ s t v b l h. timer_ring_keeps s.source t.source v b l h.0; turn = λ s t r k v x y a l h. timer_turn_keeps s.source t.source k v h.calls h.inner l h.turned }) (record { reg = λ s t v f g a l h. none_kept v.deadlines.next l h.0; unreg = λ s t v a l h. none_kept v.deadlines.next l h.0; ring = λ s t v b l h. none_kept v.deadlines.next l h.0; turn = λ s t r k v x y a l h. none_kept v.deadlines.next l h.turned.0 }))) };
+    ghost keeps = { keeping_seen split (either ⟦<Dispatcher<PingSource, Teller> as Dispatch<P, C, Vec<u32>>>⟧.means (either ⟦<Dispatcher<Timer, Waker> as Dispatch<P, C, Vec<u32>>>⟧.means ⟦<Dispatcher<Failing, Teller> as Dispatch<P, C, Vec<u32>>>⟧.means)) (keeping_either ⟦<Dispatcher<PingSource, Teller> as Dispatch<P, C, Vec<u32>>>⟧.means (either ⟦<Dispatcher<Timer, Waker> as Dispatch<P, C, Vec<u32>>>⟧.means ⟦<Dispatcher<Failing, Teller> as Dispatch<P, C, Vec<u32>>>⟧.means) (record { reg = λ s t v f g a l h. ping_reg_keeps s.source t.source v f g a l h.0; rereg = λ s t v f g a l h. ping_rereg_keeps s.source t.source v f g a l h.0; unreg = λ s t v a l h. ping_unreg_keeps s.source t.source v a l h.0; ring = λ s t v b l h. ping_ring_keeps s.source t.source v b l h.0; turn = λ s t r k v x y a l h. ping_turn_keeps s.source t.source k v h.calls h.inner l h.turned }) (keeping_either ⟦<Dispatcher<Timer, Waker> as Dispatch<P, C, Vec<u32>>>⟧.means ⟦<Dispatcher<Failing, Teller> as Dispatch<P, C, Vec<u32>>>⟧.means (record { reg = λ s t v f g a l h. timer_reg_keeps s.source t.source v f g a l h.0; rereg = λ s t v f g a l h. timer_reg_keeps s.source t.source v f g a l h.0; unreg = λ s t v a l h. timer_unreg_keeps s.source t.source v a l h.0; ring = λ s t v b l h. timer_ring_keeps s.source t.source v b l h.0; turn = λ s t r k v x y a l h. timer_turn_keeps s.source t.source k v h.calls h.inner l h.turned }) (record { reg = λ s t v f g a l h. none_kept v.deadlines.next l h.0; rereg = λ s t v f g a l h. none_kept v.deadlines.next l h.0; unreg = λ s t v a l h. none_kept v.deadlines.next l h.0; ring = λ s t v b l h. none_kept v.deadlines.next l h.0; turn = λ s t r k v x y a l h. none_kept v.deadlines.next l h.turned.0 }))) };
 }
 
 impl<P: Poller, C> Hold<PingSource, Teller, P, C> for Source {

@@ -73,6 +73,11 @@ fn said<R: Wait>(
 
 // Scripts a wait that gives events of these keys at once.
 fn script(test_loop: &mut TestLoop, alloc: Global, keys: &[u64]) -> io::Result<()> {
+    script_at(test_loop, alloc, 0, keys)
+}
+
+// Scripts a wait that gives events of these keys at this moment.
+fn script_at(test_loop: &mut TestLoop, alloc: Global, millis: u64, keys: &[u64]) -> io::Result<()> {
     let mut events = ScriptEvents::new(alloc);
     for key in keys {
         if events.push(*key, READABLE).is_err() {
@@ -80,7 +85,7 @@ fn script(test_loop: &mut TestLoop, alloc: Global, keys: &[u64]) -> io::Result<(
         }
     }
     let answer = ScriptAnswer {
-        moment: Instant { nanos: 0 },
+        moment: at(millis),
         end: ScriptEnd::Events(events),
     };
     match test_loop.handle().poller_mut().script(answer) {
@@ -353,5 +358,170 @@ fn a_timer_that_leaves(rt: HostRuntime) -> Result<(), Fail> {
         said(&rt, &mut test_loop, rt.alloc(), None)?.as_slice(),
         [1].as_slice()
     );
+    Ok(())
+}
+
+fn enable(test_loop: &mut TestLoop, token: RegistrationToken) -> io::Result<()> {
+    match test_loop.handle().enable(&token) {
+        Ok(()) => Ok(()),
+        Err(error) => Err(io::Error::from(error)),
+    }
+}
+
+fn disable(test_loop: &mut TestLoop, token: RegistrationToken) -> io::Result<()> {
+    match test_loop.handle().disable(&token) {
+        Ok(()) => Ok(()),
+        Err(error) => Err(io::Error::from(error)),
+    }
+}
+
+// The kind of a refusal by the system.
+fn refused_as(answer: calloop::Result<()>) -> Option<io::ErrorKind> {
+    match answer {
+        Err(Error::IoError(cause)) => Some(cause.kind()),
+        _ => None,
+    }
+}
+
+fn is_invalid(answer: calloop::Result<()>) -> bool {
+    matches!(answer, Err(Error::InvalidToken))
+}
+
+#[test]
+fn a_ping_that_is_rung_while_disabled(rt: HostRuntime) -> Result<(), Fail> {
+    let mut test_loop = test_loop(rt.alloc())?;
+    let token = ping(&mut test_loop, 1)?;
+    disable(&mut test_loop, token)?;
+    ring(&mut test_loop, token)?;
+    enable(&mut test_loop, token)?;
+    assert_eq!(rt;
+        said(&rt, &mut test_loop, rt.alloc(), Some(100))?.as_slice(),
+        [1].as_slice()
+    );
+    assert_eq!(rt;
+        test_loop.handle().poller_mut().waits(),
+        [Some(Duration::ZERO)].as_slice()
+    );
+    Ok(())
+}
+
+#[test]
+fn registrations_that_are_refused(rt: HostRuntime) -> Result<(), Fail> {
+    let mut test_loop = test_loop(rt.alloc())?;
+    let token = ping(&mut test_loop, 1)?;
+    let twice = test_loop.handle().enable(&token);
+    assert_eq!(rt; refused_as(twice), Some(io::ErrorKind::AlreadyExists));
+    assert!(rt; test_loop.handle().update(&token).is_ok());
+    disable(&mut test_loop, token)?;
+    let disabled = test_loop.handle().disable(&token);
+    assert_eq!(rt; refused_as(disabled), Some(io::ErrorKind::NotFound));
+    let updated = test_loop.handle().update(&token);
+    assert_eq!(rt; refused_as(updated), Some(io::ErrorKind::NotFound));
+    Ok(())
+}
+
+#[test]
+fn a_source_that_is_removed(rt: HostRuntime) -> Result<(), Fail> {
+    let mut test_loop = test_loop(rt.alloc())?;
+    let token = ping(&mut test_loop, 7)?;
+    match test_loop.handle().remove(token) {
+        Some(Source::Ping(back)) => assert_eq!(rt; back.callback.number, 7),
+        _ => assert!(rt; false),
+    }
+    assert!(rt; test_loop.handle().remove(token).is_none());
+    assert!(rt; is_invalid(test_loop.handle().enable(&token)));
+    assert!(rt; is_invalid(test_loop.handle().update(&token)));
+    assert!(rt; is_invalid(test_loop.handle().disable(&token)));
+    assert_eq!(rt; ping(&mut test_loop, 8)?, RegistrationToken::new(0, 1));
+    Ok(())
+}
+
+#[test]
+fn a_timer_that_is_updated(rt: HostRuntime) -> Result<(), Fail> {
+    let mut test_loop = test_loop(rt.alloc())?;
+    let token = alarm(&mut test_loop, 10, TimeoutAction::ToInstant(at(1000)))?;
+    assert_eq!(rt; said(&rt, &mut test_loop, rt.alloc(), Some(4))?.len(), 0);
+    assert!(rt; test_loop.handle().update(&token).is_ok());
+    assert_eq!(rt;
+        said(&rt, &mut test_loop, rt.alloc(), Some(100))?.as_slice(),
+        [5].as_slice()
+    );
+    assert_eq!(rt; said(&rt, &mut test_loop, rt.alloc(), Some(100))?.len(), 0);
+    let waits = [4, 6, 100].map(|millis| Some(Duration::from_millis(millis)));
+    assert_eq!(rt; test_loop.handle().poller_mut().waits(), waits.as_slice());
+    Ok(())
+}
+
+#[test]
+fn a_timer_that_is_disabled(rt: HostRuntime) -> Result<(), Fail> {
+    let mut test_loop = test_loop(rt.alloc())?;
+    let token = alarm(&mut test_loop, 10, TimeoutAction::Drop)?;
+    disable(&mut test_loop, token)?;
+    script_at(&mut test_loop, rt.alloc(), 4, &[])?;
+    assert_eq!(rt; said(&rt, &mut test_loop, rt.alloc(), Some(100))?.len(), 0);
+    enable(&mut test_loop, token)?;
+    assert_eq!(rt;
+        said(&rt, &mut test_loop, rt.alloc(), Some(100))?.as_slice(),
+        [5].as_slice()
+    );
+    let waits = [100, 6].map(|millis| Some(Duration::from_millis(millis)));
+    assert_eq!(rt; test_loop.handle().poller_mut().waits(), waits.as_slice());
+    Ok(())
+}
+
+#[test]
+fn a_timer_that_stays_disabled(rt: HostRuntime) -> Result<(), Fail> {
+    let mut test_loop = test_loop(rt.alloc())?;
+    let token = alarm(&mut test_loop, 10, TimeoutAction::Drop)?;
+    disable(&mut test_loop, token)?;
+    assert_eq!(rt; said(&rt, &mut test_loop, rt.alloc(), Some(100))?.len(), 0);
+    assert_eq!(rt; said(&rt, &mut test_loop, rt.alloc(), Some(100))?.len(), 0);
+    let waits = [100, 100].map(|millis| Some(Duration::from_millis(millis)));
+    assert_eq!(rt; test_loop.handle().poller_mut().waits(), waits.as_slice());
+    Ok(())
+}
+
+#[test]
+fn a_rung_ping_that_is_removed(rt: HostRuntime) -> Result<(), Fail> {
+    let mut test_loop = test_loop(rt.alloc())?;
+    let first = ping(&mut test_loop, 1)?;
+    let second = ping(&mut test_loop, 2)?;
+    ring(&mut test_loop, first)?;
+    ring(&mut test_loop, second)?;
+    assert!(rt; test_loop.handle().remove(second).is_some());
+    assert_eq!(rt;
+        said(&rt, &mut test_loop, rt.alloc(), Some(100))?.as_slice(),
+        [1].as_slice()
+    );
+    assert_eq!(rt; said(&rt, &mut test_loop, rt.alloc(), Some(100))?.len(), 0);
+    let waits = [0, 100].map(|millis| Some(Duration::from_millis(millis)));
+    assert_eq!(rt; test_loop.handle().poller_mut().waits(), waits.as_slice());
+    Ok(())
+}
+
+#[test]
+fn registrations_as_values(rt: HostRuntime) -> Result<(), Fail> {
+    let mut test_loop = test_loop(rt.alloc())?;
+    let token = ping(&mut test_loop, 1)?;
+    let mut calls = VecDeque::new(rt.alloc());
+    calls.push_back(Call::Update(token))?;
+    calls.push_back(Call::Disable(token))?;
+    calls.push_back(Call::Enable(token))?;
+    calls.push_back(Call::Remove(token))?;
+    calls.push_back(Call::Enable(token))?;
+    let Ok(answers) = test_loop.carry_out_all(&rt, rt.alloc(), calls) else {
+        assert!(rt; false);
+        return Ok(());
+    };
+    match answers.as_slice() {
+        [
+            Answer::Updated(Ok(())),
+            Answer::Disabled(Ok(())),
+            Answer::Enabled(Ok(())),
+            Answer::Removed(Some(Source::Ping(back))),
+            Answer::Enabled(Err(Error::InvalidToken)),
+        ] => assert_eq!(rt; back.callback.number, 1),
+        _ => assert!(rt; false),
+    }
     Ok(())
 }

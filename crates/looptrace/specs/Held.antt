@@ -6,7 +6,7 @@ use Rattle.calloop_core.specs.declared.timer.Timer.{Timer}
 use Rattle.calloop_core.specs.Meanings.{IsHeld, IsKeeping, either, held_left, held_right, held_seen, keeping_either, keeping_seen}
 use Rattle.calloop_core.specs.Keeping.{timer_reg_keeps, timer_unreg_keeps, timer_ring_keeps, timer_turn_keeps}
 use Rattle.calloop.specs.declared.ping.PingSource.{PingSource}
-use Rattle.calloop.specs.Quiet.{ping_reg_keeps, ping_unreg_keeps, ping_ring_keeps, ping_turn_keeps}
+use Rattle.calloop.specs.Quiet.{ping_reg_keeps, ping_rereg_keeps, ping_unreg_keeps, ping_ring_keeps, ping_turn_keeps}
 use Rattle.looptrace.specs.declared.source.Source.{Source}
 use Rattle.looptrace.specs.declared.source.Source.TheVariants.{Ping, Timer as TimerIn}
 use Rattle.looptrace.specs.declared.source.Teller.{Teller}
@@ -31,6 +31,7 @@ ping_keeps : {P : Type 0} → IsKeeping (ping_meaning {P = P})
 ping_keeps =
     record {
       reg = λ s t v f g a l h. ping_reg_keeps s.source t.source v f g a l h.0;
+      rereg = λ s t v f g a l h. ping_rereg_keeps s.source t.source v f g a l h.0;
       unreg = λ s t v a l h. ping_unreg_keeps s.source t.source v a l h.0;
       ring = λ s t v b l h. ping_ring_keeps s.source t.source v b l h.0;
       turn = λ s t r k v x y a l h. ping_turn_keeps s.source t.source k v h.calls h.inner l h.turned;
@@ -40,6 +41,7 @@ timer_keeps : {P : Type 0} → IsKeeping (timer_meaning {P = P})
 timer_keeps =
     record {
       reg = λ s t v f g a l h. timer_reg_keeps s.source t.source v f g a l h.0;
+      rereg = λ s t v f g a l h. timer_reg_keeps s.source t.source v f g a l h.0;
       unreg = λ s t v a l h. timer_unreg_keeps s.source t.source v a l h.0;
       ring = λ s t v b l h. timer_ring_keeps s.source t.source v b l h.0;
       turn = λ s t r k v x y a l h. timer_turn_keeps s.source t.source k v h.calls h.inner l h.turned;

@@ -11,7 +11,7 @@ use Rattle.calloop_core.specs.Holdings.{holds_none}
 use Rattle.calloop_core.specs.Meanings.{Meaning, IsDispatched, either, seen_as}
 use Rattle.calloop_core.specs.Timers.{timer_holds, IsTimerReg, IsTimerUnreg, IsTimerTurn, IsNoPing}
 use Rattle.calloop.specs.declared.ping.PingSource.{PingSource}
-use Rattle.calloop.specs.Pings.{IsPingReg, IsPingUnreg, IsPingRing, IsPingTurn}
+use Rattle.calloop.specs.Pings.{IsPingReg, IsPingRereg, IsPingUnreg, IsPingRing, IsPingTurn}
 use Rattle.looptrace.specs.declared.source.Source.{Source}
 use Rattle.looptrace.specs.declared.source.Source.TheVariants.{Ping, Timer as TimerIn}
 use Rattle.looptrace.specs.declared.source.Teller.{Teller}
@@ -33,6 +33,7 @@ ping_meaning =
     record {
       holds = λ s. holds_none;
       reg = λ s v f a l t g. IsPingReg s.source v f a l t.source g × (t.callback ≡ s.callback);
+      rereg = λ s v f a l t g. IsPingRereg s.source v f a l t.source g × (t.callback ≡ s.callback);
       unreg = λ s v a l t. IsPingUnreg s.source a l t.source × (t.callback ≡ s.callback);
       ring = λ s b l t. IsPingRing s.source b l t.source × (t.callback ≡ s.callback);
       turn = IsDispatched (λ s r token v calls a l t. IsPingTurn s token v calls a l t) tells (λ cause e. e ≡ OutOfMemory);
@@ -44,6 +45,7 @@ timer_meaning =
     record {
       holds = λ s. timer_holds s.source;
       reg = λ s v f a l t g. IsTimerReg s.source v f a l t.source g × (t.callback ≡ s.callback);
+      rereg = λ s v f a l t g. IsTimerReg s.source v f a l t.source g × (t.callback ≡ s.callback);
       unreg = λ s v a l t. IsTimerUnreg s.source a l t.source × (t.callback ≡ s.callback);
       ring = λ s b l t. IsNoPing s.source b l t.source × (t.callback ≡ s.callback);
       turn = IsDispatched (λ s r token v calls a l t. IsTimerTurn s token v calls a l t) tells_deadline (λ cause e. e ≡ OutOfMemory);

@@ -124,6 +124,13 @@ impl<P: Poller, C> EventDispatcher<P, C> for Source {
         }
     }
 
+    fn reregister(&mut self, poll: &mut Poll<P, C>, factory: &mut TokenFactory) -> Result<()> {
+        match self {
+            Source::Ping(ping) => Dispatch::<P, C, Said>::reregister(ping, poll, factory),
+            Source::Timer(timer) => Dispatch::<P, C, Said>::reregister(timer, poll, factory),
+        }
+    }
+
     fn unregister(&mut self, poll: &mut Poll<P, C>) -> Result<()> {
         match self {
             Source::Ping(ping) => Dispatch::<P, C, Said>::unregister(ping, poll),

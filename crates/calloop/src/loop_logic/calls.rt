@@ -18,6 +18,10 @@ impl<D: EventDispatcher<P, C>, P: Poller, C: Clock> EventLoop<D, P, C> {
         match call {
             Call::Insert(dispatcher) => Answer::Inserted(self.insert(dispatcher)),
             Call::Ring(token) => Answer::Rung(self.ring(token)),
+            Call::Enable(token) => Answer::Enabled(self.enable(token)),
+            Call::Update(token) => Answer::Updated(self.update(token)),
+            Call::Disable(token) => Answer::Disabled(self.disable(token)),
+            Call::Remove(token) => Answer::Removed(self.remove(token)),
             Call::Dispatch(timeout, data) => {
                 let mut data = data;
                 let answer = self.dispatch(rt, timeout, &mut data);

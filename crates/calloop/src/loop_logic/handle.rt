@@ -5,8 +5,8 @@ ghost use Rattle.std.specs.Prelude.{[]};
 ghost use mir.Syntax.{named};
 ghost use Rattle.calloop.specs.contracts.loop_logic.LoopHandle.{the_row};
 ghost use Rattle.calloop.specs.Lending.{with_handle_poller};
-ghost use Rattle.calloop.specs.declared.loop_logic.Call.TheVariants.{Insert, Ring};
-ghost use Rattle.calloop.specs.declared.loop_logic.Answer.TheVariants.{Inserted, Rung};
+ghost use Rattle.calloop.specs.declared.loop_logic.Call.TheVariants.{Insert, Ring, Enable, Update, Disable, Remove};
+ghost use Rattle.calloop.specs.declared.loop_logic.Answer.TheVariants.{Inserted, Rung, Enabled, Updated, Disabled, Removed};
 ghost use Rattle.calloop.specs.Machine.{view_of};
 ghost use Rattle.calloop.specs.Rules.{Case, Did, Leads, held_answer};
 
@@ -93,6 +93,54 @@ impl<D: EventDispatcher<P, C>, P: Poller, C: Clock> EventLoop<D, P, C> {
             Err(Error::InvalidToken)
         }
     }
+
+    // Registers the source that the token names.
+    pub(super) fn enable(&mut self, token: RegistrationToken) -> Result<()>
+        ensures { Did (Case D.means P.outside (Enable token) (Enabled result)) (view_of self.old) (view_of self.new) }
+    {
+        let Some(mut source) = self.sources.begin_turn(token) else {
+            return Err(Error::InvalidToken);
+        };
+        let mut factory = TokenFactory::new(token);
+        let answer = source.register(&mut self.poll, &mut factory);
+        let _was = self.sources.replace(token.slot(), Content::Source(source));
+        answer
+    }
+
+    // Registers the source that the token names anew.
+    pub(super) fn update(&mut self, token: RegistrationToken) -> Result<()>
+        ensures { Did (Case D.means P.outside (Update token) (Updated result)) (view_of self.old) (view_of self.new) }
+    {
+        let Some(mut source) = self.sources.begin_turn(token) else {
+            return Err(Error::InvalidToken);
+        };
+        let mut factory = TokenFactory::new(token);
+        let answer = source.reregister(&mut self.poll, &mut factory);
+        let _was = self.sources.replace(token.slot(), Content::Source(source));
+        answer
+    }
+
+    // Takes back the registration of the source that the token names.
+    pub(super) fn disable(&mut self, token: RegistrationToken) -> Result<()>
+        ensures { Did (Case D.means P.outside (Disable token) (Disabled result)) (view_of self.old) (view_of self.new) }
+    {
+        let Some(mut source) = self.sources.begin_turn(token) else {
+            return Err(Error::InvalidToken);
+        };
+        let answer = source.unregister(&mut self.poll);
+        let _was = self.sources.replace(token.slot(), Content::Source(source));
+        answer
+    }
+
+    // Takes the source that the token names out of the loop.
+    pub(super) fn remove(&mut self, token: RegistrationToken) -> Option<D>
+        ensures { Did (Case D.means P.outside (Remove token) (Removed result)) (view_of self.old) (view_of self.new) }
+    {
+        let mut source = self.sources.begin_turn(token)?;
+        let _was = self.sources.replace(token.slot(), Content::Vacant);
+        let _ = source.unregister(&mut self.poll);
+        Some(source)
+    }
 }
 
 impl<D: EventDispatcher<P, C>, P: Poller, C: Clock> LoopHandle<'_, D, P, C> {
@@ -123,6 +171,50 @@ impl<D: EventDispatcher<P, C>, P: Poller, C: Clock> LoopHandle<'_, D, P, C> {
         ensures machine { Leads (Case D.means P.outside (Ring token.now) (Rung result)) (view_of self.old.inner.now) (view_of self.new.inner.now) }
     {
         self.inner.ring(*token)
+    }
+
+    /// Registers the source that the token names, with tokens of a new factory, as after `disable`.
+    ///
+    /// Where the token names no source the answer is `InvalidToken`, and nothing changes. Else it is the answer of the
+    /// source, which stays in its slot as that left it, also after a refusal.
+    pub fn enable(&mut self, token: &RegistrationToken) -> Result<()>
+        ensures same { self.new.inner.ghost_name ≡ self.old.inner.ghost_name }
+        ensures case { Did (Case D.means P.outside (Enable token.now) (Enabled result)) (view_of self.old.inner.now) (view_of self.new.inner.now) }
+        ensures machine { Leads (Case D.means P.outside (Enable token.now) (Enabled result)) (view_of self.old.inner.now) (view_of self.new.inner.now) }
+    {
+        self.inner.enable(*token)
+    }
+
+    /// Registers the source that the token names anew, as after a change of what it waits for. The answer is as that of
+    /// `enable`.
+    pub fn update(&mut self, token: &RegistrationToken) -> Result<()>
+        ensures same { self.new.inner.ghost_name ≡ self.old.inner.ghost_name }
+        ensures case { Did (Case D.means P.outside (Update token.now) (Updated result)) (view_of self.old.inner.now) (view_of self.new.inner.now) }
+        ensures machine { Leads (Case D.means P.outside (Update token.now) (Updated result)) (view_of self.old.inner.now) (view_of self.new.inner.now) }
+    {
+        self.inner.update(*token)
+    }
+
+    /// Takes back the registration of the source that the token names. It stays in its slot, and `enable` registers it
+    /// again. The answer is as that of `enable`.
+    pub fn disable(&mut self, token: &RegistrationToken) -> Result<()>
+        ensures same { self.new.inner.ghost_name ≡ self.old.inner.ghost_name }
+        ensures case { Did (Case D.means P.outside (Disable token.now) (Disabled result)) (view_of self.old.inner.now) (view_of self.new.inner.now) }
+        ensures machine { Leads (Case D.means P.outside (Disable token.now) (Disabled result)) (view_of self.old.inner.now) (view_of self.new.inner.now) }
+    {
+        self.inner.disable(*token)
+    }
+
+    /// Takes the source that the token names out of the loop, and hands it back unregistered. Its slot is vacant, and the
+    /// token names nothing from then on. A failure of the unregistration is not answered.
+    ///
+    /// Where the token names no source the answer is `None`, and nothing changes.
+    pub fn remove(&mut self, token: RegistrationToken) -> Option<D>
+        ensures same { self.new.inner.ghost_name ≡ self.old.inner.ghost_name }
+        ensures case { Did (Case D.means P.outside (Remove token) (Removed result)) (view_of self.old.inner.now) (view_of self.new.inner.now) }
+        ensures machine { Leads (Case D.means P.outside (Remove token) (Removed result)) (view_of self.old.inner.now) (view_of self.new.inner.now) }
+    {
+        self.inner.remove(token)
     }
 
     /// The poller itself, as to give a scripted one its answers.

@@ -1,0 +1,17 @@
+use Rattle.std.proofs.Common.{◌≡◌, sym}
+use Rattle.calloop_wake.specs.declared.list.Content.TheVariants.{Source}
+use Rattle.calloop_wake.specs.Slots.{named}
+use Rattle.calloop_wake.proofs.Named.{source_is}
+use Rattle.calloop_core.specs.Polls.{poll_view}
+use Rattle.calloop.specs.Machine.{view_of}
+use Rattle.calloop.proofs.Inserting.{not_enabled, enabled}
+use Rattle.calloop.proofs.loop_logic.EventLoop.enable.Goals as goal
+
+pub returns-in_default : goal.returns-in_default
+returns-in_default g c = rw c.in_default.ensures.list (not_enabled g.D.EventDispatcher.means g.P.Poller.outside (view_of c.args.self.now) c.args.token c.in_default.ensures.value)
+
+pub returns : goal.returns
+returns g c =
+    let is : named c.args.self.now.sources c.args.token ≡ Source c.in-Some.source = source_is (named c.args.self.now.sources c.args.token) c.in-Some.source (sym c.in-Some.ensures.value) in
+    rw (c.replace-was.ensures.list, c.slot.ensures, c.in-Some.ensures.list)
+    (enabled g.D.EventDispatcher.means g.P.Poller.outside (view_of c.args.self.now) c.args.token c.in-Some.source c.register-answer.new.self c.register-answer.new.factory c.register-answer.result (poll_view c.register-answer.new.poll) is (rw c.new-factory.ensures at c.register-answer.ensures))
