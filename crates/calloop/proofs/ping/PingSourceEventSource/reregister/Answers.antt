@@ -1,8 +1,7 @@
-use Rattle.std.proofs.Common.{rules, ◌≡◌, List, ◌∷◌, ◌++◌, ap, sym, ◌∙◌, refl, false, Some}
-use Rattle.calloop_wake.specs.declared.token.Token.{Token}
+use Rattle.std.proofs.Common.{rules, ◌≡◌, ◌∷◌, ◌++◌, ap, sym, ◌∙◌, refl, false, Some}
 use Rattle.calloop_wake.specs.Tokens.{key_of, next_token}
 use Rattle.calloop_wake.specs.Cells.{Cell, owed_at, after_set_key}
-use Rattle.calloop_core.specs.Polls.{PollStep, OpenPlace, closes, posts, poll_view}
+use Rattle.calloop_core.specs.Polls.{OpenPlace, closes, posts, poll_view}
 use Rattle.calloop.specs.Pings.{is_token}
 use Rattle.calloop.proofs.Pinging.{moved}
 use Rattle.calloop.proofs.ping.PingSourceEventSource.reregister.Goals as goal
