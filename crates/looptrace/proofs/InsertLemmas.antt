@@ -24,7 +24,7 @@ none_since None h = refl
 none_since (Some x) h = absurd (subst (λ b. MatchBool b (Unit {0}) ⊥) h tt)
 
 -- the name is free
-pub free : (name : List ℕ) (sources : List NamedSource) (found : Option (Kind × RegistrationToken)) (asked : List ℕ) (seen : List NamedSource) → found ≡ source_named asked seen → asked ≡ name → seen ≡ sources → is_some found ≡ false → source_named name sources ≡ None
+pub free : (name : List ℕ) (sources : List NamedSource) (found : Option (Kind × Option RegistrationToken)) (asked : List ℕ) (seen : List NamedSource) → found ≡ source_named asked seen → asked ≡ name → seen ≡ sources → is_some found ≡ false → source_named name sources ≡ None
 free name sources found asked seen answers same held none =
     sym (ap (λ (n : List ℕ). source_named n sources) same) ∙ sym (ap (λ (ss : List NamedSource). source_named asked ss) held) ∙ sym answers ∙ none_since found none
 

@@ -4,7 +4,7 @@ use Rattle.std.specs.List.{list_all, starts_with, position}
 use Rattle.std.specs.Option.{option_map}
 use Rattle.std.specs.Cmp.Lexicographic.{pointwise}
 use Rattle.looptrace.specs.declared.command.Command.{Command}
-use Rattle.looptrace.specs.declared.command.Command.TheVariants.{Nothing, Ping, Ring, Timer, Clock, Fault, Dispatch}
+use Rattle.looptrace.specs.declared.command.Command.TheVariants.{Nothing, Ping, Ring, Remove, Timer, Clock, Fault, Dispatch}
 
 -- `0` to `9`
 abbrev pub is_digit : ℕ → Bool
@@ -61,6 +61,20 @@ is_space b = b == 32
 abbrev pub timer_of : List ℕ → Option Command
 timer_of words = timer_parted (position is_space words) words
 
+-- a command that removes what a token names, where both numbers can be read
+abbrev pub remove_with : (slot version : Option ℕ) → Option Command
+remove_with None version = None
+remove_with (Some slot) None = None
+remove_with (Some slot) (Some version) = Some (Remove slot version)
+
+-- a slot before the first space, and a version behind it
+abbrev pub remove_parted : (space : Option ℕ) → List ℕ → Option Command
+remove_parted None words = None
+remove_parted (Some space) words = remove_with (number_of (take space words)) (number_of (drop (space + 1) words))
+
+abbrev pub remove_of : List ℕ → Option Command
+remove_of words = remove_parted (position is_space words) words
+
 -- a command that sets the clock
 abbrev pub clock_of : List ℕ → Option Command
 clock_of word = option_map Clock (number_of word)
@@ -68,6 +82,10 @@ clock_of word = option_map Clock (number_of word)
 -- a command with a timeout
 abbrev pub dispatch_of : List ℕ → Option Command
 dispatch_of line = if starts_with nat_eq line (codes "dispatch ") then option_map Dispatch (timeout_of (drop 9 line)) else None
+
+-- a removal, or a dispatch
+abbrev pub other_of : List ℕ → Option Command
+other_of line = if starts_with nat_eq line (codes "remove ") then remove_of (drop 7 line) else dispatch_of line
 
 -- the command of a line, where the line can be read
 abbrev pub command_of : List ℕ → Option Command
@@ -78,4 +96,4 @@ command_of line =
     else if starts_with nat_eq line (codes "timer ") then timer_of (drop 6 line)
     else if starts_with nat_eq line (codes "clock ") then clock_of (drop 6 line)
     else if pointwise nat_eq line (codes "fault") then Some Fault
-    else dispatch_of line
+    else other_of line

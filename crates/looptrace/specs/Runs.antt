@@ -1,6 +1,6 @@
 -- What a line of a script does with the loop, and what it prints: each line is a list of cases of the loop's machine,
 -- and its text is what they answered. The asked waits are those that the scripted poller notes.
-use Rattle.std.specs.Prelude.{◌≡◌, ℕ, ◌-◌, ◌^◌, ◌≤◌, min, List, [], ◌∷◌, ◌++◌, if◌then◌else◌, nat_eq, Option, Some, None, IsSome, Result, Ok, Err, codes, vec_capacity, Bool, true, false}
+use Rattle.std.specs.Prelude.{◌≡◌, ℕ, ◌-◌, ◌^◌, ◌≤◌, ◌&&◌, min, map, List, [], ◌∷◌, ◌++◌, if◌then◌else◌, nat_eq, nat_lt, Option, Some, None, IsSome, Result, Ok, Err, codes, vec_capacity, Bool, true, false}
 use Rattle.std.specs.Cmp.Lexicographic.{pointwise}
 use Rattle.std.specs.Option.{option_map}
 use Rattle.std.specs.Duration.{as_nanos}
@@ -17,13 +17,13 @@ use Rattle.calloop_core.specs.Pollers.{nanos_of}
 use Rattle.calloop_core.specs.ScriptPollers.{script_outside}
 use Rattle.calloop_core.specs.Timers.{unarmed}
 use Rattle.calloop.specs.declared.loop_logic.Call.{Call}
-use Rattle.calloop.specs.declared.loop_logic.Call.TheVariants.{Insert, Ring as RingCall, Dispatch as DispatchCall, Poller as NewPoller}
+use Rattle.calloop.specs.declared.loop_logic.Call.TheVariants.{Insert, Ring as RingCall, Remove as RemoveCall, Dispatch as DispatchCall, Poller as NewPoller}
 use Rattle.calloop.specs.declared.loop_logic.Answer.{Answer}
-use Rattle.calloop.specs.declared.loop_logic.Answer.TheVariants.{Inserted, Rung, Dispatched, Poller as OldPoller}
+use Rattle.calloop.specs.declared.loop_logic.Answer.TheVariants.{Inserted, Rung, Removed, Dispatched, Poller as OldPoller}
 use Rattle.calloop.specs.Machine.{World, View, IsNew, seen, view_of}
 use Rattle.calloop.specs.Rules.{Case, Did}
 use Rattle.looptrace.specs.declared.command.Command.{Command}
-use Rattle.looptrace.specs.declared.command.Command.TheVariants.{Nothing, Ping, Ring, Timer, Clock, Fault, Dispatch}
+use Rattle.looptrace.specs.declared.command.Command.TheVariants.{Nothing, Ping, Ring, Remove, Timer, Clock, Fault, Dispatch}
 use Rattle.looptrace.specs.declared.source.Source.{Source}
 use Rattle.looptrace.specs.declared.source.Source.TheVariants.{Ping as PingIn, Timer as TimerIn}
 use Rattle.looptrace.specs.declared.runner.Kind.{Kind}
@@ -55,18 +55,18 @@ pub record IsStart (s : State) : Type 0 where
   pub sources : s.sources ≡ []
   pub fault : s.fault ≡ false
 
--- what a name stands for
-abbrev pub source_named : List ℕ → List NamedSource → Option (Kind × RegistrationToken)
+-- what a name stands for; a source that was removed by its token has none any more
+abbrev pub source_named : List ℕ → List NamedSource → Option (Kind × Option RegistrationToken)
 source_named name [] = None
 source_named name (s ∷ ss) = if pointwise nat_eq s.name name then Some (s.kind, s.token) else source_named name ss
 
--- a ping by its token
-abbrev pub ping_only : Option (Kind × RegistrationToken) → Option RegistrationToken
+-- a ping by its token, if it has one
+abbrev pub ping_only : Option (Kind × Option RegistrationToken) → Option (Option RegistrationToken)
 ping_only None = None
 ping_only (Some (PingKind, token)) = Some token
 ping_only (Some (TimerKind, token)) = None
 
-abbrev pub ping_named : List ℕ → List NamedSource → Option RegistrationToken
+abbrev pub ping_named : List ℕ → List NamedSource → Option (Option RegistrationToken)
 ping_named name sources = ping_only (source_named name sources)
 
 -- a call on the loop is a case of its machine
@@ -98,7 +98,7 @@ waits_text (asked ∷ later) = wait_text (nanos_in asked) ++ waits_text later
 
 -- an insertion prints its token, and its name is kept; that of a refused one isn't
 abbrev pub InsertSays : {S : Type 0} → List ℕ → Kind → Result RegistrationToken (InsertError S) → List NamedSource → List NamedSource → List ℕ → Type 0
-InsertSays name kind (Ok token) before after said = (after ≡ before ++ record { name = name; kind = kind; token = token } ∷ []) × (said ≡ insert_text name token.slot token.version)
+InsertSays name kind (Ok token) before after said = (after ≡ before ++ record { name = name; kind = kind; token = Some token } ∷ []) × (said ≡ insert_text name token.slot token.version)
 InsertSays name kind (Err refused) before after said = (after ≡ before) × (said ≡ refused_text (word_of refused.error))
 
 -- a source is inserted under a name that no source has yet; under another name the line can't be read
@@ -116,12 +116,44 @@ new_ping name = PingIn (record { source = record { core = fresh; token = None };
 abbrev pub new_timer : List ℕ → (deadline : ℕ) → Source
 new_timer name deadline = TimerIn (record { source = unarmed (Some (record { nanos = deadline })); callback = record { name = name } })
 
+-- a ring of a ping by its token; one that was removed is there still, and its ring does and prints nothing
+abbrev pub RingOf : State → Option RegistrationToken → State → List ℕ → Type 0
+RingOf s None t said = (t ≡ s) × (said ≡ [])
+RingOf s (Some token) t said =
+    (answer : Result (Unit {0}) Error) × Calls (RingCall token) (Rung answer) s.loop t.loop
+    × (t.sources ≡ s.sources) × (t.fault ≡ s.fault) × (said ≡ answer_text answer)
+
 -- the ping of this name is rung; where there is none, the line can't be read
 abbrev pub RingLine : State → List ℕ → Option (State × List ℕ) → Type 0
 RingLine s name None = ping_named name s.sources ≡ None
-RingLine s name (Some (t, said)) =
-    (token : RegistrationToken) × (ping_named name s.sources ≡ Some token) × (answer : Result (Unit {0}) Error) × Calls (RingCall token) (Rung answer) s.loop t.loop
-    × (t.sources ≡ s.sources) × (t.fault ≡ s.fault) × (said ≡ answer_text answer)
+RingLine s name (Some (t, said)) = (token : Option RegistrationToken) × (ping_named name s.sources ≡ Some token) × RingOf s token t said
+
+-- the token of these numbers, where a token can hold them
+abbrev pub token_with : (slot version : ℕ) → Option RegistrationToken
+token_with slot version = if nat_lt slot (2 ^ 32) && nat_lt version (2 ^ 16) then Some (record { slot = slot; version = version }) else None
+
+-- a source that has this token has none any more
+abbrev pub other_than : RegistrationToken → Option RegistrationToken → Option RegistrationToken
+other_than token None = None
+other_than token (Some own) = if nat_eq own.slot token.slot && nat_eq own.version token.version then None else Some own
+
+abbrev pub without_token : RegistrationToken → NamedSource → NamedSource
+without_token token s = record s { token = other_than token s.token }
+
+abbrev pub removed_text : Option Source → List ℕ
+removed_text None = refused_text (word_of InvalidToken)
+removed_text (Some source) = []
+
+-- a removal by a token, if there is one; what has the token has none any more
+abbrev pub RemoveOf : State → Option RegistrationToken → State → List ℕ → Type 0
+RemoveOf s None t said = (t ≡ s) × (said ≡ refused_text (word_of InvalidToken))
+RemoveOf s (Some token) t said =
+    (answer : Option Source) × Calls (RemoveCall token) (Removed answer) s.loop t.loop
+    × (t.sources ≡ map (without_token token) s.sources) × (t.fault ≡ s.fault) × (said ≡ removed_text answer)
+
+-- what the token of these numbers names is removed
+abbrev pub RemoveLine : State → (slot version : ℕ) → State → List ℕ → Type 0
+RemoveLine s slot version t said = RemoveOf s (token_with slot version) t said
 
 -- a poller that shows another moment
 abbrev pub showing : (moment : ℕ) → ScriptPoller → ScriptPoller
@@ -167,6 +199,8 @@ Carried s None outcome = outcome ≡ None
 Carried s (Some Nothing) outcome = outcome ≡ Some (s, [])
 Carried s (Some (Ping name)) outcome = InsertLine s name PingKind (new_ping name) outcome
 Carried s (Some (Ring name)) outcome = RingLine s name outcome
+Carried s (Some (Remove slot version)) None = ⊥
+Carried s (Some (Remove slot version)) (Some (t, said)) = RemoveLine s slot version t said
 Carried s (Some (Timer name deadline)) outcome = InsertLine s name TimerKind (new_timer name deadline) outcome
 Carried s (Some (Clock moment)) None = ⊥
 Carried s (Some (Clock moment)) (Some (t, said)) = ClockLine s moment t × (said ≡ [])

@@ -1,6 +1,6 @@
 ghost use Rattle.std.specs.Prelude.{◌≡◌, IfOk};
 ghost use Rattle.std.specs.List.{list_all, position};
-ghost use Rattle.looptrace.specs.Commands.{is_name, is_name_byte, name_of, number_of, timeout_of, ping_of, ring_of, is_space, timer_with, timer_of, clock_of, dispatch_of, command_of};
+ghost use Rattle.looptrace.specs.Commands.{is_name, is_name_byte, name_of, number_of, timeout_of, ping_of, ring_of, is_space, timer_with, timer_of, remove_with, remove_of, clock_of, dispatch_of, other_of, command_of};
 
 use crate::name::Name;
 use std::alloc::{AllocError, Global};
@@ -14,6 +14,8 @@ pub enum Command {
     Ping(Name),
     /// Rings the ping of this name.
     Ring(Name),
+    /// Removes the source that this slot and this version name.
+    Remove(u64, u64),
     /// Makes a timer of this name, for this deadline in nanoseconds.
     Timer(Name, u64),
     /// Sets the clock to this moment in nanoseconds.
@@ -137,10 +139,35 @@ fn parse_timer(alloc: Global, words: &[u8]) -> Result<Option<Command>, AllocErro
     }
 }
 
+fn parse_remove_with(slot: &[u8], version: &[u8]) -> Option<Command>
+    ensures { result ≡ remove_with (number_of slot.now) (number_of version.now) }
+{
+    let slot = parse_number(slot)?;
+    let version = parse_number(version)?;
+    Some(Command::Remove(slot, version))
+}
+
+fn parse_remove(words: &[u8]) -> Option<Command>
+    ensures { result ≡ remove_of words.now }
+{
+    let space = first_space(words)?;
+    parse_remove_with(&words[..space], &words[space + 1..])
+}
+
 fn parse_clock(word: &[u8]) -> Option<Command>
     ensures { result ≡ clock_of word.now }
 {
     Some(Command::Clock(parse_number(word)?))
+}
+
+fn parse_other(line: &[u8]) -> Option<Command>
+    ensures { result ≡ other_of line.now }
+{
+    if line.starts_with(b"remove ") {
+        parse_remove(&line[7..])
+    } else {
+        parse_dispatch(line)
+    }
 }
 
 /// The command of a line without its line feed. `None` where the line can't be read.
@@ -161,6 +188,6 @@ pub fn parse(alloc: Global, line: &[u8]) -> Result<Option<Command>, AllocError>
     } else if line == b"fault".as_slice() {
         Ok(Some(Command::Fault))
     } else {
-        Ok(parse_dispatch(line))
+        Ok(parse_other(line))
     }
 }

@@ -4,7 +4,7 @@ ghost use Rattle.std.specs.IoError.{error_kind};
 ghost use Rattle.std.specs.declared.io.ErrorKind.TheVariants.{OutOfMemory};
 ghost use Rattle.calloop_core.specs.Pollers.{nanos_of};
 ghost use Rattle.looptrace.specs.declared.runner.Kind.TheVariants.{Ping, Timer as TimerKind};
-ghost use Rattle.looptrace.specs.Runs.{source_named, ping_named, word_of, waits_text, answer_text, nanos_in, IsStart, state_of, InsertSays, InsertLine, RingLine, ClockLine, IsReady, DispatchLine, Carried, new_ping, new_timer};
+ghost use Rattle.looptrace.specs.Runs.{source_named, ping_named, token_with, other_than, without_token, removed_text, RemoveLine, word_of, waits_text, answer_text, nanos_in, IsStart, state_of, InsertSays, InsertLine, RingLine, ClockLine, IsReady, DispatchLine, Carried, new_ping, new_timer};
 
 use crate::command::{Command, parse};
 use crate::driver::Runner;
@@ -27,12 +27,12 @@ pub enum Kind {
     Timer,
 }
 
-/// A source of the script, under its name. A name is never given back.
+/// A source of the script, under its name, with its token until it is removed by that. A name is never given back.
 #[derive(Drop)]
 pub struct NamedSource {
     pub name: Name,
     pub kind: Kind,
-    pub token: RegistrationToken,
+    pub token: Option<RegistrationToken>,
 }
 
 /// A loop over a scripted poller, with the sources that the script made, and whether the next wait is to fail.
@@ -44,7 +44,7 @@ pub struct ScriptLoop {
     fault: bool,
 }
 
-fn source_named(sources: &[NamedSource], name: &[u8]) -> Option<(Kind, RegistrationToken)>
+fn source_named(sources: &[NamedSource], name: &[u8]) -> Option<(Kind, Option<RegistrationToken>)>
     ensures { result ≡ source_named name.now sources.now }
 {
     for source in sources {
@@ -55,12 +55,41 @@ fn source_named(sources: &[NamedSource], name: &[u8]) -> Option<(Kind, Registrat
     None
 }
 
-fn ping_named(sources: &[NamedSource], name: &[u8]) -> Option<RegistrationToken>
+fn ping_named(sources: &[NamedSource], name: &[u8]) -> Option<Option<RegistrationToken>>
     ensures { result ≡ ping_named name.now sources.now }
 {
     match source_named(sources, name) {
         Some((Kind::Ping, token)) => Some(token),
         _ => None,
+    }
+}
+
+// The token of these numbers, where a token can hold them.
+fn token_with(slot: u64, version: u64) -> Option<RegistrationToken>
+    ensures { result ≡ token_with slot version }
+{
+    if slot > 0xffff_ffff || version > 0xffff {
+        return None;
+    }
+    Some(RegistrationToken::new(slot as u32, version as u16))
+}
+
+fn other_than(token: RegistrationToken, own: Option<RegistrationToken>) -> Option<RegistrationToken>
+    ensures { result ≡ other_than token own }
+{
+    let own = own?;
+    if own.slot() == token.slot() && own.version() == token.version() {
+        return None;
+    }
+    Some(own)
+}
+
+// What has the token has none any more.
+fn forget(sources: &mut [NamedSource], token: RegistrationToken)
+    ensures { sources.new ≡ map (without_token token) sources.old }
+{
+    for source in sources.iter_mut() {
+        source.token = other_than(token, source.token);
     }
 }
 
@@ -115,6 +144,16 @@ fn append_answer(text: &mut Vec<u8>, answer: &calloop::Result<()>) -> Result<(),
     }
 }
 
+// Says that there was nothing to remove, where there was nothing.
+fn append_removed(text: &mut Vec<u8>, removed: &Option<Source>) -> Result<(), AllocError>
+    ensures { OnOk result (text.new.items ≡ text.old.items ++ removed_text removed.now) }
+{
+    match removed {
+        Some(_) => Ok(()),
+        None => append_refused(text, word_of(&Error::InvalidToken)),
+    }
+}
+
 fn timeout_of(nanos: Option<u64>) -> Option<Duration>
     ensures { nanos_of result ≡ nanos }
 {
@@ -137,7 +176,11 @@ fn keep<S: Drop>(
     match answer {
         Ok(token) => {
             append_insert(text, name.as_slice(), token.slot(), token.version())?;
-            sources.push(NamedSource { name, kind, token })?;
+            sources.push(NamedSource {
+                name,
+                kind,
+                token: Some(token),
+            })?;
             Ok(())
         }
         Err(refused) => append_refused(text, word_of(&refused.error)),
@@ -229,9 +272,25 @@ impl ScriptLoop {
         let Some(token) = ping_named(&self.sources, name.as_slice()) else {
             return Ok(false);
         };
-        let answer = self.event_loop.handle().ring(&token);
-        append_answer(text, &answer)?;
+        if let Some(token) = token {
+            let answer = self.event_loop.handle().ring(&token);
+            append_answer(text, &answer)?;
+        }
         Ok(true)
+    }
+
+    fn remove(&mut self, slot: u64, version: u64, text: &mut Vec<u8>) -> io::Result<()>
+        ensures ok { OnOk result ((said : List ℕ) × (text.new.items ≡ text.old.items ++ said) × RemoveLine (state_of self.old) slot version (state_of self.new) said) }
+        ensures err { IfErr result (λ e. error_kind e ≡ OutOfMemory) }
+    {
+        let Some(token) = token_with(slot, version) else {
+            append_refused(text, word_of(&Error::InvalidToken))?;
+            return Ok(());
+        };
+        let removed = self.event_loop.handle().remove(token);
+        forget(&mut self.sources, token);
+        append_removed(text, &removed)?;
+        Ok(())
     }
 
     fn clock(&mut self, moment: u64)
@@ -278,6 +337,10 @@ impl ScriptLoop {
             Command::Nothing => Ok(true),
             Command::Ping(name) => self.ping(name, text),
             Command::Ring(name) => self.ring(name, text),
+            Command::Remove(slot, version) => {
+                self.remove(*slot, *version, text)?;
+                Ok(true)
+            }
             Command::Timer(name, deadline) => self.timer(name, *deadline, text),
             Command::Clock(moment) => {
                 self.clock(*moment);

@@ -60,6 +60,16 @@ fn lines_that_cannot_be_read(rt: HostRuntime) -> Result<(), Fail> {
         b"timer a 5 ".as_slice(),
         b"timer A 5".as_slice(),
         b"timer a -".as_slice(),
+        b"remove".as_slice(),
+        b"remove ".as_slice(),
+        b"remove 0".as_slice(),
+        b"remove 0 ".as_slice(),
+        b"remove 0 00".as_slice(),
+        b"remove  0 0".as_slice(),
+        b"remove 0 0 ".as_slice(),
+        b"remove a 0".as_slice(),
+        b"remove 18446744073709551616 0".as_slice(),
+        b"remove 0 18446744073709551616".as_slice(),
         b"clock".as_slice(),
         b"clock ".as_slice(),
         b"clock 01".as_slice(),
@@ -462,7 +472,7 @@ fn runs_that_end_early(rt: HostRuntime) -> Result<(), Fail> {
         b"dispatch +1".as_slice(),
         b"dispatch 18446744073709551616".as_slice(),
         b"dispatch 0\r".as_slice(),
-        b"remove 0 0".as_slice(),
+        b"close a".as_slice(),
     ] {
         assert!(rt; ends_at_second(&rt, rt.alloc(), b"ping a\n", line)?);
     }
@@ -541,5 +551,45 @@ fn run_from_a_broken_reader(rt: HostRuntime) -> Result<(), Fail> {
         assert_eq!(rt; output.as_slice(), want);
         assert!(rt; errors.is_empty());
     }
+    Ok(())
+}
+
+#[test]
+fn removals(rt: HostRuntime) -> Result<(), Fail> {
+    let script = b"ping a\nremove 0 0\nping b\nring a\nring b\ndispatch 7\nremove 0 0\n";
+    let (status, out, err) = traced(&rt, rt.alloc(), script)?;
+    assert_eq!(rt; status, 0);
+    assert_eq!(rt;
+        out.as_slice(),
+        b"insert a 0 0\ninsert b 0 1\nwait 0\ncall b\nrefused InvalidToken\n".as_slice()
+    );
+    assert!(rt; err.is_empty());
+    let (status, out, err) = traced(&rt, rt.alloc(), b"remove 3 0\nfault\ndispatch -\njump\n")?;
+    assert_eq!(rt; status, 2);
+    assert_eq!(rt;
+        out.as_slice(),
+        b"refused InvalidToken\nwait -\nrefused IoError\n".as_slice()
+    );
+    assert_eq!(rt; err.as_slice(), b"error line 4\n".as_slice());
+    let (status, out, err) = traced(&rt, rt.alloc(), b"remove 4294967296 0\nremove 0 65536\n")?;
+    assert_eq!(rt; status, 0);
+    assert_eq!(rt;
+        out.as_slice(),
+        b"refused InvalidToken\nrefused InvalidToken\n".as_slice()
+    );
+    assert!(rt; err.is_empty());
+    Ok(())
+}
+
+#[test]
+fn a_timer_that_is_removed(rt: HostRuntime) -> Result<(), Fail> {
+    let script = b"timer a 5\ntimer b 9\nremove 0 0\ndispatch 20\ndispatch 20\nremove 1 0\n";
+    let (status, out, err) = traced(&rt, rt.alloc(), script)?;
+    assert_eq!(rt; status, 0);
+    assert_eq!(rt;
+        out.as_slice(),
+        b"insert a 0 0\ninsert b 1 0\nwait 9\ncall b 9\nwait 20\nrefused InvalidToken\n".as_slice()
+    );
+    assert!(rt; err.is_empty());
     Ok(())
 }
