@@ -12,7 +12,7 @@ use Rattle.calloop.specs.Rules.{held_answer}
 use Rattle.looptrace.specs.declared.source.Source.{Source}
 use Rattle.looptrace.specs.declared.runner.Kind.{Kind}
 use Rattle.looptrace.specs.declared.runner.NamedSource.{NamedSource}
-use Rattle.looptrace.specs.Runs.{Calls, InsertSays, InsertLine, source_named}
+use Rattle.looptrace.specs.Runs.{Calls, Pending, InsertSays, InsertLine, source_named}
 
 -- an insertion of an equal source into an equal loop
 moved : (d e : Source) (answer : Result RegistrationToken (InsertError Source)) (v w x : View Source ScriptPoller) → d ≡ e → v ≡ w → Calls (Insert d) (Inserted answer) v x → Calls (Insert e) (Inserted answer) w x
@@ -35,14 +35,15 @@ says_held held callback (Ok token) name kind before after said h = h
 says_held held callback (Err refused) name kind before after said h = h
 
 pub line_is : {S F : Type 0} (held : Dispatcher S F → Source) (callback : F) (answer : Result RegistrationToken (InsertError S)) (name kept : List ℕ) (kind : Kind) (d e : Source)
-    (v w x : View Source ScriptPoller) (before after : List NamedSource) (fault : Bool) (said : List ℕ)
+    (v w x : View Source ScriptPoller) (before after : List NamedSource) (fault : Bool) (pending : Option Pending) (said : List ℕ)
     → source_named name before ≡ None → d ≡ e → v ≡ w → kept ≡ name
     → Calls (Insert d) (Inserted (held_answer held callback answer)) v x → InsertSays kept kind answer before after said
-    → InsertLine (record { loop = w; sources = before; fault = fault }) name kind e (Some (record { loop = x; sources = after; fault = fault }, said))
-line_is held callback answer name kept kind d e v w x before after fault said none source loop same call says = (
+    → InsertLine (record { loop = w; sources = before; fault = fault; pending = pending }) name kind e (Some (record { loop = x; sources = after; fault = fault; pending = pending }, said))
+line_is held callback answer name kept kind d e v w x before after fault pending said none source loop same call says = (
   none,
   held_answer held callback answer,
   moved d e (held_answer held callback answer) v w x source loop call,
   subst (λ (n : List ℕ). InsertSays n kind (held_answer held callback answer) before after said) same (says_held held callback answer kept kind before after said says),
+  refl,
   refl,
 )

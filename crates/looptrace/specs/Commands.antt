@@ -1,10 +1,11 @@
 -- The commands of a script, a line each.
-use Rattle.std.specs.Prelude.{ℕ, ◌+◌, ◌-◌, ◌*◌, ◌^◌, Bool, ◌&&◌, ◌||◌, List, [], ◌∷◌, length, take, drop, Option, Some, None, nat_lt, nat_le, nat_eq, ◌==◌, if◌then◌else◌, codes}
+use Rattle.std.specs.Prelude.{ℕ, ◌+◌, ◌-◌, ◌*◌, ◌^◌, Bool, true, false, ◌&&◌, ◌||◌, List, [], ◌∷◌, length, take, drop, Option, Some, None, nat_lt, nat_le, nat_eq, ◌==◌, if◌then◌else◌, codes}
 use Rattle.std.specs.List.{list_all, starts_with, position}
 use Rattle.std.specs.Option.{option_map}
 use Rattle.std.specs.Cmp.Lexicographic.{pointwise}
+use Rattle.calloop_core.specs.declared.sys.Readiness.{Readiness}
 use Rattle.looptrace.specs.declared.command.Command.{Command}
-use Rattle.looptrace.specs.declared.command.Command.TheVariants.{Nothing, Ping, Ring, Remove, Timer, Clock, Fault, Dispatch}
+use Rattle.looptrace.specs.declared.command.Command.TheVariants.{Nothing, Ping, Ring, Remove, Answer, Timer, Clock, Fault, Dispatch}
 
 -- `0` to `9`
 abbrev pub is_digit : ℕ → Bool
@@ -75,6 +76,28 @@ remove_parted (Some space) words = remove_with (number_of (take space words)) (n
 abbrev pub remove_of : List ℕ → Option Command
 remove_of words = remove_parted (position is_space words) words
 
+-- readable, writable or both, and never an error
+abbrev pub readiness_of : List ℕ → Option Readiness
+readiness_of word =
+    if pointwise nat_eq word (codes "r") then Some (record { readable = true; writable = false; error = false })
+    else if pointwise nat_eq word (codes "w") then Some (record { readable = false; writable = true; error = false })
+    else if pointwise nat_eq word (codes "rw") then Some (record { readable = true; writable = true; error = false })
+    else None
+
+-- a command that adds an event to the pending answer, where both words can be read
+abbrev pub answer_with : (key : Option ℕ) → Option Readiness → Option Command
+answer_with None readiness = None
+answer_with (Some key) None = None
+answer_with (Some key) (Some readiness) = Some (Answer key readiness)
+
+-- a key before the first space, and a readiness behind it
+abbrev pub answer_parted : (space : Option ℕ) → List ℕ → Option Command
+answer_parted None words = None
+answer_parted (Some space) words = answer_with (number_of (take space words)) (readiness_of (drop (space + 1) words))
+
+abbrev pub answer_of : List ℕ → Option Command
+answer_of words = answer_parted (position is_space words) words
+
 -- a command that sets the clock
 abbrev pub clock_of : List ℕ → Option Command
 clock_of word = option_map Clock (number_of word)
@@ -83,9 +106,9 @@ clock_of word = option_map Clock (number_of word)
 abbrev pub dispatch_of : List ℕ → Option Command
 dispatch_of line = if starts_with nat_eq line (codes "dispatch ") then option_map Dispatch (timeout_of (drop 9 line)) else None
 
--- a removal, or a dispatch
-abbrev pub other_of : List ℕ → Option Command
-other_of line = if starts_with nat_eq line (codes "remove ") then remove_of (drop 7 line) else dispatch_of line
+-- a removal, an event, or a dispatch
+unfoldable pub other_of : List ℕ → Option Command
+other_of line = if starts_with nat_eq line (codes "remove ") then remove_of (drop 7 line) else if starts_with nat_eq line (codes "answer ") then answer_of (drop 7 line) else dispatch_of line
 
 -- the command of a line, where the line can be read
 abbrev pub command_of : List ℕ → Option Command

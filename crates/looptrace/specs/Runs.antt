@@ -1,6 +1,6 @@
 -- What a line of a script does with the loop, and what it prints: each line is a list of cases of the loop's machine,
 -- and its text is what they answered. The asked waits are those that the scripted poller notes.
-use Rattle.std.specs.Prelude.{◌≡◌, ℕ, ◌-◌, ◌^◌, ◌≤◌, ◌&&◌, min, map, List, [], ◌∷◌, ◌++◌, if◌then◌else◌, nat_eq, nat_lt, Option, Some, None, IsSome, Result, Ok, Err, codes, vec_capacity, Bool, true, false}
+use Rattle.std.specs.Prelude.{◌≡◌, ℕ, ◌-◌, ◌^◌, ◌≤◌, ◌<◌, ◌&&◌, min, map, length, List, [], ◌∷◌, ◌++◌, if◌then◌else◌, nat_eq, nat_lt, Option, Some, None, IsSome, Result, Ok, Err, codes, vec_capacity, Bool, true, false}
 use Rattle.std.specs.Cmp.Lexicographic.{pointwise}
 use Rattle.std.specs.Option.{option_map}
 use Rattle.std.specs.Duration.{as_nanos}
@@ -10,8 +10,11 @@ use Rattle.calloop_wake.specs.declared.error.Error.TheVariants.{InvalidToken, Io
 use Rattle.calloop_wake.specs.declared.error.InsertError.{InsertError}
 use Rattle.calloop_wake.specs.declared.token.RegistrationToken.{RegistrationToken}
 use Rattle.calloop_wake.specs.Cells.{fresh}
+use Rattle.calloop_wake.specs.declared.wheel.Instant.{Instant}
+use Rattle.calloop_core.specs.declared.sys.Readiness.{Readiness}
 use Rattle.calloop_core.specs.declared.sys.script.ScriptAnswer.{ScriptAnswer}
-use Rattle.calloop_core.specs.declared.sys.script.ScriptEnd.TheVariants.{Fault as FaultEnd}
+use Rattle.calloop_core.specs.declared.sys.script.ScriptEvents.{ScriptEvents}
+use Rattle.calloop_core.specs.declared.sys.script.ScriptEnd.TheVariants.{Events, Fault as FaultEnd}
 use Rattle.calloop_core.specs.declared.sys.script.ScriptPoller.{ScriptPoller}
 use Rattle.calloop_core.specs.Pollers.{nanos_of}
 use Rattle.calloop_core.specs.ScriptPollers.{script_outside}
@@ -23,12 +26,13 @@ use Rattle.calloop.specs.declared.loop_logic.Answer.TheVariants.{Inserted, Rung,
 use Rattle.calloop.specs.Machine.{World, View, IsNew, seen, view_of}
 use Rattle.calloop.specs.Rules.{Case, Did}
 use Rattle.looptrace.specs.declared.command.Command.{Command}
-use Rattle.looptrace.specs.declared.command.Command.TheVariants.{Nothing, Ping, Ring, Remove, Timer, Clock, Fault, Dispatch}
+use Rattle.looptrace.specs.declared.command.Command.TheVariants.{Nothing, Ping, Ring, Remove, Answer as Event, Timer, Clock, Fault, Dispatch}
 use Rattle.looptrace.specs.declared.source.Source.{Source}
 use Rattle.looptrace.specs.declared.source.Source.TheVariants.{Ping as PingIn, Timer as TimerIn}
 use Rattle.looptrace.specs.declared.runner.Kind.{Kind}
 use Rattle.looptrace.specs.declared.runner.Kind.TheVariants.{Ping as PingKind, Timer as TimerKind}
 use Rattle.looptrace.specs.declared.runner.NamedSource.{NamedSource}
+use Rattle.looptrace.specs.declared.runner.PendingAnswer.{PendingAnswer}
 use Rattle.looptrace.specs.declared.runner.ScriptLoop.{ScriptLoop}
 use Rattle.looptrace.specs.Lines.{lines_of}
 use Rattle.looptrace.specs.Traces.{Written, Writes}
@@ -36,14 +40,23 @@ use Rattle.looptrace.specs.Commands.{command_of}
 use Rattle.looptrace.specs.Texts.{insert_text, wait_text, refused_text}
 use Rattle.looptrace.specs.Sources.{source_meaning}
 
--- what the loop holds, the sources that were made, and whether the next wait is to fail
+-- the answer that waits for a wait: what the clock showed at its last event, and its events
+pub record Pending : Type 0 where
+  pub moment : Instant
+  pub events : List (ℕ × Readiness)
+
+abbrev pub pending_of : PendingAnswer → Pending
+pending_of p = record { moment = p.moment; events = p.events.events.items }
+
+-- what the loop holds, the sources that were made, whether the next wait is to fail, and the pending answer
 pub record State : Type 0 where
   pub loop : View Source ScriptPoller
   pub sources : List NamedSource
   pub fault : Bool
+  pub pending : Option Pending
 
 abbrev pub state_of : ScriptLoop → State
-state_of s = record { loop = view_of s.event_loop; sources = s.sources.items; fault = s.fault }
+state_of s = record { loop = view_of s.event_loop; sources = s.sources.items; fault = s.fault; pending = option_map pending_of s.pending }
 
 -- a machine to which nothing has happened agrees, over a poller with the clock at 0 and without answers
 pub record IsStart (s : State) : Type 0 where
@@ -54,6 +67,7 @@ pub record IsStart (s : State) : Type 0 where
   pub answers : s.loop.poll.poller.answers.items ≡ []
   pub sources : s.sources ≡ []
   pub fault : s.fault ≡ false
+  pub pending : s.pending ≡ None
 
 -- what a name stands for; a source that was removed by its token has none any more
 abbrev pub source_named : List ℕ → List NamedSource → Option (Kind × Option RegistrationToken)
@@ -106,7 +120,7 @@ abbrev pub InsertLine : State → List ℕ → Kind → Source → Option (State
 InsertLine s name kind source None = IsSome (source_named name s.sources)
 InsertLine s name kind source (Some (t, said)) =
     (source_named name s.sources ≡ None) × (answer : Result RegistrationToken (InsertError Source)) × Calls (Insert source) (Inserted answer) s.loop t.loop
-    × InsertSays name kind answer s.sources t.sources said × (t.fault ≡ s.fault)
+    × InsertSays name kind answer s.sources t.sources said × (t.fault ≡ s.fault) × (t.pending ≡ s.pending)
 
 -- a ping that nobody rang, with a callback that says its name
 abbrev pub new_ping : List ℕ → Source
@@ -121,7 +135,7 @@ abbrev pub RingOf : State → Option RegistrationToken → State → List ℕ �
 RingOf s None t said = (t ≡ s) × (said ≡ [])
 RingOf s (Some token) t said =
     (answer : Result (Unit {0}) Error) × Calls (RingCall token) (Rung answer) s.loop t.loop
-    × (t.sources ≡ s.sources) × (t.fault ≡ s.fault) × (said ≡ answer_text answer)
+    × (t.sources ≡ s.sources) × (t.fault ≡ s.fault) × (t.pending ≡ s.pending) × (said ≡ answer_text answer)
 
 -- the ping of this name is rung; where there is none, the line can't be read
 abbrev pub RingLine : State → List ℕ → Option (State × List ℕ) → Type 0
@@ -149,7 +163,7 @@ abbrev pub RemoveOf : State → Option RegistrationToken → State → List ℕ 
 RemoveOf s None t said = (t ≡ s) × (said ≡ refused_text (word_of InvalidToken))
 RemoveOf s (Some token) t said =
     (answer : Option Source) × Calls (RemoveCall token) (Removed answer) s.loop t.loop
-    × (t.sources ≡ map (without_token token) s.sources) × (t.fault ≡ s.fault) × (said ≡ removed_text answer)
+    × (t.sources ≡ map (without_token token) s.sources) × (t.fault ≡ s.fault) × (t.pending ≡ s.pending) × (said ≡ removed_text answer)
 
 -- what the token of these numbers names is removed
 abbrev pub RemoveLine : State → (slot version : ℕ) → State → List ℕ → Type 0
@@ -164,15 +178,35 @@ pub record ClockLine (s : State) (moment : ℕ) (t : State) : Type 0 where
   pub changed : Calls (NewPoller (showing moment s.loop.poll.poller)) (OldPoller s.loop.poll.poller) s.loop t.loop
   pub sources : t.sources ≡ s.sources
   pub fault : t.fault ≡ s.fault
+  pub pending : t.pending ≡ s.pending
 
--- the answers of a poller, with a fault behind them where one is asked for, at the moment that the clock shows
-abbrev pub with_fault : (fault : Bool) → ScriptPoller → List ScriptAnswer
-with_fault fault p = if fault then p.answers.items ++ record { moment = p.moment; end = FaultEnd } ∷ [] else p.answers.items
+abbrev pub events_of : Option Pending → List (ℕ × Readiness)
+events_of None = []
+events_of (Some pending) = pending.events
 
--- the same poller with an empty list of asked waits, in which there is room for one, and with a fault where one is asked for
-pub record IsReady (fault : Bool) (p q : ScriptPoller) : Type 0 where
+-- one event more in the pending answer, whose moment is what the clock shows; a 1,025th can't be read
+abbrev pub AnswerLine : State → (key : ℕ) → Readiness → Option (State × List ℕ) → Type 0
+AnswerLine s key readiness None = 1024 ≤ length (events_of s.pending)
+AnswerLine s key readiness (Some (t, said)) =
+    (length (events_of s.pending) < 1024)
+    × (t ≡ record s { pending = Some (record { moment = s.loop.poll.poller.moment; events = events_of s.pending ++ (key, readiness) ∷ [] }) }) × (said ≡ [])
+
+-- what the next wait gives: a fault where one is asked for, at the moment that the clock shows; else the pending answer
+abbrev pub NextAnswer : (fault : Bool) → Option Pending → (now : Instant) → List ScriptAnswer → Type 0
+NextAnswer true pending now answers = answers ≡ record { moment = now; end = FaultEnd } ∷ []
+NextAnswer false None now answers = answers ≡ []
+NextAnswer false (Some pending) now answers = (events : ScriptEvents) × (events.events.items ≡ pending.events) × (answers ≡ record { moment = pending.moment; end = Events events } ∷ [])
+
+-- a fault leaves the pending answer for the wait after it
+abbrev pub still_pending : (fault : Bool) → Option Pending → Option Pending
+still_pending fault pending = if fault then pending else None
+
+-- the same poller with an empty list of asked waits, in which there is room for one, and with what the next wait gives
+pub record IsReady (fault : Bool) (pending : Option Pending) (p q : ScriptPoller) : Type 0 where
   pub moment : q.moment ≡ p.moment
-  pub answers : q.answers.items ≡ with_fault fault p
+  pub next : List ScriptAnswer
+  pub next_is : NextAnswer fault pending p.moment next
+  pub answers : q.answers.items ≡ p.answers.items ++ next
   pub faults : q.faults ≡ p.faults
   pub none : q.waits.items ≡ []
   pub room : 1 ≤ vec_capacity q.waits
@@ -181,7 +215,7 @@ pub record IsReady (fault : Bool) (p q : ScriptPoller) : Type 0 where
 pub record DispatchLine (s : State) (timeout : Option ℕ) (t : State) (said : List ℕ) : Type 0 where
   pub old : ScriptPoller
   pub new : ScriptPoller
-  pub ready : IsReady s.fault old new
+  pub ready : IsReady s.fault s.pending old new
   pub mid : View Source ScriptPoller
   pub lent : Calls (NewPoller new) (OldPoller old) s.loop mid
   pub limit : Option Duration
@@ -191,6 +225,7 @@ pub record DispatchLine (s : State) (timeout : Option ℕ) (t : State) (said : L
   pub dispatched : Calls (DispatchCall limit (Some [])) (Dispatched answer (Some called)) mid t.loop
   pub sources : t.sources ≡ s.sources
   pub fault : t.fault ≡ false
+  pub pending : t.pending ≡ still_pending s.fault s.pending
   pub text : said ≡ (waits_text t.loop.poll.poller.waits.items ++ called) ++ answer_text answer
 
 -- what a command does, and what it prints; nothing where the line can't be read
@@ -201,6 +236,7 @@ Carried s (Some (Ping name)) outcome = InsertLine s name PingKind (new_ping name
 Carried s (Some (Ring name)) outcome = RingLine s name outcome
 Carried s (Some (Remove slot version)) None = ⊥
 Carried s (Some (Remove slot version)) (Some (t, said)) = RemoveLine s slot version t said
+Carried s (Some (Event key readiness)) outcome = AnswerLine s key readiness outcome
 Carried s (Some (Timer name deadline)) outcome = InsertLine s name TimerKind (new_timer name deadline) outcome
 Carried s (Some (Clock moment)) None = ⊥
 Carried s (Some (Clock moment)) (Some (t, said)) = ClockLine s moment t × (said ≡ [])

@@ -1,8 +1,9 @@
 ghost use Rattle.std.specs.Prelude.{◌≡◌, IfOk};
 ghost use Rattle.std.specs.List.{list_all, position};
-ghost use Rattle.looptrace.specs.Commands.{is_name, is_name_byte, name_of, number_of, timeout_of, ping_of, ring_of, is_space, timer_with, timer_of, remove_with, remove_of, clock_of, dispatch_of, other_of, command_of};
+ghost use Rattle.looptrace.specs.Commands.{is_name, is_name_byte, name_of, number_of, timeout_of, ping_of, ring_of, is_space, timer_with, timer_of, remove_with, remove_of, readiness_of, answer_with, answer_of, clock_of, dispatch_of, other_of, command_of};
 
 use crate::name::Name;
+use calloop::Readiness;
 use std::alloc::{AllocError, Global};
 
 /// One line of a script.
@@ -16,6 +17,8 @@ pub enum Command {
     Ring(Name),
     /// Removes the source that this slot and this version name.
     Remove(u64, u64),
+    /// Adds an event of this key to the pending answer.
+    Answer(u64, Readiness),
     /// Makes a timer of this name, for this deadline in nanoseconds.
     Timer(Name, u64),
     /// Sets the clock to this moment in nanoseconds.
@@ -154,17 +157,61 @@ fn parse_remove(words: &[u8]) -> Option<Command>
     parse_remove_with(&words[..space], &words[space + 1..])
 }
 
+fn parse_readiness(word: &[u8]) -> Option<Readiness>
+    ensures { result ≡ readiness_of word.now }
+{
+    if word == b"r".as_slice() {
+        Some(Readiness {
+            readable: true,
+            writable: false,
+            error: false,
+        })
+    } else if word == b"w".as_slice() {
+        Some(Readiness {
+            readable: false,
+            writable: true,
+            error: false,
+        })
+    } else if word == b"rw".as_slice() {
+        Some(Readiness {
+            readable: true,
+            writable: true,
+            error: false,
+        })
+    } else {
+        None
+    }
+}
+
+fn parse_answer_with(key: &[u8], readiness: &[u8]) -> Option<Command>
+    ensures { result ≡ answer_with (number_of key.now) (readiness_of readiness.now) }
+{
+    let key = parse_number(key)?;
+    let readiness = parse_readiness(readiness)?;
+    Some(Command::Answer(key, readiness))
+}
+
+fn parse_answer(words: &[u8]) -> Option<Command>
+    ensures { result ≡ answer_of words.now }
+{
+    let space = first_space(words)?;
+    parse_answer_with(&words[..space], &words[space + 1..])
+}
+
 fn parse_clock(word: &[u8]) -> Option<Command>
     ensures { result ≡ clock_of word.now }
 {
     Some(Command::Clock(parse_number(word)?))
 }
 
+#[tactic(auto, unfolding(crate::specs::Commands::other_of))]
 fn parse_other(line: &[u8]) -> Option<Command>
     ensures { result ≡ other_of line.now }
 {
     if line.starts_with(b"remove ") {
         parse_remove(&line[7..])
+    } else if line.starts_with(b"answer ") {
+        parse_answer(&line[7..])
     } else {
         parse_dispatch(line)
     }

@@ -1,10 +1,12 @@
 //! The loop of a script, and what each command does with it.
 ghost use Rattle.std.specs.Prelude.{◌≡◌, ℕ, List, [], ◌∷◌, ◌++◌, Option, Some, None, IfOk, IfErr, OnOk, MatchBool, true, false, map};
+ghost use Rattle.std.specs.Prelude.{nat_le, length, option_to_list};
+ghost use Rattle.std.specs.Option.{option_map};
 ghost use Rattle.std.specs.IoError.{error_kind};
 ghost use Rattle.std.specs.declared.io.ErrorKind.TheVariants.{OutOfMemory};
 ghost use Rattle.calloop_core.specs.Pollers.{nanos_of};
 ghost use Rattle.looptrace.specs.declared.runner.Kind.TheVariants.{Ping, Timer as TimerKind};
-ghost use Rattle.looptrace.specs.Runs.{source_named, ping_named, token_with, other_than, without_token, removed_text, RemoveLine, word_of, waits_text, answer_text, nanos_in, IsStart, state_of, InsertSays, InsertLine, RingLine, ClockLine, IsReady, DispatchLine, Carried, new_ping, new_timer};
+ghost use Rattle.looptrace.specs.Runs.{source_named, ping_named, token_with, other_than, without_token, removed_text, RemoveLine, Pending, pending_of, events_of, AnswerLine, NextAnswer, still_pending, word_of, waits_text, answer_text, nanos_in, IsStart, state_of, InsertSays, InsertLine, RingLine, ClockLine, IsReady, DispatchLine, Carried, new_ping, new_timer};
 
 use crate::command::{Command, parse};
 use crate::driver::Runner;
@@ -13,8 +15,8 @@ use crate::source::{Alarm, Said, Source, Teller};
 use crate::text::{append_insert, append_refused, append_wait};
 use calloop::loop_logic::EventLoop;
 use calloop::ping::PingSource;
-use calloop::{Clock, Error, InsertError, Instant, RegistrationToken, Timer};
-use calloop_core::sys::script::{ScriptAnswer, ScriptClock, ScriptEnd, ScriptPoller};
+use calloop::{Clock, Error, InsertError, Instant, Readiness, RegistrationToken, Timer};
+use calloop_core::sys::script::{ScriptAnswer, ScriptClock, ScriptEnd, ScriptEvents, ScriptPoller};
 use std::alloc::{AllocError, Global};
 use std::io;
 use std::sync::Wait;
@@ -35,13 +37,22 @@ pub struct NamedSource {
     pub token: Option<RegistrationToken>,
 }
 
-/// A loop over a scripted poller, with the sources that the script made, and whether the next wait is to fail.
+/// The answer that a wait is to take: what the clock showed at its last event, and its events.
+#[derive(Drop)]
+pub struct PendingAnswer {
+    pub moment: Instant,
+    pub events: ScriptEvents,
+}
+
+/// A loop over a scripted poller, with the sources that the script made, whether the next wait is to fail, and the
+/// pending answer.
 #[derive(Drop)]
 pub struct ScriptLoop {
     alloc: Global,
     event_loop: EventLoop<Source, ScriptPoller, ScriptClock>,
     sources: Vec<NamedSource>,
     fault: bool,
+    pending: Option<PendingAnswer>,
 }
 
 fn source_named(sources: &[NamedSource], name: &[u8]) -> Option<(Kind, Option<RegistrationToken>)>
@@ -187,20 +198,56 @@ fn keep<S: Drop>(
     }
 }
 
-// Forgets the asked waits, and scripts a fault where one is asked for.
-fn make_ready(poller: &mut ScriptPoller, fault: bool) -> io::Result<()>
-    ensures ok { OnOk result (IsReady fault poller.old poller.new) }
+// Whether no event more fits into the pending answer.
+fn is_full(pending: &Option<PendingAnswer>) -> bool
+    ensures { result ≡ nat_le 1024 (length (events_of (option_map pending_of pending.now))) }
+{
+    match pending {
+        Some(pending) => pending.events.is_full(),
+        None => false,
+    }
+}
+
+// What the next wait gives: a fault, or else the pending answer.
+fn next_answer(
+    now: Instant,
+    fault: bool,
+    pending: &mut Option<PendingAnswer>,
+) -> Option<ScriptAnswer>
+    ensures answer { NextAnswer fault (option_map pending_of pending.old) now (option_to_list result) }
+    ensures left { option_map pending_of pending.new ≡ still_pending fault (option_map pending_of pending.old) }
+{
+    if fault {
+        return Some(ScriptAnswer {
+            moment: now,
+            end: ScriptEnd::Fault,
+        });
+    }
+    match pending.take() {
+        Some(answer) => Some(ScriptAnswer {
+            moment: answer.moment,
+            end: ScriptEnd::Events(answer.events),
+        }),
+        None => None,
+    }
+}
+
+// Forgets the asked waits, and scripts what the next wait gives.
+fn make_ready(
+    poller: &mut ScriptPoller,
+    fault: bool,
+    pending: &mut Option<PendingAnswer>,
+) -> io::Result<()>
+    ensures ok { OnOk result (IsReady fault (option_map pending_of pending.old) poller.old poller.new) }
+    ensures left { OnOk result (option_map pending_of pending.new ≡ still_pending fault (option_map pending_of pending.old)) }
     ensures err { IfErr result (λ e. error_kind e ≡ OutOfMemory) }
 {
     poller.keep_waits(1)?;
-    if fault {
-        let answer = ScriptAnswer {
-            moment: poller.clock().now(),
-            end: ScriptEnd::Fault,
-        };
-        if poller.script(answer).is_err() {
-            return Err(io::Error::from(io::ErrorKind::OutOfMemory));
-        }
+    let Some(answer) = next_answer(poller.clock().now(), fault, pending) else {
+        return Ok(());
+    };
+    if poller.script(answer).is_err() {
+        return Err(io::Error::from(io::ErrorKind::OutOfMemory));
     }
     Ok(())
 }
@@ -220,6 +267,7 @@ impl ScriptLoop {
                 event_loop,
                 sources: Vec::new(alloc),
                 fault: false,
+                pending: None,
             }),
             Err(_) => Err(io::Error::from(io::ErrorKind::OutOfMemory)),
         }
@@ -293,6 +341,28 @@ impl ScriptLoop {
         Ok(())
     }
 
+    // False where no event more fits into the pending answer.
+    fn answer(&mut self, key: u64, readiness: Readiness) -> io::Result<bool>
+        ensures ok { IfOk result (λ read. MatchBool read
+            (AnswerLine (state_of self.old) key readiness (Some (state_of self.new, [])))
+            (AnswerLine (state_of self.old) key readiness None)) }
+        ensures err { IfErr result (λ e. error_kind e ≡ OutOfMemory) }
+    {
+        if is_full(&self.pending) {
+            return Ok(false);
+        }
+        let mut events = match self.pending.take() {
+            Some(pending) => pending.events,
+            None => ScriptEvents::new(self.alloc),
+        };
+        if events.push(key, readiness).is_err() {
+            return Err(io::Error::from(io::ErrorKind::OutOfMemory));
+        }
+        let moment = self.event_loop.handle().poller_mut().clock().now();
+        self.pending = Some(PendingAnswer { moment, events });
+        Ok(true)
+    }
+
     fn clock(&mut self, moment: u64)
         ensures { ClockLine (state_of self.old) moment (state_of self.new) }
     {
@@ -309,7 +379,11 @@ impl ScriptLoop {
         ensures ok { OnOk result ((said : List ℕ) × (text.new.items ≡ text.old.items ++ said) × DispatchLine (state_of self.old) timeout (state_of self.new) said) }
         ensures err { IfErr result (λ e. error_kind e ≡ OutOfMemory) }
     {
-        make_ready(self.event_loop.handle().poller_mut(), self.fault)?;
+        make_ready(
+            self.event_loop.handle().poller_mut(),
+            self.fault,
+            &mut self.pending,
+        )?;
         self.fault = false;
         let mut said = Said::new(self.alloc);
         let answer = self.event_loop.dispatch(rt, timeout_of(timeout), &mut said);
@@ -341,6 +415,7 @@ impl ScriptLoop {
                 self.remove(*slot, *version, text)?;
                 Ok(true)
             }
+            Command::Answer(key, readiness) => self.answer(*key, *readiness),
             Command::Timer(name, deadline) => self.timer(name, *deadline, text),
             Command::Clock(moment) => {
                 self.clock(*moment);

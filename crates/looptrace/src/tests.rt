@@ -70,6 +70,16 @@ fn lines_that_cannot_be_read(rt: HostRuntime) -> Result<(), Fail> {
         b"remove a 0".as_slice(),
         b"remove 18446744073709551616 0".as_slice(),
         b"remove 0 18446744073709551616".as_slice(),
+        b"answer".as_slice(),
+        b"answer ".as_slice(),
+        b"answer 0".as_slice(),
+        b"answer 0 ".as_slice(),
+        b"answer 0 e".as_slice(),
+        b"answer 0 wr".as_slice(),
+        b"answer 0 r ".as_slice(),
+        b"answer  0 r".as_slice(),
+        b"answer 00 r".as_slice(),
+        b"answer 18446744073709551616 r".as_slice(),
         b"clock".as_slice(),
         b"clock ".as_slice(),
         b"clock 01".as_slice(),
@@ -591,5 +601,54 @@ fn a_timer_that_is_removed(rt: HostRuntime) -> Result<(), Fail> {
         b"insert a 0 0\ninsert b 1 0\nwait 9\ncall b 9\nwait 20\nrefused InvalidToken\n".as_slice()
     );
     assert!(rt; err.is_empty());
+    Ok(())
+}
+
+#[test]
+fn answers(rt: HostRuntime) -> Result<(), Fail> {
+    let script = b"ping a\nremove 0 0\nping b\nanswer 0 r\nring b\ndispatch 7\n";
+    let (status, out, err) = traced(&rt, rt.alloc(), script)?;
+    assert_eq!(rt; status, 0);
+    assert_eq!(rt;
+        out.as_slice(),
+        b"insert a 0 0\ninsert b 0 1\nwait 0\ncall b\n".as_slice()
+    );
+    assert!(rt; err.is_empty());
+    let script = b"timer a 5\ntimer b 5\nclock 10\nanswer 4294967296 r\ndispatch 0\n";
+    let (status, out, err) = traced(&rt, rt.alloc(), script)?;
+    assert_eq!(rt; status, 0);
+    assert_eq!(rt;
+        out.as_slice(),
+        b"insert a 0 0\ninsert b 1 0\nwait 0\ncall b 5\ncall a 5\n".as_slice()
+    );
+    assert!(rt; err.is_empty());
+    Ok(())
+}
+
+// A fault only delays the pending answer, which moves the clock back to its last line.
+#[test]
+fn an_answer_that_is_delayed(rt: HostRuntime) -> Result<(), Fail> {
+    let script =
+        b"timer a 9\nclock 4\nanswer 18446744073709551615 rw\nfault\nclock 6\nanswer 7 w\nclock 8\ndispatch 3\ndispatch 3\ndispatch -\n";
+    let (status, out, err) = traced(&rt, rt.alloc(), script)?;
+    assert_eq!(rt; status, 0);
+    assert_eq!(rt;
+        out.as_slice(),
+        b"insert a 0 0\nwait 1\nrefused IoError\nwait 1\nwait 3\ncall a 9\n".as_slice()
+    );
+    assert!(rt; err.is_empty());
+    Ok(())
+}
+
+#[test]
+fn a_full_answer(rt: HostRuntime) -> Result<(), Fail> {
+    let mut script = Vec::new(rt.alloc());
+    for _ in 0..1025 {
+        script.extend_from_slice(b"answer 1 r\n")?;
+    }
+    let (status, out, err) = traced(&rt, rt.alloc(), &script)?;
+    assert_eq!(rt; status, 2);
+    assert!(rt; out.is_empty());
+    assert_eq!(rt; err.as_slice(), b"error line 1025\n".as_slice());
     Ok(())
 }

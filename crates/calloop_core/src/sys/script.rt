@@ -1,5 +1,5 @@
 //! A poller that answers what it was told to, with a clock of its own: for tests and for recorded answers.
-ghost use Rattle.std.specs.Prelude.{◌≡◌, ℕ, ◌+◌, ◌≤◌, ◌++◌, [], ◌∷◌, List, Option, vec_len, vec_capacity, IsOk, OnOk, OnErr, IfOk, IfErr, is_ok, if◌then◌else◌};
+ghost use Rattle.std.specs.Prelude.{◌≡◌, ℕ, ◌+◌, ◌≤◌, ◌++◌, [], ◌∷◌, List, length, nat_le, Option, vec_len, vec_capacity, IsOk, OnOk, OnErr, IfOk, IfErr, is_ok, if◌then◌else◌};
 ghost use Rattle.calloop_core.specs.Scripts.{kept_waits};
 ghost use Rattle.calloop_core.specs.declared.sys.Readiness.{Readiness};
 
@@ -28,6 +28,13 @@ impl ScriptEvents {
         ScriptEvents {
             events: Vec::new(alloc),
         }
+    }
+
+    /// Whether there are 1,024, so that no more fits.
+    pub fn is_full(&self) -> bool
+        ensures { result ≡ nat_le 1024 (length self.now.events.items) }
+    {
+        self.events.len() >= EVENTS_PER_WAIT
     }
 
     /// Adds an event. The 1,025th is handed back, and one for which there is no memory too; then nothing changes.

@@ -38,7 +38,7 @@ returns-clause-ok g c =
     let before : view_of (with_loop_poller new c.handle.result.inner.now) ≡ mid = ap (λ (e : EventLoop Source ScriptPoller ScriptClock). view_of (with_loop_poller new e)) held in
     let after : view_of c.dispatch-answer.new.self ≡ view_of (with_loop_poller c.poller_mut-2.result.now c.handle-2.result.inner.now) =
     sym (ap (λ (p : ScriptPoller). view_of (with_loop_poller p c.handle-2.result.inner.now)) c.poller_mut-2.ensures.value ∙ ap view_of c.handle-2.ensures.value) in
-    let ready : IsReady s.fault s.loop.poll.poller new = subst (λ (p : ScriptPoller). IsReady s.fault p new) poller c.in_ok-make_ready.ensures.ok in
+    let ready : IsReady s.fault s.pending s.loop.poll.poller new = subst (λ (p : ScriptPoller). IsReady s.fault s.pending p new) poller c.in_ok-make_ready.ensures.ok in
     let waits = waits_text c.poller_mut-2.result.now.waits.items in
     let said : List ℕ = (waits ++ c.in-Some.called.now) ++ answer_text c.dispatch-answer.result in
     let text = three c.args.text.now.items waits c.in-Some.called.now (answer_text c.dispatch-answer.result) c.append_waits.new.text.items c.extend_from_slice.new.self.items c.append_answer.new.text.items
@@ -59,6 +59,7 @@ returns-clause-ok g c =
             before after c.dispatch-answer.ensures.case;
         sources = refl;
         fault = refl;
+        pending = c.in_ok-make_ready.ensures.left;
         text = refl;
       },
     )

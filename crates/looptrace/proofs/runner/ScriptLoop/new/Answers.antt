@@ -15,4 +15,5 @@ returns-in-Ok-clause-ok c =
       answers = ap (λ (p : ScriptPoller). p.answers.items) poller ∙ ap (λ a. a.items) c.in_ok-keep_waits.ensures.answers ∙ c.new-poller.ensures.1;
       sources = c.new.ensures.items;
       fault = refl;
+      pending = refl;
     }

@@ -2,10 +2,11 @@ use Rattle.std.proofs.Common.{◌≡◌, ℕ, List, ◌∙◌, sym, ap, None, Op
 use Rattle.calloop_wake.specs.declared.token.Token.{Token}
 use Rattle.calloop_wake.specs.declared.wake.ping.PingCore.{PingCore}
 use Rattle.calloop_wake.specs.Cells.{fresh}
+use Rattle.std.specs.Option.{option_map}
 use Rattle.calloop.specs.Machine.{view_of}
 use Rattle.looptrace.specs.declared.source.Source.TheVariants.{Ping}
 use Rattle.looptrace.specs.declared.runner.Kind.TheVariants.{Ping as PingKind}
-use Rattle.looptrace.specs.Runs.{new_ping}
+use Rattle.looptrace.specs.Runs.{new_ping, pending_of}
 use Rattle.looptrace.proofs.InsertLemmas.{free, line_is}
 use Rattle.looptrace.proofs.runner.ScriptLoop.ping.Goals as goal
 
@@ -25,6 +26,6 @@ returns-clause-ok c =
       says.0,
       says.1,
       line_is (λ d. Ping d) (record { name = c.in_ok-new.field-0 }) c.insert_source-answer.result name c.in_ok-kept.kept PingKind _ (new_ping name)
-          _ (view_of c.args.self.now.event_loop) _ c.args.self.now.sources.items _ c.args.self.now.fault says.0
+          _ (view_of c.args.self.now.event_loop) _ c.args.self.now.sources.items _ c.args.self.now.fault (option_map pending_of c.args.self.now.pending) says.0
           none source (ap view_of c.handle.ensures.value) kept c.insert_source-answer.ensures.case says.2,
     )

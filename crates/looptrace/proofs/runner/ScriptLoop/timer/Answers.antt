@@ -1,10 +1,11 @@
 use Rattle.std.proofs.Common.{◌≡◌, ℕ, List, ◌∙◌, sym, ap, Some}
 use Rattle.calloop_core.specs.declared.timer.Timer.{Timer}
 use Rattle.calloop_core.specs.Timers.{unarmed}
+use Rattle.std.specs.Option.{option_map}
 use Rattle.calloop.specs.Machine.{view_of}
 use Rattle.looptrace.specs.declared.source.Source.TheVariants.{Timer as TimerIn}
 use Rattle.looptrace.specs.declared.runner.Kind.TheVariants.{Timer as TimerKind}
-use Rattle.looptrace.specs.Runs.{new_timer}
+use Rattle.looptrace.specs.Runs.{new_timer, pending_of}
 use Rattle.looptrace.proofs.InsertLemmas.{free, line_is}
 use Rattle.looptrace.proofs.runner.ScriptLoop.timer.Goals as goal
 
@@ -22,6 +23,6 @@ returns-clause-ok c =
       says.0,
       says.1,
       line_is (λ d. TimerIn d) (record { name = c.in_ok-new.field-0 }) c.insert_source-answer.result name c.in_ok-kept.kept TimerKind _ (new_timer name c.args.deadline)
-          _ (view_of c.args.self.now.event_loop) _ c.args.self.now.sources.items _ c.args.self.now.fault says.0
+          _ (view_of c.args.self.now.event_loop) _ c.args.self.now.sources.items _ c.args.self.now.fault (option_map pending_of c.args.self.now.pending) says.0
           none source (ap view_of c.handle.ensures.value) kept c.insert_source-answer.ensures.case says.2,
     )
