@@ -8,13 +8,12 @@ use Rattle.calloop_wake.specs.declared.token.Token.{Token}
 use Rattle.calloop_wake.specs.Tokens.{registration_of}
 use Rattle.calloop_wake.specs.Slots.{changed, with_content, named, source_of}
 use Rattle.calloop_wake.proofs.Named.{source_is}
-use Rattle.calloop_wake.specs.Boards.{taken_keys}
 use Rattle.calloop_core.specs.declared.sys.poll.Pending.{Pending}
 use Rattle.calloop_core.specs.declared.sources.PostAction.{PostAction}
 use Rattle.calloop_core.specs.declared.sources.PostAction.TheVariants.{Remove}
 use Rattle.calloop_core.specs.Pollers.{Outside}
 use Rattle.calloop_core.specs.Waits.{Polled}
-use Rattle.calloop_core.specs.Polls.{PollView, PollStep, AllStepped, polling, with_pass, cut, cut_from, begun, tail_of, head_of, poll_after, polls_after, OpenPlace, ClosePlace, Post, TakePass, PutBack, Arm, ArmAgain, Cancel, Call, ReadClock}
+use Rattle.calloop_core.specs.Polls.{PollView, PollStep, AllStepped, polling, with_pass, cut, cut_from, begun, tail_of, head_of, poll_after, polls_after, TakePass, PutBack, Arm, ArmAgain, Cancel, Call, ReadClock}
 use Rattle.calloop_core.specs.Meanings.{Meaning}
 use Rattle.calloop.specs.Machine.{View, Change, Put, Polls, Polling, Gathered, Cut, Ended, all_viewed, AllFit}
 use Rattle.calloop.specs.Rules.{Goes, Steps, Step, Doing, Waiting, Gathering, Cutting, Ending, Leaving, traced, EndedBy, CutTo, CutFrom, DispatchedBy, Did}
@@ -33,9 +32,6 @@ cons_of_head (f ∷ es) e h = (es, cc)
 
 -- a source's steps leave the batch as it is
 batch-after : {P : Type 0} (v : PollView P) (s : PollStep P) → (poll_after v s).batch ≡ v.batch
-batch-after v (OpenPlace key) = refl
-batch-after v (ClosePlace key) = refl
-batch-after v (Post key) = refl
 batch-after v TakePass = refl
 batch-after v (PutBack pass) = refl
 batch-after v (Arm deadline token) = refl
@@ -91,8 +87,8 @@ module _ {D P X : Type 0} (M : Meaning D P X) (O : Outside P) where
       let u : View D P = record v { poll = polling p v.poll } in
       goes_on (Waiting timeout x) (Gathering now given x) (Cutting x) v u (record v { poll = p' })
       (goes_by (Waiting timeout x) (Gathering now given x) (Polling p ∷ []) v u (Ok now, given, p, h.3, refl, refl) (tt, tt) refl)
-      (goes_by (Gathering now given x) (Cutting x) (Gathered (taken_keys v.poll.board) given now ∷ []) u (record v { poll = p' }) (taken_keys v.poll.board, refl, refl) (refl, tt)
-      (ap (λ (q : PollView P). record v { poll = q }) h.4))
+      (goes_by (Gathering now given x) (Cutting x) (Gathered h.4 given now ∷ []) u (record v { poll = p' }) (h.4, refl, refl) (h.5, tt)
+      (ap (λ (q : PollView P). record v { poll = q }) h.6))
 
   pub not_polled : (v : View D P) (p' : PollView P) (timeout : Option ℕ) (x : X) (e : Error) → Polled O timeout (Err e) v.poll p' → Goes M O (Waiting timeout x) (Leaving (Err e) x) v (record v { poll = p' })
   not_polled v p' timeout x e h =

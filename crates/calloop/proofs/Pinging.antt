@@ -1,12 +1,10 @@
--- The turn of a ping, by what it finds, and its move to another key.
-use Rattle.std.proofs.Common.{◌≡◌, ℕ, ◌++◌, List, [], ◌∷◌, refl, ap, ◌∙◌, Option, Some, None, Result, Ok, Err, Bool, true, false, if◌then◌else◌}
+-- The turn of a ping, by what it finds.
+use Rattle.std.proofs.Common.{◌≡◌, List, [], ◌∷◌, refl, ap, ◌∙◌, Some, None, Result, Ok, Err, Bool, true, false, if◌then◌else◌}
 use Rattle.calloop_wake.specs.declared.token.Token.{Token}
 use Rattle.calloop_wake.specs.declared.wake.ping.OpenedTurn.{OpenedTurn}
 use Rattle.calloop_wake.specs.Passes.{Taken}
 use Rattle.calloop_wake.specs.Cells.{Cell, after_open_turn, after_end_turn, turn_of, opens}
-use Rattle.calloop_core.specs.Pollers.{Outside}
-use Rattle.calloop_core.specs.Polls.{PollView, PollStep, OpenPlace, TakePass, PutBack, AllAllowed, AllStepped, poll_after, polls_after, posts, closes}
-use Rattle.calloop_wake.specs.Boards.{is_open}
+use Rattle.calloop_core.specs.Polls.{PollView, PollStep, TakePass, PutBack}
 use Rattle.calloop.specs.declared.ping.PingSource.{PingSource}
 use Rattle.calloop.specs.Pings.{IsPingTurned, PingTurned, is_token, with_core}
 
@@ -35,21 +33,3 @@ module _ {P : Type 0} (s : PingSource) (token : Token) (v : PollView P) (own : i
 
   pub turn_refused : (p q : Taken) (c : Cell) → v.pass ≡ Some p → turn_of p s.core ≡ Err q → c ≡ after_open_turn p.key s.core → IsPingTurned s token v false (TakePass ∷ PutBack q ∷ []) (with_core c s)
   turn_refused p q c some is cell = turned p (Err q) false (TakePass ∷ PutBack q ∷ []) (with_core c s) some is (refl, refl, ap (λ c. with_core c s) (cell ∙ same_refused p q s.core is))
-
-module _ {P : Type 0} (O : Outside P) where
-  posts_allowed : (v : PollView P) (o : Option ℕ) → AllAllowed O v (posts o)
-  posts_allowed v None = tt
-  posts_allowed v (Some key) = (tt, tt)
-
-  closed_then : (v w : PollView P) (o : Option ℕ) (more : List (PollStep P)) → AllAllowed O (polls_after v (closes o)) more → w ≡ polls_after (polls_after v (closes o)) more → AllStepped O v (closes o ++ more) w
-  closed_then v w None more h k = (h, k)
-  closed_then v w (Some key) more h k = ((tt, h), k)
-
-  -- a place is opened, an old one closed, and a debt settled
-  pub moved : (v a b c : PollView P) (key : ℕ) (leave debt leave' debt' : Option ℕ) → is_open key v.board ≡ false → a ≡ poll_after v (OpenPlace key) → leave' ≡ leave → b ≡ polls_after a (closes leave') → debt' ≡ debt → c ≡ polls_after b (posts debt')
-      → AllStepped O v (OpenPlace key ∷ (closes leave ++ posts debt)) c
-  moved v a b c key leave debt leave' debt' free opened leaves closed owes posted =
-      let first : b ≡ polls_after (poll_after v (OpenPlace key)) (closes leave) = closed ∙ ap (λ o. polls_after a (closes o)) leaves ∙ ap (λ (x : PollView P). polls_after x (closes leave)) opened in
-      let last : c ≡ polls_after (polls_after (poll_after v (OpenPlace key)) (closes leave)) (posts debt) = posted ∙ ap (λ o. polls_after b (posts o)) owes ∙ ap (λ (x : PollView P). polls_after x (posts debt)) first in
-      let rest = closed_then (poll_after v (OpenPlace key)) c leave (posts debt) (posts_allowed (polls_after (poll_after v (OpenPlace key)) (closes leave)) debt) last in
-      ((free, rest.0), rest.1)

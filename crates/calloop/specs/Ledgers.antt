@@ -7,7 +7,7 @@ use Rattle.calloop_wake.specs.declared.wheel.Instant.{Instant}
 use Rattle.calloop_wake.specs.Deadlines.{is_before, is_due, is_of, is_other, entry_of}
 use Rattle.calloop_core.specs.declared.sys.Readiness.{Readiness}
 use Rattle.calloop_core.specs.declared.sys.poll.Pending.{Pending}
-use Rattle.calloop_core.specs.Polls.{PollView, PollStep, OpenPlace, ClosePlace, Post, TakePass, PutBack, Arm, ArmAgain, Cancel, Call, ReadClock, poll_after, posted_events, polled_events, timer_event, tail_of}
+use Rattle.calloop_core.specs.Polls.{PollView, PollStep, TakePass, PutBack, Arm, ArmAgain, Cancel, Call, ReadClock, poll_after, posted_events, polled_events, timer_event, tail_of}
 
 -- an arming: its number, its counter and its deadline
 pub record Arming : Type 0 where
@@ -87,9 +87,6 @@ step_noted l v (Cancel counter) =
       cancelled = l.cancelled ++ map number_of (filter (is_under counter) l.armed);
     }
 step_noted l v (Call counter deadline) = record l { calls = l.calls ++ record { deadline = deadline; arming = latest counter l.made } ∷ [] }
-step_noted l v (OpenPlace key) = l
-step_noted l v (ClosePlace key) = l
-step_noted l v (Post key) = l
 step_noted l v TakePass = l
 step_noted l v (PutBack pass) = l
 step_noted l v (ReadClock now after) = l

@@ -5,7 +5,7 @@ use Rattle.calloop_wake.specs.declared.list.Content.{Content}
 use Rattle.calloop_wake.specs.declared.list.Content.TheVariants.{Vacant}
 use Rattle.calloop_wake.specs.declared.list.Slot.{Slot}
 use Rattle.calloop_wake.specs.Slots.{changed, with_content, claimed, is_empty}
-use Rattle.calloop_wake.specs.Boards.{taken_keys}
+use Rattle.calloop_wake.specs.Boards.{IsRising}
 use Rattle.calloop_core.specs.declared.sys.Readiness.{Readiness}
 use Rattle.calloop_core.specs.Pollers.{Outside}
 use Rattle.calloop_core.specs.Polls.{PollView, PollStep, poll_view, polls_after, AllAllowed, gathered, polling, with_pass, cut}
@@ -36,7 +36,7 @@ slot_of r = record { version = r.reuse % 65536; content = r.content }
 abbrev pub seen : {D P : Type 0} → World D P → View D P
 seen w = record { slots = map slot_of w.slots; poll = w.poll }
 
-abbrev pub view_of : {D P C : Type 0} → EventLoop D P C → View D P
+abbrev pub view_of : {D P C R : Type 0} → EventLoop D P C R → View D P
 view_of l = record { slots = l.sources; poll = poll_view l.poll }
 
 -- every change of the state is one of these
@@ -95,13 +95,14 @@ abbrev pub all_done : {D P : Type 0} → World D P → List (Change D P) → Wor
 all_done w [] = w
 all_done w (c ∷ cs) = all_done (done w c) cs
 
--- what every change keeps to: a source's steps can be made, and the posted keys are those that are marked
+-- what every change keeps to: a source's steps can be made, and posted keys ascend. Which they are is the answer of the board,
+-- which lies under a lock; calloop has them from the kernel.
 abbrev pub Fits : {D P : Type 0} → Outside P → View D P → Change D P → Type 0
 Fits O v (Put slot content) = Unit {0}
 Fits O v Claim = Unit {0}
 Fits O v (Polls steps) = AllAllowed O v.poll steps
 Fits O v (Polling poller) = Unit {0}
-Fits O v (Gathered posted given now) = posted ≡ taken_keys v.poll.board
+Fits O v (Gathered posted given now) = IsRising posted
 Fits O v (Cut slot) = Unit {0}
 Fits O v Ended = Unit {0}
 
@@ -112,7 +113,6 @@ AllFit O v (c ∷ cs) = Fits O v c × AllFit O (viewed v c) cs
 -- nothing has happened yet
 pub record IsNew {D P : Type 0} (w : World D P) : Type 0 where
   pub slots : w.slots ≡ []
-  pub board : w.poll.board ≡ []
   pub deadlines : w.poll.deadlines ≡ record { entries = []; next = 0 }
   pub batch : w.poll.batch ≡ []
   pub passes : w.poll.passes ≡ []

@@ -1,20 +1,19 @@
 -- A ping as a source: its registration, a ring, and its turn. calloop's ping is a file that is written and read;
--- here it is a cell and a place on the board, and what it does to `Poll` is a list of steps.
-use Rattle.std.specs.Prelude.{◌≡◌, List, [], ◌∷◌, ◌++◌, Bool, true, false, nat_eq, Option, Some, None, IsSome, Result, Ok, Err}
+-- here it is a cell and a place on the board, which lies under a lock and isn't seen.
+use Rattle.std.specs.Prelude.{◌≡◌, List, [], ◌∷◌, Bool, true, false, nat_eq, Option, Some, None, IsSome, Result, Ok, Err}
 use Rattle.std.specs.declared.io.ErrorKind.TheVariants.{AlreadyExists, NotFound}
 use Rattle.calloop_wake.specs.declared.error.Error.{Error}
 use Rattle.calloop_wake.specs.declared.error.Error.TheVariants.{TooManyTokens}
 use Rattle.calloop_wake.specs.declared.token.Token.{Token}
 use Rattle.calloop_wake.specs.declared.token.TokenFactory.{TokenFactory}
-use Rattle.calloop_wake.specs.declared.wake.board.Place.{Place}
 use Rattle.calloop_wake.specs.declared.wake.ping.OpenedTurn.{OpenedTurn}
 use Rattle.calloop_wake.specs.Tokens.{key_of, next_token, after_token}
 use Rattle.calloop_wake.specs.Passes.{Taken}
-use Rattle.calloop_wake.specs.Cells.{Cell, owed, owed_at, after_ring, after_set_key, after_clear_key, after_open_turn, after_end_turn, turn_of}
+use Rattle.calloop_wake.specs.Cells.{Cell, after_ring, after_set_key, after_clear_key, after_open_turn, after_end_turn, turn_of}
 use Rattle.calloop_core.specs.declared.sources.PostAction.{PostAction}
 use Rattle.calloop_core.specs.declared.sources.PostAction.TheVariants.{Continue}
 use Rattle.calloop_core.specs.Calls.{Call}
-use Rattle.calloop_core.specs.Polls.{PollView, PollStep, OpenPlace, TakePass, PutBack, posts, closes, CannotOpen, IsOfKind}
+use Rattle.calloop_core.specs.Polls.{PollView, PollStep, TakePass, PutBack, CannotOpen, IsOfKind}
 use Rattle.calloop.specs.declared.ping.PingError.{PingError}
 use Rattle.calloop.specs.declared.ping.PingSource.{PingSource}
 
@@ -27,46 +26,44 @@ is_token token None = false
 is_token token (Some own) = nat_eq (key_of own) (key_of token)
 
 -- why a registration is refused: it is registered already, the factory has no more tokens, or the place can't be opened
-pub data RefusedPing (s : PingSource) (f : TokenFactory) (v : List Place) (e : Error) (g : TokenFactory) : Type 0 where
-  Registered : IsSome s.token → IsOfKind AlreadyExists e → g ≡ f → RefusedPing s f v e g
-  NoToken : e ≡ TooManyTokens → f.given ≡ 65535 → g ≡ f → RefusedPing s f v e g
-  NoPlace : CannotOpen (key_of (next_token f)) v e → g ≡ after_token f → RefusedPing s f v e g
+pub data RefusedPing (s : PingSource) (f : TokenFactory) (e : Error) (g : TokenFactory) : Type 0 where
+  Registered : IsSome s.token → IsOfKind AlreadyExists e → g ≡ f → RefusedPing s f e g
+  NoToken : e ≡ TooManyTokens → f.given ≡ 65535 → g ≡ f → RefusedPing s f e g
+  NoPlace : CannotOpen e → g ≡ after_token f → RefusedPing s f e g
 
 -- the place of its token is opened, the key is set, and what stood is posted
-abbrev pub IsPingReg : {P : Type 0} → PingSource → PollView P → TokenFactory → Result (Unit {0}) Error → List (PollStep P) → PingSource → TokenFactory → Type 0
-IsPingReg s v f (Ok u) steps t g =
-    (s.token ≡ None) × (steps ≡ OpenPlace (key_of (next_token f)) ∷ (closes s.core.key ++ posts (owed_at (key_of (next_token f)) s.core)))
+abbrev pub IsPingReg : {P : Type 0} → PingSource → TokenFactory → Result (Unit {0}) Error → List (PollStep P) → PingSource → TokenFactory → Type 0
+IsPingReg s f (Ok u) steps t g =
+    (s.token ≡ None) × (steps ≡ [])
     × (t ≡ record { core = after_set_key (key_of (next_token f)) s.core; token = Some (next_token f) }) × (g ≡ after_token f)
-IsPingReg s v f (Err e) steps t g = (steps ≡ []) × (t ≡ s) × RefusedPing s f v.board e g
+IsPingReg s f (Err e) steps t g = (steps ≡ []) × (t ≡ s) × RefusedPing s f e g
 
 -- why a registration anew is refused: it isn't registered, the factory has no more tokens, or the place of another key
 -- can't be opened
-pub data RefusedAnew (s : PingSource) (f : TokenFactory) (v : List Place) (e : Error) (g : TokenFactory) : Type 0 where
-  NotRegistered : s.token ≡ None → IsOfKind NotFound e → g ≡ f → RefusedAnew s f v e g
-  NoTokenAnew : IsSome s.token → e ≡ TooManyTokens → f.given ≡ 65535 → g ≡ f → RefusedAnew s f v e g
-  NoPlaceAnew : IsSome s.token → is_token (next_token f) s.token ≡ false → CannotOpen (key_of (next_token f)) v e → g ≡ after_token f → RefusedAnew s f v e g
+pub data RefusedAnew (s : PingSource) (f : TokenFactory) (e : Error) (g : TokenFactory) : Type 0 where
+  NotRegistered : s.token ≡ None → IsOfKind NotFound e → g ≡ f → RefusedAnew s f e g
+  NoTokenAnew : IsSome s.token → e ≡ TooManyTokens → f.given ≡ 65535 → g ≡ f → RefusedAnew s f e g
+  NoPlaceAnew : IsSome s.token → is_token (next_token f) s.token ≡ false → CannotOpen e → g ≡ after_token f → RefusedAnew s f e g
 
 -- under the same key nothing is done; else the place of the other token is opened, the key is set, the old key's place is
 -- closed, and what stood is posted
-abbrev pub MovedTo : {P : Type 0} → (is_same : Bool) → Token → PingSource → List (PollStep P) → PingSource → Type 0
-MovedTo true token s steps t = (steps ≡ []) × (t ≡ s)
-MovedTo false token s steps t =
-    (steps ≡ OpenPlace (key_of token) ∷ (closes s.core.key ++ posts (owed_at (key_of token) s.core)))
-    × (t ≡ record { core = after_set_key (key_of token) s.core; token = Some token })
+abbrev pub MovedTo : (is_same : Bool) → Token → PingSource → PingSource → Type 0
+MovedTo true token s t = t ≡ s
+MovedTo false token s t = t ≡ record { core = after_set_key (key_of token) s.core; token = Some token }
 
 -- a ping that is registered moves to its next token; calloop's poller changes the descriptor's key in one step
-abbrev pub IsPingRereg : {P : Type 0} → PingSource → PollView P → TokenFactory → Result (Unit {0}) Error → List (PollStep P) → PingSource → TokenFactory → Type 0
-IsPingRereg s v f (Ok u) steps t g = IsSome s.token × MovedTo (is_token (next_token f) s.token) (next_token f) s steps t × (g ≡ after_token f)
-IsPingRereg s v f (Err e) steps t g = (steps ≡ []) × (t ≡ s) × RefusedAnew s f v.board e g
+abbrev pub IsPingRereg : {P : Type 0} → PingSource → TokenFactory → Result (Unit {0}) Error → List (PollStep P) → PingSource → TokenFactory → Type 0
+IsPingRereg s f (Ok u) steps t g = IsSome s.token × (steps ≡ []) × MovedTo (is_token (next_token f) s.token) (next_token f) s t × (g ≡ after_token f)
+IsPingRereg s f (Err e) steps t g = (steps ≡ []) × (t ≡ s) × RefusedAnew s f e g
 
 -- the key is cleared and its place is closed; a ring that stands stays
 abbrev pub IsPingUnreg : {P : Type 0} → PingSource → Result (Unit {0}) Error → List (PollStep P) → PingSource → Type 0
-IsPingUnreg s (Ok u) steps t = IsSome s.token × (steps ≡ closes s.core.key) × (t ≡ record { core = after_clear_key s.core; token = None })
+IsPingUnreg s (Ok u) steps t = IsSome s.token × (steps ≡ []) × (t ≡ record { core = after_clear_key s.core; token = None })
 IsPingUnreg s (Err e) steps t = (s.token ≡ None) × IsOfKind NotFound e × (steps ≡ []) × (t ≡ s)
 
 -- a ring pings the cell, and posts its key where it stood unpinged
 abbrev pub IsPingRing : {P : Type 0} → PingSource → (is_ping : Bool) → List (PollStep P) → PingSource → Type 0
-IsPingRing s is_ping steps t = (is_ping ≡ true) × (steps ≡ posts (owed s.core)) × (t ≡ with_core (after_ring s.core) s)
+IsPingRing s is_ping steps t = (is_ping ≡ true) × (steps ≡ []) × (t ≡ with_core (after_ring s.core) s)
 
 -- what opening a turn gave: a turn is ended at once, and a pass that was refused is put back
 abbrev pub PingTurned : {P : Type 0} → PingSource → Taken → Result OpenedTurn Taken → (rang : Bool) → List (PollStep P) → PingSource → Type 0

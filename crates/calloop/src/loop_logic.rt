@@ -5,6 +5,7 @@ use calloop_core::sys::{Poller, Readiness};
 use calloop_wake::error::{InsertError, Result};
 use calloop_wake::list::SourceList;
 use calloop_wake::token::{RegistrationToken, Token, TokenFactory};
+use std::sync::Wait;
 use std::time::Duration;
 
 mod calls;
@@ -14,17 +15,18 @@ mod laws;
 
 pub use laws::once;
 
-/// A loop over sources of one type `D` of the caller, a poller and a clock. It owns its sources.
+/// A loop over sources of one type `D` of the caller, a poller and a clock. It owns its sources. `R` is the runtime by
+/// which it locks the board of posted keys.
 #[derive(Drop)]
-pub struct EventLoop<D, P, C> {
+pub struct EventLoop<D, P, C, R: Wait + Drop> {
     sources: SourceList<D>,
-    poll: Poll<P, C>,
+    poll: Poll<P, C, R>,
 }
 
 /// The calls on a loop that act at once. It is lent by the loop.
 #[derive(Drop)]
-pub struct LoopHandle<'l, D, P, C> {
-    inner: &'l mut EventLoop<D, P, C>,
+pub struct LoopHandle<'l, D, P, C, R: Wait + Drop> {
+    inner: &'l mut EventLoop<D, P, C, R>,
 }
 
 /// A call on a loop, as a value.
@@ -55,7 +57,7 @@ pub enum Answer<D, P, X> {
 
 /// What a loop calls: an enum of the caller's dispatchers, each a source with its callback. Its meaning says, as
 /// relations, what each call may do; the loop is proved for every meaning.
-pub trait EventDispatcher<P: Poller, C>: Drop + Sized {
+pub trait EventDispatcher<P: Poller, C, R: Wait + Drop>: Drop + Sized {
     ghost use Rattle.std.specs.Prelude.{List};
     ghost use Rattle.calloop_core.specs.Polls.{PollStep, poll_view, AllStepped};
     ghost use Rattle.calloop_core.specs.Meanings.{Meaning, IsKeeping};
@@ -66,19 +68,19 @@ pub trait EventDispatcher<P: Poller, C>: Drop + Sized {
     ghost means: { Meaning Self P Self.Data };
 
     /// Registers the source with tokens of the factory.
-    fn register(&mut self, poll: &mut Poll<P, C>, factory: &mut TokenFactory) -> Result<()>
+    fn register(&mut self, poll: &mut Poll<P, C, R>, factory: &mut TokenFactory) -> Result<()>
         ensures { (steps : List (PollStep P)) × means.reg self.old (poll_view poll.old) factory.old result steps self.new factory.new × AllStepped P.outside (poll_view poll.old) steps (poll_view poll.new) };
 
     /// Registers the source anew with tokens of the factory.
-    fn reregister(&mut self, poll: &mut Poll<P, C>, factory: &mut TokenFactory) -> Result<()>
+    fn reregister(&mut self, poll: &mut Poll<P, C, R>, factory: &mut TokenFactory) -> Result<()>
         ensures { (steps : List (PollStep P)) × means.rereg self.old (poll_view poll.old) factory.old result steps self.new factory.new × AllStepped P.outside (poll_view poll.old) steps (poll_view poll.new) };
 
     /// Takes its registration back.
-    fn unregister(&mut self, poll: &mut Poll<P, C>) -> Result<()>
+    fn unregister(&mut self, poll: &mut Poll<P, C, R>) -> Result<()>
         ensures { (steps : List (PollStep P)) × means.unreg self.old (poll_view poll.old) result steps self.new × AllStepped P.outside (poll_view poll.old) steps (poll_view poll.new) };
 
     /// Rings the source where it is a ping, and says whether it is one.
-    fn ring(&mut self, poll: &mut Poll<P, C>) -> bool
+    fn ring(&mut self, poll: &mut Poll<P, C, R>) -> bool
         ensures { (steps : List (PollStep P)) × means.ring self.old result steps self.new × AllStepped P.outside (poll_view poll.old) steps (poll_view poll.new) };
 
     /// A turn of the source, for an event of this token.
@@ -86,7 +88,7 @@ pub trait EventDispatcher<P: Poller, C>: Drop + Sized {
         &mut self,
         readiness: Readiness,
         token: Token,
-        poll: &mut Poll<P, C>,
+        poll: &mut Poll<P, C, R>,
         data: &mut Self::Data,
     ) -> Result<PostAction>
         ensures { (steps : List (PollStep P)) × means.turn self.old readiness token (poll_view poll.old) «data».old result steps self.new «data».new × AllStepped P.outside (poll_view poll.old) steps (poll_view poll.new) };
@@ -96,9 +98,9 @@ pub trait EventDispatcher<P: Poller, C>: Drop + Sized {
 }
 
 /// A dispatcher type that has a place for a source `S` with a callback `F`; what is held means the source with it.
-pub trait Hold<S, F, P: Poller, C>: EventDispatcher<P, C>
+pub trait Hold<S, F, P: Poller, C, R: Wait + Drop>: EventDispatcher<P, C, R>
 where
-    S: EventSource<P, C>,
+    S: EventSource<P, C, R>,
     F: Callback<S::Event, S::Metadata, S::Ret, Self::Data>,
 {
     ghost use Rattle.std.specs.Prelude.{◌≡◌};
@@ -110,5 +112,5 @@ where
     fn hold(dispatcher: Dispatcher<S, F>) -> Self
         ensures { result ≡ held dispatcher };
 
-    ghost held_means: { IsHeld held ⟦<Dispatcher<S, F> as Dispatch<P, C, Self::Data>>⟧.means Self.means };
+    ghost held_means: { IsHeld held ⟦<Dispatcher<S, F> as Dispatch<P, C, R, Self::Data>>⟧.means Self.means };
 }

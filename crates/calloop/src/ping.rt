@@ -13,6 +13,7 @@ use calloop_wake::error::{Error, Result as LoopResult};
 use calloop_wake::token::{Token, TokenFactory};
 use calloop_wake::wake::ping::{OpenedTurn, PingCore};
 use std::io;
+use std::sync::Wait;
 
 /// The source of a ping. Any number of rings before its turn are one event.
 #[derive(Drop)]
@@ -70,7 +71,7 @@ impl PingSource {
     }
 }
 
-impl<P: Poller, C> EventSource<P, C> for PingSource {
+impl<P: Poller, C, R: Wait + Drop> EventSource<P, C, R> for PingSource {
     ghost use Rattle.calloop_core.specs.Holdings.{holds_none};
     ghost use Rattle.calloop.specs.Pings.{IsPingReg, IsPingRereg, IsPingUnreg, IsPingRing, IsPingTurn};
     ghost use Rattle.calloop.specs.Quiet.{ping_reg_keeps, ping_rereg_keeps, ping_unreg_keeps, ping_ring_keeps, ping_turn_keeps};
@@ -85,9 +86,9 @@ impl<P: Poller, C> EventSource<P, C> for PingSource {
 
     ghost holds = { λ s. holds_none };
 
-    ghost reg = { IsPingReg };
+    ghost reg = { λ s v f a l t g. IsPingReg s f a l t g };
 
-    ghost rereg = { IsPingRereg };
+    ghost rereg = { λ s v f a l t g. IsPingRereg s f a l t g };
 
     ghost unreg = { λ s v a l t. IsPingUnreg s a l t };
 
@@ -101,7 +102,7 @@ impl<P: Poller, C> EventSource<P, C> for PingSource {
         &mut self,
         _readiness: Readiness,
         token: Token,
-        poll: &mut Poll<P, C>,
+        poll: &mut Poll<P, C, R>,
         callback: &mut F,
         data: &mut X,
     ) -> Result<PostAction, PingError>
@@ -130,7 +131,7 @@ impl<P: Poller, C> EventSource<P, C> for PingSource {
     ///
     /// Where it is registered already the answer is `IoError` of kind `AlreadyExists`; a factory without tokens is
     /// `TooManyTokens`, and want of memory `OutOfMemory`. A refusal leaves the ping and the board as they were.
-    fn register(&mut self, poll: &mut Poll<P, C>, factory: &mut TokenFactory) -> LoopResult<()> {
+    fn register(&mut self, poll: &mut Poll<P, C, R>, factory: &mut TokenFactory) -> LoopResult<()> {
         if self.token.is_some() {
             let cause = io::Error::from(io::ErrorKind::AlreadyExists);
             return Err(Error::IoError(cause));
@@ -150,7 +151,11 @@ impl<P: Poller, C> EventSource<P, C> for PingSource {
     /// Where the ping isn't registered the answer is `IoError` of kind `NotFound`; a factory without tokens is
     /// `TooManyTokens`, an open place of the new key `IoError` of kind `AlreadyExists`, and want of memory `OutOfMemory`.
     /// A refusal leaves the ping and the board as they were.
-    fn reregister(&mut self, poll: &mut Poll<P, C>, factory: &mut TokenFactory) -> LoopResult<()> {
+    fn reregister(
+        &mut self,
+        poll: &mut Poll<P, C, R>,
+        factory: &mut TokenFactory,
+    ) -> LoopResult<()> {
         if self.token.is_none() {
             let cause = io::Error::from(io::ErrorKind::NotFound);
             return Err(Error::IoError(cause));
@@ -169,7 +174,7 @@ impl<P: Poller, C> EventSource<P, C> for PingSource {
 
     /// Takes the registration back. A ring that stands is told after the next registration. Where the ping isn't registered
     /// the answer is `IoError` of kind `NotFound`, and nothing changes.
-    fn unregister(&mut self, poll: &mut Poll<P, C>) -> LoopResult<()> {
+    fn unregister(&mut self, poll: &mut Poll<P, C, R>) -> LoopResult<()> {
         if self.token.is_none() {
             let cause = io::Error::from(io::ErrorKind::NotFound);
             return Err(Error::IoError(cause));
@@ -181,7 +186,7 @@ impl<P: Poller, C> EventSource<P, C> for PingSource {
     }
 
     /// Rings. Where the ping is registered and no ring stands, its key is posted on the board.
-    fn ring(&mut self, poll: &mut Poll<P, C>) -> bool {
+    fn ring(&mut self, poll: &mut Poll<P, C, R>) -> bool {
         let debt = self.core.ring();
         poll.settle(debt);
         true

@@ -2,7 +2,7 @@
 -- that no other source uses it.
 use Rattle.std.specs.Prelude.{◌≡◌, ◌≢◌, ℕ, ◌+◌, List, [], ◌∷◌, nat_eq, if◌then◌else◌}
 use Rattle.calloop_wake.specs.declared.wheel.Instant.{Instant}
-use Rattle.calloop_core.specs.Polls.{PollStep, OpenPlace, ClosePlace, Post, TakePass, PutBack, Arm, ArmAgain, Cancel, Call, ReadClock}
+use Rattle.calloop_core.specs.Polls.{PollStep, TakePass, PutBack, Arm, ArmAgain, Cancel, Call, ReadClock}
 
 -- a counter isn't held; or it is held, and its last arming was called for; or it is held, and its last arming, for this
 -- deadline, wasn't called for yet
@@ -32,9 +32,6 @@ Keeps held next (Arm deadline token ∷ ss) after = Keeps (with_hold next (Stand
 Keeps held next (ArmAgain counter deadline token ∷ ss) after = (held counter ≡ Spent) × Keeps (with_hold counter (Standing deadline) held) next ss after
 Keeps held next (Cancel counter ∷ ss) after = (held counter ≢ Free) × Keeps (with_hold counter Free held) next ss after
 Keeps held next (Call counter deadline ∷ ss) after = (held counter ≡ Standing deadline) × Keeps (with_hold counter Spent held) next ss after
-Keeps held next (OpenPlace key ∷ ss) after = Keeps held next ss after
-Keeps held next (ClosePlace key ∷ ss) after = Keeps held next ss after
-Keeps held next (Post key ∷ ss) after = Keeps held next ss after
 Keeps held next (TakePass ∷ ss) after = Keeps held next ss after
 Keeps held next (PutBack pass ∷ ss) after = Keeps held next ss after
 Keeps held next (ReadClock now after' ∷ ss) after = Keeps held next ss after

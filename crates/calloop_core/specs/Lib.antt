@@ -2,6 +2,7 @@ pub mod Pollers
 pub mod Polls
 pub mod Calls
 pub mod Holdings
+pub mod Hubs
 pub mod Meanings
 pub mod Timers
 pub mod Keeping

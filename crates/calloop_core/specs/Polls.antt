@@ -1,7 +1,7 @@
 -- What a source reads of `Poll`, and what it can do to it; and what the loop does with the batch.
--- calloop's `Poll` stands on the machine's poller and on files for its pings; here pings have a board, and the
--- loop owns the batch that calloop hands out from a buffer.
-use Rattle.std.specs.Prelude.{◌≡◌, ℕ, ◌+◌, ◌-◌, ◌^◌, ◌≤◌, ◌<◌, List, [], ◌∷◌, ◌++◌, map, filter, length, not, nat_eq, Bool, true, false, Option, Some, None, if◌then◌else◌, MatchBool, vec_capacity, ◌⊎◌}
+-- calloop's `Poll` stands on the machine's poller and on files for its pings; here pings have a board, which lies under a
+-- lock and isn't seen, and the loop owns the batch that calloop hands out from a buffer.
+use Rattle.std.specs.Prelude.{◌≡◌, ℕ, ◌+◌, ◌-◌, ◌^◌, ◌≤◌, ◌<◌, List, [], ◌∷◌, ◌++◌, map, filter, length, not, nat_eq, Bool, true, false, Option, Some, None, if◌then◌else◌, vec_capacity, ◌⊎◌}
 use Rattle.std.specs.VecDeque.{deque_len, deque_capacity}
 use Rattle.std.specs.declared.io.Error.{Error as Cause}
 use Rattle.calloop_wake.specs.declared.error.Error.{Error}
@@ -9,40 +9,33 @@ use Rattle.calloop_wake.specs.declared.error.Error.TheVariants.{IoError, OutOfMe
 use Rattle.std.specs.IoError.{error_kind}
 use Rattle.std.specs.declared.io.ErrorKind.{ErrorKind}
 use Rattle.std.specs.declared.io.ErrorKind.TheVariants.{AlreadyExists}
-use Rattle.calloop_wake.specs.declared.wake.board.Place.{Place}
 use Rattle.calloop_wake.specs.declared.token.Token.{Token}
 use Rattle.calloop_wake.specs.declared.wheel.Entry.{Entry}
 use Rattle.calloop_wake.specs.declared.wheel.Instant.{Instant}
 use Rattle.calloop_wake.specs.Deadlines.{Deadlines, with_new, with_again, with_entries, cancelled, is_armed, due, not_due}
 use Rattle.calloop_wake.specs.Tokens.{token_of}
 use Rattle.calloop_wake.specs.Passes.{Taken}
-use Rattle.calloop_wake.specs.Boards.{is_open, wakes, after_open_place, after_close_place, after_post, after_unpost, taken}
+use Rattle.calloop_wake.specs.Boards.{taken}
 use Rattle.calloop_core.specs.declared.sys.Readiness.{Readiness}
 use Rattle.calloop_core.specs.declared.sys.poll.Pending.{Pending}
 use Rattle.calloop_core.specs.declared.sys.poll.Poll.{Poll}
 use Rattle.calloop_core.specs.Pollers.{Outside}
 
--- the poller, the board, the armed deadlines, the events that wait for their turn, the passes of the posted ones among
--- them in their order, and the pass of the event whose turn it is
+-- the poller, the armed deadlines, the events that wait for their turn, the passes of the posted ones among them in their
+-- order, and the pass of the event whose turn it is
 pub record PollView (P : Type 0) : Type 0 where
   pub poller : P
-  pub board : List Place
   pub deadlines : Deadlines
   pub batch : List Pending
   pub passes : List Taken
   pub pass : Option Taken
 
-abbrev pub poll_view : {P C : Type 0} → Poll P C → PollView P
-poll_view p = record { poller = p.poller; board = p.board; deadlines = p.wheel; batch = p.batch.items; passes = p.passes.items; pass = p.pass }
+abbrev pub poll_view : {P C R : Type 0} → Poll P C R → PollView P
+poll_view p = record { poller = p.poller; deadlines = p.wheel; batch = p.batch.items; passes = p.passes.items; pass = p.pass }
 
--- a pass that isn't spent goes back: its key is posted again
-abbrev pub given_back : Option Taken → List Place → List Place
-given_back None places = places
-given_back (Some t) places = after_post t.key places
-
--- another pass, or none, for the event whose turn it is; the one before goes back
+-- another pass, or none, for the event whose turn it is; the one before goes back to the board
 abbrev pub with_pass : {P : Type 0} → Option Taken → PollView P → PollView P
-with_pass pass v = record v { pass = pass; board = given_back v.pass v.board }
+with_pass pass v = record v { pass = pass }
 
 abbrev pub with_deadlines : {P : Type 0} → Deadlines → PollView P → PollView P
 with_deadlines d v = record v { deadlines = d }
@@ -50,11 +43,8 @@ with_deadlines d v = record v { deadlines = d }
 abbrev pub polling : {P : Type 0} → P → PollView P → PollView P
 polling p v = record v { poller = p }
 
--- what a source can do
+-- what a source can do; what it does under the locks of the board and of a ping's cell isn't seen
 pub data PollStep (P : Type 0) : Type 0 where
-  OpenPlace : (key : ℕ) → PollStep P
-  ClosePlace : (key : ℕ) → PollStep P
-  Post : (key : ℕ) → PollStep P
   TakePass : PollStep P
   PutBack : (pass : Taken) → PollStep P
   -- a deadline under a new counter, under one that was given before, and none under this one any more
@@ -66,9 +56,6 @@ pub data PollStep (P : Type 0) : Type 0 where
   ReadClock : (now : ℕ) (after : P) → PollStep P
 
 abbrev pub poll_after : {P : Type 0} → PollView P → PollStep P → PollView P
-poll_after v (OpenPlace key) = record v { board = after_open_place key v.board }
-poll_after v (ClosePlace key) = record v { board = after_close_place key v.board }
-poll_after v (Post key) = record v { board = after_post key v.board }
 poll_after v TakePass = record v { pass = None }
 poll_after v (PutBack pass) = with_pass (Some pass) v
 poll_after v (Arm deadline token) = with_deadlines (with_new deadline token v.deadlines) v
@@ -83,9 +70,6 @@ polls_after v (s ∷ ss) = polls_after (poll_after v s) ss
 
 -- when a step can be made; a counter is armed again, or its callback is called, only while it has no deadline
 abbrev pub Allowed : {P : Type 0} → Outside P → PollView P → PollStep P → Type 0
-Allowed O v (OpenPlace key) = is_open key v.board ≡ false
-Allowed O v (ClosePlace key) = Unit {0}
-Allowed O v (Post key) = Unit {0}
 Allowed O v TakePass = Unit {0}
 Allowed O v (PutBack pass) = Unit {0}
 Allowed O v (Arm deadline token) = Unit {0}
@@ -101,26 +85,6 @@ AllAllowed O v (s ∷ ss) = Allowed O v s × AllAllowed O (poll_after v s) ss
 -- these steps can be made, and lead there
 abbrev pub AllStepped : {P : Type 0} → Outside P → PollView P → List (PollStep P) → PollView P → Type 0
 AllStepped O v steps v' = AllAllowed O v steps × (v' ≡ polls_after v steps)
-
--- the posts of a debt, where there is one, and the close of a place
-abbrev pub posts : {P : Type 0} → Option ℕ → List (PollStep P)
-posts None = []
-posts (Some key) = Post key ∷ []
-
-abbrev pub closes : {P : Type 0} → Option ℕ → List (PollStep P)
-closes None = []
-closes (Some key) = ClosePlace key ∷ []
-
--- posting the key, where there is one, tells the poller once where that sets a mark anew, and else leaves the poller as it
--- is; in calloop each write to a descriptor wakes the kernel's wait
-abbrev pub Tells : {P : Type 0} → (notified : P → P → Type 0) → Option ℕ → List Place → P → P → Type 0
-Tells notified None places p q = q ≡ p
-Tells notified (Some key) places p q = MatchBool (wakes key places) (notified p q) (q ≡ p)
-
--- the key of a pass, where there is one
-abbrev pub key_held : Option Taken → Option ℕ
-key_held None = None
-key_held (Some t) = Some t.key
 
 -- the poller's own key, which no token has
 abbrev pub own_key : ℕ
@@ -160,7 +124,6 @@ timer_events entries = map timer_event entries
 abbrev pub gathered : {P : Type 0} → (posted : List ℕ) → (given : List (ℕ × Readiness)) → (now : ℕ) → PollView P → PollView P
 gathered posted given now v =
     record v {
-      board = after_unpost v.board;
       deadlines = with_entries (not_due now v.deadlines.entries) v.deadlines;
       batch = ((v.batch ++ posted_events posted) ++ polled_events given) ++ timer_events (due now v.deadlines.entries);
       passes = v.passes ++ map taken posted;
@@ -200,13 +163,13 @@ key_of_pass t = t.key
 abbrev pub IsOfKind : ErrorKind → Error → Type 0
 IsOfKind kind e = (cause : Cause) × (e ≡ IoError cause) × (error_kind cause ≡ kind)
 
--- why a place can't be opened
-abbrev pub CannotOpen : (key : ℕ) → List Place → Error → Type 0
-CannotOpen key places e = ((is_open key places ≡ true) × IsOfKind AlreadyExists e) ⊎ ((is_open key places ≡ false) × (e ≡ OutOfMemory))
+-- why a place can't be opened: the key has one, or no memory was left
+abbrev pub CannotOpen : Error → Type 0
+CannotOpen e = IsOfKind AlreadyExists e ⊎ (e ≡ OutOfMemory)
 
 -- there is room for what one poll can gather
-pub record IsReady {P C : Type 0} (p : Poll P C) : Type 0 where
-  pub batch : deque_len p.batch + (length p.board + (1024 + length p.wheel.entries)) ≤ deque_capacity p.batch
-  pub passes : deque_len p.passes + length p.board ≤ deque_capacity p.passes
+pub record IsReady {P C R : Type 0} (p : Poll P C R) : Type 0 where
+  pub batch : deque_len p.batch + (p.places + (1024 + length p.wheel.entries)) ≤ deque_capacity p.batch
+  pub passes : deque_len p.passes + p.places ≤ deque_capacity p.passes
   pub events : p.events.items ≡ []
   pub room : 1024 ≤ vec_capacity p.events

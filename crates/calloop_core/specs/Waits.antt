@@ -8,7 +8,7 @@ use Rattle.std.specs.IoError.{error_kind}
 use Rattle.calloop_wake.specs.declared.error.Error.{Error}
 use Rattle.calloop_wake.specs.declared.error.Error.TheVariants.{IoError}
 use Rattle.calloop_wake.specs.declared.wheel.Entry.{Entry}
-use Rattle.calloop_wake.specs.Boards.{any_marked, taken_keys}
+use Rattle.calloop_wake.specs.Boards.{IsRising}
 use Rattle.calloop_core.specs.declared.sys.Readiness.{Readiness}
 use Rattle.calloop_core.specs.Pollers.{Outside}
 use Rattle.calloop_core.specs.Polls.{PollView, polling, gathered, is_filled}
@@ -27,11 +27,11 @@ lesser None b = b
 lesser (Some a) None = Some a
 lesser (Some a) (Some b) = Some (min a b)
 
--- zero where an event was left over or a posted key stands, else the lesser of what is left of the caller's timeout and
--- the time to the first deadline; no limit without either
-abbrev pub asked_for : {P : Type 0} → PollView P → (timeout : Option ℕ) → (start now : ℕ) → Option ℕ
-asked_for v timeout start now =
-    if is_filled v.batch || any_marked v.board then Some 0 else lesser (time_left timeout start now) (time_to_first v.deadlines.entries now)
+-- zero where an event was left over or the look at the board found a posted key, else the lesser of what is left of the
+-- caller's timeout and the time to the first deadline; no limit without either
+abbrev pub asked_for : {P : Type 0} → PollView P → (posted : Bool) → (timeout : Option ℕ) → (start now : ℕ) → Option ℕ
+asked_for v posted timeout start now =
+    if is_filled v.batch || posted then Some 0 else lesser (time_left timeout start now) (time_to_first v.deadlines.entries now)
 
 abbrev pub is_zero : Option ℕ → Bool
 is_zero None = false
@@ -40,32 +40,36 @@ is_zero (Some time) = nat_eq time 0
 abbrev pub IsInterruption : Cause → Type 0
 IsInterruption cause = error_kind cause ≡ Interrupted
 
--- a wait that was interrupted: its error, the events of which none is handed out, the poller then, and the moment that
--- was read after it
+-- a wait that was interrupted: its error, the events of which none is handed out, the poller then, the moment that was
+-- read after it, and whether the look at the board then found a posted key
 pub record Interruption (P : Type 0) : Type 0 where
   pub cause : Cause
   pub given : List (ℕ × Readiness)
   pub waited : P
   pub now : ℕ
   pub read : P
+  pub posted : Bool
 
--- from the moment `now` on, with these interruptions: the moment of the gathering or a fault, the events, and the poller
--- then. The clock is read after each interruption and after the last answer. An interruption asks anew, and counts as an
--- empty answer where nothing is left to wait for. A fault is one more in the poller's count.
-abbrev pub Waits : {P : Type 0} → Outside P → PollView P → (timeout : Option ℕ) → (start now : ℕ) → P → List (Interruption P) → Result ℕ Cause → List (ℕ × Readiness) → P → Type 0
-Waits {P} O v timeout start now p [] (Ok later) given q = (w : P) × O.waits p (asked_for v timeout start now) (Ok tt) given w × O.reads w later q
-Waits O v timeout start now p [] (Err cause) given q = O.waits p (asked_for v timeout start now) (Err cause) given q × (¬ IsInterruption cause) × (O.faults q ≡ O.faults p + 1)
-Waits O v timeout start now p (i ∷ is) answer given q =
-    O.waits p (asked_for v timeout start now) (Err i.cause) i.given i.waited × IsInterruption i.cause × O.reads i.waited i.now i.read
-    × MatchBool (is_zero (asked_for v timeout start i.now))
+-- with this wait asked first, and with these interruptions: the moment of the gathering or a fault, the events, and the
+-- poller then. The clock is read after each interruption and after the last answer. An interruption looks at the board and
+-- asks anew, and counts as an empty answer where nothing is left to wait for. A fault is one more in the poller's count.
+abbrev pub Waits : {P : Type 0} → Outside P → PollView P → (timeout : Option ℕ) → (start : ℕ) → (asked : Option ℕ) → P → List (Interruption P) → Result ℕ Cause → List (ℕ × Readiness) → P → Type 0
+Waits {P} O v timeout start asked p [] (Ok later) given q = (w : P) × O.waits p asked (Ok tt) given w × O.reads w later q
+Waits O v timeout start asked p [] (Err cause) given q = O.waits p asked (Err cause) given q × (¬ IsInterruption cause) × (O.faults q ≡ O.faults p + 1)
+Waits O v timeout start asked p (i ∷ is) answer given q =
+    O.waits p asked (Err i.cause) i.given i.waited × IsInterruption i.cause × O.reads i.waited i.now i.read
+    × MatchBool (is_zero (asked_for v i.posted timeout start i.now))
     ((is ≡ []) × (answer ≡ Ok i.now) × (given ≡ []) × (q ≡ i.read))
-    (Waits O v timeout start i.now i.read is answer given q)
+    (Waits O v timeout start (asked_for v i.posted timeout start i.now) i.read is answer given q)
 
--- a whole wait: the clock is read once at the start
+-- a whole wait: the clock is read once at the start, and the board is looked at
 abbrev pub Waited : {P : Type 0} → Outside P → PollView P → (timeout : Option ℕ) → Result ℕ Cause → List (ℕ × Readiness) → P → Type 0
-Waited {P} O v timeout answer given q = (start : ℕ) × (p : P) × O.reads v.poller start p × (interruptions : List (Interruption P)) × Waits O v timeout start start p interruptions answer given q
+Waited {P} O v timeout answer given q =
+    (start : ℕ) × (p : P) × O.reads v.poller start p × (posted : Bool) × (interruptions : List (Interruption P))
+    × Waits O v timeout start (asked_for v posted timeout start start) p interruptions answer given q
 
--- a wait and, where it had no fault, the gathering
+-- a wait and, where it had no fault, the gathering, of the keys that the board then gives, ascending
 abbrev pub Polled : {P : Type 0} → Outside P → (timeout : Option ℕ) → Result (Unit {0}) Error → PollView P → PollView P → Type 0
-Polled {P} O timeout (Ok u) v v' = (now : ℕ) × (given : List (ℕ × Readiness)) × (p : P) × Waited O v timeout (Ok now) given p × (v' ≡ gathered (taken_keys v.board) given now (polling p v))
+Polled {P} O timeout (Ok u) v v' =
+    (now : ℕ) × (given : List (ℕ × Readiness)) × (p : P) × Waited O v timeout (Ok now) given p × (posted : List ℕ) × IsRising posted × (v' ≡ gathered posted given now (polling p v))
 Polled {P} O timeout (Err e) v v' = (given : List (ℕ × Readiness)) × (p : P) × (cause : Cause) × (e ≡ IoError cause) × Waited O v timeout (Err cause) given p × (v' ≡ polling p v)

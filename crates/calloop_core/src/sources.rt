@@ -3,6 +3,7 @@ use crate::sys::poll::Poll;
 use crate::sys::{Poller, Readiness};
 use calloop_wake::error::{Error, Result as LoopResult};
 use calloop_wake::token::{Token, TokenFactory};
+use std::sync::Wait;
 
 /// Called with the events of a source, as calloop's closures are: a value of a named type, whose clauses say
 /// what a call may do. `X` is the data that a dispatch lends, and `T` is what the source is told.
@@ -36,7 +37,7 @@ pub trait IntoError: Drop {
 
 /// A source of events. Its meaning is said by relations between what it was before a call, what the call read of `Poll`,
 /// its answer, the steps that it made there, and what it is after it.
-pub trait EventSource<P: Poller, C> {
+pub trait EventSource<P: Poller, C, R: Wait + Drop> {
     ghost use Rattle.std.specs.Prelude.{ℕ, Bool, List, Result};
     ghost use Rattle.calloop_wake.specs.declared.error.Error.{Error};
     ghost use Rattle.calloop_wake.specs.declared.token.Token.{Token};
@@ -78,7 +79,7 @@ pub trait EventSource<P: Poller, C> {
         &mut self,
         readiness: Readiness,
         token: Token,
-        poll: &mut Poll<P, C>,
+        poll: &mut Poll<P, C, R>,
         callback: &mut F,
         data: &mut X,
     ) -> Result<PostAction, Self::Error>
@@ -87,19 +88,19 @@ pub trait EventSource<P: Poller, C> {
         ensures { (calls : List (Call Self.Event Self.Metadata Self.Ret)) × (steps : List (PollStep P)) × turn self.old readiness token (poll_view poll.old) calls result steps self.new × AllStepped P.outside (poll_view poll.old) steps (poll_view poll.new) × Went F.may callback.old «data».old calls callback.new «data».new };
 
     /// Registers it with tokens of the factory.
-    fn register(&mut self, poll: &mut Poll<P, C>, factory: &mut TokenFactory) -> LoopResult<()>
+    fn register(&mut self, poll: &mut Poll<P, C, R>, factory: &mut TokenFactory) -> LoopResult<()>
         ensures { (steps : List (PollStep P)) × reg self.old (poll_view poll.old) factory.old result steps self.new factory.new × AllStepped P.outside (poll_view poll.old) steps (poll_view poll.new) };
 
     /// Registers it anew with tokens of the factory, as after a change of what it waits for.
-    fn reregister(&mut self, poll: &mut Poll<P, C>, factory: &mut TokenFactory) -> LoopResult<()>
+    fn reregister(&mut self, poll: &mut Poll<P, C, R>, factory: &mut TokenFactory) -> LoopResult<()>
         ensures { (steps : List (PollStep P)) × rereg self.old (poll_view poll.old) factory.old result steps self.new factory.new × AllStepped P.outside (poll_view poll.old) steps (poll_view poll.new) };
 
     /// Takes its registration back.
-    fn unregister(&mut self, poll: &mut Poll<P, C>) -> LoopResult<()>
+    fn unregister(&mut self, poll: &mut Poll<P, C, R>) -> LoopResult<()>
         ensures { (steps : List (PollStep P)) × unreg self.old (poll_view poll.old) result steps self.new × AllStepped P.outside (poll_view poll.old) steps (poll_view poll.new) };
 
     /// Rings it where it is a ping, and says whether it is one.
-    fn ring(&mut self, poll: &mut Poll<P, C>) -> bool
+    fn ring(&mut self, poll: &mut Poll<P, C, R>) -> bool
         ensures { (steps : List (PollStep P)) × rung self.old result steps self.new × AllStepped P.outside (poll_view poll.old) steps (poll_view poll.new) };
 
     /// It leaves the counters of others alone, and calls once for each arming of its own.
@@ -122,7 +123,7 @@ pub struct Dispatcher<S, F> {
 }
 
 /// What a loop calls: a source with its callback, or an enum of such. `X` is the data that a dispatch lends.
-pub trait Dispatch<P: Poller, C, X> {
+pub trait Dispatch<P: Poller, C, R: Wait + Drop, X> {
     ghost use Rattle.std.specs.Prelude.{List};
     ghost use Rattle.calloop_core.specs.Polls.{PollStep, poll_view, AllStepped};
     ghost use Rattle.calloop_core.specs.Meanings.{Meaning, IsKeeping};
@@ -130,19 +131,19 @@ pub trait Dispatch<P: Poller, C, X> {
     ghost means: { Meaning Self P X };
 
     /// Registers the source with tokens of the factory.
-    fn register(&mut self, poll: &mut Poll<P, C>, factory: &mut TokenFactory) -> LoopResult<()>
+    fn register(&mut self, poll: &mut Poll<P, C, R>, factory: &mut TokenFactory) -> LoopResult<()>
         ensures { (steps : List (PollStep P)) × means.reg self.old (poll_view poll.old) factory.old result steps self.new factory.new × AllStepped P.outside (poll_view poll.old) steps (poll_view poll.new) };
 
     /// Registers the source anew with tokens of the factory.
-    fn reregister(&mut self, poll: &mut Poll<P, C>, factory: &mut TokenFactory) -> LoopResult<()>
+    fn reregister(&mut self, poll: &mut Poll<P, C, R>, factory: &mut TokenFactory) -> LoopResult<()>
         ensures { (steps : List (PollStep P)) × means.rereg self.old (poll_view poll.old) factory.old result steps self.new factory.new × AllStepped P.outside (poll_view poll.old) steps (poll_view poll.new) };
 
     /// Takes its registration back.
-    fn unregister(&mut self, poll: &mut Poll<P, C>) -> LoopResult<()>
+    fn unregister(&mut self, poll: &mut Poll<P, C, R>) -> LoopResult<()>
         ensures { (steps : List (PollStep P)) × means.unreg self.old (poll_view poll.old) result steps self.new × AllStepped P.outside (poll_view poll.old) steps (poll_view poll.new) };
 
     /// Rings the source where it is a ping, and says whether it is one.
-    fn ring(&mut self, poll: &mut Poll<P, C>) -> bool
+    fn ring(&mut self, poll: &mut Poll<P, C, R>) -> bool
         ensures { (steps : List (PollStep P)) × means.ring self.old result steps self.new × AllStepped P.outside (poll_view poll.old) steps (poll_view poll.new) };
 
     /// A turn of the source, for an event of this token.
@@ -150,7 +151,7 @@ pub trait Dispatch<P: Poller, C, X> {
         &mut self,
         readiness: Readiness,
         token: Token,
-        poll: &mut Poll<P, C>,
+        poll: &mut Poll<P, C, R>,
         data: &mut X,
     ) -> LoopResult<PostAction>
         ensures { (steps : List (PollStep P)) × means.turn self.old readiness token (poll_view poll.old) «data».old result steps self.new «data».new × AllStepped P.outside (poll_view poll.old) steps (poll_view poll.new) };
@@ -158,9 +159,9 @@ pub trait Dispatch<P: Poller, C, X> {
     ghost keeps: { IsKeeping means };
 }
 
-impl<P: Poller, C, X, S, F> Dispatch<P, C, X> for Dispatcher<S, F>
+impl<P: Poller, C, R: Wait + Drop, X, S, F> Dispatch<P, C, R, X> for Dispatcher<S, F>
 where
-    S: EventSource<P, C>,
+    S: EventSource<P, C, R>,
     F: Callback<S::Event, S::Metadata, S::Ret, X>,
 {
     ghost use Rattle.std.specs.Prelude.{◌≡◌};
@@ -175,19 +176,23 @@ where
       turn = IsDispatched S.turn F.may S.Error.becomes;
     } };
 
-    fn register(&mut self, poll: &mut Poll<P, C>, factory: &mut TokenFactory) -> LoopResult<()> {
+    fn register(&mut self, poll: &mut Poll<P, C, R>, factory: &mut TokenFactory) -> LoopResult<()> {
         self.source.register(poll, factory)
     }
 
-    fn reregister(&mut self, poll: &mut Poll<P, C>, factory: &mut TokenFactory) -> LoopResult<()> {
+    fn reregister(
+        &mut self,
+        poll: &mut Poll<P, C, R>,
+        factory: &mut TokenFactory,
+    ) -> LoopResult<()> {
         self.source.reregister(poll, factory)
     }
 
-    fn unregister(&mut self, poll: &mut Poll<P, C>) -> LoopResult<()> {
+    fn unregister(&mut self, poll: &mut Poll<P, C, R>) -> LoopResult<()> {
         self.source.unregister(poll)
     }
 
-    fn ring(&mut self, poll: &mut Poll<P, C>) -> bool {
+    fn ring(&mut self, poll: &mut Poll<P, C, R>) -> bool {
         self.source.ring(poll)
     }
 
@@ -195,7 +200,7 @@ where
         &mut self,
         readiness: Readiness,
         token: Token,
-        poll: &mut Poll<P, C>,
+        poll: &mut Poll<P, C, R>,
         data: &mut X,
     ) -> LoopResult<PostAction> {
         match self

@@ -3,12 +3,15 @@ ghost use Rattle.std.specs.Prelude.{◌≡◌, ℕ, ◌+◌, ◌≤◌, ◌++◌
 ghost use Rattle.calloop_core.specs.Pollers.{Outside, IsCounted, nanos_of};
 ghost use Rattle.calloop_core.specs.declared.sys.Readiness.{Readiness};
 
-use calloop_wake::wake::Notify;
+use calloop_wake::error::Result as LoopResult;
 use calloop_wake::wheel::Instant;
+use notifier::Notifier;
 use std::io;
 use std::time::Duration;
 
 pub mod faults;
+pub mod hub;
+pub mod notifier;
 pub mod poll;
 pub mod script;
 
@@ -45,10 +48,10 @@ pub trait Clock: Clone + Drop {
 }
 
 /// Waits for events, and tells the moment. The loop is proved for every answer that a poller may give.
-///
-/// A nudge is spent on the poller, and changes nothing that is seen of it.
-pub trait Poller: Drop + Notify {
+pub trait Poller: Drop {
     ghost use Rattle.std.specs.Prelude.{◌≡◌, ℕ, ◌+◌, ◌≤◌, ◌++◌, List, length, vec_len, vec_capacity};
+    ghost use Rattle.std.specs.Prelude.{IfErr};
+    ghost use Rattle.calloop_wake.specs.declared.error.Error.TheVariants.{OutOfMemory};
     ghost use Rattle.calloop_core.specs.Pollers.{Outside, IsCounted, nanos_of};
     ghost use Rattle.calloop_core.specs.declared.sys.Readiness.{Readiness};
 
@@ -74,6 +77,7 @@ pub trait Poller: Drop + Notify {
         ensures room { vec_capacity events.old ≤ vec_capacity events.new }
         ensures faults { IsCounted (outside.faults self.old) result (outside.faults self.new) };
 
-    /// A nudge changes nothing that is seen.
-    ghost unseen: { (before after : Self) → Self.notified before after → after ≡ before };
+    /// What ends its wait from another thread. No contract says that it does; want of memory is `OutOfMemory`.
+    fn notifier(&self) -> LoopResult<Notifier>
+        ensures { IfErr result (λ e. e ≡ OutOfMemory) };
 }

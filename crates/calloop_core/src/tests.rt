@@ -1,16 +1,17 @@
 use crate::sources::{Callback, Dispatch, Dispatcher, EventSource, PostAction};
+use crate::sys::notifier::Notifier;
 use crate::sys::poll::Poll;
 use crate::sys::script::{ScriptAnswer, ScriptClock, ScriptEnd, ScriptEvents, ScriptPoller};
 use crate::sys::{Clock, Poller, Readiness};
 use crate::timer::{TimeoutAction, Timer};
 use calloop_wake::error::Error;
 use calloop_wake::token::{RegistrationToken, Token, TokenFactory};
-use calloop_wake::wake::Notify;
 use calloop_wake::wake::ping::{OpenedTurn, PingCore};
 use calloop_wake::wheel::Instant;
 use std::alloc::Global;
 use std::io;
-use std::sync::Wait;
+use std::sync::atomic::AtomicBool;
+use std::sync::{Arc, Wait};
 use std::test::Fail;
 use std::time::Duration;
 
@@ -38,7 +39,7 @@ fn answer(alloc: Global, moment: u64, keys: &[u64]) -> Option<ScriptAnswer> {
 
 #[test]
 fn answers_of_a_script(rt: HostRuntime) -> Result<(), Fail> {
-    let mut poller = ScriptPoller::new(rt.alloc());
+    let mut poller = ScriptPoller::new(rt.alloc())?;
     assert_eq!(rt; poller.now().nanos, 0);
     let late = answer(rt.alloc(), 30, &[4, 2]).expect(&rt, "an answer");
     poller.script(late)?;
@@ -64,7 +65,7 @@ fn answers_of_a_script(rt: HostRuntime) -> Result<(), Fail> {
 
 #[test]
 fn asked_waits(rt: HostRuntime) -> Result<(), Fail> {
-    let mut poller = ScriptPoller::new(rt.alloc());
+    let mut poller = ScriptPoller::new(rt.alloc())?;
     let mut events = Vec::with_capacity(rt.alloc(), 4096)?;
     poller.wait(nanos(1), &mut events)?;
     assert!(rt; poller.waits().is_empty());
@@ -100,24 +101,27 @@ fn at_most_so_many_events(rt: HostRuntime) {
 
 #[test]
 fn clocks(rt: HostRuntime) -> Result<(), Fail> {
-    let mut poller = ScriptPoller::new(rt.alloc());
+    let mut poller = ScriptPoller::new(rt.alloc())?;
     let mut events = Vec::with_capacity(rt.alloc(), 1024)?;
     poller.wait(nanos(3), &mut events)?;
-    let clock = poller.clock();
-    let mut poll = Poll::new(rt.alloc(), poller, clock);
+    let clock = poller.clock()?;
+    assert_eq!(rt; clock.now().nanos, 3);
+    let mut poll = Poll::new(rt.clone()?, rt.alloc(), poller, clock)?;
     poll_once(&rt, &mut poll, nanos(4))?;
-    assert_eq!(rt; poll.clock().now().nanos, 3);
-    assert_eq!(rt; poll.clock().clone()?.now().nanos, 3);
-    assert_eq!(rt; poll.poller_mut().now().nanos, 7);
+    assert_eq!(rt; poll.clock().now().nanos, 7);
+    assert_eq!(rt; poll.clock().clone()?.now().nanos, 7);
+    poll.poller_mut().set_clock(Instant { nanos: 5 });
+    assert_eq!(rt; poll.clock().now().nanos, 5);
+    assert_eq!(rt; poll.poller_mut().now().nanos, 5);
     Ok(())
 }
 
-type Scripted = Poll<ScriptPoller, ScriptClock>;
+type Scripted<R> = Poll<ScriptPoller, ScriptClock, R>;
 
-fn new_poll(alloc: Global) -> Scripted {
-    let poller = ScriptPoller::new(alloc);
-    let clock = poller.clock();
-    Poll::new(alloc, poller, clock)
+fn new_poll<R: Wait + Clone + Drop>(rt: &R, alloc: Global) -> Result<Scripted<R>, Error> {
+    let poller = ScriptPoller::new(alloc)?;
+    let clock = poller.clock()?;
+    Poll::new(rt.clone()?, alloc, poller, clock)
 }
 
 // Tokens of slots 0 and up, in ascending order of their keys: 0, 4,294,967,296 and so on.
@@ -126,8 +130,8 @@ fn token(slot: u32) -> Result<Token, Error> {
 }
 
 // Opens the token's place, and gives the cell its key.
-fn register<P: Poller, C>(
-    poll: &mut Poll<P, C>,
+fn register<P: Poller, C, R: Wait + Drop>(
+    poll: &mut Poll<P, C, R>,
     cell: &mut PingCore,
     token: Token,
 ) -> Result<(), Error> {
@@ -138,9 +142,9 @@ fn register<P: Poller, C>(
     Ok(())
 }
 
-fn poll_once<R: Wait, P: Poller, C>(
-    rt: &R,
-    poll: &mut Poll<P, C>,
+fn poll_once<Q: Wait, P: Poller, C, R: Wait + Drop>(
+    rt: &Q,
+    poll: &mut Poll<P, C, R>,
     timeout: Option<Duration>,
 ) -> Result<(), Error> {
     poll.reserve()?;
@@ -148,13 +152,16 @@ fn poll_once<R: Wait, P: Poller, C>(
 }
 
 // What is seen of the next event: its key, whether it is ready to be read, and whether it was posted.
-fn next<P: Poller, C>(poll: &mut Poll<P, C>) -> Option<(u64, bool, bool)> {
+fn next<P: Poller, C, R: Wait + Drop>(poll: &mut Poll<P, C, R>) -> Option<(u64, bool, bool)> {
     let event = poll.next_event()?;
     Some((event.token.key(), event.readiness.readable, event.posted))
 }
 
 // A turn of the cell with the pass that lies behind the event: whether somebody rang, if it opens.
-fn turn<P: Poller, C>(poll: &mut Poll<P, C>, cell: &mut PingCore) -> Option<bool> {
+fn turn<P: Poller, C, R: Wait + Drop>(
+    poll: &mut Poll<P, C, R>,
+    cell: &mut PingCore,
+) -> Option<bool> {
     let pass = poll.take_pass()?;
     match cell.open_turn(pass) {
         Ok(OpenedTurn { turn, rung }) => {
@@ -170,7 +177,7 @@ fn turn<P: Poller, C>(poll: &mut Poll<P, C>, cell: &mut PingCore) -> Option<bool
 
 #[test]
 fn one_poll(rt: HostRuntime) -> Result<(), Fail> {
-    let mut poll = new_poll(rt.alloc());
+    let mut poll = new_poll(&rt, rt.alloc())?;
     let (first, second, third) = (token(0)?, token(1)?, token(2)?);
     let mut cell = PingCore::new();
     let mut other = PingCore::new();
@@ -213,7 +220,7 @@ fn one_poll(rt: HostRuntime) -> Result<(), Fail> {
 
 #[test]
 fn an_unspent_pass_goes_back(rt: HostRuntime) -> Result<(), Fail> {
-    let mut poll = new_poll(rt.alloc());
+    let mut poll = new_poll(&rt, rt.alloc())?;
     let (first, second) = (token(0)?, token(1)?);
     let mut cell = PingCore::new();
     let mut other = PingCore::new();
@@ -238,7 +245,7 @@ fn an_unspent_pass_goes_back(rt: HostRuntime) -> Result<(), Fail> {
 
 #[test]
 fn left_over_events_come_first(rt: HostRuntime) -> Result<(), Fail> {
-    let mut poll = new_poll(rt.alloc());
+    let mut poll = new_poll(&rt, rt.alloc())?;
     let (first, second, third) = (token(0)?, token(1)?, token(2)?);
     let mut cell = PingCore::new();
     register(&mut poll, &mut cell, first)?;
@@ -261,7 +268,7 @@ fn left_over_events_come_first(rt: HostRuntime) -> Result<(), Fail> {
 
 #[test]
 fn no_wait_beside_a_left_over_event(rt: HostRuntime) -> Result<(), Fail> {
-    let mut poll = new_poll(rt.alloc());
+    let mut poll = new_poll(&rt, rt.alloc())?;
     let (first, second) = (token(0)?, token(1)?);
     let keys = [first.key(), second.key()];
     let given = answer(rt.alloc(), 1, &keys).expect(&rt, "an answer");
@@ -282,7 +289,7 @@ fn no_wait_beside_a_left_over_event(rt: HostRuntime) -> Result<(), Fail> {
 
 #[test]
 fn a_post_nudges(rt: HostRuntime) -> Result<(), Fail> {
-    let mut poll = new_poll(rt.alloc());
+    let mut poll = new_poll(&rt, rt.alloc())?;
     let first = token(0)?;
     let mut cell = PingCore::new();
     register(&mut poll, &mut cell, first)?;
@@ -308,7 +315,7 @@ fn kind_of<T: Drop>(answer: Result<T, Error>) -> Option<io::ErrorKind> {
 
 #[test]
 fn places(rt: HostRuntime) -> Result<(), Fail> {
-    let mut poll = new_poll(rt.alloc());
+    let mut poll = new_poll(&rt, rt.alloc())?;
     let (first, second) = (token(0)?, token(1)?);
     let mut cell = PingCore::new();
     let mut other = PingCore::new();
@@ -332,19 +339,10 @@ fn places(rt: HostRuntime) -> Result<(), Fail> {
 #[derive(Drop)]
 struct FailsFirst {
     waits: u8,
-}
-
-impl Notify for FailsFirst {
-    ghost use Rattle.std.specs.Prelude.{◌≡◌};
-
-    ghost notified = { λ before after. after ≡ before };
-
-    fn notify(&mut self) {}
+    signal: Arc<AtomicBool, Global>,
 }
 
 impl Poller for FailsFirst {
-    ghost unseen = { λ before after same. same };
-
     ghost outside = { record { reads = λ _ _ _. Unit {0}; waits = λ _ _ _ _ _. Unit {0}; faults = λ p. p.waits } };
 
     fn now(&mut self) -> Instant {
@@ -363,11 +361,19 @@ impl Poller for FailsFirst {
         events.push_reserved((7, WRITABLE));
         Err(io::Error::from(io::ErrorKind::PermissionDenied))
     }
+
+    fn notifier(&self) -> Result<Notifier, Error> {
+        Ok(Notifier::Script(Arc::try_clone(&self.signal)?))
+    }
 }
 
 #[test]
 fn a_fault_changes_nothing(rt: HostRuntime) -> Result<(), Fail> {
-    let mut poll = Poll::new(rt.alloc(), FailsFirst { waits: 0 }, ());
+    let poller = FailsFirst {
+        waits: 0,
+        signal: Arc::new(rt.alloc(), AtomicBool::new(false))?,
+    };
+    let mut poll = Poll::new(rt.clone()?, rt.alloc(), poller, ())?;
     let first = token(0)?;
     let mut cell = PingCore::new();
     register(&mut poll, &mut cell, first)?;
@@ -421,7 +427,7 @@ fn at(millis: u64) -> Instant {
 }
 
 // Has the next wait end so.
-fn script(poll: &mut Scripted, millis: u64, end: ScriptEnd) -> bool {
+fn script<R: Wait + Drop>(poll: &mut Scripted<R>, millis: u64, end: ScriptEnd) -> bool {
     let answer = ScriptAnswer {
         moment: at(millis),
         end,
@@ -430,7 +436,12 @@ fn script(poll: &mut Scripted, millis: u64, end: ScriptEnd) -> bool {
 }
 
 // Has the next wait end with events of these keys.
-fn give(poll: &mut Scripted, alloc: Global, millis: u64, keys: &[u64]) -> Option<()> {
+fn give<R: Wait + Drop>(
+    poll: &mut Scripted<R>,
+    alloc: Global,
+    millis: u64,
+    keys: &[u64],
+) -> Option<()> {
     let mut events = ScriptEvents::new(alloc);
     for key in keys {
         events.push(*key, WRITABLE).ok()?;
@@ -439,7 +450,7 @@ fn give(poll: &mut Scripted, alloc: Global, millis: u64, keys: &[u64]) -> Option
 }
 
 // Whether just these waits were asked, in milliseconds.
-fn has_asked(poll: &mut Scripted, wanted: &[u64]) -> bool {
+fn has_asked<R: Wait + Drop>(poll: &mut Scripted<R>, wanted: &[u64]) -> bool {
     let waits = poll.poller_mut().waits();
     waits.len() == wanted.len()
         && waits
@@ -449,8 +460,12 @@ fn has_asked(poll: &mut Scripted, wanted: &[u64]) -> bool {
 }
 
 // A wait of 100 ms that is interrupted at these moments.
-fn interrupted<R: Wait>(rt: &R, alloc: Global, moments: &[u64]) -> Result<Scripted, Fail> {
-    let mut poll = new_poll(alloc);
+fn interrupted<R: Wait + Clone + Drop>(
+    rt: &R,
+    alloc: Global,
+    moments: &[u64],
+) -> Result<Scripted<R>, Fail> {
+    let mut poll = new_poll(rt, alloc)?;
     for moment in moments {
         script(&mut poll, *moment, ScriptEnd::Interrupted);
     }
@@ -477,7 +492,7 @@ fn interruptions(rt: HostRuntime) -> Result<(), Fail> {
 
 #[test]
 fn timers_in_order(rt: HostRuntime) -> Result<(), Fail> {
-    let mut poll = new_poll(rt.alloc());
+    let mut poll = new_poll(&rt, rt.alloc())?;
     for (slot, deadline) in [(0, 30), (1, 10), (2, 20), (3, 10)] {
         poll.insert_timer(at(deadline), token(slot)?)?;
     }
@@ -494,7 +509,7 @@ fn timers_in_order(rt: HostRuntime) -> Result<(), Fail> {
 
 #[test]
 fn a_scripted_fault(rt: HostRuntime) -> Result<(), Fail> {
-    let mut poll = new_poll(rt.alloc());
+    let mut poll = new_poll(&rt, rt.alloc())?;
     let (first, second) = (token(0)?, token(1)?);
     let mut cell = PingCore::new();
     register(&mut poll, &mut cell, first)?;
@@ -517,7 +532,7 @@ fn a_scripted_fault(rt: HostRuntime) -> Result<(), Fail> {
 
 #[test]
 fn order_of_a_batch(rt: HostRuntime) -> Result<(), Fail> {
-    let mut poll = new_poll(rt.alloc());
+    let mut poll = new_poll(&rt, rt.alloc())?;
     let (first, second, third) = (token(0)?, token(1)?, token(2)?);
     let mut cell = PingCore::new();
     register(&mut poll, &mut cell, third)?;
@@ -562,13 +577,17 @@ fn alarm(source: Timer, action: TimeoutAction) -> Alarm {
 }
 
 // Registers it in the slot 0.
-fn arm(poll: &mut Scripted, alarm: &mut Alarm) -> Result<(), Error> {
+fn arm<R: Wait + Drop>(poll: &mut Scripted<R>, alarm: &mut Alarm) -> Result<(), Error> {
     let mut factory = TokenFactory::new(RegistrationToken::new(0, 0));
-    Dispatch::<ScriptPoller, ScriptClock, Vec<Instant>>::register(alarm, poll, &mut factory)
+    Dispatch::<ScriptPoller, ScriptClock, R, Vec<Instant>>::register(alarm, poll, &mut factory)
 }
 
 // Gives the next event to the alarm.
-fn serve(poll: &mut Scripted, alarm: &mut Alarm, moments: &mut Vec<Instant>) -> Option<PostAction> {
+fn serve<R: Wait + Drop>(
+    poll: &mut Scripted<R>,
+    alarm: &mut Alarm,
+    moments: &mut Vec<Instant>,
+) -> Option<PostAction> {
     let event = poll.next_event()?;
     let answer = alarm.process_events(event.readiness, event.token, poll, moments);
     poll.end_event();
@@ -577,7 +596,7 @@ fn serve(poll: &mut Scripted, alarm: &mut Alarm, moments: &mut Vec<Instant>) -> 
 
 #[test]
 fn a_timer_without_a_deadline(rt: HostRuntime) -> Result<(), Fail> {
-    let mut poll = new_poll(rt.alloc());
+    let mut poll = new_poll(&rt, rt.alloc())?;
     let mut timer = Timer::from_duration(&poll.clock().clone()?, Duration::MAX);
     let mut factory = TokenFactory::new(RegistrationToken::new(0, 0));
     timer.register(&mut poll, &mut factory)?;
@@ -592,7 +611,7 @@ fn a_timer_without_a_deadline(rt: HostRuntime) -> Result<(), Fail> {
 
 #[test]
 fn a_deadline_that_is_set_later(rt: HostRuntime) -> Result<(), Fail> {
-    let mut poll = new_poll(rt.alloc());
+    let mut poll = new_poll(&rt, rt.alloc())?;
     let mut moments = Vec::new(rt.alloc());
     let mut alarm = alarm(Timer::from_deadline(at(100)), TimeoutAction::Drop);
     arm(&mut poll, &mut alarm)?;
@@ -615,7 +634,7 @@ fn a_polled_event_with_the_key_of_a_timer(rt: HostRuntime) -> Result<(), Fail> {
         (TimeoutAction::Drop, PostAction::Remove),
         (TimeoutAction::ToInstant(at(70)), PostAction::Continue),
     ] {
-        let mut poll = new_poll(rt.alloc());
+        let mut poll = new_poll(&rt, rt.alloc())?;
         let mut moments = Vec::new(rt.alloc());
         let mut alarm = alarm(Timer::from_deadline(at(10)), action);
         arm(&mut poll, &mut alarm)?;

@@ -14,6 +14,7 @@ use crate::sys::{Clock, Poller, Readiness};
 use calloop_wake::error::{Error, Result as LoopResult};
 use calloop_wake::token::{Token, TokenFactory};
 use calloop_wake::wheel::Instant;
+use std::sync::Wait;
 use std::time::Duration;
 
 /// What a timer's callback answers.
@@ -30,7 +31,8 @@ pub enum TimeoutAction {
 /// Why a timer's turn failed.
 #[derive(Debug, Drop)]
 pub enum TimerError {
-    /// There was no memory to arm it again. It is unarmed then, with the asked deadline.
+    /// There was no memory to arm it again, or its turn was on a `Poll` that never gave its counter, which no loop does. It is
+    /// unarmed then, with the asked deadline.
     OutOfMemory,
 }
 
@@ -114,7 +116,7 @@ impl Timer {
     }
 
     // Takes the older arming back.
-    fn release<P: Poller, C>(&mut self, poll: &mut Poll<P, C>)
+    fn release<P: Poller, C, R: Wait + Drop>(&mut self, poll: &mut Poll<P, C, R>)
         ensures timer { self.new ≡ unarmed self.old.deadline }
         ensures steps { AllStepped P.outside (poll_view poll.old) (releases self.old.registration) (poll_view poll.new) }
         ensures next { (poll_view poll.new).deadlines.next ≡ (poll_view poll.old).deadlines.next }
@@ -126,9 +128,9 @@ impl Timer {
     }
 
     // Arms what isn't armed, where it has a deadline.
-    fn arm<P: Poller, C>(
+    fn arm<P: Poller, C, R: Wait + Drop>(
         &mut self,
-        poll: &mut Poll<P, C>,
+        poll: &mut Poll<P, C, R>,
         factory: &mut TokenFactory,
     ) -> LoopResult<()>
         requires { self.old ≡ unarmed self.old.deadline }
@@ -149,11 +151,11 @@ impl Timer {
     }
 
     // Arms its counter again.
-    fn arm_again<P: Poller, C>(
+    fn arm_again<P: Poller, C, R: Wait + Drop>(
         &mut self,
         registration: Registration,
         deadline: Instant,
-        poll: &mut Poll<P, C>,
+        poll: &mut Poll<P, C, R>,
     ) -> Result<PostAction, TimerError>
         requires { is_armed registration.counter (poll_view poll.old).deadlines ≡ false }
         ensures { (steps : List (PollStep P)) × ArmedAgain registration deadline result steps self.new × AllStepped P.outside (poll_view poll.old) steps (poll_view poll.new) }
@@ -178,10 +180,10 @@ impl Timer {
     }
 
     // One call, and what follows from its answer.
-    fn call<P: Poller, C, F, X>(
+    fn call<P: Poller, C, R: Wait + Drop, F, X>(
         &mut self,
         registration: Registration,
-        poll: &mut Poll<P, C>,
+        poll: &mut Poll<P, C, R>,
         callback: &mut F,
         data: &mut X,
     ) -> Result<PostAction, TimerError>
@@ -208,7 +210,7 @@ impl Timer {
     }
 }
 
-impl<P: Poller, C> EventSource<P, C> for Timer {
+impl<P: Poller, C, R: Wait + Drop> EventSource<P, C, R> for Timer {
     ghost use Rattle.calloop_core.specs.Timers.{timer_holds, IsTimerReg, IsTimerUnreg, IsTimerTurn, IsNoPing};
     ghost use Rattle.calloop_core.specs.Keeping.{timer_reg_keeps, timer_unreg_keeps, timer_ring_keeps, timer_turn_keeps};
 
@@ -238,7 +240,7 @@ impl<P: Poller, C> EventSource<P, C> for Timer {
         &mut self,
         _readiness: Readiness,
         token: Token,
-        poll: &mut Poll<P, C>,
+        poll: &mut Poll<P, C, R>,
         callback: &mut F,
         data: &mut X,
     ) -> Result<PostAction, TimerError>
@@ -259,25 +261,28 @@ impl<P: Poller, C> EventSource<P, C> for Timer {
 
     /// Takes an older arming back, and arms the timer for its deadline under the factory's next token, where it has one.
     /// A refusal leaves it unarmed, with its deadline.
-    fn register(&mut self, poll: &mut Poll<P, C>, factory: &mut TokenFactory) -> LoopResult<()> {
+    fn register(&mut self, poll: &mut Poll<P, C, R>, factory: &mut TokenFactory) -> LoopResult<()> {
         self.release(poll);
         self.arm(poll, factory)
     }
 
     /// As a registration: the older arming is taken back, and the deadline is armed anew.
-    fn reregister(&mut self, poll: &mut Poll<P, C>, factory: &mut TokenFactory) -> LoopResult<()> {
-        self.release(poll);
-        self.arm(poll, factory)
+    fn reregister(
+        &mut self,
+        poll: &mut Poll<P, C, R>,
+        factory: &mut TokenFactory,
+    ) -> LoopResult<()> {
+        self.register(poll, factory)
     }
 
     /// Takes the arming back, where there is one. It never fails.
-    fn unregister(&mut self, poll: &mut Poll<P, C>) -> LoopResult<()> {
+    fn unregister(&mut self, poll: &mut Poll<P, C, R>) -> LoopResult<()> {
         self.release(poll);
         Ok(())
     }
 
     /// A timer is no ping.
-    fn ring(&mut self, _poll: &mut Poll<P, C>) -> bool {
+    fn ring(&mut self, _poll: &mut Poll<P, C, R>) -> bool {
         false
     }
 

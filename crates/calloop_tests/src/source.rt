@@ -13,6 +13,7 @@ use calloop::{
     TokenFactory,
 };
 use std::io;
+use std::sync::Wait;
 
 /// Says its number.
 #[derive(Drop)]
@@ -62,7 +63,7 @@ impl IntoError for Broken {
     }
 }
 
-impl<P: Poller, C> EventSource<P, C> for Failing {
+impl<P: Poller, C, R: Wait + Drop> EventSource<P, C, R> for Failing {
     ghost use Rattle.calloop_core.specs.Holdings.{holds_none};
 
     type Event = ();
@@ -89,7 +90,7 @@ impl<P: Poller, C> EventSource<P, C> for Failing {
         &mut self,
         _readiness: Readiness,
         _token: Token,
-        _poll: &mut Poll<P, C>,
+        _poll: &mut Poll<P, C, R>,
         _callback: &mut F,
         _data: &mut X,
     ) -> std::result::Result<PostAction, Broken>
@@ -99,7 +100,7 @@ impl<P: Poller, C> EventSource<P, C> for Failing {
         Err(Broken)
     }
 
-    fn register(&mut self, _poll: &mut Poll<P, C>, _factory: &mut TokenFactory) -> Result<()> {
+    fn register(&mut self, _poll: &mut Poll<P, C, R>, _factory: &mut TokenFactory) -> Result<()> {
         if self.registers {
             Ok(())
         } else {
@@ -107,7 +108,7 @@ impl<P: Poller, C> EventSource<P, C> for Failing {
         }
     }
 
-    fn reregister(&mut self, _poll: &mut Poll<P, C>, _factory: &mut TokenFactory) -> Result<()> {
+    fn reregister(&mut self, _poll: &mut Poll<P, C, R>, _factory: &mut TokenFactory) -> Result<()> {
         if self.registers {
             Ok(())
         } else {
@@ -115,11 +116,11 @@ impl<P: Poller, C> EventSource<P, C> for Failing {
         }
     }
 
-    fn unregister(&mut self, _poll: &mut Poll<P, C>) -> Result<()> {
+    fn unregister(&mut self, _poll: &mut Poll<P, C, R>) -> Result<()> {
         Ok(())
     }
 
-    fn ring(&mut self, _poll: &mut Poll<P, C>) -> bool {
+    fn ring(&mut self, _poll: &mut Poll<P, C, R>) -> bool {
         false
     }
 
@@ -142,40 +143,40 @@ pub enum Source {
     Failing(Dispatcher<Failing, Teller>),
 }
 
-impl<P: Poller, C> EventDispatcher<P, C> for Source {
+impl<P: Poller, C, R: Wait + Drop> EventDispatcher<P, C, R> for Source {
     type Data = Vec<u32>;
 
-    ghost means = { seen_as split (either ⟦<Dispatcher<PingSource, Teller> as Dispatch<P, C, Vec<u32>>>⟧.means (either ⟦<Dispatcher<Timer, Waker> as Dispatch<P, C, Vec<u32>>>⟧.means ⟦<Dispatcher<Failing, Teller> as Dispatch<P, C, Vec<u32>>>⟧.means)) };
+    ghost means = { seen_as split (either ⟦<Dispatcher<PingSource, Teller> as Dispatch<P, C, R, Vec<u32>>>⟧.means (either ⟦<Dispatcher<Timer, Waker> as Dispatch<P, C, R, Vec<u32>>>⟧.means ⟦<Dispatcher<Failing, Teller> as Dispatch<P, C, R, Vec<u32>>>⟧.means)) };
 
-    fn register(&mut self, poll: &mut Poll<P, C>, factory: &mut TokenFactory) -> Result<()> {
+    fn register(&mut self, poll: &mut Poll<P, C, R>, factory: &mut TokenFactory) -> Result<()> {
         match self {
-            Source::Ping(held) => Dispatch::<P, C, Vec<u32>>::register(held, poll, factory),
-            Source::Alarm(held) => Dispatch::<P, C, Vec<u32>>::register(held, poll, factory),
-            Source::Failing(held) => Dispatch::<P, C, Vec<u32>>::register(held, poll, factory),
+            Source::Ping(held) => Dispatch::<P, C, R, Vec<u32>>::register(held, poll, factory),
+            Source::Alarm(held) => Dispatch::<P, C, R, Vec<u32>>::register(held, poll, factory),
+            Source::Failing(held) => Dispatch::<P, C, R, Vec<u32>>::register(held, poll, factory),
         }
     }
 
-    fn reregister(&mut self, poll: &mut Poll<P, C>, factory: &mut TokenFactory) -> Result<()> {
+    fn reregister(&mut self, poll: &mut Poll<P, C, R>, factory: &mut TokenFactory) -> Result<()> {
         match self {
-            Source::Ping(held) => Dispatch::<P, C, Vec<u32>>::reregister(held, poll, factory),
-            Source::Alarm(held) => Dispatch::<P, C, Vec<u32>>::reregister(held, poll, factory),
-            Source::Failing(held) => Dispatch::<P, C, Vec<u32>>::reregister(held, poll, factory),
+            Source::Ping(held) => Dispatch::<P, C, R, Vec<u32>>::reregister(held, poll, factory),
+            Source::Alarm(held) => Dispatch::<P, C, R, Vec<u32>>::reregister(held, poll, factory),
+            Source::Failing(held) => Dispatch::<P, C, R, Vec<u32>>::reregister(held, poll, factory),
         }
     }
 
-    fn unregister(&mut self, poll: &mut Poll<P, C>) -> Result<()> {
+    fn unregister(&mut self, poll: &mut Poll<P, C, R>) -> Result<()> {
         match self {
-            Source::Ping(held) => Dispatch::<P, C, Vec<u32>>::unregister(held, poll),
-            Source::Alarm(held) => Dispatch::<P, C, Vec<u32>>::unregister(held, poll),
-            Source::Failing(held) => Dispatch::<P, C, Vec<u32>>::unregister(held, poll),
+            Source::Ping(held) => Dispatch::<P, C, R, Vec<u32>>::unregister(held, poll),
+            Source::Alarm(held) => Dispatch::<P, C, R, Vec<u32>>::unregister(held, poll),
+            Source::Failing(held) => Dispatch::<P, C, R, Vec<u32>>::unregister(held, poll),
         }
     }
 
-    fn ring(&mut self, poll: &mut Poll<P, C>) -> bool {
+    fn ring(&mut self, poll: &mut Poll<P, C, R>) -> bool {
         match self {
-            Source::Ping(held) => Dispatch::<P, C, Vec<u32>>::ring(held, poll),
-            Source::Alarm(held) => Dispatch::<P, C, Vec<u32>>::ring(held, poll),
-            Source::Failing(held) => Dispatch::<P, C, Vec<u32>>::ring(held, poll),
+            Source::Ping(held) => Dispatch::<P, C, R, Vec<u32>>::ring(held, poll),
+            Source::Alarm(held) => Dispatch::<P, C, R, Vec<u32>>::ring(held, poll),
+            Source::Failing(held) => Dispatch::<P, C, R, Vec<u32>>::ring(held, poll),
         }
     }
 
@@ -183,7 +184,7 @@ impl<P: Poller, C> EventDispatcher<P, C> for Source {
         &mut self,
         readiness: Readiness,
         token: Token,
-        poll: &mut Poll<P, C>,
+        poll: &mut Poll<P, C, R>,
         data: &mut Vec<u32>,
     ) -> Result<PostAction> {
         match self {
@@ -193,10 +194,10 @@ impl<P: Poller, C> EventDispatcher<P, C> for Source {
         }
     }
 
-    ghost keeps = { keeping_seen split (either ⟦<Dispatcher<PingSource, Teller> as Dispatch<P, C, Vec<u32>>>⟧.means (either ⟦<Dispatcher<Timer, Waker> as Dispatch<P, C, Vec<u32>>>⟧.means ⟦<Dispatcher<Failing, Teller> as Dispatch<P, C, Vec<u32>>>⟧.means)) (keeping_either ⟦<Dispatcher<PingSource, Teller> as Dispatch<P, C, Vec<u32>>>⟧.means (either ⟦<Dispatcher<Timer, Waker> as Dispatch<P, C, Vec<u32>>>⟧.means ⟦<Dispatcher<Failing, Teller> as Dispatch<P, C, Vec<u32>>>⟧.means) (record { reg = λ s t v f g a l h. ping_reg_keeps s.source t.source v f g a l h.0; rereg = λ s t v f g a l h. ping_rereg_keeps s.source t.source v f g a l h.0; unreg = λ s t v a l h. ping_unreg_keeps s.source t.source v a l h.0; ring = λ s t v b l h. ping_ring_keeps s.source t.source v b l h.0; turn = λ s t r k v x y a l h. ping_turn_keeps s.source t.source k v h.calls h.inner l h.turned }) (keeping_either ⟦<Dispatcher<Timer, Waker> as Dispatch<P, C, Vec<u32>>>⟧.means ⟦<Dispatcher<Failing, Teller> as Dispatch<P, C, Vec<u32>>>⟧.means (record { reg = λ s t v f g a l h. timer_reg_keeps s.source t.source v f g a l h.0; rereg = λ s t v f g a l h. timer_reg_keeps s.source t.source v f g a l h.0; unreg = λ s t v a l h. timer_unreg_keeps s.source t.source v a l h.0; ring = λ s t v b l h. timer_ring_keeps s.source t.source v b l h.0; turn = λ s t r k v x y a l h. timer_turn_keeps s.source t.source k v h.calls h.inner l h.turned }) (record { reg = λ s t v f g a l h. none_kept v.deadlines.next l h.0; rereg = λ s t v f g a l h. none_kept v.deadlines.next l h.0; unreg = λ s t v a l h. none_kept v.deadlines.next l h.0; ring = λ s t v b l h. none_kept v.deadlines.next l h.0; turn = λ s t r k v x y a l h. none_kept v.deadlines.next l h.turned.0 }))) };
+    ghost keeps = { keeping_seen split (either ⟦<Dispatcher<PingSource, Teller> as Dispatch<P, C, R, Vec<u32>>>⟧.means (either ⟦<Dispatcher<Timer, Waker> as Dispatch<P, C, R, Vec<u32>>>⟧.means ⟦<Dispatcher<Failing, Teller> as Dispatch<P, C, R, Vec<u32>>>⟧.means)) (keeping_either ⟦<Dispatcher<PingSource, Teller> as Dispatch<P, C, R, Vec<u32>>>⟧.means (either ⟦<Dispatcher<Timer, Waker> as Dispatch<P, C, R, Vec<u32>>>⟧.means ⟦<Dispatcher<Failing, Teller> as Dispatch<P, C, R, Vec<u32>>>⟧.means) (record { reg = λ s t v f g a l h. ping_reg_keeps s.source t.source v f g a l h.0; rereg = λ s t v f g a l h. ping_rereg_keeps s.source t.source v f g a l h.0; unreg = λ s t v a l h. ping_unreg_keeps s.source t.source v a l h.0; ring = λ s t v b l h. ping_ring_keeps s.source t.source v b l h.0; turn = λ s t r k v x y a l h. ping_turn_keeps s.source t.source k v h.calls h.inner l h.turned }) (keeping_either ⟦<Dispatcher<Timer, Waker> as Dispatch<P, C, R, Vec<u32>>>⟧.means ⟦<Dispatcher<Failing, Teller> as Dispatch<P, C, R, Vec<u32>>>⟧.means (record { reg = λ s t v f g a l h. timer_reg_keeps s.source t.source v f g a l h.0; rereg = λ s t v f g a l h. timer_reg_keeps s.source t.source v f g a l h.0; unreg = λ s t v a l h. timer_unreg_keeps s.source t.source v a l h.0; ring = λ s t v b l h. timer_ring_keeps s.source t.source v b l h.0; turn = λ s t r k v x y a l h. timer_turn_keeps s.source t.source k v h.calls h.inner l h.turned }) (record { reg = λ s t v f g a l h. none_kept v.deadlines.next l h.0; rereg = λ s t v f g a l h. none_kept v.deadlines.next l h.0; unreg = λ s t v a l h. none_kept v.deadlines.next l h.0; ring = λ s t v b l h. none_kept v.deadlines.next l h.0; turn = λ s t r k v x y a l h. none_kept v.deadlines.next l h.turned.0 }))) };
 }
 
-impl<P: Poller, C> Hold<PingSource, Teller, P, C> for Source {
+impl<P: Poller, C, R: Wait + Drop> Hold<PingSource, Teller, P, C, R> for Source {
     ghost held = { λ d. join (inl d) };
 
     fn hold(dispatcher: Dispatcher<PingSource, Teller>) -> Source
@@ -205,10 +206,10 @@ impl<P: Poller, C> Hold<PingSource, Teller, P, C> for Source {
         Source::Ping(dispatcher)
     }
 
-    ghost held_means = { held_seen split join split-join join-split inl ⟦<Dispatcher<PingSource, Teller> as Dispatch<P, C, Vec<u32>>>⟧.means (either ⟦<Dispatcher<PingSource, Teller> as Dispatch<P, C, Vec<u32>>>⟧.means (either ⟦<Dispatcher<Timer, Waker> as Dispatch<P, C, Vec<u32>>>⟧.means ⟦<Dispatcher<Failing, Teller> as Dispatch<P, C, Vec<u32>>>⟧.means)) (held_left ⟦<Dispatcher<PingSource, Teller> as Dispatch<P, C, Vec<u32>>>⟧.means (either ⟦<Dispatcher<Timer, Waker> as Dispatch<P, C, Vec<u32>>>⟧.means ⟦<Dispatcher<Failing, Teller> as Dispatch<P, C, Vec<u32>>>⟧.means)) };
+    ghost held_means = { held_seen split join split-join join-split inl ⟦<Dispatcher<PingSource, Teller> as Dispatch<P, C, R, Vec<u32>>>⟧.means (either ⟦<Dispatcher<PingSource, Teller> as Dispatch<P, C, R, Vec<u32>>>⟧.means (either ⟦<Dispatcher<Timer, Waker> as Dispatch<P, C, R, Vec<u32>>>⟧.means ⟦<Dispatcher<Failing, Teller> as Dispatch<P, C, R, Vec<u32>>>⟧.means)) (held_left ⟦<Dispatcher<PingSource, Teller> as Dispatch<P, C, R, Vec<u32>>>⟧.means (either ⟦<Dispatcher<Timer, Waker> as Dispatch<P, C, R, Vec<u32>>>⟧.means ⟦<Dispatcher<Failing, Teller> as Dispatch<P, C, R, Vec<u32>>>⟧.means)) };
 }
 
-impl<P: Poller, C> Hold<Timer, Waker, P, C> for Source {
+impl<P: Poller, C, R: Wait + Drop> Hold<Timer, Waker, P, C, R> for Source {
     ghost held = { λ d. join (inr (inl d)) };
 
     fn hold(dispatcher: Dispatcher<Timer, Waker>) -> Source
@@ -217,5 +218,5 @@ impl<P: Poller, C> Hold<Timer, Waker, P, C> for Source {
         Source::Alarm(dispatcher)
     }
 
-    ghost held_means = { held_seen split join split-join join-split (λ d. inr (inl d)) ⟦<Dispatcher<Timer, Waker> as Dispatch<P, C, Vec<u32>>>⟧.means (either ⟦<Dispatcher<PingSource, Teller> as Dispatch<P, C, Vec<u32>>>⟧.means (either ⟦<Dispatcher<Timer, Waker> as Dispatch<P, C, Vec<u32>>>⟧.means ⟦<Dispatcher<Failing, Teller> as Dispatch<P, C, Vec<u32>>>⟧.means)) (held_through inl inr ⟦<Dispatcher<Timer, Waker> as Dispatch<P, C, Vec<u32>>>⟧.means (either ⟦<Dispatcher<Timer, Waker> as Dispatch<P, C, Vec<u32>>>⟧.means ⟦<Dispatcher<Failing, Teller> as Dispatch<P, C, Vec<u32>>>⟧.means) (either ⟦<Dispatcher<PingSource, Teller> as Dispatch<P, C, Vec<u32>>>⟧.means (either ⟦<Dispatcher<Timer, Waker> as Dispatch<P, C, Vec<u32>>>⟧.means ⟦<Dispatcher<Failing, Teller> as Dispatch<P, C, Vec<u32>>>⟧.means)) (held_left ⟦<Dispatcher<Timer, Waker> as Dispatch<P, C, Vec<u32>>>⟧.means ⟦<Dispatcher<Failing, Teller> as Dispatch<P, C, Vec<u32>>>⟧.means) (held_right ⟦<Dispatcher<PingSource, Teller> as Dispatch<P, C, Vec<u32>>>⟧.means (either ⟦<Dispatcher<Timer, Waker> as Dispatch<P, C, Vec<u32>>>⟧.means ⟦<Dispatcher<Failing, Teller> as Dispatch<P, C, Vec<u32>>>⟧.means))) };
+    ghost held_means = { held_seen split join split-join join-split (λ d. inr (inl d)) ⟦<Dispatcher<Timer, Waker> as Dispatch<P, C, R, Vec<u32>>>⟧.means (either ⟦<Dispatcher<PingSource, Teller> as Dispatch<P, C, R, Vec<u32>>>⟧.means (either ⟦<Dispatcher<Timer, Waker> as Dispatch<P, C, R, Vec<u32>>>⟧.means ⟦<Dispatcher<Failing, Teller> as Dispatch<P, C, R, Vec<u32>>>⟧.means)) (held_through inl inr ⟦<Dispatcher<Timer, Waker> as Dispatch<P, C, R, Vec<u32>>>⟧.means (either ⟦<Dispatcher<Timer, Waker> as Dispatch<P, C, R, Vec<u32>>>⟧.means ⟦<Dispatcher<Failing, Teller> as Dispatch<P, C, R, Vec<u32>>>⟧.means) (either ⟦<Dispatcher<PingSource, Teller> as Dispatch<P, C, R, Vec<u32>>>⟧.means (either ⟦<Dispatcher<Timer, Waker> as Dispatch<P, C, R, Vec<u32>>>⟧.means ⟦<Dispatcher<Failing, Teller> as Dispatch<P, C, R, Vec<u32>>>⟧.means)) (held_left ⟦<Dispatcher<Timer, Waker> as Dispatch<P, C, R, Vec<u32>>>⟧.means ⟦<Dispatcher<Failing, Teller> as Dispatch<P, C, R, Vec<u32>>>⟧.means) (held_right ⟦<Dispatcher<PingSource, Teller> as Dispatch<P, C, R, Vec<u32>>>⟧.means (either ⟦<Dispatcher<Timer, Waker> as Dispatch<P, C, R, Vec<u32>>>⟧.means ⟦<Dispatcher<Failing, Teller> as Dispatch<P, C, R, Vec<u32>>>⟧.means))) };
 }

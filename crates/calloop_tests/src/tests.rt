@@ -12,7 +12,7 @@ use std::sync::Wait;
 use std::test::Fail;
 use std::time::Duration;
 
-type TestLoop = EventLoop<Source, ScriptPoller, ScriptClock>;
+type TestLoop<R> = EventLoop<Source, ScriptPoller, ScriptClock, R>;
 
 const OWN_KEY: u64 = u64::MAX;
 
@@ -25,18 +25,18 @@ const READABLE: Readiness = Readiness {
 };
 
 // A loop whose poller keeps eight waits.
-fn test_loop(alloc: Global) -> io::Result<TestLoop> {
-    let mut poller = ScriptPoller::new(alloc);
+fn test_loop<R: Wait + Clone + Drop>(rt: &R, alloc: Global) -> io::Result<TestLoop<R>> {
+    let mut poller = ScriptPoller::new(alloc)?;
     poller.keep_waits(8)?;
-    let clock = poller.clock();
-    match EventLoop::try_new(alloc, poller, clock) {
+    let clock = poller.clock()?;
+    match EventLoop::try_new(rt, alloc, poller, clock) {
         Ok(made) => Ok(made),
         Err(error) => Err(io::Error::from(error)),
     }
 }
 
 // Inserts a ping that says this number.
-fn ping(test_loop: &mut TestLoop, number: u32) -> io::Result<RegistrationToken> {
+fn ping<R: Wait + Drop>(test_loop: &mut TestLoop<R>, number: u32) -> io::Result<RegistrationToken> {
     match test_loop
         .handle()
         .insert_source(PingSource::new(), Teller { number })
@@ -46,7 +46,7 @@ fn ping(test_loop: &mut TestLoop, number: u32) -> io::Result<RegistrationToken> 
     }
 }
 
-fn ring(test_loop: &mut TestLoop, token: RegistrationToken) -> io::Result<()> {
+fn ring<R: Wait + Drop>(test_loop: &mut TestLoop<R>, token: RegistrationToken) -> io::Result<()> {
     match test_loop.handle().ring(&token) {
         Ok(()) => Ok(()),
         Err(error) => Err(io::Error::from(error)),
@@ -54,9 +54,9 @@ fn ring(test_loop: &mut TestLoop, token: RegistrationToken) -> io::Result<()> {
 }
 
 // What the callbacks of a dispatch say.
-fn said<R: Wait>(
+fn said<R: Wait + Drop>(
     rt: &R,
-    test_loop: &mut TestLoop,
+    test_loop: &mut TestLoop<R>,
     alloc: Global,
     timeout: Option<u64>,
 ) -> io::Result<Vec<u32>> {
@@ -72,12 +72,21 @@ fn said<R: Wait>(
 }
 
 // Scripts a wait that gives events of these keys at once.
-fn script(test_loop: &mut TestLoop, alloc: Global, keys: &[u64]) -> io::Result<()> {
+fn script<R: Wait + Drop>(
+    test_loop: &mut TestLoop<R>,
+    alloc: Global,
+    keys: &[u64],
+) -> io::Result<()> {
     script_at(test_loop, alloc, 0, keys)
 }
 
 // Scripts a wait that gives events of these keys at this moment.
-fn script_at(test_loop: &mut TestLoop, alloc: Global, millis: u64, keys: &[u64]) -> io::Result<()> {
+fn script_at<R: Wait + Drop>(
+    test_loop: &mut TestLoop<R>,
+    alloc: Global,
+    millis: u64,
+    keys: &[u64],
+) -> io::Result<()> {
     let mut events = ScriptEvents::new(alloc);
     for key in keys {
         if events.push(*key, READABLE).is_err() {
@@ -102,7 +111,7 @@ fn failing_source(registers: bool) -> Source {
 }
 
 // Inserts a source whose turns fail.
-fn failing<R: Wait>(rt: &R, test_loop: &mut TestLoop) -> Option<RegistrationToken> {
+fn failing<R: Wait + Drop>(rt: &R, test_loop: &mut TestLoop<R>) -> Option<RegistrationToken> {
     match test_loop.carry_out(rt, Call::Insert(failing_source(true))) {
         Answer::Inserted(Ok(token)) => Some(token),
         _ => None,
@@ -111,7 +120,7 @@ fn failing<R: Wait>(rt: &R, test_loop: &mut TestLoop) -> Option<RegistrationToke
 
 #[test]
 fn empty_loop(rt: HostRuntime) -> Result<(), Fail> {
-    let mut test_loop = test_loop(rt.alloc())?;
+    let mut test_loop = test_loop(&rt, rt.alloc())?;
     assert_eq!(rt; said(&rt, &mut test_loop, rt.alloc(), Some(0))?.len(), 0);
     let waits = [Some(Duration::ZERO)];
     assert_eq!(rt; test_loop.handle().poller_mut().waits(), waits.as_slice());
@@ -120,7 +129,7 @@ fn empty_loop(rt: HostRuntime) -> Result<(), Fail> {
 
 #[test]
 fn one_ping(rt: HostRuntime) -> Result<(), Fail> {
-    let mut test_loop = test_loop(rt.alloc())?;
+    let mut test_loop = test_loop(&rt, rt.alloc())?;
     let token = ping(&mut test_loop, 7)?;
     assert_eq!(rt; token, RegistrationToken::new(0, 0));
     ring(&mut test_loop, token)?;
@@ -134,7 +143,7 @@ fn one_ping(rt: HostRuntime) -> Result<(), Fail> {
 
 #[test]
 fn three_pings(rt: HostRuntime) -> Result<(), Fail> {
-    let mut test_loop = test_loop(rt.alloc())?;
+    let mut test_loop = test_loop(&rt, rt.alloc())?;
     let first = ping(&mut test_loop, 1)?;
     let second = ping(&mut test_loop, 2)?;
     let third = ping(&mut test_loop, 3)?;
@@ -156,7 +165,7 @@ fn three_pings(rt: HostRuntime) -> Result<(), Fail> {
 
 #[test]
 fn asked_waits(rt: HostRuntime) -> Result<(), Fail> {
-    let mut test_loop = test_loop(rt.alloc())?;
+    let mut test_loop = test_loop(&rt, rt.alloc())?;
     let token = ping(&mut test_loop, 1)?;
     ring(&mut test_loop, token)?;
     said(&rt, &mut test_loop, rt.alloc(), None)?;
@@ -169,7 +178,7 @@ fn asked_waits(rt: HostRuntime) -> Result<(), Fail> {
 
 #[test]
 fn polled_key_of_a_ping_calls_nothing(rt: HostRuntime) -> Result<(), Fail> {
-    let mut test_loop = test_loop(rt.alloc())?;
+    let mut test_loop = test_loop(&rt, rt.alloc())?;
     let token = ping(&mut test_loop, 1)?;
     script(&mut test_loop, rt.alloc(), &[0, FIRST_OF_SLOT_1, OWN_KEY])?;
     assert_eq!(rt; said(&rt, &mut test_loop, rt.alloc(), Some(0))?.len(), 0);
@@ -183,7 +192,7 @@ fn polled_key_of_a_ping_calls_nothing(rt: HostRuntime) -> Result<(), Fail> {
 
 #[test]
 fn rings_that_are_refused(rt: HostRuntime) -> Result<(), Fail> {
-    let mut test_loop = test_loop(rt.alloc())?;
+    let mut test_loop = test_loop(&rt, rt.alloc())?;
     let token = ping(&mut test_loop, 1)?;
     let failing = failing(&rt, &mut test_loop);
     assert_eq!(rt; failing, Some(RegistrationToken::new(1, 0)));
@@ -207,7 +216,7 @@ fn rings_that_are_refused(rt: HostRuntime) -> Result<(), Fail> {
 
 #[test]
 fn refused_insertion(rt: HostRuntime) -> Result<(), Fail> {
-    let mut test_loop = test_loop(rt.alloc())?;
+    let mut test_loop = test_loop(&rt, rt.alloc())?;
     match &test_loop.carry_out(&rt, Call::Insert(failing_source(false))) {
         Answer::Inserted(
             Err(
@@ -234,7 +243,7 @@ fn refused_insertion(rt: HostRuntime) -> Result<(), Fail> {
 
 #[test]
 fn error_keeps_the_rest(rt: HostRuntime) -> Result<(), Fail> {
-    let mut test_loop = test_loop(rt.alloc())?;
+    let mut test_loop = test_loop(&rt, rt.alloc())?;
     let token = ping(&mut test_loop, 1)?;
     failing(&rt, &mut test_loop);
     script(
@@ -259,12 +268,12 @@ fn error_keeps_the_rest(rt: HostRuntime) -> Result<(), Fail> {
 
 #[test]
 fn list_of_calls(rt: HostRuntime) -> Result<(), Fail> {
-    let mut test_loop = test_loop(rt.alloc())?;
+    let mut test_loop = test_loop(&rt, rt.alloc())?;
     let mut calls = VecDeque::new(rt.alloc());
     calls.push_back(Call::Insert(failing_source(true)))?;
     calls.push_back(Call::Ring(RegistrationToken::new(0, 0)))?;
     calls.push_back(Call::Dispatch(Some(Duration::ZERO), Vec::new(rt.alloc())))?;
-    calls.push_back(Call::Poller(ScriptPoller::new(rt.alloc())))?;
+    calls.push_back(Call::Poller(ScriptPoller::new(rt.alloc())?))?;
     let Ok(answers) = test_loop.carry_out_all(&rt, rt.alloc(), calls) else {
         assert!(rt; false);
         return Ok(());
@@ -287,7 +296,7 @@ fn list_of_calls(rt: HostRuntime) -> Result<(), Fail> {
 
 #[test]
 fn laws(_rt: HostRuntime) -> Result<(), Fail> {
-    once::<Source, ScriptPoller, ScriptClock>();
+    once::<Source, ScriptPoller, ScriptClock, HostRuntime>();
     Ok(())
 }
 
@@ -298,8 +307,8 @@ fn at(millis: u64) -> Instant {
 }
 
 // Inserts a timer that says 5.
-fn alarm(
-    test_loop: &mut TestLoop,
+fn alarm<R: Wait + Drop>(
+    test_loop: &mut TestLoop<R>,
     millis: u64,
     action: TimeoutAction,
 ) -> io::Result<RegistrationToken> {
@@ -315,7 +324,7 @@ fn alarm(
 
 #[test]
 fn a_timer_that_is_armed_again(rt: HostRuntime) -> Result<(), Fail> {
-    let mut test_loop = test_loop(rt.alloc())?;
+    let mut test_loop = test_loop(&rt, rt.alloc())?;
     let action = TimeoutAction::ToDuration(Duration::from_millis(500));
     alarm(&mut test_loop, 500, action)?;
     for (timeout, calls) in [(250, 0), (510, 1), (510, 1), (510, 1)] {
@@ -329,7 +338,7 @@ fn a_timer_that_is_armed_again(rt: HostRuntime) -> Result<(), Fail> {
 
 #[test]
 fn an_error_keeps_a_timer(rt: HostRuntime) -> Result<(), Fail> {
-    let mut test_loop = test_loop(rt.alloc())?;
+    let mut test_loop = test_loop(&rt, rt.alloc())?;
     alarm(&mut test_loop, 0, TimeoutAction::Drop)?;
     failing(&rt, &mut test_loop);
     script(&mut test_loop, rt.alloc(), &[FIRST_OF_SLOT_1])?;
@@ -343,7 +352,7 @@ fn an_error_keeps_a_timer(rt: HostRuntime) -> Result<(), Fail> {
 
 #[test]
 fn a_timer_that_leaves(rt: HostRuntime) -> Result<(), Fail> {
-    let mut test_loop = test_loop(rt.alloc())?;
+    let mut test_loop = test_loop(&rt, rt.alloc())?;
     let first = alarm(&mut test_loop, 10, TimeoutAction::Drop)?;
     assert_eq!(rt; first, RegistrationToken::new(0, 0));
     assert_eq!(rt;
@@ -361,14 +370,17 @@ fn a_timer_that_leaves(rt: HostRuntime) -> Result<(), Fail> {
     Ok(())
 }
 
-fn enable(test_loop: &mut TestLoop, token: RegistrationToken) -> io::Result<()> {
+fn enable<R: Wait + Drop>(test_loop: &mut TestLoop<R>, token: RegistrationToken) -> io::Result<()> {
     match test_loop.handle().enable(&token) {
         Ok(()) => Ok(()),
         Err(error) => Err(io::Error::from(error)),
     }
 }
 
-fn disable(test_loop: &mut TestLoop, token: RegistrationToken) -> io::Result<()> {
+fn disable<R: Wait + Drop>(
+    test_loop: &mut TestLoop<R>,
+    token: RegistrationToken,
+) -> io::Result<()> {
     match test_loop.handle().disable(&token) {
         Ok(()) => Ok(()),
         Err(error) => Err(io::Error::from(error)),
@@ -389,7 +401,7 @@ fn is_invalid(answer: calloop::Result<()>) -> bool {
 
 #[test]
 fn a_ping_that_is_rung_while_disabled(rt: HostRuntime) -> Result<(), Fail> {
-    let mut test_loop = test_loop(rt.alloc())?;
+    let mut test_loop = test_loop(&rt, rt.alloc())?;
     let token = ping(&mut test_loop, 1)?;
     disable(&mut test_loop, token)?;
     ring(&mut test_loop, token)?;
@@ -407,7 +419,7 @@ fn a_ping_that_is_rung_while_disabled(rt: HostRuntime) -> Result<(), Fail> {
 
 #[test]
 fn registrations_that_are_refused(rt: HostRuntime) -> Result<(), Fail> {
-    let mut test_loop = test_loop(rt.alloc())?;
+    let mut test_loop = test_loop(&rt, rt.alloc())?;
     let token = ping(&mut test_loop, 1)?;
     let twice = test_loop.handle().enable(&token);
     assert_eq!(rt; refused_as(twice), Some(io::ErrorKind::AlreadyExists));
@@ -422,7 +434,7 @@ fn registrations_that_are_refused(rt: HostRuntime) -> Result<(), Fail> {
 
 #[test]
 fn a_source_that_is_removed(rt: HostRuntime) -> Result<(), Fail> {
-    let mut test_loop = test_loop(rt.alloc())?;
+    let mut test_loop = test_loop(&rt, rt.alloc())?;
     let token = ping(&mut test_loop, 7)?;
     match test_loop.handle().remove(token) {
         Some(Source::Ping(back)) => assert_eq!(rt; back.callback.number, 7),
@@ -438,7 +450,7 @@ fn a_source_that_is_removed(rt: HostRuntime) -> Result<(), Fail> {
 
 #[test]
 fn a_timer_that_is_updated(rt: HostRuntime) -> Result<(), Fail> {
-    let mut test_loop = test_loop(rt.alloc())?;
+    let mut test_loop = test_loop(&rt, rt.alloc())?;
     let token = alarm(&mut test_loop, 10, TimeoutAction::ToInstant(at(1000)))?;
     assert_eq!(rt; said(&rt, &mut test_loop, rt.alloc(), Some(4))?.len(), 0);
     assert!(rt; test_loop.handle().update(&token).is_ok());
@@ -454,7 +466,7 @@ fn a_timer_that_is_updated(rt: HostRuntime) -> Result<(), Fail> {
 
 #[test]
 fn a_timer_that_is_disabled(rt: HostRuntime) -> Result<(), Fail> {
-    let mut test_loop = test_loop(rt.alloc())?;
+    let mut test_loop = test_loop(&rt, rt.alloc())?;
     let token = alarm(&mut test_loop, 10, TimeoutAction::Drop)?;
     disable(&mut test_loop, token)?;
     script_at(&mut test_loop, rt.alloc(), 4, &[])?;
@@ -471,7 +483,7 @@ fn a_timer_that_is_disabled(rt: HostRuntime) -> Result<(), Fail> {
 
 #[test]
 fn a_timer_that_stays_disabled(rt: HostRuntime) -> Result<(), Fail> {
-    let mut test_loop = test_loop(rt.alloc())?;
+    let mut test_loop = test_loop(&rt, rt.alloc())?;
     let token = alarm(&mut test_loop, 10, TimeoutAction::Drop)?;
     disable(&mut test_loop, token)?;
     assert_eq!(rt; said(&rt, &mut test_loop, rt.alloc(), Some(100))?.len(), 0);
@@ -483,7 +495,7 @@ fn a_timer_that_stays_disabled(rt: HostRuntime) -> Result<(), Fail> {
 
 #[test]
 fn a_rung_ping_that_is_removed(rt: HostRuntime) -> Result<(), Fail> {
-    let mut test_loop = test_loop(rt.alloc())?;
+    let mut test_loop = test_loop(&rt, rt.alloc())?;
     let first = ping(&mut test_loop, 1)?;
     let second = ping(&mut test_loop, 2)?;
     ring(&mut test_loop, first)?;
@@ -501,7 +513,7 @@ fn a_rung_ping_that_is_removed(rt: HostRuntime) -> Result<(), Fail> {
 
 #[test]
 fn registrations_as_values(rt: HostRuntime) -> Result<(), Fail> {
-    let mut test_loop = test_loop(rt.alloc())?;
+    let mut test_loop = test_loop(&rt, rt.alloc())?;
     let token = ping(&mut test_loop, 1)?;
     let mut calls = VecDeque::new(rt.alloc());
     calls.push_back(Call::Update(token))?;

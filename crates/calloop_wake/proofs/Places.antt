@@ -2,7 +2,7 @@
 use Rattle.std.proofs.Common.{◌≡◌, ◌≢◌, ℕ, zero, suc, ◌+◌, ◌<◌, ◌≤◌, Bool, true, false, ◌&&◌, ◌||◌, not, cond, if◌then◌else◌, ◌⊎◌, inl, List, [], ◌∷◌, nat_eq, nat_lt, map, filter, length, get_or, take, refl, sym, ◌∙◌, ap, arith, ltb-true, ltb-false, lt-ltb, le-ltb, false-eqb}
 use Rattle.std.proofs.lemmas.Bool.Decides.{nat_tests}
 use Rattle.std.specs.List.{insert}
-use Rattle.calloop_wake.specs.Boards.{place, is_open, is_marked, any_marked, after_open_place, after_close_place, after_post, wakes, after_unpost, taken_keys, AllAbove, IsAscending}
+use Rattle.calloop_wake.specs.Boards.{place, is_open, is_marked, any_marked, after_open_place, after_close_place, after_post, wakes, after_unpost, taken_keys, AllAbove, IsAscending, AllGreater, IsRising}
 use Rattle.calloop_wake.specs.declared.wake.board.Place.{Place}
 
 pub is_open-after_open : (j k : ℕ) (ps : List Place) → is_open j (after_open_place k ps) ≡ (nat_eq k j || is_open j ps)
@@ -143,3 +143,15 @@ length-taken_keys-le (p ∷ ps) =
       | true ↦ omega arith
       | false ↦ omega arith
     ]
+
+keys-greater : (k : ℕ) (ps : List Place) → AllAbove k ps → AllGreater k (map (λ p. p.key) ps)
+keys-greater k [] h = tt
+keys-greater k (p ∷ ps) h = (h.0, keys-greater k ps h.1)
+
+keys-rising : (ps : List Place) → IsAscending ps → IsRising (map (λ p. p.key) ps)
+keys-rising [] h = tt
+keys-rising (p ∷ ps) h = (keys-greater p.key ps h.0, keys-rising ps h.1)
+
+-- the keys that are taken rise
+pub taken_keys-rising : (ps : List Place) → IsAscending ps → IsRising (taken_keys ps)
+taken_keys-rising ps h = keys-rising (filter (λ p. p.marked) ps) (IsAscending-filter (λ p. p.marked) ps h)

@@ -68,3 +68,13 @@ AllAbove k (p ∷ ps) = (k < p.key) × AllAbove k ps
 abbrev pub IsAscending : List Place → Type 0
 IsAscending [] = Unit {0}
 IsAscending (p ∷ ps) = AllAbove p.key ps × IsAscending ps
+
+-- each number of a list is greater than this one
+abbrev pub AllGreater : ℕ → List ℕ → Type 0
+AllGreater k [] = Unit {0}
+AllGreater k (j ∷ js) = (k < j) × AllGreater k js
+
+-- each number is less than all later ones
+abbrev pub IsRising : List ℕ → Type 0
+IsRising [] = Unit {0}
+IsRising (k ∷ ks) = AllGreater k ks × IsRising ks

@@ -2,13 +2,18 @@ use crate::error::{Error, InsertError};
 use crate::list::{Content, SourceList};
 use crate::token::{RegistrationToken, Token, TokenFactory, factory_tokens_differ, keys_differ};
 use crate::wake::board::{Board, OpenRefusal};
+use crate::wake::ghosts::Name;
+use crate::wake::locked::{Core, Locked};
 use crate::wake::ping::{OpenedTurn, PingCore, covered};
-use crate::wake::{Debt, Notify, TakenPass};
+use crate::wake::{Debt, Last, Notify, TakenPass};
 use crate::wheel::{Instant, Wheel};
+use counted_slot::Fits;
 use std::alloc::{AllocError, Global};
 use std::collections::VecDeque;
-use std::io;
+use std::sync::atomic::{AtomicBool, Ordering};
+use std::sync::{Arc, Wait};
 use std::test::Fail;
+use std::{io, thread};
 
 #[test]
 fn texts(rt: HostRuntime) -> Result<(), Fail> {
@@ -150,29 +155,26 @@ fn register(board: &mut Board, cell: &mut PingCore, key: u64) -> Result<(), Open
 // A loop that was told to wake.
 #[derive(Drop)]
 struct Signal {
-    raised: bool,
+    raised: AtomicBool,
 }
 
 impl Notify for Signal {
-    ghost use Rattle.std.specs.Prelude.{◌≡◌, true};
-
-    ghost notified = { λ _ signal. signal.raised ≡ true };
-
-    fn notify(&mut self) {
-        self.raised = true;
+    fn notify(&self) {
+        self.raised.store(true, Ordering::SeqCst);
     }
 }
 
 // Posts what is owed, and says whether that set a mark anew.
 fn settle(board: &mut Board, debt: Option<Debt>) -> bool {
-    let mut signal = Signal { raised: false };
+    let signal = Signal {
+        raised: AtomicBool::new(false),
+    };
     if let Some(debt) = debt {
         if let Some(nudge) = board.post(debt) {
-            nudge.spend(&mut signal);
-            prove!(signal.raised);
+            nudge.spend(&signal);
         }
     }
-    signal.raised
+    signal.raised.load(Ordering::SeqCst)
 }
 
 // Whether the loop may sleep.
@@ -313,6 +315,52 @@ fn keys_that_are_taken_back(rt: HostRuntime) {
     assert!(rt; !settle(&mut board, cell.ring()));
     assert!(rt; register(&mut board, &mut cell, 7).is_ok());
     assert!(rt; !is_quiet(&board));
+}
+
+// What two threads share under a lock.
+struct Bell {
+    name: Name,
+    rung: bool,
+}
+
+impl Fits for Bell {
+    ghost use Rattle.std.specs.Prelude.{◌≡◌};
+
+    type Tag = Name;
+
+    ghost fits = { λ tag bell. bell.name ≡ tag };
+}
+
+impl Core for Bell {
+    fn dissolve(self, last: Last) {
+        let Last { of_wake: _ } = last;
+        let Bell { name: _, rung: _ } = self;
+    }
+}
+
+// Rings the bell that lies under the lock: whether somebody had rung it before.
+fn ring_under<R: Wait>(rt: &R, lock: &Locked<Bell>) -> bool {
+    let (gate, mut bell) = lock.lock(rt);
+    let before = bell.rung;
+    bell.rung = true;
+    lock.unlock(rt, gate, bell);
+    before
+}
+
+#[test]
+fn a_ring_of_a_second_thread(rt: HostRuntime) -> Result<(), Fail> {
+    let name = Name::fresh();
+    let bell = Bell {
+        name: name.again(),
+        rung: false,
+    };
+    let lock = Arc::new(rt.alloc(), Locked::new(bell, &name))?;
+    let its_lock = Arc::try_clone(&lock)?;
+    let its_rt = rt.clone()?;
+    let child = thread::spawn(&rt, move || ring_under(&its_rt, &its_lock))?;
+    assert!(rt; !child.join(&rt));
+    assert!(rt; ring_under(&rt, &lock));
+    Ok(())
 }
 
 fn at(nanos: u64) -> Instant {

@@ -8,6 +8,8 @@ ghost use Rattle.std.specs.Prelude.{◌≡◌};
 use std::marker::Model;
 
 pub mod board;
+pub mod ghosts;
+pub mod locked;
 pub mod ping;
 
 /// Its key has to be posted on the board.
@@ -105,6 +107,12 @@ impl Model for PingTurn {
     ghost view = { λ t. t.key };
 }
 
+/// Only the last drop of a lock has it, so what lies under a lock isn't ended before.
+#[must_use]
+pub struct Last {
+    pub(crate) of_wake: (),
+}
+
 /// A mark was set anew on the board, so a loop that waits has to be woken.
 #[must_use]
 pub struct Nudge {
@@ -113,19 +121,13 @@ pub struct Nudge {
 
 /// What wakes a loop that waits. Calloop's `Notifier` does it for the poller.
 pub trait Notify {
-    /// What a notify makes of it, as a relation of before and after.
-    ghost notified: { Self → Self → Type 0 };
-
-    /// Wakes the loop where it waits, and else has its next wait end at once.
-    fn notify(&mut self)
-        ensures { notified self.old self.new };
+    /// Wakes the loop where it waits, and else has its next wait end at once. A fault of it is ignored.
+    fn notify(&self);
 }
 
 impl Nudge {
-    /// Spends the nudge: the notifier is notified once.
-    pub fn spend<N: Notify>(self, notifier: &mut N)
-        ensures { N.notified notifier.old notifier.new }
-    {
+    /// Spends the nudge: the notifier is notified once. No contract sees what that makes of it.
+    pub fn spend<N: Notify>(self, notifier: &N) {
         let Nudge { of_wake: _ } = self;
         notifier.notify();
     }

@@ -6,12 +6,12 @@ use Rattle.looptrace.specs.Texts.{next_number}
 use Rattle.looptrace.specs.Traces.{Written, Writes}
 use Rattle.looptrace.specs.Runs.{IsStart, state_of, trace_step, line_step, MayWrite}
 
-pub writes_of : (lines : List (List ℕ)) (s : ScriptLoop) (number : ℕ) (w : Written) → Writes line_step s number lines w → Writes trace_step (state_of s) number lines w
+pub writes_of : {R : Type 0} (lines : List (List ℕ)) (s : ScriptLoop R) (number : ℕ) (w : Written) → Writes line_step s number lines w → Writes trace_step (state_of s) number lines w
 writes_of [] s number w h = h
 writes_of (line ∷ lines) s number w (inl refused) = inl refused
 writes_of (line ∷ lines) s number w (inr h) = inr (state_of h.0, h.1, h.2, h.3, writes_of lines h.0 (next_number number) h.2 h.4, h.5)
 
-pub may_write : {E : Type 0} (s : ScriptLoop) → IsStart (state_of s) → (result : Result ℕ E) (first : Option (List ℕ)) (Out Errors : Written → Type 0)
+pub may_write : {E : Type 0} {R : Type 0} (s : ScriptLoop R) → IsStart (state_of s) → (result : Result ℕ E) (first : Option (List ℕ)) (Out Errors : Written → Type 0)
     → IfOk result (λ status. IfSome first (λ script. (w : Written) × Writes line_step s 1 (lines_of script) w × Out w × Errors w × (status ≡ w.status)))
     → IfOk result (λ status. IfSome first (λ script. (w : Written) × MayWrite script w × Out w × Errors w × (status ≡ w.status)))
 may_write s start (Err e) first Out Errors h = tt

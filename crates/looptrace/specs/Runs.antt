@@ -55,7 +55,7 @@ pub record State : Type 0 where
   pub fault : Bool
   pub pending : Option Pending
 
-abbrev pub state_of : ScriptLoop → State
+abbrev pub state_of : {R : Type 0} → ScriptLoop R → State
 state_of s = record { loop = view_of s.event_loop; sources = s.sources.items; fault = s.fault; pending = option_map pending_of s.pending }
 
 -- a machine to which nothing has happened agrees, over a poller with the clock at 0 and without answers
@@ -248,10 +248,10 @@ abbrev pub trace_step : State → List ℕ → Option (State × List ℕ) → Ty
 trace_step s line outcome = Carried s (command_of line) outcome
 
 -- the same of a loop
-abbrev pub state_and_text : ScriptLoop × List ℕ → State × List ℕ
+abbrev pub state_and_text : {R : Type 0} → ScriptLoop R × List ℕ → State × List ℕ
 state_and_text p = (state_of p.0, p.1)
 
-abbrev pub line_step : ScriptLoop → List ℕ → Option (ScriptLoop × List ℕ) → Type 0
+abbrev pub line_step : {R : Type 0} → ScriptLoop R → List ℕ → Option (ScriptLoop R × List ℕ) → Type 0
 line_step s line outcome = trace_step (state_of s) line (option_map state_and_text outcome)
 
 -- from a machine to which nothing has happened, the lines of a script may write this

@@ -32,8 +32,8 @@ abbrev pub ping_meaning : {P : Type 0} → Meaning (Dispatcher PingSource Teller
 ping_meaning =
     record {
       holds = λ s. holds_none;
-      reg = λ s v f a l t g. IsPingReg s.source v f a l t.source g × (t.callback ≡ s.callback);
-      rereg = λ s v f a l t g. IsPingRereg s.source v f a l t.source g × (t.callback ≡ s.callback);
+      reg = λ s v f a l t g. IsPingReg s.source f a l t.source g × (t.callback ≡ s.callback);
+      rereg = λ s v f a l t g. IsPingRereg s.source f a l t.source g × (t.callback ≡ s.callback);
       unreg = λ s v a l t. IsPingUnreg s.source a l t.source × (t.callback ≡ s.callback);
       ring = λ s b l t. IsPingRing s.source b l t.source × (t.callback ≡ s.callback);
       turn = IsDispatched (λ s r token v calls a l t. IsPingTurn s token v calls a l t) tells (λ cause e. e ≡ OutOfMemory);

@@ -15,7 +15,7 @@ use crate::source::{Alarm, Said, Source, Teller};
 use crate::text::{append_insert, append_refused, append_wait};
 use calloop::loop_logic::EventLoop;
 use calloop::ping::PingSource;
-use calloop::{Clock, Error, InsertError, Instant, Readiness, RegistrationToken, Timer};
+use calloop::{Error, InsertError, Instant, Readiness, RegistrationToken, Timer};
 use calloop_core::sys::script::{ScriptAnswer, ScriptClock, ScriptEnd, ScriptEvents, ScriptPoller};
 use std::alloc::{AllocError, Global};
 use std::io;
@@ -47,9 +47,9 @@ pub struct PendingAnswer {
 /// A loop over a scripted poller, with the sources that the script made, whether the next wait is to fail, and the
 /// pending answer.
 #[derive(Drop)]
-pub struct ScriptLoop {
+pub struct ScriptLoop<R: Wait + Drop> {
     alloc: Global,
-    event_loop: EventLoop<Source, ScriptPoller, ScriptClock>,
+    event_loop: EventLoop<Source, ScriptPoller, ScriptClock, R>,
     sources: Vec<NamedSource>,
     fault: bool,
     pending: Option<PendingAnswer>,
@@ -243,7 +243,7 @@ fn make_ready(
     ensures err { IfErr result (λ e. error_kind e ≡ OutOfMemory) }
 {
     poller.keep_waits(1)?;
-    let Some(answer) = next_answer(poller.clock().now(), fault, pending) else {
+    let Some(answer) = next_answer(poller.moment(), fault, pending) else {
         return Ok(());
     };
     if poller.script(answer).is_err() {
@@ -252,16 +252,18 @@ fn make_ready(
     Ok(())
 }
 
-impl ScriptLoop {
+impl<R: Wait + Drop> ScriptLoop<R> {
     /// A loop with the clock at 0 and without sources. An `Err` is want of memory.
-    pub fn new(alloc: Global) -> io::Result<ScriptLoop>
+    pub fn new(rt: &R, alloc: Global) -> io::Result<ScriptLoop<R>>
+    where
+        R: Clone,
         ensures ok { IfOk result (λ made. IsStart (state_of made)) }
         ensures err { IfErr result (λ e. error_kind e ≡ OutOfMemory) }
     {
-        let mut poller = ScriptPoller::new(alloc);
+        let mut poller = ScriptPoller::new(alloc)?;
         poller.keep_waits(1)?;
-        let clock = poller.clock();
-        match EventLoop::try_new(alloc, poller, clock) {
+        let clock = poller.clock()?;
+        match EventLoop::try_new(rt, alloc, poller, clock) {
             Ok(event_loop) => Ok(ScriptLoop {
                 alloc,
                 event_loop,
@@ -358,7 +360,7 @@ impl ScriptLoop {
         if events.push(key, readiness).is_err() {
             return Err(io::Error::from(io::ErrorKind::OutOfMemory));
         }
-        let moment = self.event_loop.handle().poller_mut().clock().now();
+        let moment = self.event_loop.handle().poller_mut().moment();
         self.pending = Some(PendingAnswer { moment, events });
         Ok(true)
     }
@@ -433,7 +435,7 @@ impl ScriptLoop {
     }
 }
 
-impl Runner for ScriptLoop {
+impl<R: Wait + Drop> Runner for ScriptLoop<R> {
     ghost use Rattle.looptrace.specs.Runs.{line_step};
 
     ghost step = { line_step };

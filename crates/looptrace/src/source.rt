@@ -14,6 +14,7 @@ use calloop::{
 };
 use std::alloc::Global;
 use std::marker::Model;
+use std::sync::Wait;
 
 /// What the callbacks of a dispatch said. Want of memory for it is remembered, and then nothing is known of it.
 #[derive(Drop)]
@@ -109,7 +110,7 @@ pub enum Source {
     Timer(Dispatcher<Timer, Alarm>),
 }
 
-impl<P: Poller, C> EventDispatcher<P, C> for Source {
+impl<P: Poller, C, R: Wait + Drop> EventDispatcher<P, C, R> for Source {
     ghost use Rattle.looptrace.specs.Sources.{source_meaning};
     ghost use Rattle.looptrace.specs.Held.{source_keeps};
 
@@ -117,31 +118,31 @@ impl<P: Poller, C> EventDispatcher<P, C> for Source {
 
     ghost means = { source_meaning };
 
-    fn register(&mut self, poll: &mut Poll<P, C>, factory: &mut TokenFactory) -> Result<()> {
+    fn register(&mut self, poll: &mut Poll<P, C, R>, factory: &mut TokenFactory) -> Result<()> {
         match self {
-            Source::Ping(ping) => Dispatch::<P, C, Said>::register(ping, poll, factory),
-            Source::Timer(timer) => Dispatch::<P, C, Said>::register(timer, poll, factory),
+            Source::Ping(ping) => Dispatch::<P, C, R, Said>::register(ping, poll, factory),
+            Source::Timer(timer) => Dispatch::<P, C, R, Said>::register(timer, poll, factory),
         }
     }
 
-    fn reregister(&mut self, poll: &mut Poll<P, C>, factory: &mut TokenFactory) -> Result<()> {
+    fn reregister(&mut self, poll: &mut Poll<P, C, R>, factory: &mut TokenFactory) -> Result<()> {
         match self {
-            Source::Ping(ping) => Dispatch::<P, C, Said>::reregister(ping, poll, factory),
-            Source::Timer(timer) => Dispatch::<P, C, Said>::reregister(timer, poll, factory),
+            Source::Ping(ping) => Dispatch::<P, C, R, Said>::reregister(ping, poll, factory),
+            Source::Timer(timer) => Dispatch::<P, C, R, Said>::reregister(timer, poll, factory),
         }
     }
 
-    fn unregister(&mut self, poll: &mut Poll<P, C>) -> Result<()> {
+    fn unregister(&mut self, poll: &mut Poll<P, C, R>) -> Result<()> {
         match self {
-            Source::Ping(ping) => Dispatch::<P, C, Said>::unregister(ping, poll),
-            Source::Timer(timer) => Dispatch::<P, C, Said>::unregister(timer, poll),
+            Source::Ping(ping) => Dispatch::<P, C, R, Said>::unregister(ping, poll),
+            Source::Timer(timer) => Dispatch::<P, C, R, Said>::unregister(timer, poll),
         }
     }
 
-    fn ring(&mut self, poll: &mut Poll<P, C>) -> bool {
+    fn ring(&mut self, poll: &mut Poll<P, C, R>) -> bool {
         match self {
-            Source::Ping(ping) => Dispatch::<P, C, Said>::ring(ping, poll),
-            Source::Timer(timer) => Dispatch::<P, C, Said>::ring(timer, poll),
+            Source::Ping(ping) => Dispatch::<P, C, R, Said>::ring(ping, poll),
+            Source::Timer(timer) => Dispatch::<P, C, R, Said>::ring(timer, poll),
         }
     }
 
@@ -149,7 +150,7 @@ impl<P: Poller, C> EventDispatcher<P, C> for Source {
         &mut self,
         readiness: Readiness,
         token: Token,
-        poll: &mut Poll<P, C>,
+        poll: &mut Poll<P, C, R>,
         data: &mut Said,
     ) -> Result<PostAction> {
         match self {
@@ -161,7 +162,7 @@ impl<P: Poller, C> EventDispatcher<P, C> for Source {
     ghost keeps = { source_keeps };
 }
 
-impl<P: Poller, C> Hold<PingSource, Teller, P, C> for Source {
+impl<P: Poller, C, R: Wait + Drop> Hold<PingSource, Teller, P, C, R> for Source {
     ghost use Rattle.std.specs.Prelude.{◌≡◌};
     ghost use Rattle.looptrace.specs.declared.source.Source.TheVariants.{Ping};
     ghost use Rattle.looptrace.specs.Held.{ping_held};
@@ -177,7 +178,7 @@ impl<P: Poller, C> Hold<PingSource, Teller, P, C> for Source {
     ghost held_means = { ping_held };
 }
 
-impl<P: Poller, C> Hold<Timer, Alarm, P, C> for Source {
+impl<P: Poller, C, R: Wait + Drop> Hold<Timer, Alarm, P, C, R> for Source {
     ghost use Rattle.std.specs.Prelude.{◌≡◌};
     ghost use Rattle.looptrace.specs.declared.source.Source.TheVariants.{Timer as TimerIn};
     ghost use Rattle.looptrace.specs.Held.{timer_held};

@@ -381,7 +381,11 @@ fn a_reader_that_is_broken(rt: HostRuntime) -> Result<(), Fail> {
 }
 
 // The status of a whole run, and what was written to the two outputs.
-fn traced<Q: Wait>(rt: &Q, alloc: Global, script: &[u8]) -> io::Result<(u8, Vec<u8>, Vec<u8>)> {
+fn traced<Q: Wait + Clone + Drop>(
+    rt: &Q,
+    alloc: Global,
+    script: &[u8],
+) -> io::Result<(u8, Vec<u8>, Vec<u8>)> {
     let (mut out, mut err) = (Vec::new(alloc), Vec::new(alloc));
     let mut input = script;
     let status = trace(rt, alloc, &mut input, &mut out, &mut err)?;
@@ -453,7 +457,12 @@ fn commands(rt: HostRuntime) -> Result<(), Fail> {
 }
 
 // Whether the first line is carried out, and the second can't be read.
-fn ends_at_second<Q: Wait>(rt: &Q, alloc: Global, first: &[u8], second: &[u8]) -> io::Result<bool> {
+fn ends_at_second<Q: Wait + Clone + Drop>(
+    rt: &Q,
+    alloc: Global,
+    first: &[u8],
+    second: &[u8],
+) -> io::Result<bool> {
     let mut script = Vec::new(alloc);
     script.extend_from_slice(first)?;
     script.extend_from_slice(second)?;

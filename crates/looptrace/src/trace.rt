@@ -16,7 +16,7 @@ use std::sync::Wait;
 ///
 /// The loop begins with the clock at 0, without sources, and with a poller that gives no events. An `Err` is a fault
 /// of reading or writing, or want of memory; what was written before it stays.
-pub fn trace<Q: Wait, R: BufRead, W: Write, E: Write>(
+pub fn trace<Q: Wait + Clone + Drop, R: BufRead, W: Write, E: Write>(
     rt: &Q,
     alloc: Global,
     input: &mut R,
@@ -28,6 +28,6 @@ pub fn trace<Q: Wait, R: BufRead, W: Write, E: Write>(
         × Appends (E.contents errors.old) (E.contents errors.new) w.err
         × (status ≡ w.status))) }
 {
-    let mut script_loop = ScriptLoop::new(alloc)?;
+    let mut script_loop = ScriptLoop::new(rt, alloc)?;
     drive(rt, alloc, &mut script_loop, input, output, errors)
 }

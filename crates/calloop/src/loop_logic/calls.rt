@@ -10,9 +10,9 @@ use std::collections::VecDeque;
 use std::mem;
 use std::sync::Wait;
 
-impl<D: EventDispatcher<P, C>, P: Poller, C: Clock> EventLoop<D, P, C> {
+impl<D: EventDispatcher<P, C, R>, P: Poller, C: Clock, R: Wait + Drop> EventLoop<D, P, C, R> {
     /// Carries out one call.
-    pub fn carry_out<R: Wait>(&mut self, rt: &R, call: Call<D, P, D::Data>) -> Answer<D, P, D::Data>
+    pub fn carry_out<Q: Wait>(&mut self, rt: &Q, call: Call<D, P, D::Data>) -> Answer<D, P, D::Data>
         ensures { Did (Case D.means P.outside call result) (view_of self.old) (view_of self.new) }
     {
         match call {
@@ -33,9 +33,9 @@ impl<D: EventDispatcher<P, C>, P: Poller, C: Clock> EventLoop<D, P, C> {
 
     /// Carries out a list of calls in order. Where there is no memory for the answers, the calls are handed back and
     /// none is carried out.
-    pub fn carry_out_all<R: Wait>(
+    pub fn carry_out_all<Q: Wait>(
         &mut self,
-        rt: &R,
+        rt: &Q,
         alloc: Global,
         calls: VecDeque<Call<D, P, D::Data>>,
     ) -> Result<Vec<Answer<D, P, D::Data>>, VecDeque<Call<D, P, D::Data>>>

@@ -19,13 +19,15 @@ use std::alloc::Global;
 use std::sync::Wait;
 use std::time::Duration;
 
-impl<D: EventDispatcher<P, C>, P: Poller, C: Clock> EventLoop<D, P, C> {
+impl<D: EventDispatcher<P, C, R>, P: Poller, C: Clock, R: Wait + Drop> EventLoop<D, P, C, R> {
     /// A loop over this poller and this clock, without sources. Want of memory is `OutOfMemory`.
-    pub fn try_new(alloc: Global, poller: P, clock: C) -> Result<EventLoop<D, P, C>>
+    pub fn try_new(rt: &R, alloc: Global, poller: P, clock: C) -> Result<EventLoop<D, P, C, R>>
+    where
+        R: Clone,
         ensures ok { IfOk result (λ made. (w : World D P) × IsNew w × (w.poll.poller ≡ poller) × (seen w ≡ view_of made)) }
         ensures err { IfErr result (λ e. e ≡ OutOfMemory) }
     {
-        let mut poll = Poll::new(alloc, poller, clock);
+        let mut poll = Poll::new(rt.clone()?, alloc, poller, clock)?;
         poll.reserve()?;
         Ok(EventLoop {
             sources: SourceList::new(alloc),
@@ -34,7 +36,7 @@ impl<D: EventDispatcher<P, C>, P: Poller, C: Clock> EventLoop<D, P, C> {
     }
 
     /// Lends the calls that act at once.
-    pub fn handle(&mut self) -> LoopHandle<'_, D, P, C>
+    pub fn handle(&mut self) -> LoopHandle<'_, D, P, C, R>
         ensures same { result.inner.ghost_name ≡ self.entry.ghost_name }
         ensures value { result.inner.now ≡ self.old }
     {
@@ -47,9 +49,9 @@ impl<D: EventDispatcher<P, C>, P: Poller, C: Clock> EventLoop<D, P, C> {
     /// Want of memory for the batch changes nothing. A fault of the wait is `IoError`, and leaves posted keys
     /// posted. The error of a turn ends the dispatch; the rest of the batch comes first in the next one. A source that
     /// answers `Remove` leaves the loop, and is then unregistered; a failure of that is not answered.
-    pub fn dispatch<R: Wait>(
+    pub fn dispatch<Q: Wait>(
         &mut self,
-        rt: &R,
+        rt: &Q,
         timeout: Option<Duration>,
         data: &mut D::Data,
     ) -> Result<()>

@@ -16,8 +16,9 @@ use calloop_core::sys::{Clock, Poller};
 use calloop_wake::error::{Error, InsertError, Result};
 use calloop_wake::list::Content;
 use calloop_wake::token::{RegistrationToken, TokenFactory};
+use std::sync::Wait;
 
-impl<D: EventDispatcher<P, C>, P: Poller, C: Clock> EventLoop<D, P, C> {
+impl<D: EventDispatcher<P, C, R>, P: Poller, C: Clock, R: Wait + Drop> EventLoop<D, P, C, R> {
     // Registers a source in the first vacant slot.
     fn insert_source<S, F>(
         &mut self,
@@ -25,8 +26,8 @@ impl<D: EventDispatcher<P, C>, P: Poller, C: Clock> EventLoop<D, P, C> {
         callback: F,
     ) -> std::result::Result<RegistrationToken, InsertError<S>>
     where
-        D: Hold<S, F, P, C>,
-        S: EventSource<P, C>,
+        D: Hold<S, F, P, C, R>,
+        S: EventSource<P, C, R>,
         F: Callback<S::Event, S::Metadata, S::Ret, D::Data> + Drop,
         ensures { Did (Case D.means P.outside (Insert (D.held (record { source = source; callback = callback }))) (Inserted (held_answer D.held callback result))) (view_of self.old) (view_of self.new) }
     {
@@ -143,7 +144,7 @@ impl<D: EventDispatcher<P, C>, P: Poller, C: Clock> EventLoop<D, P, C> {
     }
 }
 
-impl<D: EventDispatcher<P, C>, P: Poller, C: Clock> LoopHandle<'_, D, P, C> {
+impl<D: EventDispatcher<P, C, R>, P: Poller, C: Clock, R: Wait + Drop> LoopHandle<'_, D, P, C, R> {
     /// Registers a source in the first vacant slot, with a callback for its events.
     ///
     /// A refusal hands the source back: `TooManySources` and want of memory for a new slot leave everything as it
@@ -154,8 +155,8 @@ impl<D: EventDispatcher<P, C>, P: Poller, C: Clock> LoopHandle<'_, D, P, C> {
         callback: F,
     ) -> std::result::Result<RegistrationToken, InsertError<S>>
     where
-        D: Hold<S, F, P, C>,
-        S: EventSource<P, C>,
+        D: Hold<S, F, P, C, R>,
+        S: EventSource<P, C, R>,
         F: Callback<S::Event, S::Metadata, S::Ret, D::Data> + Drop,
         ensures same { self.new.inner.ghost_name ≡ self.old.inner.ghost_name }
         ensures case { Did (Case D.means P.outside (Insert (D.held (record { source = source; callback = callback }))) (Inserted (held_answer D.held callback result))) (view_of self.old.inner.now) (view_of self.new.inner.now) }
@@ -217,9 +218,10 @@ impl<D: EventDispatcher<P, C>, P: Poller, C: Clock> LoopHandle<'_, D, P, C> {
         self.inner.remove(token)
     }
 
-    /// The poller itself, as to give a scripted one its answers.
+    /// The poller itself, as to give a scripted one its answers. Pings wake the poller that the loop was made with: another one in
+    /// its place hears of them only at its next wait.
     pub fn poller_mut(&mut self) -> &mut P
-        ensures* writes_back { sem 𝓛 (Lends (the_row (record { mir = named 1; lft = [] }) D.row P.row C.row) P.row self.entry result (λ w. with_handle_poller w self.old)) }
+        ensures* writes_back { sem 𝓛 (Lends (the_row (record { mir = named 1; lft = [] }) D.row P.row C.row R.row) P.row self.entry result (λ w. with_handle_poller w self.old)) }
         ensures value { result.now ≡ self.old.inner.now.poll.poller }
     {
         self.inner.poll.poller_mut()

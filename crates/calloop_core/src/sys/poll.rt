@@ -1,26 +1,25 @@
-//! What sources register with: the poller, the board of pings, the deadlines of timers, and the batch of events.
-ghost use Rattle.std.specs.Prelude.{◌≡◌, ℕ, ◌+◌, ◌≤◌, ◌++◌, [], ◌∷◌, List, Option, Some, None, true, false, map, drop, length, vec_len, vec_capacity, IsOk, OnOk, OnErr, OnSome, IfOk, IfErr, IfSome, is_ok, Ok, Err, option_to_list};
+//! What sources register with: the poller, the hub of pings, the deadlines of timers, and the batch of events.
+ghost use Rattle.std.specs.Prelude.{◌≡◌, ℕ, ◌+◌, ◌≤◌, ◌++◌, [], List, Some, None, map, drop, length, vec_len, vec_capacity, OnOk, IfOk, IfErr, IfSome};
 ghost use Rattle.std.specs.VecDeque.{deque_len, deque_capacity};
 ghost use Rattle.std.specs.Borrow.{Lends, sem};
-ghost use Rattle.std.specs.IoError.{error_kind};
-ghost use Rattle.std.specs.declared.io.ErrorKind.TheVariants.{AlreadyExists};
-ghost use Rattle.calloop_wake.specs.declared.error.Error.TheVariants.{IoError, OutOfMemory};
-ghost use Rattle.calloop_wake.specs.Boards.{is_open, after_post, taken_keys};
+ghost use Rattle.calloop_wake.specs.declared.error.Error.TheVariants.{OutOfMemory};
+ghost use Rattle.calloop_wake.specs.Boards.{IsRising};
 ghost use Rattle.calloop_wake.specs.Tokens.{key_of};
 ghost use Rattle.calloop_wake.specs.Deadlines.{due, not_due, with_entries};
-ghost use Rattle.calloop_core.specs.Polls.{PollView, PollStep, OpenPlace, ClosePlace, Post, TakePass, PutBack, poll_view, poll_after, with_pass, posted_event, posted_events, polled_event, polled_events, timer_event, timer_events, CannotOpen, key_of_pass, IsReady, cut, head_of, polls_after, posts, closes, gathered, own_key, Tells, key_held};
+ghost use Rattle.calloop_core.specs.Polls.{PollView, PollStep, TakePass, PutBack, poll_view, poll_after, with_pass, posted_event, posted_events, polled_event, polled_events, timer_event, timer_events, CannotOpen, key_of_pass, IsReady, cut, head_of, gathered, own_key};
 ghost use Rattle.calloop_core.specs.Lending.{with_poller};
 ghost use Rattle.calloop_core.specs.contracts.sys.poll.Poll.{the_row};
-ghost use Rattle.calloop_core.specs.declared.sys.Readiness.{Readiness};
 
+use super::hub::{Hub, SharedHub};
 use super::{EVENTS_PER_WAIT, Poller, Readiness};
 use calloop_wake::error::{Error, Result};
 use calloop_wake::token::Token;
-use calloop_wake::wake::board::{Board, OpenRefusal};
-use calloop_wake::wake::{Debt, LeaveToClose, Notify, OpenedPass, TakenPass};
+use calloop_wake::wake::board::OpenRefusal;
+use calloop_wake::wake::{Debt, LeaveToClose, OpenedPass, TakenPass};
 use calloop_wake::wheel::{Entry, Instant, Wheel};
 use std::alloc::Global;
 use std::collections::VecDeque;
+use std::sync::{Arc, Wait};
 use std::{io, mem};
 
 mod timers;
@@ -38,70 +37,49 @@ pub struct Pending {
     pub posted: bool,
 }
 
-/// What sources register with. It owns the poller, the board of pings, the deadlines of timers, and the events that
-/// wait for their turn.
-pub struct Poll<P, C> {
+/// What sources register with. It owns the poller, the deadlines of timers, and the events that wait for their turn,
+/// and shares the hub of posted keys with the ends of pings.
+pub struct Poll<P, C, R: Wait + Drop> {
+    rt: R,
     poller: P,
     clock: C,
-    board: Board,
+    hub: SharedHub,
     wheel: Wheel,
     batch: VecDeque<Pending>,
     passes: VecDeque<TakenPass>,
     pass: Option<TakenPass>,
+    // For how many posted keys there is room.
+    places: usize,
     events: Vec<(u64, Readiness)>,
 }
 
-impl<P: Drop, C: Drop> Drop for Poll<P, C> {
+impl<P: Drop, C: Drop, R: Wait + Drop> Drop for Poll<P, C, R> {
     fn drop(self) {
         let Poll {
+            rt,
             poller: _,
             clock: _,
-            mut board,
+            hub,
             wheel: _,
             batch: _,
             passes,
             pass,
+            places: _,
             events: _,
         } = self;
         if let Some(pass) = pass {
-            give_back(&mut board, pass);
+            hub.settle(&rt, pass.back());
         }
-        give_all_back(&mut board, passes);
+        give_all_back(&rt, &hub, passes);
     }
 }
 
-// A `Poll` that is dropped is in no wait, so its nudges wake nobody.
-#[derive(Drop)]
-struct Nobody;
-
-impl Notify for Nobody {
-    ghost notified = { λ _ _. Unit {0} };
-
-    fn notify(&mut self) {}
-}
-
-fn give_back(board: &mut Board, pass: TakenPass) {
-    if let Some(nudge) = board.post(pass.back()) {
-        nudge.spend(&mut Nobody);
-    }
-}
-
-fn give_all_back(board: &mut Board, mut passes: VecDeque<TakenPass>) {
+// Posts the keys of these passes again.
+fn give_all_back<R: Wait>(rt: &R, hub: &Hub, mut passes: VecDeque<TakenPass>) {
     while let Some(pass) = passes.pop_front() {
-        give_back(board, pass);
+        hub.settle(rt, pass.back());
     }
     passes.destroy_empty();
-}
-
-// Posts a debt. Where that set a mark anew, the poller is told, so that a wait ends.
-fn post<P: Poller>(board: &mut Board, poller: &mut P, debt: Debt)
-    ensures board { board.new ≡ after_post debt board.old }
-    ensures poller { poller.new ≡ poller.old }
-    ensures tells { Tells P.notified (Some debt) board.old poller.old poller.new }
-{
-    if let Some(nudge) = board.post(debt) {
-        nudge.spend(poller);
-    }
 }
 
 fn posted_event(key: u64) -> Pending
@@ -178,23 +156,29 @@ fn append_due(batch: &mut VecDeque<Pending>, wheel: &mut Wheel, now: Instant)
     }
 }
 
-impl<P: Poller, C> Poll<P, C> {
-    /// Over this poller, with an empty board, no deadline and an empty batch.
-    pub fn new(alloc: Global, poller: P, clock: C) -> Poll<P, C>
-        ensures { poll_view result ≡ record { poller = poller; board = []; deadlines = record { entries = []; next = 0 }; batch = []; passes = []; pass = None } }
+impl<P: Poller, C: Drop, R: Wait + Drop> Poll<P, C, R> {
+    /// Over this poller, with an empty board, no deadline and an empty batch. Want of memory is `OutOfMemory`.
+    pub fn new(rt: R, alloc: Global, poller: P, clock: C) -> Result<Poll<P, C, R>>
+        ensures ok { IfOk result (λ made. poll_view made ≡ record { poller = poller; deadlines = record { entries = []; next = 0 }; batch = []; passes = []; pass = None }) }
+        ensures err { IfErr result (λ e. e ≡ OutOfMemory) }
     {
-        Poll {
+        let hub = Arc::new(alloc, Hub::new(alloc, poller.notifier()?))?;
+        Ok(Poll {
+            rt,
             poller,
             clock,
-            board: Board::new(alloc),
+            hub,
             wheel: Wheel::new(alloc),
             batch: VecDeque::new(alloc),
             passes: VecDeque::new(alloc),
             pass: None,
+            places: 0,
             events: Vec::new(alloc),
-        }
+        })
     }
+}
 
+impl<P: Poller, C, R: Wait + Drop> Poll<P, C, R> {
     /// The clock for callers that tell time.
     pub fn clock(&self) -> &C
         ensures { result.now ≡ self.now.clock }
@@ -202,21 +186,22 @@ impl<P: Poller, C> Poll<P, C> {
         &self.clock
     }
 
-    /// The poller itself, as to give a scripted one its answers.
+    /// The poller itself, as to give a scripted one its answers. Pings wake the poller that `new` was given: another one in
+    /// its place hears of them only at its next wait.
     pub fn poller_mut(&mut self) -> &mut P
-        ensures* writes_back { sem 𝓛 (Lends (the_row P.row C.row) P.row self.entry result (λ w. with_poller w self.old)) }
+        ensures* writes_back { sem 𝓛 (Lends (the_row P.row C.row R.row) P.row self.entry result (λ w. with_poller w self.old)) }
         ensures value { result.now ≡ self.old.poller }
     {
         &mut self.poller
     }
 
     /// Opens the place of a ping on the board. An open one is `IoError` of kind `AlreadyExists`; want of memory is
-    /// `OutOfMemory`. A refusal changes nothing.
-    pub fn open_place(&mut self, token: Token) -> Result<OpenedPass>
-        ensures ok { IfOk result (λ pass. (pass ≡ key_of token) × (is_open (key_of token) self.old.board ≡ false) × (poll_view self.new ≡ poll_after (poll_view self.old) (OpenPlace (key_of token)))) }
-        ensures err { IfErr result (λ e. CannotOpen (key_of token) self.old.board e × (poll_view self.new ≡ poll_view self.old)) }
+    /// `OutOfMemory`. A refusal leaves the board as it was.
+    pub fn open_place(&self, token: Token) -> Result<OpenedPass>
+        ensures ok { IfOk result (λ pass. pass ≡ key_of token) }
+        ensures err { IfErr result CannotOpen }
     {
-        match self.board.open_place(token.key()) {
+        match self.hub.open_place(&self.rt, token.key()) {
             Ok(pass) => Ok(pass),
             Err(OpenRefusal::AlreadyExists) => Err(Error::IoError(io::Error::from(
                 io::ErrorKind::AlreadyExists,
@@ -226,30 +211,24 @@ impl<P: Poller, C> Poll<P, C> {
     }
 
     /// Closes the place of a key that no cell has any more, where there is one.
-    pub fn close_place(&mut self, leave: Option<LeaveToClose>)
-        ensures { poll_view self.new ≡ polls_after (poll_view self.old) (closes leave) }
-    {
+    pub fn close_place(&self, leave: Option<LeaveToClose>) {
         if let Some(leave) = leave {
-            self.board.close_place(leave);
+            self.hub.close_place(&self.rt, leave);
         }
     }
 
-    /// Posts the key of a debt, where there is one, and spends the nudge that this gives on the poller.
-    pub fn settle(&mut self, debt: Option<Debt>)
-        ensures view { poll_view self.new ≡ polls_after (poll_view self.old) (posts debt) }
-        ensures tells { Tells P.notified debt self.old.board self.old.poller self.new.poller }
-    {
+    /// Posts the key of a debt, where there is one, and spends the nudge that this gives.
+    pub fn settle(&self, debt: Option<Debt>) {
         if let Some(debt) = debt {
-            post(&mut self.board, &mut self.poller, debt);
+            self.hub.settle(&self.rt, debt);
         }
     }
 
     fn replace_pass(&mut self, pass: Option<TakenPass>)
-        ensures view { poll_view self.new ≡ with_pass pass (poll_view self.old) }
-        ensures tells { Tells P.notified (key_held self.old.pass) self.old.board self.old.poller self.new.poller }
+        ensures { poll_view self.new ≡ with_pass pass (poll_view self.old) }
     {
         if let Some(other) = mem::replace(&mut self.pass, pass) {
-            post(&mut self.board, &mut self.poller, other.back());
+            self.hub.settle(&self.rt, other.back());
         }
     }
 
@@ -261,21 +240,20 @@ impl<P: Poller, C> Poll<P, C> {
         self.pass.take()
     }
 
-    /// Puts back a pass that a cell refused.
+    /// Puts back a pass that a cell refused. One that lay there goes back to the board.
     pub fn put_back(&mut self, pass: TakenPass)
-        ensures view { poll_view self.new ≡ poll_after (poll_view self.old) (PutBack pass) }
-        ensures tells { Tells P.notified (key_held self.old.pass) self.old.board self.old.poller self.new.poller }
+        ensures { poll_view self.new ≡ poll_after (poll_view self.old) (PutBack pass) }
     {
         self.replace_pass(Some(pass));
     }
 
-    // How many events one `poll` can gather at most.
-    fn room(&self) -> Option<usize>
-        ensures { IfSome result (λ n. n ≡ length self.now.board + (1024 + length self.now.wheel.entries)) }
+    // How many events one `poll` can gather at most, with this many posted keys.
+    fn room(&self, places: usize) -> Option<usize>
+        ensures { IfSome result (λ n. n ≡ places + (1024 + length self.now.wheel.entries)) }
     {
         EVENTS_PER_WAIT
             .checked_add(self.wheel.len())?
-            .checked_add(self.board.places())
+            .checked_add(places)
     }
 
     /// Reserves what one `poll` can gather. Want of memory changes nothing.
@@ -284,14 +262,15 @@ impl<P: Poller, C> Poll<P, C> {
         ensures ready { OnOk result (IsReady self.new) }
         ensures err { IfErr result (λ e. e ≡ OutOfMemory) }
     {
-        let places = self.board.places();
-        let Some(room) = self.room() else {
+        let places = self.hub.places(&self.rt);
+        let Some(room) = self.room(places) else {
             return Err(Error::OutOfMemory);
         };
         self.events.clear();
         self.batch.reserve(room)?;
         self.passes.reserve(places)?;
         self.events.reserve(EVENTS_PER_WAIT)?;
+        self.places = places;
         Ok(())
     }
 
@@ -299,7 +278,6 @@ impl<P: Poller, C> Poll<P, C> {
     pub fn next_event(&mut self) -> Option<Pending>
         ensures event { result ≡ head_of (poll_view self.old).batch }
         ensures view { poll_view self.new ≡ cut (poll_view self.old) }
-        ensures tells { OnSome result (Tells P.notified (key_held self.old.pass) self.old.board self.old.poller self.new.poller) }
     {
         let event = self.batch.pop_front()?;
         let pass = if event.posted {
@@ -313,20 +291,19 @@ impl<P: Poller, C> Poll<P, C> {
 
     /// The turn of an event is over: a pass that is unspent goes back, and its key is posted again.
     pub fn end_event(&mut self)
-        ensures view { poll_view self.new ≡ with_pass None (poll_view self.old) }
-        ensures tells { Tells P.notified (key_held self.old.pass) self.old.board self.old.poller self.new.poller }
+        ensures { poll_view self.new ≡ with_pass None (poll_view self.old) }
     {
         self.replace_pass(None);
     }
 
     fn gather(&mut self, now: Instant)
-        requires batch { deque_len self.old.batch + (length self.old.board + (1024 + length self.old.wheel.entries)) ≤ deque_capacity self.old.batch }
-        requires passes { deque_len self.old.passes + length self.old.board ≤ deque_capacity self.old.passes }
+        requires batch { deque_len self.old.batch + (self.old.places + (1024 + length self.old.wheel.entries)) ≤ deque_capacity self.old.batch }
+        requires passes { deque_len self.old.passes + self.old.places ≤ deque_capacity self.old.passes }
         requires events { vec_len self.old.events ≤ 1024 }
-        ensures { poll_view self.new ≡ gathered (taken_keys self.old.board) self.old.events.items now.nanos (poll_view self.old) }
+        ensures { (posted : List ℕ) × IsRising posted × (poll_view self.new ≡ gathered posted self.old.events.items now.nanos (poll_view self.old)) }
     {
         let first = self.passes.len();
-        self.board.unpost(&mut self.passes);
+        self.hub.unpost(&self.rt, self.places, &mut self.passes);
         append_posted(&mut self.batch, &self.passes, first);
         append_polled(&mut self.batch, &self.events);
         append_due(&mut self.batch, &mut self.wheel, now);

@@ -4,13 +4,15 @@ ghost use Rattle.calloop_core.specs.Scripts.{kept_waits};
 ghost use Rattle.calloop_core.specs.declared.sys.Readiness.{Readiness};
 
 use super::faults::FaultCount;
+use super::notifier::Notifier;
 use super::{Clock, EVENTS_PER_WAIT, Poller, Readiness};
-use calloop_wake::wake::Notify;
+use calloop_wake::error::{Error, Result as LoopResult};
 use calloop_wake::wheel::Instant;
 use std::alloc::{AllocError, AllocFailed, Global};
 use std::collections::VecDeque;
 use std::io;
-use std::marker::Model;
+use std::sync::Arc;
+use std::sync::atomic::{AtomicBool, AtomicU64, Ordering};
 use std::time::Duration;
 
 /// The events of one scripted wait, at most 1,024 of them.
@@ -69,18 +71,6 @@ pub struct ScriptAnswer {
     pub end: ScriptEnd,
 }
 
-/// Whether a nudge came since the last wait. No contract speaks of it: a scripted wait doesn't heed it.
-#[derive(Drop)]
-pub struct Signal {
-    is_set: bool,
-}
-
-impl Model for Signal {
-    ghost Value = { Unit {0} };
-
-    ghost view = { λ _. tt };
-}
-
 /// Answers what it was told to. With no answer left a wait gives no event and moves the clock by the asked
 /// wait, at most to 2^64 - 1 nanoseconds; a wait without limit then moves nothing.
 #[derive(Drop)]
@@ -89,44 +79,59 @@ pub struct ScriptPoller {
     answers: VecDeque<ScriptAnswer>,
     waits: Vec<Option<Duration>>,
     faults: FaultCount,
-    signal: Signal,
+    shown: Arc<AtomicU64, Global>,
+    signal: Arc<AtomicBool, Global>,
 }
 
-/// Shows the moment at which it was made.
-#[derive(Clone, Copy, Debug)]
+/// Shows what the clock of its poller shows. No contract sees that, since another thread may read it.
+#[derive(Drop)]
 pub struct ScriptClock {
-    moment: Instant,
+    shown: Arc<AtomicU64, Global>,
+}
+
+impl Clone for ScriptClock {
+    fn clone(&self) -> Result<ScriptClock, AllocError> {
+        Ok(ScriptClock {
+            shown: Arc::try_clone(&self.shown)?,
+        })
+    }
 }
 
 impl Clock for ScriptClock {
-    fn now(&self) -> Instant
-        ensures { result ≡ self.now.moment }
-    {
-        self.moment
+    fn now(&self) -> Instant {
+        Instant {
+            nanos: self.shown.load(Ordering::SeqCst),
+        }
     }
 }
 
 impl ScriptPoller {
     /// With the clock at 0, no answer, and no room for asked waits.
-    pub fn new(alloc: Global) -> ScriptPoller
-        ensures { (result.moment.nanos ≡ 0) × (result.answers.items ≡ []) × (result.waits.items ≡ []) × (vec_capacity result.waits ≡ 0) × (result.faults.count ≡ 0) }
+    pub fn new(alloc: Global) -> Result<ScriptPoller, AllocError>
+        ensures { IfOk result (λ made. (made.moment.nanos ≡ 0) × (made.answers.items ≡ []) × (made.waits.items ≡ []) × (vec_capacity made.waits ≡ 0) × (made.faults.count ≡ 0)) }
     {
-        ScriptPoller {
+        Ok(ScriptPoller {
             moment: Instant { nanos: 0 },
             answers: VecDeque::new(alloc),
             waits: Vec::new(alloc),
             faults: FaultCount::new(),
-            signal: Signal { is_set: false },
-        }
+            shown: Arc::new(alloc, AtomicU64::new(0))?,
+            signal: Arc::new(alloc, AtomicBool::new(false))?,
+        })
     }
 
-    /// A clock that shows the moment of now.
-    pub fn clock(&self) -> ScriptClock
-        ensures { result.moment ≡ self.now.moment }
+    /// A clock that follows this poller's. At 2^63 of them one more is refused.
+    pub fn clock(&self) -> Result<ScriptClock, AllocError> {
+        Ok(ScriptClock {
+            shown: Arc::try_clone(&self.shown)?,
+        })
+    }
+
+    /// The moment that the clock shows.
+    pub fn moment(&self) -> Instant
+        ensures { result ≡ self.now.moment }
     {
-        ScriptClock {
-            moment: self.moment,
-        }
+        self.moment
     }
 
     /// Sets the clock.
@@ -134,6 +139,7 @@ impl ScriptPoller {
         ensures { self.new ≡ record self.old { moment = moment } }
     {
         self.moment = moment;
+        self.shown.store(moment.nanos, Ordering::SeqCst);
     }
 
     /// Adds the answer of one more wait, behind those that are there.
@@ -172,7 +178,7 @@ impl ScriptPoller {
 
     /// Whether a nudge came since the last wait.
     pub fn is_nudged(&self) -> bool {
-        self.signal.is_set
+        self.signal.load(Ordering::SeqCst)
     }
 
     fn note(&mut self, timeout: Option<Duration>)
@@ -197,20 +203,10 @@ fn append(mut events: Vec<(u64, Readiness)>, out: &mut Vec<(u64, Readiness)>)
     out.append(&mut events).unwrap()
 }
 
-impl Notify for ScriptPoller {
-    ghost notified = { λ before after. after ≡ before };
-
-    fn notify(&mut self) {
-        self.signal = Signal { is_set: true };
-    }
-}
-
 impl Poller for ScriptPoller {
     ghost use Rattle.calloop_core.specs.ScriptPollers.{script_outside};
 
     ghost outside = { script_outside };
-
-    ghost unseen = { λ before after same. same };
 
     fn now(&mut self) -> Instant {
         self.moment
@@ -222,14 +218,16 @@ impl Poller for ScriptPoller {
         events: &mut Vec<(u64, Readiness)>,
     ) -> io::Result<()> {
         self.note(timeout);
-        self.signal = Signal { is_set: false };
+        self.signal.store(false, Ordering::SeqCst);
         let Some(answer) = self.answers.pop_front() else {
             if let Some(asked) = timeout {
                 self.moment = self.moment.after(asked);
+                self.shown.store(self.moment.nanos, Ordering::SeqCst);
             }
             return Ok(());
         };
         self.moment = answer.moment;
+        self.shown.store(answer.moment.nanos, Ordering::SeqCst);
         match answer.end {
             ScriptEnd::Events(given) => {
                 append(given.events, events);
@@ -240,6 +238,13 @@ impl Poller for ScriptPoller {
                 self.faults = FaultCount::after(&self.faults);
                 Err(io::Error::other("a scripted fault"))
             }
+        }
+    }
+
+    fn notifier(&self) -> LoopResult<Notifier> {
+        match Arc::try_clone(&self.signal) {
+            Ok(signal) => Ok(Notifier::Script(signal)),
+            Err(_) => Err(Error::OutOfMemory),
         }
     }
 }

@@ -2,7 +2,7 @@
 ghost use Rattle.std.specs.Prelude.{◌≡◌, ◌≤◌, ◌+◌, ◌++◌, ◌∷◌, [], false, true, not, map, length, is_ok, is_some, Err, MatchResult, if◌then◌else◌};
 ghost use Rattle.std.specs.VecDeque.{deque_len, deque_capacity};
 ghost use Rattle.std.specs.List.{insert};
-ghost use Rattle.calloop_wake.specs.Boards.{place, is_open, any_marked, wakes, marked_at, after_open_place, after_close_place, after_post, after_unpost, taken, taken_keys};
+ghost use Rattle.calloop_wake.specs.Boards.{place, is_open, any_marked, wakes, marked_at, after_open_place, after_close_place, after_post, after_unpost, taken, taken_keys, IsRising};
 ghost use Rattle.calloop_wake.specs.declared.wake.board.OpenRefusal.TheVariants.{AlreadyExists, OutOfMemory};
 
 use super::{Debt, LeaveToClose, LeaveToSleep, Nudge, OpenedPass, TakenPass};
@@ -205,7 +205,7 @@ impl Board {
         }
     }
 
-    /// Takes all marked keys, ascending, and appends a pass for each.
+    /// Takes all marked keys, ascending, and appends a pass for each. There are at most as many as places.
     ///
     /// The queue needs room for them: at most `places()` passes.
     pub fn unpost(&mut self, passes: &mut VecDeque<TakenPass>)
@@ -214,6 +214,8 @@ impl Board {
         ensures gives { passes.new.items ≡ passes.old.items ++ map taken (taken_keys self.old) }
         ensures len { deque_len passes.new ≡ deque_len passes.old + length (taken_keys self.old) }
         ensures capacity { deque_capacity passes.new ≡ deque_capacity passes.old }
+        ensures rising { IsRising (taken_keys self.old) }
+        ensures few { length (taken_keys self.old) ≤ length self.old }
     {
         take(&self.places, passes);
         unmark(&mut self.places);

@@ -8,8 +8,9 @@ use crate::sys::Poller;
 use calloop_wake::error::Result;
 use calloop_wake::token::Token;
 use calloop_wake::wheel::Instant;
+use std::sync::Wait;
 
-impl<P: Poller, C> Poll<P, C> {
+impl<P: Poller, C, R: Wait + Drop> Poll<P, C, R> {
     /// Arms a deadline under the next counter, which it gives. The refusals are those of `Wheel::insert`, and change
     /// nothing.
     pub fn insert_timer(&mut self, deadline: Instant, token: Token) -> Result<u64>

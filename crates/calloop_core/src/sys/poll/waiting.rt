@@ -1,5 +1,5 @@
 //! The wait.
-ghost use Rattle.std.specs.Prelude.{◌≡◌, ◌↔◌, ℕ, ◌≤◌, true, [], List, Result, Ok, Err, IfOk, IfErr, vec_len, vec_capacity, map};
+ghost use Rattle.std.specs.Prelude.{◌≡◌, ◌↔◌, ℕ, ◌≤◌, true, [], List, Result, Ok, Err, IfOk, IfErr, vec_len, vec_capacity, is_none};
 ghost use Rattle.calloop_core.specs.Pollers.{nanos_of};
 ghost use Rattle.calloop_core.specs.Polls.{poll_view, IsReady};
 ghost use Rattle.calloop_core.specs.declared.sys.Readiness.{Readiness};
@@ -8,6 +8,7 @@ ghost use Rattle.calloop_core.specs.Waits.{IsInterruption, asked_for, is_zero, l
 use super::Poll;
 use crate::sys::Poller;
 use calloop_wake::error::Result;
+use calloop_wake::wake::LeaveToSleep;
 use calloop_wake::wheel::Instant;
 use std::io;
 use std::sync::Wait;
@@ -46,7 +47,7 @@ fn is_interruption(cause: &io::Error) -> bool
     matches!(cause.kind(), io::ErrorKind::Interrupted)
 }
 
-impl<P, C> Poll<P, C> {
+impl<P, C, R: Wait + Drop> Poll<P, C, R> {
     fn time_to_first(&self, now: Instant) -> Option<Duration>
         ensures { nanos_of result ≡ time_to_first self.now.wheel.entries now.nanos }
     {
@@ -54,26 +55,33 @@ impl<P, C> Poll<P, C> {
         Some(Duration::from_nanos(first.nanos.saturating_sub(now.nanos)))
     }
 
-    // How long to wait. It spends the leave to sleep that the look at the board gives, without which it is zero.
-    fn asked(&self, timeout: Option<Duration>, start: Instant, now: Instant) -> Option<Duration>
-        ensures { nanos_of result ≡ asked_for (poll_view self.now) (nanos_of timeout) start.nanos now.nanos }
+    // How long to wait. It spends the leave to sleep, without which a posted key stands and the wait is zero.
+    fn asked(
+        &self,
+        leave: Option<LeaveToSleep>,
+        timeout: Option<Duration>,
+        start: Instant,
+        now: Instant,
+    ) -> Option<Duration>
+        ensures { nanos_of result ≡ asked_for (poll_view self.now) (is_none leave) (nanos_of timeout) start.nanos now.nanos }
     {
-        if !self.batch.is_empty() {
-            return Some(Duration::ZERO);
-        }
-        match self.board.look() {
+        match leave {
             Some(leave) => {
                 leave.spend();
-                lesser(time_left(timeout, start, now), self.time_to_first(now))
+                if self.batch.is_empty() {
+                    lesser(time_left(timeout, start, now), self.time_to_first(now))
+                } else {
+                    Some(Duration::ZERO)
+                }
             }
             None => Some(Duration::ZERO),
         }
     }
 }
 
-impl<P: Poller, C> Poll<P, C> {
+impl<P: Poller, C, R: Wait + Drop> Poll<P, C, R> {
     // Waits until the poller answers or nothing is left to wait for, and gives the moment of the gathering.
-    fn wait<R: Wait>(&mut self, rt: &R, timeout: Option<Duration>) -> io::Result<Instant>
+    fn wait<Q: Wait>(&mut self, rt: &Q, timeout: Option<Duration>) -> io::Result<Instant>
         requires events { self.old.events.items ≡ [] }
         requires room { 1024 ≤ vec_capacity self.old.events }
         ensures ok { IfOk result (λ now. Waited P.outside (poll_view self.old) (nanos_of timeout) (Ok now.nanos) self.new.events.items self.new.poller) }
@@ -82,9 +90,8 @@ impl<P: Poller, C> Poll<P, C> {
         ensures few { vec_len self.new.events ≤ 1024 }
     {
         let start = self.poller.now();
-        let mut now = start;
+        let mut asked = self.asked(self.hub.look(rt), timeout, start, start);
         for _ in rt.forever() {
-            let asked = self.asked(timeout, start, now);
             let answer = self.poller.wait(asked, &mut self.events);
             let Err(cause) = answer else {
                 return Ok(self.poller.now());
@@ -93,8 +100,9 @@ impl<P: Poller, C> Poll<P, C> {
                 return Err(cause);
             }
             self.events.clear();
-            now = self.poller.now();
-            if is_zero(self.asked(timeout, start, now)) {
+            let now = self.poller.now();
+            asked = self.asked(self.hub.look(rt), timeout, start, now);
+            if is_zero(asked) {
                 return Ok(now);
             }
         }
@@ -107,7 +115,7 @@ impl<P: Poller, C> Poll<P, C> {
     ///
     /// An interruption asks anew, for what is left of the timeout since the start. A fault of the wait is `IoError`; then
     /// the batch, the posted keys and the deadlines are as they were.
-    pub fn poll<R: Wait>(&mut self, rt: &R, timeout: Option<Duration>) -> Result<()>
+    pub fn poll<Q: Wait>(&mut self, rt: &Q, timeout: Option<Duration>) -> Result<()>
         requires { IsReady self.old }
         ensures { Polled P.outside (nanos_of timeout) result (poll_view self.old) (poll_view self.new) }
     {

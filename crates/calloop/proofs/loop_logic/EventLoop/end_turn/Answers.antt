@@ -23,7 +23,7 @@ returns-in-Ok-Continue-clause-machine g c x =
     let slots : c.replace-was.new.self ≡ changed (with_content (Source d)) v.slots c.args.token.slot = c.replace-was.ensures.list ∙ ap (λ n. changed (with_content (Source d)) v.slots n) own in
     rw answer
     (goes_to M O (Ending c.args.token d (Ok Continue) x) (Cutting x) v (record { slots = changed (with_content (Source d)) v.slots c.args.token.slot; poll = with_pass None v.poll }) _
-    (ap (λ (s : List (Slot g.row.D.Denot)). record { slots = s; poll = poll_view c.end_event.new.self }) slots ∙ ap (λ (p : PollView g.row.P.Denot). record { slots = changed (with_content (Source d)) v.slots c.args.token.slot; poll = p }) c.end_event.ensures.view)
+    (ap (λ (s : List (Slot g.row.D.Denot)). record { slots = s; poll = poll_view c.end_event.new.self }) slots ∙ ap (λ (p : PollView g.row.P.Denot). record { slots = changed (with_content (Source d)) v.slots c.args.token.slot; poll = p }) c.end_event.ensures)
     (stays M O c.args.token v d (Ok Continue) (Cutting x) x (refl, refl)))
 
 pub returns-in-Ok-Remove-clause-machine : goal.returns-in-Ok-Remove-clause-machine
@@ -38,11 +38,11 @@ returns-in-Ok-Remove-clause-machine g c x =
     rw answer
     (goes_to M O (Ending c.args.token c.args.source (Ok Remove) x) (Cutting x) v (record { slots = changed (with_content Vacant) v.slots c.args.token.slot; poll = poll_view c.unregister.new.poll }) _
     (ap (λ (s : List (Slot g.row.D.Denot)). record { slots = s; poll = poll_view c.unregister.new.poll }) slots)
-    (leaves M O c.args.token v c.args.source c.unregister.new.self c.unregister.result (poll_view c.end_event.new.self) (poll_view c.unregister.new.poll) x c.end_event.ensures.view c.unregister.ensures))
+    (leaves M O c.args.token v c.args.source c.unregister.new.self c.unregister.result (poll_view c.end_event.new.self) (poll_view c.unregister.new.poll) x c.end_event.ensures c.unregister.ensures))
 
 pub returns-in-Ok-Remove-clause-batch : goal.returns-in-Ok-Remove-clause-batch
 returns-in-Ok-Remove-clause-batch g c =
-    ap (λ (p : PollView g.row.P.Denot). p.batch) c.unregister.ensures.2.1 ∙ batch-stepped (poll_view c.end_event.new.self) c.unregister.ensures.0 ∙ ap (λ (p : PollView g.row.P.Denot). p.batch) c.end_event.ensures.view
+    ap (λ (p : PollView g.row.P.Denot). p.batch) c.unregister.ensures.2.1 ∙ batch-stepped (poll_view c.end_event.new.self) c.unregister.ensures.0 ∙ ap (λ (p : PollView g.row.P.Denot). p.batch) c.end_event.ensures
 
 pub returns-in-Err-clause-machine : goal.returns-in-Err-clause-machine
 returns-in-Err-clause-machine g c x =
@@ -55,5 +55,5 @@ returns-in-Err-clause-machine g c x =
     let slots : c.replace-was-in-Err.new.self ≡ changed (with_content (Source d)) v.slots c.args.token.slot = c.replace-was-in-Err.ensures.list ∙ ap (λ n. changed (with_content (Source d)) v.slots n) own in
     rw c.in-Err.is
     (goes_to M O (Ending c.args.token d (Err e) x) (Leaving (Err e) x) v (record { slots = changed (with_content (Source d)) v.slots c.args.token.slot; poll = with_pass None v.poll }) _
-    (ap (λ (s : List (Slot g.row.D.Denot)). record { slots = s; poll = poll_view c.end_event.new.self }) slots ∙ ap (λ (p : PollView g.row.P.Denot). record { slots = changed (with_content (Source d)) v.slots c.args.token.slot; poll = p }) c.end_event.ensures.view)
+    (ap (λ (s : List (Slot g.row.D.Denot)). record { slots = s; poll = poll_view c.end_event.new.self }) slots ∙ ap (λ (p : PollView g.row.P.Denot). record { slots = changed (with_content (Source d)) v.slots c.args.token.slot; poll = p }) c.end_event.ensures)
     (stays M O c.args.token v d (Err e) (Leaving (Err e) x) x (refl, refl)))

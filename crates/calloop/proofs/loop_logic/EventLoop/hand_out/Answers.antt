@@ -21,7 +21,7 @@ pub returns-in_default-begin_turn-clause-machine : goal.returns-in_default-begin
 returns-in_default-begin_turn-clause-machine g c =
     let v : View g.row.D.Denot g.row.P.Denot = view_of c.args.self.now in
     let M = g.D.EventDispatcher.means in
-    let polls : poll_view c.end_event.new.self ≡ with_pass None (cut v.poll) = c.end_event.ensures.view ∙ ap (λ (p : PollView g.row.P.Denot). with_pass None p) c.next_event.ensures.view in
+    let polls : poll_view c.end_event.new.self ≡ with_pass None (cut v.poll) = c.end_event.ensures ∙ ap (λ (p : PollView g.row.P.Denot). with_pass None p) c.next_event.ensures.view in
     let none : None ≡ source_of (named v.slots (registration_of c.in-Some.event.token)) = c.in_default-begin_turn.ensures.value ∙ ap (λ (t : RegistrationToken). source_of (named v.slots t)) c.registration.ensures in
     goes_to M g.P.Poller.outside (Cutting c.args.«data».now) (Cutting c.args.«data».now) v (record v { poll = with_pass None (cut v.poll) }) _
     (ap (λ (s : List (Slot g.row.D.Denot)). record { slots = s; poll = poll_view c.end_event.new.self }) c.in_default-begin_turn.ensures.list ∙ ap (λ (p : PollView g.row.P.Denot). record v { poll = p }) polls)

@@ -6,14 +6,14 @@ use Rattle.calloop.proofs.loop_logic.EventLoop.try_new.Goals as goal
 
 pub returns : goal.returns
 returns g c =
-    let new : PollView g.row.P.Denot = record { poller = c.args.poller; board = []; deadlines = record { entries = []; next = 0 }; batch = []; passes = []; pass = None } in
-    let polls : poll_view c.reserve.new.self ≡ new = c.in_ok-reserve.ensures.view ∙ c.new-poll.ensures in
+    let new : PollView g.row.P.Denot = record { poller = c.args.poller; deadlines = record { entries = []; next = 0 }; batch = []; passes = []; pass = None } in
+    let polls : poll_view c.reserve.new.self ≡ new = c.in_ok-reserve.ensures.view ∙ c.in_ok-poll.ensures.ok in
     record {
       ok = (
         record { slots = []; poll = new; ledger = new_ledger },
-        record { slots = refl; board = refl; deadlines = refl; batch = refl; passes = refl; pass = refl; ledger = refl },
+        record { slots = refl; deadlines = refl; batch = refl; passes = refl; pass = refl; ledger = refl },
         refl,
-        sym (ap (λ (s : List (Slot g.row.D.Denot)). record { slots = s; poll = poll_view c.reserve.new.self }) c.new.ensures ∙ ap (λ (p : PollView g.row.P.Denot). record { slots = []; poll = p }) polls),
+        sym (ap (λ (s : List (Slot g.row.D.Denot)). record { slots = s; poll = poll_view c.reserve.new.self }) c.new-2.ensures ∙ ap (λ (p : PollView g.row.P.Denot). record { slots = []; poll = p }) polls),
       );
       err = tt;
     }

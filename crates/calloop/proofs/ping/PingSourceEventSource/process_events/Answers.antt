@@ -1,6 +1,6 @@
 use Rattle.std.proofs.Common.{◌≡◌, refl, sym, ◌∙◌, ap, true, false, [], ◌∷◌}
 use Rattle.calloop_wake.specs.Cells.{after_end_turn}
-use Rattle.calloop_core.specs.Polls.{TakePass, PutBack, PollView, poll_view, polls_after, posts, poll_after}
+use Rattle.calloop_core.specs.Polls.{TakePass, PutBack, PollView, poll_view, poll_after}
 use Rattle.calloop.specs.Pings.{is_token, calls_of}
 use Rattle.calloop.proofs.Pinging.{turn_of_another, turn_without, turn_opened, turn_refused}
 use Rattle.calloop.proofs.ping.PingSourceEventSource.process_events.Goals as goal
@@ -17,12 +17,11 @@ returns-in_default g c =
 
 pub returns-in-Ok : goal.returns-in-Ok
 returns-in-Ok g c =
-    let own : is_token c.args.token c.args.self.now.token ≡ true = sym c.is_mine.ensures ∙ c.if-not-is_mine.false in
-    let none : poll_view c.settle.new.self ≡ poll_view c.take_pass.new.self = c.settle.ensures.view ∙ ap (λ d. polls_after (poll_view c.take_pass.new.self) (posts d)) c.end_turn-debt.ensures.gives in (
+    let own : is_token c.args.token c.args.self.now.token ≡ true = sym c.is_mine.ensures ∙ c.if-not-is_mine.false in (
       calls_of c.in-Ok.opened.rung,
       TakePass ∷ [],
       (c.in-Ok.opened.rung, refl, refl, turn_opened c.args.self.now c.args.token (poll_view c.args.poll.now) own c.in-Some.pass c.in-Ok.opened c.end_turn-debt.new.self (sym c.in-Some.ensures.pass) (sym c.in-Ok.ensures.gives) (c.end_turn-debt.ensures.cell ∙ ap after_end_turn c.in-Ok.ensures.cell)),
-      ((tt, tt), none ∙ c.take_pass.ensures.view),
+      ((tt, tt), c.take_pass.ensures.view),
       c.call_if.ensures,
     )
 
@@ -32,6 +31,6 @@ returns-in-Err g c =
       [],
       TakePass ∷ PutBack c.in-Err.pass ∷ [],
       (false, refl, refl, turn_refused c.args.self.now c.args.token (poll_view c.args.poll.now) own c.in-Some.pass c.in-Err.pass c.open_turn.new.self (sym c.in-Some.ensures.pass) (sym c.in-Err.ensures.gives) c.in-Err.ensures.cell),
-      ((tt, (tt, tt)), c.put_back.ensures.view ∙ ap (λ (v : PollView g.row.P.Denot). poll_after v (PutBack c.in-Err.pass)) c.take_pass.ensures.view),
+      ((tt, (tt, tt)), c.put_back.ensures ∙ ap (λ (v : PollView g.row.P.Denot). poll_after v (PutBack c.in-Err.pass)) c.take_pass.ensures.view),
       (refl, refl),
     )

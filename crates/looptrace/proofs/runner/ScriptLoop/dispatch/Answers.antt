@@ -34,8 +34,8 @@ returns-clause-ok g c =
     let held = c.handle.ensures.value in
     let new : ScriptPoller = c.make_ready.new.poller in
     let mid : View Source ScriptPoller = record s.loop { poll = polling new s.loop.poll } in
-    let poller : c.poller_mut.result.now ≡ s.loop.poll.poller = c.poller_mut.ensures.value ∙ ap (λ (e : EventLoop Source ScriptPoller _). e.poll.poller) held in
-    let before : view_of (with_loop_poller new c.handle.result.inner.now) ≡ mid = ap (λ (e : EventLoop Source ScriptPoller ScriptClock). view_of (with_loop_poller new e)) held in
+    let poller : c.poller_mut.result.now ≡ s.loop.poll.poller = c.poller_mut.ensures.value ∙ ap (λ (e : EventLoop Source ScriptPoller ScriptClock g.row.R.Denot). e.poll.poller) held in
+    let before : view_of (with_loop_poller new c.handle.result.inner.now) ≡ mid = ap (λ (e : EventLoop Source ScriptPoller ScriptClock g.row.R.Denot). view_of (with_loop_poller new e)) held in
     let after : view_of c.dispatch-answer.new.self ≡ view_of (with_loop_poller c.poller_mut-2.result.now c.handle-2.result.inner.now) =
     sym (ap (λ (p : ScriptPoller). view_of (with_loop_poller p c.handle-2.result.inner.now)) c.poller_mut-2.ensures.value ∙ ap view_of c.handle-2.ensures.value) in
     let ready : IsReady s.fault s.pending s.loop.poll.poller new = subst (λ (p : ScriptPoller). IsReady s.fault s.pending p new) poller c.in_ok-make_ready.ensures.ok in

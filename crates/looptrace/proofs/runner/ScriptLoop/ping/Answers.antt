@@ -17,7 +17,7 @@ new_is core token name asked is_fresh no_token same =
     ∙ ap new_ping same
 
 pub returns-clause-ok : goal.returns-clause-ok
-returns-clause-ok c =
+returns-clause-ok g c =
     let name : List ℕ = c.args.name.now in
     let none = free name c.args.self.now.sources.items c.source_named.result c.as_slice.result.now c.deref.result.now c.source_named.ensures c.as_slice.ensures c.deref.ensures.value (sym c.is_some.ensures ∙ c.if-is_some.false) in
     let source = new_is c.new-source.result.core c.new-source.result.token c.in_ok-new.field-0 name c.new-source.ensures.core c.new-source.ensures.token (c.in_ok-new.ensures ∙ c.as_slice-2.ensures) in

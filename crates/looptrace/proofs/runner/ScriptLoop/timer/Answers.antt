@@ -14,7 +14,7 @@ new_is timer deadline name asked is_unarmed same =
     ap (λ (timer : Timer). TimerIn (record { source = timer; callback = record { name = name } })) is_unarmed ∙ ap (λ (name : List ℕ). new_timer name deadline) same
 
 pub returns-clause-ok : goal.returns-clause-ok
-returns-clause-ok c =
+returns-clause-ok g c =
     let name : List ℕ = c.args.name.now in
     let none = free name c.args.self.now.sources.items c.source_named.result c.as_slice.result.now c.deref.result.now c.source_named.ensures c.as_slice.ensures c.deref.ensures.value (sym c.is_some.ensures ∙ c.if-is_some.false) in
     let source = new_is c.from_deadline-source.result c.args.deadline c.in_ok-new.field-0 name c.from_deadline-source.ensures (c.in_ok-new.ensures ∙ c.as_slice-2.ensures) in

@@ -12,7 +12,7 @@ invariant-loop g l = record {
   can : (goal.iterator-loop g).can_next l.iterator';
   finite : (goal.iterator-loop g).is_finite l.iterator';
   leads : (is : List (Interruption g.row.P.Denot)) (answer : Result ℕ Cause) (given : List (ℕ × Readiness)) (q : g.row.P.Denot)
-      → Waits g.P.Poller.outside (poll_view l.fn.self) (nanos_of l.timeout) l.start.nanos l.now.nanos l.self.poller is answer given q
+      → Waits g.P.Poller.outside (poll_view l.fn.self) (nanos_of l.timeout) l.start.nanos (nanos_of l.asked) l.self.poller is answer given q
       → Waited g.P.Poller.outside (poll_view l.fn.self) (nanos_of l.timeout) answer given q;
   others : l.self ≡ record l.fn.self { poller = l.self.poller; events = l.self.events };
   events : l.self.events.items ≡ [];
