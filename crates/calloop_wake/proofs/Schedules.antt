@@ -2,9 +2,9 @@
 use Rattle.std.proofs.Common.{◌≡◌, ◌≢◌, ℕ, ◌+◌, ◌-◌, ◌<◌, ◌≤◌, Bool, true, false, ◌&&◌, ◌||◌, not, if◌then◌else◌, ◌⊎◌, inl, inr, List, [], ◌∷◌, Option, Some, None, nat_eq, refl, sym, ◌∙◌, ap, ap₂, subst, arith, true≢false, add-zero, eq-eqb, ne_eqb, eqb-true, zero, suc}
 use Rattle.std.proofs.lemmas.Bool.Decides.{nat_tests, eqb_tells}
 use Rattle.std.proofs.Math.Bool.{and-true, or-true, or-false}
-use Rattle.calloop_wake.specs.Cells.{Cell, owed, owed_at, after_ring, after_set_key, after_clear_key, after_end_turn, opens, is_own, IsLit, IsStanding}
+use Rattle.calloop_wake.specs.Cells.{Cell, owed, owed_at, after_ring, after_close, after_set_key, after_clear_key, in_turn, after_end_turn, opens, is_own, IsLit, IsStanding, one}
 use Rattle.calloop_wake.specs.Boards.{is_open, is_marked, any_marked, after_open_place, after_close_place, after_post, after_unpost}
-use Rattle.calloop_wake.specs.Wakes.{Bag, one, and_one, and_any, less_one, Loop, Awake, Looked, World, start, Step, Ring, EndTurn, ClearKey, SetKey, OpenTurn, OpenPlace, ClosePlace, Post, Back, Look, Unpost, Nudge, Sleep, Return, with_cell, Needs, after, IsSchedule, after_all, IsCovered}
+use Rattle.calloop_wake.specs.Wakes.{Bag, and_one, and_any, less_one, Loop, Awake, Looked, World, start, Step, Ring, Close, EndTurn, ClearKey, SetKey, OpenTurn, OpenPlace, ClosePlace, Post, Back, Look, Unpost, Nudge, Sleep, Return, with_cell, Needs, after, IsSchedule, after_all, IsCovered}
 use Rattle.calloop_wake.specs.declared.wake.board.Place.{Place}
 use Rattle.calloop_wake.proofs.Places.{is_open-after_open, is_marked-after_open, is_open-after_close, is_marked-after_close, is_open-after_post, is_marked-after_post, is_open-after_unpost, is_marked-after_unpost, marked-after_post, none_marked}
 
@@ -359,14 +359,18 @@ kept-opened w n k c lit same quiet own h = record {
   placed = placed-cell w n c same h.placed;
 }
 
+-- a turn tells all that was due
+pub in_turn-lit : (c : Cell) → IsLit (in_turn c)
+in_turn-lit c = elim c.closed as (λ b. (b && not (b || c.told)) ≡ true → false ≡ true) [ true ↦ λ h. h | false ↦ λ h. h ]
+
 pub kept-open_turn : (w : World) (n k : ℕ) (b : Bool) → opens k (w.cells n) ≡ b → IsKept w
     → IsKept (record w {
-      cells = with_cell n (if b then record (w.cells n) { pinged = false; draining = true; rung = false } else w.cells n) w.cells;
+      cells = with_cell n (if b then in_turn (w.cells n) else w.cells n) w.cells;
       passes = if b then less_one k w.passes else w.passes;
     })
 kept-open_turn w n k true is h =
-    kept-opened w n k (record (w.cells n) { pinged = false; draining = true; rung = false })
-    (λ r. absurd (cc)) refl refl (own-is k (w.cells n).key (and-left (is_own k (w.cells n).key) (not (w.cells n).draining) is)) h
+    kept-opened w n k (in_turn (w.cells n))
+    (in_turn-lit (w.cells n)) refl refl (own-is k (w.cells n).key (and-left (is_own k (w.cells n).key) (not (w.cells n).draining) is)) h
 kept-open_turn w n k false is h = kept-cell w n (w.cells n) None (λ l. l) refl (λ p. inl (p, refl)) h
 
 pub heard-look : (w : World) (b : Bool) → any_marked w.board ≡ b → IsHeard w.board w.nudges w.signal (if b then Awake else Looked)
@@ -375,6 +379,7 @@ heard-look w false is x a m = absurd (true≢false (sym m ∙ none_marked x w.bo
 
 pub kept-after : (w : World) (s : Step) → Needs w s → IsKept w → IsKept (after w s)
 kept-after w (Ring n) need h = kept-cell w n (after_ring (w.cells n)) (owed (w.cells n)) (λ _ _. refl) refl (λ _. fresh-owed (w.cells n)) h
+kept-after w (Close n) need h = kept-cell w n (after_close (w.cells n)) (owed (w.cells n)) (λ _ _. refl) refl (λ _. fresh-owed (w.cells n)) h
 kept-after w (EndTurn n) need h = kept-cell w n (after_end_turn (w.cells n)) None (λ l. l) refl (λ p. inl (p, refl)) h
 kept-after w (SetKey n k) need h = record {
   lit = with_cell-all IsLit n (after_set_key k (w.cells n)) w.cells (h.lit n) h.lit;
@@ -382,11 +387,11 @@ kept-after w (SetKey n k) need h = record {
   heard = h.heard;
   placed = placed-set w n k (after_set_key k (w.cells n)) refl need h.placed;
 }
-kept-after w (ClearKey n) need h = record {
-  lit = with_cell-all IsLit n (after_clear_key (w.cells n)) w.cells (h.lit n) h.lit;
-  known = known-cell w n (after_clear_key (w.cells n)) None h.known (λ p. inr refl);
+kept-after w (ClearKey n by_drop) need h = record {
+  lit = with_cell-all IsLit n (after_clear_key by_drop (w.cells n)) w.cells (h.lit n) h.lit;
+  known = known-cell w n (after_clear_key by_drop (w.cells n)) None h.known (λ p. inr refl);
   heard = h.heard;
-  placed = placed-clear w n (after_clear_key (w.cells n)) refl h.placed;
+  placed = placed-clear w n (after_clear_key by_drop (w.cells n)) refl h.placed;
 }
 kept-after w (OpenTurn n k) need h = kept-open_turn w n k (opens k (w.cells n)) refl h
 kept-after w (OpenPlace k) need h = record {

@@ -1,7 +1,7 @@
 -- The wake machine: cells, a board and a loop, and every step that any party may take, in any order. In calloop the
 -- kernel does these steps, for the descriptors of pings and the poller that waits for them; here they are steps on values.
 use Rattle.std.specs.Prelude.{◌≡◌, ◌≢◌, ℕ, ◌+◌, ◌-◌, ◌<◌, Bool, true, false, if◌then◌else◌, ◌⊎◌, List, [], ◌∷◌, Option, Some, None, nat_eq}
-use Rattle.calloop_wake.specs.Cells.{Cell, fresh, IsStanding, owed, owed_at, after_ring, after_set_key, after_clear_key, after_open_turn, after_end_turn, opens}
+use Rattle.calloop_wake.specs.Cells.{Cell, fresh, IsStanding, owed, owed_at, after_ring, after_close, after_set_key, after_clear_key, after_open_turn, after_end_turn, opens, one}
 use Rattle.calloop_wake.specs.Boards.{is_open, is_marked, any_marked, wakes, after_open_place, after_close_place, after_post, after_unpost}
 use Rattle.calloop_wake.specs.declared.wake.board.Place.{Place}
 
@@ -12,11 +12,6 @@ Bag = ℕ → ℕ
 -- none is out
 abbrev pub no_value : Bag
 no_value k = 0
-
--- how many a test finds
-abbrev pub one : Bool → ℕ
-one true = 1
-one false = 0
 
 -- with one more of this key
 abbrev pub and_one : ℕ → Bag → Bag
@@ -69,10 +64,11 @@ start =
       loop = Awake;
     }
 
--- A step of any party. Ring, set key, clear key and the two of a turn are calloop's write to a descriptor, its
+-- A step of any party. Ring, close, set key, clear key and the two of a turn are calloop's writes to a descriptor, its
 -- registration, the taking back of it, and process_events; place, post, look and unpost are the kernel's poller; nudge, sleep and return are the wait.
 pub data Step : Type 0 where
-  Ring ClearKey EndTurn : (cell : ℕ) → Step
+  Ring Close EndTurn : (cell : ℕ) → Step
+  ClearKey : (cell : ℕ) (by_drop : Bool) → Step
   SetKey OpenTurn : (cell key : ℕ) → Step
   OpenPlace ClosePlace Post Back : (key : ℕ) → Step
   Look Unpost Nudge Sleep Return : Step
@@ -86,9 +82,10 @@ with_cell n c cells j = if nat_eq j n then c else cells j
 -- look: it returns to a loop that is awake.
 abbrev pub Needs : World → Step → Type 0
 Needs w (Ring n) = Unit {0}
+Needs w (Close n) = Unit {0}
 Needs w (SetKey n k) = 0 < w.opened k
 Needs w (OpenTurn n k) = 0 < w.passes k
-Needs w (ClearKey n) = Unit {0}
+Needs w (ClearKey n by_drop) = Unit {0}
 Needs w (EndTurn n) = (w.cells n).draining ≡ true
 Needs w (OpenPlace k) = is_open k w.board ≡ false
 Needs w (ClosePlace k) = 0 < w.leaves k
@@ -103,6 +100,7 @@ Needs w Return = w.loop ≢ Looked
 -- the world after a step: cell and board change as the contracts of the working functions say
 abbrev pub after : World → Step → World
 after w (Ring n) = record w { cells = with_cell n (after_ring (w.cells n)) w.cells; debts = and_any (owed (w.cells n)) w.debts }
+after w (Close n) = record w { cells = with_cell n (after_close (w.cells n)) w.cells; debts = and_any (owed (w.cells n)) w.debts }
 after w (SetKey n k) =
     record w {
       cells = with_cell n (after_set_key k (w.cells n)) w.cells;
@@ -110,7 +108,7 @@ after w (SetKey n k) =
       debts = and_any (owed_at k (w.cells n)) w.debts;
       leaves = and_any (w.cells n).key w.leaves;
     }
-after w (ClearKey n) = record w { cells = with_cell n (after_clear_key (w.cells n)) w.cells; leaves = and_any (w.cells n).key w.leaves }
+after w (ClearKey n by_drop) = record w { cells = with_cell n (after_clear_key by_drop (w.cells n)) w.cells; leaves = and_any (w.cells n).key w.leaves }
 -- a pass that is refused stays where it is
 after w (OpenTurn n k) =
     record w {
@@ -146,9 +144,9 @@ after_all w (s ∷ ss) = after_all (after w s) ss
 abbrev pub IsKnown : World → ℕ → Type 0
 IsKnown w k = (is_marked k w.board ≡ true) ⊎ (0 < w.debts k) ⊎ (0 < w.passes k)
 
--- no ring is lost; calloop rests on the kernel for all three
+-- no ring and no close is lost; calloop rests on the kernel for all three
 pub record IsCovered (w : World) : Type 0 where
-  -- a standing ring is pinged, or a turn stands open
+  -- a standing ring or an untold close is pinged, or a turn stands open
   pub standing : (n : ℕ) → IsStanding (w.cells n)
   -- a pinged cell's key is known
   pub pinged : (n k : ℕ) → (w.cells n).pinged ≡ true → (w.cells n).key ≡ Some k → IsKnown w k

@@ -5,6 +5,7 @@
 //! The values of this module have no `Drop`: who has one has to hand it on or to spend it.
 ghost use Rattle.std.specs.Prelude.{◌≡◌};
 
+use ghosts::{Count, Name};
 use std::marker::Model;
 
 pub mod board;
@@ -93,18 +94,24 @@ impl TakenPass {
     }
 }
 
-/// A turn of a ping's cell stands open. Its value is the key of the pass that opened it.
+/// A turn of a ping's cell stands open. It has the name of the cell, so it can't be ended on another.
 #[must_use]
 pub struct PingTurn {
-    key: u64,
+    pub(crate) name: Name,
 }
 
-impl Model for PingTurn {
-    ghost use Rattle.std.specs.Prelude.{ℕ};
+/// Somebody rang the cell of this name: how many had rung it before.
+#[derive(Drop)]
+pub struct Receipt {
+    pub(crate) name: Name,
+    pub(crate) number: Count,
+}
 
-    ghost Value = { ℕ };
-
-    ghost view = { λ t. t.key };
+/// How many turns took a ring of the cell of this name. The receiving end has the one of its cell.
+#[derive(Drop)]
+pub struct Twin {
+    pub(crate) name: Name,
+    pub(crate) number: Count,
 }
 
 /// Only the last drop of a lock has it, so what lies under a lock isn't ended before.

@@ -1,30 +1,81 @@
 //! The cell of a ping, which its ends share.
-ghost use Rattle.std.specs.Prelude.{◌≡◌, None, List};
-ghost use Rattle.calloop_wake.specs.Cells.{fresh, IsLit, IsStanding, owed, owed_at, after_ring, after_set_key, after_clear_key, after_open_turn, after_end_turn, turn_of};
+ghost use Rattle.std.specs.Prelude.{◌≡◌, ◌+◌, ◌<◌, ◌^◌, true, false, None, List, IfOk, IfErr};
+ghost use Rattle.calloop_wake.specs.Cells.{fresh, IsLit, IsStanding, IsTold, IsSince, owed, owed_at, owed_by_drop, after_close, after_add_sender, after_drop_sender, after_set_key, after_clear_key, after_end_turn, in_turn, core_with, core_after_ring, core_after_open_turn, twin_after_open_turn, receipt_of, turn_of};
 ghost use Rattle.calloop_wake.specs.Wakes.{Step, start, after_all, IsSchedule, IsCovered};
 
-use super::{Debt, LeaveToClose, OpenedPass, PingTurn, TakenPass};
+use super::ghosts::{Count, Name};
+use super::locked::Core;
+use super::{Debt, Last, LeaveToClose, OpenedPass, PingTurn, Receipt, TakenPass, Twin};
+use counted_slot::Fits;
+use std::alloc::AllocError;
 use std::marker::Model;
 
 /// What the ends of a ping share. Calloop has the state of an eventfd or a pipe here.
 ///
-/// A ring that stands is pinged: its key is posted, owed or taken, or the cell has none yet.
-#[derive(Drop)]
+/// What is due, a ring or a close that no turn told, is pinged: its key is posted, owed or taken, or the cell has none yet.
+/// It has no `Drop`: it lies under a lock, whose last drop ends it.
 pub struct PingCore {
     rung: bool,
     pinged: bool,
     draining: bool,
+    closed: bool,
+    told: bool,
+    gone: bool,
     key: Option<u64>,
+    senders: u64,
+    name: Name,
+    rings: Count,
+    seen: Count,
+    taken: Count,
 }
 
 impl Model for PingCore {
-    ghost use Rattle.calloop_wake.specs.Cells.{Cell, IsLit};
+    ghost use Rattle.std.specs.Prelude.{◌≡◌, ◌<◌, true, false};
+    ghost use Rattle.calloop_wake.specs.Cells.{Core, IsLit};
 
-    ghost Value = { Cell };
+    ghost Value = { Core };
 
-    ghost view = { λ c. record { rung = c.rung; pinged = c.pinged; draining = c.draining; key = c.key } };
+    ghost view = { λ c. record {
+      cell = record { rung = c.rung; pinged = c.pinged; draining = c.draining; closed = c.closed; told = c.told; gone = c.gone; key = c.key; senders = c.senders };
+      name = c.name;
+      rings = c.rings;
+      seen = c.seen;
+      taken = c.taken;
+    } };
 
-    ghost invariant = { λ c. IsLit (record { rung = c.rung; pinged = c.pinged; draining = c.draining; key = c.key }) };
+    ghost invariant = { λ c.
+        IsLit (record { rung = c.rung; pinged = c.pinged; draining = c.draining; closed = c.closed; told = c.told; gone = c.gone; key = c.key; senders = c.senders })
+        × (c.told ≡ true → c.closed ≡ true)
+        × (c.rung ≡ true → c.seen < c.rings)
+        × (c.rung ≡ false → c.seen ≡ c.rings) };
+}
+
+impl Fits for PingCore {
+    ghost use Rattle.std.specs.Prelude.{◌≡◌};
+
+    type Tag = Name;
+
+    ghost fits = { λ tag core. core.name ≡ tag };
+}
+
+impl Core for PingCore {
+    fn dissolve(self, last: Last) {
+        let Last { of_wake: _ } = last;
+        let PingCore {
+            rung: _,
+            pinged: _,
+            draining: _,
+            closed: _,
+            told: _,
+            gone: _,
+            key: _,
+            senders: _,
+            name: _,
+            rings: _,
+            seen: _,
+            taken: _,
+        } = self;
+    }
 }
 
 /// A turn that was opened.
@@ -33,32 +84,52 @@ pub struct OpenedTurn {
     pub turn: PingTurn,
     /// Somebody rang since the last turn was opened.
     pub rung: bool,
+    /// The last sender is gone, and no turn told it before.
+    pub told: bool,
 }
 
 impl PingCore {
-    /// A cell that nobody rang, without a key.
-    pub fn new() -> PingCore
-        ensures { result ≡ fresh }
+    /// A cell that nobody rang, without a key and with one sender; its name, and the twin of its receiving end.
+    pub fn new() -> (PingCore, Name, Twin)
+        ensures core { result.0 ≡ record { cell = fresh; name = result.1; rings = 0; seen = 0; taken = 0 } }
+        ensures twin { result.2 ≡ record { name = result.1; number = 0 } }
     {
-        PingCore {
+        let name = Name::fresh();
+        let twin = Twin {
+            name: name.again(),
+            number: Count::zero(),
+        };
+        let core = PingCore {
             rung: false,
             pinged: false,
             draining: false,
+            closed: false,
+            told: false,
+            gone: false,
             key: None,
-        }
+            senders: 1,
+            name: name.again(),
+            rings: Count::zero(),
+            seen: Count::zero(),
+            taken: Count::zero(),
+        };
+        (core, name, twin)
     }
 
-    /// Shows that no ring is lost: a standing ring is pinged, or a turn stands open.
+    /// Shows that no ring and no close is lost: what is due is pinged, or a turn stands open. A ring stands exactly where
+    /// somebody rang since the last turn was opened.
     pub fn stands(&self)
-        ensures lit { IsLit self.now }
-        ensures standing { IsStanding self.now }
+        ensures lit { IsLit self.now.cell }
+        ensures standing { IsStanding self.now.cell }
+        ensures told { IsTold self.now.cell }
+        ensures since { IsSince self.now }
     {
         let _ = &self.rung;
     }
 
     // The debt that pinging the cell gives.
     fn owed(&self) -> Option<Debt>
-        ensures { result ≡ owed self.now }
+        ensures { result ≡ owed self.now.cell }
     {
         if self.pinged {
             return None;
@@ -69,15 +140,60 @@ impl PingCore {
         }
     }
 
-    /// Rings. It gives a debt where the cell has a key and was not pinged. Calloop writes to the descriptor.
-    pub fn ring(&mut self) -> Option<Debt>
-        ensures cell { self.new ≡ after_ring self.old }
-        ensures gives { result ≡ owed self.old }
+    /// Rings: the receipt of it, and a debt where the cell has a key and was not pinged. Calloop writes to the descriptor.
+    pub fn ring(&mut self) -> (Receipt, Option<Debt>)
+        ensures core { self.new ≡ core_after_ring self.old }
+        ensures receipt { result.0 ≡ receipt_of self.old }
+        ensures gives { result.1 ≡ owed self.old.cell }
     {
+        let receipt = Receipt {
+            name: self.name.again(),
+            number: self.rings.again(),
+        };
         let debt = self.owed();
         self.pinged = true;
         self.rung = true;
+        self.rings = self.rings.next();
+        (receipt, debt)
+    }
+
+    /// One sender more. It is refused exactly where there are 2^64 - 1, and then nothing changes.
+    pub fn add_sender(&mut self) -> Result<(), AllocError>
+        ensures ok { IfOk result (λ _. (self.old.cell.senders + 1 < 2 ^ 64) × (self.new ≡ core_with (after_add_sender self.old.cell) self.old)) }
+        ensures err { IfErr result (λ _. (self.old.cell.senders + 1 ≡ 2 ^ 64) × (self.new ≡ self.old)) }
+    {
+        match self.senders.checked_add(1) {
+            Some(senders) => {
+                self.senders = senders;
+                Ok(())
+            }
+            None => Err(AllocError),
+        }
+    }
+
+    // The last sender is gone.
+    fn close(&mut self) -> Option<Debt>
+        ensures core { self.new ≡ core_with (after_close self.old.cell) self.old }
+        ensures gives { result ≡ owed self.old.cell }
+    {
+        let debt = self.owed();
+        self.senders = 0;
+        self.closed = true;
+        self.pinged = true;
         debt
+    }
+
+    /// One sender less. The last one closes: that gives a debt where the cell has a key and was not pinged.
+    pub fn drop_sender(&mut self) -> Option<Debt>
+        ensures core { self.new ≡ core_with (after_drop_sender self.old.cell) self.old }
+        ensures gives { result ≡ owed_by_drop self.old.cell }
+    {
+        if self.senders > 1 {
+            self.senders -= 1;
+            None
+        } else {
+            self.close()
+        }
     }
 
     /// Gives the cell the key of a place that was opened, as calloop registers the descriptor under a token.
@@ -85,9 +201,9 @@ impl PingCore {
     /// First comes the debt of the new key, where the cell is pinged, and then the leave to close the place of
     /// the key that it had.
     pub fn set_key(&mut self, pass: OpenedPass) -> (Option<Debt>, Option<LeaveToClose>)
-        ensures cell { self.new ≡ after_set_key pass self.old }
-        ensures owes { result.0 ≡ owed_at pass self.old }
-        ensures leaves { result.1 ≡ self.old.key }
+        ensures core { self.new ≡ core_with (after_set_key pass self.old.cell) self.old }
+        ensures owes { result.0 ≡ owed_at pass self.old.cell }
+        ensures leaves { result.1 ≡ self.old.cell.key }
     {
         let OpenedPass { key } = pass;
         let leave = match self.key {
@@ -102,23 +218,34 @@ impl PingCore {
         }
     }
 
-    /// Takes the cell's key back, as calloop takes the descriptor out of the poller. A ring that stands stays.
+    /// Takes the cell's key back, as calloop takes the descriptor out of the poller. What is due stays so.
     ///
     /// It gives the leave to close the place of the key, where the cell had one.
     pub fn clear_key(&mut self) -> Option<LeaveToClose>
-        ensures cell { self.new ≡ after_clear_key self.old }
-        ensures leaves { result ≡ self.old.key }
+        ensures core { self.new ≡ core_with (after_clear_key false self.old.cell) self.old }
+        ensures leaves { result ≡ self.old.cell.key }
     {
         let key = self.key.take()?;
         Some(LeaveToClose { key })
     }
 
-    /// Opens a turn with a pass of the cell's own key, and takes the ring that stands.
+    /// The receiving end is gone: the same, and the cell keeps that nobody will take its rings.
+    pub fn abandon(&mut self) -> Option<LeaveToClose>
+        ensures core { self.new ≡ core_with (after_clear_key true self.old.cell) self.old }
+        ensures leaves { result ≡ self.old.cell.key }
+    {
+        self.gone = true;
+        self.clear_key()
+    }
+
+    /// Opens a turn with a pass of the cell's own key, and takes the ring that stands; the twin counts it.
     ///
     /// It refuses a pass of another key, and any pass while a turn stands open: the pass comes back marked as
     /// refused, and the cell stays as it is.
-    pub fn open_turn(&mut self, pass: TakenPass) -> Result<OpenedTurn, TakenPass>
-        ensures cell { self.new ≡ after_open_turn pass.key self.old }
+    pub fn open_turn(&mut self, pass: TakenPass, twin: &mut Twin) -> Result<OpenedTurn, TakenPass>
+        requires { twin.old.name ≡ self.old.name }
+        ensures core { self.new ≡ core_after_open_turn pass.key self.old }
+        ensures twin { twin.new ≡ twin_after_open_turn pass.key self.old twin.old }
         ensures gives { result ≡ turn_of pass self.old }
     {
         let TakenPass { key, refused: _ } = pass;
@@ -126,28 +253,43 @@ impl PingCore {
             return Err(TakenPass { key, refused: true });
         }
         let rung = self.rung;
+        let told = self.closed && !self.told;
+        let turn = PingTurn {
+            name: self.name.again(),
+        };
+        if rung {
+            self.taken = self.taken.next();
+            twin.number = twin.number.next();
+        }
+        self.begin_turn();
+        Ok(OpenedTurn { turn, rung, told })
+    }
+
+    // Nothing is due any more.
+    fn begin_turn(&mut self)
+        ensures { self.new ≡ record self.old { cell = in_turn self.old.cell; seen = self.old.rings } }
+    {
         self.pinged = false;
         self.draining = true;
         self.rung = false;
-        Ok(OpenedTurn {
-            turn: PingTurn { key },
-            rung,
-        })
+        self.told = self.closed || self.told;
+        self.seen = self.rings.again();
     }
 
-    /// Ends the turn. A ping owes nothing then.
+    /// Ends the turn, which has to be one of this cell. A ping owes nothing then.
     pub fn end_turn(&mut self, turn: PingTurn) -> Option<Debt>
-        ensures cell { self.new ≡ after_end_turn self.old }
+        requires { turn.name ≡ self.old.name }
+        ensures core { self.new ≡ core_with (after_end_turn self.old.cell) self.old }
         ensures gives { result ≡ None }
     {
-        let PingTurn { key: _ } = turn;
+        let PingTurn { name: _ } = turn;
         self.draining = false;
         None
     }
 }
 
-/// Over every schedule of the wake machine, from the state in which nothing has happened: a standing ring is pinged
-/// or its turn stands open; a pinged cell's key is posted, owed or held as a pass; and where the loop has looked and
+/// Over every schedule of the wake machine, from the state in which nothing has happened: what is due, a ring
+/// or a close that no turn told, is pinged or a turn stands open; a pinged cell's key is posted, owed or held as a pass; and where the loop has looked and
 /// found no mark, a posted key is told to it by a nudge that is owed or by the signal.
 pub fn covered()
     ensures { (steps : List Step) → IsSchedule start steps → IsCovered (after_all start steps) }
