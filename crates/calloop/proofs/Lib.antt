@@ -7,5 +7,4 @@ pub mod Inserting
 pub mod Held
 pub mod Rights
 pub mod Reuse
-pub mod Pinging
 pub mod Running

@@ -1,13 +1,19 @@
 //! The board of posted keys under its lock, with what wakes the poller that looks at it.
-ghost use Rattle.std.specs.Prelude.{◌≡◌, ◌+◌, ◌≤◌, IfOk};
+ghost use Rattle.std.specs.Prelude.{◌≡◌, ◌+◌, ◌≤◌, IfOk, IfErr};
+ghost use Rattle.std.specs.Arc.{arc_value};
 ghost use Rattle.std.specs.VecDeque.{deque_len, deque_capacity};
+ghost use Rattle.calloop_wake.specs.Tokens.{key_of};
 ghost use Rattle.calloop_core.specs.Hubs.{Unposted};
+ghost use Rattle.calloop_core.specs.Polls.{CannotOpen};
 
 use super::notifier::Notifier;
+use calloop_wake::error::{Error, Result};
+use calloop_wake::token::Token;
 use calloop_wake::wake::board::{Board, OpenRefusal};
 use calloop_wake::wake::{Debt, LeaveToClose, LeaveToSleep, OpenedPass, TakenPass};
 use std::alloc::Global;
 use std::collections::VecDeque;
+use std::io;
 use std::sync::{Arc, Mutex, Wait};
 
 /// The board, which the ends of pings and their loop share. Each call is one section of its lock, within which nothing
@@ -21,6 +27,18 @@ pub struct Hub {
 /// A hub with several owners.
 pub type SharedHub = Arc<Hub, Global>;
 
+/// One more owner. It waits while there are as many as can be, 2^63 - 1.
+pub fn share<R: Wait, T: Drop>(rt: &R, owner: &Arc<T, Global>) -> Arc<T, Global>
+    ensures { arc_value result ≡ arc_value owner.now }
+{
+    for _ in rt.forever() {
+        if let Ok(another) = Arc::try_clone(owner) {
+            return another;
+        }
+    }
+    unreachable!()
+}
+
 impl Hub {
     /// With an empty board. It allocates nothing yet.
     pub fn new(alloc: Global, notifier: Notifier) -> Hub {
@@ -30,12 +48,19 @@ impl Hub {
         }
     }
 
-    /// Opens the place of a key. An open one is refused with `AlreadyExists`, and want of memory with `OutOfMemory`;
-    /// after a refusal the board is as it was.
-    pub fn open_place<R: Wait>(&self, rt: &R, key: u64) -> Result<OpenedPass, OpenRefusal>
-        ensures { IfOk result (λ pass. pass ≡ key) }
+    /// Opens the place of a token's key. An open one is `IoError` of kind `AlreadyExists`, and want of memory is
+    /// `OutOfMemory`; after a refusal the board is as it was.
+    pub fn open_place<R: Wait>(&self, rt: &R, token: Token) -> Result<OpenedPass>
+        ensures ok { IfOk result (λ pass. pass ≡ key_of token) }
+        ensures err { IfErr result CannotOpen }
     {
-        self.board.lock(rt).open_place(key)
+        match self.board.lock(rt).open_place(token.key()) {
+            Ok(pass) => Ok(pass),
+            Err(OpenRefusal::AlreadyExists) => Err(Error::IoError(io::Error::from(
+                io::ErrorKind::AlreadyExists,
+            ))),
+            Err(OpenRefusal::OutOfMemory) => Err(Error::OutOfMemory),
+        }
     }
 
     /// Closes the place of a key that no cell has any more.

@@ -6,7 +6,7 @@ ghost use Rattle.calloop_wake.specs.declared.error.Error.TheVariants.{OutOfMemor
 ghost use Rattle.calloop_wake.specs.Boards.{IsRising};
 ghost use Rattle.calloop_wake.specs.Tokens.{key_of};
 ghost use Rattle.calloop_wake.specs.Deadlines.{due, not_due, with_entries};
-ghost use Rattle.calloop_core.specs.Polls.{PollView, PollStep, TakePass, PutBack, poll_view, poll_after, with_pass, posted_event, posted_events, polled_event, polled_events, timer_event, timer_events, CannotOpen, key_of_pass, IsReady, cut, head_of, gathered, own_key};
+ghost use Rattle.calloop_core.specs.Polls.{PollView, PollStep, TakePass, PutBack, poll_view, poll_after, with_pass, posted_event, posted_events, polled_event, polled_events, timer_event, timer_events, key_of_pass, IsReady, cut, head_of, gathered, own_key};
 ghost use Rattle.calloop_core.specs.Lending.{with_poller};
 ghost use Rattle.calloop_core.specs.contracts.sys.poll.Poll.{the_row};
 
@@ -195,33 +195,11 @@ impl<P: Poller, C, R: Wait + Drop> Poll<P, C, R> {
         &mut self.poller
     }
 
-    /// Opens the place of a ping on the board. An open one is `IoError` of kind `AlreadyExists`; want of memory is
-    /// `OutOfMemory`. A refusal leaves the board as it was.
-    pub fn open_place(&self, token: Token) -> Result<OpenedPass>
-        ensures ok { IfOk result (λ pass. pass ≡ key_of token) }
-        ensures err { IfErr result CannotOpen }
+    /// The board of posted keys, on which a ping opens the place of its key.
+    pub fn hub(&self) -> &SharedHub
+        ensures { result.now ≡ self.now.hub }
     {
-        match self.hub.open_place(&self.rt, token.key()) {
-            Ok(pass) => Ok(pass),
-            Err(OpenRefusal::AlreadyExists) => Err(Error::IoError(io::Error::from(
-                io::ErrorKind::AlreadyExists,
-            ))),
-            Err(OpenRefusal::OutOfMemory) => Err(Error::OutOfMemory),
-        }
-    }
-
-    /// Closes the place of a key that no cell has any more, where there is one.
-    pub fn close_place(&self, leave: Option<LeaveToClose>) {
-        if let Some(leave) = leave {
-            self.hub.close_place(&self.rt, leave);
-        }
-    }
-
-    /// Posts the key of a debt, where there is one, and spends the nudge that this gives.
-    pub fn settle(&self, debt: Option<Debt>) {
-        if let Some(debt) = debt {
-            self.hub.settle(&self.rt, debt);
-        }
+        &self.hub
     }
 
     fn replace_pass(&mut self, pass: Option<TakenPass>)
