@@ -1,4 +1,4 @@
--- A ping as a source: its registration, a ring, and its turn. calloop's ping is a file that is written and read;
+-- A ping as a source: its registration and its turn. calloop's ping is a file that is written and read;
 -- here it is a cell and a place on the board, which lies under a lock and isn't seen.
 use Rattle.std.specs.Prelude.{◌≡◌, List, [], ◌∷◌, Bool, true, false, nat_eq, Option, Some, None, IsSome, Result, Ok, Err}
 use Rattle.std.specs.declared.io.ErrorKind.TheVariants.{AlreadyExists, NotFound}
@@ -9,7 +9,7 @@ use Rattle.calloop_wake.specs.declared.token.TokenFactory.{TokenFactory}
 use Rattle.calloop_wake.specs.declared.wake.ping.OpenedTurn.{OpenedTurn}
 use Rattle.calloop_wake.specs.Tokens.{key_of, next_token, after_token}
 use Rattle.calloop_wake.specs.Passes.{Taken}
-use Rattle.calloop_wake.specs.Cells.{Cell, after_ring, after_set_key, after_clear_key, after_open_turn, after_end_turn, turn_of}
+use Rattle.calloop_wake.specs.Cells.{Cell, after_set_key, after_clear_key, after_open_turn, after_end_turn, turn_of}
 use Rattle.calloop_core.specs.declared.sources.PostAction.{PostAction}
 use Rattle.calloop_core.specs.declared.sources.PostAction.TheVariants.{Continue}
 use Rattle.calloop_core.specs.Calls.{Call}
@@ -60,10 +60,6 @@ IsPingRereg s f (Err e) steps t g = (steps ≡ []) × (t ≡ s) × RefusedAnew s
 abbrev pub IsPingUnreg : {P : Type 0} → PingSource → Result (Unit {0}) Error → List (PollStep P) → PingSource → Type 0
 IsPingUnreg s (Ok u) steps t = IsSome s.token × (steps ≡ []) × (t ≡ record { core = after_clear_key s.core; token = None })
 IsPingUnreg s (Err e) steps t = (s.token ≡ None) × IsOfKind NotFound e × (steps ≡ []) × (t ≡ s)
-
--- a ring pings the cell, and posts its key where it stood unpinged
-abbrev pub IsPingRing : {P : Type 0} → PingSource → (is_ping : Bool) → List (PollStep P) → PingSource → Type 0
-IsPingRing s is_ping steps t = (is_ping ≡ true) × (steps ≡ []) × (t ≡ with_core (after_ring s.core) s)
 
 -- what opening a turn gave: a turn is ended at once, and a pass that was refused is put back
 abbrev pub PingTurned : {P : Type 0} → PingSource → Taken → Result OpenedTurn Taken → (rang : Bool) → List (PollStep P) → PingSource → Type 0

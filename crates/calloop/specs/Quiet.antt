@@ -12,7 +12,7 @@ use Rattle.calloop_core.specs.Polls.{PollView, PollStep}
 use Rattle.calloop_core.specs.Holdings.{Keeps, holds_none}
 use Rattle.calloop.specs.declared.ping.PingError.{PingError}
 use Rattle.calloop.specs.declared.ping.PingSource.{PingSource}
-use Rattle.calloop.specs.Pings.{IsPingReg, IsPingRereg, IsPingUnreg, IsPingRing, IsPingTurn, PingTurnFor, PingTurnWith, PingTurned, is_token}
+use Rattle.calloop.specs.Pings.{IsPingReg, IsPingRereg, IsPingUnreg, IsPingTurn, PingTurnFor, PingTurnWith, PingTurned, is_token}
 
 pub ping_reg_keeps : {P : Type 0} (s t : PingSource) (v : PollView P) (f g : TokenFactory) (a : Result (Unit {0}) Error) (l : List (PollStep P)) → IsPingReg s f a l t g → Keeps holds_none v.deadlines.next l holds_none
 ping_reg_keeps s t v f g (Ok u) l h = rw h.1 (λ counter. tt)
@@ -25,9 +25,6 @@ ping_rereg_keeps s t v f g (Err e) l h = rw h.0 (λ counter. tt)
 pub ping_unreg_keeps : {P : Type 0} (s t : PingSource) (v : PollView P) (a : Result (Unit {0}) Error) (l : List (PollStep P)) → IsPingUnreg s a l t → Keeps holds_none v.deadlines.next l holds_none
 ping_unreg_keeps s t v (Ok u) l h = rw h.1 (λ counter. tt)
 ping_unreg_keeps s t v (Err e) l h = rw h.2 (λ counter. tt)
-
-pub ping_ring_keeps : {P : Type 0} (s t : PingSource) (v : PollView P) (b : Bool) (l : List (PollStep P)) → IsPingRing s b l t → Keeps holds_none v.deadlines.next l holds_none
-ping_ring_keeps s t v b l h = rw h.1 (λ counter. tt)
 
 turned_keeps : {P : Type 0} (s t : PingSource) (next : ℕ) (p : Taken) (answer : Result OpenedTurn Taken) (rang : Bool) (l : List (PollStep P)) → PingTurned s p answer rang l t → Keeps holds_none next l holds_none
 turned_keeps s t next p (Ok opened) rang l h = rw h.1 (λ counter. tt)

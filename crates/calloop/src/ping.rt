@@ -1,5 +1,5 @@
 //! Pings: a source that is woken by hand.
-ghost use Rattle.std.specs.Prelude.{◌≡◌, Bool, List, Option, Result, None, Some};
+ghost use Rattle.std.specs.Prelude.{◌≡◌, List, Option, Result, None, Some};
 ghost use Rattle.calloop_wake.specs.declared.token.Token.{Token};
 ghost use Rattle.calloop_wake.specs.Cells.{fresh};
 ghost use Rattle.calloop_core.specs.Polls.{PollStep, poll_view, AllStepped};
@@ -73,8 +73,8 @@ impl PingSource {
 
 impl<P: Poller, C, R: Wait + Drop> EventSource<P, C, R> for PingSource {
     ghost use Rattle.calloop_core.specs.Holdings.{holds_none};
-    ghost use Rattle.calloop.specs.Pings.{IsPingReg, IsPingRereg, IsPingUnreg, IsPingRing, IsPingTurn};
-    ghost use Rattle.calloop.specs.Quiet.{ping_reg_keeps, ping_rereg_keeps, ping_unreg_keeps, ping_ring_keeps, ping_turn_keeps};
+    ghost use Rattle.calloop.specs.Pings.{IsPingReg, IsPingRereg, IsPingUnreg, IsPingTurn};
+    ghost use Rattle.calloop.specs.Quiet.{ping_reg_keeps, ping_rereg_keeps, ping_unreg_keeps, ping_turn_keeps};
 
     type Event = ();
 
@@ -91,8 +91,6 @@ impl<P: Poller, C, R: Wait + Drop> EventSource<P, C, R> for PingSource {
     ghost rereg = { λ s v f a l t g. IsPingRereg s f a l t g };
 
     ghost unreg = { λ s v a l t. IsPingUnreg s a l t };
-
-    ghost rung = { IsPingRing };
 
     ghost turn = { λ s r token v calls a l t. IsPingTurn s token v calls a l t };
 
@@ -185,20 +183,11 @@ impl<P: Poller, C, R: Wait + Drop> EventSource<P, C, R> for PingSource {
         Ok(())
     }
 
-    /// Rings. Where the ping is registered and no ring stands, its key is posted on the board.
-    fn ring(&mut self, poll: &mut Poll<P, C, R>) -> bool {
-        let debt = self.core.ring();
-        poll.settle(debt);
-        true
-    }
-
     ghost reg_keeps = { ping_reg_keeps };
 
     ghost rereg_keeps = { ping_rereg_keeps };
 
     ghost unreg_keeps = { ping_unreg_keeps };
-
-    ghost ring_keeps = { ping_ring_keeps };
 
     ghost turn_keeps = { λ s t r k v cs a l h. ping_turn_keeps s t k v cs a l h };
 }
