@@ -1,5 +1,5 @@
--- Insertions, rings, and what else is asked of one source.
-use Rattle.std.proofs.Common.{◌≡◌, ◌<◌, ◌^◌, ℕ, zero, suc, List, [], ◌∷◌, refl, ap, ◌∙◌, subst, None, Some, Result, Ok, Err, inl, inr, Bool}
+-- Insertions, and what else is asked of one source.
+use Rattle.std.proofs.Common.{◌≡◌, ◌<◌, ◌^◌, ℕ, zero, suc, List, [], ◌∷◌, refl, ap, ◌∙◌, subst, None, Some, Result, Ok, Err, inl, inr}
 use Rattle.calloop_wake.specs.declared.error.Error.{Error}
 use Rattle.calloop_wake.specs.declared.error.Error.TheVariants.{InvalidToken}
 use Rattle.calloop_wake.specs.declared.token.TokenFactory.{TokenFactory}
@@ -10,11 +10,11 @@ use Rattle.calloop_wake.specs.declared.list.Slot.{Slot}
 use Rattle.calloop_wake.specs.Slots.{changed, with_content, named, source_of, next_registration, claimed, CannotClaim}
 use Rattle.calloop_core.specs.Polls.{PollView, PollStep, AllStepped}
 use Rattle.calloop_core.specs.Pollers.{Outside}
-use Rattle.calloop.specs.declared.loop_logic.Call.TheVariants.{Insert, Ring, Enable, Update, Disable, Remove}
-use Rattle.calloop.specs.declared.loop_logic.Answer.TheVariants.{Inserted, Rung, Enabled, Updated, Disabled, Removed}
+use Rattle.calloop.specs.declared.loop_logic.Call.TheVariants.{Insert, Enable, Update, Disable, Remove}
+use Rattle.calloop.specs.declared.loop_logic.Answer.TheVariants.{Inserted, Enabled, Updated, Disabled, Removed}
 use Rattle.calloop_core.specs.Meanings.{Meaning}
 use Rattle.calloop.specs.Machine.{View, Change, Put, Claim, Polls, AllFit, all_viewed}
-use Rattle.calloop.specs.Rules.{Did, Case, Once, InsertedBy, RungBy, RungIn, EnabledBy, UpdatedBy, DisabledBy, RemovedBy, RemovedIn, AskedIn, factory_of, ring_answer}
+use Rattle.calloop.specs.Rules.{Did, Case, Once, InsertedBy, EnabledBy, UpdatedBy, DisabledBy, RemovedBy, RemovedIn, AskedIn, factory_of}
 
 -- what is put into a slot last stands there
 changed_twice : {D : Type 0} (c d : Content D) (ss : List (Slot D)) (i : ℕ) → changed (with_content c) (changed (with_content d) ss i) i ≡ changed (with_content c) ss i
@@ -44,22 +44,6 @@ module _ {D P X : Type 0} (M : Meaning D P X) (O : Outside P) (v : View D P) whe
       one_step (InsertedBy M d (Ok token)) (Claim ∷ Polls r.0 ∷ Put token.slot (Source e) ∷ []) (record { slots = changed (with_content (Source e)) (claimed v.slots) token.slot; poll = p' })
       (subst (λ (t : RegistrationToken). t.slot < 2 ^ 32) is few, is, e, f, r.0, r.1, refl)
       (tt, (r.2.0, (tt, tt))) (ap (λ (q : PollView P). record { slots = changed (with_content (Source e)) (claimed v.slots) token.slot; poll = q }) r.2.1)
-
-  none_rung : (token : RegistrationToken) (c : Content D) → None ≡ source_of c → RungIn M token c (Err InvalidToken) []
-  none_rung token Vacant h = (refl, refl)
-  none_rung token InTurn h = (refl, refl)
-  none_rung token (Source d) h = cc
-
-  pub not_rung : (token : RegistrationToken) → None ≡ source_of (named v.slots token) → Did (Case M O (Ring token) (Rung (Err InvalidToken))) v v
-  not_rung token h = one_step (RungBy M token (Err InvalidToken)) [] v (none_rung token (named v.slots token) h) tt refl
-
-  pub rung : (token : RegistrationToken) (d e : D) (is_ping : Bool) (p' : PollView P) → named v.slots token ≡ Source d
-      → (r : (steps : List (PollStep P)) × M.ring d is_ping steps e × AllStepped O v.poll steps p')
-      → Did (Case M O (Ring token) (Rung (ring_answer is_ping))) v (record { slots = changed (with_content (Source e)) (changed (with_content InTurn) v.slots token.slot) token.slot; poll = p' })
-  rung token d e is_ping p' is r =
-      one_step (RungBy M token (ring_answer is_ping)) (Put token.slot InTurn ∷ Polls r.0 ∷ Put token.slot (Source e) ∷ []) (record { slots = changed (with_content (Source e)) (changed (with_content InTurn) v.slots token.slot) token.slot; poll = p' })
-      (rw is (e, is_ping, r.0, r.1, refl, refl)) (tt, (r.2.0, (tt, tt)))
-      (ap (λ (q : PollView P). record { slots = changed (with_content (Source e)) (changed (with_content InTurn) v.slots token.slot) token.slot; poll = q }) r.2.1)
 
   none_asked : (R : D → Result (Unit {0}) Error → List (PollStep P) → D → Type 0) (token : RegistrationToken) (c : Content D) → None ≡ source_of c → AskedIn R token c (Err InvalidToken) []
   none_asked R token Vacant h = (refl, refl)

@@ -22,10 +22,10 @@ use Rattle.calloop_core.specs.Holdings.{Free, Keeps}
 use Rattle.calloop_core.specs.Meanings.{Meaning, IsKeeping}
 use Rattle.calloop.specs.Machine.{World, View, IsNew, Registration, Change, Put, Claim, Polls, Polling, Gathered, Cut, Ended, holding, reused, claimed_of, done, all_done, seen, slot_of, AllFit}
 use Rattle.calloop.specs.declared.loop_logic.Call.{Call}
-use Rattle.calloop.specs.declared.loop_logic.Call.TheVariants.{Insert, Ring, Enable, Update, Disable, Remove as RemoveCall, Dispatch, Poller as NewPoller}
+use Rattle.calloop.specs.declared.loop_logic.Call.TheVariants.{Insert, Enable, Update, Disable, Remove as RemoveCall, Dispatch, Poller as NewPoller}
 use Rattle.calloop.specs.declared.loop_logic.Answer.{Answer}
-use Rattle.calloop.specs.declared.loop_logic.Answer.TheVariants.{Inserted, Rung, Enabled, Updated, Disabled, Removed, Dispatched, Poller as OldPoller}
-use Rattle.calloop.specs.Rules.{Doing, Waiting, Gathering, Cutting, Ending, Leaving, Step, Steps, CutTo, CutFrom, EndedBy, after_wait, Case, Once, Run, InsertedBy, RungBy, RungIn, AskedIn, EnabledBy, UpdatedBy, DisabledBy, RemovedIn, RemovedBy, factory_of, all_traced}
+use Rattle.calloop.specs.declared.loop_logic.Answer.TheVariants.{Inserted, Enabled, Updated, Disabled, Removed, Dispatched, Poller as OldPoller}
+use Rattle.calloop.specs.Rules.{Doing, Waiting, Gathering, Cutting, Ending, Leaving, Step, Steps, CutTo, CutFrom, EndedBy, after_wait, Case, Once, Run, InsertedBy, AskedIn, EnabledBy, UpdatedBy, DisabledBy, RemovedIn, RemovedBy, factory_of, all_traced}
 use Rattle.calloop.specs.Laws.{HoldsNone, IsFresh, AllFresh}
 use Rattle.calloop.proofs.Seen.{seen-all_done}
 use Rattle.calloop.proofs.Noting.{IsNoted, IsGood, IsApart, apart_sym, noted_alike, noted_gathered, noted_cut, good_gathered, good_cut, cut_deadlines, done_steps}
@@ -254,16 +254,6 @@ module _ {D P X : Type 0} (M : Meaning D P X) (O : Outside P) (law : IsKeeping M
       (owned_dropped M O law (done claimed (Polls h.2)) (Some refused.inserted)
       (owned_polls M O law claimed d refused.inserted h.2 allowed (law.reg d refused.inserted w.poll (factory_of (next_registration (map slot_of w.slots))) h.1 (Err refused.error) h.2 h.3) (owned_fresh M O law claimed d free (owned_claim M O law w None k))))
 
-  rung_owned : (w : World D P) (token : RegistrationToken) (answer : Result (Unit {0}) Error) (cs : List (Change D P)) (c : Content D) → named (map slot_of w.slots) token ≡ c → RungIn M token c answer cs → AllFit O (seen w) cs → IsOwned M w None → IsOwned M (all_done w cs) None
-  rung_owned w token answer cs Vacant is h fit k = rw h.1 k
-  rung_owned w token answer cs InTurn is h fit k = rw h.1 k
-  rung_owned w token answer cs (Source d) is h fit k =
-      let out : World D P = done w (Put token.slot InTurn) in
-      let allowed : AllAllowed O w.poll h.2 = (rw h.5 at fit).1.0 in
-      rw h.5
-      (owned_back M O law (done out (Polls h.2)) token.slot h.0
-      (owned_polls M O law out d h.0 h.2 allowed (law.ring d h.0 w.poll h.1 h.2 h.3) (owned_out M O law w token.slot d (at_named w.slots token d is) k)))
-
   asked_owned : (w : World D P) (R : D → Result (Unit {0}) Error → List (PollStep P) → D → Type 0) (token : RegistrationToken) (answer : Result (Unit {0}) Error) (cs : List (Change D P)) (c : Content D)
       → ((d e : D) (l : List (PollStep P)) → R d answer l e → Keeps (M.holds d) w.poll.deadlines.next l (M.holds e))
       → named (map slot_of w.slots) token ≡ c → AskedIn R token c answer cs → AllFit O (seen w) cs → IsOwned M w None → IsOwned M (all_done w cs) None
@@ -293,7 +283,6 @@ module _ {D P X : Type 0} (M : Meaning D P X) (O : Outside P) (law : IsKeeping M
 
   case_owned : (w : World D P) (call : Call D P X) (answer : Answer D P X) (css : List (List (Change D P))) → IsFresh M call → Case M O call answer (seen w) css → IsOwned M w None → IsOwned M (all_traced w css) None
   case_owned w (Insert d) (Inserted answer) css free h k = once_owned w (InsertedBy M d answer) css h (λ cs r fit. inserted_owned w d answer cs free r fit k)
-  case_owned w (Ring token) (Rung answer) css free h k = once_owned w (RungBy M token answer) css h (λ cs r fit. rung_owned w token answer cs (named (map slot_of w.slots) token) refl r fit k)
   case_owned w (Enable token) (Enabled answer) css free h k =
       once_owned w (EnabledBy M token answer) css h
       (λ cs r fit. asked_owned w _ token answer cs (named (map slot_of w.slots) token) (λ d e l u. law.reg d e w.poll (factory_of token) u.0 answer l u.1) refl r fit k)

@@ -15,12 +15,12 @@ use Rattle.calloop_core.specs.declared.sources.PostAction.TheVariants.{Continue,
 use Rattle.calloop_core.specs.Pollers.{Outside}
 use Rattle.calloop_core.specs.Polls.{PollStep}
 use Rattle.calloop.specs.declared.loop_logic.Call.{Call}
-use Rattle.calloop.specs.declared.loop_logic.Call.TheVariants.{Insert, Ring, Enable, Update, Disable, Remove as RemoveCall, Dispatch, Poller as NewPoller}
+use Rattle.calloop.specs.declared.loop_logic.Call.TheVariants.{Insert, Enable, Update, Disable, Remove as RemoveCall, Dispatch, Poller as NewPoller}
 use Rattle.calloop.specs.declared.loop_logic.Answer.{Answer}
-use Rattle.calloop.specs.declared.loop_logic.Answer.TheVariants.{Inserted, Rung, Enabled, Updated, Disabled, Removed, Dispatched, Poller as OldPoller}
+use Rattle.calloop.specs.declared.loop_logic.Answer.TheVariants.{Inserted, Enabled, Updated, Disabled, Removed, Dispatched, Poller as OldPoller}
 use Rattle.calloop_core.specs.Meanings.{Meaning}
 use Rattle.calloop.specs.Machine.{World, View, Registration, Change, seen, slot_of, done, all_done}
-use Rattle.calloop.specs.Rules.{Doing, Waiting, Gathering, Cutting, Ending, Leaving, Step, Steps, CutTo, CutFrom, Case, Run, InsertedBy, RungIn, AskedIn, RemovedIn, EnabledBy, UpdatedBy, DisabledBy, RemovedBy, Once, all_traced}
+use Rattle.calloop.specs.Rules.{Doing, Waiting, Gathering, Cutting, Ending, Leaving, Step, Steps, CutTo, CutFrom, Case, Run, InsertedBy, AskedIn, RemovedIn, EnabledBy, UpdatedBy, DisabledBy, RemovedBy, Once, all_traced}
 use Rattle.calloop.specs.Laws.{IsSource, AllRight, joined, changes_of}
 use Rattle.calloop.proofs.Seen.{seen-all_done}
 
@@ -78,11 +78,6 @@ module _ {D P X : Type 0} (M : Meaning D P X) (O : Outside P) where
   inserted_right w d (Ok token) cs h = rw h.6 (tt, (tt, (tt, tt)))
   inserted_right w d (Err refused) cs h = elim h [ inl k ↦ rw k.2 tt | inr k ↦ rw k.4 (tt, (tt, tt)) ]
 
-  rung_right : (w : World D P) (token : RegistrationToken) (c : Content D) (answer : Result (Unit {0}) Error) (cs : List (Change D P)) → RungIn M token c answer cs → AllRight w cs
-  rung_right w token Vacant answer cs h = rw h.1 tt
-  rung_right w token InTurn answer cs h = rw h.1 tt
-  rung_right w token (Source d) answer cs h = rw h.5 (tt, (tt, (tt, tt)))
-
   asked_right : (w : World D P) (R : D → Result (Unit {0}) Error → List (PollStep P) → D → Type 0) (token : RegistrationToken) (c : Content D) (answer : Result (Unit {0}) Error) (cs : List (Change D P)) → AskedIn R token c answer cs → AllRight w cs
   asked_right w R token Vacant answer cs h = rw h.1 tt
   asked_right w R token InTurn answer cs h = rw h.1 tt
@@ -105,9 +100,6 @@ module _ {D P X : Type 0} (M : Meaning D P X) (O : Outside P) where
   case_right w (Insert d) (Inserted answer) (cs ∷ []) h = right-one w cs (inserted_right w d answer cs h.0)
   case_right w (Insert d) (Inserted answer) [] h = absurd h
   case_right w (Insert d) (Inserted answer) (cs ∷ ds ∷ css) h = absurd h
-  case_right w (Ring token) (Rung answer) (cs ∷ []) h = right-one w cs (rung_right w token (named (map slot_of w.slots) token) answer cs h.0)
-  case_right w (Ring token) (Rung answer) [] h = absurd h
-  case_right w (Ring token) (Rung answer) (cs ∷ ds ∷ css) h = absurd h
   case_right w (Enable token) (Enabled answer) css h = once_right w (EnabledBy M token answer) css h (λ cs r. asked_right w _ token (named (map slot_of w.slots) token) answer cs r)
   case_right w (Update token) (Updated answer) css h = once_right w (UpdatedBy M token answer) css h (λ cs r. asked_right w _ token (named (map slot_of w.slots) token) answer cs r)
   case_right w (Disable token) (Disabled answer) css h = once_right w (DisabledBy M token answer) css h (λ cs r. asked_right w _ token (named (map slot_of w.slots) token) answer cs r)

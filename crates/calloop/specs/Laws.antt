@@ -8,7 +8,7 @@ use Rattle.calloop_core.specs.Polls.{PollView}
 use Rattle.calloop_core.specs.Holdings.{Free}
 use Rattle.calloop_core.specs.Meanings.{Meaning}
 use Rattle.calloop.specs.declared.loop_logic.Call.{Call}
-use Rattle.calloop.specs.declared.loop_logic.Call.TheVariants.{Insert, Ring, Enable, Update, Disable, Remove, Dispatch, Poller as NewPoller}
+use Rattle.calloop.specs.declared.loop_logic.Call.TheVariants.{Insert, Enable, Update, Disable, Remove, Dispatch, Poller as NewPoller}
 use Rattle.calloop.specs.Ledgers.{Ledger, Arming, Armed, Origin, Elsewhere, Due, Waiting, Called, entry_in}
 use Rattle.calloop.specs.Machine.{World, Registration, Change, Put, Claim, Polls, Polling, Gathered, Cut, Ended, done, all_done}
 
@@ -139,7 +139,6 @@ HoldsNone m d = (counter : ℕ) → m.holds d counter ≡ Free
 -- what a call puts into the loop holds no counter yet: each source is used with one loop
 abbrev pub IsFresh : {D P X : Type 0} → Meaning D P X → Call D P X → Type 0
 IsFresh m (Insert d) = HoldsNone m d
-IsFresh m (Ring token) = Unit {0}
 IsFresh m (Enable token) = Unit {0}
 IsFresh m (Update token) = Unit {0}
 IsFresh m (Disable token) = Unit {0}

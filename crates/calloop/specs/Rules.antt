@@ -22,9 +22,9 @@ use Rattle.calloop_core.specs.Pollers.{Outside, nanos_of}
 use Rattle.calloop_core.specs.Polls.{PollStep, cut, with_pass}
 use Rattle.calloop_core.specs.Waits.{Waited}
 use Rattle.calloop.specs.declared.loop_logic.Call.{Call}
-use Rattle.calloop.specs.declared.loop_logic.Call.TheVariants.{Insert, Ring, Enable, Update, Disable, Remove as RemoveCall, Dispatch, Poller as NewPoller}
+use Rattle.calloop.specs.declared.loop_logic.Call.TheVariants.{Insert, Enable, Update, Disable, Remove as RemoveCall, Dispatch, Poller as NewPoller}
 use Rattle.calloop.specs.declared.loop_logic.Answer.{Answer}
-use Rattle.calloop.specs.declared.loop_logic.Answer.TheVariants.{Inserted, Rung, Enabled, Updated, Disabled, Removed, Dispatched, Poller as OldPoller}
+use Rattle.calloop.specs.declared.loop_logic.Answer.TheVariants.{Inserted, Enabled, Updated, Disabled, Removed, Dispatched, Poller as OldPoller}
 use Rattle.calloop.specs.Machine.{World, View, Change, Put, Claim, Polls, Polling, Gathered, Cut, Ended, AllFit, all_viewed, all_done, seen}
 
 -- a factory that has given no token
@@ -42,21 +42,6 @@ InsertedBy {D} {P} M d (Err refused) v cs =
     ((refused.inserted ≡ d) × CannotClaim v.slots refused.error × (cs ≡ []))
     ⊎ ((first_vacant v.slots < 2 ^ 32) × (f : TokenFactory) × (steps : List (PollStep P)) × M.reg d v.poll (factory_of (next_registration v.slots)) (Err refused.error) steps refused.inserted f
     × (cs ≡ Claim ∷ Polls steps ∷ []))
-
--- a ring of what a token names
-abbrev pub ring_answer : (is_ping : Bool) → Result (Unit {0}) Error
-ring_answer true = Ok tt
-ring_answer false = Err InvalidToken
-
-abbrev pub RungIn : {D P X : Type 0} → Meaning D P X → RegistrationToken → Content D → Result (Unit {0}) Error → List (Change D P) → Type 0
-RungIn M token Vacant answer cs = (answer ≡ Err InvalidToken) × (cs ≡ [])
-RungIn M token InTurn answer cs = (answer ≡ Err InvalidToken) × (cs ≡ [])
-RungIn {D} {P} M token (Source d) answer cs =
-    (e : D) × (is_ping : Bool) × (steps : List (PollStep P)) × M.ring d is_ping steps e × (answer ≡ ring_answer is_ping)
-    × (cs ≡ Put token.slot InTurn ∷ Polls steps ∷ Put token.slot (Source e) ∷ [])
-
-abbrev pub RungBy : {D P X : Type 0} → Meaning D P X → RegistrationToken → Result (Unit {0}) Error → View D P → List (Change D P) → Type 0
-RungBy M token answer v cs = RungIn M token (named v.slots token) answer cs
 
 -- what is asked of the source in a slot: it goes out of the slot, and comes back as that left it, also after a refusal; R
 -- relates the source, its answer, its steps, and what it is then
@@ -156,7 +141,6 @@ DispatchedBy M O timeout x answer x' v css = ((answer ≡ Err OutOfMemory) × (x
 
 abbrev pub Case : {D P X : Type 0} → Meaning D P X → Outside P → Call D P X → Answer D P X → View D P → List (List (Change D P)) → Type 0
 Case M O (Insert d) (Inserted answer) v css = Once O (InsertedBy M d answer) v css
-Case M O (Ring token) (Rung answer) v css = Once O (RungBy M token answer) v css
 Case M O (Enable token) (Enabled answer) v css = Once O (EnabledBy M token answer) v css
 Case M O (Update token) (Updated answer) v css = Once O (UpdatedBy M token answer) v css
 Case M O (Disable token) (Disabled answer) v css = Once O (DisabledBy M token answer) v css

@@ -33,7 +33,6 @@ pub struct LoopHandle<'l, D, P, C, R: Wait + Drop> {
 #[derive(Drop)]
 pub enum Call<D, P, X> {
     Insert(D),
-    Ring(RegistrationToken),
     Enable(RegistrationToken),
     Update(RegistrationToken),
     Disable(RegistrationToken),
@@ -46,7 +45,6 @@ pub enum Call<D, P, X> {
 #[derive(Drop)]
 pub enum Answer<D, P, X> {
     Inserted(std::result::Result<RegistrationToken, InsertError<D>>),
-    Rung(Result<()>),
     Enabled(Result<()>),
     Updated(Result<()>),
     Disabled(Result<()>),
@@ -78,10 +76,6 @@ pub trait EventDispatcher<P: Poller, C, R: Wait + Drop>: Drop + Sized {
     /// Takes its registration back.
     fn unregister(&mut self, poll: &mut Poll<P, C, R>) -> Result<()>
         ensures { (steps : List (PollStep P)) × means.unreg self.old (poll_view poll.old) result steps self.new × AllStepped P.outside (poll_view poll.old) steps (poll_view poll.new) };
-
-    /// Rings the source where it is a ping, and says whether it is one.
-    fn ring(&mut self, poll: &mut Poll<P, C, R>) -> bool
-        ensures { (steps : List (PollStep P)) × means.ring self.old result steps self.new × AllStepped P.outside (poll_view poll.old) steps (poll_view poll.new) };
 
     /// A turn of the source, for an event of this token.
     fn process_events(

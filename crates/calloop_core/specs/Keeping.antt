@@ -16,7 +16,7 @@ use Rattle.calloop_core.specs.declared.timer.Registration.{Registration}
 use Rattle.calloop_core.specs.Calls.{Call as OneCall}
 use Rattle.calloop_core.specs.Polls.{PollView, PollStep}
 use Rattle.calloop_core.specs.Holdings.{Hold, Free, Spent, Standing, IsWithin, Keeps, with_hold}
-use Rattle.calloop_core.specs.Timers.{timer_holds, held_as, releases, Armed, IsTimerReg, IsTimerUnreg, ArmedAgain, ArmedFor, Answered, IsTimerTurn, IsNoPing}
+use Rattle.calloop_core.specs.Timers.{timer_holds, held_as, releases, Armed, IsTimerReg, IsTimerUnreg, ArmedAgain, ArmedFor, Answered, IsTimerTurn}
 
 within_same : (h : Hold) → IsWithin h h
 within_same Free = tt
@@ -58,9 +58,6 @@ only_released P (Some r) next = (λ e. not_free r.spent r.armed (sym (own_state 
 
 pub timer_unreg_keeps : {P : Type 0} (s t : Timer) (v : PollView P) (a : Result (Unit {0}) Error) (l : List (PollStep P)) → IsTimerUnreg s a l t → Keeps (timer_holds s) v.deadlines.next l (timer_holds t)
 timer_unreg_keeps s t v a l h = rw (h.1, h.2) (only_released _ s.registration v.deadlines.next)
-
-pub timer_ring_keeps : {P : Type 0} (s t : Timer) (v : PollView P) (b : Bool) (l : List (PollStep P)) → IsNoPing s b l t → Keeps (timer_holds s) v.deadlines.next l (timer_holds t)
-timer_ring_keeps s t v b l h = rw (h.1, h.2) (λ counter. within_same (timer_holds s counter))
 
 keeps_again : {P : Type 0} (held : ℕ → Hold) (next : ℕ) (r : Registration) (at : Instant) (a : Result PostAction TimerError) (l : List (PollStep P)) (t : Timer) → held r.counter ≡ Spent → ArmedAgain r at a l t → Keeps held next l (timer_holds t)
 keeps_again held next r at (Ok x) l t mine h = rw (h.1, h.2) (mine, λ counter. within_one counter r.counter (Standing at) held)

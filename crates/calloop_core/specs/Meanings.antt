@@ -1,6 +1,6 @@
 -- What a dispatcher means: relations between what it is before and after each call, what the call read of `Poll`, its
 -- answer, and the steps that it made there. calloop's `EventDispatcher`, seen from outside.
-use Rattle.std.specs.Prelude.{◌≡◌, ◌⊎◌, ◌↔◌, ℕ, Bool, List, Result}
+use Rattle.std.specs.Prelude.{◌≡◌, ◌⊎◌, ◌↔◌, ℕ, List, Result}
 use Rattle.std.proofs.Common.{inl, inr, refl, sym, ap, ◌∙◌}
 use Rattle.calloop_wake.specs.declared.error.Error.{Error}
 use Rattle.calloop_wake.specs.declared.token.Token.{Token}
@@ -20,8 +20,6 @@ pub record Meaning (D P X : Type 0) : Type 1 where
   -- a registration anew
   pub rereg : D → PollView P → TokenFactory → Result (Unit {0}) Error → List (PollStep P) → D → TokenFactory → Type 0
   pub unreg : D → PollView P → Result (Unit {0}) Error → List (PollStep P) → D → Type 0
-  -- a ring, and whether there is a ping
-  pub ring : D → (is_ping : Bool) → List (PollStep P) → D → Type 0
   -- a turn, with the data before and after it
   pub turn : D → Readiness → Token → PollView P → X → Result PostAction Error → List (PollStep P) → D → X → Type 0
 
@@ -30,7 +28,6 @@ pub record IsKeeping {D P X : Type 0} (m : Meaning D P X) : Type 0 where
   pub reg : (s t : D) (v : PollView P) (f g : TokenFactory) (a : Result (Unit {0}) Error) (l : List (PollStep P)) → m.reg s v f a l t g → Keeps (m.holds s) v.deadlines.next l (m.holds t)
   pub rereg : (s t : D) (v : PollView P) (f g : TokenFactory) (a : Result (Unit {0}) Error) (l : List (PollStep P)) → m.rereg s v f a l t g → Keeps (m.holds s) v.deadlines.next l (m.holds t)
   pub unreg : (s t : D) (v : PollView P) (a : Result (Unit {0}) Error) (l : List (PollStep P)) → m.unreg s v a l t → Keeps (m.holds s) v.deadlines.next l (m.holds t)
-  pub ring : (s t : D) (v : PollView P) (b : Bool) (l : List (PollStep P)) → m.ring s b l t → Keeps (m.holds s) v.deadlines.next l (m.holds t)
   pub turn : (s t : D) (r : Readiness) (k : Token) (v : PollView P) (x y : X) (a : Result PostAction Error) (l : List (PollStep P)) → m.turn s r k v x a l t y → Keeps (m.holds s) v.deadlines.next l (m.holds t)
 
 -- the turn of a source with its callback: the source's own turn, whose calls went to the callback in order
@@ -67,7 +64,6 @@ either m n =
       reg = λ s v f a l t g. on_both (λ s t. m.reg s v f a l t g) (λ s t. n.reg s v f a l t g) s t;
       rereg = λ s v f a l t g. on_both (λ s t. m.rereg s v f a l t g) (λ s t. n.rereg s v f a l t g) s t;
       unreg = λ s v a l t. on_both (λ s t. m.unreg s v a l t) (λ s t. n.unreg s v a l t) s t;
-      ring = λ s b l t. on_both (λ s t. m.ring s b l t) (λ s t. n.ring s b l t) s t;
       turn = λ s r k v x a l t y. on_both (λ s t. m.turn s r k v x a l t y) (λ s t. n.turn s r k v x a l t y) s t;
     }
 
@@ -79,7 +75,6 @@ seen_as see m =
       reg = λ s v f a l t g. m.reg (see s) v f a l (see t) g;
       rereg = λ s v f a l t g. m.rereg (see s) v f a l (see t) g;
       unreg = λ s v a l t. m.unreg (see s) v a l (see t);
-      ring = λ s b l t. m.ring (see s) b l (see t);
       turn = λ s r k v x a l t y. m.turn (see s) r k v x a l (see t) y;
     }
 
@@ -93,7 +88,6 @@ pub record IsHeld {A D P X : Type 0} (held : A → D) (m : Meaning A P X) (n : M
   pub reg : (s : A) (v : PollView P) (f g : TokenFactory) (a : Result (Unit {0}) Error) (l : List (PollStep P)) → MeansStep held (λ s t. m.reg s v f a l t g) (λ s t. n.reg s v f a l t g) s
   pub rereg : (s : A) (v : PollView P) (f g : TokenFactory) (a : Result (Unit {0}) Error) (l : List (PollStep P)) → MeansStep held (λ s t. m.rereg s v f a l t g) (λ s t. n.rereg s v f a l t g) s
   pub unreg : (s : A) (v : PollView P) (a : Result (Unit {0}) Error) (l : List (PollStep P)) → MeansStep held (λ s t. m.unreg s v a l t) (λ s t. n.unreg s v a l t) s
-  pub ring : (s : A) (b : Bool) (l : List (PollStep P)) → MeansStep held (λ s t. m.ring s b l t) (λ s t. n.ring s b l t) s
   pub turn : (s : A) (r : Readiness) (k : Token) (v : PollView P) (x y : X) (a : Result PostAction Error) (l : List (PollStep P)) → MeansStep held (λ s t. m.turn s r k v x a l t y) (λ s t. n.turn s r k v x a l t y) s
 
 -- The rest are proofs, which impls cite, so they stand here.
@@ -120,7 +114,6 @@ held_left m n =
       reg = λ s v f g a l. step_left (λ s t. m.reg s v f a l t g) (λ s t. n.reg s v f a l t g) s;
       rereg = λ s v f g a l. step_left (λ s t. m.rereg s v f a l t g) (λ s t. n.rereg s v f a l t g) s;
       unreg = λ s v a l. step_left (λ s t. m.unreg s v a l t) (λ s t. n.unreg s v a l t) s;
-      ring = λ s b l. step_left (λ s t. m.ring s b l t) (λ s t. n.ring s b l t) s;
       turn = λ s r k v x y a l. step_left (λ s t. m.turn s r k v x a l t y) (λ s t. n.turn s r k v x a l t y) s;
     }
 
@@ -132,7 +125,6 @@ held_right m n =
       reg = λ s v f g a l. step_right (λ s t. m.reg s v f a l t g) (λ s t. n.reg s v f a l t g) s;
       rereg = λ s v f g a l. step_right (λ s t. m.rereg s v f a l t g) (λ s t. n.rereg s v f a l t g) s;
       unreg = λ s v a l. step_right (λ s t. m.unreg s v a l t) (λ s t. n.unreg s v a l t) s;
-      ring = λ s b l. step_right (λ s t. m.ring s b l t) (λ s t. n.ring s b l t) s;
       turn = λ s r k v x y a l. step_right (λ s t. m.turn s r k v x a l t y) (λ s t. n.turn s r k v x a l t y) s;
     }
 
@@ -159,7 +151,6 @@ held_seen see join ok back held m n h =
       reg = λ s v f g a l. step_seen see join ok back held (λ s t. m.reg s v f a l t g) (λ s t. n.reg s v f a l t g) s (h.reg s v f g a l);
       rereg = λ s v f g a l. step_seen see join ok back held (λ s t. m.rereg s v f a l t g) (λ s t. n.rereg s v f a l t g) s (h.rereg s v f g a l);
       unreg = λ s v a l. step_seen see join ok back held (λ s t. m.unreg s v a l t) (λ s t. n.unreg s v a l t) s (h.unreg s v a l);
-      ring = λ s b l. step_seen see join ok back held (λ s t. m.ring s b l t) (λ s t. n.ring s b l t) s (h.ring s b l);
       turn = λ s r k v x y a l. step_seen see join ok back held (λ s t. m.turn s r k v x a l t y) (λ s t. n.turn s r k v x a l t y) s (h.turn s r k v x y a l);
     }
 
@@ -177,7 +168,6 @@ keeping_either m n h k =
       reg = λ s t v f g a l. keeps_both (λ s t. m.reg s v f a l t g) (λ s t. n.reg s v f a l t g) m.holds n.holds v.deadlines.next l s t (λ s t. h.reg s t v f g a l) (λ s t. k.reg s t v f g a l);
       rereg = λ s t v f g a l. keeps_both (λ s t. m.rereg s v f a l t g) (λ s t. n.rereg s v f a l t g) m.holds n.holds v.deadlines.next l s t (λ s t. h.rereg s t v f g a l) (λ s t. k.rereg s t v f g a l);
       unreg = λ s t v a l. keeps_both (λ s t. m.unreg s v a l t) (λ s t. n.unreg s v a l t) m.holds n.holds v.deadlines.next l s t (λ s t. h.unreg s t v a l) (λ s t. k.unreg s t v a l);
-      ring = λ s t v b l. keeps_both (λ s t. m.ring s b l t) (λ s t. n.ring s b l t) m.holds n.holds v.deadlines.next l s t (λ s t. h.ring s t v b l) (λ s t. k.ring s t v b l);
       turn = λ s t r j v x y a l. keeps_both (λ s t. m.turn s r j v x a l t y) (λ s t. n.turn s r j v x a l t y) m.holds n.holds v.deadlines.next l s t (λ s t. h.turn s t r j v x y a l) (λ s t. k.turn s t r j v x y a l);
     }
 
@@ -187,6 +177,5 @@ keeping_seen see m h =
       reg = λ s t. h.reg (see s) (see t);
       rereg = λ s t. h.rereg (see s) (see t);
       unreg = λ s t. h.unreg (see s) (see t);
-      ring = λ s t. h.ring (see s) (see t);
       turn = λ s t. h.turn (see s) (see t);
     }

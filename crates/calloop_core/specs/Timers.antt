@@ -1,6 +1,6 @@
 -- A timer as a source: its registration and its turn. As calloop's, but the deadline that is handed out is the armed one,
 -- an arming is called for once, and an older arming is taken back.
-use Rattle.std.specs.Prelude.{◌≡◌, ◌⊎◌, ℕ, ◌++◌, ◌∷◌, [], List, nat_eq, if◌then◌else◌, Bool, true, false, Option, None, Some, Result, Ok, Err}
+use Rattle.std.specs.Prelude.{◌≡◌, ◌⊎◌, ℕ, ◌++◌, ◌∷◌, [], List, nat_eq, if◌then◌else◌, true, false, Option, None, Some, Result, Ok, Err}
 use Rattle.calloop_wake.specs.declared.error.Error.{Error}
 use Rattle.calloop_wake.specs.declared.error.Error.TheVariants.{TooManyTokens}
 use Rattle.calloop_wake.specs.declared.token.Token.{Token}
@@ -106,7 +106,3 @@ pub record IsIgnored {P : Type 0} (s : Timer) (token : Token) (v : PollView P) (
 
 abbrev pub IsTimerTurn : {P : Type 0} → Timer → Token → PollView P → List (OneCall Instant (Unit {0}) TimeoutAction) → Result PostAction TimerError → List (PollStep P) → Timer → Type 0
 IsTimerTurn s token v calls answer steps t = ((r : Registration) × IsCalled s token v calls answer steps t r) ⊎ IsIgnored s token v calls answer steps t
-
--- a timer is no ping
-abbrev pub IsNoPing : {P : Type 0} → Timer → (is_ping : Bool) → List (PollStep P) → Timer → Type 0
-IsNoPing s is_ping steps t = (is_ping ≡ false) × (steps ≡ []) × (t ≡ s)

@@ -38,7 +38,7 @@ pub trait IntoError: Drop {
 /// A source of events. Its meaning is said by relations between what it was before a call, what the call read of `Poll`,
 /// its answer, the steps that it made there, and what it is after it.
 pub trait EventSource<P: Poller, C, R: Wait + Drop> {
-    ghost use Rattle.std.specs.Prelude.{ℕ, Bool, List, Result};
+    ghost use Rattle.std.specs.Prelude.{ℕ, List, Result};
     ghost use Rattle.calloop_wake.specs.declared.error.Error.{Error};
     ghost use Rattle.calloop_wake.specs.declared.token.Token.{Token};
     ghost use Rattle.calloop_wake.specs.declared.token.TokenFactory.{TokenFactory};
@@ -69,9 +69,6 @@ pub trait EventSource<P: Poller, C, R: Wait + Drop> {
 
     ghost rereg: { Self → PollView P → TokenFactory → Result (Unit {0}) Error → List (PollStep P) → Self → TokenFactory → Type 0 };
 
-    /// A ring, and whether there is a ping.
-    ghost rung: { Self → Bool → List (PollStep P) → Self → Type 0 };
-
     ghost turn: { Self → Readiness → Token → PollView P → List (Call Self.Event Self.Metadata Self.Ret) → Result PostAction Self.Error → List (PollStep P) → Self → Type 0 };
 
     /// Its turn, for an event of this token. It calls back for each event that it finds.
@@ -99,18 +96,12 @@ pub trait EventSource<P: Poller, C, R: Wait + Drop> {
     fn unregister(&mut self, poll: &mut Poll<P, C, R>) -> LoopResult<()>
         ensures { (steps : List (PollStep P)) × unreg self.old (poll_view poll.old) result steps self.new × AllStepped P.outside (poll_view poll.old) steps (poll_view poll.new) };
 
-    /// Rings it where it is a ping, and says whether it is one.
-    fn ring(&mut self, poll: &mut Poll<P, C, R>) -> bool
-        ensures { (steps : List (PollStep P)) × rung self.old result steps self.new × AllStepped P.outside (poll_view poll.old) steps (poll_view poll.new) };
-
     /// It leaves the counters of others alone, and calls once for each arming of its own.
     ghost reg_keeps: { (s t : Self) (v : PollView P) (f g : TokenFactory) (a : Result (Unit {0}) Error) (l : List (PollStep P)) → reg s v f a l t g → Keeps (holds s) v.deadlines.next l (holds t) };
 
     ghost rereg_keeps: { (s t : Self) (v : PollView P) (f g : TokenFactory) (a : Result (Unit {0}) Error) (l : List (PollStep P)) → rereg s v f a l t g → Keeps (holds s) v.deadlines.next l (holds t) };
 
     ghost unreg_keeps: { (s t : Self) (v : PollView P) (a : Result (Unit {0}) Error) (l : List (PollStep P)) → unreg s v a l t → Keeps (holds s) v.deadlines.next l (holds t) };
-
-    ghost ring_keeps: { (s t : Self) (v : PollView P) (b : Bool) (l : List (PollStep P)) → rung s b l t → Keeps (holds s) v.deadlines.next l (holds t) };
 
     ghost turn_keeps: { (s t : Self) (r : Readiness) (k : Token) (v : PollView P) (cs : List (Call Self.Event Self.Metadata Self.Ret)) (a : Result PostAction Self.Error) (l : List (PollStep P)) → turn s r k v cs a l t → Keeps (holds s) v.deadlines.next l (holds t) };
 }
@@ -142,10 +133,6 @@ pub trait Dispatch<P: Poller, C, R: Wait + Drop, X> {
     fn unregister(&mut self, poll: &mut Poll<P, C, R>) -> LoopResult<()>
         ensures { (steps : List (PollStep P)) × means.unreg self.old (poll_view poll.old) result steps self.new × AllStepped P.outside (poll_view poll.old) steps (poll_view poll.new) };
 
-    /// Rings the source where it is a ping, and says whether it is one.
-    fn ring(&mut self, poll: &mut Poll<P, C, R>) -> bool
-        ensures { (steps : List (PollStep P)) × means.ring self.old result steps self.new × AllStepped P.outside (poll_view poll.old) steps (poll_view poll.new) };
-
     /// A turn of the source, for an event of this token.
     fn process_events(
         &mut self,
@@ -172,7 +159,6 @@ where
       reg = λ s v f a l t g. S.reg s.source v f a l t.source g × (t.callback ≡ s.callback);
       rereg = λ s v f a l t g. S.rereg s.source v f a l t.source g × (t.callback ≡ s.callback);
       unreg = λ s v a l t. S.unreg s.source v a l t.source × (t.callback ≡ s.callback);
-      ring = λ s b l t. S.rung s.source b l t.source × (t.callback ≡ s.callback);
       turn = IsDispatched S.turn F.may S.Error.becomes;
     } };
 
@@ -190,10 +176,6 @@ where
 
     fn unregister(&mut self, poll: &mut Poll<P, C, R>) -> LoopResult<()> {
         self.source.unregister(poll)
-    }
-
-    fn ring(&mut self, poll: &mut Poll<P, C, R>) -> bool {
-        self.source.ring(poll)
     }
 
     fn process_events(
@@ -216,7 +198,6 @@ where
       reg = λ s t v f g a l h. S.reg_keeps s.source t.source v f g a l h.0;
       rereg = λ s t v f g a l h. S.rereg_keeps s.source t.source v f g a l h.0;
       unreg = λ s t v a l h. S.unreg_keeps s.source t.source v a l h.0;
-      ring = λ s t v b l h. S.ring_keeps s.source t.source v b l h.0;
       turn = λ s t r k v x y a l h. S.turn_keeps s.source t.source r k v h.calls h.inner l h.turned;
     } };
 }

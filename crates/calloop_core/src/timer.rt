@@ -1,12 +1,12 @@
 //! Timers: a source that is called once its deadline has come. From calloop's `timer.rs`.
-ghost use Rattle.std.specs.Prelude.{◌≡◌, ℕ, List, [], ◌∷◌, Bool, Result, Option, None, Some, Ok, Err, false};
+ghost use Rattle.std.specs.Prelude.{◌≡◌, ℕ, List, [], ◌∷◌, Result, Option, None, Some, Ok, Err, false};
 ghost use Rattle.calloop_wake.specs.declared.wheel.Instant.{Instant};
 ghost use Rattle.calloop_wake.specs.declared.error.Error.TheVariants.{OutOfMemory};
 ghost use Rattle.calloop_wake.specs.Deadlines.{is_armed, moment_after};
 ghost use Rattle.calloop_core.specs.Polls.{PollView, PollStep, poll_view, AllStepped};
 ghost use Rattle.calloop_core.specs.Calls.{Call, Went};
 ghost use Rattle.calloop_core.specs.declared.timer.TimeoutAction.{TimeoutAction};
-ghost use Rattle.calloop_core.specs.Timers.{unarmed, releases, Armed, ArmedAgain, Answered, timer_holds, IsTimerReg, IsTimerUnreg, IsTimerTurn, IsNoPing};
+ghost use Rattle.calloop_core.specs.Timers.{unarmed, releases, Armed, ArmedAgain, Answered, timer_holds, IsTimerReg, IsTimerUnreg, IsTimerTurn};
 
 use crate::sources::{Callback, EventSource, IntoError, PostAction};
 use crate::sys::poll::Poll;
@@ -211,8 +211,8 @@ impl Timer {
 }
 
 impl<P: Poller, C, R: Wait + Drop> EventSource<P, C, R> for Timer {
-    ghost use Rattle.calloop_core.specs.Timers.{timer_holds, IsTimerReg, IsTimerUnreg, IsTimerTurn, IsNoPing};
-    ghost use Rattle.calloop_core.specs.Keeping.{timer_reg_keeps, timer_unreg_keeps, timer_ring_keeps, timer_turn_keeps};
+    ghost use Rattle.calloop_core.specs.Timers.{timer_holds, IsTimerReg, IsTimerUnreg, IsTimerTurn};
+    ghost use Rattle.calloop_core.specs.Keeping.{timer_reg_keeps, timer_unreg_keeps, timer_turn_keeps};
 
     type Event = Instant;
 
@@ -229,8 +229,6 @@ impl<P: Poller, C, R: Wait + Drop> EventSource<P, C, R> for Timer {
     ghost rereg = { IsTimerReg };
 
     ghost unreg = { λ s v a l t. IsTimerUnreg s a l t };
-
-    ghost rung = { IsNoPing };
 
     ghost turn = { λ s r token v calls a l t. IsTimerTurn s token v calls a l t };
 
@@ -281,18 +279,11 @@ impl<P: Poller, C, R: Wait + Drop> EventSource<P, C, R> for Timer {
         Ok(())
     }
 
-    /// A timer is no ping.
-    fn ring(&mut self, _poll: &mut Poll<P, C, R>) -> bool {
-        false
-    }
-
     ghost reg_keeps = { timer_reg_keeps };
 
     ghost rereg_keeps = { timer_reg_keeps };
 
     ghost unreg_keeps = { timer_unreg_keeps };
-
-    ghost ring_keeps = { timer_ring_keeps };
 
     ghost turn_keeps = { λ s t r k v cs a l h. timer_turn_keeps s t k v cs a l h };
 }

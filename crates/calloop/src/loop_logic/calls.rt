@@ -17,7 +17,6 @@ impl<D: EventDispatcher<P, C, R>, P: Poller, C: Clock, R: Wait + Drop> EventLoop
     {
         match call {
             Call::Insert(dispatcher) => Answer::Inserted(self.insert(dispatcher)),
-            Call::Ring(token) => Answer::Rung(self.ring(token)),
             Call::Enable(token) => Answer::Enabled(self.enable(token)),
             Call::Update(token) => Answer::Updated(self.update(token)),
             Call::Disable(token) => Answer::Disabled(self.disable(token)),

@@ -5,8 +5,8 @@ ghost use Rattle.std.specs.Prelude.{[]};
 ghost use mir.Syntax.{named};
 ghost use Rattle.calloop.specs.contracts.loop_logic.LoopHandle.{the_row};
 ghost use Rattle.calloop.specs.Lending.{with_handle_poller};
-ghost use Rattle.calloop.specs.declared.loop_logic.Call.TheVariants.{Insert, Ring, Enable, Update, Disable, Remove};
-ghost use Rattle.calloop.specs.declared.loop_logic.Answer.TheVariants.{Inserted, Rung, Enabled, Updated, Disabled, Removed};
+ghost use Rattle.calloop.specs.declared.loop_logic.Call.TheVariants.{Insert, Enable, Update, Disable, Remove};
+ghost use Rattle.calloop.specs.declared.loop_logic.Answer.TheVariants.{Inserted, Enabled, Updated, Disabled, Removed};
 ghost use Rattle.calloop.specs.Machine.{view_of};
 ghost use Rattle.calloop.specs.Rules.{Case, Did, Leads, held_answer};
 
@@ -79,22 +79,6 @@ impl<D: EventDispatcher<P, C, R>, P: Poller, C: Clock, R: Wait + Drop> EventLoop
         }
     }
 
-    // Rings the ping that the token names.
-    pub(super) fn ring(&mut self, token: RegistrationToken) -> Result<()>
-        ensures { Did (Case D.means P.outside (Ring token) (Rung result)) (view_of self.old) (view_of self.new) }
-    {
-        let Some(mut source) = self.sources.begin_turn(token) else {
-            return Err(Error::InvalidToken);
-        };
-        let is_ping = source.ring(&mut self.poll);
-        let _was = self.sources.replace(token.slot(), Content::Source(source));
-        if is_ping {
-            Ok(())
-        } else {
-            Err(Error::InvalidToken)
-        }
-    }
-
     // Registers the source that the token names.
     pub(super) fn enable(&mut self, token: RegistrationToken) -> Result<()>
         ensures { Did (Case D.means P.outside (Enable token) (Enabled result)) (view_of self.old) (view_of self.new) }
@@ -163,15 +147,6 @@ impl<D: EventDispatcher<P, C, R>, P: Poller, C: Clock, R: Wait + Drop> LoopHandl
         ensures machine { Leads (Case D.means P.outside (Insert (D.held (record { source = source; callback = callback }))) (Inserted (held_answer D.held callback result))) (view_of self.old.inner.now) (view_of self.new.inner.now) }
     {
         self.inner.insert_source(source, callback)
-    }
-
-    /// Rings the ping that the token names. Where it names none the answer is `InvalidToken`, and nothing changes.
-    pub fn ring(&mut self, token: &RegistrationToken) -> Result<()>
-        ensures same { self.new.inner.ghost_name ≡ self.old.inner.ghost_name }
-        ensures case { Did (Case D.means P.outside (Ring token.now) (Rung result)) (view_of self.old.inner.now) (view_of self.new.inner.now) }
-        ensures machine { Leads (Case D.means P.outside (Ring token.now) (Rung result)) (view_of self.old.inner.now) (view_of self.new.inner.now) }
-    {
-        self.inner.ring(*token)
     }
 
     /// Registers the source that the token names, with tokens of a new factory, as after `disable`.

@@ -1,7 +1,0 @@
-use Rattle.calloop.specs.Machine.{view_of}
-use Rattle.calloop.specs.Rules.{Once, RungBy}
-use Rattle.calloop.proofs.Seen.{did_leads}
-use Rattle.calloop.proofs.loop_logic.LoopHandle.ring.Goals as goal
-
-pub returns-clause-machine : goal.returns-clause-machine
-returns-clause-machine g c = did_leads (Once g.P.Poller.outside (RungBy g.D.EventDispatcher.means c.args.token.now c.ring.result)) (view_of c.args.self.now.inner.now) (view_of c.ring.new.self) c.ring.ensures
