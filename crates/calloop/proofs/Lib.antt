@@ -8,3 +8,4 @@ pub mod Held
 pub mod Rights
 pub mod Reuse
 pub mod Running
+pub mod Pinging

@@ -9,20 +9,21 @@ use Rattle.calloop_core.specs.declared.sources.PostAction.{PostAction}
 use Rattle.calloop_core.specs.Calls.{Call}
 use Rattle.calloop_core.specs.Polls.{PollView, PollStep}
 use Rattle.calloop_core.specs.Holdings.{Keeps, holds_none}
-use Rattle.calloop.specs.declared.ping.PingError.{PingError}
+use Rattle.calloop.specs.declared.ping.source.PingError.{PingError}
+use Rattle.calloop.specs.declared.ping.PingSource.{PingSource}
 use Rattle.calloop.specs.Pings.{IsPingReg, IsPingRereg, IsPingUnreg, IsPingTurn, PingTurnFor, PingTurnWith, Served, Opened, Refused, ServedSo, is_token}
 
-pub ping_reg_keeps : {P : Type 0} (own new : Option Token) (v : PollView P) (f g : TokenFactory) (a : Result (Unit {0}) Error) (l : List (PollStep P)) → IsPingReg own f a l new g → Keeps holds_none v.deadlines.next l holds_none
-ping_reg_keeps own new v f g (Ok u) l h = rw h.1 (λ counter. tt)
-ping_reg_keeps own new v f g (Err e) l h = rw h.0 (λ counter. tt)
+pub ping_reg_keeps : {P R : Type 0} (s t : PingSource R) (v : PollView P) (f g : TokenFactory) (a : Result (Unit {0}) Error) (l : List (PollStep P)) → IsPingReg s f a l t g → Keeps holds_none v.deadlines.next l holds_none
+ping_reg_keeps s t v f g (Ok u) l h = rw h.0.1 (λ counter. tt)
+ping_reg_keeps s t v f g (Err e) l h = rw h.0.0 (λ counter. tt)
 
-pub ping_rereg_keeps : {P : Type 0} (own new : Option Token) (v : PollView P) (f g : TokenFactory) (a : Result (Unit {0}) Error) (l : List (PollStep P)) → IsPingRereg own f a l new g → Keeps holds_none v.deadlines.next l holds_none
-ping_rereg_keeps own new v f g (Ok u) l h = rw h.1 (λ counter. tt)
-ping_rereg_keeps own new v f g (Err e) l h = rw h.0 (λ counter. tt)
+pub ping_rereg_keeps : {P R : Type 0} (s t : PingSource R) (v : PollView P) (f g : TokenFactory) (a : Result (Unit {0}) Error) (l : List (PollStep P)) → IsPingRereg s f a l t g → Keeps holds_none v.deadlines.next l holds_none
+ping_rereg_keeps s t v f g (Ok u) l h = rw h.0.1 (λ counter. tt)
+ping_rereg_keeps s t v f g (Err e) l h = rw h.0.0 (λ counter. tt)
 
-pub ping_unreg_keeps : {P : Type 0} (own new : Option Token) (v : PollView P) (a : Result (Unit {0}) Error) (l : List (PollStep P)) → IsPingUnreg own a l new → Keeps holds_none v.deadlines.next l holds_none
-ping_unreg_keeps own new v (Ok u) l h = rw h.1 (λ counter. tt)
-ping_unreg_keeps own new v (Err e) l h = rw h.2 (λ counter. tt)
+pub ping_unreg_keeps : {P R : Type 0} (s t : PingSource R) (v : PollView P) (a : Result (Unit {0}) Error) (l : List (PollStep P)) → IsPingUnreg s a l t → Keeps holds_none v.deadlines.next l holds_none
+ping_unreg_keeps s t v (Ok u) l h = rw h.0.1 (λ counter. tt)
+ping_unreg_keeps s t v (Err e) l h = rw h.0.2 (λ counter. tt)
 
 served_keeps : {P : Type 0} (next : ℕ) (served : Served) (p : Taken) (before after : Twin) (cs : List (Call (Unit {0}) (Unit {0}) (Unit {0}))) (action : PostAction) (l : List (PollStep P)) → ServedSo served p before cs action l after → Keeps holds_none next l holds_none
 served_keeps next (Opened rung told) p before after cs action l h = rw h.2 (λ counter. tt)
@@ -36,6 +37,6 @@ for_keeps : {P : Type 0} (is_own : Bool) (next : ℕ) (pass : Option Taken) (bef
 for_keeps true next pass before after cs action l h = with_keeps next pass before after cs action l h
 for_keeps false next pass before after cs action l h = rw h.2 (λ counter. tt)
 
-pub ping_turn_keeps : {P : Type 0} (own : Option Token) (before after : Twin) (k : Token) (v : PollView P) (cs : List (Call (Unit {0}) (Unit {0}) (Unit {0}))) (a : Result PostAction PingError) (l : List (PollStep P)) → IsPingTurn own before k v.pass cs a l after → Keeps holds_none v.deadlines.next l holds_none
-ping_turn_keeps own before after k v cs (Ok action) l h = for_keeps (is_token k own) v.deadlines.next v.pass before after cs action l h
-ping_turn_keeps own before after k v cs (Err e) l h = absurd h
+pub ping_turn_keeps : {P R : Type 0} (s t : PingSource R) (k : Token) (v : PollView P) (cs : List (Call (Unit {0}) (Unit {0}) (Unit {0}))) (a : Result PostAction PingError) (l : List (PollStep P)) → IsPingTurn s k v cs a l t → Keeps holds_none v.deadlines.next l holds_none
+ping_turn_keeps s t k v cs (Ok action) l h = for_keeps (is_token k s.token) v.deadlines.next v.pass s.twin t.twin cs action l h.0
+ping_turn_keeps s t k v cs (Err e) l h = absurd h.0

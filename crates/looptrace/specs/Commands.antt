@@ -5,7 +5,7 @@ use Rattle.std.specs.Option.{option_map}
 use Rattle.std.specs.Cmp.Lexicographic.{pointwise}
 use Rattle.calloop_core.specs.declared.sys.Readiness.{Readiness}
 use Rattle.looptrace.specs.declared.command.Command.{Command}
-use Rattle.looptrace.specs.declared.command.Command.TheVariants.{Nothing, Ping, Ring, Remove, Answer, Timer, Clock, Fault, Dispatch}
+use Rattle.looptrace.specs.declared.command.Command.TheVariants.{Nothing, Ping, Ring, Close, Remove, Answer, Timer, Clock, Fault, Dispatch}
 
 -- `0` to `9`
 abbrev pub is_digit : ℕ → Bool
@@ -44,6 +44,10 @@ ping_of word = option_map Ping (name_of word)
 -- a command that rings a ping
 abbrev pub ring_of : List ℕ → Option Command
 ring_of word = option_map Ring (name_of word)
+
+-- a command that closes a ping
+abbrev pub close_of : List ℕ → Option Command
+close_of word = option_map Close (name_of word)
 
 -- a command that makes a timer, where both words can be read
 abbrev pub timer_with : (name : Option (List ℕ)) → (deadline : Option ℕ) → Option Command
@@ -116,6 +120,7 @@ command_of line =
     if length line == 0 then Some Nothing
     else if starts_with nat_eq line (codes "ping ") then ping_of (drop 5 line)
     else if starts_with nat_eq line (codes "ring ") then ring_of (drop 5 line)
+    else if starts_with nat_eq line (codes "close ") then close_of (drop 6 line)
     else if starts_with nat_eq line (codes "timer ") then timer_of (drop 6 line)
     else if starts_with nat_eq line (codes "clock ") then clock_of (drop 6 line)
     else if pointwise nat_eq line (codes "fault") then Some Fault

@@ -9,7 +9,7 @@ use Rattle.calloop_wake.specs.declared.error.Error.{Error}
 use Rattle.calloop_wake.specs.declared.error.Error.TheVariants.{InvalidToken, IoError, OtherError, OutOfMemory, TooManySources, TooManyTokens, TooManyTimers}
 use Rattle.calloop_wake.specs.declared.error.InsertError.{InsertError}
 use Rattle.calloop_wake.specs.declared.token.RegistrationToken.{RegistrationToken}
-use Rattle.calloop_wake.specs.Cells.{fresh}
+use Rattle.logbook.specs.Pages.{Book}
 use Rattle.calloop_wake.specs.declared.wheel.Instant.{Instant}
 use Rattle.calloop_core.specs.declared.sys.Readiness.{Readiness}
 use Rattle.calloop_core.specs.declared.sys.script.ScriptAnswer.{ScriptAnswer}
@@ -20,18 +20,15 @@ use Rattle.calloop_core.specs.Pollers.{nanos_of}
 use Rattle.calloop_core.specs.ScriptPollers.{script_outside}
 use Rattle.calloop_core.specs.Timers.{unarmed}
 use Rattle.calloop.specs.declared.loop_logic.Call.{Call}
-use Rattle.calloop.specs.declared.loop_logic.Call.TheVariants.{Insert, Ring as RingCall, Remove as RemoveCall, Dispatch as DispatchCall, Poller as NewPoller}
+use Rattle.calloop.specs.declared.loop_logic.Call.TheVariants.{Insert, Remove as RemoveCall, Dispatch as DispatchCall, Poller as NewPoller}
 use Rattle.calloop.specs.declared.loop_logic.Answer.{Answer}
-use Rattle.calloop.specs.declared.loop_logic.Answer.TheVariants.{Inserted, Rung, Removed, Dispatched, Poller as OldPoller}
+use Rattle.calloop.specs.declared.loop_logic.Answer.TheVariants.{Inserted, Removed, Dispatched, Poller as OldPoller}
 use Rattle.calloop.specs.Machine.{World, View, IsNew, seen, view_of}
 use Rattle.calloop.specs.Rules.{Case, Did}
 use Rattle.looptrace.specs.declared.command.Command.{Command}
-use Rattle.looptrace.specs.declared.command.Command.TheVariants.{Nothing, Ping, Ring, Remove, Answer as Event, Timer, Clock, Fault, Dispatch}
+use Rattle.looptrace.specs.declared.command.Command.TheVariants.{Nothing, Ping, Ring, Close, Remove, Answer as Event, Timer, Clock, Fault, Dispatch}
 use Rattle.looptrace.specs.declared.source.Source.{Source}
 use Rattle.looptrace.specs.declared.source.Source.TheVariants.{Ping as PingIn, Timer as TimerIn}
-use Rattle.looptrace.specs.declared.runner.Kind.{Kind}
-use Rattle.looptrace.specs.declared.runner.Kind.TheVariants.{Ping as PingKind, Timer as TimerKind}
-use Rattle.looptrace.specs.declared.runner.NamedSource.{NamedSource}
 use Rattle.looptrace.specs.declared.runner.PendingAnswer.{PendingAnswer}
 use Rattle.looptrace.specs.declared.runner.ScriptLoop.{ScriptLoop}
 use Rattle.looptrace.specs.Lines.{lines_of}
@@ -48,19 +45,24 @@ pub record Pending : Type 0 where
 abbrev pub pending_of : PendingAnswer → Pending
 pending_of p = record { moment = p.moment; events = p.events.events.items }
 
+-- a source under its name; while its ping is open, the name of its cell
+pub record Named : Type 0 where
+  pub name : List ℕ
+  pub ping : Option Book
+
 -- what the loop holds, the sources that were made, whether the next wait is to fail, and the pending answer
-pub record State : Type 0 where
-  pub loop : View Source ScriptPoller
-  pub sources : List NamedSource
+pub record State (R : Type 0) : Type 0 where
+  pub loop : View (Source R) ScriptPoller
+  pub sources : List Named
   pub fault : Bool
   pub pending : Option Pending
 
-abbrev pub state_of : {R : Type 0} → ScriptLoop R → State
+abbrev pub state_of : {R : Type 0} → ScriptLoop R → State R
 state_of s = record { loop = view_of s.event_loop; sources = s.sources.items; fault = s.fault; pending = option_map pending_of s.pending }
 
 -- a machine to which nothing has happened agrees, over a poller with the clock at 0 and without answers
-pub record IsStart (s : State) : Type 0 where
-  pub world : World Source ScriptPoller
+pub record IsStart {R : Type 0} (s : State R) : Type 0 where
+  pub world : World (Source R) ScriptPoller
   pub new : IsNew world
   pub agrees : seen world ≡ s.loop
   pub moment : s.loop.poll.poller.moment.nanos ≡ 0
@@ -69,22 +71,18 @@ pub record IsStart (s : State) : Type 0 where
   pub fault : s.fault ≡ false
   pub pending : s.pending ≡ None
 
--- what a name stands for; a source that was removed by its token has none any more
-abbrev pub source_named : List ℕ → List NamedSource → Option (Kind × Option RegistrationToken)
-source_named name [] = None
-source_named name (s ∷ ss) = if pointwise nat_eq s.name name then Some (s.kind, s.token) else source_named name ss
+-- some source has the name
+abbrev pub is_taken : List ℕ → List Named → Bool
+is_taken name [] = false
+is_taken name (s ∷ ss) = if pointwise nat_eq s.name name then true else is_taken name ss
 
--- a ping by its token, if it has one
-abbrev pub ping_only : Option (Kind × Option RegistrationToken) → Option (Option RegistrationToken)
-ping_only None = None
-ping_only (Some (PingKind, token)) = Some token
-ping_only (Some (TimerKind, token)) = None
-
-abbrev pub ping_named : List ℕ → List NamedSource → Option (Option RegistrationToken)
-ping_named name sources = ping_only (source_named name sources)
+-- the cell of the open ping of this name
+abbrev pub ping_named : List ℕ → List Named → Option Book
+ping_named name [] = None
+ping_named name (s ∷ ss) = if pointwise nat_eq s.name name then s.ping else ping_named name ss
 
 -- a call on the loop is a case of its machine
-abbrev pub Calls : Call Source ScriptPoller (Option (List ℕ)) → Answer Source ScriptPoller (Option (List ℕ)) → View Source ScriptPoller → View Source ScriptPoller → Type 0
+abbrev pub Calls : {R : Type 0} → Call (Source R) ScriptPoller (Option (List ℕ)) → Answer (Source R) ScriptPoller (Option (List ℕ)) → View (Source R) ScriptPoller → View (Source R) ScriptPoller → Type 0
 Calls call answer old new = Did (Case source_meaning script_outside call answer) old new
 
 -- the names of the refusals
@@ -110,63 +108,64 @@ abbrev pub waits_text : List (Option Duration) → List ℕ
 waits_text [] = []
 waits_text (asked ∷ later) = wait_text (nanos_in asked) ++ waits_text later
 
--- an insertion prints its token, and its name is kept; that of a refused one isn't
-abbrev pub InsertSays : {S : Type 0} → List ℕ → Kind → Result RegistrationToken (InsertError S) → List NamedSource → List NamedSource → List ℕ → Type 0
-InsertSays name kind (Ok token) before after said = (after ≡ before ++ record { name = name; kind = kind; token = Some token } ∷ []) × (said ≡ insert_text name token.slot token.version)
-InsertSays name kind (Err refused) before after said = (after ≡ before) × (said ≡ refused_text (word_of refused.error))
+-- an insertion prints its token, and its name is kept with its ping; that of a refused one isn't
+abbrev pub InsertSays : {S : Type 0} → List ℕ → (ping : Option Book) → Result RegistrationToken (InsertError S) → List Named → List Named → List ℕ → Type 0
+InsertSays name ping (Ok token) before after said = (after ≡ before ++ record { name = name; ping = ping } ∷ []) × (said ≡ insert_text name token.slot token.version)
+InsertSays name ping (Err refused) before after said = (after ≡ before) × (said ≡ refused_text (word_of refused.error))
 
--- a source is inserted under a name that no source has yet; under another name the line can't be read
-abbrev pub InsertLine : State → List ℕ → Kind → Source → Option (State × List ℕ) → Type 0
-InsertLine s name kind source None = IsSome (source_named name s.sources)
-InsertLine s name kind source (Some (t, said)) =
-    (source_named name s.sources ≡ None) × (answer : Result RegistrationToken (InsertError Source)) × Calls (Insert source) (Inserted answer) s.loop t.loop
-    × InsertSays name kind answer s.sources t.sources said × (t.fault ≡ s.fault) × (t.pending ≡ s.pending)
+-- a source that was made so is inserted under a name that no source has yet; under another name the line can't be read
+abbrev pub InsertLine : {R : Type 0} → State R → List ℕ → (made : Source R → Option Book → Type 0) → Option (State R × List ℕ) → Type 0
+InsertLine s name made None = is_taken name s.sources ≡ true
+InsertLine {R} s name made (Some (t, said)) =
+    (is_taken name s.sources ≡ false) × (source : Source R) × (ping : Option Book) × made source ping
+    × (answer : Result RegistrationToken (InsertError (Source R))) × Calls (Insert source) (Inserted answer) s.loop t.loop
+    × InsertSays name ping answer s.sources t.sources said × (t.fault ≡ s.fault) × (t.pending ≡ s.pending)
 
--- a ping that nobody rang, with a callback that says its name
-abbrev pub new_ping : List ℕ → Source
-new_ping name = PingIn (record { source = record { core = fresh; token = None }; callback = record { name = name } })
+-- a source of a cell that no turn took a ring of, registered nowhere, with a callback that says its name, and the cell's ping
+abbrev pub IsNewPing : {R : Type 0} → List ℕ → Source R → Option Book → Type 0
+IsNewPing name (PingIn d) ping =
+    (d.source.token ≡ None) × (d.source.twin.number ≡ 0) × (d.callback ≡ record { name = name }) × (ping ≡ Some d.source.twin.name)
+IsNewPing name (TimerIn d) ping = ⊥
 
 -- a timer with a deadline, with a callback that says its name and the deadline
-abbrev pub new_timer : List ℕ → (deadline : ℕ) → Source
+abbrev pub new_timer : {R : Type 0} → List ℕ → (deadline : ℕ) → Source R
 new_timer name deadline = TimerIn (record { source = unarmed (Some (record { nanos = deadline })); callback = record { name = name } })
 
--- a ring of a ping by its token; one that was removed is there still, and its ring does and prints nothing
-abbrev pub RingOf : State → Option RegistrationToken → State → List ℕ → Type 0
-RingOf s None t said = (t ≡ s) × (said ≡ [])
-RingOf s (Some token) t said =
-    (answer : Result (Unit {0}) Error) × Calls (RingCall token) (Rung answer) s.loop t.loop
-    × (t.sources ≡ s.sources) × (t.fault ≡ s.fault) × (t.pending ≡ s.pending) × (said ≡ answer_text answer)
+-- such a timer, without a ping
+abbrev pub IsNewTimer : {R : Type 0} → List ℕ → (deadline : ℕ) → Source R → Option Book → Type 0
+IsNewTimer name deadline source ping = (source ≡ new_timer name deadline) × (ping ≡ None)
 
--- the ping of this name is rung; where there is none, the line can't be read
-abbrev pub RingLine : State → List ℕ → Option (State × List ℕ) → Type 0
+-- the open ping of this name is rung, which prints nothing; where there is none, the line can't be read
+abbrev pub RingLine : {R : Type 0} → State R → List ℕ → Option (State R × List ℕ) → Type 0
 RingLine s name None = ping_named name s.sources ≡ None
-RingLine s name (Some (t, said)) = (token : Option RegistrationToken) × (ping_named name s.sources ≡ Some token) × RingOf s token t said
+RingLine s name (Some (t, said)) = IsSome (ping_named name s.sources) × (t ≡ s) × (said ≡ [])
+
+-- a source of this name has no open ping any more
+abbrev pub closed : List ℕ → Named → Named
+closed name s = if pointwise nat_eq s.name name then record s { ping = None } else s
+
+-- the open ping of this name is dropped, which prints nothing; where there is none, the line can't be read
+abbrev pub CloseLine : {R : Type 0} → State R → List ℕ → Option (State R × List ℕ) → Type 0
+CloseLine s name None = ping_named name s.sources ≡ None
+CloseLine s name (Some (t, said)) = IsSome (ping_named name s.sources) × (t ≡ record s { sources = map (closed name) s.sources }) × (said ≡ [])
 
 -- the token of these numbers, where a token can hold them
 abbrev pub token_with : (slot version : ℕ) → Option RegistrationToken
 token_with slot version = if nat_lt slot (2 ^ 32) && nat_lt version (2 ^ 16) then Some (record { slot = slot; version = version }) else None
 
--- a source that has this token has none any more
-abbrev pub other_than : RegistrationToken → Option RegistrationToken → Option RegistrationToken
-other_than token None = None
-other_than token (Some own) = if nat_eq own.slot token.slot && nat_eq own.version token.version then None else Some own
-
-abbrev pub without_token : RegistrationToken → NamedSource → NamedSource
-without_token token s = record s { token = other_than token s.token }
-
-abbrev pub removed_text : Option Source → List ℕ
+abbrev pub removed_text : {R : Type 0} → Option (Source R) → List ℕ
 removed_text None = refused_text (word_of InvalidToken)
 removed_text (Some source) = []
 
--- a removal by a token, if there is one; what has the token has none any more
-abbrev pub RemoveOf : State → Option RegistrationToken → State → List ℕ → Type 0
+-- a removal by a token, if there is one; the ping of what is removed stays open
+abbrev pub RemoveOf : {R : Type 0} → State R → Option RegistrationToken → State R → List ℕ → Type 0
 RemoveOf s None t said = (t ≡ s) × (said ≡ refused_text (word_of InvalidToken))
-RemoveOf s (Some token) t said =
-    (answer : Option Source) × Calls (RemoveCall token) (Removed answer) s.loop t.loop
-    × (t.sources ≡ map (without_token token) s.sources) × (t.fault ≡ s.fault) × (t.pending ≡ s.pending) × (said ≡ removed_text answer)
+RemoveOf {R} s (Some token) t said =
+    (answer : Option (Source R)) × Calls (RemoveCall token) (Removed answer) s.loop t.loop
+    × (t.sources ≡ s.sources) × (t.fault ≡ s.fault) × (t.pending ≡ s.pending) × (said ≡ removed_text answer)
 
 -- what the token of these numbers names is removed
-abbrev pub RemoveLine : State → (slot version : ℕ) → State → List ℕ → Type 0
+abbrev pub RemoveLine : {R : Type 0} → State R → (slot version : ℕ) → State R → List ℕ → Type 0
 RemoveLine s slot version t said = RemoveOf s (token_with slot version) t said
 
 -- a poller that shows another moment
@@ -174,7 +173,7 @@ abbrev pub showing : (moment : ℕ) → ScriptPoller → ScriptPoller
 showing moment p = record p { moment = record { nanos = moment } }
 
 -- the clock is set, and nothing else changes
-pub record ClockLine (s : State) (moment : ℕ) (t : State) : Type 0 where
+pub record ClockLine {R : Type 0} (s : State R) (moment : ℕ) (t : State R) : Type 0 where
   pub changed : Calls (NewPoller (showing moment s.loop.poll.poller)) (OldPoller s.loop.poll.poller) s.loop t.loop
   pub sources : t.sources ≡ s.sources
   pub fault : t.fault ≡ s.fault
@@ -185,7 +184,7 @@ events_of None = []
 events_of (Some pending) = pending.events
 
 -- one event more in the pending answer, whose moment is what the clock shows; a 1,025th can't be read
-abbrev pub AnswerLine : State → (key : ℕ) → Readiness → Option (State × List ℕ) → Type 0
+abbrev pub AnswerLine : {R : Type 0} → State R → (key : ℕ) → Readiness → Option (State R × List ℕ) → Type 0
 AnswerLine s key readiness None = 1024 ≤ length (events_of s.pending)
 AnswerLine s key readiness (Some (t, said)) =
     (length (events_of s.pending) < 1024)
@@ -212,11 +211,11 @@ pub record IsReady (fault : Bool) (pending : Option Pending) (p q : ScriptPoller
   pub room : 1 ≤ vec_capacity q.waits
 
 -- the text of a dispatch: the asked waits, then what the callbacks said, then the refusal; no fault is pending after it
-pub record DispatchLine (s : State) (timeout : Option ℕ) (t : State) (said : List ℕ) : Type 0 where
+pub record DispatchLine {R : Type 0} (s : State R) (timeout : Option ℕ) (t : State R) (said : List ℕ) : Type 0 where
   pub old : ScriptPoller
   pub new : ScriptPoller
   pub ready : IsReady s.fault s.pending old new
-  pub mid : View Source ScriptPoller
+  pub mid : View (Source R) ScriptPoller
   pub lent : Calls (NewPoller new) (OldPoller old) s.loop mid
   pub limit : Option Duration
   pub limit_is : nanos_of limit ≡ timeout
@@ -229,31 +228,32 @@ pub record DispatchLine (s : State) (timeout : Option ℕ) (t : State) (said : L
   pub text : said ≡ (waits_text t.loop.poll.poller.waits.items ++ called) ++ answer_text answer
 
 -- what a command does, and what it prints; nothing where the line can't be read
-abbrev pub Carried : State → Option Command → Option (State × List ℕ) → Type 0
+abbrev pub Carried : {R : Type 0} → State R → Option Command → Option (State R × List ℕ) → Type 0
 Carried s None outcome = outcome ≡ None
 Carried s (Some Nothing) outcome = outcome ≡ Some (s, [])
-Carried s (Some (Ping name)) outcome = InsertLine s name PingKind (new_ping name) outcome
+Carried s (Some (Ping name)) outcome = InsertLine s name (IsNewPing name) outcome
 Carried s (Some (Ring name)) outcome = RingLine s name outcome
+Carried s (Some (Close name)) outcome = CloseLine s name outcome
 Carried s (Some (Remove slot version)) None = ⊥
 Carried s (Some (Remove slot version)) (Some (t, said)) = RemoveLine s slot version t said
 Carried s (Some (Event key readiness)) outcome = AnswerLine s key readiness outcome
-Carried s (Some (Timer name deadline)) outcome = InsertLine s name TimerKind (new_timer name deadline) outcome
+Carried s (Some (Timer name deadline)) outcome = InsertLine s name (IsNewTimer name deadline) outcome
 Carried s (Some (Clock moment)) None = ⊥
 Carried s (Some (Clock moment)) (Some (t, said)) = ClockLine s moment t × (said ≡ [])
 Carried s (Some Fault) outcome = outcome ≡ Some (record s { fault = true }, [])
 Carried s (Some (Dispatch timeout)) None = ⊥
 Carried s (Some (Dispatch timeout)) (Some (t, said)) = DispatchLine s timeout t said
 
-abbrev pub trace_step : State → List ℕ → Option (State × List ℕ) → Type 0
+abbrev pub trace_step : {R : Type 0} → State R → List ℕ → Option (State R × List ℕ) → Type 0
 trace_step s line outcome = Carried s (command_of line) outcome
 
 -- the same of a loop
-abbrev pub state_and_text : {R : Type 0} → ScriptLoop R × List ℕ → State × List ℕ
+abbrev pub state_and_text : {R : Type 0} → ScriptLoop R × List ℕ → State R × List ℕ
 state_and_text p = (state_of p.0, p.1)
 
 abbrev pub line_step : {R : Type 0} → ScriptLoop R → List ℕ → Option (ScriptLoop R × List ℕ) → Type 0
 line_step s line outcome = trace_step (state_of s) line (option_map state_and_text outcome)
 
--- from a machine to which nothing has happened, the lines of a script may write this
-abbrev pub MayWrite : List ℕ → Written → Type 0
-MayWrite script w = (start : State) × IsStart start × Writes trace_step start 1 (lines_of script) w
+-- from a machine to which nothing has happened, the lines of a script may write this, by a loop over this runtime
+abbrev pub MayWrite : (R : Type 0) → List ℕ → Written → Type 0
+MayWrite R script w = (start : State R) × IsStart start × Writes trace_step start 1 (lines_of script) w

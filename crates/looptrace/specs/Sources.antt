@@ -9,9 +9,9 @@ use Rattle.calloop_core.specs.declared.timer.TimeoutAction.{TimeoutAction}
 use Rattle.calloop_core.specs.declared.timer.TimeoutAction.TheVariants.{Drop}
 use Rattle.calloop_core.specs.Holdings.{holds_none}
 use Rattle.calloop_core.specs.Meanings.{Meaning, IsDispatched, either, seen_as}
-use Rattle.calloop_core.specs.Timers.{timer_holds, IsTimerReg, IsTimerUnreg, IsTimerTurn, IsNoPing}
+use Rattle.calloop_core.specs.Timers.{timer_holds, IsTimerReg, IsTimerUnreg, IsTimerTurn}
 use Rattle.calloop.specs.declared.ping.PingSource.{PingSource}
-use Rattle.calloop.specs.Pings.{IsPingReg, IsPingRereg, IsPingUnreg, IsPingRing, IsPingTurn}
+use Rattle.calloop.specs.Pings.{IsPingReg, IsPingRereg, IsPingUnreg, IsPingTurn}
 use Rattle.looptrace.specs.declared.source.Source.{Source}
 use Rattle.looptrace.specs.declared.source.Source.TheVariants.{Ping, Timer as TimerIn}
 use Rattle.looptrace.specs.declared.source.Teller.{Teller}
@@ -28,14 +28,13 @@ abbrev pub tells_deadline : Alarm → Instant → Unit {0} → Option (List ℕ)
 tells_deadline alarm deadline metadata said answer after metadata' said' = (answer ≡ Drop) × (after ≡ alarm) × Tells (alarm_text alarm.name deadline.nanos) said said'
 
 -- a ping with its teller
-abbrev pub ping_meaning : {P : Type 0} → Meaning (Dispatcher PingSource Teller) P (Option (List ℕ))
+abbrev pub ping_meaning : {P R : Type 0} → Meaning (Dispatcher (PingSource R) Teller) P (Option (List ℕ))
 ping_meaning =
     record {
       holds = λ s. holds_none;
       reg = λ s v f a l t g. IsPingReg s.source f a l t.source g × (t.callback ≡ s.callback);
       rereg = λ s v f a l t g. IsPingRereg s.source f a l t.source g × (t.callback ≡ s.callback);
       unreg = λ s v a l t. IsPingUnreg s.source a l t.source × (t.callback ≡ s.callback);
-      ring = λ s b l t. IsPingRing s.source b l t.source × (t.callback ≡ s.callback);
       turn = IsDispatched (λ s r token v calls a l t. IsPingTurn s token v calls a l t) tells (λ cause e. e ≡ OutOfMemory);
     }
 
@@ -47,19 +46,18 @@ timer_meaning =
       reg = λ s v f a l t g. IsTimerReg s.source v f a l t.source g × (t.callback ≡ s.callback);
       rereg = λ s v f a l t g. IsTimerReg s.source v f a l t.source g × (t.callback ≡ s.callback);
       unreg = λ s v a l t. IsTimerUnreg s.source a l t.source × (t.callback ≡ s.callback);
-      ring = λ s b l t. IsNoPing s.source b l t.source × (t.callback ≡ s.callback);
       turn = IsDispatched (λ s r token v calls a l t. IsTimerTurn s token v calls a l t) tells_deadline (λ cause e. e ≡ OutOfMemory);
     }
 
 -- the sources as a choice of two
-abbrev pub split : Source → Dispatcher PingSource Teller ⊎ Dispatcher Timer Alarm
+abbrev pub split : {R : Type 0} → Source R → Dispatcher (PingSource R) Teller ⊎ Dispatcher Timer Alarm
 split (Ping d) = inl d
 split (TimerIn d) = inr d
 
-abbrev pub join : Dispatcher PingSource Teller ⊎ Dispatcher Timer Alarm → Source
+abbrev pub join : {R : Type 0} → Dispatcher (PingSource R) Teller ⊎ Dispatcher Timer Alarm → Source R
 join (inl d) = Ping d
 join (inr d) = TimerIn d
 
 -- a source of a script means its ping with its teller, or its timer with its alarm
-abbrev pub source_meaning : {P : Type 0} → Meaning Source P (Option (List ℕ))
+abbrev pub source_meaning : {P R : Type 0} → Meaning (Source R) P (Option (List ℕ))
 source_meaning = seen_as split (either ping_meaning timer_meaning)

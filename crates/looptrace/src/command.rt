@@ -1,6 +1,6 @@
 ghost use Rattle.std.specs.Prelude.{◌≡◌, IfOk};
 ghost use Rattle.std.specs.List.{list_all, position};
-ghost use Rattle.looptrace.specs.Commands.{is_name, is_name_byte, name_of, number_of, timeout_of, ping_of, ring_of, is_space, timer_with, timer_of, remove_with, remove_of, readiness_of, answer_with, answer_of, clock_of, dispatch_of, other_of, command_of};
+ghost use Rattle.looptrace.specs.Commands.{is_name, is_name_byte, name_of, number_of, timeout_of, ping_of, ring_of, close_of, is_space, timer_with, timer_of, remove_with, remove_of, readiness_of, answer_with, answer_of, clock_of, dispatch_of, other_of, command_of};
 
 use crate::name::Name;
 use calloop::Readiness;
@@ -15,6 +15,8 @@ pub enum Command {
     Ping(Name),
     /// Rings the ping of this name.
     Ring(Name),
+    /// Drops the ping of this name, which closes its source.
+    Close(Name),
     /// Removes the source that this slot and this version name.
     Remove(u64, u64),
     /// Adds an event of this key to the pending answer.
@@ -107,6 +109,15 @@ fn parse_ring(alloc: Global, word: &[u8]) -> Result<Option<Command>, AllocError>
 {
     match parse_name(alloc, word)? {
         Some(name) => Ok(Some(Command::Ring(name))),
+        None => Ok(None),
+    }
+}
+
+fn parse_close(alloc: Global, word: &[u8]) -> Result<Option<Command>, AllocError>
+    ensures { IfOk result (λ command. command ≡ close_of word.now) }
+{
+    match parse_name(alloc, word)? {
+        Some(name) => Ok(Some(Command::Close(name))),
         None => Ok(None),
     }
 }
@@ -228,6 +239,8 @@ pub fn parse(alloc: Global, line: &[u8]) -> Result<Option<Command>, AllocError>
         parse_ping(alloc, &line[5..])
     } else if line.starts_with(b"ring ") {
         parse_ring(alloc, &line[5..])
+    } else if line.starts_with(b"close ") {
+        parse_close(alloc, &line[6..])
     } else if line.starts_with(b"timer ") {
         parse_timer(alloc, &line[6..])
     } else if line.starts_with(b"clock ") {

@@ -5,8 +5,8 @@ ghost use Rattle.std.specs.Option.{option_map};
 ghost use Rattle.std.specs.IoError.{error_kind};
 ghost use Rattle.std.specs.declared.io.ErrorKind.TheVariants.{OutOfMemory};
 ghost use Rattle.calloop_core.specs.Pollers.{nanos_of};
-ghost use Rattle.looptrace.specs.declared.runner.Kind.TheVariants.{Ping, Timer as TimerKind};
-ghost use Rattle.looptrace.specs.Runs.{source_named, ping_named, token_with, other_than, without_token, removed_text, RemoveLine, Pending, pending_of, events_of, AnswerLine, NextAnswer, still_pending, word_of, waits_text, answer_text, nanos_in, IsStart, state_of, InsertSays, InsertLine, RingLine, ClockLine, IsReady, DispatchLine, Carried, new_ping, new_timer};
+ghost use Rattle.calloop.specs.Pings.{cell_of};
+ghost use Rattle.looptrace.specs.Runs.{is_taken, ping_named, closed, token_with, removed_text, RemoveLine, Pending, pending_of, events_of, AnswerLine, NextAnswer, still_pending, word_of, waits_text, answer_text, nanos_in, IsStart, state_of, InsertSays, InsertLine, RingLine, CloseLine, ClockLine, IsReady, DispatchLine, Carried, IsNewPing, IsNewTimer};
 
 use crate::command::{Command, parse};
 use crate::driver::Runner;
@@ -14,27 +14,52 @@ use crate::name::Name;
 use crate::source::{Alarm, Said, Source, Teller};
 use crate::text::{append_insert, append_refused, append_wait};
 use calloop::loop_logic::EventLoop;
-use calloop::ping::PingSource;
+use calloop::ping::{Ping, make_ping};
 use calloop::{Error, InsertError, Instant, Readiness, RegistrationToken, Timer};
 use calloop_core::sys::script::{ScriptAnswer, ScriptClock, ScriptEnd, ScriptEvents, ScriptPoller};
+use calloop_wake::wake::Receipt;
 use std::alloc::{AllocError, Global};
 use std::io;
+use std::marker::Model;
 use std::sync::Wait;
 use std::time::Duration;
 
-/// What a name stands for.
-#[derive(Clone, Copy, Debug)]
-pub enum Kind {
-    Ping,
-    Timer,
+/// A source of the script, under its name, which is never given back. While its ping is open, it is kept here; a timer has none.
+#[derive(Drop)]
+pub struct NamedSource<R: Wait + Drop> {
+    pub name: Name,
+    pub ping: Option<Ping<R>>,
 }
 
-/// A source of the script, under its name, with its token until it is removed by that. A name is never given back.
-#[derive(Drop)]
-pub struct NamedSource {
-    pub name: Name,
-    pub kind: Kind,
-    pub token: Option<RegistrationToken>,
+impl<R: Wait + Drop> Model for NamedSource<R> {
+    ghost use Rattle.std.specs.Option.{option_map};
+    ghost use Rattle.calloop.specs.Pings.{cell_of};
+    ghost use Rattle.looptrace.specs.Runs.{Named};
+
+    ghost Value = { Named };
+
+    ghost view = { λ s. record { name = s.name; ping = option_map cell_of s.ping } };
+}
+
+impl<R: Wait + Drop> NamedSource<R> {
+    // Rings its ping, where that is open.
+    fn ring(&self) -> Option<Receipt>
+        ensures { option_map (λ receipt. receipt.name) result ≡ self.now.ping }
+    {
+        match &self.ping {
+            Some(ping) => Some(ping.ping()),
+            None => None,
+        }
+    }
+
+    // Drops its ping, where the source has this name.
+    fn close(&mut self, name: &[u8])
+        ensures { self.new ≡ closed name.now self.old }
+    {
+        if self.name.as_slice() == name {
+            self.ping = None;
+        }
+    }
 }
 
 /// The answer that a wait is to take: what the clock showed at its last event, and its events.
@@ -48,30 +73,54 @@ pub struct PendingAnswer {
 /// pending answer.
 #[derive(Drop)]
 pub struct ScriptLoop<R: Wait + Drop> {
+    rt: R,
     alloc: Global,
-    event_loop: EventLoop<Source, ScriptPoller, ScriptClock, R>,
-    sources: Vec<NamedSource>,
+    event_loop: EventLoop<Source<R>, ScriptPoller, ScriptClock, R>,
+    sources: Vec<NamedSource<R>>,
     fault: bool,
     pending: Option<PendingAnswer>,
 }
 
-fn source_named(sources: &[NamedSource], name: &[u8]) -> Option<(Kind, Option<RegistrationToken>)>
-    ensures { result ≡ source_named name.now sources.now }
+fn is_taken<R: Wait + Drop>(sources: &[NamedSource<R>], name: &[u8]) -> bool
+    ensures { result ≡ is_taken name.now sources.now }
 {
     for source in sources {
         if source.name.as_slice() == name {
-            return Some((source.kind, source.token));
+            return true;
+        }
+    }
+    false
+}
+
+// Rings the open ping of this name. Without a receipt there is none.
+fn ring<R: Wait + Drop>(sources: &[NamedSource<R>], name: &[u8]) -> Option<Receipt>
+    ensures { option_map (λ receipt. receipt.name) result ≡ ping_named name.now sources.now }
+{
+    for source in sources {
+        if source.name.as_slice() == name {
+            return source.ring();
         }
     }
     None
 }
 
-fn ping_named(sources: &[NamedSource], name: &[u8]) -> Option<Option<RegistrationToken>>
-    ensures { result ≡ ping_named name.now sources.now }
+fn has_open_ping<R: Wait + Drop>(sources: &[NamedSource<R>], name: &[u8]) -> bool
+    ensures { result ≡ is_some (ping_named name.now sources.now) }
 {
-    match source_named(sources, name) {
-        Some((Kind::Ping, token)) => Some(token),
-        _ => None,
+    for source in sources {
+        if source.name.as_slice() == name {
+            return source.ping.is_some();
+        }
+    }
+    false
+}
+
+// Drops the ping of this name.
+fn close<R: Wait + Drop>(sources: &mut [NamedSource<R>], name: &[u8])
+    ensures { sources.new ≡ map (closed name.now) sources.old }
+{
+    for source in sources.iter_mut() {
+        source.close(name);
     }
 }
 
@@ -83,25 +132,6 @@ fn token_with(slot: u64, version: u64) -> Option<RegistrationToken>
         return None;
     }
     Some(RegistrationToken::new(slot as u32, version as u16))
-}
-
-fn other_than(token: RegistrationToken, own: Option<RegistrationToken>) -> Option<RegistrationToken>
-    ensures { result ≡ other_than token own }
-{
-    let own = own?;
-    if own.slot() == token.slot() && own.version() == token.version() {
-        return None;
-    }
-    Some(own)
-}
-
-// What has the token has none any more.
-fn forget(sources: &mut [NamedSource], token: RegistrationToken)
-    ensures { sources.new ≡ map (without_token token) sources.old }
-{
-    for source in sources.iter_mut() {
-        source.token = other_than(token, source.token);
-    }
 }
 
 // The name of the refusal.
@@ -156,7 +186,10 @@ fn append_answer(text: &mut Vec<u8>, answer: &calloop::Result<()>) -> Result<(),
 }
 
 // Says that there was nothing to remove, where there was nothing.
-fn append_removed(text: &mut Vec<u8>, removed: &Option<Source>) -> Result<(), AllocError>
+fn append_removed<R: Wait + Drop>(
+    text: &mut Vec<u8>,
+    removed: &Option<Source<R>>,
+) -> Result<(), AllocError>
     ensures { OnOk result (text.new.items ≡ text.old.items ++ removed_text removed.now) }
 {
     match removed {
@@ -174,24 +207,20 @@ fn timeout_of(nanos: Option<u64>) -> Option<Duration>
     }
 }
 
-// Says what an insertion answered, and keeps its name where it wasn't refused.
-fn keep<S: Drop>(
-    sources: &mut Vec<NamedSource>,
+// Says what an insertion answered, and keeps its name with its ping where it wasn't refused.
+fn keep<S: Drop, R: Wait + Drop>(
+    sources: &mut Vec<NamedSource<R>>,
     name: Name,
-    kind: Kind,
+    ping: Option<Ping<R>>,
     answer: Result<RegistrationToken, InsertError<S>>,
     text: &mut Vec<u8>,
 ) -> Result<(), AllocError>
-    ensures { OnOk result ((said : List ℕ) × (text.new.items ≡ text.old.items ++ said) × InsertSays name kind answer sources.old.items sources.new.items said) }
+    ensures { OnOk result ((said : List ℕ) × (text.new.items ≡ text.old.items ++ said) × InsertSays name (option_map cell_of ping) answer sources.old.items sources.new.items said) }
 {
     match answer {
         Ok(token) => {
             append_insert(text, name.as_slice(), token.slot(), token.version())?;
-            sources.push(NamedSource {
-                name,
-                kind,
-                token: Some(token),
-            })?;
+            sources.push(NamedSource { name, ping })?;
             Ok(())
         }
         Err(refused) => append_refused(text, word_of(&refused.error)),
@@ -252,19 +281,19 @@ fn make_ready(
     Ok(())
 }
 
-impl<R: Wait + Drop> ScriptLoop<R> {
+impl<R: Wait + Clone + Drop> ScriptLoop<R> {
     /// A loop with the clock at 0 and without sources. An `Err` is want of memory.
     pub fn new(rt: &R, alloc: Global) -> io::Result<ScriptLoop<R>>
-    where
-        R: Clone,
         ensures ok { IfOk result (λ made. IsStart (state_of made)) }
         ensures err { IfErr result (λ e. error_kind e ≡ OutOfMemory) }
     {
+        let own = rt.clone()?;
         let mut poller = ScriptPoller::new(alloc)?;
         poller.keep_waits(1)?;
         let clock = poller.clock()?;
         match EventLoop::try_new(rt, alloc, poller, clock) {
             Ok(event_loop) => Ok(ScriptLoop {
+                rt: own,
                 alloc,
                 event_loop,
                 sources: Vec::new(alloc),
@@ -277,30 +306,30 @@ impl<R: Wait + Drop> ScriptLoop<R> {
 
     fn ping(&mut self, name: &Name, text: &mut Vec<u8>) -> io::Result<bool>
         ensures ok { IfOk result (λ read. MatchBool read
-            ((said : List ℕ) × (text.new.items ≡ text.old.items ++ said) × InsertLine (state_of self.old) name.now Ping (new_ping name.now) (Some (state_of self.new, said)))
-            (InsertLine (state_of self.old) name.now Ping (new_ping name.now) None)) }
+            ((said : List ℕ) × (text.new.items ≡ text.old.items ++ said) × InsertLine (state_of self.old) name.now (IsNewPing name.now) (Some (state_of self.new, said)))
+            (InsertLine (state_of self.old) name.now (IsNewPing name.now) None)) }
         ensures err { IfErr result (λ e. error_kind e ≡ OutOfMemory) }
     {
-        if source_named(&self.sources, name.as_slice()).is_some() {
+        if is_taken(&self.sources, name.as_slice()) {
             return Ok(false);
         }
         let callback = Teller {
             name: Name::new(self.alloc, name.as_slice())?,
         };
         let kept = Name::new(self.alloc, name.as_slice())?;
-        let source = PingSource::new();
+        let (ping, source) = make_ping(&self.rt, self.alloc)?;
         let answer = self.event_loop.handle().insert_source(source, callback);
-        keep(&mut self.sources, kept, Kind::Ping, answer, text)?;
+        keep(&mut self.sources, kept, Some(ping), answer, text)?;
         Ok(true)
     }
 
     fn timer(&mut self, name: &Name, deadline: u64, text: &mut Vec<u8>) -> io::Result<bool>
         ensures ok { IfOk result (λ read. MatchBool read
-            ((said : List ℕ) × (text.new.items ≡ text.old.items ++ said) × InsertLine (state_of self.old) name.now TimerKind (new_timer name.now deadline) (Some (state_of self.new, said)))
-            (InsertLine (state_of self.old) name.now TimerKind (new_timer name.now deadline) None)) }
+            ((said : List ℕ) × (text.new.items ≡ text.old.items ++ said) × InsertLine (state_of self.old) name.now (IsNewTimer name.now deadline) (Some (state_of self.new, said)))
+            (InsertLine (state_of self.old) name.now (IsNewTimer name.now deadline) None)) }
         ensures err { IfErr result (λ e. error_kind e ≡ OutOfMemory) }
     {
-        if source_named(&self.sources, name.as_slice()).is_some() {
+        if is_taken(&self.sources, name.as_slice()) {
             return Ok(false);
         }
         let callback = Alarm {
@@ -309,24 +338,30 @@ impl<R: Wait + Drop> ScriptLoop<R> {
         let kept = Name::new(self.alloc, name.as_slice())?;
         let source = Timer::from_deadline(Instant { nanos: deadline });
         let answer = self.event_loop.handle().insert_source(source, callback);
-        keep(&mut self.sources, kept, Kind::Timer, answer, text)?;
+        keep(&mut self.sources, kept, None, answer, text)?;
         Ok(true)
     }
 
-    fn ring(&mut self, name: &Name, text: &mut Vec<u8>) -> io::Result<bool>
-        ensures ok { IfOk result (λ read. MatchBool read
-            ((said : List ℕ) × (text.new.items ≡ text.old.items ++ said) × RingLine (state_of self.old) name.now (Some (state_of self.new, said)))
-            (RingLine (state_of self.old) name.now None)) }
-        ensures err { IfErr result (λ e. error_kind e ≡ OutOfMemory) }
+    // False where no open ping has this name.
+    fn ring(&mut self, name: &Name) -> bool
+        ensures { MatchBool result
+            (RingLine (state_of self.old) name.now (Some (state_of self.new, [])))
+            (RingLine (state_of self.old) name.now None) }
     {
-        let Some(token) = ping_named(&self.sources, name.as_slice()) else {
-            return Ok(false);
-        };
-        if let Some(token) = token {
-            let answer = self.event_loop.handle().ring(&token);
-            append_answer(text, &answer)?;
+        ring(&self.sources, name.as_slice()).is_some()
+    }
+
+    // False where no open ping has this name.
+    fn close(&mut self, name: &Name) -> bool
+        ensures { MatchBool result
+            (CloseLine (state_of self.old) name.now (Some (state_of self.new, [])))
+            (CloseLine (state_of self.old) name.now None) }
+    {
+        if !has_open_ping(&self.sources, name.as_slice()) {
+            return false;
         }
-        Ok(true)
+        close(&mut self.sources, name.as_slice());
+        true
     }
 
     fn remove(&mut self, slot: u64, version: u64, text: &mut Vec<u8>) -> io::Result<()>
@@ -338,7 +373,6 @@ impl<R: Wait + Drop> ScriptLoop<R> {
             return Ok(());
         };
         let removed = self.event_loop.handle().remove(token);
-        forget(&mut self.sources, token);
         append_removed(text, &removed)?;
         Ok(())
     }
@@ -412,7 +446,8 @@ impl<R: Wait + Drop> ScriptLoop<R> {
         match command {
             Command::Nothing => Ok(true),
             Command::Ping(name) => self.ping(name, text),
-            Command::Ring(name) => self.ring(name, text),
+            Command::Ring(name) => Ok(self.ring(name)),
+            Command::Close(name) => Ok(self.close(name)),
             Command::Remove(slot, version) => {
                 self.remove(*slot, *version, text)?;
                 Ok(true)
@@ -435,7 +470,7 @@ impl<R: Wait + Drop> ScriptLoop<R> {
     }
 }
 
-impl<R: Wait + Drop> Runner for ScriptLoop<R> {
+impl<R: Wait + Clone + Drop> Runner for ScriptLoop<R> {
     ghost use Rattle.looptrace.specs.Runs.{line_step};
 
     ghost step = { line_step };

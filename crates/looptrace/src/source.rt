@@ -105,12 +105,12 @@ impl Callback<Instant, (), TimeoutAction, Said> for Alarm {
 
 /// The sources of a script.
 #[derive(Drop)]
-pub enum Source {
-    Ping(Dispatcher<PingSource, Teller>),
+pub enum Source<R: Wait + Drop> {
+    Ping(Dispatcher<PingSource<R>, Teller>),
     Timer(Dispatcher<Timer, Alarm>),
 }
 
-impl<P: Poller, C, R: Wait + Drop> EventDispatcher<P, C, R> for Source {
+impl<P: Poller, C, R: Wait + Drop> EventDispatcher<P, C, R> for Source<R> {
     ghost use Rattle.looptrace.specs.Sources.{source_meaning};
     ghost use Rattle.looptrace.specs.Held.{source_keeps};
 
@@ -139,13 +139,6 @@ impl<P: Poller, C, R: Wait + Drop> EventDispatcher<P, C, R> for Source {
         }
     }
 
-    fn ring(&mut self, poll: &mut Poll<P, C, R>) -> bool {
-        match self {
-            Source::Ping(ping) => Dispatch::<P, C, R, Said>::ring(ping, poll),
-            Source::Timer(timer) => Dispatch::<P, C, R, Said>::ring(timer, poll),
-        }
-    }
-
     fn process_events(
         &mut self,
         readiness: Readiness,
@@ -162,14 +155,14 @@ impl<P: Poller, C, R: Wait + Drop> EventDispatcher<P, C, R> for Source {
     ghost keeps = { source_keeps };
 }
 
-impl<P: Poller, C, R: Wait + Drop> Hold<PingSource, Teller, P, C, R> for Source {
+impl<P: Poller, C, R: Wait + Drop> Hold<PingSource<R>, Teller, P, C, R> for Source<R> {
     ghost use Rattle.std.specs.Prelude.{◌≡◌};
     ghost use Rattle.looptrace.specs.declared.source.Source.TheVariants.{Ping};
     ghost use Rattle.looptrace.specs.Held.{ping_held};
 
     ghost held = { λ d. Ping d };
 
-    fn hold(dispatcher: Dispatcher<PingSource, Teller>) -> Source
+    fn hold(dispatcher: Dispatcher<PingSource<R>, Teller>) -> Source<R>
         ensures { result ≡ Ping dispatcher }
     {
         Source::Ping(dispatcher)
@@ -178,14 +171,14 @@ impl<P: Poller, C, R: Wait + Drop> Hold<PingSource, Teller, P, C, R> for Source 
     ghost held_means = { ping_held };
 }
 
-impl<P: Poller, C, R: Wait + Drop> Hold<Timer, Alarm, P, C, R> for Source {
+impl<P: Poller, C, R: Wait + Drop> Hold<Timer, Alarm, P, C, R> for Source<R> {
     ghost use Rattle.std.specs.Prelude.{◌≡◌};
     ghost use Rattle.looptrace.specs.declared.source.Source.TheVariants.{Timer as TimerIn};
     ghost use Rattle.looptrace.specs.Held.{timer_held};
 
     ghost held = { λ d. TimerIn d };
 
-    fn hold(dispatcher: Dispatcher<Timer, Alarm>) -> Source
+    fn hold(dispatcher: Dispatcher<Timer, Alarm>) -> Source<R>
         ensures { result ≡ TimerIn dispatcher }
     {
         Source::Timer(dispatcher)

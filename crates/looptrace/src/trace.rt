@@ -23,7 +23,7 @@ pub fn trace<Q: Wait + Clone + Drop, R: BufRead, W: Write, E: Write>(
     output: &mut W,
     errors: &mut E,
 ) -> io::Result<u8>
-    ensures { IfOk result (λ status. IfSome (R.remaining input.old) (λ script. (w : Written) × MayWrite script w
+    ensures { IfOk result (λ status. IfSome (R.remaining input.old) (λ script. (w : Written) × MayWrite Q script w
         × Appends (W.contents output.old) (W.contents output.new) w.out
         × Appends (E.contents errors.old) (E.contents errors.new) w.err
         × (status ≡ w.status))) }

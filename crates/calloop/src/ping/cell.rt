@@ -1,0 +1,180 @@
+//! The cell of a ping with the board of its key, under one lock, and the sections of that lock. No other lock is taken and
+//! nobody is called within one: what a section owes to the board is settled after it.
+ghost use Rattle.std.specs.Prelude.{◌≡◌, ◌+◌, IfOk, IfErr, is_some, true};
+ghost use Rattle.std.specs.Arc.{arc_value};
+ghost use Rattle.calloop_wake.specs.Cells.{one};
+ghost use Rattle.calloop_core.specs.Polls.{CannotOpen};
+
+use calloop_core::sys::hub::{SharedHub, share};
+use calloop_wake::error::Result as LoopResult;
+use calloop_wake::token::Token;
+use calloop_wake::wake::ghosts::Name;
+use calloop_wake::wake::locked::{Core, Locked};
+use calloop_wake::wake::ping::{OpenedTurn, PingCore};
+use calloop_wake::wake::{Debt, Last, LeaveToClose, PingTurn, Receipt, TakenPass, Twin};
+use counted_slot::Fits;
+use std::alloc::{AllocError, Global};
+use std::sync::{Arc, Wait};
+
+/// What the ends of a ping share: the cell, and the board on which its key has a place.
+pub struct PingCell {
+    core: PingCore,
+    hub: Option<SharedHub>,
+    ghost keyed: { is_some core.cell.key ≡ true → is_some hub ≡ true },
+}
+
+impl Fits for PingCell {
+    ghost use Rattle.std.specs.Prelude.{◌≡◌};
+
+    type Tag = Name;
+
+    ghost fits = { λ tag cell. cell.core.name ≡ tag };
+}
+
+impl Core for PingCell {
+    fn dissolve(self, last: Last) {
+        let PingCell { core, hub: _ } = self;
+        core.dissolve(last);
+    }
+}
+
+/// What the ends of a ping share, under its lock. In a clause `slot` is the name of the cell.
+pub type SharedCell = Arc<Locked<PingCell>, Global>;
+
+impl PingCell {
+    /// A cell that was just made, without a board.
+    pub fn new(core: PingCore) -> PingCell
+        requires { is_some core.cell.key ≡ true → ⊥ }
+        ensures { result.core ≡ core }
+    {
+        PingCell { core, hub: None }
+    }
+
+    // The debt with the board on which it is settled, outside the lock.
+    fn owed<R: Wait>(&self, rt: &R, debt: Option<Debt>) -> Option<(Debt, SharedHub)>
+        requires { is_some debt ≡ true → is_some self.now.hub ≡ true }
+    {
+        let debt = debt?;
+        match &self.hub {
+            Some(hub) => Some((debt, share(rt, hub))),
+            None => unreachable!(),
+        }
+    }
+}
+
+// Posts the key of a debt, where there is one.
+fn settle<R: Wait>(rt: &R, owed: Option<(Debt, SharedHub)>) {
+    if let Some((debt, hub)) = owed {
+        hub.settle(rt, debt);
+    }
+}
+
+// Closes the place of a key that the cell has no more.
+fn close_place<R: Wait>(rt: &R, hub: &Option<SharedHub>, leave: Option<LeaveToClose>)
+    requires { is_some leave ≡ true → is_some hub.now ≡ true }
+{
+    let Some(leave) = leave else {
+        return;
+    };
+    match hub {
+        Some(hub) => hub.close_place(rt, leave),
+        None => unreachable!(),
+    }
+}
+
+/// Rings the cell.
+pub fn ring<R: Wait>(rt: &R, shared: &Locked<PingCell>) -> Receipt
+    ensures { result.name ≡ shared.now.slot }
+{
+    let (gate, mut cell) = shared.lock(rt);
+    let (receipt, debt) = cell.core.ring();
+    let owed = cell.owed(rt, debt);
+    shared.unlock(rt, gate, cell);
+    settle(rt, owed);
+    receipt
+}
+
+/// One sender more. There can be 2^64 - 1.
+pub fn add_sender<R: Wait>(rt: &R, shared: &Locked<PingCell>) -> Result<(), AllocError> {
+    let (gate, mut cell) = shared.lock(rt);
+    let added = cell.core.add_sender();
+    shared.unlock(rt, gate, cell);
+    added
+}
+
+/// One sender less. The last one closes the cell.
+pub fn drop_sender<R: Wait>(rt: &R, shared: &Locked<PingCell>) {
+    let (gate, mut cell) = shared.lock(rt);
+    let debt = cell.core.drop_sender();
+    let owed = cell.owed(rt, debt);
+    shared.unlock(rt, gate, cell);
+    settle(rt, owed);
+}
+
+/// Opens the place of the token, gives the cell its key, and then closes the place of the key that it had.
+pub fn attach<R: Wait>(
+    rt: &R,
+    shared: &Locked<PingCell>,
+    hub: &SharedHub,
+    token: Token,
+) -> LoopResult<()>
+    ensures { IfErr result CannotOpen }
+{
+    let pass = hub.open_place(rt, token)?;
+    let mine = share(rt, hub);
+    let (gate, mut cell) = shared.lock(rt);
+    let old = cell.hub.replace(mine);
+    let (debt, leave) = cell.core.set_key(pass);
+    let owed = cell.owed(rt, debt);
+    shared.unlock(rt, gate, cell);
+    close_place(rt, &old, leave);
+    settle(rt, owed);
+    Ok(())
+}
+
+/// Clears the cell's key, and then closes its place.
+pub fn detach<R: Wait>(rt: &R, shared: &Locked<PingCell>) {
+    let (gate, mut cell) = shared.lock(rt);
+    let leave = cell.core.clear_key();
+    let hub = cell.hub.take();
+    shared.unlock(rt, gate, cell);
+    close_place(rt, &hub, leave);
+}
+
+/// Opens a turn of the cell with the pass, which comes back as refused where it opens none.
+pub fn open_turn<R: Wait>(
+    rt: &R,
+    shared: &Locked<PingCell>,
+    twin: &mut Twin,
+    pass: TakenPass,
+) -> Result<OpenedTurn, TakenPass>
+    requires { twin.old.name ≡ shared.now.slot }
+    ensures name { twin.new.name ≡ twin.old.name }
+    ensures ok { IfOk result (λ opened. (opened.turn.name ≡ shared.now.slot) × (twin.new ≡ record twin.old { number = twin.old.number + one opened.rung })) }
+    ensures err { IfErr result (λ refused. (refused ≡ record { key = pass.key; refused = true }) × (twin.new ≡ twin.old)) }
+{
+    let (gate, mut cell) = shared.lock(rt);
+    let opened = cell.core.open_turn(pass, twin);
+    shared.unlock(rt, gate, cell);
+    opened
+}
+
+/// Ends a turn of the cell.
+pub fn end_turn<R: Wait>(rt: &R, shared: &Locked<PingCell>, turn: PingTurn)
+    requires { turn.name ≡ shared.now.slot }
+{
+    let (gate, mut cell) = shared.lock(rt);
+    let debt = cell.core.end_turn(turn);
+    let owed = cell.owed(rt, debt);
+    shared.unlock(rt, gate, cell);
+    settle(rt, owed);
+}
+
+/// The receiving end is gone: its key is cleared, and then the place of that is closed.
+pub fn abandon<R: Wait>(rt: &R, shared: &Locked<PingCell>) {
+    let (gate, mut cell) = shared.lock(rt);
+    let leave = cell.core.abandon();
+    let hub = cell.hub.take();
+    shared.unlock(rt, gate, cell);
+    close_place(rt, &hub, leave);
+}

@@ -1,0 +1,182 @@
+//! A ping as a source of the loop.
+ghost use Rattle.std.specs.Prelude.{◌≡◌, Bool, List, Option, Result};
+ghost use Rattle.calloop_wake.specs.declared.token.Token.{Token};
+ghost use Rattle.calloop_core.specs.Polls.{PollStep, poll_view, AllStepped};
+ghost use Rattle.calloop_core.specs.Calls.{Call, Went};
+ghost use Rattle.calloop.specs.Pings.{is_token, calls_of, action_of};
+
+use super::{PingSource, cell};
+use calloop_core::sources::{Callback, EventSource, IntoError, PostAction};
+use calloop_core::sys::poll::Poll;
+use calloop_core::sys::{Poller, Readiness};
+use calloop_wake::error::{Error, Result as LoopResult};
+use calloop_wake::token::{Token, TokenFactory};
+use calloop_wake::wake::ping::OpenedTurn;
+use std::io;
+use std::sync::Wait;
+
+/// Why a ping's turn could fail. No turn of this crate's pings does: all that they need was reserved.
+#[derive(Debug, Drop)]
+pub enum PingError {
+    OutOfMemory,
+}
+
+impl IntoError for PingError {
+    ghost use Rattle.std.specs.Prelude.{◌≡◌};
+    ghost use Rattle.calloop_wake.specs.declared.error.Error.TheVariants.{OutOfMemory};
+
+    ghost becomes = { λ _ e. e ≡ OutOfMemory };
+
+    /// `OutOfMemory`.
+    fn into_error(self) -> Error {
+        Error::OutOfMemory
+    }
+}
+
+// Calls back, where a ping stood.
+fn call_if<F: Callback<(), (), (), X>, X>(rang: bool, callback: &mut F, data: &mut X)
+    ensures { Went F.may callback.old «data».old (calls_of rang) callback.new «data».new }
+{
+    if rang {
+        callback.call((), &mut (), data);
+    }
+}
+
+// A close that is told removes the source.
+fn action_of(told: bool) -> PostAction
+    ensures { result ≡ action_of told }
+{
+    if told {
+        PostAction::Remove
+    } else {
+        PostAction::Continue
+    }
+}
+
+impl<R: Wait + Drop> PingSource<R> {
+    fn is_mine(&self, token: Token) -> bool
+        ensures { result ≡ is_token token self.now.token }
+    {
+        match self.token {
+            Some(own) => own.key() == token.key(),
+            None => false,
+        }
+    }
+}
+
+impl<P: Poller, C, R: Wait + Drop> EventSource<P, C, R> for PingSource<R> {
+    ghost use Rattle.std.specs.Prelude.{◌≡◌};
+    ghost use Rattle.calloop_core.specs.Holdings.{holds_none};
+    ghost use Rattle.calloop.specs.Pings.{IsPingReg, IsPingRereg, IsPingUnreg, IsPingTurn};
+    ghost use Rattle.calloop.specs.Quiet.{ping_reg_keeps, ping_rereg_keeps, ping_unreg_keeps, ping_turn_keeps};
+
+    type Event = ();
+
+    type Metadata = ();
+
+    type Ret = ();
+
+    type Error = PingError;
+
+    ghost holds = { λ s. holds_none };
+
+    ghost reg = { λ s v f a l t g. IsPingReg s f a l t g };
+
+    ghost rereg = { λ s v f a l t g. IsPingRereg s f a l t g };
+
+    ghost unreg = { λ s v a l t. IsPingUnreg s a l t };
+
+    ghost turn = { λ s r token v calls a l t. IsPingTurn s token v calls a l t };
+
+    /// Its turn: calls back once where a ping stands, and removes the source where the last `Ping` is gone. An event of
+    /// another token, or without a posted key behind it, calls nothing.
+    fn process_events<F, X>(
+        &mut self,
+        _readiness: Readiness,
+        token: Token,
+        poll: &mut Poll<P, C, R>,
+        callback: &mut F,
+        data: &mut X,
+    ) -> Result<PostAction, PingError>
+    where
+        F: Callback<(), (), (), X>,
+    {
+        if !self.is_mine(token) {
+            return Ok(PostAction::Continue);
+        }
+        let Some(pass) = poll.take_pass() else {
+            return Ok(PostAction::Continue);
+        };
+        match cell::open_turn(&self.rt, &self.shared, &mut self.twin, pass) {
+            Ok(opened) => {
+                let OpenedTurn { turn, rung, told } = opened;
+                call_if(rung, callback, data);
+                cell::end_turn(&self.rt, &self.shared, turn);
+                Ok(action_of(told))
+            }
+            Err(pass) => {
+                poll.put_back(pass);
+                Ok(PostAction::Continue)
+            }
+        }
+    }
+
+    /// Registers the ping under the factory's next token. One that was rung or closed before is posted at once.
+    ///
+    /// Where it is registered already the answer is `IoError` of kind `AlreadyExists`; a factory without tokens is
+    /// `TooManyTokens`, and want of memory `OutOfMemory`. A refusal leaves the ping and the board as they were.
+    fn register(&mut self, poll: &mut Poll<P, C, R>, factory: &mut TokenFactory) -> LoopResult<()> {
+        if self.token.is_some() {
+            let cause = io::Error::from(io::ErrorKind::AlreadyExists);
+            return Err(Error::IoError(cause));
+        }
+        let token = factory.token()?;
+        cell::attach(&self.rt, &self.shared, poll.hub(), token)?;
+        self.token = Some(token);
+        Ok(())
+    }
+
+    /// Moves the registration to the factory's next token; under the same key it does nothing. What stands is posted
+    /// under the new key.
+    ///
+    /// Where the ping isn't registered the answer is `IoError` of kind `NotFound`; a factory without tokens is
+    /// `TooManyTokens`, an open place of the new key `IoError` of kind `AlreadyExists`, and want of memory `OutOfMemory`.
+    /// A refusal leaves the ping and the board as they were.
+    fn reregister(
+        &mut self,
+        poll: &mut Poll<P, C, R>,
+        factory: &mut TokenFactory,
+    ) -> LoopResult<()> {
+        if self.token.is_none() {
+            let cause = io::Error::from(io::ErrorKind::NotFound);
+            return Err(Error::IoError(cause));
+        }
+        let token = factory.token()?;
+        if self.is_mine(token) {
+            return Ok(());
+        }
+        cell::attach(&self.rt, &self.shared, poll.hub(), token)?;
+        let _old = self.token.replace(token);
+        Ok(())
+    }
+
+    /// Takes the registration back. What stands is told after the next registration. Where the ping isn't registered
+    /// the answer is `IoError` of kind `NotFound`, and nothing changes.
+    fn unregister(&mut self, _poll: &mut Poll<P, C, R>) -> LoopResult<()> {
+        if self.token.is_none() {
+            let cause = io::Error::from(io::ErrorKind::NotFound);
+            return Err(Error::IoError(cause));
+        }
+        cell::detach(&self.rt, &self.shared);
+        self.token = None;
+        Ok(())
+    }
+
+    ghost reg_keeps = { ping_reg_keeps };
+
+    ghost rereg_keeps = { ping_rereg_keeps };
+
+    ghost unreg_keeps = { ping_unreg_keeps };
+
+    ghost turn_keeps = { λ s t r k v cs a l h. ping_turn_keeps s t k v cs a l h };
+}
