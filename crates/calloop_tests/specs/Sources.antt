@@ -13,25 +13,25 @@ use Rattle.calloop_tests.specs.declared.source.Source.TheVariants.{Ping, Alarm, 
 use Rattle.calloop_tests.specs.declared.source.Teller.{Teller}
 use Rattle.calloop_tests.specs.declared.source.Waker.{Waker}
 
-abbrev pub Choice : Type 0
-Choice = Dispatcher PingSource Teller ⊎ (Dispatcher Timer Waker ⊎ Dispatcher FailingSource Teller)
+abbrev pub Choice : Type 0 → Type 0
+Choice R = Dispatcher (PingSource R) Teller ⊎ (Dispatcher Timer Waker ⊎ Dispatcher FailingSource Teller)
 
-abbrev pub split : Source → Choice
+abbrev pub split : {R : Type 0} → Source R → Choice R
 split (Ping d) = inl d
 split (Alarm d) = inr (inl d)
 split (Failing d) = inr (inr d)
 
-abbrev pub join : Choice → Source
+abbrev pub join : {R : Type 0} → Choice R → Source R
 join (inl d) = Ping d
 join (inr (inl d)) = Alarm d
 join (inr (inr d)) = Failing d
 
-pub split-join : (c : Choice) → split (join c) ≡ c
+pub split-join : {R : Type 0} (c : Choice R) → split (join c) ≡ c
 split-join (inl d) = refl
 split-join (inr (inl d)) = refl
 split-join (inr (inr d)) = refl
 
-pub join-split : (s : Source) → join (split s) ≡ s
+pub join-split : {R : Type 0} (s : Source R) → join (split s) ≡ s
 join-split (Ping d) = refl
 join-split (Alarm d) = refl
 join-split (Failing d) = refl
@@ -58,6 +58,5 @@ held_through f g m n o h k =
       reg = λ s v p q a l. step_through f g (λ s t. m.reg s v p a l t q) (λ s t. n.reg s v p a l t q) (λ s t. o.reg s v p a l t q) s (h.reg s v p q a l) (k.reg (f s) v p q a l);
       rereg = λ s v p q a l. step_through f g (λ s t. m.rereg s v p a l t q) (λ s t. n.rereg s v p a l t q) (λ s t. o.rereg s v p a l t q) s (h.rereg s v p q a l) (k.rereg (f s) v p q a l);
       unreg = λ s v a l. step_through f g (λ s t. m.unreg s v a l t) (λ s t. n.unreg s v a l t) (λ s t. o.unreg s v a l t) s (h.unreg s v a l) (k.unreg (f s) v a l);
-      ring = λ s b l. step_through f g (λ s t. m.ring s b l t) (λ s t. n.ring s b l t) (λ s t. o.ring s b l t) s (h.ring s b l) (k.ring (f s) b l);
       turn = λ s r j v x y a l. step_through f g (λ s t. m.turn s r j v x a l t y) (λ s t. n.turn s r j v x a l t y) (λ s t. o.turn s r j v x a l t y) s (h.turn s r j v x y a l) (k.turn (f s) r j v x y a l);
     }

@@ -1,8 +1,8 @@
 //! Sources for tests: pings and timers with callbacks that say their number, and a source that fails.
 ghost use Rattle.std.specs.Prelude.{◌≡◌, []};
 ghost use Rattle.std.proofs.Common.{inl, inr};
-ghost use Rattle.calloop_core.specs.Keeping.{timer_reg_keeps, timer_unreg_keeps, timer_ring_keeps, timer_turn_keeps};
-ghost use Rattle.calloop.specs.Quiet.{ping_reg_keeps, ping_rereg_keeps, ping_unreg_keeps, ping_ring_keeps, ping_turn_keeps};
+ghost use Rattle.calloop_core.specs.Keeping.{timer_reg_keeps, timer_unreg_keeps, timer_turn_keeps};
+ghost use Rattle.calloop.specs.Quiet.{ping_reg_keeps, ping_rereg_keeps, ping_unreg_keeps, ping_turn_keeps};
 ghost use Rattle.calloop_core.specs.Meanings.{either, seen_as, keeping_either, keeping_seen, held_left, held_right, held_seen};
 ghost use Rattle.calloop_tests.specs.Sources.{split, join, split-join, join-split, none_kept, held_through};
 ghost use Rattle.calloop_tests.specs.declared.source.Source.TheVariants.{Ping, Alarm};
@@ -82,8 +82,6 @@ impl<P: Poller, C, R: Wait + Drop> EventSource<P, C, R> for Failing {
 
     ghost unreg = { λ s v a l t. l ≡ [] };
 
-    ghost rung = { λ s b l t. l ≡ [] };
-
     ghost turn = { λ s r k v cs a l t. (l ≡ []) × (cs ≡ []) };
 
     fn process_events<F, X>(
@@ -120,33 +118,27 @@ impl<P: Poller, C, R: Wait + Drop> EventSource<P, C, R> for Failing {
         Ok(())
     }
 
-    fn ring(&mut self, _poll: &mut Poll<P, C, R>) -> bool {
-        false
-    }
-
     ghost reg_keeps = { λ s t v f g a l h. none_kept v.deadlines.next l h };
 
     ghost rereg_keeps = { λ s t v f g a l h. none_kept v.deadlines.next l h };
 
     ghost unreg_keeps = { λ s t v a l h. none_kept v.deadlines.next l h };
 
-    ghost ring_keeps = { λ s t v b l h. none_kept v.deadlines.next l h };
-
     ghost turn_keeps = { λ s t r k v cs a l h. none_kept v.deadlines.next l h.0 };
 }
 
 /// The sources of a test.
 #[derive(Drop)]
-pub enum Source {
-    Ping(Dispatcher<PingSource, Teller>),
+pub enum Source<R: Wait + Drop> {
+    Ping(Dispatcher<PingSource<R>, Teller>),
     Alarm(Dispatcher<Timer, Waker>),
     Failing(Dispatcher<Failing, Teller>),
 }
 
-impl<P: Poller, C, R: Wait + Drop> EventDispatcher<P, C, R> for Source {
+impl<P: Poller, C, R: Wait + Drop> EventDispatcher<P, C, R> for Source<R> {
     type Data = Vec<u32>;
 
-    ghost means = { seen_as split (either ⟦<Dispatcher<PingSource, Teller> as Dispatch<P, C, R, Vec<u32>>>⟧.means (either ⟦<Dispatcher<Timer, Waker> as Dispatch<P, C, R, Vec<u32>>>⟧.means ⟦<Dispatcher<Failing, Teller> as Dispatch<P, C, R, Vec<u32>>>⟧.means)) };
+    ghost means = { seen_as split (either ⟦<Dispatcher<PingSource<R>, Teller> as Dispatch<P, C, R, Vec<u32>>>⟧.means (either ⟦<Dispatcher<Timer, Waker> as Dispatch<P, C, R, Vec<u32>>>⟧.means ⟦<Dispatcher<Failing, Teller> as Dispatch<P, C, R, Vec<u32>>>⟧.means)) };
 
     fn register(&mut self, poll: &mut Poll<P, C, R>, factory: &mut TokenFactory) -> Result<()> {
         match self {
@@ -172,14 +164,6 @@ impl<P: Poller, C, R: Wait + Drop> EventDispatcher<P, C, R> for Source {
         }
     }
 
-    fn ring(&mut self, poll: &mut Poll<P, C, R>) -> bool {
-        match self {
-            Source::Ping(held) => Dispatch::<P, C, R, Vec<u32>>::ring(held, poll),
-            Source::Alarm(held) => Dispatch::<P, C, R, Vec<u32>>::ring(held, poll),
-            Source::Failing(held) => Dispatch::<P, C, R, Vec<u32>>::ring(held, poll),
-        }
-    }
-
     fn process_events(
         &mut self,
         readiness: Readiness,
@@ -194,29 +178,29 @@ impl<P: Poller, C, R: Wait + Drop> EventDispatcher<P, C, R> for Source {
         }
     }
 
-    ghost keeps = { keeping_seen split (either ⟦<Dispatcher<PingSource, Teller> as Dispatch<P, C, R, Vec<u32>>>⟧.means (either ⟦<Dispatcher<Timer, Waker> as Dispatch<P, C, R, Vec<u32>>>⟧.means ⟦<Dispatcher<Failing, Teller> as Dispatch<P, C, R, Vec<u32>>>⟧.means)) (keeping_either ⟦<Dispatcher<PingSource, Teller> as Dispatch<P, C, R, Vec<u32>>>⟧.means (either ⟦<Dispatcher<Timer, Waker> as Dispatch<P, C, R, Vec<u32>>>⟧.means ⟦<Dispatcher<Failing, Teller> as Dispatch<P, C, R, Vec<u32>>>⟧.means) (record { reg = λ s t v f g a l h. ping_reg_keeps s.source t.source v f g a l h.0; rereg = λ s t v f g a l h. ping_rereg_keeps s.source t.source v f g a l h.0; unreg = λ s t v a l h. ping_unreg_keeps s.source t.source v a l h.0; ring = λ s t v b l h. ping_ring_keeps s.source t.source v b l h.0; turn = λ s t r k v x y a l h. ping_turn_keeps s.source t.source k v h.calls h.inner l h.turned }) (keeping_either ⟦<Dispatcher<Timer, Waker> as Dispatch<P, C, R, Vec<u32>>>⟧.means ⟦<Dispatcher<Failing, Teller> as Dispatch<P, C, R, Vec<u32>>>⟧.means (record { reg = λ s t v f g a l h. timer_reg_keeps s.source t.source v f g a l h.0; rereg = λ s t v f g a l h. timer_reg_keeps s.source t.source v f g a l h.0; unreg = λ s t v a l h. timer_unreg_keeps s.source t.source v a l h.0; ring = λ s t v b l h. timer_ring_keeps s.source t.source v b l h.0; turn = λ s t r k v x y a l h. timer_turn_keeps s.source t.source k v h.calls h.inner l h.turned }) (record { reg = λ s t v f g a l h. none_kept v.deadlines.next l h.0; rereg = λ s t v f g a l h. none_kept v.deadlines.next l h.0; unreg = λ s t v a l h. none_kept v.deadlines.next l h.0; ring = λ s t v b l h. none_kept v.deadlines.next l h.0; turn = λ s t r k v x y a l h. none_kept v.deadlines.next l h.turned.0 }))) };
+    ghost keeps = { keeping_seen split (either ⟦<Dispatcher<PingSource<R>, Teller> as Dispatch<P, C, R, Vec<u32>>>⟧.means (either ⟦<Dispatcher<Timer, Waker> as Dispatch<P, C, R, Vec<u32>>>⟧.means ⟦<Dispatcher<Failing, Teller> as Dispatch<P, C, R, Vec<u32>>>⟧.means)) (keeping_either ⟦<Dispatcher<PingSource<R>, Teller> as Dispatch<P, C, R, Vec<u32>>>⟧.means (either ⟦<Dispatcher<Timer, Waker> as Dispatch<P, C, R, Vec<u32>>>⟧.means ⟦<Dispatcher<Failing, Teller> as Dispatch<P, C, R, Vec<u32>>>⟧.means) (record { reg = λ s t v f g a l h. ping_reg_keeps s.source t.source v f g a l h.0; rereg = λ s t v f g a l h. ping_rereg_keeps s.source t.source v f g a l h.0; unreg = λ s t v a l h. ping_unreg_keeps s.source t.source v a l h.0; turn = λ s t r k v x y a l h. ping_turn_keeps s.source t.source k v h.calls h.inner l h.turned }) (keeping_either ⟦<Dispatcher<Timer, Waker> as Dispatch<P, C, R, Vec<u32>>>⟧.means ⟦<Dispatcher<Failing, Teller> as Dispatch<P, C, R, Vec<u32>>>⟧.means (record { reg = λ s t v f g a l h. timer_reg_keeps s.source t.source v f g a l h.0; rereg = λ s t v f g a l h. timer_reg_keeps s.source t.source v f g a l h.0; unreg = λ s t v a l h. timer_unreg_keeps s.source t.source v a l h.0; turn = λ s t r k v x y a l h. timer_turn_keeps s.source t.source k v h.calls h.inner l h.turned }) (record { reg = λ s t v f g a l h. none_kept v.deadlines.next l h.0; rereg = λ s t v f g a l h. none_kept v.deadlines.next l h.0; unreg = λ s t v a l h. none_kept v.deadlines.next l h.0; turn = λ s t r k v x y a l h. none_kept v.deadlines.next l h.turned.0 }))) };
 }
 
-impl<P: Poller, C, R: Wait + Drop> Hold<PingSource, Teller, P, C, R> for Source {
+impl<P: Poller, C, R: Wait + Drop> Hold<PingSource<R>, Teller, P, C, R> for Source<R> {
     ghost held = { λ d. join (inl d) };
 
-    fn hold(dispatcher: Dispatcher<PingSource, Teller>) -> Source
+    fn hold(dispatcher: Dispatcher<PingSource<R>, Teller>) -> Source<R>
         ensures { result ≡ Ping dispatcher }
     {
         Source::Ping(dispatcher)
     }
 
-    ghost held_means = { held_seen split join split-join join-split inl ⟦<Dispatcher<PingSource, Teller> as Dispatch<P, C, R, Vec<u32>>>⟧.means (either ⟦<Dispatcher<PingSource, Teller> as Dispatch<P, C, R, Vec<u32>>>⟧.means (either ⟦<Dispatcher<Timer, Waker> as Dispatch<P, C, R, Vec<u32>>>⟧.means ⟦<Dispatcher<Failing, Teller> as Dispatch<P, C, R, Vec<u32>>>⟧.means)) (held_left ⟦<Dispatcher<PingSource, Teller> as Dispatch<P, C, R, Vec<u32>>>⟧.means (either ⟦<Dispatcher<Timer, Waker> as Dispatch<P, C, R, Vec<u32>>>⟧.means ⟦<Dispatcher<Failing, Teller> as Dispatch<P, C, R, Vec<u32>>>⟧.means)) };
+    ghost held_means = { held_seen split join split-join join-split inl ⟦<Dispatcher<PingSource<R>, Teller> as Dispatch<P, C, R, Vec<u32>>>⟧.means (either ⟦<Dispatcher<PingSource<R>, Teller> as Dispatch<P, C, R, Vec<u32>>>⟧.means (either ⟦<Dispatcher<Timer, Waker> as Dispatch<P, C, R, Vec<u32>>>⟧.means ⟦<Dispatcher<Failing, Teller> as Dispatch<P, C, R, Vec<u32>>>⟧.means)) (held_left ⟦<Dispatcher<PingSource<R>, Teller> as Dispatch<P, C, R, Vec<u32>>>⟧.means (either ⟦<Dispatcher<Timer, Waker> as Dispatch<P, C, R, Vec<u32>>>⟧.means ⟦<Dispatcher<Failing, Teller> as Dispatch<P, C, R, Vec<u32>>>⟧.means)) };
 }
 
-impl<P: Poller, C, R: Wait + Drop> Hold<Timer, Waker, P, C, R> for Source {
+impl<P: Poller, C, R: Wait + Drop> Hold<Timer, Waker, P, C, R> for Source<R> {
     ghost held = { λ d. join (inr (inl d)) };
 
-    fn hold(dispatcher: Dispatcher<Timer, Waker>) -> Source
+    fn hold(dispatcher: Dispatcher<Timer, Waker>) -> Source<R>
         ensures { result ≡ Alarm dispatcher }
     {
         Source::Alarm(dispatcher)
     }
 
-    ghost held_means = { held_seen split join split-join join-split (λ d. inr (inl d)) ⟦<Dispatcher<Timer, Waker> as Dispatch<P, C, R, Vec<u32>>>⟧.means (either ⟦<Dispatcher<PingSource, Teller> as Dispatch<P, C, R, Vec<u32>>>⟧.means (either ⟦<Dispatcher<Timer, Waker> as Dispatch<P, C, R, Vec<u32>>>⟧.means ⟦<Dispatcher<Failing, Teller> as Dispatch<P, C, R, Vec<u32>>>⟧.means)) (held_through inl inr ⟦<Dispatcher<Timer, Waker> as Dispatch<P, C, R, Vec<u32>>>⟧.means (either ⟦<Dispatcher<Timer, Waker> as Dispatch<P, C, R, Vec<u32>>>⟧.means ⟦<Dispatcher<Failing, Teller> as Dispatch<P, C, R, Vec<u32>>>⟧.means) (either ⟦<Dispatcher<PingSource, Teller> as Dispatch<P, C, R, Vec<u32>>>⟧.means (either ⟦<Dispatcher<Timer, Waker> as Dispatch<P, C, R, Vec<u32>>>⟧.means ⟦<Dispatcher<Failing, Teller> as Dispatch<P, C, R, Vec<u32>>>⟧.means)) (held_left ⟦<Dispatcher<Timer, Waker> as Dispatch<P, C, R, Vec<u32>>>⟧.means ⟦<Dispatcher<Failing, Teller> as Dispatch<P, C, R, Vec<u32>>>⟧.means) (held_right ⟦<Dispatcher<PingSource, Teller> as Dispatch<P, C, R, Vec<u32>>>⟧.means (either ⟦<Dispatcher<Timer, Waker> as Dispatch<P, C, R, Vec<u32>>>⟧.means ⟦<Dispatcher<Failing, Teller> as Dispatch<P, C, R, Vec<u32>>>⟧.means))) };
+    ghost held_means = { held_seen split join split-join join-split (λ d. inr (inl d)) ⟦<Dispatcher<Timer, Waker> as Dispatch<P, C, R, Vec<u32>>>⟧.means (either ⟦<Dispatcher<PingSource<R>, Teller> as Dispatch<P, C, R, Vec<u32>>>⟧.means (either ⟦<Dispatcher<Timer, Waker> as Dispatch<P, C, R, Vec<u32>>>⟧.means ⟦<Dispatcher<Failing, Teller> as Dispatch<P, C, R, Vec<u32>>>⟧.means)) (held_through inl inr ⟦<Dispatcher<Timer, Waker> as Dispatch<P, C, R, Vec<u32>>>⟧.means (either ⟦<Dispatcher<Timer, Waker> as Dispatch<P, C, R, Vec<u32>>>⟧.means ⟦<Dispatcher<Failing, Teller> as Dispatch<P, C, R, Vec<u32>>>⟧.means) (either ⟦<Dispatcher<PingSource<R>, Teller> as Dispatch<P, C, R, Vec<u32>>>⟧.means (either ⟦<Dispatcher<Timer, Waker> as Dispatch<P, C, R, Vec<u32>>>⟧.means ⟦<Dispatcher<Failing, Teller> as Dispatch<P, C, R, Vec<u32>>>⟧.means)) (held_left ⟦<Dispatcher<Timer, Waker> as Dispatch<P, C, R, Vec<u32>>>⟧.means ⟦<Dispatcher<Failing, Teller> as Dispatch<P, C, R, Vec<u32>>>⟧.means) (held_right ⟦<Dispatcher<PingSource<R>, Teller> as Dispatch<P, C, R, Vec<u32>>>⟧.means (either ⟦<Dispatcher<Timer, Waker> as Dispatch<P, C, R, Vec<u32>>>⟧.means ⟦<Dispatcher<Failing, Teller> as Dispatch<P, C, R, Vec<u32>>>⟧.means))) };
 }

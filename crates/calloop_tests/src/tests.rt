@@ -1,6 +1,6 @@
 use crate::source::{Failing, Source, Teller, Waker};
 use calloop::loop_logic::{Answer, Call, EventLoop, once};
-use calloop::ping::PingSource;
+use calloop::ping::{Ping, make_ping};
 use calloop::{
     Dispatcher, Error, InsertError, Instant, Readiness, RegistrationToken, TimeoutAction, Timer,
 };
@@ -10,9 +10,10 @@ use std::collections::VecDeque;
 use std::io;
 use std::sync::Wait;
 use std::test::Fail;
+use std::thread;
 use std::time::Duration;
 
-type TestLoop<R> = EventLoop<Source, ScriptPoller, ScriptClock, R>;
+type TestLoop<R> = EventLoop<Source<R>, ScriptPoller, ScriptClock, R>;
 
 const OWN_KEY: u64 = u64::MAX;
 
@@ -36,20 +37,16 @@ fn test_loop<R: Wait + Clone + Drop>(rt: &R, alloc: Global) -> io::Result<TestLo
 }
 
 // Inserts a ping that says this number.
-fn ping<R: Wait + Drop>(test_loop: &mut TestLoop<R>, number: u32) -> io::Result<RegistrationToken> {
-    match test_loop
-        .handle()
-        .insert_source(PingSource::new(), Teller { number })
-    {
-        Ok(token) => Ok(token),
+fn ping<R: Wait + Clone + Drop>(
+    rt: &R,
+    test_loop: &mut TestLoop<R>,
+    alloc: Global,
+    number: u32,
+) -> io::Result<(RegistrationToken, Ping<R>)> {
+    let (ping, source) = make_ping(rt, alloc)?;
+    match test_loop.handle().insert_source(source, Teller { number }) {
+        Ok(token) => Ok((token, ping)),
         Err(refused) => Err(io::Error::from(refused.error)),
-    }
-}
-
-fn ring<R: Wait + Drop>(test_loop: &mut TestLoop<R>, token: RegistrationToken) -> io::Result<()> {
-    match test_loop.handle().ring(&token) {
-        Ok(()) => Ok(()),
-        Err(error) => Err(io::Error::from(error)),
     }
 }
 
@@ -103,7 +100,7 @@ fn script_at<R: Wait + Drop>(
     }
 }
 
-fn failing_source(registers: bool) -> Source {
+fn failing_source<R: Wait + Drop>(registers: bool) -> Source<R> {
     Source::Failing(Dispatcher {
         source: Failing { registers },
         callback: Teller { number: 0 },
@@ -130,9 +127,9 @@ fn empty_loop(rt: HostRuntime) -> Result<(), Fail> {
 #[test]
 fn one_ping(rt: HostRuntime) -> Result<(), Fail> {
     let mut test_loop = test_loop(&rt, rt.alloc())?;
-    let token = ping(&mut test_loop, 7)?;
+    let (token, bell) = ping(&rt, &mut test_loop, rt.alloc(), 7)?;
     assert_eq!(rt; token, RegistrationToken::new(0, 0));
-    ring(&mut test_loop, token)?;
+    bell.ping();
     assert_eq!(rt;
         said(&rt, &mut test_loop, rt.alloc(), Some(0))?.as_slice(),
         [7].as_slice()
@@ -144,17 +141,17 @@ fn one_ping(rt: HostRuntime) -> Result<(), Fail> {
 #[test]
 fn three_pings(rt: HostRuntime) -> Result<(), Fail> {
     let mut test_loop = test_loop(&rt, rt.alloc())?;
-    let first = ping(&mut test_loop, 1)?;
-    let second = ping(&mut test_loop, 2)?;
-    let third = ping(&mut test_loop, 3)?;
-    for token in [third, first, second, first] {
-        ring(&mut test_loop, token)?;
+    let (first, first_bell) = ping(&rt, &mut test_loop, rt.alloc(), 1)?;
+    let (second, second_bell) = ping(&rt, &mut test_loop, rt.alloc(), 2)?;
+    let (_, third_bell) = ping(&rt, &mut test_loop, rt.alloc(), 3)?;
+    for bell in [&third_bell, &first_bell, &second_bell, &first_bell] {
+        bell.ping();
     }
     assert_eq!(rt;
         said(&rt, &mut test_loop, rt.alloc(), Some(0))?.as_slice(),
         [1, 2, 3].as_slice()
     );
-    ring(&mut test_loop, second)?;
+    second_bell.ping();
     assert_eq!(rt;
         said(&rt, &mut test_loop, rt.alloc(), Some(0))?.as_slice(),
         [2].as_slice()
@@ -166,8 +163,8 @@ fn three_pings(rt: HostRuntime) -> Result<(), Fail> {
 #[test]
 fn asked_waits(rt: HostRuntime) -> Result<(), Fail> {
     let mut test_loop = test_loop(&rt, rt.alloc())?;
-    let token = ping(&mut test_loop, 1)?;
-    ring(&mut test_loop, token)?;
+    let (token, bell) = ping(&rt, &mut test_loop, rt.alloc(), 1)?;
+    bell.ping();
     said(&rt, &mut test_loop, rt.alloc(), None)?;
     said(&rt, &mut test_loop, rt.alloc(), None)?;
     said(&rt, &mut test_loop, rt.alloc(), Some(10))?;
@@ -179,34 +176,10 @@ fn asked_waits(rt: HostRuntime) -> Result<(), Fail> {
 #[test]
 fn polled_key_of_a_ping_calls_nothing(rt: HostRuntime) -> Result<(), Fail> {
     let mut test_loop = test_loop(&rt, rt.alloc())?;
-    let token = ping(&mut test_loop, 1)?;
+    let (token, bell) = ping(&rt, &mut test_loop, rt.alloc(), 1)?;
     script(&mut test_loop, rt.alloc(), &[0, FIRST_OF_SLOT_1, OWN_KEY])?;
     assert_eq!(rt; said(&rt, &mut test_loop, rt.alloc(), Some(0))?.len(), 0);
-    ring(&mut test_loop, token)?;
-    assert_eq!(rt;
-        said(&rt, &mut test_loop, rt.alloc(), Some(0))?.as_slice(),
-        [1].as_slice()
-    );
-    Ok(())
-}
-
-#[test]
-fn rings_that_are_refused(rt: HostRuntime) -> Result<(), Fail> {
-    let mut test_loop = test_loop(&rt, rt.alloc())?;
-    let token = ping(&mut test_loop, 1)?;
-    let failing = failing(&rt, &mut test_loop);
-    assert_eq!(rt; failing, Some(RegistrationToken::new(1, 0)));
-    for refused in [
-        RegistrationToken::new(0, 1),
-        RegistrationToken::new(1, 0),
-        RegistrationToken::new(2, 0),
-    ] {
-        match test_loop.handle().ring(&refused) {
-            Err(Error::InvalidToken) => {}
-            _ => assert!(rt; false),
-        }
-    }
-    ring(&mut test_loop, token)?;
+    bell.ping();
     assert_eq!(rt;
         said(&rt, &mut test_loop, rt.alloc(), Some(0))?.as_slice(),
         [1].as_slice()
@@ -231,9 +204,9 @@ fn refused_insertion(rt: HostRuntime) -> Result<(), Fail> {
         }
         _ => assert!(rt; false),
     }
-    let token = ping(&mut test_loop, 1)?;
+    let (token, bell) = ping(&rt, &mut test_loop, rt.alloc(), 1)?;
     assert_eq!(rt; token, RegistrationToken::new(0, 1));
-    ring(&mut test_loop, token)?;
+    bell.ping();
     assert_eq!(rt;
         said(&rt, &mut test_loop, rt.alloc(), Some(0))?.as_slice(),
         [1].as_slice()
@@ -244,14 +217,14 @@ fn refused_insertion(rt: HostRuntime) -> Result<(), Fail> {
 #[test]
 fn error_keeps_the_rest(rt: HostRuntime) -> Result<(), Fail> {
     let mut test_loop = test_loop(&rt, rt.alloc())?;
-    let token = ping(&mut test_loop, 1)?;
+    let (token, bell) = ping(&rt, &mut test_loop, rt.alloc(), 1)?;
     failing(&rt, &mut test_loop);
     script(
         &mut test_loop,
         rt.alloc(),
         &[FIRST_OF_SLOT_1, FIRST_OF_SLOT_1],
     )?;
-    ring(&mut test_loop, token)?;
+    bell.ping();
     let mut numbers = Vec::new(rt.alloc());
     for _ in 0..2 {
         match test_loop.dispatch(&rt, None, &mut numbers) {
@@ -271,7 +244,7 @@ fn list_of_calls(rt: HostRuntime) -> Result<(), Fail> {
     let mut test_loop = test_loop(&rt, rt.alloc())?;
     let mut calls = VecDeque::new(rt.alloc());
     calls.push_back(Call::Insert(failing_source(true)))?;
-    calls.push_back(Call::Ring(RegistrationToken::new(0, 0)))?;
+    calls.push_back(Call::Update(RegistrationToken::new(0, 0)))?;
     calls.push_back(Call::Dispatch(Some(Duration::ZERO), Vec::new(rt.alloc())))?;
     calls.push_back(Call::Poller(ScriptPoller::new(rt.alloc())?))?;
     let Ok(answers) = test_loop.carry_out_all(&rt, rt.alloc(), calls) else {
@@ -281,7 +254,7 @@ fn list_of_calls(rt: HostRuntime) -> Result<(), Fail> {
     match answers.as_slice() {
         [
             Answer::Inserted(Ok(token)),
-            Answer::Rung(Err(Error::InvalidToken)),
+            Answer::Updated(Ok(())),
             Answer::Dispatched(Ok(()), numbers),
             Answer::Poller(before),
         ] => {
@@ -296,7 +269,7 @@ fn list_of_calls(rt: HostRuntime) -> Result<(), Fail> {
 
 #[test]
 fn laws(_rt: HostRuntime) -> Result<(), Fail> {
-    once::<Source, ScriptPoller, ScriptClock, HostRuntime>();
+    once::<Source<HostRuntime>, ScriptPoller, ScriptClock, HostRuntime>();
     Ok(())
 }
 
@@ -359,10 +332,10 @@ fn a_timer_that_leaves(rt: HostRuntime) -> Result<(), Fail> {
         said(&rt, &mut test_loop, rt.alloc(), None)?.as_slice(),
         [5].as_slice()
     );
-    let second = ping(&mut test_loop, 1)?;
+    let (second, second_bell) = ping(&rt, &mut test_loop, rt.alloc(), 1)?;
     assert_eq!(rt; second, RegistrationToken::new(0, 1));
-    assert!(rt; ring(&mut test_loop, first).is_err());
-    ring(&mut test_loop, second)?;
+    assert!(rt; is_invalid(test_loop.handle().update(&first)));
+    second_bell.ping();
     assert_eq!(rt;
         said(&rt, &mut test_loop, rt.alloc(), None)?.as_slice(),
         [1].as_slice()
@@ -402,9 +375,9 @@ fn is_invalid(answer: calloop::Result<()>) -> bool {
 #[test]
 fn a_ping_that_is_rung_while_disabled(rt: HostRuntime) -> Result<(), Fail> {
     let mut test_loop = test_loop(&rt, rt.alloc())?;
-    let token = ping(&mut test_loop, 1)?;
+    let (token, bell) = ping(&rt, &mut test_loop, rt.alloc(), 1)?;
     disable(&mut test_loop, token)?;
-    ring(&mut test_loop, token)?;
+    bell.ping();
     enable(&mut test_loop, token)?;
     assert_eq!(rt;
         said(&rt, &mut test_loop, rt.alloc(), Some(100))?.as_slice(),
@@ -420,7 +393,7 @@ fn a_ping_that_is_rung_while_disabled(rt: HostRuntime) -> Result<(), Fail> {
 #[test]
 fn registrations_that_are_refused(rt: HostRuntime) -> Result<(), Fail> {
     let mut test_loop = test_loop(&rt, rt.alloc())?;
-    let token = ping(&mut test_loop, 1)?;
+    let (token, bell) = ping(&rt, &mut test_loop, rt.alloc(), 1)?;
     let twice = test_loop.handle().enable(&token);
     assert_eq!(rt; refused_as(twice), Some(io::ErrorKind::AlreadyExists));
     assert!(rt; test_loop.handle().update(&token).is_ok());
@@ -435,7 +408,7 @@ fn registrations_that_are_refused(rt: HostRuntime) -> Result<(), Fail> {
 #[test]
 fn a_source_that_is_removed(rt: HostRuntime) -> Result<(), Fail> {
     let mut test_loop = test_loop(&rt, rt.alloc())?;
-    let token = ping(&mut test_loop, 7)?;
+    let (token, bell) = ping(&rt, &mut test_loop, rt.alloc(), 7)?;
     match test_loop.handle().remove(token) {
         Some(Source::Ping(back)) => assert_eq!(rt; back.callback.number, 7),
         _ => assert!(rt; false),
@@ -444,7 +417,8 @@ fn a_source_that_is_removed(rt: HostRuntime) -> Result<(), Fail> {
     assert!(rt; is_invalid(test_loop.handle().enable(&token)));
     assert!(rt; is_invalid(test_loop.handle().update(&token)));
     assert!(rt; is_invalid(test_loop.handle().disable(&token)));
-    assert_eq!(rt; ping(&mut test_loop, 8)?, RegistrationToken::new(0, 1));
+    let (again, _) = ping(&rt, &mut test_loop, rt.alloc(), 8)?;
+    assert_eq!(rt; again, RegistrationToken::new(0, 1));
     Ok(())
 }
 
@@ -496,10 +470,10 @@ fn a_timer_that_stays_disabled(rt: HostRuntime) -> Result<(), Fail> {
 #[test]
 fn a_rung_ping_that_is_removed(rt: HostRuntime) -> Result<(), Fail> {
     let mut test_loop = test_loop(&rt, rt.alloc())?;
-    let first = ping(&mut test_loop, 1)?;
-    let second = ping(&mut test_loop, 2)?;
-    ring(&mut test_loop, first)?;
-    ring(&mut test_loop, second)?;
+    let (first, first_bell) = ping(&rt, &mut test_loop, rt.alloc(), 1)?;
+    let (second, second_bell) = ping(&rt, &mut test_loop, rt.alloc(), 2)?;
+    first_bell.ping();
+    second_bell.ping();
     assert!(rt; test_loop.handle().remove(second).is_some());
     assert_eq!(rt;
         said(&rt, &mut test_loop, rt.alloc(), Some(100))?.as_slice(),
@@ -514,7 +488,7 @@ fn a_rung_ping_that_is_removed(rt: HostRuntime) -> Result<(), Fail> {
 #[test]
 fn registrations_as_values(rt: HostRuntime) -> Result<(), Fail> {
     let mut test_loop = test_loop(&rt, rt.alloc())?;
-    let token = ping(&mut test_loop, 1)?;
+    let (token, bell) = ping(&rt, &mut test_loop, rt.alloc(), 1)?;
     let mut calls = VecDeque::new(rt.alloc());
     calls.push_back(Call::Update(token))?;
     calls.push_back(Call::Disable(token))?;
@@ -535,5 +509,121 @@ fn registrations_as_values(rt: HostRuntime) -> Result<(), Fail> {
         ] => assert_eq!(rt; back.callback.number, 1),
         _ => assert!(rt; false),
     }
+    Ok(())
+}
+
+#[test]
+fn a_ping_that_is_dropped_before_its_source_is_inserted(rt: HostRuntime) -> Result<(), Fail> {
+    let mut test_loop = test_loop(&rt, rt.alloc())?;
+    let (bell, source) = make_ping(&rt, rt.alloc())?;
+    drop(bell);
+    let inserted = test_loop
+        .handle()
+        .insert_source(source, Teller { number: 1 });
+    assert!(rt; inserted.is_ok());
+    assert_eq!(rt; said(&rt, &mut test_loop, rt.alloc(), Some(0))?.len(), 0);
+    let first = RegistrationToken::new(0, 0);
+    assert!(rt; test_loop.handle().remove(first).is_none());
+    assert_eq!(rt; said(&rt, &mut test_loop, rt.alloc(), Some(100))?.len(), 0);
+    let waits = [0, 100].map(|millis| Some(Duration::from_millis(millis)));
+    assert_eq!(rt; test_loop.handle().poller_mut().waits(), waits.as_slice());
+    Ok(())
+}
+
+#[test]
+fn a_ring_beside_a_close(rt: HostRuntime) -> Result<(), Fail> {
+    let mut test_loop = test_loop(&rt, rt.alloc())?;
+    let (token, bell) = ping(&rt, &mut test_loop, rt.alloc(), 1)?;
+    let again = bell.clone()?;
+    drop(bell);
+    assert_eq!(rt; said(&rt, &mut test_loop, rt.alloc(), Some(0))?.len(), 0);
+    again.ping();
+    drop(again);
+    assert_eq!(rt;
+        said(&rt, &mut test_loop, rt.alloc(), Some(0))?.as_slice(),
+        [1].as_slice()
+    );
+    assert!(rt; is_invalid(test_loop.handle().update(&token)));
+    Ok(())
+}
+
+#[test]
+fn a_ping_that_is_dropped_while_its_source_is_disabled(rt: HostRuntime) -> Result<(), Fail> {
+    let mut test_loop = test_loop(&rt, rt.alloc())?;
+    let (token, bell) = ping(&rt, &mut test_loop, rt.alloc(), 1)?;
+    disable(&mut test_loop, token)?;
+    drop(bell);
+    assert_eq!(rt; said(&rt, &mut test_loop, rt.alloc(), Some(10))?.len(), 0);
+    enable(&mut test_loop, token)?;
+    assert_eq!(rt; said(&rt, &mut test_loop, rt.alloc(), Some(10))?.len(), 0);
+    assert!(rt; is_invalid(test_loop.handle().update(&token)));
+    assert_eq!(rt; said(&rt, &mut test_loop, rt.alloc(), Some(10))?.len(), 0);
+    let waits = [10, 0, 10].map(|millis| Some(Duration::from_millis(millis)));
+    assert_eq!(rt; test_loop.handle().poller_mut().waits(), waits.as_slice());
+    Ok(())
+}
+
+#[test]
+fn a_ping_that_outlives_its_loop(rt: HostRuntime) -> Result<(), Fail> {
+    let mut test_loop = test_loop(&rt, rt.alloc())?;
+    let (_, bell) = ping(&rt, &mut test_loop, rt.alloc(), 1)?;
+    bell.ping();
+    drop(test_loop);
+    bell.ping();
+    Ok(())
+}
+
+#[test]
+fn a_ping_from_another_thread(rt: HostRuntime) -> Result<(), Fail> {
+    let mut test_loop = test_loop(&rt, rt.alloc())?;
+    let (_, bell) = ping(&rt, &mut test_loop, rt.alloc(), 1)?;
+    let rings = bell.clone()?;
+    let child = thread::spawn(&rt, move || {
+        rings.ping();
+        true
+    })?;
+    assert!(rt; child.join(&rt));
+    assert_eq!(rt;
+        said(&rt, &mut test_loop, rt.alloc(), Some(100))?.as_slice(),
+        [1].as_slice()
+    );
+    assert_eq!(rt; said(&rt, &mut test_loop, rt.alloc(), Some(100))?.len(), 0);
+    let waits = [0, 100].map(|millis| Some(Duration::from_millis(millis)));
+    assert_eq!(rt; test_loop.handle().poller_mut().waits(), waits.as_slice());
+    Ok(())
+}
+
+// Clones, rings and drops the ping a thousand times, and then drops it. False where it could not be cloned.
+fn ring_by_clones<R: Wait + Clone + Drop>(bell: Ping<R>) -> bool {
+    for _ in 0..1000u64 {
+        let Ok(again) = bell.clone() else {
+            return false;
+        };
+        again.ping();
+    }
+    true
+}
+
+#[test]
+fn a_thread_that_rings_while_the_loop_dispatches(rt: HostRuntime) -> Result<(), Fail> {
+    let mut test_loop = test_loop(&rt, rt.alloc())?;
+    let (token, bell) = ping(&rt, &mut test_loop, rt.alloc(), 1)?;
+    let child = thread::spawn(&rt, move || ring_by_clones(bell))?;
+    let mut calls = 0usize;
+    for _ in 0..1000u64 {
+        let numbers = said(&rt, &mut test_loop, rt.alloc(), Some(0))?;
+        calls = calls.saturating_add(numbers.len());
+    }
+    assert!(rt; child.join(&rt));
+    let last = said(&rt, &mut test_loop, rt.alloc(), Some(100))?;
+    calls = calls.saturating_add(last.len());
+    assert!(rt; calls >= 1 && calls <= 1000);
+    assert!(rt; is_invalid(test_loop.handle().update(&token)));
+    test_loop.handle().poller_mut().keep_waits(1)?;
+    assert_eq!(rt; said(&rt, &mut test_loop, rt.alloc(), Some(100))?.len(), 0);
+    assert_eq!(rt;
+        test_loop.handle().poller_mut().waits(),
+        [Some(Duration::from_millis(100))].as_slice()
+    );
     Ok(())
 }

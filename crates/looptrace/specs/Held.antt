@@ -24,7 +24,10 @@ join-split (TimerIn d) = refl
 pub ping_held : {P R : Type 0} → IsHeld (λ d. Ping d) (ping_meaning {P = P} {R = R}) source_meaning
 ping_held {P} {R} = held_seen split join split-join join-split inl (ping_meaning {P = P} {R = R}) (either ping_meaning timer_meaning) (held_left ping_meaning timer_meaning)
 
-pub timer_held : {P R : Type 0} → IsHeld (λ d. TimerIn {R = R} d) (timer_meaning {P = P}) source_meaning
+abbrev pub as_timer : {R : Type 0} → Dispatcher Timer Alarm → Source R
+as_timer d = TimerIn d
+
+pub timer_held : {P R : Type 0} → IsHeld (as_timer {R = R}) (timer_meaning {P = P}) source_meaning
 timer_held {P} {R} = held_seen (split {R = R}) join split-join join-split inr (timer_meaning {P = P}) (either ping_meaning timer_meaning) (held_right ping_meaning timer_meaning)
 
 ping_keeps : {P R : Type 0} → IsKeeping (ping_meaning {P = P} {R = R})

@@ -5,4 +5,5 @@ pub mod Traces
 pub mod Says
 pub mod Sources
 pub mod Held
+pub mod Named
 pub mod Runs

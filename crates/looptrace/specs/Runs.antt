@@ -31,6 +31,7 @@ use Rattle.looptrace.specs.declared.source.Source.{Source}
 use Rattle.looptrace.specs.declared.source.Source.TheVariants.{Ping as PingIn, Timer as TimerIn}
 use Rattle.looptrace.specs.declared.runner.PendingAnswer.{PendingAnswer}
 use Rattle.looptrace.specs.declared.runner.ScriptLoop.{ScriptLoop}
+use Rattle.looptrace.specs.Named.{Named, is_taken, ping_named, closed}
 use Rattle.looptrace.specs.Lines.{lines_of}
 use Rattle.looptrace.specs.Traces.{Written, Writes}
 use Rattle.looptrace.specs.Commands.{command_of}
@@ -44,11 +45,6 @@ pub record Pending : Type 0 where
 
 abbrev pub pending_of : PendingAnswer → Pending
 pending_of p = record { moment = p.moment; events = p.events.events.items }
-
--- a source under its name; while its ping is open, the name of its cell
-pub record Named : Type 0 where
-  pub name : List ℕ
-  pub ping : Option Book
 
 -- what the loop holds, the sources that were made, whether the next wait is to fail, and the pending answer
 pub record State (R : Type 0) : Type 0 where
@@ -70,16 +66,6 @@ pub record IsStart {R : Type 0} (s : State R) : Type 0 where
   pub sources : s.sources ≡ []
   pub fault : s.fault ≡ false
   pub pending : s.pending ≡ None
-
--- some source has the name
-abbrev pub is_taken : List ℕ → List Named → Bool
-is_taken name [] = false
-is_taken name (s ∷ ss) = if pointwise nat_eq s.name name then true else is_taken name ss
-
--- the cell of the open ping of this name
-abbrev pub ping_named : List ℕ → List Named → Option Book
-ping_named name [] = None
-ping_named name (s ∷ ss) = if pointwise nat_eq s.name name then s.ping else ping_named name ss
 
 -- a call on the loop is a case of its machine
 abbrev pub Calls : {R : Type 0} → Call (Source R) ScriptPoller (Option (List ℕ)) → Answer (Source R) ScriptPoller (Option (List ℕ)) → View (Source R) ScriptPoller → View (Source R) ScriptPoller → Type 0
@@ -139,10 +125,6 @@ IsNewTimer name deadline source ping = (source ≡ new_timer name deadline) × (
 abbrev pub RingLine : {R : Type 0} → State R → List ℕ → Option (State R × List ℕ) → Type 0
 RingLine s name None = ping_named name s.sources ≡ None
 RingLine s name (Some (t, said)) = IsSome (ping_named name s.sources) × (t ≡ s) × (said ≡ [])
-
--- a source of this name has no open ping any more
-abbrev pub closed : List ℕ → Named → Named
-closed name s = if pointwise nat_eq s.name name then record s { ping = None } else s
 
 -- the open ping of this name is dropped, which prints nothing; where there is none, the line can't be read
 abbrev pub CloseLine : {R : Type 0} → State R → List ℕ → Option (State R × List ℕ) → Type 0

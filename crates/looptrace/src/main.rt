@@ -5,6 +5,7 @@ pub mod command;
 pub mod driver;
 pub mod lines;
 pub mod name;
+pub mod named;
 pub mod runner;
 pub mod source;
 #[cfg(test)]

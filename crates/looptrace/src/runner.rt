@@ -6,61 +6,22 @@ ghost use Rattle.std.specs.IoError.{error_kind};
 ghost use Rattle.std.specs.declared.io.ErrorKind.TheVariants.{OutOfMemory};
 ghost use Rattle.calloop_core.specs.Pollers.{nanos_of};
 ghost use Rattle.calloop.specs.Pings.{cell_of};
-ghost use Rattle.looptrace.specs.Runs.{is_taken, ping_named, closed, token_with, removed_text, RemoveLine, Pending, pending_of, events_of, AnswerLine, NextAnswer, still_pending, word_of, waits_text, answer_text, nanos_in, IsStart, state_of, InsertSays, InsertLine, RingLine, CloseLine, ClockLine, IsReady, DispatchLine, Carried, IsNewPing, IsNewTimer};
+ghost use Rattle.looptrace.specs.Runs.{token_with, removed_text, RemoveLine, Pending, pending_of, events_of, AnswerLine, NextAnswer, still_pending, word_of, waits_text, answer_text, nanos_in, IsStart, state_of, InsertSays, InsertLine, RingLine, CloseLine, ClockLine, IsReady, DispatchLine, Carried, IsNewPing, IsNewTimer};
 
 use crate::command::{Command, parse};
 use crate::driver::Runner;
 use crate::name::Name;
+use crate::named::{NamedSource, close, has_open_ping, is_taken, ring};
 use crate::source::{Alarm, Said, Source, Teller};
 use crate::text::{append_insert, append_refused, append_wait};
 use calloop::loop_logic::EventLoop;
 use calloop::ping::{Ping, make_ping};
 use calloop::{Error, InsertError, Instant, Readiness, RegistrationToken, Timer};
 use calloop_core::sys::script::{ScriptAnswer, ScriptClock, ScriptEnd, ScriptEvents, ScriptPoller};
-use calloop_wake::wake::Receipt;
 use std::alloc::{AllocError, Global};
 use std::io;
-use std::marker::Model;
 use std::sync::Wait;
 use std::time::Duration;
-
-/// A source of the script, under its name, which is never given back. While its ping is open, it is kept here; a timer has none.
-#[derive(Drop)]
-pub struct NamedSource<R: Wait + Drop> {
-    pub name: Name,
-    pub ping: Option<Ping<R>>,
-}
-
-impl<R: Wait + Drop> Model for NamedSource<R> {
-    ghost use Rattle.std.specs.Option.{option_map};
-    ghost use Rattle.calloop.specs.Pings.{cell_of};
-    ghost use Rattle.looptrace.specs.Runs.{Named};
-
-    ghost Value = { Named };
-
-    ghost view = { λ s. record { name = s.name; ping = option_map cell_of s.ping } };
-}
-
-impl<R: Wait + Drop> NamedSource<R> {
-    // Rings its ping, where that is open.
-    fn ring(&self) -> Option<Receipt>
-        ensures { option_map (λ receipt. receipt.name) result ≡ self.now.ping }
-    {
-        match &self.ping {
-            Some(ping) => Some(ping.ping()),
-            None => None,
-        }
-    }
-
-    // Drops its ping, where the source has this name.
-    fn close(&mut self, name: &[u8])
-        ensures { self.new ≡ closed name.now self.old }
-    {
-        if self.name.as_slice() == name {
-            self.ping = None;
-        }
-    }
-}
 
 /// The answer that a wait is to take: what the clock showed at its last event, and its events.
 #[derive(Drop)]
@@ -79,49 +40,6 @@ pub struct ScriptLoop<R: Wait + Drop> {
     sources: Vec<NamedSource<R>>,
     fault: bool,
     pending: Option<PendingAnswer>,
-}
-
-fn is_taken<R: Wait + Drop>(sources: &[NamedSource<R>], name: &[u8]) -> bool
-    ensures { result ≡ is_taken name.now sources.now }
-{
-    for source in sources {
-        if source.name.as_slice() == name {
-            return true;
-        }
-    }
-    false
-}
-
-// Rings the open ping of this name. Without a receipt there is none.
-fn ring<R: Wait + Drop>(sources: &[NamedSource<R>], name: &[u8]) -> Option<Receipt>
-    ensures { option_map (λ receipt. receipt.name) result ≡ ping_named name.now sources.now }
-{
-    for source in sources {
-        if source.name.as_slice() == name {
-            return source.ring();
-        }
-    }
-    None
-}
-
-fn has_open_ping<R: Wait + Drop>(sources: &[NamedSource<R>], name: &[u8]) -> bool
-    ensures { result ≡ is_some (ping_named name.now sources.now) }
-{
-    for source in sources {
-        if source.name.as_slice() == name {
-            return source.ping.is_some();
-        }
-    }
-    false
-}
-
-// Drops the ping of this name.
-fn close<R: Wait + Drop>(sources: &mut [NamedSource<R>], name: &[u8])
-    ensures { sources.new ≡ map (closed name.now) sources.old }
-{
-    for source in sources.iter_mut() {
-        source.close(name);
-    }
 }
 
 // The token of these numbers, where a token can hold them.

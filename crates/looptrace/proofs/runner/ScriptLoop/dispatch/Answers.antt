@@ -15,11 +15,11 @@ use Rattle.looptrace.specs.Runs.{IsReady, State, state_of, Calls, waits_text, an
 use Rattle.looptrace.proofs.runner.ScriptLoop.dispatch.Goals as goal
 
 -- an equal dispatch
-moved : (limit : Option Duration) (answer : Result (Unit {0}) Error) (x x' y y' : Option (List ℕ)) (v v' w w' : View Source ScriptPoller) → x ≡ x' → y ≡ y' → v ≡ v' → w ≡ w'
+moved : {R : Type 0} (limit : Option Duration) (answer : Result (Unit {0}) Error) (x x' y y' : Option (List ℕ)) (v v' w w' : View (Source R) ScriptPoller) → x ≡ x' → y ≡ y' → v ≡ v' → w ≡ w'
     → Calls (DispatchCall limit x) (Dispatched answer y) v w → Calls (DispatchCall limit x') (Dispatched answer y') v' w'
-moved limit answer x x' y y' v v' w w' same_x same_y same_v same_w call =
-    subst (λ (w : View Source ScriptPoller). Calls (DispatchCall limit x') (Dispatched answer y') v' w) same_w
-    (subst (λ (v : View Source ScriptPoller). Calls (DispatchCall limit x') (Dispatched answer y') v w) same_v
+moved {R} limit answer x x' y y' v v' w w' same_x same_y same_v same_w call =
+    subst (λ (w : View (Source R) ScriptPoller). Calls (DispatchCall limit x') (Dispatched answer y') v' w) same_w
+    (subst (λ (v : View (Source R) ScriptPoller). Calls (DispatchCall limit x') (Dispatched answer y') v w) same_v
     (subst (λ (y : Option (List ℕ)). Calls (DispatchCall limit x') (Dispatched answer y) v w) same_y
     (subst (λ (x : Option (List ℕ)). Calls (DispatchCall limit x) (Dispatched answer y) v w) same_x call)))
 
@@ -30,12 +30,12 @@ three old a b d t u v first second third =
 
 pub returns-clause-ok : goal.returns-clause-ok
 returns-clause-ok g c =
-    let s : State = state_of c.args.self.now in
+    let s : State g.row.R.Denot = state_of c.args.self.now in
     let held = c.handle.ensures.value in
     let new : ScriptPoller = c.make_ready.new.poller in
-    let mid : View Source ScriptPoller = record s.loop { poll = polling new s.loop.poll } in
-    let poller : c.poller_mut.result.now ≡ s.loop.poll.poller = c.poller_mut.ensures.value ∙ ap (λ (e : EventLoop Source ScriptPoller ScriptClock g.row.R.Denot). e.poll.poller) held in
-    let before : view_of (with_loop_poller new c.handle.result.inner.now) ≡ mid = ap (λ (e : EventLoop Source ScriptPoller ScriptClock g.row.R.Denot). view_of (with_loop_poller new e)) held in
+    let mid : View (Source g.row.R.Denot) ScriptPoller = record s.loop { poll = polling new s.loop.poll } in
+    let poller : c.poller_mut.result.now ≡ s.loop.poll.poller = c.poller_mut.ensures.value ∙ ap (λ (e : EventLoop (Source g.row.R.Denot) ScriptPoller ScriptClock g.row.R.Denot). e.poll.poller) held in
+    let before : view_of (with_loop_poller new c.handle.result.inner.now) ≡ mid = ap (λ (e : EventLoop (Source g.row.R.Denot) ScriptPoller ScriptClock g.row.R.Denot). view_of (with_loop_poller new e)) held in
     let after : view_of c.dispatch-answer.new.self ≡ view_of (with_loop_poller c.poller_mut-2.result.now c.handle-2.result.inner.now) =
     sym (ap (λ (p : ScriptPoller). view_of (with_loop_poller p c.handle-2.result.inner.now)) c.poller_mut-2.ensures.value ∙ ap view_of c.handle-2.ensures.value) in
     let ready : IsReady s.fault s.pending s.loop.poll.poller new = subst (λ (p : ScriptPoller). IsReady s.fault s.pending p new) poller c.in_ok-make_ready.ensures.ok in

@@ -1,6 +1,0 @@
-use Rattle.std.proofs.Common.{◌≡◌, drop}
-use Rattle.looptrace.specs.Runs.{source_named}
-use Rattle.looptrace.proofs.runner.source_named.Given as goal
-
-abbrev pub invariant-loop-source : goal.invariant-loop-source
-invariant-loop-source l = source_named l.name l.sources ≡ source_named l.name (drop l.source-index l.sources)
