@@ -7,11 +7,10 @@ use calloop::{
 use calloop_core::sys::script::{ScriptAnswer, ScriptClock, ScriptEnd, ScriptEvents, ScriptPoller};
 use std::alloc::Global;
 use std::collections::VecDeque;
-use std::io;
 use std::sync::Wait;
 use std::test::Fail;
-use std::thread;
 use std::time::Duration;
+use std::{io, thread};
 
 type TestLoop<R> = EventLoop<Source<R>, ScriptPoller, ScriptClock, R>;
 

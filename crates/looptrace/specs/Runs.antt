@@ -1,7 +1,6 @@
 -- What a line of a script does with the loop, and what it prints: each line is a list of cases of the loop's machine,
 -- and its text is what they answered. The asked waits are those that the scripted poller notes.
-use Rattle.std.specs.Prelude.{◌≡◌, ℕ, ◌-◌, ◌^◌, ◌≤◌, ◌<◌, ◌&&◌, min, map, length, List, [], ◌∷◌, ◌++◌, if◌then◌else◌, nat_eq, nat_lt, Option, Some, None, IsSome, Result, Ok, Err, codes, vec_capacity, Bool, true, false}
-use Rattle.std.specs.Cmp.Lexicographic.{pointwise}
+use Rattle.std.specs.Prelude.{◌≡◌, ℕ, ◌-◌, ◌^◌, ◌≤◌, ◌<◌, ◌&&◌, min, map, length, List, [], ◌∷◌, ◌++◌, if◌then◌else◌, nat_lt, Option, Some, None, IsSome, Result, Ok, Err, codes, vec_capacity, Bool, true, false}
 use Rattle.std.specs.Option.{option_map}
 use Rattle.std.specs.Duration.{as_nanos}
 use Rattle.std.specs.declared.time.Duration.{Duration}

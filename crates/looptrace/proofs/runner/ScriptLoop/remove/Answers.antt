@@ -1,4 +1,4 @@
-use Rattle.std.proofs.Common.{◌≡◌, ap, subst, refl}
+use Rattle.std.proofs.Common.{ap, subst, refl}
 use Rattle.calloop_core.specs.declared.sys.script.ScriptPoller.{ScriptPoller}
 use Rattle.calloop.specs.declared.loop_logic.Call.TheVariants.{Remove as RemoveCall}
 use Rattle.calloop.specs.declared.loop_logic.Answer.TheVariants.{Removed}

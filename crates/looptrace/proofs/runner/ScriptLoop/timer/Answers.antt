@@ -1,4 +1,4 @@
-use Rattle.std.proofs.Common.{◌≡◌, ℕ, List, ◌∙◌, sym, ap, Some, None, refl}
+use Rattle.std.proofs.Common.{◌≡◌, ℕ, List, ◌∙◌, ap, Some, None, refl}
 use Rattle.calloop_core.specs.declared.timer.Timer.{Timer}
 use Rattle.calloop_core.specs.Timers.{unarmed}
 use Rattle.std.specs.Option.{option_map}
