@@ -86,7 +86,11 @@ fn lines_that_cannot_be_read(rt: HostRuntime) -> Result<(), Fail> {
         b"clock -".as_slice(),
         b"fault x".as_slice(),
         b"fault ".as_slice(),
-        b"close a".as_slice(),
+        b"close".as_slice(),
+        b"close ".as_slice(),
+        b"close A".as_slice(),
+        b"close  a".as_slice(),
+        b"close a b".as_slice(),
         b" ".as_slice(),
         b"\r".as_slice(),
     ];
@@ -105,16 +109,23 @@ fn names(rt: HostRuntime) -> Result<(), Fail> {
         b"abcdefghijklmnopqrstuvwxyz012345".as_slice(),
     ] {
         let (mut ping, mut ring) = (Vec::new(rt.alloc()), Vec::new(rt.alloc()));
+        let mut close = Vec::new(rt.alloc());
         ping.extend_from_slice(b"ping ")?;
         ping.extend_from_slice(name)?;
         ring.extend_from_slice(b"ring ")?;
         ring.extend_from_slice(name)?;
+        close.extend_from_slice(b"close ")?;
+        close.extend_from_slice(name)?;
         match &parse(rt.alloc(), &ping)? {
             Some(Command::Ping(read)) => assert_eq!(rt; read.as_slice(), name),
             _ => assert!(rt; false),
         }
         match &parse(rt.alloc(), &ring)? {
             Some(Command::Ring(read)) => assert_eq!(rt; read.as_slice(), name),
+            _ => assert!(rt; false),
+        }
+        match &parse(rt.alloc(), &close)? {
+            Some(Command::Close(read)) => assert_eq!(rt; read.as_slice(), name),
             _ => assert!(rt; false),
         }
         assert_eq!(rt; Name::new(rt.alloc(), name)?.as_slice(), name);
@@ -491,7 +502,7 @@ fn runs_that_end_early(rt: HostRuntime) -> Result<(), Fail> {
         b"dispatch +1".as_slice(),
         b"dispatch 18446744073709551616".as_slice(),
         b"dispatch 0\r".as_slice(),
-        b"close a".as_slice(),
+        b"close b".as_slice(),
     ] {
         assert!(rt; ends_at_second(&rt, rt.alloc(), b"ping a\n", line)?);
     }
@@ -499,6 +510,7 @@ fn runs_that_end_early(rt: HostRuntime) -> Result<(), Fail> {
         b"timer a 5".as_slice(),
         b"ping a".as_slice(),
         b"ring a".as_slice(),
+        b"close a".as_slice(),
         b"timer b".as_slice(),
         b"timer b 05".as_slice(),
         b"timer b 18446744073709551616".as_slice(),
@@ -596,6 +608,32 @@ fn removals(rt: HostRuntime) -> Result<(), Fail> {
         out.as_slice(),
         b"refused InvalidToken\nrefused InvalidToken\n".as_slice()
     );
+    assert!(rt; err.is_empty());
+    Ok(())
+}
+
+#[test]
+fn closes(rt: HostRuntime) -> Result<(), Fail> {
+    let script = b"ping a\nring a\nclose a\ndispatch 7\ndispatch 9\nping b\nclose b\nring b\n";
+    let (status, out, err) = traced(&rt, rt.alloc(), script)?;
+    assert_eq!(rt; status, 2);
+    assert_eq!(rt;
+        out.as_slice(),
+        b"insert a 0 0\nwait 0\ncall a\nwait 9\ninsert b 0 1\n".as_slice()
+    );
+    assert_eq!(rt; err.as_slice(), b"error line 8\n".as_slice());
+    let script = b"ping a\nclose a\ndispatch 7\nremove 0 0\nclose a\n";
+    let (status, out, err) = traced(&rt, rt.alloc(), script)?;
+    assert_eq!(rt; status, 2);
+    assert_eq!(rt;
+        out.as_slice(),
+        b"insert a 0 0\nwait 0\nrefused InvalidToken\n".as_slice()
+    );
+    assert_eq!(rt; err.as_slice(), b"error line 5\n".as_slice());
+    let script = b"ping a\nremove 0 0\nring a\nclose a\ndispatch 5\n";
+    let (status, out, err) = traced(&rt, rt.alloc(), script)?;
+    assert_eq!(rt; status, 0);
+    assert_eq!(rt; out.as_slice(), b"insert a 0 0\nwait 5\n".as_slice());
     assert!(rt; err.is_empty());
     Ok(())
 }
