@@ -80,10 +80,11 @@ pub data Served : Type 0 where
   -- no turn: the pass is of another key, or a turn stands open
   Refused : Served
 
--- a turn spends the pass and is ended at once; it calls as often as the twin grows by. A pass that is refused is put back.
+-- a turn spends the pass and is ended at once; it calls as often as the twin's number of rings grows by, and removes the
+-- source where its number of closes does. A pass that is refused is put back.
 abbrev pub ServedSo : {P : Type 0} → Served → Taken → Twin → List (Call (Unit {0}) (Unit {0}) (Unit {0})) → PostAction → List (PollStep P) → Twin → Type 0
 ServedSo (Opened rung told) p twin calls action steps after =
-    (calls ≡ calls_of rung) × (action ≡ action_of told) × (steps ≡ TakePass ∷ []) × (after ≡ record twin { number = twin.number + one rung })
+    (calls ≡ calls_of rung) × (action ≡ action_of told) × (steps ≡ TakePass ∷ []) × (after ≡ record twin { number = twin.number + one rung; closes = twin.closes + one told })
 ServedSo Refused p twin calls action steps after =
     (calls ≡ []) × (action ≡ Continue) × (steps ≡ TakePass ∷ PutBack (record { key = p.key; refused = true }) ∷ []) × (after ≡ twin)
 

@@ -40,7 +40,7 @@ pub fn make_ping<R: Wait + Clone + Drop>(
     rt: &R,
     alloc: Global,
 ) -> Result<(Ping<R>, PingSource<R>), AllocError>
-    ensures { IfOk result (λ made. (made.1.twin ≡ record { name = (arc_value made.0.shared).slot; number = 0 }) × ((arc_value made.1.shared).slot ≡ (arc_value made.0.shared).slot) × (made.1.token ≡ None)) }
+    ensures { IfOk result (λ made. (made.1.twin ≡ record { name = (arc_value made.0.shared).slot; number = 0; closes = 0 }) × ((arc_value made.1.shared).slot ≡ (arc_value made.0.shared).slot) × (made.1.token ≡ None)) }
 {
     let of_ping = rt.clone()?;
     let of_source = rt.clone()?;

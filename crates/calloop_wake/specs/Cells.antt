@@ -150,9 +150,13 @@ core_after_open_turn k c =
       taken = c.taken + takes k c.cell;
     }
 
--- the receiving end counts what its cell counts
+-- a pass of this key opens a turn that tells the close
+abbrev pub tells : ℕ → Cell → ℕ
+tells k c = one (opens k c && (c.closed && not c.told))
+
+-- the receiving end counts the rings that were taken, as its cell does, and the closes that were told
 abbrev pub twin_after_open_turn : ℕ → Core → Twin → Twin
-twin_after_open_turn k c twin = record twin { number = twin.number + takes k c.cell }
+twin_after_open_turn k c twin = record twin { number = twin.number + takes k c.cell; closes = twin.closes + tells k c.cell }
 
 -- what opening a turn gives: the turn of this cell with what was due, or the pass back, marked refused
 abbrev pub turn_of : Taken → Core → Result OpenedTurn Taken

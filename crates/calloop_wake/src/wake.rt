@@ -107,11 +107,13 @@ pub struct Receipt {
     pub(crate) number: Count,
 }
 
-/// How many turns took a ring of the cell of this name. The receiving end has the one of its cell.
+/// How many turns took a ring of the cell of this name, and how many told its close. The receiving end has the one of its
+/// cell.
 #[derive(Drop)]
 pub struct Twin {
     pub(crate) name: Name,
     pub(crate) number: Count,
+    pub(crate) closes: Count,
 }
 
 /// Only the last drop of a lock has it, so what lies under a lock isn't ended before.

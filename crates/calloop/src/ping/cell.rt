@@ -150,7 +150,7 @@ pub fn open_turn<R: Wait>(
 ) -> Result<OpenedTurn, TakenPass>
     requires { twin.old.name ≡ shared.now.slot }
     ensures name { twin.new.name ≡ twin.old.name }
-    ensures ok { IfOk result (λ opened. (opened.turn.name ≡ shared.now.slot) × (twin.new ≡ record twin.old { number = twin.old.number + one opened.rung })) }
+    ensures ok { IfOk result (λ opened. (opened.turn.name ≡ shared.now.slot) × (twin.new ≡ record twin.old { number = twin.old.number + one opened.rung; closes = twin.old.closes + one opened.told })) }
     ensures err { IfErr result (λ refused. (refused ≡ record { key = pass.key; refused = true }) × (twin.new ≡ twin.old)) }
 {
     let (gate, mut cell) = shared.lock(rt);

@@ -92,12 +92,13 @@ impl PingCore {
     /// A cell that nobody rang, without a key and with one sender; its name, and the twin of its receiving end.
     pub fn new() -> (PingCore, Name, Twin)
         ensures core { result.0 ≡ record { cell = fresh; name = result.1; rings = 0; seen = 0; taken = 0 } }
-        ensures twin { result.2 ≡ record { name = result.1; number = 0 } }
+        ensures twin { result.2 ≡ record { name = result.1; number = 0; closes = 0 } }
     {
         let name = Name::fresh();
         let twin = Twin {
             name: name.again(),
             number: Count::zero(),
+            closes: Count::zero(),
         };
         let core = PingCore {
             rung: false,
@@ -238,7 +239,7 @@ impl PingCore {
         self.clear_key()
     }
 
-    /// Opens a turn with a pass of the cell's own key, and takes the ring that stands; the twin counts it.
+    /// Opens a turn with a pass of the cell's own key, and takes what is due; the twin counts it.
     ///
     /// It refuses a pass of another key, and any pass while a turn stands open: the pass comes back marked as
     /// refused, and the cell stays as it is.
@@ -260,6 +261,9 @@ impl PingCore {
         if rung {
             self.taken = self.taken.next();
             twin.number = twin.number.next();
+        }
+        if told {
+            twin.closes = twin.closes.next();
         }
         self.begin_turn();
         Ok(OpenedTurn { turn, rung, told })
