@@ -1,3 +1,5 @@
+ghost use Rattle.std.specs.Prelude.{◌≡◌, IfOk};
+
 use crate::error::{Error, InsertError};
 use crate::list::{Content, SourceList};
 use crate::token::{RegistrationToken, Token, TokenFactory, factory_tokens_differ, keys_differ};
@@ -5,7 +7,7 @@ use crate::wake::board::{Board, OpenRefusal};
 use crate::wake::ghosts::Name;
 use crate::wake::locked::{Core, Locked};
 use crate::wake::ping::{OpenedTurn, PingCore, covered};
-use crate::wake::{Debt, Last, Notify, TakenPass};
+use crate::wake::{Debt, Last, LeaveToClose, Notify, PingTurn, TakenPass, Twin};
 use crate::wheel::{Instant, Wheel};
 use counted_slot::Fits;
 use std::alloc::{AllocError, Global};
@@ -141,15 +143,134 @@ fn slots(rt: HostRuntime) {
     );
 }
 
-// Opens a place, and gives the cell its key.
-fn register(board: &mut Board, cell: &mut PingCore, key: u64) -> Result<(), OpenRefusal> {
-    let pass = board.open_place(key)?;
-    let (debt, leave) = cell.set_key(pass);
-    settle(board, debt);
-    if let Some(leave) = leave {
-        board.close_place(leave);
+// A ping's cell under its lock, and the twin of its receiving end.
+#[derive(Drop)]
+struct Ends {
+    lock: Locked<PingCore>,
+    twin: Twin,
+    ghost tied: { twin.name ≡ lock.slot },
+}
+
+// What came of a pass.
+#[derive(Clone, Copy, Debug, PartialEq, Eq)]
+enum Turn {
+    Opened { rung: bool, told: bool },
+    Refused { marked: bool },
+}
+
+const RUNG: Turn = Turn::Opened {
+    rung: true,
+    told: false,
+};
+
+const TOLD: Turn = Turn::Opened {
+    rung: false,
+    told: true,
+};
+
+const RUNG_AND_TOLD: Turn = Turn::Opened {
+    rung: true,
+    told: true,
+};
+
+const REFUSED: Turn = Turn::Refused { marked: true };
+
+impl Ends {
+    fn new() -> Ends {
+        let (core, name, twin) = PingCore::new();
+        Ends {
+            lock: Locked::new(core, &name),
+            twin,
+        }
     }
-    Ok(())
+
+    fn stands<R: Wait>(&self, rt: &R) {
+        let (gate, core) = self.lock.lock(rt);
+        core.stands();
+        self.lock.unlock(rt, gate, core);
+    }
+
+    fn ring<R: Wait>(&self, rt: &R) -> Option<Debt> {
+        ring(rt, &self.lock)
+    }
+
+    fn add_sender<R: Wait>(&self, rt: &R) -> Result<(), AllocError> {
+        let (gate, mut core) = self.lock.lock(rt);
+        let added = core.add_sender();
+        self.lock.unlock(rt, gate, core);
+        added
+    }
+
+    fn drop_sender<R: Wait>(&self, rt: &R) -> Option<Debt> {
+        let (gate, mut core) = self.lock.lock(rt);
+        let debt = core.drop_sender();
+        self.lock.unlock(rt, gate, core);
+        debt
+    }
+
+    // Opens a place, and gives the cell its key.
+    fn register<R: Wait>(&self, rt: &R, board: &mut Board, key: u64) -> Result<(), OpenRefusal> {
+        let pass = board.open_place(key)?;
+        let (gate, mut core) = self.lock.lock(rt);
+        let (debt, leave) = core.set_key(pass);
+        self.lock.unlock(rt, gate, core);
+        settle(board, debt);
+        close(board, leave);
+        Ok(())
+    }
+
+    // Takes the cell's key back, and closes its place: whether it had one.
+    fn unregister<R: Wait>(&self, rt: &R, board: &mut Board) -> bool {
+        let (gate, mut core) = self.lock.lock(rt);
+        let leave = core.clear_key();
+        self.lock.unlock(rt, gate, core);
+        close(board, leave)
+    }
+
+    // The same, as the receiving end goes.
+    fn abandon<R: Wait>(&self, rt: &R, board: &mut Board) -> bool {
+        let (gate, mut core) = self.lock.lock(rt);
+        let leave = core.abandon();
+        self.lock.unlock(rt, gate, core);
+        close(board, leave)
+    }
+
+    fn serve_all<R: Wait>(
+        &mut self,
+        rt: &R,
+        alloc: Global,
+        board: &mut Board,
+    ) -> Result<Vec<Turn>, AllocError> {
+        serve_all(rt, alloc, board, &self.lock, &mut self.twin)
+    }
+
+    fn serve_within<R: Wait>(
+        &mut self,
+        rt: &R,
+        alloc: Global,
+        board: &mut Board,
+    ) -> Result<Vec<Turn>, AllocError> {
+        serve_within(rt, alloc, board, &self.lock, &mut self.twin)
+    }
+}
+
+// Rings, and drops the receipt: what is owed.
+fn ring<R: Wait>(rt: &R, lock: &Locked<PingCore>) -> Option<Debt> {
+    let (gate, mut core) = lock.lock(rt);
+    let (_receipt, debt) = core.ring();
+    lock.unlock(rt, gate, core);
+    debt
+}
+
+// Closes the place of a key that was taken back: whether there was one.
+fn close(board: &mut Board, leave: Option<LeaveToClose>) -> bool {
+    match leave {
+        Some(leave) => {
+            board.close_place(leave);
+            true
+        }
+        None => false,
+    }
 }
 
 // A loop that was told to wake.
@@ -188,74 +309,154 @@ fn is_quiet(board: &Board) -> bool {
     }
 }
 
-// One turn with this pass: whether somebody rang, or None where the pass comes back as refused.
-fn serve(board: &mut Board, cell: &mut PingCore, pass: TakenPass) -> Option<bool> {
-    match cell.open_turn(pass) {
-        Ok(OpenedTurn { turn, rung }) => {
-            let debt = cell.end_turn(turn);
-            settle(board, debt);
-            Some(rung)
+fn open<R: Wait>(
+    rt: &R,
+    lock: &Locked<PingCore>,
+    twin: &mut Twin,
+    pass: TakenPass,
+) -> Result<OpenedTurn, TakenPass>
+    requires { twin.old.name ≡ lock.now.slot }
+    ensures name { twin.new.name ≡ lock.now.slot }
+    ensures turn { IfOk result (λ o. o.turn.name ≡ lock.now.slot) }
+{
+    let (gate, mut core) = lock.lock(rt);
+    let opened = core.open_turn(pass, twin);
+    lock.unlock(rt, gate, core);
+    opened
+}
+
+fn end<R: Wait>(rt: &R, lock: &Locked<PingCore>, turn: PingTurn) -> Option<Debt>
+    requires { turn.name ≡ lock.now.slot }
+{
+    let (gate, mut core) = lock.lock(rt);
+    let debt = core.end_turn(turn);
+    lock.unlock(rt, gate, core);
+    debt
+}
+
+// One turn with this pass.
+fn serve<R: Wait>(
+    rt: &R,
+    board: &mut Board,
+    lock: &Locked<PingCore>,
+    twin: &mut Twin,
+    pass: TakenPass,
+) -> Turn
+    requires { twin.old.name ≡ lock.now.slot }
+    ensures { twin.new.name ≡ lock.now.slot }
+{
+    match open(rt, lock, twin, pass) {
+        Ok(OpenedTurn { turn, rung, told }) => {
+            settle(board, end(rt, lock, turn));
+            Turn::Opened { rung, told }
         }
         Err(pass) => {
-            let refused = pass.is_refused();
+            let marked = pass.is_refused();
             settle(board, Some(pass.back()));
-            if refused { None } else { Some(false) }
+            Turn::Refused { marked }
         }
     }
 }
 
-// Takes the marked keys, and has the cell serve each.
-fn serve_all(
-    alloc: Global,
-    board: &mut Board,
-    cell: &mut PingCore,
-) -> Result<Vec<Option<bool>>, AllocError> {
-    let mut turns = Vec::with_capacity(alloc, board.places())?;
+// Takes the marked keys.
+fn take_passes(alloc: Global, board: &mut Board) -> Result<VecDeque<TakenPass>, AllocError> {
     let mut passes = VecDeque::with_capacity(alloc, board.places())?;
     board.unpost(&mut passes);
+    Ok(passes)
+}
+
+// Takes the marked keys, and has the cell serve each.
+fn serve_all<R: Wait>(
+    rt: &R,
+    alloc: Global,
+    board: &mut Board,
+    lock: &Locked<PingCore>,
+    twin: &mut Twin,
+) -> Result<Vec<Turn>, AllocError>
+    requires { twin.old.name ≡ lock.now.slot }
+    ensures { twin.new.name ≡ lock.now.slot }
+{
+    let mut turns = Vec::with_capacity(alloc, board.places())?;
+    let mut passes = take_passes(alloc, board)?;
     while let Some(pass) = passes.pop_front() {
-        let turn = serve(board, cell, pass);
+        let turn = serve(rt, board, lock, twin, pass);
         let _ = turns.push(turn);
     }
     passes.destroy_empty();
     Ok(turns)
 }
 
+// Takes the marked keys, and opens a turn for each; while it stands open it rings, and serves what that marked: the
+// last turns within a turn.
+fn serve_within<R: Wait>(
+    rt: &R,
+    alloc: Global,
+    board: &mut Board,
+    lock: &Locked<PingCore>,
+    twin: &mut Twin,
+) -> Result<Vec<Turn>, AllocError>
+    requires { twin.old.name ≡ lock.now.slot }
+    ensures { twin.new.name ≡ lock.now.slot }
+{
+    let mut within = Ok(Vec::new(alloc));
+    let mut passes = take_passes(alloc, board)?;
+    while let Some(pass) = passes.pop_front() {
+        match open(rt, lock, twin, pass) {
+            Ok(
+                OpenedTurn {
+                    turn,
+                    rung: _,
+                    told: _,
+                },
+            ) => {
+                settle(board, ring(rt, lock));
+                within = serve_all(rt, alloc, board, lock, twin);
+                settle(board, end(rt, lock, turn));
+            }
+            Err(pass) => {
+                settle(board, Some(pass.back()));
+            }
+        }
+    }
+    passes.destroy_empty();
+    within
+}
+
 #[test]
 fn one_ring(rt: HostRuntime) -> Result<(), Fail> {
     let alloc = rt.alloc();
     let mut board = Board::new(alloc);
-    let mut cell = PingCore::new();
-    let mut other = PingCore::new();
-    assert!(rt; register(&mut board, &mut cell, 7).is_ok());
-    assert!(rt; register(&mut board, &mut other, 5).is_ok());
+    let mut cell = Ends::new();
+    let mut other = Ends::new();
+    assert!(rt; cell.register(&rt, &mut board, 7).is_ok());
+    assert!(rt; other.register(&rt, &mut board, 5).is_ok());
     assert_eq!(rt;
-        register(&mut board, &mut other, 7),
+        other.register(&rt, &mut board, 7),
         Err(OpenRefusal::AlreadyExists)
     );
     assert_eq!(rt; board.places(), 2);
     assert!(rt; is_quiet(&board));
 
-    assert!(rt; settle(&mut board, cell.ring()));
-    assert!(rt; !settle(&mut board, cell.ring()));
+    assert!(rt; settle(&mut board, cell.ring(&rt)));
+    assert!(rt; !settle(&mut board, cell.ring(&rt)));
     assert!(rt; !is_quiet(&board));
     assert_eq!(rt;
-        serve_all(alloc, &mut board, &mut cell)?.as_slice(),
-        [Some(true)].as_slice()
+        cell.serve_all(&rt, alloc, &mut board)?.as_slice(),
+        [RUNG].as_slice()
     );
     assert!(rt; is_quiet(&board));
 
-    assert!(rt; settle(&mut board, cell.ring()));
+    assert!(rt; settle(&mut board, cell.ring(&rt)));
     assert_eq!(rt;
-        serve_all(alloc, &mut board, &mut other)?.as_slice(),
-        [None].as_slice()
+        other.serve_all(&rt, alloc, &mut board)?.as_slice(),
+        [REFUSED].as_slice()
     );
     assert!(rt; !is_quiet(&board));
-    assert!(rt; register(&mut board, &mut cell, 6).is_ok());
+    assert!(rt; cell.register(&rt, &mut board, 6).is_ok());
     assert_eq!(rt; board.places(), 2);
     assert_eq!(rt;
-        serve_all(alloc, &mut board, &mut cell)?.as_slice(),
-        [Some(true)].as_slice()
+        cell.serve_all(&rt, alloc, &mut board)?.as_slice(),
+        [RUNG].as_slice()
     );
     Ok(())
 }
@@ -263,58 +464,123 @@ fn one_ring(rt: HostRuntime) -> Result<(), Fail> {
 #[test]
 fn cells_that_stand(rt: HostRuntime) {
     let mut board = Board::new(rt.alloc());
-    let mut cell = PingCore::new();
-    cell.stands();
-    assert!(rt; !settle(&mut board, cell.ring()));
-    cell.stands();
-    assert!(rt; register(&mut board, &mut cell, 7).is_ok());
+    let cell = Ends::new();
+    cell.stands(&rt);
+    assert!(rt; !settle(&mut board, cell.ring(&rt)));
+    cell.stands(&rt);
+    assert!(rt; cell.register(&rt, &mut board, 7).is_ok());
     assert!(rt; !is_quiet(&board));
-    cell.stands();
+    cell.stands(&rt);
 }
 
 #[test]
 fn nudges(rt: HostRuntime) {
     covered();
     let mut board = Board::new(rt.alloc());
-    let mut cell = PingCore::new();
-    let mut other = PingCore::new();
-    assert!(rt; register(&mut board, &mut cell, 7).is_ok());
-    let of_seven = cell.ring();
-    assert!(rt; register(&mut board, &mut cell, 8).is_ok());
-    assert!(rt; register(&mut board, &mut other, 7).is_ok());
-    let again = other.ring();
+    let cell = Ends::new();
+    let other = Ends::new();
+    assert!(rt; cell.register(&rt, &mut board, 7).is_ok());
+    let of_seven = cell.ring(&rt);
+    assert!(rt; cell.register(&rt, &mut board, 8).is_ok());
+    assert!(rt; other.register(&rt, &mut board, 7).is_ok());
+    let again = other.ring(&rt);
     assert!(rt; settle(&mut board, of_seven));
     assert!(rt; !settle(&mut board, again));
 
-    let mut third = PingCore::new();
-    assert!(rt; register(&mut board, &mut third, 5).is_ok());
-    let of_five = third.ring();
-    assert!(rt; register(&mut board, &mut third, 6).is_ok());
+    let third = Ends::new();
+    assert!(rt; third.register(&rt, &mut board, 5).is_ok());
+    let of_five = third.ring(&rt);
+    assert!(rt; third.register(&rt, &mut board, 6).is_ok());
     assert!(rt; !settle(&mut board, of_five));
-}
-
-// Takes the cell's key back, and closes its place: whether it had one.
-fn unregister(board: &mut Board, cell: &mut PingCore) -> bool {
-    match cell.clear_key() {
-        Some(leave) => {
-            board.close_place(leave);
-            true
-        }
-        None => false,
-    }
 }
 
 #[test]
 fn keys_that_are_taken_back(rt: HostRuntime) {
     let mut board = Board::new(rt.alloc());
-    let mut cell = PingCore::new();
-    assert!(rt; register(&mut board, &mut cell, 7).is_ok());
-    assert!(rt; unregister(&mut board, &mut cell));
-    assert!(rt; !unregister(&mut board, &mut cell));
+    let cell = Ends::new();
+    assert!(rt; cell.register(&rt, &mut board, 7).is_ok());
+    assert!(rt; cell.unregister(&rt, &mut board));
+    assert!(rt; !cell.unregister(&rt, &mut board));
     assert_eq!(rt; board.places(), 0);
-    assert!(rt; !settle(&mut board, cell.ring()));
-    assert!(rt; register(&mut board, &mut cell, 7).is_ok());
+    assert!(rt; !settle(&mut board, cell.ring(&rt)));
+    assert!(rt; cell.register(&rt, &mut board, 7).is_ok());
     assert!(rt; !is_quiet(&board));
+}
+
+#[test]
+fn an_end_that_is_gone(rt: HostRuntime) {
+    let mut board = Board::new(rt.alloc());
+    let cell = Ends::new();
+    assert!(rt; cell.register(&rt, &mut board, 7).is_ok());
+    assert!(rt; cell.abandon(&rt, &mut board));
+    assert!(rt; !cell.abandon(&rt, &mut board));
+    assert_eq!(rt; board.places(), 0);
+    assert!(rt; !settle(&mut board, cell.ring(&rt)));
+}
+
+#[test]
+fn closes(rt: HostRuntime) -> Result<(), Fail> {
+    let alloc = rt.alloc();
+    let mut board = Board::new(alloc);
+    let mut cell = Ends::new();
+    assert!(rt; cell.register(&rt, &mut board, 7).is_ok());
+    assert!(rt; cell.add_sender(&rt).is_ok());
+    assert!(rt; !settle(&mut board, cell.drop_sender(&rt)));
+    assert!(rt; is_quiet(&board));
+    assert!(rt; settle(&mut board, cell.drop_sender(&rt)));
+    cell.stands(&rt);
+    assert_eq!(rt;
+        cell.serve_all(&rt, alloc, &mut board)?.as_slice(),
+        [TOLD].as_slice()
+    );
+    assert!(rt; is_quiet(&board));
+    assert!(rt; settle(&mut board, cell.ring(&rt)));
+    assert_eq!(rt;
+        cell.serve_all(&rt, alloc, &mut board)?.as_slice(),
+        [RUNG].as_slice()
+    );
+    Ok(())
+}
+
+#[test]
+fn closes_that_wait(rt: HostRuntime) -> Result<(), Fail> {
+    let alloc = rt.alloc();
+    let mut board = Board::new(alloc);
+    let mut rung = Ends::new();
+    assert!(rt; rung.register(&rt, &mut board, 7).is_ok());
+    assert!(rt; settle(&mut board, rung.ring(&rt)));
+    assert!(rt; !settle(&mut board, rung.drop_sender(&rt)));
+    assert_eq!(rt;
+        rung.serve_all(&rt, alloc, &mut board)?.as_slice(),
+        [RUNG_AND_TOLD].as_slice()
+    );
+    let mut early = Ends::new();
+    assert!(rt; !settle(&mut board, early.drop_sender(&rt)));
+    assert!(rt; is_quiet(&board));
+    assert!(rt; early.register(&rt, &mut board, 8).is_ok());
+    assert_eq!(rt;
+        early.serve_all(&rt, alloc, &mut board)?.as_slice(),
+        [TOLD].as_slice()
+    );
+    Ok(())
+}
+
+#[test]
+fn turns_within_a_turn(rt: HostRuntime) -> Result<(), Fail> {
+    let alloc = rt.alloc();
+    let mut board = Board::new(alloc);
+    let mut cell = Ends::new();
+    assert!(rt; cell.register(&rt, &mut board, 7).is_ok());
+    assert!(rt; settle(&mut board, cell.ring(&rt)));
+    assert_eq!(rt;
+        cell.serve_within(&rt, alloc, &mut board)?.as_slice(),
+        [REFUSED].as_slice()
+    );
+    assert_eq!(rt;
+        cell.serve_all(&rt, alloc, &mut board)?.as_slice(),
+        [RUNG].as_slice()
+    );
+    Ok(())
 }
 
 // What two threads share under a lock.

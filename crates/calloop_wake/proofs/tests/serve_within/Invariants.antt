@@ -1,0 +1,8 @@
+use Rattle.std.proofs.Common.{◌≡◌, deque_len}
+use Rattle.calloop_wake.proofs.tests.serve_within.Given as goal
+
+abbrev pub invariant-loop-pass : goal.invariant-loop-pass
+invariant-loop-pass g l = l.twin.name ≡ l.lock.slot
+
+abbrev pub decreases-loop-pass : goal.decreases-loop-pass
+decreases-loop-pass g l = deque_len l.passes
