@@ -14,4 +14,4 @@ pub use calloop_wake::error::{Error, InsertError, Result};
 pub use calloop_wake::token::{RegistrationToken, Token, TokenFactory};
 pub use calloop_wake::wheel::Instant;
 pub use loop_logic::{EventDispatcher, EventLoop, Hold, LoopHandle};
-pub use ping::{PingError, PingSource};
+pub use ping::{Ping, PingError, PingSource, make_ping};

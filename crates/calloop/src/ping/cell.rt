@@ -1,6 +1,6 @@
 //! The cell of a ping with the board of its key, under one lock, and the sections of that lock. No other lock is taken and
 //! nobody is called within one: what a section owes to the board is settled after it.
-ghost use Rattle.std.specs.Prelude.{◌≡◌, ◌+◌, IfOk, IfErr, is_some, true};
+ghost use Rattle.std.specs.Prelude.{◌≡◌, ◌+◌, None, IfOk, IfErr, is_some, true};
 ghost use Rattle.std.specs.Arc.{arc_value};
 ghost use Rattle.calloop_wake.specs.Cells.{one};
 ghost use Rattle.calloop_core.specs.Polls.{CannotOpen};
@@ -44,7 +44,7 @@ pub type SharedCell = Arc<Locked<PingCell>, Global>;
 impl PingCell {
     /// A cell that was just made, without a board.
     pub fn new(core: PingCore) -> PingCell
-        requires { is_some core.cell.key ≡ true → ⊥ }
+        requires { core.cell.key ≡ None }
         ensures { result.core ≡ core }
     {
         PingCell { core, hub: None }
