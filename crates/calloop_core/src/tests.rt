@@ -1,4 +1,7 @@
+ghost use Rattle.std.specs.Prelude.{◌≡◌, IfOk};
+
 use crate::sources::{Callback, Dispatch, Dispatcher, EventSource, PostAction};
+use crate::sys::hub::{Hub, share};
 use crate::sys::notifier::Notifier;
 use crate::sys::poll::Poll;
 use crate::sys::script::{ScriptAnswer, ScriptClock, ScriptEnd, ScriptEvents, ScriptPoller};
@@ -6,7 +9,9 @@ use crate::sys::{Clock, Poller, Readiness};
 use crate::timer::{TimeoutAction, Timer};
 use calloop_wake::error::Error;
 use calloop_wake::token::{RegistrationToken, Token, TokenFactory};
+use calloop_wake::wake::locked::Locked;
 use calloop_wake::wake::ping::{OpenedTurn, PingCore};
+use calloop_wake::wake::{Debt, PingTurn, TakenPass, Twin};
 use calloop_wake::wheel::Instant;
 use std::alloc::Global;
 use std::io;
@@ -129,17 +134,81 @@ fn token(slot: u32) -> Result<Token, Error> {
     TokenFactory::new(RegistrationToken::new(slot, 0)).token()
 }
 
-// Opens the token's place, and gives the cell its key.
-fn register<P: Poller, C, R: Wait + Drop>(
-    poll: &mut Poll<P, C, R>,
-    cell: &mut PingCore,
+// A cell of a ping under its lock, with its receiving end.
+#[derive(Drop)]
+struct Bell {
+    lock: Locked<PingCore>,
+    twin: Twin,
+    ghost tied: { twin.name ≡ lock.slot },
+}
+
+impl Bell {
+    fn new() -> Bell {
+        let (core, name, twin) = PingCore::new();
+        Bell {
+            lock: Locked::new(core, &name),
+            twin,
+        }
+    }
+}
+
+// Posts what is owed.
+fn settle<Q: Wait>(rt: &Q, hub: &Hub, debt: Option<Debt>) {
+    if let Some(debt) = debt {
+        hub.settle(rt, debt);
+    }
+}
+
+// Opens the token's place, and gives the cell its key, by a share of the hub.
+fn register<Q: Wait, P: Poller, C, R: Wait + Drop>(
+    rt: &Q,
+    poll: &Poll<P, C, R>,
+    bell: &Bell,
     token: Token,
 ) -> Result<(), Error> {
-    let pass = poll.open_place(token)?;
-    let (debt, leave) = cell.set_key(pass);
-    poll.settle(debt);
-    poll.close_place(leave);
+    let hub = share(rt, poll.hub());
+    let pass = hub.open_place(rt, token)?;
+    let (gate, mut core) = bell.lock.lock(rt);
+    let (debt, leave) = core.set_key(pass);
+    bell.lock.unlock(rt, gate, core);
+    settle(rt, &hub, debt);
+    if let Some(leave) = leave {
+        hub.close_place(rt, leave);
+    }
     Ok(())
+}
+
+// Rings the cell, and posts its key where that is owed.
+fn ring<Q: Wait, P: Poller, C, R: Wait + Drop>(rt: &Q, poll: &Poll<P, C, R>, bell: &Bell) {
+    let (gate, mut core) = bell.lock.lock(rt);
+    let (_receipt, debt) = core.ring();
+    bell.lock.unlock(rt, gate, core);
+    settle(rt, poll.hub(), debt);
+}
+
+fn open_turn<Q: Wait>(
+    rt: &Q,
+    lock: &Locked<PingCore>,
+    twin: &mut Twin,
+    pass: TakenPass,
+) -> Result<OpenedTurn, TakenPass>
+    requires { twin.old.name ≡ lock.now.slot }
+    ensures name { twin.new.name ≡ lock.now.slot }
+    ensures turn { IfOk result (λ o. o.turn.name ≡ lock.now.slot) }
+{
+    let (gate, mut core) = lock.lock(rt);
+    let opened = core.open_turn(pass, twin);
+    lock.unlock(rt, gate, core);
+    opened
+}
+
+fn end_turn<Q: Wait>(rt: &Q, lock: &Locked<PingCore>, turn: PingTurn) -> Option<Debt>
+    requires { turn.name ≡ lock.now.slot }
+{
+    let (gate, mut core) = lock.lock(rt);
+    let debt = core.end_turn(turn);
+    lock.unlock(rt, gate, core);
+    debt
 }
 
 fn poll_once<Q: Wait, P: Poller, C, R: Wait + Drop>(
@@ -158,14 +227,21 @@ fn next<P: Poller, C, R: Wait + Drop>(poll: &mut Poll<P, C, R>) -> Option<(u64, 
 }
 
 // A turn of the cell with the pass that lies behind the event: whether somebody rang, if it opens.
-fn turn<P: Poller, C, R: Wait + Drop>(
+fn turn<Q: Wait, P: Poller, C, R: Wait + Drop>(
+    rt: &Q,
     poll: &mut Poll<P, C, R>,
-    cell: &mut PingCore,
+    bell: &mut Bell,
 ) -> Option<bool> {
     let pass = poll.take_pass()?;
-    match cell.open_turn(pass) {
-        Ok(OpenedTurn { turn, rung }) => {
-            poll.settle(cell.end_turn(turn));
+    match open_turn(rt, &bell.lock, &mut bell.twin, pass) {
+        Ok(
+            OpenedTurn {
+                turn,
+                rung,
+                told: _,
+            },
+        ) => {
+            settle(rt, poll.hub(), end_turn(rt, &bell.lock, turn));
             Some(rung)
         }
         Err(pass) => {
@@ -179,12 +255,12 @@ fn turn<P: Poller, C, R: Wait + Drop>(
 fn one_poll(rt: HostRuntime) -> Result<(), Fail> {
     let mut poll = new_poll(&rt, rt.alloc())?;
     let (first, second, third) = (token(0)?, token(1)?, token(2)?);
-    let mut cell = PingCore::new();
-    let mut other = PingCore::new();
-    register(&mut poll, &mut other, second)?;
-    register(&mut poll, &mut cell, first)?;
-    poll.settle(other.ring());
-    poll.settle(cell.ring());
+    let mut cell = Bell::new();
+    let mut other = Bell::new();
+    register(&rt, &poll, &other, second)?;
+    register(&rt, &poll, &cell, first)?;
+    ring(&rt, &poll, &other);
+    ring(&rt, &poll, &cell);
     let keys = [third.key(), u64::MAX, second.key()];
     let given = answer(rt.alloc(), 1, &keys).expect(&rt, "an answer");
     poll.poller_mut().script(given)?;
@@ -193,14 +269,14 @@ fn one_poll(rt: HostRuntime) -> Result<(), Fail> {
     poll_once(&rt, &mut poll, None)?;
     assert_eq!(rt; poll.poller_mut().waits(), [nanos(0)].as_slice());
     assert_eq!(rt; next(&mut poll), Some((first.key(), true, true)));
-    assert_eq!(rt; turn(&mut poll, &mut cell), Some(true));
-    assert_eq!(rt; turn(&mut poll, &mut cell), None);
+    assert_eq!(rt; turn(&rt, &mut poll, &mut cell), Some(true));
+    assert_eq!(rt; turn(&rt, &mut poll, &mut cell), None);
     poll.end_event();
     assert_eq!(rt; next(&mut poll), Some((second.key(), true, true)));
-    assert_eq!(rt; turn(&mut poll, &mut cell), None);
+    assert_eq!(rt; turn(&rt, &mut poll, &mut cell), None);
     poll.end_event();
     assert_eq!(rt; next(&mut poll), Some((third.key(), false, false)));
-    assert_eq!(rt; turn(&mut poll, &mut other), None);
+    assert_eq!(rt; turn(&rt, &mut poll, &mut other), None);
     poll.end_event();
     assert_eq!(rt; next(&mut poll), Some((second.key(), false, false)));
     poll.end_event();
@@ -208,7 +284,7 @@ fn one_poll(rt: HostRuntime) -> Result<(), Fail> {
 
     poll_once(&rt, &mut poll, None)?;
     assert_eq!(rt; next(&mut poll), Some((second.key(), true, true)));
-    assert_eq!(rt; turn(&mut poll, &mut other), Some(true));
+    assert_eq!(rt; turn(&rt, &mut poll, &mut other), Some(true));
     poll.end_event();
     assert_eq!(rt; next(&mut poll), None);
     poll.poller_mut().keep_waits(1)?;
@@ -222,22 +298,22 @@ fn one_poll(rt: HostRuntime) -> Result<(), Fail> {
 fn an_unspent_pass_goes_back(rt: HostRuntime) -> Result<(), Fail> {
     let mut poll = new_poll(&rt, rt.alloc())?;
     let (first, second) = (token(0)?, token(1)?);
-    let mut cell = PingCore::new();
-    let mut other = PingCore::new();
-    register(&mut poll, &mut cell, first)?;
-    register(&mut poll, &mut other, second)?;
-    poll.settle(cell.ring());
-    poll.settle(other.ring());
+    let mut cell = Bell::new();
+    let mut other = Bell::new();
+    register(&rt, &poll, &cell, first)?;
+    register(&rt, &poll, &other, second)?;
+    ring(&rt, &poll, &cell);
+    ring(&rt, &poll, &other);
     poll_once(&rt, &mut poll, None)?;
     assert_eq!(rt; next(&mut poll), Some((first.key(), true, true)));
     assert_eq!(rt; next(&mut poll), Some((second.key(), true, true)));
     poll.end_event();
     poll_once(&rt, &mut poll, None)?;
     assert_eq!(rt; next(&mut poll), Some((first.key(), true, true)));
-    assert_eq!(rt; turn(&mut poll, &mut cell), Some(true));
+    assert_eq!(rt; turn(&rt, &mut poll, &mut cell), Some(true));
     poll.end_event();
     assert_eq!(rt; next(&mut poll), Some((second.key(), true, true)));
-    assert_eq!(rt; turn(&mut poll, &mut other), Some(true));
+    assert_eq!(rt; turn(&rt, &mut poll, &mut other), Some(true));
     poll.end_event();
     assert_eq!(rt; next(&mut poll), None);
     Ok(())
@@ -247,8 +323,8 @@ fn an_unspent_pass_goes_back(rt: HostRuntime) -> Result<(), Fail> {
 fn left_over_events_come_first(rt: HostRuntime) -> Result<(), Fail> {
     let mut poll = new_poll(&rt, rt.alloc())?;
     let (first, second, third) = (token(0)?, token(1)?, token(2)?);
-    let mut cell = PingCore::new();
-    register(&mut poll, &mut cell, first)?;
+    let mut cell = Bell::new();
+    register(&rt, &poll, &cell, first)?;
     for keys in [[third.key(), second.key()], [second.key(), u64::MAX]] {
         let given = answer(rt.alloc(), 1, &keys).expect(&rt, "an answer");
         poll.poller_mut().script(given)?;
@@ -256,11 +332,11 @@ fn left_over_events_come_first(rt: HostRuntime) -> Result<(), Fail> {
     poll_once(&rt, &mut poll, None)?;
     assert_eq!(rt; next(&mut poll), Some((third.key(), false, false)));
     poll.end_event();
-    poll.settle(cell.ring());
+    ring(&rt, &poll, &cell);
     poll_once(&rt, &mut poll, None)?;
     assert_eq!(rt; next(&mut poll), Some((second.key(), false, false)));
     assert_eq!(rt; next(&mut poll), Some((first.key(), true, true)));
-    assert_eq!(rt; turn(&mut poll, &mut cell), Some(true));
+    assert_eq!(rt; turn(&rt, &mut poll, &mut cell), Some(true));
     assert_eq!(rt; next(&mut poll), Some((second.key(), false, false)));
     assert_eq!(rt; next(&mut poll), None);
     Ok(())
@@ -291,10 +367,10 @@ fn no_wait_beside_a_left_over_event(rt: HostRuntime) -> Result<(), Fail> {
 fn a_post_nudges(rt: HostRuntime) -> Result<(), Fail> {
     let mut poll = new_poll(&rt, rt.alloc())?;
     let first = token(0)?;
-    let mut cell = PingCore::new();
-    register(&mut poll, &mut cell, first)?;
+    let cell = Bell::new();
+    register(&rt, &poll, &cell, first)?;
     assert!(rt; !poll.poller_mut().is_nudged());
-    poll.settle(cell.ring());
+    ring(&rt, &poll, &cell);
     assert!(rt; poll.poller_mut().is_nudged());
     poll_once(&rt, &mut poll, None)?;
     assert!(rt; !poll.poller_mut().is_nudged());
@@ -317,19 +393,19 @@ fn kind_of<T: Drop>(answer: Result<T, Error>) -> Option<io::ErrorKind> {
 fn places(rt: HostRuntime) -> Result<(), Fail> {
     let mut poll = new_poll(&rt, rt.alloc())?;
     let (first, second) = (token(0)?, token(1)?);
-    let mut cell = PingCore::new();
-    let mut other = PingCore::new();
-    register(&mut poll, &mut cell, first)?;
-    poll.settle(cell.ring());
+    let mut cell = Bell::new();
+    let other = Bell::new();
+    register(&rt, &poll, &cell, first)?;
+    ring(&rt, &poll, &cell);
     assert_eq!(rt;
-        kind_of(register(&mut poll, &mut other, first)),
+        kind_of(register(&rt, &poll, &other, first)),
         Some(io::ErrorKind::AlreadyExists)
     );
-    register(&mut poll, &mut cell, second)?;
-    register(&mut poll, &mut other, first)?;
+    register(&rt, &poll, &cell, second)?;
+    register(&rt, &poll, &other, first)?;
     poll_once(&rt, &mut poll, None)?;
     assert_eq!(rt; next(&mut poll), Some((second.key(), true, true)));
-    assert_eq!(rt; turn(&mut poll, &mut cell), Some(true));
+    assert_eq!(rt; turn(&rt, &mut poll, &mut cell), Some(true));
     poll.end_event();
     assert_eq!(rt; next(&mut poll), None);
     Ok(())
@@ -375,9 +451,9 @@ fn a_fault_changes_nothing(rt: HostRuntime) -> Result<(), Fail> {
     };
     let mut poll = Poll::new(rt.clone()?, rt.alloc(), poller, ())?;
     let first = token(0)?;
-    let mut cell = PingCore::new();
-    register(&mut poll, &mut cell, first)?;
-    poll.settle(cell.ring());
+    let mut cell = Bell::new();
+    register(&rt, &poll, &cell, first)?;
+    ring(&rt, &poll, &cell);
     assert_eq!(rt;
         kind_of(poll_once(&rt, &mut poll, None)),
         Some(io::ErrorKind::PermissionDenied)
@@ -385,7 +461,7 @@ fn a_fault_changes_nothing(rt: HostRuntime) -> Result<(), Fail> {
     assert_eq!(rt; next(&mut poll), None);
     poll_once(&rt, &mut poll, None)?;
     assert_eq!(rt; next(&mut poll), Some((first.key(), true, true)));
-    assert_eq!(rt; turn(&mut poll, &mut cell), Some(true));
+    assert_eq!(rt; turn(&rt, &mut poll, &mut cell), Some(true));
     poll.end_event();
     assert_eq!(rt; next(&mut poll), None);
     Ok(())
@@ -511,14 +587,14 @@ fn timers_in_order(rt: HostRuntime) -> Result<(), Fail> {
 fn a_scripted_fault(rt: HostRuntime) -> Result<(), Fail> {
     let mut poll = new_poll(&rt, rt.alloc())?;
     let (first, second) = (token(0)?, token(1)?);
-    let mut cell = PingCore::new();
-    register(&mut poll, &mut cell, first)?;
+    let cell = Bell::new();
+    register(&rt, &poll, &cell, first)?;
     poll.insert_timer(at(5), second)?;
     assert!(rt; give(&mut poll, rt.alloc(), 0, &[second.key(), second.key()]).is_some());
     script(&mut poll, 10, ScriptEnd::Fault);
     poll_once(&rt, &mut poll, None)?;
     assert_eq!(rt; next(&mut poll), Some((second.key(), false, false)));
-    poll.settle(cell.ring());
+    ring(&rt, &poll, &cell);
     let refused = poll_once(&rt, &mut poll, None);
     assert_eq!(rt; kind_of(refused), Some(io::ErrorKind::Other));
     assert_eq!(rt; next(&mut poll), Some((second.key(), false, false)));
@@ -534,9 +610,9 @@ fn a_scripted_fault(rt: HostRuntime) -> Result<(), Fail> {
 fn order_of_a_batch(rt: HostRuntime) -> Result<(), Fail> {
     let mut poll = new_poll(&rt, rt.alloc())?;
     let (first, second, third) = (token(0)?, token(1)?, token(2)?);
-    let mut cell = PingCore::new();
-    register(&mut poll, &mut cell, third)?;
-    poll.settle(cell.ring());
+    let cell = Bell::new();
+    register(&rt, &poll, &cell, third)?;
+    ring(&rt, &poll, &cell);
     poll.insert_timer(at(5), first)?;
     assert!(rt; give(&mut poll, rt.alloc(), 5, &[second.key()]).is_some());
     poll_once(&rt, &mut poll, None)?;
