@@ -1,23 +1,38 @@
--- The turn of a ping, by what it finds.
-use Rattle.std.proofs.Common.{◌≡◌, List, [], ◌∷◌, refl, Option, Some, None, Ok, true, false}
+-- The registrations and the turn of a ping, by what it finds.
+use Rattle.std.proofs.Common.{◌≡◌, List, [], ◌∷◌, refl, subst, Option, Some, None, IsSome, IfOk, IfErr, Result, Ok, Err, true, false}
+use Rattle.calloop_wake.specs.declared.error.Error.{Error}
 use Rattle.calloop_wake.specs.declared.token.Token.{Token}
+use Rattle.calloop_wake.specs.declared.token.TokenFactory.{TokenFactory}
 use Rattle.calloop_wake.specs.declared.wake.Twin.{Twin}
+use Rattle.calloop_wake.specs.Tokens.{key_of, next_token, after_token}
+use Rattle.calloop_wake.specs.Cells.{is_own}
 use Rattle.calloop_wake.specs.Passes.{Taken}
 use Rattle.calloop_core.specs.declared.sources.PostAction.{PostAction}
 use Rattle.calloop_core.specs.declared.sources.PostAction.TheVariants.{Continue}
 use Rattle.calloop_core.specs.Calls.{Call}
-use Rattle.calloop_core.specs.Polls.{PollStep, TakePass}
-use Rattle.calloop.specs.Pings.{is_token, Served, ServedSo, TurnsBy}
+use Rattle.calloop_core.specs.Polls.{PollStep, TakePass, CannotOpen}
+use Rattle.calloop.specs.Pings.{Registers, RegistersAnew, NoPlace, NoPlaceAnew, Served, ServedSo, TurnsBy}
+
+-- what a place that is opened, or can't be, makes of a registration
+pub registers : (P : Type 0) (twin : Twin) (f g : TokenFactory) (token : Token) (answer : Result (Unit {0}) Error) (after : Twin) → token ≡ next_token f → g ≡ after_token f → IfOk answer (λ _. after ≡ record twin { key = Some (key_of token) }) → IfErr answer (λ e. CannotOpen e × (after ≡ twin)) → twin.key ≡ None → Registers {P = P} twin f answer [] after g
+registers P twin f g token (Ok u) after is_next is_after ok err none = (none, refl, subst (λ t. after ≡ record twin { key = Some (key_of t) }) is_next ok, is_after)
+registers P twin f g token (Err e) after is_next is_after ok err none = (refl, err.1, NoPlace err.0 is_after)
+
+-- and of a registration anew
+pub registers_anew : (P : Type 0) (twin : Twin) (f g : TokenFactory) (token : Token) (answer : Result (Unit {0}) Error) (after : Twin) → token ≡ next_token f → g ≡ after_token f → IfOk answer (λ _. after ≡ record twin { key = Some (key_of token) }) → IfErr answer (λ e. CannotOpen e × (after ≡ twin)) → IsSome twin.key → is_own (key_of token) twin.key ≡ false → RegistersAnew {P = P} twin f answer [] after g
+registers_anew P twin f g token (Ok u) after is_next is_after ok err some other = (some, refl, subst (λ t. after ≡ record twin { key = Some (key_of t) }) is_next ok, is_after)
+registers_anew P twin f g token (Err e) after is_next is_after ok err some other =
+    (refl, err.1, NoPlaceAnew some (subst (λ t. is_own (key_of t) twin.key ≡ false) is_next other) err.0 is_after)
 
 -- an event of another token
-pub turn_of_another : (P : Type 0) (own : Option Token) (twin : Twin) (token : Token) (pass : Option Taken) → is_token token own ≡ false → TurnsBy {P = P} own twin token pass [] (Ok Continue) [] twin
-turn_of_another P own twin token pass other = rw other (refl, refl, refl, refl)
+pub turn_of_another : (P : Type 0) (twin : Twin) (token : Token) (pass : Option Taken) → is_own (key_of token) twin.key ≡ false → TurnsBy {P = P} twin token pass [] (Ok Continue) [] twin
+turn_of_another P twin token pass other = rw other (refl, refl, refl, refl)
 
-module _ (P : Type 0) (own : Option Token) (twin : Twin) (token : Token) (pass : Option Taken) (is_own : is_token token own ≡ true) where
+module _ (P : Type 0) (twin : Twin) (token : Token) (pass : Option Taken) (own : is_own (key_of token) twin.key ≡ true) where
   -- an event without a pass
-  pub turn_without : pass ≡ None → TurnsBy {P = P} own twin token pass [] (Ok Continue) (TakePass ∷ []) twin
-  turn_without none = rw (is_own, none) (refl, refl, refl, refl)
+  pub turn_without : pass ≡ None → TurnsBy {P = P} twin token pass [] (Ok Continue) (TakePass ∷ []) twin
+  turn_without none = rw (own, none) (refl, refl, refl, refl)
 
   -- an event with one
-  pub turn_served : (p : Taken) (served : Served) (calls : List (Call (Unit {0}) (Unit {0}) (Unit {0}))) (action : PostAction) (steps : List (PollStep P)) (after : Twin) → pass ≡ Some p → ServedSo served p twin calls action steps after → TurnsBy own twin token pass calls (Ok action) steps after
-  turn_served p served calls action steps after some h = rw (is_own, some) (served, h)
+  pub turn_served : (p : Taken) (served : Served) (calls : List (Call (Unit {0}) (Unit {0}) (Unit {0}))) (action : PostAction) (steps : List (PollStep P)) (after : Twin) → pass ≡ Some p → ServedSo served p twin calls action steps after → TurnsBy twin token pass calls (Ok action) steps after
+  turn_served p served calls action steps after some h = rw (own, some) (served, h)

@@ -4,6 +4,8 @@ use Rattle.calloop_wake.specs.declared.error.Error.{Error}
 use Rattle.calloop_wake.specs.declared.token.Token.{Token}
 use Rattle.calloop_wake.specs.declared.token.TokenFactory.{TokenFactory}
 use Rattle.calloop_wake.specs.declared.wake.Twin.{Twin}
+use Rattle.calloop_wake.specs.Tokens.{key_of}
+use Rattle.calloop_wake.specs.Cells.{is_own}
 use Rattle.calloop_wake.specs.Passes.{Taken}
 use Rattle.calloop_core.specs.declared.sources.PostAction.{PostAction}
 use Rattle.calloop_core.specs.Calls.{Call}
@@ -11,7 +13,7 @@ use Rattle.calloop_core.specs.Polls.{PollView, PollStep}
 use Rattle.calloop_core.specs.Holdings.{Keeps, holds_none}
 use Rattle.calloop.specs.declared.ping.source.PingError.{PingError}
 use Rattle.calloop.specs.declared.ping.PingSource.{PingSource}
-use Rattle.calloop.specs.Pings.{IsPingReg, IsPingRereg, IsPingUnreg, IsPingTurn, PingTurnFor, PingTurnWith, Served, Opened, Refused, ServedSo, is_token}
+use Rattle.calloop.specs.Pings.{IsPingReg, IsPingRereg, IsPingUnreg, IsPingTurn, PingTurnFor, PingTurnWith, Served, Opened, Refused, ServedSo}
 
 pub ping_reg_keeps : {P R : Type 0} (s t : PingSource R) (v : PollView P) (f g : TokenFactory) (a : Result (Unit {0}) Error) (l : List (PollStep P)) → IsPingReg s f a l t g → Keeps holds_none v.deadlines.next l holds_none
 ping_reg_keeps s t v f g (Ok u) l h = rw h.0.1 (λ counter. tt)
@@ -38,5 +40,5 @@ for_keeps true next pass before after cs action l h = with_keeps next pass befor
 for_keeps false next pass before after cs action l h = rw h.2 (λ counter. tt)
 
 pub ping_turn_keeps : {P R : Type 0} (s t : PingSource R) (k : Token) (v : PollView P) (cs : List (Call (Unit {0}) (Unit {0}) (Unit {0}))) (a : Result PostAction PingError) (l : List (PollStep P)) → IsPingTurn s k v cs a l t → Keeps holds_none v.deadlines.next l holds_none
-ping_turn_keeps s t k v cs (Ok action) l h = for_keeps (is_token k s.token) v.deadlines.next v.pass s.twin t.twin cs action l h.0
+ping_turn_keeps s t k v cs (Ok action) l h = for_keeps (is_own (key_of k) s.twin.key) v.deadlines.next v.pass s.twin t.twin cs action l h.0
 ping_turn_keeps s t k v cs (Err e) l h = absurd h.0

@@ -3,10 +3,7 @@ ghost use Rattle.std.specs.Prelude.{◌≡◌, None, IfOk};
 ghost use Rattle.std.specs.Arc.{arc_value};
 
 use calloop_core::sys::hub::share;
-use calloop_wake::token::Token;
-use calloop_wake::wake::locked::Locked;
-use calloop_wake::wake::ping::PingCore;
-use calloop_wake::wake::{Receipt, Twin};
+use calloop_wake::wake::{Receipt, Sender, Twin};
 use cell::{PingCell, SharedCell};
 use std::alloc::{AllocError, Global};
 use std::sync::{Arc, Wait};
@@ -20,6 +17,8 @@ pub use source::PingError;
 pub struct Ping<R: Wait + Drop> {
     rt: R,
     shared: SharedCell,
+    sender: Sender,
+    ghost tied: { sender.name ≡ (arc_value shared).slot },
 }
 
 /// The source of a ping. Any number of rings before its turn are one event.
@@ -29,7 +28,6 @@ pub struct PingSource<R: Wait + Drop> {
     rt: R,
     shared: SharedCell,
     twin: Twin,
-    token: Option<Token>,
     ghost tied: { twin.name ≡ (arc_value shared).slot },
 }
 
@@ -40,22 +38,23 @@ pub fn make_ping<R: Wait + Clone + Drop>(
     rt: &R,
     alloc: Global,
 ) -> Result<(Ping<R>, PingSource<R>), AllocError>
-    ensures { IfOk result (λ made. (made.1.twin ≡ record { name = (arc_value made.0.shared).slot; number = 0; closes = 0 }) × ((arc_value made.1.shared).slot ≡ (arc_value made.0.shared).slot) × (made.1.token ≡ None)) }
+    ensures { IfOk result (λ made. (made.1.twin ≡ record { name = (arc_value made.0.shared).slot; key = None; turns = 0; number = 0; closes = 0 }) × ((arc_value made.1.shared).slot ≡ (arc_value made.0.shared).slot)) }
 {
     let of_ping = rt.clone()?;
     let of_source = rt.clone()?;
-    let (core, name, twin) = PingCore::new();
-    let shared = Arc::new(alloc, Locked::new(PingCell::new(core), &name))?;
+    let shared = Arc::new(alloc, PingCell::locked())?;
     let again = share(rt, &shared);
+    let sender = cell::add_sender(rt, &shared)?;
+    let twin = cell::receiver(rt, &shared);
     let ping = Ping {
         rt: of_ping,
         shared,
+        sender,
     };
     let source = PingSource {
         rt: of_source,
         shared: again,
         twin,
-        token: None,
     };
     Ok((ping, source))
 }
@@ -80,26 +79,21 @@ impl<R: Wait + Clone + Drop> Clone for Ping<R> {
     fn clone(&self) -> Result<Ping<R>, AllocError> {
         let rt = self.rt.clone()?;
         let shared = Arc::try_clone(&self.shared)?;
-        cell::add_sender(&self.rt, &self.shared)?;
-        Ok(Ping { rt, shared })
+        let sender = cell::add_sender(&self.rt, &self.shared)?;
+        Ok(Ping { rt, shared, sender })
     }
 }
 
 impl<R: Wait + Drop> Drop for Ping<R> {
     fn drop(self) {
-        let Ping { rt, shared } = self;
-        cell::drop_sender(&rt, &shared);
+        let Ping { rt, shared, sender } = self;
+        cell::drop_sender(&rt, &shared, sender);
     }
 }
 
 impl<R: Wait + Drop> Drop for PingSource<R> {
     fn drop(self) {
-        let PingSource {
-            rt,
-            shared,
-            twin: _,
-            token: _,
-        } = self;
-        cell::abandon(&rt, &shared);
+        let PingSource { rt, shared, twin } = self;
+        cell::abandon(&rt, &shared, twin);
     }
 }

@@ -1,7 +1,7 @@
 ghost use Rattle.std.specs.Prelude.{◌≡◌, IfOk};
 
 use crate::sources::{Callback, Dispatch, Dispatcher, EventSource, PostAction};
-use crate::sys::hub::{Hub, share};
+use crate::sys::hub::{Hub, SharedHub, share};
 use crate::sys::notifier::Notifier;
 use crate::sys::poll::Poll;
 use crate::sys::script::{ScriptAnswer, ScriptClock, ScriptEnd, ScriptEvents, ScriptPoller};
@@ -13,7 +13,7 @@ use calloop_wake::wake::locked::Locked;
 use calloop_wake::wake::ping::{OpenedTurn, PingCore};
 use calloop_wake::wake::{Debt, PingTurn, TakenPass, Twin};
 use calloop_wake::wheel::Instant;
-use std::alloc::Global;
+use std::alloc::{AllocError, Global};
 use std::io;
 use std::sync::atomic::AtomicBool;
 use std::sync::{Arc, Wait};
@@ -134,20 +134,42 @@ fn token(slot: u32) -> Result<Token, Error> {
     TokenFactory::new(RegistrationToken::new(slot, 0)).token()
 }
 
-// A cell of a ping under its lock, with its receiving end.
-#[derive(Drop)]
-struct Bell {
+// A cell of a ping under its lock, with its receiving end and the board of its key.
+struct Bell<R: Wait + Drop> {
+    rt: R,
+    hub: SharedHub,
     lock: Locked<PingCore>,
     twin: Twin,
     ghost tied: { twin.name ≡ lock.slot },
 }
 
-impl Bell {
-    fn new() -> Bell {
-        let (core, name, twin) = PingCore::new();
-        Bell {
+impl<R: Wait + Clone + Drop> Bell<R> {
+    fn new<P: Poller, C>(rt: &R, poll: &Poll<P, C, R>) -> Result<Bell<R>, AllocError> {
+        let its_rt = rt.clone()?;
+        let (core, name) = PingCore::new();
+        let twin = core.receiver();
+        Ok(Bell {
+            rt: its_rt,
+            hub: share(rt, poll.hub()),
             lock: Locked::new(core, &name),
             twin,
+        })
+    }
+}
+
+impl<R: Wait + Drop> Drop for Bell<R> {
+    fn drop(self) {
+        let Bell {
+            rt,
+            hub,
+            lock,
+            twin,
+        } = self;
+        let (gate, mut core) = lock.lock(&rt);
+        let leave = core.abandon(twin);
+        lock.unlock(&rt, gate, core);
+        if let Some(leave) = leave {
+            hub.close_place(&rt, leave);
         }
     }
 }
@@ -159,31 +181,29 @@ fn settle<Q: Wait>(rt: &Q, hub: &Hub, debt: Option<Debt>) {
     }
 }
 
-// Opens the token's place, and gives the cell its key, by a share of the hub.
-fn register<Q: Wait, P: Poller, C, R: Wait + Drop>(
+// Opens the token's place, and gives the cell its key.
+fn register<Q: Wait, R: Wait + Drop>(
     rt: &Q,
-    poll: &Poll<P, C, R>,
-    bell: &Bell,
+    bell: &mut Bell<R>,
     token: Token,
 ) -> Result<(), Error> {
-    let hub = share(rt, poll.hub());
-    let pass = hub.open_place(rt, token)?;
+    let pass = bell.hub.open_place(rt, token)?;
     let (gate, mut core) = bell.lock.lock(rt);
-    let (debt, leave) = core.set_key(pass);
+    let (debt, leave) = core.set_key(pass, &mut bell.twin);
     bell.lock.unlock(rt, gate, core);
-    settle(rt, &hub, debt);
+    settle(rt, &bell.hub, debt);
     if let Some(leave) = leave {
-        hub.close_place(rt, leave);
+        bell.hub.close_place(rt, leave);
     }
     Ok(())
 }
 
 // Rings the cell, and posts its key where that is owed.
-fn ring<Q: Wait, P: Poller, C, R: Wait + Drop>(rt: &Q, poll: &Poll<P, C, R>, bell: &Bell) {
+fn ring<Q: Wait, R: Wait + Drop>(rt: &Q, bell: &Bell<R>) {
     let (gate, mut core) = bell.lock.lock(rt);
     let (_receipt, debt) = core.ring();
     bell.lock.unlock(rt, gate, core);
-    settle(rt, poll.hub(), debt);
+    settle(rt, &bell.hub, debt);
 }
 
 fn open_turn<Q: Wait>(
@@ -230,7 +250,7 @@ fn next<P: Poller, C, R: Wait + Drop>(poll: &mut Poll<P, C, R>) -> Option<(u64, 
 fn turn<Q: Wait, P: Poller, C, R: Wait + Drop>(
     rt: &Q,
     poll: &mut Poll<P, C, R>,
-    bell: &mut Bell,
+    bell: &mut Bell<R>,
 ) -> Option<bool> {
     let pass = poll.take_pass()?;
     match open_turn(rt, &bell.lock, &mut bell.twin, pass) {
@@ -255,12 +275,12 @@ fn turn<Q: Wait, P: Poller, C, R: Wait + Drop>(
 fn one_poll(rt: HostRuntime) -> Result<(), Fail> {
     let mut poll = new_poll(&rt, rt.alloc())?;
     let (first, second, third) = (token(0)?, token(1)?, token(2)?);
-    let mut cell = Bell::new();
-    let mut other = Bell::new();
-    register(&rt, &poll, &other, second)?;
-    register(&rt, &poll, &cell, first)?;
-    ring(&rt, &poll, &other);
-    ring(&rt, &poll, &cell);
+    let mut cell = Bell::new(&rt, &poll)?;
+    let mut other = Bell::new(&rt, &poll)?;
+    register(&rt, &mut other, second)?;
+    register(&rt, &mut cell, first)?;
+    ring(&rt, &other);
+    ring(&rt, &cell);
     let keys = [third.key(), u64::MAX, second.key()];
     let given = answer(rt.alloc(), 1, &keys).expect(&rt, "an answer");
     poll.poller_mut().script(given)?;
@@ -298,12 +318,12 @@ fn one_poll(rt: HostRuntime) -> Result<(), Fail> {
 fn an_unspent_pass_goes_back(rt: HostRuntime) -> Result<(), Fail> {
     let mut poll = new_poll(&rt, rt.alloc())?;
     let (first, second) = (token(0)?, token(1)?);
-    let mut cell = Bell::new();
-    let mut other = Bell::new();
-    register(&rt, &poll, &cell, first)?;
-    register(&rt, &poll, &other, second)?;
-    ring(&rt, &poll, &cell);
-    ring(&rt, &poll, &other);
+    let mut cell = Bell::new(&rt, &poll)?;
+    let mut other = Bell::new(&rt, &poll)?;
+    register(&rt, &mut cell, first)?;
+    register(&rt, &mut other, second)?;
+    ring(&rt, &cell);
+    ring(&rt, &other);
     poll_once(&rt, &mut poll, None)?;
     assert_eq!(rt; next(&mut poll), Some((first.key(), true, true)));
     assert_eq!(rt; next(&mut poll), Some((second.key(), true, true)));
@@ -323,8 +343,8 @@ fn an_unspent_pass_goes_back(rt: HostRuntime) -> Result<(), Fail> {
 fn left_over_events_come_first(rt: HostRuntime) -> Result<(), Fail> {
     let mut poll = new_poll(&rt, rt.alloc())?;
     let (first, second, third) = (token(0)?, token(1)?, token(2)?);
-    let mut cell = Bell::new();
-    register(&rt, &poll, &cell, first)?;
+    let mut cell = Bell::new(&rt, &poll)?;
+    register(&rt, &mut cell, first)?;
     for keys in [[third.key(), second.key()], [second.key(), u64::MAX]] {
         let given = answer(rt.alloc(), 1, &keys).expect(&rt, "an answer");
         poll.poller_mut().script(given)?;
@@ -332,7 +352,7 @@ fn left_over_events_come_first(rt: HostRuntime) -> Result<(), Fail> {
     poll_once(&rt, &mut poll, None)?;
     assert_eq!(rt; next(&mut poll), Some((third.key(), false, false)));
     poll.end_event();
-    ring(&rt, &poll, &cell);
+    ring(&rt, &cell);
     poll_once(&rt, &mut poll, None)?;
     assert_eq!(rt; next(&mut poll), Some((second.key(), false, false)));
     assert_eq!(rt; next(&mut poll), Some((first.key(), true, true)));
@@ -367,10 +387,10 @@ fn no_wait_beside_a_left_over_event(rt: HostRuntime) -> Result<(), Fail> {
 fn a_post_nudges(rt: HostRuntime) -> Result<(), Fail> {
     let mut poll = new_poll(&rt, rt.alloc())?;
     let first = token(0)?;
-    let cell = Bell::new();
-    register(&rt, &poll, &cell, first)?;
+    let mut cell = Bell::new(&rt, &poll)?;
+    register(&rt, &mut cell, first)?;
     assert!(rt; !poll.poller_mut().is_nudged());
-    ring(&rt, &poll, &cell);
+    ring(&rt, &cell);
     assert!(rt; poll.poller_mut().is_nudged());
     poll_once(&rt, &mut poll, None)?;
     assert!(rt; !poll.poller_mut().is_nudged());
@@ -393,16 +413,16 @@ fn kind_of<T: Drop>(answer: Result<T, Error>) -> Option<io::ErrorKind> {
 fn places(rt: HostRuntime) -> Result<(), Fail> {
     let mut poll = new_poll(&rt, rt.alloc())?;
     let (first, second) = (token(0)?, token(1)?);
-    let mut cell = Bell::new();
-    let other = Bell::new();
-    register(&rt, &poll, &cell, first)?;
-    ring(&rt, &poll, &cell);
+    let mut cell = Bell::new(&rt, &poll)?;
+    let mut other = Bell::new(&rt, &poll)?;
+    register(&rt, &mut cell, first)?;
+    ring(&rt, &cell);
     assert_eq!(rt;
-        kind_of(register(&rt, &poll, &other, first)),
+        kind_of(register(&rt, &mut other, first)),
         Some(io::ErrorKind::AlreadyExists)
     );
-    register(&rt, &poll, &cell, second)?;
-    register(&rt, &poll, &other, first)?;
+    register(&rt, &mut cell, second)?;
+    register(&rt, &mut other, first)?;
     poll_once(&rt, &mut poll, None)?;
     assert_eq!(rt; next(&mut poll), Some((second.key(), true, true)));
     assert_eq!(rt; turn(&rt, &mut poll, &mut cell), Some(true));
@@ -451,9 +471,9 @@ fn a_fault_changes_nothing(rt: HostRuntime) -> Result<(), Fail> {
     };
     let mut poll = Poll::new(rt.clone()?, rt.alloc(), poller, ())?;
     let first = token(0)?;
-    let mut cell = Bell::new();
-    register(&rt, &poll, &cell, first)?;
-    ring(&rt, &poll, &cell);
+    let mut cell = Bell::new(&rt, &poll)?;
+    register(&rt, &mut cell, first)?;
+    ring(&rt, &cell);
     assert_eq!(rt;
         kind_of(poll_once(&rt, &mut poll, None)),
         Some(io::ErrorKind::PermissionDenied)
@@ -587,14 +607,14 @@ fn timers_in_order(rt: HostRuntime) -> Result<(), Fail> {
 fn a_scripted_fault(rt: HostRuntime) -> Result<(), Fail> {
     let mut poll = new_poll(&rt, rt.alloc())?;
     let (first, second) = (token(0)?, token(1)?);
-    let cell = Bell::new();
-    register(&rt, &poll, &cell, first)?;
+    let mut cell = Bell::new(&rt, &poll)?;
+    register(&rt, &mut cell, first)?;
     poll.insert_timer(at(5), second)?;
     assert!(rt; give(&mut poll, rt.alloc(), 0, &[second.key(), second.key()]).is_some());
     script(&mut poll, 10, ScriptEnd::Fault);
     poll_once(&rt, &mut poll, None)?;
     assert_eq!(rt; next(&mut poll), Some((second.key(), false, false)));
-    ring(&rt, &poll, &cell);
+    ring(&rt, &cell);
     let refused = poll_once(&rt, &mut poll, None);
     assert_eq!(rt; kind_of(refused), Some(io::ErrorKind::Other));
     assert_eq!(rt; next(&mut poll), Some((second.key(), false, false)));
@@ -610,9 +630,9 @@ fn a_scripted_fault(rt: HostRuntime) -> Result<(), Fail> {
 fn order_of_a_batch(rt: HostRuntime) -> Result<(), Fail> {
     let mut poll = new_poll(&rt, rt.alloc())?;
     let (first, second, third) = (token(0)?, token(1)?, token(2)?);
-    let cell = Bell::new();
-    register(&rt, &poll, &cell, third)?;
-    ring(&rt, &poll, &cell);
+    let mut cell = Bell::new(&rt, &poll)?;
+    register(&rt, &mut cell, third)?;
+    ring(&rt, &cell);
     poll.insert_timer(at(5), first)?;
     assert!(rt; give(&mut poll, rt.alloc(), 5, &[second.key()]).is_some());
     poll_once(&rt, &mut poll, None)?;

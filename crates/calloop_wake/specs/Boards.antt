@@ -1,6 +1,6 @@
 -- The board: one place for each open key, in ascending order of the keys. Calloop has the kernel's poller here: a place
 -- is a descriptor in its table, and a mark says that it is ready.
-use Rattle.std.specs.Prelude.{ℕ, Bool, false, ◌&&◌, ◌||◌, not, if◌then◌else◌, List, [], ◌∷◌, nat_eq, nat_lt, map, filter, ◌<◌}
+use Rattle.std.specs.Prelude.{ℕ, Bool, false, ◌&&◌, ◌||◌, not, if◌then◌else◌, List, [], ◌∷◌, nat_eq, nat_lt, map, filter, ◌<◌, None}
 use Rattle.std.specs.List.{list_any}
 use Rattle.calloop_wake.specs.declared.wake.board.Place.{Place}
 use Rattle.calloop_wake.specs.Passes.{Taken}
@@ -57,7 +57,7 @@ taken_keys ps = map (λ p. p.key) (filter (λ p. p.marked) ps)
 
 -- the pass of a key that was taken just now
 abbrev pub taken : ℕ → Taken
-taken k = record { key = k; refused = false }
+taken k = record { key = k; refused = None }
 
 -- each key is above this one
 abbrev pub AllAbove : ℕ → List Place → Type 0

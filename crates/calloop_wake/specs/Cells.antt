@@ -25,9 +25,9 @@ pub record Cell : Type 0 where
   -- how many senders there are
   pub senders : ℕ
 
--- a cell to which nothing has happened yet, with the one sender that it is made with
+-- a cell to which nothing has happened yet, and which has no sender
 abbrev pub fresh : Cell
-fresh = record { rung = false; pinged = false; draining = false; closed = false; told = false; gone = false; key = None; senders = 1 }
+fresh = record { rung = false; pinged = false; draining = false; closed = false; told = false; gone = false; key = None; senders = 0 }
 
 -- the next turn has something to tell: a ring, or a close that no turn told yet
 abbrev pub is_due : Cell → Bool
@@ -154,13 +154,22 @@ core_after_open_turn k c =
 abbrev pub tells : ℕ → Cell → ℕ
 tells k c = one (opens k c && (c.closed && not c.told))
 
--- the receiving end counts the rings that were taken, as its cell does, and the closes that were told
-abbrev pub twin_after_open_turn : ℕ → Core → Twin → Twin
-twin_after_open_turn k c twin = record twin { number = twin.number + takes k c.cell; closes = twin.closes + tells k c.cell }
+-- a receiving end that gave its cell no key yet, and opened no turn
+abbrev pub twin_of : Core → Twin
+twin_of c = record { name = c.name; key = None; turns = 0; number = 0; closes = 0 }
 
--- what opening a turn gives: the turn of this cell with what was due, or the pass back, marked refused
+-- the receiving end counts the turns that it opened, the rings that they took, and the closes that they told
+abbrev pub twin_after_open_turn : ℕ → Core → Twin → Twin
+twin_after_open_turn k c twin =
+    record twin {
+      turns = twin.turns + one (opens k c.cell);
+      number = twin.number + takes k c.cell;
+      closes = twin.closes + tells k c.cell;
+    }
+
+-- what opening a turn gives: the turn of this cell with what was due, or the pass back, marked as refused by it
 abbrev pub turn_of : Taken → Core → Result OpenedTurn Taken
 turn_of p c =
     if opens p.key c.cell
     then Ok (record { turn = record { name = c.name }; rung = c.cell.rung; told = c.cell.closed && not c.cell.told })
-    else Err (record { key = p.key; refused = true })
+    else Err (record { key = p.key; refused = Some c.name })

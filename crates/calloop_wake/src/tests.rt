@@ -7,7 +7,7 @@ use crate::wake::board::{Board, OpenRefusal};
 use crate::wake::ghosts::Name;
 use crate::wake::locked::{Core, Locked};
 use crate::wake::ping::{OpenedTurn, PingCore, covered};
-use crate::wake::{Debt, Last, LeaveToClose, Notify, PingTurn, TakenPass, Twin};
+use crate::wake::{Debt, Last, LeaveToClose, Notify, PingTurn, Sender, TakenPass, Twin};
 use crate::wheel::{Instant, Wheel};
 use counted_slot::Fits;
 use std::alloc::{AllocError, Global};
@@ -143,12 +143,25 @@ fn slots(rt: HostRuntime) {
     );
 }
 
-// A ping's cell under its lock, and the twin of its receiving end.
-#[derive(Drop)]
+// A ping's cell under its lock, and its receiving end.
 struct Ends {
     lock: Locked<PingCore>,
     twin: Twin,
     ghost tied: { twin.name ≡ lock.slot },
+}
+
+// The board of the cell goes with it.
+impl Drop for Ends {
+    fn drop(self) {
+        let Ends { lock: _, twin } = self;
+        let Twin {
+            name: _,
+            key: _,
+            turns: _,
+            number: _,
+            closes: _,
+        } = twin;
+    }
 }
 
 // What came of a pass.
@@ -177,7 +190,8 @@ const REFUSED: Turn = Turn::Refused { marked: true };
 
 impl Ends {
     fn new() -> Ends {
-        let (core, name, twin) = PingCore::new();
+        let (core, name) = PingCore::new();
+        let twin = core.receiver();
         Ends {
             lock: Locked::new(core, &name),
             twin,
@@ -194,25 +208,34 @@ impl Ends {
         ring(rt, &self.lock)
     }
 
-    fn add_sender<R: Wait>(&self, rt: &R) -> Result<(), AllocError> {
+    fn add_sender<R: Wait>(&self, rt: &R) -> Result<Sender, AllocError>
+        ensures { IfOk result (λ sender. sender.name ≡ self.now.lock.slot) }
+    {
         let (gate, mut core) = self.lock.lock(rt);
         let added = core.add_sender();
         self.lock.unlock(rt, gate, core);
         added
     }
 
-    fn drop_sender<R: Wait>(&self, rt: &R) -> Option<Debt> {
+    fn drop_sender<R: Wait>(&self, rt: &R, sender: Sender) -> Option<Debt>
+        requires { sender.name ≡ self.now.lock.slot }
+    {
         let (gate, mut core) = self.lock.lock(rt);
-        let debt = core.drop_sender();
+        let debt = core.drop_sender(sender);
         self.lock.unlock(rt, gate, core);
         debt
     }
 
     // Opens a place, and gives the cell its key.
-    fn register<R: Wait>(&self, rt: &R, board: &mut Board, key: u64) -> Result<(), OpenRefusal> {
+    fn register<R: Wait>(
+        &mut self,
+        rt: &R,
+        board: &mut Board,
+        key: u64,
+    ) -> Result<(), OpenRefusal> {
         let pass = board.open_place(key)?;
         let (gate, mut core) = self.lock.lock(rt);
-        let (debt, leave) = core.set_key(pass);
+        let (debt, leave) = core.set_key(pass, &mut self.twin);
         self.lock.unlock(rt, gate, core);
         settle(board, debt);
         close(board, leave);
@@ -220,19 +243,20 @@ impl Ends {
     }
 
     // Takes the cell's key back, and closes its place: whether it had one.
-    fn unregister<R: Wait>(&self, rt: &R, board: &mut Board) -> bool {
+    fn unregister<R: Wait>(&mut self, rt: &R, board: &mut Board) -> bool {
         let (gate, mut core) = self.lock.lock(rt);
-        let leave = core.clear_key();
+        let leave = core.clear_key(&mut self.twin);
         self.lock.unlock(rt, gate, core);
         close(board, leave)
     }
 
-    // The same, as the receiving end goes.
-    fn abandon<R: Wait>(&self, rt: &R, board: &mut Board) -> bool {
-        let (gate, mut core) = self.lock.lock(rt);
-        let leave = core.abandon();
-        self.lock.unlock(rt, gate, core);
-        close(board, leave)
+    // The same, as the receiving end goes. The lock stays.
+    fn abandon<R: Wait>(self, rt: &R, board: &mut Board) -> (bool, Locked<PingCore>) {
+        let Ends { lock, twin } = self;
+        let (gate, mut core) = lock.lock(rt);
+        let leave = core.abandon(twin);
+        lock.unlock(rt, gate, core);
+        (close(board, leave), lock)
     }
 
     fn serve_all<R: Wait>(
@@ -464,7 +488,7 @@ fn one_ring(rt: HostRuntime) -> Result<(), Fail> {
 #[test]
 fn cells_that_stand(rt: HostRuntime) {
     let mut board = Board::new(rt.alloc());
-    let cell = Ends::new();
+    let mut cell = Ends::new();
     cell.stands(&rt);
     assert!(rt; !settle(&mut board, cell.ring(&rt)));
     cell.stands(&rt);
@@ -477,8 +501,8 @@ fn cells_that_stand(rt: HostRuntime) {
 fn nudges(rt: HostRuntime) {
     covered();
     let mut board = Board::new(rt.alloc());
-    let cell = Ends::new();
-    let other = Ends::new();
+    let mut cell = Ends::new();
+    let mut other = Ends::new();
     assert!(rt; cell.register(&rt, &mut board, 7).is_ok());
     let of_seven = cell.ring(&rt);
     assert!(rt; cell.register(&rt, &mut board, 8).is_ok());
@@ -487,7 +511,7 @@ fn nudges(rt: HostRuntime) {
     assert!(rt; settle(&mut board, of_seven));
     assert!(rt; !settle(&mut board, again));
 
-    let third = Ends::new();
+    let mut third = Ends::new();
     assert!(rt; third.register(&rt, &mut board, 5).is_ok());
     let of_five = third.ring(&rt);
     assert!(rt; third.register(&rt, &mut board, 6).is_ok());
@@ -497,7 +521,7 @@ fn nudges(rt: HostRuntime) {
 #[test]
 fn keys_that_are_taken_back(rt: HostRuntime) {
     let mut board = Board::new(rt.alloc());
-    let cell = Ends::new();
+    let mut cell = Ends::new();
     assert!(rt; cell.register(&rt, &mut board, 7).is_ok());
     assert!(rt; cell.unregister(&rt, &mut board));
     assert!(rt; !cell.unregister(&rt, &mut board));
@@ -510,12 +534,14 @@ fn keys_that_are_taken_back(rt: HostRuntime) {
 #[test]
 fn an_end_that_is_gone(rt: HostRuntime) {
     let mut board = Board::new(rt.alloc());
-    let cell = Ends::new();
+    let mut cell = Ends::new();
+    assert_eq!(rt; cell.twin.key(), None);
     assert!(rt; cell.register(&rt, &mut board, 7).is_ok());
-    assert!(rt; cell.abandon(&rt, &mut board));
-    assert!(rt; !cell.abandon(&rt, &mut board));
+    assert_eq!(rt; cell.twin.key(), Some(7));
+    let (had_key, lock) = cell.abandon(&rt, &mut board);
+    assert!(rt; had_key);
     assert_eq!(rt; board.places(), 0);
-    assert!(rt; !settle(&mut board, cell.ring(&rt)));
+    assert!(rt; !settle(&mut board, ring(&rt, &lock)));
 }
 
 #[test]
@@ -524,10 +550,11 @@ fn closes(rt: HostRuntime) -> Result<(), Fail> {
     let mut board = Board::new(alloc);
     let mut cell = Ends::new();
     assert!(rt; cell.register(&rt, &mut board, 7).is_ok());
-    assert!(rt; cell.add_sender(&rt).is_ok());
-    assert!(rt; !settle(&mut board, cell.drop_sender(&rt)));
+    let first = cell.add_sender(&rt).expect(&rt, "a sender");
+    let second = cell.add_sender(&rt).expect(&rt, "a sender");
+    assert!(rt; !settle(&mut board, cell.drop_sender(&rt, first)));
     assert!(rt; is_quiet(&board));
-    assert!(rt; settle(&mut board, cell.drop_sender(&rt)));
+    assert!(rt; settle(&mut board, cell.drop_sender(&rt, second)));
     cell.stands(&rt);
     assert_eq!(rt;
         cell.serve_all(&rt, alloc, &mut board)?.as_slice(),
@@ -549,13 +576,15 @@ fn closes_that_wait(rt: HostRuntime) -> Result<(), Fail> {
     let mut rung = Ends::new();
     assert!(rt; rung.register(&rt, &mut board, 7).is_ok());
     assert!(rt; settle(&mut board, rung.ring(&rt)));
-    assert!(rt; !settle(&mut board, rung.drop_sender(&rt)));
+    let sender = rung.add_sender(&rt).expect(&rt, "a sender");
+    assert!(rt; !settle(&mut board, rung.drop_sender(&rt, sender)));
     assert_eq!(rt;
         rung.serve_all(&rt, alloc, &mut board)?.as_slice(),
         [RUNG_AND_TOLD].as_slice()
     );
     let mut early = Ends::new();
-    assert!(rt; !settle(&mut board, early.drop_sender(&rt)));
+    let sender = early.add_sender(&rt).expect(&rt, "a sender");
+    assert!(rt; !settle(&mut board, early.drop_sender(&rt, sender)));
     assert!(rt; is_quiet(&board));
     assert!(rt; early.register(&rt, &mut board, 8).is_ok());
     assert_eq!(rt;

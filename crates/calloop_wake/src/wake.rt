@@ -3,7 +3,7 @@
 //!
 //! In calloop the kernel does this work, through an eventfd or a pipe for each ping and the poller.
 //! The values of this module have no `Drop`: who has one has to hand it on or to spend it.
-ghost use Rattle.std.specs.Prelude.{◌≡◌};
+ghost use Rattle.std.specs.Prelude.{◌≡◌, is_some};
 
 use ghosts::{Count, Name};
 use std::marker::Model;
@@ -59,7 +59,8 @@ impl Model for LeaveToClose {
 #[must_use]
 pub struct TakenPass {
     key: u64,
-    refused: bool,
+    // The cell that refused it.
+    refused: Option<Name>,
 }
 
 impl Model for TakenPass {
@@ -80,9 +81,9 @@ impl TakenPass {
 
     /// Whether a cell refused to open a turn with it.
     pub fn is_refused(&self) -> bool
-        ensures { result ≡ self.now.refused }
+        ensures { result ≡ is_some self.now.refused }
     {
-        self.refused
+        self.refused.is_some()
     }
 
     /// Gives the key back to the board, as a debt.
@@ -107,13 +108,30 @@ pub struct Receipt {
     pub(crate) number: Count,
 }
 
-/// How many turns took a ring of the cell of this name, and how many told its close. The receiving end has the one of its
-/// cell.
-#[derive(Drop)]
+/// One of the senders of the cell of this name, which counts it until it is dropped there.
+#[must_use]
+pub struct Sender {
+    pub(crate) name: Name,
+}
+
+/// The receiving end of the cell of this name: the key that it gave the cell, how many turns it opened, how many of them took a
+/// ring, and how many told the close. It is spent where the cell is abandoned.
+#[must_use]
 pub struct Twin {
     pub(crate) name: Name,
+    pub(crate) key: Option<u64>,
+    pub(crate) turns: Count,
     pub(crate) number: Count,
     pub(crate) closes: Count,
+}
+
+impl Twin {
+    /// Under which key the loop knows the cell.
+    pub fn key(&self) -> Option<u64>
+        ensures { result ≡ self.now.key }
+    {
+        self.key
+    }
 }
 
 /// Only the last drop of a lock has it, so what lies under a lock isn't ended before.

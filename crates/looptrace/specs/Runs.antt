@@ -109,7 +109,7 @@ InsertLine {R} s name made (Some (t, said)) =
 -- a source of a cell that no turn took a ring of, registered nowhere, with a callback that says its name, and the cell's ping
 abbrev pub IsNewPing : {R : Type 0} → List ℕ → Source R → Option Book → Type 0
 IsNewPing name (PingIn d) ping =
-    (d.source.token ≡ None) × (d.source.twin.number ≡ 0) × (d.callback ≡ record { name = name }) × (ping ≡ Some d.source.twin.name)
+    (d.source.twin.key ≡ None) × (d.source.twin.number ≡ 0) × (d.callback ≡ record { name = name }) × (ping ≡ Some d.source.twin.name)
 IsNewPing name (TimerIn d) ping = ⊥
 
 -- a timer with a deadline, with a callback that says its name and the deadline

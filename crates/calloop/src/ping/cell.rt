@@ -1,7 +1,8 @@
 //! The cell of a ping with the board of its key, under one lock, and the sections of that lock. No other lock is taken and
 //! nobody is called within one: what a section owes to the board is settled after it.
-ghost use Rattle.std.specs.Prelude.{◌≡◌, ◌+◌, None, IfOk, IfErr, is_some, true};
+ghost use Rattle.std.specs.Prelude.{◌≡◌, ◌+◌, None, Some, IfOk, IfErr, is_some, true};
 ghost use Rattle.std.specs.Arc.{arc_value};
+ghost use Rattle.calloop_wake.specs.Tokens.{key_of};
 ghost use Rattle.calloop_wake.specs.Cells.{one};
 ghost use Rattle.calloop_core.specs.Polls.{CannotOpen};
 
@@ -11,7 +12,7 @@ use calloop_wake::token::Token;
 use calloop_wake::wake::ghosts::Name;
 use calloop_wake::wake::locked::{Core, Locked};
 use calloop_wake::wake::ping::{OpenedTurn, PingCore};
-use calloop_wake::wake::{Debt, Last, LeaveToClose, PingTurn, Receipt, TakenPass, Twin};
+use calloop_wake::wake::{Debt, Last, LeaveToClose, PingTurn, Receipt, Sender, TakenPass, Twin};
 use counted_slot::Fits;
 use std::alloc::{AllocError, Global};
 use std::sync::{Arc, Wait};
@@ -42,12 +43,10 @@ impl Core for PingCell {
 pub type SharedCell = Arc<Locked<PingCell>, Global>;
 
 impl PingCell {
-    /// A cell that was just made, without a board.
-    pub fn new(core: PingCore) -> PingCell
-        requires { core.cell.key ≡ None }
-        ensures { result.core ≡ core }
-    {
-        PingCell { core, hub: None }
+    /// A cell to which nothing has happened yet, under its lock.
+    pub fn locked() -> Locked<PingCell> {
+        let (core, name) = PingCore::new();
+        Locked::new(PingCell { core, hub: None }, &name)
     }
 
     // The debt with the board on which it is settled, outside the lock.
@@ -94,8 +93,20 @@ pub fn ring<R: Wait>(rt: &R, shared: &Locked<PingCell>) -> Receipt
     receipt
 }
 
+/// A receiving end of the cell.
+pub fn receiver<R: Wait>(rt: &R, shared: &Locked<PingCell>) -> Twin
+    ensures { result ≡ record { name = shared.now.slot; key = None; turns = 0; number = 0; closes = 0 } }
+{
+    let (gate, cell) = shared.lock(rt);
+    let twin = cell.core.receiver();
+    shared.unlock(rt, gate, cell);
+    twin
+}
+
 /// One sender more. There can be 2^64 - 1.
-pub fn add_sender<R: Wait>(rt: &R, shared: &Locked<PingCell>) -> Result<(), AllocError> {
+pub fn add_sender<R: Wait>(rt: &R, shared: &Locked<PingCell>) -> Result<Sender, AllocError>
+    ensures { IfOk result (λ sender. sender.name ≡ shared.now.slot) }
+{
     let (gate, mut cell) = shared.lock(rt);
     let added = cell.core.add_sender();
     shared.unlock(rt, gate, cell);
@@ -103,9 +114,11 @@ pub fn add_sender<R: Wait>(rt: &R, shared: &Locked<PingCell>) -> Result<(), Allo
 }
 
 /// One sender less. The last one closes the cell.
-pub fn drop_sender<R: Wait>(rt: &R, shared: &Locked<PingCell>) {
+pub fn drop_sender<R: Wait>(rt: &R, shared: &Locked<PingCell>, sender: Sender)
+    requires { sender.name ≡ shared.now.slot }
+{
     let (gate, mut cell) = shared.lock(rt);
-    let debt = cell.core.drop_sender();
+    let debt = cell.core.drop_sender(sender);
     let owed = cell.owed(rt, debt);
     shared.unlock(rt, gate, cell);
     settle(rt, owed);
@@ -115,16 +128,19 @@ pub fn drop_sender<R: Wait>(rt: &R, shared: &Locked<PingCell>) {
 pub fn attach<R: Wait>(
     rt: &R,
     shared: &Locked<PingCell>,
+    twin: &mut Twin,
     hub: &SharedHub,
     token: Token,
 ) -> LoopResult<()>
-    ensures { IfErr result CannotOpen }
+    requires { twin.old.name ≡ shared.now.slot }
+    ensures ok { IfOk result (λ _. twin.new ≡ record twin.old { key = Some (key_of token) }) }
+    ensures err { IfErr result (λ e. CannotOpen e × (twin.new ≡ twin.old)) }
 {
     let pass = hub.open_place(rt, token)?;
     let mine = share(rt, hub);
     let (gate, mut cell) = shared.lock(rt);
     let old = cell.hub.replace(mine);
-    let (debt, leave) = cell.core.set_key(pass);
+    let (debt, leave) = cell.core.set_key(pass, twin);
     let owed = cell.owed(rt, debt);
     shared.unlock(rt, gate, cell);
     close_place(rt, &old, leave);
@@ -133,9 +149,12 @@ pub fn attach<R: Wait>(
 }
 
 /// Clears the cell's key, and then closes its place.
-pub fn detach<R: Wait>(rt: &R, shared: &Locked<PingCell>) {
+pub fn detach<R: Wait>(rt: &R, shared: &Locked<PingCell>, twin: &mut Twin)
+    requires { twin.old.name ≡ shared.now.slot }
+    ensures { twin.new ≡ record twin.old { key = None } }
+{
     let (gate, mut cell) = shared.lock(rt);
-    let leave = cell.core.clear_key();
+    let leave = cell.core.clear_key(twin);
     let hub = cell.hub.take();
     shared.unlock(rt, gate, cell);
     close_place(rt, &hub, leave);
@@ -150,8 +169,8 @@ pub fn open_turn<R: Wait>(
 ) -> Result<OpenedTurn, TakenPass>
     requires { twin.old.name ≡ shared.now.slot }
     ensures name { twin.new.name ≡ twin.old.name }
-    ensures ok { IfOk result (λ opened. (opened.turn.name ≡ shared.now.slot) × (twin.new ≡ record twin.old { number = twin.old.number + one opened.rung; closes = twin.old.closes + one opened.told })) }
-    ensures err { IfErr result (λ refused. (refused ≡ record { key = pass.key; refused = true }) × (twin.new ≡ twin.old)) }
+    ensures ok { IfOk result (λ opened. (opened.turn.name ≡ shared.now.slot) × (twin.new ≡ record twin.old { turns = twin.old.turns + 1; number = twin.old.number + one opened.rung; closes = twin.old.closes + one opened.told })) }
+    ensures err { IfErr result (λ refused. (refused ≡ record { key = pass.key; refused = Some twin.old.name }) × (twin.new ≡ twin.old)) }
 {
     let (gate, mut cell) = shared.lock(rt);
     let opened = cell.core.open_turn(pass, twin);
@@ -170,10 +189,12 @@ pub fn end_turn<R: Wait>(rt: &R, shared: &Locked<PingCell>, turn: PingTurn)
     settle(rt, owed);
 }
 
-/// The receiving end is gone: its key is cleared, and then the place of that is closed.
-pub fn abandon<R: Wait>(rt: &R, shared: &Locked<PingCell>) {
+/// The receiving end goes: its key is cleared, and then the place of that is closed.
+pub fn abandon<R: Wait>(rt: &R, shared: &Locked<PingCell>, twin: Twin)
+    requires { twin.name ≡ shared.now.slot }
+{
     let (gate, mut cell) = shared.lock(rt);
-    let leave = cell.core.abandon();
+    let leave = cell.core.abandon(twin);
     let hub = cell.hub.take();
     shared.unlock(rt, gate, cell);
     close_place(rt, &hub, leave);

@@ -3,7 +3,9 @@ ghost use Rattle.std.specs.Prelude.{◌≡◌, Bool, List, Option, Result};
 ghost use Rattle.calloop_wake.specs.declared.token.Token.{Token};
 ghost use Rattle.calloop_core.specs.Polls.{PollStep, poll_view, AllStepped};
 ghost use Rattle.calloop_core.specs.Calls.{Call, Went};
-ghost use Rattle.calloop.specs.Pings.{is_token, calls_of, action_of};
+ghost use Rattle.calloop_wake.specs.Tokens.{key_of};
+ghost use Rattle.calloop_wake.specs.Cells.{is_own};
+ghost use Rattle.calloop.specs.Pings.{calls_of, action_of};
 
 use super::{PingSource, cell};
 use calloop_core::sources::{Callback, EventSource, IntoError, PostAction};
@@ -55,12 +57,9 @@ fn action_of(told: bool) -> PostAction
 
 impl<R: Wait + Drop> PingSource<R> {
     fn is_mine(&self, token: Token) -> bool
-        ensures { result ≡ is_token token self.now.token }
+        ensures { result ≡ is_own (key_of token) self.now.twin.key }
     {
-        match self.token {
-            Some(own) => own.key() == token.key(),
-            None => false,
-        }
+        self.twin.key() == Some(token.key())
     }
 }
 
@@ -126,14 +125,12 @@ impl<P: Poller, C, R: Wait + Drop> EventSource<P, C, R> for PingSource<R> {
     /// Where it is registered already the answer is `IoError` of kind `AlreadyExists`; a factory without tokens is
     /// `TooManyTokens`, and want of memory `OutOfMemory`. A refusal leaves the ping and the board as they were.
     fn register(&mut self, poll: &mut Poll<P, C, R>, factory: &mut TokenFactory) -> LoopResult<()> {
-        if self.token.is_some() {
+        if self.twin.key().is_some() {
             let cause = io::Error::from(io::ErrorKind::AlreadyExists);
             return Err(Error::IoError(cause));
         }
         let token = factory.token()?;
-        cell::attach(&self.rt, &self.shared, poll.hub(), token)?;
-        self.token = Some(token);
-        Ok(())
+        cell::attach(&self.rt, &self.shared, &mut self.twin, poll.hub(), token)
     }
 
     /// Moves the registration to the factory's next token; under the same key it does nothing. What stands is posted
@@ -147,7 +144,7 @@ impl<P: Poller, C, R: Wait + Drop> EventSource<P, C, R> for PingSource<R> {
         poll: &mut Poll<P, C, R>,
         factory: &mut TokenFactory,
     ) -> LoopResult<()> {
-        if self.token.is_none() {
+        if self.twin.key().is_none() {
             let cause = io::Error::from(io::ErrorKind::NotFound);
             return Err(Error::IoError(cause));
         }
@@ -155,20 +152,17 @@ impl<P: Poller, C, R: Wait + Drop> EventSource<P, C, R> for PingSource<R> {
         if self.is_mine(token) {
             return Ok(());
         }
-        cell::attach(&self.rt, &self.shared, poll.hub(), token)?;
-        let _old = self.token.replace(token);
-        Ok(())
+        cell::attach(&self.rt, &self.shared, &mut self.twin, poll.hub(), token)
     }
 
     /// Takes the registration back. What stands is told after the next registration. Where the ping isn't registered
     /// the answer is `IoError` of kind `NotFound`, and nothing changes.
     fn unregister(&mut self, _poll: &mut Poll<P, C, R>) -> LoopResult<()> {
-        if self.token.is_none() {
+        if self.twin.key().is_none() {
             let cause = io::Error::from(io::ErrorKind::NotFound);
             return Err(Error::IoError(cause));
         }
-        cell::detach(&self.rt, &self.shared);
-        self.token = None;
+        cell::detach(&self.rt, &self.shared, &mut self.twin);
         Ok(())
     }
 

@@ -123,7 +123,7 @@ fn take(places: &[Place], passes: &mut VecDeque<TakenPass>)
         if p.marked {
             let pass = TakenPass {
                 key: p.key,
-                refused: false,
+                refused: None,
             };
             match passes.push_back(pass) {
                 Ok(()) => {}

@@ -1,11 +1,11 @@
 //! The cell of a ping, which its ends share.
-ghost use Rattle.std.specs.Prelude.{◌≡◌, ◌+◌, ◌<◌, ◌^◌, true, false, None, List, IfOk, IfErr};
-ghost use Rattle.calloop_wake.specs.Cells.{fresh, IsLit, IsStanding, IsTold, IsSince, owed, owed_at, owed_by_drop, after_close, after_add_sender, after_drop_sender, after_set_key, after_clear_key, after_end_turn, in_turn, core_with, core_after_ring, core_after_open_turn, twin_after_open_turn, receipt_of, turn_of};
+ghost use Rattle.std.specs.Prelude.{◌≡◌, ◌+◌, ◌<◌, ◌^◌, true, false, None, Some, List, IfOk, IfErr};
+ghost use Rattle.calloop_wake.specs.Cells.{fresh, IsLit, IsStanding, IsTold, IsSince, owed, owed_at, owed_by_drop, after_close, after_add_sender, after_drop_sender, after_set_key, after_clear_key, after_end_turn, in_turn, core_with, core_after_ring, core_after_open_turn, twin_of, twin_after_open_turn, receipt_of, turn_of};
 ghost use Rattle.calloop_wake.specs.Wakes.{Step, start, after_all, IsSchedule, IsCovered};
 
 use super::ghosts::{Count, Name};
 use super::locked::Core;
-use super::{Debt, Last, LeaveToClose, OpenedPass, PingTurn, Receipt, TakenPass, Twin};
+use super::{Debt, Last, LeaveToClose, OpenedPass, PingTurn, Receipt, Sender, TakenPass, Twin};
 use counted_slot::Fits;
 use std::alloc::AllocError;
 use std::marker::Model;
@@ -89,17 +89,11 @@ pub struct OpenedTurn {
 }
 
 impl PingCore {
-    /// A cell that nobody rang, without a key and with one sender; its name, and the twin of its receiving end.
-    pub fn new() -> (PingCore, Name, Twin)
-        ensures core { result.0 ≡ record { cell = fresh; name = result.1; rings = 0; seen = 0; taken = 0 } }
-        ensures twin { result.2 ≡ record { name = result.1; number = 0; closes = 0 } }
+    /// A cell that nobody rang, without a key and without senders, and its name.
+    pub fn new() -> (PingCore, Name)
+        ensures { result.0 ≡ record { cell = fresh; name = result.1; rings = 0; seen = 0; taken = 0 } }
     {
         let name = Name::fresh();
-        let twin = Twin {
-            name: name.again(),
-            number: Count::zero(),
-            closes: Count::zero(),
-        };
         let core = PingCore {
             rung: false,
             pinged: false,
@@ -108,13 +102,26 @@ impl PingCore {
             told: false,
             gone: false,
             key: None,
-            senders: 1,
+            senders: 0,
             name: name.again(),
             rings: Count::zero(),
             seen: Count::zero(),
             taken: Count::zero(),
         };
-        (core, name, twin)
+        (core, name)
+    }
+
+    /// A receiving end, which gave the cell no key yet and opened no turn.
+    pub fn receiver(&self) -> Twin
+        ensures { result ≡ twin_of self.now }
+    {
+        Twin {
+            name: self.name.again(),
+            key: None,
+            turns: Count::zero(),
+            number: Count::zero(),
+            closes: Count::zero(),
+        }
     }
 
     /// Shows that no ring and no close is lost: what is due is pinged, or a turn stands open. A ring stands exactly where
@@ -159,14 +166,15 @@ impl PingCore {
     }
 
     /// One sender more. It is refused exactly where there are 2^64 - 1, and then nothing changes.
-    pub fn add_sender(&mut self) -> Result<(), AllocError>
-        ensures ok { IfOk result (λ _. (self.old.cell.senders + 1 < 2 ^ 64) × (self.new ≡ core_with (after_add_sender self.old.cell) self.old)) }
+    pub fn add_sender(&mut self) -> Result<Sender, AllocError>
+        ensures ok { IfOk result (λ sender. (sender.name ≡ self.old.name) × (self.old.cell.senders + 1 < 2 ^ 64) × (self.new ≡ core_with (after_add_sender self.old.cell) self.old)) }
         ensures err { IfErr result (λ _. (self.old.cell.senders + 1 ≡ 2 ^ 64) × (self.new ≡ self.old)) }
     {
         match self.senders.checked_add(1) {
             Some(senders) => {
                 self.senders = senders;
-                Ok(())
+                let name = self.name.again();
+                Ok(Sender { name })
             }
             None => Err(AllocError),
         }
@@ -184,11 +192,14 @@ impl PingCore {
         debt
     }
 
-    /// One sender less. The last one closes: that gives a debt where the cell has a key and was not pinged.
-    pub fn drop_sender(&mut self) -> Option<Debt>
+    /// One sender less, which has to be one of this cell. The last one closes: that gives a debt where the cell has a key
+    /// and was not pinged.
+    pub fn drop_sender(&mut self, sender: Sender) -> Option<Debt>
+        requires { sender.name ≡ self.old.name }
         ensures core { self.new ≡ core_with (after_drop_sender self.old.cell) self.old }
         ensures gives { result ≡ owed_by_drop self.old.cell }
     {
+        let Sender { name: _ } = sender;
         if self.senders > 1 {
             self.senders -= 1;
             None
@@ -201,7 +212,13 @@ impl PingCore {
     ///
     /// First comes the debt of the new key, where the cell is pinged, and then the leave to close the place of
     /// the key that it had.
-    pub fn set_key(&mut self, pass: OpenedPass) -> (Option<Debt>, Option<LeaveToClose>)
+    pub fn set_key(
+        &mut self,
+        pass: OpenedPass,
+        twin: &mut Twin,
+    ) -> (Option<Debt>, Option<LeaveToClose>)
+        requires { twin.old.name ≡ self.old.name }
+        ensures twin { twin.new ≡ record twin.old { key = Some pass } }
         ensures core { self.new ≡ core_with (after_set_key pass self.old.cell) self.old }
         ensures owes { result.0 ≡ owed_at pass self.old.cell }
         ensures leaves { result.1 ≡ self.old.cell.key }
@@ -212,6 +229,7 @@ impl PingCore {
             None => None,
         };
         self.key = Some(key);
+        twin.key = Some(key);
         if self.pinged {
             (Some(Debt { key }), leave)
         } else {
@@ -222,7 +240,17 @@ impl PingCore {
     /// Takes the cell's key back, as calloop takes the descriptor out of the poller. What is due stays so.
     ///
     /// It gives the leave to close the place of the key, where the cell had one.
-    pub fn clear_key(&mut self) -> Option<LeaveToClose>
+    pub fn clear_key(&mut self, twin: &mut Twin) -> Option<LeaveToClose>
+        requires { twin.old.name ≡ self.old.name }
+        ensures twin { twin.new ≡ record twin.old { key = None } }
+        ensures core { self.new ≡ core_with (after_clear_key false self.old.cell) self.old }
+        ensures leaves { result ≡ self.old.cell.key }
+    {
+        twin.key = None;
+        self.take_key()
+    }
+
+    fn take_key(&mut self) -> Option<LeaveToClose>
         ensures core { self.new ≡ core_with (after_clear_key false self.old.cell) self.old }
         ensures leaves { result ≡ self.old.cell.key }
     {
@@ -230,19 +258,27 @@ impl PingCore {
         Some(LeaveToClose { key })
     }
 
-    /// The receiving end is gone: the same, and the cell keeps that nobody will take its rings.
-    pub fn abandon(&mut self) -> Option<LeaveToClose>
+    /// The receiving end goes: the same, and the cell keeps that nobody will take its rings.
+    pub fn abandon(&mut self, twin: Twin) -> Option<LeaveToClose>
+        requires { twin.name ≡ self.old.name }
         ensures core { self.new ≡ core_with (after_clear_key true self.old.cell) self.old }
         ensures leaves { result ≡ self.old.cell.key }
     {
+        let Twin {
+            name: _,
+            key: _,
+            turns: _,
+            number: _,
+            closes: _,
+        } = twin;
         self.gone = true;
-        self.clear_key()
+        self.take_key()
     }
 
     /// Opens a turn with a pass of the cell's own key, and takes what is due; the twin counts it.
     ///
     /// It refuses a pass of another key, and any pass while a turn stands open: the pass comes back marked as
-    /// refused, and the cell stays as it is.
+    /// refused by this cell, and the cell stays as it is.
     pub fn open_turn(&mut self, pass: TakenPass, twin: &mut Twin) -> Result<OpenedTurn, TakenPass>
         requires { twin.old.name ≡ self.old.name }
         ensures core { self.new ≡ core_after_open_turn pass.key self.old }
@@ -251,13 +287,15 @@ impl PingCore {
     {
         let TakenPass { key, refused: _ } = pass;
         if self.draining || self.key != Some(key) {
-            return Err(TakenPass { key, refused: true });
+            let refused = Some(self.name.again());
+            return Err(TakenPass { key, refused });
         }
         let rung = self.rung;
         let told = self.closed && !self.told;
         let turn = PingTurn {
             name: self.name.again(),
         };
+        twin.turns = twin.turns.next();
         if rung {
             self.taken = self.taken.next();
             twin.number = twin.number.next();

@@ -21,6 +21,6 @@ returns-clause-ok g c =
       says.1,
       line_is (λ d. Ping d) teller c.insert_source-answer.result name c.in_ok-kept.kept (Some (cell_of c.in_ok-ping.ping)) (Ping (record { source = c.in_ok-ping.source; callback = teller })) (IsNewPing name)
           _ (view_of c.args.self.now.event_loop) _ c.args.self.now.sources.items _ c.args.self.now.fault (option_map pending_of c.args.self.now.pending) says.0
-          none (made.2, ap (λ (t : Twin). t.number) made.0, ap (λ (n : List ℕ). record { name = n }) (c.in_ok-new.ensures ∙ c.as_slice-2.ensures), sym (ap (λ (t : Twin). Some t.name) made.0))
+          none (ap (λ (t : Twin). t.key) made.0, ap (λ (t : Twin). t.number) made.0, ap (λ (n : List ℕ). record { name = n }) (c.in_ok-new.ensures ∙ c.as_slice-2.ensures), sym (ap (λ (t : Twin). Some t.name) made.0))
           (ap view_of c.handle.ensures.value) kept c.insert_source-answer.ensures.case says.2,
     )

@@ -1,33 +1,34 @@
 use Rattle.std.proofs.Common.{◌≡◌, refl, sym, ◌∙◌, ap, true, false, [], ◌∷◌}
 use Rattle.calloop_core.specs.declared.sources.PostAction.TheVariants.{Continue}
 use Rattle.calloop_core.specs.Polls.{TakePass, PutBack, PollView, poll_after}
-use Rattle.calloop.specs.Pings.{is_token, calls_of, Opened, Refused}
+use Rattle.calloop_wake.specs.Tokens.{key_of}
+use Rattle.calloop_wake.specs.Cells.{is_own}
+use Rattle.calloop.specs.Pings.{calls_of, Opened, Refused}
 use Rattle.calloop.proofs.Pinging.{turn_of_another, turn_without, turn_served}
 use Rattle.calloop.proofs.ping.source.PingSourceEventSource.process_events.Goals as goal
 
 pub returns-then-not-is_mine : goal.returns-then-not-is_mine
 returns-then-not-is_mine g c =
     let s = c.args.self.now in
-    let other : is_token c.args.token s.token ≡ false = sym c.is_mine.ensures ∙ c.if-not-is_mine.true in
-    ([], [], (turn_of_another _ s.token s.twin c.args.token c.args.poll.now.pass other, refl, refl), (tt, refl), (refl, refl))
+    let other : is_own (key_of c.args.token) s.twin.key ≡ false = sym c.is_mine.ensures ∙ c.if-not-is_mine.true in
+    ([], [], (turn_of_another _ s.twin c.args.token c.args.poll.now.pass other, refl), (tt, refl), (refl, refl))
 
 pub returns-in_default : goal.returns-in_default
 returns-in_default g c =
     let s = c.args.self.now in
-    let own : is_token c.args.token s.token ≡ true = sym c.is_mine.ensures ∙ c.if-not-is_mine.false in
-    ([], TakePass ∷ [], (turn_without _ s.token s.twin c.args.token c.args.poll.now.pass own (sym c.in_default.ensures.pass), refl, refl), ((tt, tt), c.take_pass.ensures.view), (refl, refl))
+    let own : is_own (key_of c.args.token) s.twin.key ≡ true = sym c.is_mine.ensures ∙ c.if-not-is_mine.false in
+    ([], TakePass ∷ [], (turn_without _ s.twin c.args.token c.args.poll.now.pass own (sym c.in_default.ensures.pass), refl), ((tt, tt), c.take_pass.ensures.view), (refl, refl))
 
 pub returns-in-Ok : goal.returns-in-Ok
 returns-in-Ok g c =
     let s = c.args.self.now in
     let opened = c.in-Ok.opened in
-    let own : is_token c.args.token s.token ≡ true = sym c.is_mine.ensures ∙ c.if-not-is_mine.false in (
+    let own : is_own (key_of c.args.token) s.twin.key ≡ true = sym c.is_mine.ensures ∙ c.if-not-is_mine.false in (
       calls_of opened.rung,
       TakePass ∷ [],
       (
-        turn_served _ s.token s.twin c.args.token c.args.poll.now.pass own c.in-Some.pass (Opened opened.rung opened.told) (calls_of opened.rung) c.action_of.result (TakePass ∷ []) c.open_turn.new.twin (sym c.in-Some.ensures.pass)
+        turn_served _ s.twin c.args.token c.args.poll.now.pass own c.in-Some.pass (Opened opened.rung opened.told) (calls_of opened.rung) c.action_of.result (TakePass ∷ []) c.open_turn.new.twin (sym c.in-Some.ensures.pass)
             (refl, c.action_of.ensures, refl, c.in-Ok.ensures.ok.1),
-        refl,
         refl,
       ),
       ((tt, tt), c.take_pass.ensures.view),
@@ -37,13 +38,12 @@ returns-in-Ok g c =
 pub returns-in-Err : goal.returns-in-Err
 returns-in-Err g c =
     let s = c.args.self.now in
-    let own : is_token c.args.token s.token ≡ true = sym c.is_mine.ensures ∙ c.if-not-is_mine.false in (
+    let own : is_own (key_of c.args.token) s.twin.key ≡ true = sym c.is_mine.ensures ∙ c.if-not-is_mine.false in (
       [],
       TakePass ∷ PutBack c.in-Err.pass ∷ [],
       (
-        turn_served _ s.token s.twin c.args.token c.args.poll.now.pass own c.in-Some.pass Refused [] Continue (TakePass ∷ PutBack c.in-Err.pass ∷ []) c.open_turn.new.twin (sym c.in-Some.ensures.pass)
+        turn_served _ s.twin c.args.token c.args.poll.now.pass own c.in-Some.pass Refused [] Continue (TakePass ∷ PutBack c.in-Err.pass ∷ []) c.open_turn.new.twin (sym c.in-Some.ensures.pass)
             (refl, refl, ap (λ p. TakePass ∷ PutBack p ∷ []) c.in-Err.ensures.err.0, c.in-Err.ensures.err.1),
-        refl,
         refl,
       ),
       ((tt, (tt, tt)), c.put_back.ensures ∙ ap (λ (v : PollView g.row.P.Denot). poll_after v (PutBack c.in-Err.pass)) c.take_pass.ensures.view),

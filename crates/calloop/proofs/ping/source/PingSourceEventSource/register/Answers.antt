@@ -1,9 +1,8 @@
-use Rattle.std.proofs.Common.{refl, []}
-use Rattle.std.proofs.lemmas.Result.{err_from_is_err_and}
-use Rattle.calloop.specs.Pings.{NoPlace}
+use Rattle.std.proofs.Common.{rules, refl, []}
+use Rattle.calloop.proofs.Pinging.{registers}
 use Rattle.calloop.proofs.ping.source.PingSourceEventSource.register.Goals as goal
 
-pub returns-in_err-attach : goal.returns-in_err-attach
-returns-in_err-attach g c =
-    let p = err_from_is_err_and c.from_residual-in_err-attach.result c.from_residual-in_err-attach.ensures.1 in
-    ([], (rw (p.1, p.2) (refl, refl, NoPlace c.in_err-attach.ensures c.in_ok-token.ensures.ok.1), refl, refl), (tt, refl))
+pub returns : goal.returns
+returns g c =
+    let ok = c.in_ok-token.ensures.ok in
+    ([], (registers _ c.args.self.now.twin c.args.factory.now c.token.new.self c.in_ok-token.token c.attach.result c.attach.new.twin ok.0 ok.1 c.attach.ensures.ok c.attach.ensures.err (search rules), refl), (tt, refl))

@@ -1,12 +1,9 @@
-use Rattle.std.proofs.Common.{rules, ◌≡◌, [], ap, sym, ◌∙◌, refl, false}
-use Rattle.std.proofs.lemmas.Result.{err_from_is_err_and}
-use Rattle.calloop_wake.specs.Tokens.{next_token}
-use Rattle.calloop.specs.Pings.{is_token, NoPlaceAnew}
+use Rattle.std.proofs.Common.{rules, refl, [], sym, ◌∙◌}
+use Rattle.calloop.proofs.Pinging.{registers_anew}
 use Rattle.calloop.proofs.ping.source.PingSourceEventSource.reregister.Goals as goal
 
-pub returns-in_err-attach : goal.returns-in_err-attach
-returns-in_err-attach g c =
-    let own = c.in_ok-token.ensures.ok.0 in
-    let other : is_token (next_token c.args.factory.now) c.args.self.now.token ≡ false = ap (λ t. is_token t c.args.self.now.token) (sym own) ∙ sym c.is_mine.ensures ∙ c.if-is_mine.false in
-    let p = err_from_is_err_and c.from_residual-in_err-attach.result c.from_residual-in_err-attach.ensures.1 in
-    ([], (rw (p.1, p.2) (refl, refl, NoPlaceAnew (search rules) other c.in_err-attach.ensures c.in_ok-token.ensures.ok.1), refl, refl), (tt, refl))
+pub returns : goal.returns
+returns g c =
+    let ok = c.in_ok-token.ensures.ok in
+    let other = sym c.is_mine.ensures ∙ c.if-is_mine.false in
+    ([], (registers_anew _ c.args.self.now.twin c.args.factory.now c.token.new.self c.in_ok-token.token c.attach.result c.attach.new.twin ok.0 ok.1 c.attach.ensures.ok c.attach.ensures.err (search rules) other, refl), (tt, refl))
