@@ -1,5 +1,6 @@
 -- The sources of a script under their names.
-use Rattle.std.specs.Prelude.{ℕ, List, [], ◌∷◌, Bool, true, false, if◌then◌else◌, nat_eq, Option, None}
+use Rattle.std.specs.Prelude.{ℕ, List, [], ◌∷◌, Bool, if◌then◌else◌, nat_eq, Option, Some, None, is_some}
+use Rattle.std.specs.Option.{option_and_then}
 use Rattle.std.specs.Cmp.Lexicographic.{pointwise}
 use Rattle.logbook.specs.Pages.{Book}
 
@@ -8,15 +9,18 @@ pub record Named : Type 0 where
   pub name : List ℕ
   pub ping : Option Book
 
+-- the source of this name
+abbrev pub source_named : List ℕ → List Named → Option Named
+source_named name [] = None
+source_named name (s ∷ ss) = if pointwise nat_eq s.name name then Some s else source_named name ss
+
 -- some source has the name
 abbrev pub is_taken : List ℕ → List Named → Bool
-is_taken name [] = false
-is_taken name (s ∷ ss) = if pointwise nat_eq s.name name then true else is_taken name ss
+is_taken name ss = is_some (source_named name ss)
 
 -- the cell of the open ping of this name
 abbrev pub ping_named : List ℕ → List Named → Option Book
-ping_named name [] = None
-ping_named name (s ∷ ss) = if pointwise nat_eq s.name name then s.ping else ping_named name ss
+ping_named name ss = option_and_then (λ s. s.ping) (source_named name ss)
 
 -- a source of this name has no open ping any more
 abbrev pub closed : List ℕ → Named → Named

@@ -1,7 +1,7 @@
 //! The sources of a script under their names, with the pings that ring them.
 ghost use Rattle.std.specs.Prelude.{◌≡◌, is_some, map};
-ghost use Rattle.std.specs.Option.{option_map};
-ghost use Rattle.looptrace.specs.Named.{is_taken, ping_named, closed};
+ghost use Rattle.std.specs.Option.{option_map, option_copied};
+ghost use Rattle.looptrace.specs.Named.{source_named, is_taken, ping_named, closed};
 
 use crate::name::Name;
 use calloop::ping::Ping;
@@ -47,40 +47,43 @@ impl<R: Wait + Drop> NamedSource<R> {
     }
 }
 
+// The source of this name.
+fn find<'a, R: Wait + Drop>(
+    sources: &'a [NamedSource<R>],
+    name: &[u8],
+) -> Option<&'a NamedSource<R>>
+    ensures { option_copied result ≡ source_named name.now sources.now }
+{
+    for source in sources {
+        if source.name.as_slice() == name {
+            return Some(source);
+        }
+    }
+    None
+}
+
 /// Whether some source has this name.
 pub fn is_taken<R: Wait + Drop>(sources: &[NamedSource<R>], name: &[u8]) -> bool
     ensures { result ≡ is_taken name.now sources.now }
 {
-    for source in sources {
-        if source.name.as_slice() == name {
-            return true;
-        }
-    }
-    false
+    find(sources, name).is_some()
 }
 
 /// Rings the open ping of this name. Without a receipt there is none.
 pub fn ring<R: Wait + Drop>(sources: &[NamedSource<R>], name: &[u8]) -> Option<Receipt>
     ensures { option_map (λ receipt. receipt.name) result ≡ ping_named name.now sources.now }
 {
-    for source in sources {
-        if source.name.as_slice() == name {
-            return source.ring();
-        }
-    }
-    None
+    find(sources, name)?.ring()
 }
 
 /// Whether an open ping has this name.
 pub fn has_open_ping<R: Wait + Drop>(sources: &[NamedSource<R>], name: &[u8]) -> bool
     ensures { result ≡ is_some (ping_named name.now sources.now) }
 {
-    for source in sources {
-        if source.name.as_slice() == name {
-            return source.ping.is_some();
-        }
+    match find(sources, name) {
+        Some(source) => source.ping.is_some(),
+        None => false,
     }
-    false
 }
 
 /// Drops the ping of this name.
