@@ -48,6 +48,11 @@ fn texts(rt: HostRuntime) -> Result<(), Fail> {
         assert_eq!(rt; format!(in rt.alloc(); "{made}")?.as_str(), text);
         assert_eq!(rt; made.kind(), kind);
     }
+    Ok(())
+}
+
+#[test]
+fn texts_of_causes(rt: HostRuntime) -> Result<(), Fail> {
     let cause = Error::from(io::Error::new(io::ErrorKind::NotFound, "gone"));
     assert_eq!(rt;
         format!(in rt.alloc(); "{cause}")?.as_str(),
