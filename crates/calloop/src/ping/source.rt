@@ -148,11 +148,11 @@ impl<P: Poller, C, R: Wait + Drop> EventSource<P, C, R> for PingSource<R> {
             let cause = io::Error::from(io::ErrorKind::NotFound);
             return Err(Error::IoError(cause));
         }
-        let token = factory.token()?;
-        if self.is_mine(token) {
+        let next = factory.token()?;
+        if self.is_mine(next) {
             return Ok(());
         }
-        cell::attach(&self.rt, &self.shared, &mut self.twin, poll.hub(), token)
+        cell::attach(&self.rt, &self.shared, &mut self.twin, poll.hub(), next)
     }
 
     /// Takes the registration back. What stands is told after the next registration. Where the ping isn't registered

@@ -4,6 +4,6 @@ use Rattle.calloop.proofs.ping.source.PingSourceEventSource.reregister.Goals as 
 
 pub returns : goal.returns
 returns g c =
-    let ok = c.in_ok-token.ensures.ok in
+    let ok = c.in_ok-next.ensures.ok in
     let other = sym c.is_mine.ensures ∙ c.if-is_mine.false in
-    ([], (registers_anew _ c.args.self.now.twin c.args.factory.now c.token.new.self c.in_ok-token.token c.attach.result c.attach.new.twin ok.0 ok.1 c.attach.ensures.ok c.attach.ensures.err (search rules) other, refl), (tt, refl))
+    ([], (registers_anew _ c.args.self.now.twin c.args.factory.now c.token.new.self c.in_ok-next.next c.attach.result c.attach.new.twin ok.0 ok.1 c.attach.ensures.ok c.attach.ensures.err (search rules) other, refl), (tt, refl))
