@@ -1,11 +1,11 @@
 -- Counting armings in their places.
-use Rattle.std.proofs.Common.{◌≡◌, ℕ, ◌+◌, ◌<◌, ◌≤◌, List, [], ◌∷◌, ◌++◌, map, filter, not, refl, ap, arith, Some, Bool, true, false, if◌then◌else◌, nat_eq, nat_lt, nat_le}
+use Rattle.std.proofs.Common.{◌≡◌, ℕ, ◌+◌, ◌<◌, ◌≤◌, List, [], ◌∷◌, ◌++◌, map, filter, not, refl, ap, arith, Some, Bool, true, false, ◌&&◌, if◌then◌else◌, nat_eq, nat_lt, nat_le}
 use Rattle.std.proofs.lemmas.Bool.Decides.{nat_tests}
 use Rattle.calloop_wake.specs.Deadlines.{is_before, is_due, is_other, inserted, without_counter, has_counter, due, not_due}
 use Rattle.calloop_core.specs.declared.sys.poll.Pending.{Pending}
 use Rattle.calloop_core.specs.Polls.{timer_event, timer_events, tail_of}
-use Rattle.calloop.specs.Ledgers.{Arming, Armed, Waiting, Called, latest, armed_among, entry_in, number_of, is_under_other, is_under, from_elsewhere, from_deadline, due_in, not_due_in, heads_of}
-use Rattle.calloop.specs.Laws.{one, counted, is_armed_as, waits_as, is_number, AllOnTime, AllOwnCalls, event_of}
+use Rattle.calloop.specs.Ledgers.{Arming, Armed, Origin, Elsewhere, Due, Waiting, Called, latest, armed_among, entry_in, number_of, arming_of, is_under_other, is_under, from_elsewhere, from_deadline, due_in, not_due_in, heads_of}
+use Rattle.calloop.specs.Laws.{one, counted, is_armed_as, is_due_as, waits_as, is_number, is_same, is_timely, came_timely, AllOnTime, AllOwnCalls, event_of}
 
 pub counted-append : {A : Type 0} (p : A → Bool) (xs ys : List A) → counted p (xs ++ ys) ≡ counted p xs + counted p ys
 counted-append p [] ys = omega arith
@@ -67,9 +67,14 @@ pub on_time-heads : (xs : List Waiting) → AllOnTime xs → AllOnTime (heads_of
 on_time-heads [] h = tt
 on_time-heads (x ∷ xs) h = (h.0, tt)
 
-pub own-append : (xs ys : List Called) → AllOwnCalls xs → AllOwnCalls ys → AllOwnCalls (xs ++ ys)
-own-append [] ys h k = k
-own-append (x ∷ xs) ys h k = (h.0, own-append xs ys h.1 k)
+pub own-append : (f : Arming → ℕ) (xs ys : List Called) → AllOwnCalls f xs → AllOwnCalls f ys → AllOwnCalls f (xs ++ ys)
+own-append f [] ys h k = k
+own-append f (x ∷ xs) ys h k = (h.0, own-append f xs ys h.1 k)
+
+-- what was gathered stays so
+pub own_more : (f g : Arming → ℕ) (cs : List Called) → ((a : Arming) → f a ≤ g a) → AllOwnCalls f cs → AllOwnCalls g cs
+own_more f g [] more h = tt
+own_more f g (c ∷ cs) more h = let m = more h.0.0 in ((h.0.0, h.0.1, h.0.2, omega (arith, h.0.3)), own_more f g cs more h.1)
 
 -- the ledger's lists and what they stand for
 
@@ -109,34 +114,78 @@ events-tail (x ∷ xs) = refl
 
 -- armings under their counters
 
-abbrev pub is_armed_under : (counter n : ℕ) → Armed → Bool
-is_armed_under counter n a = if nat_eq a.entry.counter counter then nat_eq a.number n else false
+abbrev pub is_armed_by : Arming → Armed → Bool
+is_armed_by a x = is_same a (arming_of x)
 
-under_least : (c n : ℕ) (x : Armed) → one (is_armed_under c n) x ≤ one (is_armed_as n) x
-under_least c n x = elim (nat_eq x.entry.counter c) as (λ b. (if (if b then nat_eq x.number n else false) then 1 else 0) ≤ one (is_armed_as n) x) [ true ↦ omega arith | false ↦ omega arith ]
+eq_swap : (m n : ℕ) → nat_eq m n ≡ false → nat_eq n m ≡ false
+eq_swap m n e = grind (arith, nat_tests)
 
 -- those of another counter are left
-pub kept-under : (counter c n : ℕ) (xs : List Armed) → nat_eq counter c ≡ false → counted (is_armed_under c n) (filter (is_under_other counter) xs) ≡ counted (is_armed_under c n) xs
-kept-under counter c n [] differs = refl
-kept-under counter c n (x ∷ xs) differs =
-    elim (nat_eq x.entry.counter counter) as (λ b. nat_eq x.entry.counter counter ≡ b → counted (is_armed_under c n) (if not b then x ∷ filter (is_under_other counter) xs else filter (is_under_other counter) xs) ≡ counted (is_armed_under c n) (x ∷ xs)) [
-      | true ↦ λ yes. (let un : nat_eq x.entry.counter c ≡ false = grind (arith, nat_tests) in rw un (omega (arith, kept-under counter c n xs differs)))
-      | false ↦ λ _. ap (λ k. one (is_armed_under c n) x + k) (kept-under counter c n xs differs)
+pub kept-by : (counter : ℕ) (a : Arming) (xs : List Armed) → nat_eq counter a.counter ≡ false → counted (is_armed_by a) (filter (is_under_other counter) xs) ≡ counted (is_armed_by a) xs
+kept-by counter a [] differs = refl
+kept-by counter a (x ∷ xs) differs =
+    elim (nat_eq x.entry.counter counter) as (λ b. nat_eq x.entry.counter counter ≡ b → counted (is_armed_by a) (if not b then x ∷ filter (is_under_other counter) xs else filter (is_under_other counter) xs) ≡ counted (is_armed_by a) (x ∷ xs)) [
+      | true ↦ λ yes. (let un : nat_eq a.counter x.entry.counter ≡ false = grind (arith, nat_tests) in rw un (omega (arith, kept-by counter a xs differs)))
+      | false ↦ λ _. ap (λ k. one (is_armed_by a) x + k) (kept-by counter a xs differs)
     ] refl
 
--- where no entry stands under a counter
-pub unarmed : (c n : ℕ) (xs : List Armed) → has_counter c (map entry_in xs) ≡ false → counted (is_armed_under c n) xs ≡ 0
-unarmed c n [] h = refl
-unarmed c n (x ∷ xs) h =
-    let no : nat_eq x.entry.counter c ≡ false = grind (arith, nat_tests) in
-    let rest : has_counter c (map entry_in xs) ≡ false = grind (arith, nat_tests) in
-    rw no (omega (arith, unarmed c n xs rest))
+-- where no entry stands under its counter
+pub unarmed : (a : Arming) (xs : List Armed) → has_counter a.counter (map entry_in xs) ≡ false → counted (is_armed_by a) xs ≡ 0
+unarmed a [] h = refl
+unarmed a (x ∷ xs) h =
+    let no : nat_eq x.entry.counter a.counter ≡ false = grind (arith, nat_tests) in
+    let rest : has_counter a.counter (map entry_in xs) ≡ false = grind (arith, nat_tests) in
+    rw (eq_swap x.entry.counter a.counter no) (omega (arith, unarmed a xs rest))
 
-pub gathered-under : (c n now : ℕ) (xs : List Armed) → counted (is_armed_under c n) xs ≤ counted (is_armed_under c n) (not_due_in now xs) + counted (waits_as n) (map (from_deadline now) (due_in now xs))
-gathered-under c n now [] = omega arith
-gathered-under c n now (x ∷ xs) =
-    elim (is_due now x.entry) as (λ b. one (is_armed_under c n) x + counted (is_armed_under c n) xs ≤ counted (is_armed_under c n) (if b then not_due_in now xs else x ∷ xs) + counted (waits_as n) (map (from_deadline now) (if b then x ∷ due_in now xs else [])))
-    [ true ↦ omega (arith, gathered-under c n now xs, under_least c n x) | false ↦ omega arith ]
+all_three : (p q r : Bool) → p && (q && r) ≡ true → r ≡ true
+all_three true true r e = e
+all_three true false r e = cc
+all_three false q r e = cc
+
+-- one that is due is gathered in time
+timely_due : (a : Arming) (x : Armed) (now : ℕ) → is_due now x.entry ≡ true → one (is_armed_by a) x ≤ one (came_timely a) (from_deadline now x)
+timely_due a x now due =
+    elim (is_same a (arming_of x)) as (λ b. is_same a (arming_of x) ≡ b → ◌≤◌ (if b then 1 else 0) (if b && nat_le a.deadline.nanos now then 1 else 0)) [
+      | true ↦ λ e.
+          (let at : nat_eq a.deadline.nanos x.entry.deadline.nanos ≡ true = all_three (nat_eq a.counter x.entry.counter) (nat_eq a.number x.number) (nat_eq a.deadline.nanos x.entry.deadline.nanos) e in
+          let come : nat_le a.deadline.nanos now ≡ true = grind (arith, nat_tests) in rw come (omega arith))
+      | false ↦ λ _. omega arith
+    ] refl
+
+pub gathered-by : (a : Arming) (now : ℕ) (xs : List Armed) → counted (is_armed_by a) xs ≤ counted (is_armed_by a) (not_due_in now xs) + counted (came_timely a) (map (from_deadline now) (due_in now xs))
+gathered-by a now [] = omega arith
+gathered-by a now (x ∷ xs) =
+    elim (is_due now x.entry) as (λ b. is_due now x.entry ≡ b → one (is_armed_by a) x + counted (is_armed_by a) xs ≤ counted (is_armed_by a) (if b then not_due_in now xs else x ∷ xs) + counted (came_timely a) (map (from_deadline now) (if b then x ∷ due_in now xs else [])))
+    [ true ↦ λ due. omega (arith, gathered-by a now xs, timely_due a x now due) | false ↦ λ _. omega arith ] refl
+
+pub timely-elsewhere : (a : Arming) (es : List Pending) → counted (came_timely a) (map from_elsewhere es) ≡ 0
+timely-elsewhere a [] = refl
+timely-elsewhere a (e ∷ es) = omega (arith, timely-elsewhere a es)
+
+second_of : (p q r : Bool) → (if p && (q && r) then 1 else 0) ≤ (if q then 1 else 0)
+second_of true true true = omega arith
+second_of true true false = omega arith
+second_of true false r = omega arith
+second_of false true r = omega arith
+second_of false false r = omega arith
+
+first_of_two : (p q : Bool) → (if p && q then 1 else 0) ≤ (if p then 1 else 0)
+first_of_two true true = omega arith
+first_of_two true false = omega arith
+first_of_two false q = omega arith
+
+turned_round : (m n : ℕ) → nat_eq m n ≡ nat_eq n m
+turned_round m n = grind (arith, nat_tests)
+
+waits_timely : (a : Arming) (o : Origin) → (if is_timely a o then 1 else 0) ≤ (if is_due_as a.number o then 1 else 0)
+waits_timely a Elsewhere = omega arith
+waits_timely a (Due b gathered) =
+    omega (arith, first_of_two (is_same a b) (nat_le a.deadline.nanos gathered), second_of (nat_eq a.counter b.counter) (nat_eq a.number b.number) (nat_eq a.deadline.nanos b.deadline.nanos), ap {B = ℕ} (λ c. if c then 1 else 0) (turned_round a.number b.number))
+
+-- what came from an arming in time came from it
+pub timely-least : (a : Arming) (xs : List Waiting) → counted (came_timely a) xs ≤ counted (waits_as a.number) xs
+timely-least a [] = omega arith
+timely-least a (x ∷ xs) = omega (arith, waits_timely a x.origin, timely-least a xs)
 
 -- the numbers of armings fall
 

@@ -1,22 +1,24 @@
 -- Steps of a dispatch, one after the other.
-use Rattle.std.proofs.Common.{◌≡◌, ℕ, ◌+◌, length, arith, List, [], ◌∷◌, ◌++◌, refl, ap, sym, ◌∙◌, subst, Some, None, Option, Result, Ok, Err, inl, inr, true, false, if◌then◌else◌}
+use Rattle.std.proofs.Common.{◌≡◌, ℕ, ◌+◌, length, arith, List, [], ◌∷◌, ◌++◌, refl, ap, sym, ◌∙◌, subst, Some, None, Option, Result, Ok, Err, inl, inr, Bool, true, false, if◌then◌else◌}
 use Rattle.calloop_wake.specs.declared.error.Error.{Error}
 use Rattle.calloop_wake.specs.declared.error.Error.TheVariants.{OutOfMemory}
 use Rattle.calloop_wake.specs.declared.list.Content.{Content}
 use Rattle.calloop_wake.specs.declared.list.Content.TheVariants.{Vacant, Source, InTurn}
-use Rattle.calloop_wake.specs.declared.token.Token.{Token}
+use Rattle.calloop_wake.specs.declared.list.Slot.{Slot}
+use Rattle.calloop_wake.specs.declared.token.RegistrationToken.{RegistrationToken}
 use Rattle.calloop_wake.specs.Tokens.{registration_of}
-use Rattle.calloop_wake.specs.Slots.{changed, with_content, named, source_of}
-use Rattle.calloop_wake.proofs.Named.{source_is}
+use Rattle.calloop_wake.specs.Slots.{changed, with_content, named, source_of, is_empty, is_in_turn, after_turn}
+use Rattle.calloop_wake.proofs.Named.{source_is, named_slot}
 use Rattle.calloop_core.specs.declared.sys.poll.Pending.{Pending}
 use Rattle.calloop_core.specs.declared.sources.PostAction.{PostAction}
 use Rattle.calloop_core.specs.declared.sources.PostAction.TheVariants.{Remove}
 use Rattle.calloop_core.specs.Pollers.{Outside}
 use Rattle.calloop_core.specs.Waits.{Polled}
-use Rattle.calloop_core.specs.Polls.{PollView, PollStep, AllStepped, polling, with_pass, cut, cut_from, begun, tail_of, head_of, poll_after, polls_after, TakePass, PutBack, Arm, ArmAgain, Cancel, Call, ReadClock}
-use Rattle.calloop_core.specs.Meanings.{Meaning}
-use Rattle.calloop.specs.Machine.{View, Change, Put, Polls, Polling, Gathered, Cut, Ended, all_viewed, AllFit}
-use Rattle.calloop.specs.Rules.{Goes, Steps, Step, Doing, Waiting, Gathering, Cutting, Ending, Leaving, traced, EndedBy, CutTo, CutFrom, DispatchedBy, Did}
+use Rattle.calloop_core.specs.Polls.{PollView, PollStep, AllStepped, polling, watching, counted, with_pass, cut, cut_from, begun, tail_of, head_of, poll_after, polls_after, TakePass, PutBack, Arm, ArmAgain, Cancel, Call, ReadClock}
+use Rattle.calloop_core.specs.Deeds.{Turned, Unregistered, Lent, lent}
+use Rattle.calloop_core.specs.Meanings.{Meaning, Does}
+use Rattle.calloop.specs.Machine.{View, Change, Put, Polls, Polling, Watching, Counting, Gathered, Cut, Ended, all_viewed, AllFit, IsFull}
+use Rattle.calloop.specs.Rules.{Goes, Steps, Step, Doing, Beginning, Waiting, Gathering, Cutting, Ending, Returning, Leaving, traced, ActedBy, ReturnedTo, emptied, after_turn as after, CutTo, CutFrom, DispatchedBy, Did}
 
 traced-append : {D P : Type 0} (v : View D P) (css dss : List (List (Change D P))) → traced v (css ++ dss) ≡ traced (traced v css) dss
 traced-append v [] dss = refl
@@ -54,7 +56,20 @@ length-cut v e first =
     let f = cons_of_head v.batch e first in
     ap (λ es. length (cut_from es v).batch + 1) f.1 ∙ length-begun e v f.0 f.1 ∙ sym (ap length f.1)
 
-module _ {D P X : Type 0} (M : Meaning D P X) (O : Outside P) where
+-- a source was put back, or handed back
+pub was_in_turn : {D : Type 0} (b : Bool) (d : D) → None ≡ (if b then None else Some d) → b ≡ true
+was_in_turn true d h = refl
+was_in_turn false d h = cc
+
+pub not_in_turn : {D : Type 0} (b : Bool) (d e : D) → Some e ≡ (if b then None else Some d) → (b ≡ false) × (e ≡ d)
+not_in_turn true d e h = cc
+not_in_turn false d e h = (refl, cc)
+
+-- what a token names is full
+pub full_named : {D : Type 0} (slots : List (Slot D)) (token : RegistrationToken) → is_empty (named slots token) ≡ false → IsFull slots token.slot
+full_named slots token e = let s = named_slot slots token e in (s.0, s.1, sym (ap is_empty s.3) ∙ e)
+
+module _ {D P X Q : Type 0} (M : Meaning D P (Lent X Q)) (O : Outside P) where
   steps-append : (v : View D P) (a b c : Doing D X) (css dss : List (List (Change D P))) → Steps M O v a css b → Steps M O (traced v css) b dss c → Steps M O v a (css ++ dss) c
   steps-append v a b c [] dss h k = rw (← h) k
   steps-append v a b c (cs ∷ css) dss h k = (h.0, h.1, h.2, steps-append (all_viewed v cs) h.0 b c css dss h.3 k)
@@ -78,22 +93,27 @@ module _ {D P X : Type 0} (M : Meaning D P X) (O : Outside P) where
   pub goes_by : (a b : Doing D X) (cs : List (Change D P)) (v u : View D P) → Step M O v a cs b → AllFit O v cs → u ≡ all_viewed v cs → Goes M O a b v u
   goes_by a b cs v u step fit is = (cs ∷ [], (b, step, fit, refl), is)
 
+  -- room for the batch
+  pub begun_with : (v : View D P) (places : ℕ) (timeout : Option ℕ) (x : X) → Goes M O (Beginning timeout x) (Waiting timeout x) v (record v { poll = counted places v.poll })
+  begun_with v places timeout x = goes_by (Beginning timeout x) (Waiting timeout x) (Counting places ∷ []) v (record v { poll = counted places v.poll }) (places, refl, refl) (tt, tt) refl
+
   -- the wait and the gathering
   pub polled : (v : View D P) (p' : PollView P) (timeout : Option ℕ) (x : X) → Polled O timeout (Ok tt) v.poll p' → Goes M O (Waiting timeout x) (Cutting x) v (record v { poll = p' })
   polled v p' timeout x h =
       let now = h.0 in
       let given = h.1 in
       let p = h.2 in
-      let u : View D P = record v { poll = polling p v.poll } in
+      let w = h.3 in
+      let u : View D P = record v { poll = watching w (polling p v.poll) } in
       goes_on (Waiting timeout x) (Gathering now given x) (Cutting x) v u (record v { poll = p' })
-      (goes_by (Waiting timeout x) (Gathering now given x) (Polling p ∷ []) v u (Ok now, given, p, h.3, refl, refl) (tt, tt) refl)
-      (goes_by (Gathering now given x) (Cutting x) (Gathered h.4 given now ∷ []) u (record v { poll = p' }) (h.4, refl, refl) (h.5, tt)
-      (ap (λ (q : PollView P). record v { poll = q }) h.6))
+      (goes_by (Waiting timeout x) (Gathering now given x) (Polling p ∷ Watching w ∷ []) v u (Ok now, given, p, w, h.4, refl, refl) (tt, (tt, tt)) refl)
+      (goes_by (Gathering now given x) (Cutting x) (Gathered h.5 given now ∷ []) u (record v { poll = p' }) (h.5, refl, refl) (h.6, tt)
+      (ap (λ (q : PollView P). record v { poll = q }) h.7))
 
   pub not_polled : (v : View D P) (p' : PollView P) (timeout : Option ℕ) (x : X) (e : Error) → Polled O timeout (Err e) v.poll p' → Goes M O (Waiting timeout x) (Leaving (Err e) x) v (record v { poll = p' })
   not_polled v p' timeout x e h =
-      goes_by (Waiting timeout x) (Leaving (Err e) x) (Polling h.1 ∷ []) v (record v { poll = p' }) (Err h.2, h.0, h.1, h.4, refl, ap (λ (r : Error). Leaving (Err r) x) h.3) (tt, tt)
-      (ap (λ (q : PollView P). record v { poll = q }) h.5)
+      goes_by (Waiting timeout x) (Leaving (Err e) x) (Polling h.1 ∷ Watching h.2 ∷ []) v (record v { poll = p' }) (Err h.3, h.0, h.1, h.2, h.5, refl, ap (λ (r : Error). Leaving (Err r) x) h.4) (tt, (tt, tt))
+      (ap (λ (q : PollView P). record v { poll = q }) h.6)
 
   -- a batch without events
   pub no_event : (v : View D P) (x : X) → None ≡ head_of v.poll.batch → Goes M O (Cutting x) (Leaving (Ok tt) x) v (record v { poll = cut v.poll })
@@ -118,35 +138,73 @@ module _ {D P X : Type 0} (M : Meaning D P X) (O : Outside P) where
       (from_cons v.poll.batch f.0 e v x (Cut None ∷ Ended ∷ []) (Cutting x) f.1 (none_named e v x (named v.slots (registration_of e.token)) none)) (tt, (tt, tt)) refl
 
   -- an event whose token names a source has its turn
-  pub turned : (e : Pending) (v : View D P) (d d' : D) (answer : Result PostAction Error) (q p' : PollView P) (x x' : X) → Some e ≡ head_of v.poll.batch → Some d ≡ source_of (named v.slots (registration_of e.token)) → q ≡ cut v.poll
-      → (u : (steps : List (PollStep P)) × M.turn d e.readiness e.token q x answer steps d' x' × AllStepped O q steps p')
-      → Goes M O (Cutting x) (Ending e.token d' answer x') v (record { slots = changed (with_content InTurn) v.slots e.token.slot; poll = p' })
-  turned e v d d' answer q p' x x' first named_as is u =
+  pub turned : (e : Pending) (v : View D P) (d d' : D) (answer : Result PostAction Error) (q p' : PollView P) (x x' : X) (y y' : Q) → Some e ≡ head_of v.poll.batch → Some d ≡ source_of (named v.slots (registration_of e.token)) → q ≡ cut v.poll
+      → Does O M d q (Turned e.readiness e.token (lent x y answer x' y')) d' p'
+      → Goes M O (Cutting x) (Ending (registration_of e.token) d' answer x') v (record { slots = changed (with_content InTurn) v.slots e.token.slot; poll = p' })
+  turned e v d d' answer q p' x x' y y' first named_as is u =
       let f = cons_of_head v.poll.batch e first in
       let full = source_is (named v.slots (registration_of e.token)) d (sym named_as) in
-      let t = subst (λ (r : PollView P). (steps : List (PollStep P)) × M.turn d e.readiness e.token r x answer steps d' x' × AllStepped O r steps p') is u in
+      let t = subst (λ (r : PollView P). Does O M d r (Turned e.readiness e.token (lent x y answer x' y')) d' p') is u in
       let mid : View D P = record { slots = changed (with_content InTurn) v.slots e.token.slot; poll = p' } in
-      let a : Doing D X = Ending e.token d' answer x' in
+      let a : Doing D X = Ending (registration_of e.token) d' answer x' in
       goes_by (Cutting x) a (Cut (Some e.token.slot) ∷ Put e.token.slot InTurn ∷ Polls t.0 ∷ []) v mid
-      (from_cons v.poll.batch f.0 e v x (Cut (Some e.token.slot) ∷ Put e.token.slot InTurn ∷ Polls t.0 ∷ []) a f.1 (rw full (d', answer, t.0, x', t.1, refl, refl))) (tt, (tt, (t.2.0, tt)))
+      (from_cons v.poll.batch f.0 e v x (Cut (Some e.token.slot) ∷ Put e.token.slot InTurn ∷ Polls t.0 ∷ []) a f.1 (rw full (d', answer, t.0, x', y, y', t.1, refl, refl)))
+      (tt, (full_named v.slots (registration_of e.token) (ap is_empty full), (t.2.0, tt)))
       (ap (λ (q : PollView P). record { slots = changed (with_content InTurn) v.slots e.token.slot; poll = q }) t.2.1)
 
+  -- a post action without steps
+  pub acted : (token : RegistrationToken) (v : View D P) (d : D) (answer : Result PostAction Error) (told : Result (Unit {0}) Error) (x : X) → ActedBy M token d answer v (Ended ∷ []) d told
+      → Goes M O (Ending token d answer x) (Returning token d told x) v (record v { poll = with_pass None v.poll })
+  acted token v d answer told x h = goes_by (Ending token d answer x) (Returning token d told x) (Ended ∷ []) v (record v { poll = with_pass None v.poll }) (d, told, h, refl) (tt, tt) refl
+
+  -- one with steps of the source
+  pub acted_with : (token : RegistrationToken) (v : View D P) (d e : D) (answer : Result PostAction Error) (told : Result (Unit {0}) Error) (steps : List (PollStep P)) (p' : PollView P) (x : X) → ActedBy M token d answer v (Ended ∷ Polls steps ∷ []) e told
+      → AllStepped O (with_pass None v.poll) steps p'
+      → Goes M O (Ending token d answer x) (Returning token e told x) v (record v { poll = p' })
+  acted_with token v d e answer told steps p' x h s =
+      goes_by (Ending token d answer x) (Returning token e told x) (Ended ∷ Polls steps ∷ []) v (record v { poll = p' }) (e, told, h, refl) (tt, (s.0, tt)) (ap (λ (q : PollView P). record v { poll = q }) s.1)
+
+  emptied_fit : (token : RegistrationToken) (v : View D P) (c : Content D) → named v.slots token ≡ c → AllFit O v (emptied token c)
+  emptied_fit token v Vacant is = tt
+  emptied_fit token v (Source d) is = tt
+  emptied_fit token v InTurn is = (full_named v.slots token (ap is_empty is), tt)
+
+  emptied_view : (token : RegistrationToken) (v : View D P) (c : Content D) → record v { slots = (if is_in_turn c then changed (with_content Vacant) v.slots token.slot else v.slots) } ≡ all_viewed v (emptied token c)
+  emptied_view token v Vacant = refl
+  emptied_view token v (Source d) = refl
+  emptied_view token v InTurn = refl
+
+  -- the one that empties the slot
+  pub acted_leaving : (token : RegistrationToken) (v : View D P) (d : D) (x : X) → Goes M O (Ending token d (Ok Remove) x) (Returning token d (Ok tt) x) v (record { slots = after_turn Vacant token v.slots; poll = with_pass None v.poll })
+  acted_leaving token v d x =
+      let u : View D P = record v { poll = with_pass None v.poll } in
+      goes_by (Ending token d (Ok Remove) x) (Returning token d (Ok tt) x) (Ended ∷ emptied token (named v.slots token)) v (record { slots = after_turn Vacant token v.slots; poll = with_pass None v.poll }) (d, Ok tt, (refl, refl, refl), refl)
+      (tt, emptied_fit token u (named v.slots token) refl) (emptied_view token u (named v.slots token))
+
+  turn_is : (c : Content D) → is_in_turn c ≡ true → c ≡ InTurn
+  turn_is Vacant e = cc
+  turn_is (Source d) e = cc
+  turn_is InTurn e = refl
+
   -- the source goes back to its slot
-  pub stays : (token : Token) (v : View D P) (d : D) (answer : Result PostAction Error) (b : Doing D X) (x : X) → EndedBy M token d answer v x (Ended ∷ Put token.slot (Source d) ∷ []) b
-      → Goes M O (Ending token d answer x) b v (record { slots = changed (with_content (Source d)) v.slots token.slot; poll = with_pass None v.poll })
-  stays token v d answer b x h =
-      goes_by (Ending token d answer x) b (Ended ∷ Put token.slot (Source d) ∷ []) v (record { slots = changed (with_content (Source d)) v.slots token.slot; poll = with_pass None v.poll }) h (tt, (tt, tt)) refl
+  pub returned : (token : RegistrationToken) (v : View D P) (d : D) (told : Result (Unit {0}) Error) (x : X) → is_in_turn (named v.slots token) ≡ true
+      → Goes M O (Returning token d told x) (after told x) v (record v { slots = changed (with_content (Source d)) v.slots token.slot })
+  returned token v d told x here =
+      let is = turn_is (named v.slots token) here in
+      goes_by (Returning token d told x) (after told x) (Put token.slot (Source d) ∷ []) v (record v { slots = changed (with_content (Source d)) v.slots token.slot }) (rw is refl, refl) (full_named v.slots token (ap is_empty is), tt) refl
 
-  -- it leaves the loop
-  pub leaves : (token : Token) (v : View D P) (d d' : D) (answer : Result (Unit {0}) Error) (p p' : PollView P) (x : X) → p ≡ with_pass None v.poll
-      → (u : (steps : List (PollStep P)) × M.unreg d p answer steps d' × AllStepped O p steps p')
-      → Goes M O (Ending token d (Ok Remove) x) (Cutting x) v (record { slots = changed (with_content Vacant) v.slots token.slot; poll = p' })
-  leaves token v d d' answer p p' x is u =
-      let t = subst (λ (r : PollView P). (steps : List (PollStep P)) × M.unreg d r answer steps d' × AllStepped O r steps p') is u in
-      goes_by (Ending token d (Ok Remove) x) (Cutting x) (Ended ∷ Put token.slot Vacant ∷ Polls t.0 ∷ []) v (record { slots = changed (with_content Vacant) v.slots token.slot; poll = p' }) (d', answer, t.0, t.1, refl, refl) (tt, (tt, (t.2.0, tt)))
-      (ap (λ (q : PollView P). record { slots = changed (with_content Vacant) v.slots token.slot; poll = q }) t.2.1)
+  gone_by : (token : RegistrationToken) (v : View D P) (d e : D) (c : Content D) (answer : Result (Unit {0}) Error) (steps : List (PollStep P)) → is_in_turn c ≡ false → M.does d v.poll (Unregistered answer) steps e → ReturnedTo M token d c v (Polls steps ∷ [])
+  gone_by token v d e Vacant answer steps none h = (e, answer, steps, h, refl)
+  gone_by token v d e (Source f) answer steps none h = (e, answer, steps, h, refl)
+  gone_by token v d e InTurn answer steps none h = cc
 
-  pub dispatched : (v u : View D P) (timeout : Option ℕ) (x x' : X) (answer : Result (Unit {0}) Error) → Goes M O (Waiting timeout x) (Leaving answer x') v u → Did (DispatchedBy M O timeout x answer x') v u
+  -- it left the loop
+  pub gone : (token : RegistrationToken) (v : View D P) (d e : D) (told answer : Result (Unit {0}) Error) (p' : PollView P) (x : X) → is_in_turn (named v.slots token) ≡ false → Does O M d v.poll (Unregistered answer) e p'
+      → Goes M O (Returning token d told x) (after told x) v (record v { poll = p' })
+  gone token v d e told answer p' x none u =
+      goes_by (Returning token d told x) (after told x) (Polls u.0 ∷ []) v (record v { poll = p' }) (gone_by token v d e (named v.slots token) answer u.0 none u.1, refl) (u.2.0, tt) (ap (λ (q : PollView P). record v { poll = q }) u.2.1)
+
+  pub dispatched : (v u : View D P) (timeout : Option ℕ) (x x' : X) (answer : Result (Unit {0}) Error) → Goes M O (Beginning timeout x) (Leaving answer x') v u → Did (DispatchedBy M O timeout x answer x') v u
   dispatched v u timeout x x' answer h = (h.0, inr h.1, h.2)
 
   pub refused : (v : View D P) (timeout : Option ℕ) (x : X) (e : Error) → e ≡ OutOfMemory → Did (DispatchedBy M O timeout x (Err e) x) v v

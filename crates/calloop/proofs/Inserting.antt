@@ -1,5 +1,5 @@
 -- Insertions, and what else is asked of one source.
-use Rattle.std.proofs.Common.{◌≡◌, ◌<◌, ◌^◌, ℕ, zero, suc, List, [], ◌∷◌, refl, ap, ◌∙◌, subst, None, Some, Result, Ok, Err, inl, inr}
+use Rattle.std.proofs.Common.{◌≡◌, ◌<◌, ◌^◌, ℕ, zero, suc, List, [], ◌∷◌, refl, ap, sym, ◌∙◌, subst, slice_get, false, None, Some, Result, Ok, Err, inl, inr}
 use Rattle.calloop_wake.specs.declared.error.Error.{Error}
 use Rattle.calloop_wake.specs.declared.error.Error.TheVariants.{InvalidToken}
 use Rattle.calloop_wake.specs.declared.token.TokenFactory.{TokenFactory}
@@ -7,13 +7,18 @@ use Rattle.calloop_wake.specs.declared.token.RegistrationToken.{RegistrationToke
 use Rattle.calloop_wake.specs.declared.list.Content.{Content}
 use Rattle.calloop_wake.specs.declared.list.Content.TheVariants.{Vacant, Source, InTurn}
 use Rattle.calloop_wake.specs.declared.list.Slot.{Slot}
-use Rattle.calloop_wake.specs.Slots.{changed, with_content, named, source_of, next_registration, claimed, CannotClaim}
+use Rattle.calloop_wake.specs.Slots.{changed, with_content, named, source_of, is_empty, after_turn, first_vacant, next_version, next_registration, claimed, CannotClaim}
+use Rattle.calloop_wake.proofs.Named.{turn_ended, named_changed}
+use Rattle.calloop_wake.proofs.Inserted.{claim_ended}
+use Rattle.calloop_wake.proofs.Vacancy.{slice_get-claimed_at}
 use Rattle.calloop_core.specs.Polls.{PollView, PollStep, AllStepped}
 use Rattle.calloop_core.specs.Pollers.{Outside}
-use Rattle.calloop.specs.declared.loop_logic.Call.TheVariants.{Insert, Enable, Update, Disable, Remove}
-use Rattle.calloop.specs.declared.loop_logic.Answer.TheVariants.{Inserted, Enabled, Updated, Disabled, Removed}
-use Rattle.calloop_core.specs.Meanings.{Meaning}
-use Rattle.calloop.specs.Machine.{View, Change, Put, Claim, Polls, AllFit, all_viewed}
+use Rattle.calloop.specs.declared.loop_logic.LoopCall.TheVariants.{Insert, Enable, Update, Disable, Remove}
+use Rattle.calloop.specs.declared.loop_logic.LoopAnswer.TheVariants.{Inserted, Enabled, Updated, Disabled, Removed}
+use Rattle.calloop_core.specs.Deeds.{Registered, Reregistered, Unregistered, Lent}
+use Rattle.calloop_core.specs.Meanings.{Meaning, Does}
+use Rattle.calloop.specs.Machine.{View, Change, Put, Claim, Polls, AllFit, IsFull, all_viewed}
+use Rattle.calloop.proofs.Going.{full_named}
 use Rattle.calloop.specs.Rules.{Did, Case, Once, InsertedBy, EnabledBy, UpdatedBy, DisabledBy, RemovedBy, RemovedIn, AskedIn, factory_of}
 
 -- what is put into a slot last stands there
@@ -22,28 +27,38 @@ changed_twice c d [] i = refl
 changed_twice c d (s ∷ ss) zero = refl
 changed_twice c d (s ∷ ss) (suc i) = ap (λ ts. s ∷ ts) (changed_twice c d ss i)
 
-module _ {D P X : Type 0} (M : Meaning D P X) (O : Outside P) (v : View D P) where
+module _ {D P X Q : Type 0} (M : Meaning D P (Lent X Q)) (O : Outside P) (v : View D P) where
   one_step : (R : View D P → List (Change D P) → Type 0) (cs : List (Change D P)) (u : View D P) → R v cs → AllFit O v cs → u ≡ all_viewed v cs → Did (Once O R) v u
   one_step R cs u r fit is = (cs ∷ [], (r, fit), is)
 
   pub not_claimed : (d : D) (error : Error) → CannotClaim v.slots error → Did (Case M O (Insert d) (Inserted (Err (record { inserted = d; error = error })))) v v
   not_claimed d error h = one_step (InsertedBy M d (Err (record { inserted = d; error = error }))) [] v (inl (refl, h, refl)) tt refl
 
+  claim_full : IsFull (claimed v.slots) (first_vacant v.slots)
+  claim_full = (record { version = next_version v.slots; content = InTurn }, slice_get-claimed_at v.slots, refl)
+
   pub not_registered : (d e : D) (error : Error) (token : RegistrationToken) (f : TokenFactory) (p' : PollView P) → token ≡ next_registration v.slots → token.slot < 2 ^ 32
-      → (r : (steps : List (PollStep P)) × M.reg d v.poll (factory_of token) (Err error) steps e f × AllStepped O v.poll steps p')
-      → Did (Case M O (Insert d) (Inserted (Err (record { inserted = e; error = error })))) v (record { slots = claimed v.slots; poll = p' })
+      → Does O M d v.poll (Registered (factory_of token) (Err error) f) e p'
+      → Did (Case M O (Insert d) (Inserted (Err (record { inserted = e; error = error })))) v (record { slots = after_turn Vacant token (claimed v.slots); poll = p' })
   not_registered d e error token f p' is few r =
-      one_step (InsertedBy M d (Err (record { inserted = e; error = error }))) (Claim ∷ Polls r.0 ∷ []) (record { slots = claimed v.slots; poll = p' })
-      (inr (subst (λ (t : RegistrationToken). t.slot < 2 ^ 32) is few, f, r.0, subst (λ (t : RegistrationToken). M.reg d v.poll (factory_of t) (Err error) r.0 e f) is r.1, refl))
-      (tt, (r.2.0, tt)) (ap (λ (q : PollView P). record { slots = claimed v.slots; poll = q }) r.2.1)
+      let u : View D P = record { slots = after_turn Vacant token (claimed v.slots); poll = p' } in
+      let ended : after_turn Vacant token (claimed v.slots) ≡ changed (with_content Vacant) (claimed v.slots) (first_vacant v.slots) =
+      ap (λ (t : RegistrationToken). after_turn Vacant t (claimed v.slots)) is ∙ claim_ended v.slots Vacant in
+      one_step (InsertedBy M d (Err (record { inserted = e; error = error }))) (Claim d ∷ Polls r.0 ∷ Put (first_vacant v.slots) Vacant ∷ []) u
+      (inr (subst (λ (t : RegistrationToken). t.slot < 2 ^ 32) is few, f, r.0, subst (λ (t : RegistrationToken). M.does d v.poll (Registered (factory_of t) (Err error) f) r.0 e) is r.1, refl))
+      (tt, (r.2.0, (claim_full, tt)))
+      (ap (λ (ss : List (Slot D)). record { slots = ss; poll = p' }) ended ∙ ap (λ (q : PollView P). record { slots = changed (with_content Vacant) (claimed v.slots) (first_vacant v.slots); poll = q }) r.2.1)
 
   pub registered : (d e : D) (token : RegistrationToken) (f : TokenFactory) (p' : PollView P) → token ≡ next_registration v.slots → token.slot < 2 ^ 32
-      → (r : (steps : List (PollStep P)) × M.reg d v.poll (factory_of token) (Ok tt) steps e f × AllStepped O v.poll steps p')
-      → Did (Case M O (Insert d) (Inserted (Ok token))) v (record { slots = changed (with_content (Source e)) (claimed v.slots) token.slot; poll = p' })
+      → Does O M d v.poll (Registered (factory_of token) (Ok tt) f) e p'
+      → Did (Case M O (Insert d) (Inserted (Ok token))) v (record { slots = after_turn (Source e) token (claimed v.slots); poll = p' })
   registered d e token f p' is few r =
-      one_step (InsertedBy M d (Ok token)) (Claim ∷ Polls r.0 ∷ Put token.slot (Source e) ∷ []) (record { slots = changed (with_content (Source e)) (claimed v.slots) token.slot; poll = p' })
+      let ended : after_turn (Source e) token (claimed v.slots) ≡ changed (with_content (Source e)) (claimed v.slots) token.slot =
+      ap (λ (t : RegistrationToken). after_turn (Source e) t (claimed v.slots)) is ∙ claim_ended v.slots (Source e) ∙ ap (λ (t : RegistrationToken). changed (with_content (Source e)) (claimed v.slots) t.slot) (sym is) in
+      one_step (InsertedBy M d (Ok token)) (Claim d ∷ Polls r.0 ∷ Put token.slot (Source e) ∷ []) (record { slots = after_turn (Source e) token (claimed v.slots); poll = p' })
       (subst (λ (t : RegistrationToken). t.slot < 2 ^ 32) is few, is, e, f, r.0, r.1, refl)
-      (tt, (r.2.0, (tt, tt))) (ap (λ (q : PollView P). record { slots = changed (with_content (Source e)) (claimed v.slots) token.slot; poll = q }) r.2.1)
+      (tt, (r.2.0, (subst (λ (t : RegistrationToken). IsFull (claimed v.slots) t.slot) (sym is) claim_full, tt)))
+      (ap (λ (ss : List (Slot D)). record { slots = ss; poll = p' }) ended ∙ ap (λ (q : PollView P). record { slots = changed (with_content (Source e)) (claimed v.slots) token.slot; poll = q }) r.2.1)
 
   none_asked : (R : D → Result (Unit {0}) Error → List (PollStep P) → D → Type 0) (token : RegistrationToken) (c : Content D) → None ≡ source_of c → AskedIn R token c (Err InvalidToken) []
   none_asked R token Vacant h = (refl, refl)
@@ -53,11 +68,15 @@ module _ {D P X : Type 0} (M : Meaning D P X) (O : Outside P) (v : View D P) whe
   asked : (R : D → Result (Unit {0}) Error → List (PollStep P) → D → Type 0) (B : View D P → List (Change D P) → Type 0) (token : RegistrationToken) (d e : D) (answer : Result (Unit {0}) Error) (p' : PollView P)
       → ((cs : List (Change D P)) → AskedIn R token (named v.slots token) answer cs → B v cs) → named v.slots token ≡ Source d
       → (r : (steps : List (PollStep P)) × R d answer steps e × AllStepped O v.poll steps p')
-      → Did (Once O B) v (record { slots = changed (with_content (Source e)) (changed (with_content InTurn) v.slots token.slot) token.slot; poll = p' })
+      → Did (Once O B) v (record { slots = after_turn (Source e) token (changed (with_content InTurn) v.slots token.slot); poll = p' })
   asked R B token d e answer p' by is r =
-      one_step B (Put token.slot InTurn ∷ Polls r.0 ∷ Put token.slot (Source e) ∷ []) (record { slots = changed (with_content (Source e)) (changed (with_content InTurn) v.slots token.slot) token.slot; poll = p' })
-      (by (Put token.slot InTurn ∷ Polls r.0 ∷ Put token.slot (Source e) ∷ []) (rw is (e, r.0, r.1, refl))) (tt, (r.2.0, (tt, tt)))
-      (ap (λ (q : PollView P). record { slots = changed (with_content (Source e)) (changed (with_content InTurn) v.slots token.slot) token.slot; poll = q }) r.2.1)
+      let full : is_empty (named v.slots token) ≡ false = ap is_empty is in
+      let out = changed (with_content InTurn) v.slots token.slot in
+      one_step B (Put token.slot InTurn ∷ Polls r.0 ∷ Put token.slot (Source e) ∷ []) (record { slots = after_turn (Source e) token out; poll = p' })
+      (by (Put token.slot InTurn ∷ Polls r.0 ∷ Put token.slot (Source e) ∷ []) (rw is (e, r.0, r.1, refl)))
+      (full_named v.slots token full, (r.2.0, (full_named out token (ap is_empty (named_changed v.slots token InTurn full)), tt)))
+      (ap (λ (ss : List (Slot D)). record { slots = ss; poll = p' }) (turn_ended v.slots token (Source e) full)
+      ∙ ap (λ (q : PollView P). record { slots = changed (with_content (Source e)) out token.slot; poll = q }) r.2.1)
 
   pub not_enabled : (token : RegistrationToken) → None ≡ source_of (named v.slots token) → Did (Case M O (Enable token) (Enabled (Err InvalidToken))) v v
   not_enabled token h = one_step (EnabledBy M token (Err InvalidToken)) [] v (none_asked _ token (named v.slots token) h) tt refl
@@ -69,21 +88,21 @@ module _ {D P X : Type 0} (M : Meaning D P X) (O : Outside P) (v : View D P) whe
   not_disabled token h = one_step (DisabledBy M token (Err InvalidToken)) [] v (none_asked _ token (named v.slots token) h) tt refl
 
   pub enabled : (token : RegistrationToken) (d e : D) (f : TokenFactory) (answer : Result (Unit {0}) Error) (p' : PollView P) → named v.slots token ≡ Source d
-      → (r : (steps : List (PollStep P)) × M.reg d v.poll (factory_of token) answer steps e f × AllStepped O v.poll steps p')
-      → Did (Case M O (Enable token) (Enabled answer)) v (record { slots = changed (with_content (Source e)) (changed (with_content InTurn) v.slots token.slot) token.slot; poll = p' })
+      → Does O M d v.poll (Registered (factory_of token) answer f) e p'
+      → Did (Case M O (Enable token) (Enabled answer)) v (record { slots = after_turn (Source e) token (changed (with_content InTurn) v.slots token.slot); poll = p' })
   enabled token d e f answer p' is r =
-      asked (λ d a steps e. (f : TokenFactory) × M.reg d v.poll (factory_of token) a steps e f) (EnabledBy M token answer) token d e answer p' (λ cs h. h) is (r.0, (f, r.1), r.2)
+      asked (λ d a steps e. (f : TokenFactory) × M.does d v.poll (Registered (factory_of token) a f) steps e) (EnabledBy M token answer) token d e answer p' (λ cs h. h) is (r.0, (f, r.1), r.2)
 
   pub updated : (token : RegistrationToken) (d e : D) (f : TokenFactory) (answer : Result (Unit {0}) Error) (p' : PollView P) → named v.slots token ≡ Source d
-      → (r : (steps : List (PollStep P)) × M.rereg d v.poll (factory_of token) answer steps e f × AllStepped O v.poll steps p')
-      → Did (Case M O (Update token) (Updated answer)) v (record { slots = changed (with_content (Source e)) (changed (with_content InTurn) v.slots token.slot) token.slot; poll = p' })
+      → Does O M d v.poll (Reregistered (factory_of token) answer f) e p'
+      → Did (Case M O (Update token) (Updated answer)) v (record { slots = after_turn (Source e) token (changed (with_content InTurn) v.slots token.slot); poll = p' })
   updated token d e f answer p' is r =
-      asked (λ d a steps e. (f : TokenFactory) × M.rereg d v.poll (factory_of token) a steps e f) (UpdatedBy M token answer) token d e answer p' (λ cs h. h) is (r.0, (f, r.1), r.2)
+      asked (λ d a steps e. (f : TokenFactory) × M.does d v.poll (Reregistered (factory_of token) a f) steps e) (UpdatedBy M token answer) token d e answer p' (λ cs h. h) is (r.0, (f, r.1), r.2)
 
   pub disabled : (token : RegistrationToken) (d e : D) (answer : Result (Unit {0}) Error) (p' : PollView P) → named v.slots token ≡ Source d
-      → (r : (steps : List (PollStep P)) × M.unreg d v.poll answer steps e × AllStepped O v.poll steps p')
-      → Did (Case M O (Disable token) (Disabled answer)) v (record { slots = changed (with_content (Source e)) (changed (with_content InTurn) v.slots token.slot) token.slot; poll = p' })
-  disabled token d e answer p' is r = asked (λ d a steps e. M.unreg d v.poll a steps e) (DisabledBy M token answer) token d e answer p' (λ cs h. h) is r
+      → Does O M d v.poll (Unregistered answer) e p'
+      → Did (Case M O (Disable token) (Disabled answer)) v (record { slots = after_turn (Source e) token (changed (with_content InTurn) v.slots token.slot); poll = p' })
+  disabled token d e answer p' is r = asked (λ d a steps e. M.does d v.poll (Unregistered a) steps e) (DisabledBy M token answer) token d e answer p' (λ cs h. h) is r
 
   none_removed : (token : RegistrationToken) (c : Content D) → None ≡ source_of c → RemovedIn M token c None v []
   none_removed token Vacant h = (refl, refl)
@@ -94,10 +113,11 @@ module _ {D P X : Type 0} (M : Meaning D P X) (O : Outside P) (v : View D P) whe
   not_removed token h = one_step (RemovedBy M token None) [] v (none_removed token (named v.slots token) h) tt refl
 
   pub removed : (token : RegistrationToken) (d e : D) (told : Result (Unit {0}) Error) (p' : PollView P) → named v.slots token ≡ Source d
-      → (r : (steps : List (PollStep P)) × M.unreg d v.poll told steps e × AllStepped O v.poll steps p')
-      → Did (Case M O (Remove token) (Removed (Some e))) v (record { slots = changed (with_content Vacant) (changed (with_content InTurn) v.slots token.slot) token.slot; poll = p' })
+      → Does O M d v.poll (Unregistered told) e p'
+      → Did (Case M O (Remove token) (Removed (Some e))) v (record { slots = after_turn Vacant token (changed (with_content InTurn) v.slots token.slot); poll = p' })
   removed token d e told p' is r =
-      one_step (RemovedBy M token (Some e)) (Put token.slot Vacant ∷ Polls r.0 ∷ []) (record { slots = changed (with_content Vacant) (changed (with_content InTurn) v.slots token.slot) token.slot; poll = p' })
-      (rw is (e, told, r.0, r.1, refl, refl)) (tt, (r.2.0, tt))
-      (ap (λ (ss : List (Slot D)). record { slots = ss; poll = p' }) (changed_twice Vacant InTurn v.slots token.slot)
+      let full : is_empty (named v.slots token) ≡ false = ap is_empty is in
+      one_step (RemovedBy M token (Some e)) (Put token.slot Vacant ∷ Polls r.0 ∷ []) (record { slots = after_turn Vacant token (changed (with_content InTurn) v.slots token.slot); poll = p' })
+      (rw is (e, told, r.0, r.1, refl, refl)) (full_named v.slots token full, (r.2.0, tt))
+      (ap (λ (ss : List (Slot D)). record { slots = ss; poll = p' }) (turn_ended v.slots token Vacant full ∙ changed_twice Vacant InTurn v.slots token.slot)
       ∙ ap (λ (q : PollView P). record { slots = changed (with_content Vacant) v.slots token.slot; poll = q }) r.2.1)

@@ -1,6 +1,7 @@
 pub mod Seen
 pub mod Counting
 pub mod Going
+mod Gone
 pub mod Noting
 pub mod Owning
 pub mod Inserting

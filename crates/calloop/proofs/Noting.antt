@@ -11,21 +11,22 @@ use Rattle.calloop_core.specs.Pollers.{Outside}
 use Rattle.calloop_core.specs.Polls.{PollView, PollStep, TakePass, PutBack, Arm, ArmAgain, Cancel, Call, ReadClock, poll_after, polls_after, AllAllowed, gathered, posted_events, polled_events, cut, cut_from, begun, tail_of, head_of, with_pass}
 use Rattle.calloop_core.specs.Holdings.{Hold, Free, Spent, Standing, with_hold, IsWithin, Keeps}
 use Rattle.calloop.specs.Ledgers.{Ledger, Arming, Armed, Called, latest, arm, step_noted, steps_noted, gathering_noted, cut_noted, is_under, number_of, from_elsewhere, from_deadline, due_in}
-use Rattle.calloop.specs.Laws.{IsKept, one, counted, is_armed_as, waits_as, is_number, is_call_as, event_of}
-use Rattle.calloop.proofs.Counting.{counted-append, counted-armed_among, counted-split, counted-number_of, counted-due, counted-elsewhere, counted-cut, next_number, not_yet, on_time-append, on_time-elsewhere, on_time-due, on_time-tail, on_time-heads, own-append, entries-armed_among, entries-filter, entries-not_due, events-due, events-elsewhere, events-append, events-tail, is_armed_under, kept-under, unarmed, gathered-under, Falls, latest_apart}
+use Rattle.calloop.specs.Laws.{IsKept, one, counted, is_armed_as, waits_as, is_number, is_call_as, came_timely, timely, event_of}
+use Rattle.calloop.proofs.Counting.{counted-append, counted-armed_among, counted-split, counted-number_of, counted-due, counted-elsewhere, counted-cut, next_number, not_yet, on_time-append, on_time-elsewhere, on_time-due, on_time-tail, on_time-heads, own-append, entries-armed_among, entries-filter, entries-not_due, events-due, events-elsewhere, events-append, events-tail, own_more, is_armed_by, kept-by, unarmed, gathered-by, timely-elsewhere, timely-least, Falls, latest_apart}
 
 -- the ledger, with its armings in the order of their making
 pub record IsNoted {P : Type 0} (l : Ledger) (v : PollView P) : Type 0 where
   pub kept : IsKept l v
   pub falls : Falls l.count l.made
 
--- a counter whose last arming, for this deadline, wasn't called for: it stands in the deadlines under its counter, or was gathered
+-- a counter whose last arming, for this deadline, wasn't called for: it stands in the deadlines, or was gathered in time
 pub record IsUncalled (counter : ℕ) (deadline : Instant) (l : Ledger) : Type 0 where
   pub arming : Arming
   pub last : latest counter l.made ≡ Some arming
+  pub under : arming.counter ≡ counter
   pub for_it : arming.deadline ≡ deadline
   pub uncalled : counted (is_call_as arming.number) l.calls ≡ 0
-  pub stands : 1 ≤ counted (is_armed_under counter arming.number) l.armed + (counted (waits_as arming.number) l.batch + counted (waits_as arming.number) l.cut)
+  pub stands : 1 ≤ counted (is_armed_by arming) l.armed + timely l arming
 
 -- what is held was given, and what stands wasn't called for
 pub record IsGood (l : Ledger) (next : ℕ) (held : ℕ → Hold) : Type 0 where
@@ -65,21 +66,22 @@ uncalled_armed l n c deadline at token differs g =
     record {
       arming = g.arming;
       last = rw differs g.last;
+      under = g.under;
       for_it = g.for_it;
       uncalled = g.uncalled;
-      stands = omega (arith, g.stands, counted-armed_among (is_armed_under c g.arming.number) (record { entry = entry_of n at token; number = l.count }) l.armed);
+      stands = omega (arith, g.stands, counted-armed_among (is_armed_by g.arming) (record { entry = entry_of n at token; number = l.count }) l.armed);
     }
 
 uncalled_cancelled : {P : Type 0} (l : Ledger) (v : PollView P) (n c : ℕ) (deadline : Instant) → nat_eq n c ≡ false → IsUncalled c deadline l → IsUncalled c deadline (step_noted l v (Cancel n))
 uncalled_cancelled l v n c deadline differs g =
-    record { arming = g.arming; last = g.last; for_it = g.for_it; uncalled = g.uncalled; stands = omega (arith, g.stands, kept-under n c g.arming.number l.armed differs) }
+    record { arming = g.arming; last = g.last; under = g.under; for_it = g.for_it; uncalled = g.uncalled; stands = omega (arith, g.stands, kept-by n g.arming l.armed (rw g.under differs)) }
 
 uncalled_called : {P : Type 0} (l : Ledger) (v : PollView P) (n c : ℕ) (deadline at : Instant) → Falls l.count l.made → nat_eq n c ≡ false → IsUncalled n at l → IsUncalled c deadline l → IsUncalled c deadline (step_noted l v (Call n at))
 uncalled_called l v n c deadline at falls differs h g =
     let apart : nat_eq h.arming.number g.arming.number ≡ false = latest_apart l.count n c l.made h.arming g.arming falls h.last g.last differs in
     let more : counted (is_call_as g.arming.number) (l.calls ++ record { deadline = at; arming = latest n l.made } ∷ []) ≡ 0 =
     counted-append (is_call_as g.arming.number) l.calls (record { deadline = at; arming = latest n l.made } ∷ []) ∙ rw (h.last, apart, g.uncalled) refl in
-    record { arming = g.arming; last = g.last; for_it = g.for_it; uncalled = more; stands = g.stands }
+    record { arming = g.arming; last = g.last; under = g.under; for_it = g.for_it; uncalled = more; stands = g.stands }
 
 -- the arming that comes next was never called for
 uncalled_next : {P : Type 0} (l : Ledger) (v : PollView P) → IsKept l v → counted (is_call_as l.count) l.calls ≡ 0
@@ -94,11 +96,13 @@ uncalled_new l v n at token k =
     record {
       arming = record { number = l.count; counter = n; deadline = at };
       last = rw (eq_self n) refl;
+      under = refl;
       for_it = refl;
       uncalled = uncalled_next l v k;
       stands =
-          let first : one (is_armed_under n l.count) (record { entry = entry_of n at token; number = l.count }) ≡ 1 = rw (eq_self n, eq_self l.count) refl in
-          omega (arith, first, counted-armed_among (is_armed_under n l.count) (record { entry = entry_of n at token; number = l.count }) l.armed);
+          let made : Arming = record { number = l.count; counter = n; deadline = at } in
+          let first : one (is_armed_by made) (record { entry = entry_of n at token; number = l.count }) ≡ 1 = rw (eq_self n, eq_self l.count, eq_self at.nanos) refl in
+          omega (arith, first, counted-armed_among (is_armed_by made) (record { entry = entry_of n at token; number = l.count }) l.armed);
     }
 
 noted_armed : {P : Type 0} (l : Ledger) (v v' : PollView P) (n : ℕ) (at : Instant) (token : Token) → v'.deadlines.entries ≡ inserted (entry_of n at token) v.deadlines.entries → v'.batch ≡ v.batch → IsNoted l v → IsNoted (arm l n at token) v'
@@ -143,7 +147,8 @@ one_more n m c bound most here = elim (nat_eq m n) as (λ b. (b ≡ true → c +
 noted_called : {P : Type 0} (l : Ledger) (v : PollView P) (n : ℕ) (at : Instant) → is_armed n v.deadlines ≡ false → IsUncalled n at l → IsNoted l v → IsNoted (step_noted l v (Call n at)) (poll_after v (Call n at))
 noted_called l v n at idle g h =
     let call : Called = record { deadline = at; arming = latest n l.made } in
-    let under : counted (is_armed_under n g.arming.number) l.armed ≡ 0 = unarmed n g.arming.number l.armed (rw (← h.kept.entries) at idle) in
+    let none_armed : counted (is_armed_by g.arming) l.armed ≡ 0 = unarmed g.arming l.armed (rw g.under (rw (← h.kept.entries) at idle)) in
+    let in_time : 1 ≤ timely l g.arming = omega (arith, none_armed, g.stands) in
     let more : (number : ℕ) → counted (is_call_as number) (l.calls ++ call ∷ []) ≡ counted (is_call_as number) l.calls + ((if nat_eq g.arming.number number then 1 else 0) + 0) =
     λ number. counted-append (is_call_as number) l.calls (call ∷ []) ∙ rw g.last refl in
     record {
@@ -154,7 +159,7 @@ noted_called l v n at idle g h =
             placed = h.kept.placed;
             batch_on_time = h.kept.batch_on_time;
             cut_on_time = h.kept.cut_on_time;
-            own = own-append l.calls (call ∷ []) h.kept.own ((g.arming, g.last, g.for_it), tt);
+            own = own-append (timely l) l.calls (call ∷ []) h.kept.own ((g.arming, g.last, g.for_it, in_time), tt);
             once = λ number.
                 rw (more number) (one_more number g.arming.number (counted (is_call_as number) l.calls) 1 (h.kept.once number) (λ here. let same : g.arming.number ≡ number = grind (arith, nat_tests) in let none : counted (is_call_as number) l.calls ≡ 0 = ap (λ k. counted (is_call_as k) l.calls) (sym same) ∙ g.uncalled in omega (arith, none)));
             gathered = λ number.
@@ -163,7 +168,7 @@ noted_called l v n at idle g h =
                 (λ here.
                 let same : g.arming.number ≡ number = grind (arith, nat_tests) in
                 let none : counted (is_call_as number) l.calls ≡ 0 = ap (λ k. counted (is_call_as k) l.calls) (sym same) ∙ g.uncalled in
-                let out : 1 ≤ counted (waits_as g.arming.number) l.batch + counted (waits_as g.arming.number) l.cut = omega (arith, under, g.stands) in
+                let out : 1 ≤ counted (waits_as g.arming.number) l.batch + counted (waits_as g.arming.number) l.cut = omega (arith, in_time, timely-least g.arming l.batch, timely-least g.arming l.cut) in
                 omega (arith, none, rw same at out)));
           };
       falls = h.falls;
@@ -190,6 +195,17 @@ noted_same {P} l v v' deadlines batch h =
 pub noted_alike : {P : Type 0} (l : Ledger) (v v' : PollView P) → v'.deadlines ≡ v.deadlines → v'.batch ≡ v.batch → IsNoted l v → IsNoted l v'
 noted_alike l v v' deadlines batch h = noted_same l v v' deadlines batch h
 
+timely_sum : (l : Ledger) (posted : List ℕ) (given : List (ℕ × Readiness)) (now : ℕ) (a : Arming)
+    → timely (gathering_noted l posted given now) a ≡ timely l a + counted (came_timely a) (map (from_deadline now) (due_in now l.armed))
+timely_sum l posted given now a =
+    let e = map from_elsewhere (posted_events posted) in
+    let f = map from_elsewhere (polled_events given) in
+    let d = map (from_deadline now) (due_in now l.armed) in
+    omega (arith, counted-append (came_timely a) ((l.batch ++ e) ++ f) d, counted-append (came_timely a) (l.batch ++ e) f, counted-append (came_timely a) l.batch e, timely-elsewhere a (posted_events posted), timely-elsewhere a (polled_events given))
+
+timely_gathered : (l : Ledger) (posted : List ℕ) (given : List (ℕ × Readiness)) (now : ℕ) (a : Arming) → timely l a ≤ timely (gathering_noted l posted given now) a
+timely_gathered l posted given now a = omega (arith, timely_sum l posted given now a)
+
 -- the batch is put together
 pub noted_gathered : {P : Type 0} (l : Ledger) (v : PollView P) (posted : List ℕ) (given : List (ℕ × Readiness)) (now : ℕ) → IsNoted l v → IsNoted (gathering_noted l posted given now) (gathered posted given now v)
 noted_gathered l v posted given now h =
@@ -209,7 +225,7 @@ noted_gathered l v posted given now h =
             placed = λ n. omega (arith, sum n, counted-due n now l.armed, h.kept.placed n);
             batch_on_time = on_time-append _ _ (on_time-append _ _ (on_time-append _ _ h.kept.batch_on_time (on_time-elsewhere (posted_events posted))) (on_time-elsewhere (polled_events given))) (on_time-due now l.armed);
             cut_on_time = h.kept.cut_on_time;
-            own = h.kept.own;
+            own = own_more (timely l) (timely (gathering_noted l posted given now)) l.calls (λ x. timely_gathered l posted given now x) h.kept.own;
             once = h.kept.once;
             gathered = λ n. omega (arith, sum n, h.kept.gathered n);
           };
@@ -218,13 +234,7 @@ noted_gathered l v posted given now h =
 
 uncalled_gathered : (l : Ledger) (posted : List ℕ) (given : List (ℕ × Readiness)) (now c : ℕ) (deadline : Instant) → IsUncalled c deadline l → IsUncalled c deadline (gathering_noted l posted given now)
 uncalled_gathered l posted given now c deadline g =
-    let n = g.arming.number in
-    let a = map from_elsewhere (posted_events posted) in
-    let b = map from_elsewhere (polled_events given) in
-    let d = map (from_deadline now) (due_in now l.armed) in
-    let sum : counted (waits_as n) (((l.batch ++ a) ++ b) ++ d) ≡ counted (waits_as n) l.batch + counted (waits_as n) d =
-    omega (arith, counted-append (waits_as n) ((l.batch ++ a) ++ b) d, counted-append (waits_as n) (l.batch ++ a) b, counted-append (waits_as n) l.batch a, counted-elsewhere n (posted_events posted), counted-elsewhere n (polled_events given)) in
-    record { arming = g.arming; last = g.last; for_it = g.for_it; uncalled = g.uncalled; stands = omega (arith, g.stands, sum, gathered-under c n now l.armed) }
+    record { arming = g.arming; last = g.last; under = g.under; for_it = g.for_it; uncalled = g.uncalled; stands = omega (arith, g.stands, timely_sum l posted given now g.arming, gathered-by g.arming now l.armed) }
 
 pub good_gathered : (l : Ledger) (next : ℕ) (held : ℕ → Hold) (posted : List ℕ) (given : List (ℕ × Readiness)) (now : ℕ) → IsGood l next held → IsGood (gathering_noted l posted given now) next held
 good_gathered l next held posted given now h = record { below = h.below; standing = λ c deadline is. uncalled_gathered l posted given now c deadline (h.standing c deadline is) }
@@ -253,7 +263,7 @@ noted_cut l v h =
             placed = λ n. omega (arith, h.kept.placed n, counted-cut (waits_as n) l.batch l.cut);
             batch_on_time = on_time-tail l.batch h.kept.batch_on_time;
             cut_on_time = on_time-append _ _ h.kept.cut_on_time (on_time-heads l.batch h.kept.batch_on_time);
-            own = h.kept.own;
+            own = own_more (timely l) (timely (cut_noted l)) l.calls (λ x. omega (arith, counted-cut (came_timely x) l.batch l.cut)) h.kept.own;
             once = h.kept.once;
             gathered = λ n. omega (arith, h.kept.gathered n, counted-cut (waits_as n) l.batch l.cut);
           };
@@ -261,7 +271,7 @@ noted_cut l v h =
     }
 
 uncalled_cut : (l : Ledger) (c : ℕ) (deadline : Instant) → IsUncalled c deadline l → IsUncalled c deadline (cut_noted l)
-uncalled_cut l c deadline g = record { arming = g.arming; last = g.last; for_it = g.for_it; uncalled = g.uncalled; stands = omega (arith, g.stands, counted-cut (waits_as g.arming.number) l.batch l.cut) }
+uncalled_cut l c deadline g = record { arming = g.arming; last = g.last; under = g.under; for_it = g.for_it; uncalled = g.uncalled; stands = omega (arith, g.stands, counted-cut (came_timely g.arming) l.batch l.cut) }
 
 pub good_cut : (l : Ledger) (next : ℕ) (held : ℕ → Hold) → IsGood l next held → IsGood (cut_noted l) next held
 good_cut l next held h = record { below = h.below; standing = λ c deadline is. uncalled_cut l c deadline (h.standing c deadline is) }
@@ -274,7 +284,7 @@ pub record IsDone {P : Type 0} (l : Ledger) (v : PollView P) (h : ℕ → Hold) 
 
 within_held : (x y : Hold) → IsWithin x y → x ≢ Free → y ≢ Free
 within_held Free y h held = absurd (held refl)
-within_held Spent y h held = h
+within_held Spent y h held = λ e. cc
 within_held (Standing deadline) y h held = λ e. cc
 
 within_standing : (x y : Hold) (deadline : Instant) → IsWithin x y → x ≡ Standing deadline → y ≡ Standing deadline
@@ -284,7 +294,7 @@ within_standing (Standing at) y deadline h is = h ∙ is
 
 within_free : (x y : Hold) → IsWithin x y → y ≡ Free → x ≡ Free
 within_free Free y h is = refl
-within_free Spent y h is = absurd (h is)
+within_free Spent y h e = (let f : y ≡ Spent = h in cc)
 within_free (Standing at) y h is = cc
 
 module _ {P : Type 0} (O : Outside P) where

@@ -1,5 +1,5 @@
 -- Over every run, each counter is held by one source at most, and what the ledger says is kept.
-use Rattle.std.proofs.Common.{◌≡◌, ◌≢◌, ◌⊎◌, inl, inr, ℕ, zero, suc, ◌%◌, List, [], ◌∷◌, map, refl, ap, sym, ◌∙◌, subst, arith, Some, None, Option, Result, Ok, Err, true, false, if◌then◌else◌, nat_eq, nat_lt, slice_get}
+use Rattle.std.proofs.Common.{◌≡◌, ◌≢◌, ◌⊎◌, inl, inr, ℕ, zero, suc, ◌%◌, List, [], ◌∷◌, ◌++◌, map, refl, ap, sym, ◌∙◌, subst, arith, Some, None, Option, Result, Ok, Err, true, false, if◌then◌else◌, nat_eq, nat_lt, slice_get}
 use Rattle.std.proofs.lemmas.Bool.Decides.{nat_tests}
 use Rattle.calloop_wake.specs.declared.error.Error.{Error}
 use Rattle.calloop_wake.specs.declared.error.InsertError.{InsertError}
@@ -10,23 +10,25 @@ use Rattle.calloop_wake.specs.declared.token.RegistrationToken.{RegistrationToke
 use Rattle.std.proofs.lemmas.Option.{slice_get-map}
 use Rattle.std.specs.Option.{option_map}
 use Rattle.std.specs.declared.io.Error.{Error as Cause}
-use Rattle.calloop_wake.specs.Slots.{changed, named, content_under, is_empty, next_registration}
+use Rattle.calloop_wake.specs.Slots.{changed, named, content_under, is_empty, first_vacant, next_registration}
 use Rattle.calloop_wake.specs.Tokens.{registration_of}
 use Rattle.calloop_core.specs.declared.sys.Readiness.{Readiness}
 use Rattle.calloop_core.specs.declared.sys.poll.Pending.{Pending}
 use Rattle.calloop_core.specs.declared.sources.PostAction.{PostAction}
-use Rattle.calloop_core.specs.declared.sources.PostAction.TheVariants.{Continue, Remove}
+use Rattle.calloop_core.specs.declared.sources.PostAction.TheVariants.{Continue, Reregister, Disable as DisableIt, Remove}
 use Rattle.calloop_core.specs.Pollers.{Outside, nanos_of}
 use Rattle.calloop_core.specs.Polls.{PollStep, AllAllowed, with_pass, cut}
-use Rattle.calloop_core.specs.Holdings.{Free, Keeps}
+use Rattle.calloop_core.specs.Holdings.{Hold, Free, Keeps, IsBelow}
+use Rattle.calloop_core.specs.Deeds.{Registered, Reregistered, Unregistered, Turned, Lent, lent}
 use Rattle.calloop_core.specs.Meanings.{Meaning, IsKeeping}
-use Rattle.calloop.specs.Machine.{World, View, IsNew, Registration, Change, Put, Claim, Polls, Polling, Gathered, Cut, Ended, holding, reused, claimed_of, done, all_done, seen, slot_of, AllFit}
-use Rattle.calloop.specs.declared.loop_logic.Call.{Call}
-use Rattle.calloop.specs.declared.loop_logic.Call.TheVariants.{Insert, Enable, Update, Disable, Remove as RemoveCall, Dispatch, Poller as NewPoller}
-use Rattle.calloop.specs.declared.loop_logic.Answer.{Answer}
-use Rattle.calloop.specs.declared.loop_logic.Answer.TheVariants.{Inserted, Enabled, Updated, Disabled, Removed, Dispatched, Poller as OldPoller}
-use Rattle.calloop.specs.Rules.{Doing, Waiting, Gathering, Cutting, Ending, Leaving, Step, Steps, CutTo, CutFrom, EndedBy, after_wait, Case, Once, Run, InsertedBy, AskedIn, EnabledBy, UpdatedBy, DisabledBy, RemovedIn, RemovedBy, factory_of, all_traced}
-use Rattle.calloop.specs.Laws.{HoldsNone, IsFresh, AllFresh}
+use Rattle.calloop.specs.Machine.{World, View, IsNew, Registration, Change, Put, Claim, Polls, Polling, Watching, Counting, Gathered, Cut, Ended, holding, reused, with_claim, done, all_done, seen, slot_of, AllFit}
+use Rattle.calloop.specs.declared.loop_logic.LoopCall.{LoopCall}
+use Rattle.calloop.specs.declared.loop_logic.LoopCall.TheVariants.{Insert, Enable, Update, Disable, Remove as RemoveCall, Dispatch, Poller as NewPoller}
+use Rattle.calloop.specs.declared.loop_logic.LoopAnswer.{LoopAnswer}
+use Rattle.calloop.specs.declared.loop_logic.LoopAnswer.TheVariants.{Inserted, Enabled, Updated, Disabled, Removed, Dispatched, Poller as OldPoller}
+use Rattle.calloop.specs.Rules.{Doing, Beginning, Waiting, Gathering, Cutting, Ending, Returning, Leaving, Step, Steps, CutTo, CutFrom, ActedBy, ReturnedTo, emptied, after_turn, after_wait, Case, Once, Run, InsertedBy, AskedIn, EnabledBy, UpdatedBy, DisabledBy, RemovedIn, RemovedBy, factory_of, all_traced}
+use Rattle.calloop.specs.Ledgers.{Ledger}
+use Rattle.calloop.specs.Laws.{HoldsNone, AllFresh, joined, changes_of}
 use Rattle.calloop.proofs.Seen.{seen-all_done}
 use Rattle.calloop.proofs.Noting.{IsNoted, IsGood, IsApart, apart_sym, noted_alike, noted_gathered, noted_cut, good_gathered, good_cut, cut_deadlines, done_steps}
 
@@ -41,29 +43,29 @@ at_put (x ∷ xs) zero (suc i) content d h = inr (λ e. cc, (h.0, h.1, h.2))
 at_put (x ∷ xs) (suc k) zero content d h = inr (λ e. cc, (h.0, h.1, h.2))
 at_put (x ∷ xs) (suc k) (suc i) content d h = elim (at_put xs k i content d h) [ inl e ↦ inl (ap suc e.0, e.1) | inr e ↦ inr (λ same. e.0 (omega (arith, same)), e.1) ]
 
--- no other content is a source
-no_source : {D : Type 0} (r : Registration D) (d : D) → is_empty r.content ≡ true → r.content ≡ Source d → ⊥
-no_source r d empty is = cc
-
-at_claim : {D : Type 0} (slots : List (Registration D)) (i : ℕ) (d : D) → At (claimed_of slots) i d → At slots i d
+at_claim : {D : Type 0} (slots : List (Registration D)) (i : ℕ) (d : D) → At (with_claim slots) i d → At slots i d
 at_claim [] zero d h = let e = h.1 in let f = h.2 in cc
 at_claim [] (suc i) d h = let e = h.1 in cc
 at_claim {D} (x ∷ xs) zero d h =
-    elim (is_empty x.content) as (λ b. is_empty x.content ≡ b → slice_get (if b then reused x ∷ xs else x ∷ claimed_of xs) 0 ≡ Some h.0 → At (x ∷ xs) 0 d)
-    [ true ↦ λ empty e. absurd (no_source x d empty (let f = h.2 in cc)) | false ↦ λ full e. (h.0, e, h.2) ] refl h.1
+    elim (is_empty x.content) as (λ b. slice_get (if b then reused x ∷ xs else x ∷ with_claim xs) 0 ≡ Some h.0 → At (x ∷ xs) 0 d)
+    [ true ↦ λ e. (let f = h.2 in cc) | false ↦ λ e. (h.0, e, h.2) ] h.1
 at_claim {D} (x ∷ xs) (suc i) d h =
-    elim (is_empty x.content) as (λ b. slice_get (if b then reused x ∷ xs else x ∷ claimed_of xs) (suc i) ≡ Some h.0 → At (x ∷ xs) (suc i) d)
+    elim (is_empty x.content) as (λ b. slice_get (if b then reused x ∷ xs else x ∷ with_claim xs) (suc i) ≡ Some h.0 → At (x ∷ xs) (suc i) d)
     [ true ↦ λ e. (h.0, e, h.2) | false ↦ λ e. at_claim xs i d (h.0, e, h.2) ] h.1
 
+-- what a source holds agrees with the ledger
+abbrev pub IsWell : {D P X Q : Type 0} → Meaning D P (Lent X Q) → Ledger → (next : ℕ) → D → Type 0
+IsWell M l next d = IsGood l next (M.holds d) × M.fits d
+
 -- what every machine state keeps, with the source that has its turn
-pub record IsOwned {D P X : Type 0} (M : Meaning D P X) (w : World D P) (aside : Option D) : Type 0 where
+pub record IsOwned {D P X Q : Type 0} (M : Meaning D P (Lent X Q)) (w : World D P) (aside : Option D) : Type 0 where
   pub noted : IsNoted w.ledger w.poll
-  pub good : (i : ℕ) (d : D) → At w.slots i d → IsGood w.ledger w.poll.deadlines.next (M.holds d)
+  pub good : (i : ℕ) (d : D) → At w.slots i d → IsWell M w.ledger w.poll.deadlines.next d
   pub apart : (i j : ℕ) (d e : D) → i ≢ j → At w.slots i d → At w.slots j e → IsApart (M.holds d) (M.holds e)
-  pub own : (d : D) → aside ≡ Some d → IsGood w.ledger w.poll.deadlines.next (M.holds d)
+  pub own : (d : D) → aside ≡ Some d → IsWell M w.ledger w.poll.deadlines.next d
   pub alone : (d e : D) (i : ℕ) → aside ≡ Some d → At w.slots i e → IsApart (M.holds d) (M.holds e)
 
-module _ {D P X : Type 0} (M : Meaning D P X) (O : Outside P) (law : IsKeeping M) where
+module _ {D P X Q : Type 0} (M : Meaning D P (Lent X Q)) (O : Outside P) (law : IsKeeping M) where
   -- changes that leave slots, deadlines and ledger as they are
   owned_same : (w w' : World D P) (aside : Option D) → w'.slots ≡ w.slots → w'.ledger ≡ w.ledger → w'.poll.deadlines ≡ w.poll.deadlines → w'.poll.batch ≡ w.poll.batch → IsOwned M w aside → IsOwned M w' aside
   owned_same w w' aside slots ledger deadlines batch h =
@@ -79,7 +81,7 @@ module _ {D P X : Type 0} (M : Meaning D P X) (O : Outside P) (law : IsKeeping M
   owned_gathered w posted given now h =
       record {
         noted = noted_gathered w.ledger w.poll posted given now h.noted;
-        good = λ i d is. good_gathered w.ledger w.poll.deadlines.next (M.holds d) posted given now (h.good i d is);
+        good = λ i d is. (good_gathered w.ledger w.poll.deadlines.next (M.holds d) posted given now (h.good i d is).0, (h.good i d is).1);
         apart = h.apart;
         own = λ d is. cc;
         alone = h.alone;
@@ -89,14 +91,14 @@ module _ {D P X : Type 0} (M : Meaning D P X) (O : Outside P) (law : IsKeeping M
   owned_cut w place h =
       record {
         noted = noted_cut w.ledger w.poll h.noted;
-        good = λ i d is. rw (cut_deadlines w.poll) (good_cut w.ledger w.poll.deadlines.next (M.holds d) (h.good i d is));
+        good = λ i d is. (rw (cut_deadlines w.poll) (good_cut w.ledger w.poll.deadlines.next (M.holds d) (h.good i d is).0), (h.good i d is).1);
         apart = h.apart;
         own = λ d is. cc;
         alone = h.alone;
       }
 
-  owned_claim : (w : World D P) (aside : Option D) → IsOwned M w aside → IsOwned M (done w Claim) aside
-  owned_claim w aside h =
+  owned_claim : (w : World D P) (source : D) (aside : Option D) → IsOwned M w aside → IsOwned M (done w (Claim source)) aside
+  owned_claim w source aside h =
       record {
         noted = h.noted;
         good = λ i d is. h.good i d (at_claim w.slots i d is);
@@ -156,27 +158,29 @@ module _ {D P X : Type 0} (M : Meaning D P X) (O : Outside P) (law : IsKeeping M
   owned_dropped w aside h = record { noted = h.noted; good = h.good; apart = h.apart; own = λ d is. cc; alone = λ d e i is at. cc }
 
   -- one that holds no counter comes
-  owned_fresh : (w : World D P) (d : D) → ((c : ℕ) → M.holds d c ≡ Free) → IsOwned M w None → IsOwned M w (Some d)
+  owned_fresh : (w : World D P) (d : D) → HoldsNone M d × M.fits d → IsOwned M w None → IsOwned M w (Some d)
   owned_fresh w d free h =
       record {
         noted = h.noted;
         good = h.good;
         apart = h.apart;
         own = λ e is.
-            (let same : d ≡ e = cc in rw (← same) (record { below = λ c held. absurd (held (free c)); standing = λ c deadline stands. (let none = free c in cc) }));
-        alone = λ e f i is at. (let same : d ≡ e = cc in rw (← same) (λ c. inl (free c)));
+            (let same : d ≡ e = cc in rw (← same) (record { below = λ c held. absurd (held (free.0 c)); standing = λ c deadline stands. (let none = free.0 c in cc) }, free.1));
+        alone = λ e f i is at. (let same : d ≡ e = cc in rw (← same) (λ c. inl (free.0 c)));
       }
 
   -- the steps of the one that has its turn
-  owned_polls : (w : World D P) (d d' : D) (steps : List (PollStep P)) → AllAllowed O w.poll steps → Keeps (M.holds d) w.poll.deadlines.next steps (M.holds d') → IsOwned M w (Some d) → IsOwned M (done w (Polls steps)) (Some d')
+  owned_polls : (w : World D P) (d d' : D) (steps : List (PollStep P)) → AllAllowed O w.poll steps → (M.fits d → IsBelow w.poll.deadlines.next (M.holds d) → M.fits d' × Keeps (M.holds d) w.poll.deadlines.next steps (M.holds d')) → IsOwned M w (Some d) → IsOwned M (done w (Polls steps)) (Some d')
   owned_polls w d d' steps allowed keeps h =
-      let x = done_steps O steps w.ledger w.poll (M.holds d) (M.holds d') allowed keeps h.noted (h.own d refl) in
+      let own = h.own d refl in
+      let kept = keeps own.1 own.0.below in
+      let x = done_steps O steps w.ledger w.poll (M.holds d) (M.holds d') allowed kept.1 h.noted own.0 in
       record {
         noted = x.noted;
-        good = λ i e is. (x.others (M.holds e) (h.alone d e i refl is) (h.good i e is)).0;
+        good = λ i e is. ((x.others (M.holds e) (h.alone d e i refl is) (h.good i e is).0).0, (h.good i e is).1);
         apart = h.apart;
-        own = λ e is. (let same : d' ≡ e = cc in rw (← same) x.good);
-        alone = λ e f i is at. (let same : d' ≡ e = cc in rw (← same) (x.others (M.holds f) (h.alone d f i refl at) (h.good i f at)).1);
+        own = λ e is. (let same : d' ≡ e = cc in rw (← same) (x.good, kept.0));
+        alone = λ e f i is at. (let same : d' ≡ e = cc in rw (← same) (x.others (M.holds f) (h.alone d f i refl at) (h.good i f at).0).1);
       }
 
 at_under : {D : Type 0} (v : ℕ) (o : Option (Registration D)) (d : D) → content_under v (option_map slot_of o) ≡ Source d → (r : Registration D) × (o ≡ Some r) × (r.content ≡ Source d)
@@ -190,16 +194,22 @@ at_named slots token d is =
     (h.0, h.1, h.2)
 
 abbrev pub aside_of : {D X : Type 0} → Doing D X → Option D
+aside_of (Beginning timeout x) = None
 aside_of (Waiting timeout x) = None
 aside_of (Gathering now given x) = None
 aside_of (Cutting x) = None
 aside_of (Ending token d answer x) = Some d
+aside_of (Returning token d told x) = Some d
 aside_of (Leaving answer x) = None
 
-module _ {D P X : Type 0} (M : Meaning D P X) (O : Outside P) (law : IsKeeping M) where
+module _ {D P X Q : Type 0} (M : Meaning D P (Lent X Q)) (O : Outside P) (law : IsKeeping M) where
   aside_wait : (answer : Result ℕ Cause) (given : List (ℕ × Readiness)) (x : X) → aside_of {D = D} (after_wait answer given x) ≡ None
   aside_wait (Ok now) given x = refl
   aside_wait (Err cause) given x = refl
+
+  aside_after : (told : Result (Unit {0}) Error) (x : X) → aside_of {D = D} (after_turn told x) ≡ None
+  aside_after (Ok u) x = refl
+  aside_after (Err e) x = refl
 
   cut_owned : (w : World D P) (e : Pending) (x : X) (cs : List (Change D P)) (b : Doing D X) (c : Content D) → named (map slot_of w.slots) (registration_of e.token) ≡ c → CutTo M e c (seen w) x cs b → AllFit O (seen w) cs → IsOwned M w None → IsOwned M (all_done w cs) (aside_of b)
   cut_owned w e x cs b Vacant is h fit k = rw (h.0, h.1) (owned_same M O law (done w (Cut None)) (done (done w (Cut None)) Ended) None refl refl refl refl (owned_cut M O law w None k))
@@ -207,31 +217,54 @@ module _ {D P X : Type 0} (M : Meaning D P X) (O : Outside P) (law : IsKeeping M
   cut_owned w e x cs b (Source d) is h fit k =
       let begun : World D P = done w (Cut (Some e.token.slot)) in
       let out : World D P = done begun (Put e.token.slot InTurn) in
-      let allowed : AllAllowed O (cut w.poll) h.2 = (rw h.5 at fit).1.1.0 in
-      rw (h.5, h.6)
-      (owned_polls M O law out d h.0 h.2 allowed (law.turn d h.0 e.readiness e.token (cut w.poll) x h.3 h.1 h.2 h.4)
+      let allowed : AllAllowed O (cut w.poll) h.2 = (rw h.7 at fit).1.1.0 in
+      rw (h.7, h.8)
+      (owned_polls M O law out d h.0 h.2 allowed (λ fits below. law d h.0 (cut w.poll) (Turned e.readiness e.token (lent x h.4 h.1 h.3 h.5)) h.2 fits below h.6)
       (owned_out M O law begun e.token.slot d (at_named w.slots (registration_of e.token) d is) (owned_cut M O law w (Some e.token.slot) k)))
 
   from_owned : (w : World D P) (es : List Pending) (x : X) (cs : List (Change D P)) (b : Doing D X) → CutFrom M es (seen w) x cs b → AllFit O (seen w) cs → IsOwned M w None → IsOwned M (all_done w cs) (aside_of b)
   from_owned w [] x cs b h fit k = rw (h.0, h.1) k
   from_owned w (e ∷ es) x cs b h fit k = cut_owned w e x cs b (named (map slot_of w.slots) (registration_of e.token)) refl h fit k
 
-  ended_owned : (w : World D P) (token : Token) (d : D) (answer : Result PostAction Error) (x : X) (cs : List (Change D P)) (b : Doing D X) → EndedBy M token d answer (seen w) x cs b → AllFit O (seen w) cs → IsOwned M w (Some d) → IsOwned M (all_done w cs) (aside_of b)
-  ended_owned w token d (Ok Continue) x cs b h fit k = rw (h.0, h.1) (owned_back M O law (done w Ended) token.slot d (owned_same M O law w (done w Ended) (Some d) refl refl refl refl k))
-  ended_owned w token d (Err e) x cs b h fit k = rw (h.0, h.1) (owned_back M O law (done w Ended) token.slot d (owned_same M O law w (done w Ended) (Some d) refl refl refl refl k))
-  ended_owned w token d (Ok Remove) x cs b h fit k =
-      let out : World D P = done (done w Ended) (Put token.slot Vacant) in
-      let allowed : AllAllowed O (with_pass None w.poll) h.2 = (rw h.4 at fit).1.1.0 in
-      rw (h.4, h.5)
-      (owned_dropped M O law (done out (Polls h.2)) (Some h.0)
-      (owned_polls M O law out d h.0 h.2 allowed (law.unreg d h.0 (with_pass None w.poll) h.1 h.2 h.3)
-      (owned_emptied M O law (done w Ended) (Some d) token.slot Vacant (λ e is. cc) (owned_same M O law w (done w Ended) (Some d) refl refl refl refl k))))
+  emptied_owned : (w : World D P) (token : RegistrationToken) (c : Content D) (aside : Option D) → IsOwned M w aside → IsOwned M (all_done w (emptied token c)) aside
+  emptied_owned w token Vacant aside k = k
+  emptied_owned w token (Source d) aside k = k
+  emptied_owned w token InTurn aside k = owned_emptied M O law w aside token.slot Vacant (λ e is. cc) k
+
+  acted_owned : (w : World D P) (token : RegistrationToken) (d : D) (answer : Result PostAction Error) (cs : List (Change D P)) (e : D) (told : Result (Unit {0}) Error) → ActedBy M token d answer (seen w) cs e told → AllFit O (seen w) cs → IsOwned M w (Some d) → IsOwned M (all_done w cs) (Some e)
+  acted_owned w token d (Ok Continue) cs e told h fit k = rw (h.0, h.1) (owned_same M O law w (done w Ended) (Some d) refl refl refl refl k)
+  acted_owned w token d (Ok Reregister) cs e told h fit k =
+      let allowed : AllAllowed O (with_pass None w.poll) h.1 = (rw h.3 at fit).1.0 in
+      rw h.3
+      (owned_polls M O law (done w Ended) d e h.1 allowed (λ fits below. law d e (with_pass None w.poll) (Reregistered (factory_of token) told h.0) h.1 fits below h.2)
+      (owned_same M O law w (done w Ended) (Some d) refl refl refl refl k))
+  acted_owned w token d (Ok DisableIt) cs e told h fit k =
+      let allowed : AllAllowed O (with_pass None w.poll) h.0 = (rw h.2 at fit).1.0 in
+      rw h.2
+      (owned_polls M O law (done w Ended) d e h.0 allowed (λ fits below. law d e (with_pass None w.poll) (Unregistered told) h.0 fits below h.1)
+      (owned_same M O law w (done w Ended) (Some d) refl refl refl refl k))
+  acted_owned w token d (Ok Remove) cs e told h fit k =
+      rw (h.0, h.1) (emptied_owned (done w Ended) token (named (map slot_of w.slots) token) (Some d) (owned_same M O law w (done w Ended) (Some d) refl refl refl refl k))
+  acted_owned w token d (Err error) cs e told h fit k = rw (h.0, h.1) (owned_same M O law w (done w Ended) (Some d) refl refl refl refl k)
+
+  gone_owned : (w : World D P) (d : D) (cs : List (Change D P)) → (h : (e : D) × (answer : Result (Unit {0}) Error) × (steps : List (PollStep P)) × M.does d w.poll (Unregistered answer) steps e × (cs ≡ Polls steps ∷ [])) → AllFit O (seen w) cs → IsOwned M w (Some d) → IsOwned M (all_done w cs) None
+  gone_owned w d cs h fit k =
+      let allowed : AllAllowed O w.poll h.2 = (rw h.4 at fit).0 in
+      rw h.4
+      (owned_dropped M O law (done w (Polls h.2)) (Some h.0) (owned_polls M O law w d h.0 h.2 allowed (λ fits below. law d h.0 w.poll (Unregistered h.1) h.2 fits below h.3) k))
+
+  returned_owned : (w : World D P) (token : RegistrationToken) (d : D) (c : Content D) (cs : List (Change D P)) → ReturnedTo M token d c (seen w) cs → AllFit O (seen w) cs → IsOwned M w (Some d) → IsOwned M (all_done w cs) None
+  returned_owned w token d InTurn cs h fit k = rw h (owned_back M O law w token.slot d k)
+  returned_owned w token d Vacant cs h fit k = gone_owned w d cs h fit k
+  returned_owned w token d (Source f) cs h fit k = gone_owned w d cs h fit k
 
   step_owned : (w : World D P) (a b : Doing D X) (cs : List (Change D P)) → Step M O (seen w) a cs b → AllFit O (seen w) cs → IsOwned M w (aside_of a) → IsOwned M (all_done w cs) (aside_of b)
-  step_owned w (Waiting timeout x) b cs h fit k = rw (h.4, h.5, aside_wait h.0 h.1 x) (owned_same M O law w (done w (Polling h.2)) None refl refl refl refl k)
+  step_owned w (Beginning timeout x) b cs h fit k = rw (h.1, h.2) (owned_same M O law w (done w (Counting h.0)) None refl refl refl refl k)
+  step_owned w (Waiting timeout x) b cs h fit k = rw (h.5, h.6, aside_wait h.0 h.1 x) (owned_same M O law w (done (done w (Polling h.2)) (Watching h.3)) None refl refl refl refl k)
   step_owned w (Gathering now given x) b cs h fit k = rw (h.1, h.2) (owned_gathered M O law w h.0 given now k)
   step_owned w (Cutting x) b cs h fit k = from_owned w w.poll.batch x cs b h fit k
-  step_owned w (Ending token d answer x) b cs h fit k = ended_owned w token d answer x cs b h fit k
+  step_owned w (Ending token d answer x) b cs h fit k = rw h.3 (acted_owned w token d answer cs h.0 h.1 h.2 fit k)
+  step_owned w (Returning token d told x) b cs h fit k = rw (h.1, aside_after told x) (returned_owned w token d (named (map slot_of w.slots) token) cs h.0 fit k)
   step_owned w (Leaving answer x) b cs h fit k = absurd h
 
   steps_owned : (w : World D P) (a b : Doing D X) (css : List (List (Change D P))) → Steps M O (seen w) a css b → IsOwned M w (aside_of a) → IsOwned M (all_traced w css) (aside_of b)
@@ -239,23 +272,28 @@ module _ {D P X : Type 0} (M : Meaning D P X) (O : Outside P) (law : IsKeeping M
   steps_owned w a b (cs ∷ css) h k =
       steps_owned (all_done w cs) h.0 b css (subst (λ (v : View D P). Steps M O v h.0 css b) (sym (seen-all_done w cs)) h.3) (step_owned w a h.0 cs h.1 h.2 k)
 
-  inserted_owned : (w : World D P) (d : D) (answer : Result RegistrationToken (InsertError D)) (cs : List (Change D P)) → HoldsNone M d → InsertedBy M d answer (seen w) cs → AllFit O (seen w) cs → IsOwned M w None → IsOwned M (all_done w cs) None
-  inserted_owned w d (Ok token) cs free h fit k =
-      let claimed : World D P = done w Claim in
+  inserted_owned : (w : World D P) (d : D) (answer : Result RegistrationToken (InsertError D)) (cs : List (Change D P)) → AllFresh M cs → InsertedBy M d answer (seen w) cs → AllFit O (seen w) cs → IsOwned M w None → IsOwned M (all_done w cs) None
+  inserted_owned w d (Ok token) cs fresh h fit k =
+      let claimed : World D P = done w (Claim d) in
       let allowed : AllAllowed O w.poll h.4 = (rw h.6 at fit).1.0 in
+      let free : HoldsNone M d × M.fits d = (rw h.6 at fresh).0 in
       rw h.6
       (owned_back M O law (done claimed (Polls h.4)) token.slot h.2
-      (owned_polls M O law claimed d h.2 h.4 allowed (law.reg d h.2 w.poll (factory_of token) h.3 (Ok tt) h.4 h.5) (owned_fresh M O law claimed d free (owned_claim M O law w None k))))
-  inserted_owned w d (Err refused) cs free (inl h) fit k = rw h.2 k
-  inserted_owned w d (Err refused) cs free (inr h) fit k =
-      let claimed : World D P = done w Claim in
+      (owned_polls M O law claimed d h.2 h.4 allowed (λ fits below. law d h.2 w.poll (Registered (factory_of token) (Ok tt) h.3) h.4 fits below h.5) (owned_fresh M O law claimed d free (owned_claim M O law w d None k))))
+  inserted_owned w d (Err refused) cs fresh (inl h) fit k = rw h.2 k
+  inserted_owned w d (Err refused) cs fresh (inr h) fit k =
+      let claimed : World D P = done w (Claim d) in
       let allowed : AllAllowed O w.poll h.2 = (rw h.4 at fit).1.0 in
+      let free : HoldsNone M d × M.fits d = (rw h.4 at fresh).0 in
+      let polled : World D P = done claimed (Polls h.2) in
+      let place = first_vacant (map slot_of w.slots) in
       rw h.4
-      (owned_dropped M O law (done claimed (Polls h.2)) (Some refused.inserted)
-      (owned_polls M O law claimed d refused.inserted h.2 allowed (law.reg d refused.inserted w.poll (factory_of (next_registration (map slot_of w.slots))) h.1 (Err refused.error) h.2 h.3) (owned_fresh M O law claimed d free (owned_claim M O law w None k))))
+      (owned_dropped M O law (done polled (Put place Vacant)) (Some refused.inserted)
+      (owned_emptied M O law polled (Some refused.inserted) place Vacant (λ e is. cc)
+      (owned_polls M O law claimed d refused.inserted h.2 allowed (λ fits below. law d refused.inserted w.poll (Registered (factory_of (next_registration (map slot_of w.slots))) (Err refused.error) h.1) h.2 fits below h.3) (owned_fresh M O law claimed d free (owned_claim M O law w d None k)))))
 
   asked_owned : (w : World D P) (R : D → Result (Unit {0}) Error → List (PollStep P) → D → Type 0) (token : RegistrationToken) (answer : Result (Unit {0}) Error) (cs : List (Change D P)) (c : Content D)
-      → ((d e : D) (l : List (PollStep P)) → R d answer l e → Keeps (M.holds d) w.poll.deadlines.next l (M.holds e))
+      → ((d e : D) (l : List (PollStep P)) → R d answer l e → M.fits d → IsBelow w.poll.deadlines.next (M.holds d) → M.fits e × Keeps (M.holds d) w.poll.deadlines.next l (M.holds e))
       → named (map slot_of w.slots) token ≡ c → AskedIn R token c answer cs → AllFit O (seen w) cs → IsOwned M w None → IsOwned M (all_done w cs) None
   asked_owned w R token answer cs Vacant keeps is h fit k = rw h.1 k
   asked_owned w R token answer cs InTurn keeps is h fit k = rw h.1 k
@@ -274,33 +312,41 @@ module _ {D P X : Type 0} (M : Meaning D P X) (O : Outside P) (law : IsKeeping M
       let allowed : AllAllowed O w.poll h.2 = (rw h.5 at fit).1.0 in
       rw h.5
       (owned_dropped M O law (done out (Polls h.2)) (Some h.0)
-      (owned_polls M O law out d h.0 h.2 allowed (law.unreg d h.0 w.poll h.1 h.2 h.3) (owned_without M O law w token.slot Vacant d (λ e is. cc) (at_named w.slots token d is) k)))
+      (owned_polls M O law out d h.0 h.2 allowed (λ fits below. law d h.0 w.poll (Unregistered h.1) h.2 fits below h.3) (owned_without M O law w token.slot Vacant d (λ e is. cc) (at_named w.slots token d is) k)))
 
-  once_owned : (w : World D P) (R : View D P → List (Change D P) → Type 0) (css : List (List (Change D P))) → Once O R (seen w) css → ((cs : List (Change D P)) → R (seen w) cs → AllFit O (seen w) cs → IsOwned M (all_done w cs) None) → IsOwned M (all_traced w css) None
-  once_owned w R [] h f = absurd h
-  once_owned w R (cs ∷ []) h f = f cs h.0 h.1
-  once_owned w R (cs ∷ ds ∷ css) h f = absurd h
+  fresh_first : (cs ds : List (Change D P)) → AllFresh M (cs ++ ds) → AllFresh M cs
+  fresh_first [] ds h = tt
+  fresh_first (c ∷ cs) ds h = (h.0, fresh_first cs ds h.1)
 
-  case_owned : (w : World D P) (call : Call D P X) (answer : Answer D P X) (css : List (List (Change D P))) → IsFresh M call → Case M O call answer (seen w) css → IsOwned M w None → IsOwned M (all_traced w css) None
-  case_owned w (Insert d) (Inserted answer) css free h k = once_owned w (InsertedBy M d answer) css h (λ cs r fit. inserted_owned w d answer cs free r fit k)
+  fresh_rest : (cs ds : List (Change D P)) → AllFresh M (cs ++ ds) → AllFresh M ds
+  fresh_rest [] ds h = h
+  fresh_rest (c ∷ cs) ds h = fresh_rest cs ds h.1
+
+  once_owned : (w : World D P) (R : View D P → List (Change D P) → Type 0) (css : List (List (Change D P))) → AllFresh M (joined css) → Once O R (seen w) css → ((cs : List (Change D P)) → AllFresh M cs → R (seen w) cs → AllFit O (seen w) cs → IsOwned M (all_done w cs) None) → IsOwned M (all_traced w css) None
+  once_owned w R [] fresh h f = absurd h
+  once_owned w R (cs ∷ []) fresh h f = f cs (fresh_first cs [] fresh) h.0 h.1
+  once_owned w R (cs ∷ ds ∷ css) fresh h f = absurd h
+
+  case_owned : (w : World D P) (call : LoopCall D P X) (answer : LoopAnswer D P X) (css : List (List (Change D P))) → AllFresh M (joined css) → Case M O call answer (seen w) css → IsOwned M w None → IsOwned M (all_traced w css) None
+  case_owned w (Insert d) (Inserted answer) css free h k = once_owned w (InsertedBy M d answer) css free h (λ cs fresh r fit. inserted_owned w d answer cs fresh r fit k)
   case_owned w (Enable token) (Enabled answer) css free h k =
-      once_owned w (EnabledBy M token answer) css h
-      (λ cs r fit. asked_owned w _ token answer cs (named (map slot_of w.slots) token) (λ d e l u. law.reg d e w.poll (factory_of token) u.0 answer l u.1) refl r fit k)
+      once_owned w (EnabledBy M token answer) css free h
+      (λ cs fresh r fit. asked_owned w _ token answer cs (named (map slot_of w.slots) token) (λ d e l u fits below. law d e w.poll (Registered (factory_of token) answer u.0) l fits below u.1) refl r fit k)
   case_owned w (Update token) (Updated answer) css free h k =
-      once_owned w (UpdatedBy M token answer) css h
-      (λ cs r fit. asked_owned w _ token answer cs (named (map slot_of w.slots) token) (λ d e l u. law.rereg d e w.poll (factory_of token) u.0 answer l u.1) refl r fit k)
+      once_owned w (UpdatedBy M token answer) css free h
+      (λ cs fresh r fit. asked_owned w _ token answer cs (named (map slot_of w.slots) token) (λ d e l u fits below. law d e w.poll (Reregistered (factory_of token) answer u.0) l fits below u.1) refl r fit k)
   case_owned w (Disable token) (Disabled answer) css free h k =
-      once_owned w (DisabledBy M token answer) css h
-      (λ cs r fit. asked_owned w _ token answer cs (named (map slot_of w.slots) token) (λ d e l u. law.unreg d e w.poll answer l u) refl r fit k)
-  case_owned w (RemoveCall token) (Removed answer) css free h k = once_owned w (RemovedBy M token answer) css h (λ cs r fit. removed_owned w token answer cs (named (map slot_of w.slots) token) refl r fit k)
+      once_owned w (DisabledBy M token answer) css free h
+      (λ cs fresh r fit. asked_owned w _ token answer cs (named (map slot_of w.slots) token) (λ d e l u fits below. law d e w.poll (Unregistered answer) l fits below u) refl r fit k)
+  case_owned w (RemoveCall token) (Removed answer) css free h k = once_owned w (RemovedBy M token answer) css free h (λ cs fresh r fit. removed_owned w token answer cs (named (map slot_of w.slots) token) refl r fit k)
   case_owned w (Dispatch timeout x) (Dispatched answer x') css free (inl h) k = rw h.2 k
-  case_owned w (Dispatch timeout x) (Dispatched answer x') css free (inr h) k = steps_owned w (Waiting (nanos_of timeout) x) (Leaving answer x') css h k
+  case_owned w (Dispatch timeout x) (Dispatched answer x') css free (inr h) k = steps_owned w (Beginning (nanos_of timeout) x) (Leaving answer x') css h k
   case_owned w (NewPoller p) (OldPoller q) css free h k = rw h.1 (owned_same M O law w (done w (Polling p)) None refl refl refl refl k)
   case_owned w call answer css free h k = absurd h
 
-  pub run_owned : (calls : List (Call D P X)) (answers : List (Answer D P X)) (csss : List (List (List (Change D P)))) (w w' : World D P) → AllFresh M calls → Run M O calls answers csss w w' → IsOwned M w None → IsOwned M w' None
+  pub run_owned : (calls : List (LoopCall D P X)) (answers : List (LoopAnswer D P X)) (csss : List (List (List (Change D P)))) (w w' : World D P) → AllFresh M (changes_of csss) → Run M O calls answers csss w w' → IsOwned M w None → IsOwned M w' None
   run_owned [] [] [] w w' free run k = rw run k
-  run_owned (call ∷ calls) (answer ∷ answers) (css ∷ csss) w w' free run k = run_owned calls answers csss (all_traced w css) w' free.1 run.1 (case_owned w call answer css free.0 run.0 k)
+  run_owned (call ∷ calls) (answer ∷ answers) (css ∷ csss) w w' free run k = run_owned calls answers csss (all_traced w css) w' (fresh_rest (joined css) (changes_of csss) free) run.1 (case_owned w call answer css (fresh_first (joined css) (changes_of csss) free) run.0 k)
   run_owned calls answers csss w w' free run k = absurd run
 
 nobody : {D : Type 0} (slots : List (Registration D)) → slots ≡ [] → (i : ℕ) (d : D) → At slots i d → ⊥
@@ -311,7 +357,7 @@ none_armed : (n : ℕ) → ◌≡◌ {A = ℕ} 0 (if nat_lt n 0 then 1 else 0)
 none_armed n = grind (arith, nat_tests)
 
 -- a machine to which nothing has happened
-pub new_owned : {D P X : Type 0} (M : Meaning D P X) (w : World D P) → IsNew w → IsOwned M w None
+pub new_owned : {D P X Q : Type 0} (M : Meaning D P (Lent X Q)) (w : World D P) → IsNew w → IsOwned M w None
 new_owned {D} {P} M w h =
     record {
       noted = record { kept = rw h.ledger (record { entries = sym (ap (λ d. d.entries) h.deadlines); events = sym h.batch; placed = λ n. none_armed n; batch_on_time = tt; cut_on_time = tt; own = tt; once = λ n. omega arith; gathered = λ n. omega arith }); falls = rw h.ledger tt };

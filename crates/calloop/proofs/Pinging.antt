@@ -16,7 +16,7 @@ use Rattle.calloop.specs.Pings.{Registers, RegistersAnew, NoPlace, NoPlaceAnew, 
 -- what a place that is opened, or can't be, makes of a registration
 pub registers : (P : Type 0) (twin : Twin) (f g : TokenFactory) (token : Token) (answer : Result (Unit {0}) Error) (after : Twin) → token ≡ next_token f → g ≡ after_token f → IfOk answer (λ _. after ≡ record twin { key = Some (key_of token) }) → IfErr answer (λ e. CannotOpen e × (after ≡ twin)) → twin.key ≡ None → Registers {P = P} twin f answer [] after g
 registers P twin f g token (Ok u) after is_next is_after ok err none = (none, refl, subst (λ t. after ≡ record twin { key = Some (key_of t) }) is_next ok, is_after)
-registers P twin f g token (Err e) after is_next is_after ok err none = (refl, err.1, NoPlace err.0 is_after)
+registers P twin f g token (Err e) after is_next is_after ok err none = (refl, err.1, NoPlace none err.0 is_after)
 
 -- and of a registration anew
 pub registers_anew : (P : Type 0) (twin : Twin) (f g : TokenFactory) (token : Token) (answer : Result (Unit {0}) Error) (after : Twin) → token ≡ next_token f → g ≡ after_token f → IfOk answer (λ _. after ≡ record twin { key = Some (key_of token) }) → IfErr answer (λ e. CannotOpen e × (after ≡ twin)) → IsSome twin.key → is_own (key_of token) twin.key ≡ false → RegistersAnew {P = P} twin f answer [] after g

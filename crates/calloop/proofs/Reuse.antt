@@ -3,7 +3,7 @@ use Rattle.std.proofs.Common.{◌≡◌, ℕ, suc, zero, ◌+◌, ◌-◌, ◌*�
 use Rattle.std.proofs.Math.Nat.{mod-add-div}
 use Rattle.calloop_wake.specs.declared.list.Content.{Content}
 use Rattle.calloop_wake.specs.Slots.{changed, is_empty}
-use Rattle.calloop.specs.Machine.{World, Registration, Change, Put, Claim, Polls, Polling, Gathered, Cut, Ended, holding, reused, claimed_of, done, all_done}
+use Rattle.calloop.specs.Machine.{World, Registration, Change, Put, Claim, Polls, Polling, Watching, Counting, Gathered, Cut, Ended, holding, reused, with_claim, done, all_done}
 use Rattle.calloop.specs.Laws.{NamesLater}
 
 abbrev pub Older : {D : Type 0} → List (Registration D) → ℕ → Registration D → Type 0
@@ -16,19 +16,21 @@ older_changed c (x ∷ xs) zero (suc i) r h = h
 older_changed c (x ∷ xs) (suc j) zero r h = h
 older_changed c (x ∷ xs) (suc j) (suc i) r h = older_changed c xs j i r h
 
-older_claimed : {D : Type 0} (rs : List (Registration D)) (i : ℕ) (r : Registration D) → Older rs i r → Older (claimed_of rs) i r
-older_claimed [] i r h = cc
-older_claimed {D} (x ∷ xs) zero r h =
+older_claim : {D : Type 0} (rs : List (Registration D)) (i : ℕ) (r : Registration D) → Older rs i r → Older (with_claim rs) i r
+older_claim [] i r h = cc
+older_claim {D} (x ∷ xs) zero r h =
     let e : x ≡ h.0 = cc in
-    elim (is_empty x.content) as (λ b. Older (if b then reused x ∷ xs else x ∷ claimed_of xs) zero r) [ true ↦ (reused x, refl, omega (arith, h.2, ap (λ (y : Registration D). y.reuse) e)) | false ↦ (x, refl, omega (arith, h.2, ap (λ (y : Registration D). y.reuse) e)) ]
-older_claimed {D} (x ∷ xs) (suc i) r h =
-    elim (is_empty x.content) as (λ b. Older (if b then reused x ∷ xs else x ∷ claimed_of xs) (suc i) r) [ true ↦ h | false ↦ older_claimed xs i r h ]
+    elim (is_empty x.content) as (λ b. Older (if b then reused x ∷ xs else x ∷ with_claim xs) zero r) [ true ↦ (reused x, refl, omega (arith, h.2, ap (λ (y : Registration D). y.reuse) e)) | false ↦ (x, refl, omega (arith, h.2, ap (λ (y : Registration D). y.reuse) e)) ]
+older_claim {D} (x ∷ xs) (suc i) r h =
+    elim (is_empty x.content) as (λ b. Older (if b then reused x ∷ xs else x ∷ with_claim xs) (suc i) r) [ true ↦ h | false ↦ older_claim xs i r h ]
 
 older_done : {D P : Type 0} (w : World D P) (c : Change D P) (i : ℕ) (r : Registration D) → Older w.slots i r → Older (done w c).slots i r
 older_done w (Put slot content) i r h = older_changed content w.slots slot i r h
-older_done w Claim i r h = older_claimed w.slots i r h
+older_done w (Claim source) i r h = older_claim w.slots i r h
 older_done w (Polls steps) i r h = h
 older_done w (Polling poller) i r h = h
+older_done w (Watching watch) i r h = h
+older_done w (Counting places) i r h = h
 older_done w (Gathered posted given now) i r h = h
 older_done w (Cut slot) i r h = h
 older_done w Ended i r h = h

@@ -11,16 +11,18 @@ use Rattle.calloop_wake.specs.declared.list.Content.TheVariants.{Vacant, Source,
 use Rattle.calloop_wake.specs.Tokens.{registration_of}
 use Rattle.calloop_wake.specs.Slots.{named, content_under}
 use Rattle.calloop_core.specs.declared.sys.poll.Pending.{Pending}
-use Rattle.calloop_core.specs.declared.sources.PostAction.TheVariants.{Continue, Remove}
+use Rattle.calloop_core.specs.declared.sources.PostAction.{PostAction}
+use Rattle.calloop_core.specs.declared.sources.PostAction.TheVariants.{Continue, Reregister, Disable as DisableIt, Remove}
 use Rattle.calloop_core.specs.Pollers.{Outside}
 use Rattle.calloop_core.specs.Polls.{PollStep}
-use Rattle.calloop.specs.declared.loop_logic.Call.{Call}
-use Rattle.calloop.specs.declared.loop_logic.Call.TheVariants.{Insert, Enable, Update, Disable, Remove as RemoveCall, Dispatch, Poller as NewPoller}
-use Rattle.calloop.specs.declared.loop_logic.Answer.{Answer}
-use Rattle.calloop.specs.declared.loop_logic.Answer.TheVariants.{Inserted, Enabled, Updated, Disabled, Removed, Dispatched, Poller as OldPoller}
+use Rattle.calloop.specs.declared.loop_logic.LoopCall.{LoopCall}
+use Rattle.calloop.specs.declared.loop_logic.LoopCall.TheVariants.{Insert, Enable, Update, Disable, Remove as RemoveCall, Dispatch, Poller as NewPoller}
+use Rattle.calloop.specs.declared.loop_logic.LoopAnswer.{LoopAnswer}
+use Rattle.calloop.specs.declared.loop_logic.LoopAnswer.TheVariants.{Inserted, Enabled, Updated, Disabled, Removed, Dispatched, Poller as OldPoller}
+use Rattle.calloop_core.specs.Deeds.{Lent}
 use Rattle.calloop_core.specs.Meanings.{Meaning}
-use Rattle.calloop.specs.Machine.{World, View, Registration, Change, seen, slot_of, done, all_done}
-use Rattle.calloop.specs.Rules.{Doing, Waiting, Gathering, Cutting, Ending, Leaving, Step, Steps, CutTo, CutFrom, Case, Run, InsertedBy, AskedIn, RemovedIn, EnabledBy, UpdatedBy, DisabledBy, RemovedBy, Once, all_traced}
+use Rattle.calloop.specs.Machine.{World, View, Registration, Change, Ended, seen, slot_of, done, all_done}
+use Rattle.calloop.specs.Rules.{Doing, Beginning, Waiting, Gathering, Cutting, Ending, Returning, Leaving, Step, Steps, CutTo, CutFrom, ActedBy, ReturnedTo, emptied, Case, Run, InsertedBy, AskedIn, RemovedIn, EnabledBy, UpdatedBy, DisabledBy, RemovedBy, Once, all_traced}
 use Rattle.calloop.specs.Laws.{IsSource, AllRight, joined, changes_of}
 use Rattle.calloop.proofs.Seen.{seen-all_done}
 
@@ -35,12 +37,12 @@ named_is {D} v o r e same =
     let yes : nat_eq (r.reuse % 65536) v ≡ true = grind (arith, nat_tests) in
     rw (e, yes) refl
 
-module _ {D P X : Type 0} (M : Meaning D P X) (O : Outside P) where
+module _ {D P X Q : Type 0} (M : Meaning D P (Lent X Q)) (O : Outside P) where
   cut_right : (w : World D P) (e : Pending) (es : List Pending) (x : X) (cs : List (Change D P)) (b : Doing D X) (c : Content D) → w.poll.batch ≡ e ∷ es → content_under e.token.version (option_map slot_of (slice_get w.slots e.token.slot)) ≡ c
       → CutTo M e c (seen w) x cs b → AllRight w cs
   cut_right w e es x cs b Vacant batch is h = rw (h.0, batch) ((λ r here same full. let n : r.content ≡ Vacant = sym (named_is e.token.version (slice_get w.slots e.token.slot) r here same) ∙ is in let f : r.content ≡ Source full.0 = full.1 in cc), (tt, tt))
   cut_right w e es x cs b InTurn batch is h = rw (h.0, batch) ((λ r here same full. let n : r.content ≡ InTurn = sym (named_is e.token.version (slice_get w.slots e.token.slot) r here same) ∙ is in let f : r.content ≡ Source full.0 = full.1 in cc), (tt, tt))
-  cut_right w e es x cs b (Source d) batch is h = rw (h.5, batch) ((let f = source_under e.token.version (slice_get w.slots e.token.slot) d is in (refl, f.0, f.1, f.2, f.3)), (tt, (tt, tt)))
+  cut_right w e es x cs b (Source d) batch is h = rw (h.7, batch) ((let f = source_under e.token.version (slice_get w.slots e.token.slot) d is in (refl, f.0, f.1, f.2, f.3)), (tt, (tt, tt)))
 
   from_right : (w : World D P) (es : List Pending) (x : X) (cs : List (Change D P)) (b : Doing D X) → w.poll.batch ≡ es → CutFrom M es (seen w) x cs b → AllRight w cs
   from_right w [] x cs b batch h = rw h.0 tt
@@ -48,13 +50,30 @@ module _ {D P X : Type 0} (M : Meaning D P X) (O : Outside P) where
       let is : named (map slot_of w.slots) (registration_of e.token) ≡ content_under e.token.version (option_map slot_of (slice_get w.slots e.token.slot)) = ap (content_under e.token.version) (slice_get-map slot_of w.slots e.token.slot) in
       cut_right w e es x cs b (named (map slot_of w.slots) (registration_of e.token)) batch (sym is) h
 
+  emptied_right : (w : World D P) (token : RegistrationToken) (c : Content D) → AllRight w (emptied token c)
+  emptied_right w token Vacant = tt
+  emptied_right w token (Source d) = tt
+  emptied_right w token InTurn = (tt, tt)
+
+  acted_right : (w : World D P) (token : RegistrationToken) (d : D) (answer : Result PostAction Error) (cs : List (Change D P)) (e : D) (told : Result (Unit {0}) Error) → ActedBy M token d answer (seen w) cs e told → AllRight w cs
+  acted_right w token d (Ok Continue) cs e told h = rw h.0 (tt, tt)
+  acted_right w token d (Ok Reregister) cs e told h = rw h.3 (tt, (tt, tt))
+  acted_right w token d (Ok DisableIt) cs e told h = rw h.2 (tt, (tt, tt))
+  acted_right w token d (Ok Remove) cs e told h = rw h.0 (tt, emptied_right (done w Ended) token (named (map slot_of w.slots) token))
+  acted_right w token d (Err error) cs e told h = rw h.0 (tt, tt)
+
+  returned_right : (w : World D P) (token : RegistrationToken) (d : D) (c : Content D) (cs : List (Change D P)) → ReturnedTo M token d c (seen w) cs → AllRight w cs
+  returned_right w token d InTurn cs h = rw h (tt, tt)
+  returned_right w token d Vacant cs h = rw h.4 (tt, tt)
+  returned_right w token d (Source f) cs h = rw h.4 (tt, tt)
+
   step_right : (w : World D P) (a b : Doing D X) (cs : List (Change D P)) → Step M O (seen w) a cs b → AllRight w cs
-  step_right w (Waiting timeout x) b cs h = rw h.4 (tt, tt)
+  step_right w (Beginning timeout x) b cs h = rw h.1 (tt, tt)
+  step_right w (Waiting timeout x) b cs h = rw h.5 (tt, (tt, tt))
   step_right w (Gathering now given x) b cs h = rw h.1 (tt, tt)
   step_right w (Cutting x) b cs h = from_right w w.poll.batch x cs b refl h
-  step_right w (Ending token d (Ok Continue) x) b cs h = rw h.0 (tt, (tt, tt))
-  step_right w (Ending token d (Ok Remove) x) b cs h = rw h.4 (tt, (tt, (tt, tt)))
-  step_right w (Ending token d (Err e) x) b cs h = rw h.0 (tt, (tt, tt))
+  step_right w (Ending token d answer x) b cs h = acted_right w token d answer cs h.0 h.1 h.2
+  step_right w (Returning token d told x) b cs h = returned_right w token d (named (map slot_of w.slots) token) cs h.0
   step_right w (Leaving answer x) b cs h = absurd h
 
   pub right-append : (w : World D P) (cs ds : List (Change D P)) → AllRight w cs → AllRight (all_done w cs) ds → AllRight w (cs ++ ds)
@@ -76,7 +95,7 @@ module _ {D P X : Type 0} (M : Meaning D P X) (O : Outside P) where
 
   inserted_right : (w : World D P) (d : D) (answer : Result RegistrationToken (InsertError D)) (cs : List (Change D P)) → InsertedBy M d answer (seen w) cs → AllRight w cs
   inserted_right w d (Ok token) cs h = rw h.6 (tt, (tt, (tt, tt)))
-  inserted_right w d (Err refused) cs h = elim h [ inl k ↦ rw k.2 tt | inr k ↦ rw k.4 (tt, (tt, tt)) ]
+  inserted_right w d (Err refused) cs h = elim h [ inl k ↦ rw k.2 tt | inr k ↦ rw k.4 (tt, (tt, (tt, tt))) ]
 
   asked_right : (w : World D P) (R : D → Result (Unit {0}) Error → List (PollStep P) → D → Type 0) (token : RegistrationToken) (c : Content D) (answer : Result (Unit {0}) Error) (cs : List (Change D P)) → AskedIn R token c answer cs → AllRight w cs
   asked_right w R token Vacant answer cs h = rw h.1 tt
@@ -96,7 +115,7 @@ module _ {D P X : Type 0} (M : Meaning D P X) (O : Outside P) where
   once_right w R (cs ∷ []) h f = right-one w cs (f cs h.0)
   once_right w R (cs ∷ ds ∷ css) h f = absurd h
 
-  case_right : (w : World D P) (call : Call D P X) (answer : Answer D P X) (css : List (List (Change D P))) → Case M O call answer (seen w) css → AllRight w (joined css)
+  case_right : (w : World D P) (call : LoopCall D P X) (answer : LoopAnswer D P X) (css : List (List (Change D P))) → Case M O call answer (seen w) css → AllRight w (joined css)
   case_right w (Insert d) (Inserted answer) (cs ∷ []) h = right-one w cs (inserted_right w d answer cs h.0)
   case_right w (Insert d) (Inserted answer) [] h = absurd h
   case_right w (Insert d) (Inserted answer) (cs ∷ ds ∷ css) h = absurd h
@@ -108,7 +127,7 @@ module _ {D P X : Type 0} (M : Meaning D P X) (O : Outside P) where
   case_right w (NewPoller p) (OldPoller q) css h = rw h.1 (tt, tt)
   case_right w call answer css h = absurd h
 
-  pub run_right : (calls : List (Call D P X)) (answers : List (Answer D P X)) (csss : List (List (List (Change D P)))) (w w' : World D P) → Run M O calls answers csss w w' → AllRight w (changes_of csss)
+  pub run_right : (calls : List (LoopCall D P X)) (answers : List (LoopAnswer D P X)) (csss : List (List (List (Change D P)))) (w w' : World D P) → Run M O calls answers csss w w' → AllRight w (changes_of csss)
   run_right [] [] [] w w' h = tt
   run_right (call ∷ calls) (answer ∷ answers) (css ∷ csss) w w' h =
       right-append w (joined css) (changes_of csss) (case_right w call answer css h.0)

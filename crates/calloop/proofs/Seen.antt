@@ -1,9 +1,10 @@
 -- A change of the machine is seen as the change of what the loop holds.
 use Rattle.std.proofs.Common.{◌≡◌, ℕ, ◌+◌, ◌*◌, ◌/◌, ◌%◌, List, [], ◌∷◌, map, refl, ap, sym, ◌∙◌, arith, subst, true, false, if◌then◌else◌}
 use Rattle.std.proofs.Math.Nat.{mod-add-div, add-mul-mod_self_left}
-use Rattle.calloop_wake.specs.Slots.{claimed, used_again, is_empty, with_content}
+use Rattle.calloop_wake.specs.declared.list.Content.TheVariants.{InTurn}
+use Rattle.calloop_wake.specs.Slots.{claimed, taken_up, is_empty, with_content}
 use Rattle.calloop_wake.proofs.Indexed.{map-changed}
-use Rattle.calloop.specs.Machine.{World, View, Registration, Change, Put, Claim, Polls, Polling, Gathered, Cut, Ended, seen, slot_of, holding, reused, claimed_of, viewed, all_viewed, done, all_done}
+use Rattle.calloop.specs.Machine.{World, View, Registration, Change, Put, Claim, Polls, Polling, Watching, Counting, Gathered, Cut, Ended, seen, slot_of, holding, reused, with_claim, viewed, all_viewed, done, all_done}
 use Rattle.calloop.specs.Rules.{traced, all_traced, Did, Leads}
 
 -- counted on or wrapped, a reuse count has the same version
@@ -13,20 +14,22 @@ again n =
     let sum : n + 1 ≡ n % 65536 + 1 + 65536 * (n / 65536) = omega (arith, split) in
     ap (λ k. k % 65536) sum ∙ add-mul-mod_self_left (n % 65536 + 1) 65536 (n / 65536)
 
-slot_of-reused : {D : Type 0} (r : Registration D) → slot_of (reused r) ≡ used_again (slot_of r)
-slot_of-reused r = ap (λ v. record { version = v; content = r.content }) (again r.reuse)
+slot_of-reused : {D : Type 0} (r : Registration D) → slot_of (reused r) ≡ taken_up (slot_of r)
+slot_of-reused r = ap (λ v. record { version = v; content = InTurn }) (again r.reuse)
 
-seen-claimed_of : {D : Type 0} (rs : List (Registration D)) → map slot_of (claimed_of rs) ≡ claimed (map slot_of rs)
-seen-claimed_of [] = refl
-seen-claimed_of {D} (r ∷ rs) =
-    elim (is_empty r.content) as (λ b. map slot_of (if b then reused r ∷ rs else r ∷ claimed_of rs) ≡ (if b then used_again (slot_of r) ∷ map slot_of rs else slot_of r ∷ claimed (map slot_of rs)))
-    [ true ↦ ap (λ s. s ∷ map slot_of rs) (slot_of-reused r) | false ↦ ap (λ ss. slot_of r ∷ ss) (seen-claimed_of rs) ]
+seen-with_claim : {D : Type 0} (rs : List (Registration D)) → map slot_of (with_claim rs) ≡ claimed (map slot_of rs)
+seen-with_claim [] = refl
+seen-with_claim {D} (r ∷ rs) =
+    elim (is_empty r.content) as (λ b. map slot_of (if b then reused r ∷ rs else r ∷ with_claim rs) ≡ (if b then taken_up (slot_of r) ∷ map slot_of rs else slot_of r ∷ claimed (map slot_of rs)))
+    [ true ↦ ap (λ s. s ∷ map slot_of rs) (slot_of-reused r) | false ↦ ap (λ ss. slot_of r ∷ ss) (seen-with_claim rs) ]
 
 pub seen-done : {D P : Type 0} (w : World D P) (c : Change D P) → seen (done w c) ≡ viewed (seen w) c
 seen-done w (Put slot content) = ap (λ ss. record (seen w) { slots = ss }) (map-changed slot_of (holding content) (with_content content) w.slots slot (λ r. refl))
-seen-done w Claim = ap (λ ss. record (seen w) { slots = ss }) (seen-claimed_of w.slots)
+seen-done w (Claim source) = ap (λ ss. record (seen w) { slots = ss }) (seen-with_claim w.slots)
 seen-done w (Polls steps) = refl
 seen-done w (Polling poller) = refl
+seen-done w (Watching watch) = refl
+seen-done w (Counting places) = refl
 seen-done w (Gathered posted given now) = refl
 seen-done w (Cut slot) = refl
 seen-done w Ended = refl

@@ -1,16 +1,15 @@
 -- What holds of every run.
-use Rattle.std.specs.Prelude.{◌≡◌, ℕ, ◌+◌, ◌*◌, ◌%◌, ◌<◌, ◌≤◌, Bool, false, map, nat_eq, nat_lt, if◌then◌else◌, List, [], ◌∷◌, ◌++◌, ◌⊎◌, Option, Some, None, slice_get}
+use Rattle.std.specs.Prelude.{◌≡◌, ℕ, ◌+◌, ◌*◌, ◌%◌, ◌<◌, ◌≤◌, Bool, true, false, ◌&&◌, map, nat_eq, nat_lt, nat_le, if◌then◌else◌, List, [], ◌∷◌, ◌++◌, ◌⊎◌, Option, Some, None, slice_get}
 use Rattle.calloop_wake.specs.declared.token.Token.{Token}
 use Rattle.calloop_wake.specs.declared.list.Content.{Content}
 use Rattle.calloop_wake.specs.declared.list.Content.TheVariants.{Source}
 use Rattle.calloop_core.specs.declared.sys.poll.Pending.{Pending}
 use Rattle.calloop_core.specs.Polls.{PollView}
 use Rattle.calloop_core.specs.Holdings.{Free}
+use Rattle.calloop_core.specs.Deeds.{Lent}
 use Rattle.calloop_core.specs.Meanings.{Meaning}
-use Rattle.calloop.specs.declared.loop_logic.Call.{Call}
-use Rattle.calloop.specs.declared.loop_logic.Call.TheVariants.{Insert, Enable, Update, Disable, Remove, Dispatch, Poller as NewPoller}
 use Rattle.calloop.specs.Ledgers.{Ledger, Arming, Armed, Origin, Elsewhere, Due, Waiting, Called, entry_in}
-use Rattle.calloop.specs.Machine.{World, Registration, Change, Put, Claim, Polls, Polling, Gathered, Cut, Ended, done, all_done}
+use Rattle.calloop.specs.Machine.{World, Registration, Change, Claim, Cut, done, all_done, is_free}
 
 -- a source stands there that isn't in its turn
 abbrev pub IsSource : {D : Type 0} → Content D → Type 0
@@ -29,12 +28,7 @@ FirstGoesRight slots (e ∷ es) place = GoesRight slots e.token place
 
 abbrev pub IsRight : {D P : Type 0} → World D P → Change D P → Type 0
 IsRight w (Cut place) = FirstGoesRight w.slots w.poll.batch place
-IsRight w (Put slot content) = Unit {0}
-IsRight w Claim = Unit {0}
-IsRight w (Polls steps) = Unit {0}
-IsRight w (Polling poller) = Unit {0}
-IsRight w (Gathered posted given now) = Unit {0}
-IsRight w Ended = Unit {0}
+IsRight w change = Unit {0}
 
 -- each event that is cut in these changes goes right at its moment
 abbrev pub AllRight : {D P : Type 0} → World D P → List (Change D P) → Type 0
@@ -63,6 +57,16 @@ NamesLater {D} {P} w w' = (token : Token) (r r' : Registration D) → Names w to
 abbrev pub AllNamesLater : {D P : Type 0} → World D P → List (Change D P) → Type 0
 AllNamesLater {D} {P} w cs = (before between after : List (Change D P)) → cs ≡ before ++ (between ++ after) → NamesLater (all_done w before) (all_done (all_done w before) between)
 
+-- a registration that was given up stays so: under this reuse count nothing stands in its slot any more
+abbrev pub StaysGone : {D P : Type 0} → World D P → World D P → Type 0
+StaysGone {D} {P} w w' =
+    (i : ℕ) (r r' : Registration D) → slice_get w.slots i ≡ Some r → slice_get w'.slots i ≡ Some r' → r'.reuse ≡ r.reuse
+    → is_free r ≡ true → is_free r' ≡ true
+
+-- between any two moments of these changes
+abbrev pub AllStayGone : {D P : Type 0} → World D P → List (Change D P) → Type 0
+AllStayGone {D} {P} w cs = (before between after : List (Change D P)) → cs ≡ before ++ (between ++ after) → StaysGone (all_done w before) (all_done (all_done w before) between)
+
 -- The armings of timers.
 
 abbrev pub one : {A : Type 0} → (A → Bool) → A → ℕ
@@ -78,7 +82,7 @@ is_armed_as n a = nat_eq a.number n
 
 abbrev pub is_due_as : (number : ℕ) → Origin → Bool
 is_due_as n Elsewhere = false
-is_due_as n (Due number deadline gathered) = nat_eq number n
+is_due_as n (Due arming gathered) = nat_eq arming.number n
 
 abbrev pub waits_as : (number : ℕ) → Waiting → Bool
 waits_as n w = is_due_as n w.origin
@@ -100,19 +104,34 @@ places n l = counted (is_armed_as n) l.armed + (counted (waits_as n) l.batch + (
 -- gathered when its deadline had come
 abbrev pub OnTime : Origin → Type 0
 OnTime Elsewhere = Unit {0}
-OnTime (Due number deadline gathered) = deadline ≤ gathered
+OnTime (Due arming gathered) = arming.deadline.nanos ≤ gathered
 
 abbrev pub AllOnTime : List Waiting → Type 0
 AllOnTime [] = Unit {0}
 AllOnTime (w ∷ ws) = OnTime w.origin × AllOnTime ws
 
--- a call belongs to an arming, and handed out its deadline
-abbrev pub IsOwnCall : Called → Type 0
-IsOwnCall c = (a : Arming) × (c.arming ≡ Some a) × (a.deadline ≡ c.deadline)
+abbrev pub is_same : Arming → Arming → Bool
+is_same a b = nat_eq a.counter b.counter && (nat_eq a.number b.number && nat_eq a.deadline.nanos b.deadline.nanos)
 
-abbrev pub AllOwnCalls : List Called → Type 0
-AllOwnCalls [] = Unit {0}
-AllOwnCalls (c ∷ cs) = IsOwnCall c × AllOwnCalls cs
+-- it came from this arming, which was gathered when its deadline had come
+abbrev pub is_timely : Arming → Origin → Bool
+is_timely a Elsewhere = false
+is_timely a (Due b gathered) = is_same a b && nat_le a.deadline.nanos gathered
+
+abbrev pub came_timely : Arming → Waiting → Bool
+came_timely a w = is_timely a w.origin
+
+-- how often this arming was gathered when its deadline had come
+abbrev pub timely : Ledger → Arming → ℕ
+timely l a = counted (came_timely a) l.batch + counted (came_timely a) l.cut
+
+-- a call belongs to an arming, which was gathered in time, and handed out its deadline
+abbrev pub IsOwnCall : (gathered : Arming → ℕ) → Called → Type 0
+IsOwnCall gathered c = (a : Arming) × (c.arming ≡ Some a) × (a.deadline ≡ c.deadline) × (1 ≤ gathered a)
+
+abbrev pub AllOwnCalls : (gathered : Arming → ℕ) → List Called → Type 0
+AllOwnCalls gathered [] = Unit {0}
+AllOwnCalls gathered (c ∷ cs) = IsOwnCall gathered c × AllOwnCalls gathered cs
 
 abbrev pub event_of : Waiting → Pending
 event_of w = w.event
@@ -127,29 +146,26 @@ pub record IsKept {P : Type 0} (l : Ledger) (v : PollView P) : Type 0 where
   -- none was gathered before its deadline
   pub batch_on_time : AllOnTime l.batch
   pub cut_on_time : AllOnTime l.cut
-  -- each call belongs to an arming of its own, which was gathered, and handed out its deadline
-  pub own : AllOwnCalls l.calls
+  -- each call belongs to an arming of its own, which was gathered in time, and handed out its deadline
+  pub own : AllOwnCalls (timely l) l.calls
   pub once : (number : ℕ) → counted (is_call_as number) l.calls ≤ 1
   pub gathered : (number : ℕ) → counted (is_call_as number) l.calls ≤ counted (waits_as number) l.batch + counted (waits_as number) l.cut
 
 -- a dispatcher that holds no counter, as one that was never registered
-abbrev pub HoldsNone : {D P X : Type 0} → Meaning D P X → D → Type 0
+abbrev pub HoldsNone : {D P X Q : Type 0} → Meaning D P (Lent X Q) → D → Type 0
 HoldsNone m d = (counter : ℕ) → m.holds d counter ≡ Free
 
--- what a call puts into the loop holds no counter yet: each source is used with one loop
-abbrev pub IsFresh : {D P X : Type 0} → Meaning D P X → Call D P X → Type 0
-IsFresh m (Insert d) = HoldsNone m d
-IsFresh m (Enable token) = Unit {0}
-IsFresh m (Update token) = Unit {0}
-IsFresh m (Disable token) = Unit {0}
-IsFresh m (Remove token) = Unit {0}
-IsFresh m (Dispatch timeout x) = Unit {0}
-IsFresh m (NewPoller p) = Unit {0}
+-- what comes into the loop holds no counter then: each source is used with one loop. One that was taken out holds none any
+-- more, so it may come again.
+abbrev pub IsFresh : {D P X Q : Type 0} → Meaning D P (Lent X Q) → Change D P → Type 0
+IsFresh m (Claim source) = HoldsNone m source × m.fits source
+IsFresh m change = Unit {0}
 
-abbrev pub AllFresh : {D P X : Type 0} → Meaning D P X → List (Call D P X) → Type 0
+abbrev pub AllFresh : {D P X Q : Type 0} → Meaning D P (Lent X Q) → List (Change D P) → Type 0
 AllFresh m [] = Unit {0}
 AllFresh m (c ∷ cs) = IsFresh m c × AllFresh m cs
 
 pub record IsSound {D P : Type 0} (w : World D P) (cs : List (Change D P)) : Type 0 where
   pub reaches : AllRight w cs
   pub stale : AllNamesLater w cs
+  pub gone : AllStayGone w cs

@@ -20,10 +20,10 @@ pub record Armed : Type 0 where
   pub entry : Entry
   pub number : ℕ
 
--- where an event came from: from an arming of this number and deadline, which was gathered at this moment, or elsewhere
+-- where an event came from: from this arming, which was gathered at this moment, or elsewhere
 pub data Origin : Type 0 where
   Elsewhere : Origin
-  Due : (number deadline gathered : ℕ) → Origin
+  Due : (arming : Arming) (gathered : ℕ) → Origin
 
 -- an event of the batch, with its origin
 pub record Waiting : Type 0 where
@@ -63,6 +63,9 @@ entry_in a = a.entry
 abbrev pub number_of : Armed → ℕ
 number_of a = a.number
 
+abbrev pub arming_of : Armed → Arming
+arming_of a = record { number = a.number; counter = a.entry.counter; deadline = a.entry.deadline }
+
 abbrev pub is_under_other : (counter : ℕ) → Armed → Bool
 is_under_other counter a = is_other counter a.entry
 
@@ -99,7 +102,7 @@ abbrev pub from_elsewhere : Pending → Waiting
 from_elsewhere e = record { event = e; origin = Elsewhere }
 
 abbrev pub from_deadline : (now : ℕ) → Armed → Waiting
-from_deadline now a = record { event = timer_event a.entry; origin = Due a.number a.entry.deadline.nanos now }
+from_deadline now a = record { event = timer_event a.entry; origin = Due (arming_of a) now }
 
 -- the longest front that is due, and what is left behind it
 abbrev pub due_in : (now : ℕ) → List Armed → List Armed

@@ -5,3 +5,5 @@ pub mod Machine
 pub mod Rules
 pub mod Laws
 pub mod Lending
+pub mod Choices
+pub mod Wrong

@@ -1,14 +1,15 @@
 -- The machine of the loop: its state, and the changes of it. What the code holds of the state is a `View`; the state
 -- itself also has reuse counts without bound and a ledger of all armings, which calloop keeps nowhere.
-use Rattle.std.specs.Prelude.{◌≡◌, ℕ, ◌+◌, ◌%◌, List, [], ◌∷◌, map, if◌then◌else◌, Option, None}
+use Rattle.std.specs.Prelude.{◌≡◌, ℕ, ◌+◌, ◌%◌, List, [], ◌∷◌, map, Bool, false, Option, Some, None, slice_get}
 use Rattle.calloop_wake.specs.declared.list.Content.{Content}
-use Rattle.calloop_wake.specs.declared.list.Content.TheVariants.{Vacant}
+use Rattle.calloop_wake.specs.declared.list.Content.TheVariants.{InTurn}
 use Rattle.calloop_wake.specs.declared.list.Slot.{Slot}
-use Rattle.calloop_wake.specs.Slots.{changed, with_content, claimed, is_empty}
+use Rattle.calloop_wake.specs.Slots.{changed, first_changed, with_content, claimed, is_empty}
 use Rattle.calloop_wake.specs.Boards.{IsRising}
+use Rattle.calloop_wake.specs.declared.wake.watch.Watch.{Watch}
 use Rattle.calloop_core.specs.declared.sys.Readiness.{Readiness}
 use Rattle.calloop_core.specs.Pollers.{Outside}
-use Rattle.calloop_core.specs.Polls.{PollView, PollStep, poll_view, polls_after, AllAllowed, gathered, polling, with_pass, cut}
+use Rattle.calloop_core.specs.Polls.{PollView, PollStep, poll_view, polls_after, AllAllowed, gathered, polling, watching, counted, with_pass, cut}
 use Rattle.calloop.specs.Ledgers.{Ledger, steps_noted, gathering_noted, cut_noted, new_ledger}
 use Rattle.calloop.specs.declared.loop_logic.EventLoop.{EventLoop}
 
@@ -41,14 +42,18 @@ view_of l = record { slots = l.sources; poll = poll_view l.poll }
 
 -- every change of the state is one of these
 pub data Change (D P : Type 0) : Type 0 where
-  -- this content is put into a slot
+  -- the first vacant slot is used once more, or a slot is added, for a source that comes into the loop
+  Claim : (source : D) → Change D P
+  -- another content is put into a slot that isn't vacant
   Put : (slot : ℕ) (content : Content D) → Change D P
-  -- the first vacant slot is used once more, or a slot is added
-  Claim : Change D P
   -- a source's steps
   Polls : (steps : List (PollStep P)) → Change D P
   -- the poller changed
   Polling : (poller : P) → Change D P
+  -- the loop looked at its board, which its watch noted
+  Watching : (watch : Watch) → Change D P
+  -- room was made for what so many places can give
+  Counting : (places : ℕ) → Change D P
   -- the batch is put together, of these posted keys, of what the poller gave, and of the timers that are due at this moment
   Gathered : (posted : List ℕ) (given : List (ℕ × Readiness)) (now : ℕ) → Change D P
   -- the first event leaves the batch, for this slot or for none
@@ -59,9 +64,11 @@ pub data Change (D P : Type 0) : Type 0 where
 -- by what is seen
 abbrev pub viewed : {D P : Type 0} → View D P → Change D P → View D P
 viewed v (Put slot content) = record v { slots = changed (with_content content) v.slots slot }
-viewed v Claim = record v { slots = claimed v.slots }
+viewed v (Claim source) = record v { slots = claimed v.slots }
 viewed v (Polls steps) = record v { poll = polls_after v.poll steps }
 viewed v (Polling poller) = record v { poll = polling poller v.poll }
+viewed v (Watching watch) = record v { poll = watching watch v.poll }
+viewed v (Counting places) = record v { poll = counted places v.poll }
 viewed v (Gathered posted given now) = record v { poll = gathered posted given now v.poll }
 viewed v (Cut slot) = record v { poll = cut v.poll }
 viewed v Ended = record v { poll = with_pass None v.poll }
@@ -76,17 +83,22 @@ abbrev pub holding : {D : Type 0} → Content D → Registration D → Registrat
 holding c r = record { reuse = r.reuse; content = c }
 
 abbrev pub reused : {D : Type 0} → Registration D → Registration D
-reused r = record { reuse = r.reuse + 1; content = r.content }
+reused r = record { reuse = r.reuse + 1; content = InTurn }
 
-abbrev pub claimed_of : {D : Type 0} → List (Registration D) → List (Registration D)
-claimed_of [] = record { reuse = 0; content = Vacant } ∷ []
-claimed_of (r ∷ rs) = if is_empty r.content then reused r ∷ rs else r ∷ claimed_of rs
+abbrev pub is_free : {D : Type 0} → Registration D → Bool
+is_free r = is_empty r.content
+
+-- the first vacant one is used once more, or one is added, for a source that is registered meanwhile
+abbrev pub with_claim : {D : Type 0} → List (Registration D) → List (Registration D)
+with_claim rs = first_changed is_free reused (record { reuse = 0; content = InTurn }) rs
 
 abbrev pub done : {D P : Type 0} → World D P → Change D P → World D P
 done w (Put slot content) = record w { slots = changed (holding content) w.slots slot }
-done w Claim = record w { slots = claimed_of w.slots }
+done w (Claim source) = record w { slots = with_claim w.slots }
 done w (Polls steps) = record w { poll = polls_after w.poll steps; ledger = steps_noted w.ledger w.poll steps }
 done w (Polling poller) = record w { poll = polling poller w.poll }
+done w (Watching watch) = record w { poll = watching watch w.poll }
+done w (Counting places) = record w { poll = counted places w.poll }
 done w (Gathered posted given now) = record w { poll = gathered posted given now w.poll; ledger = gathering_noted w.ledger posted given now }
 done w (Cut slot) = record w { poll = cut w.poll; ledger = cut_noted w.ledger }
 done w Ended = record w { poll = with_pass None w.poll }
@@ -95,16 +107,17 @@ abbrev pub all_done : {D P : Type 0} → World D P → List (Change D P) → Wor
 all_done w [] = w
 all_done w (c ∷ cs) = all_done (done w c) cs
 
--- what every change keeps to: a source's steps can be made, and posted keys ascend. Which they are is the answer of the board,
--- which lies under a lock; calloop has them from the kernel.
+-- something stands in this slot, or its source is taken out
+abbrev pub IsFull : {D : Type 0} → List (Slot D) → ℕ → Type 0
+IsFull {D} slots i = (s : Slot D) × (slice_get slots i ≡ Some s) × (is_empty s.content ≡ false)
+
+-- What every change keeps to: a vacant slot stays vacant until it is claimed, a source's steps can be made, and posted keys
+-- ascend. Which they are is the answer of the board, which lies under a lock; calloop has them from the kernel.
 abbrev pub Fits : {D P : Type 0} → Outside P → View D P → Change D P → Type 0
-Fits O v (Put slot content) = Unit {0}
-Fits O v Claim = Unit {0}
+Fits O v (Put slot content) = IsFull v.slots slot
 Fits O v (Polls steps) = AllAllowed O v.poll steps
-Fits O v (Polling poller) = Unit {0}
 Fits O v (Gathered posted given now) = IsRising posted
-Fits O v (Cut slot) = Unit {0}
-Fits O v Ended = Unit {0}
+Fits O v change = Unit {0}
 
 abbrev pub AllFit : {D P : Type 0} → Outside P → View D P → List (Change D P) → Type 0
 AllFit O v [] = Unit {0}
@@ -117,4 +130,5 @@ pub record IsNew {D P : Type 0} (w : World D P) : Type 0 where
   pub batch : w.poll.batch ≡ []
   pub passes : w.poll.passes ≡ []
   pub pass : w.poll.pass ≡ None
+  pub unwatched : w.poll.watch.notes ≡ []
   pub ledger : w.ledger ≡ new_ledger

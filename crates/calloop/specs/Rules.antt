@@ -11,37 +11,39 @@ use Rattle.calloop_wake.specs.declared.token.RegistrationToken.{RegistrationToke
 use Rattle.calloop_wake.specs.declared.list.Content.{Content}
 use Rattle.calloop_wake.specs.declared.list.Content.TheVariants.{Vacant, Source, InTurn}
 use Rattle.calloop_wake.specs.Tokens.{registration_of}
+use Rattle.calloop_wake.specs.declared.wake.watch.Watch.{Watch}
 use Rattle.calloop_wake.specs.Slots.{named, first_vacant, next_registration, CannotClaim}
 use Rattle.calloop_core.specs.declared.sys.Readiness.{Readiness}
 use Rattle.calloop_core.specs.declared.sys.poll.Pending.{Pending}
 use Rattle.calloop_core.specs.declared.sources.Dispatcher.{Dispatcher}
 use Rattle.calloop_core.specs.declared.sources.PostAction.{PostAction}
-use Rattle.calloop_core.specs.declared.sources.PostAction.TheVariants.{Continue, Remove}
+use Rattle.calloop_core.specs.declared.sources.PostAction.TheVariants.{Continue, Reregister, Disable as DisableIt, Remove}
+use Rattle.calloop_core.specs.Deeds.{Registered, Reregistered, Unregistered, Turned, Lent, lent}
 use Rattle.calloop_core.specs.Meanings.{Meaning}
 use Rattle.calloop_core.specs.Pollers.{Outside, nanos_of}
 use Rattle.calloop_core.specs.Polls.{PollStep, cut, with_pass}
 use Rattle.calloop_core.specs.Waits.{Waited}
-use Rattle.calloop.specs.declared.loop_logic.Call.{Call}
-use Rattle.calloop.specs.declared.loop_logic.Call.TheVariants.{Insert, Enable, Update, Disable, Remove as RemoveCall, Dispatch, Poller as NewPoller}
-use Rattle.calloop.specs.declared.loop_logic.Answer.{Answer}
-use Rattle.calloop.specs.declared.loop_logic.Answer.TheVariants.{Inserted, Enabled, Updated, Disabled, Removed, Dispatched, Poller as OldPoller}
-use Rattle.calloop.specs.Machine.{World, View, Change, Put, Claim, Polls, Polling, Gathered, Cut, Ended, AllFit, all_viewed, all_done, seen}
+use Rattle.calloop.specs.declared.loop_logic.LoopCall.{LoopCall}
+use Rattle.calloop.specs.declared.loop_logic.LoopCall.TheVariants.{Insert, Enable, Update, Disable, Remove as RemoveCall, Dispatch, Poller as NewPoller}
+use Rattle.calloop.specs.declared.loop_logic.LoopAnswer.{LoopAnswer}
+use Rattle.calloop.specs.declared.loop_logic.LoopAnswer.TheVariants.{Inserted, Enabled, Updated, Disabled, Removed, Dispatched, Poller as OldPoller}
+use Rattle.calloop.specs.Machine.{World, View, Change, Put, Claim, Polls, Polling, Watching, Counting, Gathered, Cut, Ended, AllFit, all_viewed, all_done, seen}
 
 -- a factory that has given no token
 abbrev pub factory_of : RegistrationToken → TokenFactory
 factory_of t = record { registration = t; given = 0 }
 
--- a source is registered in the first vacant slot; where its registration is refused, the slot stays vacant under its
--- new version, and the poller is as that registration left it
-abbrev pub InsertedBy : {D P X : Type 0} → Meaning D P X → D → Result RegistrationToken (InsertError D) → View D P → List (Change D P) → Type 0
+-- a source is registered in the first vacant slot, which is claimed for it; where its registration is refused, the slot is
+-- vacant again under its new version, and the poller is as that registration left it
+abbrev pub InsertedBy : {D P X Q : Type 0} → Meaning D P (Lent X Q) → D → Result RegistrationToken (InsertError D) → View D P → List (Change D P) → Type 0
 InsertedBy {D} {P} M d (Ok token) v cs =
     (first_vacant v.slots < 2 ^ 32) × (token ≡ next_registration v.slots)
-    × (e : D) × (f : TokenFactory) × (steps : List (PollStep P)) × M.reg d v.poll (factory_of token) (Ok tt) steps e f
-    × (cs ≡ Claim ∷ Polls steps ∷ Put token.slot (Source e) ∷ [])
+    × (e : D) × (f : TokenFactory) × (steps : List (PollStep P)) × M.does d v.poll (Registered (factory_of token) (Ok tt) f) steps e
+    × (cs ≡ Claim d ∷ Polls steps ∷ Put token.slot (Source e) ∷ [])
 InsertedBy {D} {P} M d (Err refused) v cs =
     ((refused.inserted ≡ d) × CannotClaim v.slots refused.error × (cs ≡ []))
-    ⊎ ((first_vacant v.slots < 2 ^ 32) × (f : TokenFactory) × (steps : List (PollStep P)) × M.reg d v.poll (factory_of (next_registration v.slots)) (Err refused.error) steps refused.inserted f
-    × (cs ≡ Claim ∷ Polls steps ∷ []))
+    ⊎ ((first_vacant v.slots < 2 ^ 32) × (f : TokenFactory) × (steps : List (PollStep P)) × M.does d v.poll (Registered (factory_of (next_registration v.slots)) (Err refused.error) f) steps refused.inserted
+    × (cs ≡ Claim d ∷ Polls steps ∷ Put (first_vacant v.slots) Vacant ∷ []))
 
 -- what is asked of the source in a slot: it goes out of the slot, and comes back as that left it, also after a refusal; R
 -- relates the source, its answer, its steps, and what it is then
@@ -51,34 +53,41 @@ AskedIn R token InTurn answer cs = (answer ≡ Err InvalidToken) × (cs ≡ [])
 AskedIn {D} {P} R token (Source d) answer cs = (e : D) × (steps : List (PollStep P)) × R d answer steps e × (cs ≡ Put token.slot InTurn ∷ Polls steps ∷ Put token.slot (Source e) ∷ [])
 
 -- the source that a token names is registered, with a factory that has given no token
-abbrev pub EnabledBy : {D P X : Type 0} → Meaning D P X → RegistrationToken → Result (Unit {0}) Error → View D P → List (Change D P) → Type 0
-EnabledBy M token answer v cs = AskedIn (λ d a steps e. (f : TokenFactory) × M.reg d v.poll (factory_of token) a steps e f) token (named v.slots token) answer cs
+abbrev pub EnabledBy : {D P X Q : Type 0} → Meaning D P (Lent X Q) → RegistrationToken → Result (Unit {0}) Error → View D P → List (Change D P) → Type 0
+EnabledBy M token answer v cs = AskedIn (λ d a steps e. (f : TokenFactory) × M.does d v.poll (Registered (factory_of token) a f) steps e) token (named v.slots token) answer cs
 
 -- it is registered anew
-abbrev pub UpdatedBy : {D P X : Type 0} → Meaning D P X → RegistrationToken → Result (Unit {0}) Error → View D P → List (Change D P) → Type 0
-UpdatedBy M token answer v cs = AskedIn (λ d a steps e. (f : TokenFactory) × M.rereg d v.poll (factory_of token) a steps e f) token (named v.slots token) answer cs
+abbrev pub UpdatedBy : {D P X Q : Type 0} → Meaning D P (Lent X Q) → RegistrationToken → Result (Unit {0}) Error → View D P → List (Change D P) → Type 0
+UpdatedBy M token answer v cs = AskedIn (λ d a steps e. (f : TokenFactory) × M.does d v.poll (Reregistered (factory_of token) a f) steps e) token (named v.slots token) answer cs
 
 -- its registration is taken back
-abbrev pub DisabledBy : {D P X : Type 0} → Meaning D P X → RegistrationToken → Result (Unit {0}) Error → View D P → List (Change D P) → Type 0
-DisabledBy M token answer v cs = AskedIn (λ d a steps e. M.unreg d v.poll a steps e) token (named v.slots token) answer cs
+abbrev pub DisabledBy : {D P X Q : Type 0} → Meaning D P (Lent X Q) → RegistrationToken → Result (Unit {0}) Error → View D P → List (Change D P) → Type 0
+DisabledBy M token answer v cs = AskedIn (λ d a steps e. M.does d v.poll (Unregistered a) steps e) token (named v.slots token) answer cs
 
 -- it leaves its slot vacant, is unregistered, of which a failure isn't answered, and is handed back
-abbrev pub RemovedIn : {D P X : Type 0} → Meaning D P X → RegistrationToken → Content D → Option D → View D P → List (Change D P) → Type 0
+abbrev pub RemovedIn : {D P X Q : Type 0} → Meaning D P (Lent X Q) → RegistrationToken → Content D → Option D → View D P → List (Change D P) → Type 0
 RemovedIn M token Vacant answer v cs = (answer ≡ None) × (cs ≡ [])
 RemovedIn M token InTurn answer v cs = (answer ≡ None) × (cs ≡ [])
 RemovedIn {D} {P} M token (Source d) answer v cs =
-    (e : D) × (told : Result (Unit {0}) Error) × (steps : List (PollStep P)) × M.unreg d v.poll told steps e × (answer ≡ Some e)
+    (e : D) × (told : Result (Unit {0}) Error) × (steps : List (PollStep P)) × M.does d v.poll (Unregistered told) steps e × (answer ≡ Some e)
     × (cs ≡ Put token.slot Vacant ∷ Polls steps ∷ [])
 
-abbrev pub RemovedBy : {D P X : Type 0} → Meaning D P X → RegistrationToken → Option D → View D P → List (Change D P) → Type 0
+abbrev pub RemovedBy : {D P X Q : Type 0} → Meaning D P (Lent X Q) → RegistrationToken → Option D → View D P → List (Change D P) → Type 0
 RemovedBy M token answer v cs = RemovedIn M token (named v.slots token) answer v cs
+
+-- what a source answers to its registration and to what follows it
+abbrev pub Outcome : Type 0
+Outcome = Result (Unit {0}) Error
 
 -- what the loop is doing within a dispatch; X is the data that the caller lends
 pub data Doing (D X : Type 0) : Type 0 where
+  Beginning : (timeout : Option ℕ) (x : X) → Doing D X
   Waiting : (timeout : Option ℕ) (x : X) → Doing D X
   Gathering : (now : ℕ) (given : List (ℕ × Readiness)) (x : X) → Doing D X
   Cutting : (x : X) → Doing D X
-  Ending : (token : Token) (source : D) (answer : Result PostAction Error) (x : X) → Doing D X
+  -- a source had its turn, and then its post action
+  Ending : (token : RegistrationToken) (source : D) (answer : Result PostAction Error) (x : X) → Doing D X
+  Returning : (token : RegistrationToken) (source : D) (told : Result (Unit {0}) Error) (x : X) → Doing D X
   Leaving : (answer : Result (Unit {0}) Error) (x : X) → Doing D X
 
 abbrev pub after_wait : {D X : Type 0} → Result ℕ Cause → List (ℕ × Readiness) → X → Doing D X
@@ -86,38 +95,62 @@ after_wait (Ok now) given x = Gathering now given x
 after_wait (Err cause) given x = Leaving (Err (IoError cause)) x
 
 -- the event that was cut goes to the source that its token names, which has its own turn, or to none
-abbrev pub CutTo : {D P X : Type 0} → Meaning D P X → Pending → Content D → View D P → X → List (Change D P) → Doing D X → Type 0
+abbrev pub CutTo : {D P X Q : Type 0} → Meaning D P (Lent X Q) → Pending → Content D → View D P → X → List (Change D P) → Doing D X → Type 0
 CutTo M e Vacant v x cs b = (cs ≡ Cut None ∷ Ended ∷ []) × (b ≡ Cutting x)
 CutTo M e InTurn v x cs b = (cs ≡ Cut None ∷ Ended ∷ []) × (b ≡ Cutting x)
-CutTo {D} {P} {X} M e (Source d) v x cs b =
-    (d' : D) × (answer : Result PostAction Error) × (steps : List (PollStep P)) × (x' : X) × M.turn d e.readiness e.token (cut v.poll) x answer steps d' x'
-    × (cs ≡ Cut (Some e.token.slot) ∷ Put e.token.slot InTurn ∷ Polls steps ∷ []) × (b ≡ Ending e.token d' answer x')
+CutTo {D} {P} {X} {Q} M e (Source d) v x cs b =
+    (d' : D) × (answer : Result PostAction Error) × (steps : List (PollStep P)) × (x' : X) × (q r : Q) × M.does d (cut v.poll) (Turned e.readiness e.token (lent x q answer x' r)) steps d'
+    × (cs ≡ Cut (Some e.token.slot) ∷ Put e.token.slot InTurn ∷ Polls steps ∷ []) × (b ≡ Ending (registration_of e.token) d' answer x')
 
-abbrev pub CutFrom : {D P X : Type 0} → Meaning D P X → List Pending → View D P → X → List (Change D P) → Doing D X → Type 0
+abbrev pub CutFrom : {D P X Q : Type 0} → Meaning D P (Lent X Q) → List Pending → View D P → X → List (Change D P) → Doing D X → Type 0
 CutFrom M [] v x cs b = (cs ≡ []) × (b ≡ Leaving (Ok tt) x)
 CutFrom M (e ∷ es) v x cs b = CutTo M e (named v.slots (registration_of e.token)) v x cs b
 
--- the turn is over: the source goes back to its slot, or leaves the loop, and is unregistered last; a failure of that
--- isn't answered. An error leaves the rest of the batch for the next dispatch.
-abbrev pub EndedBy : {D P X : Type 0} → Meaning D P X → Token → D → Result PostAction Error → View D P → X → List (Change D P) → Doing D X → Type 0
-EndedBy M token d (Ok Continue) v x cs b = (cs ≡ Ended ∷ Put token.slot (Source d) ∷ []) × (b ≡ Cutting x)
-EndedBy {D} {P} M token d (Ok Remove) v x cs b =
-    (d' : D) × (answer : Result (Unit {0}) Error) × (steps : List (PollStep P)) × M.unreg d (with_pass None v.poll) answer steps d'
-    × (cs ≡ Ended ∷ Put token.slot Vacant ∷ Polls steps ∷ []) × (b ≡ Cutting x)
-EndedBy M token d (Err e) v x cs b = (cs ≡ Ended ∷ Put token.slot (Source d) ∷ []) × (b ≡ Leaving (Err e) x)
+-- its slot is emptied, where it is still in its turn
+abbrev pub emptied : {D P : Type 0} → RegistrationToken → Content D → List (Change D P)
+emptied token InTurn = Put token.slot Vacant ∷ []
+emptied token Vacant = []
+emptied token (Source d) = []
+
+-- the turn is over, and its post action is taken; after an error there is none. calloop takes it likewise.
+abbrev pub ActedBy : {D P X Q : Type 0} → Meaning D P (Lent X Q) → RegistrationToken → D → Result PostAction Error → View D P → List (Change D P) → D → Result (Unit {0}) Error → Type 0
+ActedBy M token d (Ok Continue) v cs e told = (cs ≡ Ended ∷ []) × (e ≡ d) × (told ≡ Ok tt)
+ActedBy {D} {P} M token d (Ok Reregister) v cs e told =
+    (f : TokenFactory) × (steps : List (PollStep P)) × M.does d (with_pass None v.poll) (Reregistered (factory_of token) told f) steps e
+    × (cs ≡ Ended ∷ Polls steps ∷ [])
+ActedBy {D} {P} M token d (Ok DisableIt) v cs e told =
+    (steps : List (PollStep P)) × M.does d (with_pass None v.poll) (Unregistered told) steps e × (cs ≡ Ended ∷ Polls steps ∷ [])
+ActedBy M token d (Ok Remove) v cs e told = (cs ≡ Ended ∷ emptied token (named v.slots token)) × (e ≡ d) × (told ≡ Ok tt)
+ActedBy M token d (Err error) v cs e told = (cs ≡ Ended ∷ []) × (e ≡ d) × (told ≡ Err error)
+
+-- an error leaves the rest of the batch for the next dispatch
+abbrev pub after_turn : {D X : Type 0} → Result (Unit {0}) Error → X → Doing D X
+after_turn (Ok u) x = Cutting x
+after_turn (Err e) x = Leaving (Err e) x
+
+-- the source goes back to its slot, where that is still in its turn; else it is unregistered last, and a failure of that
+-- isn't answered
+abbrev pub ReturnedTo : {D P X Q : Type 0} → Meaning D P (Lent X Q) → RegistrationToken → D → Content D → View D P → List (Change D P) → Type 0
+ReturnedTo M token d InTurn v cs = cs ≡ Put token.slot (Source d) ∷ []
+ReturnedTo {D} {P} M token d content v cs =
+    (e : D) × (answer : Result (Unit {0}) Error) × (steps : List (PollStep P)) × M.does d v.poll (Unregistered answer) steps e
+    × (cs ≡ Polls steps ∷ [])
 
 -- one small step, by what is seen
-abbrev pub Step : {D P X : Type 0} → Meaning D P X → Outside P → View D P → Doing D X → List (Change D P) → Doing D X → Type 0
+abbrev pub Step : {D P X Q : Type 0} → Meaning D P (Lent X Q) → Outside P → View D P → Doing D X → List (Change D P) → Doing D X → Type 0
+Step M O v (Beginning timeout x) cs b = (places : ℕ) × (cs ≡ Counting places ∷ []) × (b ≡ Waiting timeout x)
 Step {D} {P} M O v (Waiting timeout x) cs b =
-    (answer : Result ℕ Cause) × (given : List (ℕ × Readiness)) × (p : P) × Waited O v.poll timeout answer given p
-    × (cs ≡ Polling p ∷ []) × (b ≡ after_wait answer given x)
+    (answer : Result ℕ Cause) × (given : List (ℕ × Readiness)) × (p : P) × (w : Watch) × Waited O v.poll timeout answer given p w
+    × (cs ≡ Polling p ∷ Watching w ∷ []) × (b ≡ after_wait answer given x)
 Step M O v (Gathering now given x) cs b = (posted : List ℕ) × (cs ≡ Gathered posted given now ∷ []) × (b ≡ Cutting x)
 Step M O v (Cutting x) cs b = CutFrom M v.poll.batch v x cs b
-Step M O v (Ending token d answer x) cs b = EndedBy M token d answer v x cs b
+Step {D} M O v (Ending token d answer x) cs b =
+    (e : D) × (told : Result (Unit {0}) Error) × ActedBy M token d answer v cs e told × (b ≡ Returning token e told x)
+Step M O v (Returning token d told x) cs b = ReturnedTo M token d (named v.slots token) v cs × (b ≡ after_turn told x)
 Step M O v (Leaving answer x) cs b = ⊥
 
 -- a list of small steps, with the changes of each
-abbrev pub Steps : {D P X : Type 0} → Meaning D P X → Outside P → View D P → Doing D X → List (List (Change D P)) → Doing D X → Type 0
+abbrev pub Steps : {D P X Q : Type 0} → Meaning D P (Lent X Q) → Outside P → View D P → Doing D X → List (List (Change D P)) → Doing D X → Type 0
 Steps M O v a [] b = b ≡ a
 Steps {D} {P} {X} M O v a (cs ∷ css) b = (c : Doing D X) × Step M O v a cs c × AllFit O v cs × Steps M O (all_viewed v cs) c css b
 
@@ -135,11 +168,11 @@ Once O R v [] = ⊥
 Once O R v (cs ∷ []) = R v cs × AllFit O v cs
 Once O R v (cs ∷ ds ∷ css) = ⊥
 
--- where the batch finds no memory, nothing is changed; else a dispatch begins with a wait and goes on until it leaves
-abbrev pub DispatchedBy : {D P X : Type 0} → Meaning D P X → Outside P → Option ℕ → X → Result (Unit {0}) Error → X → View D P → List (List (Change D P)) → Type 0
-DispatchedBy M O timeout x answer x' v css = ((answer ≡ Err OutOfMemory) × (x' ≡ x) × (css ≡ [])) ⊎ Steps M O v (Waiting timeout x) css (Leaving answer x')
+-- where the batch finds no memory, nothing is changed; else a dispatch begins with its room and goes on until it leaves
+abbrev pub DispatchedBy : {D P X Q : Type 0} → Meaning D P (Lent X Q) → Outside P → Option ℕ → X → Result (Unit {0}) Error → X → View D P → List (List (Change D P)) → Type 0
+DispatchedBy M O timeout x answer x' v css = ((answer ≡ Err OutOfMemory) × (x' ≡ x) × (css ≡ [])) ⊎ Steps M O v (Beginning timeout x) css (Leaving answer x')
 
-abbrev pub Case : {D P X : Type 0} → Meaning D P X → Outside P → Call D P X → Answer D P X → View D P → List (List (Change D P)) → Type 0
+abbrev pub Case : {D P X Q : Type 0} → Meaning D P (Lent X Q) → Outside P → LoopCall D P X → LoopAnswer D P X → View D P → List (List (Change D P)) → Type 0
 Case M O (Insert d) (Inserted answer) v css = Once O (InsertedBy M d answer) v css
 Case M O (Enable token) (Enabled answer) v css = Once O (EnabledBy M token answer) v css
 Case M O (Update token) (Updated answer) v css = Once O (UpdatedBy M token answer) v css
@@ -150,7 +183,7 @@ Case M O (NewPoller p) (OldPoller q) v css = (q ≡ v.poll.poller) × (css ≡ (
 Case M O call answer v css = ⊥
 
 -- a list of cases, each beginning where the one before ended; the changes of each are told
-abbrev pub Run : {D P X : Type 0} → Meaning D P X → Outside P → List (Call D P X) → List (Answer D P X) → List (List (List (Change D P))) → World D P → World D P → Type 0
+abbrev pub Run : {D P X Q : Type 0} → Meaning D P (Lent X Q) → Outside P → List (LoopCall D P X) → List (LoopAnswer D P X) → List (List (List (Change D P))) → World D P → World D P → Type 0
 Run M O [] [] [] w w' = w' ≡ w
 Run M O (call ∷ calls) (answer ∷ answers) (css ∷ csss) w w' = Case M O call answer (seen w) css × Run M O calls answers csss (all_traced w css) w'
 Run M O calls answers csss w w' = ⊥
@@ -164,7 +197,7 @@ abbrev pub Leads : {D P : Type 0} → (View D P → List (List (Change D P)) →
 Leads {D} {P} R old new = (w : World D P) → seen w ≡ old → (css : List (List (Change D P))) × R (seen w) css × (seen (all_traced w css) ≡ new)
 
 -- within a dispatch
-abbrev pub Goes : {D P X : Type 0} → Meaning D P X → Outside P → Doing D X → Doing D X → View D P → View D P → Type 0
+abbrev pub Goes : {D P X Q : Type 0} → Meaning D P (Lent X Q) → Outside P → Doing D X → Doing D X → View D P → View D P → Type 0
 Goes M O a b old new = Did (λ v css. Steps M O v a css b) old new
 
 -- what handing out the first event leads to: another one, or the end where there was none, or an error
@@ -179,6 +212,6 @@ held_answer held f (Ok token) = Ok token
 held_answer held f (Err refused) = Err (record { inserted = held (record { source = refused.inserted; callback = f }); error = refused.error })
 
 -- from every machine state that agrees, a list of calls is a run, which ends in one that agrees again
-abbrev pub RunLeads : {D P X : Type 0} → Meaning D P X → Outside P → List (Call D P X) → List (Answer D P X) → View D P → View D P → Type 0
+abbrev pub RunLeads : {D P X Q : Type 0} → Meaning D P (Lent X Q) → Outside P → List (LoopCall D P X) → List (LoopAnswer D P X) → View D P → View D P → Type 0
 RunLeads {D} {P} M O calls answers old new =
     (w : World D P) → seen w ≡ old → (csss : List (List (List (Change D P)))) × (w' : World D P) × Run M O calls answers csss w w' × (seen w' ≡ new)

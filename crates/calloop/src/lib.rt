@@ -5,7 +5,8 @@ pub mod loop_logic;
 pub mod ping;
 
 pub use calloop_core::sources::{
-    Callback, Dispatch, Dispatcher, EventSource, IntoError, PostAction,
+    Asking, Callback, Dispatch, Dispatcher, EventSource, Here, Hold, IntoError, OneOf, PostAction,
+    There,
 };
 pub use calloop_core::sys::poll::Poll;
 pub use calloop_core::sys::{Clock, Poller, Readiness};
@@ -13,5 +14,5 @@ pub use calloop_core::timer::{TimeoutAction, Timer, TimerError};
 pub use calloop_wake::error::{Error, InsertError, Result};
 pub use calloop_wake::token::{RegistrationToken, Token, TokenFactory};
 pub use calloop_wake::wheel::Instant;
-pub use loop_logic::{EventDispatcher, EventLoop, Hold, LoopHandle};
+pub use loop_logic::{EventDispatcher, EventLoop, LoopHandle, Requests, Sources};
 pub use ping::{Ping, PingError, PingSource, make_ping};

@@ -1,10 +1,13 @@
 //! The loop, and what it asks of the caller's sources.
-use calloop_core::sources::{Callback, Dispatch, Dispatcher, EventSource, PostAction};
+use calloop_core::sources::{
+    Asking, Callback, Dispatch, Dispatcher, EventSource, Hold, PostAction,
+};
 use calloop_core::sys::poll::Poll;
 use calloop_core::sys::{Poller, Readiness};
 use calloop_wake::error::{InsertError, Result};
 use calloop_wake::list::SourceList;
 use calloop_wake::token::{RegistrationToken, Token, TokenFactory};
+use std::marker::PhantomData;
 use std::sync::Wait;
 use std::time::Duration;
 
@@ -13,7 +16,7 @@ mod dispatch;
 mod handle;
 mod laws;
 
-pub use laws::once;
+pub use laws::{once, wrong_runs_are_ruled_out};
 
 /// A loop over sources of one type `D` of the caller, a poller and a clock. It owns its sources. `R` is the runtime by
 /// which it locks the board of posted keys.
@@ -31,7 +34,7 @@ pub struct LoopHandle<'l, D, P, C, R: Wait + Drop> {
 
 /// A call on a loop, as a value.
 #[derive(Drop)]
-pub enum Call<D, P, X> {
+pub enum LoopCall<D, P, X> {
     Insert(D),
     Enable(RegistrationToken),
     Update(RegistrationToken),
@@ -43,7 +46,7 @@ pub enum Call<D, P, X> {
 
 /// What a call answered. A dispatch gives its data back, and a change of the poller the one before.
 #[derive(Drop)]
-pub enum Answer<D, P, X> {
+pub enum LoopAnswer<D, P, X> {
     Inserted(std::result::Result<RegistrationToken, InsertError<D>>),
     Enabled(Result<()>),
     Updated(Result<()>),
@@ -53,58 +56,131 @@ pub enum Answer<D, P, X> {
     Poller(P),
 }
 
-/// What a loop calls: an enum of the caller's dispatchers, each a source with its callback. Its meaning says, as
-/// relations, what each call may do; the loop is proved for every meaning.
-pub trait EventDispatcher<P: Poller, C, R: Wait + Drop>: Drop + Sized {
-    ghost use Rattle.std.specs.Prelude.{List};
-    ghost use Rattle.calloop_core.specs.Polls.{PollStep, poll_view, AllStepped};
-    ghost use Rattle.calloop_core.specs.Meanings.{Meaning, IsKeeping};
+/// What the callbacks of a loop over `D` ask for. There is nothing yet that can be asked for, and no calls on it.
+#[derive(Drop)]
+pub struct Requests<D> {
+    of: PhantomData<D>,
+}
 
-    /// What a dispatch lends to the callbacks.
+impl<D> Requests<D> {
+    fn new() -> Requests<D> {
+        Requests { of: PhantomData }
+    }
+}
+
+impl<D> Asking for Requests<D> {
+    ghost reaches = { λ q r. Unit {0} };
+
+    ghost stays = { λ q. tt };
+
+    ghost goes_on = { λ q r s h k. tt };
+}
+
+/// What a loop is over: a choice of sources with their callbacks, and the data that a dispatch lends. `Sources` is one.
+pub trait EventDispatcher<P: Poller, C, R: Wait + Drop>: Dispatch<
+    P,
+    C,
+    R,
+    <Self as EventDispatcher<P, C, R>>::Data,
+    Requests<Self>,
+>
+    + Drop
+    + Sized {
+    /// What a dispatch lends to each callback.
     type Data;
+}
 
-    ghost means: { Meaning Self P Self.Data };
+/// A choice of sources, each with its callback, for a loop whose dispatches lend an `X`. A loop over pings and timers is one
+/// over `Sources<OneOf<Dispatcher<PingSource<R>, F>, Dispatcher<Timer, G>>, X>`.
+#[derive(Drop)]
+pub struct Sources<A, X> {
+    pub held: A,
+    of: PhantomData<X>,
+}
 
-    /// Registers the source with tokens of the factory.
-    fn register(&mut self, poll: &mut Poll<P, C, R>, factory: &mut TokenFactory) -> Result<()>
-        ensures { (steps : List (PollStep P)) × means.reg self.old (poll_view poll.old) factory.old result steps self.new factory.new × AllStepped P.outside (poll_view poll.old) steps (poll_view poll.new) };
+impl<A, X> Sources<A, X> {
+    ghost use Rattle.std.specs.Prelude.{◌≡◌};
+    ghost use Rattle.calloop.specs.Choices.{with_data};
 
-    /// Registers the source anew with tokens of the factory.
-    fn reregister(&mut self, poll: &mut Poll<P, C, R>, factory: &mut TokenFactory) -> Result<()>
-        ensures { (steps : List (PollStep P)) × means.rereg self.old (poll_view poll.old) factory.old result steps self.new factory.new × AllStepped P.outside (poll_view poll.old) steps (poll_view poll.new) };
+    /// One that holds this.
+    pub fn new(held: A) -> Sources<A, X>
+        ensures { result ≡ with_data held }
+    {
+        Sources {
+            held,
+            of: PhantomData,
+        }
+    }
+}
 
-    /// Takes its registration back.
-    fn unregister(&mut self, poll: &mut Poll<P, C, R>) -> Result<()>
-        ensures { (steps : List (PollStep P)) × means.unreg self.old (poll_view poll.old) result steps self.new × AllStepped P.outside (poll_view poll.old) steps (poll_view poll.new) };
+impl<P: Poller, C, R: Wait + Drop, A, X> Dispatch<P, C, R, X, Requests<Sources<A, X>>>
+    for Sources<A, X>
+where
+    A: Dispatch<P, C, R, X, Requests<Sources<A, X>>>,
+{
+    ghost use Rattle.calloop_core.specs.Meanings.{seen_as};
+    ghost use Rattle.calloop_core.specs.Lawful.{keeping_seen, asking_seen, failing_seen};
 
-    /// A turn of the source, for an event of this token.
+    ghost means = { seen_as (λ s. s.held) A.means };
+
+    fn register(&mut self, poll: &mut Poll<P, C, R>, factory: &mut TokenFactory) -> Result<()> {
+        self.held.register(poll, factory)
+    }
+
+    fn reregister(&mut self, poll: &mut Poll<P, C, R>, factory: &mut TokenFactory) -> Result<()> {
+        self.held.reregister(poll, factory)
+    }
+
+    fn unregister(&mut self, poll: &mut Poll<P, C, R>) -> Result<()> {
+        self.held.unregister(poll)
+    }
+
     fn process_events(
         &mut self,
         readiness: Readiness,
         token: Token,
         poll: &mut Poll<P, C, R>,
-        data: &mut Self::Data,
-    ) -> Result<PostAction>
-        ensures { (steps : List (PollStep P)) × means.turn self.old readiness token (poll_view poll.old) «data».old result steps self.new «data».new × AllStepped P.outside (poll_view poll.old) steps (poll_view poll.new) };
+        data: &mut X,
+        requests: &mut Requests<Sources<A, X>>,
+    ) -> Result<PostAction> {
+        self.held
+            .process_events(readiness, token, poll, data, requests)
+    }
 
-    /// It leaves the counters of others alone, and calls once for each arming of its own.
-    ghost keeps: { IsKeeping means };
+    ghost keeps = { keeping_seen (λ s. s.held) A.means A.keeps };
+
+    ghost asks = { asking_seen (λ s. s.held) ⟦<Requests<Sources<A, X>> as Asking>⟧.reaches A.means A.asks };
+
+    ghost fails = { failing_seen (λ s. s.held) A.means A.fails };
 }
 
-/// A dispatcher type that has a place for a source `S` with a callback `F`; what is held means the source with it.
-pub trait Hold<S, F, P: Poller, C, R: Wait + Drop>: EventDispatcher<P, C, R>
+impl<P: Poller, C, R: Wait + Drop, A, X> EventDispatcher<P, C, R> for Sources<A, X>
+where
+    A: Dispatch<P, C, R, X, Requests<Sources<A, X>>> + Drop,
+{
+    type Data = X;
+}
+
+impl<S, F, P: Poller, C, R: Wait + Drop, A, X, N> Hold<S, F, P, C, R, X, Requests<Sources<A, X>>, N>
+    for Sources<A, X>
 where
     S: EventSource<P, C, R>,
-    F: Callback<S::Event, S::Metadata, S::Ret, Self::Data>,
+    F: Callback<S::Event, S::Metadata, S::Ret, X, Requests<Sources<A, X>>>,
+    A: Hold<S, F, P, C, R, X, Requests<Sources<A, X>>, N>,
 {
     ghost use Rattle.std.specs.Prelude.{◌≡◌};
-    ghost use Rattle.calloop_core.specs.declared.sources.Dispatcher.{Dispatcher};
-    ghost use Rattle.calloop_core.specs.Meanings.{IsHeld};
+    ghost use Rattle.calloop.specs.Choices.{with_data, held_with_data};
 
-    ghost held: { Dispatcher S F → Self };
+    ghost held = { λ d. with_data (A.held d) };
 
-    fn hold(dispatcher: Dispatcher<S, F>) -> Self
-        ensures { result ≡ held dispatcher };
+    fn hold(dispatcher: Dispatcher<S, F>) -> Sources<A, X>
+        ensures { result ≡ with_data (A.held dispatcher) }
+    {
+        Sources::new(A::hold(dispatcher))
+    }
 
-    ghost held_means: { IsHeld held ⟦<Dispatcher<S, F> as Dispatch<P, C, R, Self::Data>>⟧.means Self.means };
+    ghost held_means = { held_with_data A.held
+        ⟦<Dispatcher<S, F> as Dispatch<P, C, R, X, Requests<Sources<A, X>>>>⟧.means
+        ⟦<A as Dispatch<P, C, R, X, Requests<Sources<A, X>>>>⟧.means
+        A.held_means };
 }

@@ -1,8 +1,10 @@
 //! Pings: a source that is woken by hand, from any thread.
-ghost use Rattle.std.specs.Prelude.{◌≡◌, None, IfOk};
+ghost use Rattle.std.specs.Prelude.{◌≡◌, None, IfOk, IfErr};
 ghost use Rattle.std.specs.Arc.{arc_value};
+ghost use Rattle.calloop_wake.specs.declared.error.Error.TheVariants.{OutOfMemory};
 
 use calloop_core::sys::hub::share;
+use calloop_wake::error::Result as LoopResult;
 use calloop_wake::wake::{Receipt, Sender, Twin};
 use cell::{PingCell, SharedCell};
 use std::alloc::{AllocError, Global};
@@ -33,19 +35,23 @@ pub struct PingSource<R: Wait + Drop> {
 
 /// A ping that nobody rang, and its source, which is registered nowhere. `rt` is the runtime by which they lock what they share.
 ///
-/// Want of memory is `AllocError`.
+/// Want of memory is `OutOfMemory`.
 pub fn make_ping<R: Wait + Clone + Drop>(
     rt: &R,
     alloc: Global,
-) -> Result<(Ping<R>, PingSource<R>), AllocError>
-    ensures { IfOk result (λ made. (made.1.twin ≡ record { name = (arc_value made.0.shared).slot; key = None; turns = 0; number = 0; closes = 0 }) × ((arc_value made.1.shared).slot ≡ (arc_value made.0.shared).slot)) }
+) -> LoopResult<(Ping<R>, PingSource<R>)>
+    ensures ok { IfOk result (λ made.
+        (made.1.twin ≡ record { name = (arc_value made.0.shared).slot; key = None; turns = 0; number = 0; closes = 0 })
+        × ((arc_value made.1.shared).slot ≡ (arc_value made.0.shared).slot)) }
+    ensures err { IfErr result (λ e. e ≡ OutOfMemory) }
 {
     let of_ping = rt.clone()?;
     let of_source = rt.clone()?;
-    let shared = Arc::new(alloc, PingCell::locked())?;
+    let (locked, right) = PingCell::locked();
+    let shared = Arc::new(alloc, locked)?;
     let again = share(rt, &shared);
     let sender = cell::add_sender(rt, &shared)?;
-    let twin = cell::receiver(rt, &shared);
+    let twin = cell::receiver(rt, &shared, right);
     let ping = Ping {
         rt: of_ping,
         shared,

@@ -2,7 +2,7 @@
 use Rattle.std.proofs.Common.{◌≡◌, ℕ, List, [], ◌∷◌, true, false, Bool, Option, Result, Ok, Err, refl}
 use Rattle.std.specs.declared.io.Error.{Error as Cause}
 use Rattle.calloop_core.specs.declared.sys.Readiness.{Readiness}
-use Rattle.calloop_core.specs.Pollers.{Outside, IsCounted}
+use Rattle.calloop_core.specs.Pollers.{Outside}
 use Rattle.calloop_core.specs.Polls.{PollView}
 use Rattle.calloop_core.specs.Waits.{Interruption, IsInterruption, Waits, asked_for, is_zero}
 
@@ -10,9 +10,9 @@ module _ {P : Type 0} (O : Outside P) (v : PollView P) (timeout : Option ℕ) (s
   pub answered : (p w q : P) (given : List (ℕ × Readiness)) (later : ℕ) → O.waits p asked (Ok tt) given w → O.reads w later q → Waits O v timeout start asked p [] (Ok later) given q
   answered p w q given later waits reads = (w, waits, reads)
 
-  pub faulted : (p q : P) (given : List (ℕ × Readiness)) (cause : Cause) → O.waits p asked (Err cause) given q → (¬ IsInterruption cause) → IsCounted (O.faults p) (Err cause) (O.faults q)
+  pub faulted : (p q : P) (given : List (ℕ × Readiness)) (cause : Cause) → O.waits p asked (Err cause) given q → (¬ IsInterruption cause)
       → Waits O v timeout start asked p [] (Err cause) given q
-  faulted p q given cause waits none counted = (waits, none, counted.1 none)
+  faulted p q given cause waits none = (waits, none)
 
   -- an interruption with nothing left to wait for
   pub ended : (p w q : P) (seen : List (ℕ × Readiness)) (cause : Cause) (later : ℕ) (posted : Bool) → O.waits p asked (Err cause) seen w → IsInterruption cause → O.reads w later q → is_zero (asked_for v posted timeout start later) ≡ true

@@ -1,6 +1,9 @@
--- The calls of a callback, in order.
-use Rattle.std.specs.Prelude.{◌≡◌, List, [], ◌∷◌, Result, Ok, Err}
+-- The calls of a callback, in order. calloop's callbacks are closures, of which nothing is known; here each is a
+-- value of a named type, which says what a call may do.
+use Rattle.std.specs.Prelude.{◌≡◌, ◌⊎◌, List, [], ◌∷◌, Result, Ok, Err}
+use Rattle.anyhow.specs.declared.error.Error.{Error as Cause}
 use Rattle.calloop_wake.specs.declared.error.Error.{Error}
+use Rattle.calloop_wake.specs.declared.error.Error.TheVariants.{OtherError, OutOfMemory}
 
 -- one call: the event, the metadata before and after it, and what the callback answered
 pub record Call (E M T : Type 0) : Type 0 where
@@ -9,10 +12,23 @@ pub record Call (E M T : Type 0) : Type 0 where
   pub after : M
   pub answer : T
 
--- callback and data went through just these calls
-abbrev pub Went : {E M T F X : Type 0} → (F → E → M → X → T → F → M → X → Type 0) → F → X → List (Call E M T) → F → X → Type 0
-Went may f x [] g y = (g ≡ f) × (y ≡ x)
-Went {F = F} {X = X} may f x (c ∷ cs) g y = (f' : F) × (x' : X) × may f c.event c.before x c.answer f' c.after x' × Went may f' x' cs g y
+-- what a call may do: the callback, the event, the metadata, the data and the requests before it, its answer, and all
+-- but the event after it
+abbrev pub Calling : (F E M T X Q : Type 0) → Type 1
+Calling F E M T X Q = F → E → M → X → Q → T → F → M → X → Q → Type 0
+
+-- callback, data and requests went through just these calls; what a call asks for is reached from what stood there
+abbrev pub Went : {F E M T X Q : Type 0} → Calling F E M T X Q → (Q → Q → Type 0)
+    → F → X → Q → List (Call E M T) → F → X → Q → Type 0
+Went may reaches f x q [] g y r = (g ≡ f) × (y ≡ x) × (r ≡ q)
+Went {F} {E} {M} {T} {X} {Q} may reaches f x q (c ∷ cs) g y r =
+    (f' : F) × (x' : X) × (q' : Q) × may f c.event c.before x q c.answer f' c.after x' q' × reaches q q'
+    × Went may reaches f' x' q' cs g y r
+
+-- an error that is of a source: its own failure, or want of memory. calloop has `OtherError` alone, since it aborts
+-- there.
+abbrev pub IsOfSource : Error → Type 0
+IsOfSource e = ((cause : Cause) × (e ≡ OtherError cause)) ⊎ (e ≡ OutOfMemory)
 
 -- the answer of a source, with its error as the loop's
 abbrev pub Becomes : {A Cause : Type 0} → (Cause → Error → Type 0) → Result A Cause → Result A Error → Type 0

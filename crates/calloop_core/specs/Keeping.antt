@@ -1,6 +1,7 @@
--- A timer makes steps of its own counter alone, and calls once for each arming. The impl cites these proofs, so they
+-- A timer makes steps of its own counter alone, and calls at most once for each arming. The impl cites these proofs, so they
 -- stand here.
-use Rattle.std.proofs.Common.{◌≡◌, ◌≢◌, inl, inr, ℕ, ◌++◌, List, Option, None, Some, Result, Ok, Err, refl, sym, ◌∙◌, ap, true, false, Bool, nat_eq, if◌then◌else◌, arith}
+use Rattle.std.proofs.Common.{◌≡◌, ◌≢◌, inl, inr, ℕ, ◌++◌, List, Option, None, Some, Result, Ok, Err, refl, sym, ◌∙◌}
+use Rattle.std.proofs.Common.{ap, true, false, Bool, nat_eq, if◌then◌else◌, arith}
 use Rattle.std.proofs.lemmas.Bool.Decides.{nat_tests}
 use Rattle.calloop_wake.specs.declared.error.Error.{Error}
 use Rattle.calloop_wake.specs.declared.token.Token.{Token}
@@ -13,19 +14,24 @@ use Rattle.calloop_core.specs.declared.timer.TimeoutAction.TheVariants.{Drop, To
 use Rattle.calloop_core.specs.declared.timer.TimerError.{TimerError}
 use Rattle.calloop_core.specs.declared.timer.Timer.{Timer}
 use Rattle.calloop_core.specs.declared.timer.Registration.{Registration}
-use Rattle.calloop_core.specs.Calls.{Call as OneCall}
+use Rattle.calloop_core.specs.Deeds.{Registered, Reregistered, Unregistered, Turned}
+use Rattle.calloop_core.specs.Meanings.{IsKeeping}
 use Rattle.calloop_core.specs.Polls.{PollView, PollStep}
 use Rattle.calloop_core.specs.Holdings.{Hold, Free, Spent, Standing, IsWithin, Keeps, with_hold}
-use Rattle.calloop_core.specs.Timers.{timer_holds, held_as, releases, Armed, IsTimerReg, IsTimerUnreg, ArmedAgain, ArmedFor, Answered, IsTimerTurn}
+use Rattle.calloop_core.specs.Timers.{Calls, timer_holds, held_as, releases, Armed, ArmedAgain, ArmedFor, Answered}
+use Rattle.calloop_core.specs.Timers.{IsTimerReg, IsTimerUnreg, IsTimerTurn, timer_meaning}
 
 within_same : (h : Hold) → IsWithin h h
 within_same Free = tt
-within_same Spent = λ e. cc
+within_same Spent = refl
 within_same (Standing deadline) = refl
 
 -- what holds one counter, within what holds it too
-within_one : (counter n : ℕ) (h : Hold) (held : ℕ → Hold) → IsWithin (if nat_eq counter n then h else Free) (with_hold n h held counter)
-within_one counter n h held = elim (nat_eq counter n) as (λ b. IsWithin (if b then h else Free) (if b then h else held counter)) [ true ↦ within_same h | false ↦ tt ]
+within_one : (counter n : ℕ) (h : Hold) (held : ℕ → Hold)
+    → IsWithin (if nat_eq counter n then h else Free) (with_hold n h held counter)
+within_one counter n h held =
+    elim (nat_eq counter n) as
+    (λ b. IsWithin (if b then h else Free) (if b then h else held counter)) [ true ↦ within_same h | false ↦ tt ]
 
 same_counter : (n : ℕ) → nat_eq n n ≡ true
 same_counter n = grind (arith, nat_tests)
@@ -40,40 +46,73 @@ not_free : (b : Bool) (at : Instant) → (if b then Spent else Standing at) ≢ 
 not_free true at e = cc
 not_free false at e = cc
 
-keeps_armed : {P : Type 0} (held : ℕ → Hold) (o : Option Instant) (next : ℕ) (f g : TokenFactory) (a : Result (Unit {0}) Error) (l : List (PollStep P)) (t : Timer) → Armed o next f a l t g → Keeps held next l (timer_holds t)
+keeps_armed : {P : Type 0} (held : ℕ → Hold) (o : Option Instant) (next : ℕ) (f g : TokenFactory)
+    (a : Result (Unit {0}) Error) (l : List (PollStep P)) (t : Timer) → Armed o next f a l t g
+    → Keeps held next l (timer_holds t)
 keeps_armed held None next f g a l t h = rw (h.1, h.2) (λ counter. tt)
-keeps_armed held (Some at) next f g (Ok u) l t h = rw (h.0, h.1) (λ counter. within_one counter next (Standing at) held)
+keeps_armed held (Some at) next f g (Ok u) l t h =
+    rw (h.0, h.1) (λ counter. within_one counter next (Standing at) held)
 keeps_armed held (Some at) next f g (Err e) l t h = rw (h.0, h.1) (λ counter. tt)
 
-keeps_released : {P : Type 0} (o : Option Registration) (next : ℕ) (more : List (PollStep P)) (after : ℕ → Hold) → ((held : ℕ → Hold) → Keeps held next more after) → Keeps (held_as o) next (releases o ++ more) after
+keeps_released : {P : Type 0} (o : Option Registration) (next : ℕ) (more : List (PollStep P)) (after : ℕ → Hold)
+    → ((held : ℕ → Hold) → Keeps held next more after) → Keeps (held_as o) next (releases o ++ more) after
 keeps_released None next more after h = h (held_as None)
-keeps_released (Some r) next more after h = (λ e. not_free r.spent r.armed (sym (own_state r) ∙ e), h (with_hold r.counter Free (held_as (Some r))))
+keeps_released (Some r) next more after h =
+    (λ e. not_free r.spent r.armed (sym (own_state r) ∙ e), h (with_hold r.counter Free (held_as (Some r))))
 
-pub timer_reg_keeps : {P : Type 0} (s t : Timer) (v : PollView P) (f g : TokenFactory) (a : Result (Unit {0}) Error) (l : List (PollStep P)) → IsTimerReg s v f a l t g → Keeps (timer_holds s) v.deadlines.next l (timer_holds t)
-timer_reg_keeps s t v f g a l h = rw h.1 (keeps_released s.registration v.deadlines.next h.0 (timer_holds t) (λ held. keeps_armed held s.deadline v.deadlines.next f g a h.0 t h.2))
+timer_reg_keeps : {P : Type 0} (s t : Timer) (v : PollView P) (f g : TokenFactory) (a : Result (Unit {0}) Error)
+    (l : List (PollStep P)) → IsTimerReg s v f a l t g → Keeps (timer_holds s) v.deadlines.next l (timer_holds t)
+timer_reg_keeps s t v f g a l h =
+    let next = v.deadlines.next in
+    let armed : (held : ℕ → Hold) → Keeps held next h.0 (timer_holds t) =
+    λ held. keeps_armed held s.deadline next f g a h.0 t h.2 in
+    rw h.1 (keeps_released s.registration next h.0 (timer_holds t) armed)
 
-only_released : (P : Type 0) (o : Option Registration) (next : ℕ) → Keeps {P = P} (held_as o) next (releases {P = P} o) (held_as None)
+only_released : (P : Type 0) (o : Option Registration) (next : ℕ)
+    → Keeps {P = P} (held_as o) next (releases {P = P} o) (held_as None)
 only_released P None next = λ counter. tt
 only_released P (Some r) next = (λ e. not_free r.spent r.armed (sym (own_state r) ∙ e), λ counter. tt)
 
-pub timer_unreg_keeps : {P : Type 0} (s t : Timer) (v : PollView P) (a : Result (Unit {0}) Error) (l : List (PollStep P)) → IsTimerUnreg s a l t → Keeps (timer_holds s) v.deadlines.next l (timer_holds t)
+timer_unreg_keeps : {P : Type 0} (s t : Timer) (v : PollView P) (a : Result (Unit {0}) Error) (l : List (PollStep P))
+    → IsTimerUnreg s a l t → Keeps (timer_holds s) v.deadlines.next l (timer_holds t)
 timer_unreg_keeps s t v a l h = rw (h.1, h.2) (only_released _ s.registration v.deadlines.next)
 
-keeps_again : {P : Type 0} (held : ℕ → Hold) (next : ℕ) (r : Registration) (at : Instant) (a : Result PostAction TimerError) (l : List (PollStep P)) (t : Timer) → held r.counter ≡ Spent → ArmedAgain r at a l t → Keeps held next l (timer_holds t)
-keeps_again held next r at (Ok x) l t mine h = rw (h.1, h.2) (mine, λ counter. within_one counter r.counter (Standing at) held)
+keeps_again : {P : Type 0} (held : ℕ → Hold) (next : ℕ) (r : Registration) (at : Instant)
+    (a : Result PostAction TimerError) (l : List (PollStep P)) (t : Timer) → held r.counter ≡ Spent
+    → ArmedAgain r at a l t → Keeps held next l (timer_holds t)
+keeps_again held next r at (Ok x) l t mine h =
+    rw (h.1, h.2) (mine, λ counter. within_one counter r.counter (Standing at) held)
 keeps_again held next r at (Err e) l t mine h = rw (h.0, h.1) (λ counter. tt)
 
-keeps_for : {P : Type 0} (held : ℕ → Hold) (next : ℕ) (r : Registration) (moment : Option Instant) (a : Result PostAction TimerError) (l : List (PollStep P)) (t : Timer) → ArmedFor r moment a l t → Keeps (with_hold r.counter Spent held) next l (timer_holds t)
-keeps_for held next r (Some at) a l t h = keeps_again (with_hold r.counter Spent held) next r at a l t (held_here r.counter Spent held) h
+keeps_for : {P : Type 0} (held : ℕ → Hold) (next : ℕ) (r : Registration) (moment : Option Instant)
+    (a : Result PostAction TimerError) (l : List (PollStep P)) (t : Timer) → ArmedFor r moment a l t
+    → Keeps (with_hold r.counter Spent held) next l (timer_holds t)
+keeps_for held next r (Some at) a l t h =
+    keeps_again (with_hold r.counter Spent held) next r at a l t (held_here r.counter Spent held) h
 keeps_for held next r None a l t h = rw (h.1, h.2) (λ counter. within_one counter r.counter Spent held)
 
-keeps_answered : {P : Type 0} (held : ℕ → Hold) (next : ℕ) (s : Timer) (r : Registration) (x : TimeoutAction) (a : Result PostAction TimerError) (l : List (PollStep P)) (t : Timer) → Answered s r x a l t → Keeps (with_hold r.counter Spent held) next l (timer_holds t)
+keeps_answered : {P : Type 0} (held : ℕ → Hold) (next : ℕ) (s : Timer) (r : Registration) (x : TimeoutAction)
+    (a : Result PostAction TimerError) (l : List (PollStep P)) (t : Timer) → Answered s r x a l t
+    → Keeps (with_hold r.counter Spent held) next l (timer_holds t)
 keeps_answered held next s r Drop a l t h = rw (h.1, h.2) (λ counter. within_one counter r.counter Spent held)
-keeps_answered held next s r (ToInstant at) a l t h = keeps_again (with_hold r.counter Spent held) next r at a l t (held_here r.counter Spent held) h
-keeps_answered held next s r (ToDuration time) a l t h = rw h.3 (keeps_for held next r (moment_after h.0 time) a h.2 t h.4)
+keeps_answered held next s r (ToInstant at) a l t h =
+    keeps_again (with_hold r.counter Spent held) next r at a l t (held_here r.counter Spent held) h
+keeps_answered held next s r (ToDuration time) a l t h =
+    rw h.3 (keeps_for held next r (moment_after h.0 time) a h.2 t h.4)
 
-pub timer_turn_keeps : {P : Type 0} (s t : Timer) (k : Token) (v : PollView P) (cs : List (OneCall Instant (Unit {0}) TimeoutAction)) (a : Result PostAction TimerError) (l : List (PollStep P)) → IsTimerTurn s k v cs a l t → Keeps (timer_holds s) v.deadlines.next l (timer_holds t)
+timer_turn_keeps : {P : Type 0} (s t : Timer) (k : Token) (v : PollView P) (cs : Calls)
+    (a : Result PostAction TimerError) (l : List (PollStep P))
+    → IsTimerTurn s k v cs a l t → Keeps (timer_holds s) v.deadlines.next l (timer_holds t)
 timer_turn_keeps s t k v cs a l (inl (r, h)) =
-    let mine : held_as s.registration r.counter ≡ Standing r.armed = ap (λ o. held_as o r.counter) h.registered ∙ own_state r ∙ ap (λ b. if b then Spent else Standing r.armed) h.unspent in
+    let held : held_as s.registration r.counter ≡ held_as (Some r) r.counter =
+    ap (λ o. held_as o r.counter) h.registered in
+    let standing = ap (λ b. if b then Spent else Standing r.armed) h.unspent in
+    let mine : held_as s.registration r.counter ≡ Standing r.armed = held ∙ own_state r ∙ standing in
     rw h.steps_are (mine, keeps_answered (timer_holds s) v.deadlines.next s r h.action a h.more t h.answered)
 timer_turn_keeps s t k v cs a l (inr h) = rw (h.no_steps, h.same) (λ counter. within_same (timer_holds s counter))
+
+pub timer_keeps : {P : Type 0} → IsKeeping (timer_meaning {P = P})
+timer_keeps s t v (Registered f a g) l fits below h = (tt, timer_reg_keeps s t v f g a l h)
+timer_keeps s t v (Reregistered f a g) l fits below h = (tt, timer_reg_keeps s t v f g a l h)
+timer_keeps s t v (Unregistered a) l fits below h = (tt, timer_unreg_keeps s t v a l h)
+timer_keeps s t v (Turned r k turn) l fits below h = (tt, timer_turn_keeps s t k v turn.calls turn.answer l h)

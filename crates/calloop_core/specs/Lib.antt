@@ -1,9 +1,11 @@
 pub mod Pollers
 pub mod Polls
 pub mod Calls
+pub mod Deeds
 pub mod Holdings
 pub mod Hubs
 pub mod Meanings
+pub mod Lawful
 pub mod Timers
 pub mod Keeping
 pub mod Waits

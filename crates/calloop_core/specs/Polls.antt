@@ -16,6 +16,9 @@ use Rattle.calloop_wake.specs.Deadlines.{Deadlines, with_new, with_again, with_e
 use Rattle.calloop_wake.specs.Tokens.{token_of}
 use Rattle.calloop_wake.specs.Passes.{Taken}
 use Rattle.calloop_wake.specs.Boards.{taken}
+use Rattle.calloop_wake.specs.Watches.{noted}
+use Rattle.calloop_wake.specs.declared.wake.watch.Watch.{Watch}
+use Rattle.calloop_wake.specs.declared.wake.notes.Note.TheVariants.{Counted, Unposted}
 use Rattle.calloop_core.specs.declared.sys.Readiness.{Readiness}
 use Rattle.calloop_core.specs.declared.sys.poll.Pending.{Pending}
 use Rattle.calloop_core.specs.declared.sys.poll.Poll.{Poll}
@@ -29,9 +32,13 @@ pub record PollView (P : Type 0) : Type 0 where
   pub batch : List Pending
   pub passes : List Taken
   pub pass : Option Taken
+  -- how many keys had places on the board when they were counted last
+  pub places : ℕ
+  -- what the loop did to its board
+  pub watch : Watch
 
 abbrev pub poll_view : {P C R : Type 0} → Poll P C R → PollView P
-poll_view p = record { poller = p.poller; deadlines = p.wheel; batch = p.batch.items; passes = p.passes.items; pass = p.pass }
+poll_view p = record { poller = p.poller; deadlines = p.wheel; batch = p.batch.items; passes = p.passes.items; pass = p.pass; places = p.places; watch = p.hub }
 
 -- another pass, or none, for the event whose turn it is; the one before goes back to the board
 abbrev pub with_pass : {P : Type 0} → Option Taken → PollView P → PollView P
@@ -42,6 +49,13 @@ with_deadlines d v = record v { deadlines = d }
 
 abbrev pub polling : {P : Type 0} → P → PollView P → PollView P
 polling p v = record v { poller = p }
+
+abbrev pub watching : {P : Type 0} → Watch → PollView P → PollView P
+watching w v = record v { watch = w }
+
+-- the places on the board are counted
+abbrev pub counted : {P : Type 0} → (places : ℕ) → PollView P → PollView P
+counted places v = record v { places = places; watch = noted (Counted places) v.watch }
 
 -- what a source can do; what it does under the locks of the board and of a ping's cell isn't seen
 pub data PollStep (P : Type 0) : Type 0 where
@@ -106,9 +120,9 @@ polled_event given = record { readiness = given.1; token = token_of given.0; pos
 abbrev pub is_for_a_token : ℕ × Readiness → Bool
 is_for_a_token given = is_tokens given.0
 
--- the events of posted keys, and those that the poller gave; the poller's own key names none
+-- the events of posted keys, all of which are tokens', and those that the poller gave; the poller's own key names none
 abbrev pub posted_events : List ℕ → List Pending
-posted_events keys = map posted_event (filter is_tokens keys)
+posted_events keys = map posted_event keys
 
 abbrev pub polled_events : List (ℕ × Readiness) → List Pending
 polled_events given = map polled_event (filter is_for_a_token given)
@@ -119,7 +133,7 @@ timer_event entry = record { readiness = ready_to_read; token = entry.token; pos
 abbrev pub timer_events : List Entry → List Pending
 timer_events entries = map timer_event entries
 
--- the posted keys and the deadlines that are due are taken, and the batch is what was left over, then the posted keys,
+-- the posted keys, as far as there is room, and the deadlines that are due are taken, and the batch is what was left over, then the posted keys,
 -- then what the poller gave, then the timers
 abbrev pub gathered : {P : Type 0} → (posted : List ℕ) → (given : List (ℕ × Readiness)) → (now : ℕ) → PollView P → PollView P
 gathered posted given now v =
@@ -127,6 +141,7 @@ gathered posted given now v =
       deadlines = with_entries (not_due now v.deadlines.entries) v.deadlines;
       batch = ((v.batch ++ posted_events posted) ++ polled_events given) ++ timer_events (due now v.deadlines.entries);
       passes = v.passes ++ map taken posted;
+      watch = noted (Unposted v.places posted) v.watch;
     }
 
 abbrev pub is_filled : {A : Type 0} → List A → Bool

@@ -1,6 +1,7 @@
--- A timer as a source: its registration and its turn. As calloop's, but the deadline that is handed out is the armed one,
--- an arming is called for once, and an older arming is taken back.
-use Rattle.std.specs.Prelude.{◌≡◌, ◌⊎◌, ℕ, ◌++◌, ◌∷◌, [], List, nat_eq, if◌then◌else◌, true, false, Option, None, Some, Result, Ok, Err}
+-- A timer as a source: its registration and its turn. As calloop's, but the deadline that is handed out is the armed
+-- one, an arming is called for once, and an older arming is taken back.
+use Rattle.std.specs.Prelude.{◌≡◌, ◌⊎◌, ℕ, ◌++◌, ◌∷◌, [], List, nat_eq, if◌then◌else◌, true, false}
+use Rattle.std.specs.Prelude.{Option, None, Some, Result, Ok, Err}
 use Rattle.calloop_wake.specs.declared.error.Error.{Error}
 use Rattle.calloop_wake.specs.declared.error.Error.TheVariants.{TooManyTokens}
 use Rattle.calloop_wake.specs.declared.token.Token.{Token}
@@ -17,6 +18,8 @@ use Rattle.calloop_core.specs.declared.timer.Timer.{Timer}
 use Rattle.calloop_core.specs.declared.timer.Registration.{Registration}
 use Rattle.calloop_core.specs.Calls.{Call as OneCall}
 use Rattle.calloop_core.specs.Holdings.{Hold, Free, Spent, Standing}
+use Rattle.calloop_core.specs.Deeds.{Deed, Registered, Reregistered, Unregistered, Turned, Heard}
+use Rattle.calloop_core.specs.Meanings.{Meaning}
 use Rattle.calloop_core.specs.Polls.{PollView, PollStep, Arm, ArmAgain, Cancel, Call, ReadClock}
 
 -- a timer without a registration
@@ -37,10 +40,15 @@ armed_for deadline r = record r { armed = deadline; spent = false }
 -- the counter that a timer holds
 abbrev pub held_as : Option Registration → ℕ → Hold
 held_as None counter = Free
-held_as (Some r) counter = if nat_eq counter r.counter then (if r.spent then Spent else Standing r.armed) else Free
+held_as (Some r) counter =
+    if nat_eq counter r.counter then (if r.spent then Spent else Standing r.armed) else Free
 
 abbrev pub timer_holds : Timer → ℕ → Hold
 timer_holds t = held_as t.registration
+
+-- the calls of a timer's callback
+abbrev pub Calls : Type 0
+Calls = List (OneCall Instant (Unit {0}) TimeoutAction)
 
 -- what takes the older arming back
 abbrev pub releases : {P : Type 0} → Option Registration → List (PollStep P)
@@ -49,41 +57,54 @@ releases (Some r) = Cancel r.counter ∷ []
 
 -- why a timer can't be armed: the factory has no more tokens, or the wheel refuses
 abbrev pub RefusedTimer : TokenFactory → (next : ℕ) → Error → TokenFactory → Type 0
-RefusedTimer f next e g = ((e ≡ TooManyTokens) × (f.given ≡ 65535) × (g ≡ f)) ⊎ (CannotArm next e × (g ≡ after_token f))
+RefusedTimer f next e g =
+    ((e ≡ TooManyTokens) × (f.given ≡ 65535) × (g ≡ f)) ⊎ (CannotArm next e × (g ≡ after_token f))
 
 -- armed for its deadline under the next counter, where it has one
-abbrev pub Armed : {P : Type 0} → (deadline : Option Instant) → (next : ℕ) → TokenFactory → Result (Unit {0}) Error → List (PollStep P) → Timer → TokenFactory → Type 0
+abbrev pub Armed : {P : Type 0} → (deadline : Option Instant) → (next : ℕ) → TokenFactory
+    → Result (Unit {0}) Error → List (PollStep P) → Timer → TokenFactory → Type 0
 Armed None next f answer steps t g = (answer ≡ Ok tt) × (steps ≡ []) × (t ≡ unarmed None) × (g ≡ f)
 Armed (Some at) next f (Ok u) steps t g =
-    (steps ≡ Arm at (next_token f) ∷ []) × (t ≡ registered_as (record { token = next_token f; counter = next; armed = at; spent = false }) (Some at)) × (g ≡ after_token f)
+    (steps ≡ Arm at (next_token f) ∷ [])
+    × (t ≡ registered_as (record { token = next_token f; counter = next; armed = at; spent = false }) (Some at))
+    × (g ≡ after_token f)
 Armed (Some at) next f (Err e) steps t g = (steps ≡ []) × (t ≡ unarmed (Some at)) × RefusedTimer f next e g
 
 -- the older arming is taken back, then it is armed
-abbrev pub IsTimerReg : {P : Type 0} → Timer → PollView P → TokenFactory → Result (Unit {0}) Error → List (PollStep P) → Timer → TokenFactory → Type 0
-IsTimerReg {P} s v f answer steps t g = (more : List (PollStep P)) × (steps ≡ releases s.registration ++ more) × Armed s.deadline v.deadlines.next f answer more t g
+abbrev pub IsTimerReg : {P : Type 0} → Timer → PollView P → TokenFactory
+    → Result (Unit {0}) Error → List (PollStep P) → Timer → TokenFactory → Type 0
+IsTimerReg {P} s v f answer steps t g =
+    (more : List (PollStep P)) × (steps ≡ releases s.registration ++ more)
+    × Armed s.deadline v.deadlines.next f answer more t g
 
 abbrev pub IsTimerUnreg : {P : Type 0} → Timer → Result (Unit {0}) Error → List (PollStep P) → Timer → Type 0
 IsTimerUnreg s answer steps t = (answer ≡ Ok tt) × (steps ≡ releases s.registration) × (t ≡ unarmed s.deadline)
 
 -- armed again under its counter, or refused for memory: then it is unarmed, with the asked deadline
-abbrev pub ArmedAgain : {P : Type 0} → Registration → (deadline : Instant) → Result PostAction TimerError → List (PollStep P) → Timer → Type 0
-ArmedAgain r at (Ok action) steps t = (action ≡ Continue) × (steps ≡ ArmAgain r.counter at r.token ∷ []) × (t ≡ registered_as (armed_for at r) (Some at))
+abbrev pub ArmedAgain : {P : Type 0} → Registration → (deadline : Instant)
+    → Result PostAction TimerError → List (PollStep P) → Timer → Type 0
+ArmedAgain r at (Ok action) steps t =
+    (action ≡ Continue) × (steps ≡ ArmAgain r.counter at r.token ∷ []) × (t ≡ registered_as (armed_for at r) (Some at))
 ArmedAgain r at (Err e) steps t = (steps ≡ []) × (t ≡ unarmed (Some at))
 
 -- armed again for this moment, or removed without a deadline where there is none
-abbrev pub ArmedFor : {P : Type 0} → Registration → (moment : Option Instant) → Result PostAction TimerError → List (PollStep P) → Timer → Type 0
+abbrev pub ArmedFor : {P : Type 0} → Registration → (moment : Option Instant)
+    → Result PostAction TimerError → List (PollStep P) → Timer → Type 0
 ArmedFor r (Some at) answer steps t = ArmedAgain r at answer steps t
 ArmedFor r None answer steps t = (answer ≡ Ok Remove) × (steps ≡ []) × (t ≡ registered_as (spent r) None)
 
 -- what follows from the answer of a call
-abbrev pub Answered : {P : Type 0} → Timer → Registration → TimeoutAction → Result PostAction TimerError → List (PollStep P) → Timer → Type 0
+abbrev pub Answered : {P : Type 0} → Timer → Registration → TimeoutAction
+    → Result PostAction TimerError → List (PollStep P) → Timer → Type 0
 Answered s r Drop answer steps t = (answer ≡ Ok Remove) × (steps ≡ []) × (t ≡ registered_as (spent r) s.deadline)
 Answered s r (ToInstant at) answer steps t = ArmedAgain r at answer steps t
 Answered {P} s r (ToDuration time) answer steps t =
-    (now : Instant) × (after : P) × (more : List (PollStep P)) × (steps ≡ ReadClock now.nanos after ∷ more) × ArmedFor r (moment_after now time) answer more t
+    (now : Instant) × (after : P) × (more : List (PollStep P)) × (steps ≡ ReadClock now.nanos after ∷ more)
+    × ArmedFor r (moment_after now time) answer more t
 
 -- one call, with the armed deadline, and what follows from its answer
-pub record IsCalled {P : Type 0} (s : Timer) (token : Token) (v : PollView P) (calls : List (OneCall Instant (Unit {0}) TimeoutAction))
+pub record IsCalled
+    {P : Type 0} (s : Timer) (token : Token) (v : PollView P) (calls : Calls)
     (answer : Result PostAction TimerError) (steps : List (PollStep P)) (t : Timer) (r : Registration) : Type 0 where
   pub registered : s.registration ≡ Some r
   pub named : r.token ≡ token
@@ -96,13 +117,27 @@ pub record IsCalled {P : Type 0} (s : Timer) (token : Token) (v : PollView P) (c
   pub answered : Answered s r action answer more t
 
 -- no call: the token isn't the timer's, its arming was called for, or its counter has a deadline
-pub record IsIgnored {P : Type 0} (s : Timer) (token : Token) (v : PollView P) (calls : List (OneCall Instant (Unit {0}) TimeoutAction))
+pub record IsIgnored
+    {P : Type 0} (s : Timer) (token : Token) (v : PollView P) (calls : Calls)
     (answer : Result PostAction TimerError) (steps : List (PollStep P)) (t : Timer) : Type 0 where
-  pub why : (r : Registration) → s.registration ≡ Some r → r.token ≡ token → r.spent ≡ false → is_armed r.counter v.deadlines ≡ true
+  pub why : (r : Registration) → s.registration ≡ Some r → r.token ≡ token → r.spent ≡ false
+      → is_armed r.counter v.deadlines ≡ true
   pub called : calls ≡ []
   pub answered : answer ≡ Ok Continue
   pub no_steps : steps ≡ []
   pub same : t ≡ s
 
-abbrev pub IsTimerTurn : {P : Type 0} → Timer → Token → PollView P → List (OneCall Instant (Unit {0}) TimeoutAction) → Result PostAction TimerError → List (PollStep P) → Timer → Type 0
-IsTimerTurn s token v calls answer steps t = ((r : Registration) × IsCalled s token v calls answer steps t r) ⊎ IsIgnored s token v calls answer steps t
+abbrev pub IsTimerTurn : {P : Type 0} → Timer → Token → PollView P → Calls
+    → Result PostAction TimerError → List (PollStep P) → Timer → Type 0
+IsTimerTurn s token v calls answer steps t =
+    ((r : Registration) × IsCalled s token v calls answer steps t r) ⊎ IsIgnored s token v calls answer steps t
+
+abbrev pub IsTimer : {P : Type 0} → Timer → PollView P → Deed (Heard Instant (Unit {0}) TimeoutAction TimerError)
+    → List (PollStep P) → Timer → Type 0
+IsTimer s v (Registered f answer g) steps t = IsTimerReg s v f answer steps t g
+IsTimer s v (Reregistered f answer g) steps t = IsTimerReg s v f answer steps t g
+IsTimer s v (Unregistered answer) steps t = IsTimerUnreg s answer steps t
+IsTimer s v (Turned readiness token turn) steps t = IsTimerTurn s token v turn.calls turn.answer steps t
+
+abbrev pub timer_meaning : {P : Type 0} → Meaning Timer P (Heard Instant (Unit {0}) TimeoutAction TimerError)
+timer_meaning = record { holds = timer_holds; fits = λ s. Unit {0}; does = IsTimer }

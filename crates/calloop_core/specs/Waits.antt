@@ -9,9 +9,12 @@ use Rattle.calloop_wake.specs.declared.error.Error.{Error}
 use Rattle.calloop_wake.specs.declared.error.Error.TheVariants.{IoError}
 use Rattle.calloop_wake.specs.declared.wheel.Entry.{Entry}
 use Rattle.calloop_wake.specs.Boards.{IsRising}
+use Rattle.calloop_wake.specs.Watches.{noted}
+use Rattle.calloop_wake.specs.declared.wake.watch.Watch.{Watch}
+use Rattle.calloop_wake.specs.declared.wake.notes.Note.TheVariants.{Looked}
 use Rattle.calloop_core.specs.declared.sys.Readiness.{Readiness}
 use Rattle.calloop_core.specs.Pollers.{Outside}
-use Rattle.calloop_core.specs.Polls.{PollView, polling, gathered, is_filled}
+use Rattle.calloop_core.specs.Polls.{PollView, polling, watching, gathered, is_filled}
 
 -- what is left of the caller's timeout, counted from the start; differences stop at zero
 abbrev pub time_left : (timeout : Option ℕ) → (start now : ℕ) → Option ℕ
@@ -52,24 +55,39 @@ pub record Interruption (P : Type 0) : Type 0 where
 
 -- with this wait asked first, and with these interruptions: the moment of the gathering or a fault, the events, and the
 -- poller then. The clock is read after each interruption and after the last answer. An interruption looks at the board and
--- asks anew, and counts as an empty answer where nothing is left to wait for. A fault is one more in the poller's count.
+-- asks anew, and counts as an empty answer where nothing is left to wait for.
 abbrev pub Waits : {P : Type 0} → Outside P → PollView P → (timeout : Option ℕ) → (start : ℕ) → (asked : Option ℕ) → P → List (Interruption P) → Result ℕ Cause → List (ℕ × Readiness) → P → Type 0
 Waits {P} O v timeout start asked p [] (Ok later) given q = (w : P) × O.waits p asked (Ok tt) given w × O.reads w later q
-Waits O v timeout start asked p [] (Err cause) given q = O.waits p asked (Err cause) given q × (¬ IsInterruption cause) × (O.faults q ≡ O.faults p + 1)
+Waits O v timeout start asked p [] (Err cause) given q = O.waits p asked (Err cause) given q × (¬ IsInterruption cause)
 Waits O v timeout start asked p (i ∷ is) answer given q =
     O.waits p asked (Err i.cause) i.given i.waited × IsInterruption i.cause × O.reads i.waited i.now i.read
     × MatchBool (is_zero (asked_for v i.posted timeout start i.now))
     ((is ≡ []) × (answer ≡ Ok i.now) × (given ≡ []) × (q ≡ i.read))
     (Waits O v timeout start (asked_for v i.posted timeout start i.now) i.read is answer given q)
 
--- a whole wait: the clock is read once at the start, and the board is looked at
-abbrev pub Waited : {P : Type 0} → Outside P → PollView P → (timeout : Option ℕ) → Result ℕ Cause → List (ℕ × Readiness) → P → Type 0
-Waited {P} O v timeout answer given q =
+-- the watch after a look for each interruption
+abbrev pub looked : {P : Type 0} → List (Interruption P) → Watch → Watch
+looked [] w = w
+looked (i ∷ is) w = looked is (noted (Looked i.posted) w)
+
+-- over a whole wait a fault is one more in the poller's count, and nothing else is
+abbrev pub faults_of : Result ℕ Cause → ℕ
+faults_of (Ok now) = 0
+faults_of (Err cause) = 1
+
+-- a whole wait: the clock is read once at the start, and the board is looked at; the watch notes this look and one for each
+-- interruption, and no more
+abbrev pub Waited : {P : Type 0} → Outside P → PollView P → (timeout : Option ℕ) → Result ℕ Cause → List (ℕ × Readiness) → P → Watch → Type 0
+Waited {P} O v timeout answer given q w =
     (start : ℕ) × (p : P) × O.reads v.poller start p × (posted : Bool) × (interruptions : List (Interruption P))
     × Waits O v timeout start (asked_for v posted timeout start start) p interruptions answer given q
+    × (w ≡ looked interruptions (noted (Looked posted) v.watch)) × (O.faults q ≡ O.faults v.poller + faults_of answer)
 
 -- a wait and, where it had no fault, the gathering, of the keys that the board then gives, ascending
 abbrev pub Polled : {P : Type 0} → Outside P → (timeout : Option ℕ) → Result (Unit {0}) Error → PollView P → PollView P → Type 0
 Polled {P} O timeout (Ok u) v v' =
-    (now : ℕ) × (given : List (ℕ × Readiness)) × (p : P) × Waited O v timeout (Ok now) given p × (posted : List ℕ) × IsRising posted × (v' ≡ gathered posted given now (polling p v))
-Polled {P} O timeout (Err e) v v' = (given : List (ℕ × Readiness)) × (p : P) × (cause : Cause) × (e ≡ IoError cause) × Waited O v timeout (Err cause) given p × (v' ≡ polling p v)
+    (now : ℕ) × (given : List (ℕ × Readiness)) × (p : P) × (w : Watch) × Waited O v timeout (Ok now) given p w
+    × (posted : List ℕ) × IsRising posted × (v' ≡ gathered posted given now (watching w (polling p v)))
+Polled {P} O timeout (Err e) v v' =
+    (given : List (ℕ × Readiness)) × (p : P) × (w : Watch) × (cause : Cause) × (e ≡ IoError cause) × Waited O v timeout (Err cause) given p w
+    × (v' ≡ watching w (polling p v))

@@ -3,23 +3,51 @@ use crate::sys::poll::Poll;
 use crate::sys::{Poller, Readiness};
 use calloop_wake::error::{Error, Result as LoopResult};
 use calloop_wake::token::{Token, TokenFactory};
+use std::marker::PhantomData;
 use std::sync::Wait;
 
-/// Called with the events of a source, as calloop's closures are: a value of a named type, whose clauses say
-/// what a call may do. `X` is the data that a dispatch lends, and `T` is what the source is told.
-pub trait Callback<E, M, T, X> {
-    /// The callback, the event, the metadata and the data before a call, its answer, and all three after it.
-    ghost may: { Self → E → M → X → T → Self → M → X → Type 0 };
+/// What a callback writes its requests to the loop into. What is asked for stays asked for: by `reaches` alone does a
+/// call change them.
+pub trait Asking {
+    /// What the requests can become by further ones.
+    ghost reaches: { Self → Self → Type 0 };
 
-    fn call(&mut self, event: E, metadata: &mut M, data: &mut X) -> T
-        ensures { may self.old event metadata.old «data».old result self.new metadata.new «data».new };
+    ghost stays: { (q : Self) → reaches q q };
+
+    ghost goes_on: { (q r s : Self) → reaches q r → reaches r s → reaches q s };
 }
 
-/// What becomes of a source after its turn. Calloop has `Reregister` and `Disable` besides.
+/// No requests.
+impl Asking for () {
+    ghost reaches = { λ q r. Unit {0} };
+
+    ghost stays = { λ q. tt };
+
+    ghost goes_on = { λ q r s h k. tt };
+}
+
+/// Called with the events of a source, as calloop's closures are: a value of a named type, whose clauses say what a call
+/// may do. `E` is the event, `M` the metadata, `T` what the source is told, `X` the data that a dispatch lends, and `Q`
+/// takes the requests.
+pub trait Callback<E, M, T, X, Q: Asking> {
+    /// The callback, the event, the metadata, the data and the requests before a call, its answer, and all but the event
+    /// after it.
+    ghost may: { Self → E → M → X → Q → T → Self → M → X → Q → Type 0 };
+
+    fn call(&mut self, event: E, metadata: &mut M, data: &mut X, requests: &mut Q) -> T
+        ensures may { may self.old event metadata.old «data».old requests.old result self.new metadata.new «data».new requests.new }
+        ensures asks { Q.reaches requests.old requests.new };
+}
+
+/// What becomes of a source after its turn.
 #[derive(Clone, Copy, Debug, PartialEq, Eq)]
 pub enum PostAction {
     /// It stays as it is.
     Continue,
+    /// It is registered anew, with a factory that has given no token.
+    Reregister,
+    /// Its registration is taken back, and it stays in the loop.
+    Disable,
     /// It leaves the loop.
     Remove,
 }
@@ -27,26 +55,26 @@ pub enum PostAction {
 /// The error of a source, as an error of the loop.
 pub trait IntoError: Drop {
     ghost use Rattle.calloop_wake.specs.declared.error.Error.{Error};
+    ghost use Rattle.calloop_core.specs.Calls.{IsOfSource};
 
     /// Which error a cause becomes.
     ghost becomes: { Self → Error → Type 0 };
+
+    /// `OtherError` or `OutOfMemory`: each other error is the loop's own.
+    ghost of_source: { (cause : Self) (e : Error) → becomes cause e → IsOfSource e };
 
     fn into_error(self) -> Error
         ensures { becomes self result };
 }
 
-/// A source of events. Its meaning is said by relations between what it was before a call, what the call read of `Poll`,
-/// its answer, the steps that it made there, and what it is after it.
+/// A source of events. Its meaning relates what it is before a call, what the call read of `Poll`, what was done, the
+/// steps that it made there, and what it is after it.
 pub trait EventSource<P: Poller, C, R: Wait + Drop> {
-    ghost use Rattle.std.specs.Prelude.{ℕ, List, Result};
-    ghost use Rattle.calloop_wake.specs.declared.error.Error.{Error};
-    ghost use Rattle.calloop_wake.specs.declared.token.Token.{Token};
-    ghost use Rattle.calloop_wake.specs.declared.token.TokenFactory.{TokenFactory};
-    ghost use Rattle.calloop_core.specs.declared.sys.Readiness.{Readiness};
-    ghost use Rattle.calloop_core.specs.declared.sources.PostAction.{PostAction};
-    ghost use Rattle.calloop_core.specs.Polls.{PollView, PollStep, poll_view, AllStepped};
+    ghost use Rattle.std.specs.Prelude.{List};
+    ghost use Rattle.calloop_core.specs.Polls.{poll_view};
     ghost use Rattle.calloop_core.specs.Calls.{Call, Went};
-    ghost use Rattle.calloop_core.specs.Holdings.{Hold, Keeps};
+    ghost use Rattle.calloop_core.specs.Deeds.{Registered, Reregistered, Unregistered, Turned, Heard, heard};
+    ghost use Rattle.calloop_core.specs.Meanings.{Meaning, Does, IsKeeping};
 
     /// What its callback is called with.
     type Event;
@@ -60,50 +88,41 @@ pub trait EventSource<P: Poller, C, R: Wait + Drop> {
     /// Why a turn of it can fail.
     type Error: IntoError;
 
-    /// The counters of timers that it holds.
-    ghost holds: { Self → ℕ → Hold };
-
-    ghost reg: { Self → PollView P → TokenFactory → Result (Unit {0}) Error → List (PollStep P) → Self → TokenFactory → Type 0 };
-
-    ghost unreg: { Self → PollView P → Result (Unit {0}) Error → List (PollStep P) → Self → Type 0 };
-
-    ghost rereg: { Self → PollView P → TokenFactory → Result (Unit {0}) Error → List (PollStep P) → Self → TokenFactory → Type 0 };
-
-    ghost turn: { Self → Readiness → Token → PollView P → List (Call Self.Event Self.Metadata Self.Ret) → Result PostAction Self.Error → List (PollStep P) → Self → Type 0 };
+    ghost means: { Meaning Self P (Heard Self.Event Self.Metadata Self.Ret Self.Error) };
 
     /// Its turn, for an event of this token. It calls back for each event that it finds.
-    fn process_events<F, X>(
+    fn process_events<F, X, Q>(
         &mut self,
         readiness: Readiness,
         token: Token,
         poll: &mut Poll<P, C, R>,
         callback: &mut F,
         data: &mut X,
+        requests: &mut Q,
     ) -> Result<PostAction, Self::Error>
     where
-        F: Callback<Self::Event, Self::Metadata, Self::Ret, X>,
-        ensures { (calls : List (Call Self.Event Self.Metadata Self.Ret)) × (steps : List (PollStep P)) × turn self.old readiness token (poll_view poll.old) calls result steps self.new × AllStepped P.outside (poll_view poll.old) steps (poll_view poll.new) × Went F.may callback.old «data».old calls callback.new «data».new };
+        Q: Asking,
+        F: Callback<Self::Event, Self::Metadata, Self::Ret, X, Q>,
+        ensures { (calls : List (Call Self.Event Self.Metadata Self.Ret))
+            × Does P.outside means self.old (poll_view poll.old) (Turned readiness token (heard calls result)) self.new (poll_view poll.new)
+            × Went F.may Q.reaches callback.old «data».old requests.old calls callback.new «data».new requests.new };
 
     /// Registers it with tokens of the factory.
     fn register(&mut self, poll: &mut Poll<P, C, R>, factory: &mut TokenFactory) -> LoopResult<()>
-        ensures { (steps : List (PollStep P)) × reg self.old (poll_view poll.old) factory.old result steps self.new factory.new × AllStepped P.outside (poll_view poll.old) steps (poll_view poll.new) };
+        ensures { Does P.outside means self.old (poll_view poll.old)
+            (Registered factory.old result factory.new) self.new (poll_view poll.new) };
 
     /// Registers it anew with tokens of the factory, as after a change of what it waits for.
     fn reregister(&mut self, poll: &mut Poll<P, C, R>, factory: &mut TokenFactory) -> LoopResult<()>
-        ensures { (steps : List (PollStep P)) × rereg self.old (poll_view poll.old) factory.old result steps self.new factory.new × AllStepped P.outside (poll_view poll.old) steps (poll_view poll.new) };
+        ensures { Does P.outside means self.old (poll_view poll.old)
+            (Reregistered factory.old result factory.new) self.new (poll_view poll.new) };
 
     /// Takes its registration back.
     fn unregister(&mut self, poll: &mut Poll<P, C, R>) -> LoopResult<()>
-        ensures { (steps : List (PollStep P)) × unreg self.old (poll_view poll.old) result steps self.new × AllStepped P.outside (poll_view poll.old) steps (poll_view poll.new) };
+        ensures { Does P.outside means self.old (poll_view poll.old) (Unregistered result) self.new (poll_view poll.new) };
 
-    /// It leaves the counters of others alone, and calls once for each arming of its own.
-    ghost reg_keeps: { (s t : Self) (v : PollView P) (f g : TokenFactory) (a : Result (Unit {0}) Error) (l : List (PollStep P)) → reg s v f a l t g → Keeps (holds s) v.deadlines.next l (holds t) };
-
-    ghost rereg_keeps: { (s t : Self) (v : PollView P) (f g : TokenFactory) (a : Result (Unit {0}) Error) (l : List (PollStep P)) → rereg s v f a l t g → Keeps (holds s) v.deadlines.next l (holds t) };
-
-    ghost unreg_keeps: { (s t : Self) (v : PollView P) (a : Result (Unit {0}) Error) (l : List (PollStep P)) → unreg s v a l t → Keeps (holds s) v.deadlines.next l (holds t) };
-
-    ghost turn_keeps: { (s t : Self) (r : Readiness) (k : Token) (v : PollView P) (cs : List (Call Self.Event Self.Metadata Self.Ret)) (a : Result PostAction Self.Error) (l : List (PollStep P)) → turn s r k v cs a l t → Keeps (holds s) v.deadlines.next l (holds t) };
+    /// It leaves the counters of others alone, and calls at most once for each arming of its own.
+    ghost keeps: { IsKeeping means };
 }
 
 /// A source with its callback.
@@ -113,25 +132,28 @@ pub struct Dispatcher<S, F> {
     pub callback: F,
 }
 
-/// What a loop calls: a source with its callback, or an enum of such. `X` is the data that a dispatch lends.
-pub trait Dispatch<P: Poller, C, R: Wait + Drop, X> {
-    ghost use Rattle.std.specs.Prelude.{List};
-    ghost use Rattle.calloop_core.specs.Polls.{PollStep, poll_view, AllStepped};
-    ghost use Rattle.calloop_core.specs.Meanings.{Meaning, IsKeeping};
+/// What a loop calls: a source with its callback, or a choice of such. `X` is the data that a dispatch lends, and `Q` takes
+/// the requests of callbacks.
+pub trait Dispatch<P: Poller, C, R: Wait + Drop, X, Q: Asking> {
+    ghost use Rattle.calloop_core.specs.Polls.{poll_view};
+    ghost use Rattle.calloop_core.specs.Deeds.{Registered, Reregistered, Unregistered, Turned, Lent, lent};
+    ghost use Rattle.calloop_core.specs.Meanings.{Meaning, Does, IsKeeping, IsAsking, FailsAsSource};
 
-    ghost means: { Meaning Self P X };
+    ghost means: { Meaning Self P (Lent X Q) };
 
     /// Registers the source with tokens of the factory.
     fn register(&mut self, poll: &mut Poll<P, C, R>, factory: &mut TokenFactory) -> LoopResult<()>
-        ensures { (steps : List (PollStep P)) × means.reg self.old (poll_view poll.old) factory.old result steps self.new factory.new × AllStepped P.outside (poll_view poll.old) steps (poll_view poll.new) };
+        ensures { Does P.outside means self.old (poll_view poll.old)
+            (Registered factory.old result factory.new) self.new (poll_view poll.new) };
 
     /// Registers the source anew with tokens of the factory.
     fn reregister(&mut self, poll: &mut Poll<P, C, R>, factory: &mut TokenFactory) -> LoopResult<()>
-        ensures { (steps : List (PollStep P)) × means.rereg self.old (poll_view poll.old) factory.old result steps self.new factory.new × AllStepped P.outside (poll_view poll.old) steps (poll_view poll.new) };
+        ensures { Does P.outside means self.old (poll_view poll.old)
+            (Reregistered factory.old result factory.new) self.new (poll_view poll.new) };
 
     /// Takes its registration back.
     fn unregister(&mut self, poll: &mut Poll<P, C, R>) -> LoopResult<()>
-        ensures { (steps : List (PollStep P)) × means.unreg self.old (poll_view poll.old) result steps self.new × AllStepped P.outside (poll_view poll.old) steps (poll_view poll.new) };
+        ensures { Does P.outside means self.old (poll_view poll.old) (Unregistered result) self.new (poll_view poll.new) };
 
     /// A turn of the source, for an event of this token.
     fn process_events(
@@ -140,27 +162,31 @@ pub trait Dispatch<P: Poller, C, R: Wait + Drop, X> {
         token: Token,
         poll: &mut Poll<P, C, R>,
         data: &mut X,
+        requests: &mut Q,
     ) -> LoopResult<PostAction>
-        ensures { (steps : List (PollStep P)) × means.turn self.old readiness token (poll_view poll.old) «data».old result steps self.new «data».new × AllStepped P.outside (poll_view poll.old) steps (poll_view poll.new) };
+        ensures { Does P.outside means self.old (poll_view poll.old)
+            (Turned readiness token (lent «data».old requests.old result «data».new requests.new))
+            self.new (poll_view poll.new) };
 
+    /// It leaves the counters of others alone, and calls at most once for each arming of its own.
     ghost keeps: { IsKeeping means };
+
+    /// What a turn asks for is reached from what was asked for before it.
+    ghost asks: { IsAsking Q.reaches means };
+
+    /// A turn fails with `OtherError` or `OutOfMemory` alone.
+    ghost fails: { FailsAsSource means };
 }
 
-impl<P: Poller, C, R: Wait + Drop, X, S, F> Dispatch<P, C, R, X> for Dispatcher<S, F>
+impl<P: Poller, C, R: Wait + Drop, X, Q: Asking, S, F> Dispatch<P, C, R, X, Q> for Dispatcher<S, F>
 where
     S: EventSource<P, C, R>,
-    F: Callback<S::Event, S::Metadata, S::Ret, X>,
+    F: Callback<S::Event, S::Metadata, S::Ret, X, Q>,
 {
-    ghost use Rattle.std.specs.Prelude.{◌≡◌};
-    ghost use Rattle.calloop_core.specs.Meanings.{IsDispatched, IsKeeping};
+    ghost use Rattle.calloop_core.specs.Meanings.{with_callback};
+    ghost use Rattle.calloop_core.specs.Lawful.{keeping_with_callback, asking_with_callback, failing_with_callback};
 
-    ghost means = { record {
-      holds = λ s. S.holds s.source;
-      reg = λ s v f a l t g. S.reg s.source v f a l t.source g × (t.callback ≡ s.callback);
-      rereg = λ s v f a l t g. S.rereg s.source v f a l t.source g × (t.callback ≡ s.callback);
-      unreg = λ s v a l t. S.unreg s.source v a l t.source × (t.callback ≡ s.callback);
-      turn = IsDispatched S.turn F.may S.Error.becomes;
-    } };
+    ghost means = { with_callback S.means F.may Q.reaches S.Error.becomes };
 
     fn register(&mut self, poll: &mut Poll<P, C, R>, factory: &mut TokenFactory) -> LoopResult<()> {
         self.source.register(poll, factory)
@@ -184,20 +210,183 @@ where
         token: Token,
         poll: &mut Poll<P, C, R>,
         data: &mut X,
+        requests: &mut Q,
     ) -> LoopResult<PostAction> {
         match self
             .source
-            .process_events(readiness, token, poll, &mut self.callback, data)
+            .process_events(readiness, token, poll, &mut self.callback, data, requests)
         {
             Ok(action) => Ok(action),
             Err(cause) => Err(cause.into_error()),
         }
     }
 
-    ghost keeps = { record {
-      reg = λ s t v f g a l h. S.reg_keeps s.source t.source v f g a l h.0;
-      rereg = λ s t v f g a l h. S.rereg_keeps s.source t.source v f g a l h.0;
-      unreg = λ s t v a l h. S.unreg_keeps s.source t.source v a l h.0;
-      turn = λ s t r k v x y a l h. S.turn_keeps s.source t.source r k v h.calls h.inner l h.turned;
-    } };
+    ghost keeps = { keeping_with_callback S.means F.may Q.reaches S.Error.becomes S.keeps };
+
+    ghost asks = { asking_with_callback S.means F.may Q.reaches S.Error.becomes Q.stays Q.goes_on };
+
+    ghost fails = { failing_with_callback S.means F.may Q.reaches S.Error.becomes S.Error.of_source };
+}
+
+/// One of two kinds of source: a source with its callback, or another such choice. So a loop over three kinds is one over
+/// `OneOf<A, OneOf<B, C>>`.
+#[derive(Drop)]
+pub enum OneOf<A, B> {
+    First(A),
+    Other(B),
+}
+
+impl<P: Poller, C, R: Wait + Drop, X, Q: Asking, A, B> Dispatch<P, C, R, X, Q> for OneOf<A, B>
+where
+    A: Dispatch<P, C, R, X, Q>,
+    B: Dispatch<P, C, R, X, Q>,
+{
+    ghost use Rattle.calloop_core.specs.Meanings.{one_of};
+    ghost use Rattle.calloop_core.specs.Lawful.{keeping_one_of, asking_one_of, failing_one_of};
+
+    ghost means = { one_of A.means B.means };
+
+    fn register(&mut self, poll: &mut Poll<P, C, R>, factory: &mut TokenFactory) -> LoopResult<()> {
+        match self {
+            OneOf::First(held) => held.register(poll, factory),
+            OneOf::Other(held) => held.register(poll, factory),
+        }
+    }
+
+    fn reregister(
+        &mut self,
+        poll: &mut Poll<P, C, R>,
+        factory: &mut TokenFactory,
+    ) -> LoopResult<()> {
+        match self {
+            OneOf::First(held) => held.reregister(poll, factory),
+            OneOf::Other(held) => held.reregister(poll, factory),
+        }
+    }
+
+    fn unregister(&mut self, poll: &mut Poll<P, C, R>) -> LoopResult<()> {
+        match self {
+            OneOf::First(held) => held.unregister(poll),
+            OneOf::Other(held) => held.unregister(poll),
+        }
+    }
+
+    fn process_events(
+        &mut self,
+        readiness: Readiness,
+        token: Token,
+        poll: &mut Poll<P, C, R>,
+        data: &mut X,
+        requests: &mut Q,
+    ) -> LoopResult<PostAction> {
+        match self {
+            OneOf::First(held) => held.process_events(readiness, token, poll, data, requests),
+            OneOf::Other(held) => held.process_events(readiness, token, poll, data, requests),
+        }
+    }
+
+    ghost keeps = { keeping_one_of A.means B.means A.keeps B.keeps };
+
+    ghost asks = { asking_one_of Q.reaches A.means B.means A.asks B.asks };
+
+    ghost fails = { failing_one_of A.means B.means A.fails B.fails };
+}
+
+/// The first place of a choice. Like `There`, it only says which place is meant, and there is no value of it to hand over.
+pub struct Here;
+
+/// A place after the first one: the place `N` of what comes after it.
+pub struct There<N> {
+    of: PhantomData<N>,
+}
+
+/// It has a place for a source `S` with a callback `F`, and `N` says which: it is found by the two types, where they have
+/// one place. What is held means just what the source with its callback means.
+pub trait Hold<S, F, P: Poller, C, R: Wait + Drop, X, Q, N>: Dispatch<P, C, R, X, Q>
+where
+    Q: Asking,
+    S: EventSource<P, C, R>,
+    F: Callback<S::Event, S::Metadata, S::Ret, X, Q>,
+{
+    ghost use Rattle.std.specs.Prelude.{◌≡◌};
+    ghost use Rattle.calloop_core.specs.declared.sources.Dispatcher.{Dispatcher};
+    ghost use Rattle.calloop_core.specs.Meanings.{IsHeld};
+
+    ghost held: { Dispatcher S F → Self };
+
+    fn hold(dispatcher: Dispatcher<S, F>) -> Self
+        ensures { result ≡ held dispatcher };
+
+    ghost held_means: { IsHeld held ⟦<Dispatcher<S, F> as Dispatch<P, C, R, X, Q>>⟧.means Self.means };
+}
+
+impl<S, F, P: Poller, C, R: Wait + Drop, X, Q: Asking> Hold<S, F, P, C, R, X, Q, Here>
+    for Dispatcher<S, F>
+where
+    S: EventSource<P, C, R>,
+    F: Callback<S::Event, S::Metadata, S::Ret, X, Q>,
+{
+    ghost use Rattle.std.specs.Prelude.{◌≡◌};
+    ghost use Rattle.calloop_core.specs.Lawful.{held_itself};
+
+    ghost held = { λ d. d };
+
+    fn hold(dispatcher: Dispatcher<S, F>) -> Dispatcher<S, F>
+        ensures { result ≡ dispatcher }
+    {
+        dispatcher
+    }
+
+    ghost held_means = { held_itself ⟦<Dispatcher<S, F> as Dispatch<P, C, R, X, Q>>⟧.means };
+}
+
+impl<S, F, P: Poller, C, R: Wait + Drop, X, Q: Asking, B> Hold<S, F, P, C, R, X, Q, Here>
+    for OneOf<Dispatcher<S, F>, B>
+where
+    S: EventSource<P, C, R>,
+    F: Callback<S::Event, S::Metadata, S::Ret, X, Q>,
+    B: Dispatch<P, C, R, X, Q>,
+{
+    ghost use Rattle.std.specs.Prelude.{◌≡◌};
+    ghost use Rattle.calloop_core.specs.Lawful.{held_first};
+    ghost use Rattle.calloop_core.specs.declared.sources.OneOf.TheVariants.{First};
+
+    ghost held = { λ d. First d };
+
+    fn hold(dispatcher: Dispatcher<S, F>) -> OneOf<Dispatcher<S, F>, B>
+        ensures { result ≡ First dispatcher }
+    {
+        OneOf::First(dispatcher)
+    }
+
+    ghost held_means = { held_first ⟦<Dispatcher<S, F> as Dispatch<P, C, R, X, Q>>⟧.means B.means };
+}
+
+impl<S, F, P: Poller, C, R: Wait + Drop, X, Q: Asking, A, B, N> Hold<S, F, P, C, R, X, Q, There<N>>
+    for OneOf<A, B>
+where
+    S: EventSource<P, C, R>,
+    F: Callback<S::Event, S::Metadata, S::Ret, X, Q>,
+    A: Dispatch<P, C, R, X, Q>,
+    B: Hold<S, F, P, C, R, X, Q, N>,
+{
+    ghost use Rattle.std.specs.Prelude.{◌≡◌};
+    ghost use Rattle.calloop_core.specs.Meanings.{one_of};
+    ghost use Rattle.calloop_core.specs.Lawful.{held_other, held_through};
+    ghost use Rattle.calloop_core.specs.declared.sources.OneOf.TheVariants.{Other};
+
+    ghost held = { λ d. Other (B.held d) };
+
+    fn hold(dispatcher: Dispatcher<S, F>) -> OneOf<A, B>
+        ensures { result ≡ Other (B.held dispatcher) }
+    {
+        OneOf::Other(B::hold(dispatcher))
+    }
+
+    ghost held_means = { held_through B.held (λ b. Other b)
+        ⟦<Dispatcher<S, F> as Dispatch<P, C, R, X, Q>>⟧.means
+        ⟦<B as Dispatch<P, C, R, X, Q>>⟧.means
+        (one_of A.means ⟦<B as Dispatch<P, C, R, X, Q>>⟧.means)
+        B.held_means
+        (held_other A.means ⟦<B as Dispatch<P, C, R, X, Q>>⟧.means) };
 }

@@ -44,7 +44,13 @@ impl Readiness {
 
 /// Tells the moment. Any answer is lawful, also one that is smaller than an earlier one.
 pub trait Clock: Clone + Drop {
-    fn now(&self) -> Instant;
+    ghost use Rattle.std.specs.Prelude.{ℕ};
+
+    /// Which moments it may show, in nanoseconds.
+    ghost shows: { Self → (now : ℕ) → Type 0 };
+
+    fn now(&self) -> Instant
+        ensures { shows self.now result.nanos };
 }
 
 /// Waits for events, and tells the moment. The loop is proved for every answer that a poller may give.

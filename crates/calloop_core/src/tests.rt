@@ -1,6 +1,7 @@
-ghost use Rattle.std.specs.Prelude.{◌≡◌, IfOk};
+ghost use Rattle.std.specs.Prelude.{◌≡◌, ◌≢◌, ◌-◌, ◌^◌, IfOk};
+ghost use Rattle.calloop_wake.specs.Tokens.{key_of};
 
-use crate::sources::{Callback, Dispatch, Dispatcher, EventSource, PostAction};
+use crate::sources::{Asking, Callback, Dispatch, Dispatcher, EventSource, PostAction};
 use crate::sys::hub::{Hub, SharedHub, share};
 use crate::sys::notifier::Notifier;
 use crate::sys::poll::Poll;
@@ -130,7 +131,9 @@ fn new_poll<R: Wait + Clone + Drop>(rt: &R, alloc: Global) -> Result<Scripted<R>
 }
 
 // Tokens of slots 0 and up, in ascending order of their keys: 0, 4,294,967,296 and so on.
-fn token(slot: u32) -> Result<Token, Error> {
+fn token(slot: u32) -> Result<Token, Error>
+    ensures { IfOk result (λ t. key_of t ≢ 2 ^ 64 - 1) }
+{
     TokenFactory::new(RegistrationToken::new(slot, 0)).token()
 }
 
@@ -146,8 +149,8 @@ struct Bell<R: Wait + Drop> {
 impl<R: Wait + Clone + Drop> Bell<R> {
     fn new<P: Poller, C>(rt: &R, poll: &Poll<P, C, R>) -> Result<Bell<R>, AllocError> {
         let its_rt = rt.clone()?;
-        let (core, name) = PingCore::new();
-        let twin = core.receiver();
+        let (core, name, right) = PingCore::new();
+        let twin = core.receiver(right);
         Ok(Bell {
             rt: its_rt,
             hub: share(rt, poll.hub()),
@@ -182,11 +185,9 @@ fn settle<Q: Wait>(rt: &Q, hub: &Hub, debt: Option<Debt>) {
 }
 
 // Opens the token's place, and gives the cell its key.
-fn register<Q: Wait, R: Wait + Drop>(
-    rt: &Q,
-    bell: &mut Bell<R>,
-    token: Token,
-) -> Result<(), Error> {
+fn register<Q: Wait, R: Wait + Drop>(rt: &Q, bell: &mut Bell<R>, token: Token) -> Result<(), Error>
+    requires { key_of token ≢ 2 ^ 64 - 1 }
+{
     let pass = bell.hub.open_place(rt, token)?;
     let (gate, mut core) = bell.lock.lock(rt);
     let (debt, leave) = core.set_key(pass, &mut bell.twin);
@@ -491,10 +492,10 @@ fn a_fault_changes_nothing(rt: HostRuntime) -> Result<(), Fail> {
 #[derive(Drop)]
 struct Adder;
 
-impl Callback<u8, u8, u8, u8> for Adder {
-    ghost may = { λ _ _ _ _ _ _ _ _. Unit {0} };
+impl<Q: Asking> Callback<u8, u8, u8, u8, Q> for Adder {
+    ghost may = { λ _ _ _ _ _ _ _ _ _ _. Unit {0} };
 
-    fn call(&mut self, event: u8, metadata: &mut u8, data: &mut u8) -> u8 {
+    fn call(&mut self, event: u8, metadata: &mut u8, data: &mut u8, _requests: &mut Q) -> u8 {
         *data = data.saturating_add(event);
         *metadata = metadata.saturating_add(1);
         *metadata
@@ -508,7 +509,7 @@ fn a_callback(rt: HostRuntime) {
         callback: Adder,
     };
     let mut data = 10;
-    let count = held.callback.call(5, &mut held.source, &mut data);
+    let count = held.callback.call(5, &mut held.source, &mut data, &mut ());
     assert_eq!(rt; (count, held.source, data), (5, 5, 15));
 }
 
@@ -649,14 +650,15 @@ struct Noting {
     action: TimeoutAction,
 }
 
-impl Callback<Instant, (), TimeoutAction, Vec<Instant>> for Noting {
-    ghost may = { λ _ _ _ _ _ _ _ _. Unit {0} };
+impl<Q: Asking> Callback<Instant, (), TimeoutAction, Vec<Instant>, Q> for Noting {
+    ghost may = { λ _ _ _ _ _ _ _ _ _ _. Unit {0} };
 
     fn call(
         &mut self,
         event: Instant,
         _metadata: &mut (),
         data: &mut Vec<Instant>,
+        _requests: &mut Q,
     ) -> TimeoutAction {
         let _ = data.push(event);
         self.action
@@ -675,7 +677,7 @@ fn alarm(source: Timer, action: TimeoutAction) -> Alarm {
 // Registers it in the slot 0.
 fn arm<R: Wait + Drop>(poll: &mut Scripted<R>, alarm: &mut Alarm) -> Result<(), Error> {
     let mut factory = TokenFactory::new(RegistrationToken::new(0, 0));
-    Dispatch::<ScriptPoller, ScriptClock, R, Vec<Instant>>::register(alarm, poll, &mut factory)
+    Dispatch::<ScriptPoller, ScriptClock, R, Vec<Instant>, ()>::register(alarm, poll, &mut factory)
 }
 
 // Gives the next event to the alarm.
@@ -685,9 +687,23 @@ fn serve<R: Wait + Drop>(
     moments: &mut Vec<Instant>,
 ) -> Option<PostAction> {
     let event = poll.next_event()?;
-    let answer = alarm.process_events(event.readiness, event.token, poll, moments);
+    let answer = alarm.process_events(event.readiness, event.token, poll, moments, &mut ());
     poll.end_event();
     answer.ok()
+}
+
+#[test]
+fn deadlines_by_a_clock(rt: HostRuntime) -> Result<(), Fail> {
+    let mut poller = ScriptPoller::new(rt.alloc())?;
+    poller.set_clock(Instant { nanos: 7 });
+    let clock = poller.clock()?;
+    let mut timer = Timer::immediate(&clock);
+    assert_eq!(rt; timer.current_deadline(), Some(Instant { nanos: 7 }));
+    timer.set_duration(&clock, Duration::from_nanos(5));
+    assert_eq!(rt; timer.current_deadline(), Some(Instant { nanos: 12 }));
+    let other = Timer::from_duration(&clock, Duration::from_nanos(3));
+    assert_eq!(rt; other.current_deadline(), Some(Instant { nanos: 10 }));
+    Ok(())
 }
 
 #[test]

@@ -8,7 +8,7 @@ ghost use Rattle.calloop_core.specs.Calls.{Call, Went};
 ghost use Rattle.calloop_core.specs.declared.timer.TimeoutAction.{TimeoutAction};
 ghost use Rattle.calloop_core.specs.Timers.{unarmed, releases, Armed, ArmedAgain, Answered, timer_holds, IsTimerReg, IsTimerUnreg, IsTimerTurn};
 
-use crate::sources::{Callback, EventSource, IntoError, PostAction};
+use crate::sources::{Asking, Callback, EventSource, IntoError, PostAction};
 use crate::sys::poll::Poll;
 use crate::sys::{Clock, Poller, Readiness};
 use calloop_wake::error::{Error, Result as LoopResult};
@@ -39,8 +39,11 @@ pub enum TimerError {
 impl IntoError for TimerError {
     ghost use Rattle.std.specs.Prelude.{◌≡◌};
     ghost use Rattle.calloop_wake.specs.declared.error.Error.TheVariants.{OutOfMemory};
+    ghost use Rattle.calloop_core.specs.Lawful.{memory_of_source};
 
     ghost becomes = { λ _ e. e ≡ OutOfMemory };
+
+    ghost of_source = { λ _ e is. memory_of_source e is };
 
     /// `OutOfMemory`.
     fn into_error(self) -> Error {
@@ -68,14 +71,14 @@ pub struct Timer {
 impl Timer {
     /// Due at once, by this clock.
     pub fn immediate<C: Clock>(clock: &C) -> Timer
-        ensures { (now : Instant) × (result ≡ unarmed (Some now)) }
+        ensures { (now : Instant) × C.shows clock.now now.nanos × (result ≡ unarmed (Some now)) }
     {
         Timer::from_deadline(clock.now())
     }
 
     /// Due so much later than this clock shows. Past 2^64 - 1 nanoseconds it has no deadline.
     pub fn from_duration<C: Clock>(clock: &C, duration: Duration) -> Timer
-        ensures { (now : Instant) × (result ≡ unarmed (moment_after now duration)) }
+        ensures { (now : Instant) × C.shows clock.now now.nanos × (result ≡ unarmed (moment_after now duration)) }
     {
         Timer {
             registration: None,
@@ -103,7 +106,8 @@ impl Timer {
     /// Sets the deadline to so much later than this clock shows. Past 2^64 - 1 nanoseconds it has none. It counts from the
     /// next registration on.
     pub fn set_duration<C: Clock>(&mut self, clock: &C, duration: Duration)
-        ensures { (now : Instant) × (self.new ≡ record self.old { deadline = moment_after now duration }) }
+        ensures { (now : Instant) × C.shows clock.now now.nanos
+            × (self.new ≡ record self.old { deadline = moment_after now duration }) }
     {
         self.deadline = clock.now().checked_add(duration);
     }
@@ -134,7 +138,9 @@ impl Timer {
         factory: &mut TokenFactory,
     ) -> LoopResult<()>
         requires { self.old ≡ unarmed self.old.deadline }
-        ensures { (steps : List (PollStep P)) × Armed self.old.deadline (poll_view poll.old).deadlines.next factory.old result steps self.new factory.new × AllStepped P.outside (poll_view poll.old) steps (poll_view poll.new) }
+        ensures { (steps : List (PollStep P))
+            × Armed self.old.deadline (poll_view poll.old).deadlines.next factory.old result steps self.new factory.new
+            × AllStepped P.outside (poll_view poll.old) steps (poll_view poll.new) }
     {
         let Some(deadline) = self.deadline else {
             return Ok(());
@@ -158,7 +164,8 @@ impl Timer {
         poll: &mut Poll<P, C, R>,
     ) -> Result<PostAction, TimerError>
         requires { is_armed registration.counter (poll_view poll.old).deadlines ≡ false }
-        ensures { (steps : List (PollStep P)) × ArmedAgain registration deadline result steps self.new × AllStepped P.outside (poll_view poll.old) steps (poll_view poll.new) }
+        ensures { (steps : List (PollStep P)) × ArmedAgain registration deadline result steps self.new
+            × AllStepped P.outside (poll_view poll.old) steps (poll_view poll.new) }
     {
         self.deadline = Some(deadline);
         let Registration { token, counter, .. } = registration;
@@ -180,23 +187,28 @@ impl Timer {
     }
 
     // One call, and what follows from its answer.
-    fn call<P: Poller, C, R: Wait + Drop, F, X>(
+    fn call<P: Poller, C, R: Wait + Drop, F, X, Q>(
         &mut self,
         registration: Registration,
         poll: &mut Poll<P, C, R>,
         callback: &mut F,
         data: &mut X,
+        requests: &mut Q,
     ) -> Result<PostAction, TimerError>
     where
-        F: Callback<Instant, (), TimeoutAction, X>,
+        Q: Asking,
+        F: Callback<Instant, (), TimeoutAction, X, Q>,
         requires { is_armed registration.counter (poll_view poll.old).deadlines ≡ false }
-        ensures { (action : TimeoutAction) × (steps : List (PollStep P)) × Answered self.old registration action result steps self.new × AllStepped P.outside (poll_view poll.old) steps (poll_view poll.new) × Went F.may callback.old «data».old (record { event = registration.armed; before = tt; after = tt; answer = action } ∷ []) callback.new «data».new }
+        ensures { (action : TimeoutAction) × (steps : List (PollStep P)) × Answered self.old registration action result steps self.new
+            × AllStepped P.outside (poll_view poll.old) steps (poll_view poll.new)
+            × Went F.may Q.reaches callback.old «data».old requests.old
+            (record { event = registration.armed; before = tt; after = tt; answer = action } ∷ []) callback.new «data».new requests.new }
     {
         self.registration = Some(Registration {
             spent: true,
             ..registration
         });
-        match callback.call(registration.armed, &mut (), data) {
+        match callback.call(registration.armed, &mut (), data, requests) {
             TimeoutAction::Drop => Ok(PostAction::Remove),
             TimeoutAction::ToInstant(deadline) => self.arm_again(registration, deadline, poll),
             TimeoutAction::ToDuration(duration) => match poll.now().checked_add(duration) {
@@ -211,8 +223,8 @@ impl Timer {
 }
 
 impl<P: Poller, C, R: Wait + Drop> EventSource<P, C, R> for Timer {
-    ghost use Rattle.calloop_core.specs.Timers.{timer_holds, IsTimerReg, IsTimerUnreg, IsTimerTurn};
-    ghost use Rattle.calloop_core.specs.Keeping.{timer_reg_keeps, timer_unreg_keeps, timer_turn_keeps};
+    ghost use Rattle.calloop_core.specs.Timers.{timer_meaning};
+    ghost use Rattle.calloop_core.specs.Keeping.{timer_keeps};
 
     type Event = Instant;
 
@@ -222,28 +234,22 @@ impl<P: Poller, C, R: Wait + Drop> EventSource<P, C, R> for Timer {
 
     type Error = TimerError;
 
-    ghost holds = { timer_holds };
-
-    ghost reg = { IsTimerReg };
-
-    ghost rereg = { IsTimerReg };
-
-    ghost unreg = { λ s v a l t. IsTimerUnreg s a l t };
-
-    ghost turn = { λ s r token v calls a l t. IsTimerTurn s token v calls a l t };
+    ghost means = { timer_meaning };
 
     /// Calls back once with the armed deadline, where the token is the timer's, that arming wasn't called for, and no
     /// deadline of its counter is armed. Else the event is ignored.
-    fn process_events<F, X>(
+    fn process_events<F, X, Q>(
         &mut self,
         _readiness: Readiness,
         token: Token,
         poll: &mut Poll<P, C, R>,
         callback: &mut F,
         data: &mut X,
+        requests: &mut Q,
     ) -> Result<PostAction, TimerError>
     where
-        F: Callback<Instant, (), TimeoutAction, X>,
+        Q: Asking,
+        F: Callback<Instant, (), TimeoutAction, X, Q>,
     {
         let Some(registration) = self.registration else {
             return Ok(PostAction::Continue);
@@ -254,7 +260,7 @@ impl<P: Poller, C, R: Wait + Drop> EventSource<P, C, R> for Timer {
         if poll.is_armed(registration.counter) {
             return Ok(PostAction::Continue);
         }
-        self.call(registration, poll, callback, data)
+        self.call(registration, poll, callback, data, requests)
     }
 
     /// Takes an older arming back, and arms the timer for its deadline under the factory's next token, where it has one.
@@ -279,11 +285,5 @@ impl<P: Poller, C, R: Wait + Drop> EventSource<P, C, R> for Timer {
         Ok(())
     }
 
-    ghost reg_keeps = { timer_reg_keeps };
-
-    ghost rereg_keeps = { timer_reg_keeps };
-
-    ghost unreg_keeps = { timer_unreg_keeps };
-
-    ghost turn_keeps = { λ s t r k v cs a l h. timer_turn_keeps s t k v cs a l h };
+    ghost keeps = { timer_keeps };
 }

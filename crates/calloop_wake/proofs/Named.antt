@@ -1,11 +1,11 @@
 use Rattle.std.proofs.Common.{◌≡◌, ℕ, ◌<◌, List, length, refl, ap, sym, ◌∙◌, Some, None, Option, true, false, if◌then◌else◌, nat_eq, slice_get, is_some, get_or}
-use Rattle.calloop_wake.proofs.Indexed.{get_some}
+use Rattle.calloop_wake.proofs.Indexed.{get_some, slice_get-changed_at}
 use Rattle.std.proofs.lemmas.Option.{slice_get_within}
 use Rattle.calloop_wake.specs.declared.token.RegistrationToken.{RegistrationToken}
 use Rattle.calloop_wake.specs.declared.list.Content.{Content}
 use Rattle.calloop_wake.specs.declared.list.Content.TheVariants.{Vacant, Source, InTurn}
 use Rattle.calloop_wake.specs.declared.list.Slot.{Slot}
-use Rattle.calloop_wake.specs.Slots.{named, is_empty, content_under, source_of}
+use Rattle.calloop_wake.specs.Slots.{named, changed, with_content, is_empty, is_in_turn, after_turn, content_under, source_of}
 
 -- nothing but a vacant slot is empty
 pub empty_is : {S : Type 0} (c : Content S) → is_empty c ≡ true → c ≡ Vacant
@@ -39,3 +39,21 @@ named_within xs t e = let s = named_slot xs t e in slice_get_within xs t.slot s.
 -- what a token names is what stands in its slot
 pub named_at : {S : Type 0} (xs : List (Slot S)) (t : RegistrationToken) (x : Slot S) → is_empty (named xs t) ≡ false → x ≡ get_or xs t.slot x → named xs t ≡ x.content
 named_at xs t x e at = let s = named_slot xs t e in s.3 ∙ ap (λ y. y.content) (sym (get_some xs t.slot s.0 x s.1) ∙ sym at)
+
+-- what is in its turn is no vacant slot
+pub turn_filled : {S : Type 0} (c : Content S) → is_in_turn c ≡ true → is_empty c ≡ false
+turn_filled Vacant e = cc
+turn_filled (Source s) e = cc
+turn_filled InTurn e = refl
+
+-- what is put into the slot that a token names is what it names then
+pub named_changed : {S : Type 0} (xs : List (Slot S)) (t : RegistrationToken) (c : Content S) → is_empty (named xs t) ≡ false → named (changed (with_content c) xs t.slot) t ≡ c
+named_changed xs t c e =
+    let s = named_slot xs t e in
+    ap (content_under t.version) (slice_get-changed_at (with_content c) xs t.slot s.0 s.1) ∙ rw s.2 refl
+
+-- a source that was taken out goes back
+pub turn_ended : {S : Type 0} (xs : List (Slot S)) (t : RegistrationToken) (c : Content S) → is_empty (named xs t) ≡ false → after_turn c t (changed (with_content InTurn) xs t.slot) ≡ changed (with_content c) (changed (with_content InTurn) xs t.slot) t.slot
+turn_ended xs t c e =
+    let ys = changed (with_content InTurn) xs t.slot in
+    ap (λ x. if is_in_turn x then changed (with_content c) ys t.slot else ys) (named_changed xs t InTurn e)

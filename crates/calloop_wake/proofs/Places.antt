@@ -1,8 +1,8 @@
 -- What each step of the board does to the keys that are open and to those that are marked.
-use Rattle.std.proofs.Common.{◌≡◌, ◌≢◌, ℕ, zero, suc, ◌+◌, ◌<◌, ◌≤◌, Bool, true, false, ◌&&◌, ◌||◌, not, cond, if◌then◌else◌, ◌⊎◌, inl, List, [], ◌∷◌, nat_eq, nat_lt, map, filter, length, get_or, take, refl, sym, ◌∙◌, ap, arith, ltb-true, ltb-false, lt-ltb, le-ltb, false-eqb}
+use Rattle.std.proofs.Common.{◌≡◌, ◌≢◌, ℕ, zero, suc, ◌+◌, ◌-◌, ◌^◌, ◌<◌, ◌≤◌, Bool, true, false, ◌&&◌, ◌||◌, not, cond, if◌then◌else◌, ◌⊎◌, inl, List, [], ◌∷◌, nat_eq, nat_lt, map, filter, length, get_or, take, refl, sym, ◌∙◌, ap, arith, ltb-true, ltb-false, lt-ltb, le-ltb, false-eqb}
 use Rattle.std.proofs.lemmas.Bool.Decides.{nat_tests}
 use Rattle.std.specs.List.{insert}
-use Rattle.calloop_wake.specs.Boards.{place, is_open, is_marked, any_marked, after_open_place, after_close_place, after_post, wakes, after_unpost, taken_keys, AllAbove, IsAscending, AllGreater, IsRising}
+use Rattle.calloop_wake.specs.Boards.{place, is_open, is_marked, any_marked, after_open_place, after_close_place, after_post, wakes, after_unpost, is_taken, bound, keys_within, taken_keys, AllAbove, IsAscending, AllGreater, IsRising}
 use Rattle.calloop_wake.specs.declared.wake.board.Place.{Place}
 
 pub is_open-after_open : (j k : ℕ) (ps : List Place) → is_open j (after_open_place k ps) ≡ (nat_eq k j || is_open j ps)
@@ -29,13 +29,13 @@ pub is_marked-after_post : (j k : ℕ) (ps : List Place) → is_marked j (after_
 is_marked-after_post j k [] = grind arith
 is_marked-after_post j k (p ∷ ps) = let h = is_marked-after_post j k ps in grind (arith, nat_tests)
 
-pub is_open-after_unpost : (j : ℕ) (ps : List Place) → is_open j (after_unpost ps) ≡ is_open j ps
-is_open-after_unpost j [] = refl
-is_open-after_unpost j (p ∷ ps) = ap (λ b. nat_eq p.key j || b) (is_open-after_unpost j ps)
+pub is_open-after_unpost : (j b : ℕ) (ps : List Place) → is_open j (after_unpost b ps) ≡ is_open j ps
+is_open-after_unpost j b [] = refl
+is_open-after_unpost j b (p ∷ ps) = ap (λ o. nat_eq p.key j || o) (is_open-after_unpost j b ps)
 
-pub is_marked-after_unpost : (j : ℕ) (ps : List Place) → is_marked j (after_unpost ps) ≡ false
-is_marked-after_unpost j [] = refl
-is_marked-after_unpost j (p ∷ ps) = let h = is_marked-after_unpost j ps in grind arith
+pub is_marked-after_unpost : (j b : ℕ) (ps : List Place) → is_marked j (after_unpost b ps) ≡ (is_marked j ps && not (nat_lt j b))
+is_marked-after_unpost j b [] = refl
+is_marked-after_unpost j b (p ∷ ps) = let h = is_marked-after_unpost j b ps in grind (arith, nat_tests)
 
 -- a mark that a post sets anew wakes
 pub marked-after_post : (j k : ℕ) (ps : List Place) → is_marked j (after_post k ps) ≡ true → (is_marked j ps ≡ true) ⊎ (wakes k ps ≡ true)
@@ -49,11 +49,11 @@ none_marked j (p ∷ ps) h = let ih = none_marked j ps in grind arith
 -- The order of the keys.
 
 pub AllAbove-less : (j k : ℕ) (ps : List Place) → j ≤ k → AllAbove k ps → AllAbove j ps
-AllAbove-less j k [] le h = tt
+AllAbove-less j k [] le h = omega arith
 AllAbove-less j k (p ∷ ps) le h = (omega arith, AllAbove-less j k ps le h.1)
 
 pub AllAbove-map : (f : Place → Place) → ((p : Place) → (f p).key ≡ p.key) → (k : ℕ) (ps : List Place) → AllAbove k ps → AllAbove k (map f ps)
-AllAbove-map f same k [] h = tt
+AllAbove-map f same k [] h = h
 AllAbove-map f same k (p ∷ ps) h = (let e = same p in omega arith, AllAbove-map f same k ps h.1)
 
 pub IsAscending-map : (f : Place → Place) → ((p : Place) → (f p).key ≡ p.key) → (ps : List Place) → IsAscending ps → IsAscending (map f ps)
@@ -61,7 +61,7 @@ IsAscending-map f same [] h = tt
 IsAscending-map f same (p ∷ ps) h = (AllAbove-less (f p).key p.key (map f ps) (let e = same p in omega arith) (AllAbove-map f same p.key ps h.0), IsAscending-map f same ps h.1)
 
 pub AllAbove-filter : (t : Place → Bool) (k : ℕ) (ps : List Place) → AllAbove k ps → AllAbove k (filter t ps)
-AllAbove-filter t k [] h = tt
+AllAbove-filter t k [] h = h
 AllAbove-filter t k (p ∷ ps) h =
     elim (t p) as (λ b. AllAbove k (cond b (p ∷ filter t ps) (filter t ps))) [
       | true ↦ (h.0, AllAbove-filter t k ps h.1)
@@ -77,7 +77,7 @@ IsAscending-filter t (p ∷ ps) h =
     ]
 
 pub AllAbove-open : (j k : ℕ) (ps : List Place) → j < k → AllAbove j ps → AllAbove j (after_open_place k ps)
-AllAbove-open j k [] lt h = (lt, tt)
+AllAbove-open j k [] lt h = (lt, h)
 AllAbove-open j k (p ∷ ps) lt h =
     elim (nat_lt k p.key) as (λ b. AllAbove j (if b then place k ∷ p ∷ ps else p ∷ after_open_place k ps)) [
       | true ↦ (lt, (h.0, h.1))
@@ -99,12 +99,12 @@ ascending_open-at k p ps rest true is ne h above more sorted =
 ascending_open-at k p ps rest false is ne h above more sorted =
     let le : p.key ≤ k = ltb-false k p.key is in let d : p.key ≢ k = false-eqb p.key k (sym ne) in (more (omega arith), sorted)
 
-pub IsAscending-open : (k : ℕ) (ps : List Place) → is_open k ps ≡ false → IsAscending ps → IsAscending (after_open_place k ps)
-IsAscending-open k [] shut h = (tt, tt)
-IsAscending-open k (p ∷ ps) shut h =
+pub IsAscending-open : (k : ℕ) (ps : List Place) → k < 2 ^ 64 - 1 → is_open k ps ≡ false → IsAscending ps → IsAscending (after_open_place k ps)
+IsAscending-open k [] token shut h = (token, tt)
+IsAscending-open k (p ∷ ps) token shut h =
     ascending_open-at k p ps (after_open_place k ps) (nat_lt k p.key) refl (or-false_left (nat_eq p.key k) (is_open k ps) shut) h h.0
     (λ lt. AllAbove-open p.key k ps lt h.0)
-    (IsAscending-open k ps (or-false_right (nat_eq p.key k) (is_open k ps) shut) h.1)
+    (IsAscending-open k ps token (or-false_right (nat_eq p.key k) (is_open k ps) shut) h.1)
 
 -- where a new place goes in: behind the places of keys that aren't greater, before one that is
 pub insert_place : (k i : ℕ) (d : Place) (ps : List Place) → i ≤ length ps → ((j : ℕ) (e : Place) → j < i → (get_or ps j e).key ≤ k)
@@ -119,33 +119,67 @@ insert_place k (suc i) d (p ∷ ps) within below above =
     let rest = insert_place k i d ps (omega arith) (λ j e h. below (suc j) e (omega arith)) (λ h. above (omega arith)) in
     ap (λ l. p ∷ l) rest ∙ sym (ap (λ b. if b then place k ∷ p ∷ ps else p ∷ after_open_place k ps) le)
 
--- a marked place has a key that is still to be taken
-pub taken_keys-more : (ps : List Place) (i : ℕ) (d : Place) → i < length ps → (get_or ps i d).marked ≡ true
-    → length (taken_keys (take i ps)) + 1 ≤ length (taken_keys ps)
-taken_keys-more [] i d lt is = absurd (omega arith)
-taken_keys-more (p ∷ ps) zero d lt is =
-    let e : taken_keys (p ∷ ps) ≡ p.key ∷ taken_keys ps = ap (λ b. map (λ q. q.key) (cond b (p ∷ filter (λ q. q.marked) ps) (filter (λ q. q.marked) ps))) is in
+-- a place whose key is to be taken has one that is still to be taken
+pub taken_keys-more : (b : ℕ) (ps : List Place) (i : ℕ) (d : Place) → i < length ps → is_taken b (get_or ps i d) ≡ true
+    → length (taken_keys b (take i ps)) + 1 ≤ length (taken_keys b ps)
+taken_keys-more b [] i d lt is = absurd (omega arith)
+taken_keys-more b (p ∷ ps) zero d lt is =
+    let e : taken_keys b (p ∷ ps) ≡ p.key ∷ taken_keys b ps = ap (λ t. map (λ q. q.key) (cond t (p ∷ filter (is_taken b) ps) (filter (is_taken b) ps))) is in
     rw e (omega arith)
-taken_keys-more (p ∷ ps) (suc i) d lt is =
-    let h = taken_keys-more ps i d (omega arith) is in
-    elim p.marked as (λ b. length (map (λ q. q.key) (cond b (p ∷ filter (λ q. q.marked) (take i ps)) (filter (λ q. q.marked) (take i ps)))) + 1
-    ≤ length (map (λ q. q.key) (cond b (p ∷ filter (λ q. q.marked) ps) (filter (λ q. q.marked) ps)))) [
+taken_keys-more b (p ∷ ps) (suc i) d lt is =
+    let h = taken_keys-more b ps i d (omega arith) is in
+    elim (is_taken b p) as (λ t. length (map (λ q. q.key) (cond t (p ∷ filter (is_taken b) (take i ps)) (filter (is_taken b) (take i ps)))) + 1
+    ≤ length (map (λ q. q.key) (cond t (p ∷ filter (is_taken b) ps) (filter (is_taken b) ps)))) [
       | true ↦ omega arith
       | false ↦ h
     ]
 
--- no more keys are taken than places are open
-pub length-taken_keys-le : (ps : List Place) → length (taken_keys ps) ≤ length ps
-length-taken_keys-le [] = omega arith
-length-taken_keys-le (p ∷ ps) =
-    let h = length-taken_keys-le ps in
-    elim p.marked as (λ b. length (map (λ q. q.key) (cond b (p ∷ filter (λ q. q.marked) ps) (filter (λ q. q.marked) ps))) ≤ suc (length ps)) [
-      | true ↦ omega arith
-      | false ↦ omega arith
-    ]
+and-false : (a : Bool) → (a && false) ≡ false
+and-false true = refl
+and-false false = refl
+
+-- the bound, from one place to the next
+pub bound-skip : (left : ℕ) (p : Place) (ps : List Place) → p.marked ≡ false → bound left (p ∷ ps) ≡ bound left ps
+bound-skip zero p ps m = ap (λ b. if b then p.key else bound zero ps) m
+bound-skip (suc r) p ps m = ap (λ b. if b then bound r ps else bound (suc r) ps) m
+
+pub bound-stop : (left : ℕ) (p : Place) (ps : List Place) → left ≡ 0 → p.marked ≡ true → bound left (p ∷ ps) ≡ p.key
+bound-stop zero p ps e m = ap (λ b. if b then p.key else bound zero ps) m
+bound-stop (suc r) p ps e m = absurd (omega arith)
+
+pub bound-spend : (left : ℕ) (p : Place) (ps : List Place) → 0 < left → p.marked ≡ true → bound left (p ∷ ps) ≡ bound (left - 1) ps
+bound-spend zero p ps e m = absurd (omega arith)
+bound-spend (suc r) p ps e m = let one : r ≡ suc r - 1 = omega arith in ap (λ b. if b then bound r ps else bound (suc r) ps) m ∙ ap (λ n. bound n ps) one
+
+-- no key below another one is taken from the places above that
+none-below : (b : ℕ) (ps : List Place) → AllAbove b ps → length (taken_keys b ps) ≡ 0
+none-below b [] h = refl
+none-below b (p ∷ ps) h =
+    let rest = none-below b ps h.1 in
+    let high : nat_lt p.key b ≡ false = le-ltb p.key b (omega (arith, h.0)) in
+    let e : is_taken b p ≡ false = ap (λ t. p.marked && t) high ∙ and-false p.marked in
+    ap (λ t. length (map (λ q. q.key) (cond t (p ∷ filter (is_taken b) ps) (filter (is_taken b) ps)))) e ∙ rest
+
+one-more : (b : ℕ) (p : Place) (ps : List Place) (t : Bool) (n : ℕ) → length (taken_keys b ps) ≤ n → length (map (λ q. q.key) (cond t (p ∷ filter (is_taken b) ps) (filter (is_taken b) ps))) ≤ suc n
+one-more b p ps true n h = omega (arith, h)
+one-more b p ps false n h = omega (arith, h)
+
+within-at : (room : ℕ) (k : ℕ) (m : Bool) (ps : List Place) → AllAbove k ps → ((n : ℕ) → length (keys_within n ps) ≤ n) → length (keys_within room (record { key = k; marked = m } ∷ ps)) ≤ room
+within-at zero k false ps above rest = rest zero
+within-at (suc room) k false ps above rest = rest (suc room)
+within-at zero k true ps above rest =
+    let none = none-below k ps above in
+    let e : nat_lt k k ≡ false = le-ltb k k (omega arith) in
+    rw e (omega (arith, none))
+within-at (suc room) k true ps above rest = one-more (bound room ps) (record { key = k; marked = true }) ps (nat_lt k (bound room ps)) room (rest room)
+
+-- no more keys are taken than there is room for
+pub keys-within : (room : ℕ) (ps : List Place) → IsAscending ps → length (keys_within room ps) ≤ room
+keys-within room [] h = omega arith
+keys-within room (p ∷ ps) h = within-at room p.key p.marked ps h.0 (λ n. keys-within n ps h.1)
 
 keys-greater : (k : ℕ) (ps : List Place) → AllAbove k ps → AllGreater k (map (λ p. p.key) ps)
-keys-greater k [] h = tt
+keys-greater k [] h = h
 keys-greater k (p ∷ ps) h = (h.0, keys-greater k ps h.1)
 
 keys-rising : (ps : List Place) → IsAscending ps → IsRising (map (λ p. p.key) ps)
@@ -153,5 +187,5 @@ keys-rising [] h = tt
 keys-rising (p ∷ ps) h = (keys-greater p.key ps h.0, keys-rising ps h.1)
 
 -- the keys that are taken rise
-pub taken_keys-rising : (ps : List Place) → IsAscending ps → IsRising (taken_keys ps)
-taken_keys-rising ps h = keys-rising (filter (λ p. p.marked) ps) (IsAscending-filter (λ p. p.marked) ps h)
+pub taken_keys-rising : (b : ℕ) (ps : List Place) → IsAscending ps → IsRising (taken_keys b ps)
+taken_keys-rising b ps h = keys-rising (filter (is_taken b) ps) (IsAscending-filter (is_taken b) ps h)

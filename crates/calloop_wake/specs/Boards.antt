@@ -1,6 +1,6 @@
 -- The board: one place for each open key, in ascending order of the keys. Calloop has the kernel's poller here: a place
 -- is a descriptor in its table, and a mark says that it is ready.
-use Rattle.std.specs.Prelude.{ℕ, Bool, false, ◌&&◌, ◌||◌, not, if◌then◌else◌, List, [], ◌∷◌, nat_eq, nat_lt, map, filter, ◌<◌, None}
+use Rattle.std.specs.Prelude.{ℕ, zero, suc, Bool, false, ◌&&◌, ◌||◌, not, if◌then◌else◌, List, [], ◌∷◌, nat_eq, nat_lt, map, filter, ◌<◌, ◌-◌, ◌^◌, None}
 use Rattle.std.specs.List.{list_any}
 use Rattle.calloop_wake.specs.declared.wake.board.Place.{Place}
 use Rattle.calloop_wake.specs.Passes.{Taken}
@@ -43,38 +43,52 @@ after_post k ps = map (marked_at k) ps
 abbrev pub wakes : ℕ → List Place → Bool
 wakes k ps = list_any (λ p. nat_eq p.key k && not p.marked) ps
 
--- the place with no mark
-abbrev pub unmarked : Place → Place
-unmarked p = record { key = p.key; marked = false }
+-- the key is posted, and below this bound
+abbrev pub is_taken : (below : ℕ) → Place → Bool
+is_taken below p = p.marked && nat_lt p.key below
 
--- no place is marked; calloop's poller takes the events likewise
-abbrev pub after_unpost : List Place → List Place
-after_unpost ps = map unmarked ps
+-- the place, with no mark where its key is taken
+abbrev pub unmarked : (below : ℕ) → Place → Place
+unmarked below p = record { key = p.key; marked = p.marked && not (nat_lt p.key below) }
 
--- the marked keys, ascending; the kernel gives its events in no promised order
-abbrev pub taken_keys : List Place → List ℕ
-taken_keys ps = map (λ p. p.key) (filter (λ p. p.marked) ps)
+-- no place below this bound is marked; calloop's poller takes the events likewise
+abbrev pub after_unpost : (below : ℕ) → List Place → List Place
+after_unpost below ps = map (unmarked below) ps
+
+-- the marked keys below this bound, ascending; the kernel gives its events in no promised order
+abbrev pub taken_keys : (below : ℕ) → List Place → List ℕ
+taken_keys below ps = map (λ p. p.key) (filter (is_taken below) ps)
+
+-- below which keys there is room for all that are posted: the first posted key for which there is none, or else the poller's own
+abbrev pub bound : (room : ℕ) → List Place → ℕ
+bound room [] = 2 ^ 64 - 1
+bound zero (p ∷ ps) = if p.marked then p.key else bound zero ps
+bound (suc room) (p ∷ ps) = if p.marked then bound room ps else bound (suc room) ps
+
+-- as many of the posted keys as there is room for
+abbrev pub keys_within : (room : ℕ) → List Place → List ℕ
+keys_within room ps = taken_keys (bound room ps) ps
 
 -- the pass of a key that was taken just now
 abbrev pub taken : ℕ → Taken
 taken k = record { key = k; refused = None }
 
--- each key is above this one
+-- each key is above this one, and below the poller's own, which no token has
 abbrev pub AllAbove : ℕ → List Place → Type 0
-AllAbove k [] = Unit {0}
+AllAbove k [] = k < 2 ^ 64 - 1
 AllAbove k (p ∷ ps) = (k < p.key) × AllAbove k ps
 
--- each key is below all later ones
+-- each key is below all later ones, and a token's
 abbrev pub IsAscending : List Place → Type 0
 IsAscending [] = Unit {0}
 IsAscending (p ∷ ps) = AllAbove p.key ps × IsAscending ps
 
--- each number of a list is greater than this one
+-- each number of a list is greater than this one, and less than the poller's own key
 abbrev pub AllGreater : ℕ → List ℕ → Type 0
-AllGreater k [] = Unit {0}
+AllGreater k [] = k < 2 ^ 64 - 1
 AllGreater k (j ∷ js) = (k < j) × AllGreater k js
 
--- each number is less than all later ones
+-- each number is less than all later ones, and the key of a token
 abbrev pub IsRising : List ℕ → Type 0
 IsRising [] = Unit {0}
 IsRising (k ∷ ks) = AllGreater k ks × IsRising ks

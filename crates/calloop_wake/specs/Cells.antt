@@ -1,5 +1,5 @@
 -- The cell of a ping and its steps: for each step the cell after it, and what it gives.
-use Rattle.std.specs.Prelude.{◌≡◌, ℕ, ◌+◌, ◌-◌, ◌<◌, Bool, true, false, ◌&&◌, ◌||◌, not, if◌then◌else◌, Option, Some, None, nat_eq, nat_lt, Result, Ok, Err}
+use Rattle.std.specs.Prelude.{◌≡◌, ℕ, ◌+◌, ◌-◌, ◌<◌, ◌≤◌, Bool, true, false, ◌&&◌, ◌||◌, not, if◌then◌else◌, Option, Some, None, nat_eq, nat_lt, Result, Ok, Err}
 use Rattle.logbook.specs.Pages.{Book}
 use Rattle.calloop_wake.specs.Passes.{Taken}
 use Rattle.calloop_wake.specs.declared.wake.Receipt.{Receipt}
@@ -123,10 +123,12 @@ pub record Core : Type 0 where
   -- how many turns took a ring
   pub taken : ℕ
 
--- a ring stands exactly where somebody rang since the last turn was opened
+-- a ring stands exactly where somebody rang since the last turn was opened; and those that turns took, with the one that
+-- stands, are at most the rings
 pub record IsSince (c : Core) : Type 0 where
   pub rung : c.cell.rung ≡ true → c.seen < c.rings
   pub quiet : c.cell.rung ≡ false → c.seen ≡ c.rings
+  pub taken : c.taken + one c.cell.rung ≤ c.rings
 
 abbrev pub core_with : Cell → Core → Core
 core_with cell c = record c { cell = cell }

@@ -5,5 +5,8 @@ pub mod Cells
 pub mod Boards
 pub mod Deadlines
 pub mod Wakes
+pub mod PingKind
+pub mod Lost
+pub mod Watches
 pub mod Slots
 pub mod Lendings

@@ -17,10 +17,6 @@ changed f (x ∷ xs) (suc i) = x ∷ changed f xs i
 abbrev pub with_content : {S : Type 0} → Content S → Slot S → Slot S
 with_content c s = record { version = s.version; content = c }
 
--- the slot used once more: calloop's increment_version, which wraps at 16 bits too
-abbrev pub used_again : {S : Type 0} → Slot S → Slot S
-used_again s = record { version = (s.version + 1) % 65536; content = s.content }
-
 -- what stands in a slot, if it is there and has this version
 abbrev pub content_under : {S : Type 0} → ℕ → Option (Slot S) → Content S
 content_under version None = Vacant
@@ -35,6 +31,12 @@ abbrev pub source_of : {S : Type 0} → Content S → Option S
 source_of Vacant = None
 source_of (Source s) = Some s
 source_of InTurn = None
+
+-- a source that is taken out stands for this slot; calloop's entry keeps its source meanwhile, which is borrowed
+abbrev pub is_in_turn : {S : Type 0} → Content S → Bool
+is_in_turn Vacant = false
+is_in_turn (Source s) = false
+is_in_turn InTurn = true
 
 -- nothing stands here: calloop's entry has None
 abbrev pub is_empty : {S : Type 0} → Content S → Bool
@@ -56,10 +58,23 @@ abbrev pub next_version : {S : Type 0} → List (Slot S) → ℕ
 next_version [] = 0
 next_version (s ∷ ss) = if is_vacant s then (s.version + 1) % 65536 else next_version ss
 
--- the list after calloop's vacant_entry: the first vacant slot is used again, or a new one is added; it stays vacant
+-- the list with f of the first element that is free in its place, or with a new one behind all
+abbrev pub first_changed : {A : Type 0} → (free : A → Bool) → (f : A → A) → (new : A) → List A → List A
+first_changed free f new [] = new ∷ []
+first_changed free f new (x ∷ xs) = if free x then f x ∷ xs else x ∷ first_changed free f new xs
+
+-- the slot used once more: calloop's increment_version, which wraps at 16 bits too
+abbrev pub taken_up : {S : Type 0} → Slot S → Slot S
+taken_up s = record { version = (s.version + 1) % 65536; content = InTurn }
+
+-- the list after calloop's vacant_entry: the first vacant slot is used again, or a new one is added, for a source that is
+-- registered meanwhile; calloop puts the source there first
 abbrev pub claimed : {S : Type 0} → List (Slot S) → List (Slot S)
-claimed [] = record { version = 0; content = Vacant } ∷ []
-claimed (s ∷ ss) = if is_vacant s then used_again s ∷ ss else s ∷ claimed ss
+claimed ss = first_changed is_vacant taken_up (record { version = 0; content = InTurn }) ss
+
+-- the list where a turn is over: this goes into the slot, where it is still in its turn under this version
+abbrev pub after_turn : {S : Type 0} → Content S → RegistrationToken → List (Slot S) → List (Slot S)
+after_turn content token ss = if is_in_turn (named ss token) then changed (with_content content) ss token.slot else ss
 
 -- the name of the slot that is claimed next: in calloop the token that vacant_entry leaves in the entry
 abbrev pub next_registration : {S : Type 0} → List (Slot S) → RegistrationToken

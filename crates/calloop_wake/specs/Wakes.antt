@@ -1,9 +1,34 @@
 -- The wake machine: cells, a board and a loop, and every step that any party may take, in any order. In calloop the
 -- kernel does these steps, for the descriptors of pings and the poller that waits for them; here they are steps on values.
-use Rattle.std.specs.Prelude.{◌≡◌, ◌≢◌, ℕ, ◌+◌, ◌-◌, ◌<◌, Bool, true, false, if◌then◌else◌, ◌⊎◌, List, [], ◌∷◌, Option, Some, None, nat_eq}
-use Rattle.calloop_wake.specs.Cells.{Cell, fresh, IsStanding, owed, owed_at, after_ring, after_close, after_set_key, after_clear_key, after_open_turn, after_end_turn, opens, one}
+use Rattle.std.specs.Prelude.{◌≡◌, ◌≢◌, ℕ, ◌+◌, ◌-◌, ◌<◌, Bool, true, false, if◌then◌else◌, ◌⊎◌, List, [], ◌∷◌, Option, Some, None, nat_eq, nat_lt, ◌&&◌}
+use Rattle.calloop_wake.specs.Cells.{one}
 use Rattle.calloop_wake.specs.Boards.{is_open, is_marked, any_marked, wakes, after_open_place, after_close_place, after_post, after_unpost}
 use Rattle.calloop_wake.specs.declared.wake.board.Place.{Place}
+
+-- a kind of cells, as the cells of pings: what the machine reads of a cell, and what its steps do to one
+pub record Kind : Type 1 where
+  pub Cell : Type 0
+  -- the steps of this kind alone, which take neither key nor pass
+  pub Own : Type 0
+  pub key : Cell → Option ℕ
+  pub pinged : Cell → Bool
+  pub Needs : Own → Cell → Type 0
+  pub after : Own → Cell → Cell
+  -- its key is set, or taken away, which the drop of its receiving end does for good
+  pub keyed : (key : ℕ) → Cell → Cell
+  pub unkeyed : (by_drop : Bool) → Cell → Cell
+  -- the pass of this key opens a turn, and the cell in its turn
+  pub opens : (key : ℕ) → Cell → Bool
+  pub opened : Cell → Cell
+  -- what mustn't be lost is seen: it is pinged, or a turn stands open
+  pub IsStanding : Cell → Type 0
+
+-- the debt that a step of its own gives: of the key, where the step pings anew
+abbrev pub owed_by : (K : Kind) → K.Cell → K.Cell → Option ℕ
+owed_by K c d = if K.pinged c then None else if K.pinged d then K.key d else None
+
+abbrev pub owed_at : (K : Kind) → ℕ → K.Cell → Option ℕ
+owed_at K k c = if K.pinged c then Some k else None
 
 -- how many values of each key are out
 abbrev pub Bag : Type 0
@@ -31,9 +56,9 @@ pub data Loop : Type 0 where
   Awake Looked Asleep : Loop
 
 -- all that the steps change; a turn that stands open is in its cell, as `draining`
-pub record World : Type 0 where
+pub record World (C : Type 0) : Type 0 where
   -- a cell for each number; one that nobody uses is fresh
-  pub cells : ℕ → Cell
+  pub cells : ℕ → C
   pub board : List Place
   -- keys that have to be posted
   pub debts : Bag
@@ -50,10 +75,10 @@ pub record World : Type 0 where
   pub loop : Loop
 
 -- nothing has happened
-abbrev pub start : World
-start =
+abbrev pub start : {C : Type 0} → (ℕ → C) → World C
+start fresh =
     record {
-      cells = λ _. fresh;
+      cells = fresh;
       board = [];
       debts = no_value;
       passes = no_value;
@@ -64,91 +89,96 @@ start =
       loop = Awake;
     }
 
--- A step of any party. Ring, close, set key, clear key and the two of a turn are calloop's writes to a descriptor, its
--- registration, the taking back of it, and process_events; place, post, look and unpost are the kernel's poller; nudge, sleep and return are the wait.
-pub data Step : Type 0 where
-  Ring Close EndTurn : (cell : ℕ) → Step
-  ClearKey : (cell : ℕ) (by_drop : Bool) → Step
-  SetKey OpenTurn : (cell key : ℕ) → Step
-  OpenPlace ClosePlace Post Back : (key : ℕ) → Step
-  Look Unpost Nudge Sleep Return : Step
+-- A step of any party. A ping's own steps, set key, clear key and open turn are calloop's writes to a descriptor, its
+-- registration, the taking back of it, and process_events; place, post, look and unpost are the kernel's poller; nudge, sleep
+-- and return are the wait.
+pub data Step (O : Type 0) : Type 0 where
+  -- one of the steps that only this kind has
+  At : (cell : ℕ) (own : O) → Step O
+  ClearKey : (cell : ℕ) (by_drop : Bool) → Step O
+  SetKey OpenTurn : (cell key : ℕ) → Step O
+  OpenPlace ClosePlace Post Back : (key : ℕ) → Step O
+  -- the posted keys below this bound are taken
+  Unpost : (below : ℕ) → Step O
+  Look Nudge Sleep Return : Step O
 
 -- the cells, with this one in the place of the cell of that number
-abbrev pub with_cell : ℕ → Cell → (ℕ → Cell) → ℕ → Cell
+abbrev pub with_cell : {C : Type 0} → ℕ → C → (ℕ → C) → ℕ → C
 with_cell n c cells j = if nat_eq j n then c else cells j
 
 -- What a step needs: the value that it spends, and of the loop its place. A place is opened where the key has none,
--- a turn is ended where one stands open, and the loop sleeps after a look that found no mark. A wait of zero needs no
+-- and the loop sleeps after a look that found no mark. A wait of zero needs no
 -- look: it returns to a loop that is awake.
-abbrev pub Needs : World → Step → Type 0
-Needs w (Ring n) = Unit {0}
-Needs w (Close n) = Unit {0}
-Needs w (SetKey n k) = 0 < w.opened k
-Needs w (OpenTurn n k) = 0 < w.passes k
-Needs w (ClearKey n by_drop) = Unit {0}
-Needs w (EndTurn n) = (w.cells n).draining ≡ true
-Needs w (OpenPlace k) = is_open k w.board ≡ false
-Needs w (ClosePlace k) = 0 < w.leaves k
-Needs w (Post k) = 0 < w.debts k
-Needs w (Back k) = 0 < w.passes k
-Needs w Look = w.loop ≡ Awake
-Needs w Unpost = Unit {0}
-Needs w Nudge = 0 < w.nudges
-Needs w Sleep = w.loop ≡ Looked
-Needs w Return = w.loop ≢ Looked
+abbrev pub Needs : (K : Kind) → World K.Cell → Step K.Own → Type 0
+Needs K w (At n s) = K.Needs s (w.cells n)
+Needs K w (SetKey n k) = 0 < w.opened k
+Needs K w (OpenTurn n k) = 0 < w.passes k
+Needs K w (ClearKey n by_drop) = Unit {0}
+Needs K w (OpenPlace k) = is_open k w.board ≡ false
+Needs K w (ClosePlace k) = 0 < w.leaves k
+Needs K w (Post k) = 0 < w.debts k
+Needs K w (Back k) = 0 < w.passes k
+Needs K w Look = w.loop ≡ Awake
+Needs K w (Unpost below) = Unit {0}
+Needs K w Nudge = 0 < w.nudges
+Needs K w Sleep = w.loop ≡ Looked
+Needs K w Return = w.loop ≢ Looked
 
 -- the world after a step: cell and board change as the contracts of the working functions say
-abbrev pub after : World → Step → World
-after w (Ring n) = record w { cells = with_cell n (after_ring (w.cells n)) w.cells; debts = and_any (owed (w.cells n)) w.debts }
-after w (Close n) = record w { cells = with_cell n (after_close (w.cells n)) w.cells; debts = and_any (owed (w.cells n)) w.debts }
-after w (SetKey n k) =
+abbrev pub after : (K : Kind) → World K.Cell → Step K.Own → World K.Cell
+after K w (At n s) =
     record w {
-      cells = with_cell n (after_set_key k (w.cells n)) w.cells;
+      cells = with_cell n (K.after s (w.cells n)) w.cells;
+      debts = and_any (owed_by K (w.cells n) (K.after s (w.cells n))) w.debts;
+    }
+after K w (SetKey n k) =
+    record w {
+      cells = with_cell n (K.keyed k (w.cells n)) w.cells;
       opened = less_one k w.opened;
-      debts = and_any (owed_at k (w.cells n)) w.debts;
-      leaves = and_any (w.cells n).key w.leaves;
+      debts = and_any (owed_at K k (w.cells n)) w.debts;
+      leaves = and_any (K.key (w.cells n)) w.leaves;
     }
-after w (ClearKey n by_drop) = record w { cells = with_cell n (after_clear_key by_drop (w.cells n)) w.cells; leaves = and_any (w.cells n).key w.leaves }
+after K w (ClearKey n by_drop) = record w { cells = with_cell n (K.unkeyed by_drop (w.cells n)) w.cells; leaves = and_any (K.key (w.cells n)) w.leaves }
 -- a pass that is refused stays where it is
-after w (OpenTurn n k) =
+after K w (OpenTurn n k) =
     record w {
-      cells = with_cell n (after_open_turn k (w.cells n)) w.cells;
-      passes = if opens k (w.cells n) then less_one k w.passes else w.passes;
+      cells = with_cell n (if K.opens k (w.cells n) then K.opened (w.cells n) else w.cells n) w.cells;
+      passes = if K.opens k (w.cells n) then less_one k w.passes else w.passes;
     }
-after w (EndTurn n) = record w { cells = with_cell n (after_end_turn (w.cells n)) w.cells }
-after w (OpenPlace k) = record w { board = after_open_place k w.board; opened = and_one k w.opened }
-after w (ClosePlace k) = record w { board = after_close_place k w.board; leaves = less_one k w.leaves }
+after K w (OpenPlace k) = record w { board = after_open_place k w.board; opened = and_one k w.opened }
+after K w (ClosePlace k) = record w { board = after_close_place k w.board; leaves = less_one k w.leaves }
 -- a mark that is set anew owes a nudge
-after w (Post k) =
+after K w (Post k) =
     record w { board = after_post k w.board; debts = less_one k w.debts; nudges = w.nudges + one (wakes k w.board) }
-after w (Back k) = record w { passes = less_one k w.passes; debts = and_one k w.debts }
+after K w (Back k) = record w { passes = less_one k w.passes; debts = and_one k w.debts }
 -- the leave to sleep is given where no key is marked
-after w Look = record w { loop = if any_marked w.board then Awake else Looked }
-after w Unpost = record w { board = after_unpost w.board; passes = λ j. w.passes j + one (is_marked j w.board) }
-after w Nudge = record w { nudges = w.nudges - 1; signal = true }
-after w Sleep = record w { loop = Asleep }
+after K w Look = record w { loop = if any_marked w.board then Awake else Looked }
+after K w (Unpost below) =
+    record w { board = after_unpost below w.board; passes = λ j. w.passes j + one (is_marked j w.board && nat_lt j below) }
+after K w Nudge = record w { nudges = w.nudges - 1; signal = true }
+after K w Sleep = record w { loop = Asleep }
 -- the wait returns, and takes the signal with it
-after w Return = record w { signal = false; loop = Awake }
+after K w Return = record w { signal = false; loop = Awake }
 
 -- a schedule: any list of steps, by any number of parties, where each finds what it needs
-abbrev pub IsSchedule : World → List Step → Type 0
-IsSchedule w [] = Unit {0}
-IsSchedule w (s ∷ ss) = Needs w s × IsSchedule (after w s) ss
+abbrev pub IsSchedule : (K : Kind) → World K.Cell → List (Step K.Own) → Type 0
+IsSchedule K w [] = Unit {0}
+IsSchedule K w (s ∷ ss) = Needs K w s × IsSchedule K (after K w s) ss
 
 -- the world after a list of steps
-abbrev pub after_all : World → List Step → World
-after_all w [] = w
-after_all w (s ∷ ss) = after_all (after w s) ss
+abbrev pub after_all : (K : Kind) → World K.Cell → List (Step K.Own) → World K.Cell
+after_all K w [] = w
+after_all K w (s ∷ ss) = after_all K (after K w s) ss
 
 -- a key is posted, owed, or held as a pass
-abbrev pub IsKnown : World → ℕ → Type 0
+abbrev pub IsKnown : {C : Type 0} → World C → ℕ → Type 0
 IsKnown w k = (is_marked k w.board ≡ true) ⊎ (0 < w.debts k) ⊎ (0 < w.passes k)
 
--- no ring and no close is lost; calloop rests on the kernel for all three
-pub record IsCovered (w : World) : Type 0 where
-  -- a standing ring or an untold close is pinged, or a turn stands open
-  pub standing : (n : ℕ) → IsStanding (w.cells n)
+-- nothing that a cell was given is lost; calloop rests on the kernel for all three
+pub record IsCovered (K : Kind) (w : World K.Cell) : Type 0 where
+  -- what mustn't be lost in a cell is pinged, or a turn of the cell stands open
+  pub standing : (n : ℕ) → K.IsStanding (w.cells n)
   -- a pinged cell's key is known
-  pub pinged : (n k : ℕ) → (w.cells n).pinged ≡ true → (w.cells n).key ≡ Some k → IsKnown w k
+  pub pinged : (n k : ℕ) → K.pinged (w.cells n) ≡ true → K.key (w.cells n) ≡ Some k → IsKnown w k
   -- a key that is posted behind a look that found none is told: a nudge is owed, or the signal stands
   pub told : (k : ℕ) → w.loop ≢ Awake → is_marked k w.board ≡ true → (0 < w.nudges) ⊎ (w.signal ≡ true)

@@ -1,6 +1,6 @@
 //! The slots of the loop's sources, told apart by their versions. From calloop's `list.rs`.
-ghost use Rattle.std.specs.Prelude.{◌≡◌, ◌↔◌, ℕ, ◌+◌, ◌^◌, ◌<◌, ◌≤◌, List, [], ◌∷◌, ◌++◌, length, slice_get, is_some, if◌then◌else◌, IfOk, IfErr, IsErr, IsErrOf, OnOk, OnSome};
-ghost use Rattle.calloop_wake.specs.Slots.{named, changed, with_content, source_of, first_vacant, next_registration, claimed, CannotClaim};
+ghost use Rattle.std.specs.Prelude.{◌≡◌, ◌↔◌, ℕ, ◌+◌, ◌^◌, ◌<◌, ◌≤◌, List, [], ◌∷◌, ◌++◌, length, slice_get, is_some, if◌then◌else◌, Some, None, IfOk, IfErr, IsErr, IsErrOf, OnOk, OnSome};
+ghost use Rattle.calloop_wake.specs.Slots.{named, changed, with_content, source_of, is_in_turn, first_vacant, next_registration, claimed, after_turn, CannotClaim};
 ghost use Rattle.std.specs.Borrow.{sem};
 ghost use Rattle.calloop_wake.specs.Lendings.{LendsSource, LendsNamed};
 ghost use Rattle.calloop_wake.specs.declared.error.Error.TheVariants.{InvalidToken, OutOfMemory, TooManySources};
@@ -20,7 +20,7 @@ pub enum Content<S> {
     Vacant,
     /// A source.
     Source(S),
-    /// A source that is taken out for its turn.
+    /// A source that is taken out, for its turn or to be registered.
     InTurn,
 }
 
@@ -70,14 +70,24 @@ fn vacant_place<S>(slots: &[Slot<S>]) -> usize
     slots.len()
 }
 
-// A new slot, which is vacant.
+// Whether the source of the slot that the token names is taken out.
+fn is_in_turn<S>(slots: &[Slot<S>], token: RegistrationToken) -> bool
+    ensures { result ≡ is_in_turn (named slots.now token) }
+{
+    match slots.get(token.slot() as usize) {
+        Some(slot) => slot.version == token.version() && matches!(slot.content, Content::InTurn),
+        None => false,
+    }
+}
+
+// A new slot, for a source that is being registered.
 fn add<S: Drop>(slots: &mut Vec<Slot<S>>) -> Result<()>
-    ensures ok { OnOk result (slots.new.items ≡ slots.old.items ++ record { version = 0; content = Vacant } ∷ []) }
+    ensures ok { OnOk result (slots.new.items ≡ slots.old.items ++ record { version = 0; content = InTurn } ∷ []) }
     ensures err { IfErr result (λ e. (e ≡ OutOfMemory) × (slots.new.items ≡ slots.old.items)) }
 {
     slots.push(Slot {
         version: 0,
-        content: Content::Vacant,
+        content: Content::InTurn,
     })?;
     Ok(())
 }
@@ -99,11 +109,12 @@ fn claim<S: Drop>(slots: &mut Vec<Slot<S>>) -> Result<RegistrationToken>
     }
     let slot = &mut slots[place];
     slot.version = slot.version.wrapping_add(1);
+    slot.content = Content::InTurn;
     Ok(RegistrationToken::new(place as u32, slot.version))
 }
 
 // Puts this into the slot, and gives what stood there.
-fn put<S: Drop>(slots: &mut Vec<Slot<S>>, place: usize, content: Content<S>) -> Content<S>
+fn put<S>(slots: &mut Vec<Slot<S>>, place: usize, content: Content<S>) -> Content<S>
     requires { place < length slots.old.items }
     ensures items { slots.new.items ≡ changed (with_content content) slots.old.items place }
     ensures value { (s : Slot S) → slice_get slots.old.items place ≡ Some s → result ≡ s.content }
@@ -178,7 +189,8 @@ impl<S: Drop> SourceList<S> {
         source_mut(&mut slot.content)
     }
 
-    /// Claims the first vacant slot, or a new one, under its next version, and gives its name. It stays vacant.
+    /// Claims the first vacant slot, or a new one, under its next version, and gives its name. It counts as full, as while
+    /// its source has a turn, until `end_turn` puts the source there, or `vacate` gives it up.
     ///
     /// It refuses with `TooManySources` exactly where the slot's number would not fit 32 bits, and with `OutOfMemory`
     /// only where a new slot is to be added. After a refusal the list is as it was. Calloop panics or aborts there.
@@ -189,15 +201,6 @@ impl<S: Drop> SourceList<S> {
         ensures err { IfErr result (λ e. (self.new ≡ self.old) × CannotClaim self.old e) }
     {
         claim(&mut self.slots)
-    }
-
-    /// Puts this into the slot of that number, whatever its version, and gives what stood there.
-    pub fn replace(&mut self, slot: u32, content: Content<S>) -> Content<S>
-        requires { slot < length self.old }
-        ensures list { self.new ≡ changed (with_content content) self.old slot }
-        ensures value { (s : Slot S) → slice_get self.old slot ≡ Some s → result ≡ s.content }
-    {
-        put(&mut self.slots, slot as usize, content)
     }
 
     /// Takes out the source that the token names, for its turn, and leaves the slot in its turn.
@@ -214,6 +217,35 @@ impl<S: Drop> SourceList<S> {
         match put(&mut self.slots, token.slot() as usize, Content::InTurn) {
             Content::Source(s) => Some(s),
             _ => unreachable!(),
+        }
+    }
+
+    /// Puts a source that was taken out into its slot.
+    ///
+    /// Where the slot isn't in its turn under this version, it hands the source back, and the list stays as it is.
+    pub fn end_turn(&mut self, token: RegistrationToken, source: S) -> Option<S>
+        ensures value { result ≡ (if is_in_turn (named self.old token) then None else Some source) }
+        ensures list { self.new ≡ after_turn (Source source) token self.old }
+    {
+        if !is_in_turn(&self.slots, token) {
+            return Some(source);
+        }
+        let _taken_out = put(
+            &mut self.slots,
+            token.slot() as usize,
+            Content::Source(source),
+        );
+        None
+    }
+
+    /// Gives up the slot of a source that was taken out: it is vacant, under the same version.
+    ///
+    /// Where the slot isn't in its turn under this version, the list stays as it is.
+    pub fn vacate(&mut self, token: RegistrationToken)
+        ensures { self.new ≡ after_turn Vacant token self.old }
+    {
+        if is_in_turn(&self.slots, token) {
+            let _taken_out = put(&mut self.slots, token.slot() as usize, Content::Vacant);
         }
     }
 }

@@ -1,4 +1,4 @@
-ghost use Rattle.std.specs.Prelude.{◌≡◌, IfOk};
+ghost use Rattle.std.specs.Prelude.{◌≡◌, ◌<◌, ◌-◌, ◌^◌, IfOk};
 
 use crate::error::{Error, InsertError};
 use crate::list::{Content, SourceList};
@@ -6,7 +6,7 @@ use crate::token::{RegistrationToken, Token, TokenFactory, factory_tokens_differ
 use crate::wake::board::{Board, OpenRefusal};
 use crate::wake::ghosts::Name;
 use crate::wake::locked::{Core, Locked};
-use crate::wake::ping::{OpenedTurn, PingCore, covered};
+use crate::wake::ping::{OpenedTurn, PingCore, covered, lost_is_not_covered};
 use crate::wake::{Debt, Last, LeaveToClose, Notify, PingTurn, Sender, TakenPass, Twin};
 use crate::wheel::{Instant, Wheel};
 use counted_slot::Fits;
@@ -120,7 +120,7 @@ fn slots(rt: HostRuntime) {
     let mut list = SourceList::new(rt.alloc());
     let first = list.vacant().expect(&rt, "a slot");
     assert_eq!(rt; first, RegistrationToken::new(0, 0));
-    let _ = list.replace(first.slot(), Content::Source(5u8));
+    assert_eq!(rt; list.end_turn(first, 5u8), None);
     assert_eq!(rt; list.vacant().ok(), Some(RegistrationToken::new(1, 0)));
     if let Ok(source) = list.get_mut(first) {
         *source = 6;
@@ -129,16 +129,16 @@ fn slots(rt: HostRuntime) {
     assert_eq!(rt; list.begin_turn(first), Some(6));
     assert_eq!(rt; list.begin_turn(first), None);
     assert!(rt; matches!(list.get(first), Err(Error::InvalidToken)));
-    let _ = list.replace(first.slot(), Content::Vacant);
+    list.vacate(first);
+    assert_eq!(rt; list.end_turn(first, 6), Some(6));
     for reuse in 0..u16::MAX {
-        assert_eq!(rt;
-            list.vacant().ok(),
-            Some(RegistrationToken::new(0, reuse + 1))
-        );
+        let token = RegistrationToken::new(0, reuse + 1);
+        assert_eq!(rt; list.vacant().ok(), Some(token));
+        list.vacate(token);
     }
     let again = list.vacant().expect(&rt, "the slot");
     assert_eq!(rt; again, first);
-    let _ = list.replace(again.slot(), Content::Source(7));
+    assert_eq!(rt; list.end_turn(again, 7), None);
     assert!(rt; matches!(list.get(first), Ok(7)));
     assert!(rt;
         matches!(
@@ -195,8 +195,8 @@ const REFUSED: Turn = Turn::Refused { marked: true };
 
 impl Ends {
     fn new() -> Ends {
-        let (core, name) = PingCore::new();
-        let twin = core.receiver();
+        let (core, name, right) = PingCore::new();
+        let twin = core.receiver(right);
         Ends {
             lock: Locked::new(core, &name),
             twin,
@@ -232,12 +232,9 @@ impl Ends {
     }
 
     // Opens a place, and gives the cell its key.
-    fn register<R: Wait>(
-        &mut self,
-        rt: &R,
-        board: &mut Board,
-        key: u64,
-    ) -> Result<(), OpenRefusal> {
+    fn register<R: Wait>(&mut self, rt: &R, board: &mut Board, key: u64) -> Result<(), OpenRefusal>
+        requires { key < 2 ^ 64 - 1 }
+    {
         let pass = board.open_place(key)?;
         let (gate, mut core) = self.lock.lock(rt);
         let (debt, leave) = core.set_key(pass, &mut self.twin);
@@ -389,8 +386,9 @@ fn serve<R: Wait>(
 
 // Takes the marked keys.
 fn take_passes(alloc: Global, board: &mut Board) -> Result<VecDeque<TakenPass>, AllocError> {
-    let mut passes = VecDeque::with_capacity(alloc, board.places())?;
-    board.unpost(&mut passes);
+    let places = board.places();
+    let mut passes = VecDeque::with_capacity(alloc, places)?;
+    board.unpost(places, &mut passes);
     Ok(passes)
 }
 
@@ -505,6 +503,7 @@ fn cells_that_stand(rt: HostRuntime) {
 #[test]
 fn nudges(rt: HostRuntime) {
     covered();
+    lost_is_not_covered();
     let mut board = Board::new(rt.alloc());
     let mut cell = Ends::new();
     let mut other = Ends::new();

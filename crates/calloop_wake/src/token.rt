@@ -81,8 +81,8 @@ impl RegistrationToken {
     }
 }
 
-/// Gives a source the tokens of its registration, each once.
-#[derive(Clone, Copy, Debug)]
+/// Gives a source the tokens of its registration, each once: it can't be copied.
+#[derive(Debug, Drop)]
 pub struct TokenFactory {
     registration: RegistrationToken,
     given: u16,

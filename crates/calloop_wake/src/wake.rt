@@ -11,7 +11,9 @@ use std::marker::Model;
 pub mod board;
 pub mod ghosts;
 pub mod locked;
+pub mod notes;
 pub mod ping;
+pub mod watch;
 
 /// Its key has to be posted on the board.
 #[must_use]
@@ -114,6 +116,12 @@ pub struct Sender {
     pub(crate) name: Name,
 }
 
+/// The right to the receiving end of the cell of this name. There is one for each cell, made with it, and it can't be cloned.
+#[derive(Drop)]
+pub struct ReceivingRight {
+    pub(crate) name: Name,
+}
+
 /// The receiving end of the cell of this name: the key that it gave the cell, how many turns it opened, how many of them took a
 /// ring, and how many told the close. It is spent where the cell is abandoned.
 #[must_use]
@@ -126,7 +134,7 @@ pub struct Twin {
 }
 
 impl Twin {
-    /// Under which key the loop knows the cell.
+    /// The key that this end last gave the cell, where it didn't take it back.
     pub fn key(&self) -> Option<u64>
         ensures { result ≡ self.now.key }
     {

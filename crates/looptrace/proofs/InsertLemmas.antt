@@ -5,11 +5,11 @@ use Rattle.calloop_wake.specs.declared.error.InsertError.{InsertError}
 use Rattle.calloop_wake.specs.declared.token.RegistrationToken.{RegistrationToken}
 use Rattle.calloop_core.specs.declared.sources.Dispatcher.{Dispatcher}
 use Rattle.calloop_core.specs.declared.sys.script.ScriptPoller.{ScriptPoller}
-use Rattle.calloop.specs.declared.loop_logic.Call.TheVariants.{Insert}
-use Rattle.calloop.specs.declared.loop_logic.Answer.TheVariants.{Inserted}
+use Rattle.calloop.specs.declared.loop_logic.LoopCall.TheVariants.{Insert}
+use Rattle.calloop.specs.declared.loop_logic.LoopAnswer.TheVariants.{Inserted}
 use Rattle.calloop.specs.Machine.{View}
 use Rattle.calloop.specs.Rules.{held_answer}
-use Rattle.looptrace.specs.declared.source.Source.{Source}
+use Rattle.looptrace.specs.Sources.{Source}
 use Rattle.looptrace.specs.Named.{Named, is_taken}
 use Rattle.looptrace.specs.Runs.{Calls, Pending, InsertSays, InsertLine}
 

@@ -1,9 +1,9 @@
 pub mod Commands
 pub mod Lines
 pub mod Texts
+pub mod Faults
 pub mod Traces
 pub mod Says
 pub mod Sources
-pub mod Held
 pub mod Named
 pub mod Runs

@@ -1,6 +1,6 @@
 -- What a line of a script does with the loop, and what it prints: each line is a list of cases of the loop's machine,
 -- and its text is what they answered. The asked waits are those that the scripted poller notes.
-use Rattle.std.specs.Prelude.{◌≡◌, ℕ, ◌-◌, ◌^◌, ◌≤◌, ◌<◌, ◌&&◌, min, map, length, List, [], ◌∷◌, ◌++◌, if◌then◌else◌, nat_lt, Option, Some, None, IsSome, Result, Ok, Err, codes, vec_capacity, Bool, true, false}
+use Rattle.std.specs.Prelude.{◌≡◌, ℕ, ◌-◌, ◌^◌, ◌≤◌, ◌<◌, ◌&&◌, ◌||◌, min, map, length, List, [], ◌∷◌, ◌++◌, if◌then◌else◌, nat_lt, Option, Some, None, IsSome, Result, Ok, Err, codes, vec_capacity, Bool, true, false}
 use Rattle.std.specs.Option.{option_map}
 use Rattle.std.specs.Duration.{as_nanos}
 use Rattle.std.specs.declared.time.Duration.{Duration}
@@ -16,18 +16,19 @@ use Rattle.calloop_core.specs.declared.sys.script.ScriptEvents.{ScriptEvents}
 use Rattle.calloop_core.specs.declared.sys.script.ScriptEnd.TheVariants.{Events, Fault as FaultEnd}
 use Rattle.calloop_core.specs.declared.sys.script.ScriptPoller.{ScriptPoller}
 use Rattle.calloop_core.specs.Pollers.{nanos_of}
+use Rattle.calloop_core.specs.Polls.{is_filled}
 use Rattle.calloop_core.specs.ScriptPollers.{script_outside}
 use Rattle.calloop_core.specs.Timers.{unarmed}
-use Rattle.calloop.specs.declared.loop_logic.Call.{Call}
-use Rattle.calloop.specs.declared.loop_logic.Call.TheVariants.{Insert, Remove as RemoveCall, Dispatch as DispatchCall, Poller as NewPoller}
-use Rattle.calloop.specs.declared.loop_logic.Answer.{Answer}
-use Rattle.calloop.specs.declared.loop_logic.Answer.TheVariants.{Inserted, Removed, Dispatched, Poller as OldPoller}
+use Rattle.calloop.specs.declared.loop_logic.LoopCall.{LoopCall}
+use Rattle.calloop.specs.declared.loop_logic.LoopCall.TheVariants.{Insert, Remove as RemoveCall, Dispatch as DispatchCall, Poller as NewPoller}
+use Rattle.calloop.specs.declared.loop_logic.LoopAnswer.{LoopAnswer}
+use Rattle.calloop.specs.declared.loop_logic.LoopAnswer.TheVariants.{Inserted, Removed, Dispatched, Poller as OldPoller}
 use Rattle.calloop.specs.Machine.{World, View, IsNew, seen, view_of}
 use Rattle.calloop.specs.Rules.{Case, Did}
 use Rattle.looptrace.specs.declared.command.Command.{Command}
 use Rattle.looptrace.specs.declared.command.Command.TheVariants.{Nothing, Ping, Ring, Close, Remove, Answer as Event, Timer, Clock, Fault, Dispatch}
-use Rattle.looptrace.specs.declared.source.Source.{Source}
-use Rattle.looptrace.specs.declared.source.Source.TheVariants.{Ping as PingIn, Timer as TimerIn}
+use Rattle.calloop_core.specs.declared.sources.OneOf.{OneOf}
+use Rattle.calloop_core.specs.declared.sources.OneOf.TheVariants.{First, Other}
 use Rattle.looptrace.specs.declared.runner.PendingAnswer.{PendingAnswer}
 use Rattle.looptrace.specs.declared.runner.ScriptLoop.{ScriptLoop}
 use Rattle.looptrace.specs.Named.{Named, is_taken, ping_named, closed}
@@ -35,7 +36,12 @@ use Rattle.looptrace.specs.Lines.{lines_of}
 use Rattle.looptrace.specs.Traces.{Written, Writes}
 use Rattle.looptrace.specs.Commands.{command_of}
 use Rattle.looptrace.specs.Texts.{insert_text, wait_text, refused_text}
-use Rattle.looptrace.specs.Sources.{source_meaning}
+use Rattle.calloop_core.specs.declared.sources.Dispatcher.{Dispatcher}
+use Rattle.calloop_core.specs.declared.timer.Timer.{Timer as TimerSource}
+use Rattle.calloop.specs.declared.ping.PingSource.{PingSource}
+use Rattle.looptrace.specs.declared.source.Teller.{Teller}
+use Rattle.looptrace.specs.declared.source.Alarm.{Alarm}
+use Rattle.looptrace.specs.Sources.{Source, timer_in, source_meaning}
 
 -- the answer that waits for a wait: what the clock showed at its last event, and its events
 pub record Pending : Type 0 where
@@ -67,7 +73,7 @@ pub record IsStart {R : Type 0} (s : State R) : Type 0 where
   pub pending : s.pending ≡ None
 
 -- a call on the loop is a case of its machine
-abbrev pub Calls : {R : Type 0} → Call (Source R) ScriptPoller (Option (List ℕ)) → Answer (Source R) ScriptPoller (Option (List ℕ)) → View (Source R) ScriptPoller → View (Source R) ScriptPoller → Type 0
+abbrev pub Calls : {R : Type 0} → LoopCall (Source R) ScriptPoller (Option (List ℕ)) → LoopAnswer (Source R) ScriptPoller (Option (List ℕ)) → View (Source R) ScriptPoller → View (Source R) ScriptPoller → Type 0
 Calls call answer old new = Did (Case source_meaning script_outside call answer) old new
 
 -- the names of the refusals
@@ -107,14 +113,17 @@ InsertLine {R} s name made (Some (t, said)) =
     × InsertSays name ping answer s.sources t.sources said × (t.fault ≡ s.fault) × (t.pending ≡ s.pending)
 
 -- a source of a cell that no turn took a ring of, registered nowhere, with a callback that says its name, and the cell's ping
-abbrev pub IsNewPing : {R : Type 0} → List ℕ → Source R → Option Book → Type 0
-IsNewPing name (PingIn d) ping =
+abbrev pub IsPingOf : {R : Type 0} → List ℕ → OneOf (Dispatcher (PingSource R) Teller) (Dispatcher TimerSource Alarm) → Option Book → Type 0
+IsPingOf name (First d) ping =
     (d.source.twin.key ≡ None) × (d.source.twin.number ≡ 0) × (d.callback ≡ record { name = name }) × (ping ≡ Some d.source.twin.name)
-IsNewPing name (TimerIn d) ping = ⊥
+IsPingOf name (Other d) ping = ⊥
+
+abbrev pub IsNewPing : {R : Type 0} → List ℕ → Source R → Option Book → Type 0
+IsNewPing name s ping = IsPingOf name s.held ping
 
 -- a timer with a deadline, with a callback that says its name and the deadline
 abbrev pub new_timer : {R : Type 0} → List ℕ → (deadline : ℕ) → Source R
-new_timer name deadline = TimerIn (record { source = unarmed (Some (record { nanos = deadline })); callback = record { name = name } })
+new_timer name deadline = timer_in (record { source = unarmed (Some (record { nanos = deadline })); callback = record { name = name } })
 
 -- such a timer, without a ping
 abbrev pub IsNewTimer : {R : Type 0} → List ℕ → (deadline : ℕ) → Source R → Option Book → Type 0
@@ -171,42 +180,58 @@ AnswerLine s key readiness (Some (t, said)) =
     (length (events_of s.pending) < 1024)
     × (t ≡ record s { pending = Some (record { moment = s.loop.poll.poller.moment; events = events_of s.pending ++ (key, readiness) ∷ [] }) }) × (said ≡ [])
 
--- what the next wait gives: a fault where one is asked for, at the moment that the clock shows; else the pending answer
+-- What the next wait gives: a fault where one is asked for, at the moment that the clock shows, so that it leaves the
+-- clock unmoved; else the pending answer.
 abbrev pub NextAnswer : (fault : Bool) → Option Pending → (now : Instant) → List ScriptAnswer → Type 0
 NextAnswer true pending now answers = answers ≡ record { moment = now; end = FaultEnd } ∷ []
 NextAnswer false None now answers = answers ≡ []
-NextAnswer false (Some pending) now answers = (events : ScriptEvents) × (events.events.items ≡ pending.events) × (answers ≡ record { moment = pending.moment; end = Events events } ∷ [])
+NextAnswer false (Some pending) now answers =
+    (events : ScriptEvents) × (events.events.items ≡ pending.events)
+    × (answers ≡ record { moment = pending.moment; end = Events events } ∷ [])
 
--- a fault leaves the pending answer for the wait after it
-abbrev pub still_pending : (fault : Bool) → Option Pending → Option Pending
-still_pending fault pending = if fault then pending else None
-
--- the same poller with an empty list of asked waits, in which there is room for one, and with what the next wait gives
+-- the same poller with an empty list of asked waits, in which there is room for one, and with a script of just what the
+-- next wait gives
 pub record IsReady (fault : Bool) (pending : Option Pending) (p q : ScriptPoller) : Type 0 where
   pub moment : q.moment ≡ p.moment
-  pub next : List ScriptAnswer
-  pub next_is : NextAnswer fault pending p.moment next
-  pub answers : q.answers.items ≡ p.answers.items ++ next
+  pub answers : NextAnswer fault pending p.moment q.answers.items
   pub faults : q.faults ≡ p.faults
   pub none : q.waits.items ≡ []
   pub room : 1 ≤ vec_capacity q.waits
 
--- the text of a dispatch: the asked waits, then what the callbacks said, then the refusal; no fault is pending after it
+-- the same poller without a script
+pub record IsTakenBack (p q : ScriptPoller) : Type 0 where
+  pub moment : q.moment ≡ p.moment
+  pub answers : q.answers.items ≡ []
+  pub faults : q.faults ≡ p.faults
+  pub waits : q.waits ≡ p.waits
+
+-- Where the script stands still after a dispatch, that was refused before its wait, and what was pending stays so. Else the
+-- wait took a fault, which only delays the answer, or the answer.
+abbrev pub fault_after : (stands fault : Bool) → Bool
+fault_after stands fault = stands && fault
+
+abbrev pub pending_after : (stands fault : Bool) → Option Pending → Option Pending
+pending_after stands fault pending = if stands || fault then pending else None
+
+-- a dispatch over a poller that is ready for its wait, which is then without a script again; the text is the asked waits,
+-- then what the callbacks said, then the refusal
 pub record DispatchLine {R : Type 0} (s : State R) (timeout : Option ℕ) (t : State R) (said : List ℕ) : Type 0 where
-  pub old : ScriptPoller
-  pub new : ScriptPoller
-  pub ready : IsReady s.fault s.pending old new
-  pub mid : View (Source R) ScriptPoller
-  pub lent : Calls (NewPoller new) (OldPoller old) s.loop mid
+  pub ready : ScriptPoller
+  pub is_ready : IsReady s.fault s.pending s.loop.poll.poller ready
+  pub before : View (Source R) ScriptPoller
+  pub lent : Calls (NewPoller ready) (OldPoller s.loop.poll.poller) s.loop before
   pub limit : Option Duration
   pub limit_is : nanos_of limit ≡ timeout
   pub answer : Result (Unit {0}) Error
   pub called : List ℕ
-  pub dispatched : Calls (DispatchCall limit (Some [])) (Dispatched answer (Some called)) mid t.loop
+  pub after : View (Source R) ScriptPoller
+  pub dispatched : Calls (DispatchCall limit (Some [])) (Dispatched answer (Some called)) before after
+  pub is_back : IsTakenBack after.poll.poller t.loop.poll.poller
+  pub back : Calls (NewPoller t.loop.poll.poller) (OldPoller after.poll.poller) after t.loop
   pub sources : t.sources ≡ s.sources
-  pub fault : t.fault ≡ false
-  pub pending : t.pending ≡ still_pending s.fault s.pending
-  pub text : said ≡ (waits_text t.loop.poll.poller.waits.items ++ called) ++ answer_text answer
+  pub fault : t.fault ≡ fault_after (is_filled after.poll.poller.answers.items) s.fault
+  pub pending : t.pending ≡ pending_after (is_filled after.poll.poller.answers.items) s.fault s.pending
+  pub text : said ≡ (waits_text after.poll.poller.waits.items ++ called) ++ answer_text answer
 
 -- what a command does, and what it prints; nothing where the line can't be read
 abbrev pub Carried : {R : Type 0} → State R → Option Command → Option (State R × List ℕ) → Type 0

@@ -1,10 +1,13 @@
-ghost use Rattle.std.specs.Prelude.{◌≡◌, ◌++◌, ℕ, List, Option, Some, None, IfOk, IfSome};
+//! Carries out the lines of a script, one after the other.
+ghost use Rattle.std.specs.Prelude.{◌≡◌, ◌++◌, ℕ, List, Option, Some, None, IfOk, IfErr, OnOk, IfSome};
 ghost use Rattle.std.specs.Bool.{MatchBool};
 ghost use Rattle.std.specs.Io.KnownBytes.{Appends};
+ghost use Rattle.looptrace.specs.Faults.{IsCause};
 ghost use Rattle.looptrace.specs.Lines.{lines_of};
 ghost use Rattle.looptrace.specs.Traces.{Written, Writes};
 
-use crate::lines::{read_line, without_feed};
+use crate::lines::without_feed;
+use crate::streams::Streams;
 use std::alloc::Global;
 use std::io;
 use std::io::{BufRead, Write};
@@ -12,47 +15,53 @@ use std::sync::Wait;
 
 /// What carries out the lines of a script.
 pub trait Runner {
+    ghost use Rattle.std.specs.IoError.{error_kind};
+    ghost use Rattle.std.specs.declared.io.ErrorKind.TheVariants.{OutOfMemory};
+
     /// What one line may do: the state after it and its text, or nothing where the line can't be read.
     ghost step: { Self → List ℕ → Option (Self × List ℕ) → Type 0 };
 
     /// Carries out one line without its line feed, and appends what it prints to `text`.
-    /// False where the line can't be read. After an `Err`, a fault or want of memory, nothing is known of `text`.
+    /// False where the line can't be read. An `Err` is want of memory, and then nothing is known of `text`.
     fn line<Q: Wait>(&mut self, rt: &Q, line: &[u8], text: &mut Vec<u8>) -> io::Result<bool>
-        ensures { IfOk result (λ read. MatchBool read
+        ensures read { IfOk result (λ read. MatchBool read
             ((said : List ℕ) × (text.new.items ≡ text.old.items ++ said) × step self.old line.now (Some (self.new, said)))
-            (step self.old line.now None)) };
+            (step self.old line.now None)) }
+        ensures err { IfErr result (λ e. error_kind e ≡ OutOfMemory) };
 }
 
-/// Carries out the lines of `input`, writes each line's text to `output`, and answers the exit status:
-/// 0 at the end of the input, and 2 at the first line that can't be read, which `errors` then names by its number.
+/// Carries out the lines of the input, writes each line's text to the output, and answers the exit status:
+/// 0 at the end of the input, and 2 at the first line that can't be read, which the errors then name by its number.
+/// That number stays at 2^64 - 1 from there on.
+///
 /// An `Err` is a fault of reading or writing, or want of memory. What was carried out and written before it stays.
 pub fn drive<Q: Wait, L: Runner, R: BufRead, W: Write, E: Write>(
     rt: &Q,
     alloc: Global,
     runner: &mut L,
-    input: &mut R,
-    output: &mut W,
-    errors: &mut E,
+    streams: &mut Streams<R, W, E>,
 ) -> io::Result<u8>
-    ensures { IfOk result (λ status. IfSome (R.remaining input.old) (λ bytes. (w : Written) × Writes L.step runner.old 1 (lines_of bytes) w
-        × Appends (W.contents output.old) (W.contents output.new) w.out
-        × Appends (E.contents errors.old) (E.contents errors.new) w.err
+    ensures run { IfOk result (λ status. IfSome (R.remaining streams.old.input) (λ bytes. (w : Written) × Writes L.step runner.old 1 (lines_of bytes) w
+        × Appends (W.contents streams.old.output) (W.contents streams.new.output) w.out
+        × Appends (E.contents streams.old.errors) (E.contents streams.new.errors) w.err
         × (status ≡ w.status))) }
+    ensures none { OnOk result (streams.new.faults.count ≡ streams.old.faults.count) }
+    ensures err { IfErr result (λ e. IsCause e streams.old.faults.count streams.new.faults.count) }
 {
     let mut number = 1u64;
     let mut line = Vec::new(alloc);
     let mut text = Vec::new(alloc);
-    for _ in 0..u64::MAX {
-        if !read_line(input, &mut line)? {
+    for _ in rt.forever() {
+        if !streams.read_line(&mut line)? {
             return Ok(0);
         }
         text.clear();
         if !runner.line(rt, without_feed(&line), &mut text)? {
-            writeln!(errors, "error line {number}")?;
+            streams.refuse(number)?;
             return Ok(2);
         }
-        output.write_all(&text)?;
+        streams.say(&text)?;
         number = number.saturating_add(1);
     }
-    Err(io::Error::other("too many lines"))
+    unreachable!()
 }

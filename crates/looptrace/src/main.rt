@@ -8,26 +8,23 @@ pub mod name;
 pub mod named;
 pub mod runner;
 pub mod source;
+pub mod streams;
 #[cfg(test)]
 mod tests;
 pub mod text;
 pub mod trace;
 
+use crate::streams::Streams;
 use crate::trace::trace;
 use std::io::BufReader;
 use std::process::ExitCode;
 
 fn main(rt: HostRuntime) -> ExitCode {
-    let Ok(mut input) = BufReader::new(rt.alloc(), rt.reader()) else {
+    let Ok(input) = BufReader::new(rt.alloc(), rt.reader()) else {
         return ExitCode::FAILURE;
     };
-    match trace(
-        &rt,
-        rt.alloc(),
-        &mut input,
-        &mut rt.stdout(),
-        &mut rt.stderr(),
-    ) {
+    let mut streams = Streams::new(input, rt.stdout(), rt.stderr());
+    match trace(&rt, rt.alloc(), &mut streams) {
         Ok(status) => ExitCode::from(status),
         Err(_) => ExitCode::FAILURE,
     }

@@ -5,8 +5,9 @@ ghost use Rattle.std.specs.Option.{option_map};
 ghost use Rattle.std.specs.IoError.{error_kind};
 ghost use Rattle.std.specs.declared.io.ErrorKind.TheVariants.{OutOfMemory};
 ghost use Rattle.calloop_core.specs.Pollers.{nanos_of};
+ghost use Rattle.calloop_core.specs.Polls.{is_filled};
 ghost use Rattle.calloop.specs.Pings.{cell_of};
-ghost use Rattle.looptrace.specs.Runs.{token_with, removed_text, RemoveLine, Pending, pending_of, events_of, AnswerLine, NextAnswer, still_pending, word_of, waits_text, answer_text, nanos_in, IsStart, state_of, InsertSays, InsertLine, RingLine, CloseLine, ClockLine, IsReady, DispatchLine, Carried, IsNewPing, IsNewTimer};
+ghost use Rattle.looptrace.specs.Runs.{token_with, removed_text, RemoveLine, Pending, pending_of, events_of, AnswerLine, NextAnswer, fault_after, pending_after, IsTakenBack, word_of, waits_text, answer_text, nanos_in, IsStart, state_of, InsertSays, InsertLine, RingLine, CloseLine, ClockLine, IsReady, DispatchLine, Carried, IsNewPing, IsNewTimer};
 
 use crate::command::{Command, parse};
 use crate::driver::Runner;
@@ -159,44 +160,68 @@ fn is_full(pending: &Option<PendingAnswer>) -> bool
 fn next_answer(
     now: Instant,
     fault: bool,
-    pending: &mut Option<PendingAnswer>,
-) -> Option<ScriptAnswer>
-    ensures answer { NextAnswer fault (option_map pending_of pending.old) now (option_to_list result) }
-    ensures left { option_map pending_of pending.new ≡ still_pending fault (option_map pending_of pending.old) }
+    pending: &Option<PendingAnswer>,
+) -> Result<Option<ScriptAnswer>, AllocError>
+    ensures { IfOk result (λ answer. NextAnswer fault (option_map pending_of pending.now) now (option_to_list answer)) }
 {
     if fault {
-        return Some(ScriptAnswer {
+        return Ok(Some(ScriptAnswer {
             moment: now,
             end: ScriptEnd::Fault,
-        });
+        }));
     }
-    match pending.take() {
-        Some(answer) => Some(ScriptAnswer {
-            moment: answer.moment,
-            end: ScriptEnd::Events(answer.events),
-        }),
-        None => None,
-    }
+    let Some(pending) = pending else {
+        return Ok(None);
+    };
+    let events = pending.events.clone()?;
+    Ok(Some(ScriptAnswer {
+        moment: pending.moment,
+        end: ScriptEnd::Events(events),
+    }))
 }
 
-// Forgets the asked waits, and scripts what the next wait gives.
+// Forgets the asked waits, and scripts just what the next wait gives.
 fn make_ready(
     poller: &mut ScriptPoller,
     fault: bool,
-    pending: &mut Option<PendingAnswer>,
+    pending: &Option<PendingAnswer>,
 ) -> io::Result<()>
-    ensures ok { OnOk result (IsReady fault (option_map pending_of pending.old) poller.old poller.new) }
-    ensures left { OnOk result (option_map pending_of pending.new ≡ still_pending fault (option_map pending_of pending.old)) }
+    ensures ok { OnOk result (IsReady fault (option_map pending_of pending.now) poller.old poller.new) }
     ensures err { IfErr result (λ e. error_kind e ≡ OutOfMemory) }
 {
     poller.keep_waits(1)?;
-    let Some(answer) = next_answer(poller.moment(), fault, pending) else {
+    let _older = poller.unscript();
+    let Some(answer) = next_answer(poller.moment(), fault, pending)? else {
         return Ok(());
     };
     if poller.script(answer).is_err() {
         return Err(io::Error::from(io::ErrorKind::OutOfMemory));
     }
     Ok(())
+}
+
+// Says the waits that were asked, and takes back what was scripted and given to none of them. False where there was nothing
+// to take back.
+fn take_back(poller: &mut ScriptPoller, text: &mut Vec<u8>) -> Result<bool, AllocError>
+    ensures { IfOk result (λ stands. (text.new.items ≡ text.old.items ++ waits_text poller.old.waits.items)
+        × (stands ≡ is_filled poller.old.answers.items) × IsTakenBack poller.old poller.new) }
+{
+    append_waits(text, poller.waits())?;
+    Ok(poller.unscript().is_some())
+}
+
+// Whether the wait after a dispatch is to fail.
+fn fault_after(stands: bool, fault: bool) -> bool
+    ensures { result ≡ fault_after stands fault }
+{
+    stands && fault
+}
+
+// What is pending after a dispatch. A fault only delays the answer.
+fn pending_after(stands: bool, fault: bool, pending: Option<PendingAnswer>) -> Option<PendingAnswer>
+    ensures { option_map pending_of result ≡ pending_after stands fault (option_map pending_of pending) }
+{
+    if stands || fault { pending } else { None }
 }
 
 impl<R: Wait + Clone + Drop> ScriptLoop<R> {
@@ -235,7 +260,9 @@ impl<R: Wait + Clone + Drop> ScriptLoop<R> {
             name: Name::new(self.alloc, name.as_slice())?,
         };
         let kept = Name::new(self.alloc, name.as_slice())?;
-        let (ping, source) = make_ping(&self.rt, self.alloc)?;
+        let Ok((ping, source)) = make_ping(&self.rt, self.alloc) else {
+            return Err(io::Error::from(io::ErrorKind::OutOfMemory));
+        };
         let answer = self.event_loop.handle().insert_source(source, callback);
         keep(&mut self.sources, kept, Some(ping), answer, text)?;
         Ok(true)
@@ -336,17 +363,18 @@ impl<R: Wait + Clone + Drop> ScriptLoop<R> {
         make_ready(
             self.event_loop.handle().poller_mut(),
             self.fault,
-            &mut self.pending,
+            &self.pending,
         )?;
-        self.fault = false;
         let mut said = Said::new(self.alloc);
         let answer = self.event_loop.dispatch(rt, timeout_of(timeout), &mut said);
         let Some(called) = said.text() else {
             return Err(io::Error::from(io::ErrorKind::OutOfMemory));
         };
-        append_waits(text, self.event_loop.handle().poller_mut().waits())?;
+        let stands = take_back(self.event_loop.handle().poller_mut(), text)?;
         text.extend_from_slice(called)?;
         append_answer(text, &answer)?;
+        self.pending = pending_after(stands, self.fault, self.pending.take());
+        self.fault = fault_after(stands, self.fault);
         Ok(())
     }
 

@@ -6,15 +6,11 @@ ghost use Rattle.looptrace.specs.Texts.{call_text, alarm_text};
 
 use crate::name::Name;
 use crate::text::{append_alarm, append_call};
-use calloop::loop_logic::{EventDispatcher, Hold};
-use calloop::ping::PingSource;
 use calloop::{
-    Callback, Dispatch, Dispatcher, Instant, Poll, Poller, PostAction, Readiness, Result,
-    TimeoutAction, Timer, Token, TokenFactory,
+    Asking, Callback, Dispatcher, Instant, OneOf, PingSource, Sources, TimeoutAction, Timer,
 };
 use std::alloc::Global;
 use std::marker::Model;
-use std::sync::Wait;
 
 /// What the callbacks of a dispatch said. Want of memory for it is remembered, and then nothing is known of it.
 #[derive(Drop)]
@@ -76,12 +72,12 @@ pub struct Teller {
     pub name: Name,
 }
 
-impl Callback<(), (), (), Said> for Teller {
+impl<Q: Asking> Callback<(), (), (), Said, Q> for Teller {
     ghost use Rattle.looptrace.specs.Sources.{tells};
 
     ghost may = { tells };
 
-    fn call(&mut self, _event: (), _metadata: &mut (), said: &mut Said) {
+    fn call(&mut self, _event: (), _metadata: &mut (), said: &mut Said, _requests: &mut Q) {
         said.call(self.name.as_slice());
     }
 }
@@ -92,97 +88,25 @@ pub struct Alarm {
     pub name: Name,
 }
 
-impl Callback<Instant, (), TimeoutAction, Said> for Alarm {
+impl<Q: Asking> Callback<Instant, (), TimeoutAction, Said, Q> for Alarm {
     ghost use Rattle.looptrace.specs.Sources.{tells_deadline};
 
     ghost may = { tells_deadline };
 
-    fn call(&mut self, deadline: Instant, _metadata: &mut (), said: &mut Said) -> TimeoutAction {
+    fn call(
+        &mut self,
+        deadline: Instant,
+        _metadata: &mut (),
+        said: &mut Said,
+        _requests: &mut Q,
+    ) -> TimeoutAction {
         said.alarm(self.name.as_slice(), deadline);
         TimeoutAction::Drop
     }
 }
 
 /// The sources of a script.
-#[derive(Drop)]
-pub enum Source<R: Wait + Drop> {
-    Ping(Dispatcher<PingSource<R>, Teller>),
-    Timer(Dispatcher<Timer, Alarm>),
-}
-
-impl<P: Poller, C, R: Wait + Drop> EventDispatcher<P, C, R> for Source<R> {
-    ghost use Rattle.looptrace.specs.Sources.{source_meaning};
-    ghost use Rattle.looptrace.specs.Held.{source_keeps};
-
-    type Data = Said;
-
-    ghost means = { source_meaning };
-
-    fn register(&mut self, poll: &mut Poll<P, C, R>, factory: &mut TokenFactory) -> Result<()> {
-        match self {
-            Source::Ping(ping) => Dispatch::<P, C, R, Said>::register(ping, poll, factory),
-            Source::Timer(timer) => Dispatch::<P, C, R, Said>::register(timer, poll, factory),
-        }
-    }
-
-    fn reregister(&mut self, poll: &mut Poll<P, C, R>, factory: &mut TokenFactory) -> Result<()> {
-        match self {
-            Source::Ping(ping) => Dispatch::<P, C, R, Said>::reregister(ping, poll, factory),
-            Source::Timer(timer) => Dispatch::<P, C, R, Said>::reregister(timer, poll, factory),
-        }
-    }
-
-    fn unregister(&mut self, poll: &mut Poll<P, C, R>) -> Result<()> {
-        match self {
-            Source::Ping(ping) => Dispatch::<P, C, R, Said>::unregister(ping, poll),
-            Source::Timer(timer) => Dispatch::<P, C, R, Said>::unregister(timer, poll),
-        }
-    }
-
-    fn process_events(
-        &mut self,
-        readiness: Readiness,
-        token: Token,
-        poll: &mut Poll<P, C, R>,
-        data: &mut Said,
-    ) -> Result<PostAction> {
-        match self {
-            Source::Ping(ping) => ping.process_events(readiness, token, poll, data),
-            Source::Timer(timer) => timer.process_events(readiness, token, poll, data),
-        }
-    }
-
-    ghost keeps = { source_keeps };
-}
-
-impl<P: Poller, C, R: Wait + Drop> Hold<PingSource<R>, Teller, P, C, R> for Source<R> {
-    ghost use Rattle.std.specs.Prelude.{◌≡◌};
-    ghost use Rattle.looptrace.specs.declared.source.Source.TheVariants.{Ping};
-    ghost use Rattle.looptrace.specs.Held.{ping_held};
-
-    ghost held = { λ d. Ping d };
-
-    fn hold(dispatcher: Dispatcher<PingSource<R>, Teller>) -> Source<R>
-        ensures { result ≡ Ping dispatcher }
-    {
-        Source::Ping(dispatcher)
-    }
-
-    ghost held_means = { ping_held };
-}
-
-impl<P: Poller, C, R: Wait + Drop> Hold<Timer, Alarm, P, C, R> for Source<R> {
-    ghost use Rattle.std.specs.Prelude.{◌≡◌};
-    ghost use Rattle.looptrace.specs.declared.source.Source.TheVariants.{Timer as TimerIn};
-    ghost use Rattle.looptrace.specs.Held.{timer_held};
-
-    ghost held = { λ d. TimerIn d };
-
-    fn hold(dispatcher: Dispatcher<Timer, Alarm>) -> Source<R>
-        ensures { result ≡ TimerIn dispatcher }
-    {
-        Source::Timer(dispatcher)
-    }
-
-    ghost held_means = { timer_held };
-}
+pub type Source<R> = Sources<
+    OneOf<Dispatcher<PingSource<R>, Teller>, Dispatcher<Timer, Alarm>>,
+    Said,
+>;

@@ -6,6 +6,7 @@ use crate::command::{Command, parse};
 use crate::driver::{Runner, drive};
 use crate::lines::{read_line, without_feed};
 use crate::name::Name;
+use crate::streams::Streams;
 use crate::text::{append_alarm, append_call, append_insert, append_refused, append_wait};
 use crate::trace::trace;
 use std::alloc::Global;
@@ -210,10 +211,9 @@ fn counted<Q: Wait>(
     script: &[u8],
 ) -> io::Result<(u8, u64, Vec<u8>, Vec<u8>)> {
     let mut counter = Counter { count: 0 };
-    let (mut out, mut err) = (Vec::new(alloc), Vec::new(alloc));
-    let mut input = script;
-    let status = drive(rt, alloc, &mut counter, &mut input, &mut out, &mut err)?;
-    Ok((status, counter.count, out, err))
+    let mut streams = Streams::new(script, Vec::new(alloc), Vec::new(alloc));
+    let status = drive(rt, alloc, &mut counter, &mut streams)?;
+    Ok((status, counter.count, streams.output, streams.errors))
 }
 
 #[test]
@@ -276,23 +276,19 @@ fn is_fault(answer: io::Result<u8>, kind: io::ErrorKind) -> bool {
 fn an_output_that_is_full(rt: HostRuntime) -> Result<(), Fail> {
     let all = b"call up\ncall up\n";
     for fault in 0..17 {
-        let mut output = make_full(rt.alloc(), fault);
-        let mut errors = Vec::new(rt.alloc());
-        let answer = drive(
-            &rt,
-            rt.alloc(),
-            &mut Counter { count: 0 },
-            &mut b"up\nup\n".as_slice(),
-            &mut output,
-            &mut errors,
+        let mut streams = Streams::new(
+            b"up\nup\n".as_slice(),
+            make_full(rt.alloc(), fault),
+            Vec::new(rt.alloc()),
         );
+        let answer = drive(&rt, rt.alloc(), &mut Counter { count: 0 }, &mut streams);
         if fault == 16 {
             assert_eq!(rt; answer?, 0);
         } else {
             assert!(rt; is_fault(answer, io::ErrorKind::StorageFull));
         }
-        assert_eq!(rt; output.taken.as_slice(), &all[..fault]);
-        assert!(rt; errors.is_empty());
+        assert_eq!(rt; streams.output.taken.as_slice(), &all[..fault]);
+        assert!(rt; streams.errors.is_empty());
     }
     Ok(())
 }
@@ -301,23 +297,19 @@ fn an_output_that_is_full(rt: HostRuntime) -> Result<(), Fail> {
 fn errors_that_are_full(rt: HostRuntime) -> Result<(), Fail> {
     let all = b"error line 2\n";
     for fault in 0..14 {
-        let mut output = Vec::new(rt.alloc());
-        let mut errors = make_full(rt.alloc(), fault);
-        let answer = drive(
-            &rt,
-            rt.alloc(),
-            &mut Counter { count: 0 },
-            &mut b"up\ndown\n".as_slice(),
-            &mut output,
-            &mut errors,
+        let mut streams = Streams::new(
+            b"up\ndown\n".as_slice(),
+            Vec::new(rt.alloc()),
+            make_full(rt.alloc(), fault),
         );
+        let answer = drive(&rt, rt.alloc(), &mut Counter { count: 0 }, &mut streams);
         if fault == 13 {
             assert_eq!(rt; answer?, 2);
         } else {
             assert!(rt; is_fault(answer, io::ErrorKind::StorageFull));
         }
-        assert_eq!(rt; errors.taken.as_slice(), &all[..fault]);
-        assert_eq!(rt; output.as_slice(), b"call up\n".as_slice());
+        assert_eq!(rt; streams.errors.taken.as_slice(), &all[..fault]);
+        assert_eq!(rt; streams.output.as_slice(), b"call up\n".as_slice());
     }
     Ok(())
 }
@@ -366,15 +358,12 @@ impl BufRead for Broken<'_> {
 #[test]
 fn a_reader_that_is_broken(rt: HostRuntime) -> Result<(), Fail> {
     for fault in 0..8 {
-        let (mut output, mut errors) = (Vec::new(rt.alloc()), Vec::new(rt.alloc()));
-        let answer = drive(
-            &rt,
-            rt.alloc(),
-            &mut Counter { count: 0 },
-            &mut make_broken(b"up\nup\n", fault),
-            &mut output,
-            &mut errors,
+        let mut streams = Streams::new(
+            make_broken(b"up\nup\n", fault),
+            Vec::new(rt.alloc()),
+            Vec::new(rt.alloc()),
         );
+        let answer = drive(&rt, rt.alloc(), &mut Counter { count: 0 }, &mut streams);
         if fault == 7 {
             assert_eq!(rt; answer?, 0);
         } else {
@@ -385,8 +374,8 @@ fn a_reader_that_is_broken(rt: HostRuntime) -> Result<(), Fail> {
             3..6 => b"call up\n".as_slice(),
             _ => b"call up\ncall up\n".as_slice(),
         };
-        assert_eq!(rt; output.as_slice(), want);
-        assert!(rt; errors.is_empty());
+        assert_eq!(rt; streams.output.as_slice(), want);
+        assert!(rt; streams.errors.is_empty());
     }
     Ok(())
 }
@@ -397,10 +386,9 @@ fn traced<Q: Wait + Clone + Drop>(
     alloc: Global,
     script: &[u8],
 ) -> io::Result<(u8, Vec<u8>, Vec<u8>)> {
-    let (mut out, mut err) = (Vec::new(alloc), Vec::new(alloc));
-    let mut input = script;
-    let status = trace(rt, alloc, &mut input, &mut out, &mut err)?;
-    Ok((status, out, err))
+    let mut streams = Streams::new(script, Vec::new(alloc), Vec::new(alloc));
+    let status = trace(rt, alloc, &mut streams)?;
+    Ok((status, streams.output, streams.errors))
 }
 
 #[test]
@@ -529,17 +517,19 @@ fn runs_that_end_early(rt: HostRuntime) -> Result<(), Fail> {
 fn run_to_a_full_output(rt: HostRuntime) -> Result<(), Fail> {
     let all = b"insert a 0 0\nwait 0\ncall a\n";
     for fault in 0..28 {
-        let mut output = make_full(rt.alloc(), fault);
-        let mut errors = Vec::new(rt.alloc());
-        let mut input = b"ping a\nring a\ndispatch 0\n".as_slice();
-        let answer = trace(&rt, rt.alloc(), &mut input, &mut output, &mut errors);
+        let mut streams = Streams::new(
+            b"ping a\nring a\ndispatch 0\n".as_slice(),
+            make_full(rt.alloc(), fault),
+            Vec::new(rt.alloc()),
+        );
+        let answer = trace(&rt, rt.alloc(), &mut streams);
         if fault == 27 {
             assert_eq!(rt; answer?, 0);
         } else {
             assert!(rt; is_fault(answer, io::ErrorKind::StorageFull));
         }
-        assert_eq!(rt; output.taken.as_slice(), &all[..fault]);
-        assert!(rt; errors.is_empty());
+        assert_eq!(rt; streams.output.taken.as_slice(), &all[..fault]);
+        assert!(rt; streams.errors.is_empty());
     }
     Ok(())
 }
@@ -548,17 +538,19 @@ fn run_to_a_full_output(rt: HostRuntime) -> Result<(), Fail> {
 fn run_to_full_errors(rt: HostRuntime) -> Result<(), Fail> {
     let all = b"error line 2\n";
     for fault in 0..14 {
-        let mut output = Vec::new(rt.alloc());
-        let mut errors = make_full(rt.alloc(), fault);
-        let mut input = b"ping a\nring b\nping c\n".as_slice();
-        let answer = trace(&rt, rt.alloc(), &mut input, &mut output, &mut errors);
+        let mut streams = Streams::new(
+            b"ping a\nring b\nping c\n".as_slice(),
+            Vec::new(rt.alloc()),
+            make_full(rt.alloc(), fault),
+        );
+        let answer = trace(&rt, rt.alloc(), &mut streams);
         if fault == 13 {
             assert_eq!(rt; answer?, 2);
         } else {
             assert!(rt; is_fault(answer, io::ErrorKind::StorageFull));
         }
-        assert_eq!(rt; errors.taken.as_slice(), &all[..fault]);
-        assert_eq!(rt; output.as_slice(), b"insert a 0 0\n".as_slice());
+        assert_eq!(rt; streams.errors.taken.as_slice(), &all[..fault]);
+        assert_eq!(rt; streams.output.as_slice(), b"insert a 0 0\n".as_slice());
     }
     Ok(())
 }
@@ -566,9 +558,12 @@ fn run_to_full_errors(rt: HostRuntime) -> Result<(), Fail> {
 #[test]
 fn run_from_a_broken_reader(rt: HostRuntime) -> Result<(), Fail> {
     for fault in 0..27 {
-        let (mut output, mut errors) = (Vec::new(rt.alloc()), Vec::new(rt.alloc()));
-        let mut input = make_broken(b"ping a\nring a\ndispatch 0\n", fault);
-        let answer = trace(&rt, rt.alloc(), &mut input, &mut output, &mut errors);
+        let mut streams = Streams::new(
+            make_broken(b"ping a\nring a\ndispatch 0\n", fault),
+            Vec::new(rt.alloc()),
+            Vec::new(rt.alloc()),
+        );
+        let answer = trace(&rt, rt.alloc(), &mut streams);
         if fault == 26 {
             assert_eq!(rt; answer?, 0);
         } else {
@@ -579,8 +574,8 @@ fn run_from_a_broken_reader(rt: HostRuntime) -> Result<(), Fail> {
             7..25 => b"insert a 0 0\n".as_slice(),
             _ => b"insert a 0 0\nwait 0\ncall a\n".as_slice(),
         };
-        assert_eq!(rt; output.as_slice(), want);
-        assert!(rt; errors.is_empty());
+        assert_eq!(rt; streams.output.as_slice(), want);
+        assert!(rt; streams.errors.is_empty());
     }
     Ok(())
 }

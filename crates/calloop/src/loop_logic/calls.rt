@@ -3,7 +3,7 @@ ghost use Rattle.std.specs.Prelude.{◌≡◌, IfOk, IfErr, OnErr};
 ghost use Rattle.calloop.specs.Machine.{view_of};
 ghost use Rattle.calloop.specs.Rules.{Case, Did, RunLeads};
 
-use super::{Answer, Call, EventDispatcher, EventLoop};
+use super::{EventDispatcher, EventLoop, LoopAnswer, LoopCall};
 use calloop_core::sys::{Clock, Poller};
 use std::alloc::Global;
 use std::collections::VecDeque;
@@ -12,21 +12,27 @@ use std::sync::Wait;
 
 impl<D: EventDispatcher<P, C, R>, P: Poller, C: Clock, R: Wait + Drop> EventLoop<D, P, C, R> {
     /// Carries out one call.
-    pub fn carry_out<Q: Wait>(&mut self, rt: &Q, call: Call<D, P, D::Data>) -> Answer<D, P, D::Data>
+    pub fn carry_out<Q: Wait>(
+        &mut self,
+        rt: &Q,
+        call: LoopCall<D, P, D::Data>,
+    ) -> LoopAnswer<D, P, D::Data>
         ensures { Did (Case D.means P.outside call result) (view_of self.old) (view_of self.new) }
     {
         match call {
-            Call::Insert(dispatcher) => Answer::Inserted(self.insert(dispatcher)),
-            Call::Enable(token) => Answer::Enabled(self.enable(token)),
-            Call::Update(token) => Answer::Updated(self.update(token)),
-            Call::Disable(token) => Answer::Disabled(self.disable(token)),
-            Call::Remove(token) => Answer::Removed(self.remove(token)),
-            Call::Dispatch(timeout, data) => {
+            LoopCall::Insert(dispatcher) => LoopAnswer::Inserted(self.insert(dispatcher)),
+            LoopCall::Enable(token) => LoopAnswer::Enabled(self.enable(token)),
+            LoopCall::Update(token) => LoopAnswer::Updated(self.update(token)),
+            LoopCall::Disable(token) => LoopAnswer::Disabled(self.disable(token)),
+            LoopCall::Remove(token) => LoopAnswer::Removed(self.remove(token)),
+            LoopCall::Dispatch(timeout, data) => {
                 let mut data = data;
                 let answer = self.dispatch(rt, timeout, &mut data);
-                Answer::Dispatched(answer, data)
+                LoopAnswer::Dispatched(answer, data)
             }
-            Call::Poller(poller) => { Answer::Poller(mem::replace(self.poll.poller_mut(), poller)) }
+            LoopCall::Poller(poller) => {
+                LoopAnswer::Poller(mem::replace(self.poll.poller_mut(), poller))
+            }
         }
     }
 
@@ -36,8 +42,8 @@ impl<D: EventDispatcher<P, C, R>, P: Poller, C: Clock, R: Wait + Drop> EventLoop
         &mut self,
         rt: &Q,
         alloc: Global,
-        calls: VecDeque<Call<D, P, D::Data>>,
-    ) -> Result<Vec<Answer<D, P, D::Data>>, VecDeque<Call<D, P, D::Data>>>
+        calls: VecDeque<LoopCall<D, P, D::Data>>,
+    ) -> Result<Vec<LoopAnswer<D, P, D::Data>>, VecDeque<LoopCall<D, P, D::Data>>>
     where
         D::Data: Drop,
         ensures run { IfOk result (λ answers. RunLeads D.means P.outside calls.items answers.items (view_of self.old) (view_of self.new)) }

@@ -1,20 +1,20 @@
 //! A dispatch: the wait, the batch, and the turns of its events.
-ghost use Rattle.std.specs.Prelude.{◌≡◌, ◌<◌, length, Ok, Err, IfOk, IfErr, true};
+ghost use Rattle.std.specs.Prelude.{◌≡◌, ◌<◌, Ok, Err, IfOk, IfErr, true};
 ghost use Rattle.std.specs.VecDeque.{deque_len};
 ghost use Rattle.calloop_wake.specs.declared.error.Error.TheVariants.{OutOfMemory};
 ghost use Rattle.calloop_core.specs.Pollers.{nanos_of};
-ghost use Rattle.calloop.specs.declared.loop_logic.Call.TheVariants.{Dispatch};
-ghost use Rattle.calloop.specs.declared.loop_logic.Answer.TheVariants.{Dispatched};
+ghost use Rattle.calloop.specs.declared.loop_logic.LoopCall.TheVariants.{Dispatch};
+ghost use Rattle.calloop.specs.declared.loop_logic.LoopAnswer.TheVariants.{Dispatched};
 ghost use Rattle.calloop.specs.Machine.{World, IsNew, seen, view_of};
-ghost use Rattle.calloop.specs.Rules.{Case, Did, Leads, Goes, Cutting, Ending, Leaving, after_hand_out};
+ghost use Rattle.calloop.specs.Rules.{Case, Did, Leads, Goes, Cutting, Ending, Returning, Leaving, Outcome, after_turn, after_hand_out};
 
-use super::{EventDispatcher, EventLoop, LoopHandle};
+use super::{EventDispatcher, EventLoop, LoopHandle, Requests};
 use calloop_core::sources::PostAction;
 use calloop_core::sys::poll::Poll;
 use calloop_core::sys::{Clock, Poller};
 use calloop_wake::error::Result;
-use calloop_wake::list::{Content, SourceList};
-use calloop_wake::token::Token;
+use calloop_wake::list::SourceList;
+use calloop_wake::token::{RegistrationToken, TokenFactory};
 use std::alloc::Global;
 use std::sync::Wait;
 use std::time::Duration;
@@ -27,11 +27,9 @@ impl<D: EventDispatcher<P, C, R>, P: Poller, C: Clock, R: Wait + Drop> EventLoop
         ensures ok { IfOk result (λ made. (w : World D P) × IsNew w × (w.poll.poller ≡ poller) × (seen w ≡ view_of made)) }
         ensures err { IfErr result (λ e. e ≡ OutOfMemory) }
     {
-        let mut poll = Poll::new(rt.clone()?, alloc, poller, clock)?;
-        poll.reserve()?;
         Ok(EventLoop {
             sources: SourceList::new(alloc),
-            poll,
+            poll: Poll::new(rt.clone()?, alloc, poller, clock)?,
         })
     }
 
@@ -47,8 +45,9 @@ impl<D: EventDispatcher<P, C, R>, P: Poller, C: Clock, R: Wait + Drop> EventLoop
     /// and gives each source its turn.
     ///
     /// Want of memory for the batch changes nothing. A fault of the wait is `IoError`, and leaves posted keys
-    /// posted. The error of a turn ends the dispatch; the rest of the batch comes first in the next one. A source that
-    /// answers `Remove` leaves the loop, and is then unregistered; a failure of that is not answered.
+    /// posted. The error of a turn ends the dispatch; the rest of the batch comes first in the next one. After its turn a
+    /// source is registered anew, unregistered, or leaves its slot, as it answered; a refusal of the first two is an error
+    /// of the turn. One that left its slot is unregistered last; a failure of that is not answered.
     pub fn dispatch<Q: Wait>(
         &mut self,
         rt: &Q,
@@ -71,37 +70,75 @@ impl<D: EventDispatcher<P, C, R>, P: Poller, C: Clock, R: Wait + Drop> EventLoop
         let Some(event) = self.poll.next_event() else {
             return Ok(false);
         };
-        let Some(mut source) = self.sources.begin_turn(event.token.registration()) else {
+        let token = event.token.registration();
+        let Some(mut source) = self.sources.begin_turn(token) else {
             self.poll.end_event();
             return Ok(true);
         };
-        let answer = source.process_events(event.readiness, event.token, &mut self.poll, data);
-        self.end_turn(event.token, source, answer)
+        let mut requests = Requests::new();
+        let answer = source.process_events(
+            event.readiness,
+            event.token,
+            &mut self.poll,
+            data,
+            &mut requests,
+        );
+        self.end_turn(token, source, answer)
     }
 
-    // The turn of a source is over: it goes back to its slot, or leaves the loop.
-    fn end_turn(&mut self, token: Token, source: D, answer: Result<PostAction>) -> Result<bool>
-        requires { token.slot < length self.old.sources }
+    // The turn of a source is over: its post action is taken, and it goes back to its slot, where that is still in its turn.
+    fn end_turn(
+        &mut self,
+        token: RegistrationToken,
+        source: D,
+        answer: Result<PostAction>,
+    ) -> Result<bool>
         ensures machine { (x : D.Data) → Goes D.means P.outside (Ending token source answer x) (after_hand_out result x) (view_of self.old) (view_of self.new) }
         ensures batch { self.new.poll.batch.items ≡ self.old.poll.batch.items }
     {
-        let slot = token.registration().slot();
+        let mut source = source;
+        let told = self.act(token, &mut source, answer);
+        self.give_back(token, source);
+        match told {
+            Ok(()) => Ok(true),
+            Err(error) => Err(error),
+        }
+    }
+
+    // Puts a source back into its slot. One whose slot isn't in its turn any more is unregistered and dropped.
+    fn give_back(&mut self, token: RegistrationToken, source: D)
+        ensures machine { (told : Outcome) (x : D.Data) → Goes D.means P.outside (Returning token source told x) (after_turn told x) (view_of self.old) (view_of self.new) }
+        ensures batch { self.new.poll.batch.items ≡ self.old.poll.batch.items }
+    {
+        let Some(mut left) = self.sources.end_turn(token, source) else {
+            return;
+        };
+        let _ = left.unregister(&mut self.poll);
+    }
+
+    // The post action of a turn; after an error there is none. `Remove` empties the source's slot.
+    fn act(
+        &mut self,
+        token: RegistrationToken,
+        source: &mut D,
+        answer: Result<PostAction>,
+    ) -> Result<()>
+        ensures machine { (x : D.Data) → Goes D.means P.outside (Ending token source.old answer x) (Returning token source.new result x) (view_of self.old) (view_of self.new) }
+        ensures batch { self.new.poll.batch.items ≡ self.old.poll.batch.items }
+    {
         self.poll.end_event();
         match answer {
-            Ok(PostAction::Continue) => {
-                let _was = self.sources.replace(slot, Content::Source(source));
-                Ok(true)
+            Ok(PostAction::Continue) => Ok(()),
+            Ok(PostAction::Reregister) => {
+                let mut factory = TokenFactory::new(token);
+                source.reregister(&mut self.poll, &mut factory)
             }
+            Ok(PostAction::Disable) => source.unregister(&mut self.poll),
             Ok(PostAction::Remove) => {
-                let _was = self.sources.replace(slot, Content::Vacant);
-                let mut source = source;
-                let _ = source.unregister(&mut self.poll);
-                Ok(true)
+                self.sources.vacate(token);
+                Ok(())
             }
-            Err(error) => {
-                let _was = self.sources.replace(slot, Content::Source(source));
-                Err(error)
-            }
+            Err(cause) => Err(cause),
         }
     }
 

@@ -5,30 +5,29 @@ ghost use Rattle.std.specs.Prelude.{[]};
 ghost use mir.Syntax.{named};
 ghost use Rattle.calloop.specs.contracts.loop_logic.LoopHandle.{the_row};
 ghost use Rattle.calloop.specs.Lending.{with_handle_poller};
-ghost use Rattle.calloop.specs.declared.loop_logic.Call.TheVariants.{Insert, Enable, Update, Disable, Remove};
-ghost use Rattle.calloop.specs.declared.loop_logic.Answer.TheVariants.{Inserted, Enabled, Updated, Disabled, Removed};
+ghost use Rattle.calloop.specs.declared.loop_logic.LoopCall.TheVariants.{Insert, Enable, Update, Disable, Remove};
+ghost use Rattle.calloop.specs.declared.loop_logic.LoopAnswer.TheVariants.{Inserted, Enabled, Updated, Disabled, Removed};
 ghost use Rattle.calloop.specs.Machine.{view_of};
 ghost use Rattle.calloop.specs.Rules.{Case, Did, Leads, held_answer};
 
-use super::{EventDispatcher, EventLoop, Hold, LoopHandle};
-use calloop_core::sources::{Callback, Dispatcher, EventSource};
+use super::{EventDispatcher, EventLoop, LoopHandle, Requests};
+use calloop_core::sources::{Callback, Dispatcher, EventSource, Hold};
 use calloop_core::sys::{Clock, Poller};
 use calloop_wake::error::{Error, InsertError, Result};
-use calloop_wake::list::Content;
 use calloop_wake::token::{RegistrationToken, TokenFactory};
 use std::sync::Wait;
 
 impl<D: EventDispatcher<P, C, R>, P: Poller, C: Clock, R: Wait + Drop> EventLoop<D, P, C, R> {
     // Registers a source in the first vacant slot.
-    fn insert_source<S, F>(
+    fn insert_source<S, F, N>(
         &mut self,
         source: S,
         callback: F,
     ) -> std::result::Result<RegistrationToken, InsertError<S>>
     where
-        D: Hold<S, F, P, C, R>,
+        D: Hold<S, F, P, C, R, D::Data, Requests<D>, N>,
         S: EventSource<P, C, R>,
-        F: Callback<S::Event, S::Metadata, S::Ret, D::Data> + Drop,
+        F: Callback<S::Event, S::Metadata, S::Ret, D::Data, Requests<D>> + Drop,
         ensures { Did (Case D.means P.outside (Insert (D.held (record { source = source; callback = callback }))) (Inserted (held_answer D.held callback result))) (view_of self.old) (view_of self.new) }
     {
         let mut source = source;
@@ -45,13 +44,16 @@ impl<D: EventDispatcher<P, C, R>, P: Poller, C: Clock, R: Wait + Drop> EventLoop
         match source.register(&mut self.poll, &mut factory) {
             Ok(()) => {
                 let held = D::hold(Dispatcher { source, callback });
-                let _was = self.sources.replace(token.slot(), Content::Source(held));
+                let _none = self.sources.end_turn(token, held);
                 Ok(token)
             }
-            Err(error) => Err(InsertError {
-                inserted: source,
-                error,
-            }),
+            Err(error) => {
+                self.sources.vacate(token);
+                Err(InsertError {
+                    inserted: source,
+                    error,
+                })
+            }
         }
     }
 
@@ -70,12 +72,13 @@ impl<D: EventDispatcher<P, C, R>, P: Poller, C: Clock, R: Wait + Drop> EventLoop
         let mut factory = TokenFactory::new(token);
         match inserted.register(&mut self.poll, &mut factory) {
             Ok(()) => {
-                let _was = self
-                    .sources
-                    .replace(token.slot(), Content::Source(inserted));
+                let _none = self.sources.end_turn(token, inserted);
                 Ok(token)
             }
-            Err(error) => Err(InsertError { inserted, error }),
+            Err(error) => {
+                self.sources.vacate(token);
+                Err(InsertError { inserted, error })
+            }
         }
     }
 
@@ -88,7 +91,7 @@ impl<D: EventDispatcher<P, C, R>, P: Poller, C: Clock, R: Wait + Drop> EventLoop
         };
         let mut factory = TokenFactory::new(token);
         let answer = source.register(&mut self.poll, &mut factory);
-        let _was = self.sources.replace(token.slot(), Content::Source(source));
+        let _none = self.sources.end_turn(token, source);
         answer
     }
 
@@ -101,7 +104,7 @@ impl<D: EventDispatcher<P, C, R>, P: Poller, C: Clock, R: Wait + Drop> EventLoop
         };
         let mut factory = TokenFactory::new(token);
         let answer = source.reregister(&mut self.poll, &mut factory);
-        let _was = self.sources.replace(token.slot(), Content::Source(source));
+        let _none = self.sources.end_turn(token, source);
         answer
     }
 
@@ -113,7 +116,7 @@ impl<D: EventDispatcher<P, C, R>, P: Poller, C: Clock, R: Wait + Drop> EventLoop
             return Err(Error::InvalidToken);
         };
         let answer = source.unregister(&mut self.poll);
-        let _was = self.sources.replace(token.slot(), Content::Source(source));
+        let _none = self.sources.end_turn(token, source);
         answer
     }
 
@@ -122,7 +125,7 @@ impl<D: EventDispatcher<P, C, R>, P: Poller, C: Clock, R: Wait + Drop> EventLoop
         ensures { Did (Case D.means P.outside (Remove token) (Removed result)) (view_of self.old) (view_of self.new) }
     {
         let mut source = self.sources.begin_turn(token)?;
-        let _was = self.sources.replace(token.slot(), Content::Vacant);
+        self.sources.vacate(token);
         let _ = source.unregister(&mut self.poll);
         Some(source)
     }
@@ -132,16 +135,16 @@ impl<D: EventDispatcher<P, C, R>, P: Poller, C: Clock, R: Wait + Drop> LoopHandl
     /// Registers a source in the first vacant slot, with a callback for its events.
     ///
     /// A refusal hands the source back: `TooManySources` and want of memory for a new slot leave everything as it
-    /// was; where the registration is refused, the slot stays vacant under its new version.
-    pub fn insert_source<S, F>(
+    /// was; where the registration is refused, the slot is vacant again, under its new version.
+    pub fn insert_source<S, F, N>(
         &mut self,
         source: S,
         callback: F,
     ) -> std::result::Result<RegistrationToken, InsertError<S>>
     where
-        D: Hold<S, F, P, C, R>,
+        D: Hold<S, F, P, C, R, D::Data, Requests<D>, N>,
         S: EventSource<P, C, R>,
-        F: Callback<S::Event, S::Metadata, S::Ret, D::Data> + Drop,
+        F: Callback<S::Event, S::Metadata, S::Ret, D::Data, Requests<D>> + Drop,
         ensures same { self.new.inner.ghost_name ≡ self.old.inner.ghost_name }
         ensures case { Did (Case D.means P.outside (Insert (D.held (record { source = source; callback = callback }))) (Inserted (held_answer D.held callback result))) (view_of self.old.inner.now) (view_of self.new.inner.now) }
         ensures machine { Leads (Case D.means P.outside (Insert (D.held (record { source = source; callback = callback }))) (Inserted (held_answer D.held callback result))) (view_of self.old.inner.now) (view_of self.new.inner.now) }

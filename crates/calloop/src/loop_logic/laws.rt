@@ -1,23 +1,42 @@
 //! What holds of every run.
-ghost use Rattle.std.specs.Prelude.{List};
-ghost use Rattle.calloop.specs.declared.loop_logic.Call.{Call};
-ghost use Rattle.calloop.specs.declared.loop_logic.Answer.{Answer};
+ghost use Rattle.std.specs.Prelude.{◌≡◌, List, [], ◌∷◌, Some, None};
+ghost use Rattle.calloop.specs.declared.loop_logic.LoopCall.{LoopCall};
+ghost use Rattle.calloop.specs.declared.loop_logic.LoopAnswer.{LoopAnswer};
 ghost use Rattle.calloop.specs.Machine.{World, Change, IsNew};
 ghost use Rattle.calloop.specs.Rules.{Run};
-ghost use Rattle.calloop.specs.Laws.{IsSound, IsKept, AllFresh, changes_of};
+ghost use Rattle.calloop.specs.Laws.{IsSound, IsKept, AllFresh, changes_of, GoesRight, NamesLater, StaysGone, OnTime};
+ghost use Rattle.calloop_core.specs.Polls.{PollView};
+ghost use Rattle.calloop.specs.Wrong.{first_token, used, given_up, early, in_two_places, called_twice, called_early, called_from_nowhere};
 
 use super::EventDispatcher;
 use calloop_core::sys::{Clock, Poller};
 use std::sync::Wait;
 
 /// Over every run of the machine, from any state: each event that is cut goes to just the source that its token names
-/// at that moment, or to none; and a token that named a registration names a later one of its slot only where the
-/// reuse count is greater by a positive multiple of 65,536.
+/// at that moment, or to none; a token that named a registration names a later one of its slot only where the
+/// reuse count is greater by a positive multiple of 65,536; and a registration that was given up stays so.
 ///
-/// And from a state in which nothing has happened, where no source that is inserted holds a counter of a timer yet: each
-/// arming of a timer is in just one place, also across errors and re-arming; each call of a timer belongs to an arming of
-/// its own, which was gathered when its deadline had come, and hands out its deadline.
+/// And from a state in which nothing has happened, where no source holds a counter of a timer of this loop when it is
+/// inserted: each arming of a timer is in just one place, also across errors and re-arming; each call of a timer belongs to
+/// an arming of its own, which was gathered when its deadline had come, and hands out its deadline.
 pub fn once<D: EventDispatcher<P, C, R>, P: Poller, C: Clock, R: Wait + Drop>()
-    ensures sound { (calls : List (Call D P D.Data)) (answers : List (Answer D P D.Data)) (csss : List (List (List (Change D P)))) (w w' : World D P) → Run D.means P.outside calls answers csss w w' → IsSound w (changes_of csss) }
-    ensures armings { (calls : List (Call D P D.Data)) (answers : List (Answer D P D.Data)) (csss : List (List (List (Change D P)))) (w w' : World D P) → IsNew w → AllFresh D.means calls → Run D.means P.outside calls answers csss w w' → IsKept w'.ledger w'.poll }
+    ensures sound { (calls : List (LoopCall D P D.Data)) (answers : List (LoopAnswer D P D.Data)) (csss : List (List (List (Change D P)))) (w w' : World D P) → Run D.means P.outside calls answers csss w w' → IsSound w (changes_of csss) }
+    ensures armings { (calls : List (LoopCall D P D.Data)) (answers : List (LoopAnswer D P D.Data)) (csss : List (List (List (Change D P)))) (w w' : World D P) → IsNew w → AllFresh D.means (changes_of csss) → Run D.means P.outside calls answers csss w w' → IsKept w'.ledger w'.poll }
+{}
+
+/// Small cases that the laws of `once` rule out: an event that goes to another slot than its token names, to a later
+/// registration, or to none though its source stands there; a token that names an earlier registration than before; one that
+/// was given up and is there again; an event that was gathered early; an arming in two places; one that is called for twice,
+/// early, or though it was cancelled.
+pub fn wrong_runs_are_ruled_out()
+    ensures wrong_slot { ¬ GoesRight (used 0 ∷ used 0 ∷ []) first_token (Some 1) }
+    ensures later_registration { ¬ GoesRight (used 1 ∷ []) first_token (Some 0) }
+    ensures lost_event { ¬ GoesRight (used 0 ∷ []) first_token None }
+    ensures earlier_registration { (w w' : World (Unit {0}) (Unit {0})) → w.slots ≡ used 65536 ∷ [] → w'.slots ≡ used 0 ∷ [] → ¬ NamesLater w w' }
+    ensures there_again { (w w' : World (Unit {0}) (Unit {0})) → w.slots ≡ given_up 0 ∷ [] → w'.slots ≡ used 0 ∷ [] → ¬ StaysGone w w' }
+    ensures early_event { ¬ OnTime early }
+    ensures two_places { (v : PollView (Unit {0})) → ¬ IsKept in_two_places v }
+    ensures two_calls { (v : PollView (Unit {0})) → ¬ IsKept called_twice v }
+    ensures early_call { (v : PollView (Unit {0})) → ¬ IsKept called_early v }
+    ensures call_from_nowhere { (v : PollView (Unit {0})) → ¬ IsKept called_from_nowhere v }
 {}

@@ -1,6 +1,6 @@
 //! The cell of a ping with the board of its key, under one lock, and the sections of that lock. No other lock is taken and
 //! nobody is called within one: what a section owes to the board is settled after it.
-ghost use Rattle.std.specs.Prelude.{◌≡◌, ◌+◌, None, Some, IfOk, IfErr, is_some, true};
+ghost use Rattle.std.specs.Prelude.{◌≡◌, ◌≢◌, ◌-◌, ◌^◌, ◌+◌, None, Some, IfOk, IfErr, is_some, true};
 ghost use Rattle.std.specs.Arc.{arc_value};
 ghost use Rattle.calloop_wake.specs.Tokens.{key_of};
 ghost use Rattle.calloop_wake.specs.Cells.{one};
@@ -12,7 +12,9 @@ use calloop_wake::token::Token;
 use calloop_wake::wake::ghosts::Name;
 use calloop_wake::wake::locked::{Core, Locked};
 use calloop_wake::wake::ping::{OpenedTurn, PingCore};
-use calloop_wake::wake::{Debt, Last, LeaveToClose, PingTurn, Receipt, Sender, TakenPass, Twin};
+use calloop_wake::wake::{
+    Debt, Last, LeaveToClose, PingTurn, Receipt, ReceivingRight, Sender, TakenPass, Twin,
+};
 use counted_slot::Fits;
 use std::alloc::{AllocError, Global};
 use std::sync::{Arc, Wait};
@@ -43,10 +45,12 @@ impl Core for PingCell {
 pub type SharedCell = Arc<Locked<PingCell>, Global>;
 
 impl PingCell {
-    /// A cell to which nothing has happened yet, under its lock.
-    pub fn locked() -> Locked<PingCell> {
-        let (core, name) = PingCore::new();
-        Locked::new(PingCell { core, hub: None }, &name)
+    /// A cell to which nothing has happened yet, under its lock, and the right to its receiving end.
+    pub fn locked() -> (Locked<PingCell>, ReceivingRight)
+        ensures { result.1.name ≡ result.0.slot }
+    {
+        let (core, name, right) = PingCore::new();
+        (Locked::new(PingCell { core, hub: None }, &name), right)
     }
 
     // The debt with the board on which it is settled, outside the lock.
@@ -93,12 +97,13 @@ pub fn ring<R: Wait>(rt: &R, shared: &Locked<PingCell>) -> Receipt
     receipt
 }
 
-/// A receiving end of the cell.
-pub fn receiver<R: Wait>(rt: &R, shared: &Locked<PingCell>) -> Twin
+/// The receiving end of the cell.
+pub fn receiver<R: Wait>(rt: &R, shared: &Locked<PingCell>, right: ReceivingRight) -> Twin
+    requires { right.name ≡ shared.now.slot }
     ensures { result ≡ record { name = shared.now.slot; key = None; turns = 0; number = 0; closes = 0 } }
 {
     let (gate, cell) = shared.lock(rt);
-    let twin = cell.core.receiver();
+    let twin = cell.core.receiver(right);
     shared.unlock(rt, gate, cell);
     twin
 }
@@ -132,7 +137,8 @@ pub fn attach<R: Wait>(
     hub: &SharedHub,
     token: Token,
 ) -> LoopResult<()>
-    requires { twin.old.name ≡ shared.now.slot }
+    requires name { twin.old.name ≡ shared.now.slot }
+    requires key { key_of token ≢ 2 ^ 64 - 1 }
     ensures ok { IfOk result (λ _. twin.new ≡ record twin.old { key = Some (key_of token) }) }
     ensures err { IfErr result (λ e. CannotOpen e × (twin.new ≡ twin.old)) }
 {

@@ -8,7 +8,7 @@ ghost use Rattle.calloop_wake.specs.Cells.{is_own};
 ghost use Rattle.calloop.specs.Pings.{calls_of, action_of};
 
 use super::{PingSource, cell};
-use calloop_core::sources::{Callback, EventSource, IntoError, PostAction};
+use calloop_core::sources::{Asking, Callback, EventSource, IntoError, PostAction};
 use calloop_core::sys::poll::Poll;
 use calloop_core::sys::{Poller, Readiness};
 use calloop_wake::error::{Error, Result as LoopResult};
@@ -26,8 +26,11 @@ pub enum PingError {
 impl IntoError for PingError {
     ghost use Rattle.std.specs.Prelude.{◌≡◌};
     ghost use Rattle.calloop_wake.specs.declared.error.Error.TheVariants.{OutOfMemory};
+    ghost use Rattle.calloop_core.specs.Lawful.{memory_of_source};
 
     ghost becomes = { λ _ e. e ≡ OutOfMemory };
+
+    ghost of_source = { λ _ e is. memory_of_source e is };
 
     /// `OutOfMemory`.
     fn into_error(self) -> Error {
@@ -36,11 +39,14 @@ impl IntoError for PingError {
 }
 
 // Calls back, where a ping stood.
-fn call_if<F: Callback<(), (), (), X>, X>(rang: bool, callback: &mut F, data: &mut X)
-    ensures { Went F.may callback.old «data».old (calls_of rang) callback.new «data».new }
+fn call_if<F, X, Q>(rang: bool, callback: &mut F, data: &mut X, requests: &mut Q)
+where
+    Q: Asking,
+    F: Callback<(), (), (), X, Q>,
+    ensures { Went F.may Q.reaches callback.old «data».old requests.old (calls_of rang) callback.new «data».new requests.new }
 {
     if rang {
-        callback.call((), &mut (), data);
+        callback.call((), &mut (), data, requests);
     }
 }
 
@@ -64,10 +70,8 @@ impl<R: Wait + Drop> PingSource<R> {
 }
 
 impl<P: Poller, C, R: Wait + Drop> EventSource<P, C, R> for PingSource<R> {
-    ghost use Rattle.std.specs.Prelude.{◌≡◌};
-    ghost use Rattle.calloop_core.specs.Holdings.{holds_none};
-    ghost use Rattle.calloop.specs.Pings.{IsPingReg, IsPingRereg, IsPingUnreg, IsPingTurn};
-    ghost use Rattle.calloop.specs.Quiet.{ping_reg_keeps, ping_rereg_keeps, ping_unreg_keeps, ping_turn_keeps};
+    ghost use Rattle.calloop.specs.Pings.{ping_meaning};
+    ghost use Rattle.calloop.specs.Quiet.{ping_keeps};
 
     type Event = ();
 
@@ -77,28 +81,22 @@ impl<P: Poller, C, R: Wait + Drop> EventSource<P, C, R> for PingSource<R> {
 
     type Error = PingError;
 
-    ghost holds = { λ s. holds_none };
-
-    ghost reg = { λ s v f a l t g. IsPingReg s f a l t g };
-
-    ghost rereg = { λ s v f a l t g. IsPingRereg s f a l t g };
-
-    ghost unreg = { λ s v a l t. IsPingUnreg s a l t };
-
-    ghost turn = { λ s r token v calls a l t. IsPingTurn s token v calls a l t };
+    ghost means = { ping_meaning };
 
     /// Its turn: calls back once where a ping stands, and removes the source where the last `Ping` is gone. An event of
     /// another token, or without a posted key behind it, calls nothing.
-    fn process_events<F, X>(
+    fn process_events<F, X, Q>(
         &mut self,
         _readiness: Readiness,
         token: Token,
         poll: &mut Poll<P, C, R>,
         callback: &mut F,
         data: &mut X,
+        requests: &mut Q,
     ) -> Result<PostAction, PingError>
     where
-        F: Callback<(), (), (), X>,
+        Q: Asking,
+        F: Callback<(), (), (), X, Q>,
     {
         if !self.is_mine(token) {
             return Ok(PostAction::Continue);
@@ -109,7 +107,7 @@ impl<P: Poller, C, R: Wait + Drop> EventSource<P, C, R> for PingSource<R> {
         match cell::open_turn(&self.rt, &self.shared, &mut self.twin, pass) {
             Ok(opened) => {
                 let OpenedTurn { turn, rung, told } = opened;
-                call_if(rung, callback, data);
+                call_if(rung, callback, data, requests);
                 cell::end_turn(&self.rt, &self.shared, turn);
                 Ok(action_of(told))
             }
@@ -166,11 +164,5 @@ impl<P: Poller, C, R: Wait + Drop> EventSource<P, C, R> for PingSource<R> {
         Ok(())
     }
 
-    ghost reg_keeps = { ping_reg_keeps };
-
-    ghost rereg_keeps = { ping_rereg_keeps };
-
-    ghost unreg_keeps = { ping_unreg_keeps };
-
-    ghost turn_keeps = { λ s t r k v cs a l h. ping_turn_keeps s t k v cs a l h };
+    ghost keeps = { ping_keeps };
 }

@@ -1,27 +1,43 @@
 //! The board of posted keys under its lock, with what wakes the poller that looks at it.
-ghost use Rattle.std.specs.Prelude.{◌≡◌, ◌+◌, ◌≤◌, IfOk, IfErr};
+ghost use Rattle.std.specs.Prelude.{◌≡◌, ◌≢◌, ◌+◌, ◌-◌, ◌^◌, ◌≤◌, [], IfOk, IfErr, is_none};
 ghost use Rattle.std.specs.Arc.{arc_value};
 ghost use Rattle.std.specs.VecDeque.{deque_len, deque_capacity};
 ghost use Rattle.calloop_wake.specs.Tokens.{key_of};
-ghost use Rattle.calloop_core.specs.Hubs.{Unposted};
+ghost use Rattle.calloop_wake.specs.Watches.{noted};
+ghost use Rattle.calloop_wake.specs.declared.wake.notes.Note.TheVariants.{Counted, Looked};
+ghost use Rattle.calloop_wake.specs.declared.error.Error.TheVariants.{OutOfMemory as MemoryError};
+ghost use Rattle.calloop_core.specs.Hubs.{HasUnposted};
 ghost use Rattle.calloop_core.specs.Polls.{CannotOpen};
 
 use super::notifier::Notifier;
 use calloop_wake::error::{Error, Result};
 use calloop_wake::token::Token;
-use calloop_wake::wake::board::{Board, OpenRefusal};
+use calloop_wake::wake::board::OpenRefusal;
+use calloop_wake::wake::locked::Locked;
+use calloop_wake::wake::watch::{OpenPlaces, Watch, WatchedBoard};
 use calloop_wake::wake::{Debt, LeaveToClose, LeaveToSleep, OpenedPass, TakenPass};
 use std::alloc::Global;
 use std::collections::VecDeque;
 use std::io;
-use std::sync::{Arc, Mutex, Wait};
+use std::marker::Model;
+use std::sync::{Arc, Wait};
 
 /// The board, which the ends of pings and their loop share. Each call is one section of its lock, within which nothing
 /// else is locked and nobody is called. In calloop the kernel's poller is shared so.
+///
+/// In a clause it is the name that the board shares with its watch.
 #[derive(Drop)]
 pub struct Hub {
-    board: Mutex<Board>,
+    board: Locked<WatchedBoard>,
     notifier: Notifier,
+}
+
+impl Model for Hub {
+    ghost use Rattle.logbook.specs.Pages.{Book};
+
+    ghost Value = { Book };
+
+    ghost view = { λ h. h.board.slot };
 }
 
 /// A hub with several owners.
@@ -40,21 +56,29 @@ pub fn share<R: Wait, T: Drop>(rt: &R, owner: &Arc<T, Global>) -> Arc<T, Global>
 }
 
 impl Hub {
-    /// With an empty board. It allocates nothing yet.
-    pub fn new(alloc: Global, notifier: Notifier) -> Hub {
-        Hub {
-            board: Mutex::new(Board::new(alloc)),
+    /// With an empty board, and the watch of that. It allocates nothing yet.
+    pub fn new(alloc: Global, notifier: Notifier) -> (Hub, Watch)
+        ensures { result.1 ≡ record { name = result.0; notes = [] } }
+    {
+        let (board, watch, name) = WatchedBoard::new(alloc);
+        let hub = Hub {
+            board: Locked::new(board, &name),
             notifier,
-        }
+        };
+        (hub, watch)
     }
 
     /// Opens the place of a token's key. An open one is `IoError` of kind `AlreadyExists`, and want of memory is
     /// `OutOfMemory`; after a refusal the board is as it was.
     pub fn open_place<R: Wait>(&self, rt: &R, token: Token) -> Result<OpenedPass>
+        requires { key_of token ≢ 2 ^ 64 - 1 }
         ensures ok { IfOk result (λ pass. pass ≡ key_of token) }
         ensures err { IfErr result CannotOpen }
     {
-        match self.board.lock(rt).open_place(token.key()) {
+        let (gate, mut board) = self.board.lock(rt);
+        let opened = board.open_place(token.key());
+        self.board.unlock(rt, gate, board);
+        match opened {
             Ok(pass) => Ok(pass),
             Err(OpenRefusal::AlreadyExists) => Err(Error::IoError(io::Error::from(
                 io::ErrorKind::AlreadyExists,
@@ -65,40 +89,126 @@ impl Hub {
 
     /// Closes the place of a key that no cell has any more.
     pub fn close_place<R: Wait>(&self, rt: &R, leave: LeaveToClose) {
-        self.board.lock(rt).close_place(leave);
+        let (gate, mut board) = self.board.lock(rt);
+        board.close_place(leave);
+        self.board.unlock(rt, gate, board);
     }
 
     /// Posts the key of a debt, and spends the nudge that this gives, outside the lock. It takes no memory.
     pub fn settle<R: Wait>(&self, rt: &R, debt: Debt) {
-        let mut board = self.board.lock(rt);
+        let (gate, mut board) = self.board.lock(rt);
         let nudge = board.post(debt);
-        drop(board);
+        self.board.unlock(rt, gate, board);
         if let Some(nudge) = nudge {
             nudge.spend(&self.notifier);
         }
     }
 
     /// Looks whether a key is posted: the leave to sleep, where none is.
-    pub fn look<R: Wait>(&self, rt: &R) -> Option<LeaveToSleep> {
-        self.board.lock(rt).look()
+    pub fn look<R: Wait>(&self, rt: &R, watch: &mut Watch) -> Option<LeaveToSleep>
+        requires { watch.old.name ≡ self.now }
+        ensures { watch.new ≡ noted (Looked (is_none result)) watch.old }
+    {
+        let (gate, board) = self.board.lock(rt);
+        let leave = board.look(watch);
+        self.board.unlock(rt, gate, board);
+        leave
     }
 
-    /// How many places are open.
-    pub fn places<R: Wait>(&self, rt: &R) -> usize {
-        self.board.lock(rt).places()
+    /// How many places are open now.
+    pub fn places<R: Wait>(&self, rt: &R) -> OpenPlaces
+        ensures { result.name ≡ self.now }
+    {
+        let (gate, board) = self.board.lock(rt);
+        let places = board.places();
+        self.board.unlock(rt, gate, board);
+        places
     }
 
-    /// Takes all posted keys, ascending, and appends a pass for each.
-    ///
-    /// Where more places are open than there is room for, no key is taken, and those that are posted stay so.
-    pub fn unpost<R: Wait>(&self, rt: &R, room: usize, passes: &mut VecDeque<TakenPass>)
-        requires { deque_len passes.old + room ≤ deque_capacity passes.old }
-        ensures items { Unposted room passes.old.items passes.new.items (deque_len passes.old) (deque_len passes.new) }
+    /// Takes the posted keys, ascending, as many as there is room for, and appends a pass for each.
+    pub fn unpost<R: Wait>(
+        &self,
+        rt: &R,
+        room: usize,
+        watch: &mut Watch,
+        passes: &mut VecDeque<TakenPass>,
+    )
+        requires name { watch.old.name ≡ self.now }
+        requires room { deque_len passes.old + room ≤ deque_capacity passes.old }
+        ensures keys { HasUnposted room watch.old watch.new passes.old.items passes.new.items (deque_len passes.old) (deque_len passes.new) }
         ensures capacity { deque_capacity passes.new ≡ deque_capacity passes.old }
     {
-        let mut board = self.board.lock(rt);
-        if board.places() <= room {
-            board.unpost(passes);
-        }
+        let (gate, mut board) = self.board.lock(rt);
+        board.unpost(room, watch, passes);
+        self.board.unlock(rt, gate, board);
+    }
+}
+
+/// The hub with the loop's own watch of its board. In a clause it is the watch.
+#[derive(Drop)]
+pub struct WatchedHub {
+    hub: SharedHub,
+    watch: Watch,
+}
+
+impl Model for WatchedHub {
+    ghost use Rattle.std.specs.Prelude.{◌≡◌};
+    ghost use Rattle.std.specs.Arc.{arc_value};
+    ghost use Rattle.calloop_wake.specs.declared.wake.watch.Watch.{Watch};
+
+    ghost Value = { Watch };
+
+    ghost view = { λ w. w.watch };
+
+    ghost invariant = { λ w. w.watch.name ≡ arc_value w.hub };
+}
+
+impl WatchedHub {
+    /// With an empty board. Want of memory is `OutOfMemory`.
+    pub fn new(alloc: Global, notifier: Notifier) -> Result<WatchedHub>
+        ensures ok { IfOk result (λ made. made.notes ≡ []) }
+        ensures err { IfErr result (λ e. e ≡ MemoryError) }
+    {
+        let (hub, watch) = Hub::new(alloc, notifier);
+        let hub = Arc::new(alloc, hub)?;
+        Ok(WatchedHub { hub, watch })
+    }
+
+    /// The hub, to share.
+    pub fn hub(&self) -> &SharedHub
+        ensures { arc_value result.now ≡ self.now.name }
+    {
+        &self.hub
+    }
+
+    /// Looks whether a key is posted: the leave to sleep, where none is.
+    pub fn look<R: Wait>(&mut self, rt: &R) -> Option<LeaveToSleep>
+        ensures { self.new ≡ noted (Looked (is_none result)) self.old }
+    {
+        self.hub.look(rt, &mut self.watch)
+    }
+
+    /// How many places are open now.
+    pub fn places<R: Wait>(&self, rt: &R) -> OpenPlaces
+        ensures { result.name ≡ self.now.name }
+    {
+        self.hub.places(rt)
+    }
+
+    /// Notes a count of the places.
+    pub fn note_count(&mut self, places: OpenPlaces)
+        requires { places.name ≡ self.old.name }
+        ensures { self.new ≡ noted (Counted places.number) self.old }
+    {
+        self.watch.note_count(places);
+    }
+
+    /// Takes the posted keys, ascending, as many as there is room for, and appends a pass for each.
+    pub fn unpost<R: Wait>(&mut self, rt: &R, room: usize, passes: &mut VecDeque<TakenPass>)
+        requires room { deque_len passes.old + room ≤ deque_capacity passes.old }
+        ensures keys { HasUnposted room self.old self.new passes.old.items passes.new.items (deque_len passes.old) (deque_len passes.new) }
+        ensures capacity { deque_capacity passes.new ≡ deque_capacity passes.old }
+    {
+        self.hub.unpost(rt, room, &mut self.watch, passes);
     }
 }

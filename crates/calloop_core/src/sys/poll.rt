@@ -5,11 +5,12 @@ ghost use Rattle.std.specs.Borrow.{Lends, sem};
 ghost use Rattle.calloop_wake.specs.declared.error.Error.TheVariants.{OutOfMemory};
 ghost use Rattle.calloop_wake.specs.Boards.{IsRising};
 ghost use Rattle.calloop_wake.specs.Deadlines.{due, not_due, with_entries};
-ghost use Rattle.calloop_core.specs.Polls.{PollView, PollStep, TakePass, PutBack, poll_view, poll_after, with_pass, posted_event, posted_events, polled_event, polled_events, timer_event, timer_events, key_of_pass, IsReady, cut, head_of, gathered, own_key};
+ghost use Rattle.calloop_core.specs.Polls.{PollView, PollStep, TakePass, PutBack, poll_view, poll_after, with_pass, posted_event, posted_events, polled_event, polled_events, timer_event, timer_events, key_of_pass, IsReady, cut, head_of, gathered, counted, own_key};
+ghost use Rattle.std.specs.Arc.{arc_value};
 ghost use Rattle.calloop_core.specs.Lending.{with_poller};
 ghost use Rattle.calloop_core.specs.contracts.sys.poll.Poll.{the_row};
 
-use super::hub::{Hub, SharedHub};
+use super::hub::{Hub, SharedHub, WatchedHub};
 use super::{EVENTS_PER_WAIT, Poller, Readiness};
 use calloop_wake::error::{Error, Result};
 use calloop_wake::token::Token;
@@ -18,7 +19,7 @@ use calloop_wake::wheel::{Entry, Instant, Wheel};
 use std::alloc::Global;
 use std::collections::VecDeque;
 use std::mem;
-use std::sync::{Arc, Wait};
+use std::sync::Wait;
 
 mod timers;
 mod waiting;
@@ -41,12 +42,12 @@ pub struct Poll<P, C, R: Wait + Drop> {
     rt: R,
     poller: P,
     clock: C,
-    hub: SharedHub,
+    hub: WatchedHub,
     wheel: Wheel,
     batch: VecDeque<Pending>,
     passes: VecDeque<TakenPass>,
     pass: Option<TakenPass>,
-    // For how many posted keys there is room.
+    // How many keys had places when they were counted last, to reserve room for what they give.
     places: usize,
     events: Vec<(u64, Readiness)>,
 }
@@ -66,9 +67,9 @@ impl<P: Drop, C: Drop, R: Wait + Drop> Drop for Poll<P, C, R> {
             events: _,
         } = self;
         if let Some(pass) = pass {
-            hub.settle(&rt, pass.back());
+            hub.hub().settle(&rt, pass.back());
         }
-        give_all_back(&rt, &hub, passes);
+        give_all_back(&rt, hub.hub(), passes);
     }
 }
 
@@ -115,16 +116,14 @@ fn timer_event(entry: Entry) -> Pending
 // The events of the passes from the first new one on.
 fn append_posted(batch: &mut VecDeque<Pending>, passes: &VecDeque<TakenPass>, first: usize)
     requires first { first ≤ deque_len passes.now }
+    requires tokens { IsRising (map key_of_pass (drop first passes.now.items)) }
     requires room { deque_len batch.old + deque_len passes.now ≤ deque_capacity batch.old + first }
     ensures items { batch.new.items ≡ batch.old.items ++ posted_events (map key_of_pass (drop first passes.now.items)) }
     ensures len { deque_len batch.new + first ≤ deque_len batch.old + deque_len passes.now }
     ensures capacity { deque_capacity batch.new ≡ deque_capacity batch.old }
 {
     for i in first..passes.len() {
-        let key = passes[i].key();
-        if key != OWN_KEY {
-            batch.push_back_reserved(posted_event(key));
-        }
+        batch.push_back_reserved(posted_event(passes[i].key()));
     }
 }
 
@@ -157,10 +156,10 @@ fn append_due(batch: &mut VecDeque<Pending>, wheel: &mut Wheel, now: Instant)
 impl<P: Poller, C: Drop, R: Wait + Drop> Poll<P, C, R> {
     /// Over this poller, with an empty board, no deadline and an empty batch. Want of memory is `OutOfMemory`.
     pub fn new(rt: R, alloc: Global, poller: P, clock: C) -> Result<Poll<P, C, R>>
-        ensures ok { IfOk result (λ made. poll_view made ≡ record { poller = poller; deadlines = record { entries = []; next = 0 }; batch = []; passes = []; pass = None }) }
+        ensures ok { IfOk result (λ made. poll_view made ≡ record { poller = poller; deadlines = record { entries = []; next = 0 }; batch = []; passes = []; pass = None; places = 0; watch = record { name = (poll_view made).watch.name; notes = [] } }) }
         ensures err { IfErr result (λ e. e ≡ OutOfMemory) }
     {
-        let hub = Arc::new(alloc, Hub::new(alloc, poller.notifier()?))?;
+        let hub = WatchedHub::new(alloc, poller.notifier()?)?;
         Ok(Poll {
             rt,
             poller,
@@ -195,16 +194,16 @@ impl<P: Poller, C, R: Wait + Drop> Poll<P, C, R> {
 
     /// The board of posted keys, on which a ping opens the place of its key.
     pub fn hub(&self) -> &SharedHub
-        ensures { result.now ≡ self.now.hub }
+        ensures { arc_value result.now ≡ (poll_view self.now).watch.name }
     {
-        &self.hub
+        self.hub.hub()
     }
 
     fn replace_pass(&mut self, pass: Option<TakenPass>)
         ensures { poll_view self.new ≡ with_pass pass (poll_view self.old) }
     {
         if let Some(other) = mem::replace(&mut self.pass, pass) {
-            self.hub.settle(&self.rt, other.back());
+            self.hub.hub().settle(&self.rt, other.back());
         }
     }
 
@@ -232,21 +231,24 @@ impl<P: Poller, C, R: Wait + Drop> Poll<P, C, R> {
             .checked_add(places)
     }
 
-    /// Reserves what one `poll` can gather. Want of memory changes nothing.
+    /// Counts the places on the board, and reserves what one `poll` can gather. Want of memory is `OutOfMemory`, and
+    /// changes nothing.
     pub fn reserve(&mut self) -> Result<()>
-        ensures view { poll_view self.new ≡ poll_view self.old }
+        ensures ok { OnOk result ((places : ℕ) × (poll_view self.new ≡ counted places (poll_view self.old))) }
         ensures ready { OnOk result (IsReady self.new) }
-        ensures err { IfErr result (λ e. e ≡ OutOfMemory) }
+        ensures err { IfErr result (λ e. (e ≡ OutOfMemory) × (poll_view self.new ≡ poll_view self.old)) }
     {
         let places = self.hub.places(&self.rt);
-        let Some(room) = self.room(places) else {
+        let number = places.number();
+        let Some(room) = self.room(number) else {
             return Err(Error::OutOfMemory);
         };
         self.events.clear();
         self.batch.reserve(room)?;
-        self.passes.reserve(places)?;
+        self.passes.reserve(number)?;
         self.events.reserve(EVENTS_PER_WAIT)?;
-        self.places = places;
+        self.hub.note_count(places);
+        self.places = number;
         Ok(())
     }
 

@@ -1,5 +1,6 @@
 //! A poller that answers what it was told to, with a clock of its own: for tests and for recorded answers.
 ghost use Rattle.std.specs.Prelude.{◌≡◌, ℕ, ◌+◌, ◌≤◌, ◌++◌, [], ◌∷◌, List, length, nat_le, Option, vec_len, vec_capacity, IsOk, OnOk, OnErr, IfOk, IfErr, is_ok, if◌then◌else◌};
+ghost use Rattle.calloop_core.specs.Polls.{head_of};
 ghost use Rattle.calloop_core.specs.Scripts.{kept_waits};
 ghost use Rattle.calloop_core.specs.declared.sys.Readiness.{Readiness};
 
@@ -54,6 +55,18 @@ impl ScriptEvents {
     }
 }
 
+impl Clone for ScriptEvents {
+    ghost use Rattle.std.specs.Prelude.{◌≡◌};
+
+    ghost is_clone = { λ events again. again.events.items ≡ events.events.items };
+
+    fn clone(&self) -> Result<ScriptEvents, AllocError> {
+        Ok(ScriptEvents {
+            events: self.events.clone()?,
+        })
+    }
+}
+
 /// What a scripted wait ends with.
 #[derive(Drop)]
 pub enum ScriptEnd {
@@ -98,6 +111,8 @@ impl Clone for ScriptClock {
 }
 
 impl Clock for ScriptClock {
+    ghost shows = { λ clock now. Unit {0} };
+
     fn now(&self) -> Instant {
         Instant {
             nanos: self.shown.load(Ordering::SeqCst),
@@ -151,6 +166,19 @@ impl ScriptPoller {
         ensures faults { self.new.faults ≡ self.old.faults }
     {
         self.answers.push_back(answer)
+    }
+
+    /// Forgets all answers that no wait took, and hands back the first of them.
+    pub fn unscript(&mut self) -> Option<ScriptAnswer>
+        ensures first { result ≡ head_of self.old.answers.items }
+        ensures answers { self.new.answers.items ≡ [] }
+        ensures moment { self.new.moment ≡ self.old.moment }
+        ensures waits { self.new.waits ≡ self.old.waits }
+        ensures faults { self.new.faults ≡ self.old.faults }
+    {
+        let first = self.answers.pop_front();
+        self.answers.clear();
+        first
     }
 
     /// Empties the list of asked waits, and makes room for `n`. Want of memory leaves the list as it was;

@@ -1,8 +1,8 @@
 //! The board: one place for each open key, which is marked while the key is posted.
-ghost use Rattle.std.specs.Prelude.{◌≡◌, ◌≤◌, ◌+◌, ◌++◌, ◌∷◌, [], false, true, not, map, length, is_ok, is_some, Err, MatchResult, if◌then◌else◌};
+ghost use Rattle.std.specs.Prelude.{◌≡◌, ◌≤◌, ◌+◌, ◌++◌, ◌∷◌, ◌<◌, ◌-◌, ◌^◌, [], false, true, not, map, length, is_ok, is_some, Err, MatchResult, if◌then◌else◌};
 ghost use Rattle.std.specs.VecDeque.{deque_len, deque_capacity};
 ghost use Rattle.std.specs.List.{insert};
-ghost use Rattle.calloop_wake.specs.Boards.{place, is_open, any_marked, wakes, marked_at, after_open_place, after_close_place, after_post, after_unpost, taken, taken_keys, IsRising};
+ghost use Rattle.calloop_wake.specs.Boards.{place, is_open, any_marked, wakes, marked_at, after_open_place, after_close_place, after_post, after_unpost, is_taken, unmarked, bound, keys_within, taken, taken_keys, IsRising};
 ghost use Rattle.calloop_wake.specs.declared.wake.board.OpenRefusal.TheVariants.{AlreadyExists, OutOfMemory};
 
 use super::{Debt, LeaveToClose, LeaveToSleep, Nudge, OpenedPass, TakenPass};
@@ -101,26 +101,54 @@ fn mark(places: &mut Vec<Place>, key: u64)
     }
 }
 
-fn unmark(places: &mut Vec<Place>)
-    ensures { places.new.items ≡ after_unpost places.old.items }
+fn is_taken(place: Place, below: u64) -> bool
+    ensures { result ≡ is_taken below place }
 {
-    for p in places.iter_mut() {
-        *p = Place {
-            key: p.key,
-            marked: false,
-        };
+    place.marked && place.key < below
+}
+
+fn unmarked(place: Place, below: u64) -> Place
+    ensures { result ≡ unmarked below place }
+{
+    Place {
+        key: place.key,
+        marked: place.marked && place.key >= below,
     }
 }
 
-// Appends a pass for each mark.
-fn take(places: &[Place], passes: &mut VecDeque<TakenPass>)
-    requires { deque_len passes.old + length (taken_keys places.now) ≤ deque_capacity passes.old }
-    ensures items { passes.new.items ≡ passes.old.items ++ map taken (taken_keys places.now) }
-    ensures len { deque_len passes.new ≡ deque_len passes.old + length (taken_keys places.now) }
+fn unmark(places: &mut Vec<Place>, below: u64)
+    ensures { places.new.items ≡ after_unpost below places.old.items }
+{
+    for p in places.iter_mut() {
+        *p = unmarked(*p, below);
+    }
+}
+
+// Below which keys there is room for all marked ones.
+fn bound(places: &[Place], room: usize) -> u64
+    ensures { result ≡ bound room places.now }
+{
+    let mut left = room;
+    for p in places {
+        if p.marked {
+            if left == 0 {
+                return p.key;
+            }
+            left -= 1;
+        }
+    }
+    u64::MAX
+}
+
+// Appends a pass for each mark below this key.
+fn take(places: &[Place], below: u64, passes: &mut VecDeque<TakenPass>)
+    requires { deque_len passes.old + length (taken_keys below places.now) ≤ deque_capacity passes.old }
+    ensures items { passes.new.items ≡ passes.old.items ++ map taken (taken_keys below places.now) }
+    ensures len { deque_len passes.new ≡ deque_len passes.old + length (taken_keys below places.now) }
     ensures capacity { deque_capacity passes.new ≡ deque_capacity passes.old }
 {
     for p in places {
-        if p.marked {
+        if is_taken(*p, below) {
             let pass = TakenPass {
                 key: p.key,
                 refused: None,
@@ -150,11 +178,12 @@ impl Board {
         self.places.len()
     }
 
-    /// Opens a place for the key, not marked, as calloop adds a descriptor to the poller.
+    /// Opens a place for the key of a token, not marked, as calloop adds a descriptor to the poller.
     ///
     /// It refuses with `AlreadyExists` exactly where the key has a place, and with `OutOfMemory` where there is no
     /// memory for one. After a refusal the board is as it was.
     pub fn open_place(&mut self, key: u64) -> Result<OpenedPass, OpenRefusal>
+        requires { key < 2 ^ 64 - 1 }
         ensures board { self.new ≡ (if is_ok result then after_open_place key self.old else self.old) }
         ensures open { is_open key self.old ≡ true → result ≡ Err AlreadyExists }
         ensures shut { is_open key self.old ≡ false → MatchResult result (λ pass. pass ≡ key) (λ e. e ≡ OutOfMemory) }
@@ -205,19 +234,18 @@ impl Board {
         }
     }
 
-    /// Takes all marked keys, ascending, and appends a pass for each. There are at most as many as places.
-    ///
-    /// The queue needs room for them: at most `places()` passes.
-    pub fn unpost(&mut self, passes: &mut VecDeque<TakenPass>)
-        requires { deque_len passes.old + length (taken_keys self.old) ≤ deque_capacity passes.old }
-        ensures board { self.new ≡ after_unpost self.old }
-        ensures gives { passes.new.items ≡ passes.old.items ++ map taken (taken_keys self.old) }
-        ensures len { deque_len passes.new ≡ deque_len passes.old + length (taken_keys self.old) }
+    /// Takes the marked keys, ascending, as many as there is room for, and appends a pass for each.
+    pub fn unpost(&mut self, room: usize, passes: &mut VecDeque<TakenPass>)
+        requires { deque_len passes.old + room ≤ deque_capacity passes.old }
+        ensures board { self.new ≡ after_unpost (bound room self.old) self.old }
+        ensures gives { passes.new.items ≡ passes.old.items ++ map taken (keys_within room self.old) }
+        ensures len { deque_len passes.new ≡ deque_len passes.old + length (keys_within room self.old) }
         ensures capacity { deque_capacity passes.new ≡ deque_capacity passes.old }
-        ensures rising { IsRising (taken_keys self.old) }
-        ensures few { length (taken_keys self.old) ≤ length self.old }
+        ensures rising { IsRising (keys_within room self.old) }
+        ensures few { length (keys_within room self.old) ≤ room }
     {
-        take(&self.places, passes);
-        unmark(&mut self.places);
+        let below = bound(&self.places, room);
+        take(&self.places, below, passes);
+        unmark(&mut self.places, below);
     }
 }

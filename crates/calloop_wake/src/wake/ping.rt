@@ -2,10 +2,15 @@
 ghost use Rattle.std.specs.Prelude.{◌≡◌, ◌+◌, ◌<◌, ◌^◌, true, false, None, Some, List, IfOk, IfErr};
 ghost use Rattle.calloop_wake.specs.Cells.{fresh, IsLit, IsStanding, IsTold, IsSince, owed, owed_at, owed_by_drop, after_close, after_add_sender, after_drop_sender, after_set_key, after_clear_key, after_end_turn, in_turn, core_with, core_after_ring, core_after_open_turn, twin_of, twin_after_open_turn, receipt_of, turn_of};
 ghost use Rattle.calloop_wake.specs.Wakes.{Step, start, after_all, IsSchedule, IsCovered};
+ghost use Rattle.calloop_wake.specs.PingKind.{ping_kind};
+ghost use Rattle.calloop_wake.specs.Lost.{with_a_ring_unseen, with_a_close_unseen, with_a_key_forgotten, with_nobody_told};
 
 use super::ghosts::{Count, Name};
 use super::locked::Core;
-use super::{Debt, Last, LeaveToClose, OpenedPass, PingTurn, Receipt, Sender, TakenPass, Twin};
+use super::{
+    Debt, Last, LeaveToClose, OpenedPass, PingTurn, Receipt, ReceivingRight, Sender, TakenPass,
+    Twin,
+};
 use counted_slot::Fits;
 use std::alloc::AllocError;
 use std::marker::Model;
@@ -30,8 +35,8 @@ pub struct PingCore {
 }
 
 impl Model for PingCore {
-    ghost use Rattle.std.specs.Prelude.{◌≡◌, ◌<◌, true, false};
-    ghost use Rattle.calloop_wake.specs.Cells.{Core, IsLit};
+    ghost use Rattle.std.specs.Prelude.{◌≡◌, ◌<◌, true, false, ◌≤◌, ◌+◌};
+    ghost use Rattle.calloop_wake.specs.Cells.{Core, IsLit, one};
 
     ghost Value = { Core };
 
@@ -47,7 +52,8 @@ impl Model for PingCore {
         IsLit (record { rung = c.rung; pinged = c.pinged; draining = c.draining; closed = c.closed; told = c.told; gone = c.gone; key = c.key; senders = c.senders })
         × (c.told ≡ true → c.closed ≡ true)
         × (c.rung ≡ true → c.seen < c.rings)
-        × (c.rung ≡ false → c.seen ≡ c.rings) };
+        × (c.rung ≡ false → c.seen ≡ c.rings)
+        × (c.taken + one c.rung ≤ c.rings) };
 }
 
 impl Fits for PingCore {
@@ -89,9 +95,10 @@ pub struct OpenedTurn {
 }
 
 impl PingCore {
-    /// A cell that nobody rang, without a key and without senders, and its name.
-    pub fn new() -> (PingCore, Name)
-        ensures { result.0 ≡ record { cell = fresh; name = result.1; rings = 0; seen = 0; taken = 0 } }
+    /// A cell that nobody rang, without a key and without senders, its name, and the right to its receiving end.
+    pub fn new() -> (PingCore, Name, ReceivingRight)
+        ensures core { result.0 ≡ record { cell = fresh; name = result.1; rings = 0; seen = 0; taken = 0 } }
+        ensures right { result.2.name ≡ result.1 }
     {
         let name = Name::fresh();
         let core = PingCore {
@@ -108,15 +115,17 @@ impl PingCore {
             seen: Count::zero(),
             taken: Count::zero(),
         };
-        (core, name)
+        let right = ReceivingRight { name: name.again() };
+        (core, name, right)
     }
 
-    /// A receiving end, which gave the cell no key yet and opened no turn.
-    pub fn receiver(&self) -> Twin
+    /// The receiving end, which gave the cell no key yet and opened no turn. Its right is spent, so there is one.
+    pub fn receiver(&self, right: ReceivingRight) -> Twin
+        requires { right.name ≡ self.now.name }
         ensures { result ≡ twin_of self.now }
     {
         Twin {
-            name: self.name.again(),
+            name: right.name,
             key: None,
             turns: Count::zero(),
             number: Count::zero(),
@@ -125,7 +134,8 @@ impl PingCore {
     }
 
     /// Shows that no ring and no close is lost: what is due is pinged, or a turn stands open. A ring stands exactly where
-    /// somebody rang since the last turn was opened.
+    /// somebody rang since the last turn was opened; and the rings that turns took, with the one that stands, are at most those
+    /// that came.
     pub fn stands(&self)
         ensures lit { IsLit self.now.cell }
         ensures standing { IsStanding self.now.cell }
@@ -295,6 +305,7 @@ impl PingCore {
         let turn = PingTurn {
             name: self.name.again(),
         };
+        self.begin_turn();
         twin.turns = twin.turns.next();
         if rung {
             self.taken = self.taken.next();
@@ -303,7 +314,6 @@ impl PingCore {
         if told {
             twin.closes = twin.closes.next();
         }
-        self.begin_turn();
         Ok(OpenedTurn { turn, rung, told })
     }
 
@@ -330,9 +340,19 @@ impl PingCore {
     }
 }
 
-/// Over every schedule of the wake machine, from the state in which nothing has happened: what is due, a ring
-/// or a close that no turn told, is pinged or a turn stands open; a pinged cell's key is posted, owed or held as a pass; and where the loop has looked and
-/// found no mark, a posted key is told to it by a nudge that is owed or by the signal.
+/// Over every schedule of the wake machine, by any number of cells, from the state in which nothing has happened: what is
+/// due, a ring or a close that no turn told, is pinged or a turn stands open; a pinged cell's key is posted, owed or held as a
+/// pass; and where the loop has looked and found no mark, a posted key is told to it by a nudge that is owed or by the signal.
 pub fn covered()
-    ensures { (steps : List Step) → IsSchedule start steps → IsCovered (after_all start steps) }
+    ensures { (steps : List (Step ping_kind.Own)) → IsSchedule ping_kind (start (λ _. fresh)) steps
+        → IsCovered ping_kind (after_all ping_kind (start (λ _. fresh)) steps) }
+{}
+
+/// Four small states that `covered` rules out: a ring or a close that no mark shows, a pinged cell whose key is nowhere, and a
+/// posted key of which nobody tells a loop that is about to sleep.
+pub fn lost_is_not_covered()
+    ensures ring { ¬ IsCovered ping_kind with_a_ring_unseen }
+    ensures close { ¬ IsCovered ping_kind with_a_close_unseen }
+    ensures key { ¬ IsCovered ping_kind with_a_key_forgotten }
+    ensures sleeper { ¬ IsCovered ping_kind with_nobody_told }
 {}

@@ -1,27 +1,67 @@
-use Rattle.std.proofs.Common.{rules}
-use Rattle.looptrace.proofs.TraceLemmas.{appends-nil, answered-true, answered-false, ran-start, ran-on, ran-end, ran-refused}
+use Rattle.std.proofs.Common.{rules, ℕ, Result, Ok, Err, IfErr, ◌≡◌, ◌+◌, refl, sym, ap, subst, ◌∙◌, [], inr}
+use Rattle.std.specs.Io.KnownBytes.{Appends}
+use Rattle.std.specs.declared.io.Error.{Error}
+use Rattle.looptrace.specs.Faults.{IsCause}
+use Rattle.looptrace.proofs.TraceLemmas.{Ran, appends-nil, answered-true, answered-false, ran-start, ran-on, ran-end, ran-refused}
 use Rattle.looptrace.proofs.driver.drive.Goals as goal
 
 pub loop-init : goal.loop-init
-loop-init g c = (appends-nil _, ran-start _ g.L.Runner.step c.args.runner.now _ _)
+loop-init g c = (appends-nil _, ran-start _ g.L.Runner.step c.args.runner.now _ _, refl)
 
 pub loop-preserved : goal.loop-preserved
 loop-preserved g c =
     let stepped = answered-true _ g.L.Runner.step c.args.runner.now _ c.line.new.self _ c.read_line.new.line.items _ c.line.new.text.items
-    c.in_ok-line.field-0 c.in_ok-line.ensures (search rules) (search rules) (search rules) in (
-      c.loop.invariant.0,
-      ran-on _ g.L.Runner.step c.args.runner.now _ _ _ _ _ _ _ _ _ _ c.in_ok-read_line.field-0 c.read_line.new.line.items c.line.new.text.items
-          c.loop.invariant.1 c.in_ok-read_line.ensures.line (search rules) stepped (search rules) c.saturating_add-number.ensures,
+    c.in_ok-line.field-0 c.in_ok-line.ensures.read (search rules) (search rules) (search rules) in
+    let wrote = subst (λ o. Appends (g.W.Write.contents o) (g.W.Write.contents c.say.new.self.output) c.line.new.text.items) c.in_ok-read_line.ensures.writers.0
+    (subst (λ t. Appends (g.W.Write.contents c.read_line.new.self.output) (g.W.Write.contents c.say.new.self.output) t) c.deref-in-loop.ensures.value c.in_ok-say.ensures.bytes) in
+    let errors = subst (λ e. Appends (g.E.Write.contents c.args.streams.now.errors) (g.E.Write.contents e) []) (sym (c.in_ok-say.ensures.others.1 ∙ c.in_ok-read_line.ensures.writers.1)) c.loop.invariant.0 in
+    let ran = ran-on _ g.L.Runner.step c.args.runner.now _ _ _ _ _ _ _ _ _ _ c.in_ok-read_line.field-0 c.read_line.new.line.items c.line.new.text.items
+    c.loop.invariant.1 c.in_ok-read_line.ensures.line (search rules) stepped wrote c.saturating_add-number.ensures in (
+      errors,
+      subst (λ i. Ran g.L.Runner.step c.args.runner.now (g.R.Read.remaining c.args.streams.now.input) (g.R.Read.remaining i) (g.W.Write.contents c.args.streams.now.output) (g.W.Write.contents c.say.new.self.output) c.line.new.self c.saturating_add-number.result)
+          (sym c.in_ok-say.ensures.others.0) ran,
+      c.in_ok-say.ensures.faults ∙ c.in_ok-read_line.ensures.faults ∙ c.loop.invariant.2,
     )
 
-pub returns-then-not-branch : goal.returns-then-not-branch
-returns-then-not-branch g c =
-    ran-end _ g.L.Runner.step c.args.runner.now _ _ _ _ _ _ _ c.loop.number c.in_ok-read_line.field-0
-    c.loop.invariant.1 c.in_ok-read_line.ensures.end (search rules) c.loop.invariant.0
+pub returns-then-not-branch-clause-run : goal.returns-then-not-branch-clause-run
+returns-then-not-branch-clause-run g c =
+    let ran = subst (λ o. Ran g.L.Runner.step c.args.runner.now (g.R.Read.remaining c.args.streams.now.input) (g.R.Read.remaining c.loop.streams.input) (g.W.Write.contents c.args.streams.now.output) (g.W.Write.contents o) c.loop.runner c.loop.number)
+    (sym c.in_ok-read_line.ensures.writers.0) c.loop.invariant.1 in
+    let silent = subst (λ e. Appends (g.E.Write.contents c.args.streams.now.errors) (g.E.Write.contents e) []) (sym c.in_ok-read_line.ensures.writers.1) c.loop.invariant.0 in
+    ran-end _ g.L.Runner.step c.args.runner.now _ _ _ _ _ _ _ c.loop.number c.in_ok-read_line.field-0 ran c.in_ok-read_line.ensures.end (search rules) silent
 
-pub returns-then-not-branch-2 : goal.returns-then-not-branch-2
-returns-then-not-branch-2 g c =
+pub returns-then-not-branch-clause-none : goal.returns-then-not-branch-clause-none
+returns-then-not-branch-clause-none g c = c.in_ok-read_line.ensures.faults ∙ c.loop.invariant.2
+
+pub returns-then-not-branch-2-clause-run : goal.returns-then-not-branch-2-clause-run
+returns-then-not-branch-2-clause-run g c =
     let refused = answered-false _ g.L.Runner.step c.args.runner.now _ c.line.new.self _ c.read_line.new.line.items _ c.line.new.text.items
-    c.in_ok-line.field-0 c.in_ok-line.ensures (search rules) (search rules) in
+    c.in_ok-line.field-0 c.in_ok-line.ensures.read (search rules) (search rules) in
+    let ran = subst (λ o. Ran g.L.Runner.step c.args.runner.now (g.R.Read.remaining c.args.streams.now.input) (g.R.Read.remaining c.loop.streams.input) (g.W.Write.contents c.args.streams.now.output) (g.W.Write.contents o) c.loop.runner c.loop.number)
+    (sym (c.in_ok-refuse.ensures.others.1 ∙ c.in_ok-read_line.ensures.writers.0)) c.loop.invariant.1 in
+    let silent = subst (λ e. Appends (g.E.Write.contents c.args.streams.now.errors) (g.E.Write.contents e) []) (sym c.in_ok-read_line.ensures.writers.1) c.loop.invariant.0 in
     ran-refused _ g.L.Runner.step c.args.runner.now _ _ _ _ _ _ _ _ _ c.loop.number c.in_ok-read_line.field-0 c.read_line.new.line.items
-    c.loop.invariant.1 c.in_ok-read_line.ensures.line (search rules) refused c.loop.invariant.0 (search rules)
+    ran c.in_ok-read_line.ensures.line (search rules) refused silent c.in_ok-refuse.ensures.bytes
+
+pub returns-then-not-branch-2-clause-none : goal.returns-then-not-branch-2-clause-none
+returns-then-not-branch-2-clause-none g c = c.in_ok-refuse.ensures.faults ∙ c.in_ok-read_line.ensures.faults ∙ c.loop.invariant.2
+
+-- any error has a cause where the number of failed calls grew by one
+grown : {A : Type 0} (r : Result A Error) (before after : ℕ) → after ≡ before + 1 → IfErr r (λ e. IsCause e before after)
+grown (Ok a) before after grew = tt
+grown (Err e) before after grew = inr grew
+
+pub returns-in_err-read_line-clause-err : goal.returns-in_err-read_line-clause-err
+returns-in_err-read_line-clause-err g c =
+    let grew : c.read_line.new.self.faults.count ≡ c.args.streams.now.faults.count + 1 = c.in_err-read_line.ensures.faults ∙ ap (λ n. n + 1) c.loop.invariant.2 in
+    grown c.from_residual.result c.args.streams.now.faults.count c.read_line.new.self.faults.count grew
+
+pub returns-in_err-refuse-clause-err : goal.returns-in_err-refuse-clause-err
+returns-in_err-refuse-clause-err g c =
+    let grew : c.refuse.new.self.faults.count ≡ c.args.streams.now.faults.count + 1 = c.in_err-refuse.ensures.faults ∙ ap (λ n. n + 1) (c.in_ok-read_line.ensures.faults ∙ c.loop.invariant.2) in
+    grown c.from_residual-in_err-refuse.result c.args.streams.now.faults.count c.refuse.new.self.faults.count grew
+
+pub returns-in_err-say-clause-err : goal.returns-in_err-say-clause-err
+returns-in_err-say-clause-err g c =
+    let grew : c.say.new.self.faults.count ≡ c.args.streams.now.faults.count + 1 = c.in_err-say.ensures.faults ∙ ap (λ n. n + 1) (c.in_ok-read_line.ensures.faults ∙ c.loop.invariant.2) in
+    grown c.from_residual-in_err-say.result c.args.streams.now.faults.count c.say.new.self.faults.count grew

@@ -1,5 +1,5 @@
 use Rattle.std.proofs.Common.{refl}
 use Rattle.looptrace.proofs.runner.next_answer.Goals as goal
 
-pub returns-in-Some-clause-answer : goal.returns-in-Some-clause-answer
-returns-in-Some-clause-answer c = rw (c.if-fault.false, ← c.in-Some.ensures.value) (c.in-Some.answer.events, refl, refl)
+pub returns : goal.returns
+returns c = rw (c.if-fault.false, c.in-Some.is) (c.in_ok-events.events, c.in_ok-events.ensures.cases, refl)

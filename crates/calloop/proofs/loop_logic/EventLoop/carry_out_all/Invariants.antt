@@ -1,6 +1,6 @@
 use Rattle.std.proofs.Common.{List, ◌++◌, ◌+◌, ◌≤◌, vec_len, vec_capacity}
 use Rattle.std.specs.VecDeque.{deque_len}
-use Rattle.calloop.specs.declared.loop_logic.Answer.{Answer}
+use Rattle.calloop.specs.declared.loop_logic.LoopAnswer.{LoopAnswer}
 use Rattle.calloop.specs.Machine.{View, view_of}
 use Rattle.calloop.specs.Rules.{RunLeads}
 use Rattle.calloop.proofs.loop_logic.EventLoop.carry_out_all.Given as goal
@@ -8,8 +8,8 @@ use Rattle.calloop.proofs.loop_logic.EventLoop.carry_out_all.Given as goal
 -- what the calls that are left lead to, all of them lead to
 abbrev pub invariant-loop-call : goal.invariant-loop-call
 invariant-loop-call g l = record {
-  machine : (later : List (Answer g.row.D.Denot g.row.P.Denot g.row.D-Data.Denot)) (t : View g.row.D.Denot g.row.P.Denot) → RunLeads g.D.EventDispatcher.means g.P.Poller.outside l.calls.items later (view_of l.self) t
-      → RunLeads g.D.EventDispatcher.means g.P.Poller.outside l.initial.calls.items (l.answers.items ++ later) (view_of l.initial.self) t;
+  machine : (later : List (LoopAnswer g.row.D.Denot g.row.P.Denot g.row.D-Data.Denot)) (t : View g.row.D.Denot g.row.P.Denot) → RunLeads g.D.Dispatch.means g.P.Poller.outside l.calls.items later (view_of l.self) t
+      → RunLeads g.D.Dispatch.means g.P.Poller.outside l.initial.calls.items (l.answers.items ++ later) (view_of l.initial.self) t;
   room : vec_len l.answers + deque_len l.calls ≤ vec_capacity l.answers;
 }
 

@@ -8,10 +8,10 @@ use Rattle.calloop.proofs.Inserting.{not_enabled, enabled}
 use Rattle.calloop.proofs.loop_logic.EventLoop.enable.Goals as goal
 
 pub returns-in_default : goal.returns-in_default
-returns-in_default g c = rw c.in_default.ensures.list (not_enabled g.D.EventDispatcher.means g.P.Poller.outside (view_of c.args.self.now) c.args.token c.in_default.ensures.value)
+returns-in_default g c = rw c.in_default.ensures.list (not_enabled g.D.Dispatch.means g.P.Poller.outside (view_of c.args.self.now) c.args.token c.in_default.ensures.value)
 
 pub returns : goal.returns
 returns g c =
     let is : named c.args.self.now.sources c.args.token ≡ Source c.in-Some.source = source_is (named c.args.self.now.sources c.args.token) c.in-Some.source (sym c.in-Some.ensures.value) in
-    rw (c.replace-was.ensures.list, c.slot.ensures, c.in-Some.ensures.list)
-    (enabled g.D.EventDispatcher.means g.P.Poller.outside (view_of c.args.self.now) c.args.token c.in-Some.source c.register-answer.new.self c.register-answer.new.factory c.register-answer.result (poll_view c.register-answer.new.poll) is (rw c.new-factory.ensures at c.register-answer.ensures))
+    rw (c.end_turn-none.ensures.list, c.in-Some.ensures.list)
+    (enabled g.D.Dispatch.means g.P.Poller.outside (view_of c.args.self.now) c.args.token c.in-Some.source c.register-answer.new.self c.register-answer.new.factory c.register-answer.result (poll_view c.register-answer.new.poll) is (rw c.new-factory.ensures at c.register-answer.ensures))

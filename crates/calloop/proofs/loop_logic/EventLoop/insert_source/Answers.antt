@@ -1,7 +1,7 @@
 use Rattle.std.proofs.Common.{◌≡◌, List, refl, ap, ◌∙◌}
 use Rattle.calloop_wake.specs.declared.list.Content.TheVariants.{Source}
 use Rattle.calloop_wake.specs.declared.list.Slot.{Slot}
-use Rattle.calloop_wake.specs.Slots.{changed, with_content, claimed}
+use Rattle.calloop_wake.specs.Slots.{after_turn, claimed}
 use Rattle.calloop_core.specs.Polls.{poll_view}
 use Rattle.calloop.specs.Machine.{View, view_of}
 use Rattle.calloop.proofs.Inserting.{not_claimed, not_registered, registered}
@@ -11,23 +11,23 @@ use Rattle.calloop.proofs.loop_logic.EventLoop.insert_source.Goals as goal
 pub returns-in-Err : goal.returns-in-Err
 returns-in-Err g c =
     rw c.in-Err.ensures.err.0
-    (not_claimed g.D.EventDispatcher.means g.P.Poller.outside (view_of c.args.self.now) (g.D.Hold.held (record { source = c.args.source; callback = c.args.callback })) c.in-Err.error c.in-Err.ensures.err.1)
+    (not_claimed g.D.Dispatch.means g.P.Poller.outside (view_of c.args.self.now) (g.D.Hold.held (record { source = c.args.source; callback = c.args.callback })) c.in-Err.error c.in-Err.ensures.err.1)
 
 pub returns-in-Ok-register : goal.returns-in-Ok-register
 returns-in-Ok-register g c =
     let v : View g.row.D.Denot g.row.P.Denot = view_of c.args.self.now in
-    let slots : c.replace-was.new.self ≡ changed (with_content (Source (g.D.Hold.held (record { source = c.register.new.self; callback = c.args.callback })))) (claimed v.slots) c.in-Ok.token.slot =
-    c.replace-was.ensures.list ∙ ap (λ n. changed (with_content (Source c.hold-held.result)) c.vacant.new.self n) c.slot.ensures
-    ∙ ap (λ (s : List (Slot g.row.D.Denot)). changed (with_content (Source c.hold-held.result)) s c.in-Ok.token.slot) c.in-Ok.ensures.ok.1
-    ∙ ap (λ (d : g.row.D.Denot). changed (with_content (Source d)) (claimed v.slots) c.in-Ok.token.slot) c.hold-held.ensures in
+    let slots : c.end_turn-none.new.self ≡ after_turn (Source (g.D.Hold.held (record { source = c.register.new.self; callback = c.args.callback }))) c.in-Ok.token (claimed v.slots) =
+    c.end_turn-none.ensures.list
+    ∙ ap (λ (s : List (Slot g.row.D.Denot)). after_turn (Source c.hold-held.result) c.in-Ok.token s) c.in-Ok.ensures.ok.1
+    ∙ ap (λ (d : g.row.D.Denot). after_turn (Source d) c.in-Ok.token (claimed v.slots)) c.hold-held.ensures in
     rw slots
-    (registered g.D.EventDispatcher.means g.P.Poller.outside (view_of c.args.self.now) (g.D.Hold.held (record { source = c.args.source; callback = c.args.callback })) (g.D.Hold.held (record { source = c.register.new.self; callback = c.args.callback }))
+    (registered g.D.Dispatch.means g.P.Poller.outside (view_of c.args.self.now) (g.D.Hold.held (record { source = c.args.source; callback = c.args.callback })) (g.D.Hold.held (record { source = c.register.new.self; callback = c.args.callback }))
     c.in-Ok.token c.register.new.factory (poll_view c.register.new.poll) c.in-Ok.ensures.ok.0 c.in-Ok.ensures.within.1
-    (let r = rw (c.new-factory.ensures, c.in-Ok-register.is) at c.register.ensures in held_reg g.P.Poller.outside g.D.Hold.held _ g.D.EventDispatcher.means g.met.D.Hold.held_means (record { source = c.args.source; callback = c.args.callback }) (record { source = c.register.new.self; callback = c.args.callback }) _ _ _ _ _ (r.0, (r.1, refl), r.2)))
+    (let r = rw (c.new-factory.ensures, c.in-Ok-register.is) at c.register.ensures in held_reg g.P.Poller.outside g.D.Hold.held _ g.D.Dispatch.means g.met.D.Hold.held_means (record { source = c.args.source; callback = c.args.callback }) (record { source = c.register.new.self; callback = c.args.callback }) _ _ _ _ _ (r.0, (r.1, refl), r.2)))
 
 pub returns-in-Err-register : goal.returns-in-Err-register
 returns-in-Err-register g c =
-    rw c.in-Ok.ensures.ok.1
-    (not_registered g.D.EventDispatcher.means g.P.Poller.outside (view_of c.args.self.now) (g.D.Hold.held (record { source = c.args.source; callback = c.args.callback })) (g.D.Hold.held (record { source = c.register.new.self; callback = c.args.callback })) c.in-Err-register.error
+    rw (c.vacate.ensures, c.in-Ok.ensures.ok.1)
+    (not_registered g.D.Dispatch.means g.P.Poller.outside (view_of c.args.self.now) (g.D.Hold.held (record { source = c.args.source; callback = c.args.callback })) (g.D.Hold.held (record { source = c.register.new.self; callback = c.args.callback })) c.in-Err-register.error
     c.in-Ok.token c.register.new.factory (poll_view c.register.new.poll) c.in-Ok.ensures.ok.0 c.in-Ok.ensures.within.1
-    (let r = rw (c.new-factory.ensures, c.in-Err-register.is) at c.register.ensures in held_reg g.P.Poller.outside g.D.Hold.held _ g.D.EventDispatcher.means g.met.D.Hold.held_means (record { source = c.args.source; callback = c.args.callback }) (record { source = c.register.new.self; callback = c.args.callback }) _ _ _ _ _ (r.0, (r.1, refl), r.2)))
+    (let r = rw (c.new-factory.ensures, c.in-Err-register.is) at c.register.ensures in held_reg g.P.Poller.outside g.D.Hold.held _ g.D.Dispatch.means g.met.D.Hold.held_means (record { source = c.args.source; callback = c.args.callback }) (record { source = c.register.new.self; callback = c.args.callback }) _ _ _ _ _ (r.0, (r.1, refl), r.2)))

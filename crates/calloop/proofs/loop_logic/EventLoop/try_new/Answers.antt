@@ -6,14 +6,15 @@ use Rattle.calloop.proofs.loop_logic.EventLoop.try_new.Goals as goal
 
 pub returns : goal.returns
 returns g c =
-    let new : PollView g.row.P.Denot = record { poller = c.args.poller; deadlines = record { entries = []; next = 0 }; batch = []; passes = []; pass = None } in
-    let polls : poll_view c.reserve.new.self ≡ new = c.in_ok-reserve.ensures.view ∙ c.in_ok-poll.ensures.ok in
+    let watch = (poll_view c.in_ok-new.field-0).watch in
+    let new : PollView g.row.P.Denot =
+    record { poller = c.args.poller; deadlines = record { entries = []; next = 0 }; batch = []; passes = []; pass = None; places = 0; watch = record { name = watch.name; notes = [] } } in
     record {
       ok = (
         record { slots = []; poll = new; ledger = new_ledger },
-        record { slots = refl; deadlines = refl; batch = refl; passes = refl; pass = refl; ledger = refl },
+        record { slots = refl; deadlines = refl; batch = refl; passes = refl; pass = refl; unwatched = refl; ledger = refl },
         refl,
-        sym (ap (λ (s : List (Slot g.row.D.Denot)). record { slots = s; poll = poll_view c.reserve.new.self }) c.new-2.ensures ∙ ap (λ (p : PollView g.row.P.Denot). record { slots = []; poll = p }) polls),
+        sym (ap (λ (s : List (Slot g.row.D.Denot)). record { slots = s; poll = poll_view c.in_ok-new.field-0 }) c.new.ensures ∙ ap (λ (p : PollView g.row.P.Denot). record { slots = []; poll = p }) c.in_ok-new.ensures.ok),
       );
       err = tt;
     }

@@ -1,6 +1,8 @@
 use Rattle.calloop.specs.Machine.{all_done}
 use Rattle.calloop.proofs.Rights.{run_right}
 use Rattle.calloop.proofs.Reuse.{names_later}
+use Rattle.calloop.specs.Laws.{changes_of}
+use Rattle.calloop.proofs.Gone.{stay_gone, run_fits}
 use Rattle.calloop.proofs.Owning.{run_owned, new_owned}
 use Rattle.calloop.proofs.loop_logic.laws.once.Goals as goal
 
@@ -9,9 +11,10 @@ returns g c =
     record {
       sound = λ calls answers csss w w' run.
           record {
-            reaches = run_right g.D.EventDispatcher.means g.P.Poller.outside calls answers csss w w' run;
+            reaches = run_right g.D.Dispatch.means g.P.Poller.outside calls answers csss w w' run;
             stale = λ before between after is. names_later (all_done w before) between;
+            gone = stay_gone g.P.Poller.outside w (changes_of csss) (run_fits g.D.Dispatch.means g.P.Poller.outside calls answers csss w w' run);
           };
       armings = λ calls answers csss w w' new fresh run.
-          (run_owned g.D.EventDispatcher.means g.P.Poller.outside g.met.D.EventDispatcher.keeps calls answers csss w w' fresh run (new_owned g.D.EventDispatcher.means w new)).noted.kept;
+          (run_owned g.D.Dispatch.means g.P.Poller.outside g.met.D.Dispatch.keeps calls answers csss w w' fresh run (new_owned g.D.Dispatch.means w new)).noted.kept;
     }

@@ -21,7 +21,7 @@ returns-in-Some g c =
         subst (λ (m : Option Instant). ArmedFor c.args.registration m c.arm_again-in-Some.result more c.arm_again-in-Some.new.self) moment c.arm_again-in-Some.ensures.1,
       ),
       stepped_first g.P.Poller.outside (poll_view c.args.poll.now) (poll_view c.now.new.self) (poll_view c.arm_again-in-Some.new.poll) (ReadClock c.now.result.nanos c.now.ensures.0) more c.now.ensures.1 c.now.ensures.2 c.arm_again-in-Some.ensures.2,
-      (c.call.new.self, c.call.new.«data», c.call.ensures, (refl, refl)),
+      (c.call.new.self, c.call.new.«data», c.call.new.requests, c.call.ensures.may, c.call.ensures.asks, (refl, refl, refl)),
     )
 
 pub returns-in-None : goal.returns-in-None
@@ -37,5 +37,5 @@ returns-in-None g c =
         subst (λ (m : Option Instant). ArmedFor {P = g.row.P.Denot} c.args.registration m (Ok Remove) [] (registered_as (spent c.args.registration) None)) moment (refl, refl, refl),
       ),
       ((c.now.ensures.1, tt), c.now.ensures.2),
-      (c.call.new.self, c.call.new.«data», c.call.ensures, (refl, refl)),
+      (c.call.new.self, c.call.new.«data», c.call.new.requests, c.call.ensures.may, c.call.ensures.asks, (refl, refl, refl)),
     )

@@ -4,14 +4,16 @@ use Rattle.std.specs.declared.time.Duration.{Duration}
 use Rattle.calloop_wake.specs.declared.error.Error.{Error}
 use Rattle.calloop_core.specs.declared.sys.script.ScriptPoller.{ScriptPoller}
 use Rattle.calloop_core.specs.declared.sys.script.ScriptClock.{ScriptClock}
-use Rattle.calloop_core.specs.Polls.{polling}
+use Rattle.std.specs.Option.{option_map}
+use Rattle.calloop_core.specs.Polls.{polling, is_filled}
 use Rattle.calloop.specs.declared.loop_logic.EventLoop.{EventLoop}
-use Rattle.calloop.specs.declared.loop_logic.Call.TheVariants.{Dispatch as DispatchCall}
-use Rattle.calloop.specs.declared.loop_logic.Answer.TheVariants.{Dispatched}
+use Rattle.calloop.specs.declared.loop_logic.LoopCall.TheVariants.{Dispatch as DispatchCall}
+use Rattle.calloop.specs.declared.loop_logic.LoopAnswer.TheVariants.{Dispatched}
 use Rattle.calloop.specs.Lending.{with_loop_poller}
 use Rattle.calloop.specs.Machine.{View, Polling, view_of}
-use Rattle.looptrace.specs.declared.source.Source.{Source}
-use Rattle.looptrace.specs.Runs.{IsReady, State, state_of, Calls, waits_text, answer_text}
+use Rattle.looptrace.specs.declared.runner.PendingAnswer.{PendingAnswer}
+use Rattle.looptrace.specs.Sources.{Source}
+use Rattle.looptrace.specs.Runs.{IsReady, IsTakenBack, State, state_of, pending_of, fault_after, pending_after, Calls, waits_text, answer_text}
 use Rattle.looptrace.proofs.runner.ScriptLoop.dispatch.Goals as goal
 
 -- an equal dispatch
@@ -32,34 +34,42 @@ pub returns-clause-ok : goal.returns-clause-ok
 returns-clause-ok g c =
     let s : State g.row.R.Denot = state_of c.args.self.now in
     let held = c.handle.ensures.value in
-    let new : ScriptPoller = c.make_ready.new.poller in
-    let mid : View (Source g.row.R.Denot) ScriptPoller = record s.loop { poll = polling new s.loop.poll } in
+    let held_after = c.handle-2.ensures.value in
+    let ready : ScriptPoller = c.make_ready.new.poller in
+    let back : ScriptPoller = c.take_back.new.poller in
+    let before : View (Source g.row.R.Denot) ScriptPoller = record s.loop { poll = polling ready s.loop.poll } in
+    let after : View (Source g.row.R.Denot) ScriptPoller = view_of c.dispatch-answer.new.self in
     let poller : c.poller_mut.result.now ≡ s.loop.poll.poller = c.poller_mut.ensures.value ∙ ap (λ (e : EventLoop (Source g.row.R.Denot) ScriptPoller ScriptClock g.row.R.Denot). e.poll.poller) held in
-    let before : view_of (with_loop_poller new c.handle.result.inner.now) ≡ mid = ap (λ (e : EventLoop (Source g.row.R.Denot) ScriptPoller ScriptClock g.row.R.Denot). view_of (with_loop_poller new e)) held in
-    let after : view_of c.dispatch-answer.new.self ≡ view_of (with_loop_poller c.poller_mut-2.result.now c.handle-2.result.inner.now) =
-    sym (ap (λ (p : ScriptPoller). view_of (with_loop_poller p c.handle-2.result.inner.now)) c.poller_mut-2.ensures.value ∙ ap view_of c.handle-2.ensures.value) in
-    let ready : IsReady s.fault s.pending s.loop.poll.poller new = subst (λ (p : ScriptPoller). IsReady s.fault s.pending p new) poller c.in_ok-make_ready.ensures.ok in
-    let waits = waits_text c.poller_mut-2.result.now.waits.items in
+    let poller_after : c.poller_mut-2.result.now ≡ after.poll.poller = c.poller_mut-2.ensures.value ∙ ap (λ (e : EventLoop (Source g.row.R.Denot) ScriptPoller ScriptClock g.row.R.Denot). e.poll.poller) held_after in
+    let same_before : view_of (with_loop_poller ready c.handle.result.inner.now) ≡ before = ap (λ (e : EventLoop (Source g.row.R.Denot) ScriptPoller ScriptClock g.row.R.Denot). view_of (with_loop_poller ready e)) held in
+    let loop_back : view_of (with_loop_poller back c.handle-2.result.inner.now) ≡ record after { poll = polling back after.poll } =
+    ap (λ (e : EventLoop (Source g.row.R.Denot) ScriptPoller ScriptClock g.row.R.Denot). view_of (with_loop_poller back e)) held_after in
+    let is_ready : IsReady s.fault s.pending s.loop.poll.poller ready = subst (λ (p : ScriptPoller). IsReady s.fault s.pending p ready) poller c.in_ok-make_ready.ensures.ok in
+    let is_back : IsTakenBack after.poll.poller back = subst (λ (p : ScriptPoller). IsTakenBack p back) poller_after c.in_ok-stands.ensures.2 in
+    let stands : c.in_ok-stands.stands ≡ is_filled after.poll.poller.answers.items = c.in_ok-stands.ensures.1 ∙ ap (λ (p : ScriptPoller). is_filled p.answers.items) poller_after in
+    let waits = waits_text after.poll.poller.waits.items in
     let said : List ℕ = (waits ++ c.in-Some.called.now) ++ answer_text c.dispatch-answer.result in
-    let text = three c.args.text.now.items waits c.in-Some.called.now (answer_text c.dispatch-answer.result) c.append_waits.new.text.items c.extend_from_slice.new.self.items c.append_answer.new.text.items
-    (c.in_ok-append_waits.ensures ∙ ap (λ ws. c.args.text.now.items ++ waits_text ws) c.waits.ensures) c.in_ok-extend_from_slice.ensures.items c.in_ok-append_answer.ensures in (
+    let text = three c.args.text.now.items waits c.in-Some.called.now (answer_text c.dispatch-answer.result) c.take_back.new.text.items c.extend_from_slice.new.self.items c.append_answer.new.text.items
+    (c.in_ok-stands.ensures.0 ∙ ap (λ (p : ScriptPoller). c.args.text.now.items ++ waits_text p.waits.items) poller_after) c.in_ok-extend_from_slice.ensures.items c.in_ok-append_answer.ensures in (
       said,
       text,
       record {
-        old = s.loop.poll.poller;
-        new = new;
         ready = ready;
-        mid = mid;
-        lent = ((Polling new ∷ []) ∷ [], (refl, refl), refl);
+        is_ready = is_ready;
+        before = before;
+        lent = ((Polling ready ∷ []) ∷ [], (refl, refl), refl);
         limit = c.timeout_of.result;
         limit_is = c.timeout_of.ensures;
         answer = c.dispatch-answer.result;
         called = c.in-Some.called.now;
-        dispatched = moved c.timeout_of.result c.dispatch-answer.result _ (Some []) _ (Some c.in-Some.called.now) _ mid _ _ c.new-said.ensures (sym c.in-Some.ensures)
-            before after c.dispatch-answer.ensures.case;
+        after = after;
+        dispatched = moved c.timeout_of.result c.dispatch-answer.result _ (Some []) _ (Some c.in-Some.called.now) _ before _ after c.new-said.ensures (sym c.in-Some.ensures)
+            same_before refl c.dispatch-answer.ensures.case;
+        is_back = is_back;
+        back = ((Polling back ∷ []) ∷ [], (refl, refl), loop_back);
         sources = refl;
-        fault = refl;
-        pending = c.in_ok-make_ready.ensures.left;
+        fault = c.fault_after-self.ensures ∙ ap (λ b. fault_after b s.fault) stands;
+        pending = c.pending_after.ensures ∙ ap (λ (o : Option PendingAnswer). pending_after c.in_ok-stands.stands s.fault (option_map pending_of o)) c.take.ensures.value ∙ ap (λ b. pending_after b s.fault s.pending) stands;
         text = refl;
       },
     )

@@ -1,7 +1,7 @@
 use Rattle.std.proofs.Common.{◌≡◌, ◌∙◌, sym, ap, refl}
 use Rattle.calloop.specs.Machine.{View}
 use Rattle.calloop_core.specs.declared.sys.script.ScriptPoller.{ScriptPoller}
-use Rattle.looptrace.specs.declared.source.Source.{Source}
+use Rattle.looptrace.specs.Sources.{Source}
 use Rattle.looptrace.proofs.runner.ScriptLoop.new.Goals as goal
 
 pub returns-in-Ok-clause-ok : goal.returns-in-Ok-clause-ok

@@ -3,15 +3,14 @@ use Rattle.calloop_core.specs.declared.timer.Timer.{Timer}
 use Rattle.calloop_core.specs.Timers.{unarmed}
 use Rattle.std.specs.Option.{option_map}
 use Rattle.calloop.specs.Machine.{view_of}
-use Rattle.looptrace.specs.declared.source.Source.{Source}
-use Rattle.looptrace.specs.declared.source.Source.TheVariants.{Timer as TimerIn}
+use Rattle.looptrace.specs.Sources.{Source, timer_in}
 use Rattle.looptrace.specs.Runs.{IsNewTimer, new_timer, pending_of}
 use Rattle.looptrace.proofs.InsertLemmas.{free, line_is}
 use Rattle.looptrace.proofs.runner.ScriptLoop.timer.Goals as goal
 
-new_is : (R : Type 0) (timer : Timer) (deadline : ℕ) (name : List ℕ) (asked : List ℕ) → timer ≡ unarmed (Some (record { nanos = deadline })) → name ≡ asked → ◌≡◌ {A = Source R} (TimerIn (record { source = timer; callback = record { name = name } })) (new_timer asked deadline)
+new_is : (R : Type 0) (timer : Timer) (deadline : ℕ) (name : List ℕ) (asked : List ℕ) → timer ≡ unarmed (Some (record { nanos = deadline })) → name ≡ asked → ◌≡◌ {A = Source R} (timer_in (record { source = timer; callback = record { name = name } })) (new_timer asked deadline)
 new_is R timer deadline name asked is_unarmed same =
-    ap (λ (timer : Timer). TimerIn (record { source = timer; callback = record { name = name } })) is_unarmed ∙ ap (λ (name : List ℕ). new_timer name deadline) same
+    ap (λ (timer : Timer). timer_in (record { source = timer; callback = record { name = name } })) is_unarmed ∙ ap (λ (name : List ℕ). new_timer name deadline) same
 
 pub returns-clause-ok : goal.returns-clause-ok
 returns-clause-ok g c =
@@ -22,7 +21,7 @@ returns-clause-ok g c =
     let says = c.in_ok-keep.ensures in (
       says.0,
       says.1,
-      line_is (λ d. TimerIn d) (record { name = c.in_ok-new.field-0 }) c.insert_source-answer.result name c.in_ok-kept.kept None (TimerIn (record { source = c.from_deadline-source.result; callback = record { name = c.in_ok-new.field-0 } })) (IsNewTimer name c.args.deadline)
+      line_is (λ d. timer_in d) (record { name = c.in_ok-new.field-0 }) c.insert_source-answer.result name c.in_ok-kept.kept None (timer_in (record { source = c.from_deadline-source.result; callback = record { name = c.in_ok-new.field-0 } })) (IsNewTimer name c.args.deadline)
           _ (view_of c.args.self.now.event_loop) _ c.args.self.now.sources.items _ c.args.self.now.fault (option_map pending_of c.args.self.now.pending) says.0
           none (source, refl) (ap view_of c.handle.ensures.value) kept c.insert_source-answer.ensures.case says.2,
     )

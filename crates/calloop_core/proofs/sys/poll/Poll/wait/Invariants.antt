@@ -1,9 +1,9 @@
-use Rattle.std.proofs.Common.{◌≡◌, ℕ, ◌≤◌, List, [], Result, vec_capacity}
+use Rattle.std.proofs.Common.{◌≡◌, ℕ, ◌+◌, ◌≤◌, List, [], Result, vec_capacity}
 use Rattle.std.specs.declared.io.Error.{Error as Cause}
 use Rattle.calloop_core.specs.declared.sys.Readiness.{Readiness}
 use Rattle.calloop_core.specs.Pollers.{nanos_of}
 use Rattle.calloop_core.specs.Polls.{poll_view}
-use Rattle.calloop_core.specs.Waits.{Interruption, Waits, Waited}
+use Rattle.calloop_core.specs.Waits.{Interruption, Waits, Waited, looked, faults_of}
 use Rattle.calloop_core.proofs.sys.poll.Poll.wait.Given as goal
 
 -- what the waits from now on end with, the whole wait ends with
@@ -13,8 +13,10 @@ invariant-loop g l = record {
   finite : (goal.iterator-loop g).is_finite l.iterator';
   leads : (is : List (Interruption g.row.P.Denot)) (answer : Result ℕ Cause) (given : List (ℕ × Readiness)) (q : g.row.P.Denot)
       → Waits g.P.Poller.outside (poll_view l.fn.self) (nanos_of l.timeout) l.start.nanos (nanos_of l.asked) l.self.poller is answer given q
-      → Waited g.P.Poller.outside (poll_view l.fn.self) (nanos_of l.timeout) answer given q;
-  others : l.self ≡ record l.fn.self { poller = l.self.poller; events = l.self.events };
+      → g.P.Poller.outside.faults q ≡ g.P.Poller.outside.faults l.fn.self.poller + faults_of answer
+      → Waited g.P.Poller.outside (poll_view l.fn.self) (nanos_of l.timeout) answer given q (looked is l.self.hub);
+  others : l.self ≡ record l.fn.self { poller = l.self.poller; hub = l.self.hub; events = l.self.events };
+  faults : g.P.Poller.outside.faults l.self.poller ≡ g.P.Poller.outside.faults l.fn.self.poller;
   events : l.self.events.items ≡ [];
   room : 1024 ≤ vec_capacity l.self.events;
 }

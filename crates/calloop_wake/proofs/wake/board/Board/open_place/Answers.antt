@@ -15,6 +15,6 @@ invariant_of-self c =
           let same : insert c.self.inside.places.items c.place_for-at.result (place c.args.key) ≡ after_open_place c.args.key c.self.inside.places.items =
           subst (λ (ps : List Place). insert ps c.place_for-at.result (place c.args.key) ≡ after_open_place c.args.key ps)
           c.deref-2.ensures.value c.place_for-at.ensures.sorted in
-          subst IsAscending (sym (w.in-Ok.ensures.items ∙ same)) (IsAscending-open c.args.key c.self.inside.places.items shut c.self.invariant)
+          subst IsAscending (sym (w.in-Ok.ensures.items ∙ same)) (IsAscending-open c.args.key c.self.inside.places.items c.requires shut c.self.invariant)
       | in-Err w ↦ subst IsAscending (sym w.in-Err.ensures.items) c.self.invariant
     ]

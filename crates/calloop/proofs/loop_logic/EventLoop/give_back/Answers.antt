@@ -1,0 +1,23 @@
+use Rattle.std.proofs.Common.{◌≡◌, ap, ◌∙◌, sym, true, false, Bool, Some, None, if◌then◌else◌}
+use Rattle.calloop_wake.specs.declared.list.Content.TheVariants.{Source}
+use Rattle.calloop_wake.specs.Slots.{after_turn as ended, changed, with_content, named, is_in_turn}
+use Rattle.calloop_core.specs.Polls.{PollView, poll_view}
+use Rattle.calloop.specs.Machine.{view_of}
+use Rattle.calloop.proofs.Going.{returned, gone, batch-stepped, was_in_turn, not_in_turn}
+use Rattle.calloop.proofs.loop_logic.EventLoop.give_back.Goals as goal
+
+pub returns-in_default-clause-machine : goal.returns-in_default-clause-machine
+returns-in_default-clause-machine g c told x =
+    let ss = c.args.self.now.sources in
+    let here = was_in_turn (is_in_turn (named ss c.args.token)) c.args.source c.in_default.ensures.value in
+    rw (c.in_default.ensures.list, here) (returned g.D.Dispatch.means g.P.Poller.outside c.args.token (view_of c.args.self.now) c.args.source told x here)
+
+pub returns-clause-machine : goal.returns-clause-machine
+returns-clause-machine g c told x =
+    let ss = c.args.self.now.sources in
+    let there = not_in_turn (is_in_turn (named ss c.args.token)) c.args.source c.in-Some.left c.in-Some.ensures.value in
+    rw (c.in-Some.ensures.list, there.0)
+    (gone g.D.Dispatch.means g.P.Poller.outside c.args.token (view_of c.args.self.now) c.args.source c.unregister.new.self told c.unregister.result (poll_view c.unregister.new.poll) x there.0 (rw there.1 at c.unregister.ensures))
+
+pub returns-clause-batch : goal.returns-clause-batch
+returns-clause-batch g c = ap (λ (p : PollView g.row.P.Denot). p.batch) c.unregister.ensures.2.1 ∙ batch-stepped (poll_view c.args.self.now.poll) c.unregister.ensures.0

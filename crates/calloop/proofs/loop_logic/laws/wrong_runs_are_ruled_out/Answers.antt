@@ -1,0 +1,55 @@
+use Rattle.std.proofs.Common.{◌≡◌, ◌*◌, ◌+◌, ◌<◌, ◌≤◌, ◌⊎◌, inl, inr, ℕ, Bool, true, false, List, [], ◌∷◌, Some, None, refl, sym, ap, ◌∙◌, ◌%◌, arith, slice_get}
+use Rattle.calloop_wake.specs.declared.token.Token.{Token}
+use Rattle.calloop.specs.Machine.{Registration}
+use Rattle.calloop.specs.Wrong.{first_token, used, given_up}
+use Rattle.calloop.proofs.loop_logic.laws.wrong_runs_are_ruled_out.Goals as goal
+
+zero_one : ◌≡◌ {A = ℕ} 0 1 → ⊥
+zero_one e = omega arith
+
+one_zero : ◌≡◌ {A = ℕ} 1 0 → ⊥
+one_zero e = omega arith
+
+two_one : ◌≡◌ {A = ℕ} 2 1 → ⊥
+two_one e = omega arith
+
+false_true : ◌≡◌ {A = Bool} false true → ⊥
+false_true e = cc
+
+pub returns-clause-wrong_slot : goal.returns-clause-wrong_slot
+returns-clause-wrong_slot c = λ h. one_zero h.0
+
+pub returns-clause-later_registration : goal.returns-clause-later_registration
+returns-clause-later_registration c = λ h.
+    let e : used 1 ≡ h.1 = (let f = h.2 in cc) in
+    let one : h.1.reuse ≡ 1 = sym (ap (λ (r : Registration (Unit {0})). r.reuse) e) in
+    one_zero (sym (ap (λ n. n % 65536) one) ∙ h.3)
+
+pub returns-clause-lost_event : goal.returns-clause-lost_event
+returns-clause-lost_event c = λ h. h (used 0) refl refl (tt, refl)
+
+pub returns-clause-earlier_registration : goal.returns-clause-earlier_registration
+returns-clause-earlier_registration c = λ w w' s s' h.
+    elim (h first_token (used 65536) (used 0) (ap (λ (l : List (Registration (Unit {0}))). slice_get l 0) s, refl) (ap (λ (l : List (Registration (Unit {0}))). slice_get l 0) s', refl)) [
+      | inl e ↦ absurd (omega arith)
+      | inr k ↦ absurd (omega (arith, k.1, k.2))
+    ]
+
+pub returns-clause-there_again : goal.returns-clause-there_again
+returns-clause-there_again c = λ w w' s s' h.
+    false_true (h 0 (given_up 0) (used 0) (ap (λ (l : List (Registration (Unit {0}))). slice_get l 0) s) (ap (λ (l : List (Registration (Unit {0}))). slice_get l 0) s') refl refl)
+
+pub returns-clause-early_event : goal.returns-clause-early_event
+returns-clause-early_event c = λ h. absurd (omega (arith, h))
+
+pub returns-clause-two_places : goal.returns-clause-two_places
+returns-clause-two_places c = λ v h. two_one (h.placed 0)
+
+pub returns-clause-two_calls : goal.returns-clause-two_calls
+returns-clause-two_calls c = λ v h. absurd (omega (arith, h.once 0))
+
+pub returns-clause-early_call : goal.returns-clause-early_call
+returns-clause-early_call c = λ v h. absurd (omega (arith, h.cut_on_time.0))
+
+pub returns-clause-call_from_nowhere : goal.returns-clause-call_from_nowhere
+returns-clause-call_from_nowhere c = λ v h. absurd (omega (arith, h.gathered 0))

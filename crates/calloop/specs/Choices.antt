@@ -1,0 +1,22 @@
+-- A choice of sources with the data of its loop, which is a type alone. calloop keeps sources of any type behind a
+-- pointer; here the loop's type names them.
+use Rattle.std.specs.Prelude.{◌≡◌}
+use Rattle.std.proofs.Common.{refl, ap}
+use Rattle.calloop_core.specs.Meanings.{Meaning, IsHeld, seen_as}
+use Rattle.calloop.specs.declared.loop_logic.Sources.{Sources}
+
+abbrev pub with_data : {A X : Type 0} → A → Sources A X
+with_data a = record { held = a; of = record {} }
+
+-- The proof that it means what it holds, which an impl cites.
+pub held_with_data : {D A P T X : Type 0} (held : D → A) (m : Meaning D P T) (n : Meaning A P T) → IsHeld held m n
+    → IsHeld (λ d. with_data {X = X} (held d)) m (seen_as (λ s. s.held) n)
+held_with_data held m n h =
+    record {
+      holds = λ s. h.holds s;
+      fits = λ s. h.fits s;
+      does = λ s v deed l t. (
+        λ w. let u = (h.does s v deed l t.held).0 w in (u.0, ap (λ a. with_data a) u.1, u.2),
+        λ u. (h.does s v deed l t.held).1 (u.0, ap (λ r. r.held) u.1, u.2),
+      );
+    }

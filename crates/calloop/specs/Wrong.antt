@@ -1,0 +1,53 @@
+-- Small cases that the laws over all runs rule out.
+use Rattle.std.specs.Prelude.{ℕ, List, [], ◌∷◌, Some}
+use Rattle.calloop_wake.specs.declared.token.Token.{Token}
+use Rattle.calloop_wake.specs.declared.list.Content.TheVariants.{Vacant, Source}
+use Rattle.calloop_wake.specs.Deadlines.{entry_of}
+use Rattle.calloop_core.specs.Polls.{timer_event}
+use Rattle.calloop.specs.Ledgers.{Ledger, Arming, Origin, Due, Waiting, Called, new_ledger}
+use Rattle.calloop.specs.Machine.{Registration}
+
+-- a token of slot 0 under version 0
+abbrev pub first_token : Token
+first_token = record { slot = 0; version = 0; sub_id = 0 }
+
+-- a slot that is used for the first time, or once more, with a source that is one of all alike
+abbrev pub used : (reuse : ℕ) → Registration (Unit {0})
+used reuse = record { reuse = reuse; content = Source tt }
+
+-- it was given up
+abbrev pub given_up : (reuse : ℕ) → Registration (Unit {0})
+given_up reuse = record { reuse = reuse; content = Vacant }
+
+-- the first arming, for moment 5
+abbrev pub first_arming : Arming
+first_arming = record { number = 0; counter = 0; deadline = record { nanos = 5 } }
+
+-- gathered too early
+abbrev pub early : Origin
+early = Due first_arming 4
+
+-- its event
+abbrev pub gathered_at : (moment : ℕ) → Waiting
+gathered_at moment =
+    record { event = timer_event (entry_of 0 (record { nanos = 5 }) first_token); origin = Due first_arming moment }
+
+-- a call for it
+abbrev pub first_call : Called
+first_call = record { deadline = record { nanos = 5 }; arming = Some first_arming }
+
+-- one arming that waits in the batch, and was cut from it too
+abbrev pub in_two_places : Ledger
+in_two_places = record new_ledger { batch = gathered_at 5 ∷ []; cut = gathered_at 5 ∷ []; made = first_arming ∷ []; count = 1 }
+
+-- one arming that was called for twice
+abbrev pub called_twice : Ledger
+called_twice = record new_ledger { cut = gathered_at 5 ∷ []; made = first_arming ∷ []; count = 1; calls = first_call ∷ first_call ∷ [] }
+
+-- one that was called for, and gathered too early
+abbrev pub called_early : Ledger
+called_early = record new_ledger { cut = gathered_at 4 ∷ []; made = first_arming ∷ []; count = 1; calls = first_call ∷ [] }
+
+-- one that was called for, and never gathered
+abbrev pub called_from_nowhere : Ledger
+called_from_nowhere = record new_ledger { cancelled = 0 ∷ []; made = first_arming ∷ []; count = 1; calls = first_call ∷ [] }

@@ -1,0 +1,36 @@
+-- What a source or a dispatcher did in one call, with all that the call took and gave beside `Poll`. calloop's
+-- `EventSource` and `EventDispatcher` have the same calls; here a call with its answer is one value.
+use Rattle.std.specs.Prelude.{List, Result}
+use Rattle.calloop_wake.specs.declared.error.Error.{Error}
+use Rattle.calloop_wake.specs.declared.token.Token.{Token}
+use Rattle.calloop_wake.specs.declared.token.TokenFactory.{TokenFactory}
+use Rattle.calloop_core.specs.declared.sys.Readiness.{Readiness}
+use Rattle.calloop_core.specs.declared.sources.PostAction.{PostAction}
+use Rattle.calloop_core.specs.Calls.{Call}
+
+-- T is what a turn took and gave beside its event: `Heard` of a source, `Lent` of a dispatcher; a registration has
+-- the factory before and after it
+pub data Deed (T : Type 0) : Type 0 where
+  Registered : (before : TokenFactory) (answer : Result (Unit {0}) Error) (after : TokenFactory) → Deed T
+  Reregistered : (before : TokenFactory) (answer : Result (Unit {0}) Error) (after : TokenFactory) → Deed T
+  Unregistered : (answer : Result (Unit {0}) Error) → Deed T
+  Turned : (readiness : Readiness) (token : Token) (turn : T) → Deed T
+
+-- the turn of a source: the calls of its callback, and its answer
+pub record Heard (E M T Cause : Type 0) : Type 0 where
+  pub calls : List (Call E M T)
+  pub answer : Result PostAction Cause
+
+abbrev pub heard : {E M T Cause : Type 0} → List (Call E M T) → Result PostAction Cause → Heard E M T Cause
+heard calls answer = record { calls = calls; answer = answer }
+
+-- the turn of a dispatcher: the data and the requests that were lent, before and after it, and its answer
+pub record Lent (X Q : Type 0) : Type 0 where
+  pub before : X
+  pub asked_before : Q
+  pub answer : Result PostAction Error
+  pub after : X
+  pub asked_after : Q
+
+abbrev pub lent : {X Q : Type 0} → X → Q → Result PostAction Error → X → Q → Lent X Q
+lent x q answer y r = record { before = x; asked_before = q; answer = answer; after = y; asked_after = r }

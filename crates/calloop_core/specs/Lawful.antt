@@ -1,0 +1,162 @@
+-- Proofs that the dispatchers of the library meet the laws of `Meanings`. They define nothing; impls cite them, so
+-- they stand here.
+use Rattle.std.specs.Prelude.{◌≡◌, ◌↔◌, ℕ, List, [], ◌∷◌, Result, Ok, Err}
+use Rattle.std.proofs.Common.{refl, sym, ap, ◌∙◌, inl, inr}
+use Rattle.anyhow.specs.declared.error.Error.{Error as Cause}
+use Rattle.calloop_wake.specs.declared.error.Error.{Error}
+use Rattle.calloop_wake.specs.declared.error.Error.TheVariants.{OtherError, OutOfMemory}
+use Rattle.calloop_core.specs.declared.sources.OneOf.{OneOf}
+use Rattle.calloop_core.specs.declared.sources.OneOf.TheVariants.{First, Other}
+use Rattle.calloop_core.specs.Polls.{PollView, PollStep}
+use Rattle.calloop_core.specs.Calls.{Call, Calling, Went, Becomes, IsOfSource}
+use Rattle.calloop_core.specs.Deeds.{Deed, Registered, Reregistered, Unregistered, Turned, Heard, Lent}
+use Rattle.calloop_core.specs.Meanings.{Meaning, IsKeeping, IsAsking, FailsAsSource, IsHeld}
+use Rattle.calloop_core.specs.Meanings.{with_callback, on_both, one_of, seen_as, still}
+
+-- Of an error of a source.
+
+pub other_of_source : (cause : Cause) (e : Error) → e ≡ OtherError cause → IsOfSource e
+other_of_source cause e is = inl (cause, is)
+
+pub memory_of_source : (e : Error) → e ≡ OutOfMemory → IsOfSource e
+memory_of_source e is = inr is
+
+-- Of what does nothing to `Poll`.
+
+pub keeping_still : {D P T : Type 0} (does : D → PollView P → Deed T → D → Type 0) → IsKeeping (still does)
+keeping_still does s t v deed steps fits below h = (tt, rw h.0 (λ counter. tt))
+
+-- Of a source with its callback.
+
+pub keeping_with_callback : {S F P E M T Cause X Q : Type 0} (m : Meaning S P (Heard E M T Cause))
+    (may : Calling F E M T X Q) (reaches : Q → Q → Type 0) (becomes : Cause → Error → Type 0)
+    → IsKeeping m → IsKeeping (with_callback m may reaches becomes)
+keeping_with_callback m may reaches becomes k s t v (Registered f a g) steps fits below h =
+    k s.source t.source v (Registered f a g) steps fits below h.0
+keeping_with_callback m may reaches becomes k s t v (Reregistered f a g) steps fits below h =
+    k s.source t.source v (Reregistered f a g) steps fits below h.0
+keeping_with_callback m may reaches becomes k s t v (Unregistered a) steps fits below h =
+    k s.source t.source v (Unregistered a) steps fits below h.0
+keeping_with_callback m may reaches becomes k s t v (Turned r j turn) steps fits below h =
+    k s.source t.source v (Turned r j h.inner) steps fits below h.turned
+
+-- what many calls ask for is reached too
+went_reaches : {F E M T X Q : Type 0} (may : Calling F E M T X Q) (reaches : Q → Q → Type 0)
+    → ((q : Q) → reaches q q) → ((q r s : Q) → reaches q r → reaches r s → reaches q s)
+    → (f g : F) (x y : X) (q r : Q) (cs : List (Call E M T)) → Went may reaches f x q cs g y r → reaches q r
+went_reaches may reaches stays goes_on f g x y q r [] h = rw h.2 (stays q)
+went_reaches may reaches stays goes_on f g x y q r (c ∷ cs) h =
+    goes_on q h.2 r h.4 (went_reaches may reaches stays goes_on h.0 g h.1 y h.2 r cs h.5)
+
+pub asking_with_callback : {S F P E M T Cause X Q : Type 0} (m : Meaning S P (Heard E M T Cause))
+    (may : Calling F E M T X Q) (reaches : Q → Q → Type 0) (becomes : Cause → Error → Type 0)
+    → ((q : Q) → reaches q q) → ((q r s : Q) → reaches q r → reaches r s → reaches q s)
+    → IsAsking reaches (with_callback m may reaches becomes)
+asking_with_callback m may reaches becomes stays goes_on s t v r j turn steps h =
+    went_reaches may reaches stays goes_on s.callback t.callback turn.before turn.after
+    turn.asked_before turn.asked_after h.inner.calls h.went
+
+told_as_source : {A Cause : Type 0} (becomes : Cause → Error → Type 0)
+    → ((cause : Cause) (e : Error) → becomes cause e → IsOfSource e)
+    → (inner : Result A Cause) (answer : Result A Error) → Becomes becomes inner answer
+    → (e : Error) → answer ≡ Err e → IsOfSource e
+told_as_source becomes law (Ok a) answer told e is = (let ok : Ok a ≡ Err e = sym told ∙ is in cc)
+told_as_source becomes law (Err cause) (Err e') told e is = (let same : e' ≡ e = cc in rw (← same) (law cause e' told))
+told_as_source becomes law (Err cause) (Ok a) told e is = absurd told
+
+pub failing_with_callback : {S F P E M T Cause X Q : Type 0} (m : Meaning S P (Heard E M T Cause))
+    (may : Calling F E M T X Q) (reaches : Q → Q → Type 0) (becomes : Cause → Error → Type 0)
+    → ((cause : Cause) (e : Error) → becomes cause e → IsOfSource e)
+    → FailsAsSource (with_callback m may reaches becomes)
+failing_with_callback m may reaches becomes law s t v r j turn steps h e is =
+    told_as_source becomes law h.inner.answer turn.answer h.told e is
+
+-- Of a choice of two.
+
+pub keeping_one_of : {A B P T : Type 0} (m : Meaning A P T) (n : Meaning B P T)
+    → IsKeeping m → IsKeeping n → IsKeeping (one_of m n)
+keeping_one_of m n h k (First a) (First b) v deed steps fits below d = h a b v deed steps fits below d
+keeping_one_of m n h k (Other a) (Other b) v deed steps fits below d = k a b v deed steps fits below d
+keeping_one_of m n h k (First a) (Other b) v deed steps fits below d = absurd d
+keeping_one_of m n h k (Other a) (First b) v deed steps fits below d = absurd d
+
+pub asking_one_of : {A B P X Q : Type 0} (reaches : Q → Q → Type 0)
+    (m : Meaning A P (Lent X Q)) (n : Meaning B P (Lent X Q))
+    → IsAsking reaches m → IsAsking reaches n → IsAsking reaches (one_of m n)
+asking_one_of reaches m n h k (First a) (First b) v r j turn steps d = h a b v r j turn steps d
+asking_one_of reaches m n h k (Other a) (Other b) v r j turn steps d = k a b v r j turn steps d
+asking_one_of reaches m n h k (First a) (Other b) v r j turn steps d = absurd d
+asking_one_of reaches m n h k (Other a) (First b) v r j turn steps d = absurd d
+
+pub failing_one_of : {A B P X Q : Type 0} (m : Meaning A P (Lent X Q)) (n : Meaning B P (Lent X Q))
+    → FailsAsSource m → FailsAsSource n → FailsAsSource (one_of m n)
+failing_one_of m n h k (First a) (First b) v r j turn steps d = h a b v r j turn steps d
+failing_one_of m n h k (Other a) (Other b) v r j turn steps d = k a b v r j turn steps d
+failing_one_of m n h k (First a) (Other b) v r j turn steps d = absurd d
+failing_one_of m n h k (Other a) (First b) v r j turn steps d = absurd d
+
+-- Of what is seen as another value.
+
+pub keeping_seen : {D A P T : Type 0} (see : D → A) (m : Meaning A P T) → IsKeeping m → IsKeeping (seen_as see m)
+keeping_seen see m h s t = h (see s) (see t)
+
+pub asking_seen : {D A P X Q : Type 0} (see : D → A) (reaches : Q → Q → Type 0) (m : Meaning A P (Lent X Q))
+    → IsAsking reaches m → IsAsking reaches (seen_as see m)
+asking_seen see reaches m h s t = h (see s) (see t)
+
+pub failing_seen : {D A P X Q : Type 0} (see : D → A) (m : Meaning A P (Lent X Q))
+    → FailsAsSource m → FailsAsSource (seen_as see m)
+failing_seen see m h s t = h (see s) (see t)
+
+-- Of places in a choice.
+
+first_step : {A B : Type 0} (R : A → A → Type 0) (S : B → B → Type 0) (s : A) (t : OneOf A B)
+    → on_both R S (First s) t ↔ ((b : A) × (t ≡ First b) × R s b)
+first_step R S s (First b) = (λ h. (b, refl, h), λ u. (let e = u.1 in let f : b ≡ u.0 = cc in rw f u.2))
+first_step R S s (Other b) = (λ h. absurd h, λ u. (let e = u.1 in cc))
+
+other_step : {A B : Type 0} (R : A → A → Type 0) (S : B → B → Type 0) (s : B) (t : OneOf A B)
+    → on_both R S (Other s) t ↔ ((b : B) × (t ≡ Other b) × S s b)
+other_step R S s (Other b) = (λ h. (b, refl, h), λ u. (let e = u.1 in let f : b ≡ u.0 = cc in rw f u.2))
+other_step R S s (First b) = (λ h. absurd h, λ u. (let e = u.1 in cc))
+
+pub held_itself : {A P T : Type 0} (m : Meaning A P T) → IsHeld (λ a. a) m m
+held_itself m =
+    record {
+      holds = λ s. refl;
+      fits = λ s. (λ h. h, λ h. h);
+      does = λ s v deed steps t. (λ h. (t, refl, h), λ u. rw u.1 u.2);
+    }
+
+pub held_first : {A B P T : Type 0} (m : Meaning A P T) (n : Meaning B P T) → IsHeld (λ a. First a) m (one_of m n)
+held_first m n =
+    record {
+      holds = λ s. refl;
+      fits = λ s. (λ h. h, λ h. h);
+      does = λ s v deed steps. first_step (λ a b. m.does a v deed steps b) (λ a b. n.does a v deed steps b) s;
+    }
+
+pub held_other : {A B P T : Type 0} (m : Meaning A P T) (n : Meaning B P T) → IsHeld (λ b. Other b) n (one_of m n)
+held_other m n =
+    record {
+      holds = λ s. refl;
+      fits = λ s. (λ h. h, λ h. h);
+      does = λ s v deed steps. other_step (λ a b. m.does a v deed steps b) (λ a b. n.does a v deed steps b) s;
+    }
+
+-- held in what is held
+pub held_through : {A B D P T : Type 0} (f : A → B) (g : B → D)
+    (m : Meaning A P T) (n : Meaning B P T) (o : Meaning D P T)
+    → IsHeld f m n → IsHeld g n o → IsHeld (λ a. g (f a)) m o
+held_through f g m n o h k =
+    record {
+      holds = λ s. k.holds (f s) ∙ h.holds s;
+      fits = λ s. (λ x. (h.fits s).0 ((k.fits (f s)).0 x), λ x. (k.fits (f s)).1 ((h.fits s).1 x));
+      does = λ s v deed steps t. (
+        λ w.
+            let u = (k.does (f s) v deed steps t).0 w in
+            let x = (h.does s v deed steps u.0).0 u.2 in
+            (x.0, u.1 ∙ ap g x.1, x.2),
+        λ x. (k.does (f s) v deed steps t).1 (f x.0, x.1, (h.does s v deed steps (f x.0)).1 (x.0, refl, x.2)),
+      );
+    }

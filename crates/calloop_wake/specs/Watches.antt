@@ -1,0 +1,18 @@
+-- The board with the name of its watch, and what the watch notes.
+use Rattle.std.specs.Prelude.{List, [], ◌∷◌, ◌++◌}
+use Rattle.logbook.specs.Pages.{Book}
+use Rattle.calloop_wake.specs.declared.wake.board.Place.{Place}
+use Rattle.calloop_wake.specs.declared.wake.notes.Note.{Note}
+use Rattle.calloop_wake.specs.declared.wake.watch.Watch.{Watch}
+
+pub record Watched : Type 0 where
+  pub places : List Place
+  -- no other board has it, and of the watches one
+  pub name : Book
+
+abbrev pub with_places : List Place → Watched → Watched
+with_places places w = record w { places = places }
+
+-- the watch with one note more
+abbrev pub noted : Note → Watch → Watch
+noted note w = record w { notes = w.notes ++ note ∷ [] }

@@ -1,0 +1,160 @@
+//! The board under the name of its watch, in which each look at the board and each taking of its keys is noted.
+ghost use Rattle.std.specs.Prelude.{◌≡◌, ◌≤◌, ◌+◌, ◌++◌, ◌∷◌, ◌<◌, ◌-◌, ◌^◌, [], not, map, length, is_ok, is_some, Err, MatchResult, if◌then◌else◌, true, false};
+ghost use Rattle.std.specs.VecDeque.{deque_len, deque_capacity};
+ghost use Rattle.calloop_wake.specs.Boards.{is_open, any_marked, wakes, after_open_place, after_close_place, after_post, after_unpost, bound, taken, keys_within, IsRising};
+ghost use Rattle.calloop_wake.specs.Watches.{noted, with_places};
+ghost use Rattle.calloop_wake.specs.declared.wake.board.OpenRefusal.TheVariants.{AlreadyExists, OutOfMemory};
+ghost use Rattle.calloop_wake.specs.declared.wake.notes.Note.TheVariants.{Counted, Looked, Unposted};
+
+use super::board::{Board, OpenRefusal};
+use super::ghosts::Name;
+use super::locked::Core;
+use super::notes::Notes;
+use super::{Debt, Last, LeaveToClose, LeaveToSleep, Nudge, OpenedPass, TakenPass};
+use counted_slot::Fits;
+use std::alloc::Global;
+use std::collections::VecDeque;
+use std::marker::Model;
+
+/// The loop's end of the board of this name: what was done to the board for it, in order. There is one for each board,
+/// and it can't be cloned.
+#[derive(Drop)]
+pub struct Watch {
+    pub(crate) name: Name,
+    pub(crate) notes: Notes,
+}
+
+impl Watch {
+    /// Notes how many places were open when they were counted.
+    pub fn note_count(&mut self, places: OpenPlaces)
+        requires { places.name ≡ self.old.name }
+        ensures { self.new ≡ noted (Counted places.number) self.old }
+    {
+        self.notes = self.notes.and_counted(places.number);
+    }
+}
+
+/// How many places of the board of this name were open when they were counted. Only the board gives it.
+#[derive(Drop)]
+pub struct OpenPlaces {
+    pub(crate) number: usize,
+    pub(crate) name: Name,
+}
+
+impl OpenPlaces {
+    /// How many there were.
+    pub fn number(&self) -> usize
+        ensures { result ≡ self.now.number }
+    {
+        self.number
+    }
+}
+
+/// The board, and the name that it shares with its watch. It has no `Drop`: it lies under a lock, whose last drop ends it.
+pub struct WatchedBoard {
+    board: Board,
+    name: Name,
+}
+
+impl Model for WatchedBoard {
+    ghost use Rattle.calloop_wake.specs.Watches.{Watched};
+
+    ghost Value = { Watched };
+
+    ghost view = { λ w. record { places = w.board; name = w.name } };
+}
+
+impl Fits for WatchedBoard {
+    ghost use Rattle.std.specs.Prelude.{◌≡◌};
+
+    type Tag = Name;
+
+    ghost fits = { λ tag board. board.name ≡ tag };
+}
+
+impl Core for WatchedBoard {
+    fn dissolve(self, last: Last) {
+        let Last { of_wake: _ } = last;
+        let WatchedBoard { board: _, name: _ } = self;
+    }
+}
+
+impl WatchedBoard {
+    /// A board with no place, its watch, and the name of both. It allocates nothing yet.
+    pub fn new(alloc: Global) -> (WatchedBoard, Watch, Name)
+        ensures board { result.0 ≡ record { places = []; name = result.2 } }
+        ensures watch { result.1 ≡ record { name = result.2; notes = [] } }
+    {
+        let name = Name::fresh();
+        let board = WatchedBoard {
+            board: Board::new(alloc),
+            name: name.again(),
+        };
+        let watch = Watch {
+            name: name.again(),
+            notes: Notes::none(),
+        };
+        (board, watch, name)
+    }
+
+    /// How many places are open now.
+    pub fn places(&self) -> OpenPlaces
+        ensures { result ≡ record { number = length self.now.places; name = self.now.name } }
+    {
+        OpenPlaces {
+            number: self.board.places(),
+            name: self.name.again(),
+        }
+    }
+
+    /// As `Board::open_place`.
+    pub fn open_place(&mut self, key: u64) -> Result<OpenedPass, OpenRefusal>
+        requires { key < 2 ^ 64 - 1 }
+        ensures board { self.new ≡ with_places (if is_ok result then after_open_place key self.old.places else self.old.places) self.old }
+        ensures open { is_open key self.old.places ≡ true → result ≡ Err AlreadyExists }
+        ensures shut { is_open key self.old.places ≡ false → MatchResult result (λ pass. pass ≡ key) (λ e. e ≡ OutOfMemory) }
+    {
+        self.board.open_place(key)
+    }
+
+    /// As `Board::close_place`.
+    pub fn close_place(&mut self, leave: LeaveToClose)
+        ensures { self.new ≡ with_places (after_close_place leave self.old.places) self.old }
+    {
+        self.board.close_place(leave);
+    }
+
+    /// As `Board::post`.
+    pub fn post(&mut self, debt: Debt) -> Option<Nudge>
+        ensures board { self.new ≡ with_places (after_post debt self.old.places) self.old }
+        ensures nudges { is_some result ≡ wakes debt self.old.places }
+    {
+        self.board.post(debt)
+    }
+
+    /// Gives the leave to sleep where no key is marked, and has the watch note it.
+    pub fn look(&self, watch: &mut Watch) -> Option<LeaveToSleep>
+        requires { watch.old.name ≡ self.now.name }
+        ensures gives { is_some result ≡ not (any_marked self.now.places) }
+        ensures watch { watch.new ≡ noted (Looked (any_marked self.now.places)) watch.old }
+    {
+        watch.notes = watch.notes.and_looked(&self.board);
+        self.board.look()
+    }
+
+    /// Takes the marked keys, ascending, as many as there is room for, appends a pass for each, and has the watch note them.
+    pub fn unpost(&mut self, room: usize, watch: &mut Watch, passes: &mut VecDeque<TakenPass>)
+        requires name { watch.old.name ≡ self.old.name }
+        requires room { deque_len passes.old + room ≤ deque_capacity passes.old }
+        ensures board { self.new ≡ with_places (after_unpost (bound room self.old.places) self.old.places) self.old }
+        ensures watch { watch.new ≡ noted (Unposted room (keys_within room self.old.places)) watch.old }
+        ensures gives { passes.new.items ≡ passes.old.items ++ map taken (keys_within room self.old.places) }
+        ensures len { deque_len passes.new ≡ deque_len passes.old + length (keys_within room self.old.places) }
+        ensures capacity { deque_capacity passes.new ≡ deque_capacity passes.old }
+        ensures rising { IsRising (keys_within room self.old.places) }
+        ensures few { length (keys_within room self.old.places) ≤ room }
+    {
+        watch.notes = watch.notes.and_unposted(&self.board, room);
+        self.board.unpost(room, passes);
+    }
+}

@@ -1,0 +1,14 @@
+-- How many calls of the reader and the writers of a run failed. No contract says when one does.
+use Rattle.std.specs.Prelude.{◌≡◌, ◌⊎◌, ℕ, ◌+◌, Result, Ok, Err}
+use Rattle.std.specs.declared.io.Error.{Error}
+use Rattle.std.specs.IoError.{error_kind}
+use Rattle.std.specs.declared.io.ErrorKind.TheVariants.{OutOfMemory}
+
+-- a call that fails counts one
+abbrev pub counted : {A : Type 0} → Result A Error → ℕ → ℕ
+counted (Ok a) n = n
+counted (Err e) n = n + 1
+
+-- why a run ends with an error: it wants memory, or just now a call of the reader or of a writer failed
+abbrev pub IsCause : Error → (before after : ℕ) → Type 0
+IsCause e before after = (error_kind e ≡ OutOfMemory) ⊎ (after ≡ before + 1)
