@@ -1,5 +1,5 @@
 -- Steps of a dispatch, one after the other.
-use Rattle.std.proofs.Common.{◌≡◌, ℕ, ◌+◌, length, arith, List, [], ◌∷◌, ◌++◌, refl, ap, sym, ◌∙◌, subst, Some, None, Option, Result, Ok, Err, inl, inr, Bool, true, false, if◌then◌else◌}
+use Rattle.std.proofs.Common.{◌≡◌, ℕ, ◌+◌, length, drop, arith, List, [], ◌∷◌, ◌++◌, refl, ap, sym, ◌∙◌, subst, Some, None, Option, Result, Ok, Err, inl, inr, Bool, true, false, if◌then◌else◌}
 use Rattle.calloop_wake.specs.declared.error.Error.{Error}
 use Rattle.calloop_wake.specs.declared.error.Error.TheVariants.{OutOfMemory}
 use Rattle.calloop_wake.specs.declared.list.Content.{Content}
@@ -7,18 +7,22 @@ use Rattle.calloop_wake.specs.declared.list.Content.TheVariants.{Vacant, Source,
 use Rattle.calloop_wake.specs.declared.list.Slot.{Slot}
 use Rattle.calloop_wake.specs.declared.token.RegistrationToken.{RegistrationToken}
 use Rattle.calloop_wake.specs.Tokens.{registration_of}
-use Rattle.calloop_wake.specs.Slots.{changed, with_content, named, source_of, is_empty, is_in_turn, after_turn}
-use Rattle.calloop_wake.proofs.Named.{source_is, named_slot}
+use Rattle.calloop_wake.specs.Slots.{changed, with_content, named, source_of, is_empty, is_in_turn, after_turn, after_turn as ended}
+use Rattle.calloop_wake.proofs.Named.{source_is, named_slot, turn_ended, named_changed}
 use Rattle.calloop_core.specs.declared.sys.poll.Pending.{Pending}
 use Rattle.calloop_core.specs.declared.sources.PostAction.{PostAction}
 use Rattle.calloop_core.specs.declared.sources.PostAction.TheVariants.{Remove}
+use Rattle.calloop_wake.specs.declared.token.Token.{Token}
+use Rattle.calloop_core.specs.declared.sys.Readiness.{Readiness}
 use Rattle.calloop_core.specs.Pollers.{Outside}
 use Rattle.calloop_core.specs.Waits.{Polled}
-use Rattle.calloop_core.specs.Polls.{PollView, PollStep, AllStepped, polling, watching, counted, with_pass, cut, cut_from, begun, tail_of, head_of, poll_after, polls_after, TakePass, PutBack, Arm, ArmAgain, Cancel, Call, ReadClock}
-use Rattle.calloop_core.specs.Deeds.{Turned, Unregistered, Lent, lent}
+use Rattle.calloop_core.specs.Events.{events_of}
+use Rattle.calloop_core.specs.Polls.{PollView, PollStep, polling, watching, counted, with_pass, cut, cut_from, begun, tail_of, head_of, poll_after, polls_after, TakePass, PutBack, Arm, ArmAgain, Cancel, Call, ReadClock}
+use Rattle.calloop_core.specs.Deeds.{Turned, Unregistered, Slept, Noticed, Lent, lent}
 use Rattle.calloop_core.specs.Meanings.{Meaning, Does}
-use Rattle.calloop.specs.Machine.{View, Change, Put, Polls, Polling, Watching, Counting, Gathered, Cut, Ended, all_viewed, AllFit, IsFull}
-use Rattle.calloop.specs.Rules.{Goes, Steps, Step, Doing, Beginning, Waiting, Gathering, Cutting, Ending, Returning, Leaving, traced, ActedBy, ReturnedTo, emptied, after_turn as after, CutTo, CutFrom, DispatchedBy, Did}
+use Rattle.calloop.specs.Held.{HeldStep, Unlisted}
+use Rattle.calloop.specs.Machine.{View, Change, Put, Polls, Polling, Watching, Counting, Holds, Gathered, Cut, Ended, all_viewed, AllFit, IsFull}
+use Rattle.calloop.specs.Rules.{Goes, Steps, Step, Doing, Beginning, Sleeping, Waiting, Gathering, Noticing, Cutting, Ending, Returning, Leaving, Outcome, ByOne, left, traced, told_in, SleptAs, SleptBy, NoticedBy, ActedBy, ReturnedTo, emptied, after_turn as after, CutTo, CutFrom, DispatchedBy, Did}
 
 traced-append : {D P : Type 0} (v : View D P) (css dss : List (List (Change D P))) → traced v (css ++ dss) ≡ traced (traced v css) dss
 traced-append v [] dss = refl
@@ -94,20 +98,21 @@ module _ {D P X Q : Type 0} (M : Meaning D P (Lent X Q)) (O : Outside P) where
   goes_by a b cs v u step fit is = (cs ∷ [], (b, step, fit, refl), is)
 
   -- room for the batch
-  pub begun_with : (v : View D P) (places : ℕ) (timeout : Option ℕ) (x : X) → Goes M O (Beginning timeout x) (Waiting timeout x) v (record v { poll = counted places v.poll })
-  begun_with v places timeout x = goes_by (Beginning timeout x) (Waiting timeout x) (Counting places ∷ []) v (record v { poll = counted places v.poll }) (places, refl, refl) (tt, tt) refl
+  pub begun_with : (v : View D P) (places : ℕ) (timeout : Option ℕ) (x : X) → Goes M O (Beginning timeout x) (Sleeping timeout v.held.lifecycle x) v (record v { poll = counted places v.poll })
+  begun_with v places timeout x = goes_by (Beginning timeout x) (Sleeping timeout v.held.lifecycle x) (Counting places ∷ []) v (record v { poll = counted places v.poll }) (places, refl, refl) (tt, tt) refl
 
   -- the wait and the gathering
-  pub polled : (v : View D P) (p' : PollView P) (timeout : Option ℕ) (x : X) → Polled O timeout (Ok tt) v.poll p' → Goes M O (Waiting timeout x) (Cutting x) v (record v { poll = p' })
+  pub polled : (v : View D P) (p' : PollView P) (timeout : Option ℕ) (x : X) → Polled O timeout (Ok tt) v.poll p' → Goes M O (Waiting timeout x) (Noticing (length v.poll.batch) v.held.lifecycle x) v (record v { poll = p' })
   polled v p' timeout x h =
       let now = h.0 in
       let given = h.1 in
       let p = h.2 in
       let w = h.3 in
       let u : View D P = record v { poll = watching w (polling p v.poll) } in
-      goes_on (Waiting timeout x) (Gathering now given x) (Cutting x) v u (record v { poll = p' })
+      let told : Doing D X = Noticing (length v.poll.batch) v.held.lifecycle x in
+      goes_on (Waiting timeout x) (Gathering now given x) told v u (record v { poll = p' })
       (goes_by (Waiting timeout x) (Gathering now given x) (Polling p ∷ Watching w ∷ []) v u (Ok now, given, p, w, h.4, refl, refl) (tt, (tt, tt)) refl)
-      (goes_by (Gathering now given x) (Cutting x) (Gathered h.5 given now ∷ []) u (record v { poll = p' }) (h.5, refl, refl) (h.6, tt)
+      (goes_by (Gathering now given x) told (Gathered h.5 given now ∷ []) u (record v { poll = p' }) (h.5, refl, refl) (h.6, tt)
       (ap (λ (q : PollView P). record v { poll = q }) h.7))
 
   pub not_polled : (v : View D P) (p' : PollView P) (timeout : Option ℕ) (x : X) (e : Error) → Polled O timeout (Err e) v.poll p' → Goes M O (Waiting timeout x) (Leaving (Err e) x) v (record v { poll = p' })
@@ -140,17 +145,17 @@ module _ {D P X Q : Type 0} (M : Meaning D P (Lent X Q)) (O : Outside P) where
   -- an event whose token names a source has its turn
   pub turned : (e : Pending) (v : View D P) (d d' : D) (answer : Result PostAction Error) (q p' : PollView P) (x x' : X) (y y' : Q) → Some e ≡ head_of v.poll.batch → Some d ≡ source_of (named v.slots (registration_of e.token)) → q ≡ cut v.poll
       → Does O M d q (Turned e.readiness e.token (lent x y answer x' y')) d' p'
-      → Goes M O (Cutting x) (Ending (registration_of e.token) d' answer x') v (record { slots = changed (with_content InTurn) v.slots e.token.slot; poll = p' })
+      → Goes M O (Cutting x) (Ending (registration_of e.token) d' answer x') v (record v { slots = changed (with_content InTurn) v.slots e.token.slot; poll = p' })
   turned e v d d' answer q p' x x' y y' first named_as is u =
       let f = cons_of_head v.poll.batch e first in
       let full = source_is (named v.slots (registration_of e.token)) d (sym named_as) in
       let t = subst (λ (r : PollView P). Does O M d r (Turned e.readiness e.token (lent x y answer x' y')) d' p') is u in
-      let mid : View D P = record { slots = changed (with_content InTurn) v.slots e.token.slot; poll = p' } in
+      let mid : View D P = record v { slots = changed (with_content InTurn) v.slots e.token.slot; poll = p' } in
       let a : Doing D X = Ending (registration_of e.token) d' answer x' in
       goes_by (Cutting x) a (Cut (Some e.token.slot) ∷ Put e.token.slot InTurn ∷ Polls t.0 ∷ []) v mid
       (from_cons v.poll.batch f.0 e v x (Cut (Some e.token.slot) ∷ Put e.token.slot InTurn ∷ Polls t.0 ∷ []) a f.1 (rw full (d', answer, t.0, x', y, y', t.1, refl, refl)))
       (tt, (full_named v.slots (registration_of e.token) (ap is_empty full), (t.2.0, tt)))
-      (ap (λ (q : PollView P). record { slots = changed (with_content InTurn) v.slots e.token.slot; poll = q }) t.2.1)
+      (ap (λ (q : PollView P). record v { slots = changed (with_content InTurn) v.slots e.token.slot; poll = q }) t.2.1)
 
   -- a post action without steps
   pub acted : (token : RegistrationToken) (v : View D P) (d : D) (answer : Result PostAction Error) (told : Result (Unit {0}) Error) (x : X) → ActedBy M token d answer v (Ended ∷ []) d told
@@ -158,11 +163,12 @@ module _ {D P X Q : Type 0} (M : Meaning D P (Lent X Q)) (O : Outside P) where
   acted token v d answer told x h = goes_by (Ending token d answer x) (Returning token d told x) (Ended ∷ []) v (record v { poll = with_pass None v.poll }) (d, told, h, refl) (tt, tt) refl
 
   -- one with steps of the source
-  pub acted_with : (token : RegistrationToken) (v : View D P) (d e : D) (answer : Result PostAction Error) (told : Result (Unit {0}) Error) (steps : List (PollStep P)) (p' : PollView P) (x : X) → ActedBy M token d answer v (Ended ∷ Polls steps ∷ []) e told
-      → AllStepped O (with_pass None v.poll) steps p'
-      → Goes M O (Ending token d answer x) (Returning token e told x) v (record v { poll = p' })
-  acted_with token v d e answer told steps p' x h s =
-      goes_by (Ending token d answer x) (Returning token e told x) (Ended ∷ Polls steps ∷ []) v (record v { poll = p' }) (e, told, h, refl) (tt, (s.0, tt)) (ap (λ (q : PollView P). record v { poll = q }) s.1)
+  pub acted_with : (R : D → Outcome → List (PollStep P) → D → Type 0) (noted : D → Outcome → HeldStep) (token : RegistrationToken) (v u : View D P) (d e : D) (answer : Result PostAction Error) (told : Outcome) (x : X)
+      → ((steps : List (PollStep P)) → R d told steps e → ActedBy M token d answer v (Ended ∷ Polls steps ∷ Holds (noted d told) ∷ []) e told)
+      → ByOne O R noted d told e (record v { poll = with_pass None v.poll }) u
+      → Goes M O (Ending token d answer x) (Returning token e told x) v u
+  acted_with R noted token v u d e answer told x by r =
+      goes_by (Ending token d answer x) (Returning token e told x) (Ended ∷ Polls r.0 ∷ Holds (noted d told) ∷ []) v u (e, told, by r.0 r.1, refl) (tt, (r.2, (tt, tt))) r.3
 
   emptied_fit : (token : RegistrationToken) (v : View D P) (c : Content D) → named v.slots token ≡ c → AllFit O v (emptied token c)
   emptied_fit token v Vacant is = tt
@@ -175,10 +181,10 @@ module _ {D P X Q : Type 0} (M : Meaning D P (Lent X Q)) (O : Outside P) where
   emptied_view token v InTurn = refl
 
   -- the one that empties the slot
-  pub acted_leaving : (token : RegistrationToken) (v : View D P) (d : D) (x : X) → Goes M O (Ending token d (Ok Remove) x) (Returning token d (Ok tt) x) v (record { slots = after_turn Vacant token v.slots; poll = with_pass None v.poll })
+  pub acted_leaving : (token : RegistrationToken) (v : View D P) (d : D) (x : X) → Goes M O (Ending token d (Ok Remove) x) (Returning token d (Ok tt) x) v (record v { slots = after_turn Vacant token v.slots; poll = with_pass None v.poll })
   acted_leaving token v d x =
       let u : View D P = record v { poll = with_pass None v.poll } in
-      goes_by (Ending token d (Ok Remove) x) (Returning token d (Ok tt) x) (Ended ∷ emptied token (named v.slots token)) v (record { slots = after_turn Vacant token v.slots; poll = with_pass None v.poll }) (d, Ok tt, (refl, refl, refl), refl)
+      goes_by (Ending token d (Ok Remove) x) (Returning token d (Ok tt) x) (Ended ∷ emptied token (named v.slots token)) v (record v { slots = after_turn Vacant token v.slots; poll = with_pass None v.poll }) (d, Ok tt, (refl, refl, refl), refl)
       (tt, emptied_fit token u (named v.slots token) refl) (emptied_view token u (named v.slots token))
 
   turn_is : (c : Content D) → is_in_turn c ≡ true → c ≡ InTurn
@@ -193,16 +199,68 @@ module _ {D P X Q : Type 0} (M : Meaning D P (Lent X Q)) (O : Outside P) where
       let is = turn_is (named v.slots token) here in
       goes_by (Returning token d told x) (after told x) (Put token.slot (Source d) ∷ []) v (record v { slots = changed (with_content (Source d)) v.slots token.slot }) (rw is refl, refl) (full_named v.slots token (ap is_empty is), tt) refl
 
-  gone_by : (token : RegistrationToken) (v : View D P) (d e : D) (c : Content D) (answer : Result (Unit {0}) Error) (steps : List (PollStep P)) → is_in_turn c ≡ false → M.does d v.poll (Unregistered answer) steps e → ReturnedTo M token d c v (Polls steps ∷ [])
+  gone_by : (token : RegistrationToken) (v : View D P) (d e : D) (c : Content D) (answer : Result (Unit {0}) Error) (steps : List (PollStep P)) → is_in_turn c ≡ false → M.does d v.poll (Unregistered answer) steps e → ReturnedTo M token d c v (Polls steps ∷ Holds (Unlisted token) ∷ [])
   gone_by token v d e Vacant answer steps none h = (e, answer, steps, h, refl)
   gone_by token v d e (Source f) answer steps none h = (e, answer, steps, h, refl)
   gone_by token v d e InTurn answer steps none h = cc
 
   -- it left the loop
-  pub gone : (token : RegistrationToken) (v : View D P) (d e : D) (told answer : Result (Unit {0}) Error) (p' : PollView P) (x : X) → is_in_turn (named v.slots token) ≡ false → Does O M d v.poll (Unregistered answer) e p'
-      → Goes M O (Returning token d told x) (after told x) v (record v { poll = p' })
-  gone token v d e told answer p' x none u =
-      goes_by (Returning token d told x) (after told x) (Polls u.0 ∷ []) v (record v { poll = p' }) (gone_by token v d e (named v.slots token) answer u.0 none u.1, refl) (u.2.0, tt) (ap (λ (q : PollView P). record v { poll = q }) u.2.1)
+  pub gone : (token : RegistrationToken) (v u : View D P) (d e : D) (told answer : Outcome) (x : X) → is_in_turn (named v.slots token) ≡ false
+      → ByOne O (λ f a steps g. M.does f v.poll (Unregistered a) steps g) (left token) d answer e v u
+      → Goes M O (Returning token d told x) (after told x) v u
+  gone token v u d e told answer x none r =
+      goes_by (Returning token d told x) (after told x) (Polls r.0 ∷ Holds (Unlisted token) ∷ []) v u (gone_by token v d e (named v.slots token) answer r.0 none r.1, refl) (r.2, (tt, tt)) r.3
+
+  -- one that is told of a wait was taken out and put back
+  abbrev pub told : RegistrationToken → D → View D P → View D P
+  told token e v = record v { slots = ended (Source e) token (changed (with_content InTurn) v.slots token.slot) }
+
+  told_by : (a b : Doing D X) (token : RegistrationToken) (v : View D P) (d e : D) (joined : List (Change D P)) → named v.slots token ≡ Source d → Step M O v a (told_in token e ++ joined) b
+      → ((u : View D P) → AllFit O u joined) → Goes M O a b v (all_viewed (told token e v) joined)
+  told_by a b token v d e joined is step fit =
+      let full : is_empty (named v.slots token) ≡ false = ap is_empty is in
+      let out = changed (with_content InTurn) v.slots token.slot in
+      goes_by a b (told_in token e ++ joined) v (all_viewed (told token e v) joined) step
+      (full_named v.slots token full, (tt, (full_named out token (ap is_empty (named_changed v.slots token InTurn full)), fit _)))
+      (ap (λ (ss : List (Slot D)). all_viewed (record v { slots = ss }) joined) (turn_ended v.slots token (Source e) full))
+
+  none_slept : (timeout : Option ℕ) (token : RegistrationToken) (later : List RegistrationToken) (c : Content D) (v : View D P) (x : X) → None ≡ source_of c → SleptBy M timeout token later c v x [] (Sleeping timeout later x)
+  none_slept timeout token later Vacant v x h = (refl, refl)
+  none_slept timeout token later InTurn v x h = (refl, refl)
+  none_slept timeout token later (Source d) v x h = cc
+
+  pub not_slept : (timeout : Option ℕ) (token : RegistrationToken) (later : List RegistrationToken) (v : View D P) (x : X) → None ≡ source_of (named v.slots token)
+      → Goes M O (Sleeping timeout (token ∷ later) x) (Sleeping timeout later x) v v
+  not_slept timeout token later v x none =
+      goes_by (Sleeping timeout (token ∷ later) x) (Sleeping timeout later x) [] v v (none_slept timeout token later (named v.slots token) v x none) tt refl
+
+  pub slept : (timeout : Option ℕ) (token : RegistrationToken) (later : List RegistrationToken) (v : View D P) (x : X) (d e : D) (answer : Result (Option (Readiness × Token)) Error) (joined : List (Change D P)) (b : Doing D X)
+      → named v.slots token ≡ Source d → M.does d v.poll (Slept answer) [] e → SleptAs timeout later answer x joined b → ((u : View D P) → AllFit O u joined)
+      → Goes M O (Sleeping timeout (token ∷ later) x) b v (all_viewed (told token e v) joined)
+  slept timeout token later v x d e answer joined b is does joins fit =
+      told_by (Sleeping timeout (token ∷ later) x) b token v d e joined is (rw is (e, answer, joined, does, joins, refl)) fit
+
+  none_noticed : (from : ℕ) (token : RegistrationToken) (later : List RegistrationToken) (c : Content D) (v : View D P) (x : X) → None ≡ source_of c → NoticedBy M from token later c v x [] (Noticing from later x)
+  none_noticed from token later Vacant v x h = (refl, refl)
+  none_noticed from token later InTurn v x h = (refl, refl)
+  none_noticed from token later (Source d) v x h = cc
+
+  pub not_noticed : (from : ℕ) (token : RegistrationToken) (later : List RegistrationToken) (v : View D P) (x : X) → None ≡ source_of (named v.slots token)
+      → Goes M O (Noticing from (token ∷ later) x) (Noticing from later x) v v
+  not_noticed from token later v x none =
+      goes_by (Noticing from (token ∷ later) x) (Noticing from later x) [] v v (none_noticed from token later (named v.slots token) v x none) tt refl
+
+  pub noticed : (from : ℕ) (token : RegistrationToken) (later : List RegistrationToken) (v : View D P) (x : X) (d e : D) → named v.slots token ≡ Source d → M.does d v.poll (Noticed (events_of token (drop from v.poll.batch))) [] e
+      → Goes M O (Noticing from (token ∷ later) x) (Noticing from later x) v (told token e v)
+  noticed from token later v x d e is does =
+      told_by (Noticing from (token ∷ later) x) (Noticing from later x) token v d e [] is (rw is (e, does, refl, refl)) (λ u. tt)
+
+  -- all of them were told
+  pub all_slept : (timeout : Option ℕ) (v : View D P) (x : X) → Goes M O (Sleeping timeout [] x) (Waiting timeout x) v v
+  all_slept timeout v x = goes_by (Sleeping timeout [] x) (Waiting timeout x) [] v v (refl, refl) tt refl
+
+  pub all_noticed : (from : ℕ) (v : View D P) (x : X) → Goes M O (Noticing from [] x) (Cutting x) v v
+  all_noticed from v x = goes_by (Noticing from [] x) (Cutting x) [] v v (refl, refl) tt refl
 
   pub dispatched : (v u : View D P) (timeout : Option ℕ) (x x' : X) (answer : Result (Unit {0}) Error) → Goes M O (Beginning timeout x) (Leaving answer x') v u → Did (DispatchedBy M O timeout x answer x') v u
   dispatched v u timeout x x' answer h = (h.0, inr h.1, h.2)

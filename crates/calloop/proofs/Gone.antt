@@ -9,7 +9,7 @@ use Rattle.calloop.specs.declared.loop_logic.LoopCall.{LoopCall}
 use Rattle.calloop.specs.declared.loop_logic.LoopCall.TheVariants.{Insert, Enable, Update, Disable, Remove as RemoveCall, Dispatch, Poller as NewPoller}
 use Rattle.calloop.specs.declared.loop_logic.LoopAnswer.{LoopAnswer}
 use Rattle.calloop.specs.declared.loop_logic.LoopAnswer.TheVariants.{Inserted, Enabled, Updated, Disabled, Removed, Dispatched, Poller as OldPoller}
-use Rattle.calloop.specs.Machine.{World, View, Registration, Change, Put, Claim, Polls, Polling, Watching, Counting, Gathered, Cut, Ended, Fits, AllFit, IsFull, holding, reused, is_free, with_claim, slot_of, seen, viewed, all_viewed, done, all_done}
+use Rattle.calloop.specs.Machine.{World, View, Registration, Change, Put, Claim, Polls, Polling, Watching, Counting, Holds, Appended, Gathered, Cut, Ended, Fits, AllFit, IsFull, holding, reused, is_free, with_claim, slot_of, seen, viewed, all_viewed, done, all_done}
 use Rattle.calloop.specs.Rules.{Doing, Step, Steps, Case, Run, Once, InsertedBy, EnabledBy, UpdatedBy, DisabledBy, RemovedBy, traced, all_traced}
 use Rattle.calloop.specs.Laws.{StaysGone, AllStayGone, joined, changes_of}
 use Rattle.calloop.proofs.Seen.{seen-done, seen-all_done, seen-all_traced}
@@ -46,6 +46,8 @@ module _ {D P : Type 0} (O : Outside P) where
   left_done w (Polling poller) i n fit h = h
   left_done w (Watching watch) i n fit h = h
   left_done w (Counting places) i n fit h = h
+  left_done w (Holds step) i n fit h = h
+  left_done w (Appended event) i n fit h = h
   left_done w (Gathered posted given now) i n fit h = h
   left_done w (Cut slot) i n fit h = h
   left_done w Ended i n fit h = h

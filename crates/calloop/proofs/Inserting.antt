@@ -11,15 +11,16 @@ use Rattle.calloop_wake.specs.Slots.{changed, with_content, named, source_of, is
 use Rattle.calloop_wake.proofs.Named.{turn_ended, named_changed}
 use Rattle.calloop_wake.proofs.Inserted.{claim_ended}
 use Rattle.calloop_wake.proofs.Vacancy.{slice_get-claimed_at}
-use Rattle.calloop_core.specs.Polls.{PollView, PollStep, AllStepped}
+use Rattle.calloop_core.specs.Polls.{PollView, PollStep, AllAllowed, AllStepped, polls_after}
 use Rattle.calloop_core.specs.Pollers.{Outside}
 use Rattle.calloop.specs.declared.loop_logic.LoopCall.TheVariants.{Insert, Enable, Update, Disable, Remove}
 use Rattle.calloop.specs.declared.loop_logic.LoopAnswer.TheVariants.{Inserted, Enabled, Updated, Disabled, Removed}
 use Rattle.calloop_core.specs.Deeds.{Registered, Reregistered, Unregistered, Lent}
 use Rattle.calloop_core.specs.Meanings.{Meaning, Does}
-use Rattle.calloop.specs.Machine.{View, Change, Put, Claim, Polls, AllFit, IsFull, all_viewed}
+use Rattle.calloop.specs.Held.{Held, HeldStep, Listed, Unlisted, held_after}
+use Rattle.calloop.specs.Machine.{View, Change, Put, Claim, Polls, Holds, AllFit, IsFull, all_viewed}
 use Rattle.calloop.proofs.Going.{full_named}
-use Rattle.calloop.specs.Rules.{Did, Case, Once, InsertedBy, EnabledBy, UpdatedBy, DisabledBy, RemovedBy, RemovedIn, AskedIn, factory_of}
+use Rattle.calloop.specs.Rules.{Did, Case, Once, Outcome, ByOne, RegisteredBy, entered, left, CannotInsert, InsertedBy, EnabledBy, UpdatedBy, DisabledBy, RemovedBy, RemovedIn, AskedIn, factory_of}
 
 -- what is put into a slot last stands there
 changed_twice : {D : Type 0} (c d : Content D) (ss : List (Slot D)) (i : ℕ) → changed (with_content c) (changed (with_content d) ss i) i ≡ changed (with_content c) ss i
@@ -31,78 +32,78 @@ module _ {D P X Q : Type 0} (M : Meaning D P (Lent X Q)) (O : Outside P) (v : Vi
   one_step : (R : View D P → List (Change D P) → Type 0) (cs : List (Change D P)) (u : View D P) → R v cs → AllFit O v cs → u ≡ all_viewed v cs → Did (Once O R) v u
   one_step R cs u r fit is = (cs ∷ [], (r, fit), is)
 
-  pub not_claimed : (d : D) (error : Error) → CannotClaim v.slots error → Did (Case M O (Insert d) (Inserted (Err (record { inserted = d; error = error })))) v v
-  not_claimed d error h = one_step (InsertedBy M d (Err (record { inserted = d; error = error }))) [] v (inl (refl, h, refl)) tt refl
+  pub not_claimed : (d : D) (error : Error) (u : View D P) → CannotInsert v.slots (M.needs d) error → u ≡ v → Did (Case M O (Insert d) (Inserted (Err (record { inserted = d; error = error })))) v u
+  not_claimed d error u h same = one_step (InsertedBy M d (Err (record { inserted = d; error = error }))) [] u (inl (refl, h, refl)) tt same
 
   claim_full : IsFull (claimed v.slots) (first_vacant v.slots)
   claim_full = (record { version = next_version v.slots; content = InTurn }, slice_get-claimed_at v.slots, refl)
 
   pub not_registered : (d e : D) (error : Error) (token : RegistrationToken) (f : TokenFactory) (p' : PollView P) → token ≡ next_registration v.slots → token.slot < 2 ^ 32
       → Does O M d v.poll (Registered (factory_of token) (Err error) f) e p'
-      → Did (Case M O (Insert d) (Inserted (Err (record { inserted = e; error = error })))) v (record { slots = after_turn Vacant token (claimed v.slots); poll = p' })
+      → Did (Case M O (Insert d) (Inserted (Err (record { inserted = e; error = error })))) v (record v { slots = after_turn Vacant token (claimed v.slots); poll = p' })
   not_registered d e error token f p' is few r =
-      let u : View D P = record { slots = after_turn Vacant token (claimed v.slots); poll = p' } in
+      let u : View D P = record v { slots = after_turn Vacant token (claimed v.slots); poll = p' } in
       let ended : after_turn Vacant token (claimed v.slots) ≡ changed (with_content Vacant) (claimed v.slots) (first_vacant v.slots) =
       ap (λ (t : RegistrationToken). after_turn Vacant t (claimed v.slots)) is ∙ claim_ended v.slots Vacant in
       one_step (InsertedBy M d (Err (record { inserted = e; error = error }))) (Claim d ∷ Polls r.0 ∷ Put (first_vacant v.slots) Vacant ∷ []) u
       (inr (subst (λ (t : RegistrationToken). t.slot < 2 ^ 32) is few, f, r.0, subst (λ (t : RegistrationToken). M.does d v.poll (Registered (factory_of t) (Err error) f) r.0 e) is r.1, refl))
       (tt, (r.2.0, (claim_full, tt)))
-      (ap (λ (ss : List (Slot D)). record { slots = ss; poll = p' }) ended ∙ ap (λ (q : PollView P). record { slots = changed (with_content Vacant) (claimed v.slots) (first_vacant v.slots); poll = q }) r.2.1)
+      (ap (λ (ss : List (Slot D)). record v { slots = ss; poll = p' }) ended ∙ ap (λ (q : PollView P). record v { slots = changed (with_content Vacant) (claimed v.slots) (first_vacant v.slots); poll = q }) r.2.1)
 
   pub registered : (d e : D) (token : RegistrationToken) (f : TokenFactory) (p' : PollView P) → token ≡ next_registration v.slots → token.slot < 2 ^ 32
       → Does O M d v.poll (Registered (factory_of token) (Ok tt) f) e p'
-      → Did (Case M O (Insert d) (Inserted (Ok token))) v (record { slots = after_turn (Source e) token (claimed v.slots); poll = p' })
+      → Did (Case M O (Insert d) (Inserted (Ok token))) v (record { slots = after_turn (Source e) token (claimed v.slots); poll = p'; held = held_after v.held (Listed (M.needs d) token) })
   registered d e token f p' is few r =
       let ended : after_turn (Source e) token (claimed v.slots) ≡ changed (with_content (Source e)) (claimed v.slots) token.slot =
       ap (λ (t : RegistrationToken). after_turn (Source e) t (claimed v.slots)) is ∙ claim_ended v.slots (Source e) ∙ ap (λ (t : RegistrationToken). changed (with_content (Source e)) (claimed v.slots) t.slot) (sym is) in
-      one_step (InsertedBy M d (Ok token)) (Claim d ∷ Polls r.0 ∷ Put token.slot (Source e) ∷ []) (record { slots = after_turn (Source e) token (claimed v.slots); poll = p' })
+      one_step (InsertedBy M d (Ok token)) (Claim d ∷ Polls r.0 ∷ Holds (Listed (M.needs d) token) ∷ Put token.slot (Source e) ∷ []) (record { slots = after_turn (Source e) token (claimed v.slots); poll = p'; held = held_after v.held (Listed (M.needs d) token) })
       (subst (λ (t : RegistrationToken). t.slot < 2 ^ 32) is few, is, e, f, r.0, r.1, refl)
-      (tt, (r.2.0, (subst (λ (t : RegistrationToken). IsFull (claimed v.slots) t.slot) (sym is) claim_full, tt)))
-      (ap (λ (ss : List (Slot D)). record { slots = ss; poll = p' }) ended ∙ ap (λ (q : PollView P). record { slots = changed (with_content (Source e)) (claimed v.slots) token.slot; poll = q }) r.2.1)
+      (tt, (r.2.0, (tt, (subst (λ (t : RegistrationToken). IsFull (claimed v.slots) t.slot) (sym is) claim_full, tt))))
+      (ap (λ (ss : List (Slot D)). record { slots = ss; poll = p'; held = held_after v.held (Listed (M.needs d) token) }) ended ∙ ap (λ (q : PollView P). record { slots = changed (with_content (Source e)) (claimed v.slots) token.slot; poll = q; held = held_after v.held (Listed (M.needs d) token) }) r.2.1)
 
-  none_asked : (R : D → Result (Unit {0}) Error → List (PollStep P) → D → Type 0) (token : RegistrationToken) (c : Content D) → None ≡ source_of c → AskedIn R token c (Err InvalidToken) []
-  none_asked R token Vacant h = (refl, refl)
-  none_asked R token InTurn h = (refl, refl)
-  none_asked R token (Source d) h = cc
+  none_asked : (R : D → Outcome → List (PollStep P) → D → Type 0) (noted : D → Outcome → HeldStep) (token : RegistrationToken) (c : Content D) → None ≡ source_of c → AskedIn R noted token c (Err InvalidToken) []
+  none_asked R noted token Vacant h = (refl, refl)
+  none_asked R noted token InTurn h = (refl, refl)
+  none_asked R noted token (Source d) h = cc
 
-  asked : (R : D → Result (Unit {0}) Error → List (PollStep P) → D → Type 0) (B : View D P → List (Change D P) → Type 0) (token : RegistrationToken) (d e : D) (answer : Result (Unit {0}) Error) (p' : PollView P)
-      → ((cs : List (Change D P)) → AskedIn R token (named v.slots token) answer cs → B v cs) → named v.slots token ≡ Source d
-      → (r : (steps : List (PollStep P)) × R d answer steps e × AllStepped O v.poll steps p')
-      → Did (Once O B) v (record { slots = after_turn (Source e) token (changed (with_content InTurn) v.slots token.slot); poll = p' })
-  asked R B token d e answer p' by is r =
+  -- without its source, which goes back to its slot
+  abbrev pub out : RegistrationToken → View D P
+  out token = record v { slots = changed (with_content InTurn) v.slots token.slot }
+
+  abbrev pub back : RegistrationToken → D → View D P → View D P
+  back token e u = record u { slots = after_turn (Source e) token u.slots }
+
+  asked : (R : D → Outcome → List (PollStep P) → D → Type 0) (noted : D → Outcome → HeldStep) (B : View D P → List (Change D P) → Type 0) (token : RegistrationToken) (d e : D) (answer : Outcome) (u : View D P)
+      → ((cs : List (Change D P)) → AskedIn R noted token (named v.slots token) answer cs → B v cs) → named v.slots token ≡ Source d
+      → ByOne O R noted d answer e (out token) u → Did (Once O B) v (back token e u)
+  asked R noted B token d e answer u by is r =
       let full : is_empty (named v.slots token) ≡ false = ap is_empty is in
-      let out = changed (with_content InTurn) v.slots token.slot in
-      one_step B (Put token.slot InTurn ∷ Polls r.0 ∷ Put token.slot (Source e) ∷ []) (record { slots = after_turn (Source e) token out; poll = p' })
-      (by (Put token.slot InTurn ∷ Polls r.0 ∷ Put token.slot (Source e) ∷ []) (rw is (e, r.0, r.1, refl)))
-      (full_named v.slots token full, (r.2.0, (full_named out token (ap is_empty (named_changed v.slots token InTurn full)), tt)))
-      (ap (λ (ss : List (Slot D)). record { slots = ss; poll = p' }) (turn_ended v.slots token (Source e) full)
-      ∙ ap (λ (q : PollView P). record { slots = changed (with_content (Source e)) out token.slot; poll = q }) r.2.1)
+      let gone = changed (with_content InTurn) v.slots token.slot in
+      let cs = Put token.slot InTurn ∷ Polls r.0 ∷ Holds (noted d answer) ∷ Put token.slot (Source e) ∷ [] in
+      one_step B cs (back token e u) (by cs (rw is (e, r.0, r.1, refl)))
+      (full_named v.slots token full, (r.2, (tt, (full_named gone token (ap is_empty (named_changed v.slots token InTurn full)), tt))))
+      (ap (back token e) r.3 ∙ ap (λ (ss : List (Slot D)). record { slots = ss; poll = polls_after v.poll r.0; held = held_after v.held (noted d answer) }) (turn_ended v.slots token (Source e) full))
 
   pub not_enabled : (token : RegistrationToken) → None ≡ source_of (named v.slots token) → Did (Case M O (Enable token) (Enabled (Err InvalidToken))) v v
-  not_enabled token h = one_step (EnabledBy M token (Err InvalidToken)) [] v (none_asked _ token (named v.slots token) h) tt refl
+  not_enabled token h = one_step (EnabledBy M token (Err InvalidToken)) [] v (none_asked _ _ token (named v.slots token) h) tt refl
 
   pub not_updated : (token : RegistrationToken) → None ≡ source_of (named v.slots token) → Did (Case M O (Update token) (Updated (Err InvalidToken))) v v
-  not_updated token h = one_step (UpdatedBy M token (Err InvalidToken)) [] v (none_asked _ token (named v.slots token) h) tt refl
+  not_updated token h = one_step (UpdatedBy M token (Err InvalidToken)) [] v (none_asked _ _ token (named v.slots token) h) tt refl
 
   pub not_disabled : (token : RegistrationToken) → None ≡ source_of (named v.slots token) → Did (Case M O (Disable token) (Disabled (Err InvalidToken))) v v
-  not_disabled token h = one_step (DisabledBy M token (Err InvalidToken)) [] v (none_asked _ token (named v.slots token) h) tt refl
+  not_disabled token h = one_step (DisabledBy M token (Err InvalidToken)) [] v (none_asked _ _ token (named v.slots token) h) tt refl
 
-  pub enabled : (token : RegistrationToken) (d e : D) (f : TokenFactory) (answer : Result (Unit {0}) Error) (p' : PollView P) → named v.slots token ≡ Source d
-      → Does O M d v.poll (Registered (factory_of token) answer f) e p'
-      → Did (Case M O (Enable token) (Enabled answer)) v (record { slots = after_turn (Source e) token (changed (with_content InTurn) v.slots token.slot); poll = p' })
-  enabled token d e f answer p' is r =
-      asked (λ d a steps e. (f : TokenFactory) × M.does d v.poll (Registered (factory_of token) a f) steps e) (EnabledBy M token answer) token d e answer p' (λ cs h. h) is (r.0, (f, r.1), r.2)
+  pub enabled : (token : RegistrationToken) (d e : D) (answer : Outcome) (u : View D P) → named v.slots token ≡ Source d
+      → ByOne O (RegisteredBy M Registered token v.poll) (entered M token) d answer e (out token) u → Did (Case M O (Enable token) (Enabled answer)) v (back token e u)
+  enabled token d e answer u is r = asked (RegisteredBy M Registered token v.poll) (entered M token) (EnabledBy M token answer) token d e answer u (λ cs h. h) is r
 
-  pub updated : (token : RegistrationToken) (d e : D) (f : TokenFactory) (answer : Result (Unit {0}) Error) (p' : PollView P) → named v.slots token ≡ Source d
-      → Does O M d v.poll (Reregistered (factory_of token) answer f) e p'
-      → Did (Case M O (Update token) (Updated answer)) v (record { slots = after_turn (Source e) token (changed (with_content InTurn) v.slots token.slot); poll = p' })
-  updated token d e f answer p' is r =
-      asked (λ d a steps e. (f : TokenFactory) × M.does d v.poll (Reregistered (factory_of token) a f) steps e) (UpdatedBy M token answer) token d e answer p' (λ cs h. h) is (r.0, (f, r.1), r.2)
+  pub updated : (token : RegistrationToken) (d e : D) (answer : Outcome) (u : View D P) → named v.slots token ≡ Source d
+      → ByOne O (RegisteredBy M Reregistered token v.poll) (entered M token) d answer e (out token) u → Did (Case M O (Update token) (Updated answer)) v (back token e u)
+  updated token d e answer u is r = asked (RegisteredBy M Reregistered token v.poll) (entered M token) (UpdatedBy M token answer) token d e answer u (λ cs h. h) is r
 
-  pub disabled : (token : RegistrationToken) (d e : D) (answer : Result (Unit {0}) Error) (p' : PollView P) → named v.slots token ≡ Source d
-      → Does O M d v.poll (Unregistered answer) e p'
-      → Did (Case M O (Disable token) (Disabled answer)) v (record { slots = after_turn (Source e) token (changed (with_content InTurn) v.slots token.slot); poll = p' })
-  disabled token d e answer p' is r = asked (λ d a steps e. M.does d v.poll (Unregistered a) steps e) (DisabledBy M token answer) token d e answer p' (λ cs h. h) is r
+  pub disabled : (token : RegistrationToken) (d e : D) (answer : Outcome) (u : View D P) → named v.slots token ≡ Source d
+      → ByOne O (λ f a steps g. M.does f v.poll (Unregistered a) steps g) (left token) d answer e (out token) u → Did (Case M O (Disable token) (Disabled answer)) v (back token e u)
+  disabled token d e answer u is r = asked (λ f a steps g. M.does f v.poll (Unregistered a) steps g) (left token) (DisabledBy M token answer) token d e answer u (λ cs h. h) is r
 
   none_removed : (token : RegistrationToken) (c : Content D) → None ≡ source_of c → RemovedIn M token c None v []
   none_removed token Vacant h = (refl, refl)
@@ -112,12 +113,11 @@ module _ {D P X Q : Type 0} (M : Meaning D P (Lent X Q)) (O : Outside P) (v : Vi
   pub not_removed : (token : RegistrationToken) → None ≡ source_of (named v.slots token) → Did (Case M O (Remove token) (Removed None)) v v
   not_removed token h = one_step (RemovedBy M token None) [] v (none_removed token (named v.slots token) h) tt refl
 
-  pub removed : (token : RegistrationToken) (d e : D) (told : Result (Unit {0}) Error) (p' : PollView P) → named v.slots token ≡ Source d
-      → Does O M d v.poll (Unregistered told) e p'
-      → Did (Case M O (Remove token) (Removed (Some e))) v (record { slots = after_turn Vacant token (changed (with_content InTurn) v.slots token.slot); poll = p' })
-  removed token d e told p' is r =
+  pub removed : (token : RegistrationToken) (d e : D) (told : Outcome) (u : View D P) → named v.slots token ≡ Source d
+      → ByOne O (λ f a steps g. M.does f v.poll (Unregistered a) steps g) (left token) d told e (record v { slots = after_turn Vacant token (changed (with_content InTurn) v.slots token.slot) }) u
+      → Did (Case M O (Remove token) (Removed (Some e))) v u
+  removed token d e told u is r =
       let full : is_empty (named v.slots token) ≡ false = ap is_empty is in
-      one_step (RemovedBy M token (Some e)) (Put token.slot Vacant ∷ Polls r.0 ∷ []) (record { slots = after_turn Vacant token (changed (with_content InTurn) v.slots token.slot); poll = p' })
-      (rw is (e, told, r.0, r.1, refl, refl)) (full_named v.slots token full, (r.2.0, tt))
-      (ap (λ (ss : List (Slot D)). record { slots = ss; poll = p' }) (turn_ended v.slots token Vacant full ∙ changed_twice Vacant InTurn v.slots token.slot)
-      ∙ ap (λ (q : PollView P). record { slots = changed (with_content Vacant) v.slots token.slot; poll = q }) r.2.1)
+      one_step (RemovedBy M token (Some e)) (Put token.slot Vacant ∷ Polls r.0 ∷ Holds (Unlisted token) ∷ []) u
+      (rw is (e, told, r.0, r.1, refl, refl)) (full_named v.slots token full, (r.2, (tt, tt)))
+      (r.3 ∙ ap (λ (ss : List (Slot D)). record { slots = ss; poll = polls_after v.poll r.0; held = held_after v.held (Unlisted token) }) (turn_ended v.slots token Vacant full ∙ changed_twice Vacant InTurn v.slots token.slot))

@@ -10,3 +10,5 @@ pub mod Rights
 pub mod Reuse
 pub mod Running
 pub mod Pinging
+pub mod Registering
+pub mod Telling

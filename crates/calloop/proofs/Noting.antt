@@ -8,9 +8,9 @@ use Rattle.calloop_wake.specs.Deadlines.{is_armed, entry_of, inserted, without_c
 use Rattle.calloop_core.specs.declared.sys.Readiness.{Readiness}
 use Rattle.calloop_core.specs.declared.sys.poll.Pending.{Pending}
 use Rattle.calloop_core.specs.Pollers.{Outside}
-use Rattle.calloop_core.specs.Polls.{PollView, PollStep, TakePass, PutBack, Arm, ArmAgain, Cancel, Call, ReadClock, poll_after, polls_after, AllAllowed, gathered, posted_events, polled_events, cut, cut_from, begun, tail_of, head_of, with_pass}
+use Rattle.calloop_core.specs.Polls.{PollView, PollStep, TakePass, PutBack, Arm, ArmAgain, Cancel, Call, ReadClock, poll_after, polls_after, AllAllowed, gathered, appended, posted_events, polled_events, cut, cut_from, begun, tail_of, head_of, with_pass}
 use Rattle.calloop_core.specs.Holdings.{Hold, Free, Spent, Standing, with_hold, IsWithin, Keeps}
-use Rattle.calloop.specs.Ledgers.{Ledger, Arming, Armed, Called, latest, arm, step_noted, steps_noted, gathering_noted, cut_noted, is_under, number_of, from_elsewhere, from_deadline, due_in}
+use Rattle.calloop.specs.Ledgers.{Ledger, Arming, Armed, Called, latest, arm, step_noted, steps_noted, gathering_noted, appended_noted, cut_noted, is_under, number_of, from_elsewhere, from_deadline, due_in}
 use Rattle.calloop.specs.Laws.{IsKept, one, counted, is_armed_as, waits_as, is_number, is_call_as, came_timely, timely, event_of}
 use Rattle.calloop.proofs.Counting.{counted-append, counted-armed_among, counted-split, counted-number_of, counted-due, counted-elsewhere, counted-cut, next_number, not_yet, on_time-append, on_time-elsewhere, on_time-due, on_time-tail, on_time-heads, own-append, entries-armed_among, entries-filter, entries-not_due, events-due, events-elsewhere, events-append, events-tail, own_more, is_armed_by, kept-by, unarmed, gathered-by, timely-elsewhere, timely-least, Falls, latest_apart}
 
@@ -238,6 +238,37 @@ uncalled_gathered l posted given now c deadline g =
 
 pub good_gathered : (l : Ledger) (next : ℕ) (held : ℕ → Hold) (posted : List ℕ) (given : List (ℕ × Readiness)) (now : ℕ) → IsGood l next held → IsGood (gathering_noted l posted given now) next held
 good_gathered l next held posted given now h = record { below = h.below; standing = λ c deadline is. uncalled_gathered l posted given now c deadline (h.standing c deadline is) }
+
+-- an event joins the batch
+timely_appended : (l : Ledger) (e : Pending) (a : Arming) → timely (appended_noted l e) a ≡ timely l a
+timely_appended l e a = omega (arith, counted-append (came_timely a) l.batch (from_elsewhere e ∷ []))
+
+pub noted_appended : {P : Type 0} (l : Ledger) (v : PollView P) (e : Pending) → IsNoted l v → IsNoted (appended_noted l e) (appended e v)
+noted_appended l v e h =
+    let sum : (n : ℕ) → counted (waits_as n) (l.batch ++ from_elsewhere e ∷ []) ≡ counted (waits_as n) l.batch = λ n. omega (arith, counted-append (waits_as n) l.batch (from_elsewhere e ∷ [])) in
+    record {
+      kept =
+          record {
+            entries = h.kept.entries;
+            events = events-append l.batch (from_elsewhere e ∷ []) ∙ ap (λ es. es ++ e ∷ []) h.kept.events;
+            placed = λ n. omega (arith, sum n, h.kept.placed n);
+            batch_on_time = on_time-append _ _ h.kept.batch_on_time (tt, tt);
+            cut_on_time = h.kept.cut_on_time;
+            own = own_more (timely l) (timely (appended_noted l e)) l.calls (λ x. omega (arith, timely_appended l e x)) h.kept.own;
+            once = h.kept.once;
+            gathered = λ n. omega (arith, sum n, h.kept.gathered n);
+          };
+      falls = h.falls;
+    }
+
+pub good_appended : (l : Ledger) (next : ℕ) (held : ℕ → Hold) (e : Pending) → IsGood l next held → IsGood (appended_noted l e) next held
+good_appended l next held e h =
+    record {
+      below = h.below;
+      standing = λ c deadline is.
+          let g = h.standing c deadline is in
+          record { arming = g.arming; last = g.last; under = g.under; for_it = g.for_it; uncalled = g.uncalled; stands = omega (arith, g.stands, timely_appended l e g.arming) };
+    }
 
 -- the first event is cut
 cut_begun : {P : Type 0} (e : Pending) (v : PollView P) → ((begun e v).batch ≡ tail_of v.batch) × ((begun e v).deadlines ≡ v.deadlines)

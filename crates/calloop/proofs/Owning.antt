@@ -6,6 +6,7 @@ use Rattle.calloop_wake.specs.declared.error.InsertError.{InsertError}
 use Rattle.calloop_wake.specs.declared.list.Content.{Content}
 use Rattle.calloop_wake.specs.declared.list.Content.TheVariants.{Vacant, Source, InTurn}
 use Rattle.calloop_wake.specs.declared.token.Token.{Token}
+use Rattle.calloop_wake.specs.declared.token.TokenFactory.{TokenFactory}
 use Rattle.calloop_wake.specs.declared.token.RegistrationToken.{RegistrationToken}
 use Rattle.std.proofs.lemmas.Option.{slice_get-map}
 use Rattle.std.specs.Option.{option_map}
@@ -17,20 +18,21 @@ use Rattle.calloop_core.specs.declared.sys.poll.Pending.{Pending}
 use Rattle.calloop_core.specs.declared.sources.PostAction.{PostAction}
 use Rattle.calloop_core.specs.declared.sources.PostAction.TheVariants.{Continue, Reregister, Disable as DisableIt, Remove}
 use Rattle.calloop_core.specs.Pollers.{Outside, nanos_of}
-use Rattle.calloop_core.specs.Polls.{PollStep, AllAllowed, with_pass, cut}
-use Rattle.calloop_core.specs.Holdings.{Hold, Free, Keeps, IsBelow}
-use Rattle.calloop_core.specs.Deeds.{Registered, Reregistered, Unregistered, Turned, Lent, lent}
+use Rattle.calloop_core.specs.Polls.{PollView, PollStep, AllAllowed, with_pass, cut}
+use Rattle.calloop_core.specs.Holdings.{Hold, Free, Spent, Standing, Keeps, IsBelow, IsWithin}
+use Rattle.calloop_core.specs.Deeds.{Deed, Registered, Reregistered, Unregistered, Turned, Slept, Noticed, Lent, lent}
 use Rattle.calloop_core.specs.Meanings.{Meaning, IsKeeping}
-use Rattle.calloop.specs.Machine.{World, View, IsNew, Registration, Change, Put, Claim, Polls, Polling, Watching, Counting, Gathered, Cut, Ended, holding, reused, with_claim, done, all_done, seen, slot_of, AllFit}
+use Rattle.calloop.specs.Machine.{World, View, IsNew, Registration, Change, Put, Claim, Polls, Polling, Watching, Counting, Holds, Appended, Gathered, Cut, Ended, holding, reused, with_claim, done, all_done, seen, slot_of, AllFit}
 use Rattle.calloop.specs.declared.loop_logic.LoopCall.{LoopCall}
 use Rattle.calloop.specs.declared.loop_logic.LoopCall.TheVariants.{Insert, Enable, Update, Disable, Remove as RemoveCall, Dispatch, Poller as NewPoller}
 use Rattle.calloop.specs.declared.loop_logic.LoopAnswer.{LoopAnswer}
 use Rattle.calloop.specs.declared.loop_logic.LoopAnswer.TheVariants.{Inserted, Enabled, Updated, Disabled, Removed, Dispatched, Poller as OldPoller}
-use Rattle.calloop.specs.Rules.{Doing, Beginning, Waiting, Gathering, Cutting, Ending, Returning, Leaving, Step, Steps, CutTo, CutFrom, ActedBy, ReturnedTo, emptied, after_turn, after_wait, Case, Once, Run, InsertedBy, AskedIn, EnabledBy, UpdatedBy, DisabledBy, RemovedIn, RemovedBy, factory_of, all_traced}
+use Rattle.calloop.specs.Held.{HeldStep, Listed, Unlisted}
+use Rattle.calloop.specs.Rules.{Doing, Beginning, Sleeping, Waiting, Gathering, Noticing, Cutting, Ending, Returning, Leaving, Step, Steps, SleptAs, SleptBy, NoticedBy, told_in, CutTo, CutFrom, ActedBy, ReturnedTo, emptied, entered, after_turn, after_wait, Outcome, RegisteredBy, Case, Once, Run, InsertedBy, AskedIn, EnabledBy, UpdatedBy, DisabledBy, RemovedIn, RemovedBy, factory_of, all_traced}
 use Rattle.calloop.specs.Ledgers.{Ledger}
 use Rattle.calloop.specs.Laws.{HoldsNone, AllFresh, joined, changes_of}
 use Rattle.calloop.proofs.Seen.{seen-all_done}
-use Rattle.calloop.proofs.Noting.{IsNoted, IsGood, IsApart, apart_sym, noted_alike, noted_gathered, noted_cut, good_gathered, good_cut, cut_deadlines, done_steps}
+use Rattle.calloop.proofs.Noting.{IsNoted, IsGood, IsApart, apart_sym, noted_alike, noted_gathered, noted_appended, noted_cut, good_gathered, good_appended, good_cut, cut_deadlines, done_steps}
 
 -- this source stands in this slot
 abbrev pub At : {D : Type 0} → List (Registration D) → ℕ → D → Type 0
@@ -96,6 +98,19 @@ module _ {D P X Q : Type 0} (M : Meaning D P (Lent X Q)) (O : Outside P) (law : 
         own = λ d is. cc;
         alone = h.alone;
       }
+
+  owned_appended : (w : World D P) (e : Pending) → IsOwned M w None → IsOwned M (done w (Appended e)) None
+  owned_appended w e h =
+      record {
+        noted = noted_appended w.ledger w.poll e h.noted;
+        good = λ i d is. (good_appended w.ledger w.poll.deadlines.next (M.holds d) e (h.good i d is).0, (h.good i d is).1);
+        apart = h.apart;
+        own = λ d is. cc;
+        alone = h.alone;
+      }
+
+  owned_listed : (w : World D P) (step : HeldStep) (aside : Option D) → IsOwned M w aside → IsOwned M (done w (Holds step)) aside
+  owned_listed w step aside h = owned_same w (done w (Holds step)) aside refl refl refl refl h
 
   owned_claim : (w : World D P) (source : D) (aside : Option D) → IsOwned M w aside → IsOwned M (done w (Claim source)) aside
   owned_claim w source aside h =
@@ -195,8 +210,10 @@ at_named slots token d is =
 
 abbrev pub aside_of : {D X : Type 0} → Doing D X → Option D
 aside_of (Beginning timeout x) = None
+aside_of (Sleeping timeout later x) = None
 aside_of (Waiting timeout x) = None
 aside_of (Gathering now given x) = None
+aside_of (Noticing from later x) = None
 aside_of (Cutting x) = None
 aside_of (Ending token d answer x) = Some d
 aside_of (Returning token d told x) = Some d
@@ -210,6 +227,40 @@ module _ {D P X Q : Type 0} (M : Meaning D P (Lent X Q)) (O : Outside P) (law : 
   aside_after : (told : Result (Unit {0}) Error) (x : X) → aside_of {D = D} (after_turn told x) ≡ None
   aside_after (Ok u) x = refl
   aside_after (Err e) x = refl
+
+  within_same : (h : Hold) → IsWithin h h
+  within_same Free = tt
+  within_same Spent = refl
+  within_same (Standing deadline) = refl
+
+  -- a registration, or a refusal of it for want of room
+  registered_keeps : (deed : TokenFactory → Outcome → TokenFactory → Deed (Lent X Q)) (token : RegistrationToken) (v : PollView P) (d e : D) (answer : Outcome) (steps : List (PollStep P)) → RegisteredBy M deed token v d answer steps e
+      → M.fits d → IsBelow v.deadlines.next (M.holds d) → M.fits e × Keeps (M.holds d) v.deadlines.next steps (M.holds e)
+  registered_keeps deed token v d e answer steps (inl h) fits below = rw (h.2, h.3) (fits, λ counter. within_same (M.holds d counter))
+  registered_keeps deed token v d e answer steps (inr h) fits below = law d e v (deed (factory_of token) answer h.0) steps fits below h.1
+
+  -- a source is told of a wait
+  told_owned : (w : World D P) (token : RegistrationToken) (d e : D) (deed : Deed (Lent X Q)) → named (map slot_of w.slots) token ≡ Source d → M.does d w.poll deed [] e → IsOwned M w None → IsOwned M (all_done w (told_in token e)) None
+  told_owned w token d e deed is does k =
+      let out : World D P = done w (Put token.slot InTurn) in
+      owned_back M O law (done out (Polls [])) token.slot e
+      (owned_polls M O law out d e [] tt (λ fits below. law d e w.poll deed [] fits below does) (owned_out M O law w token.slot d (at_named w.slots token d is) k))
+
+  slept_as : (w : World D P) (timeout : Option ℕ) (later : List RegistrationToken) (answer : Result (Option (Readiness × Token)) Error) (x : X) (cs : List (Change D P)) (b : Doing D X) → SleptAs timeout later answer x cs b → IsOwned M w None → IsOwned M (all_done w cs) (aside_of b)
+  slept_as w timeout later (Ok None) x cs b h k = rw (h.0, h.1) k
+  slept_as w timeout later (Ok (Some given)) x cs b h k = rw (h.0, h.1) (owned_appended M O law w _ k)
+  slept_as w timeout later (Err e) x cs b h k = rw (h.0, h.1) k
+
+  slept_owned : (w : World D P) (timeout : Option ℕ) (token : RegistrationToken) (later : List RegistrationToken) (x : X) (cs : List (Change D P)) (b : Doing D X) (c : Content D) → named (map slot_of w.slots) token ≡ c → SleptBy M timeout token later c (seen w) x cs b → IsOwned M w None → IsOwned M (all_done w cs) (aside_of b)
+  slept_owned w timeout token later x cs b Vacant is h k = rw (h.0, h.1) k
+  slept_owned w timeout token later x cs b InTurn is h k = rw (h.0, h.1) k
+  slept_owned w timeout token later x cs b (Source d) is h k =
+      rw h.5 (slept_as (all_done w (told_in token h.0)) timeout later h.1 x h.2 b h.4 (told_owned w token d h.0 (Slept h.1) is h.3 k))
+
+  noticed_owned : (w : World D P) (from : ℕ) (token : RegistrationToken) (later : List RegistrationToken) (x : X) (cs : List (Change D P)) (b : Doing D X) (c : Content D) → named (map slot_of w.slots) token ≡ c → NoticedBy M from token later c (seen w) x cs b → IsOwned M w None → IsOwned M (all_done w cs) (aside_of b)
+  noticed_owned w from token later x cs b Vacant is h k = rw (h.0, h.1) k
+  noticed_owned w from token later x cs b InTurn is h k = rw (h.0, h.1) k
+  noticed_owned w from token later x cs b (Source d) is h k = rw (h.2, h.3) (told_owned w token d h.0 (Noticed _) is h.1 k)
 
   cut_owned : (w : World D P) (e : Pending) (x : X) (cs : List (Change D P)) (b : Doing D X) (c : Content D) → named (map slot_of w.slots) (registration_of e.token) ≡ c → CutTo M e c (seen w) x cs b → AllFit O (seen w) cs → IsOwned M w None → IsOwned M (all_done w cs) (aside_of b)
   cut_owned w e x cs b Vacant is h fit k = rw (h.0, h.1) (owned_same M O law (done w (Cut None)) (done (done w (Cut None)) Ended) None refl refl refl refl (owned_cut M O law w None k))
@@ -234,34 +285,41 @@ module _ {D P X Q : Type 0} (M : Meaning D P (Lent X Q)) (O : Outside P) (law : 
   acted_owned : (w : World D P) (token : RegistrationToken) (d : D) (answer : Result PostAction Error) (cs : List (Change D P)) (e : D) (told : Result (Unit {0}) Error) → ActedBy M token d answer (seen w) cs e told → AllFit O (seen w) cs → IsOwned M w (Some d) → IsOwned M (all_done w cs) (Some e)
   acted_owned w token d (Ok Continue) cs e told h fit k = rw (h.0, h.1) (owned_same M O law w (done w Ended) (Some d) refl refl refl refl k)
   acted_owned w token d (Ok Reregister) cs e told h fit k =
-      let allowed : AllAllowed O (with_pass None w.poll) h.1 = (rw h.3 at fit).1.0 in
-      rw h.3
-      (owned_polls M O law (done w Ended) d e h.1 allowed (λ fits below. law d e (with_pass None w.poll) (Reregistered (factory_of token) told h.0) h.1 fits below h.2)
-      (owned_same M O law w (done w Ended) (Some d) refl refl refl refl k))
+      let allowed : AllAllowed O (with_pass None w.poll) h.0 = (rw h.2 at fit).1.0 in
+      rw h.2
+      (owned_listed M O law (done (done w Ended) (Polls h.0)) (entered M token d told) (Some e)
+      (owned_polls M O law (done w Ended) d e h.0 allowed (registered_keeps Reregistered token (with_pass None w.poll) d e told h.0 h.1)
+      (owned_same M O law w (done w Ended) (Some d) refl refl refl refl k)))
   acted_owned w token d (Ok DisableIt) cs e told h fit k =
       let allowed : AllAllowed O (with_pass None w.poll) h.0 = (rw h.2 at fit).1.0 in
       rw h.2
+      (owned_listed M O law (done (done w Ended) (Polls h.0)) (Unlisted token) (Some e)
       (owned_polls M O law (done w Ended) d e h.0 allowed (λ fits below. law d e (with_pass None w.poll) (Unregistered told) h.0 fits below h.1)
-      (owned_same M O law w (done w Ended) (Some d) refl refl refl refl k))
+      (owned_same M O law w (done w Ended) (Some d) refl refl refl refl k)))
   acted_owned w token d (Ok Remove) cs e told h fit k =
       rw (h.0, h.1) (emptied_owned (done w Ended) token (named (map slot_of w.slots) token) (Some d) (owned_same M O law w (done w Ended) (Some d) refl refl refl refl k))
   acted_owned w token d (Err error) cs e told h fit k = rw (h.0, h.1) (owned_same M O law w (done w Ended) (Some d) refl refl refl refl k)
 
-  gone_owned : (w : World D P) (d : D) (cs : List (Change D P)) → (h : (e : D) × (answer : Result (Unit {0}) Error) × (steps : List (PollStep P)) × M.does d w.poll (Unregistered answer) steps e × (cs ≡ Polls steps ∷ [])) → AllFit O (seen w) cs → IsOwned M w (Some d) → IsOwned M (all_done w cs) None
-  gone_owned w d cs h fit k =
+  gone_owned : (w : World D P) (token : RegistrationToken) (d : D) (cs : List (Change D P)) → (h : (e : D) × (answer : Result (Unit {0}) Error) × (steps : List (PollStep P)) × M.does d w.poll (Unregistered answer) steps e × (cs ≡ Polls steps ∷ Holds (Unlisted token) ∷ [])) → AllFit O (seen w) cs → IsOwned M w (Some d) → IsOwned M (all_done w cs) None
+  gone_owned w token d cs h fit k =
       let allowed : AllAllowed O w.poll h.2 = (rw h.4 at fit).0 in
       rw h.4
-      (owned_dropped M O law (done w (Polls h.2)) (Some h.0) (owned_polls M O law w d h.0 h.2 allowed (λ fits below. law d h.0 w.poll (Unregistered h.1) h.2 fits below h.3) k))
+      (owned_listed M O law (done w (Polls h.2)) (Unlisted token) None
+      (owned_dropped M O law (done w (Polls h.2)) (Some h.0) (owned_polls M O law w d h.0 h.2 allowed (λ fits below. law d h.0 w.poll (Unregistered h.1) h.2 fits below h.3) k)))
 
   returned_owned : (w : World D P) (token : RegistrationToken) (d : D) (c : Content D) (cs : List (Change D P)) → ReturnedTo M token d c (seen w) cs → AllFit O (seen w) cs → IsOwned M w (Some d) → IsOwned M (all_done w cs) None
   returned_owned w token d InTurn cs h fit k = rw h (owned_back M O law w token.slot d k)
-  returned_owned w token d Vacant cs h fit k = gone_owned w d cs h fit k
-  returned_owned w token d (Source f) cs h fit k = gone_owned w d cs h fit k
+  returned_owned w token d Vacant cs h fit k = gone_owned w token d cs h fit k
+  returned_owned w token d (Source f) cs h fit k = gone_owned w token d cs h fit k
 
   step_owned : (w : World D P) (a b : Doing D X) (cs : List (Change D P)) → Step M O (seen w) a cs b → AllFit O (seen w) cs → IsOwned M w (aside_of a) → IsOwned M (all_done w cs) (aside_of b)
   step_owned w (Beginning timeout x) b cs h fit k = rw (h.1, h.2) (owned_same M O law w (done w (Counting h.0)) None refl refl refl refl k)
+  step_owned w (Sleeping timeout [] x) b cs h fit k = rw (h.0, h.1) k
+  step_owned w (Sleeping timeout (t ∷ later) x) b cs h fit k = slept_owned w timeout t later x cs b (named (map slot_of w.slots) t) refl h k
   step_owned w (Waiting timeout x) b cs h fit k = rw (h.5, h.6, aside_wait h.0 h.1 x) (owned_same M O law w (done (done w (Polling h.2)) (Watching h.3)) None refl refl refl refl k)
   step_owned w (Gathering now given x) b cs h fit k = rw (h.1, h.2) (owned_gathered M O law w h.0 given now k)
+  step_owned w (Noticing from [] x) b cs h fit k = rw (h.0, h.1) k
+  step_owned w (Noticing from (t ∷ later) x) b cs h fit k = noticed_owned w from t later x cs b (named (map slot_of w.slots) t) refl h k
   step_owned w (Cutting x) b cs h fit k = from_owned w w.poll.batch x cs b h fit k
   step_owned w (Ending token d answer x) b cs h fit k = rw h.3 (acted_owned w token d answer cs h.0 h.1 h.2 fit k)
   step_owned w (Returning token d told x) b cs h fit k = rw (h.1, aside_after told x) (returned_owned w token d (named (map slot_of w.slots) token) cs h.0 fit k)
@@ -278,8 +336,9 @@ module _ {D P X Q : Type 0} (M : Meaning D P (Lent X Q)) (O : Outside P) (law : 
       let allowed : AllAllowed O w.poll h.4 = (rw h.6 at fit).1.0 in
       let free : HoldsNone M d × M.fits d = (rw h.6 at fresh).0 in
       rw h.6
-      (owned_back M O law (done claimed (Polls h.4)) token.slot h.2
-      (owned_polls M O law claimed d h.2 h.4 allowed (λ fits below. law d h.2 w.poll (Registered (factory_of token) (Ok tt) h.3) h.4 fits below h.5) (owned_fresh M O law claimed d free (owned_claim M O law w d None k))))
+      (owned_back M O law (done (done claimed (Polls h.4)) (Holds (Listed (M.needs d) token))) token.slot h.2
+      (owned_listed M O law (done claimed (Polls h.4)) (Listed (M.needs d) token) (Some h.2)
+      (owned_polls M O law claimed d h.2 h.4 allowed (λ fits below. law d h.2 w.poll (Registered (factory_of token) (Ok tt) h.3) h.4 fits below h.5) (owned_fresh M O law claimed d free (owned_claim M O law w d None k)))))
   inserted_owned w d (Err refused) cs fresh (inl h) fit k = rw h.2 k
   inserted_owned w d (Err refused) cs fresh (inr h) fit k =
       let claimed : World D P = done w (Claim d) in
@@ -292,17 +351,18 @@ module _ {D P X Q : Type 0} (M : Meaning D P (Lent X Q)) (O : Outside P) (law : 
       (owned_emptied M O law polled (Some refused.inserted) place Vacant (λ e is. cc)
       (owned_polls M O law claimed d refused.inserted h.2 allowed (λ fits below. law d refused.inserted w.poll (Registered (factory_of (next_registration (map slot_of w.slots))) (Err refused.error) h.1) h.2 fits below h.3) (owned_fresh M O law claimed d free (owned_claim M O law w d None k)))))
 
-  asked_owned : (w : World D P) (R : D → Result (Unit {0}) Error → List (PollStep P) → D → Type 0) (token : RegistrationToken) (answer : Result (Unit {0}) Error) (cs : List (Change D P)) (c : Content D)
+  asked_owned : (w : World D P) (R : D → Result (Unit {0}) Error → List (PollStep P) → D → Type 0) (noted : D → Outcome → HeldStep) (token : RegistrationToken) (answer : Result (Unit {0}) Error) (cs : List (Change D P)) (c : Content D)
       → ((d e : D) (l : List (PollStep P)) → R d answer l e → M.fits d → IsBelow w.poll.deadlines.next (M.holds d) → M.fits e × Keeps (M.holds d) w.poll.deadlines.next l (M.holds e))
-      → named (map slot_of w.slots) token ≡ c → AskedIn R token c answer cs → AllFit O (seen w) cs → IsOwned M w None → IsOwned M (all_done w cs) None
-  asked_owned w R token answer cs Vacant keeps is h fit k = rw h.1 k
-  asked_owned w R token answer cs InTurn keeps is h fit k = rw h.1 k
-  asked_owned w R token answer cs (Source d) keeps is h fit k =
+      → named (map slot_of w.slots) token ≡ c → AskedIn R noted token c answer cs → AllFit O (seen w) cs → IsOwned M w None → IsOwned M (all_done w cs) None
+  asked_owned w R noted token answer cs Vacant keeps is h fit k = rw h.1 k
+  asked_owned w R noted token answer cs InTurn keeps is h fit k = rw h.1 k
+  asked_owned w R noted token answer cs (Source d) keeps is h fit k =
       let out : World D P = done w (Put token.slot InTurn) in
       let allowed : AllAllowed O w.poll h.1 = (rw h.3 at fit).1.0 in
       rw h.3
-      (owned_back M O law (done out (Polls h.1)) token.slot h.0
-      (owned_polls M O law out d h.0 h.1 allowed (keeps d h.0 h.1 h.2) (owned_out M O law w token.slot d (at_named w.slots token d is) k)))
+      (owned_back M O law (done (done out (Polls h.1)) (Holds (noted d answer))) token.slot h.0
+      (owned_listed M O law (done out (Polls h.1)) (noted d answer) (Some h.0)
+      (owned_polls M O law out d h.0 h.1 allowed (keeps d h.0 h.1 h.2) (owned_out M O law w token.slot d (at_named w.slots token d is) k))))
 
   removed_owned : (w : World D P) (token : RegistrationToken) (answer : Option D) (cs : List (Change D P)) (c : Content D) → named (map slot_of w.slots) token ≡ c → RemovedIn M token c answer (seen w) cs → AllFit O (seen w) cs → IsOwned M w None → IsOwned M (all_done w cs) None
   removed_owned w token answer cs Vacant is h fit k = rw h.1 k
@@ -311,8 +371,9 @@ module _ {D P X Q : Type 0} (M : Meaning D P (Lent X Q)) (O : Outside P) (law : 
       let out : World D P = done w (Put token.slot Vacant) in
       let allowed : AllAllowed O w.poll h.2 = (rw h.5 at fit).1.0 in
       rw h.5
+      (owned_listed M O law (done out (Polls h.2)) (Unlisted token) None
       (owned_dropped M O law (done out (Polls h.2)) (Some h.0)
-      (owned_polls M O law out d h.0 h.2 allowed (λ fits below. law d h.0 w.poll (Unregistered h.1) h.2 fits below h.3) (owned_without M O law w token.slot Vacant d (λ e is. cc) (at_named w.slots token d is) k)))
+      (owned_polls M O law out d h.0 h.2 allowed (λ fits below. law d h.0 w.poll (Unregistered h.1) h.2 fits below h.3) (owned_without M O law w token.slot Vacant d (λ e is. cc) (at_named w.slots token d is) k))))
 
   fresh_first : (cs ds : List (Change D P)) → AllFresh M (cs ++ ds) → AllFresh M cs
   fresh_first [] ds h = tt
@@ -331,13 +392,13 @@ module _ {D P X Q : Type 0} (M : Meaning D P (Lent X Q)) (O : Outside P) (law : 
   case_owned w (Insert d) (Inserted answer) css free h k = once_owned w (InsertedBy M d answer) css free h (λ cs fresh r fit. inserted_owned w d answer cs fresh r fit k)
   case_owned w (Enable token) (Enabled answer) css free h k =
       once_owned w (EnabledBy M token answer) css free h
-      (λ cs fresh r fit. asked_owned w _ token answer cs (named (map slot_of w.slots) token) (λ d e l u fits below. law d e w.poll (Registered (factory_of token) answer u.0) l fits below u.1) refl r fit k)
+      (λ cs fresh r fit. asked_owned w _ _ token answer cs (named (map slot_of w.slots) token) (λ d e l u. registered_keeps Registered token w.poll d e answer l u) refl r fit k)
   case_owned w (Update token) (Updated answer) css free h k =
       once_owned w (UpdatedBy M token answer) css free h
-      (λ cs fresh r fit. asked_owned w _ token answer cs (named (map slot_of w.slots) token) (λ d e l u fits below. law d e w.poll (Reregistered (factory_of token) answer u.0) l fits below u.1) refl r fit k)
+      (λ cs fresh r fit. asked_owned w _ _ token answer cs (named (map slot_of w.slots) token) (λ d e l u. registered_keeps Reregistered token w.poll d e answer l u) refl r fit k)
   case_owned w (Disable token) (Disabled answer) css free h k =
       once_owned w (DisabledBy M token answer) css free h
-      (λ cs fresh r fit. asked_owned w _ token answer cs (named (map slot_of w.slots) token) (λ d e l u fits below. law d e w.poll (Unregistered answer) l fits below u) refl r fit k)
+      (λ cs fresh r fit. asked_owned w _ _ token answer cs (named (map slot_of w.slots) token) (λ d e l u fits below. law d e w.poll (Unregistered answer) l fits below u) refl r fit k)
   case_owned w (RemoveCall token) (Removed answer) css free h k = once_owned w (RemovedBy M token answer) css free h (λ cs fresh r fit. removed_owned w token answer cs (named (map slot_of w.slots) token) refl r fit k)
   case_owned w (Dispatch timeout x) (Dispatched answer x') css free (inl h) k = rw h.2 k
   case_owned w (Dispatch timeout x) (Dispatched answer x') css free (inr h) k = steps_owned w (Beginning (nanos_of timeout) x) (Leaving answer x') css h k

@@ -3,7 +3,7 @@ use Rattle.std.proofs.Common.{◌≡◌, ℕ, suc, zero, ◌+◌, ◌-◌, ◌*�
 use Rattle.std.proofs.Math.Nat.{mod-add-div}
 use Rattle.calloop_wake.specs.declared.list.Content.{Content}
 use Rattle.calloop_wake.specs.Slots.{changed, is_empty}
-use Rattle.calloop.specs.Machine.{World, Registration, Change, Put, Claim, Polls, Polling, Watching, Counting, Gathered, Cut, Ended, holding, reused, with_claim, done, all_done}
+use Rattle.calloop.specs.Machine.{World, Registration, Change, Put, Claim, Polls, Polling, Watching, Counting, Holds, Appended, Gathered, Cut, Ended, holding, reused, with_claim, done, all_done}
 use Rattle.calloop.specs.Laws.{NamesLater}
 
 abbrev pub Older : {D : Type 0} → List (Registration D) → ℕ → Registration D → Type 0
@@ -31,6 +31,8 @@ older_done w (Polls steps) i r h = h
 older_done w (Polling poller) i r h = h
 older_done w (Watching watch) i r h = h
 older_done w (Counting places) i r h = h
+older_done w (Holds step) i r h = h
+older_done w (Appended event) i r h = h
 older_done w (Gathered posted given now) i r h = h
 older_done w (Cut slot) i r h = h
 older_done w Ended i r h = h

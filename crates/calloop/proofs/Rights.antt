@@ -5,7 +5,9 @@ use Rattle.std.proofs.lemmas.Bool.Decides.{nat_tests}
 use Rattle.std.proofs.lemmas.Option.{slice_get-map}
 use Rattle.calloop_wake.specs.declared.error.Error.{Error}
 use Rattle.calloop_wake.specs.declared.error.InsertError.{InsertError}
+use Rattle.calloop_wake.specs.declared.token.Token.{Token}
 use Rattle.calloop_wake.specs.declared.token.RegistrationToken.{RegistrationToken}
+use Rattle.calloop_core.specs.declared.sys.Readiness.{Readiness}
 use Rattle.calloop_wake.specs.declared.list.Content.{Content}
 use Rattle.calloop_wake.specs.declared.list.Content.TheVariants.{Vacant, Source, InTurn}
 use Rattle.calloop_wake.specs.Tokens.{registration_of}
@@ -22,7 +24,8 @@ use Rattle.calloop.specs.declared.loop_logic.LoopAnswer.TheVariants.{Inserted, E
 use Rattle.calloop_core.specs.Deeds.{Lent}
 use Rattle.calloop_core.specs.Meanings.{Meaning}
 use Rattle.calloop.specs.Machine.{World, View, Registration, Change, Ended, seen, slot_of, done, all_done}
-use Rattle.calloop.specs.Rules.{Doing, Beginning, Waiting, Gathering, Cutting, Ending, Returning, Leaving, Step, Steps, CutTo, CutFrom, ActedBy, ReturnedTo, emptied, Case, Run, InsertedBy, AskedIn, RemovedIn, EnabledBy, UpdatedBy, DisabledBy, RemovedBy, Once, all_traced}
+use Rattle.calloop.specs.Rules.{Doing, Beginning, Sleeping, Waiting, Gathering, Noticing, Cutting, Ending, Returning, Leaving, Outcome, Step, Steps, SleptAs, SleptBy, NoticedBy, told_in, CutTo, CutFrom, ActedBy, ReturnedTo, emptied, Case, Run, InsertedBy, AskedIn, RemovedIn, EnabledBy, UpdatedBy, DisabledBy, RemovedBy, Once, all_traced}
+use Rattle.calloop.specs.Held.{HeldStep}
 use Rattle.calloop.specs.Laws.{IsSource, AllRight, joined, changes_of}
 use Rattle.calloop.proofs.Seen.{seen-all_done}
 
@@ -57,20 +60,39 @@ module _ {D P X Q : Type 0} (M : Meaning D P (Lent X Q)) (O : Outside P) where
 
   acted_right : (w : World D P) (token : RegistrationToken) (d : D) (answer : Result PostAction Error) (cs : List (Change D P)) (e : D) (told : Result (Unit {0}) Error) → ActedBy M token d answer (seen w) cs e told → AllRight w cs
   acted_right w token d (Ok Continue) cs e told h = rw h.0 (tt, tt)
-  acted_right w token d (Ok Reregister) cs e told h = rw h.3 (tt, (tt, tt))
-  acted_right w token d (Ok DisableIt) cs e told h = rw h.2 (tt, (tt, tt))
+  acted_right w token d (Ok Reregister) cs e told h = rw h.2 (tt, (tt, (tt, tt)))
+  acted_right w token d (Ok DisableIt) cs e told h = rw h.2 (tt, (tt, (tt, tt)))
   acted_right w token d (Ok Remove) cs e told h = rw h.0 (tt, emptied_right (done w Ended) token (named (map slot_of w.slots) token))
   acted_right w token d (Err error) cs e told h = rw h.0 (tt, tt)
 
   returned_right : (w : World D P) (token : RegistrationToken) (d : D) (c : Content D) (cs : List (Change D P)) → ReturnedTo M token d c (seen w) cs → AllRight w cs
   returned_right w token d InTurn cs h = rw h (tt, tt)
-  returned_right w token d Vacant cs h = rw h.4 (tt, tt)
-  returned_right w token d (Source f) cs h = rw h.4 (tt, tt)
+  returned_right w token d Vacant cs h = rw h.4 (tt, (tt, tt))
+  returned_right w token d (Source f) cs h = rw h.4 (tt, (tt, tt))
+
+  slept_as : (w : World D P) (timeout : Option ℕ) (later : List RegistrationToken) (answer : Result (Option (Readiness × Token)) Error) (x : X) (cs : List (Change D P)) (b : Doing D X) → SleptAs timeout later answer x cs b → AllRight w cs
+  slept_as w timeout later (Ok None) x cs b h = rw h.0 tt
+  slept_as w timeout later (Ok (Some given)) x cs b h = rw h.0 (tt, tt)
+  slept_as w timeout later (Err e) x cs b h = rw h.0 tt
+
+  slept_right : (w : World D P) (timeout : Option ℕ) (token : RegistrationToken) (later : List RegistrationToken) (x : X) (cs : List (Change D P)) (b : Doing D X) (c : Content D) → SleptBy M timeout token later c (seen w) x cs b → AllRight w cs
+  slept_right w timeout token later x cs b Vacant h = rw h.0 tt
+  slept_right w timeout token later x cs b InTurn h = rw h.0 tt
+  slept_right w timeout token later x cs b (Source d) h = rw h.5 (tt, (tt, (tt, slept_as (all_done w (told_in token h.0)) timeout later h.1 x h.2 b h.4)))
+
+  noticed_right : (w : World D P) (from : ℕ) (token : RegistrationToken) (later : List RegistrationToken) (x : X) (cs : List (Change D P)) (b : Doing D X) (c : Content D) → NoticedBy M from token later c (seen w) x cs b → AllRight w cs
+  noticed_right w from token later x cs b Vacant h = rw h.0 tt
+  noticed_right w from token later x cs b InTurn h = rw h.0 tt
+  noticed_right w from token later x cs b (Source d) h = rw h.2 (tt, (tt, (tt, tt)))
 
   step_right : (w : World D P) (a b : Doing D X) (cs : List (Change D P)) → Step M O (seen w) a cs b → AllRight w cs
   step_right w (Beginning timeout x) b cs h = rw h.1 (tt, tt)
+  step_right w (Sleeping timeout [] x) b cs h = rw h.0 tt
+  step_right w (Sleeping timeout (t ∷ later) x) b cs h = slept_right w timeout t later x cs b (named (map slot_of w.slots) t) h
   step_right w (Waiting timeout x) b cs h = rw h.5 (tt, (tt, tt))
   step_right w (Gathering now given x) b cs h = rw h.1 (tt, tt)
+  step_right w (Noticing from [] x) b cs h = rw h.0 tt
+  step_right w (Noticing from (t ∷ later) x) b cs h = noticed_right w from t later x cs b (named (map slot_of w.slots) t) h
   step_right w (Cutting x) b cs h = from_right w w.poll.batch x cs b refl h
   step_right w (Ending token d answer x) b cs h = acted_right w token d answer cs h.0 h.1 h.2
   step_right w (Returning token d told x) b cs h = returned_right w token d (named (map slot_of w.slots) token) cs h.0
@@ -94,18 +116,18 @@ module _ {D P X Q : Type 0} (M : Meaning D P (Lent X Q)) (O : Outside P) where
       right-append w cs (joined css) (step_right w a h.0 cs h.1) (steps_right (all_done w cs) h.0 b css (subst (λ (v : View D P). Steps M O v h.0 css b) (sym (seen-all_done w cs)) h.3))
 
   inserted_right : (w : World D P) (d : D) (answer : Result RegistrationToken (InsertError D)) (cs : List (Change D P)) → InsertedBy M d answer (seen w) cs → AllRight w cs
-  inserted_right w d (Ok token) cs h = rw h.6 (tt, (tt, (tt, tt)))
+  inserted_right w d (Ok token) cs h = rw h.6 (tt, (tt, (tt, (tt, tt))))
   inserted_right w d (Err refused) cs h = elim h [ inl k ↦ rw k.2 tt | inr k ↦ rw k.4 (tt, (tt, (tt, tt))) ]
 
-  asked_right : (w : World D P) (R : D → Result (Unit {0}) Error → List (PollStep P) → D → Type 0) (token : RegistrationToken) (c : Content D) (answer : Result (Unit {0}) Error) (cs : List (Change D P)) → AskedIn R token c answer cs → AllRight w cs
-  asked_right w R token Vacant answer cs h = rw h.1 tt
-  asked_right w R token InTurn answer cs h = rw h.1 tt
-  asked_right w R token (Source d) answer cs h = rw h.3 (tt, (tt, (tt, tt)))
+  asked_right : (w : World D P) (R : D → Outcome → List (PollStep P) → D → Type 0) (noted : D → Outcome → HeldStep) (token : RegistrationToken) (c : Content D) (answer : Outcome) (cs : List (Change D P)) → AskedIn R noted token c answer cs → AllRight w cs
+  asked_right w R noted token Vacant answer cs h = rw h.1 tt
+  asked_right w R noted token InTurn answer cs h = rw h.1 tt
+  asked_right w R noted token (Source d) answer cs h = rw h.3 (tt, (tt, (tt, (tt, tt))))
 
   removed_right : (w : World D P) (token : RegistrationToken) (c : Content D) (answer : Option D) (cs : List (Change D P)) → RemovedIn M token c answer (seen w) cs → AllRight w cs
   removed_right w token Vacant answer cs h = rw h.1 tt
   removed_right w token InTurn answer cs h = rw h.1 tt
-  removed_right w token (Source d) answer cs h = rw h.5 (tt, (tt, tt))
+  removed_right w token (Source d) answer cs h = rw h.5 (tt, (tt, (tt, tt)))
 
   right-one : (w : World D P) (cs : List (Change D P)) → AllRight w cs → AllRight w (cs ++ [])
   right-one w cs h = right-append w cs [] h tt
@@ -119,9 +141,9 @@ module _ {D P X Q : Type 0} (M : Meaning D P (Lent X Q)) (O : Outside P) where
   case_right w (Insert d) (Inserted answer) (cs ∷ []) h = right-one w cs (inserted_right w d answer cs h.0)
   case_right w (Insert d) (Inserted answer) [] h = absurd h
   case_right w (Insert d) (Inserted answer) (cs ∷ ds ∷ css) h = absurd h
-  case_right w (Enable token) (Enabled answer) css h = once_right w (EnabledBy M token answer) css h (λ cs r. asked_right w _ token (named (map slot_of w.slots) token) answer cs r)
-  case_right w (Update token) (Updated answer) css h = once_right w (UpdatedBy M token answer) css h (λ cs r. asked_right w _ token (named (map slot_of w.slots) token) answer cs r)
-  case_right w (Disable token) (Disabled answer) css h = once_right w (DisabledBy M token answer) css h (λ cs r. asked_right w _ token (named (map slot_of w.slots) token) answer cs r)
+  case_right w (Enable token) (Enabled answer) css h = once_right w (EnabledBy M token answer) css h (λ cs r. asked_right w _ _ token (named (map slot_of w.slots) token) answer cs r)
+  case_right w (Update token) (Updated answer) css h = once_right w (UpdatedBy M token answer) css h (λ cs r. asked_right w _ _ token (named (map slot_of w.slots) token) answer cs r)
+  case_right w (Disable token) (Disabled answer) css h = once_right w (DisabledBy M token answer) css h (λ cs r. asked_right w _ _ token (named (map slot_of w.slots) token) answer cs r)
   case_right w (RemoveCall token) (Removed answer) css h = once_right w (RemovedBy M token answer) css h (λ cs r. removed_right w token (named (map slot_of w.slots) token) answer cs r)
   case_right w (Dispatch timeout x) (Dispatched answer x') css h = elim h [ inl k ↦ rw k.2 tt | inr k ↦ steps_right w _ _ css k ]
   case_right w (NewPoller p) (OldPoller q) css h = rw h.1 (tt, tt)

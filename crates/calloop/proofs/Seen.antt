@@ -4,7 +4,7 @@ use Rattle.std.proofs.Math.Nat.{mod-add-div, add-mul-mod_self_left}
 use Rattle.calloop_wake.specs.declared.list.Content.TheVariants.{InTurn}
 use Rattle.calloop_wake.specs.Slots.{claimed, taken_up, is_empty, with_content}
 use Rattle.calloop_wake.proofs.Indexed.{map-changed}
-use Rattle.calloop.specs.Machine.{World, View, Registration, Change, Put, Claim, Polls, Polling, Watching, Counting, Gathered, Cut, Ended, seen, slot_of, holding, reused, with_claim, viewed, all_viewed, done, all_done}
+use Rattle.calloop.specs.Machine.{World, View, Registration, Change, Put, Claim, Polls, Polling, Watching, Counting, Holds, Appended, Gathered, Cut, Ended, seen, slot_of, holding, reused, with_claim, viewed, all_viewed, done, all_done}
 use Rattle.calloop.specs.Rules.{traced, all_traced, Did, Leads}
 
 -- counted on or wrapped, a reuse count has the same version
@@ -30,6 +30,8 @@ seen-done w (Polls steps) = refl
 seen-done w (Polling poller) = refl
 seen-done w (Watching watch) = refl
 seen-done w (Counting places) = refl
+seen-done w (Holds step) = refl
+seen-done w (Appended event) = refl
 seen-done w (Gathered posted given now) = refl
 seen-done w (Cut slot) = refl
 seen-done w Ended = refl

@@ -121,6 +121,10 @@ gathering_noted l posted given now =
       batch = ((l.batch ++ map from_elsewhere (posted_events posted)) ++ map from_elsewhere (polled_events given)) ++ map (from_deadline now) (due_in now l.armed);
     }
 
+-- what is noted of an event that a source asked for
+abbrev pub appended_noted : Ledger → Pending → Ledger
+appended_noted l e = record l { batch = l.batch ++ from_elsewhere e ∷ [] }
+
 abbrev pub heads_of : {A : Type 0} → List A → List A
 heads_of [] = []
 heads_of (x ∷ xs) = x ∷ []

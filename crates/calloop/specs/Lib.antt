@@ -1,6 +1,8 @@
 pub mod Pings
 pub mod Quiet
 pub mod Ledgers
+pub mod Held
+pub mod Rooms
 pub mod Machine
 pub mod Rules
 pub mod Laws

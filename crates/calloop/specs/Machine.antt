@@ -8,9 +8,11 @@ use Rattle.calloop_wake.specs.Slots.{changed, first_changed, with_content, claim
 use Rattle.calloop_wake.specs.Boards.{IsRising}
 use Rattle.calloop_wake.specs.declared.wake.watch.Watch.{Watch}
 use Rattle.calloop_core.specs.declared.sys.Readiness.{Readiness}
+use Rattle.calloop_core.specs.declared.sys.poll.Pending.{Pending}
 use Rattle.calloop_core.specs.Pollers.{Outside}
-use Rattle.calloop_core.specs.Polls.{PollView, PollStep, poll_view, polls_after, AllAllowed, gathered, polling, watching, counted, with_pass, cut}
-use Rattle.calloop.specs.Ledgers.{Ledger, steps_noted, gathering_noted, cut_noted, new_ledger}
+use Rattle.calloop_core.specs.Polls.{PollView, PollStep, poll_view, polls_after, AllAllowed, gathered, appended, polling, watching, counted, with_pass, cut}
+use Rattle.calloop.specs.Held.{Held, HeldStep, held_after}
+use Rattle.calloop.specs.Ledgers.{Ledger, steps_noted, gathering_noted, appended_noted, cut_noted, new_ledger}
 use Rattle.calloop.specs.declared.loop_logic.EventLoop.{EventLoop}
 
 -- a slot: how often it was used again, without bound, and what stands in it
@@ -22,6 +24,7 @@ pub record Registration (D : Type 0) : Type 0 where
 pub record World (D P : Type 0) : Type 0 where
   pub slots : List (Registration D)
   pub poll : PollView P
+  pub held : Held
   -- what is known of the armings of timers
   pub ledger : Ledger
 
@@ -29,16 +32,17 @@ pub record World (D P : Type 0) : Type 0 where
 pub record View (D P : Type 0) : Type 0 where
   pub slots : List (Slot D)
   pub poll : PollView P
+  pub held : Held
 
 abbrev pub slot_of : {D : Type 0} → Registration D → Slot D
 slot_of r = record { version = r.reuse % 65536; content = r.content }
 
 -- reuse counts are known modulo 65,536, and the ledger isn't
 abbrev pub seen : {D P : Type 0} → World D P → View D P
-seen w = record { slots = map slot_of w.slots; poll = w.poll }
+seen w = record { slots = map slot_of w.slots; poll = w.poll; held = w.held }
 
 abbrev pub view_of : {D P C R : Type 0} → EventLoop D P C R → View D P
-view_of l = record { slots = l.sources; poll = poll_view l.poll }
+view_of l = record { slots = l.sources; poll = poll_view l.poll; held = record { lifecycle = l.lifecycle.tokens.items } }
 
 -- every change of the state is one of these
 pub data Change (D P : Type 0) : Type 0 where
@@ -54,6 +58,10 @@ pub data Change (D P : Type 0) : Type 0 where
   Watching : (watch : Watch) → Change D P
   -- room was made for what so many places can give
   Counting : (places : ℕ) → Change D P
+  -- what loop and machine hold alike changes
+  Holds : (step : HeldStep) → Change D P
+  -- an event that a source asks for before a wait joins the batch
+  Appended : (event : Pending) → Change D P
   -- the batch is put together, of these posted keys, of what the poller gave, and of the timers that are due at this moment
   Gathered : (posted : List ℕ) (given : List (ℕ × Readiness)) (now : ℕ) → Change D P
   -- the first event leaves the batch, for this slot or for none
@@ -69,6 +77,8 @@ viewed v (Polls steps) = record v { poll = polls_after v.poll steps }
 viewed v (Polling poller) = record v { poll = polling poller v.poll }
 viewed v (Watching watch) = record v { poll = watching watch v.poll }
 viewed v (Counting places) = record v { poll = counted places v.poll }
+viewed v (Holds step) = record v { held = held_after v.held step }
+viewed v (Appended event) = record v { poll = appended event v.poll }
 viewed v (Gathered posted given now) = record v { poll = gathered posted given now v.poll }
 viewed v (Cut slot) = record v { poll = cut v.poll }
 viewed v Ended = record v { poll = with_pass None v.poll }
@@ -99,6 +109,8 @@ done w (Polls steps) = record w { poll = polls_after w.poll steps; ledger = step
 done w (Polling poller) = record w { poll = polling poller w.poll }
 done w (Watching watch) = record w { poll = watching watch w.poll }
 done w (Counting places) = record w { poll = counted places w.poll }
+done w (Holds step) = record w { held = held_after w.held step }
+done w (Appended event) = record w { poll = appended event w.poll; ledger = appended_noted w.ledger event }
 done w (Gathered posted given now) = record w { poll = gathered posted given now w.poll; ledger = gathering_noted w.ledger posted given now }
 done w (Cut slot) = record w { poll = cut w.poll; ledger = cut_noted w.ledger }
 done w Ended = record w { poll = with_pass None w.poll }
@@ -111,11 +123,12 @@ all_done w (c ∷ cs) = all_done (done w c) cs
 abbrev pub IsFull : {D : Type 0} → List (Slot D) → ℕ → Type 0
 IsFull {D} slots i = (s : Slot D) × (slice_get slots i ≡ Some s) × (is_empty s.content ≡ false)
 
--- What every change keeps to: a vacant slot stays vacant until it is claimed, a source's steps can be made, and posted keys
--- ascend. Which they are is the answer of the board, which lies under a lock; calloop has them from the kernel.
+-- What every change keeps to: a vacant slot stays vacant until it is claimed, a source's steps can be made, no source makes up
+-- a posted event, and posted keys ascend. Which they are is the answer of the board, which lies under a lock; calloop has them from the kernel.
 abbrev pub Fits : {D P : Type 0} → Outside P → View D P → Change D P → Type 0
 Fits O v (Put slot content) = IsFull v.slots slot
 Fits O v (Polls steps) = AllAllowed O v.poll steps
+Fits O v (Appended event) = event.posted ≡ false
 Fits O v (Gathered posted given now) = IsRising posted
 Fits O v change = Unit {0}
 
@@ -131,4 +144,5 @@ pub record IsNew {D P : Type 0} (w : World D P) : Type 0 where
   pub passes : w.poll.passes ≡ []
   pub pass : w.poll.pass ≡ None
   pub unwatched : w.poll.watch.notes ≡ []
+  pub unlisted : w.held.lifecycle ≡ []
   pub ledger : w.ledger ≡ new_ledger

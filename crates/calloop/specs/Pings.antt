@@ -17,7 +17,7 @@ use Rattle.calloop_wake.specs.Cells.{one, is_own}
 use Rattle.calloop_core.specs.declared.sources.PostAction.{PostAction}
 use Rattle.calloop_core.specs.declared.sources.PostAction.TheVariants.{Continue, Remove}
 use Rattle.calloop_core.specs.Calls.{Call}
-use Rattle.calloop_core.specs.Deeds.{Deed, Registered as FirstTime, Reregistered, Unregistered, Turned, Heard}
+use Rattle.calloop_core.specs.Deeds.{Deed, Registered as FirstTime, Reregistered, Unregistered, Turned, Slept, Noticed, Heard}
 use Rattle.calloop_core.specs.Holdings.{holds_none}
 use Rattle.calloop_core.specs.Meanings.{Meaning}
 use Rattle.calloop_core.specs.Polls.{PollView, PollStep, TakePass, PutBack, CannotOpen, IsOfKind}
@@ -142,7 +142,9 @@ abbrev pub IsPing : {P R : Type 0} → PingSource R → PollView P
 IsPing s v (FirstTime f answer g) steps t = IsPingReg s f answer steps t g
 IsPing s v (Reregistered f answer g) steps t = IsPingRereg s f answer steps t g
 IsPing s v (Unregistered answer) steps t = IsPingUnreg s answer steps t
+IsPing s v (Slept answer) steps t = (answer ≡ Ok None) × (steps ≡ []) × (t ≡ s)
+IsPing s v (Noticed events) steps t = (steps ≡ []) × (t ≡ s)
 IsPing s v (Turned readiness token turn) steps t = IsPingTurn s token v turn.calls turn.answer steps t
 
 abbrev pub ping_meaning : {P R : Type 0} → Meaning (PingSource R) P (Heard (Unit {0}) (Unit {0}) (Unit {0}) PingError)
-ping_meaning = record { holds = λ s. holds_none; fits = λ s. Unit {0}; does = IsPing }
+ping_meaning = record { holds = λ s. holds_none; fits = λ s. Unit {0}; needs = λ s. false; does = IsPing }

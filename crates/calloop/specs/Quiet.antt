@@ -8,7 +8,7 @@ use Rattle.calloop_wake.specs.Tokens.{key_of}
 use Rattle.calloop_wake.specs.Cells.{is_own}
 use Rattle.calloop_wake.specs.Passes.{Taken}
 use Rattle.calloop_core.specs.declared.sources.PostAction.{PostAction}
-use Rattle.calloop_core.specs.Deeds.{Registered, Reregistered, Unregistered, Turned}
+use Rattle.calloop_core.specs.Deeds.{Registered, Reregistered, Unregistered, Turned, Slept, Noticed}
 use Rattle.calloop_core.specs.Meanings.{IsKeeping}
 use Rattle.calloop_core.specs.Polls.{PollView, PollStep}
 use Rattle.calloop_core.specs.Holdings.{Keeps, holds_none}
@@ -62,4 +62,6 @@ pub ping_keeps : {P R : Type 0} → IsKeeping (ping_meaning {P = P} {R = R})
 ping_keeps s t v (Registered f a g) l fits below h = (tt, ping_reg_keeps s t v f g a l h)
 ping_keeps s t v (Reregistered f a g) l fits below h = (tt, ping_rereg_keeps s t v f g a l h)
 ping_keeps s t v (Unregistered a) l fits below h = (tt, ping_unreg_keeps s t v a l h)
+ping_keeps s t v (Slept a) l fits below h = (tt, rw h.1 (λ counter. tt))
+ping_keeps s t v (Noticed es) l fits below h = (tt, rw h.0 (λ counter. tt))
 ping_keeps s t v (Turned r k turn) l fits below h = (tt, ping_turn_keeps s t k v turn.calls turn.answer l h)

@@ -1,6 +1,6 @@
 -- The rules of the loop: which changes each call may make. A rule speaks of what the loop holds before, and allows
 -- lists of changes; what source, poller and callback answer, it leaves open.
-use Rattle.std.specs.Prelude.{◌≡◌, ℕ, ◌^◌, ◌<◌, List, [], ◌∷◌, ◌⊎◌, Bool, true, false, Option, Some, None, Result, Ok, Err}
+use Rattle.std.specs.Prelude.{◌≡◌, ℕ, ◌^◌, ◌<◌, List, [], ◌∷◌, ◌++◌, drop, length, ◌⊎◌, Bool, true, false, ◌&&◌, Option, Some, None, Result, Ok, Err}
 use Rattle.std.specs.declared.io.Error.{Error as Cause}
 use Rattle.calloop_wake.specs.declared.error.Error.{Error}
 use Rattle.calloop_wake.specs.declared.error.Error.TheVariants.{InvalidToken, IoError, OutOfMemory}
@@ -9,6 +9,7 @@ use Rattle.calloop_wake.specs.declared.token.Token.{Token}
 use Rattle.calloop_wake.specs.declared.token.TokenFactory.{TokenFactory}
 use Rattle.calloop_wake.specs.declared.token.RegistrationToken.{RegistrationToken}
 use Rattle.calloop_wake.specs.declared.list.Content.{Content}
+use Rattle.calloop_wake.specs.declared.list.Slot.{Slot}
 use Rattle.calloop_wake.specs.declared.list.Content.TheVariants.{Vacant, Source, InTurn}
 use Rattle.calloop_wake.specs.Tokens.{registration_of}
 use Rattle.calloop_wake.specs.declared.wake.watch.Watch.{Watch}
@@ -18,20 +19,53 @@ use Rattle.calloop_core.specs.declared.sys.poll.Pending.{Pending}
 use Rattle.calloop_core.specs.declared.sources.Dispatcher.{Dispatcher}
 use Rattle.calloop_core.specs.declared.sources.PostAction.{PostAction}
 use Rattle.calloop_core.specs.declared.sources.PostAction.TheVariants.{Continue, Reregister, Disable as DisableIt, Remove}
-use Rattle.calloop_core.specs.Deeds.{Registered, Reregistered, Unregistered, Turned, Lent, lent}
+use Rattle.calloop_core.specs.Deeds.{Deed, Registered, Reregistered, Unregistered, Turned, Slept, Noticed, Lent, lent}
 use Rattle.calloop_core.specs.Meanings.{Meaning}
 use Rattle.calloop_core.specs.Pollers.{Outside, nanos_of}
-use Rattle.calloop_core.specs.Polls.{PollStep, cut, with_pass}
+use Rattle.calloop_core.specs.Events.{events_of}
+use Rattle.calloop_core.specs.Polls.{PollView, PollStep, AllAllowed, own_event, cut, with_pass}
 use Rattle.calloop_core.specs.Waits.{Waited}
 use Rattle.calloop.specs.declared.loop_logic.LoopCall.{LoopCall}
 use Rattle.calloop.specs.declared.loop_logic.LoopCall.TheVariants.{Insert, Enable, Update, Disable, Remove as RemoveCall, Dispatch, Poller as NewPoller}
 use Rattle.calloop.specs.declared.loop_logic.LoopAnswer.{LoopAnswer}
 use Rattle.calloop.specs.declared.loop_logic.LoopAnswer.TheVariants.{Inserted, Enabled, Updated, Disabled, Removed, Dispatched, Poller as OldPoller}
-use Rattle.calloop.specs.Machine.{World, View, Change, Put, Claim, Polls, Polling, Watching, Counting, Gathered, Cut, Ended, AllFit, all_viewed, all_done, seen}
+use Rattle.calloop.specs.Held.{HeldStep, Listed, Unlisted}
+use Rattle.calloop.specs.Machine.{World, View, Change, Put, Claim, Polls, Polling, Watching, Counting, Holds, Appended, Gathered, Cut, Ended, AllFit, all_viewed, all_done, seen}
 
 -- a factory that has given no token
 abbrev pub factory_of : RegistrationToken → TokenFactory
 factory_of t = record { registration = t; given = 0 }
+
+-- what a source answers to its registration and to what follows it
+abbrev pub Outcome : Type 0
+Outcome = Result (Unit {0}) Error
+
+abbrev pub is_done : Outcome → Bool
+is_done (Ok u) = true
+is_done (Err e) = false
+
+-- a registration, the first one or anew, under this token, with a factory that has given none; one that is to be told of waits
+-- is refused where there is no room for its entry, and is then as it was
+abbrev pub RegisteredBy : {D P X Q : Type 0} → Meaning D P (Lent X Q) → (TokenFactory → Outcome → TokenFactory → Deed (Lent X Q)) → RegistrationToken → PollView P → D → Outcome → List (PollStep P) → D → Type 0
+RegisteredBy M deed token v d answer steps e =
+    ((M.needs d ≡ true) × (answer ≡ Err OutOfMemory) × (steps ≡ []) × (e ≡ d)) ⊎ ((f : TokenFactory) × M.does d v (deed (factory_of token) answer f) steps e)
+
+-- a registration that succeeds enters what is to be told of waits
+abbrev pub entered : {D P X Q : Type 0} → Meaning D P (Lent X Q) → RegistrationToken → D → Outcome → HeldStep
+entered M token d answer = Listed (M.needs d && is_done answer) token
+
+-- one that is taken back takes it out, also where that fails
+abbrev pub left : {D : Type 0} → RegistrationToken → D → Outcome → HeldStep
+left token d answer = Unlisted token
+
+-- what a source that is out of its slot did, by R, with what becomes of its entry
+abbrev pub ByOne : {D P : Type 0} → Outside P → (D → Outcome → List (PollStep P) → D → Type 0) → (noted : D → Outcome → HeldStep) → D → Outcome → D → View D P → View D P → Type 0
+ByOne {D} {P} O R noted d answer e v u =
+    (steps : List (PollStep P)) × R d answer steps e × AllAllowed O v.poll steps × (u ≡ all_viewed v (Polls steps ∷ Holds (noted d answer) ∷ []))
+
+-- why an insertion changes nothing: there is no slot, or no room for an entry
+abbrev pub CannotInsert : {D : Type 0} → List (Slot D) → (needed : Bool) → Error → Type 0
+CannotInsert slots needed error = CannotClaim slots error ⊎ ((needed ≡ true) × (error ≡ OutOfMemory))
 
 -- a source is registered in the first vacant slot, which is claimed for it; where its registration is refused, the slot is
 -- vacant again under its new version, and the poller is as that registration left it
@@ -39,30 +73,32 @@ abbrev pub InsertedBy : {D P X Q : Type 0} → Meaning D P (Lent X Q) → D → 
 InsertedBy {D} {P} M d (Ok token) v cs =
     (first_vacant v.slots < 2 ^ 32) × (token ≡ next_registration v.slots)
     × (e : D) × (f : TokenFactory) × (steps : List (PollStep P)) × M.does d v.poll (Registered (factory_of token) (Ok tt) f) steps e
-    × (cs ≡ Claim d ∷ Polls steps ∷ Put token.slot (Source e) ∷ [])
+    × (cs ≡ Claim d ∷ Polls steps ∷ Holds (Listed (M.needs d) token) ∷ Put token.slot (Source e) ∷ [])
 InsertedBy {D} {P} M d (Err refused) v cs =
-    ((refused.inserted ≡ d) × CannotClaim v.slots refused.error × (cs ≡ []))
+    ((refused.inserted ≡ d) × CannotInsert v.slots (M.needs d) refused.error × (cs ≡ []))
     ⊎ ((first_vacant v.slots < 2 ^ 32) × (f : TokenFactory) × (steps : List (PollStep P)) × M.does d v.poll (Registered (factory_of (next_registration v.slots)) (Err refused.error) f) steps refused.inserted
     × (cs ≡ Claim d ∷ Polls steps ∷ Put (first_vacant v.slots) Vacant ∷ []))
 
 -- what is asked of the source in a slot: it goes out of the slot, and comes back as that left it, also after a refusal; R
--- relates the source, its answer, its steps, and what it is then
-abbrev pub AskedIn : {D P : Type 0} → (D → Result (Unit {0}) Error → List (PollStep P) → D → Type 0) → RegistrationToken → Content D → Result (Unit {0}) Error → List (Change D P) → Type 0
-AskedIn R token Vacant answer cs = (answer ≡ Err InvalidToken) × (cs ≡ [])
-AskedIn R token InTurn answer cs = (answer ≡ Err InvalidToken) × (cs ≡ [])
-AskedIn {D} {P} R token (Source d) answer cs = (e : D) × (steps : List (PollStep P)) × R d answer steps e × (cs ≡ Put token.slot InTurn ∷ Polls steps ∷ Put token.slot (Source e) ∷ [])
+-- relates the source, its answer, its steps, and what it is then, and `noted` is what becomes of its entry
+abbrev pub AskedIn : {D P : Type 0} → (D → Outcome → List (PollStep P) → D → Type 0) → (noted : D → Outcome → HeldStep) → RegistrationToken → Content D → Outcome → List (Change D P) → Type 0
+AskedIn R noted token Vacant answer cs = (answer ≡ Err InvalidToken) × (cs ≡ [])
+AskedIn R noted token InTurn answer cs = (answer ≡ Err InvalidToken) × (cs ≡ [])
+AskedIn {D} {P} R noted token (Source d) answer cs =
+    (e : D) × (steps : List (PollStep P)) × R d answer steps e
+    × (cs ≡ Put token.slot InTurn ∷ Polls steps ∷ Holds (noted d answer) ∷ Put token.slot (Source e) ∷ [])
 
 -- the source that a token names is registered, with a factory that has given no token
 abbrev pub EnabledBy : {D P X Q : Type 0} → Meaning D P (Lent X Q) → RegistrationToken → Result (Unit {0}) Error → View D P → List (Change D P) → Type 0
-EnabledBy M token answer v cs = AskedIn (λ d a steps e. (f : TokenFactory) × M.does d v.poll (Registered (factory_of token) a f) steps e) token (named v.slots token) answer cs
+EnabledBy M token answer v cs = AskedIn (RegisteredBy M Registered token v.poll) (entered M token) token (named v.slots token) answer cs
 
 -- it is registered anew
 abbrev pub UpdatedBy : {D P X Q : Type 0} → Meaning D P (Lent X Q) → RegistrationToken → Result (Unit {0}) Error → View D P → List (Change D P) → Type 0
-UpdatedBy M token answer v cs = AskedIn (λ d a steps e. (f : TokenFactory) × M.does d v.poll (Reregistered (factory_of token) a f) steps e) token (named v.slots token) answer cs
+UpdatedBy M token answer v cs = AskedIn (RegisteredBy M Reregistered token v.poll) (entered M token) token (named v.slots token) answer cs
 
 -- its registration is taken back
 abbrev pub DisabledBy : {D P X Q : Type 0} → Meaning D P (Lent X Q) → RegistrationToken → Result (Unit {0}) Error → View D P → List (Change D P) → Type 0
-DisabledBy M token answer v cs = AskedIn (λ d a steps e. M.does d v.poll (Unregistered a) steps e) token (named v.slots token) answer cs
+DisabledBy M token answer v cs = AskedIn (λ d a steps e. M.does d v.poll (Unregistered a) steps e) (left token) token (named v.slots token) answer cs
 
 -- it leaves its slot vacant, is unregistered, of which a failure isn't answered, and is handed back
 abbrev pub RemovedIn : {D P X Q : Type 0} → Meaning D P (Lent X Q) → RegistrationToken → Content D → Option D → View D P → List (Change D P) → Type 0
@@ -70,20 +106,20 @@ RemovedIn M token Vacant answer v cs = (answer ≡ None) × (cs ≡ [])
 RemovedIn M token InTurn answer v cs = (answer ≡ None) × (cs ≡ [])
 RemovedIn {D} {P} M token (Source d) answer v cs =
     (e : D) × (told : Result (Unit {0}) Error) × (steps : List (PollStep P)) × M.does d v.poll (Unregistered told) steps e × (answer ≡ Some e)
-    × (cs ≡ Put token.slot Vacant ∷ Polls steps ∷ [])
+    × (cs ≡ Put token.slot Vacant ∷ Polls steps ∷ Holds (Unlisted token) ∷ [])
 
 abbrev pub RemovedBy : {D P X Q : Type 0} → Meaning D P (Lent X Q) → RegistrationToken → Option D → View D P → List (Change D P) → Type 0
 RemovedBy M token answer v cs = RemovedIn M token (named v.slots token) answer v cs
 
--- what a source answers to its registration and to what follows it
-abbrev pub Outcome : Type 0
-Outcome = Result (Unit {0}) Error
-
 -- what the loop is doing within a dispatch; X is the data that the caller lends
 pub data Doing (D X : Type 0) : Type 0 where
   Beginning : (timeout : Option ℕ) (x : X) → Doing D X
+  -- these are still to be told of the wait
+  Sleeping : (timeout : Option ℕ) (later : List RegistrationToken) (x : X) → Doing D X
   Waiting : (timeout : Option ℕ) (x : X) → Doing D X
   Gathering : (now : ℕ) (given : List (ℕ × Readiness)) (x : X) → Doing D X
+  -- these are still to be told what was gathered, which stands in the batch from there on
+  Noticing : (from : ℕ) (later : List RegistrationToken) (x : X) → Doing D X
   Cutting : (x : X) → Doing D X
   -- a source had its turn, and then its post action
   Ending : (token : RegistrationToken) (source : D) (answer : Result PostAction Error) (x : X) → Doing D X
@@ -93,6 +129,39 @@ pub data Doing (D X : Type 0) : Type 0 where
 abbrev pub after_wait : {D X : Type 0} → Result ℕ Cause → List (ℕ × Readiness) → X → Doing D X
 after_wait (Ok now) given x = Gathering now given x
 after_wait (Err cause) given x = Leaving (Err (IoError cause)) x
+
+-- a source that is told of a wait goes out of its slot meanwhile, and does nothing to `Poll`
+abbrev pub told_in : {D P : Type 0} → RegistrationToken → D → List (Change D P)
+told_in token e = Put token.slot InTurn ∷ Polls [] ∷ Put token.slot (Source e) ∷ []
+
+-- before it: the event that it answers joins the batch, and its error ends the dispatch
+abbrev pub SleptAs : {D P X : Type 0} → (timeout : Option ℕ) → (later : List RegistrationToken) → Result (Option (Readiness × Token)) Error → X → List (Change D P) → Doing D X → Type 0
+SleptAs timeout later (Ok None) x cs b = (cs ≡ []) × (b ≡ Sleeping timeout later x)
+SleptAs timeout later (Ok (Some given)) x cs b = (cs ≡ Appended (own_event given) ∷ []) × (b ≡ Sleeping timeout later x)
+SleptAs timeout later (Err e) x cs b = (cs ≡ []) × (b ≡ Leaving (Err e) x)
+
+abbrev pub SleptBy : {D P X Q : Type 0} → Meaning D P (Lent X Q) → Option ℕ → RegistrationToken → List RegistrationToken → Content D → View D P → X → List (Change D P) → Doing D X → Type 0
+SleptBy M timeout token later Vacant v x cs b = (cs ≡ []) × (b ≡ Sleeping timeout later x)
+SleptBy M timeout token later InTurn v x cs b = (cs ≡ []) × (b ≡ Sleeping timeout later x)
+SleptBy {D} {P} {X} M timeout token later (Source d) v x cs b =
+    (e : D) × (answer : Result (Option (Readiness × Token)) Error) × (joined : List (Change D P)) × M.does d v.poll (Slept answer) [] e
+    × SleptAs timeout later answer x joined b × (cs ≡ told_in token e ++ joined)
+
+-- after it: it is told of the events of its registration that were gathered
+abbrev pub NoticedBy : {D P X Q : Type 0} → Meaning D P (Lent X Q) → (from : ℕ) → RegistrationToken → List RegistrationToken → Content D → View D P → X → List (Change D P) → Doing D X → Type 0
+NoticedBy M from token later Vacant v x cs b = (cs ≡ []) × (b ≡ Noticing from later x)
+NoticedBy M from token later InTurn v x cs b = (cs ≡ []) × (b ≡ Noticing from later x)
+NoticedBy {D} M from token later (Source d) v x cs b =
+    (e : D) × M.does d v.poll (Noticed (events_of token (drop from v.poll.batch))) [] e × (cs ≡ told_in token e) × (b ≡ Noticing from later x)
+
+-- the events that it brings
+abbrev pub after_telling : {D X : Type 0} → Option ℕ → List RegistrationToken → Outcome → X → Doing D X
+after_telling timeout later (Ok u) x = Sleeping timeout later x
+after_telling timeout later (Err e) x = Leaving (Err e) x
+
+abbrev pub after_all_told : {D X : Type 0} → Option ℕ → Outcome → X → Doing D X
+after_all_told timeout (Ok u) x = Waiting timeout x
+after_all_told timeout (Err e) x = Leaving (Err e) x
 
 -- the event that was cut goes to the source that its token names, which has its own turn, or to none
 abbrev pub CutTo : {D P X Q : Type 0} → Meaning D P (Lent X Q) → Pending → Content D → View D P → X → List (Change D P) → Doing D X → Type 0
@@ -116,10 +185,11 @@ emptied token (Source d) = []
 abbrev pub ActedBy : {D P X Q : Type 0} → Meaning D P (Lent X Q) → RegistrationToken → D → Result PostAction Error → View D P → List (Change D P) → D → Result (Unit {0}) Error → Type 0
 ActedBy M token d (Ok Continue) v cs e told = (cs ≡ Ended ∷ []) × (e ≡ d) × (told ≡ Ok tt)
 ActedBy {D} {P} M token d (Ok Reregister) v cs e told =
-    (f : TokenFactory) × (steps : List (PollStep P)) × M.does d (with_pass None v.poll) (Reregistered (factory_of token) told f) steps e
-    × (cs ≡ Ended ∷ Polls steps ∷ [])
+    (steps : List (PollStep P)) × RegisteredBy M Reregistered token (with_pass None v.poll) d told steps e
+    × (cs ≡ Ended ∷ Polls steps ∷ Holds (entered M token d told) ∷ [])
 ActedBy {D} {P} M token d (Ok DisableIt) v cs e told =
-    (steps : List (PollStep P)) × M.does d (with_pass None v.poll) (Unregistered told) steps e × (cs ≡ Ended ∷ Polls steps ∷ [])
+    (steps : List (PollStep P)) × M.does d (with_pass None v.poll) (Unregistered told) steps e
+    × (cs ≡ Ended ∷ Polls steps ∷ Holds (Unlisted token) ∷ [])
 ActedBy M token d (Ok Remove) v cs e told = (cs ≡ Ended ∷ emptied token (named v.slots token)) × (e ≡ d) × (told ≡ Ok tt)
 ActedBy M token d (Err error) v cs e told = (cs ≡ Ended ∷ []) × (e ≡ d) × (told ≡ Err error)
 
@@ -134,15 +204,19 @@ abbrev pub ReturnedTo : {D P X Q : Type 0} → Meaning D P (Lent X Q) → Regist
 ReturnedTo M token d InTurn v cs = cs ≡ Put token.slot (Source d) ∷ []
 ReturnedTo {D} {P} M token d content v cs =
     (e : D) × (answer : Result (Unit {0}) Error) × (steps : List (PollStep P)) × M.does d v.poll (Unregistered answer) steps e
-    × (cs ≡ Polls steps ∷ [])
+    × (cs ≡ Polls steps ∷ Holds (Unlisted token) ∷ [])
 
 -- one small step, by what is seen
 abbrev pub Step : {D P X Q : Type 0} → Meaning D P (Lent X Q) → Outside P → View D P → Doing D X → List (Change D P) → Doing D X → Type 0
-Step M O v (Beginning timeout x) cs b = (places : ℕ) × (cs ≡ Counting places ∷ []) × (b ≡ Waiting timeout x)
+Step M O v (Beginning timeout x) cs b = (places : ℕ) × (cs ≡ Counting places ∷ []) × (b ≡ Sleeping timeout v.held.lifecycle x)
+Step M O v (Sleeping timeout [] x) cs b = (cs ≡ []) × (b ≡ Waiting timeout x)
+Step M O v (Sleeping timeout (t ∷ later) x) cs b = SleptBy M timeout t later (named v.slots t) v x cs b
 Step {D} {P} M O v (Waiting timeout x) cs b =
     (answer : Result ℕ Cause) × (given : List (ℕ × Readiness)) × (p : P) × (w : Watch) × Waited O v.poll timeout answer given p w
     × (cs ≡ Polling p ∷ Watching w ∷ []) × (b ≡ after_wait answer given x)
-Step M O v (Gathering now given x) cs b = (posted : List ℕ) × (cs ≡ Gathered posted given now ∷ []) × (b ≡ Cutting x)
+Step M O v (Gathering now given x) cs b = (posted : List ℕ) × (cs ≡ Gathered posted given now ∷ []) × (b ≡ Noticing (length v.poll.batch) v.held.lifecycle x)
+Step M O v (Noticing from [] x) cs b = (cs ≡ []) × (b ≡ Cutting x)
+Step M O v (Noticing from (t ∷ later) x) cs b = NoticedBy M from t later (named v.slots t) v x cs b
 Step M O v (Cutting x) cs b = CutFrom M v.poll.batch v x cs b
 Step {D} M O v (Ending token d answer x) cs b =
     (e : D) × (told : Result (Unit {0}) Error) × ActedBy M token d answer v cs e told × (b ≡ Returning token e told x)

@@ -8,6 +8,7 @@ pub use calloop_core::sources::{
     Asking, Callback, Dispatch, Dispatcher, EventSource, Here, Hold, IntoError, OneOf, PostAction,
     There,
 };
+pub use calloop_core::sys::events::EventIterator;
 pub use calloop_core::sys::poll::Poll;
 pub use calloop_core::sys::{Clock, Poller, Readiness};
 pub use calloop_core::timer::{TimeoutAction, Timer, TimerError};

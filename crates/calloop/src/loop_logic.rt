@@ -2,11 +2,13 @@
 use calloop_core::sources::{
     Asking, Callback, Dispatch, Dispatcher, EventSource, Hold, PostAction,
 };
+use calloop_core::sys::events::EventIterator;
 use calloop_core::sys::poll::Poll;
 use calloop_core::sys::{Poller, Readiness};
 use calloop_wake::error::{InsertError, Result};
 use calloop_wake::list::SourceList;
 use calloop_wake::token::{RegistrationToken, Token, TokenFactory};
+use lifecycle::Lifecycle;
 use std::marker::PhantomData;
 use std::sync::Wait;
 use std::time::Duration;
@@ -15,6 +17,9 @@ mod calls;
 mod dispatch;
 mod handle;
 mod laws;
+mod lifecycle;
+mod registering;
+mod telling;
 
 pub use laws::{once, wrong_runs_are_ruled_out};
 
@@ -24,6 +29,7 @@ pub use laws::{once, wrong_runs_are_ruled_out};
 pub struct EventLoop<D, P, C, R: Wait + Drop> {
     sources: SourceList<D>,
     poll: Poll<P, C, R>,
+    lifecycle: Lifecycle,
 }
 
 /// The calls on a loop that act at once. It is lent by the loop.
@@ -145,6 +151,18 @@ where
     ) -> Result<PostAction> {
         self.held
             .process_events(readiness, token, poll, data, requests)
+    }
+
+    fn needs_extra_lifecycle_events(&self) -> bool {
+        self.held.needs_extra_lifecycle_events()
+    }
+
+    fn before_sleep(&mut self) -> Result<Option<(Readiness, Token)>> {
+        self.held.before_sleep()
+    }
+
+    fn before_handle_events(&mut self, events: EventIterator<'_>) {
+        self.held.before_handle_events(events);
     }
 
     ghost keeps = { keeping_seen (λ s. s.held) A.means A.keeps };

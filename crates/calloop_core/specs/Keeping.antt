@@ -14,7 +14,7 @@ use Rattle.calloop_core.specs.declared.timer.TimeoutAction.TheVariants.{Drop, To
 use Rattle.calloop_core.specs.declared.timer.TimerError.{TimerError}
 use Rattle.calloop_core.specs.declared.timer.Timer.{Timer}
 use Rattle.calloop_core.specs.declared.timer.Registration.{Registration}
-use Rattle.calloop_core.specs.Deeds.{Registered, Reregistered, Unregistered, Turned}
+use Rattle.calloop_core.specs.Deeds.{Registered, Reregistered, Unregistered, Turned, Slept, Noticed}
 use Rattle.calloop_core.specs.Meanings.{IsKeeping}
 use Rattle.calloop_core.specs.Polls.{PollView, PollStep}
 use Rattle.calloop_core.specs.Holdings.{Hold, Free, Spent, Standing, IsWithin, Keeps, with_hold}
@@ -115,4 +115,6 @@ pub timer_keeps : {P : Type 0} → IsKeeping (timer_meaning {P = P})
 timer_keeps s t v (Registered f a g) l fits below h = (tt, timer_reg_keeps s t v f g a l h)
 timer_keeps s t v (Reregistered f a g) l fits below h = (tt, timer_reg_keeps s t v f g a l h)
 timer_keeps s t v (Unregistered a) l fits below h = (tt, timer_unreg_keeps s t v a l h)
+timer_keeps s t v (Slept a) l fits below h = (tt, rw (h.1, h.2) (λ counter. within_same (timer_holds s counter)))
+timer_keeps s t v (Noticed es) l fits below h = (tt, rw (h.0, h.1) (λ counter. within_same (timer_holds s counter)))
 timer_keeps s t v (Turned r k turn) l fits below h = (tt, timer_turn_keeps s t k v turn.calls turn.answer l h)

@@ -9,7 +9,8 @@ use Rattle.calloop_core.specs.declared.sources.OneOf.{OneOf}
 use Rattle.calloop_core.specs.declared.sources.OneOf.TheVariants.{First, Other}
 use Rattle.calloop_core.specs.Polls.{PollView, PollStep}
 use Rattle.calloop_core.specs.Calls.{Call, Calling, Went, Becomes, IsOfSource}
-use Rattle.calloop_core.specs.Deeds.{Deed, Registered, Reregistered, Unregistered, Turned, Heard, Lent}
+use Rattle.calloop_core.specs.Deeds.{Deed, Registered, Reregistered, Unregistered, Turned, Slept, Noticed}
+use Rattle.calloop_core.specs.Deeds.{Heard, Lent}
 use Rattle.calloop_core.specs.Meanings.{Meaning, IsKeeping, IsAsking, FailsAsSource, IsHeld}
 use Rattle.calloop_core.specs.Meanings.{with_callback, on_both, one_of, seen_as, still}
 
@@ -37,6 +38,10 @@ keeping_with_callback m may reaches becomes k s t v (Reregistered f a g) steps f
     k s.source t.source v (Reregistered f a g) steps fits below h.0
 keeping_with_callback m may reaches becomes k s t v (Unregistered a) steps fits below h =
     k s.source t.source v (Unregistered a) steps fits below h.0
+keeping_with_callback m may reaches becomes k s t v (Slept a) steps fits below h =
+    k s.source t.source v (Slept a) steps fits below h.0
+keeping_with_callback m may reaches becomes k s t v (Noticed es) steps fits below h =
+    k s.source t.source v (Noticed es) steps fits below h.0
 keeping_with_callback m may reaches becomes k s t v (Turned r j turn) steps fits below h =
     k s.source t.source v (Turned r j h.inner) steps fits below h.turned
 
@@ -125,6 +130,7 @@ held_itself m =
     record {
       holds = λ s. refl;
       fits = λ s. (λ h. h, λ h. h);
+      needs = λ s. refl;
       does = λ s v deed steps t. (λ h. (t, refl, h), λ u. rw u.1 u.2);
     }
 
@@ -133,6 +139,7 @@ held_first m n =
     record {
       holds = λ s. refl;
       fits = λ s. (λ h. h, λ h. h);
+      needs = λ s. refl;
       does = λ s v deed steps. first_step (λ a b. m.does a v deed steps b) (λ a b. n.does a v deed steps b) s;
     }
 
@@ -141,6 +148,7 @@ held_other m n =
     record {
       holds = λ s. refl;
       fits = λ s. (λ h. h, λ h. h);
+      needs = λ s. refl;
       does = λ s v deed steps. other_step (λ a b. m.does a v deed steps b) (λ a b. n.does a v deed steps b) s;
     }
 
@@ -152,6 +160,7 @@ held_through f g m n o h k =
     record {
       holds = λ s. k.holds (f s) ∙ h.holds s;
       fits = λ s. (λ x. (h.fits s).0 ((k.fits (f s)).0 x), λ x. (k.fits (f s)).1 ((h.fits s).1 x));
+      needs = λ s. k.needs (f s) ∙ h.needs s;
       does = λ s v deed steps t. (
         λ w.
             let u = (k.does (f s) v deed steps t).0 w in

@@ -1,5 +1,6 @@
 pub mod Pollers
 pub mod Polls
+pub mod Events
 pub mod Calls
 pub mod Deeds
 pub mod Holdings

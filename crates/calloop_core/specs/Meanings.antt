@@ -1,7 +1,7 @@
 -- What a source or a dispatcher means: a relation between what it is before a call, what the call read of `Poll`,
 -- what was done, the steps that it made there, and what it is after it. calloop's `EventSource` and
 -- `EventDispatcher`, seen from outside; calloop promises nothing of them.
-use Rattle.std.specs.Prelude.{◌≡◌, ◌↔◌, ℕ, List, [], Result, Err}
+use Rattle.std.specs.Prelude.{◌≡◌, ◌↔◌, ℕ, List, [], Bool, false, Result, Err}
 use Rattle.calloop_wake.specs.declared.error.Error.{Error}
 use Rattle.calloop_wake.specs.declared.token.Token.{Token}
 use Rattle.calloop_core.specs.declared.sys.Readiness.{Readiness}
@@ -11,7 +11,8 @@ use Rattle.calloop_core.specs.declared.sources.OneOf.TheVariants.{First, Other}
 use Rattle.calloop_core.specs.Pollers.{Outside}
 use Rattle.calloop_core.specs.Polls.{PollView, PollStep, AllStepped}
 use Rattle.calloop_core.specs.Calls.{Calling, Went, Becomes, IsOfSource}
-use Rattle.calloop_core.specs.Deeds.{Deed, Registered, Reregistered, Unregistered, Turned, Heard, Lent}
+use Rattle.calloop_core.specs.Deeds.{Deed, Registered, Reregistered, Unregistered, Turned, Slept, Noticed}
+use Rattle.calloop_core.specs.Deeds.{Heard, Lent}
 use Rattle.calloop_core.specs.Holdings.{Hold, Keeps, IsBelow, holds_none}
 
 -- D is the source or dispatcher, P the poller, T what a turn takes and gives
@@ -20,6 +21,8 @@ pub record Meaning (D P T : Type 0) : Type 1 where
   pub holds : D → ℕ → Hold
   -- what has to be true of it besides, as that two timers within it hold different counters
   pub fits : D → Type 0
+  -- whether it is told of waits: before each, and after each
+  pub needs : D → Bool
   pub does : D → PollView P → Deed T → List (PollStep P) → D → Type 0
 
 -- it did this, by steps that can be made
@@ -69,6 +72,10 @@ dispatched m may reaches becomes s v (Reregistered f answer g) steps t =
     m.does s.source v (Reregistered f answer g) steps t.source × (t.callback ≡ s.callback)
 dispatched m may reaches becomes s v (Unregistered answer) steps t =
     m.does s.source v (Unregistered answer) steps t.source × (t.callback ≡ s.callback)
+dispatched m may reaches becomes s v (Slept answer) steps t =
+    m.does s.source v (Slept answer) steps t.source × (t.callback ≡ s.callback)
+dispatched m may reaches becomes s v (Noticed events) steps t =
+    m.does s.source v (Noticed events) steps t.source × (t.callback ≡ s.callback)
 dispatched m may reaches becomes s v (Turned readiness token turn) steps t =
     IsTurned (λ inner. m.does s.source v (Turned readiness token inner) steps t.source) may reaches becomes
     s.callback turn t.callback
@@ -80,6 +87,7 @@ with_callback m may reaches becomes =
     record {
       holds = λ s. m.holds s.source;
       fits = λ s. m.fits s.source;
+      needs = λ s. m.needs s.source;
       does = dispatched m may reaches becomes;
     }
 
@@ -101,6 +109,7 @@ one_of m n =
     record {
       holds = of_either m.holds n.holds;
       fits = of_either m.fits n.fits;
+      needs = of_either m.needs n.needs;
       does = λ s v deed steps t. on_both (λ a b. m.does a v deed steps b) (λ a b. n.does a v deed steps b) s t;
     }
 
@@ -110,15 +119,17 @@ seen_as see m =
     record {
       holds = λ s. m.holds (see s);
       fits = λ s. m.fits (see s);
+      needs = λ s. m.needs (see s);
       does = λ s v deed steps t. m.does (see s) v deed steps (see t);
     }
 
--- what holds no counter and does nothing to `Poll`
+-- what holds no counter, does nothing to `Poll`, and isn't told of waits
 abbrev pub still : {D P T : Type 0} → (D → PollView P → Deed T → D → Type 0) → Meaning D P T
 still does =
     record {
       holds = λ s. holds_none;
       fits = λ s. Unit {0};
+      needs = λ s. false;
       does = λ s v deed steps t. (steps ≡ []) × does s v deed t;
     }
 
@@ -126,5 +137,6 @@ still does =
 pub record IsHeld {A D P T : Type 0} (held : A → D) (m : Meaning A P T) (n : Meaning D P T) : Type 0 where
   pub holds : (s : A) → n.holds (held s) ≡ m.holds s
   pub fits : (s : A) → n.fits (held s) ↔ m.fits s
+  pub needs : (s : A) → n.needs (held s) ≡ m.needs s
   pub does : (s : A) (v : PollView P) (deed : Deed T) (steps : List (PollStep P)) (t : D)
       → n.does (held s) v deed steps t ↔ ((b : A) × (t ≡ held b) × m.does s v deed steps b)

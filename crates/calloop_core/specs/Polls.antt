@@ -133,6 +133,14 @@ timer_event entry = record { readiness = ready_to_read; token = entry.token; pos
 abbrev pub timer_events : List Entry → List Pending
 timer_events entries = map timer_event entries
 
+-- this event waits for its turn after those that wait
+abbrev pub appended : {P : Type 0} → Pending → PollView P → PollView P
+appended e v = record v { batch = v.batch ++ e ∷ [] }
+
+-- an event that a source asks for before a wait
+abbrev pub own_event : Readiness × Token → Pending
+own_event given = record { readiness = given.0; token = given.1; posted = false }
+
 -- the posted keys, as far as there is room, and the deadlines that are due are taken, and the batch is what was left over, then the posted keys,
 -- then what the poller gave, then the timers
 abbrev pub gathered : {P : Type 0} → (posted : List ℕ) → (given : List (ℕ × Readiness)) → (now : ℕ) → PollView P → PollView P
@@ -182,9 +190,9 @@ IsOfKind kind e = (cause : Cause) × (e ≡ IoError cause) × (error_kind cause 
 abbrev pub CannotOpen : Error → Type 0
 CannotOpen e = IsOfKind AlreadyExists e ⊎ (e ≡ OutOfMemory)
 
--- there is room for what one poll can gather
-pub record IsReady {P C R : Type 0} (p : Poll P C R) : Type 0 where
-  pub batch : deque_len p.batch + (p.places + (1024 + length p.wheel.entries)) ≤ deque_capacity p.batch
+-- there is room for what one poll can gather, and for so many events more
+pub record IsReady {P C R : Type 0} (more : ℕ) (p : Poll P C R) : Type 0 where
+  pub batch : deque_len p.batch + (more + (p.places + (1024 + length p.wheel.entries))) ≤ deque_capacity p.batch
   pub passes : deque_len p.passes + p.places ≤ deque_capacity p.passes
   pub events : p.events.items ≡ []
   pub room : 1024 ≤ vec_capacity p.events

@@ -1,4 +1,5 @@
 //! Sources of events, and what a user hands to the loop beside one: a callback for its events.
+use crate::sys::events::EventIterator;
 use crate::sys::poll::Poll;
 use crate::sys::{Poller, Readiness};
 use calloop_wake::error::{Error, Result as LoopResult};
@@ -70,10 +71,11 @@ pub trait IntoError: Drop {
 /// A source of events. Its meaning relates what it is before a call, what the call read of `Poll`, what was done, the
 /// steps that it made there, and what it is after it.
 pub trait EventSource<P: Poller, C, R: Wait + Drop> {
-    ghost use Rattle.std.specs.Prelude.{List};
-    ghost use Rattle.calloop_core.specs.Polls.{poll_view};
+    ghost use Rattle.std.specs.Prelude.{◌≡◌, List, []};
+    ghost use Rattle.calloop_core.specs.Polls.{PollView, poll_view};
+    ghost use Rattle.calloop_core.specs.Events.{events_left};
     ghost use Rattle.calloop_core.specs.Calls.{Call, Went};
-    ghost use Rattle.calloop_core.specs.Deeds.{Registered, Reregistered, Unregistered, Turned, Heard, heard};
+    ghost use Rattle.calloop_core.specs.Deeds.{Registered, Reregistered, Unregistered, Turned, Slept, Noticed, Heard, heard};
     ghost use Rattle.calloop_core.specs.Meanings.{Meaning, Does, IsKeeping};
 
     /// What its callback is called with.
@@ -121,6 +123,20 @@ pub trait EventSource<P: Poller, C, R: Wait + Drop> {
     fn unregister(&mut self, poll: &mut Poll<P, C, R>) -> LoopResult<()>
         ensures { Does P.outside means self.old (poll_view poll.old) (Unregistered result) self.new (poll_view poll.new) };
 
+    /// Whether it is told of waits: by `before_sleep` before each, and by `before_handle_events` after each. calloop has a
+    /// constant of this name.
+    fn needs_extra_lifecycle_events() -> bool
+        ensures { (source : Self) → means.needs source ≡ result };
+
+    /// Called before each wait. An event that it answers joins the batch, and then the wait asks for no time. Its error ends the
+    /// dispatch, and what joined the batch stays in it.
+    fn before_sleep(&mut self) -> LoopResult<Option<(Readiness, Token)>>
+        ensures { (v : PollView P) → means.does self.old v (Slept result) [] self.new };
+
+    /// Called after each wait, before any turn, with the events that it brought for this source's registration.
+    fn before_handle_events(&mut self, events: EventIterator<'_>)
+        ensures { (v : PollView P) → means.does self.old v (Noticed (events_left events.entry)) [] self.new };
+
     /// It leaves the counters of others alone, and calls at most once for each arming of its own.
     ghost keeps: { IsKeeping means };
 }
@@ -135,8 +151,10 @@ pub struct Dispatcher<S, F> {
 /// What a loop calls: a source with its callback, or a choice of such. `X` is the data that a dispatch lends, and `Q` takes
 /// the requests of callbacks.
 pub trait Dispatch<P: Poller, C, R: Wait + Drop, X, Q: Asking> {
-    ghost use Rattle.calloop_core.specs.Polls.{poll_view};
-    ghost use Rattle.calloop_core.specs.Deeds.{Registered, Reregistered, Unregistered, Turned, Lent, lent};
+    ghost use Rattle.std.specs.Prelude.{◌≡◌, []};
+    ghost use Rattle.calloop_core.specs.Polls.{PollView, poll_view};
+    ghost use Rattle.calloop_core.specs.Events.{events_left};
+    ghost use Rattle.calloop_core.specs.Deeds.{Registered, Reregistered, Unregistered, Turned, Slept, Noticed, Lent, lent};
     ghost use Rattle.calloop_core.specs.Meanings.{Meaning, Does, IsKeeping, IsAsking, FailsAsSource};
 
     ghost means: { Meaning Self P (Lent X Q) };
@@ -167,6 +185,18 @@ pub trait Dispatch<P: Poller, C, R: Wait + Drop, X, Q: Asking> {
         ensures { Does P.outside means self.old (poll_view poll.old)
             (Turned readiness token (lent «data».old requests.old result «data».new requests.new))
             self.new (poll_view poll.new) };
+
+    /// Whether the source is told of waits.
+    fn needs_extra_lifecycle_events(&self) -> bool
+        ensures { result ≡ means.needs self.now };
+
+    /// The source is told of the wait that comes.
+    fn before_sleep(&mut self) -> LoopResult<Option<(Readiness, Token)>>
+        ensures { (v : PollView P) → means.does self.old v (Slept result) [] self.new };
+
+    /// The source is told of the events that a wait brought for its registration.
+    fn before_handle_events(&mut self, events: EventIterator<'_>)
+        ensures { (v : PollView P) → means.does self.old v (Noticed (events_left events.entry)) [] self.new };
 
     /// It leaves the counters of others alone, and calls at most once for each arming of its own.
     ghost keeps: { IsKeeping means };
@@ -219,6 +249,18 @@ where
             Ok(action) => Ok(action),
             Err(cause) => Err(cause.into_error()),
         }
+    }
+
+    fn needs_extra_lifecycle_events(&self) -> bool {
+        <S as EventSource<P, C, R>>::needs_extra_lifecycle_events()
+    }
+
+    fn before_sleep(&mut self) -> LoopResult<Option<(Readiness, Token)>> {
+        self.source.before_sleep()
+    }
+
+    fn before_handle_events(&mut self, events: EventIterator<'_>) {
+        self.source.before_handle_events(events);
     }
 
     ghost keeps = { keeping_with_callback S.means F.may Q.reaches S.Error.becomes S.keeps };
@@ -282,6 +324,27 @@ where
         match self {
             OneOf::First(held) => held.process_events(readiness, token, poll, data, requests),
             OneOf::Other(held) => held.process_events(readiness, token, poll, data, requests),
+        }
+    }
+
+    fn needs_extra_lifecycle_events(&self) -> bool {
+        match self {
+            OneOf::First(held) => held.needs_extra_lifecycle_events(),
+            OneOf::Other(held) => held.needs_extra_lifecycle_events(),
+        }
+    }
+
+    fn before_sleep(&mut self) -> LoopResult<Option<(Readiness, Token)>> {
+        match self {
+            OneOf::First(held) => held.before_sleep(),
+            OneOf::Other(held) => held.before_sleep(),
+        }
+    }
+
+    fn before_handle_events(&mut self, events: EventIterator<'_>) {
+        match self {
+            OneOf::First(held) => held.before_handle_events(events),
+            OneOf::Other(held) => held.before_handle_events(events),
         }
     }
 

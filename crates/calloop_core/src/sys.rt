@@ -9,6 +9,7 @@ use notifier::Notifier;
 use std::io;
 use std::time::Duration;
 
+pub mod events;
 pub mod faults;
 pub mod hub;
 pub mod notifier;

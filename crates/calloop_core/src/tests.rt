@@ -237,7 +237,7 @@ fn poll_once<Q: Wait, P: Poller, C, R: Wait + Drop>(
     poll: &mut Poll<P, C, R>,
     timeout: Option<Duration>,
 ) -> Result<(), Error> {
-    poll.reserve()?;
+    poll.reserve(0)?;
     poll.poll(rt, timeout)
 }
 

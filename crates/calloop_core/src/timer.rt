@@ -9,6 +9,7 @@ ghost use Rattle.calloop_core.specs.declared.timer.TimeoutAction.{TimeoutAction}
 ghost use Rattle.calloop_core.specs.Timers.{unarmed, releases, Armed, ArmedAgain, Answered, timer_holds, IsTimerReg, IsTimerUnreg, IsTimerTurn};
 
 use crate::sources::{Asking, Callback, EventSource, IntoError, PostAction};
+use crate::sys::events::EventIterator;
 use crate::sys::poll::Poll;
 use crate::sys::{Clock, Poller, Readiness};
 use calloop_wake::error::{Error, Result as LoopResult};
@@ -284,6 +285,17 @@ impl<P: Poller, C, R: Wait + Drop> EventSource<P, C, R> for Timer {
         self.release(poll);
         Ok(())
     }
+
+    /// It isn't told of waits.
+    fn needs_extra_lifecycle_events() -> bool {
+        false
+    }
+
+    fn before_sleep(&mut self) -> LoopResult<Option<(Readiness, Token)>> {
+        Ok(None)
+    }
+
+    fn before_handle_events(&mut self, _events: EventIterator<'_>) {}
 
     ghost keeps = { timer_keeps };
 }

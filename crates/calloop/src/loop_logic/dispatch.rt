@@ -8,13 +8,14 @@ ghost use Rattle.calloop.specs.declared.loop_logic.LoopAnswer.TheVariants.{Dispa
 ghost use Rattle.calloop.specs.Machine.{World, IsNew, seen, view_of};
 ghost use Rattle.calloop.specs.Rules.{Case, Did, Leads, Goes, Cutting, Ending, Returning, Leaving, Outcome, after_turn, after_hand_out};
 
+use super::lifecycle::Lifecycle;
 use super::{EventDispatcher, EventLoop, LoopHandle, Requests};
 use calloop_core::sources::PostAction;
 use calloop_core::sys::poll::Poll;
 use calloop_core::sys::{Clock, Poller};
 use calloop_wake::error::Result;
 use calloop_wake::list::SourceList;
-use calloop_wake::token::{RegistrationToken, TokenFactory};
+use calloop_wake::token::RegistrationToken;
 use std::alloc::Global;
 use std::sync::Wait;
 use std::time::Duration;
@@ -30,6 +31,7 @@ impl<D: EventDispatcher<P, C, R>, P: Poller, C: Clock, R: Wait + Drop> EventLoop
         Ok(EventLoop {
             sources: SourceList::new(alloc),
             poll: Poll::new(rt.clone()?, alloc, poller, clock)?,
+            lifecycle: Lifecycle::new(alloc),
         })
     }
 
@@ -57,8 +59,11 @@ impl<D: EventDispatcher<P, C, R>, P: Poller, C: Clock, R: Wait + Drop> EventLoop
         ensures case { Did (Case D.means P.outside (Dispatch timeout «data».old) (Dispatched result «data».new)) (view_of self.old) (view_of self.new) }
         ensures machine { Leads (Case D.means P.outside (Dispatch timeout «data».old) (Dispatched result «data».new)) (view_of self.old) (view_of self.new) }
     {
-        self.poll.reserve()?;
+        self.poll.reserve(self.lifecycle.len())?;
+        self.tell_of_wait()?;
+        let from = self.poll.waiting();
         self.poll.poll(rt, timeout)?;
+        self.tell_of_events(from);
         self.hand_out_all(data)
     }
 
@@ -113,7 +118,7 @@ impl<D: EventDispatcher<P, C, R>, P: Poller, C: Clock, R: Wait + Drop> EventLoop
         let Some(mut left) = self.sources.end_turn(token, source) else {
             return;
         };
-        let _ = left.unregister(&mut self.poll);
+        let _ = self.unregister(token, &mut left);
     }
 
     // The post action of a turn; after an error there is none. `Remove` empties the source's slot.
@@ -129,11 +134,8 @@ impl<D: EventDispatcher<P, C, R>, P: Poller, C: Clock, R: Wait + Drop> EventLoop
         self.poll.end_event();
         match answer {
             Ok(PostAction::Continue) => Ok(()),
-            Ok(PostAction::Reregister) => {
-                let mut factory = TokenFactory::new(token);
-                source.reregister(&mut self.poll, &mut factory)
-            }
-            Ok(PostAction::Disable) => source.unregister(&mut self.poll),
+            Ok(PostAction::Reregister) => self.reregister(token, source),
+            Ok(PostAction::Disable) => self.unregister(token, source),
             Ok(PostAction::Remove) => {
                 self.sources.vacate(token);
                 Ok(())

@@ -31,7 +31,8 @@ impl<D: EventDispatcher<P, C, R>, P: Poller, C: Clock, R: Wait + Drop> EventLoop
         ensures { Did (Case D.means P.outside (Insert (D.held (record { source = source; callback = callback }))) (Inserted (held_answer D.held callback result))) (view_of self.old) (view_of self.new) }
     {
         let mut source = source;
-        let token = match self.sources.vacant() {
+        let needed = <S as EventSource<P, C, R>>::needs_extra_lifecycle_events();
+        let token = match self.claim(needed) {
             Ok(token) => token,
             Err(error) => {
                 return Err(InsertError {
@@ -44,6 +45,7 @@ impl<D: EventDispatcher<P, C, R>, P: Poller, C: Clock, R: Wait + Drop> EventLoop
         match source.register(&mut self.poll, &mut factory) {
             Ok(()) => {
                 let held = D::hold(Dispatcher { source, callback });
+                self.lifecycle.enter(needed, token);
                 let _none = self.sources.end_turn(token, held);
                 Ok(token)
             }
@@ -65,13 +67,15 @@ impl<D: EventDispatcher<P, C, R>, P: Poller, C: Clock, R: Wait + Drop> EventLoop
         ensures { Did (Case D.means P.outside (Insert dispatcher) (Inserted result)) (view_of self.old) (view_of self.new) }
     {
         let mut inserted = dispatcher;
-        let token = match self.sources.vacant() {
+        let needed = inserted.needs_extra_lifecycle_events();
+        let token = match self.claim(needed) {
             Ok(token) => token,
             Err(error) => return Err(InsertError { inserted, error }),
         };
         let mut factory = TokenFactory::new(token);
         match inserted.register(&mut self.poll, &mut factory) {
             Ok(()) => {
+                self.lifecycle.enter(needed, token);
                 let _none = self.sources.end_turn(token, inserted);
                 Ok(token)
             }
@@ -89,8 +93,7 @@ impl<D: EventDispatcher<P, C, R>, P: Poller, C: Clock, R: Wait + Drop> EventLoop
         let Some(mut source) = self.sources.begin_turn(token) else {
             return Err(Error::InvalidToken);
         };
-        let mut factory = TokenFactory::new(token);
-        let answer = source.register(&mut self.poll, &mut factory);
+        let answer = self.register(token, &mut source);
         let _none = self.sources.end_turn(token, source);
         answer
     }
@@ -102,8 +105,7 @@ impl<D: EventDispatcher<P, C, R>, P: Poller, C: Clock, R: Wait + Drop> EventLoop
         let Some(mut source) = self.sources.begin_turn(token) else {
             return Err(Error::InvalidToken);
         };
-        let mut factory = TokenFactory::new(token);
-        let answer = source.reregister(&mut self.poll, &mut factory);
+        let answer = self.reregister(token, &mut source);
         let _none = self.sources.end_turn(token, source);
         answer
     }
@@ -115,7 +117,7 @@ impl<D: EventDispatcher<P, C, R>, P: Poller, C: Clock, R: Wait + Drop> EventLoop
         let Some(mut source) = self.sources.begin_turn(token) else {
             return Err(Error::InvalidToken);
         };
-        let answer = source.unregister(&mut self.poll);
+        let answer = self.unregister(token, &mut source);
         let _none = self.sources.end_turn(token, source);
         answer
     }
@@ -126,7 +128,7 @@ impl<D: EventDispatcher<P, C, R>, P: Poller, C: Clock, R: Wait + Drop> EventLoop
     {
         let mut source = self.sources.begin_turn(token)?;
         self.sources.vacate(token);
-        let _ = source.unregister(&mut self.poll);
+        let _ = self.unregister(token, &mut source);
         Some(source)
     }
 }

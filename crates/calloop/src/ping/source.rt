@@ -9,6 +9,7 @@ ghost use Rattle.calloop.specs.Pings.{calls_of, action_of};
 
 use super::{PingSource, cell};
 use calloop_core::sources::{Asking, Callback, EventSource, IntoError, PostAction};
+use calloop_core::sys::events::EventIterator;
 use calloop_core::sys::poll::Poll;
 use calloop_core::sys::{Poller, Readiness};
 use calloop_wake::error::{Error, Result as LoopResult};
@@ -163,6 +164,17 @@ impl<P: Poller, C, R: Wait + Drop> EventSource<P, C, R> for PingSource<R> {
         cell::detach(&self.rt, &self.shared, &mut self.twin);
         Ok(())
     }
+
+    /// It isn't told of waits.
+    fn needs_extra_lifecycle_events() -> bool {
+        false
+    }
+
+    fn before_sleep(&mut self) -> LoopResult<Option<(Readiness, Token)>> {
+        Ok(None)
+    }
+
+    fn before_handle_events(&mut self, _events: EventIterator<'_>) {}
 
     ghost keeps = { ping_keeps };
 }

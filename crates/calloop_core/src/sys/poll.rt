@@ -5,15 +5,17 @@ ghost use Rattle.std.specs.Borrow.{Lends, sem};
 ghost use Rattle.calloop_wake.specs.declared.error.Error.TheVariants.{OutOfMemory};
 ghost use Rattle.calloop_wake.specs.Boards.{IsRising};
 ghost use Rattle.calloop_wake.specs.Deadlines.{due, not_due, with_entries};
-ghost use Rattle.calloop_core.specs.Polls.{PollView, PollStep, TakePass, PutBack, poll_view, poll_after, with_pass, posted_event, posted_events, polled_event, polled_events, timer_event, timer_events, key_of_pass, IsReady, cut, head_of, gathered, counted, own_key};
+ghost use Rattle.calloop_core.specs.Polls.{PollView, PollStep, TakePass, PutBack, poll_view, poll_after, with_pass, posted_event, posted_events, polled_event, polled_events, timer_event, timer_events, key_of_pass, IsReady, cut, head_of, gathered, counted, own_key, appended, own_event};
+ghost use Rattle.calloop_core.specs.Events.{events_left, events_of};
 ghost use Rattle.std.specs.Arc.{arc_value};
 ghost use Rattle.calloop_core.specs.Lending.{with_poller};
 ghost use Rattle.calloop_core.specs.contracts.sys.poll.Poll.{the_row};
 
+use super::events::EventIterator;
 use super::hub::{Hub, SharedHub, WatchedHub};
 use super::{EVENTS_PER_WAIT, Poller, Readiness};
 use calloop_wake::error::{Error, Result};
-use calloop_wake::token::Token;
+use calloop_wake::token::{RegistrationToken, Token};
 use calloop_wake::wake::TakenPass;
 use calloop_wake::wheel::{Entry, Instant, Wheel};
 use std::alloc::Global;
@@ -222,25 +224,26 @@ impl<P: Poller, C, R: Wait + Drop> Poll<P, C, R> {
         self.replace_pass(Some(pass));
     }
 
-    // How many events one `poll` can gather at most, with this many posted keys.
-    fn room(&self, places: usize) -> Option<usize>
-        ensures { IfSome result (λ n. n ≡ places + (1024 + length self.now.wheel.entries)) }
+    // How many events one `poll` can gather at most, with this many posted keys, and so many more.
+    fn room(&self, places: usize, more: usize) -> Option<usize>
+        ensures { IfSome result (λ n. n ≡ more + (places + (1024 + length self.now.wheel.entries))) }
     {
         EVENTS_PER_WAIT
             .checked_add(self.wheel.len())?
-            .checked_add(places)
+            .checked_add(places)?
+            .checked_add(more)
     }
 
-    /// Counts the places on the board, and reserves what one `poll` can gather. Want of memory is `OutOfMemory`, and
-    /// changes nothing.
-    pub fn reserve(&mut self) -> Result<()>
+    /// Counts the places on the board, and reserves what one `poll` can gather, and `more` events besides. Want of memory is
+    /// `OutOfMemory`, and changes nothing.
+    pub fn reserve(&mut self, more: usize) -> Result<()>
         ensures ok { OnOk result ((places : ℕ) × (poll_view self.new ≡ counted places (poll_view self.old))) }
-        ensures ready { OnOk result (IsReady self.new) }
+        ensures ready { OnOk result (IsReady more self.new) }
         ensures err { IfErr result (λ e. (e ≡ OutOfMemory) × (poll_view self.new ≡ poll_view self.old)) }
     {
         let places = self.hub.places(&self.rt);
         let number = places.number();
-        let Some(room) = self.room(number) else {
+        let Some(room) = self.room(number, more) else {
             return Err(Error::OutOfMemory);
         };
         self.events.clear();
@@ -250,6 +253,33 @@ impl<P: Poller, C, R: Wait + Drop> Poll<P, C, R> {
         self.hub.note_count(places);
         self.places = number;
         Ok(())
+    }
+
+    /// An event that a source asks for before a wait joins the batch, in the room that was reserved besides.
+    pub fn append(&mut self, readiness: Readiness, token: Token)
+        requires { IsReady 1 self.old }
+        ensures view { poll_view self.new ≡ appended (own_event (readiness, token)) (poll_view self.old) }
+        ensures ready { (more : ℕ) → IsReady (more + 1) self.old → IsReady more self.new }
+    {
+        self.batch.push_back_reserved(Pending {
+            readiness,
+            token,
+            posted: false,
+        });
+    }
+
+    /// How many events wait for their turn.
+    pub fn waiting(&self) -> usize
+        ensures { result ≡ length (poll_view self.now).batch }
+    {
+        self.batch.len()
+    }
+
+    /// Those of one registration among the events that wait for their turn, without the first `from` of them.
+    pub fn events(&self, from: usize, registration: RegistrationToken) -> EventIterator<'_>
+        ensures { events_left result ≡ events_of registration (drop from (poll_view self.now).batch) }
+    {
+        EventIterator::new(&self.batch, from, registration)
     }
 
     /// The first event of the batch leaves it for its turn, a posted one with its pass.

@@ -118,7 +118,7 @@ impl<P: Poller, C, R: Wait + Drop> Poll<P, C, R> {
     /// An interruption asks anew, for what is left of the timeout since the start. A fault of the wait is `IoError`; then
     /// the batch, the posted keys and the deadlines are as they were.
     pub fn poll<Q: Wait>(&mut self, rt: &Q, timeout: Option<Duration>) -> Result<()>
-        requires { IsReady self.old }
+        requires { IsReady 0 self.old }
         ensures { Polled P.outside (nanos_of timeout) result (poll_view self.old) (poll_view self.new) }
     {
         let now = self.wait(rt, timeout)?;

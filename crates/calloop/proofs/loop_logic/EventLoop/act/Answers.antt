@@ -5,10 +5,9 @@ use Rattle.calloop_core.specs.declared.sources.PostAction.TheVariants.{Continue,
 use Rattle.calloop_wake.specs.declared.error.Error.{Error}
 use Rattle.std.proofs.Common.{Result}
 use Rattle.calloop_core.specs.Deeds.{Reregistered, Unregistered}
-use Rattle.calloop_core.specs.Meanings.{Does}
 use Rattle.calloop_core.specs.Polls.{PollView, poll_view, with_pass}
 use Rattle.calloop.specs.Machine.{View, view_of}
-use Rattle.calloop.specs.Rules.{Ending, Returning, factory_of}
+use Rattle.calloop.specs.Rules.{Ending, Returning, RegisteredBy, entered, left}
 use Rattle.calloop.proofs.Going.{goes_to, acted, acted_with, acted_leaving, batch-stepped}
 use Rattle.calloop.proofs.loop_logic.EventLoop.act.Goals as goal
 
@@ -34,12 +33,12 @@ returns-in-Ok-Reregister-clause-machine g c x =
     let t = c.args.token in
     let action : c.in-Ok-Reregister.field-0 ≡ Reregister = rw c.in-Ok-Reregister.is at c.in-Ok-Reregister.field-0-is in
     let answer : c.args.answer ≡ Ok Reregister = c.in-Ok-Reregister.is ∙ ap (λ (a : PostAction). Ok a) action in
-    let does = rw (c.new-factory.ensures, c.end_event.ensures) at c.reregister.ensures in
-    rw answer (acted_with M O t v d c.reregister.new.self (Ok Reregister) c.reregister.result does.0 (poll_view c.reregister.new.poll) x (c.reregister.new.factory, does.0, does.1, refl) does.2)
+    let r = rw c.end_event.ensures at c.reregister.ensures in
+    rw answer (acted_with M O (RegisteredBy M Reregistered t (with_pass None v.poll)) (entered M t) t v (view_of c.reregister.new.self) d c.reregister.new.source (Ok Reregister) c.reregister.result x (λ steps h. (steps, h, refl)) r)
 
 pub returns-in-Ok-Reregister-clause-batch : goal.returns-in-Ok-Reregister-clause-batch
 returns-in-Ok-Reregister-clause-batch g c =
-    ap (λ (p : PollView g.row.P.Denot). p.batch) c.reregister.ensures.2.1 ∙ batch-stepped (poll_view c.end_event.new.self) c.reregister.ensures.0 ∙ ap (λ (p : PollView g.row.P.Denot). p.batch) c.end_event.ensures
+    ap (λ (u : View g.row.D.Denot g.row.P.Denot). u.poll.batch) c.reregister.ensures.3 ∙ batch-stepped (poll_view c.end_event.new.self) c.reregister.ensures.0 ∙ ap (λ (p : PollView g.row.P.Denot). p.batch) c.end_event.ensures
 
 pub returns-in-Ok-Disable-clause-machine : goal.returns-in-Ok-Disable-clause-machine
 returns-in-Ok-Disable-clause-machine g c x =
@@ -50,12 +49,13 @@ returns-in-Ok-Disable-clause-machine g c x =
     let t = c.args.token in
     let action : c.in-Ok-Disable.field-0 ≡ Disable = rw c.in-Ok-Disable.is at c.in-Ok-Disable.field-0-is in
     let answer : c.args.answer ≡ Ok Disable = c.in-Ok-Disable.is ∙ ap (λ (a : PostAction). Ok a) action in
-    let does = rw c.end_event.ensures at c.unregister.ensures in
-    rw answer (acted_with M O t v d c.unregister.new.self (Ok Disable) c.unregister.result does.0 (poll_view c.unregister.new.poll) x (does.0, does.1, refl) does.2)
+    let r = rw c.end_event.ensures at c.unregister.ensures in
+    rw answer
+    (acted_with M O (λ f a steps e. M.does f (with_pass None v.poll) (Unregistered a) steps e) (left t) t v (view_of c.unregister.new.self) d c.unregister.new.source (Ok Disable) c.unregister.result x (λ steps h. (steps, h, refl)) r)
 
 pub returns-in-Ok-Disable-clause-batch : goal.returns-in-Ok-Disable-clause-batch
 returns-in-Ok-Disable-clause-batch g c =
-    ap (λ (p : PollView g.row.P.Denot). p.batch) c.unregister.ensures.2.1 ∙ batch-stepped (poll_view c.end_event.new.self) c.unregister.ensures.0 ∙ ap (λ (p : PollView g.row.P.Denot). p.batch) c.end_event.ensures
+    ap (λ (u : View g.row.D.Denot g.row.P.Denot). u.poll.batch) c.unregister.ensures.3 ∙ batch-stepped (poll_view c.end_event.new.self) c.unregister.ensures.0 ∙ ap (λ (p : PollView g.row.P.Denot). p.batch) c.end_event.ensures
 
 pub returns-in-Ok-Remove-clause-machine : goal.returns-in-Ok-Remove-clause-machine
 returns-in-Ok-Remove-clause-machine g c x =

@@ -2,7 +2,6 @@ use Rattle.std.proofs.Common.{◌≡◌, sym}
 use Rattle.calloop_wake.specs.declared.list.Content.TheVariants.{Source}
 use Rattle.calloop_wake.specs.Slots.{named}
 use Rattle.calloop_wake.proofs.Named.{source_is}
-use Rattle.calloop_core.specs.Polls.{poll_view}
 use Rattle.calloop.specs.Machine.{view_of}
 use Rattle.calloop.proofs.Inserting.{not_enabled, enabled}
 use Rattle.calloop.proofs.loop_logic.EventLoop.enable.Goals as goal
@@ -13,5 +12,5 @@ returns-in_default g c = rw c.in_default.ensures.list (not_enabled g.D.Dispatch.
 pub returns : goal.returns
 returns g c =
     let is : named c.args.self.now.sources c.args.token ≡ Source c.in-Some.source = source_is (named c.args.self.now.sources c.args.token) c.in-Some.source (sym c.in-Some.ensures.value) in
-    rw (c.end_turn-none.ensures.list, c.in-Some.ensures.list)
-    (enabled g.D.Dispatch.means g.P.Poller.outside (view_of c.args.self.now) c.args.token c.in-Some.source c.register-answer.new.self c.register-answer.new.factory c.register-answer.result (poll_view c.register-answer.new.poll) is (rw c.new-factory.ensures at c.register-answer.ensures))
+    rw c.end_turn-none.ensures.list
+    (enabled g.D.Dispatch.means g.P.Poller.outside (view_of c.args.self.now) c.args.token c.in-Some.source c.register-answer.new.source c.register-answer.result (view_of c.register-answer.new.self) is (rw c.in-Some.ensures.list at c.register-answer.ensures))

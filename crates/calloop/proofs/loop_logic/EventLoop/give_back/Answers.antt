@@ -1,8 +1,8 @@
 use Rattle.std.proofs.Common.{◌≡◌, ap, ◌∙◌, sym, true, false, Bool, Some, None, if◌then◌else◌}
 use Rattle.calloop_wake.specs.declared.list.Content.TheVariants.{Source}
 use Rattle.calloop_wake.specs.Slots.{after_turn as ended, changed, with_content, named, is_in_turn}
-use Rattle.calloop_core.specs.Polls.{PollView, poll_view}
-use Rattle.calloop.specs.Machine.{view_of}
+use Rattle.calloop_core.specs.Polls.{poll_view}
+use Rattle.calloop.specs.Machine.{View, view_of}
 use Rattle.calloop.proofs.Going.{returned, gone, batch-stepped, was_in_turn, not_in_turn}
 use Rattle.calloop.proofs.loop_logic.EventLoop.give_back.Goals as goal
 
@@ -16,8 +16,9 @@ pub returns-clause-machine : goal.returns-clause-machine
 returns-clause-machine g c told x =
     let ss = c.args.self.now.sources in
     let there = not_in_turn (is_in_turn (named ss c.args.token)) c.args.source c.in-Some.left c.in-Some.ensures.value in
-    rw (c.in-Some.ensures.list, there.0)
-    (gone g.D.Dispatch.means g.P.Poller.outside c.args.token (view_of c.args.self.now) c.args.source c.unregister.new.self told c.unregister.result (poll_view c.unregister.new.poll) x there.0 (rw there.1 at c.unregister.ensures))
+    let ss' : c.end_turn.new.self ≡ ss = rw there.0 at c.in-Some.ensures.list in
+    gone g.D.Dispatch.means g.P.Poller.outside c.args.token (view_of c.args.self.now) (view_of c.unregister.new.self) c.args.source c.unregister.new.source told c.unregister.result x there.0
+    (rw (there.1, ss') at c.unregister.ensures)
 
 pub returns-clause-batch : goal.returns-clause-batch
-returns-clause-batch g c = ap (λ (p : PollView g.row.P.Denot). p.batch) c.unregister.ensures.2.1 ∙ batch-stepped (poll_view c.args.self.now.poll) c.unregister.ensures.0
+returns-clause-batch g c = ap (λ (u : View g.row.D.Denot g.row.P.Denot). u.poll.batch) c.unregister.ensures.3 ∙ batch-stepped (poll_view c.args.self.now.poll) c.unregister.ensures.0

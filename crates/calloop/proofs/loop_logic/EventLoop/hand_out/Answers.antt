@@ -24,7 +24,7 @@ returns-in_default-begin_turn-clause-machine g c =
     let polls : poll_view c.end_event.new.self ≡ with_pass None (cut v.poll) = c.end_event.ensures ∙ ap (λ (p : PollView g.row.P.Denot). with_pass None p) c.next_event.ensures.view in
     let none : None ≡ source_of (named v.slots (registration_of c.in-Some.event.token)) = c.in_default-begin_turn.ensures.value ∙ ap (λ (t : RegistrationToken). source_of (named v.slots t)) c.registration-token.ensures in
     goes_to M g.P.Poller.outside (Cutting c.args.«data».now) (Cutting c.args.«data».now) v (record v { poll = with_pass None (cut v.poll) }) _
-    (ap (λ (s : List (Slot g.row.D.Denot)). record { slots = s; poll = poll_view c.end_event.new.self }) c.in_default-begin_turn.ensures.list ∙ ap (λ (p : PollView g.row.P.Denot). record v { poll = p }) polls)
+    (ap (λ (s : List (Slot g.row.D.Denot)). record v { slots = s; poll = poll_view c.end_event.new.self }) c.in_default-begin_turn.ensures.list ∙ ap (λ (p : PollView g.row.P.Denot). record v { poll = p }) polls)
     (cut_none M g.P.Poller.outside c.in-Some.event v c.args.«data».now c.in-Some.ensures.event none)
 
 pub returns-clause-machine : goal.returns-clause-machine
@@ -40,10 +40,10 @@ returns-clause-machine g c =
     let own : c.registration-token.result.slot ≡ e.token.slot = ap (λ (t : RegistrationToken). t.slot) c.registration-token.ensures in
     let found : Some c.in-Some-begin_turn.source ≡ source_of (named v.slots (registration_of e.token)) = c.in-Some-begin_turn.ensures.value ∙ ap (λ (t : RegistrationToken). source_of (named v.slots t)) c.registration-token.ensures in
     let slots : c.begin_turn.new.self ≡ changed (with_content InTurn) v.slots e.token.slot = c.in-Some-begin_turn.ensures.list ∙ ap (λ n. changed (with_content InTurn) v.slots n) own in
-    let mid : View g.row.D.Denot g.row.P.Denot = record { slots = changed (with_content InTurn) v.slots e.token.slot; poll = polls } in
-    let held : View g.row.D.Denot g.row.P.Denot = record { slots = c.begin_turn.new.self; poll = polls } in
+    let mid : View g.row.D.Denot g.row.P.Denot = record v { slots = changed (with_content InTurn) v.slots e.token.slot; poll = polls } in
+    let held : View g.row.D.Denot g.row.P.Denot = record v { slots = c.begin_turn.new.self; poll = polls } in
     goes_on M O (Cutting c.args.«data».now) (Ending (registration_of e.token) d answer y) (after_hand_out c.end_turn.result y) v held (view_of c.end_turn.new.self)
-    (goes_to M O (Cutting c.args.«data».now) (Ending (registration_of e.token) d answer y) v mid held (ap (λ (s : List (Slot g.row.D.Denot)). record { slots = s; poll = polls }) slots)
+    (goes_to M O (Cutting c.args.«data».now) (Ending (registration_of e.token) d answer y) v mid held (ap (λ (s : List (Slot g.row.D.Denot)). record v { slots = s; poll = polls }) slots)
     (turned M O e v c.in-Some-begin_turn.source d answer (poll_view c.next_event.new.self) polls c.args.«data».now y _ _ c.in-Some.ensures.event found c.next_event.ensures.view c.process_events-answer.ensures))
     (subst (λ (t : RegistrationToken). Goes M O (Ending t d answer y) (after_hand_out c.end_turn.result y) held (view_of c.end_turn.new.self)) c.registration-token.ensures (c.end_turn.ensures.machine y))
 

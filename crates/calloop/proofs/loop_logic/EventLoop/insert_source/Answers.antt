@@ -1,4 +1,4 @@
-use Rattle.std.proofs.Common.{◌≡◌, List, refl, ap, ◌∙◌}
+use Rattle.std.proofs.Common.{◌≡◌, List, refl, ap, sym, ◌∙◌}
 use Rattle.calloop_wake.specs.declared.list.Content.TheVariants.{Source}
 use Rattle.calloop_wake.specs.declared.list.Slot.{Slot}
 use Rattle.calloop_wake.specs.Slots.{after_turn, claimed}
@@ -10,24 +10,29 @@ use Rattle.calloop.proofs.loop_logic.EventLoop.insert_source.Goals as goal
 
 pub returns-in-Err : goal.returns-in-Err
 returns-in-Err g c =
-    rw c.in-Err.ensures.err.0
-    (not_claimed g.D.Dispatch.means g.P.Poller.outside (view_of c.args.self.now) (g.D.Hold.held (record { source = c.args.source; callback = c.args.callback })) c.in-Err.error c.in-Err.ensures.err.1)
+    let others = c.in-Err.ensures.others in
+    let same : view_of c.claim.new.self ≡ view_of c.args.self.now = rw (c.in-Err.ensures.err.1, others.0, others.1) refl in
+    not_claimed g.D.Dispatch.means g.P.Poller.outside (view_of c.args.self.now) (g.D.Hold.held (record { source = c.args.source; callback = c.args.callback })) c.in-Err.error (view_of c.claim.new.self)
+    (rw (sym (g.met.D.Hold.held_means.needs (record { source = c.args.source; callback = c.args.callback }) ∙ c.needs_extra_lifecycle_events-needed.ensures c.args.source)) at c.in-Err.ensures.err.0) same
 
 pub returns-in-Ok-register : goal.returns-in-Ok-register
 returns-in-Ok-register g c =
     let v : View g.row.D.Denot g.row.P.Denot = view_of c.args.self.now in
+    let others = c.in-Ok.ensures.others in
+    let needs = sym (g.met.D.Hold.held_means.needs (record { source = c.args.source; callback = c.args.callback }) ∙ c.needs_extra_lifecycle_events-needed.ensures c.args.source) in
     let slots : c.end_turn-none.new.self ≡ after_turn (Source (g.D.Hold.held (record { source = c.register.new.self; callback = c.args.callback }))) c.in-Ok.token (claimed v.slots) =
     c.end_turn-none.ensures.list
-    ∙ ap (λ (s : List (Slot g.row.D.Denot)). after_turn (Source c.hold-held.result) c.in-Ok.token s) c.in-Ok.ensures.ok.1
+    ∙ ap (λ (s : List (Slot g.row.D.Denot)). after_turn (Source c.hold-held.result) c.in-Ok.token s) c.in-Ok.ensures.ok.2
     ∙ ap (λ (d : g.row.D.Denot). after_turn (Source d) c.in-Ok.token (claimed v.slots)) c.hold-held.ensures in
-    rw slots
+    rw (slots, c.enter.ensures, needs, others.1)
     (registered g.D.Dispatch.means g.P.Poller.outside (view_of c.args.self.now) (g.D.Hold.held (record { source = c.args.source; callback = c.args.callback })) (g.D.Hold.held (record { source = c.register.new.self; callback = c.args.callback }))
-    c.in-Ok.token c.register.new.factory (poll_view c.register.new.poll) c.in-Ok.ensures.ok.0 c.in-Ok.ensures.within.1
-    (let r = rw (c.new-factory.ensures, c.in-Ok-register.is) at c.register.ensures in held_reg g.P.Poller.outside g.D.Hold.held _ g.D.Dispatch.means g.met.D.Hold.held_means (record { source = c.args.source; callback = c.args.callback }) (record { source = c.register.new.self; callback = c.args.callback }) _ _ _ _ _ (r.0, (r.1, refl), r.2)))
+    c.in-Ok.token c.register.new.factory (poll_view c.register.new.poll) c.in-Ok.ensures.ok.0 c.in-Ok.ensures.ok.1
+    (let r = rw (c.new-factory.ensures, c.in-Ok-register.is, others.0) at c.register.ensures in held_reg g.P.Poller.outside g.D.Hold.held _ g.D.Dispatch.means g.met.D.Hold.held_means (record { source = c.args.source; callback = c.args.callback }) (record { source = c.register.new.self; callback = c.args.callback }) _ _ _ _ _ (r.0, (r.1, refl), r.2)))
 
 pub returns-in-Err-register : goal.returns-in-Err-register
 returns-in-Err-register g c =
-    rw (c.vacate.ensures, c.in-Ok.ensures.ok.1)
+    let others = c.in-Ok.ensures.others in
+    rw (c.vacate.ensures, c.in-Ok.ensures.ok.2, others.1)
     (not_registered g.D.Dispatch.means g.P.Poller.outside (view_of c.args.self.now) (g.D.Hold.held (record { source = c.args.source; callback = c.args.callback })) (g.D.Hold.held (record { source = c.register.new.self; callback = c.args.callback })) c.in-Err-register.error
-    c.in-Ok.token c.register.new.factory (poll_view c.register.new.poll) c.in-Ok.ensures.ok.0 c.in-Ok.ensures.within.1
-    (let r = rw (c.new-factory.ensures, c.in-Err-register.is) at c.register.ensures in held_reg g.P.Poller.outside g.D.Hold.held _ g.D.Dispatch.means g.met.D.Hold.held_means (record { source = c.args.source; callback = c.args.callback }) (record { source = c.register.new.self; callback = c.args.callback }) _ _ _ _ _ (r.0, (r.1, refl), r.2)))
+    c.in-Ok.token c.register.new.factory (poll_view c.register.new.poll) c.in-Ok.ensures.ok.0 c.in-Ok.ensures.ok.1
+    (let r = rw (c.new-factory.ensures, c.in-Err-register.is, others.0) at c.register.ensures in held_reg g.P.Poller.outside g.D.Hold.held _ g.D.Dispatch.means g.met.D.Hold.held_means (record { source = c.args.source; callback = c.args.callback }) (record { source = c.register.new.self; callback = c.args.callback }) _ _ _ _ _ (r.0, (r.1, refl), r.2)))

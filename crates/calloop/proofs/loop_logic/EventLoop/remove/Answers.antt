@@ -2,7 +2,6 @@ use Rattle.std.proofs.Common.{◌≡◌, sym}
 use Rattle.calloop_wake.specs.declared.list.Content.TheVariants.{Source}
 use Rattle.calloop_wake.specs.Slots.{named}
 use Rattle.calloop_wake.proofs.Named.{source_is}
-use Rattle.calloop_core.specs.Polls.{poll_view}
 use Rattle.calloop.specs.Machine.{view_of}
 use Rattle.calloop.proofs.Inserting.{not_removed, removed}
 use Rattle.calloop.proofs.loop_logic.EventLoop.remove.Goals as goal
@@ -13,5 +12,5 @@ returns-in_err-source g c = rw (c.from_residual.ensures, c.in_err-source.ensures
 pub returns : goal.returns
 returns g c =
     let is : named c.args.self.now.sources c.args.token ≡ Source c.in_ok-source.source = source_is (named c.args.self.now.sources c.args.token) c.in_ok-source.source (sym c.in_ok-source.ensures.value) in
-    rw (c.vacate.ensures, c.in_ok-source.ensures.list)
-    (removed g.D.Dispatch.means g.P.Poller.outside (view_of c.args.self.now) c.args.token c.in_ok-source.source c.unregister.new.self c.unregister.result (poll_view c.unregister.new.poll) is c.unregister.ensures)
+    removed g.D.Dispatch.means g.P.Poller.outside (view_of c.args.self.now) c.args.token c.in_ok-source.source c.unregister.new.source c.unregister.result (view_of c.unregister.new.self) is
+    (rw (c.vacate.ensures, c.in_ok-source.ensures.list) at c.unregister.ensures)

@@ -1,0 +1,19 @@
+use Rattle.std.proofs.Common.{◌≡◌, ◌&&◌, true, inr, refl, sym, ap, ◌∙◌}
+use Rattle.calloop_core.specs.Polls.{PollView, poll_view}
+use Rattle.calloop.specs.Held.{Held, Listed, held_after}
+use Rattle.calloop.specs.Machine.{View, view_of}
+use Rattle.calloop.proofs.Registering.{entered_done}
+use Rattle.calloop.proofs.loop_logic.EventLoop.register.Goals as goal
+
+pub returns : goal.returns
+returns g c =
+    let v : View g.row.D.Denot g.row.P.Denot = view_of c.args.self.now in
+    let needs = g.D.Dispatch.means.needs c.args.source.now in
+    let r = rw c.new-factory.ensures at c.in_ok-register.ensures in
+    let entry = entered_done needs c.args.token v.held c.enter.new.self.tokens.items (rw (c.needs_extra_lifecycle_events-needed.ensures, c.in_ok-reserve.ensures.same) at c.enter.ensures) in (
+      r.0,
+      inr (c.register.new.factory, r.1),
+      r.2.0,
+      ap (λ (h : Held). record { slots = v.slots; poll = poll_view c.register.new.poll; held = h }) entry
+          ∙ ap (λ (p : PollView g.row.P.Denot). record { slots = v.slots; poll = p; held = held_after v.held (Listed (needs && true) c.args.token) }) r.2.1,
+    )
