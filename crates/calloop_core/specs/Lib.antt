@@ -1,4 +1,5 @@
 pub mod Pollers
+pub mod Batches
 pub mod Polls
 pub mod Calls
 pub mod Deeds
