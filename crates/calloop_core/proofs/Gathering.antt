@@ -1,9 +1,16 @@
--- The keys of the passes that an unpost gave.
-use Rattle.std.proofs.Common.{◌≡◌, ℕ, zero, suc, ◌<◌, ◌-◌, ◌^◌, get_or, arith, List, [], ◌∷◌, ◌++◌, length, map, drop, refl, ap, ◌∙◌}
+-- The keys of the passes that an unpost gave, and of the events that a gathering appends.
+use Rattle.std.proofs.Common.{◌≡◌, ℕ, zero, suc, ◌<◌, ◌-◌, ◌^◌, get_or, arith, List, [], ◌∷◌, ◌++◌, length, map, filter, drop, refl, ap, append-nil, ◌∙◌}
+use Rattle.std.proofs.lemmas.List.{map-append}
+use Rattle.std.proofs.lemmas.List.Elements.{filter-append}
 use Rattle.std.proofs.Math.Seq.{drop-append_seam}
 use Rattle.calloop_wake.specs.Boards.{taken, AllGreater, IsRising}
 use Rattle.calloop_wake.specs.Passes.{Taken}
-use Rattle.calloop_core.specs.Polls.{key_of_pass}
+use Rattle.calloop_wake.specs.Tokens.{key_of, token_of}
+use Rattle.calloop_wake.specs.declared.wheel.Entry.{Entry}
+use Rattle.calloop_core.specs.declared.sys.Readiness.{Readiness}
+use Rattle.calloop_core.specs.declared.sys.poll.Pending.{Pending}
+use Rattle.calloop_core.specs.Batches.{key_of_pass, posted_keys, IsInStep}
+use Rattle.calloop_core.specs.Polls.{posted_events, polled_event, polled_events, timer_events, is_for_a_token}
 
 keys-taken : (keys : List ℕ) → map key_of_pass (map taken keys) ≡ keys
 keys-taken [] = refl
@@ -23,3 +30,49 @@ pub rising-at : (passes : List Taken) (i : ℕ) (d : Taken) → i < length passe
 rising-at [] i d lt h = absurd (omega arith)
 rising-at (p ∷ ps) zero d lt h = (below-own p.key (map key_of_pass ps) h.0, h.1)
 rising-at (p ∷ ps) (suc i) d lt h = rising-at ps i d (omega arith) h
+
+key-back : (k : ℕ) → key_of (token_of k) ≡ k
+key-back k = omega arith
+
+posted_keys-append : (xs ys : List Pending) → posted_keys (xs ++ ys) ≡ posted_keys xs ++ posted_keys ys
+posted_keys-append xs ys =
+    ap (λ (es : List Pending). map (λ e. key_of e.token) es) (filter-append (λ e. e.posted) xs ys)
+    ∙ map-append (λ e. key_of e.token) (filter (λ e. e.posted) xs) (filter (λ e. e.posted) ys)
+
+keys-posted : (keys : List ℕ) → posted_keys (posted_events keys) ≡ keys
+keys-posted [] = refl
+keys-posted (k ∷ ks) = ap (λ n. n ∷ posted_keys (posted_events ks)) (key-back k) ∙ ap (λ l. k ∷ l) (keys-posted ks)
+
+none-polled : (given : List (ℕ × Readiness)) → posted_keys (map polled_event given) ≡ []
+none-polled [] = refl
+none-polled (g ∷ gs) = none-polled gs
+
+none-of-timers : (entries : List Entry) → posted_keys (timer_events entries) ≡ []
+none-of-timers [] = refl
+none-of-timers (e ∷ es) = none-of-timers es
+
+-- a gathering appends a pass for each posted event, in their order
+pub step-gathered : (events : List Pending) (passes : List Taken) (keys : List ℕ) (given : List (ℕ × Readiness)) (entries : List Entry)
+    → IsInStep events passes → IsInStep (((events ++ posted_events keys) ++ polled_events given) ++ timer_events entries) (passes ++ map taken keys)
+step-gathered events passes keys given entries h =
+    map-append key_of_pass passes (map taken keys)
+    ∙ rw (
+      h,
+      keys-taken keys,
+      posted_keys-append ((events ++ posted_events keys) ++ polled_events given) (timer_events entries),
+      none-of-timers entries,
+      posted_keys-append (events ++ posted_events keys) (polled_events given),
+      none-polled (filter is_for_a_token given),
+      posted_keys-append events (posted_events keys),
+      keys-posted keys,
+      append-nil (posted_keys events ++ keys),
+      append-nil (posted_keys events ++ keys),
+    ) refl
+
+-- the events that the three parts of a gathering append, of keys whose passes were appended
+pub events-gathered : (e₀ e₁ e₂ e₃ : List Pending) (before after : List Taken) (keys : List ℕ) (n : ℕ) (given : List (ℕ × Readiness)) (entries : List Entry) → n ≡ length before
+    → after ≡ before ++ map taken keys → e₁ ≡ e₀ ++ posted_events (map key_of_pass (drop n after)) → e₂ ≡ e₁ ++ polled_events given → e₃ ≡ e₂ ++ timer_events entries
+    → e₃ ≡ ((e₀ ++ posted_events keys) ++ polled_events given) ++ timer_events entries
+events-gathered e₀ e₁ e₂ e₃ before after keys n given entries first is one two three =
+    let posted = keys-new before after keys n first is in
+    rw (three, two, one, posted) refl

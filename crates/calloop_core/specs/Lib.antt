@@ -1,4 +1,5 @@
 pub mod Pollers
+pub mod Batches
 pub mod Polls
 pub mod Events
 pub mod Calls

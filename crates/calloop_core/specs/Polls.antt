@@ -2,7 +2,7 @@
 -- calloop's `Poll` stands on the machine's poller and on files for its pings; here pings have a board, which lies under a
 -- lock and isn't seen, and the loop owns the batch that calloop hands out from a buffer.
 use Rattle.std.specs.Prelude.{◌≡◌, ℕ, ◌+◌, ◌-◌, ◌^◌, ◌≤◌, ◌<◌, List, [], ◌∷◌, ◌++◌, map, filter, length, not, nat_eq, Bool, true, false, Option, Some, None, if◌then◌else◌, vec_capacity, ◌⊎◌}
-use Rattle.std.specs.VecDeque.{deque_len, deque_capacity}
+use Rattle.std.specs.Option.{option_map}
 use Rattle.std.specs.declared.io.Error.{Error as Cause}
 use Rattle.calloop_wake.specs.declared.error.Error.{Error}
 use Rattle.calloop_wake.specs.declared.error.Error.TheVariants.{IoError, OutOfMemory}
@@ -13,7 +13,7 @@ use Rattle.calloop_wake.specs.declared.token.Token.{Token}
 use Rattle.calloop_wake.specs.declared.wheel.Entry.{Entry}
 use Rattle.calloop_wake.specs.declared.wheel.Instant.{Instant}
 use Rattle.calloop_wake.specs.Deadlines.{Deadlines, with_new, with_again, with_entries, cancelled, is_armed, due, not_due}
-use Rattle.calloop_wake.specs.Tokens.{token_of}
+use Rattle.calloop_wake.specs.Tokens.{token_of, key_of}
 use Rattle.calloop_wake.specs.Passes.{Taken}
 use Rattle.calloop_wake.specs.Boards.{taken}
 use Rattle.calloop_wake.specs.Watches.{noted}
@@ -23,6 +23,7 @@ use Rattle.calloop_core.specs.declared.sys.Readiness.{Readiness}
 use Rattle.calloop_core.specs.declared.sys.poll.Pending.{Pending}
 use Rattle.calloop_core.specs.declared.sys.poll.Poll.{Poll}
 use Rattle.calloop_core.specs.Pollers.{Outside}
+use Rattle.calloop_core.specs.Batches.{key_of_pass}
 
 -- the poller, the armed deadlines, the events that wait for their turn, the passes of the posted ones among them in their
 -- order, and the pass of the event whose turn it is
@@ -38,7 +39,7 @@ pub record PollView (P : Type 0) : Type 0 where
   pub watch : Watch
 
 abbrev pub poll_view : {P C R : Type 0} → Poll P C R → PollView P
-poll_view p = record { poller = p.poller; deadlines = p.wheel; batch = p.batch.items; passes = p.passes.items; pass = p.pass; places = p.places; watch = p.hub }
+poll_view p = record { poller = p.poller; deadlines = p.wheel; batch = p.batch.events; passes = p.batch.passes; pass = p.batch.pass; places = p.places; watch = p.batch.watch }
 
 -- another pass, or none, for the event whose turn it is; the one before goes back to the board
 abbrev pub with_pass : {P : Type 0} → Option Taken → PollView P → PollView P
@@ -179,8 +180,9 @@ cut_from (e ∷ es) v = begun e v
 abbrev pub cut : {P : Type 0} → PollView P → PollView P
 cut v = cut_from v.batch v
 
-abbrev pub key_of_pass : Taken → ℕ
-key_of_pass t = t.key
+-- a posted event's pass is there, and of the key of its token
+abbrev pub IsPassOf : Pending → Option Taken → Type 0
+IsPassOf e pass = e.posted ≡ true → option_map key_of_pass pass ≡ Some (key_of e.token)
 
 -- an error of the system of this kind
 abbrev pub IsOfKind : ErrorKind → Error → Type 0
@@ -192,7 +194,7 @@ CannotOpen e = IsOfKind AlreadyExists e ⊎ (e ≡ OutOfMemory)
 
 -- there is room for what one poll can gather, and for so many events more
 pub record IsReady {P C R : Type 0} (more : ℕ) (p : Poll P C R) : Type 0 where
-  pub batch : deque_len p.batch + (more + (p.places + (1024 + length p.wheel.entries))) ≤ deque_capacity p.batch
-  pub passes : deque_len p.passes + p.places ≤ deque_capacity p.passes
+  pub batch : more + (p.places + (1024 + length p.wheel.entries)) ≤ p.batch.room
+  pub passes : p.places ≤ p.batch.pass_room
   pub events : p.events.items ≡ []
   pub room : 1024 ≤ vec_capacity p.events

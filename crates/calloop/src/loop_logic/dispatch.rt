@@ -1,6 +1,5 @@
 //! A dispatch: the wait, the batch, and the turns of its events.
-ghost use Rattle.std.specs.Prelude.{◌≡◌, ◌<◌, Ok, Err, IfOk, IfErr, true};
-ghost use Rattle.std.specs.VecDeque.{deque_len};
+ghost use Rattle.std.specs.Prelude.{◌≡◌, ◌<◌, length, Ok, Err, IfOk, IfErr, true};
 ghost use Rattle.calloop_wake.specs.declared.error.Error.TheVariants.{OutOfMemory};
 ghost use Rattle.calloop_core.specs.Pollers.{nanos_of};
 ghost use Rattle.calloop.specs.declared.loop_logic.LoopCall.TheVariants.{Dispatch};
@@ -70,7 +69,7 @@ impl<D: EventDispatcher<P, C, R>, P: Poller, C: Clock, R: Wait + Drop> EventLoop
     // Gives the first event of the batch to the source that its token names. False where there is no event.
     fn hand_out(&mut self, data: &mut D::Data) -> Result<bool>
         ensures machine { Goes D.means P.outside (Cutting «data».old) (after_hand_out result «data».new) (view_of self.old) (view_of self.new) }
-        ensures shorter { result ≡ Ok true → deque_len self.new.poll.batch < deque_len self.old.poll.batch }
+        ensures shorter { result ≡ Ok true → length self.new.poll.batch.events < length self.old.poll.batch.events }
     {
         let Some(event) = self.poll.next_event() else {
             return Ok(false);
@@ -99,7 +98,7 @@ impl<D: EventDispatcher<P, C, R>, P: Poller, C: Clock, R: Wait + Drop> EventLoop
         answer: Result<PostAction>,
     ) -> Result<bool>
         ensures machine { (x : D.Data) → Goes D.means P.outside (Ending token source answer x) (after_hand_out result x) (view_of self.old) (view_of self.new) }
-        ensures batch { self.new.poll.batch.items ≡ self.old.poll.batch.items }
+        ensures batch { self.new.poll.batch.events ≡ self.old.poll.batch.events }
     {
         let mut source = source;
         let told = self.act(token, &mut source, answer);
@@ -113,7 +112,7 @@ impl<D: EventDispatcher<P, C, R>, P: Poller, C: Clock, R: Wait + Drop> EventLoop
     // Puts a source back into its slot. One whose slot isn't in its turn any more is unregistered and dropped.
     fn give_back(&mut self, token: RegistrationToken, source: D)
         ensures machine { (told : Outcome) (x : D.Data) → Goes D.means P.outside (Returning token source told x) (after_turn told x) (view_of self.old) (view_of self.new) }
-        ensures batch { self.new.poll.batch.items ≡ self.old.poll.batch.items }
+        ensures batch { self.new.poll.batch.events ≡ self.old.poll.batch.events }
     {
         let Some(mut left) = self.sources.end_turn(token, source) else {
             return;
@@ -129,7 +128,7 @@ impl<D: EventDispatcher<P, C, R>, P: Poller, C: Clock, R: Wait + Drop> EventLoop
         answer: Result<PostAction>,
     ) -> Result<()>
         ensures machine { (x : D.Data) → Goes D.means P.outside (Ending token source.old answer x) (Returning token source.new result x) (view_of self.old) (view_of self.new) }
-        ensures batch { self.new.poll.batch.items ≡ self.old.poll.batch.items }
+        ensures batch { self.new.poll.batch.events ≡ self.old.poll.batch.events }
     {
         self.poll.end_event();
         match answer {

@@ -84,13 +84,13 @@ impl<P: Poller, C, R: Wait + Drop> Poll<P, C, R> {
     fn wait<Q: Wait>(&mut self, rt: &Q, timeout: Option<Duration>) -> io::Result<Instant>
         requires events { self.old.events.items ≡ [] }
         requires room { 1024 ≤ vec_capacity self.old.events }
-        ensures ok { IfOk result (λ now. Waited P.outside (poll_view self.old) (nanos_of timeout) (Ok now.nanos) self.new.events.items self.new.poller self.new.hub) }
-        ensures err { IfErr result (λ cause. (given : List (ℕ × Readiness)) × Waited P.outside (poll_view self.old) (nanos_of timeout) (Err cause) given self.new.poller self.new.hub) }
-        ensures others { self.new ≡ record self.old { poller = self.new.poller; hub = self.new.hub; events = self.new.events } }
+        ensures ok { IfOk result (λ now. Waited P.outside (poll_view self.old) (nanos_of timeout) (Ok now.nanos) self.new.events.items self.new.poller self.new.batch.watch) }
+        ensures err { IfErr result (λ cause. (given : List (ℕ × Readiness)) × Waited P.outside (poll_view self.old) (nanos_of timeout) (Err cause) given self.new.poller self.new.batch.watch) }
+        ensures others { self.new ≡ record self.old { poller = self.new.poller; batch = record self.old.batch { watch = self.new.batch.watch }; events = self.new.events } }
         ensures few { vec_len self.new.events ≤ 1024 }
     {
         let start = self.poller.now();
-        let leave = self.hub.look(rt);
+        let leave = self.batch.look(rt);
         let mut asked = self.asked(leave, timeout, start, start);
         for _ in rt.forever() {
             let answer = self.poller.wait(asked, &mut self.events);
@@ -102,7 +102,7 @@ impl<P: Poller, C, R: Wait + Drop> Poll<P, C, R> {
             }
             self.events.clear();
             let now = self.poller.now();
-            let again = self.hub.look(rt);
+            let again = self.batch.look(rt);
             asked = self.asked(again, timeout, start, now);
             if is_zero(asked) {
                 return Ok(now);

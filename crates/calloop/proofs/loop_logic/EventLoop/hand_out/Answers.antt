@@ -51,6 +51,6 @@ pub returns-clause-shorter : goal.returns-clause-shorter
 returns-clause-shorter g c =
     let v = poll_view c.args.self.now.poll in
     let turn = c.process_events-answer.ensures in
-    let batch : c.end_turn.new.self.poll.batch.items ≡ (cut v).batch =
+    let batch : c.end_turn.new.self.poll.batch.events ≡ (cut v).batch =
     c.end_turn.ensures.batch ∙ ap (λ (p : PollView g.row.P.Denot). p.batch) turn.2.1 ∙ batch-stepped (poll_view c.next_event.new.self) turn.0 ∙ ap (λ (p : PollView g.row.P.Denot). p.batch) c.next_event.ensures.view in
-    λ _. omega (arith, ap length batch, length-cut v c.in-Some.event c.in-Some.ensures.event, c.end_turn.new.self.poll.batch.ok.0, c.args.self.now.poll.batch.ok.0)
+    λ _. omega (arith, ap length batch, length-cut v c.in-Some.event c.in-Some.ensures.event)

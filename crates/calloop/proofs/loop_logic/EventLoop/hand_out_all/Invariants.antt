@@ -1,4 +1,4 @@
-use Rattle.std.specs.VecDeque.{deque_len}
+use Rattle.std.proofs.Common.{length}
 use Rattle.calloop.specs.Machine.{view_of}
 use Rattle.calloop.specs.Rules.{Goes, Cutting}
 use Rattle.calloop.proofs.loop_logic.EventLoop.hand_out_all.Given as goal
@@ -7,4 +7,4 @@ abbrev pub invariant-batch : goal.invariant-batch
 invariant-batch g l = Goes g.D.Dispatch.means g.P.Poller.outside (Cutting l.initial.«data») (Cutting l.«data») (view_of l.initial.self) (view_of l.self)
 
 abbrev pub decreases-batch : goal.decreases-batch
-decreases-batch g l = deque_len l.self.poll.batch
+decreases-batch g l = length l.self.poll.batch.events

@@ -11,13 +11,13 @@ pub returns-then-not-is_mine : goal.returns-then-not-is_mine
 returns-then-not-is_mine g c =
     let s = c.args.self.now in
     let other : is_own (key_of c.args.token) s.twin.key ≡ false = sym c.is_mine.ensures ∙ c.if-not-is_mine.true in
-    ([], ([], (turn_of_another _ s.twin c.args.token c.args.poll.now.pass other, refl), (tt, refl)), (refl, refl, refl))
+    ([], ([], (turn_of_another _ s.twin c.args.token c.args.poll.now.batch.pass other, refl), (tt, refl)), (refl, refl, refl))
 
 pub returns-in_default : goal.returns-in_default
 returns-in_default g c =
     let s = c.args.self.now in
     let own : is_own (key_of c.args.token) s.twin.key ≡ true = sym c.is_mine.ensures ∙ c.if-not-is_mine.false in
-    ([], (TakePass ∷ [], (turn_without _ s.twin c.args.token c.args.poll.now.pass own (sym c.in_default.ensures.pass), refl), ((tt, tt), c.take_pass.ensures.view)), (refl, refl, refl))
+    ([], (TakePass ∷ [], (turn_without _ s.twin c.args.token c.args.poll.now.batch.pass own (sym c.in_default.ensures.pass), refl), ((tt, tt), c.take_pass.ensures.view)), (refl, refl, refl))
 
 pub returns-in-Ok : goal.returns-in-Ok
 returns-in-Ok g c =
@@ -28,7 +28,7 @@ returns-in-Ok g c =
       (
         TakePass ∷ [],
         (
-          turn_served _ s.twin c.args.token c.args.poll.now.pass own c.in-Some.pass (Opened opened.rung opened.told) (calls_of opened.rung) c.action_of.result (TakePass ∷ []) c.open_turn.new.twin (sym c.in-Some.ensures.pass)
+          turn_served _ s.twin c.args.token c.args.poll.now.batch.pass own c.in-Some.pass (Opened opened.rung opened.told) (calls_of opened.rung) c.action_of.result (TakePass ∷ []) c.open_turn.new.twin (sym c.in-Some.ensures.pass)
               (refl, c.action_of.ensures, refl, c.in-Ok.ensures.ok.1),
           refl,
         ),
@@ -45,7 +45,7 @@ returns-in-Err g c =
       (
         TakePass ∷ PutBack c.in-Err.pass ∷ [],
         (
-          turn_served _ s.twin c.args.token c.args.poll.now.pass own c.in-Some.pass Refused [] Continue (TakePass ∷ PutBack c.in-Err.pass ∷ []) c.open_turn.new.twin (sym c.in-Some.ensures.pass)
+          turn_served _ s.twin c.args.token c.args.poll.now.batch.pass own c.in-Some.pass Refused [] Continue (TakePass ∷ PutBack c.in-Err.pass ∷ []) c.open_turn.new.twin (sym c.in-Some.ensures.pass)
               (refl, refl, ap (λ p. TakePass ∷ PutBack p ∷ []) c.in-Err.ensures.err.0, c.in-Err.ensures.err.1),
           refl,
         ),

@@ -14,8 +14,8 @@ invariant-loop g l = record {
   leads : (is : List (Interruption g.row.P.Denot)) (answer : Result ℕ Cause) (given : List (ℕ × Readiness)) (q : g.row.P.Denot)
       → Waits g.P.Poller.outside (poll_view l.fn.self) (nanos_of l.timeout) l.start.nanos (nanos_of l.asked) l.self.poller is answer given q
       → g.P.Poller.outside.faults q ≡ g.P.Poller.outside.faults l.fn.self.poller + faults_of answer
-      → Waited g.P.Poller.outside (poll_view l.fn.self) (nanos_of l.timeout) answer given q (looked is l.self.hub);
-  others : l.self ≡ record l.fn.self { poller = l.self.poller; hub = l.self.hub; events = l.self.events };
+      → Waited g.P.Poller.outside (poll_view l.fn.self) (nanos_of l.timeout) answer given q (looked is l.self.batch.watch);
+  others : l.self ≡ record l.fn.self { poller = l.self.poller; batch = record l.fn.self.batch { watch = l.self.batch.watch }; events = l.self.events };
   faults : g.P.Poller.outside.faults l.self.poller ≡ g.P.Poller.outside.faults l.fn.self.poller;
   events : l.self.events.items ≡ [];
   room : 1024 ≤ vec_capacity l.self.events;

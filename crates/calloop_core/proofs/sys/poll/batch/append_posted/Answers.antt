@@ -1,7 +1,7 @@
-use Rattle.std.proofs.Common.{◌≡◌, ◌<◌, length, get_or, arith, ap, sym, ◌∙◌}
+use Rattle.std.proofs.Common.{◌≡◌, get_or, arith, ap}
 use Rattle.calloop_wake.specs.Passes.{Taken}
 use Rattle.calloop_core.proofs.Gathering.{rising-at}
-use Rattle.calloop_core.proofs.sys.poll.append_posted.Goals as goal
+use Rattle.calloop_core.proofs.sys.poll.batch.append_posted.Goals as goal
 
 pub posted_event-requires : goal.posted_event-requires
 posted_event-requires c own =

@@ -1,8 +1,9 @@
 use Rattle.std.proofs.Common.{◌≡◌, ◌+◌, ◌≤◌, ◌++◌, drop, map}
 use Rattle.std.specs.VecDeque.{deque_len, deque_capacity}
 use Rattle.calloop_wake.specs.Boards.{IsRising}
-use Rattle.calloop_core.specs.Polls.{posted_events, key_of_pass}
-use Rattle.calloop_core.proofs.sys.poll.append_posted.Given as goal
+use Rattle.calloop_core.specs.Polls.{posted_events}
+use Rattle.calloop_core.specs.Batches.{key_of_pass}
+use Rattle.calloop_core.proofs.sys.poll.batch.append_posted.Given as goal
 
 abbrev pub invariant-loop-i : goal.invariant-loop-i
 invariant-loop-i l = record {

@@ -1,0 +1,28 @@
+-- The batch of events that wait for their turn, and the passes of the posted ones among them.
+use Rattle.std.specs.Prelude.{◌≡◌, ℕ, List, map, filter, Option}
+use Rattle.calloop_wake.specs.Tokens.{key_of}
+use Rattle.calloop_wake.specs.Passes.{Taken}
+use Rattle.calloop_wake.specs.declared.wake.watch.Watch.{Watch}
+use Rattle.calloop_core.specs.declared.sys.poll.Pending.{Pending}
+
+-- the waiting events, the passes of the posted ones among them, and the pass of the event whose turn it is
+pub record BatchView : Type 0 where
+  pub events : List Pending
+  pub passes : List Taken
+  pub pass : Option Taken
+  -- what the loop did to the board
+  pub watch : Watch
+  -- for how many more events there is room, and for how many more passes
+  pub room : ℕ
+  pub pass_room : ℕ
+
+abbrev pub key_of_pass : Taken → ℕ
+key_of_pass t = t.key
+
+-- the keys of the posted events
+abbrev pub posted_keys : List Pending → List ℕ
+posted_keys events = map (λ e. key_of e.token) (filter (λ e. e.posted) events)
+
+-- each posted event has its pass: they have the same keys in the same order; calloop's events have none
+abbrev pub IsInStep : List Pending → List Taken → Type 0
+IsInStep events passes = map key_of_pass passes ≡ posted_keys events
