@@ -2,8 +2,8 @@ use crate::source::{Counter, Listener, Source, Teller, Waker};
 use calloop::loop_logic::{EventLoop, LoopAnswer, LoopCall, once, wrong_runs_are_ruled_out};
 use calloop::ping::{Ping, make_ping};
 use calloop::{
-    Dispatcher, Error, InsertError, Instant, OneOf, PostAction, Readiness, RegistrationToken,
-    Sources, TimeoutAction, Timer,
+    Dispatcher, Error, InsertError, Instant, OneOf, PingSource, PostAction, Readiness,
+    RegistrationToken, Sources, TimeoutAction, Timer,
 };
 use calloop_core::sys::script::{ScriptAnswer, ScriptClock, ScriptEnd, ScriptEvents, ScriptPoller};
 use std::alloc::Global;
@@ -210,9 +210,9 @@ fn a_timer_that_leaves_vacates_its_slot(rt: HostRuntime) {
 fn a_ping_that_is_rung_while_disabled_is_called_once_enabled(rt: HostRuntime) {
     let mut desk = Desk::new(&rt, rt.alloc());
     let (token, bell) = desk.ping(1);
-    assert!(rt; desk.is_disabled(token));
+    assert!(rt; desk.disable(token).is_ok());
     bell.ping();
-    assert!(rt; desk.is_enabled(token));
+    assert!(rt; desk.enable(token).is_ok());
     assert!(rt; desk.says(Some(100), &[1]));
     assert!(rt; desk.asked(&[Some(0)]));
 }
@@ -221,19 +221,19 @@ fn a_ping_that_is_rung_while_disabled_is_called_once_enabled(rt: HostRuntime) {
 fn an_enabled_source_cannot_be_enabled(rt: HostRuntime) {
     let mut desk = Desk::new(&rt, rt.alloc());
     let (token, _bell) = desk.ping(1);
-    let twice = desk.event_loop.handle().enable(&token);
+    let twice = desk.enable(token);
     assert_eq!(rt; refused_as(twice), Some(io::ErrorKind::AlreadyExists));
-    assert!(rt; desk.is_updated(token));
+    assert!(rt; desk.update(token).is_ok());
 }
 
 #[test]
 fn a_disabled_source_cannot_be_disabled_or_updated(rt: HostRuntime) {
     let mut desk = Desk::new(&rt, rt.alloc());
     let (token, _bell) = desk.ping(1);
-    assert!(rt; desk.is_disabled(token));
-    let disabled = desk.event_loop.handle().disable(&token);
+    assert!(rt; desk.disable(token).is_ok());
+    let disabled = desk.disable(token);
     assert_eq!(rt; refused_as(disabled), Some(io::ErrorKind::NotFound));
-    let updated = desk.event_loop.handle().update(&token);
+    let updated = desk.update(token);
     assert_eq!(rt; refused_as(updated), Some(io::ErrorKind::NotFound));
 }
 
@@ -253,7 +253,7 @@ fn a_timer_that_is_updated_is_called_once(rt: HostRuntime) {
     let mut desk = Desk::new(&rt, rt.alloc());
     let token = desk.alarm(10, TimeoutAction::ToInstant(at(1000)));
     assert!(rt; desk.says(Some(4), &[]));
-    assert!(rt; desk.is_updated(token));
+    assert!(rt; desk.update(token).is_ok());
     assert!(rt; desk.says(Some(100), &[5]));
     assert!(rt; desk.says(Some(100), &[]));
     assert!(rt; desk.asked(&[Some(4), Some(6), Some(100)]));
@@ -263,10 +263,10 @@ fn a_timer_that_is_updated_is_called_once(rt: HostRuntime) {
 fn a_disabled_timer_is_called_once_enabled(rt: HostRuntime) {
     let mut desk = Desk::new(&rt, rt.alloc());
     let token = desk.alarm(10, TimeoutAction::Drop);
-    assert!(rt; desk.is_disabled(token));
+    assert!(rt; desk.disable(token).is_ok());
     desk.script(4, &[]);
     assert!(rt; desk.says(Some(100), &[]));
-    assert!(rt; desk.is_enabled(token));
+    assert!(rt; desk.enable(token).is_ok());
     assert!(rt; desk.says(Some(100), &[5]));
     assert!(rt; desk.asked(&[Some(100), Some(6)]));
 }
@@ -275,7 +275,7 @@ fn a_disabled_timer_is_called_once_enabled(rt: HostRuntime) {
 fn a_timer_that_stays_disabled_shortens_no_wait(rt: HostRuntime) {
     let mut desk = Desk::new(&rt, rt.alloc());
     let token = desk.alarm(10, TimeoutAction::Drop);
-    assert!(rt; desk.is_disabled(token));
+    assert!(rt; desk.disable(token).is_ok());
     assert!(rt; desk.says(Some(100), &[]));
     assert!(rt; desk.says(Some(100), &[]));
     assert!(rt; desk.asked(&[Some(100), Some(100)]));
@@ -297,9 +297,9 @@ fn a_rung_ping_that_is_removed_is_not_called(rt: HostRuntime) {
 #[test]
 fn a_ping_that_is_dropped_before_its_source_is_inserted_leaves_at_once(rt: HostRuntime) {
     let mut desk = Desk::new(&rt, rt.alloc());
-    desk.closed_ping();
+    let token = desk.closed_ping();
     assert!(rt; desk.says(Some(0), &[]));
-    assert!(rt; desk.is_gone(RegistrationToken::new(0, 0)));
+    assert!(rt; desk.is_gone(token));
     assert!(rt; desk.says(Some(100), &[]));
     assert!(rt; desk.asked(&[Some(0), Some(100)]));
 }
@@ -321,10 +321,10 @@ fn the_last_ping_of_a_source_closes_after_its_ring(rt: HostRuntime) {
 fn a_ping_that_is_dropped_while_its_source_is_disabled_leaves_once_enabled(rt: HostRuntime) {
     let mut desk = Desk::new(&rt, rt.alloc());
     let (token, bell) = desk.ping(1);
-    assert!(rt; desk.is_disabled(token));
+    assert!(rt; desk.disable(token).is_ok());
     drop(bell);
     assert!(rt; desk.says(Some(10), &[]));
-    assert!(rt; desk.is_enabled(token));
+    assert!(rt; desk.enable(token).is_ok());
     assert!(rt; desk.says(Some(10), &[]));
     assert!(rt; desk.is_gone(token));
     assert!(rt; desk.asked(&[Some(10), Some(0)]));
@@ -364,7 +364,9 @@ fn rings_of_a_thread_beside_dispatches_are_at_most_as_many_calls(
     let all = calls.saturating_add(desk.calls_in(1));
     assert!(rt; all >= 1 && all <= 1000);
     assert!(rt; desk.is_gone(token));
-    assert!(rt; desk.asks_anew());
+    assert!(rt; !desk.asked(&[]));
+    assert!(rt; desk.says(Some(100), &[]));
+    assert!(rt; desk.asked(&[Some(100)]));
     Ok(())
 }
 
@@ -418,25 +420,25 @@ impl<R: Wait + Clone + Drop + Abort> Desk<R> {
         }
     }
 
-    // Inserts a ping that says this number.
-    fn ping(&mut self, number: u32) -> (RegistrationToken, Ping<R>) {
-        let (ping, source) = make_ping(&self.rt, self.alloc).expect(&self.rt, "a ping");
+    fn insert(&mut self, source: PingSource<R>, number: u32) -> RegistrationToken {
         let inserted = self
             .event_loop
             .handle()
             .insert_source(source, Teller { number });
-        (token_of(&self.rt, inserted), ping)
+        token_of(&self.rt, inserted)
+    }
+
+    // Inserts a ping that says this number.
+    fn ping(&mut self, number: u32) -> (RegistrationToken, Ping<R>) {
+        let (ping, source) = make_ping(&self.rt, self.alloc).expect(&self.rt, "a ping");
+        (self.insert(source, number), ping)
     }
 
     // Inserts the source of a ping that is dropped before.
-    fn closed_ping(&mut self) {
+    fn closed_ping(&mut self) -> RegistrationToken {
         let (ping, source) = make_ping(&self.rt, self.alloc).expect(&self.rt, "a ping");
         drop(ping);
-        let inserted = self
-            .event_loop
-            .handle()
-            .insert_source(source, Teller { number: 1 });
-        assert!(self.rt; inserted.is_ok());
+        self.insert(source, 1)
     }
 
     // Inserts a timer that says 5.
@@ -473,18 +475,21 @@ impl<R: Wait + Clone + Drop + Abort> Desk<R> {
         assert!(self.rt; scripted.is_ok());
     }
 
+    fn dispatch(&mut self, timeout: Option<u64>, said: &mut Vec<u32>) -> calloop::Result<()> {
+        self.event_loop.dispatch(&self.rt, time(timeout), said)
+    }
+
     // Whether a dispatch succeeds, in which the callbacks say these numbers.
     fn says(&mut self, timeout: Option<u64>, numbers: &[u32]) -> bool {
         let mut said = Vec::new(self.alloc);
-        let answer = self.event_loop.dispatch(&self.rt, time(timeout), &mut said);
-        answer.is_ok() && said.as_slice() == numbers
+        self.dispatch(timeout, &mut said).is_ok() && said.as_slice() == numbers
     }
 
     // Whether a dispatch fails by an error of the system of this kind, or else by one of the source's own, and the callbacks
     // said these numbers by then.
     fn fails(&mut self, numbers: &[u32], kind: Option<io::ErrorKind>) -> bool {
         let mut said = Vec::new(self.alloc);
-        let answer = self.event_loop.dispatch(&self.rt, None, &mut said);
+        let answer = self.dispatch(None, &mut said);
         said.as_slice() == numbers
             && match answer {
                 Err(Error::OtherError(_)) => kind.is_none(),
@@ -493,21 +498,21 @@ impl<R: Wait + Clone + Drop + Abort> Desk<R> {
             }
     }
 
-    // Whether the poller was asked for these waits.
-    fn asked(&mut self, waits: &[Option<u64>]) -> bool {
-        let mut handle = self.event_loop.handle();
-        let noted = handle.poller_mut().waits();
-        noted.len() == waits.len()
-            && noted
-                .iter()
-                .zip(waits)
-                .all(|(one, other)| *one == time(*other))
+    // How many calls this many dispatches make.
+    fn calls_in(&mut self, dispatches: u64) -> usize {
+        let mut said = Vec::new(self.alloc);
+        for _ in 0..dispatches {
+            let _answer = self.dispatch(Some(0), &mut said);
+        }
+        said.len()
     }
 
-    // Whether the next wait is asked as the caller asks for it, and nothing is called.
-    fn asks_anew(&mut self) -> bool {
-        let kept = self.event_loop.handle().poller_mut().keep_waits(1);
-        kept.is_ok() && self.says(Some(100), &[]) && self.asked(&[Some(100)])
+    // Whether the poller was asked for these waits since this was last called.
+    fn asked(&mut self, waits: &[Option<u64>]) -> bool {
+        let mut handle = self.event_loop.handle();
+        let poller = handle.poller_mut();
+        let are_these = are_waits(poller.waits(), waits);
+        poller.keep_waits(8).is_ok() && are_these
     }
 
     // Whether a counter that refuses to be registered is handed back as it was.
@@ -525,10 +530,13 @@ impl<R: Wait + Clone + Drop + Abort> Desk<R> {
         }
     }
 
+    fn remove(&mut self, token: RegistrationToken) -> Option<Source<R>> {
+        self.event_loop.handle().remove(token)
+    }
+
     // Takes a counter out of the loop: how often it was registered and unregistered, the last time for that.
     fn removed_counter(&mut self, token: RegistrationToken) -> Option<(u32, u32)> {
-        let back = self.event_loop.handle().remove(token)?;
-        match back.held {
+        match self.remove(token)?.held {
             OneOf::Other(OneOf::Other(held)) => {
                 Some((held.source.registrations, held.source.unregistrations))
             }
@@ -538,42 +546,39 @@ impl<R: Wait + Clone + Drop + Abort> Desk<R> {
 
     // Takes a ping out of the loop: the number that it says.
     fn removed_ping(&mut self, token: RegistrationToken) -> Option<u32> {
-        let back = self.event_loop.handle().remove(token)?;
-        match back.held {
+        match self.remove(token)?.held {
             OneOf::First(held) => Some(held.callback.number),
             _ => None,
         }
     }
 
-    fn is_disabled(&mut self, token: RegistrationToken) -> bool {
-        self.event_loop.handle().disable(&token).is_ok()
+    fn enable(&mut self, token: RegistrationToken) -> calloop::Result<()> {
+        self.event_loop.handle().enable(&token)
     }
 
-    fn is_enabled(&mut self, token: RegistrationToken) -> bool {
-        self.event_loop.handle().enable(&token).is_ok()
+    fn update(&mut self, token: RegistrationToken) -> calloop::Result<()> {
+        self.event_loop.handle().update(&token)
     }
 
-    fn is_updated(&mut self, token: RegistrationToken) -> bool {
-        self.event_loop.handle().update(&token).is_ok()
+    fn disable(&mut self, token: RegistrationToken) -> calloop::Result<()> {
+        self.event_loop.handle().disable(&token)
     }
 
     // Whether the token names nothing any more.
     fn is_gone(&mut self, token: RegistrationToken) -> bool {
-        is_invalid(self.event_loop.handle().enable(&token))
-            && is_invalid(self.event_loop.handle().update(&token))
-            && is_invalid(self.event_loop.handle().disable(&token))
+        is_invalid(self.enable(token))
+            && is_invalid(self.update(token))
+            && is_invalid(self.disable(token))
     }
+}
 
-    // How many calls this many dispatches make.
-    fn calls_in(&mut self, dispatches: u64) -> usize {
-        let mut said = Vec::new(self.alloc);
-        for _ in 0..dispatches {
-            let _answer = self
-                .event_loop
-                .dispatch(&self.rt, Some(Duration::ZERO), &mut said);
-        }
-        said.len()
-    }
+// Whether these are the waits, in milliseconds.
+fn are_waits(noted: &[Option<Duration>], waits: &[Option<u64>]) -> bool {
+    noted.len() == waits.len()
+        && noted
+            .iter()
+            .zip(waits)
+            .all(|(one, other)| *one == time(*other))
 }
 
 fn token_of<S: Drop, R: Abort>(
