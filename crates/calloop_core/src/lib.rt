@@ -3,6 +3,4 @@
 
 pub mod sources;
 pub mod sys;
-#[cfg(test)]
-mod tests;
 pub mod timer;

@@ -1,12 +1,12 @@
 -- What the counting source of the tests means.
-use Rattle.std.specs.Prelude.{◌≡◌, ℕ, [], ◌∷◌, Result, Ok}
+use Rattle.std.specs.Prelude.{◌≡◌, ℕ, [], ◌∷◌, None, Result, Ok}
 use Rattle.anyhow.specs.declared.error.Error.{Error as Cause}
 use Rattle.calloop_wake.specs.declared.error.Error.{Error}
 use Rattle.calloop_wake.specs.declared.error.Error.TheVariants.{OtherError}
 use Rattle.calloop_core.specs.Calls.{IsOfSource}
 use Rattle.calloop_core.specs.Lawful.{other_of_source}
 use Rattle.calloop_core.specs.Polls.{PollView}
-use Rattle.calloop_core.specs.Deeds.{Deed, Registered, Reregistered, Unregistered, Turned, Heard}
+use Rattle.calloop_core.specs.Deeds.{Deed, Registered, Reregistered, Unregistered, Turned, Slept, Noticed, Heard}
 use Rattle.calloop_tests.specs.declared.source.Counter.{Counter}
 use Rattle.calloop_tests.specs.declared.source.Broken.{Broken}
 
@@ -18,6 +18,8 @@ abbrev pub Counts : {P : Type 0} → Counter → PollView P → Deed (Heard ℕ 
 Counts s v (Registered f answer g) t = t.turns ≡ s.turns
 Counts s v (Reregistered f answer g) t = t.turns ≡ s.turns
 Counts s v (Unregistered answer) t = (answer ≡ Ok tt) × (t.turns ≡ s.turns)
+Counts s v (Slept answer) t = (answer ≡ Ok None) × (t ≡ s)
+Counts s v (Noticed events) t = t ≡ s
 Counts s v (Turned readiness token turn) t =
     turn.calls ≡ record { event = t.turns; before = tt; after = tt; answer = tt } ∷ []
 

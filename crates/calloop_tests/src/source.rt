@@ -2,7 +2,7 @@
 ghost use Rattle.std.specs.Prelude.{◌≡◌};
 
 use calloop::{
-    Asking, Callback, Dispatcher, Error, EventSource, Instant, IntoError, OneOf, PingSource, Poll,
+    Asking, Callback, Dispatcher, Error, EventIterator, EventSource, Instant, IntoError, OneOf, PingSource, Poll,
     Poller, PostAction, Readiness, Result, Sources, TimeoutAction, Timer, Token, TokenFactory,
 };
 use std::io;
@@ -154,6 +154,16 @@ impl<P: Poller, C, R: Wait + Drop> EventSource<P, C, R> for Counter {
         self.unregistrations = self.unregistrations.saturating_add(1);
         Ok(())
     }
+
+    fn needs_extra_lifecycle_events() -> bool {
+        false
+    }
+
+    fn before_sleep(&mut self) -> Result<Option<(Readiness, Token)>> {
+        Ok(None)
+    }
+
+    fn before_handle_events(&mut self, _events: EventIterator<'_>) {}
 
     ghost keeps = { keeping_still Counts };
 }

@@ -8,6 +8,3 @@ pub mod wake;
 pub mod wheel;
 
 pub use error::{Error, InsertError, Result};
-
-#[cfg(test)]
-mod tests;

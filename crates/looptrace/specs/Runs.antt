@@ -1,11 +1,14 @@
 -- What a line of a script does with the loop, and what it prints: each line is a list of cases of the loop's machine,
 -- and its text is what they answered. The asked waits are those that the scripted poller notes.
-use Rattle.std.specs.Prelude.{◌≡◌, ℕ, ◌-◌, ◌^◌, ◌≤◌, ◌<◌, ◌&&◌, ◌||◌, min, map, length, List, [], ◌∷◌, ◌++◌, if◌then◌else◌, nat_lt, Option, Some, None, IsSome, Result, Ok, Err, codes, vec_capacity, Bool, true, false}
+use Rattle.std.specs.Prelude.{◌≡◌, ℕ, ◌-◌, ◌^◌, ◌≤◌, ◌<◌, ◌&&◌, ◌||◌, min, nat_lt, Bool, true, false, if◌then◌else◌}
+use Rattle.std.specs.Prelude.{List, [], ◌∷◌, ◌++◌, map, length, codes, vec_capacity}
+use Rattle.std.specs.Prelude.{Option, Some, None, IsSome, Result, Ok, Err}
 use Rattle.std.specs.Option.{option_map}
 use Rattle.std.specs.Duration.{as_nanos}
 use Rattle.std.specs.declared.time.Duration.{Duration}
 use Rattle.calloop_wake.specs.declared.error.Error.{Error}
-use Rattle.calloop_wake.specs.declared.error.Error.TheVariants.{InvalidToken, IoError, OtherError, OutOfMemory, TooManySources, TooManyTokens, TooManyTimers}
+use Rattle.calloop_wake.specs.declared.error.Error.TheVariants.{InvalidToken, IoError, OtherError, OutOfMemory}
+use Rattle.calloop_wake.specs.declared.error.Error.TheVariants.{TooManySources, TooManyTokens, TooManyTimers}
 use Rattle.calloop_wake.specs.declared.error.InsertError.{InsertError}
 use Rattle.calloop_wake.specs.declared.token.RegistrationToken.{RegistrationToken}
 use Rattle.logbook.specs.Pages.{Book}
@@ -20,13 +23,15 @@ use Rattle.calloop_core.specs.Polls.{is_filled}
 use Rattle.calloop_core.specs.ScriptPollers.{script_outside}
 use Rattle.calloop_core.specs.Timers.{unarmed}
 use Rattle.calloop.specs.declared.loop_logic.LoopCall.{LoopCall}
-use Rattle.calloop.specs.declared.loop_logic.LoopCall.TheVariants.{Insert, Remove as RemoveCall, Dispatch as DispatchCall, Poller as NewPoller}
+use Rattle.calloop.specs.declared.loop_logic.LoopCall.TheVariants.{Insert, Remove as RemoveCall}
+use Rattle.calloop.specs.declared.loop_logic.LoopCall.TheVariants.{Dispatch as DispatchCall, Poller as NewPoller}
 use Rattle.calloop.specs.declared.loop_logic.LoopAnswer.{LoopAnswer}
 use Rattle.calloop.specs.declared.loop_logic.LoopAnswer.TheVariants.{Inserted, Removed, Dispatched, Poller as OldPoller}
 use Rattle.calloop.specs.Machine.{World, View, IsNew, seen, view_of}
 use Rattle.calloop.specs.Rules.{Case, Did}
 use Rattle.looptrace.specs.declared.command.Command.{Command}
-use Rattle.looptrace.specs.declared.command.Command.TheVariants.{Nothing, Ping, Ring, Close, Remove, Answer as Event, Timer, Clock, Fault, Dispatch}
+use Rattle.looptrace.specs.declared.command.Command.TheVariants.{Nothing, Ping, Ring, Close, Remove}
+use Rattle.looptrace.specs.declared.command.Command.TheVariants.{Answer as Event, Timer, Clock, Fault, Dispatch}
 use Rattle.calloop_core.specs.declared.sources.OneOf.{OneOf}
 use Rattle.calloop_core.specs.declared.sources.OneOf.TheVariants.{First, Other}
 use Rattle.looptrace.specs.declared.runner.PendingAnswer.{PendingAnswer}
@@ -59,7 +64,13 @@ pub record State (R : Type 0) : Type 0 where
   pub pending : Option Pending
 
 abbrev pub state_of : {R : Type 0} → ScriptLoop R → State R
-state_of s = record { loop = view_of s.event_loop; sources = s.sources.items; fault = s.fault; pending = option_map pending_of s.pending }
+state_of s =
+    record {
+      loop = view_of s.event_loop;
+      sources = s.sources.items;
+      fault = s.fault;
+      pending = option_map pending_of s.pending;
+    }
 
 -- a machine to which nothing has happened agrees, over a poller with the clock at 0 and without answers
 pub record IsStart {R : Type 0} (s : State R) : Type 0 where
@@ -73,7 +84,9 @@ pub record IsStart {R : Type 0} (s : State R) : Type 0 where
   pub pending : s.pending ≡ None
 
 -- a call on the loop is a case of its machine
-abbrev pub Calls : {R : Type 0} → LoopCall (Source R) ScriptPoller (Option (List ℕ)) → LoopAnswer (Source R) ScriptPoller (Option (List ℕ)) → View (Source R) ScriptPoller → View (Source R) ScriptPoller → Type 0
+abbrev pub Calls : {R : Type 0} → LoopCall (Source R) ScriptPoller (Option (List ℕ))
+    → LoopAnswer (Source R) ScriptPoller (Option (List ℕ))
+    → View (Source R) ScriptPoller → View (Source R) ScriptPoller → Type 0
 Calls call answer old new = Did (Case source_meaning script_outside call answer) old new
 
 -- the names of the refusals
@@ -100,22 +113,29 @@ waits_text [] = []
 waits_text (asked ∷ later) = wait_text (nanos_in asked) ++ waits_text later
 
 -- an insertion prints its token, and its name is kept with its ping; that of a refused one isn't
-abbrev pub InsertSays : {S : Type 0} → List ℕ → (ping : Option Book) → Result RegistrationToken (InsertError S) → List Named → List Named → List ℕ → Type 0
-InsertSays name ping (Ok token) before after said = (after ≡ before ++ record { name = name; ping = ping } ∷ []) × (said ≡ insert_text name token.slot token.version)
+abbrev pub InsertSays : {S : Type 0} → List ℕ → (ping : Option Book) → Result RegistrationToken (InsertError S)
+    → List Named → List Named → List ℕ → Type 0
+InsertSays name ping (Ok token) before after said =
+    (after ≡ before ++ record { name = name; ping = ping } ∷ []) × (said ≡ insert_text name token.slot token.version)
 InsertSays name ping (Err refused) before after said = (after ≡ before) × (said ≡ refused_text (word_of refused.error))
 
 -- a source that was made so is inserted under a name that no source has yet; under another name the line can't be read
-abbrev pub InsertLine : {R : Type 0} → State R → List ℕ → (made : Source R → Option Book → Type 0) → Option (State R × List ℕ) → Type 0
+abbrev pub InsertLine : {R : Type 0} → State R → List ℕ → (made : Source R → Option Book → Type 0)
+    → Option (State R × List ℕ) → Type 0
 InsertLine s name made None = is_taken name s.sources ≡ true
 InsertLine {R} s name made (Some (t, said)) =
     (is_taken name s.sources ≡ false) × (source : Source R) × (ping : Option Book) × made source ping
-    × (answer : Result RegistrationToken (InsertError (Source R))) × Calls (Insert source) (Inserted answer) s.loop t.loop
+    × (answer : Result RegistrationToken (InsertError (Source R)))
+    × Calls (Insert source) (Inserted answer) s.loop t.loop
     × InsertSays name ping answer s.sources t.sources said × (t.fault ≡ s.fault) × (t.pending ≡ s.pending)
 
--- a source of a cell that no turn took a ring of, registered nowhere, with a callback that says its name, and the cell's ping
-abbrev pub IsPingOf : {R : Type 0} → List ℕ → OneOf (Dispatcher (PingSource R) Teller) (Dispatcher TimerSource Alarm) → Option Book → Type 0
+-- a source of a cell that no turn took a ring of, registered nowhere, with a callback that says its name, and the
+-- cell's ping
+abbrev pub IsPingOf : {R : Type 0} → List ℕ → OneOf (Dispatcher (PingSource R) Teller) (Dispatcher TimerSource Alarm)
+    → Option Book → Type 0
 IsPingOf name (First d) ping =
-    (d.source.twin.key ≡ None) × (d.source.twin.number ≡ 0) × (d.callback ≡ record { name = name }) × (ping ≡ Some d.source.twin.name)
+    (d.source.twin.key ≡ None) × (d.source.twin.number ≡ 0) × (d.callback ≡ record { name = name })
+    × (ping ≡ Some d.source.twin.name)
 IsPingOf name (Other d) ping = ⊥
 
 abbrev pub IsNewPing : {R : Type 0} → List ℕ → Source R → Option Book → Type 0
@@ -123,7 +143,8 @@ IsNewPing name s ping = IsPingOf name s.held ping
 
 -- a timer with a deadline, with a callback that says its name and the deadline
 abbrev pub new_timer : {R : Type 0} → List ℕ → (deadline : ℕ) → Source R
-new_timer name deadline = timer_in (record { source = unarmed (Some (record { nanos = deadline })); callback = record { name = name } })
+new_timer name deadline =
+    timer_in (record { source = unarmed (Some (record { nanos = deadline })); callback = record { name = name } })
 
 -- such a timer, without a ping
 abbrev pub IsNewTimer : {R : Type 0} → List ℕ → (deadline : ℕ) → Source R → Option Book → Type 0
@@ -137,11 +158,13 @@ RingLine s name (Some (t, said)) = IsSome (ping_named name s.sources) × (t ≡ 
 -- the open ping of this name is dropped, which prints nothing; where there is none, the line can't be read
 abbrev pub CloseLine : {R : Type 0} → State R → List ℕ → Option (State R × List ℕ) → Type 0
 CloseLine s name None = ping_named name s.sources ≡ None
-CloseLine s name (Some (t, said)) = IsSome (ping_named name s.sources) × (t ≡ record s { sources = map (closed name) s.sources }) × (said ≡ [])
+CloseLine s name (Some (t, said)) =
+    IsSome (ping_named name s.sources) × (t ≡ record s { sources = map (closed name) s.sources }) × (said ≡ [])
 
 -- the token of these numbers, where a token can hold them
 abbrev pub token_with : (slot version : ℕ) → Option RegistrationToken
-token_with slot version = if nat_lt slot (2 ^ 32) && nat_lt version (2 ^ 16) then Some (record { slot = slot; version = version }) else None
+token_with slot version =
+    if nat_lt slot (2 ^ 32) && nat_lt version (2 ^ 16) then Some (record { slot = slot; version = version }) else None
 
 abbrev pub removed_text : {R : Type 0} → Option (Source R) → List ℕ
 removed_text None = refused_text (word_of InvalidToken)
@@ -178,7 +201,12 @@ abbrev pub AnswerLine : {R : Type 0} → State R → (key : ℕ) → Readiness �
 AnswerLine s key readiness None = 1024 ≤ length (events_of s.pending)
 AnswerLine s key readiness (Some (t, said)) =
     (length (events_of s.pending) < 1024)
-    × (t ≡ record s { pending = Some (record { moment = s.loop.poll.poller.moment; events = events_of s.pending ++ (key, readiness) ∷ [] }) }) × (said ≡ [])
+    × (t ≡ record s {
+      pending = Some (record {
+        moment = s.loop.poll.poller.moment;
+        events = events_of s.pending ++ (key, readiness) ∷ [];
+      });
+    }) × (said ≡ [])
 
 -- What the next wait gives: a fault where one is asked for, at the moment that the clock shows, so that it leaves the
 -- clock unmoved; else the pending answer.
@@ -205,16 +233,16 @@ pub record IsTakenBack (p q : ScriptPoller) : Type 0 where
   pub faults : q.faults ≡ p.faults
   pub waits : q.waits ≡ p.waits
 
--- Where the script stands still after a dispatch, that was refused before its wait, and what was pending stays so. Else the
--- wait took a fault, which only delays the answer, or the answer.
+-- Where the script stands still after a dispatch, that was refused before its wait, and what was pending stays so. Else
+-- the wait took a fault, which only delays the answer, or the answer.
 abbrev pub fault_after : (stands fault : Bool) → Bool
 fault_after stands fault = stands && fault
 
 abbrev pub pending_after : (stands fault : Bool) → Option Pending → Option Pending
 pending_after stands fault pending = if stands || fault then pending else None
 
--- a dispatch over a poller that is ready for its wait, which is then without a script again; the text is the asked waits,
--- then what the callbacks said, then the refusal
+-- a dispatch over a poller that is ready for its wait, which is then without a script again; the text is the asked
+-- waits, then what the callbacks said, then the refusal
 pub record DispatchLine {R : Type 0} (s : State R) (timeout : Option ℕ) (t : State R) (said : List ℕ) : Type 0 where
   pub ready : ScriptPoller
   pub is_ready : IsReady s.fault s.pending s.loop.poll.poller ready

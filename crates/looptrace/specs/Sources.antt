@@ -22,12 +22,16 @@ use Rattle.looptrace.specs.Says.{Tells}
 use Rattle.looptrace.specs.Texts.{call_text, alarm_text}
 
 -- a teller says its name and stays as it is
-abbrev pub tells : {Q : Type 0} → Teller → Unit {0} → Unit {0} → Option (List ℕ) → Q → Unit {0} → Teller → Unit {0} → Option (List ℕ) → Q → Type 0
-tells teller event metadata said asked answer after metadata' said' asked' = (after ≡ teller) × Tells (call_text teller.name) said said'
+abbrev pub tells : {Q : Type 0} → Teller → Unit {0} → Unit {0} → Option (List ℕ) → Q → Unit {0}
+    → Teller → Unit {0} → Option (List ℕ) → Q → Type 0
+tells teller event metadata said asked answer after metadata' said' asked' =
+    (after ≡ teller) × Tells (call_text teller.name) said said'
 
 -- an alarm says its name and the deadline, stays as it is, and lets its timer leave the loop
-abbrev pub tells_deadline : {Q : Type 0} → Alarm → Instant → Unit {0} → Option (List ℕ) → Q → TimeoutAction → Alarm → Unit {0} → Option (List ℕ) → Q → Type 0
-tells_deadline alarm deadline metadata said asked answer after metadata' said' asked' = (answer ≡ Drop) × (after ≡ alarm) × Tells (alarm_text alarm.name deadline.nanos) said said'
+abbrev pub tells_deadline : {Q : Type 0} → Alarm → Instant → Unit {0} → Option (List ℕ) → Q → TimeoutAction
+    → Alarm → Unit {0} → Option (List ℕ) → Q → Type 0
+tells_deadline alarm deadline metadata said asked answer after metadata' said' asked' =
+    (answer ≡ Drop) × (after ≡ alarm) × Tells (alarm_text alarm.name deadline.nanos) said said'
 
 -- the sources of a script: a ping with its teller, or a timer with its alarm
 abbrev pub Source : Type 0 → Type 0
@@ -42,4 +46,5 @@ timer_in d = with_data (Other d)
 abbrev pub source_meaning : {P R : Type 0} → Meaning (Source R) P (Lent (Option (List ℕ)) (Requests (Source R)))
 source_meaning =
     seen_as (λ s. s.held)
-    (one_of (with_callback ping_meaning tells (λ q r. Unit {0}) (λ cause e. e ≡ OutOfMemory)) (with_callback timer_meaning tells_deadline (λ q r. Unit {0}) (λ cause e. e ≡ OutOfMemory)))
+    (one_of (with_callback ping_meaning tells (λ q r. Unit {0}) (λ cause e. e ≡ OutOfMemory))
+    (with_callback timer_meaning tells_deadline (λ q r. Unit {0}) (λ cause e. e ≡ OutOfMemory)))

@@ -1,21 +1,8 @@
-//! Runs a loop from a script: reads commands, a line each, and writes what the loop does.
+//! The program `looptrace`: a run over standard input, to standard output and standard error.
 #![tactic(auto)]
 
-pub mod command;
-pub mod driver;
-pub mod lines;
-pub mod name;
-pub mod named;
-pub mod runner;
-pub mod source;
-pub mod streams;
-#[cfg(test)]
-mod tests;
-pub mod text;
-pub mod trace;
-
-use crate::streams::Streams;
-use crate::trace::trace;
+use looptrace::streams::Streams;
+use looptrace::trace::trace;
 use std::io::BufReader;
 use std::process::ExitCode;
 

@@ -1,5 +1,5 @@
 use Rattle.std.proofs.Common.{◌≡◌, deque_len}
-use Rattle.calloop_wake.proofs.tests.serve_within.Given as goal
+use Rattle.calloop_wake_tests.proofs.tests.serve_all.Given as goal
 
 abbrev pub invariant-loop-pass : goal.invariant-loop-pass
 invariant-loop-pass g l = l.twin.name ≡ l.lock.slot

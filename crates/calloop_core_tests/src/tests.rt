@@ -1,0 +1,798 @@
+ghost use Rattle.std.specs.Prelude.{◌≡◌, ◌≢◌, ◌-◌, ◌^◌, IfOk};
+ghost use Rattle.calloop_wake.specs.Tokens.{key_of};
+
+use calloop_core::sources::{Asking, Callback, Dispatch, Dispatcher, EventSource, PostAction};
+use calloop_core::sys::hub::{Hub, SharedHub, share};
+use calloop_core::sys::notifier::Notifier;
+use calloop_core::sys::poll::Poll;
+use calloop_core::sys::script::{ScriptAnswer, ScriptClock, ScriptEnd, ScriptEvents, ScriptPoller};
+use calloop_core::sys::{Clock, Poller, Readiness};
+use calloop_core::timer::{TimeoutAction, Timer};
+use calloop_wake::error::Error;
+use calloop_wake::token::{RegistrationToken, Token, TokenFactory};
+use calloop_wake::wake::locked::Locked;
+use calloop_wake::wake::ping::{OpenedTurn, PingCore};
+use calloop_wake::wake::{Debt, PingTurn, TakenPass, Twin};
+use calloop_wake::wheel::Instant;
+use std::alloc::{AllocError, Global};
+use std::io;
+use std::process::Abort;
+use std::sync::atomic::AtomicBool;
+use std::sync::{Arc, Wait};
+use std::time::Duration;
+
+#[test]
+fn a_script_answers_in_its_order_and_then_by_the_timeout(rt: HostRuntime) {
+    let mut poller = ScriptPoller::new(rt.alloc()).expect(&rt, "a poller");
+    assert_eq!(rt; poller.now().nanos, 0);
+    assert!(rt; scripts(&mut poller, rt.alloc(), 30, &[4, 2]));
+    assert!(rt; scripts(&mut poller, rt.alloc(), 20, &[9]));
+    let table: [(Option<Duration>, &[u64], u64); 5] = [
+        (nanos(5), &[4, 2], 30),
+        (None, &[9], 20),
+        (nanos(7), &[], 27),
+        (None, &[], 27),
+        (nanos(u64::MAX), &[], u64::MAX),
+    ];
+    for (timeout, keys, now) in table {
+        assert!(rt; waits(&mut poller, rt.alloc(), timeout, keys));
+        assert_eq!(rt; poller.now().nanos, now);
+    }
+}
+
+#[test]
+fn waits_are_noted_as_far_as_room_was_made(rt: HostRuntime) {
+    let mut poller = ScriptPoller::new(rt.alloc()).expect(&rt, "a poller");
+    assert!(rt; waits(&mut poller, rt.alloc(), nanos(1), &[]) && poller.waits().is_empty());
+    assert!(rt; poller.keep_waits(2).is_ok());
+    for timeout in [nanos(5), None, nanos(6)] {
+        assert!(rt; waits(&mut poller, rt.alloc(), timeout, &[]));
+    }
+    assert_eq!(rt; poller.waits(), [nanos(5), None].as_slice());
+}
+
+#[test]
+fn room_that_is_made_anew_forgets_the_noted_waits(rt: HostRuntime) {
+    let mut poller = ScriptPoller::new(rt.alloc()).expect(&rt, "a poller");
+    assert!(rt; poller.keep_waits(2).is_ok());
+    assert!(rt; waits(&mut poller, rt.alloc(), nanos(5), &[]));
+    assert!(rt; poller.keep_waits(1).is_ok() && poller.waits().is_empty());
+    assert!(rt; waits(&mut poller, rt.alloc(), nanos(8), &[]));
+    assert_eq!(rt; poller.waits(), [nanos(8)].as_slice());
+}
+
+#[test]
+fn an_answer_takes_no_more_than_1024_events(rt: HostRuntime) {
+    let mut events = ScriptEvents::new(rt.alloc());
+    for key in 0..1024 {
+        assert!(rt; events.push(key, Readiness::EMPTY).is_ok());
+    }
+    match events.push(1024, WRITABLE) {
+        Ok(()) => assert!(rt; false),
+        Err((key, readiness)) => assert!(rt; key == 1024 && readiness.writable),
+    }
+}
+
+#[test]
+fn a_clock_follows_its_poller(rt: HostRuntime) {
+    let mut poll = new_poll(&rt, rt.alloc());
+    assert!(rt; shows(&poll, 0));
+    assert!(rt; polls(&rt, &mut poll, nanos(4)));
+    assert!(rt; shows(&poll, 4));
+    poll.poller_mut().set_clock(Instant { nanos: 3 });
+    assert!(rt; shows(&poll, 3));
+    assert_eq!(rt; poll.poller_mut().now().nanos, 3);
+}
+
+#[test]
+fn posted_events_come_first_and_in_the_order_of_their_keys(rt: HostRuntime) {
+    let mut desk = Desk::new(&rt, rt.alloc());
+    ring(&rt, &desk.other);
+    ring(&rt, &desk.cell);
+    assert!(rt;
+        scripts(
+            desk.poll.poller_mut(),
+            rt.alloc(),
+            1,
+            &[FREE, u64::MAX, OTHER]
+        )
+    );
+    assert!(rt; polls(&rt, &mut desk.poll, None));
+    assert!(rt;
+        gives(
+            &mut desk.poll,
+            &[posted(CELL), posted(OTHER), polled(FREE), polled(OTHER)]
+        )
+    );
+}
+
+#[test]
+fn a_pass_opens_one_turn(rt: HostRuntime) {
+    let mut desk = Desk::new(&rt, rt.alloc());
+    ring(&rt, &desk.cell);
+    assert!(rt; polls(&rt, &mut desk.poll, None));
+    assert_eq!(rt; next(&mut desk.poll), Some(posted(CELL)));
+    assert_eq!(rt; turn(&rt, &mut desk.poll, &mut desk.cell), Some(true));
+    assert_eq!(rt; turn(&rt, &mut desk.poll, &mut desk.cell), None);
+    desk.poll.end_event();
+    assert!(rt; polls(&rt, &mut desk.poll, None));
+    assert!(rt; gives(&mut desk.poll, &[]));
+}
+
+#[test]
+fn a_pass_that_another_cell_refuses_comes_again(rt: HostRuntime) {
+    let mut desk = Desk::new(&rt, rt.alloc());
+    ring(&rt, &desk.other);
+    assert!(rt; polls(&rt, &mut desk.poll, None));
+    assert_eq!(rt; next(&mut desk.poll), Some(posted(OTHER)));
+    assert_eq!(rt; turn(&rt, &mut desk.poll, &mut desk.cell), None);
+    desk.poll.end_event();
+    assert!(rt; polls(&rt, &mut desk.poll, None));
+    assert_eq!(rt; next(&mut desk.poll), Some(posted(OTHER)));
+    assert_eq!(rt; turn(&rt, &mut desk.poll, &mut desk.other), Some(true));
+}
+
+#[test]
+fn a_polled_event_has_no_pass(rt: HostRuntime) {
+    let mut desk = Desk::new(&rt, rt.alloc());
+    assert!(rt; scripts(desk.poll.poller_mut(), rt.alloc(), 1, &[CELL]));
+    assert!(rt; polls(&rt, &mut desk.poll, None));
+    assert_eq!(rt; next(&mut desk.poll), Some(polled(CELL)));
+    assert_eq!(rt; turn(&rt, &mut desk.poll, &mut desk.cell), None);
+}
+
+#[test]
+fn a_wait_beside_a_mark_is_asked_as_0(rt: HostRuntime) {
+    let mut desk = Desk::new(&rt, rt.alloc());
+    ring(&rt, &desk.cell);
+    assert!(rt; polls(&rt, &mut desk.poll, None));
+    assert_eq!(rt; next(&mut desk.poll), Some(posted(CELL)));
+    assert_eq!(rt; turn(&rt, &mut desk.poll, &mut desk.cell), Some(true));
+    assert!(rt; polls(&rt, &mut desk.poll, nanos(9)));
+    assert!(rt; asked(&mut desk.poll, &[nanos(0), nanos(9)]));
+}
+
+#[test]
+fn passes_that_are_unspent_come_again(rt: HostRuntime) {
+    let mut desk = Desk::new(&rt, rt.alloc());
+    ring(&rt, &desk.cell);
+    ring(&rt, &desk.other);
+    for _ in 0..2 {
+        assert!(rt; polls(&rt, &mut desk.poll, None));
+        assert!(rt; gives(&mut desk.poll, &[posted(CELL), posted(OTHER)]));
+        desk.poll.end_event();
+    }
+    assert!(rt; polls(&rt, &mut desk.poll, None));
+    assert_eq!(rt; next(&mut desk.poll), Some(posted(CELL)));
+    assert_eq!(rt; turn(&rt, &mut desk.poll, &mut desk.cell), Some(true));
+}
+
+#[test]
+fn left_over_events_come_before_a_new_batch(rt: HostRuntime) {
+    let mut desk = Desk::new(&rt, rt.alloc());
+    assert!(rt; scripts(desk.poll.poller_mut(), rt.alloc(), 1, &[FREE, OTHER]));
+    assert!(rt; scripts(desk.poll.poller_mut(), rt.alloc(), 1, &[OTHER, u64::MAX]));
+    assert!(rt; polls(&rt, &mut desk.poll, None));
+    assert_eq!(rt; next(&mut desk.poll), Some(polled(FREE)));
+    ring(&rt, &desk.cell);
+    assert!(rt; polls(&rt, &mut desk.poll, None));
+    assert!(rt;
+        gives(
+            &mut desk.poll,
+            &[polled(OTHER), posted(CELL), polled(OTHER)]
+        )
+    );
+}
+
+#[test]
+fn a_wait_beside_a_left_over_event_is_asked_as_0(rt: HostRuntime) {
+    let mut poll = new_poll(&rt, rt.alloc());
+    assert!(rt; scripts(poll.poller_mut(), rt.alloc(), 1, &[FREE, OTHER]));
+    assert!(rt; polls(&rt, &mut poll, None));
+    assert_eq!(rt; next(&mut poll), Some(polled(FREE)));
+    assert!(rt; polls(&rt, &mut poll, None));
+    assert!(rt; gives(&mut poll, &[polled(OTHER)]));
+    assert!(rt; polls(&rt, &mut poll, nanos(9)));
+    assert!(rt; asked(&mut poll, &[None, nanos(0), nanos(9)]));
+}
+
+#[test]
+fn a_post_nudges_the_poller(rt: HostRuntime) {
+    let mut desk = Desk::new(&rt, rt.alloc());
+    assert!(rt; !desk.poll.poller_mut().is_nudged());
+    ring(&rt, &desk.cell);
+    assert!(rt; desk.poll.poller_mut().is_nudged());
+    assert!(rt; polls(&rt, &mut desk.poll, None));
+    assert!(rt; !desk.poll.poller_mut().is_nudged());
+}
+
+#[test]
+fn a_pass_that_is_unspent_nudges_the_poller(rt: HostRuntime) {
+    let mut desk = Desk::new(&rt, rt.alloc());
+    ring(&rt, &desk.cell);
+    assert!(rt; polls(&rt, &mut desk.poll, None));
+    assert_eq!(rt; next(&mut desk.poll), Some(posted(CELL)));
+    assert!(rt; !desk.poll.poller_mut().is_nudged());
+    desk.poll.end_event();
+    assert!(rt; desk.poll.poller_mut().is_nudged());
+}
+
+#[test]
+fn a_key_with_a_place_is_refused(rt: HostRuntime) {
+    let mut desk = Desk::new(&rt, rt.alloc());
+    let refused = register(&rt, &mut desk.other, token(2));
+    assert_eq!(rt; kind_of(refused), Some(io::ErrorKind::AlreadyExists));
+}
+
+#[test]
+fn a_cell_that_moves_leaves_its_key_to_another(rt: HostRuntime) {
+    let mut desk = Desk::new(&rt, rt.alloc());
+    ring(&rt, &desk.cell);
+    assert!(rt; register(&rt, &mut desk.cell, token(0)).is_ok());
+    assert!(rt; register(&rt, &mut desk.other, token(2)).is_ok());
+    assert!(rt; polls(&rt, &mut desk.poll, None));
+    assert_eq!(rt; next(&mut desk.poll), Some(posted(FREE)));
+    assert_eq!(rt; turn(&rt, &mut desk.poll, &mut desk.cell), Some(true));
+    assert!(rt; gives(&mut desk.poll, &[]));
+}
+
+#[test]
+fn a_poll_that_fails_gathers_nothing(rt: HostRuntime) {
+    let signal = Arc::new(rt.alloc(), AtomicBool::new(false)).expect(&rt, "a signal");
+    let poller = FailsFirst { waits: 0, signal };
+    let mut poll = Poll::new(clone_of(&rt), rt.alloc(), poller, ()).expect(&rt, "a poll");
+    let mut cell = Bell::new(&rt, &poll).expect(&rt, "a cell");
+    assert!(rt; register(&rt, &mut cell, token(2)).is_ok());
+    ring(&rt, &cell);
+    let refused = poll_once(&rt, &mut poll, None);
+    assert_eq!(rt; kind_of(refused), Some(io::ErrorKind::PermissionDenied));
+    assert!(rt; gives(&mut poll, &[]));
+    assert!(rt; polls(&rt, &mut poll, None));
+    assert!(rt; gives(&mut poll, &[posted(CELL)]));
+}
+
+#[test]
+fn a_callback_is_given_its_event_and_its_sources_metadata(rt: HostRuntime) {
+    let mut held = Dispatcher {
+        source: 4,
+        callback: Adder,
+    };
+    let mut data = 10;
+    let count = held.callback.call(5, &mut held.source, &mut data, &mut ());
+    assert_eq!(rt; (count, held.source, data), (5, 5, 15));
+}
+
+#[test]
+fn a_wait_that_is_interrupted_goes_on_with_what_is_left(rt: HostRuntime) {
+    let table: [(&[u64], &[u64]); 4] = [
+        (&[40, 70], &[100, 60, 30]),
+        (&[0, 0, 0], &[100, 100, 100, 100]),
+        (&[40, 30], &[100, 60, 70]),
+        (&[100], &[100]),
+    ];
+    for (moments, wanted) in table {
+        let mut poll = interrupted(&rt, rt.alloc(), moments);
+        assert!(rt; has_asked(&mut poll, wanted));
+        assert!(rt; gives(&mut poll, &[]));
+    }
+}
+
+#[test]
+fn timers_come_due_in_the_order_of_their_deadlines(rt: HostRuntime) {
+    let mut poll = new_poll(&rt, rt.alloc());
+    for (slot, deadline) in [(0, 30), (1, 10), (2, 20), (3, 10)] {
+        assert!(rt; poll.insert_timer(at(deadline), token(slot)).is_ok());
+    }
+    poll.poller_mut().set_clock(at(50));
+    assert!(rt; polls(&rt, &mut poll, None));
+    assert!(rt; has_asked(&mut poll, &[0]));
+    assert!(rt; gives(&mut poll, &[due(1), due(3), due(2), due(0)]));
+}
+
+#[test]
+fn a_fault_of_the_script_keeps_left_over_event_mark_and_timer(rt: HostRuntime) {
+    let mut desk = Desk::new(&rt, rt.alloc());
+    assert!(rt; desk.poll.insert_timer(at(5), token(1)).is_ok());
+    assert!(rt; scripts(desk.poll.poller_mut(), rt.alloc(), 0, &[FREE, OTHER]));
+    assert!(rt; ends_so(&mut desk.poll, 10, ScriptEnd::Fault));
+    assert!(rt; polls(&rt, &mut desk.poll, None));
+    assert_eq!(rt; next(&mut desk.poll), Some(polled(FREE)));
+    ring(&rt, &desk.cell);
+    let refused = poll_once(&rt, &mut desk.poll, None);
+    assert_eq!(rt; kind_of(refused), Some(io::ErrorKind::Other));
+    assert!(rt; gives(&mut desk.poll, &[polled(OTHER)]));
+    assert!(rt; polls(&rt, &mut desk.poll, None));
+    assert!(rt; gives(&mut desk.poll, &[posted(CELL), due(1)]));
+}
+
+#[test]
+fn a_batch_is_posted_then_polled_then_due_events(rt: HostRuntime) {
+    let mut desk = Desk::new(&rt, rt.alloc());
+    ring(&rt, &desk.other);
+    assert!(rt; desk.poll.insert_timer(at(5), token(0)).is_ok());
+    assert!(rt; scripts(desk.poll.poller_mut(), rt.alloc(), 5_000_000, &[CELL]));
+    assert!(rt; polls(&rt, &mut desk.poll, None));
+    assert!(rt; gives(&mut desk.poll, &[posted(OTHER), polled(CELL), due(0)]));
+}
+
+#[test]
+fn deadlines_count_from_what_the_clock_shows(rt: HostRuntime) {
+    let mut poll = new_poll(&rt, rt.alloc());
+    poll.poller_mut().set_clock(Instant { nanos: 7 });
+    let clock = poll.clock();
+    let mut timer = Timer::immediate(clock);
+    assert_eq!(rt; timer.current_deadline(), Some(Instant { nanos: 7 }));
+    timer.set_duration(clock, Duration::from_nanos(5));
+    assert_eq!(rt; timer.current_deadline(), Some(Instant { nanos: 12 }));
+    let other = Timer::from_duration(clock, Duration::from_nanos(3));
+    assert_eq!(rt; other.current_deadline(), Some(Instant { nanos: 10 }));
+}
+
+#[test]
+fn a_timer_without_a_deadline_takes_no_token_and_shortens_no_wait(rt: HostRuntime) {
+    let mut poll = new_poll(&rt, rt.alloc());
+    let mut timer = Timer::from_duration(poll.clock(), Duration::MAX);
+    assert_eq!(rt; timer.current_deadline(), None);
+    let mut factory = TokenFactory::new(RegistrationToken::new(0, 0));
+    assert!(rt; timer.register(&mut poll, &mut factory).is_ok());
+    assert_eq!(rt; factory.token().ok(), Some(token(0)));
+    assert!(rt; polls(&rt, &mut poll, millis(510)));
+    assert!(rt; has_asked(&mut poll, &[510]) && gives(&mut poll, &[]));
+}
+
+#[test]
+fn a_deadline_that_is_set_while_armed_comes_with_the_next_arming(rt: HostRuntime) {
+    let mut poll = new_poll(&rt, rt.alloc());
+    let mut moments = Vec::new(rt.alloc());
+    let mut alarm = alarm(Timer::from_deadline(at(100)), TimeoutAction::Drop);
+    assert!(rt; arms(&mut poll, &mut alarm));
+    alarm.source.set_deadline(at(300));
+    assert!(rt; polls(&rt, &mut poll, millis(200)));
+    assert!(rt; has_asked(&mut poll, &[100]));
+    let answer = serve(&mut poll, &mut alarm, &mut moments);
+    assert!(rt; answer == Some(PostAction::Remove) && moments.as_slice() == [at(100)].as_slice());
+    assert_eq!(rt; alarm.source.current_deadline(), Some(at(300)));
+}
+
+#[test]
+fn a_polled_event_calls_a_due_timer_for_its_own(rt: HostRuntime) {
+    for (action, answer) in [
+        (TimeoutAction::Drop, PostAction::Remove),
+        (TimeoutAction::ToInstant(at(70)), PostAction::Continue),
+    ] {
+        let mut poll = new_poll(&rt, rt.alloc());
+        let mut moments = Vec::new(rt.alloc());
+        let mut alarm = alarm(Timer::from_deadline(at(10)), action);
+        assert!(rt; arms(&mut poll, &mut alarm));
+        assert!(rt; scripts(poll.poller_mut(), rt.alloc(), 50_000_000, &[FREE]));
+        assert!(rt; polls(&rt, &mut poll, None));
+        for wanted in [Some(answer), Some(PostAction::Continue), None] {
+            assert_eq!(rt; serve(&mut poll, &mut alarm, &mut moments), wanted);
+        }
+        assert_eq!(rt; moments.as_slice(), [at(10)].as_slice());
+    }
+}
+
+const WRITABLE: Readiness = Readiness {
+    readable: false,
+    writable: true,
+    error: false,
+};
+
+// The keys of the slots 0, 2 and 3.
+const FREE: u64 = 0;
+
+const CELL: u64 = 0x2_0000_0000;
+
+const OTHER: u64 = 0x3_0000_0000;
+
+// What is seen of an event: its key, whether it is ready to be read, and whether it was posted.
+type Seen = (u64, bool, bool);
+
+fn posted(key: u64) -> Seen {
+    (key, true, true)
+}
+
+// One that the scripted poller gave.
+fn polled(key: u64) -> Seen {
+    (key, false, false)
+}
+
+// One of the timer of this slot.
+fn due(slot: u32) -> Seen {
+    (token(slot).key(), true, false)
+}
+
+fn nanos(nanos: u64) -> Option<Duration> {
+    Some(Duration::from_nanos(nanos))
+}
+
+fn millis(millis: u64) -> Option<Duration> {
+    Some(Duration::from_millis(millis))
+}
+
+fn at(millis: u64) -> Instant {
+    Instant {
+        nanos: millis.saturating_mul(1_000_000),
+    }
+}
+
+// The key of the slot is 4,294,967,296 times the slot.
+fn token(slot: u32) -> Token
+    ensures { key_of result ≢ 2 ^ 64 - 1 }
+{
+    match TokenFactory::new(RegistrationToken::new(slot, 0)).token() {
+        Ok(token) => token,
+        Err(_) => unreachable!(),
+    }
+}
+
+fn clone_of<R: Clone + Abort>(rt: &R) -> R {
+    rt.clone().expect(rt, "a runtime")
+}
+
+// Has the next wait end at this moment, in nanoseconds, with events of these keys: whether there is memory for them.
+fn scripts(poller: &mut ScriptPoller, alloc: Global, moment: u64, keys: &[u64]) -> bool {
+    let mut events = ScriptEvents::new(alloc);
+    for key in keys {
+        if events.push(*key, WRITABLE).is_err() {
+            return false;
+        }
+    }
+    let answer = ScriptAnswer {
+        moment: Instant { nanos: moment },
+        end: ScriptEnd::Events(events),
+    };
+    poller.script(answer).is_ok()
+}
+
+// Whether a wait gives events of just these keys, all writable.
+fn waits(
+    poller: &mut ScriptPoller,
+    alloc: Global,
+    timeout: Option<Duration>,
+    keys: &[u64],
+) -> bool {
+    let Ok(mut events) = Vec::with_capacity(alloc, 1024) else {
+        return false;
+    };
+    poller.wait(timeout, &mut events).is_ok()
+        && events.len() == keys.len()
+        && events.iter().zip(keys).all(|(event, key)| event.0 == *key
+            && event.1.writable
+            && !event.1.readable)
+}
+
+type Scripted<R> = Poll<ScriptPoller, ScriptClock, R>;
+
+// Over a script, whose first eight waits are noted.
+fn new_poll<R: Wait + Clone + Drop + Abort>(rt: &R, alloc: Global) -> Scripted<R> {
+    let mut poller = ScriptPoller::new(alloc).expect(rt, "a poller");
+    assert!(rt; poller.keep_waits(8).is_ok());
+    let clock = poller.clock().expect(rt, "a clock");
+    Poll::new(clone_of(rt), alloc, poller, clock).expect(rt, "a poll")
+}
+
+// Whether its clock shows this moment, and a clone of that too.
+fn shows<R: Wait + Drop>(poll: &Scripted<R>, nanos: u64) -> bool {
+    match poll.clock().clone() {
+        Ok(clone) => poll.clock().now().nanos == nanos && clone.now().nanos == nanos,
+        Err(_) => false,
+    }
+}
+
+// Whether just these waits were asked.
+fn asked<R: Wait + Drop>(poll: &mut Scripted<R>, wanted: &[Option<Duration>]) -> bool {
+    poll.poller_mut().waits() == wanted
+}
+
+// The same, in milliseconds.
+fn has_asked<R: Wait + Drop>(poll: &mut Scripted<R>, wanted: &[u64]) -> bool {
+    let waits = poll.poller_mut().waits();
+    waits.len() == wanted.len()
+        && waits
+            .iter()
+            .zip(wanted)
+            .all(|(asked, wanted)| *asked == millis(*wanted))
+}
+
+// Has the next wait end so.
+fn ends_so<R: Wait + Drop>(poll: &mut Scripted<R>, millis: u64, end: ScriptEnd) -> bool {
+    let answer = ScriptAnswer {
+        moment: at(millis),
+        end,
+    };
+    poll.poller_mut().script(answer).is_ok()
+}
+
+// A wait of 100 ms that is interrupted at these moments.
+fn interrupted<R: Wait + Clone + Drop + Abort>(
+    rt: &R,
+    alloc: Global,
+    moments: &[u64],
+) -> Scripted<R> {
+    let mut poll = new_poll(rt, alloc);
+    for moment in moments {
+        assert!(rt; ends_so(&mut poll, *moment, ScriptEnd::Interrupted));
+    }
+    assert!(rt; polls(rt, &mut poll, millis(100)));
+    poll
+}
+
+// A cell of a ping under its lock, with its receiving end and the board of its key.
+struct Bell<R: Wait + Drop> {
+    rt: R,
+    hub: SharedHub,
+    lock: Locked<PingCore>,
+    twin: Twin,
+    ghost tied: { twin.name ≡ lock.slot },
+}
+
+impl<R: Wait + Clone + Drop> Bell<R> {
+    fn new<P: Poller, C>(rt: &R, poll: &Poll<P, C, R>) -> Result<Bell<R>, AllocError> {
+        let its_rt = rt.clone()?;
+        let (core, name, right) = PingCore::new();
+        let twin = core.receiver(right);
+        Ok(Bell {
+            rt: its_rt,
+            hub: share(rt, poll.hub()),
+            lock: Locked::new(core, &name),
+            twin,
+        })
+    }
+}
+
+impl<R: Wait + Drop> Drop for Bell<R> {
+    fn drop(self) {
+        let Bell {
+            rt,
+            hub,
+            lock,
+            twin,
+        } = self;
+        let (gate, mut core) = lock.lock(&rt);
+        let leave = core.abandon(twin);
+        lock.unlock(&rt, gate, core);
+        if let Some(leave) = leave {
+            hub.close_place(&rt, leave);
+        }
+    }
+}
+
+// A poll with two cells, in the slots 2 and 3.
+#[derive(Drop)]
+struct Desk<R: Wait + Drop> {
+    poll: Scripted<R>,
+    cell: Bell<R>,
+    other: Bell<R>,
+}
+
+impl<R: Wait + Clone + Drop + Abort> Desk<R> {
+    fn new(rt: &R, alloc: Global) -> Desk<R> {
+        let poll = new_poll(rt, alloc);
+        let mut cell = Bell::new(rt, &poll).expect(rt, "a cell");
+        assert!(rt; register(rt, &mut cell, token(2)).is_ok());
+        let mut other = Bell::new(rt, &poll).expect(rt, "a cell");
+        assert!(rt; register(rt, &mut other, token(3)).is_ok());
+        Desk { poll, cell, other }
+    }
+}
+
+// Posts what is owed.
+fn settle<Q: Wait>(rt: &Q, hub: &Hub, debt: Option<Debt>) {
+    if let Some(debt) = debt {
+        hub.settle(rt, debt);
+    }
+}
+
+// Opens the token's place, and gives the cell its key.
+fn register<Q: Wait, R: Wait + Drop>(rt: &Q, bell: &mut Bell<R>, token: Token) -> Result<(), Error>
+    requires { key_of token ≢ 2 ^ 64 - 1 }
+{
+    let pass = bell.hub.open_place(rt, token)?;
+    let (gate, mut core) = bell.lock.lock(rt);
+    let (debt, leave) = core.set_key(pass, &mut bell.twin);
+    bell.lock.unlock(rt, gate, core);
+    settle(rt, &bell.hub, debt);
+    if let Some(leave) = leave {
+        bell.hub.close_place(rt, leave);
+    }
+    Ok(())
+}
+
+// Rings the cell, and posts its key where that is owed.
+fn ring<Q: Wait, R: Wait + Drop>(rt: &Q, bell: &Bell<R>) {
+    let (gate, mut core) = bell.lock.lock(rt);
+    let (_receipt, debt) = core.ring();
+    bell.lock.unlock(rt, gate, core);
+    settle(rt, &bell.hub, debt);
+}
+
+fn open_turn<Q: Wait>(
+    rt: &Q,
+    lock: &Locked<PingCore>,
+    twin: &mut Twin,
+    pass: TakenPass,
+) -> Result<OpenedTurn, TakenPass>
+    requires { twin.old.name ≡ lock.now.slot }
+    ensures name { twin.new.name ≡ lock.now.slot }
+    ensures turn { IfOk result (λ o. o.turn.name ≡ lock.now.slot) }
+{
+    let (gate, mut core) = lock.lock(rt);
+    let opened = core.open_turn(pass, twin);
+    lock.unlock(rt, gate, core);
+    opened
+}
+
+fn end_turn<Q: Wait>(rt: &Q, lock: &Locked<PingCore>, turn: PingTurn) -> Option<Debt>
+    requires { turn.name ≡ lock.now.slot }
+{
+    let (gate, mut core) = lock.lock(rt);
+    let debt = core.end_turn(turn);
+    lock.unlock(rt, gate, core);
+    debt
+}
+
+fn poll_once<Q: Wait, P: Poller, C, R: Wait + Drop>(
+    rt: &Q,
+    poll: &mut Poll<P, C, R>,
+    timeout: Option<Duration>,
+) -> Result<(), Error> {
+    poll.reserve(0)?;
+    poll.poll(rt, timeout)
+}
+
+fn polls<Q: Wait, P: Poller, C, R: Wait + Drop>(
+    rt: &Q,
+    poll: &mut Poll<P, C, R>,
+    timeout: Option<Duration>,
+) -> bool {
+    poll_once(rt, poll, timeout).is_ok()
+}
+
+// What is seen of the next event.
+fn next<P: Poller, C, R: Wait + Drop>(poll: &mut Poll<P, C, R>) -> Option<Seen> {
+    let event = poll.next_event()?;
+    Some((event.token.key(), event.readiness.readable, event.posted))
+}
+
+// Whether just these events are left, which it takes.
+fn gives<P: Poller, C, R: Wait + Drop>(poll: &mut Poll<P, C, R>, wanted: &[Seen]) -> bool {
+    for seen in wanted {
+        if next(poll) != Some(*seen) {
+            return false;
+        }
+    }
+    next(poll).is_none()
+}
+
+// A turn of the cell with the pass that lies behind the event: whether somebody rang, if it opens.
+fn turn<Q: Wait, P: Poller, C, R: Wait + Drop>(
+    rt: &Q,
+    poll: &mut Poll<P, C, R>,
+    bell: &mut Bell<R>,
+) -> Option<bool> {
+    let pass = poll.take_pass()?;
+    match open_turn(rt, &bell.lock, &mut bell.twin, pass) {
+        Ok(
+            OpenedTurn {
+                turn,
+                rung,
+                told: _,
+            },
+        ) => {
+            settle(rt, poll.hub(), end_turn(rt, &bell.lock, turn));
+            Some(rung)
+        }
+        Err(pass) => {
+            poll.put_back(pass);
+            None
+        }
+    }
+}
+
+// The kind of the system's error that a refusal holds.
+fn kind_of(answer: Result<(), Error>) -> Option<io::ErrorKind> {
+    match answer {
+        Err(Error::IoError(cause)) => Some(cause.kind()),
+        _ => None,
+    }
+}
+
+// Its first wait gives an event and fails, and later ones give none. It counts faults alone.
+#[derive(Drop)]
+struct FailsFirst {
+    waits: u8,
+    signal: Arc<AtomicBool, Global>,
+}
+
+impl Poller for FailsFirst {
+    ghost outside = { record { reads = λ _ _ _. Unit {0}; waits = λ _ _ _ _ _. Unit {0}; faults = λ p. p.waits } };
+
+    fn now(&mut self) -> Instant {
+        Instant { nanos: 0 }
+    }
+
+    fn wait(
+        &mut self,
+        _timeout: Option<Duration>,
+        events: &mut Vec<(u64, Readiness)>,
+    ) -> io::Result<()> {
+        if self.waits > 0 {
+            return Ok(());
+        }
+        self.waits = 1;
+        events.push_reserved((7, WRITABLE));
+        Err(io::Error::from(io::ErrorKind::PermissionDenied))
+    }
+
+    fn notifier(&self) -> Result<Notifier, Error> {
+        Ok(Notifier::Script(Arc::try_clone(&self.signal)?))
+    }
+}
+
+// Adds the event to the data, counts its calls in the metadata, and answers with the count.
+#[derive(Drop)]
+struct Adder;
+
+impl<Q: Asking> Callback<u8, u8, u8, u8, Q> for Adder {
+    ghost may = { λ _ _ _ _ _ _ _ _ _ _. Unit {0} };
+
+    fn call(&mut self, event: u8, metadata: &mut u8, data: &mut u8, _requests: &mut Q) -> u8 {
+        *data = data.saturating_add(event);
+        *metadata = metadata.saturating_add(1);
+        *metadata
+    }
+}
+
+// Notes the moments that it is called with, and answers with this action.
+#[derive(Drop)]
+struct Noting {
+    action: TimeoutAction,
+}
+
+impl<Q: Asking> Callback<Instant, (), TimeoutAction, Vec<Instant>, Q> for Noting {
+    ghost may = { λ _ _ _ _ _ _ _ _ _ _. Unit {0} };
+
+    fn call(
+        &mut self,
+        event: Instant,
+        _metadata: &mut (),
+        data: &mut Vec<Instant>,
+        _requests: &mut Q,
+    ) -> TimeoutAction {
+        let _ = data.push(event);
+        self.action
+    }
+}
+
+type Alarm = Dispatcher<Timer, Noting>;
+
+fn alarm(source: Timer, action: TimeoutAction) -> Alarm {
+    Dispatcher {
+        source,
+        callback: Noting { action },
+    }
+}
+
+// Registers it in the slot 0.
+fn arms<R: Wait + Drop>(poll: &mut Scripted<R>, alarm: &mut Alarm) -> bool {
+    let mut factory = TokenFactory::new(RegistrationToken::new(0, 0));
+    Dispatch::<ScriptPoller, ScriptClock, R, Vec<Instant>, ()>::register(
+        alarm,
+        poll,
+        &mut factory,
+    ).is_ok()
+}
+
+// Gives the next event to the alarm.
+fn serve<R: Wait + Drop>(
+    poll: &mut Scripted<R>,
+    alarm: &mut Alarm,
+    moments: &mut Vec<Instant>,
+) -> Option<PostAction> {
+    let event = poll.next_event()?;
+    let answer = alarm.process_events(event.readiness, event.token, poll, moments, &mut ());
+    poll.end_event();
+    answer.ok()
+}

@@ -1,0 +1,13 @@
+//! Runs a loop from a script: reads commands, a line each, and writes what the loop does.
+#![tactic(auto)]
+
+pub mod command;
+pub mod driver;
+pub mod lines;
+pub mod name;
+pub mod named;
+pub mod runner;
+pub mod source;
+pub mod streams;
+pub mod text;
+pub mod trace;
