@@ -2,6 +2,7 @@ pub mod Pollers
 pub mod Batches
 pub mod Polls
 pub mod Events
+pub mod Actions
 pub mod Calls
 pub mod Deeds
 pub mod Holdings

@@ -1,10 +1,16 @@
 //! Sources of events, and what a user hands to the loop beside one: a callback for its events.
+ghost use Rattle.std.specs.Prelude.{◌≡◌};
+ghost use Rattle.calloop_core.specs.Actions.{either};
+ghost use Rattle.calloop_core.specs.declared.sources.PostAction.{PostAction};
+ghost use Rattle.calloop_core.specs.declared.sources.PostAction.TheVariants.{Reregister};
+
 use crate::sys::events::EventIterator;
 use crate::sys::poll::Poll;
 use crate::sys::{Poller, Readiness};
 use calloop_wake::error::{Error, Result as LoopResult};
 use calloop_wake::token::{Token, TokenFactory};
 use std::marker::PhantomData;
+use std::ops::{BitOr, BitOrAssign};
 use std::sync::Wait;
 
 /// What a callback writes its requests to the loop into. What is asked for stays asked for: by `reaches` alone does a
@@ -52,6 +58,43 @@ pub enum PostAction {
     /// It leaves the loop.
     Remove,
 }
+
+impl BitOr for PostAction {
+    ghost use Rattle.std.specs.Prelude.{◌≡◌};
+    ghost use Rattle.calloop_core.specs.Actions.{either};
+
+    type Output = PostAction;
+
+    ghost bitor_gives = { λ left right both. both ≡ either left right };
+
+    /// What becomes of a source that is made of two: what both ask for, else it is registered anew.
+    fn bitor(self, other: PostAction) -> PostAction {
+        if self == other {
+            self
+        } else {
+            PostAction::Reregister
+        }
+    }
+}
+
+impl BitOrAssign for PostAction {
+    ghost use Rattle.std.specs.Prelude.{◌≡◌};
+    ghost use Rattle.calloop_core.specs.Actions.{either};
+
+    ghost bitor_assign_gives = { λ left right both. both ≡ either left right };
+
+    fn bitor_assign(&mut self, other: PostAction) {
+        *self = *self | other;
+    }
+}
+
+/// In whatever order post actions are joined by `|`, and however often, the same comes of it; with `Reregister` it is that.
+pub fn joining_has_no_order()
+    ensures order { (a b : PostAction) → either a b ≡ either b a }
+    ensures grouping { (a b c : PostAction) → either (either a b) c ≡ either a (either b c) }
+    ensures repetition { (a : PostAction) → either a a ≡ a }
+    ensures absorbed { (a : PostAction) → either a Reregister ≡ Reregister }
+{}
 
 /// The error of a source, as an error of the loop.
 pub trait IntoError: Drop {

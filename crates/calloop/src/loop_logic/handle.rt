@@ -1,5 +1,8 @@
 //! The calls on a loop that act at once.
-ghost use Rattle.std.specs.Prelude.{◌≡◌, Ok, Err};
+ghost use Rattle.std.specs.Prelude.{◌≡◌, ◌↔◌, None, Ok, Err, IfOk, IfErr, IsErr};
+ghost use Rattle.calloop_wake.specs.declared.error.Error.TheVariants.{InvalidToken};
+ghost use Rattle.calloop_wake.specs.declared.list.Content.TheVariants.{Source};
+ghost use Rattle.calloop_wake.specs.Slots.{named as named_by, source_of};
 ghost use Rattle.std.specs.Borrow.{Lends, sem};
 ghost use Rattle.std.specs.Prelude.{[]};
 ghost use mir.Syntax.{named};
@@ -152,6 +155,28 @@ impl<D: EventDispatcher<P, C, R>, P: Poller, C: Clock, R: Wait + Drop> LoopHandl
         ensures machine { Leads (Case D.means P.outside (Insert (D.held (record { source = source; callback = callback }))) (Inserted (held_answer D.held callback result))) (view_of self.old.inner.now) (view_of self.new.inner.now) }
     {
         self.inner.insert_source(source, callback)
+    }
+
+    /// Registers a dispatcher in the first vacant slot: a source with its callback, as the loop holds them. The refusals are those
+    /// of `insert_source`.
+    pub fn register_dispatcher(
+        &mut self,
+        dispatcher: D,
+    ) -> std::result::Result<RegistrationToken, InsertError<D>>
+        ensures same { self.new.inner.ghost_name ≡ self.old.inner.ghost_name }
+        ensures case { Did (Case D.means P.outside (Insert dispatcher) (Inserted result)) (view_of self.old.inner.now) (view_of self.new.inner.now) }
+        ensures machine { Leads (Case D.means P.outside (Insert dispatcher) (Inserted result)) (view_of self.old.inner.now) (view_of self.new.inner.now) }
+    {
+        self.inner.insert(dispatcher)
+    }
+
+    /// The source that the token names, with its callback. Where it names none the answer is `InvalidToken`.
+    pub fn dispatcher(&self, token: &RegistrationToken) -> Result<&D>
+        ensures ok { IfOk result (λ held. named_by (view_of self.now.inner.now).slots token.now ≡ Source held.now) }
+        ensures refuses { IsErr result ↔ (source_of (named_by (view_of self.now.inner.now).slots token.now) ≡ None) }
+        ensures err { IfErr result (λ e. e ≡ InvalidToken) }
+    {
+        self.inner.sources.get(*token)
     }
 
     /// Registers the source that the token names, with tokens of a new factory, as after `disable`.
