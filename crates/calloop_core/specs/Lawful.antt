@@ -12,7 +12,7 @@ use Rattle.calloop_core.specs.Calls.{Call, Calling, Went, Becomes, IsOfSource}
 use Rattle.calloop_core.specs.Deeds.{Deed, Registered, Reregistered, Unregistered, Turned, Slept, Noticed}
 use Rattle.calloop_core.specs.Deeds.{Heard, Lent}
 use Rattle.calloop_core.specs.Meanings.{Meaning, IsKeeping, IsAsking, FailsAsSource, IsHeld}
-use Rattle.calloop_core.specs.Meanings.{with_callback, on_both, one_of, seen_as, still}
+use Rattle.calloop_core.specs.Meanings.{with_callback, on_both, one_of, seen_as, still, attentive}
 
 -- Of an error of a source.
 
@@ -26,6 +26,9 @@ memory_of_source e is = inr is
 
 pub keeping_still : {D P T : Type 0} (does : D → PollView P → Deed T → D → Type 0) → IsKeeping (still does)
 keeping_still does s t v deed steps fits below h = (tt, rw h.0 (λ counter. tt))
+
+pub keeping_attentive : {D P T : Type 0} (does : D → PollView P → Deed T → D → Type 0) → IsKeeping (attentive does)
+keeping_attentive does = keeping_still does
 
 -- Of a source with its callback.
 

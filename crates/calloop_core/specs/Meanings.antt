@@ -1,7 +1,7 @@
 -- What a source or a dispatcher means: a relation between what it is before a call, what the call read of `Poll`,
 -- what was done, the steps that it made there, and what it is after it. calloop's `EventSource` and
 -- `EventDispatcher`, seen from outside; calloop promises nothing of them.
-use Rattle.std.specs.Prelude.{◌≡◌, ◌↔◌, ℕ, List, [], Bool, false, Result, Err}
+use Rattle.std.specs.Prelude.{◌≡◌, ◌↔◌, ℕ, List, [], Bool, true, false, Result, Err}
 use Rattle.calloop_wake.specs.declared.error.Error.{Error}
 use Rattle.calloop_wake.specs.declared.token.Token.{Token}
 use Rattle.calloop_core.specs.declared.sys.Readiness.{Readiness}
@@ -132,6 +132,10 @@ still does =
       needs = λ s. false;
       does = λ s v deed steps t. (steps ≡ []) × does s v deed t;
     }
+
+-- the same, but told of waits
+abbrev pub attentive : {D P T : Type 0} → (D → PollView P → Deed T → D → Type 0) → Meaning D P T
+attentive does = record (still does) { needs = λ s. true }
 
 -- what is held means what the part means: it goes just where the part goes, and is held again
 pub record IsHeld {A D P T : Type 0} (held : A → D) (m : Meaning A P T) (n : Meaning D P T) : Type 0 where

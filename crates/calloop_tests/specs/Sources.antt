@@ -7,6 +7,7 @@ use Rattle.calloop_core.specs.Calls.{IsOfSource}
 use Rattle.calloop_core.specs.Lawful.{other_of_source}
 use Rattle.calloop_core.specs.Polls.{PollView}
 use Rattle.calloop_core.specs.Deeds.{Deed, Registered, Reregistered, Unregistered, Turned, Slept, Noticed, Heard}
+use Rattle.calloop_tests.specs.declared.attendant.Attendant.{Attendant}
 use Rattle.calloop_tests.specs.declared.source.Counter.{Counter}
 use Rattle.calloop_tests.specs.declared.source.Broken.{Broken}
 
@@ -22,6 +23,16 @@ Counts s v (Slept answer) t = (answer ≡ Ok None) × (t ≡ s)
 Counts s v (Noticed events) t = t ≡ s
 Counts s v (Turned readiness token turn) t =
     turn.calls ≡ record { event = t.turns; before = tt; after = tt; answer = tt } ∷ []
+
+-- a turn hands out how many waits there were, and waits alone change that number
+abbrev pub Attends : {P : Type 0} → Attendant → PollView P → Deed (Heard ℕ (Unit {0}) (Unit {0}) Broken) → Attendant → Type 0
+Attends s v (Registered f answer g) t = t.waits ≡ s.waits
+Attends s v (Reregistered f answer g) t = t.waits ≡ s.waits
+Attends s v (Unregistered answer) t = (answer ≡ Ok tt) × (t.waits ≡ s.waits)
+Attends s v (Slept answer) t = Unit {0}
+Attends s v (Noticed events) t = t.waits ≡ s.waits
+Attends s v (Turned readiness token turn) t =
+    (turn.calls ≡ record { event = s.waits; before = tt; after = tt; answer = tt } ∷ []) × (t.waits ≡ s.waits)
 
 -- A proof, which the impl cites.
 pub other_is_of_source : (e : Error) → IsOther e → IsOfSource e

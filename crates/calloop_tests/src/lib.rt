@@ -1,6 +1,9 @@
 //! Loops over sources of a caller: what the tests call, and their tests.
 #![tactic(auto)]
 
+pub mod attendant;
 pub mod source;
 #[cfg(test)]
 mod tests;
+#[cfg(test)]
+mod waits;

@@ -2,8 +2,9 @@
 ghost use Rattle.std.specs.Prelude.{◌≡◌};
 
 use calloop::{
-    Asking, Callback, Dispatcher, Error, EventIterator, EventSource, Instant, IntoError, OneOf, PingSource, Poll,
-    Poller, PostAction, Readiness, Result, Sources, TimeoutAction, Timer, Token, TokenFactory,
+    Asking, Callback, Dispatcher, Error, EventIterator, EventSource, Instant, IntoError, OneOf,
+    PingSource, Poll, Poller, PostAction, Readiness, Result, Sources, TimeoutAction, Timer, Token,
+    TokenFactory,
 };
 use std::io;
 use std::sync::Wait;
