@@ -12,3 +12,4 @@ pub mod Running
 pub mod Pinging
 pub mod Registering
 pub mod Telling
+pub mod Listing

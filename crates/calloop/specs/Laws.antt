@@ -9,7 +9,10 @@ use Rattle.calloop_core.specs.Holdings.{Free}
 use Rattle.calloop_core.specs.Deeds.{Lent}
 use Rattle.calloop_core.specs.Meanings.{Meaning}
 use Rattle.calloop.specs.Ledgers.{Ledger, Arming, Armed, Origin, Elsewhere, Due, Waiting, Called, entry_in}
-use Rattle.calloop.specs.Machine.{World, Registration, Change, Claim, Cut, done, all_done, is_free}
+use Rattle.calloop_wake.specs.declared.token.RegistrationToken.{RegistrationToken}
+use Rattle.calloop_wake.specs.Slots.{named, is_empty}
+use Rattle.calloop.specs.Held.{is_listed}
+use Rattle.calloop.specs.Machine.{World, Registration, Change, Claim, Cut, done, all_done, is_free, slot_of}
 
 -- a source stands there that isn't in its turn
 abbrev pub IsSource : {D : Type 0} → Content D → Type 0
@@ -164,6 +167,16 @@ IsFresh m change = Unit {0}
 abbrev pub AllFresh : {D P X Q : Type 0} → Meaning D P (Lent X Q) → List (Change D P) → Type 0
 AllFresh m [] = Unit {0}
 AllFresh m (c ∷ cs) = IsFresh m c × AllFresh m cs
+
+-- each of these stands once among them
+abbrev pub AllOnce : List RegistrationToken → Type 0
+AllOnce [] = Unit {0}
+AllOnce (t ∷ ts) = (is_listed t ts ≡ false) × AllOnce ts
+
+-- the registrations that are told of waits: each stands once, and names a slot that isn't vacant
+pub record IsTold {D P : Type 0} (w : World D P) : Type 0 where
+  pub once : AllOnce w.held.lifecycle
+  pub full : (token : RegistrationToken) → is_listed token w.held.lifecycle ≡ true → is_empty (named (map slot_of w.slots) token) ≡ false
 
 pub record IsSound {D P : Type 0} (w : World D P) (cs : List (Change D P)) : Type 0 where
   pub reaches : AllRight w cs

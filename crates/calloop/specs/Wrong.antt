@@ -1,6 +1,7 @@
 -- Small cases that the laws over all runs rule out.
 use Rattle.std.specs.Prelude.{ℕ, List, [], ◌∷◌, Some}
 use Rattle.calloop_wake.specs.declared.token.Token.{Token}
+use Rattle.calloop_wake.specs.declared.token.RegistrationToken.{RegistrationToken}
 use Rattle.calloop_wake.specs.declared.list.Content.TheVariants.{Vacant, Source}
 use Rattle.calloop_wake.specs.Deadlines.{entry_of}
 use Rattle.calloop_core.specs.Polls.{timer_event}
@@ -10,6 +11,10 @@ use Rattle.calloop.specs.Machine.{Registration}
 -- a token of slot 0 under version 0
 abbrev pub first_token : Token
 first_token = record { slot = 0; version = 0; sub_id = 0 }
+
+-- the registration that it is of
+abbrev pub first_registration : RegistrationToken
+first_registration = record { slot = 0; version = 0 }
 
 -- a slot that is used for the first time, or once more, with a source that is one of all alike
 abbrev pub used : (reuse : ℕ) → Registration (Unit {0})

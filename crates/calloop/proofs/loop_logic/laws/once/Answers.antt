@@ -3,6 +3,7 @@ use Rattle.calloop.proofs.Rights.{run_right}
 use Rattle.calloop.proofs.Reuse.{names_later}
 use Rattle.calloop.specs.Laws.{changes_of}
 use Rattle.calloop.proofs.Gone.{stay_gone, run_fits}
+use Rattle.calloop.proofs.Listing.{run_told}
 use Rattle.calloop.proofs.Owning.{run_owned, new_owned}
 use Rattle.calloop.proofs.loop_logic.laws.once.Goals as goal
 
@@ -17,4 +18,5 @@ returns g c =
           };
       armings = λ calls answers csss w w' new fresh run.
           (run_owned g.D.Dispatch.means g.P.Poller.outside g.met.D.Dispatch.keeps calls answers csss w w' fresh run (new_owned g.D.Dispatch.means w new)).noted.kept;
+      told = run_told g.D.Dispatch.means g.P.Poller.outside;
     }

@@ -1,7 +1,7 @@
 use Rattle.std.proofs.Common.{◌≡◌, ◌*◌, ◌+◌, ◌<◌, ◌≤◌, ◌⊎◌, inl, inr, ℕ, Bool, true, false, List, [], ◌∷◌, Some, None, refl, sym, ap, ◌∙◌, ◌%◌, arith, slice_get}
 use Rattle.calloop_wake.specs.declared.token.Token.{Token}
 use Rattle.calloop.specs.Machine.{Registration}
-use Rattle.calloop.specs.Wrong.{first_token, used, given_up}
+use Rattle.calloop.specs.Wrong.{first_token, first_registration, used, given_up}
 use Rattle.calloop.proofs.loop_logic.laws.wrong_runs_are_ruled_out.Goals as goal
 
 zero_one : ◌≡◌ {A = ℕ} 0 1 → ⊥
@@ -53,3 +53,10 @@ returns-clause-early_call c = λ v h. absurd (omega (arith, h.cut_on_time.0))
 
 pub returns-clause-call_from_nowhere : goal.returns-clause-call_from_nowhere
 returns-clause-call_from_nowhere c = λ v h. absurd (omega (arith, h.gathered 0))
+
+pub returns-clause-told_twice : goal.returns-clause-told_twice
+returns-clause-told_twice c = λ w twice h. (let once = rw twice at h.once in false_true (sym once.0))
+
+pub returns-clause-told_when_gone : goal.returns-clause-told_when_gone
+returns-clause-told_when_gone c = λ w one gone h.
+    (let full = rw (one, gone) at h.full in false_true (sym (full first_registration refl)))

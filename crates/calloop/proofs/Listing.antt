@@ -1,0 +1,354 @@
+-- The registrations that are told of waits: each stands once in the list, and names what isn't vacant.
+use Rattle.std.proofs.Common.{◌≡◌, ◌≢◌, ◌⊎◌, inl, inr, ℕ, zero, suc, List, [], ◌∷◌, ◌++◌, filter, not, Bool, true, false, ◌&&◌, ◌||◌, nat_eq, if◌then◌else◌, refl, ap, sym, ◌∙◌, subst, arith, Some, None, Option, Result, Ok, Err, slice_get}
+use Rattle.std.proofs.lemmas.Bool.Decides.{nat_tests}
+use Rattle.std.specs.declared.io.Error.{Error as Cause}
+use Rattle.calloop_wake.specs.declared.error.Error.{Error}
+use Rattle.calloop_wake.specs.declared.error.InsertError.{InsertError}
+use Rattle.calloop_wake.specs.declared.token.Token.{Token}
+use Rattle.calloop_wake.specs.declared.token.RegistrationToken.{RegistrationToken}
+use Rattle.calloop_wake.specs.declared.list.Content.{Content}
+use Rattle.calloop_wake.specs.declared.list.Content.TheVariants.{Vacant, Source, InTurn}
+use Rattle.calloop_wake.specs.declared.list.Slot.{Slot}
+use Rattle.calloop_wake.specs.Tokens.{registration_of}
+use Rattle.calloop_wake.specs.Slots.{changed, with_content, named, content_under, is_empty, is_vacant, first_vacant, next_registration, claimed, taken_up}
+use Rattle.calloop_wake.proofs.Indexed.{slice_get-changed_other}
+use Rattle.calloop_wake.proofs.Named.{named_slot, named_changed}
+use Rattle.calloop_wake.proofs.Inserted.{named_claimed}
+use Rattle.calloop_wake.proofs.Vacancy.{slice_get-claimed_other}
+use Rattle.calloop_core.specs.declared.sys.Readiness.{Readiness}
+use Rattle.calloop_core.specs.declared.sys.poll.Pending.{Pending}
+use Rattle.calloop_core.specs.declared.sources.PostAction.{PostAction}
+use Rattle.calloop_core.specs.declared.sources.PostAction.TheVariants.{Continue, Reregister, Disable as DisableIt, Remove}
+use Rattle.calloop_core.specs.Pollers.{Outside, nanos_of}
+use Rattle.calloop_core.specs.Polls.{PollStep}
+use Rattle.calloop_core.specs.Deeds.{Lent}
+use Rattle.calloop_core.specs.Meanings.{Meaning}
+use Rattle.calloop.specs.declared.loop_logic.LoopCall.{LoopCall}
+use Rattle.calloop.specs.declared.loop_logic.LoopCall.TheVariants.{Insert, Enable, Update, Disable, Remove as RemoveCall, Dispatch, Poller as NewPoller}
+use Rattle.calloop.specs.declared.loop_logic.LoopAnswer.{LoopAnswer}
+use Rattle.calloop.specs.declared.loop_logic.LoopAnswer.TheVariants.{Inserted, Enabled, Updated, Disabled, Removed, Dispatched, Poller as OldPoller}
+use Rattle.calloop.specs.Held.{Held, HeldStep, Listed, Unlisted, held_after, listed, is_listed, is_one, is_another}
+use Rattle.calloop.specs.Machine.{World, View, Change, Ended, IsNew, seen, viewed, all_viewed}
+use Rattle.calloop.specs.Rules.{Doing, Beginning, Sleeping, Waiting, Gathering, Noticing, Cutting, Ending, Returning, Leaving, Outcome, Step, Steps, SleptAs, SleptBy, NoticedBy, told_in, CutTo, CutFrom, ActedBy, ReturnedTo, emptied, entered, left, after_turn, after_wait, Case, Once, Run, InsertedBy, AskedIn, EnabledBy, UpdatedBy, DisabledBy, RemovedIn, RemovedBy, traced, all_traced}
+use Rattle.calloop.specs.Laws.{AllOnce, IsTold}
+use Rattle.calloop.proofs.Seen.{seen-all_traced}
+
+-- Of names.
+
+one_is : (a b : RegistrationToken) → is_one a b ≡ true → a ≡ b
+one_is a b e =
+    let slots : a.slot ≡ b.slot = grind (arith, nat_tests) in
+    let versions : a.version ≡ b.version = grind (arith, nat_tests) in
+    ap (λ n. record { slot = n; version = a.version }) slots ∙ ap (λ n. record { slot = b.slot; version = n }) versions
+
+one_self : (a : RegistrationToken) → is_one a a ≡ true
+one_self a = grind (arith, nat_tests)
+
+one_sym : (a b : RegistrationToken) → is_one a b ≡ false → is_one b a ≡ false
+one_sym a b e = elim (is_one b a) as (λ r. is_one b a ≡ r → r ≡ false) [ true ↦ λ h. (let same : b ≡ a = one_is b a h in let yes : is_one a b ≡ true = ap (λ c. is_one a c) same ∙ one_self a in cc) | false ↦ λ _. refl ] refl
+
+-- Of the list.
+
+or_true : (a b : Bool) → (a || b) ≡ true → (a ≡ true) ⊎ (b ≡ true)
+or_true true b e = inl refl
+or_true false b e = inr e
+
+or_false : (a b : Bool) → (a || b) ≡ false → (a ≡ false) × (b ≡ false)
+or_false true b e = cc
+or_false false b e = (refl, e)
+
+listed_behind : (t u : RegistrationToken) (ts : List RegistrationToken) → is_listed t (ts ++ u ∷ []) ≡ true → (is_listed t ts ≡ true) ⊎ (is_one u t ≡ true)
+listed_behind t u [] e = elim (or_true (is_one u t) false e) [ inl h ↦ inr h | inr h ↦ inl h ]
+listed_behind t u (x ∷ xs) e =
+    elim (is_one x t) as (λ b. (b || is_listed t (xs ++ u ∷ [])) ≡ true → ((b || is_listed t xs) ≡ true) ⊎ (is_one u t ≡ true)) [ true ↦ λ _. inl refl | false ↦ λ h. listed_behind t u xs h ] e
+
+unlisted_behind : (t u : RegistrationToken) (ts : List RegistrationToken) → is_listed t ts ≡ false → is_one u t ≡ false → is_listed t (ts ++ u ∷ []) ≡ false
+unlisted_behind t u [] e n = rw n refl
+unlisted_behind t u (x ∷ xs) e n = let h = or_false (is_one x t) (is_listed t xs) e in rw h.0 (unlisted_behind t u xs h.1 n)
+
+once_behind : (u : RegistrationToken) (ts : List RegistrationToken) → is_listed u ts ≡ false → AllOnce ts → AllOnce (ts ++ u ∷ [])
+once_behind u [] e h = (refl, tt)
+once_behind u (x ∷ xs) e h = let n = or_false (is_one x u) (is_listed u xs) e in (unlisted_behind x u xs h.0 (one_sym x u n.0), once_behind u xs n.1 h.1)
+
+pub once_listed : (u : RegistrationToken) (ts : List RegistrationToken) → AllOnce ts → AllOnce (listed u ts)
+once_listed u ts h = elim (is_listed u ts) as (λ b. is_listed u ts ≡ b → AllOnce (if b then ts else ts ++ u ∷ [])) [ true ↦ λ _. h | false ↦ λ e. once_behind u ts e h ] refl
+
+is_in_listed : (t u : RegistrationToken) (ts : List RegistrationToken) → is_listed t (listed u ts) ≡ true → (is_listed t ts ≡ true) ⊎ (is_one u t ≡ true)
+is_in_listed t u ts e = elim (is_listed u ts) as (λ b. is_listed t (if b then ts else ts ++ u ∷ []) ≡ true → (is_listed t ts ≡ true) ⊎ (is_one u t ≡ true)) [ true ↦ λ h. inl h | false ↦ λ h. listed_behind t u ts h ] e
+
+is_in_left : (t u : RegistrationToken) (ts : List RegistrationToken) → is_listed t (filter (is_another u) ts) ≡ true → (is_listed t ts ≡ true) × (is_one u t ≡ false)
+is_in_left t u [] e = cc
+is_in_left t u (x ∷ xs) e =
+    elim (is_one x u) as (λ b. is_one x u ≡ b → is_listed t (if not b then x ∷ filter (is_another u) xs else filter (is_another u) xs) ≡ true → ((is_one x t || is_listed t xs) ≡ true) × (is_one u t ≡ false)) [
+      | true ↦ λ _ h. (let r = is_in_left t u xs h in (elim (is_one x t) as (λ b. (b || is_listed t xs) ≡ true) [ true ↦ refl | false ↦ r.0 ], r.1))
+      | false ↦ λ other h.
+          elim (is_one x t) as (λ b. is_one x t ≡ b → (b || is_listed t (filter (is_another u) xs)) ≡ true → ((b || is_listed t xs) ≡ true) × (is_one u t ≡ false)) [
+            | true ↦ λ here _. (refl, ap (λ c. is_one u c) (sym (one_is x t here)) ∙ one_sym x u other)
+            | false ↦ λ _ k. is_in_left t u xs k
+          ] refl h
+    ] refl e
+
+unlisted_left : (t u : RegistrationToken) (ts : List RegistrationToken) → is_listed t ts ≡ false → is_listed t (filter (is_another u) ts) ≡ false
+unlisted_left t u ts e =
+    elim (is_listed t (filter (is_another u) ts)) as (λ b. is_listed t (filter (is_another u) ts) ≡ b → b ≡ false) [ true ↦ λ h. (let r = is_in_left t u ts h in let yes : is_listed t ts ≡ true = r.0 in cc) | false ↦ λ _. refl ] refl
+
+once_left : (u : RegistrationToken) (ts : List RegistrationToken) → AllOnce ts → AllOnce (filter (is_another u) ts)
+once_left u [] h = tt
+once_left u (x ∷ xs) h = elim (is_one x u) as (λ b. AllOnce (if not b then x ∷ filter (is_another u) xs else filter (is_another u) xs)) [ true ↦ once_left u xs h.1 | false ↦ (unlisted_left x u xs h.0, once_left u xs h.1) ]
+
+-- Of slots.
+
+abbrev Full : {D : Type 0} → List (Slot D) → RegistrationToken → Type 0
+Full slots t = is_empty (named slots t) ≡ false
+
+full_under : {D : Type 0} (c : Content D) → is_empty c ≡ false → (v : ℕ) (xs : List (Slot D)) (k i : ℕ) → is_empty (content_under v (slice_get xs i)) ≡ false → is_empty (content_under v (slice_get (changed (with_content c) xs k) i)) ≡ false
+full_under c full v [] k i h = h
+full_under {D} c full v (x ∷ xs) zero zero h =
+    elim (nat_eq x.version v) as (λ b. is_empty (if b then x.content else Vacant) ≡ false → is_empty (if b then c else Vacant) ≡ false) [ true ↦ λ _. full | false ↦ λ e. e ] h
+full_under c full v (x ∷ xs) zero (suc i) h = h
+full_under c full v (x ∷ xs) (suc k) zero h = h
+full_under c full v (x ∷ xs) (suc k) (suc i) h = full_under c full v xs k i h
+
+full_put : {D : Type 0} (c : Content D) → is_empty c ≡ false → (xs : List (Slot D)) (k : ℕ) (t : RegistrationToken) → Full xs t → Full (changed (with_content c) xs k) t
+full_put c full xs k t h = full_under c full t.version xs k t.slot h
+
+full_other : {D : Type 0} (xs ys : List (Slot D)) (t : RegistrationToken) → slice_get ys t.slot ≡ slice_get xs t.slot → Full xs t → Full ys t
+full_other {D} xs ys t same h = ap (λ (o : Option (Slot D)). is_empty (content_under t.version o)) same ∙ h
+
+vacant_first : {D : Type 0} (xs : List (Slot D)) (s : Slot D) → slice_get xs (first_vacant xs) ≡ Some s → is_empty s.content ≡ true
+vacant_first [] s e = cc
+vacant_first {D} (x ∷ xs) s e =
+    elim (is_vacant x) as (λ b. is_vacant x ≡ b → slice_get (x ∷ xs) (if b then 0 else suc (first_vacant xs)) ≡ Some s → is_empty s.content ≡ true) [
+      | true ↦ λ free here. (let same : x ≡ s = cc in ap (λ (y : Slot D). is_empty y.content) (sym same) ∙ free)
+      | false ↦ λ _ there. vacant_first xs s there
+    ] refl e
+
+-- what is full isn't the slot that is claimed next
+not_first : {D : Type 0} (xs : List (Slot D)) (t : RegistrationToken) → Full xs t → t.slot ≢ first_vacant xs
+not_first {D} xs t h e =
+    let s = named_slot xs t h in
+    let free : is_empty s.0.content ≡ true = vacant_first xs s.0 (ap (λ n. slice_get xs n) (sym e) ∙ s.1) in
+    let taken : is_empty s.0.content ≡ false = ap (λ (c : Content D). is_empty c) (sym s.3) ∙ h in
+    cc
+
+full_claimed : {D : Type 0} (xs : List (Slot D)) (t : RegistrationToken) → Full xs t → Full (claimed xs) t
+full_claimed xs t h = full_other xs (claimed xs) t (slice_get-claimed_other xs t.slot (not_first xs t h)) h
+
+-- of one slot there is one full name
+one_slot : {D : Type 0} (xs : List (Slot D)) (t u : RegistrationToken) → Full xs t → Full xs u → t.slot ≡ u.slot → is_one t u ≡ true
+one_slot {D} xs t u h k e =
+    let s = named_slot xs t h in
+    let r = named_slot xs u k in
+    let same : s.0 ≡ r.0 = (let f : Some s.0 ≡ Some r.0 = sym s.1 ∙ ap (λ n. slice_get xs n) e ∙ r.1 in cc) in
+    let mine : nat_eq s.0.version t.version ≡ true = s.2 in
+    let theirs : nat_eq s.0.version u.version ≡ true = ap (λ (y : Slot D). nat_eq y.version u.version) same ∙ r.2 in
+    grind (arith, nat_tests)
+
+-- Of both.
+
+abbrev nobody : RegistrationToken → Bool
+nobody t = false
+
+-- all but those that are skipped name what isn't vacant
+record Tidy {D : Type 0} (skip : RegistrationToken → Bool) (slots : List (Slot D)) (ts : List RegistrationToken) : Type 0 where
+  pub once : AllOnce ts
+  pub full : (t : RegistrationToken) → is_listed t ts ≡ true → skip t ≡ false → Full slots t
+
+module _ {D : Type 0} where
+  tidy_put : (skip : RegistrationToken → Bool) (c : Content D) (slots : List (Slot D)) (k : ℕ) (ts : List RegistrationToken) → is_empty c ≡ false → Tidy skip slots ts → Tidy skip (changed (with_content c) slots k) ts
+  tidy_put skip c slots k ts full h = record { once = h.once; full = λ t is no. full_put c full slots k t (h.full t is no) }
+
+  tidy_claimed : (slots : List (Slot D)) (ts : List RegistrationToken) → Tidy nobody slots ts → Tidy nobody (claimed slots) ts
+  tidy_claimed slots ts h = record { once = h.once; full = λ t is no. full_claimed slots t (h.full t is no) }
+
+  -- a claim is given up
+  tidy_refused : (slots : List (Slot D)) (ts : List RegistrationToken) → Tidy nobody slots ts → Tidy nobody (changed (with_content Vacant) (claimed slots) (first_vacant slots)) ts
+  tidy_refused slots ts h =
+      record {
+        once = h.once;
+        full = λ t is no.
+            let away = not_first slots t (h.full t is no) in
+            full_other slots (changed (with_content Vacant) (claimed slots) (first_vacant slots)) t (slice_get-changed_other (with_content Vacant) (claimed slots) (first_vacant slots) t.slot away ∙ slice_get-claimed_other slots t.slot away) (h.full t is no);
+      }
+
+  -- a slot is vacated, whose registration is still to be taken out
+  tidy_vacated : (slots : List (Slot D)) (token : RegistrationToken) (ts : List RegistrationToken) → Full slots token → Tidy nobody slots ts → Tidy (is_one token) (changed (with_content Vacant) slots token.slot) ts
+  tidy_vacated slots token ts mine h =
+      record {
+        once = h.once;
+        full = λ t is other.
+            let away : t.slot ≢ token.slot = λ e. (let yes : is_one token t ≡ true = one_slot slots token t mine (h.full t is refl) (sym e) in cc) in
+            full_other slots (changed (with_content Vacant) slots token.slot) t (slice_get-changed_other (with_content Vacant) slots token.slot t.slot away) (h.full t is refl);
+      }
+
+  tidy_less : (skip : RegistrationToken → Bool) (slots : List (Slot D)) (ts : List RegistrationToken) → Tidy nobody slots ts → Tidy skip slots ts
+  tidy_less skip slots ts h = record { once = h.once; full = λ t is no. h.full t is refl }
+
+  tidy_out : (token : RegistrationToken) (slots : List (Slot D)) (ts : List RegistrationToken) → Tidy (is_one token) slots ts → Tidy nobody slots (filter (is_another token) ts)
+  tidy_out token slots ts h = record { once = once_left token ts h.once; full = λ t is no. (let r = is_in_left t token ts is in h.full t r.0 r.1) }
+
+  tidy_in : (needed : Bool) (token : RegistrationToken) (slots : List (Slot D)) (ts : List RegistrationToken) → Full slots token → Tidy nobody slots ts → Tidy nobody slots (if needed then listed token ts else ts)
+  tidy_in false token slots ts mine h = h
+  tidy_in true token slots ts mine h =
+      record {
+        once = once_listed token ts h.once;
+        full = λ t is no. elim (is_in_listed t token ts is) [ inl k ↦ h.full t k refl | inr k ↦ subst (λ (u : RegistrationToken). Full slots u) (one_is token t k) mine ];
+      }
+
+  -- the source goes back to its slot
+  tidy_back : (c : Content D) (token : RegistrationToken) (slots : List (Slot D)) (ts : List RegistrationToken) → is_empty c ≡ false → Full slots token → Tidy (is_one token) slots ts → Tidy nobody (changed (with_content c) slots token.slot) ts
+  tidy_back c token slots ts full mine h =
+      record {
+        once = h.once;
+        full = λ t is no.
+            elim (is_one token t) as (λ b. is_one token t ≡ b → Full (changed (with_content c) slots token.slot) t) [
+              | true ↦ λ same. subst (λ (u : RegistrationToken). Full (changed (with_content c) slots token.slot) u) (one_is token t same) (ap (λ (x : Content D). is_empty x) (named_changed slots token c mine) ∙ full)
+              | false ↦ λ other. full_put c full slots token.slot t (h.full t is other)
+            ] refl;
+      }
+
+-- what every state keeps, with what the loop is doing in it
+abbrev Kept : {D P X : Type 0} → Doing D X → View D P → Type 0
+Kept (Ending token d answer x) v = Tidy nobody v.slots v.held.lifecycle × Full v.slots token
+Kept (Returning token d told x) v = Tidy (is_one token) v.slots v.held.lifecycle
+Kept a v = Tidy nobody v.slots v.held.lifecycle
+
+module _ {D P X Q : Type 0} (M : Meaning D P (Lent X Q)) (O : Outside P) where
+  source_full : (slots : List (Slot D)) (token : RegistrationToken) (c : Content D) → named slots token ≡ c → is_empty c ≡ false → Full slots token
+  source_full slots token c is full = ap (λ (x : Content D). is_empty x) is ∙ full
+
+  -- a source was told of a wait
+  told_kept : (v : View D P) (token : RegistrationToken) (d e : D) → named v.slots token ≡ Source d → Tidy nobody v.slots v.held.lifecycle
+      → Tidy nobody (all_viewed v (told_in token e)).slots v.held.lifecycle
+  told_kept v token d e is k = tidy_put nobody (Source e) (changed (with_content InTurn) v.slots token.slot) token.slot v.held.lifecycle refl (tidy_put nobody InTurn v.slots token.slot v.held.lifecycle refl k)
+
+  slept_as : (v : View D P) (timeout : Option ℕ) (later : List RegistrationToken) (answer : Result (Option (Readiness × Token)) Error) (x : X) (cs : List (Change D P)) (b : Doing D X) → SleptAs timeout later answer x cs b → Tidy nobody v.slots v.held.lifecycle → Kept b (all_viewed v cs)
+  slept_as v timeout later (Ok None) x cs b h k = rw (h.0, h.1) k
+  slept_as v timeout later (Ok (Some given)) x cs b h k = rw (h.0, h.1) k
+  slept_as v timeout later (Err e) x cs b h k = rw (h.0, h.1) k
+
+  slept_kept : (v : View D P) (timeout : Option ℕ) (token : RegistrationToken) (later : List RegistrationToken) (x : X) (cs : List (Change D P)) (b : Doing D X) (c : Content D) → named v.slots token ≡ c → SleptBy M timeout token later c v x cs b → Tidy nobody v.slots v.held.lifecycle → Kept b (all_viewed v cs)
+  slept_kept v timeout token later x cs b Vacant is h k = rw (h.0, h.1) k
+  slept_kept v timeout token later x cs b InTurn is h k = rw (h.0, h.1) k
+  slept_kept v timeout token later x cs b (Source d) is h k = rw h.5 (slept_as (all_viewed v (told_in token h.0)) timeout later h.1 x h.2 b h.4 (told_kept v token d h.0 is k))
+
+  noticed_kept : (v : View D P) (from : ℕ) (token : RegistrationToken) (later : List RegistrationToken) (x : X) (cs : List (Change D P)) (b : Doing D X) (c : Content D) → named v.slots token ≡ c → NoticedBy M from token later c v x cs b → Tidy nobody v.slots v.held.lifecycle → Kept b (all_viewed v cs)
+  noticed_kept v from token later x cs b Vacant is h k = rw (h.0, h.1) k
+  noticed_kept v from token later x cs b InTurn is h k = rw (h.0, h.1) k
+  noticed_kept v from token later x cs b (Source d) is h k = rw (h.2, h.3) (told_kept v token d h.0 is k)
+
+  cut_kept : (v : View D P) (e : Pending) (x : X) (cs : List (Change D P)) (b : Doing D X) (c : Content D) → named v.slots (registration_of e.token) ≡ c → CutTo M e c v x cs b → Tidy nobody v.slots v.held.lifecycle → Kept b (all_viewed v cs)
+  cut_kept v e x cs b Vacant is h k = rw (h.0, h.1) k
+  cut_kept v e x cs b InTurn is h k = rw (h.0, h.1) k
+  cut_kept v e x cs b (Source d) is h k =
+      let full = source_full v.slots (registration_of e.token) (Source d) is refl in
+      rw (h.7, h.8) (tidy_put nobody InTurn v.slots e.token.slot v.held.lifecycle refl k, ap (λ (y : Content D). is_empty y) (named_changed v.slots (registration_of e.token) InTurn full))
+
+  from_kept : (v : View D P) (es : List Pending) (x : X) (cs : List (Change D P)) (b : Doing D X) → CutFrom M es v x cs b → Tidy nobody v.slots v.held.lifecycle → Kept b (all_viewed v cs)
+  from_kept v [] x cs b h k = rw (h.0, h.1) k
+  from_kept v (e ∷ es) x cs b h k = cut_kept v e x cs b (named v.slots (registration_of e.token)) refl h k
+
+  emptied_kept : (v : View D P) (token : RegistrationToken) (c : Content D) → named v.slots token ≡ c → Full v.slots token → Tidy nobody v.slots v.held.lifecycle → Tidy (is_one token) (all_viewed v (emptied token c)).slots (all_viewed v (emptied token c)).held.lifecycle
+  emptied_kept v token Vacant is full k = tidy_less (is_one token) v.slots v.held.lifecycle k
+  emptied_kept v token (Source d) is full k = tidy_less (is_one token) v.slots v.held.lifecycle k
+  emptied_kept v token InTurn is full k = tidy_vacated v.slots token v.held.lifecycle full k
+
+  acted_kept : (v : View D P) (token : RegistrationToken) (d : D) (answer : Result PostAction Error) (cs : List (Change D P)) (e : D) (told : Outcome) → ActedBy M token d answer v cs e told → Tidy nobody v.slots v.held.lifecycle → Full v.slots token
+      → Tidy (is_one token) (all_viewed v cs).slots (all_viewed v cs).held.lifecycle
+  acted_kept v token d (Ok Continue) cs e told h k full = rw h.0 (tidy_less (is_one token) v.slots v.held.lifecycle k)
+  acted_kept v token d (Ok Reregister) cs e told h k full = rw h.2 (tidy_less (is_one token) v.slots _ (tidy_in _ token v.slots v.held.lifecycle full k))
+  acted_kept v token d (Ok DisableIt) cs e told h k full = rw h.2 (tidy_less (is_one token) v.slots _ (tidy_out token v.slots v.held.lifecycle (tidy_less (is_one token) v.slots v.held.lifecycle k)))
+  acted_kept v token d (Ok Remove) cs e told h k full = rw h.0 (emptied_kept (viewed v Ended) token (named v.slots token) refl full k)
+  acted_kept v token d (Err error) cs e told h k full = rw h.0 (tidy_less (is_one token) v.slots v.held.lifecycle k)
+
+  returned_kept : (v : View D P) (token : RegistrationToken) (d : D) (c : Content D) (cs : List (Change D P)) → named v.slots token ≡ c → ReturnedTo M token d c v cs → Tidy (is_one token) v.slots v.held.lifecycle → Tidy nobody (all_viewed v cs).slots (all_viewed v cs).held.lifecycle
+  returned_kept v token d InTurn cs is h k = rw h (tidy_back (Source d) token v.slots v.held.lifecycle refl (source_full v.slots token InTurn is refl) k)
+  returned_kept v token d Vacant cs is h k = rw h.4 (tidy_out token v.slots v.held.lifecycle k)
+  returned_kept v token d (Source f) cs is h k = rw h.4 (tidy_out token v.slots v.held.lifecycle k)
+
+  after_kept : (told : Outcome) (x : X) (v : View D P) → Tidy nobody v.slots v.held.lifecycle → Kept {D = D} (after_turn told x) v
+  after_kept (Ok u) x v k = k
+  after_kept (Err e) x v k = k
+
+  waited_kept : (answer : Result ℕ Cause) (given : List (ℕ × Readiness)) (x : X) (v : View D P) → Tidy nobody v.slots v.held.lifecycle → Kept {D = D} (after_wait answer given x) v
+  waited_kept (Ok now) given x v k = k
+  waited_kept (Err cause) given x v k = k
+
+  step_kept : (v : View D P) (a b : Doing D X) (cs : List (Change D P)) → Step M O v a cs b → Kept a v → Kept b (all_viewed v cs)
+  step_kept v (Beginning timeout x) b cs h k = rw (h.1, h.2) k
+  step_kept v (Sleeping timeout [] x) b cs h k = rw (h.0, h.1) k
+  step_kept v (Sleeping timeout (t ∷ later) x) b cs h k = slept_kept v timeout t later x cs b (named v.slots t) refl h k
+  step_kept v (Waiting timeout x) b cs h k = rw (h.5, h.6) (waited_kept h.0 h.1 x _ k)
+  step_kept v (Gathering now given x) b cs h k = rw (h.1, h.2) k
+  step_kept v (Noticing from [] x) b cs h k = rw (h.0, h.1) k
+  step_kept v (Noticing from (t ∷ later) x) b cs h k = noticed_kept v from t later x cs b (named v.slots t) refl h k
+  step_kept v (Cutting x) b cs h k = from_kept v v.poll.batch x cs b h k
+  step_kept v (Ending token d answer x) b cs h k = rw h.3 (acted_kept v token d answer cs h.0 h.1 h.2 k.0 k.1)
+  step_kept v (Returning token d told x) b cs h k = rw h.1 (after_kept told x (all_viewed v cs) (returned_kept v token d (named v.slots token) cs refl h.0 k))
+  step_kept v (Leaving answer x) b cs h k = absurd h
+
+  steps_kept : (v : View D P) (a b : Doing D X) (css : List (List (Change D P))) → Steps M O v a css b → Kept a v → Kept b (traced v css)
+  steps_kept v a b [] h k = rw h k
+  steps_kept v a b (cs ∷ css) h k = steps_kept (all_viewed v cs) h.0 b css h.3 (step_kept v a h.0 cs h.1 k)
+
+  inserted_kept : (v : View D P) (d : D) (answer : Result RegistrationToken (InsertError D)) (cs : List (Change D P)) → InsertedBy M d answer v cs → Tidy nobody v.slots v.held.lifecycle → Tidy nobody (all_viewed v cs).slots (all_viewed v cs).held.lifecycle
+  inserted_kept v d (Ok token) cs h k =
+      let mine : Full (claimed v.slots) token = ap (λ (t : RegistrationToken). is_empty (named (claimed v.slots) t)) h.1 ∙ ap (λ (x : Content D). is_empty x) (named_claimed v.slots) in
+      rw h.6 (tidy_put nobody (Source h.2) (claimed v.slots) token.slot _ refl (tidy_in (M.needs d) token (claimed v.slots) v.held.lifecycle mine (tidy_claimed v.slots v.held.lifecycle k)))
+  inserted_kept v d (Err refused) cs (inl h) k = rw h.2 k
+  inserted_kept v d (Err refused) cs (inr h) k = rw h.4 (tidy_refused v.slots v.held.lifecycle k)
+
+  asked_kept : (v : View D P) (R : D → Outcome → List (PollStep P) → D → Type 0) (noted : D → Outcome → HeldStep) (token : RegistrationToken) (answer : Outcome) (cs : List (Change D P)) (c : Content D)
+      → ((d : D) (slots : List (Slot D)) (h : Held) → Full slots token → Tidy nobody slots h.lifecycle → Tidy nobody slots (held_after h (noted d answer)).lifecycle)
+      → named v.slots token ≡ c → AskedIn R noted token c answer cs → Tidy nobody v.slots v.held.lifecycle → Tidy nobody (all_viewed v cs).slots (all_viewed v cs).held.lifecycle
+  asked_kept v R noted token answer cs Vacant note is h k = rw h.1 k
+  asked_kept v R noted token answer cs InTurn note is h k = rw h.1 k
+  asked_kept v R noted token answer cs (Source d) note is h k =
+      let full = source_full v.slots token (Source d) is refl in
+      let out = changed (with_content InTurn) v.slots token.slot in
+      rw h.3
+      (tidy_put nobody (Source h.0) out token.slot _ refl
+      (note d out v.held (ap (λ (x : Content D). is_empty x) (named_changed v.slots token InTurn full)) (tidy_put nobody InTurn v.slots token.slot v.held.lifecycle refl k)))
+
+  entered_kept : (token : RegistrationToken) (answer : Outcome) (d : D) (slots : List (Slot D)) (h : Held) → Full slots token → Tidy nobody slots h.lifecycle → Tidy nobody slots (held_after h (entered M token d answer)).lifecycle
+  entered_kept token answer d slots h full k = tidy_in _ token slots h.lifecycle full k
+
+  left_kept : (token : RegistrationToken) (answer : Outcome) (d : D) (slots : List (Slot D)) (h : Held) → Full slots token → Tidy nobody slots h.lifecycle → Tidy nobody slots (held_after h (left token d answer)).lifecycle
+  left_kept token answer d slots h full k = tidy_out token slots h.lifecycle (tidy_less (is_one token) slots h.lifecycle k)
+
+  removed_kept : (v : View D P) (token : RegistrationToken) (answer : Option D) (cs : List (Change D P)) (c : Content D) → named v.slots token ≡ c → RemovedIn M token c answer v cs → Tidy nobody v.slots v.held.lifecycle → Tidy nobody (all_viewed v cs).slots (all_viewed v cs).held.lifecycle
+  removed_kept v token answer cs Vacant is h k = rw h.1 k
+  removed_kept v token answer cs InTurn is h k = rw h.1 k
+  removed_kept v token answer cs (Source d) is h k =
+      let out = changed (with_content Vacant) v.slots token.slot in
+      rw h.5 (tidy_out token out v.held.lifecycle (tidy_vacated v.slots token v.held.lifecycle (source_full v.slots token (Source d) is refl) k))
+
+  once_kept : (v : View D P) (R : View D P → List (Change D P) → Type 0) (css : List (List (Change D P))) → Once O R v css
+      → ((cs : List (Change D P)) → R v cs → Tidy nobody (all_viewed v cs).slots (all_viewed v cs).held.lifecycle) → Tidy nobody (traced v css).slots (traced v css).held.lifecycle
+  once_kept v R [] h f = absurd h
+  once_kept v R (cs ∷ []) h f = f cs h.0
+  once_kept v R (cs ∷ ds ∷ css) h f = absurd h
+
+  case_kept : (v : View D P) (call : LoopCall D P X) (answer : LoopAnswer D P X) (css : List (List (Change D P))) → Case M O call answer v css → Tidy nobody v.slots v.held.lifecycle → Tidy nobody (traced v css).slots (traced v css).held.lifecycle
+  case_kept v (Insert d) (Inserted answer) css h k = once_kept v (InsertedBy M d answer) css h (λ cs r. inserted_kept v d answer cs r k)
+  case_kept v (Enable token) (Enabled answer) css h k = once_kept v (EnabledBy M token answer) css h (λ cs r. asked_kept v _ _ token answer cs (named v.slots token) (entered_kept token answer) refl r k)
+  case_kept v (Update token) (Updated answer) css h k = once_kept v (UpdatedBy M token answer) css h (λ cs r. asked_kept v _ _ token answer cs (named v.slots token) (entered_kept token answer) refl r k)
+  case_kept v (Disable token) (Disabled answer) css h k = once_kept v (DisabledBy M token answer) css h (λ cs r. asked_kept v _ _ token answer cs (named v.slots token) (left_kept token answer) refl r k)
+  case_kept v (RemoveCall token) (Removed answer) css h k = once_kept v (RemovedBy M token answer) css h (λ cs r. removed_kept v token answer cs (named v.slots token) refl r k)
+  case_kept v (Dispatch timeout x) (Dispatched answer x') css (inl h) k = rw h.2 k
+  case_kept v (Dispatch timeout x) (Dispatched answer x') css (inr h) k = steps_kept v (Beginning (nanos_of timeout) x) (Leaving answer x') css h k
+  case_kept v (NewPoller p) (OldPoller q) css h k = rw h.1 k
+  case_kept v call answer css h k = absurd h
+
+  run_kept : (calls : List (LoopCall D P X)) (answers : List (LoopAnswer D P X)) (csss : List (List (List (Change D P)))) (w w' : World D P) → Run M O calls answers csss w w' → Tidy nobody (seen w).slots (seen w).held.lifecycle → Tidy nobody (seen w').slots (seen w').held.lifecycle
+  run_kept [] [] [] w w' run k = rw run k
+  run_kept (call ∷ calls) (answer ∷ answers) (css ∷ csss) w w' run k =
+      run_kept calls answers csss (all_traced w css) w' run.1
+      (subst (λ (v : View D P). Tidy nobody v.slots v.held.lifecycle) (sym (seen-all_traced w css)) (case_kept (seen w) call answer css run.0 k))
+  run_kept calls answers csss w w' run k = absurd run
+
+  pub run_told : (calls : List (LoopCall D P X)) (answers : List (LoopAnswer D P X)) (csss : List (List (List (Change D P)))) (w w' : World D P) → IsNew w → Run M O calls answers csss w w' → IsTold w'
+  run_told calls answers csss w w' new run =
+      let first : Tidy nobody (seen w).slots (seen w).held.lifecycle = record { once = rw new.unlisted tt; full = λ t is no. (let e : is_listed t w.held.lifecycle ≡ true = is in let f : is_listed t w.held.lifecycle ≡ false = rw new.unlisted refl in cc) } in
+      let k = run_kept calls answers csss w w' run first in
+      record { once = k.once; full = λ t is. k.full t is refl }
