@@ -2,8 +2,8 @@ use crate::source::{Counter, Listener, Source, Teller, Waker};
 use calloop::loop_logic::{EventLoop, LoopAnswer, LoopCall, once, wrong_runs_are_ruled_out};
 use calloop::ping::{Ping, make_ping};
 use calloop::{
-    Dispatcher, Error, InsertError, Instant, OneOf, PingSource, PostAction, Readiness,
-    RegistrationToken, Sources, TimeoutAction, Timer,
+    Clock, Dispatcher, Error, EventDispatcher, InsertError, Instant, OneOf, PingSource, Poller,
+    PostAction, Readiness, RegistrationToken, Sources, TimeoutAction, Timer,
 };
 use calloop_core::sys::script::{ScriptAnswer, ScriptClock, ScriptEnd, ScriptEvents, ScriptPoller};
 use std::alloc::Global;
@@ -148,8 +148,13 @@ fn a_list_of_calls_is_answered_in_order(rt: HostRuntime) {
         LoopCall::Dispatch(Some(Duration::ZERO), Vec::new(rt.alloc())),
     );
     add(&rt, &mut calls, LoopCall::Poller(poller));
-    let answers = desk.answers(calls);
-    assert!(rt; is_a_dispatch_between_updates_and_pollers(&answers));
+    let wanted = [
+        ("inserted", true),
+        ("updated", true),
+        ("dispatched", true),
+        ("poller", true),
+    ];
+    assert!(rt; desk.answers(calls, &wanted));
 }
 
 #[test]
@@ -162,8 +167,14 @@ fn registrations_as_values_are_answered_in_order(rt: HostRuntime) {
     add(&rt, &mut calls, LoopCall::Enable(token));
     add(&rt, &mut calls, LoopCall::Remove(token));
     add(&rt, &mut calls, LoopCall::Enable(token));
-    let answers = desk.answers(calls);
-    assert!(rt; are_registrations_until_removed(&answers));
+    let wanted = [
+        ("updated", true),
+        ("disabled", true),
+        ("enabled", true),
+        ("removed", true),
+        ("enabled", false),
+    ];
+    assert!(rt; desk.answers(calls, &wanted));
 }
 
 #[test]
@@ -471,12 +482,11 @@ impl<R: Wait + Clone + Drop + Abort> Desk<R> {
             moment: at(millis),
             end: ScriptEnd::Events(events),
         };
-        let scripted = self.event_loop.handle().poller_mut().script(answer);
-        assert!(self.rt; scripted.is_ok());
+        assert!(self.rt; scripts(&mut self.event_loop, answer));
     }
 
     fn dispatch(&mut self, timeout: Option<u64>, said: &mut Vec<u32>) -> calloop::Result<()> {
-        self.event_loop.dispatch(&self.rt, time(timeout), said)
+        dispatch(&mut self.event_loop, &self.rt, time(timeout), said)
     }
 
     // Whether a dispatch succeeds, in which the callbacks say these numbers.
@@ -509,29 +519,25 @@ impl<R: Wait + Clone + Drop + Abort> Desk<R> {
 
     // Whether the poller was asked for these waits since this was last called.
     fn asked(&mut self, waits: &[Option<u64>]) -> bool {
-        let mut handle = self.event_loop.handle();
-        let poller = handle.poller_mut();
-        let are_these = are_waits(poller.waits(), waits);
-        poller.keep_waits(8).is_ok() && are_these
+        asked(&mut self.event_loop, waits)
     }
 
     // Whether a counter that refuses to be registered is handed back as it was.
     fn hands_back(&mut self) -> bool {
-        let refused = self
-            .event_loop
-            .carry_out(&self.rt, LoopCall::Insert(counter(0, None)));
-        is_handed_back(&refused)
+        let call = LoopCall::Insert(counter(0, None));
+        is_handed_back(&carry_out(&mut self.event_loop, &self.rt, call))
     }
 
-    fn answers(&mut self, calls: VecDeque<Call<R>>) -> Vec<Answer<R>> {
-        match self.event_loop.carry_out_all(&self.rt, self.alloc, calls) {
-            Ok(answers) => answers,
-            Err(_) => Vec::new(self.alloc),
+    // Whether these calls are carried out with these answers.
+    fn answers(&mut self, calls: VecDeque<Call<R>>, wanted: &[(&str, bool)]) -> bool {
+        match carry_out_all(&mut self.event_loop, &self.rt, self.alloc, calls) {
+            Some(answers) => are_answers(&answers, wanted),
+            None => false,
         }
     }
 
     fn remove(&mut self, token: RegistrationToken) -> Option<Source<R>> {
-        self.event_loop.handle().remove(token)
+        remove(&mut self.event_loop, token)
     }
 
     // Takes a counter out of the loop: how often it was registered and unregistered, the last time for that.
@@ -553,15 +559,15 @@ impl<R: Wait + Clone + Drop + Abort> Desk<R> {
     }
 
     fn enable(&mut self, token: RegistrationToken) -> calloop::Result<()> {
-        self.event_loop.handle().enable(&token)
+        enable(&mut self.event_loop, token)
     }
 
     fn update(&mut self, token: RegistrationToken) -> calloop::Result<()> {
-        self.event_loop.handle().update(&token)
+        update(&mut self.event_loop, token)
     }
 
     fn disable(&mut self, token: RegistrationToken) -> calloop::Result<()> {
-        self.event_loop.handle().disable(&token)
+        disable(&mut self.event_loop, token)
     }
 
     // Whether the token names nothing any more.
@@ -570,6 +576,83 @@ impl<R: Wait + Clone + Drop + Abort> Desk<R> {
             && is_invalid(self.update(token))
             && is_invalid(self.disable(token))
     }
+}
+
+// Calls of any loop. A call of the tests' loop costs its prover more.
+fn enable<D: EventDispatcher<P, C, R>, P: Poller, C: Clock, R: Wait + Drop>(
+    event_loop: &mut EventLoop<D, P, C, R>,
+    token: RegistrationToken,
+) -> calloop::Result<()> {
+    event_loop.handle().enable(&token)
+}
+
+fn update<D: EventDispatcher<P, C, R>, P: Poller, C: Clock, R: Wait + Drop>(
+    event_loop: &mut EventLoop<D, P, C, R>,
+    token: RegistrationToken,
+) -> calloop::Result<()> {
+    event_loop.handle().update(&token)
+}
+
+fn disable<D: EventDispatcher<P, C, R>, P: Poller, C: Clock, R: Wait + Drop>(
+    event_loop: &mut EventLoop<D, P, C, R>,
+    token: RegistrationToken,
+) -> calloop::Result<()> {
+    event_loop.handle().disable(&token)
+}
+
+fn remove<D: EventDispatcher<P, C, R>, P: Poller, C: Clock, R: Wait + Drop>(
+    event_loop: &mut EventLoop<D, P, C, R>,
+    token: RegistrationToken,
+) -> Option<D> {
+    event_loop.handle().remove(token)
+}
+
+fn dispatch<D: EventDispatcher<P, C, R>, P: Poller, C: Clock, R: Wait + Drop>(
+    event_loop: &mut EventLoop<D, P, C, R>,
+    rt: &R,
+    timeout: Option<Duration>,
+    data: &mut D::Data,
+) -> calloop::Result<()> {
+    event_loop.dispatch(rt, timeout, data)
+}
+
+fn carry_out<D: EventDispatcher<P, C, R>, P: Poller, C: Clock, R: Wait + Drop>(
+    event_loop: &mut EventLoop<D, P, C, R>,
+    rt: &R,
+    call: LoopCall<D, P, D::Data>,
+) -> LoopAnswer<D, P, D::Data> {
+    event_loop.carry_out(rt, call)
+}
+
+// None where memory is short.
+fn carry_out_all<D: EventDispatcher<P, C, R>, P: Poller, C: Clock, R: Wait + Drop>(
+    event_loop: &mut EventLoop<D, P, C, R>,
+    rt: &R,
+    alloc: Global,
+    calls: VecDeque<LoopCall<D, P, D::Data>>,
+) -> Option<Vec<LoopAnswer<D, P, D::Data>>>
+where
+    P: Drop,
+    D::Data: Drop,
+{
+    event_loop.carry_out_all(rt, alloc, calls).ok()
+}
+
+fn scripts<D: EventDispatcher<ScriptPoller, C, R>, C: Clock, R: Wait + Drop>(
+    event_loop: &mut EventLoop<D, ScriptPoller, C, R>,
+    answer: ScriptAnswer,
+) -> bool {
+    event_loop.handle().poller_mut().script(answer).is_ok()
+}
+
+fn asked<D: EventDispatcher<ScriptPoller, C, R>, C: Clock, R: Wait + Drop>(
+    event_loop: &mut EventLoop<D, ScriptPoller, C, R>,
+    waits: &[Option<u64>],
+) -> bool {
+    let mut handle = event_loop.handle();
+    let poller = handle.poller_mut();
+    let are_these = are_waits(poller.waits(), waits);
+    poller.keep_waits(8).is_ok() && are_these
 }
 
 // Whether these are the waits, in milliseconds.
@@ -620,34 +703,41 @@ fn is_handed_back<R: Wait + Drop>(answer: &Answer<R>) -> bool {
     }
 }
 
-// Whether the first slot was given and updated, a dispatch called nothing, and a poller that was asked for its wait is back.
-fn is_a_dispatch_between_updates_and_pollers<R: Wait + Drop>(answers: &[Answer<R>]) -> bool {
-    match answers {
-        [
-            LoopAnswer::Inserted(Ok(token)),
-            LoopAnswer::Updated(Ok(())),
-            LoopAnswer::Dispatched(Ok(()), numbers),
-            LoopAnswer::Poller(before),
-        ] => {
-            *token == RegistrationToken::new(0, 0)
-                && numbers.is_empty()
-                && before.waits() == [Some(Duration::ZERO)].as_slice()
-        }
-        _ => false,
+fn are_answers<R: Wait + Drop>(answers: &[Answer<R>], wanted: &[(&str, bool)]) -> bool {
+    answers.len() == wanted.len()
+        && answers
+            .iter()
+            .zip(wanted)
+            .all(|(answer, wanted)| told(answer) == *wanted)
+}
+
+// Of which call it is the answer, and whether that succeeded: the first slot was given, a dispatch called nothing, and the
+// poller before was asked for one wait, of 0.
+fn told<R: Wait + Drop>(answer: &Answer<R>) -> (&'static str, bool) {
+    match answer {
+        LoopAnswer::Inserted(token) => ("inserted", is_first(token)),
+        LoopAnswer::Enabled(answer) => told_as("enabled", answer),
+        LoopAnswer::Updated(answer) => told_as("updated", answer),
+        LoopAnswer::Disabled(answer) => told_as("disabled", answer),
+        LoopAnswer::Removed(source) => ("removed", source.is_some()),
+        LoopAnswer::Dispatched(answer, said) => ("dispatched", answer.is_ok() && said.is_empty()),
+        LoopAnswer::Poller(before) => ("poller", are_waits(before.waits(), &[Some(0)])),
     }
 }
 
-// Whether a source was updated, disabled, enabled and removed, and could not be enabled after that.
-fn are_registrations_until_removed<R: Wait + Drop>(answers: &[Answer<R>]) -> bool {
-    match answers {
-        [
-            LoopAnswer::Updated(Ok(())),
-            LoopAnswer::Disabled(Ok(())),
-            LoopAnswer::Enabled(Ok(())),
-            LoopAnswer::Removed(Some(_)),
-            LoopAnswer::Enabled(Err(Error::InvalidToken)),
-        ] => true,
-        _ => false,
+// A refusal that isn't one of the token is told as a failure.
+fn told_as(word: &'static str, answer: &calloop::Result<()>) -> (&'static str, bool) {
+    match answer {
+        Ok(()) => (word, true),
+        Err(Error::InvalidToken) => (word, false),
+        Err(_) => ("failed", false),
+    }
+}
+
+fn is_first<S>(inserted: &Result<RegistrationToken, InsertError<S>>) -> bool {
+    match inserted {
+        Ok(token) => *token == RegistrationToken::new(0, 0),
+        Err(_) => false,
     }
 }
 
