@@ -1,13 +1,18 @@
-ghost use Rattle.std.specs.Prelude.{◌≡◌, ◌<◌, ◌-◌, ◌^◌, IfOk};
+ghost use Rattle.std.specs.Prelude.{◌≡◌, ◌<◌, ◌-◌, ◌^◌, None, IfOk, IfErr, IfSome};
+ghost use Rattle.std.specs.Arc.{arc_value};
+ghost use Rattle.calloop_wake.specs.Passes.{AreOf};
 
 use crate::error::{Error, InsertError};
 use crate::list::{Content, SourceList};
 use crate::token::{RegistrationToken, Token, TokenFactory, factory_tokens_differ, keys_differ};
-use crate::wake::board::{Board, OpenRefusal};
+use crate::wake::board::OpenRefusal;
 use crate::wake::ghosts::Name;
 use crate::wake::locked::{Core, Locked};
 use crate::wake::ping::{OpenedTurn, PingCore, covered, lost_is_not_covered};
-use crate::wake::{Debt, Last, LeaveToClose, Notify, PingTurn, Sender, TakenPass, Twin};
+use crate::wake::watch::{Watch, WatchedBoard};
+use crate::wake::{
+    Debt, Last, LeaveToClose, Notify, OpenedPass, PingTurn, Sender, TakenPass, Twin,
+};
 use crate::wheel::{Instant, Wheel};
 use counted_slot::Fits;
 use std::alloc::{AllocError, Global};
@@ -148,17 +153,61 @@ fn slots(rt: HostRuntime) {
     );
 }
 
-// A ping's cell under its lock, and its receiving end.
-struct Ends {
-    lock: Locked<PingCore>,
-    twin: Twin,
-    ghost tied: { twin.name ≡ lock.slot },
+// A board under its lock, and the loop's watch of it.
+#[derive(Drop)]
+struct Desk {
+    board: SharedBoard,
+    name: Name,
+    watch: Watch,
+    ghost tied: { watch.name ≡ (arc_value board).slot },
+    ghost named: { name ≡ (arc_value board).slot },
 }
 
-// The board of the cell goes with it.
+type SharedBoard = Arc<Locked<WatchedBoard>, Global>;
+
+// The names of a cell, and of the board of its keys.
+#[derive(Drop)]
+struct Names {
+    cell: Name,
+    board: Name,
+}
+
+// A cell all of whose keys are of one board.
+struct OneBoard {
+    core: PingCore,
+}
+
+impl Fits for OneBoard {
+    ghost use Rattle.std.specs.Prelude.{◌≡◌, is_some, true};
+
+    type Tag = Names;
+
+    ghost fits = { λ tag cell. (cell.core.name ≡ tag.cell) × (is_some cell.core.cell.key ≡ true → cell.core.board ≡ tag.board) };
+}
+
+impl Core for OneBoard {
+    fn dissolve(self, last: Last) {
+        let OneBoard { core } = self;
+        core.dissolve(last);
+    }
+}
+
+// A ping's cell under its lock, its receiving end, and the board of its keys.
+struct Ends {
+    lock: Locked<OneBoard>,
+    twin: Twin,
+    board: SharedBoard,
+    ghost tied: { twin.name ≡ lock.slot.cell },
+    ghost own: { lock.slot.board ≡ (arc_value board).slot },
+}
+
 impl Drop for Ends {
     fn drop(self) {
-        let Ends { lock: _, twin } = self;
+        let Ends {
+            lock: _,
+            twin,
+            board: _,
+        } = self;
         let Twin {
             name: _,
             key: _,
@@ -193,110 +242,213 @@ const RUNG_AND_TOLD: Turn = Turn::Opened {
 
 const REFUSED: Turn = Turn::Refused { marked: true };
 
-impl Ends {
-    fn new() -> Ends {
-        let (core, name, right) = PingCore::new();
-        let twin = core.receiver(right);
-        Ends {
-            lock: Locked::new(core, &name),
-            twin,
+impl Desk {
+    fn new(alloc: Global) -> Result<Desk, AllocError> {
+        let (board, watch, name) = WatchedBoard::new(alloc);
+        let board = Arc::new(alloc, Locked::new(board, &name))?;
+        Ok(Desk { board, name, watch })
+    }
+
+    fn places<R: Wait>(&self, rt: &R) -> usize {
+        let (gate, board) = self.board.lock(rt);
+        let places = board.places();
+        self.board.unlock(rt, gate, board);
+        places.number()
+    }
+
+    // Whether the loop may sleep.
+    fn is_quiet<R: Wait>(&mut self, rt: &R) -> bool {
+        let (gate, board) = self.board.lock(rt);
+        let leave = board.look(&mut self.watch);
+        self.board.unlock(rt, gate, board);
+        match leave {
+            Some(leave) => {
+                leave.spend();
+                true
+            }
+            None => false,
         }
     }
 
-    fn stands<R: Wait>(&self, rt: &R) {
-        let (gate, core) = self.lock.lock(rt);
-        core.stands();
-        self.lock.unlock(rt, gate, core);
+    // Takes the marked keys.
+    fn take_passes<R: Wait>(
+        &mut self,
+        rt: &R,
+        alloc: Global,
+    ) -> Result<VecDeque<TakenPass>, AllocError>
+        ensures same { (arc_value self.new.board).slot ≡ (arc_value self.old.board).slot }
+        ensures own { IfOk result (λ passes. AreOf (arc_value self.old.board).slot passes.items) }
+    {
+        let places = self.places(rt);
+        let mut passes = VecDeque::with_capacity(alloc, places)?;
+        let (gate, mut board) = self.board.lock(rt);
+        board.unpost(places, &mut self.watch, &mut passes);
+        self.board.unlock(rt, gate, board);
+        Ok(passes)
+    }
+}
+
+impl Ends {
+    fn new(desk: &Desk) -> Result<Ends, AllocError> {
+        let board = Arc::try_clone(&desk.board)?;
+        let (core, name, right) = PingCore::new();
+        let twin = core.receiver(right);
+        let names = Names {
+            cell: name,
+            board: desk.name.again(),
+        };
+        Ok(Ends {
+            lock: Locked::new(OneBoard { core }, &names),
+            twin,
+            board,
+        })
     }
 
-    fn ring<R: Wait>(&self, rt: &R) -> Option<Debt> {
-        ring(rt, &self.lock)
+    fn stands<R: Wait>(&self, rt: &R) {
+        let (gate, cell) = self.lock.lock(rt);
+        cell.core.stands();
+        self.lock.unlock(rt, gate, cell);
+    }
+
+    // Rings, and posts what is owed: whether that set a mark anew.
+    fn ring<R: Wait>(&self, rt: &R) -> bool {
+        post(rt, &self.board, ring(rt, &self.lock))
     }
 
     fn add_sender<R: Wait>(&self, rt: &R) -> Result<Sender, AllocError>
-        ensures { IfOk result (λ sender. sender.name ≡ self.now.lock.slot) }
+        ensures { IfOk result (λ sender. sender.name ≡ self.now.lock.slot.cell) }
     {
-        let (gate, mut core) = self.lock.lock(rt);
-        let added = core.add_sender();
-        self.lock.unlock(rt, gate, core);
+        let (gate, mut cell) = self.lock.lock(rt);
+        let added = cell.core.add_sender();
+        self.lock.unlock(rt, gate, cell);
         added
     }
 
-    fn drop_sender<R: Wait>(&self, rt: &R, sender: Sender) -> Option<Debt>
-        requires { sender.name ≡ self.now.lock.slot }
+    fn drop_sender<R: Wait>(&self, rt: &R, sender: Sender) -> bool
+        requires { sender.name ≡ self.now.lock.slot.cell }
     {
-        let (gate, mut core) = self.lock.lock(rt);
-        let debt = core.drop_sender(sender);
-        self.lock.unlock(rt, gate, core);
-        debt
+        post(rt, &self.board, drop_sender(rt, &self.lock, sender))
     }
 
     // Opens a place, and gives the cell its key.
-    fn register<R: Wait>(&mut self, rt: &R, board: &mut Board, key: u64) -> Result<(), OpenRefusal>
+    fn register<R: Wait>(&mut self, rt: &R, key: u64) -> Result<(), OpenRefusal>
         requires { key < 2 ^ 64 - 1 }
+        ensures { self.new.lock ≡ self.old.lock }
     {
-        let pass = board.open_place(key)?;
-        let (gate, mut core) = self.lock.lock(rt);
-        let (debt, leave) = core.set_key(pass, &mut self.twin);
-        self.lock.unlock(rt, gate, core);
-        settle(board, debt);
-        close(board, leave);
+        let (gate, mut board) = self.board.lock(rt);
+        let opened = board.open_place(key);
+        self.board.unlock(rt, gate, board);
+        let pass = opened?;
+        let (debt, leave) = set_key(rt, &self.lock, &mut self.twin, pass);
+        post(rt, &self.board, debt);
+        close(rt, &self.board, leave);
         Ok(())
     }
 
     // Takes the cell's key back, and closes its place: whether it had one.
-    fn unregister<R: Wait>(&mut self, rt: &R, board: &mut Board) -> bool {
-        let (gate, mut core) = self.lock.lock(rt);
-        let leave = core.clear_key(&mut self.twin);
-        self.lock.unlock(rt, gate, core);
-        close(board, leave)
+    fn unregister<R: Wait>(&mut self, rt: &R) -> bool {
+        let leave = clear_key(rt, &self.lock, &mut self.twin);
+        close(rt, &self.board, leave)
     }
 
-    // The same, as the receiving end goes. The lock stays.
-    fn abandon<R: Wait>(self, rt: &R, board: &mut Board) -> (bool, Locked<PingCore>) {
-        let Ends { lock, twin } = self;
-        let (gate, mut core) = lock.lock(rt);
-        let leave = core.abandon(twin);
-        lock.unlock(rt, gate, core);
-        (close(board, leave), lock)
+    // The same, as the receiving end goes; then a ring, which posts nothing.
+    fn abandon<R: Wait>(self, rt: &R) -> (bool, bool) {
+        let Ends { lock, twin, board } = self;
+        let had_key = close(rt, &board, abandon(rt, &lock, twin));
+        (had_key, post(rt, &board, ring(rt, &lock)))
     }
+}
 
+impl Ends {
     fn serve_all<R: Wait>(
         &mut self,
         rt: &R,
         alloc: Global,
-        board: &mut Board,
+        desk: &mut Desk,
     ) -> Result<Vec<Turn>, AllocError> {
-        serve_all(rt, alloc, board, &self.lock, &mut self.twin)
+        serve_all(rt, alloc, desk, &self.lock, &mut self.twin)
     }
 
     fn serve_within<R: Wait>(
         &mut self,
         rt: &R,
         alloc: Global,
-        board: &mut Board,
+        desk: &mut Desk,
     ) -> Result<Vec<Turn>, AllocError> {
-        serve_within(rt, alloc, board, &self.lock, &mut self.twin)
+        serve_within(rt, alloc, desk, &self.board, &self.lock, &mut self.twin)
     }
 }
 
 // Rings, and drops the receipt: what is owed.
-fn ring<R: Wait>(rt: &R, lock: &Locked<PingCore>) -> Option<Debt> {
-    let (gate, mut core) = lock.lock(rt);
-    let (_receipt, debt) = core.ring();
-    lock.unlock(rt, gate, core);
+fn ring<R: Wait>(rt: &R, lock: &Locked<OneBoard>) -> Option<Debt>
+    ensures { IfSome result (λ debt. debt.board ≡ lock.now.slot.board) }
+{
+    let (gate, mut cell) = lock.lock(rt);
+    let (_receipt, debt) = cell.core.ring();
+    lock.unlock(rt, gate, cell);
     debt
 }
 
+fn drop_sender<R: Wait>(rt: &R, lock: &Locked<OneBoard>, sender: Sender) -> Option<Debt>
+    requires { sender.name ≡ lock.now.slot.cell }
+    ensures { IfSome result (λ debt. debt.board ≡ lock.now.slot.board) }
+{
+    let (gate, mut cell) = lock.lock(rt);
+    let debt = cell.core.drop_sender(sender);
+    lock.unlock(rt, gate, cell);
+    debt
+}
+
+fn set_key<R: Wait>(
+    rt: &R,
+    lock: &Locked<OneBoard>,
+    twin: &mut Twin,
+    pass: OpenedPass,
+) -> (Option<Debt>, Option<LeaveToClose>)
+    requires twin { twin.old.name ≡ lock.now.slot.cell }
+    requires board { pass.board ≡ lock.now.slot.board }
+    ensures twin { twin.new.name ≡ lock.now.slot.cell }
+    ensures debt { IfSome result.0 (λ debt. debt.board ≡ lock.now.slot.board) }
+    ensures leave { IfSome result.1 (λ leave. leave.board ≡ lock.now.slot.board) }
+{
+    let (gate, mut cell) = lock.lock(rt);
+    let (debt, leave) = cell.core.set_key(pass, twin);
+    lock.unlock(rt, gate, cell);
+    (debt, leave)
+}
+
+fn clear_key<R: Wait>(rt: &R, lock: &Locked<OneBoard>, twin: &mut Twin) -> Option<LeaveToClose>
+    requires { twin.old.name ≡ lock.now.slot.cell }
+    ensures twin { twin.new.name ≡ lock.now.slot.cell }
+    ensures leave { IfSome result (λ leave. leave.board ≡ lock.now.slot.board) }
+{
+    let (gate, mut cell) = lock.lock(rt);
+    let leave = cell.core.clear_key(twin);
+    lock.unlock(rt, gate, cell);
+    leave
+}
+
+fn abandon<R: Wait>(rt: &R, lock: &Locked<OneBoard>, twin: Twin) -> Option<LeaveToClose>
+    requires { twin.name ≡ lock.now.slot.cell }
+    ensures { IfSome result (λ leave. leave.board ≡ lock.now.slot.board) }
+{
+    let (gate, mut cell) = lock.lock(rt);
+    let leave = cell.core.abandon(twin);
+    lock.unlock(rt, gate, cell);
+    leave
+}
+
 // Closes the place of a key that was taken back: whether there was one.
-fn close(board: &mut Board, leave: Option<LeaveToClose>) -> bool {
-    match leave {
-        Some(leave) => {
-            board.close_place(leave);
-            true
-        }
-        None => false,
-    }
+fn close<R: Wait>(rt: &R, board: &Locked<WatchedBoard>, leave: Option<LeaveToClose>) -> bool
+    requires { IfSome leave (λ leave. leave.board ≡ board.now.slot) }
+{
+    let Some(leave) = leave else {
+        return false;
+    };
+    let (gate, mut at) = board.lock(rt);
+    at.close_place(leave);
+    board.unlock(rt, gate, at);
+    true
 }
 
 // A loop that was told to wake.
@@ -312,99 +464,92 @@ impl Notify for Signal {
 }
 
 // Posts what is owed, and says whether that set a mark anew.
-fn settle(board: &mut Board, debt: Option<Debt>) -> bool {
+fn post<R: Wait>(rt: &R, board: &Locked<WatchedBoard>, debt: Option<Debt>) -> bool
+    requires { IfSome debt (λ debt. debt.board ≡ board.now.slot) }
+{
+    let Some(debt) = debt else {
+        return false;
+    };
     let signal = Signal {
         raised: AtomicBool::new(false),
     };
-    if let Some(debt) = debt {
-        if let Some(nudge) = board.post(debt) {
-            nudge.spend(&signal);
-        }
+    let (gate, mut at) = board.lock(rt);
+    let nudge = at.post(debt);
+    board.unlock(rt, gate, at);
+    if let Some(nudge) = nudge {
+        nudge.spend(&signal);
     }
     signal.raised.load(Ordering::SeqCst)
 }
 
-// Whether the loop may sleep.
-fn is_quiet(board: &Board) -> bool {
-    match board.look() {
-        Some(leave) => {
-            leave.spend();
-            true
-        }
-        None => false,
-    }
-}
-
 fn open<R: Wait>(
     rt: &R,
-    lock: &Locked<PingCore>,
+    lock: &Locked<OneBoard>,
     twin: &mut Twin,
     pass: TakenPass,
 ) -> Result<OpenedTurn, TakenPass>
-    requires { twin.old.name ≡ lock.now.slot }
-    ensures name { twin.new.name ≡ lock.now.slot }
-    ensures turn { IfOk result (λ o. o.turn.name ≡ lock.now.slot) }
+    requires { twin.old.name ≡ lock.now.slot.cell }
+    ensures name { twin.new.name ≡ lock.now.slot.cell }
+    ensures turn { IfOk result (λ o. o.turn.name ≡ lock.now.slot.cell) }
+    ensures refused { IfErr result (λ refused. refused.board ≡ pass.board) }
 {
-    let (gate, mut core) = lock.lock(rt);
-    let opened = core.open_turn(pass, twin);
-    lock.unlock(rt, gate, core);
+    let (gate, mut cell) = lock.lock(rt);
+    let opened = cell.core.open_turn(pass, twin);
+    lock.unlock(rt, gate, cell);
     opened
 }
 
-fn end<R: Wait>(rt: &R, lock: &Locked<PingCore>, turn: PingTurn) -> Option<Debt>
-    requires { turn.name ≡ lock.now.slot }
+// Ends a turn, after which nothing is owed.
+fn end<R: Wait>(rt: &R, lock: &Locked<OneBoard>, turn: PingTurn) -> Option<Debt>
+    requires { turn.name ≡ lock.now.slot.cell }
+    ensures { result ≡ None }
 {
-    let (gate, mut core) = lock.lock(rt);
-    let debt = core.end_turn(turn);
-    lock.unlock(rt, gate, core);
+    let (gate, mut cell) = lock.lock(rt);
+    let debt = cell.core.end_turn(turn);
+    lock.unlock(rt, gate, cell);
     debt
 }
 
 // One turn with this pass.
 fn serve<R: Wait>(
     rt: &R,
-    board: &mut Board,
-    lock: &Locked<PingCore>,
+    board: &Locked<WatchedBoard>,
+    lock: &Locked<OneBoard>,
     twin: &mut Twin,
     pass: TakenPass,
 ) -> Turn
-    requires { twin.old.name ≡ lock.now.slot }
-    ensures { twin.new.name ≡ lock.now.slot }
+    requires twin { twin.old.name ≡ lock.now.slot.cell }
+    requires pass { pass.board ≡ board.now.slot }
+    ensures { twin.new.name ≡ lock.now.slot.cell }
 {
     match open(rt, lock, twin, pass) {
         Ok(OpenedTurn { turn, rung, told }) => {
-            settle(board, end(rt, lock, turn));
+            post(rt, board, end(rt, lock, turn));
             Turn::Opened { rung, told }
         }
         Err(pass) => {
             let marked = pass.is_refused();
-            settle(board, Some(pass.back()));
+            post(rt, board, Some(pass.back()));
             Turn::Refused { marked }
         }
     }
-}
-
-// Takes the marked keys.
-fn take_passes(alloc: Global, board: &mut Board) -> Result<VecDeque<TakenPass>, AllocError> {
-    let places = board.places();
-    let mut passes = VecDeque::with_capacity(alloc, places)?;
-    board.unpost(places, &mut passes);
-    Ok(passes)
 }
 
 // Takes the marked keys, and has the cell serve each.
 fn serve_all<R: Wait>(
     rt: &R,
     alloc: Global,
-    board: &mut Board,
-    lock: &Locked<PingCore>,
+    desk: &mut Desk,
+    lock: &Locked<OneBoard>,
     twin: &mut Twin,
 ) -> Result<Vec<Turn>, AllocError>
-    requires { twin.old.name ≡ lock.now.slot }
-    ensures { twin.new.name ≡ lock.now.slot }
+    requires { twin.old.name ≡ lock.now.slot.cell }
+    ensures twin { twin.new.name ≡ lock.now.slot.cell }
+    ensures desk { (arc_value desk.new.board).slot ≡ (arc_value desk.old.board).slot }
 {
-    let mut turns = Vec::with_capacity(alloc, board.places())?;
-    let mut passes = take_passes(alloc, board)?;
+    let mut turns = Vec::with_capacity(alloc, desk.places(rt))?;
+    let mut passes = desk.take_passes(rt, alloc)?;
+    let board = &desk.board;
     while let Some(pass) = passes.pop_front() {
         let turn = serve(rt, board, lock, twin, pass);
         let _ = turns.push(turn);
@@ -418,15 +563,17 @@ fn serve_all<R: Wait>(
 fn serve_within<R: Wait>(
     rt: &R,
     alloc: Global,
-    board: &mut Board,
-    lock: &Locked<PingCore>,
+    desk: &mut Desk,
+    board: &Locked<WatchedBoard>,
+    lock: &Locked<OneBoard>,
     twin: &mut Twin,
 ) -> Result<Vec<Turn>, AllocError>
-    requires { twin.old.name ≡ lock.now.slot }
-    ensures { twin.new.name ≡ lock.now.slot }
+    requires twin { twin.old.name ≡ lock.now.slot.cell }
+    requires board { lock.now.slot.board ≡ board.now.slot }
+    ensures { twin.new.name ≡ lock.now.slot.cell }
 {
     let mut within = Ok(Vec::new(alloc));
-    let mut passes = take_passes(alloc, board)?;
+    let mut passes = desk.take_passes(rt, alloc)?;
     while let Some(pass) = passes.pop_front() {
         match open(rt, lock, twin, pass) {
             Ok(
@@ -436,12 +583,12 @@ fn serve_within<R: Wait>(
                     told: _,
                 },
             ) => {
-                settle(board, ring(rt, lock));
-                within = serve_all(rt, alloc, board, lock, twin);
-                settle(board, end(rt, lock, turn));
+                post(rt, board, ring(rt, lock));
+                within = serve_all(rt, alloc, desk, lock, twin);
+                post(rt, board, end(rt, lock, turn));
             }
             Err(pass) => {
-                settle(board, Some(pass.back()));
+                post(rt, &desk.board, Some(pass.back()));
             }
         }
     }
@@ -452,122 +599,122 @@ fn serve_within<R: Wait>(
 #[test]
 fn one_ring(rt: HostRuntime) -> Result<(), Fail> {
     let alloc = rt.alloc();
-    let mut board = Board::new(alloc);
-    let mut cell = Ends::new();
-    let mut other = Ends::new();
-    assert!(rt; cell.register(&rt, &mut board, 7).is_ok());
-    assert!(rt; other.register(&rt, &mut board, 5).is_ok());
-    assert_eq!(rt;
-        other.register(&rt, &mut board, 7),
-        Err(OpenRefusal::AlreadyExists)
-    );
-    assert_eq!(rt; board.places(), 2);
-    assert!(rt; is_quiet(&board));
+    let mut desk = Desk::new(alloc)?;
+    let mut cell = Ends::new(&desk)?;
+    let mut other = Ends::new(&desk)?;
+    assert!(rt; cell.register(&rt, 7).is_ok());
+    assert!(rt; other.register(&rt, 5).is_ok());
+    assert_eq!(rt; other.register(&rt, 7), Err(OpenRefusal::AlreadyExists));
+    assert_eq!(rt; desk.places(&rt), 2);
+    assert!(rt; desk.is_quiet(&rt));
 
-    assert!(rt; settle(&mut board, cell.ring(&rt)));
-    assert!(rt; !settle(&mut board, cell.ring(&rt)));
-    assert!(rt; !is_quiet(&board));
+    assert!(rt; cell.ring(&rt));
+    assert!(rt; !cell.ring(&rt));
+    assert!(rt; !desk.is_quiet(&rt));
     assert_eq!(rt;
-        cell.serve_all(&rt, alloc, &mut board)?.as_slice(),
+        cell.serve_all(&rt, alloc, &mut desk)?.as_slice(),
         [RUNG].as_slice()
     );
-    assert!(rt; is_quiet(&board));
+    assert!(rt; desk.is_quiet(&rt));
 
-    assert!(rt; settle(&mut board, cell.ring(&rt)));
+    assert!(rt; cell.ring(&rt));
     assert_eq!(rt;
-        other.serve_all(&rt, alloc, &mut board)?.as_slice(),
+        other.serve_all(&rt, alloc, &mut desk)?.as_slice(),
         [REFUSED].as_slice()
     );
-    assert!(rt; !is_quiet(&board));
-    assert!(rt; cell.register(&rt, &mut board, 6).is_ok());
-    assert_eq!(rt; board.places(), 2);
+    assert!(rt; !desk.is_quiet(&rt));
+    assert!(rt; cell.register(&rt, 6).is_ok());
+    assert_eq!(rt; desk.places(&rt), 2);
     assert_eq!(rt;
-        cell.serve_all(&rt, alloc, &mut board)?.as_slice(),
+        cell.serve_all(&rt, alloc, &mut desk)?.as_slice(),
         [RUNG].as_slice()
     );
     Ok(())
 }
 
 #[test]
-fn cells_that_stand(rt: HostRuntime) {
-    let mut board = Board::new(rt.alloc());
-    let mut cell = Ends::new();
+fn cells_that_stand(rt: HostRuntime) -> Result<(), Fail> {
+    let mut desk = Desk::new(rt.alloc())?;
+    let mut cell = Ends::new(&desk)?;
     cell.stands(&rt);
-    assert!(rt; !settle(&mut board, cell.ring(&rt)));
+    assert!(rt; !cell.ring(&rt));
     cell.stands(&rt);
-    assert!(rt; cell.register(&rt, &mut board, 7).is_ok());
-    assert!(rt; !is_quiet(&board));
+    assert!(rt; cell.register(&rt, 7).is_ok());
+    assert!(rt; !desk.is_quiet(&rt));
     cell.stands(&rt);
+    Ok(())
 }
 
 #[test]
-fn nudges(rt: HostRuntime) {
+fn nudges(rt: HostRuntime) -> Result<(), Fail> {
     covered();
     lost_is_not_covered();
-    let mut board = Board::new(rt.alloc());
-    let mut cell = Ends::new();
-    let mut other = Ends::new();
-    assert!(rt; cell.register(&rt, &mut board, 7).is_ok());
-    let of_seven = cell.ring(&rt);
-    assert!(rt; cell.register(&rt, &mut board, 8).is_ok());
-    assert!(rt; other.register(&rt, &mut board, 7).is_ok());
-    let again = other.ring(&rt);
-    assert!(rt; settle(&mut board, of_seven));
-    assert!(rt; !settle(&mut board, again));
+    let mut desk = Desk::new(rt.alloc())?;
+    let mut cell = Ends::new(&desk)?;
+    let mut other = Ends::new(&desk)?;
+    assert!(rt; cell.register(&rt, 7).is_ok());
+    let of_seven = ring(&rt, &cell.lock);
+    assert!(rt; cell.register(&rt, 8).is_ok());
+    assert!(rt; other.register(&rt, 7).is_ok());
+    let again = ring(&rt, &other.lock);
+    assert!(rt; post(&rt, &cell.board, of_seven));
+    assert!(rt; !post(&rt, &other.board, again));
 
-    let mut third = Ends::new();
-    assert!(rt; third.register(&rt, &mut board, 5).is_ok());
-    let of_five = third.ring(&rt);
-    assert!(rt; third.register(&rt, &mut board, 6).is_ok());
-    assert!(rt; !settle(&mut board, of_five));
+    let mut third = Ends::new(&desk)?;
+    assert!(rt; third.register(&rt, 5).is_ok());
+    let of_five = ring(&rt, &third.lock);
+    assert!(rt; third.register(&rt, 6).is_ok());
+    assert!(rt; !post(&rt, &third.board, of_five));
+    Ok(())
 }
 
 #[test]
-fn keys_that_are_taken_back(rt: HostRuntime) {
-    let mut board = Board::new(rt.alloc());
-    let mut cell = Ends::new();
-    assert!(rt; cell.register(&rt, &mut board, 7).is_ok());
-    assert!(rt; cell.unregister(&rt, &mut board));
-    assert!(rt; !cell.unregister(&rt, &mut board));
-    assert_eq!(rt; board.places(), 0);
-    assert!(rt; !settle(&mut board, cell.ring(&rt)));
-    assert!(rt; cell.register(&rt, &mut board, 7).is_ok());
-    assert!(rt; !is_quiet(&board));
+fn keys_that_are_taken_back(rt: HostRuntime) -> Result<(), Fail> {
+    let mut desk = Desk::new(rt.alloc())?;
+    let mut cell = Ends::new(&desk)?;
+    assert!(rt; cell.register(&rt, 7).is_ok());
+    assert!(rt; cell.unregister(&rt));
+    assert!(rt; !cell.unregister(&rt));
+    assert_eq!(rt; desk.places(&rt), 0);
+    assert!(rt; !cell.ring(&rt));
+    assert!(rt; cell.register(&rt, 7).is_ok());
+    assert!(rt; !desk.is_quiet(&rt));
+    Ok(())
 }
 
 #[test]
-fn an_end_that_is_gone(rt: HostRuntime) {
-    let mut board = Board::new(rt.alloc());
-    let mut cell = Ends::new();
+fn an_end_that_is_gone(rt: HostRuntime) -> Result<(), Fail> {
+    let mut desk = Desk::new(rt.alloc())?;
+    let mut cell = Ends::new(&desk)?;
     assert_eq!(rt; cell.twin.key(), None);
-    assert!(rt; cell.register(&rt, &mut board, 7).is_ok());
+    assert!(rt; cell.register(&rt, 7).is_ok());
     assert_eq!(rt; cell.twin.key(), Some(7));
-    let (had_key, lock) = cell.abandon(&rt, &mut board);
-    assert!(rt; had_key);
-    assert_eq!(rt; board.places(), 0);
-    assert!(rt; !settle(&mut board, ring(&rt, &lock)));
+    let (had_key, woke) = cell.abandon(&rt);
+    assert!(rt; had_key && !woke);
+    assert_eq!(rt; desk.places(&rt), 0);
+    Ok(())
 }
 
 #[test]
 fn closes(rt: HostRuntime) -> Result<(), Fail> {
     let alloc = rt.alloc();
-    let mut board = Board::new(alloc);
-    let mut cell = Ends::new();
-    assert!(rt; cell.register(&rt, &mut board, 7).is_ok());
+    let mut desk = Desk::new(alloc)?;
+    let mut cell = Ends::new(&desk)?;
+    assert!(rt; cell.register(&rt, 7).is_ok());
     let first = cell.add_sender(&rt).expect(&rt, "a sender");
     let second = cell.add_sender(&rt).expect(&rt, "a sender");
-    assert!(rt; !settle(&mut board, cell.drop_sender(&rt, first)));
-    assert!(rt; is_quiet(&board));
-    assert!(rt; settle(&mut board, cell.drop_sender(&rt, second)));
+    assert!(rt; !cell.drop_sender(&rt, first));
+    assert!(rt; desk.is_quiet(&rt));
+    assert!(rt; cell.drop_sender(&rt, second));
     cell.stands(&rt);
     assert_eq!(rt;
-        cell.serve_all(&rt, alloc, &mut board)?.as_slice(),
+        cell.serve_all(&rt, alloc, &mut desk)?.as_slice(),
         [TOLD].as_slice()
     );
-    assert!(rt; is_quiet(&board));
-    assert!(rt; settle(&mut board, cell.ring(&rt)));
+    assert!(rt; desk.is_quiet(&rt));
+    assert!(rt; cell.ring(&rt));
     assert_eq!(rt;
-        cell.serve_all(&rt, alloc, &mut board)?.as_slice(),
+        cell.serve_all(&rt, alloc, &mut desk)?.as_slice(),
         [RUNG].as_slice()
     );
     Ok(())
@@ -576,23 +723,23 @@ fn closes(rt: HostRuntime) -> Result<(), Fail> {
 #[test]
 fn closes_that_wait(rt: HostRuntime) -> Result<(), Fail> {
     let alloc = rt.alloc();
-    let mut board = Board::new(alloc);
-    let mut rung = Ends::new();
-    assert!(rt; rung.register(&rt, &mut board, 7).is_ok());
-    assert!(rt; settle(&mut board, rung.ring(&rt)));
+    let mut desk = Desk::new(alloc)?;
+    let mut rung = Ends::new(&desk)?;
+    assert!(rt; rung.register(&rt, 7).is_ok());
+    assert!(rt; rung.ring(&rt));
     let sender = rung.add_sender(&rt).expect(&rt, "a sender");
-    assert!(rt; !settle(&mut board, rung.drop_sender(&rt, sender)));
+    assert!(rt; !rung.drop_sender(&rt, sender));
     assert_eq!(rt;
-        rung.serve_all(&rt, alloc, &mut board)?.as_slice(),
+        rung.serve_all(&rt, alloc, &mut desk)?.as_slice(),
         [RUNG_AND_TOLD].as_slice()
     );
-    let mut early = Ends::new();
+    let mut early = Ends::new(&desk)?;
     let sender = early.add_sender(&rt).expect(&rt, "a sender");
-    assert!(rt; !settle(&mut board, early.drop_sender(&rt, sender)));
-    assert!(rt; is_quiet(&board));
-    assert!(rt; early.register(&rt, &mut board, 8).is_ok());
+    assert!(rt; !early.drop_sender(&rt, sender));
+    assert!(rt; desk.is_quiet(&rt));
+    assert!(rt; early.register(&rt, 8).is_ok());
     assert_eq!(rt;
-        early.serve_all(&rt, alloc, &mut board)?.as_slice(),
+        early.serve_all(&rt, alloc, &mut desk)?.as_slice(),
         [TOLD].as_slice()
     );
     Ok(())
@@ -601,16 +748,16 @@ fn closes_that_wait(rt: HostRuntime) -> Result<(), Fail> {
 #[test]
 fn turns_within_a_turn(rt: HostRuntime) -> Result<(), Fail> {
     let alloc = rt.alloc();
-    let mut board = Board::new(alloc);
-    let mut cell = Ends::new();
-    assert!(rt; cell.register(&rt, &mut board, 7).is_ok());
-    assert!(rt; settle(&mut board, cell.ring(&rt)));
+    let mut desk = Desk::new(alloc)?;
+    let mut cell = Ends::new(&desk)?;
+    assert!(rt; cell.register(&rt, 7).is_ok());
+    assert!(rt; cell.ring(&rt));
     assert_eq!(rt;
-        cell.serve_within(&rt, alloc, &mut board)?.as_slice(),
+        cell.serve_within(&rt, alloc, &mut desk)?.as_slice(),
         [REFUSED].as_slice()
     );
     assert_eq!(rt;
-        cell.serve_all(&rt, alloc, &mut board)?.as_slice(),
+        cell.serve_all(&rt, alloc, &mut desk)?.as_slice(),
         [RUNG].as_slice()
     );
     Ok(())
