@@ -96,7 +96,7 @@ ServedSo (Opened rung told) p twin calls action steps after =
     × (after ≡ record twin { turns = twin.turns + 1; number = twin.number + one rung; closes = twin.closes + one told })
 ServedSo Refused p twin calls action steps after =
     (calls ≡ []) × (action ≡ Continue)
-    × (steps ≡ TakePass ∷ PutBack (record { key = p.key; refused = Some twin.name }) ∷ []) × (after ≡ twin)
+    × (steps ≡ TakePass ∷ PutBack (record p { refused = Some twin.name }) ∷ []) × (after ≡ twin)
 
 abbrev pub PingTurnWith : {P : Type 0} → Option Taken → Twin → Calls → PostAction → List (PollStep P) → Twin → Type 0
 PingTurnWith None twin calls action steps after =

@@ -4,6 +4,7 @@ use Rattle.std.proofs.lemmas.List.{map-append}
 use Rattle.std.proofs.lemmas.List.Elements.{filter-append}
 use Rattle.std.proofs.Math.Seq.{drop-append_seam}
 use Rattle.calloop_wake.specs.Boards.{taken, AllGreater, IsRising}
+use Rattle.logbook.specs.Pages.{Book}
 use Rattle.calloop_wake.specs.Passes.{Taken}
 use Rattle.calloop_wake.specs.Tokens.{key_of, token_of}
 use Rattle.calloop_wake.specs.declared.wheel.Entry.{Entry}
@@ -12,14 +13,14 @@ use Rattle.calloop_core.specs.declared.sys.poll.Pending.{Pending}
 use Rattle.calloop_core.specs.Batches.{key_of_pass, posted_keys, IsInStep}
 use Rattle.calloop_core.specs.Polls.{posted_events, polled_event, polled_events, timer_events, is_for_a_token}
 
-keys-taken : (keys : List ℕ) → map key_of_pass (map taken keys) ≡ keys
-keys-taken [] = refl
-keys-taken (k ∷ ks) = ap (λ l. k ∷ l) (keys-taken ks)
+keys-taken : (board : Book) (keys : List ℕ) → map key_of_pass (map (taken board) keys) ≡ keys
+keys-taken board [] = refl
+keys-taken board (k ∷ ks) = ap (λ l. k ∷ l) (keys-taken board ks)
 
 -- behind the passes that were there before, the new ones have the keys that were posted
-pub keys-new : (before after : List Taken) (keys : List ℕ) (n : ℕ) → n ≡ length before → after ≡ before ++ map taken keys → map key_of_pass (drop n after) ≡ keys
-keys-new before after keys n first is =
-    ap (λ k. map key_of_pass (drop k after)) first ∙ ap (λ l. map key_of_pass (drop (length before) l)) is ∙ ap (λ l. map key_of_pass l) (drop-append_seam before (map taken keys)) ∙ keys-taken keys
+pub keys-new : (board : Book) (before after : List Taken) (keys : List ℕ) (n : ℕ) → n ≡ length before → after ≡ before ++ map (taken board) keys → map key_of_pass (drop n after) ≡ keys
+keys-new board before after keys n first is =
+    ap (λ k. map key_of_pass (drop k after)) first ∙ ap (λ l. map key_of_pass (drop (length before) l)) is ∙ ap (λ l. map key_of_pass l) (drop-append_seam before (map (taken board) keys)) ∙ keys-taken board keys
 
 below-own : (k : ℕ) (ks : List ℕ) → AllGreater k ks → k < 2 ^ 64 - 1
 below-own k [] h = h
@@ -52,13 +53,13 @@ none-of-timers [] = refl
 none-of-timers (e ∷ es) = none-of-timers es
 
 -- a gathering appends a pass for each posted event, in their order
-pub step-gathered : (events : List Pending) (passes : List Taken) (keys : List ℕ) (given : List (ℕ × Readiness)) (entries : List Entry)
-    → IsInStep events passes → IsInStep (((events ++ posted_events keys) ++ polled_events given) ++ timer_events entries) (passes ++ map taken keys)
-step-gathered events passes keys given entries h =
-    map-append key_of_pass passes (map taken keys)
+pub step-gathered : (board : Book) (events : List Pending) (passes : List Taken) (keys : List ℕ) (given : List (ℕ × Readiness)) (entries : List Entry)
+    → IsInStep events passes → IsInStep (((events ++ posted_events keys) ++ polled_events given) ++ timer_events entries) (passes ++ map (taken board) keys)
+step-gathered board events passes keys given entries h =
+    map-append key_of_pass passes (map (taken board) keys)
     ∙ rw (
       h,
-      keys-taken keys,
+      keys-taken board keys,
       posted_keys-append ((events ++ posted_events keys) ++ polled_events given) (timer_events entries),
       none-of-timers entries,
       posted_keys-append (events ++ posted_events keys) (polled_events given),
@@ -70,9 +71,9 @@ step-gathered events passes keys given entries h =
     ) refl
 
 -- the events that the three parts of a gathering append, of keys whose passes were appended
-pub events-gathered : (e₀ e₁ e₂ e₃ : List Pending) (before after : List Taken) (keys : List ℕ) (n : ℕ) (given : List (ℕ × Readiness)) (entries : List Entry) → n ≡ length before
-    → after ≡ before ++ map taken keys → e₁ ≡ e₀ ++ posted_events (map key_of_pass (drop n after)) → e₂ ≡ e₁ ++ polled_events given → e₃ ≡ e₂ ++ timer_events entries
+pub events-gathered : (board : Book) (e₀ e₁ e₂ e₃ : List Pending) (before after : List Taken) (keys : List ℕ) (n : ℕ) (given : List (ℕ × Readiness)) (entries : List Entry) → n ≡ length before
+    → after ≡ before ++ map (taken board) keys → e₁ ≡ e₀ ++ posted_events (map key_of_pass (drop n after)) → e₂ ≡ e₁ ++ polled_events given → e₃ ≡ e₂ ++ timer_events entries
     → e₃ ≡ ((e₀ ++ posted_events keys) ++ polled_events given) ++ timer_events entries
-events-gathered e₀ e₁ e₂ e₃ before after keys n given entries first is one two three =
-    let posted = keys-new before after keys n first is in
+events-gathered board e₀ e₁ e₂ e₃ before after keys n given entries first is one two three =
+    let posted = keys-new board before after keys n first is in
     rw (three, two, one, posted) refl

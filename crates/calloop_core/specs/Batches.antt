@@ -1,7 +1,8 @@
 -- The batch of events that wait for their turn, and the passes of the posted ones among them.
-use Rattle.std.specs.Prelude.{◌≡◌, ℕ, List, map, filter, Option}
+use Rattle.std.specs.Prelude.{◌≡◌, ℕ, List, map, filter, Option, IfSome}
+use Rattle.logbook.specs.Pages.{Book}
 use Rattle.calloop_wake.specs.Tokens.{key_of}
-use Rattle.calloop_wake.specs.Passes.{Taken}
+use Rattle.calloop_wake.specs.Passes.{Taken, AreOf}
 use Rattle.calloop_wake.specs.declared.wake.watch.Watch.{Watch}
 use Rattle.calloop_core.specs.declared.sys.poll.Pending.{Pending}
 
@@ -26,3 +27,9 @@ posted_keys events = map (λ e. key_of e.token) (filter (λ e. e.posted) events)
 -- each posted event has its pass: they have the same keys in the same order; calloop's events have none
 abbrev pub IsInStep : List Pending → List Taken → Type 0
 IsInStep events passes = map key_of_pass passes ≡ posted_keys events
+
+-- what has to be true of a batch over the board of this name: its passes, and that of the event whose turn it is, are of that board
+pub record IsKept (board : Book) (events : List Pending) (passes : List Taken) (pass : Option Taken) : Type 0 where
+  pub in_step : IsInStep events passes
+  pub own : AreOf board passes
+  pub own_turn : IfSome pass (λ p. p.board ≡ board)

@@ -7,12 +7,12 @@ use Rattle.calloop_wake.specs.Watches.{noted}
 use Rattle.calloop_wake.specs.declared.wake.watch.Watch.{Watch}
 use Rattle.calloop_wake.specs.declared.wake.notes.Note.TheVariants.{Unposted}
 
--- some keys were taken, ascending, no more than there was room for; the watch noted it, and a pass for each was appended; calloop's
+-- some keys were taken, ascending, no more than there was room for; the watch noted it, and a pass of its board for each was appended; calloop's
 -- poller appends its events to a list
 pub record HasUnposted (room : ℕ) (watch watch' : Watch) (before after : List Taken) (len_before len_after : ℕ) : Type 0 where
   pub posted : List ℕ
   pub rising : IsRising posted
   pub few : length posted ≤ room
   pub seen : watch' ≡ noted (Unposted room posted) watch
-  pub appended : after ≡ before ++ map taken posted
+  pub appended : after ≡ before ++ map (taken watch.name) posted
   pub counted : len_after ≡ len_before + length posted

@@ -149,7 +149,7 @@ gathered posted given now v =
     record v {
       deadlines = with_entries (not_due now v.deadlines.entries) v.deadlines;
       batch = ((v.batch ++ posted_events posted) ++ polled_events given) ++ timer_events (due now v.deadlines.entries);
-      passes = v.passes ++ map taken posted;
+      passes = v.passes ++ map (taken v.watch.name) posted;
       watch = noted (Unposted v.places posted) v.watch;
     }
 

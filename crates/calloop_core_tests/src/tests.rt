@@ -1,4 +1,5 @@
-ghost use Rattle.std.specs.Prelude.{◌≡◌, ◌≢◌, ◌-◌, ◌^◌, IfOk};
+ghost use Rattle.std.specs.Prelude.{◌≡◌, ◌≢◌, ◌-◌, ◌^◌, None, IfOk, IfErr, IfSome, is_some, true};
+ghost use Rattle.std.specs.Arc.{arc_value};
 ghost use Rattle.calloop_wake.specs.Tokens.{key_of};
 
 use calloop_core::sources::{Asking, Callback, Dispatch, Dispatcher, EventSource, PostAction};
@@ -10,16 +11,18 @@ use calloop_core::sys::{Clock, Poller, Readiness};
 use calloop_core::timer::{TimeoutAction, Timer};
 use calloop_wake::error::Error;
 use calloop_wake::token::{RegistrationToken, Token, TokenFactory};
-use calloop_wake::wake::locked::Locked;
+use calloop_wake::wake::ghosts::Name;
+use calloop_wake::wake::locked::{Core, Locked};
 use calloop_wake::wake::ping::{OpenedTurn, PingCore};
-use calloop_wake::wake::{Debt, PingTurn, TakenPass, Twin};
+use calloop_wake::wake::{Debt, Last, OpenedPass, PingTurn, TakenPass, Twin};
 use calloop_wake::wheel::Instant;
+use counted_slot::Fits;
 use std::alloc::{AllocError, Global};
-use std::io;
 use std::process::Abort;
 use std::sync::atomic::AtomicBool;
 use std::sync::{Arc, Wait};
 use std::time::Duration;
+use std::{io, mem};
 
 #[test]
 fn a_script_answers_in_its_order_and_then_by_the_timeout(rt: HostRuntime) {
@@ -519,11 +522,33 @@ fn interrupted<R: Wait + Clone + Drop + Abort>(
     poll
 }
 
-// A cell of a ping under its lock, with its receiving end and the board of its key.
+// A cell with the hub of its key.
+struct BellCell {
+    core: PingCore,
+    hub: SharedHub,
+    ghost keyed: { is_some core.cell.key ≡ true → core.board ≡ arc_value hub },
+}
+
+impl Fits for BellCell {
+    ghost use Rattle.std.specs.Prelude.{◌≡◌};
+
+    type Tag = Name;
+
+    ghost fits = { λ tag cell. cell.core.name ≡ tag };
+}
+
+impl Core for BellCell {
+    fn dissolve(self, last: Last) {
+        let BellCell { core, hub: _ } = self;
+        core.dissolve(last);
+    }
+}
+
+// A cell of a ping under its lock, with its receiving end and the board of its loop.
 struct Bell<R: Wait + Drop> {
     rt: R,
     hub: SharedHub,
-    lock: Locked<PingCore>,
+    lock: Locked<BellCell>,
     twin: Twin,
     ghost tied: { twin.name ≡ lock.slot },
 }
@@ -533,10 +558,15 @@ impl<R: Wait + Clone + Drop> Bell<R> {
         let its_rt = rt.clone()?;
         let (core, name, right) = PingCore::new();
         let twin = core.receiver(right);
+        let hub = share(rt, poll.hub());
+        let cell = BellCell {
+            core,
+            hub: share(rt, &hub),
+        };
         Ok(Bell {
             rt: its_rt,
-            hub: share(rt, poll.hub()),
-            lock: Locked::new(core, &name),
+            hub,
+            lock: Locked::new(cell, &name),
             twin,
         })
     }
@@ -546,16 +576,23 @@ impl<R: Wait + Drop> Drop for Bell<R> {
     fn drop(self) {
         let Bell {
             rt,
-            hub,
+            hub: _,
             lock,
             twin,
         } = self;
-        let (gate, mut core) = lock.lock(&rt);
-        let leave = core.abandon(twin);
-        lock.unlock(&rt, gate, core);
-        if let Some(leave) = leave {
-            hub.close_place(&rt, leave);
-        }
+        abandon(&rt, &lock, twin);
+    }
+}
+
+fn abandon<Q: Wait>(rt: &Q, lock: &Locked<BellCell>, twin: Twin)
+    requires { twin.name ≡ lock.now.slot }
+{
+    let (gate, mut cell) = lock.lock(rt);
+    let leave = cell.core.abandon(twin);
+    let hub = share(rt, &cell.hub);
+    lock.unlock(rt, gate, cell);
+    if let Some(leave) = leave {
+        hub.close_place(rt, leave);
     }
 }
 
@@ -579,9 +616,33 @@ impl<R: Wait + Clone + Drop + Abort> Desk<R> {
 }
 
 // Posts what is owed.
-fn settle<Q: Wait>(rt: &Q, hub: &Hub, debt: Option<Debt>) {
+fn settle<Q: Wait>(rt: &Q, hub: &Hub, debt: Option<Debt>)
+    requires { IfSome debt (λ debt. debt.board ≡ hub.now) }
+{
     if let Some(debt) = debt {
         hub.settle(rt, debt);
+    }
+}
+
+fn set_key<Q: Wait>(
+    rt: &Q,
+    lock: &Locked<BellCell>,
+    twin: &mut Twin,
+    hub: &SharedHub,
+    pass: OpenedPass,
+)
+    requires twin { twin.old.name ≡ lock.now.slot }
+    requires board { pass.board ≡ arc_value hub.now }
+    ensures { twin.new.name ≡ lock.now.slot }
+{
+    let mine = share(rt, hub);
+    let (gate, mut cell) = lock.lock(rt);
+    let old = mem::replace(&mut cell.hub, mine);
+    let (debt, leave) = cell.core.set_key(pass, twin);
+    lock.unlock(rt, gate, cell);
+    settle(rt, hub, debt);
+    if let Some(leave) = leave {
+        old.close_place(rt, leave);
     }
 }
 
@@ -590,46 +651,44 @@ fn register<Q: Wait, R: Wait + Drop>(rt: &Q, bell: &mut Bell<R>, token: Token) -
     requires { key_of token ≢ 2 ^ 64 - 1 }
 {
     let pass = bell.hub.open_place(rt, token)?;
-    let (gate, mut core) = bell.lock.lock(rt);
-    let (debt, leave) = core.set_key(pass, &mut bell.twin);
-    bell.lock.unlock(rt, gate, core);
-    settle(rt, &bell.hub, debt);
-    if let Some(leave) = leave {
-        bell.hub.close_place(rt, leave);
-    }
+    set_key(rt, &bell.lock, &mut bell.twin, &bell.hub, pass);
     Ok(())
 }
 
 // Rings the cell, and posts its key where that is owed.
 fn ring<Q: Wait, R: Wait + Drop>(rt: &Q, bell: &Bell<R>) {
-    let (gate, mut core) = bell.lock.lock(rt);
-    let (_receipt, debt) = core.ring();
-    bell.lock.unlock(rt, gate, core);
-    settle(rt, &bell.hub, debt);
+    let (gate, mut cell) = bell.lock.lock(rt);
+    let (_receipt, debt) = cell.core.ring();
+    let hub = share(rt, &cell.hub);
+    bell.lock.unlock(rt, gate, cell);
+    settle(rt, &hub, debt);
 }
 
 fn open_turn<Q: Wait>(
     rt: &Q,
-    lock: &Locked<PingCore>,
+    lock: &Locked<BellCell>,
     twin: &mut Twin,
     pass: TakenPass,
 ) -> Result<OpenedTurn, TakenPass>
     requires { twin.old.name ≡ lock.now.slot }
     ensures name { twin.new.name ≡ lock.now.slot }
     ensures turn { IfOk result (λ o. o.turn.name ≡ lock.now.slot) }
+    ensures refused { IfErr result (λ refused. refused.board ≡ pass.board) }
 {
-    let (gate, mut core) = lock.lock(rt);
-    let opened = core.open_turn(pass, twin);
-    lock.unlock(rt, gate, core);
+    let (gate, mut cell) = lock.lock(rt);
+    let opened = cell.core.open_turn(pass, twin);
+    lock.unlock(rt, gate, cell);
     opened
 }
 
-fn end_turn<Q: Wait>(rt: &Q, lock: &Locked<PingCore>, turn: PingTurn) -> Option<Debt>
+// Ends a turn, after which nothing is owed.
+fn end_turn<Q: Wait>(rt: &Q, lock: &Locked<BellCell>, turn: PingTurn) -> Option<Debt>
     requires { turn.name ≡ lock.now.slot }
+    ensures { result ≡ None }
 {
-    let (gate, mut core) = lock.lock(rt);
-    let debt = core.end_turn(turn);
-    lock.unlock(rt, gate, core);
+    let (gate, mut cell) = lock.lock(rt);
+    let debt = cell.core.end_turn(turn);
+    lock.unlock(rt, gate, cell);
     debt
 }
 

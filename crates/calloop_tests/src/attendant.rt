@@ -1,4 +1,6 @@
 //! A source of the tests' own that is told of waits.
+ghost use Rattle.std.specs.Prelude.{◌≡◌};
+
 use crate::source::{Broken, Listener, Teller};
 use calloop::{
     Asking, Callback, Dispatcher, Error, EventIterator, EventSource, OneOf, PingSource, Poll,

@@ -2,6 +2,7 @@
 -- is a descriptor in its table, and a mark says that it is ready.
 use Rattle.std.specs.Prelude.{ℕ, zero, suc, Bool, false, ◌&&◌, ◌||◌, not, if◌then◌else◌, List, [], ◌∷◌, nat_eq, nat_lt, map, filter, ◌<◌, ◌-◌, ◌^◌, None}
 use Rattle.std.specs.List.{list_any}
+use Rattle.logbook.specs.Pages.{Book}
 use Rattle.calloop_wake.specs.declared.wake.board.Place.{Place}
 use Rattle.calloop_wake.specs.Passes.{Taken}
 
@@ -69,9 +70,9 @@ bound (suc room) (p ∷ ps) = if p.marked then bound room ps else bound (suc roo
 abbrev pub keys_within : (room : ℕ) → List Place → List ℕ
 keys_within room ps = taken_keys (bound room ps) ps
 
--- the pass of a key that was taken just now
-abbrev pub taken : ℕ → Taken
-taken k = record { key = k; refused = None }
+-- the pass of a key that was taken just now from the board of this name
+abbrev pub taken : Book → ℕ → Taken
+taken board k = record { key = k; board = board; refused = None }
 
 -- each key is above this one, and below the poller's own, which no token has
 abbrev pub AllAbove : ℕ → List Place → Type 0

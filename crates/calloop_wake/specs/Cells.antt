@@ -1,7 +1,7 @@
 -- The cell of a ping and its steps: for each step the cell after it, and what it gives.
 use Rattle.std.specs.Prelude.{◌≡◌, ℕ, ◌+◌, ◌-◌, ◌<◌, ◌≤◌, Bool, true, false, ◌&&◌, ◌||◌, not, if◌then◌else◌, Option, Some, None, nat_eq, nat_lt, Result, Ok, Err}
 use Rattle.logbook.specs.Pages.{Book}
-use Rattle.calloop_wake.specs.Passes.{Taken}
+use Rattle.calloop_wake.specs.Passes.{Taken, Keyed}
 use Rattle.calloop_wake.specs.declared.wake.Receipt.{Receipt}
 use Rattle.calloop_wake.specs.declared.wake.Twin.{Twin}
 use Rattle.calloop_wake.specs.declared.wake.ping.OpenedTurn.{OpenedTurn}
@@ -116,6 +116,8 @@ pub record Core : Type 0 where
   pub cell : Cell
   -- no other cell has it
   pub name : Book
+  -- the name of the board of its key; where it has no key, this means nothing
+  pub board : Book
   -- how often anybody rang
   pub rings : ℕ
   -- how often anybody had rung when the last turn was opened
@@ -132,6 +134,10 @@ pub record IsSince (c : Core) : Type 0 where
 
 abbrev pub core_with : Cell → Core → Core
 core_with cell c = record c { cell = cell }
+
+-- the cell with the key of a place on this board
+abbrev pub core_after_set_key : Keyed → Core → Core
+core_after_set_key k c = record c { cell = after_set_key k.key c.cell; board = k.board }
 
 abbrev pub core_after_ring : Core → Core
 core_after_ring c = record c { cell = after_ring c.cell; rings = c.rings + 1 }
@@ -174,4 +180,4 @@ abbrev pub turn_of : Taken → Core → Result OpenedTurn Taken
 turn_of p c =
     if opens p.key c.cell
     then Ok (record { turn = record { name = c.name }; rung = c.cell.rung; told = c.cell.closed && not c.cell.told })
-    else Err (record { key = p.key; refused = Some c.name })
+    else Err (record p { refused = Some c.name })

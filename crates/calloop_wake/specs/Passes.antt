@@ -1,9 +1,29 @@
--- What clients see of a pass of a taken key.
-use Rattle.std.specs.Prelude.{ℕ, Option}
+-- What clients see of the values that carry a key: each has the name of the board of its key, so it is spent there.
+use Rattle.std.specs.Prelude.{◌≡◌, ℕ, List, [], ◌∷◌, Option, Some, None}
 use Rattle.logbook.specs.Pages.{Book}
+
+-- a key of the board of this name; calloop's poller alone knows its descriptors' keys
+pub record Keyed : Type 0 where
+  pub key : ℕ
+  pub board : Book
+
+-- the key of this board, where there is one
+abbrev pub on : Book → Option ℕ → Option Keyed
+on board None = None
+on board (Some k) = Some (record { key = k; board = board })
 
 -- a key that was taken from the board; calloop's poller hands out such keys as events, which can be dropped
 pub record Taken : Type 0 where
   pub key : ℕ
+  pub board : Book
   -- the name of the cell that refused to open a turn with it
   pub refused : Option Book
+
+-- all of them are of the board of this name
+abbrev pub AreOf : Book → List Taken → Type 0
+AreOf board [] = Unit {0}
+AreOf board (p ∷ ps) = (p.board ≡ board) × AreOf board ps
+
+-- the key goes back to its board
+abbrev pub given_back : Taken → Keyed
+given_back p = record { key = p.key; board = p.board }

@@ -4,6 +4,7 @@
 //! In calloop the kernel does this work, through an eventfd or a pipe for each ping and the poller.
 //! The values of this module have no `Drop`, but for a receipt: who has one has to hand it on or to spend it.
 ghost use Rattle.std.specs.Prelude.{◌≡◌, is_some};
+ghost use Rattle.calloop_wake.specs.Passes.{given_back};
 
 use ghosts::{Count, Name};
 use std::marker::Model;
@@ -15,52 +16,60 @@ pub mod notes;
 pub mod ping;
 pub mod watch;
 
-/// Its key has to be posted on the board.
+/// Its key has to be posted on its board.
 #[must_use]
 pub struct Debt {
     key: u64,
+    // The board of the key.
+    board: Name,
 }
 
 impl Model for Debt {
-    ghost use Rattle.std.specs.Prelude.{ℕ};
+    ghost use Rattle.calloop_wake.specs.Passes.{Keyed};
 
-    ghost Value = { ℕ };
+    ghost Value = { Keyed };
 
-    ghost view = { λ d. d.key };
+    ghost view = { λ d. record { key = d.key; board = d.board } };
 }
 
-/// The place of its key was opened, so one cell may now take that key.
+/// The place of its key was opened on its board, so one cell may now take that key.
 #[must_use]
 pub struct OpenedPass {
     key: u64,
+    // The board of the key.
+    board: Name,
 }
 
 impl Model for OpenedPass {
-    ghost use Rattle.std.specs.Prelude.{ℕ};
+    ghost use Rattle.calloop_wake.specs.Passes.{Keyed};
 
-    ghost Value = { ℕ };
+    ghost Value = { Keyed };
 
-    ghost view = { λ p. p.key };
+    ghost view = { λ p. record { key = p.key; board = p.board } };
 }
 
-/// The cell of its key has another key now, so the place may be closed.
+/// The cell of its key has another key now, so the place on its board may be closed.
 #[must_use]
 pub struct LeaveToClose {
     key: u64,
+    // The board of the key.
+    board: Name,
 }
 
 impl Model for LeaveToClose {
-    ghost use Rattle.std.specs.Prelude.{ℕ};
+    ghost use Rattle.calloop_wake.specs.Passes.{Keyed};
 
-    ghost Value = { ℕ };
+    ghost Value = { Keyed };
 
-    ghost view = { λ l. l.key };
+    ghost view = { λ l. record { key = l.key; board = l.board } };
 }
 
-/// Its key was taken from the board. It opens a turn, or goes back to the board as a debt.
+/// Its key was taken from its board. It opens a turn, or goes back there as a debt.
 #[must_use]
 pub struct TakenPass {
     key: u64,
+    // The board that it was taken from.
+    board: Name,
     // The cell that refused it.
     refused: Option<Name>,
 }
@@ -70,7 +79,7 @@ impl Model for TakenPass {
 
     ghost Value = { Taken };
 
-    ghost view = { λ p. record { key = p.key; refused = p.refused } };
+    ghost view = { λ p. record { key = p.key; board = p.board; refused = p.refused } };
 }
 
 impl TakenPass {
@@ -88,12 +97,16 @@ impl TakenPass {
         self.refused.is_some()
     }
 
-    /// Gives the key back to the board, as a debt.
+    /// Gives the key back to its board, as a debt.
     pub fn back(self) -> Debt
-        ensures { result ≡ self.key }
+        ensures { result ≡ given_back self }
     {
-        let TakenPass { key, refused: _ } = self;
-        Debt { key }
+        let TakenPass {
+            key,
+            board,
+            refused: _,
+        } = self;
+        Debt { key, board }
     }
 }
 

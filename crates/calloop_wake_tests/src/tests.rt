@@ -1,22 +1,28 @@
-ghost use Rattle.std.specs.Prelude.{◌≡◌, ◌<◌, ◌-◌, ◌^◌, IfOk};
+ghost use Rattle.std.specs.Prelude.{◌≡◌, ◌<◌, ◌-◌, ◌^◌, None, IfOk, IfErr, IfSome};
+ghost use Rattle.std.specs.Arc.{arc_value};
+ghost use Rattle.calloop_wake.specs.Passes.{AreOf};
 
 use calloop_wake::error::{Error, InsertError};
 use calloop_wake::list::SourceList;
 use calloop_wake::token::{
     RegistrationToken, Token, TokenFactory, factory_tokens_differ, keys_differ,
 };
-use calloop_wake::wake::board::{Board, OpenRefusal};
-use calloop_wake::wake::locked::Locked;
+use calloop_wake::wake::board::OpenRefusal;
+use calloop_wake::wake::ghosts::Name;
+use calloop_wake::wake::locked::{Core, Locked};
 use calloop_wake::wake::ping::{OpenedTurn, PingCore, covered, lost_is_not_covered};
-use calloop_wake::wake::{Debt, LeaveToClose, Notify, PingTurn, Sender, TakenPass, Twin};
+use calloop_wake::wake::watch::{Watch, WatchedBoard};
+use calloop_wake::wake::{
+    Debt, Last, LeaveToClose, Notify, OpenedPass, PingTurn, Sender, TakenPass, Twin,
+};
 use calloop_wake::wheel::{Instant, Wheel};
+use counted_slot::Fits;
 use std::alloc::{AllocError, Global};
 use std::collections::VecDeque;
 use std::fmt::Display;
 use std::process::Abort;
 use std::sync::atomic::{AtomicBool, Ordering};
 use std::sync::{Arc, Wait};
-use std::test::Fail;
 use std::{io, thread};
 
 #[test]
@@ -180,70 +186,67 @@ fn a_slot_that_is_used_65536_times_again_has_its_first_token(rt: HostRuntime) {
 
 #[test]
 fn two_rings_before_a_turn_are_told_once(rt: HostRuntime) {
-    let mut board = Board::new(rt.alloc());
-    let mut cell = Ends::new();
-    assert!(rt; cell.registers(&rt, &mut board, 7) && is_quiet(&board));
-    assert!(rt; settle(&mut board, cell.ring(&rt)));
-    assert!(rt; !settle(&mut board, cell.ring(&rt)));
-    assert!(rt; !is_quiet(&board));
-    assert!(rt; cell.serves(&rt, rt.alloc(), &mut board, &[RUNG]));
-    assert!(rt; is_quiet(&board));
-    cell.leave(&rt, &mut board);
+    let mut desk = Desk::new(&rt, rt.alloc());
+    let mut cell = Ends::new(&rt, rt.alloc(), &desk);
+    assert!(rt; cell.registers(&rt, 7) && desk.is_quiet(&rt));
+    assert!(rt; cell.ring(&rt));
+    assert!(rt; !cell.ring(&rt));
+    assert!(rt; !desk.is_quiet(&rt));
+    assert!(rt; cell.serves(&rt, rt.alloc(), &mut desk, &[RUNG]));
+    assert!(rt; desk.is_quiet(&rt));
+    cell.leave(&rt);
 }
 
 #[test]
 fn a_second_place_for_a_key_is_refused(rt: HostRuntime) {
-    let mut board = Board::new(rt.alloc());
-    let mut cell = Ends::new();
-    let mut other = Ends::new();
-    assert!(rt; cell.registers(&rt, &mut board, 7));
-    assert_eq!(rt;
-        other.register(&rt, &mut board, 7),
-        Err(OpenRefusal::AlreadyExists)
-    );
-    assert!(rt; other.registers(&rt, &mut board, 5));
-    assert_eq!(rt; board.places(), 2);
-    cell.leave(&rt, &mut board);
-    other.leave(&rt, &mut board);
+    let mut desk = Desk::new(&rt, rt.alloc());
+    let mut cell = Ends::new(&rt, rt.alloc(), &desk);
+    let mut other = Ends::new(&rt, rt.alloc(), &desk);
+    assert!(rt; cell.registers(&rt, 7));
+    assert_eq!(rt; other.register(&rt, 7), Err(OpenRefusal::AlreadyExists));
+    assert!(rt; other.registers(&rt, 5));
+    assert_eq!(rt; desk.places(&rt), 2);
+    cell.leave(&rt);
+    other.leave(&rt);
 }
 
 #[test]
 fn a_pass_that_another_cell_refuses_goes_back(rt: HostRuntime) {
-    let mut board = Board::new(rt.alloc());
-    let mut cell = Ends::new();
-    let mut other = Ends::new();
-    assert!(rt; cell.registers(&rt, &mut board, 7) && other.registers(&rt, &mut board, 5));
-    assert!(rt; settle(&mut board, cell.ring(&rt)));
-    assert!(rt; other.serves(&rt, rt.alloc(), &mut board, &[REFUSED]));
-    assert!(rt; !is_quiet(&board));
-    assert!(rt; cell.serves(&rt, rt.alloc(), &mut board, &[RUNG]));
-    cell.leave(&rt, &mut board);
-    other.leave(&rt, &mut board);
+    let mut desk = Desk::new(&rt, rt.alloc());
+    let mut cell = Ends::new(&rt, rt.alloc(), &desk);
+    let mut other = Ends::new(&rt, rt.alloc(), &desk);
+    assert!(rt; cell.registers(&rt, 7) && other.registers(&rt, 5));
+    assert!(rt; cell.ring(&rt));
+    assert!(rt; other.serves(&rt, rt.alloc(), &mut desk, &[REFUSED]));
+    assert!(rt; !desk.is_quiet(&rt));
+    assert!(rt; cell.serves(&rt, rt.alloc(), &mut desk, &[RUNG]));
+    cell.leave(&rt);
+    other.leave(&rt);
 }
 
 #[test]
 fn a_ring_goes_with_its_cell_to_another_key(rt: HostRuntime) {
-    let mut board = Board::new(rt.alloc());
-    let mut cell = Ends::new();
-    assert!(rt; cell.registers(&rt, &mut board, 7));
-    assert!(rt; settle(&mut board, cell.ring(&rt)));
-    assert!(rt; cell.registers(&rt, &mut board, 6));
-    assert_eq!(rt; board.places(), 1);
-    assert!(rt; cell.serves(&rt, rt.alloc(), &mut board, &[RUNG]));
-    cell.leave(&rt, &mut board);
+    let mut desk = Desk::new(&rt, rt.alloc());
+    let mut cell = Ends::new(&rt, rt.alloc(), &desk);
+    assert!(rt; cell.registers(&rt, 7));
+    assert!(rt; cell.ring(&rt));
+    assert!(rt; cell.registers(&rt, 6));
+    assert_eq!(rt; desk.places(&rt), 1);
+    assert!(rt; cell.serves(&rt, rt.alloc(), &mut desk, &[RUNG]));
+    cell.leave(&rt);
 }
 
 #[test]
 fn a_cell_stands_before_a_ring_and_after_it(rt: HostRuntime) {
-    let mut board = Board::new(rt.alloc());
-    let mut cell = Ends::new();
+    let mut desk = Desk::new(&rt, rt.alloc());
+    let mut cell = Ends::new(&rt, rt.alloc(), &desk);
     cell.stands(&rt);
-    assert!(rt; !settle(&mut board, cell.ring(&rt)));
+    assert!(rt; !cell.ring(&rt));
     cell.stands(&rt);
-    assert!(rt; cell.registers(&rt, &mut board, 7));
-    assert!(rt; !is_quiet(&board));
+    assert!(rt; cell.registers(&rt, 7));
+    assert!(rt; !desk.is_quiet(&rt));
     cell.stands(&rt);
-    cell.leave(&rt, &mut board);
+    cell.leave(&rt);
 }
 
 #[test]
@@ -254,130 +257,124 @@ fn the_law_of_all_schedules_rules_four_states_out(_rt: HostRuntime) {
 
 #[test]
 fn a_late_debt_marks_the_next_cell_of_its_key(rt: HostRuntime) {
-    let mut board = Board::new(rt.alloc());
-    let mut cell = Ends::new();
-    let mut other = Ends::new();
-    assert!(rt; cell.registers(&rt, &mut board, 7));
-    let of_seven = cell.ring(&rt);
-    assert!(rt; cell.registers(&rt, &mut board, 8) && other.registers(&rt, &mut board, 7));
-    let again = other.ring(&rt);
-    assert!(rt; settle(&mut board, of_seven));
-    assert!(rt; !settle(&mut board, again));
-    cell.leave(&rt, &mut board);
-    other.leave(&rt, &mut board);
+    let mut desk = Desk::new(&rt, rt.alloc());
+    let mut cell = Ends::new(&rt, rt.alloc(), &desk);
+    let mut other = Ends::new(&rt, rt.alloc(), &desk);
+    assert!(rt; cell.registers(&rt, 7));
+    let of_seven = ring(&rt, &cell.lock);
+    assert!(rt; cell.registers(&rt, 8) && other.registers(&rt, 7));
+    let again = ring(&rt, &other.lock);
+    assert!(rt; post(&rt, &cell.board, of_seven));
+    assert!(rt; !post(&rt, &other.board, again));
+    cell.leave(&rt);
+    other.leave(&rt);
 }
 
 #[test]
 fn a_late_debt_of_a_closed_place_nudges_nobody(rt: HostRuntime) {
-    let mut board = Board::new(rt.alloc());
-    let mut cell = Ends::new();
-    assert!(rt; cell.registers(&rt, &mut board, 5));
-    let of_five = cell.ring(&rt);
-    assert!(rt; cell.registers(&rt, &mut board, 6));
-    assert!(rt; !settle(&mut board, of_five));
-    cell.leave(&rt, &mut board);
+    let mut desk = Desk::new(&rt, rt.alloc());
+    let mut cell = Ends::new(&rt, rt.alloc(), &desk);
+    assert!(rt; cell.registers(&rt, 5));
+    let of_five = ring(&rt, &cell.lock);
+    assert!(rt; cell.registers(&rt, 6));
+    assert!(rt; !post(&rt, &cell.board, of_five));
+    cell.leave(&rt);
 }
 
 #[test]
 fn a_ring_without_a_key_is_posted_with_the_next_one(rt: HostRuntime) {
-    let mut board = Board::new(rt.alloc());
-    let mut cell = Ends::new();
-    assert!(rt; cell.registers(&rt, &mut board, 7));
-    assert!(rt; cell.unregister(&rt, &mut board));
-    assert!(rt; !cell.unregister(&rt, &mut board));
-    assert_eq!(rt; board.places(), 0);
-    assert!(rt; !settle(&mut board, cell.ring(&rt)));
-    assert!(rt; cell.registers(&rt, &mut board, 7));
-    assert!(rt; !is_quiet(&board));
-    cell.leave(&rt, &mut board);
+    let mut desk = Desk::new(&rt, rt.alloc());
+    let mut cell = Ends::new(&rt, rt.alloc(), &desk);
+    assert!(rt; cell.registers(&rt, 7));
+    assert!(rt; cell.unregister(&rt));
+    assert!(rt; !cell.unregister(&rt));
+    assert_eq!(rt; desk.places(&rt), 0);
+    assert!(rt; !cell.ring(&rt));
+    assert!(rt; cell.registers(&rt, 7));
+    assert!(rt; !desk.is_quiet(&rt));
+    cell.leave(&rt);
 }
 
 #[test]
 fn an_end_that_is_gone_leaves_no_place(rt: HostRuntime) {
-    let mut board = Board::new(rt.alloc());
-    let mut cell = Ends::new();
+    let mut desk = Desk::new(&rt, rt.alloc());
+    let mut cell = Ends::new(&rt, rt.alloc(), &desk);
     assert_eq!(rt; cell.twin.key(), None);
-    assert!(rt; cell.registers(&rt, &mut board, 7));
+    assert!(rt; cell.registers(&rt, 7));
     assert_eq!(rt; cell.twin.key(), Some(7));
-    let (had_key, lock) = cell.abandon(&rt, &mut board);
-    assert!(rt; had_key);
-    assert_eq!(rt; board.places(), 0);
-    assert!(rt; !settle(&mut board, ring(&rt, &lock)));
+    let (had_key, rings) = cell.abandon(&rt);
+    assert!(rt; had_key && !rings);
+    assert_eq!(rt; desk.places(&rt), 0);
 }
 
 #[test]
 fn the_last_sender_closes_and_the_one_before_does_not(rt: HostRuntime) {
-    let mut board = Board::new(rt.alloc());
-    let mut cell = Ends::new();
-    assert!(rt; cell.registers(&rt, &mut board, 7));
+    let mut desk = Desk::new(&rt, rt.alloc());
+    let mut cell = Ends::new(&rt, rt.alloc(), &desk);
+    assert!(rt; cell.registers(&rt, 7));
     let first = cell.add_sender(&rt).expect(&rt, "a sender");
     let second = cell.add_sender(&rt).expect(&rt, "a sender");
-    assert!(rt; !settle(&mut board, cell.drop_sender(&rt, first)));
-    assert!(rt; settle(&mut board, cell.drop_sender(&rt, second)));
+    assert!(rt; !cell.drop_sender(&rt, first));
+    assert!(rt; cell.drop_sender(&rt, second));
     cell.stands(&rt);
-    assert!(rt; cell.serves(&rt, rt.alloc(), &mut board, &[TOLD]));
-    cell.leave(&rt, &mut board);
+    assert!(rt; cell.serves(&rt, rt.alloc(), &mut desk, &[TOLD]));
+    cell.leave(&rt);
 }
 
 #[test]
 fn a_close_is_told_once(rt: HostRuntime) {
-    let mut board = Board::new(rt.alloc());
-    let mut cell = Ends::new();
-    assert!(rt; cell.registers(&rt, &mut board, 7) && settle(&mut board, cell.close(&rt)));
-    assert!(rt; cell.serves(&rt, rt.alloc(), &mut board, &[TOLD]));
-    assert!(rt; is_quiet(&board));
-    assert!(rt; settle(&mut board, cell.ring(&rt)));
-    assert!(rt; cell.serves(&rt, rt.alloc(), &mut board, &[RUNG]));
-    cell.leave(&rt, &mut board);
+    let mut desk = Desk::new(&rt, rt.alloc());
+    let mut cell = Ends::new(&rt, rt.alloc(), &desk);
+    assert!(rt; cell.registers(&rt, 7) && cell.close(&rt));
+    assert!(rt; cell.serves(&rt, rt.alloc(), &mut desk, &[TOLD]));
+    assert!(rt; desk.is_quiet(&rt));
+    assert!(rt; cell.ring(&rt));
+    assert!(rt; cell.serves(&rt, rt.alloc(), &mut desk, &[RUNG]));
+    cell.leave(&rt);
 }
 
 #[test]
 fn a_close_after_a_ring_is_told_with_it(rt: HostRuntime) {
-    let mut board = Board::new(rt.alloc());
-    let mut cell = Ends::new();
-    assert!(rt; cell.registers(&rt, &mut board, 7) && settle(&mut board, cell.ring(&rt)));
-    assert!(rt; !settle(&mut board, cell.close(&rt)));
-    assert!(rt; cell.serves(&rt, rt.alloc(), &mut board, &[RUNG_AND_TOLD]));
-    cell.leave(&rt, &mut board);
+    let mut desk = Desk::new(&rt, rt.alloc());
+    let mut cell = Ends::new(&rt, rt.alloc(), &desk);
+    assert!(rt; cell.registers(&rt, 7) && cell.ring(&rt));
+    assert!(rt; !cell.close(&rt));
+    assert!(rt; cell.serves(&rt, rt.alloc(), &mut desk, &[RUNG_AND_TOLD]));
+    cell.leave(&rt);
 }
 
 #[test]
 fn a_close_without_a_key_is_told_with_the_next_one(rt: HostRuntime) {
-    let mut board = Board::new(rt.alloc());
-    let mut cell = Ends::new();
-    assert!(rt; !settle(&mut board, cell.close(&rt)));
-    assert!(rt; is_quiet(&board));
-    assert!(rt; cell.registers(&rt, &mut board, 8));
-    assert!(rt; cell.serves(&rt, rt.alloc(), &mut board, &[TOLD]));
-    cell.leave(&rt, &mut board);
+    let mut desk = Desk::new(&rt, rt.alloc());
+    let mut cell = Ends::new(&rt, rt.alloc(), &desk);
+    assert!(rt; !cell.close(&rt));
+    assert!(rt; desk.is_quiet(&rt));
+    assert!(rt; cell.registers(&rt, 8));
+    assert!(rt; cell.serves(&rt, rt.alloc(), &mut desk, &[TOLD]));
+    cell.leave(&rt);
 }
 
 #[test]
 fn a_turn_within_a_turn_is_refused(rt: HostRuntime) {
-    let mut board = Board::new(rt.alloc());
-    let mut cell = Ends::new();
-    assert!(rt; cell.registers(&rt, &mut board, 7) && settle(&mut board, cell.ring(&rt)));
-    assert!(rt; cell.serves_within(&rt, rt.alloc(), &mut board, &[REFUSED]));
-    assert!(rt; cell.serves(&rt, rt.alloc(), &mut board, &[RUNG]));
-    cell.leave(&rt, &mut board);
+    let mut desk = Desk::new(&rt, rt.alloc());
+    let mut cell = Ends::new(&rt, rt.alloc(), &desk);
+    assert!(rt; cell.registers(&rt, 7) && cell.ring(&rt));
+    assert!(rt; cell.serves_within(&rt, rt.alloc(), &mut desk, &[REFUSED]));
+    assert!(rt; cell.serves(&rt, rt.alloc(), &mut desk, &[RUNG]));
+    cell.leave(&rt);
 }
 
 #[test]
-fn a_ring_of_a_second_thread_is_seen(rt: HostRuntime) -> Result<(), Fail> {
-    let (core, name, right) = PingCore::new();
-    let lock = Arc::new(rt.alloc(), Locked::new(core, &name))?;
-    let its_lock = Arc::try_clone(&lock)?;
-    let (its_rt, alloc) = (rt.clone()?, rt.alloc());
-    let child = thread::spawn(&rt, move || owes_by_ring(&its_rt, alloc, &its_lock))?;
+fn a_ring_of_a_second_thread_is_seen(rt: HostRuntime) {
+    let its_rt = rt.clone().expect(&rt, "a runtime");
+    let mut desk = Desk::new(&rt, rt.alloc());
+    let mut cell = Ends::new(&rt, rt.alloc(), &desk);
+    let button = cell.button(&rt);
+    let child = thread::spawn(&rt, move || button.press(&its_rt)).expect(&rt, "a thread");
     assert!(rt; !child.join(&rt));
-    let mut board = Board::new(rt.alloc());
-    let (gate, core) = lock.lock(&rt);
-    let mut twin = core.receiver(right);
-    lock.unlock(&rt, gate, core);
-    assert!(rt; give_key(&rt, &mut board, &lock, &mut twin, 7).is_ok());
-    assert!(rt; !is_quiet(&board));
-    abandon(&rt, &mut board, &lock, twin);
-    Ok(())
+    assert!(rt; cell.registers(&rt, 7));
+    assert!(rt; !desk.is_quiet(&rt));
+    cell.leave(&rt);
 }
 
 #[test]
@@ -432,11 +429,62 @@ fn is_no_token(list: &SourceList<u8>, token: RegistrationToken) -> bool {
     matches!(list.get(token), Err(Error::InvalidToken))
 }
 
-// A ping's cell under its lock, and its receiving end, which has to leave before the test ends.
+// A board under its lock, and the loop's watch of it.
+#[derive(Drop)]
+struct Desk {
+    board: SharedBoard,
+    name: Name,
+    watch: Watch,
+    ghost tied: { watch.name ≡ (arc_value board).slot },
+    ghost named: { name ≡ (arc_value board).slot },
+}
+
+type SharedBoard = Arc<Locked<WatchedBoard>, Global>;
+
+// The names of a cell, and of the board of its keys.
+#[derive(Drop)]
+struct Names {
+    cell: Name,
+    board: Name,
+}
+
+// A cell all of whose keys are of one board.
+struct OneBoard {
+    core: PingCore,
+}
+
+impl Fits for OneBoard {
+    ghost use Rattle.std.specs.Prelude.{◌≡◌, is_some, true};
+
+    type Tag = Names;
+
+    ghost fits = { λ tag cell. (cell.core.name ≡ tag.cell) × (is_some cell.core.cell.key ≡ true → cell.core.board ≡ tag.board) };
+}
+
+impl Core for OneBoard {
+    fn dissolve(self, last: Last) {
+        let OneBoard { core } = self;
+        core.dissolve(last);
+    }
+}
+
+// A ping's cell under its lock, its receiving end, and the board of its keys. It has to leave before the test ends.
 struct Ends {
-    lock: Locked<PingCore>,
+    lock: SharedLock,
     twin: Twin,
-    ghost tied: { twin.name ≡ lock.slot },
+    board: SharedBoard,
+    ghost tied: { twin.name ≡ (arc_value lock).slot.cell },
+    ghost own: { (arc_value lock).slot.board ≡ (arc_value board).slot },
+}
+
+type SharedLock = Arc<Locked<OneBoard>, Global>;
+
+// The sending end of such a cell.
+#[derive(Drop)]
+struct Button {
+    lock: SharedLock,
+    board: SharedBoard,
+    ghost own: { (arc_value lock).slot.board ≡ (arc_value board).slot },
 }
 
 // What came of a pass.
@@ -463,93 +511,153 @@ const RUNG_AND_TOLD: Turn = Turn::Opened {
 
 const REFUSED: Turn = Turn::Refused { marked: true };
 
+impl Desk {
+    fn new<R: Abort>(rt: &R, alloc: Global) -> Desk {
+        let (board, watch, name) = WatchedBoard::new(alloc);
+        let board = Arc::new(alloc, Locked::new(board, &name)).expect(rt, "a board");
+        Desk { board, name, watch }
+    }
+
+    fn places<R: Wait>(&self, rt: &R) -> usize {
+        let (gate, board) = self.board.lock(rt);
+        let places = board.places();
+        self.board.unlock(rt, gate, board);
+        places.number()
+    }
+
+    // Whether the loop may sleep.
+    fn is_quiet<R: Wait>(&mut self, rt: &R) -> bool {
+        let (gate, board) = self.board.lock(rt);
+        let leave = board.look(&mut self.watch);
+        self.board.unlock(rt, gate, board);
+        match leave {
+            Some(leave) => {
+                leave.spend();
+                true
+            }
+            None => false,
+        }
+    }
+
+    // Takes the marked keys.
+    fn take_passes<R: Wait>(
+        &mut self,
+        rt: &R,
+        alloc: Global,
+    ) -> Result<VecDeque<TakenPass>, AllocError>
+        ensures same { (arc_value self.new.board).slot ≡ (arc_value self.old.board).slot }
+        ensures own { IfOk result (λ passes. AreOf (arc_value self.old.board).slot passes.items) }
+    {
+        let places = self.places(rt);
+        let mut passes = VecDeque::with_capacity(alloc, places)?;
+        let (gate, mut board) = self.board.lock(rt);
+        board.unpost(places, &mut self.watch, &mut passes);
+        self.board.unlock(rt, gate, board);
+        Ok(passes)
+    }
+}
+
 impl Ends {
-    fn new() -> Ends {
+    fn new<R: Wait + Abort>(rt: &R, alloc: Global, desk: &Desk) -> Ends {
+        let board = Arc::try_clone(&desk.board).expect(rt, "a board");
         let (core, name, right) = PingCore::new();
-        let twin = core.receiver(right);
-        Ends {
-            lock: Locked::new(core, &name),
-            twin,
+        let names = Names {
+            cell: name,
+            board: desk.name.again(),
+        };
+        let lock = Arc::new(alloc, Locked::new(OneBoard { core }, &names)).expect(rt, "a cell");
+        let (gate, cell) = lock.lock(rt);
+        let twin = cell.core.receiver(right);
+        lock.unlock(rt, gate, cell);
+        Ends { lock, twin, board }
+    }
+
+    // One that rings, for another thread.
+    fn button<R: Abort>(&self, rt: &R) -> Button {
+        Button {
+            lock: Arc::try_clone(&self.lock).expect(rt, "a cell"),
+            board: Arc::try_clone(&self.board).expect(rt, "a board"),
         }
     }
 
     fn stands<R: Wait>(&self, rt: &R) {
-        let (gate, core) = self.lock.lock(rt);
-        core.stands();
-        self.lock.unlock(rt, gate, core);
+        let (gate, cell) = self.lock.lock(rt);
+        cell.core.stands();
+        self.lock.unlock(rt, gate, cell);
     }
 
-    fn ring<R: Wait>(&self, rt: &R) -> Option<Debt> {
-        ring(rt, &self.lock)
+    // Rings, and posts what is owed: whether that set a mark anew.
+    fn ring<R: Wait>(&self, rt: &R) -> bool {
+        post(rt, &self.board, ring(rt, &self.lock))
     }
 
     fn add_sender<R: Wait>(&self, rt: &R) -> Result<Sender, AllocError>
-        ensures { IfOk result (λ sender. sender.name ≡ self.now.lock.slot) }
+        ensures { IfOk result (λ sender. sender.name ≡ (arc_value self.now.lock).slot.cell) }
     {
-        let (gate, mut core) = self.lock.lock(rt);
-        let added = core.add_sender();
-        self.lock.unlock(rt, gate, core);
+        let (gate, mut cell) = self.lock.lock(rt);
+        let added = cell.core.add_sender();
+        self.lock.unlock(rt, gate, cell);
         added
     }
 
-    fn drop_sender<R: Wait>(&self, rt: &R, sender: Sender) -> Option<Debt>
-        requires { sender.name ≡ self.now.lock.slot }
+    fn drop_sender<R: Wait>(&self, rt: &R, sender: Sender) -> bool
+        requires { sender.name ≡ (arc_value self.now.lock).slot.cell }
     {
-        let (gate, mut core) = self.lock.lock(rt);
-        let debt = core.drop_sender(sender);
-        self.lock.unlock(rt, gate, core);
-        debt
+        post(rt, &self.board, drop_sender(rt, &self.lock, sender))
     }
 
-    // Its only sender comes and goes: what is owed.
-    fn close<R: Wait>(&self, rt: &R) -> Option<Debt> {
-        match self.add_sender(rt) {
-            Ok(sender) => self.drop_sender(rt, sender),
-            Err(_) => None,
-        }
-    }
-
-    fn register<R: Wait>(&mut self, rt: &R, board: &mut Board, key: u64) -> Result<(), OpenRefusal>
+    // Opens a place, and gives the cell its key.
+    fn register<R: Wait>(&mut self, rt: &R, key: u64) -> Result<(), OpenRefusal>
         requires { key < 2 ^ 64 - 1 }
+        ensures { self.new.lock ≡ self.old.lock }
     {
-        give_key(rt, board, &self.lock, &mut self.twin, key)
-    }
-
-    fn registers<R: Wait>(&mut self, rt: &R, board: &mut Board, key: u64) -> bool
-        requires { key < 2 ^ 64 - 1 }
-    {
-        self.register(rt, board, key).is_ok()
+        let (gate, mut board) = self.board.lock(rt);
+        let opened = board.open_place(key);
+        self.board.unlock(rt, gate, board);
+        let pass = opened?;
+        let (debt, leave) = set_key(rt, &self.lock, &mut self.twin, pass);
+        post(rt, &self.board, debt);
+        close(rt, &self.board, leave);
+        Ok(())
     }
 
     // Takes the cell's key back, and closes its place: whether it had one.
-    fn unregister<R: Wait>(&mut self, rt: &R, board: &mut Board) -> bool {
-        let (gate, mut core) = self.lock.lock(rt);
-        let leave = core.clear_key(&mut self.twin);
-        self.lock.unlock(rt, gate, core);
-        close(board, leave)
+    fn unregister<R: Wait>(&mut self, rt: &R) -> bool {
+        let leave = clear_key(rt, &self.lock, &mut self.twin);
+        close(rt, &self.board, leave)
     }
 
-    // The same, as the receiving end goes. The lock stays.
-    fn abandon<R: Wait>(self, rt: &R, board: &mut Board) -> (bool, Locked<PingCore>) {
-        let Ends { lock, twin } = self;
-        (abandon(rt, board, &lock, twin), lock)
+    // Its only sender comes and goes: whether that set a mark anew.
+    fn close<R: Wait>(&self, rt: &R) -> bool {
+        match self.add_sender(rt) {
+            Ok(sender) => self.drop_sender(rt, sender),
+            Err(_) => false,
+        }
     }
 
-    fn leave<R: Wait>(self, rt: &R, board: &mut Board) {
-        let Ends { lock, twin } = self;
-        abandon(rt, board, &lock, twin);
+    fn registers<R: Wait>(&mut self, rt: &R, key: u64) -> bool
+        requires { key < 2 ^ 64 - 1 }
+        ensures { self.new.lock ≡ self.old.lock }
+    {
+        self.register(rt, key).is_ok()
+    }
+
+    // The receiving end goes, and its place is closed: whether it had one, and whether a ring after it sets a mark.
+    fn abandon<R: Wait>(self, rt: &R) -> (bool, bool) {
+        let Ends { lock, twin, board } = self;
+        let had_key = close(rt, &board, abandon(rt, &lock, twin));
+        (had_key, post(rt, &board, ring(rt, &lock)))
+    }
+
+    fn leave<R: Wait>(self, rt: &R) {
+        let Ends { lock, twin, board } = self;
+        close(rt, &board, abandon(rt, &lock, twin));
     }
 
     // Whether this comes of the marked keys.
-    fn serves<R: Wait>(
-        &mut self,
-        rt: &R,
-        alloc: Global,
-        board: &mut Board,
-        wanted: &[Turn],
-    ) -> bool {
+    fn serves<R: Wait>(&mut self, rt: &R, alloc: Global, desk: &mut Desk, wanted: &[Turn]) -> bool {
         is_all(
-            serve_all(rt, alloc, board, &self.lock, &mut self.twin),
+            serve_all(rt, alloc, desk, &self.lock, &mut self.twin),
             wanted,
         )
     }
@@ -559,13 +667,20 @@ impl Ends {
         &mut self,
         rt: &R,
         alloc: Global,
-        board: &mut Board,
+        desk: &mut Desk,
         wanted: &[Turn],
     ) -> bool {
         is_all(
-            serve_within(rt, alloc, board, &self.lock, &mut self.twin),
+            serve_within(rt, alloc, desk, &self.board, &self.lock, &mut self.twin),
             wanted,
         )
+    }
+}
+
+impl Button {
+    // Rings, and posts what is owed: whether that set a mark anew.
+    fn press<R: Wait>(&self, rt: &R) -> bool {
+        post(rt, &self.board, ring(rt, &self.lock))
     }
 }
 
@@ -576,62 +691,76 @@ fn is_all(turns: Result<Vec<Turn>, AllocError>, wanted: &[Turn]) -> bool {
     }
 }
 
-// Opens a place, and gives the cell its key.
-fn give_key<R: Wait>(
-    rt: &R,
-    board: &mut Board,
-    lock: &Locked<PingCore>,
-    twin: &mut Twin,
-    key: u64,
-) -> Result<(), OpenRefusal>
-    requires name { twin.old.name ≡ lock.now.slot }
-    requires key { key < 2 ^ 64 - 1 }
-    ensures { twin.new.name ≡ lock.now.slot }
-{
-    let pass = board.open_place(key)?;
-    let (gate, mut core) = lock.lock(rt);
-    let (debt, leave) = core.set_key(pass, twin);
-    lock.unlock(rt, gate, core);
-    settle(board, debt);
-    close(board, leave);
-    Ok(())
-}
-
-// The receiving end goes, and its place is closed: whether it had one.
-fn abandon<R: Wait>(rt: &R, board: &mut Board, lock: &Locked<PingCore>, twin: Twin) -> bool
-    requires { twin.name ≡ lock.now.slot }
-{
-    let (gate, mut core) = lock.lock(rt);
-    let leave = core.abandon(twin);
-    lock.unlock(rt, gate, core);
-    close(board, leave)
-}
-
 // Rings, and drops the receipt: what is owed.
-fn ring<R: Wait>(rt: &R, lock: &Locked<PingCore>) -> Option<Debt> {
-    let (gate, mut core) = lock.lock(rt);
-    let (_receipt, debt) = core.ring();
-    lock.unlock(rt, gate, core);
+fn ring<R: Wait>(rt: &R, lock: &Locked<OneBoard>) -> Option<Debt>
+    ensures { IfSome result (λ debt. debt.board ≡ lock.now.slot.board) }
+{
+    let (gate, mut cell) = lock.lock(rt);
+    let (_receipt, debt) = cell.core.ring();
+    lock.unlock(rt, gate, cell);
     debt
 }
 
-// Rings: whether something is owed. No board gets it.
-fn owes_by_ring<R: Wait>(rt: &R, alloc: Global, lock: &Locked<PingCore>) -> bool {
-    let debt = ring(rt, lock);
-    let owes = debt.is_some();
-    settle(&mut Board::new(alloc), debt);
-    owes
+fn drop_sender<R: Wait>(rt: &R, lock: &Locked<OneBoard>, sender: Sender) -> Option<Debt>
+    requires { sender.name ≡ lock.now.slot.cell }
+    ensures { IfSome result (λ debt. debt.board ≡ lock.now.slot.board) }
+{
+    let (gate, mut cell) = lock.lock(rt);
+    let debt = cell.core.drop_sender(sender);
+    lock.unlock(rt, gate, cell);
+    debt
+}
+
+fn set_key<R: Wait>(
+    rt: &R,
+    lock: &Locked<OneBoard>,
+    twin: &mut Twin,
+    pass: OpenedPass,
+) -> (Option<Debt>, Option<LeaveToClose>)
+    requires twin { twin.old.name ≡ lock.now.slot.cell }
+    requires board { pass.board ≡ lock.now.slot.board }
+    ensures twin { twin.new.name ≡ lock.now.slot.cell }
+    ensures debt { IfSome result.0 (λ debt. debt.board ≡ lock.now.slot.board) }
+    ensures leave { IfSome result.1 (λ leave. leave.board ≡ lock.now.slot.board) }
+{
+    let (gate, mut cell) = lock.lock(rt);
+    let (debt, leave) = cell.core.set_key(pass, twin);
+    lock.unlock(rt, gate, cell);
+    (debt, leave)
+}
+
+fn clear_key<R: Wait>(rt: &R, lock: &Locked<OneBoard>, twin: &mut Twin) -> Option<LeaveToClose>
+    requires { twin.old.name ≡ lock.now.slot.cell }
+    ensures twin { twin.new.name ≡ lock.now.slot.cell }
+    ensures leave { IfSome result (λ leave. leave.board ≡ lock.now.slot.board) }
+{
+    let (gate, mut cell) = lock.lock(rt);
+    let leave = cell.core.clear_key(twin);
+    lock.unlock(rt, gate, cell);
+    leave
+}
+
+fn abandon<R: Wait>(rt: &R, lock: &Locked<OneBoard>, twin: Twin) -> Option<LeaveToClose>
+    requires { twin.name ≡ lock.now.slot.cell }
+    ensures { IfSome result (λ leave. leave.board ≡ lock.now.slot.board) }
+{
+    let (gate, mut cell) = lock.lock(rt);
+    let leave = cell.core.abandon(twin);
+    lock.unlock(rt, gate, cell);
+    leave
 }
 
 // Closes the place of a key that was taken back: whether there was one.
-fn close(board: &mut Board, leave: Option<LeaveToClose>) -> bool {
-    match leave {
-        Some(leave) => {
-            board.close_place(leave);
-            true
-        }
-        None => false,
-    }
+fn close<R: Wait>(rt: &R, board: &Locked<WatchedBoard>, leave: Option<LeaveToClose>) -> bool
+    requires { IfSome leave (λ leave. leave.board ≡ board.now.slot) }
+{
+    let Some(leave) = leave else {
+        return false;
+    };
+    let (gate, mut at) = board.lock(rt);
+    at.close_place(leave);
+    board.unlock(rt, gate, at);
+    true
 }
 
 // A loop that was told to wake.
@@ -647,99 +776,92 @@ impl Notify for Signal {
 }
 
 // Posts what is owed, and says whether that set a mark anew.
-fn settle(board: &mut Board, debt: Option<Debt>) -> bool {
+fn post<R: Wait>(rt: &R, board: &Locked<WatchedBoard>, debt: Option<Debt>) -> bool
+    requires { IfSome debt (λ debt. debt.board ≡ board.now.slot) }
+{
+    let Some(debt) = debt else {
+        return false;
+    };
     let signal = Signal {
         raised: AtomicBool::new(false),
     };
-    if let Some(debt) = debt {
-        if let Some(nudge) = board.post(debt) {
-            nudge.spend(&signal);
-        }
+    let (gate, mut at) = board.lock(rt);
+    let nudge = at.post(debt);
+    board.unlock(rt, gate, at);
+    if let Some(nudge) = nudge {
+        nudge.spend(&signal);
     }
     signal.raised.load(Ordering::SeqCst)
 }
 
-// Whether the loop may sleep.
-fn is_quiet(board: &Board) -> bool {
-    match board.look() {
-        Some(leave) => {
-            leave.spend();
-            true
-        }
-        None => false,
-    }
-}
-
 fn open<R: Wait>(
     rt: &R,
-    lock: &Locked<PingCore>,
+    lock: &Locked<OneBoard>,
     twin: &mut Twin,
     pass: TakenPass,
 ) -> Result<OpenedTurn, TakenPass>
-    requires { twin.old.name ≡ lock.now.slot }
-    ensures name { twin.new.name ≡ lock.now.slot }
-    ensures turn { IfOk result (λ o. o.turn.name ≡ lock.now.slot) }
+    requires { twin.old.name ≡ lock.now.slot.cell }
+    ensures name { twin.new.name ≡ lock.now.slot.cell }
+    ensures turn { IfOk result (λ o. o.turn.name ≡ lock.now.slot.cell) }
+    ensures refused { IfErr result (λ refused. refused.board ≡ pass.board) }
 {
-    let (gate, mut core) = lock.lock(rt);
-    let opened = core.open_turn(pass, twin);
-    lock.unlock(rt, gate, core);
+    let (gate, mut cell) = lock.lock(rt);
+    let opened = cell.core.open_turn(pass, twin);
+    lock.unlock(rt, gate, cell);
     opened
 }
 
-fn end<R: Wait>(rt: &R, lock: &Locked<PingCore>, turn: PingTurn) -> Option<Debt>
-    requires { turn.name ≡ lock.now.slot }
+// Ends a turn, after which nothing is owed.
+fn end<R: Wait>(rt: &R, lock: &Locked<OneBoard>, turn: PingTurn) -> Option<Debt>
+    requires { turn.name ≡ lock.now.slot.cell }
+    ensures { result ≡ None }
 {
-    let (gate, mut core) = lock.lock(rt);
-    let debt = core.end_turn(turn);
-    lock.unlock(rt, gate, core);
+    let (gate, mut cell) = lock.lock(rt);
+    let debt = cell.core.end_turn(turn);
+    lock.unlock(rt, gate, cell);
     debt
 }
 
 // One turn with this pass.
 fn serve<R: Wait>(
     rt: &R,
-    board: &mut Board,
-    lock: &Locked<PingCore>,
+    board: &Locked<WatchedBoard>,
+    lock: &Locked<OneBoard>,
     twin: &mut Twin,
     pass: TakenPass,
 ) -> Turn
-    requires { twin.old.name ≡ lock.now.slot }
-    ensures { twin.new.name ≡ lock.now.slot }
+    requires twin { twin.old.name ≡ lock.now.slot.cell }
+    requires pass { pass.board ≡ board.now.slot }
+    ensures { twin.new.name ≡ lock.now.slot.cell }
 {
     match open(rt, lock, twin, pass) {
         Ok(OpenedTurn { turn, rung, told }) => {
-            settle(board, end(rt, lock, turn));
+            post(rt, board, end(rt, lock, turn));
             Turn::Opened { rung, told }
         }
         Err(pass) => {
             let marked = pass.is_refused();
-            settle(board, Some(pass.back()));
+            post(rt, board, Some(pass.back()));
             Turn::Refused { marked }
         }
     }
-}
-
-// Takes the marked keys.
-fn take_passes(alloc: Global, board: &mut Board) -> Result<VecDeque<TakenPass>, AllocError> {
-    let places = board.places();
-    let mut passes = VecDeque::with_capacity(alloc, places)?;
-    board.unpost(places, &mut passes);
-    Ok(passes)
 }
 
 // Takes the marked keys, and has the cell serve each.
 fn serve_all<R: Wait>(
     rt: &R,
     alloc: Global,
-    board: &mut Board,
-    lock: &Locked<PingCore>,
+    desk: &mut Desk,
+    lock: &Locked<OneBoard>,
     twin: &mut Twin,
 ) -> Result<Vec<Turn>, AllocError>
-    requires { twin.old.name ≡ lock.now.slot }
-    ensures { twin.new.name ≡ lock.now.slot }
+    requires { twin.old.name ≡ lock.now.slot.cell }
+    ensures twin { twin.new.name ≡ lock.now.slot.cell }
+    ensures desk { (arc_value desk.new.board).slot ≡ (arc_value desk.old.board).slot }
 {
-    let mut turns = Vec::with_capacity(alloc, board.places())?;
-    let mut passes = take_passes(alloc, board)?;
+    let mut turns = Vec::with_capacity(alloc, desk.places(rt))?;
+    let mut passes = desk.take_passes(rt, alloc)?;
+    let board = &desk.board;
     while let Some(pass) = passes.pop_front() {
         let turn = serve(rt, board, lock, twin, pass);
         let _ = turns.push(turn);
@@ -753,15 +875,17 @@ fn serve_all<R: Wait>(
 fn serve_within<R: Wait>(
     rt: &R,
     alloc: Global,
-    board: &mut Board,
-    lock: &Locked<PingCore>,
+    desk: &mut Desk,
+    board: &Locked<WatchedBoard>,
+    lock: &Locked<OneBoard>,
     twin: &mut Twin,
 ) -> Result<Vec<Turn>, AllocError>
-    requires { twin.old.name ≡ lock.now.slot }
-    ensures { twin.new.name ≡ lock.now.slot }
+    requires twin { twin.old.name ≡ lock.now.slot.cell }
+    requires board { lock.now.slot.board ≡ board.now.slot }
+    ensures { twin.new.name ≡ lock.now.slot.cell }
 {
     let mut within = Ok(Vec::new(alloc));
-    let mut passes = take_passes(alloc, board)?;
+    let mut passes = desk.take_passes(rt, alloc)?;
     while let Some(pass) = passes.pop_front() {
         match open(rt, lock, twin, pass) {
             Ok(
@@ -771,12 +895,12 @@ fn serve_within<R: Wait>(
                     told: _,
                 },
             ) => {
-                settle(board, ring(rt, lock));
-                within = serve_all(rt, alloc, board, lock, twin);
-                settle(board, end(rt, lock, turn));
+                post(rt, board, ring(rt, lock));
+                within = serve_all(rt, alloc, desk, lock, twin);
+                post(rt, board, end(rt, lock, turn));
             }
             Err(pass) => {
-                settle(board, Some(pass.back()));
+                post(rt, &desk.board, Some(pass.back()));
             }
         }
     }

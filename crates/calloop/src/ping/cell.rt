@@ -1,6 +1,8 @@
 //! The cell of a ping with the board of its key, under one lock, and the sections of that lock. No other lock is taken and
 //! nobody is called within one: what a section owes to the board is settled after it.
-ghost use Rattle.std.specs.Prelude.{◌≡◌, ◌≢◌, ◌-◌, ◌^◌, ◌+◌, None, Some, IfOk, IfErr, is_some, true};
+ghost use Rattle.std.specs.Prelude.{◌≡◌, ◌≢◌, ◌-◌, ◌^◌, ◌+◌, None, Some, IfOk, IfErr, IfSome, is_some, true};
+ghost use Rattle.std.specs.Option.{option_map};
+ghost use Rattle.std.proofs.Props.{props};
 ghost use Rattle.std.specs.Arc.{arc_value};
 ghost use Rattle.calloop_wake.specs.Tokens.{key_of};
 ghost use Rattle.calloop_wake.specs.Cells.{one};
@@ -19,11 +21,11 @@ use counted_slot::Fits;
 use std::alloc::{AllocError, Global};
 use std::sync::{Arc, Wait};
 
-/// What the ends of a ping share: the cell, and the board on which its key has a place.
+/// What the ends of a ping share: the cell, and the hub of the very board on which its key has a place.
 pub struct PingCell {
     core: PingCore,
     hub: Option<SharedHub>,
-    ghost keyed: { is_some core.cell.key ≡ true → is_some hub ≡ true },
+    ghost keyed: { is_some core.cell.key ≡ true → option_map arc_value hub ≡ Some core.board } by { Prim.hlevel props },
 }
 
 impl Fits for PingCell {
@@ -55,7 +57,8 @@ impl PingCell {
 
     // The debt with the board on which it is settled, outside the lock.
     fn owed<R: Wait>(&self, rt: &R, debt: Option<Debt>) -> Option<(Debt, SharedHub)>
-        requires { is_some debt ≡ true → is_some self.now.hub ≡ true }
+        requires { IfSome debt (λ d. option_map arc_value self.now.hub ≡ Some d.board) }
+        ensures { IfSome result (λ owed. owed.0.board ≡ arc_value owed.1) }
     {
         let debt = debt?;
         match &self.hub {
@@ -66,7 +69,9 @@ impl PingCell {
 }
 
 // Posts the key of a debt, where there is one.
-fn settle<R: Wait>(rt: &R, owed: Option<(Debt, SharedHub)>) {
+fn settle<R: Wait>(rt: &R, owed: Option<(Debt, SharedHub)>)
+    requires { IfSome owed (λ owed. owed.0.board ≡ arc_value owed.1) }
+{
     if let Some((debt, hub)) = owed {
         hub.settle(rt, debt);
     }
@@ -74,7 +79,7 @@ fn settle<R: Wait>(rt: &R, owed: Option<(Debt, SharedHub)>) {
 
 // Closes the place of a key that the cell has no more.
 fn close_place<R: Wait>(rt: &R, hub: &Option<SharedHub>, leave: Option<LeaveToClose>)
-    requires { is_some leave ≡ true → is_some hub.now ≡ true }
+    requires { IfSome leave (λ l. option_map arc_value hub.now ≡ Some l.board) }
 {
     let Some(leave) = leave else {
         return;
@@ -176,7 +181,7 @@ pub fn open_turn<R: Wait>(
     requires { twin.old.name ≡ shared.now.slot }
     ensures name { twin.new.name ≡ twin.old.name }
     ensures ok { IfOk result (λ opened. (opened.turn.name ≡ shared.now.slot) × (twin.new ≡ record twin.old { turns = twin.old.turns + 1; number = twin.old.number + one opened.rung; closes = twin.old.closes + one opened.told })) }
-    ensures err { IfErr result (λ refused. (refused ≡ record { key = pass.key; refused = Some twin.old.name }) × (twin.new ≡ twin.old)) }
+    ensures err { IfErr result (λ refused. (refused ≡ record pass { refused = Some twin.old.name }) × (twin.new ≡ twin.old)) }
 {
     let (gate, mut cell) = shared.lock(rt);
     let opened = cell.core.open_turn(pass, twin);

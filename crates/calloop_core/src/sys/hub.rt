@@ -72,7 +72,7 @@ impl Hub {
     /// `OutOfMemory`; after a refusal the board is as it was.
     pub fn open_place<R: Wait>(&self, rt: &R, token: Token) -> Result<OpenedPass>
         requires { key_of token ≢ 2 ^ 64 - 1 }
-        ensures ok { IfOk result (λ pass. pass ≡ key_of token) }
+        ensures ok { IfOk result (λ pass. pass ≡ record { key = key_of token; board = self.now }) }
         ensures err { IfErr result CannotOpen }
     {
         let (gate, mut board) = self.board.lock(rt);
@@ -87,15 +87,19 @@ impl Hub {
         }
     }
 
-    /// Closes the place of a key that no cell has any more.
-    pub fn close_place<R: Wait>(&self, rt: &R, leave: LeaveToClose) {
+    /// Closes the place of a key of this board that no cell has any more.
+    pub fn close_place<R: Wait>(&self, rt: &R, leave: LeaveToClose)
+        requires { leave.board ≡ self.now }
+    {
         let (gate, mut board) = self.board.lock(rt);
         board.close_place(leave);
         self.board.unlock(rt, gate, board);
     }
 
-    /// Posts the key of a debt, and spends the nudge that this gives, outside the lock. It takes no memory.
-    pub fn settle<R: Wait>(&self, rt: &R, debt: Debt) {
+    /// Posts the key of a debt to this board, and spends the nudge that this gives, outside the lock. It takes no memory.
+    pub fn settle<R: Wait>(&self, rt: &R, debt: Debt)
+        requires { debt.board ≡ self.now }
+    {
         let (gate, mut board) = self.board.lock(rt);
         let nudge = board.post(debt);
         self.board.unlock(rt, gate, board);

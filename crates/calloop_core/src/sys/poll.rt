@@ -107,13 +107,15 @@ impl<P: Poller, C, R: Wait + Drop> Poll<P, C, R> {
     /// Takes the pass of the event whose turn it is, where one lies behind it and wasn't taken yet.
     pub fn take_pass(&mut self) -> Option<TakenPass>
         ensures pass { result ≡ (poll_view self.old).pass }
+        ensures own { IfSome result (λ pass. pass.board ≡ (poll_view self.old).watch.name) }
         ensures view { poll_view self.new ≡ poll_after (poll_view self.old) TakePass }
     {
         self.batch.take_pass()
     }
 
-    /// Puts back a pass that a cell refused. One that lay there goes back to the board.
+    /// Puts back a pass of the loop's board that a cell refused. One that lay there goes back to the board.
     pub fn put_back(&mut self, pass: TakenPass)
+        requires { pass.board ≡ (poll_view self.old).watch.name }
         ensures { poll_view self.new ≡ poll_after (poll_view self.old) (PutBack pass) }
     {
         self.batch.replace_pass(&self.rt, Some(pass));

@@ -1,11 +1,12 @@
 //! The board: one place for each open key, which is marked while the key is posted.
-ghost use Rattle.std.specs.Prelude.{◌≡◌, ◌≤◌, ◌+◌, ◌++◌, ◌∷◌, ◌<◌, ◌-◌, ◌^◌, [], false, true, not, map, length, is_ok, is_some, Err, MatchResult, if◌then◌else◌};
+ghost use Rattle.std.specs.Prelude.{◌≡◌, ◌≤◌, ◌+◌, ◌++◌, ◌∷◌, ◌<◌, ◌-◌, ◌^◌, [], false, true, not, map, length, is_ok, is_some, Err, IfErr, if◌then◌else◌};
 ghost use Rattle.std.specs.VecDeque.{deque_len, deque_capacity};
 ghost use Rattle.std.specs.List.{insert};
 ghost use Rattle.calloop_wake.specs.Boards.{place, is_open, any_marked, wakes, marked_at, after_open_place, after_close_place, after_post, after_unpost, is_taken, unmarked, bound, keys_within, taken, taken_keys, IsRising};
 ghost use Rattle.calloop_wake.specs.declared.wake.board.OpenRefusal.TheVariants.{AlreadyExists, OutOfMemory};
 
-use super::{Debt, LeaveToClose, LeaveToSleep, Nudge, OpenedPass, TakenPass};
+use super::ghosts::Name;
+use super::{LeaveToSleep, Nudge, TakenPass};
 use std::alloc::Global;
 use std::collections::VecDeque;
 use std::marker::Model;
@@ -30,7 +31,7 @@ pub enum OpenRefusal {
 
 /// The places in ascending order of their keys. In calloop the kernel's poller keeps such a table.
 #[derive(Drop)]
-pub struct Board {
+pub(crate) struct Board {
     places: Vec<Place>,
 }
 
@@ -140,10 +141,10 @@ fn bound(places: &[Place], room: usize) -> u64
     u64::MAX
 }
 
-// Appends a pass for each mark below this key.
-fn take(places: &[Place], below: u64, passes: &mut VecDeque<TakenPass>)
+// Appends a pass of the board of this name for each mark below this key.
+fn take(places: &[Place], below: u64, name: &Name, passes: &mut VecDeque<TakenPass>)
     requires { deque_len passes.old + length (taken_keys below places.now) ≤ deque_capacity passes.old }
-    ensures items { passes.new.items ≡ passes.old.items ++ map taken (taken_keys below places.now) }
+    ensures items { passes.new.items ≡ passes.old.items ++ map (taken name.now) (taken_keys below places.now) }
     ensures len { deque_len passes.new ≡ deque_len passes.old + length (taken_keys below places.now) }
     ensures capacity { deque_capacity passes.new ≡ deque_capacity passes.old }
 {
@@ -151,6 +152,7 @@ fn take(places: &[Place], below: u64, passes: &mut VecDeque<TakenPass>)
         if is_taken(*p, below) {
             let pass = TakenPass {
                 key: p.key,
+                board: name.again(),
                 refused: None,
             };
             match passes.push_back(pass) {
@@ -163,7 +165,7 @@ fn take(places: &[Place], below: u64, passes: &mut VecDeque<TakenPass>)
 
 impl Board {
     /// A board with no place. It allocates nothing yet.
-    pub fn new(alloc: Global) -> Board
+    pub(crate) fn new(alloc: Global) -> Board
         ensures { result ≡ [] }
     {
         Board {
@@ -172,7 +174,7 @@ impl Board {
     }
 
     /// How many places are open.
-    pub fn places(&self) -> usize
+    pub(crate) fn places(&self) -> usize
         ensures { result ≡ length self.now }
     {
         self.places.len()
@@ -182,11 +184,11 @@ impl Board {
     ///
     /// It refuses with `AlreadyExists` exactly where the key has a place, and with `OutOfMemory` where there is no
     /// memory for one. After a refusal the board is as it was.
-    pub fn open_place(&mut self, key: u64) -> Result<OpenedPass, OpenRefusal>
+    pub(crate) fn open_place(&mut self, key: u64) -> Result<(), OpenRefusal>
         requires { key < 2 ^ 64 - 1 }
         ensures board { self.new ≡ (if is_ok result then after_open_place key self.old else self.old) }
         ensures open { is_open key self.old ≡ true → result ≡ Err AlreadyExists }
-        ensures shut { is_open key self.old ≡ false → MatchResult result (λ pass. pass ≡ key) (λ e. e ≡ OutOfMemory) }
+        ensures shut { is_open key self.old ≡ false → IfErr result (λ e. e ≡ OutOfMemory) }
     {
         if has_place(&self.places, key) {
             return Err(OpenRefusal::AlreadyExists);
@@ -194,26 +196,23 @@ impl Board {
         let at = place_for(&self.places, key);
         let place = Place { key, marked: false };
         match self.places.insert(at, place) {
-            Ok(()) => Ok(OpenedPass { key }),
+            Ok(()) => Ok(()),
             Err(_) => Err(OpenRefusal::OutOfMemory),
         }
     }
 
-    /// Closes the place of a key that no cell has any more, with its mark.
-    pub fn close_place(&mut self, leave: LeaveToClose)
-        ensures { self.new ≡ after_close_place leave self.old }
+    /// Closes the place of a key, with its mark.
+    pub(crate) fn close_place(&mut self, key: u64)
+        ensures { self.new ≡ after_close_place key self.old }
     {
-        let LeaveToClose { key } = leave;
         remove_place(&mut self.places, key);
     }
 
-    /// Marks the key of a debt, where its place is open, and gives a nudge exactly where that set a mark anew. The
-    /// debt of a key with no place is spent all the same.
-    pub fn post(&mut self, debt: Debt) -> Option<Nudge>
-        ensures board { self.new ≡ after_post debt self.old }
-        ensures nudges { is_some result ≡ wakes debt self.old }
+    /// Marks a key, where its place is open, and gives a nudge exactly where that set a mark anew.
+    pub(crate) fn post(&mut self, key: u64) -> Option<Nudge>
+        ensures board { self.new ≡ after_post key self.old }
+        ensures nudges { is_some result ≡ wakes key self.old }
     {
-        let Debt { key } = debt;
         let anew = has_unmarked(&self.places, key);
         mark(&mut self.places, key);
         if anew {
@@ -224,7 +223,7 @@ impl Board {
     }
 
     /// Gives the leave to sleep where no key is marked.
-    pub fn look(&self) -> Option<LeaveToSleep>
+    pub(crate) fn look(&self) -> Option<LeaveToSleep>
         ensures { is_some result ≡ not (any_marked self.now) }
     {
         if has_mark(&self.places) {
@@ -234,18 +233,18 @@ impl Board {
         }
     }
 
-    /// Takes the marked keys, ascending, as many as there is room for, and appends a pass for each.
-    pub fn unpost(&mut self, room: usize, passes: &mut VecDeque<TakenPass>)
+    /// Takes the marked keys, ascending, as many as there is room for, and appends a pass of the board of this name for each.
+    pub(crate) fn unpost(&mut self, room: usize, name: &Name, passes: &mut VecDeque<TakenPass>)
         requires { deque_len passes.old + room ≤ deque_capacity passes.old }
         ensures board { self.new ≡ after_unpost (bound room self.old) self.old }
-        ensures gives { passes.new.items ≡ passes.old.items ++ map taken (keys_within room self.old) }
+        ensures gives { passes.new.items ≡ passes.old.items ++ map (taken name.now) (keys_within room self.old) }
         ensures len { deque_len passes.new ≡ deque_len passes.old + length (keys_within room self.old) }
         ensures capacity { deque_capacity passes.new ≡ deque_capacity passes.old }
         ensures rising { IsRising (keys_within room self.old) }
         ensures few { length (keys_within room self.old) ≤ room }
     {
         let below = bound(&self.places, room);
-        take(&self.places, below, passes);
+        take(&self.places, below, name, passes);
         unmark(&mut self.places, below);
     }
 }

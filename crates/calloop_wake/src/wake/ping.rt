@@ -1,6 +1,7 @@
 //! The cell of a ping, which its ends share.
 ghost use Rattle.std.specs.Prelude.{◌≡◌, ◌+◌, ◌<◌, ◌^◌, true, false, None, Some, List, IfOk, IfErr};
-ghost use Rattle.calloop_wake.specs.Cells.{fresh, IsLit, IsStanding, IsTold, IsSince, owed, owed_at, owed_by_drop, after_close, after_add_sender, after_drop_sender, after_set_key, after_clear_key, after_end_turn, in_turn, core_with, core_after_ring, core_after_open_turn, twin_of, twin_after_open_turn, receipt_of, turn_of};
+ghost use Rattle.calloop_wake.specs.Cells.{fresh, IsLit, IsStanding, IsTold, IsSince, owed, owed_at, owed_by_drop, after_close, after_add_sender, after_drop_sender, after_clear_key, after_end_turn, in_turn, core_with, core_after_set_key, core_after_ring, core_after_open_turn, twin_of, twin_after_open_turn, receipt_of, turn_of};
+ghost use Rattle.calloop_wake.specs.Passes.{on};
 ghost use Rattle.calloop_wake.specs.Wakes.{Step, start, after_all, IsSchedule, IsCovered};
 ghost use Rattle.calloop_wake.specs.PingKind.{ping_kind};
 ghost use Rattle.calloop_wake.specs.Lost.{with_a_ring_unseen, with_a_close_unseen, with_a_key_forgotten, with_nobody_told};
@@ -29,6 +30,8 @@ pub struct PingCore {
     key: Option<u64>,
     senders: u64,
     name: Name,
+    // The board of its key; its own name, where it had none yet.
+    board: Name,
     rings: Count,
     seen: Count,
     taken: Count,
@@ -43,6 +46,7 @@ impl Model for PingCore {
     ghost view = { λ c. record {
       cell = record { rung = c.rung; pinged = c.pinged; draining = c.draining; closed = c.closed; told = c.told; gone = c.gone; key = c.key; senders = c.senders };
       name = c.name;
+      board = c.board;
       rings = c.rings;
       seen = c.seen;
       taken = c.taken;
@@ -77,6 +81,7 @@ impl Core for PingCore {
             key: _,
             senders: _,
             name: _,
+            board: _,
             rings: _,
             seen: _,
             taken: _,
@@ -97,7 +102,7 @@ pub struct OpenedTurn {
 impl PingCore {
     /// A cell that nobody rang, without a key and without senders, its name, and the right to its receiving end.
     pub fn new() -> (PingCore, Name, ReceivingRight)
-        ensures core { result.0 ≡ record { cell = fresh; name = result.1; rings = 0; seen = 0; taken = 0 } }
+        ensures core { result.0 ≡ record { cell = fresh; name = result.1; board = result.1; rings = 0; seen = 0; taken = 0 } }
         ensures right { result.2.name ≡ result.1 }
     {
         let name = Name::fresh();
@@ -111,6 +116,7 @@ impl PingCore {
             key: None,
             senders: 0,
             name: name.again(),
+            board: name.again(),
             rings: Count::zero(),
             seen: Count::zero(),
             taken: Count::zero(),
@@ -147,13 +153,16 @@ impl PingCore {
 
     // The debt that pinging the cell gives.
     fn owed(&self) -> Option<Debt>
-        ensures { result ≡ owed self.now.cell }
+        ensures { result ≡ on self.now.board (owed self.now.cell) }
     {
         if self.pinged {
             return None;
         }
         match self.key {
-            Some(key) => Some(Debt { key }),
+            Some(key) => Some(Debt {
+                key,
+                board: self.board.again(),
+            }),
             None => None,
         }
     }
@@ -162,7 +171,7 @@ impl PingCore {
     pub fn ring(&mut self) -> (Receipt, Option<Debt>)
         ensures core { self.new ≡ core_after_ring self.old }
         ensures receipt { result.0 ≡ receipt_of self.old }
-        ensures gives { result.1 ≡ owed self.old.cell }
+        ensures gives { result.1 ≡ on self.old.board (owed self.old.cell) }
     {
         let receipt = Receipt {
             name: self.name.again(),
@@ -193,7 +202,7 @@ impl PingCore {
     // The last sender is gone.
     fn close(&mut self) -> Option<Debt>
         ensures core { self.new ≡ core_with (after_close self.old.cell) self.old }
-        ensures gives { result ≡ owed self.old.cell }
+        ensures gives { result ≡ on self.old.board (owed self.old.cell) }
     {
         let debt = self.owed();
         self.senders = 0;
@@ -207,7 +216,7 @@ impl PingCore {
     pub fn drop_sender(&mut self, sender: Sender) -> Option<Debt>
         requires { sender.name ≡ self.old.name }
         ensures core { self.new ≡ core_with (after_drop_sender self.old.cell) self.old }
-        ensures gives { result ≡ owed_by_drop self.old.cell }
+        ensures gives { result ≡ on self.old.board (owed_by_drop self.old.cell) }
     {
         let Sender { name: _ } = sender;
         if self.senders > 1 {
@@ -228,20 +237,18 @@ impl PingCore {
         twin: &mut Twin,
     ) -> (Option<Debt>, Option<LeaveToClose>)
         requires { twin.old.name ≡ self.old.name }
-        ensures twin { twin.new ≡ record twin.old { key = Some pass } }
-        ensures core { self.new ≡ core_with (after_set_key pass self.old.cell) self.old }
-        ensures owes { result.0 ≡ owed_at pass self.old.cell }
-        ensures leaves { result.1 ≡ self.old.cell.key }
+        ensures twin { twin.new ≡ record twin.old { key = Some pass.key } }
+        ensures core { self.new ≡ core_after_set_key pass self.old }
+        ensures owes { result.0 ≡ on pass.board (owed_at pass.key self.old.cell) }
+        ensures leaves { result.1 ≡ on self.old.board self.old.cell.key }
     {
-        let OpenedPass { key } = pass;
-        let leave = match self.key {
-            Some(key) => Some(LeaveToClose { key }),
-            None => None,
-        };
+        let OpenedPass { key, board } = pass;
+        let leave = self.take_key();
         self.key = Some(key);
+        self.board = board.again();
         twin.key = Some(key);
         if self.pinged {
-            (Some(Debt { key }), leave)
+            (Some(Debt { key, board }), leave)
         } else {
             (None, leave)
         }
@@ -254,7 +261,7 @@ impl PingCore {
         requires { twin.old.name ≡ self.old.name }
         ensures twin { twin.new ≡ record twin.old { key = None } }
         ensures core { self.new ≡ core_with (after_clear_key false self.old.cell) self.old }
-        ensures leaves { result ≡ self.old.cell.key }
+        ensures leaves { result ≡ on self.old.board self.old.cell.key }
     {
         twin.key = None;
         self.take_key()
@@ -262,17 +269,20 @@ impl PingCore {
 
     fn take_key(&mut self) -> Option<LeaveToClose>
         ensures core { self.new ≡ core_with (after_clear_key false self.old.cell) self.old }
-        ensures leaves { result ≡ self.old.cell.key }
+        ensures leaves { result ≡ on self.old.board self.old.cell.key }
     {
         let key = self.key.take()?;
-        Some(LeaveToClose { key })
+        Some(LeaveToClose {
+            key,
+            board: self.board.again(),
+        })
     }
 
     /// The receiving end goes: the same, and the cell keeps that nobody will take its rings.
     pub fn abandon(&mut self, twin: Twin) -> Option<LeaveToClose>
         requires { twin.name ≡ self.old.name }
         ensures core { self.new ≡ core_with (after_clear_key true self.old.cell) self.old }
-        ensures leaves { result ≡ self.old.cell.key }
+        ensures leaves { result ≡ on self.old.board self.old.cell.key }
     {
         let Twin {
             name: _,
@@ -295,10 +305,18 @@ impl PingCore {
         ensures twin { twin.new ≡ twin_after_open_turn pass.key self.old twin.old }
         ensures gives { result ≡ turn_of pass self.old }
     {
-        let TakenPass { key, refused: _ } = pass;
+        let TakenPass {
+            key,
+            board,
+            refused: _,
+        } = pass;
         if self.draining || self.key != Some(key) {
             let refused = Some(self.name.again());
-            return Err(TakenPass { key, refused });
+            return Err(TakenPass {
+                key,
+                board,
+                refused,
+            });
         }
         let rung = self.rung;
         let told = self.closed && !self.told;

@@ -107,29 +107,43 @@ impl WatchedBoard {
         }
     }
 
-    /// As `Board::open_place`.
+    /// Opens a place for the key of a token, not marked, as calloop adds a descriptor to the poller.
+    ///
+    /// It refuses with `AlreadyExists` exactly where the key has a place, and with `OutOfMemory` where there is no
+    /// memory for one. After a refusal the board is as it was.
     pub fn open_place(&mut self, key: u64) -> Result<OpenedPass, OpenRefusal>
         requires { key < 2 ^ 64 - 1 }
         ensures board { self.new ≡ with_places (if is_ok result then after_open_place key self.old.places else self.old.places) self.old }
         ensures open { is_open key self.old.places ≡ true → result ≡ Err AlreadyExists }
-        ensures shut { is_open key self.old.places ≡ false → MatchResult result (λ pass. pass ≡ key) (λ e. e ≡ OutOfMemory) }
+        ensures shut { is_open key self.old.places ≡ false → MatchResult result (λ pass. pass ≡ record { key = key; board = self.old.name }) (λ e. e ≡ OutOfMemory) }
     {
-        self.board.open_place(key)
+        match self.board.open_place(key) {
+            Ok(()) => Ok(OpenedPass {
+                key,
+                board: self.name.again(),
+            }),
+            Err(refusal) => Err(refusal),
+        }
     }
 
-    /// As `Board::close_place`.
+    /// Closes the place of a key of this board that no cell has any more, with its mark.
     pub fn close_place(&mut self, leave: LeaveToClose)
-        ensures { self.new ≡ with_places (after_close_place leave self.old.places) self.old }
+        requires { leave.board ≡ self.old.name }
+        ensures { self.new ≡ with_places (after_close_place leave.key self.old.places) self.old }
     {
-        self.board.close_place(leave);
+        let LeaveToClose { key, board: _ } = leave;
+        self.board.close_place(key);
     }
 
-    /// As `Board::post`.
+    /// Marks the key of a debt to this board, where its place is open, and gives a nudge exactly where that set a mark anew.
+    /// The debt of a key with no place is spent all the same.
     pub fn post(&mut self, debt: Debt) -> Option<Nudge>
-        ensures board { self.new ≡ with_places (after_post debt self.old.places) self.old }
-        ensures nudges { is_some result ≡ wakes debt self.old.places }
+        requires { debt.board ≡ self.old.name }
+        ensures board { self.new ≡ with_places (after_post debt.key self.old.places) self.old }
+        ensures nudges { is_some result ≡ wakes debt.key self.old.places }
     {
-        self.board.post(debt)
+        let Debt { key, board: _ } = debt;
+        self.board.post(key)
     }
 
     /// Gives the leave to sleep where no key is marked, and has the watch note it.
@@ -148,13 +162,13 @@ impl WatchedBoard {
         requires room { deque_len passes.old + room ≤ deque_capacity passes.old }
         ensures board { self.new ≡ with_places (after_unpost (bound room self.old.places) self.old.places) self.old }
         ensures watch { watch.new ≡ noted (Unposted room (keys_within room self.old.places)) watch.old }
-        ensures gives { passes.new.items ≡ passes.old.items ++ map taken (keys_within room self.old.places) }
+        ensures gives { passes.new.items ≡ passes.old.items ++ map (taken self.old.name) (keys_within room self.old.places) }
         ensures len { deque_len passes.new ≡ deque_len passes.old + length (keys_within room self.old.places) }
         ensures capacity { deque_capacity passes.new ≡ deque_capacity passes.old }
         ensures rising { IsRising (keys_within room self.old.places) }
         ensures few { length (keys_within room self.old.places) ≤ room }
     {
         watch.notes = watch.notes.and_unposted(&self.board, room);
-        self.board.unpost(room, passes);
+        self.board.unpost(room, &self.name, passes);
     }
 }

@@ -3,6 +3,7 @@ ghost use Rattle.std.specs.Prelude.{◌≡◌, ℕ, ◌+◌, ◌-◌, ◌≤◌,
 ghost use Rattle.std.specs.VecDeque.{deque_len, deque_capacity};
 ghost use Rattle.std.specs.Arc.{arc_value};
 ghost use Rattle.calloop_wake.specs.Boards.{IsRising, taken};
+ghost use Rattle.calloop_wake.specs.Passes.{AreOf};
 ghost use Rattle.calloop_wake.specs.Deadlines.{due, not_due, with_entries};
 ghost use Rattle.calloop_wake.specs.Watches.{noted};
 ghost use Rattle.calloop_wake.specs.declared.wake.notes.Note.TheVariants.{Counted, Looked, Unposted};
@@ -39,7 +40,7 @@ pub struct Batch {
 impl Model for Batch {
     ghost use Rattle.std.specs.Prelude.{◌-◌};
     ghost use Rattle.std.specs.VecDeque.{deque_len, deque_capacity};
-    ghost use Rattle.calloop_core.specs.Batches.{BatchView, IsInStep};
+    ghost use Rattle.calloop_core.specs.Batches.{BatchView, IsKept};
 
     ghost Value = { BatchView };
 
@@ -52,11 +53,13 @@ impl Model for Batch {
       pass_room = deque_capacity b.passes - deque_len b.passes;
     } };
 
-    ghost invariant = { λ b. IsInStep b.events.items b.passes.items };
+    ghost invariant = { λ b. IsKept b.hub.name b.events.items b.passes.items b.pass };
 }
 
 // Posts the keys of these passes again.
-fn give_all_back<R: Wait>(rt: &R, hub: &SharedHub, mut passes: VecDeque<TakenPass>) {
+fn give_all_back<R: Wait>(rt: &R, hub: &SharedHub, mut passes: VecDeque<TakenPass>)
+    requires { AreOf (arc_value hub.now) passes.items }
+{
     while let Some(pass) = passes.pop_front() {
         hub.settle(rt, pass.back());
     }
@@ -236,8 +239,9 @@ impl Batch {
         self.passes.reserve(passes)
     }
 
-    /// Another pass, or none, for the event whose turn it is. The one before goes back to the board.
+    /// Another pass of this board, or none, for the event whose turn it is. The one before goes back to the board.
     pub fn replace_pass<R: Wait>(&mut self, rt: &R, pass: Option<TakenPass>)
+        requires { IfSome pass (λ p. p.board ≡ self.old.watch.name) }
         ensures { self.new ≡ record self.old { pass = pass } }
     {
         if let Some(other) = mem::replace(&mut self.pass, pass) {
@@ -248,6 +252,7 @@ impl Batch {
     /// Takes the pass of the event whose turn it is.
     pub fn take_pass(&mut self) -> Option<TakenPass>
         ensures pass { result ≡ self.old.pass }
+        ensures own { IfSome result (λ p. p.board ≡ self.old.watch.name) }
         ensures others { self.new ≡ record self.old { pass = None } }
     {
         self.pass.take()
@@ -291,7 +296,7 @@ impl Batch {
         requires passes { places ≤ self.old.pass_room }
         ensures batch { (posted : List ℕ) × IsRising posted × (self.new ≡ record self.old {
           events = ((self.old.events ++ posted_events posted) ++ polled_events given.now) ++ timer_events (due now.nanos wheel.old.entries);
-          passes = self.old.passes ++ map taken posted;
+          passes = self.old.passes ++ map (taken self.old.watch.name) posted;
           watch = noted (Unposted places posted) self.old.watch;
           room = self.new.room;
           pass_room = self.new.pass_room;

@@ -5,4 +5,4 @@ use Rattle.calloop_wake.proofs.wake.board.Board.post.Goals as goal
 
 pub invariant_of-self : goal.invariant_of-self
 invariant_of-self c =
-    subst IsAscending (sym c.mark.ensures) (IsAscending-map (marked_at c.debt.inside.key) (λ p. refl) c.self.inside.places.items c.self.invariant)
+    subst IsAscending (sym c.mark.ensures) (IsAscending-map (marked_at c.args.key) (λ p. refl) c.self.inside.places.items c.self.invariant)

@@ -3,6 +3,7 @@ use Rattle.calloop_wake.specs.Deadlines.{due}
 use Rattle.calloop_wake.specs.Boards.{IsRising}
 use Rattle.calloop_core.specs.Polls.{posted_events, polled_events, timer_events}
 use Rattle.calloop_core.specs.Batches.{BatchView}
+use Rattle.calloop_wake.proofs.Keyed.{are_of-taken}
 use Rattle.calloop_core.proofs.Gathering.{keys-new, events-gathered, step-gathered}
 use Rattle.calloop_core.proofs.sys.poll.batch.Batch.gather.Goals as goal
 
@@ -13,7 +14,7 @@ append_posted-requires-clause-room g c =
 pub append_posted-requires-clause-tokens : goal.append_posted-requires-clause-tokens
 append_posted-requires-clause-tokens g c =
     let keys = c.unpost.ensures.keys.posted in
-    subst IsRising (sym (keys-new c.self.inside.passes.items c.unpost.new.passes.items keys c.len-first.result (omega (arith, c.len-first.ensures, c.self.inside.passes.ok.0)) c.unpost.ensures.keys.appended)) c.unpost.ensures.keys.rising
+    subst IsRising (sym (keys-new c.self.inside.hub.name c.self.inside.passes.items c.unpost.new.passes.items keys c.len-first.result (omega (arith, c.len-first.ensures, c.self.inside.passes.ok.0)) c.unpost.ensures.keys.appended)) c.unpost.ensures.keys.rising
 
 pub append_polled-requires : goal.append_polled-requires
 append_polled-requires g c =
@@ -28,17 +29,21 @@ invariant_of-self g c =
     let keys = c.unpost.ensures.keys.posted in
     let entries = due c.args.now.nanos c.args.wheel.now.entries in
     let all : c.append_due.new.batch.items ≡ ((c.self.inside.events.items ++ posted_events keys) ++ polled_events c.args.given.now) ++ timer_events entries =
-    events-gathered c.self.inside.events.items c.append_posted.new.batch.items c.append_polled.new.batch.items c.append_due.new.batch.items c.self.inside.passes.items c.unpost.new.passes.items
+    events-gathered c.self.inside.hub.name c.self.inside.events.items c.append_posted.new.batch.items c.append_polled.new.batch.items c.append_due.new.batch.items c.self.inside.passes.items c.unpost.new.passes.items
     keys c.len-first.result c.args.given.now entries (omega (arith, c.len-first.ensures, c.self.inside.passes.ok.0)) c.unpost.ensures.keys.appended c.append_posted.ensures.items
     c.append_polled.ensures.items c.append_due.ensures.items in
-    rw (all, c.unpost.ensures.keys.appended) (step-gathered c.self.inside.events.items c.self.inside.passes.items keys c.args.given.now entries c.self.invariant)
+    rw (all, c.unpost.ensures.keys.appended, c.unpost.ensures.keys.seen) (record {
+      in_step = step-gathered c.self.inside.hub.name c.self.inside.events.items c.self.inside.passes.items keys c.args.given.now entries c.self.invariant.in_step;
+      own = are_of-taken c.self.inside.hub.name c.self.inside.passes.items keys c.self.invariant.own;
+      own_turn = c.self.invariant.own_turn;
+    })
 
 pub returns-clause-batch : goal.returns-clause-batch
 returns-clause-batch g c =
     let keys = c.unpost.ensures.keys.posted in
     let entries = due c.args.now.nanos c.args.wheel.now.entries in
     let all : c.append_due.new.batch.items ≡ ((c.self.inside.events.items ++ posted_events keys) ++ polled_events c.args.given.now) ++ timer_events entries =
-    events-gathered c.self.inside.events.items c.append_posted.new.batch.items c.append_polled.new.batch.items c.append_due.new.batch.items c.self.inside.passes.items c.unpost.new.passes.items
+    events-gathered c.self.inside.hub.name c.self.inside.events.items c.append_posted.new.batch.items c.append_polled.new.batch.items c.append_due.new.batch.items c.self.inside.passes.items c.unpost.new.passes.items
     keys c.len-first.result c.args.given.now entries (omega (arith, c.len-first.ensures, c.self.inside.passes.ok.0)) c.unpost.ensures.keys.appended c.append_posted.ensures.items
     c.append_polled.ensures.items c.append_due.ensures.items in
     (keys, c.unpost.ensures.keys.rising, rw (← c.self.view_is, all, c.unpost.ensures.keys.appended, c.unpost.ensures.keys.seen) refl)
