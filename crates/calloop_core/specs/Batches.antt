@@ -28,7 +28,8 @@ posted_keys events = map (λ e. key_of e.token) (filter (λ e. e.posted) events)
 abbrev pub IsInStep : List Pending → List Taken → Type 0
 IsInStep events passes = map key_of_pass passes ≡ posted_keys events
 
--- what has to be true of a batch over the board of this name: its passes, and that of the event whose turn it is, are of that board
+-- what has to be true of a batch over the board of this name: it is in step, and its passes, with that of the event
+-- whose turn it is, are of that board
 pub record IsKept (board : Book) (events : List Pending) (passes : List Taken) (pass : Option Taken) : Type 0 where
   pub in_step : IsInStep events passes
   pub own : AreOf board passes
