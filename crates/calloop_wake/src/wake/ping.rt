@@ -1,6 +1,6 @@
 //! The cell of a ping, which its ends share.
-ghost use Rattle.std.specs.Prelude.{◌≡◌, ◌+◌, ◌<◌, ◌^◌, true, false, None, Some, List, IfOk, IfErr};
-ghost use Rattle.calloop_wake.specs.Cells.{fresh, IsLit, IsStanding, IsTold, IsSince, owed, owed_at, owed_by_drop, after_close, after_add_sender, after_drop_sender, after_clear_key, after_end_turn, in_turn, core_with, core_after_set_key, core_after_ring, core_after_open_turn, twin_of, twin_after_open_turn, receipt_of, turn_of};
+ghost use Rattle.std.specs.Prelude.{◌≡◌, ◌+◌, ◌<◌, ◌^◌, ◌&&◌, not, true, false, None, Some, List, IfOk, IfErr};
+ghost use Rattle.calloop_wake.specs.Cells.{fresh, one, opens, IsLit, IsStanding, IsTold, IsSince, owed, owed_at, owed_by_drop, after_close, after_add_sender, after_drop_sender, after_clear_key, after_end_turn, in_turn, core_with, core_after_set_key, core_after_ring, core_after_open_turn, twin_of, twin_after_open_turn, receipt_of, turn_of};
 ghost use Rattle.calloop_wake.specs.Passes.{on};
 ghost use Rattle.calloop_wake.specs.Wakes.{Step, start, after_all, IsSchedule, IsCovered};
 ghost use Rattle.calloop_wake.specs.PingKind.{ping_kind};
@@ -310,7 +310,7 @@ impl PingCore {
             board,
             refused: _,
         } = pass;
-        if self.draining || self.key != Some(key) {
+        if !self.opens(key) {
             let refused = Some(self.name.again());
             return Err(TakenPass {
                 key,
@@ -318,32 +318,37 @@ impl PingCore {
                 refused,
             });
         }
+        Ok(self.begin_turn(twin))
+    }
+
+    // Whether a pass of this key opens a turn.
+    fn opens(&self, key: u64) -> bool
+        ensures { result ≡ opens key self.now.cell }
+    {
+        self.key == Some(key) && !self.draining
+    }
+
+    // Nothing is due any more; the turn, a ring that it takes and a close that it tells are counted.
+    fn begin_turn(&mut self, twin: &mut Twin) -> OpenedTurn
+        ensures core { self.new ≡ record self.old { cell = in_turn self.old.cell; seen = self.old.rings; taken = self.old.taken + one self.old.cell.rung } }
+        ensures twin { twin.new ≡ record twin.old { turns = twin.old.turns + 1; number = twin.old.number + one self.old.cell.rung; closes = twin.old.closes + one (self.old.cell.closed && not self.old.cell.told) } }
+        ensures turn { result ≡ record { turn = record { name = self.old.name }; rung = self.old.cell.rung; told = self.old.cell.closed && not self.old.cell.told } }
+    {
         let rung = self.rung;
         let told = self.closed && !self.told;
         let turn = PingTurn {
             name: self.name.again(),
         };
-        self.begin_turn();
-        twin.turns = twin.turns.next();
-        if rung {
-            self.taken = self.taken.next();
-            twin.number = twin.number.next();
-        }
-        if told {
-            twin.closes = twin.closes.next();
-        }
-        Ok(OpenedTurn { turn, rung, told })
-    }
-
-    // Nothing is due any more.
-    fn begin_turn(&mut self)
-        ensures { self.new ≡ record self.old { cell = in_turn self.old.cell; seen = self.old.rings } }
-    {
         self.pinged = false;
         self.draining = true;
         self.rung = false;
         self.told = self.closed || self.told;
         self.seen = self.rings.again();
+        self.taken = self.taken.and_one_if(rung);
+        twin.turns = twin.turns.next();
+        twin.number = twin.number.and_one_if(rung);
+        twin.closes = twin.closes.and_one_if(told);
+        OpenedTurn { turn, rung, told }
     }
 
     /// Ends the turn, which has to be one of this cell. A ping owes nothing then.
