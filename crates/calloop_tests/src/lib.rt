@@ -5,5 +5,3 @@ pub mod attendant;
 pub mod source;
 #[cfg(test)]
 mod tests;
-#[cfg(test)]
-mod waits;

@@ -14,6 +14,8 @@ use std::test::Fail;
 use std::time::Duration;
 use std::{io, thread};
 
+mod waits;
+
 #[test]
 fn an_empty_loop_waits_as_it_is_asked(rt: HostRuntime) {
     let mut desk = Desk::new(&rt, rt.alloc());
