@@ -23,6 +23,7 @@ use std::fmt::Display;
 use std::process::Abort;
 use std::sync::atomic::{AtomicBool, Ordering};
 use std::sync::{Arc, Wait};
+use std::test::Fail;
 use std::{io, thread};
 
 #[test]
