@@ -59,17 +59,23 @@ at_claim {D} (x ∷ xs) (suc i) d h =
 abbrev pub IsWell : {D P X Q : Type 0} → Meaning D P (Lent X Q) → Ledger → (next : ℕ) → D → Type 0
 IsWell M l next d = IsGood l next (M.holds d) × M.fits d
 
--- what every machine state keeps, with the source that has its turn
-pub record IsOwned {D P X Q : Type 0} (M : Meaning D P (Lent X Q)) (w : World D P) (aside : Option D) : Type 0 where
+-- of a list with one more in front
+front : {A : Type 0} (rest : List A) (d : A) (Q : ℕ → A → Type 0) → Q 0 d → ((j : ℕ) (e : A) → slice_get rest j ≡ Some e → Q (suc j) e) → (k : ℕ) (e : A) → slice_get (d ∷ rest) k ≡ Some e → Q k e
+front {A} rest d Q first others zero e is = (let same : d ≡ e = cc in subst (λ (x : A). Q 0 x) same first)
+front rest d Q first others (suc k) e is = others k e is
+
+-- what every machine state keeps, with the sources that stand aside, as that which has its turn
+pub record IsOwned {D P X Q : Type 0} (M : Meaning D P (Lent X Q)) (w : World D P) (aside : List D) : Type 0 where
   pub noted : IsNoted w.ledger w.poll
   pub good : (i : ℕ) (d : D) → At w.slots i d → IsWell M w.ledger w.poll.deadlines.next d
   pub apart : (i j : ℕ) (d e : D) → i ≢ j → At w.slots i d → At w.slots j e → IsApart (M.holds d) (M.holds e)
-  pub own : (d : D) → aside ≡ Some d → IsWell M w.ledger w.poll.deadlines.next d
-  pub alone : (d e : D) (i : ℕ) → aside ≡ Some d → At w.slots i e → IsApart (M.holds d) (M.holds e)
+  pub own : (k : ℕ) (d : D) → slice_get aside k ≡ Some d → IsWell M w.ledger w.poll.deadlines.next d
+  pub alone : (k : ℕ) (d e : D) (i : ℕ) → slice_get aside k ≡ Some d → At w.slots i e → IsApart (M.holds d) (M.holds e)
+  pub among : (j k : ℕ) (d e : D) → j ≢ k → slice_get aside j ≡ Some d → slice_get aside k ≡ Some e → IsApart (M.holds d) (M.holds e)
 
 module _ {D P X Q : Type 0} (M : Meaning D P (Lent X Q)) (O : Outside P) (law : IsKeeping M) where
   -- changes that leave slots, deadlines and ledger as they are
-  owned_same : (w w' : World D P) (aside : Option D) → w'.slots ≡ w.slots → w'.ledger ≡ w.ledger → w'.poll.deadlines ≡ w.poll.deadlines → w'.poll.batch ≡ w.poll.batch → IsOwned M w aside → IsOwned M w' aside
+  owned_same : (w w' : World D P) (aside : List D) → w'.slots ≡ w.slots → w'.ledger ≡ w.ledger → w'.poll.deadlines ≡ w.poll.deadlines → w'.poll.batch ≡ w.poll.batch → IsOwned M w aside → IsOwned M w' aside
   owned_same w w' aside slots ledger deadlines batch h =
       record {
         noted = rw ledger (noted_alike w.ledger w.poll w'.poll deadlines batch h.noted);
@@ -77,53 +83,58 @@ module _ {D P X Q : Type 0} (M : Meaning D P (Lent X Q)) (O : Outside P) (law : 
         apart = rw slots h.apart;
         own = rw (ledger, deadlines) h.own;
         alone = rw slots h.alone;
+        among = h.among;
       }
 
-  owned_gathered : (w : World D P) (posted : List ℕ) (given : List (ℕ × Readiness)) (now : ℕ) → IsOwned M w None → IsOwned M (done w (Gathered posted given now)) None
-  owned_gathered w posted given now h =
+  owned_gathered : (w : World D P) (aside : List D) (posted : List ℕ) (given : List (ℕ × Readiness)) (now : ℕ) → IsOwned M w aside → IsOwned M (done w (Gathered posted given now)) aside
+  owned_gathered w aside posted given now h =
       record {
         noted = noted_gathered w.ledger w.poll posted given now h.noted;
         good = λ i d is. (good_gathered w.ledger w.poll.deadlines.next (M.holds d) posted given now (h.good i d is).0, (h.good i d is).1);
         apart = h.apart;
-        own = λ d is. cc;
+        own = λ k d is. (good_gathered w.ledger w.poll.deadlines.next (M.holds d) posted given now (h.own k d is).0, (h.own k d is).1);
         alone = h.alone;
+        among = h.among;
       }
 
-  owned_cut : (w : World D P) (place : Option ℕ) → IsOwned M w None → IsOwned M (done w (Cut place)) None
-  owned_cut w place h =
+  owned_cut : (w : World D P) (aside : List D) (place : Option ℕ) → IsOwned M w aside → IsOwned M (done w (Cut place)) aside
+  owned_cut w aside place h =
       record {
         noted = noted_cut w.ledger w.poll h.noted;
         good = λ i d is. (rw (cut_deadlines w.poll) (good_cut w.ledger w.poll.deadlines.next (M.holds d) (h.good i d is).0), (h.good i d is).1);
         apart = h.apart;
-        own = λ d is. cc;
+        own = λ k d is. (rw (cut_deadlines w.poll) (good_cut w.ledger w.poll.deadlines.next (M.holds d) (h.own k d is).0), (h.own k d is).1);
         alone = h.alone;
+        among = h.among;
       }
 
-  owned_appended : (w : World D P) (e : Pending) → IsOwned M w None → IsOwned M (done w (Appended e)) None
-  owned_appended w e h =
+  owned_appended : (w : World D P) (aside : List D) (e : Pending) → IsOwned M w aside → IsOwned M (done w (Appended e)) aside
+  owned_appended w aside e h =
       record {
         noted = noted_appended w.ledger w.poll e h.noted;
         good = λ i d is. (good_appended w.ledger w.poll.deadlines.next (M.holds d) e (h.good i d is).0, (h.good i d is).1);
         apart = h.apart;
-        own = λ d is. cc;
+        own = λ k d is. (good_appended w.ledger w.poll.deadlines.next (M.holds d) e (h.own k d is).0, (h.own k d is).1);
         alone = h.alone;
+        among = h.among;
       }
 
-  owned_listed : (w : World D P) (step : HeldStep) (aside : Option D) → IsOwned M w aside → IsOwned M (done w (Holds step)) aside
+  owned_listed : (w : World D P) (step : HeldStep) (aside : List D) → IsOwned M w aside → IsOwned M (done w (Holds step)) aside
   owned_listed w step aside h = owned_same w (done w (Holds step)) aside refl refl refl refl h
 
-  owned_claim : (w : World D P) (source : D) (aside : Option D) → IsOwned M w aside → IsOwned M (done w (Claim source)) aside
+  owned_claim : (w : World D P) (source : D) (aside : List D) → IsOwned M w aside → IsOwned M (done w (Claim source)) aside
   owned_claim w source aside h =
       record {
         noted = h.noted;
         good = λ i d is. h.good i d (at_claim w.slots i d is);
         apart = λ i j d e differ is at. h.apart i j d e differ (at_claim w.slots i d is) (at_claim w.slots j e at);
         own = h.own;
-        alone = λ d e i is at. h.alone d e i is (at_claim w.slots i e at);
+        alone = λ k d e i is at. h.alone k d e i is (at_claim w.slots i e at);
+        among = h.among;
       }
 
   -- what is no source is put into a slot
-  owned_emptied : (w : World D P) (aside : Option D) (k : ℕ) (content : Content D) → ((d : D) → content ≡ Source d → ⊥) → IsOwned M w aside → IsOwned M (done w (Put k content)) aside
+  owned_emptied : (w : World D P) (aside : List D) (k : ℕ) (content : Content D) → ((d : D) → content ≡ Source d → ⊥) → IsOwned M w aside → IsOwned M (done w (Put k content)) aside
   owned_emptied w aside k content none h =
       let back : (i : ℕ) (d : D) → At (changed (holding content) w.slots k) i d → At w.slots i d = λ i d is. elim (at_put w.slots k i content d is) [ inl e ↦ absurd (none d e.1) | inr e ↦ e.1 ] in
       record {
@@ -131,71 +142,105 @@ module _ {D P X Q : Type 0} (M : Meaning D P (Lent X Q)) (O : Outside P) (law : 
         good = λ i d is. h.good i d (back i d is);
         apart = λ i j d e differ is at. h.apart i j d e differ (back i d is) (back j e at);
         own = h.own;
-        alone = λ d e i is at. h.alone d e i is (back i e at);
+        alone = λ j d e i is at. h.alone j d e i is (back i e at);
+        among = h.among;
       }
 
   -- a source is taken out of its slot
-  owned_without : (w : World D P) (k : ℕ) (content : Content D) (d : D) → ((e : D) → content ≡ Source e → ⊥) → At w.slots k d → IsOwned M w None → IsOwned M (done w (Put k content)) (Some d)
-  owned_without w k content d none here h =
-      let rest = owned_emptied w None k content none h in
+  owned_without : (w : World D P) (rest : List D) (k : ℕ) (content : Content D) (d : D) → ((e : D) → content ≡ Source e → ⊥) → At w.slots k d → IsOwned M w rest → IsOwned M (done w (Put k content)) (d ∷ rest)
+  owned_without w rest k content d none here h =
+      let others = owned_emptied w rest k content none h in
       record {
-        noted = rest.noted;
-        good = rest.good;
-        apart = rest.apart;
-        own = λ e is. (let same : d ≡ e = cc in rw (← same) (h.good k d here));
-        alone = λ e f i is at. (let same : d ≡ e = cc in elim (at_put w.slots k i content f at) [ inl x ↦ absurd (none f x.1) | inr x ↦ rw (← same) (h.apart k i d f (λ eq. x.0 (sym eq)) here x.1) ]);
+        noted = others.noted;
+        good = others.good;
+        apart = others.apart;
+        own = front rest d (λ _ e. IsWell M w.ledger w.poll.deadlines.next e) (h.good k d here) (λ j e is. h.own j e is);
+        alone = λ j e f i is at.
+            front rest d (λ _ x. IsApart (M.holds x) (M.holds f))
+            (elim (at_put w.slots k i content f at) [ inl x ↦ absurd (none f x.1) | inr x ↦ h.apart k i d f (λ eq. x.0 (sym eq)) here x.1 ])
+            (λ n x there. others.alone n x f i there at) j e is;
+        among = λ j l e f differ is other.
+            front rest d (λ n x. n ≢ l → IsApart (M.holds x) (M.holds f))
+            (front rest d (λ n y. 0 ≢ n → IsApart (M.holds d) (M.holds y)) (λ neq. absurd (neq refl)) (λ n y there _. apart_sym (M.holds y) (M.holds d) (h.alone n y d k there here)) l f other)
+            (λ m x at. front rest d (λ n y. suc m ≢ n → IsApart (M.holds x) (M.holds y)) (λ _. h.alone m x d k at here) (λ n y there neq. h.among m n x y (λ eq. neq (ap suc eq)) at there) l f other)
+            j e is differ;
       }
 
   -- for its turn
-  owned_out : (w : World D P) (k : ℕ) (d : D) → At w.slots k d → IsOwned M w None → IsOwned M (done w (Put k InTurn)) (Some d)
-  owned_out w k d here h = owned_without w k InTurn d (λ e is. cc) here h
+  owned_out : (w : World D P) (rest : List D) (k : ℕ) (d : D) → At w.slots k d → IsOwned M w rest → IsOwned M (done w (Put k InTurn)) (d ∷ rest)
+  owned_out w rest k d here h = owned_without w rest k InTurn d (λ e is. cc) here h
 
   -- it goes back to a slot
-  owned_back : (w : World D P) (k : ℕ) (d : D) → IsOwned M w (Some d) → IsOwned M (done w (Put k (Source d))) None
-  owned_back w k d h =
+  owned_back : (w : World D P) (rest : List D) (k : ℕ) (d : D) → IsOwned M w (d ∷ rest) → IsOwned M (done w (Put k (Source d))) rest
+  owned_back w rest k d h =
       record {
         noted = h.noted;
-        good = λ i e is. elim (at_put w.slots k i (Source d) e is) [ inl x ↦ (let same : d ≡ e = (let y = x.1 in cc) in h.own e (ap (λ (z : D). Some z) same)) | inr x ↦ h.good i e x.1 ];
+        good = λ i e is. elim (at_put w.slots k i (Source d) e is) [ inl x ↦ (let same : d ≡ e = (let y = x.1 in cc) in h.own 0 e (ap (λ (z : D). Some z) same)) | inr x ↦ h.good i e x.1 ];
         apart = λ i j e f differ is at.
             elim (at_put w.slots k i (Source d) e is) [
               | inl x ↦ (let same : d ≡ e = (let y = x.1 in cc) in
-                  elim (at_put w.slots k j (Source d) f at) [ inl y ↦ absurd (differ (x.0 ∙ sym y.0)) | inr y ↦ h.alone e f j (ap (λ (z : D). Some z) same) y.1 ])
+                  elim (at_put w.slots k j (Source d) f at) [ inl y ↦ absurd (differ (x.0 ∙ sym y.0)) | inr y ↦ h.alone 0 e f j (ap (λ (z : D). Some z) same) y.1 ])
               | inr x ↦ elim (at_put w.slots k j (Source d) f at) [
-                | inl y ↦ (let same : d ≡ f = (let z = y.1 in cc) in apart_sym (M.holds f) (M.holds e) (h.alone f e i (ap (λ (z : D). Some z) same) x.1))
+                | inl y ↦ (let same : d ≡ f = (let z = y.1 in cc) in apart_sym (M.holds f) (M.holds e) (h.alone 0 f e i (ap (λ (z : D). Some z) same) x.1))
                 | inr y ↦ h.apart i j e f differ x.1 y.1
               ]
             ];
-        own = λ e is. cc;
-        alone = λ e f i is at. cc;
+        own = λ j e is. h.own (suc j) e is;
+        alone = λ j e f i is at.
+            elim (at_put w.slots k i (Source d) f at) [
+              | inl x ↦ (let same : d ≡ f = (let y = x.1 in cc) in h.among (suc j) 0 e f (λ eq. cc) is (ap (λ (z : D). Some z) same))
+              | inr x ↦ h.alone (suc j) e f i is x.1
+            ];
+        among = λ j l e f differ is other. h.among (suc j) (suc l) e f (λ eq. differ (omega (arith, eq))) is other;
       }
 
-  owned_dropped : (w : World D P) (aside : Option D) → IsOwned M w aside → IsOwned M w None
-  owned_dropped w aside h = record { noted = h.noted; good = h.good; apart = h.apart; own = λ d is. cc; alone = λ d e i is at. cc }
-
-  -- one that holds no counter comes
-  owned_fresh : (w : World D P) (d : D) → HoldsNone M d × M.fits d → IsOwned M w None → IsOwned M w (Some d)
-  owned_fresh w d free h =
+  owned_dropped : (w : World D P) (rest : List D) (d : D) → IsOwned M w (d ∷ rest) → IsOwned M w rest
+  owned_dropped w rest d h =
       record {
         noted = h.noted;
         good = h.good;
         apart = h.apart;
-        own = λ e is.
-            (let same : d ≡ e = cc in rw (← same) (record { below = λ c held. absurd (held (free.0 c)); standing = λ c deadline stands. (let none = free.0 c in cc) }, free.1));
-        alone = λ e f i is at. (let same : d ≡ e = cc in rw (← same) (λ c. inl (free.0 c)));
+        own = λ j e is. h.own (suc j) e is;
+        alone = λ j e f i is at. h.alone (suc j) e f i is at;
+        among = λ j l e f differ is other. h.among (suc j) (suc l) e f (λ eq. differ (omega (arith, eq))) is other;
       }
 
-  -- the steps of the one that has its turn
-  owned_polls : (w : World D P) (d d' : D) (steps : List (PollStep P)) → AllAllowed O w.poll steps → (M.fits d → IsBelow w.poll.deadlines.next (M.holds d) → M.fits d' × Keeps (M.holds d) w.poll.deadlines.next steps (M.holds d')) → IsOwned M w (Some d) → IsOwned M (done w (Polls steps)) (Some d')
-  owned_polls w d d' steps allowed keeps h =
-      let own = h.own d refl in
+  -- one that holds no counter comes
+  owned_fresh : (w : World D P) (rest : List D) (d : D) → HoldsNone M d × M.fits d → IsOwned M w rest → IsOwned M w (d ∷ rest)
+  owned_fresh w rest d free h =
+      record {
+        noted = h.noted;
+        good = h.good;
+        apart = h.apart;
+        own =
+            front rest d (λ _ e. IsWell M w.ledger w.poll.deadlines.next e)
+            (record { below = λ c held. absurd (held (free.0 c)); standing = λ c deadline stands. (let none = free.0 c in cc) }, free.1) (λ j e is. h.own j e is);
+        alone = λ j e f i is at. front rest d (λ _ x. IsApart (M.holds x) (M.holds f)) (λ c. inl (free.0 c)) (λ n x there. h.alone n x f i there at) j e is;
+        among = λ j l e f differ is other.
+            front rest d (λ n x. n ≢ l → IsApart (M.holds x) (M.holds f)) (λ _ c. inl (free.0 c))
+            (λ m x at. front rest d (λ n y. suc m ≢ n → IsApart (M.holds x) (M.holds y)) (λ _ c. inr (free.0 c)) (λ n y there neq. h.among m n x y (λ eq. neq (ap suc eq)) at there) l f other)
+            j e is differ;
+      }
+
+  -- the steps of the first of them
+  owned_polls : (w : World D P) (rest : List D) (d d' : D) (steps : List (PollStep P)) → AllAllowed O w.poll steps → (M.fits d → IsBelow w.poll.deadlines.next (M.holds d) → M.fits d' × Keeps (M.holds d) w.poll.deadlines.next steps (M.holds d')) → IsOwned M w (d ∷ rest) → IsOwned M (done w (Polls steps)) (d' ∷ rest)
+  owned_polls w rest d d' steps allowed keeps h =
+      let own = h.own 0 d refl in
       let kept = keeps own.1 own.0.below in
       let x = done_steps O steps w.ledger w.poll (M.holds d) (M.holds d') allowed kept.1 h.noted own.0 in
+      let beside = λ (n : ℕ) (y : D) (there : slice_get rest n ≡ Some y). x.others (M.holds y) (h.among 0 (suc n) d y (λ eq. cc) refl there) (h.own (suc n) y there).0 in
       record {
         noted = x.noted;
-        good = λ i e is. ((x.others (M.holds e) (h.alone d e i refl is) (h.good i e is).0).0, (h.good i e is).1);
+        good = λ i e is. ((x.others (M.holds e) (h.alone 0 d e i refl is) (h.good i e is).0).0, (h.good i e is).1);
         apart = h.apart;
-        own = λ e is. (let same : d' ≡ e = cc in rw (← same) (x.good, kept.0));
-        alone = λ e f i is at. (let same : d' ≡ e = cc in rw (← same) (x.others (M.holds f) (h.alone d f i refl at) (h.good i f at).0).1);
+        own = front rest d' (λ _ e. IsWell M (done w (Polls steps)).ledger (done w (Polls steps)).poll.deadlines.next e) (x.good, kept.0) (λ j e is. ((beside j e is).0, (h.own (suc j) e is).1));
+        alone = λ j e f i is at.
+            front rest d' (λ _ y. IsApart (M.holds y) (M.holds f)) (x.others (M.holds f) (h.alone 0 d f i refl at) (h.good i f at).0).1 (λ n y there. h.alone (suc n) y f i there at) j e is;
+        among = λ j l e f differ is other.
+            front rest d' (λ n y. n ≢ l → IsApart (M.holds y) (M.holds f))
+            (front rest d' (λ n y. 0 ≢ n → IsApart (M.holds d') (M.holds y)) (λ neq. absurd (neq refl)) (λ n y there _. (beside n y there).1) l f other)
+            (λ m y at. front rest d' (λ n z. suc m ≢ n → IsApart (M.holds y) (M.holds z)) (λ _. apart_sym (M.holds d') (M.holds y) (beside m y at).1) (λ n z there neq. h.among (suc m) (suc n) y z neq at there) l f other)
+            j e is differ;
       }
 
 at_under : {D : Type 0} (v : ℕ) (o : Option (Registration D)) (d : D) → content_under v (option_map slot_of o) ≡ Source d → (r : Registration D) × (o ≡ Some r) × (r.content ≡ Source d)
@@ -208,23 +253,23 @@ at_named slots token d is =
     let h = at_under token.version (slice_get slots token.slot) d (sym (ap (content_under token.version) (slice_get-map slot_of slots token.slot)) ∙ is) in
     (h.0, h.1, h.2)
 
-abbrev pub aside_of : {D X : Type 0} → Doing D X → Option D
-aside_of (Beginning timeout x) = None
-aside_of (Sleeping timeout later x) = None
-aside_of (Waiting timeout x) = None
-aside_of (Gathering now given x) = None
-aside_of (Noticing from later x) = None
-aside_of (Cutting x) = None
-aside_of (Ending token d answer x) = Some d
-aside_of (Returning token d told x) = Some d
-aside_of (Leaving answer x) = None
+abbrev pub aside_of : {D X : Type 0} → Doing D X → List D
+aside_of (Beginning timeout x) = []
+aside_of (Sleeping timeout later x) = []
+aside_of (Waiting timeout x) = []
+aside_of (Gathering now given x) = []
+aside_of (Noticing from later x) = []
+aside_of (Cutting x) = []
+aside_of (Ending token d answer x) = d ∷ []
+aside_of (Returning token d told x) = d ∷ []
+aside_of (Leaving answer x) = []
 
 module _ {D P X Q : Type 0} (M : Meaning D P (Lent X Q)) (O : Outside P) (law : IsKeeping M) where
-  aside_wait : (answer : Result ℕ Cause) (given : List (ℕ × Readiness)) (x : X) → aside_of {D = D} (after_wait answer given x) ≡ None
+  aside_wait : (answer : Result ℕ Cause) (given : List (ℕ × Readiness)) (x : X) → aside_of {D = D} (after_wait answer given x) ≡ []
   aside_wait (Ok now) given x = refl
   aside_wait (Err cause) given x = refl
 
-  aside_after : (told : Result (Unit {0}) Error) (x : X) → aside_of {D = D} (after_turn told x) ≡ None
+  aside_after : (told : Result (Unit {0}) Error) (x : X) → aside_of {D = D} (after_turn told x) ≡ []
   aside_after (Ok u) x = refl
   aside_after (Err e) x = refl
 
@@ -240,84 +285,84 @@ module _ {D P X Q : Type 0} (M : Meaning D P (Lent X Q)) (O : Outside P) (law : 
   registered_keeps deed token v d e answer steps (inr h) fits below = law d e v (deed (factory_of token) answer h.0) steps fits below h.1
 
   -- a source is told of a wait
-  told_owned : (w : World D P) (token : RegistrationToken) (d e : D) (deed : Deed (Lent X Q)) → named (map slot_of w.slots) token ≡ Source d → M.does d w.poll deed [] e → IsOwned M w None → IsOwned M (all_done w (told_in token e)) None
+  told_owned : (w : World D P) (token : RegistrationToken) (d e : D) (deed : Deed (Lent X Q)) → named (map slot_of w.slots) token ≡ Source d → M.does d w.poll deed [] e → IsOwned M w [] → IsOwned M (all_done w (told_in token e)) []
   told_owned w token d e deed is does k =
       let out : World D P = done w (Put token.slot InTurn) in
-      owned_back M O law (done out (Polls [])) token.slot e
-      (owned_polls M O law out d e [] tt (λ fits below. law d e w.poll deed [] fits below does) (owned_out M O law w token.slot d (at_named w.slots token d is) k))
+      owned_back M O law (done out (Polls [])) [] token.slot e
+      (owned_polls M O law out [] d e [] tt (λ fits below. law d e w.poll deed [] fits below does) (owned_out M O law w [] token.slot d (at_named w.slots token d is) k))
 
-  slept_as : (w : World D P) (timeout : Option ℕ) (later : List RegistrationToken) (answer : Result (Option (Readiness × Token)) Error) (x : X) (cs : List (Change D P)) (b : Doing D X) → SleptAs timeout later answer x cs b → IsOwned M w None → IsOwned M (all_done w cs) (aside_of b)
+  slept_as : (w : World D P) (timeout : Option ℕ) (later : List RegistrationToken) (answer : Result (Option (Readiness × Token)) Error) (x : X) (cs : List (Change D P)) (b : Doing D X) → SleptAs timeout later answer x cs b → IsOwned M w [] → IsOwned M (all_done w cs) (aside_of b)
   slept_as w timeout later (Ok None) x cs b h k = rw (h.0, h.1) k
-  slept_as w timeout later (Ok (Some given)) x cs b h k = rw (h.0, h.1) (owned_appended M O law w _ k)
+  slept_as w timeout later (Ok (Some given)) x cs b h k = rw (h.0, h.1) (owned_appended M O law w [] _ k)
   slept_as w timeout later (Err e) x cs b h k = rw (h.0, h.1) k
 
-  slept_owned : (w : World D P) (timeout : Option ℕ) (token : RegistrationToken) (later : List RegistrationToken) (x : X) (cs : List (Change D P)) (b : Doing D X) (c : Content D) → named (map slot_of w.slots) token ≡ c → SleptBy M timeout token later c (seen w) x cs b → IsOwned M w None → IsOwned M (all_done w cs) (aside_of b)
+  slept_owned : (w : World D P) (timeout : Option ℕ) (token : RegistrationToken) (later : List RegistrationToken) (x : X) (cs : List (Change D P)) (b : Doing D X) (c : Content D) → named (map slot_of w.slots) token ≡ c → SleptBy M timeout token later c (seen w) x cs b → IsOwned M w [] → IsOwned M (all_done w cs) (aside_of b)
   slept_owned w timeout token later x cs b Vacant is h k = rw (h.0, h.1) k
   slept_owned w timeout token later x cs b InTurn is h k = rw (h.0, h.1) k
   slept_owned w timeout token later x cs b (Source d) is h k =
       rw h.5 (slept_as (all_done w (told_in token h.0)) timeout later h.1 x h.2 b h.4 (told_owned w token d h.0 (Slept h.1) is h.3 k))
 
-  noticed_owned : (w : World D P) (from : ℕ) (token : RegistrationToken) (later : List RegistrationToken) (x : X) (cs : List (Change D P)) (b : Doing D X) (c : Content D) → named (map slot_of w.slots) token ≡ c → NoticedBy M from token later c (seen w) x cs b → IsOwned M w None → IsOwned M (all_done w cs) (aside_of b)
+  noticed_owned : (w : World D P) (from : ℕ) (token : RegistrationToken) (later : List RegistrationToken) (x : X) (cs : List (Change D P)) (b : Doing D X) (c : Content D) → named (map slot_of w.slots) token ≡ c → NoticedBy M from token later c (seen w) x cs b → IsOwned M w [] → IsOwned M (all_done w cs) (aside_of b)
   noticed_owned w from token later x cs b Vacant is h k = rw (h.0, h.1) k
   noticed_owned w from token later x cs b InTurn is h k = rw (h.0, h.1) k
   noticed_owned w from token later x cs b (Source d) is h k = rw (h.2, h.3) (told_owned w token d h.0 (Noticed _) is h.1 k)
 
-  cut_owned : (w : World D P) (e : Pending) (x : X) (cs : List (Change D P)) (b : Doing D X) (c : Content D) → named (map slot_of w.slots) (registration_of e.token) ≡ c → CutTo M e c (seen w) x cs b → AllFit O (seen w) cs → IsOwned M w None → IsOwned M (all_done w cs) (aside_of b)
-  cut_owned w e x cs b Vacant is h fit k = rw (h.0, h.1) (owned_same M O law (done w (Cut None)) (done (done w (Cut None)) Ended) None refl refl refl refl (owned_cut M O law w None k))
-  cut_owned w e x cs b InTurn is h fit k = rw (h.0, h.1) (owned_same M O law (done w (Cut None)) (done (done w (Cut None)) Ended) None refl refl refl refl (owned_cut M O law w None k))
+  cut_owned : (w : World D P) (e : Pending) (x : X) (cs : List (Change D P)) (b : Doing D X) (c : Content D) → named (map slot_of w.slots) (registration_of e.token) ≡ c → CutTo M e c (seen w) x cs b → AllFit O (seen w) cs → IsOwned M w [] → IsOwned M (all_done w cs) (aside_of b)
+  cut_owned w e x cs b Vacant is h fit k = rw (h.0, h.1) (owned_same M O law (done w (Cut None)) (done (done w (Cut None)) Ended) [] refl refl refl refl (owned_cut M O law w [] None k))
+  cut_owned w e x cs b InTurn is h fit k = rw (h.0, h.1) (owned_same M O law (done w (Cut None)) (done (done w (Cut None)) Ended) [] refl refl refl refl (owned_cut M O law w [] None k))
   cut_owned w e x cs b (Source d) is h fit k =
       let begun : World D P = done w (Cut (Some e.token.slot)) in
       let out : World D P = done begun (Put e.token.slot InTurn) in
       let allowed : AllAllowed O (cut w.poll) h.2 = (rw h.7 at fit).1.1.0 in
       rw (h.7, h.8)
-      (owned_polls M O law out d h.0 h.2 allowed (λ fits below. law d h.0 (cut w.poll) (Turned e.readiness e.token (lent x h.4 h.1 h.3 h.5)) h.2 fits below h.6)
-      (owned_out M O law begun e.token.slot d (at_named w.slots (registration_of e.token) d is) (owned_cut M O law w (Some e.token.slot) k)))
+      (owned_polls M O law out [] d h.0 h.2 allowed (λ fits below. law d h.0 (cut w.poll) (Turned e.readiness e.token (lent x h.4 h.1 h.3 h.5)) h.2 fits below h.6)
+      (owned_out M O law begun [] e.token.slot d (at_named w.slots (registration_of e.token) d is) (owned_cut M O law w [] (Some e.token.slot) k)))
 
-  from_owned : (w : World D P) (es : List Pending) (x : X) (cs : List (Change D P)) (b : Doing D X) → CutFrom M es (seen w) x cs b → AllFit O (seen w) cs → IsOwned M w None → IsOwned M (all_done w cs) (aside_of b)
+  from_owned : (w : World D P) (es : List Pending) (x : X) (cs : List (Change D P)) (b : Doing D X) → CutFrom M es (seen w) x cs b → AllFit O (seen w) cs → IsOwned M w [] → IsOwned M (all_done w cs) (aside_of b)
   from_owned w [] x cs b h fit k = rw (h.0, h.1) k
   from_owned w (e ∷ es) x cs b h fit k = cut_owned w e x cs b (named (map slot_of w.slots) (registration_of e.token)) refl h fit k
 
-  emptied_owned : (w : World D P) (token : RegistrationToken) (c : Content D) (aside : Option D) → IsOwned M w aside → IsOwned M (all_done w (emptied token c)) aside
+  emptied_owned : (w : World D P) (token : RegistrationToken) (c : Content D) (aside : List D) → IsOwned M w aside → IsOwned M (all_done w (emptied token c)) aside
   emptied_owned w token Vacant aside k = k
   emptied_owned w token (Source d) aside k = k
   emptied_owned w token InTurn aside k = owned_emptied M O law w aside token.slot Vacant (λ e is. cc) k
 
-  acted_owned : (w : World D P) (token : RegistrationToken) (d : D) (answer : Result PostAction Error) (cs : List (Change D P)) (e : D) (told : Result (Unit {0}) Error) → ActedBy M token d answer (seen w) cs e told → AllFit O (seen w) cs → IsOwned M w (Some d) → IsOwned M (all_done w cs) (Some e)
-  acted_owned w token d (Ok Continue) cs e told h fit k = rw (h.0, h.1) (owned_same M O law w (done w Ended) (Some d) refl refl refl refl k)
+  acted_owned : (w : World D P) (token : RegistrationToken) (d : D) (answer : Result PostAction Error) (cs : List (Change D P)) (e : D) (told : Result (Unit {0}) Error) → ActedBy M token d answer (seen w) cs e told → AllFit O (seen w) cs → IsOwned M w (d ∷ []) → IsOwned M (all_done w cs) (e ∷ [])
+  acted_owned w token d (Ok Continue) cs e told h fit k = rw (h.0, h.1) (owned_same M O law w (done w Ended) (d ∷ []) refl refl refl refl k)
   acted_owned w token d (Ok Reregister) cs e told h fit k =
       let allowed : AllAllowed O (with_pass None w.poll) h.0 = (rw h.2 at fit).1.0 in
       rw h.2
-      (owned_listed M O law (done (done w Ended) (Polls h.0)) (entered M token d told) (Some e)
-      (owned_polls M O law (done w Ended) d e h.0 allowed (registered_keeps Reregistered token (with_pass None w.poll) d e told h.0 h.1)
-      (owned_same M O law w (done w Ended) (Some d) refl refl refl refl k)))
+      (owned_listed M O law (done (done w Ended) (Polls h.0)) (entered M token d told) (e ∷ [])
+      (owned_polls M O law (done w Ended) [] d e h.0 allowed (registered_keeps Reregistered token (with_pass None w.poll) d e told h.0 h.1)
+      (owned_same M O law w (done w Ended) (d ∷ []) refl refl refl refl k)))
   acted_owned w token d (Ok DisableIt) cs e told h fit k =
       let allowed : AllAllowed O (with_pass None w.poll) h.0 = (rw h.2 at fit).1.0 in
       rw h.2
-      (owned_listed M O law (done (done w Ended) (Polls h.0)) (Unlisted token) (Some e)
-      (owned_polls M O law (done w Ended) d e h.0 allowed (λ fits below. law d e (with_pass None w.poll) (Unregistered told) h.0 fits below h.1)
-      (owned_same M O law w (done w Ended) (Some d) refl refl refl refl k)))
+      (owned_listed M O law (done (done w Ended) (Polls h.0)) (Unlisted token) (e ∷ [])
+      (owned_polls M O law (done w Ended) [] d e h.0 allowed (λ fits below. law d e (with_pass None w.poll) (Unregistered told) h.0 fits below h.1)
+      (owned_same M O law w (done w Ended) (d ∷ []) refl refl refl refl k)))
   acted_owned w token d (Ok Remove) cs e told h fit k =
-      rw (h.0, h.1) (emptied_owned (done w Ended) token (named (map slot_of w.slots) token) (Some d) (owned_same M O law w (done w Ended) (Some d) refl refl refl refl k))
-  acted_owned w token d (Err error) cs e told h fit k = rw (h.0, h.1) (owned_same M O law w (done w Ended) (Some d) refl refl refl refl k)
+      rw (h.0, h.1) (emptied_owned (done w Ended) token (named (map slot_of w.slots) token) (d ∷ []) (owned_same M O law w (done w Ended) (d ∷ []) refl refl refl refl k))
+  acted_owned w token d (Err error) cs e told h fit k = rw (h.0, h.1) (owned_same M O law w (done w Ended) (d ∷ []) refl refl refl refl k)
 
-  gone_owned : (w : World D P) (token : RegistrationToken) (d : D) (cs : List (Change D P)) → (h : (e : D) × (answer : Result (Unit {0}) Error) × (steps : List (PollStep P)) × M.does d w.poll (Unregistered answer) steps e × (cs ≡ Polls steps ∷ Holds (Unlisted token) ∷ [])) → AllFit O (seen w) cs → IsOwned M w (Some d) → IsOwned M (all_done w cs) None
+  gone_owned : (w : World D P) (token : RegistrationToken) (d : D) (cs : List (Change D P)) → (h : (e : D) × (answer : Result (Unit {0}) Error) × (steps : List (PollStep P)) × M.does d w.poll (Unregistered answer) steps e × (cs ≡ Polls steps ∷ Holds (Unlisted token) ∷ [])) → AllFit O (seen w) cs → IsOwned M w (d ∷ []) → IsOwned M (all_done w cs) []
   gone_owned w token d cs h fit k =
       let allowed : AllAllowed O w.poll h.2 = (rw h.4 at fit).0 in
       rw h.4
-      (owned_listed M O law (done w (Polls h.2)) (Unlisted token) None
-      (owned_dropped M O law (done w (Polls h.2)) (Some h.0) (owned_polls M O law w d h.0 h.2 allowed (λ fits below. law d h.0 w.poll (Unregistered h.1) h.2 fits below h.3) k)))
+      (owned_listed M O law (done w (Polls h.2)) (Unlisted token) []
+      (owned_dropped M O law (done w (Polls h.2)) [] h.0 (owned_polls M O law w [] d h.0 h.2 allowed (λ fits below. law d h.0 w.poll (Unregistered h.1) h.2 fits below h.3) k)))
 
-  returned_owned : (w : World D P) (token : RegistrationToken) (d : D) (c : Content D) (cs : List (Change D P)) → ReturnedTo M token d c (seen w) cs → AllFit O (seen w) cs → IsOwned M w (Some d) → IsOwned M (all_done w cs) None
-  returned_owned w token d InTurn cs h fit k = rw h (owned_back M O law w token.slot d k)
+  returned_owned : (w : World D P) (token : RegistrationToken) (d : D) (c : Content D) (cs : List (Change D P)) → ReturnedTo M token d c (seen w) cs → AllFit O (seen w) cs → IsOwned M w (d ∷ []) → IsOwned M (all_done w cs) []
+  returned_owned w token d InTurn cs h fit k = rw h (owned_back M O law w [] token.slot d k)
   returned_owned w token d Vacant cs h fit k = gone_owned w token d cs h fit k
   returned_owned w token d (Source f) cs h fit k = gone_owned w token d cs h fit k
 
   step_owned : (w : World D P) (a b : Doing D X) (cs : List (Change D P)) → Step M O (seen w) a cs b → AllFit O (seen w) cs → IsOwned M w (aside_of a) → IsOwned M (all_done w cs) (aside_of b)
-  step_owned w (Beginning timeout x) b cs h fit k = rw (h.1, h.2) (owned_same M O law w (done w (Counting h.0)) None refl refl refl refl k)
+  step_owned w (Beginning timeout x) b cs h fit k = rw (h.1, h.2) (owned_same M O law w (done w (Counting h.0)) [] refl refl refl refl k)
   step_owned w (Sleeping timeout [] x) b cs h fit k = rw (h.0, h.1) k
   step_owned w (Sleeping timeout (t ∷ later) x) b cs h fit k = slept_owned w timeout t later x cs b (named (map slot_of w.slots) t) refl h k
-  step_owned w (Waiting timeout x) b cs h fit k = rw (h.5, h.6, aside_wait h.0 h.1 x) (owned_same M O law w (done (done w (Polling h.2)) (Watching h.3)) None refl refl refl refl k)
-  step_owned w (Gathering now given x) b cs h fit k = rw (h.1, h.2) (owned_gathered M O law w h.0 given now k)
+  step_owned w (Waiting timeout x) b cs h fit k = rw (h.5, h.6, aside_wait h.0 h.1 x) (owned_same M O law w (done (done w (Polling h.2)) (Watching h.3)) [] refl refl refl refl k)
+  step_owned w (Gathering now given x) b cs h fit k = rw (h.1, h.2) (owned_gathered M O law w [] h.0 given now k)
   step_owned w (Noticing from [] x) b cs h fit k = rw (h.0, h.1) k
   step_owned w (Noticing from (t ∷ later) x) b cs h fit k = noticed_owned w from t later x cs b (named (map slot_of w.slots) t) refl h k
   step_owned w (Cutting x) b cs h fit k = from_owned w w.poll.batch x cs b h fit k
@@ -330,15 +375,15 @@ module _ {D P X Q : Type 0} (M : Meaning D P (Lent X Q)) (O : Outside P) (law : 
   steps_owned w a b (cs ∷ css) h k =
       steps_owned (all_done w cs) h.0 b css (subst (λ (v : View D P). Steps M O v h.0 css b) (sym (seen-all_done w cs)) h.3) (step_owned w a h.0 cs h.1 h.2 k)
 
-  inserted_owned : (w : World D P) (d : D) (answer : Result RegistrationToken (InsertError D)) (cs : List (Change D P)) → AllFresh M cs → InsertedBy M d answer (seen w) cs → AllFit O (seen w) cs → IsOwned M w None → IsOwned M (all_done w cs) None
+  inserted_owned : (w : World D P) (d : D) (answer : Result RegistrationToken (InsertError D)) (cs : List (Change D P)) → AllFresh M cs → InsertedBy M d answer (seen w) cs → AllFit O (seen w) cs → IsOwned M w [] → IsOwned M (all_done w cs) []
   inserted_owned w d (Ok token) cs fresh h fit k =
       let claimed : World D P = done w (Claim d) in
       let allowed : AllAllowed O w.poll h.4 = (rw h.6 at fit).1.0 in
       let free : HoldsNone M d × M.fits d = (rw h.6 at fresh).0 in
       rw h.6
-      (owned_back M O law (done (done claimed (Polls h.4)) (Holds (Listed (M.needs d) token))) token.slot h.2
-      (owned_listed M O law (done claimed (Polls h.4)) (Listed (M.needs d) token) (Some h.2)
-      (owned_polls M O law claimed d h.2 h.4 allowed (λ fits below. law d h.2 w.poll (Registered (factory_of token) (Ok tt) h.3) h.4 fits below h.5) (owned_fresh M O law claimed d free (owned_claim M O law w d None k)))))
+      (owned_back M O law (done (done claimed (Polls h.4)) (Holds (Listed (M.needs d) token))) [] token.slot h.2
+      (owned_listed M O law (done claimed (Polls h.4)) (Listed (M.needs d) token) (h.2 ∷ [])
+      (owned_polls M O law claimed [] d h.2 h.4 allowed (λ fits below. law d h.2 w.poll (Registered (factory_of token) (Ok tt) h.3) h.4 fits below h.5) (owned_fresh M O law claimed [] d free (owned_claim M O law w d [] k)))))
   inserted_owned w d (Err refused) cs fresh (inl h) fit k = rw h.2 k
   inserted_owned w d (Err refused) cs fresh (inr h) fit k =
       let claimed : World D P = done w (Claim d) in
@@ -347,33 +392,33 @@ module _ {D P X Q : Type 0} (M : Meaning D P (Lent X Q)) (O : Outside P) (law : 
       let polled : World D P = done claimed (Polls h.2) in
       let place = first_vacant (map slot_of w.slots) in
       rw h.4
-      (owned_dropped M O law (done polled (Put place Vacant)) (Some refused.inserted)
-      (owned_emptied M O law polled (Some refused.inserted) place Vacant (λ e is. cc)
-      (owned_polls M O law claimed d refused.inserted h.2 allowed (λ fits below. law d refused.inserted w.poll (Registered (factory_of (next_registration (map slot_of w.slots))) (Err refused.error) h.1) h.2 fits below h.3) (owned_fresh M O law claimed d free (owned_claim M O law w d None k)))))
+      (owned_dropped M O law (done polled (Put place Vacant)) [] refused.inserted
+      (owned_emptied M O law polled (refused.inserted ∷ []) place Vacant (λ e is. cc)
+      (owned_polls M O law claimed [] d refused.inserted h.2 allowed (λ fits below. law d refused.inserted w.poll (Registered (factory_of (next_registration (map slot_of w.slots))) (Err refused.error) h.1) h.2 fits below h.3) (owned_fresh M O law claimed [] d free (owned_claim M O law w d [] k)))))
 
   asked_owned : (w : World D P) (R : D → Result (Unit {0}) Error → List (PollStep P) → D → Type 0) (noted : D → Outcome → HeldStep) (token : RegistrationToken) (answer : Result (Unit {0}) Error) (cs : List (Change D P)) (c : Content D)
       → ((d e : D) (l : List (PollStep P)) → R d answer l e → M.fits d → IsBelow w.poll.deadlines.next (M.holds d) → M.fits e × Keeps (M.holds d) w.poll.deadlines.next l (M.holds e))
-      → named (map slot_of w.slots) token ≡ c → AskedIn R noted token c answer cs → AllFit O (seen w) cs → IsOwned M w None → IsOwned M (all_done w cs) None
+      → named (map slot_of w.slots) token ≡ c → AskedIn R noted token c answer cs → AllFit O (seen w) cs → IsOwned M w [] → IsOwned M (all_done w cs) []
   asked_owned w R noted token answer cs Vacant keeps is h fit k = rw h.1 k
   asked_owned w R noted token answer cs InTurn keeps is h fit k = rw h.1 k
   asked_owned w R noted token answer cs (Source d) keeps is h fit k =
       let out : World D P = done w (Put token.slot InTurn) in
       let allowed : AllAllowed O w.poll h.1 = (rw h.3 at fit).1.0 in
       rw h.3
-      (owned_back M O law (done (done out (Polls h.1)) (Holds (noted d answer))) token.slot h.0
-      (owned_listed M O law (done out (Polls h.1)) (noted d answer) (Some h.0)
-      (owned_polls M O law out d h.0 h.1 allowed (keeps d h.0 h.1 h.2) (owned_out M O law w token.slot d (at_named w.slots token d is) k))))
+      (owned_back M O law (done (done out (Polls h.1)) (Holds (noted d answer))) [] token.slot h.0
+      (owned_listed M O law (done out (Polls h.1)) (noted d answer) (h.0 ∷ [])
+      (owned_polls M O law out [] d h.0 h.1 allowed (keeps d h.0 h.1 h.2) (owned_out M O law w [] token.slot d (at_named w.slots token d is) k))))
 
-  removed_owned : (w : World D P) (token : RegistrationToken) (answer : Option D) (cs : List (Change D P)) (c : Content D) → named (map slot_of w.slots) token ≡ c → RemovedIn M token c answer (seen w) cs → AllFit O (seen w) cs → IsOwned M w None → IsOwned M (all_done w cs) None
+  removed_owned : (w : World D P) (token : RegistrationToken) (answer : Option D) (cs : List (Change D P)) (c : Content D) → named (map slot_of w.slots) token ≡ c → RemovedIn M token c answer (seen w) cs → AllFit O (seen w) cs → IsOwned M w [] → IsOwned M (all_done w cs) []
   removed_owned w token answer cs Vacant is h fit k = rw h.1 k
   removed_owned w token answer cs InTurn is h fit k = rw h.1 k
   removed_owned w token answer cs (Source d) is h fit k =
       let out : World D P = done w (Put token.slot Vacant) in
       let allowed : AllAllowed O w.poll h.2 = (rw h.5 at fit).1.0 in
       rw h.5
-      (owned_listed M O law (done out (Polls h.2)) (Unlisted token) None
-      (owned_dropped M O law (done out (Polls h.2)) (Some h.0)
-      (owned_polls M O law out d h.0 h.2 allowed (λ fits below. law d h.0 w.poll (Unregistered h.1) h.2 fits below h.3) (owned_without M O law w token.slot Vacant d (λ e is. cc) (at_named w.slots token d is) k))))
+      (owned_listed M O law (done out (Polls h.2)) (Unlisted token) []
+      (owned_dropped M O law (done out (Polls h.2)) [] h.0
+      (owned_polls M O law out [] d h.0 h.2 allowed (λ fits below. law d h.0 w.poll (Unregistered h.1) h.2 fits below h.3) (owned_without M O law w [] token.slot Vacant d (λ e is. cc) (at_named w.slots token d is) k))))
 
   fresh_first : (cs ds : List (Change D P)) → AllFresh M (cs ++ ds) → AllFresh M cs
   fresh_first [] ds h = tt
@@ -383,12 +428,12 @@ module _ {D P X Q : Type 0} (M : Meaning D P (Lent X Q)) (O : Outside P) (law : 
   fresh_rest [] ds h = h
   fresh_rest (c ∷ cs) ds h = fresh_rest cs ds h.1
 
-  once_owned : (w : World D P) (R : View D P → List (Change D P) → Type 0) (css : List (List (Change D P))) → AllFresh M (joined css) → Once O R (seen w) css → ((cs : List (Change D P)) → AllFresh M cs → R (seen w) cs → AllFit O (seen w) cs → IsOwned M (all_done w cs) None) → IsOwned M (all_traced w css) None
+  once_owned : (w : World D P) (R : View D P → List (Change D P) → Type 0) (css : List (List (Change D P))) → AllFresh M (joined css) → Once O R (seen w) css → ((cs : List (Change D P)) → AllFresh M cs → R (seen w) cs → AllFit O (seen w) cs → IsOwned M (all_done w cs) []) → IsOwned M (all_traced w css) []
   once_owned w R [] fresh h f = absurd h
   once_owned w R (cs ∷ []) fresh h f = f cs (fresh_first cs [] fresh) h.0 h.1
   once_owned w R (cs ∷ ds ∷ css) fresh h f = absurd h
 
-  case_owned : (w : World D P) (call : LoopCall D P X) (answer : LoopAnswer D P X) (css : List (List (Change D P))) → AllFresh M (joined css) → Case M O call answer (seen w) css → IsOwned M w None → IsOwned M (all_traced w css) None
+  case_owned : (w : World D P) (call : LoopCall D P X) (answer : LoopAnswer D P X) (css : List (List (Change D P))) → AllFresh M (joined css) → Case M O call answer (seen w) css → IsOwned M w [] → IsOwned M (all_traced w css) []
   case_owned w (Insert d) (Inserted answer) css free h k = once_owned w (InsertedBy M d answer) css free h (λ cs fresh r fit. inserted_owned w d answer cs fresh r fit k)
   case_owned w (Enable token) (Enabled answer) css free h k =
       once_owned w (EnabledBy M token answer) css free h
@@ -402,10 +447,10 @@ module _ {D P X Q : Type 0} (M : Meaning D P (Lent X Q)) (O : Outside P) (law : 
   case_owned w (RemoveCall token) (Removed answer) css free h k = once_owned w (RemovedBy M token answer) css free h (λ cs fresh r fit. removed_owned w token answer cs (named (map slot_of w.slots) token) refl r fit k)
   case_owned w (Dispatch timeout x) (Dispatched answer x') css free (inl h) k = rw h.2 k
   case_owned w (Dispatch timeout x) (Dispatched answer x') css free (inr h) k = steps_owned w (Beginning (nanos_of timeout) x) (Leaving answer x') css h k
-  case_owned w (NewPoller p) (OldPoller q) css free h k = rw h.1 (owned_same M O law w (done w (Polling p)) None refl refl refl refl k)
+  case_owned w (NewPoller p) (OldPoller q) css free h k = rw h.1 (owned_same M O law w (done w (Polling p)) [] refl refl refl refl k)
   case_owned w call answer css free h k = absurd h
 
-  pub run_owned : (calls : List (LoopCall D P X)) (answers : List (LoopAnswer D P X)) (csss : List (List (List (Change D P)))) (w w' : World D P) → AllFresh M (changes_of csss) → Run M O calls answers csss w w' → IsOwned M w None → IsOwned M w' None
+  pub run_owned : (calls : List (LoopCall D P X)) (answers : List (LoopAnswer D P X)) (csss : List (List (List (Change D P)))) (w w' : World D P) → AllFresh M (changes_of csss) → Run M O calls answers csss w w' → IsOwned M w [] → IsOwned M w' []
   run_owned [] [] [] w w' free run k = rw run k
   run_owned (call ∷ calls) (answer ∷ answers) (css ∷ csss) w w' free run k = run_owned calls answers csss (all_traced w css) w' (fresh_rest (joined css) (changes_of csss) free) run.1 (case_owned w call answer css (fresh_first (joined css) (changes_of csss) free) run.0 k)
   run_owned calls answers csss w w' free run k = absurd run
@@ -414,16 +459,21 @@ nobody : {D : Type 0} (slots : List (Registration D)) → slots ≡ [] → (i : 
 nobody [] none i d h = (let e = h.1 in cc)
 nobody (x ∷ xs) none i d h = cc
 
+nothing_there : {A : Type 0} {x : A} (k : ℕ) → slice_get [] k ≡ Some x → ⊥
+nothing_there zero is = cc
+nothing_there (suc k) is = cc
+
 none_armed : (n : ℕ) → ◌≡◌ {A = ℕ} 0 (if nat_lt n 0 then 1 else 0)
 none_armed n = grind (arith, nat_tests)
 
 -- a machine to which nothing has happened
-pub new_owned : {D P X Q : Type 0} (M : Meaning D P (Lent X Q)) (w : World D P) → IsNew w → IsOwned M w None
+pub new_owned : {D P X Q : Type 0} (M : Meaning D P (Lent X Q)) (w : World D P) → IsNew w → IsOwned M w []
 new_owned {D} {P} M w h =
     record {
       noted = record { kept = rw h.ledger (record { entries = sym (ap (λ d. d.entries) h.deadlines); events = sym h.batch; placed = λ n. none_armed n; batch_on_time = tt; cut_on_time = tt; own = tt; once = λ n. omega arith; gathered = λ n. omega arith }); falls = rw h.ledger tt };
       good = λ i d is. absurd (nobody w.slots h.slots i d is);
       apart = λ i j d e differ is at. absurd (nobody w.slots h.slots i d is);
-      own = λ d is. cc;
-      alone = λ d e i is at. cc;
+      own = λ k d is. absurd (nothing_there k is);
+      alone = λ k d e i is at. absurd (nothing_there k is);
+      among = λ j k d e differ is at. absurd (nothing_there j is);
     }
