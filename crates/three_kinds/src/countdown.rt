@@ -21,11 +21,13 @@ impl Countdown {
     }
 }
 
-/// Its turns don't fail.
-#[derive(Drop)]
-pub enum Never {}
+/// Why a turn of it could fail. None does.
+#[derive(Debug, Drop)]
+pub enum CountdownError {
+    OutOfMemory,
+}
 
-impl IntoError for Never {
+impl IntoError for CountdownError {
     ghost use Rattle.std.specs.Prelude.{◌≡◌};
     ghost use Rattle.calloop_wake.specs.declared.error.Error.TheVariants.{OutOfMemory};
     ghost use Rattle.calloop_core.specs.Lawful.{memory_of_source};
@@ -35,7 +37,7 @@ impl IntoError for Never {
     ghost of_source = { λ _ e is. memory_of_source e is };
 
     fn into_error(self) -> Error {
-        match self {}
+        Error::OutOfMemory
     }
 }
 
@@ -50,7 +52,7 @@ impl<P: Poller, C, R: Wait + Drop> EventSource<P, C, R> for Countdown {
 
     type Ret = ();
 
-    type Error = Never;
+    type Error = CountdownError;
 
     ghost means = { attentive CallsOnce };
 
@@ -62,7 +64,7 @@ impl<P: Poller, C, R: Wait + Drop> EventSource<P, C, R> for Countdown {
         callback: &mut F,
         data: &mut X,
         requests: &mut Q,
-    ) -> std::result::Result<PostAction, Never>
+    ) -> std::result::Result<PostAction, CountdownError>
     where
         Q: Asking,
         F: Callback<(), (), (), X, Q>,
