@@ -1,16 +1,17 @@
 -- A slot that was given up stays vacant under its reuse count, since each change of a run fits.
 use Rattle.std.proofs.Common.{◌≡◌, ℕ, zero, suc, ◌+◌, ◌<◌, ◌⊎◌, List, [], ◌∷◌, ◌++◌, map, refl, ap, sym, ◌∙◌, subst, arith, inl, inr, Some, true, false, if◌then◌else◌, slice_get}
 use Rattle.calloop_wake.specs.declared.list.Content.{Content}
+use Rattle.calloop_wake.specs.declared.list.Content.TheVariants.{Source}
 use Rattle.calloop_wake.specs.Slots.{changed, is_empty}
 use Rattle.calloop_core.specs.Pollers.{Outside}
 use Rattle.calloop_core.specs.Deeds.{Lent}
 use Rattle.calloop_core.specs.Meanings.{Meaning}
 use Rattle.calloop.specs.declared.loop_logic.LoopCall.{LoopCall}
-use Rattle.calloop.specs.declared.loop_logic.LoopCall.TheVariants.{Insert, Enable, Update, Disable, Remove as RemoveCall, Dispatch, Poller as NewPoller}
+use Rattle.calloop.specs.declared.loop_logic.LoopCall.TheVariants.{Insert, Enable, Update, Disable, Remove as RemoveCall, Exchange, Dispatch, Poller as NewPoller}
 use Rattle.calloop.specs.declared.loop_logic.LoopAnswer.{LoopAnswer}
-use Rattle.calloop.specs.declared.loop_logic.LoopAnswer.TheVariants.{Inserted, Enabled, Updated, Disabled, Removed, Dispatched, Poller as OldPoller}
-use Rattle.calloop.specs.Machine.{World, View, Registration, Change, Put, Claim, Polls, Polling, Watching, Counting, Holds, Appended, Gathered, Cut, Ended, Fits, AllFit, IsFull, holding, reused, is_free, with_claim, slot_of, seen, viewed, all_viewed, done, all_done}
-use Rattle.calloop.specs.Rules.{Doing, Step, Steps, Case, Run, Once, InsertedBy, EnabledBy, UpdatedBy, DisabledBy, RemovedBy, traced, all_traced}
+use Rattle.calloop.specs.declared.loop_logic.LoopAnswer.TheVariants.{Inserted, Enabled, Updated, Disabled, Removed, Exchanged, Dispatched, Poller as OldPoller}
+use Rattle.calloop.specs.Machine.{World, View, Registration, Change, Put, Claim, Swapped, Polls, Polling, Watching, Counting, Holds, Appended, Gathered, Cut, Ended, Fits, AllFit, IsFull, holding, reused, is_free, with_claim, slot_of, seen, viewed, all_viewed, done, all_done}
+use Rattle.calloop.specs.Rules.{Doing, Steps, Case, Run, Once, InsertedBy, EnabledBy, UpdatedBy, DisabledBy, RemovedBy, ExchangedBy, traced, all_traced}
 use Rattle.calloop.specs.Laws.{StaysGone, AllStayGone, joined, changes_of}
 use Rattle.calloop.proofs.Seen.{seen-done, seen-all_done, seen-all_traced}
 
@@ -41,6 +42,7 @@ left_claim {D} (x ∷ xs) (suc i) n h =
 module _ {D P : Type 0} (O : Outside P) where
   left_done : (w : World D P) (c : Change D P) (i n : ℕ) → Fits O (seen w) c → Left w.slots i n → Left (done w c).slots i n
   left_done w (Put slot content) i n fit h = left_put content w.slots slot i n fit h
+  left_done w (Swapped slot old new) i n fit h = left_put (Source new) w.slots slot i n (fit.0, fit.1, ap is_empty fit.2) h
   left_done w (Claim source) i n fit h = left_claim w.slots i n h
   left_done w (Polls steps) i n fit h = h
   left_done w (Polling poller) i n fit h = h
@@ -104,6 +106,7 @@ module _ {D P X Q : Type 0} (M : Meaning D P (Lent X Q)) (O : Outside P) where
   case_fit v (Update token) (Updated answer) css h = once_fit v (UpdatedBy M token answer) css h
   case_fit v (Disable token) (Disabled answer) css h = once_fit v (DisabledBy M token answer) css h
   case_fit v (RemoveCall token) (Removed answer) css h = once_fit v (RemovedBy M token answer) css h
+  case_fit v (Exchange token d) (Exchanged answer) css h = once_fit v (ExchangedBy token d answer) css h
   case_fit v (Dispatch timeout x) (Dispatched answer x') css h = elim h [ inl k ↦ rw k.2 tt | inr k ↦ steps_fit v _ _ css k ]
   case_fit v (NewPoller p) (OldPoller q) css h = rw h.1 (tt, tt)
   case_fit v call answer css h = absurd h

@@ -1,9 +1,9 @@
 -- The registration of a source that is held.
-use Rattle.std.proofs.Common.{refl, List, Result}
+use Rattle.std.proofs.Common.{refl, Result}
 use Rattle.calloop_wake.specs.declared.error.Error.{Error}
 use Rattle.calloop_wake.specs.declared.token.TokenFactory.{TokenFactory}
 use Rattle.calloop_core.specs.Pollers.{Outside}
-use Rattle.calloop_core.specs.Polls.{PollView, PollStep, AllStepped}
+use Rattle.calloop_core.specs.Polls.{PollView}
 use Rattle.calloop_core.specs.Deeds.{Registered, Lent}
 use Rattle.calloop_core.specs.Meanings.{Meaning, IsHeld, Does}
 

@@ -1,5 +1,5 @@
 -- Insertions, and what else is asked of one source.
-use Rattle.std.proofs.Common.{◌≡◌, ◌<◌, ◌^◌, ℕ, zero, suc, List, [], ◌∷◌, refl, ap, sym, ◌∙◌, subst, slice_get, false, None, Some, Result, Ok, Err, inl, inr}
+use Rattle.std.proofs.Common.{◌≡◌, ◌<◌, ◌^◌, ℕ, zero, suc, List, [], ◌∷◌, refl, ap, sym, ◌∙◌, subst, false, None, Some, Ok, Err, inl, inr}
 use Rattle.calloop_wake.specs.declared.error.Error.{Error}
 use Rattle.calloop_wake.specs.declared.error.Error.TheVariants.{InvalidToken}
 use Rattle.calloop_wake.specs.declared.token.TokenFactory.{TokenFactory}
@@ -7,20 +7,20 @@ use Rattle.calloop_wake.specs.declared.token.RegistrationToken.{RegistrationToke
 use Rattle.calloop_wake.specs.declared.list.Content.{Content}
 use Rattle.calloop_wake.specs.declared.list.Content.TheVariants.{Vacant, Source, InTurn}
 use Rattle.calloop_wake.specs.declared.list.Slot.{Slot}
-use Rattle.calloop_wake.specs.Slots.{changed, with_content, named, source_of, is_empty, after_turn, first_vacant, next_version, next_registration, claimed, CannotClaim}
-use Rattle.calloop_wake.proofs.Named.{turn_ended, named_changed}
+use Rattle.calloop_wake.specs.Slots.{changed, with_content, named, source_of, is_empty, after_turn, first_vacant, next_version, next_registration, claimed}
+use Rattle.calloop_wake.proofs.Named.{turn_ended, named_changed, named_slot}
 use Rattle.calloop_wake.proofs.Inserted.{claim_ended}
 use Rattle.calloop_wake.proofs.Vacancy.{slice_get-claimed_at}
-use Rattle.calloop_core.specs.Polls.{PollView, PollStep, AllAllowed, AllStepped, polls_after}
+use Rattle.calloop_core.specs.Polls.{PollView, PollStep, polls_after}
 use Rattle.calloop_core.specs.Pollers.{Outside}
-use Rattle.calloop.specs.declared.loop_logic.LoopCall.TheVariants.{Insert, Enable, Update, Disable, Remove}
-use Rattle.calloop.specs.declared.loop_logic.LoopAnswer.TheVariants.{Inserted, Enabled, Updated, Disabled, Removed}
+use Rattle.calloop.specs.declared.loop_logic.LoopCall.TheVariants.{Insert, Enable, Update, Disable, Remove, Exchange}
+use Rattle.calloop.specs.declared.loop_logic.LoopAnswer.TheVariants.{Inserted, Enabled, Updated, Disabled, Removed, Exchanged}
 use Rattle.calloop_core.specs.Deeds.{Registered, Reregistered, Unregistered, Lent}
 use Rattle.calloop_core.specs.Meanings.{Meaning, Does}
-use Rattle.calloop.specs.Held.{Held, HeldStep, Listed, Unlisted, held_after}
-use Rattle.calloop.specs.Machine.{View, Change, Put, Claim, Polls, Holds, AllFit, IsFull, all_viewed}
+use Rattle.calloop.specs.Held.{HeldStep, Listed, Unlisted, held_after}
+use Rattle.calloop.specs.Machine.{View, Change, Put, Claim, Swapped, Polls, Holds, AllFit, IsFull, StandsIn, all_viewed}
 use Rattle.calloop.proofs.Going.{full_named}
-use Rattle.calloop.specs.Rules.{Did, Case, Once, Outcome, ByOne, RegisteredBy, entered, left, CannotInsert, InsertedBy, EnabledBy, UpdatedBy, DisabledBy, RemovedBy, RemovedIn, AskedIn, factory_of}
+use Rattle.calloop.specs.Rules.{Did, Case, Once, Outcome, ByOne, RegisteredBy, entered, left, CannotInsert, InsertedBy, EnabledBy, UpdatedBy, DisabledBy, RemovedBy, RemovedIn, ExchangedIn, ExchangedBy, AskedIn, factory_of}
 
 -- what is put into a slot last stands there
 changed_twice : {D : Type 0} (c d : Content D) (ss : List (Slot D)) (i : ℕ) → changed (with_content c) (changed (with_content d) ss i) i ≡ changed (with_content c) ss i
@@ -121,3 +121,18 @@ module _ {D P X Q : Type 0} (M : Meaning D P (Lent X Q)) (O : Outside P) (v : Vi
       one_step (RemovedBy M token (Some e)) (Put token.slot Vacant ∷ Polls r.0 ∷ Holds (Unlisted token) ∷ []) u
       (rw is (e, told, r.0, r.1, refl, refl)) (full_named v.slots token full, (r.2, (tt, tt)))
       (r.3 ∙ ap (λ (ss : List (Slot D)). record { slots = ss; poll = polls_after v.poll r.0; held = held_after v.held (Unlisted token) }) (turn_ended v.slots token Vacant full ∙ changed_twice Vacant InTurn v.slots token.slot))
+
+  none_exchanged : (token : RegistrationToken) (new : D) (c : Content D) → None ≡ source_of c → ExchangedIn {P = P} token new c (Err new) []
+  none_exchanged token new Vacant h = (refl, refl)
+  none_exchanged token new InTurn h = (refl, refl)
+  none_exchanged token new (Source d) h = cc
+
+  pub not_exchanged : (token : RegistrationToken) (new : D) → None ≡ source_of (named v.slots token) → Did (Case M O (Exchange token new) (Exchanged (Err new))) v v
+  not_exchanged token new h = one_step (ExchangedBy token new (Err new)) [] v (none_exchanged token new (named v.slots token) h) tt refl
+
+  pub exchanged : (token : RegistrationToken) (old new : D) → named v.slots token ≡ Source old
+      → Did (Case M O (Exchange token new) (Exchanged (Ok old))) v (record v { slots = changed (with_content (Source new)) v.slots token.slot })
+  exchanged token old new is =
+      let s = named_slot v.slots token (ap is_empty is) in
+      let stands : StandsIn v.slots token.slot old = (s.0, s.1, sym s.3 ∙ is) in
+      one_step (ExchangedBy token new (Ok old)) (Swapped token.slot old new ∷ []) (record v { slots = changed (with_content (Source new)) v.slots token.slot }) (rw is (refl, refl)) (stands, tt) refl

@@ -1,5 +1,5 @@
 -- The registrations that are told of waits: each stands once in the list, and names what isn't vacant.
-use Rattle.std.proofs.Common.{◌≡◌, ◌≢◌, ◌⊎◌, inl, inr, ℕ, zero, suc, List, [], ◌∷◌, ◌++◌, filter, not, Bool, true, false, ◌&&◌, ◌||◌, nat_eq, if◌then◌else◌, refl, ap, sym, ◌∙◌, subst, arith, Some, None, Option, Result, Ok, Err, slice_get}
+use Rattle.std.proofs.Common.{◌≡◌, ◌≢◌, ◌⊎◌, inl, inr, ℕ, zero, suc, List, [], ◌∷◌, ◌++◌, filter, not, Bool, true, false, ◌||◌, nat_eq, if◌then◌else◌, refl, ap, sym, ◌∙◌, subst, arith, Some, None, Option, Result, Ok, Err, slice_get}
 use Rattle.std.proofs.lemmas.Bool.Decides.{nat_tests}
 use Rattle.std.specs.declared.io.Error.{Error as Cause}
 use Rattle.calloop_wake.specs.declared.error.Error.{Error}
@@ -10,7 +10,7 @@ use Rattle.calloop_wake.specs.declared.list.Content.{Content}
 use Rattle.calloop_wake.specs.declared.list.Content.TheVariants.{Vacant, Source, InTurn}
 use Rattle.calloop_wake.specs.declared.list.Slot.{Slot}
 use Rattle.calloop_wake.specs.Tokens.{registration_of}
-use Rattle.calloop_wake.specs.Slots.{changed, with_content, named, content_under, is_empty, is_vacant, first_vacant, next_registration, claimed, taken_up}
+use Rattle.calloop_wake.specs.Slots.{changed, with_content, named, content_under, is_empty, is_vacant, first_vacant, claimed}
 use Rattle.calloop_wake.proofs.Indexed.{slice_get-changed_other}
 use Rattle.calloop_wake.proofs.Named.{named_slot, named_changed}
 use Rattle.calloop_wake.proofs.Inserted.{named_claimed}
@@ -24,12 +24,12 @@ use Rattle.calloop_core.specs.Polls.{PollStep}
 use Rattle.calloop_core.specs.Deeds.{Lent}
 use Rattle.calloop_core.specs.Meanings.{Meaning}
 use Rattle.calloop.specs.declared.loop_logic.LoopCall.{LoopCall}
-use Rattle.calloop.specs.declared.loop_logic.LoopCall.TheVariants.{Insert, Enable, Update, Disable, Remove as RemoveCall, Dispatch, Poller as NewPoller}
+use Rattle.calloop.specs.declared.loop_logic.LoopCall.TheVariants.{Insert, Enable, Update, Disable, Remove as RemoveCall, Exchange, Dispatch, Poller as NewPoller}
 use Rattle.calloop.specs.declared.loop_logic.LoopAnswer.{LoopAnswer}
-use Rattle.calloop.specs.declared.loop_logic.LoopAnswer.TheVariants.{Inserted, Enabled, Updated, Disabled, Removed, Dispatched, Poller as OldPoller}
-use Rattle.calloop.specs.Held.{Held, HeldStep, Listed, Unlisted, held_after, listed, is_listed, is_one, is_another}
+use Rattle.calloop.specs.declared.loop_logic.LoopAnswer.TheVariants.{Inserted, Enabled, Updated, Disabled, Removed, Exchanged, Dispatched, Poller as OldPoller}
+use Rattle.calloop.specs.Held.{Held, HeldStep, held_after, listed, is_listed, is_one, is_another}
 use Rattle.calloop.specs.Machine.{World, View, Change, Ended, IsNew, seen, viewed, all_viewed}
-use Rattle.calloop.specs.Rules.{Doing, Beginning, Sleeping, Waiting, Gathering, Noticing, Cutting, Ending, Returning, Leaving, Outcome, Step, Steps, SleptAs, SleptBy, NoticedBy, told_in, CutTo, CutFrom, ActedBy, ReturnedTo, emptied, entered, left, after_turn, after_wait, Case, Once, Run, InsertedBy, AskedIn, EnabledBy, UpdatedBy, DisabledBy, RemovedIn, RemovedBy, traced, all_traced}
+use Rattle.calloop.specs.Rules.{Doing, Beginning, Sleeping, Waiting, Gathering, Noticing, Cutting, Ending, Returning, Leaving, Outcome, Step, Steps, SleptAs, SleptBy, NoticedBy, told_in, CutTo, CutFrom, ActedBy, ReturnedTo, emptied, entered, left, after_turn, after_wait, Case, Once, Run, InsertedBy, AskedIn, EnabledBy, UpdatedBy, DisabledBy, RemovedIn, RemovedBy, ExchangedIn, ExchangedBy, traced, all_traced}
 use Rattle.calloop.specs.Laws.{AllOnce, IsTold}
 use Rattle.calloop.proofs.Seen.{seen-all_traced}
 
@@ -323,6 +323,11 @@ module _ {D P X Q : Type 0} (M : Meaning D P (Lent X Q)) (O : Outside P) where
       let out = changed (with_content Vacant) v.slots token.slot in
       rw h.5 (tidy_out token out v.held.lifecycle (tidy_vacated v.slots token v.held.lifecycle (source_full v.slots token (Source d) is refl) k))
 
+  exchanged_kept : (v : View D P) (token : RegistrationToken) (new : D) (c : Content D) (answer : Result D D) (cs : List (Change D P)) → ExchangedIn token new c answer cs → Tidy nobody v.slots v.held.lifecycle → Tidy nobody (all_viewed v cs).slots (all_viewed v cs).held.lifecycle
+  exchanged_kept v token new Vacant answer cs h k = rw h.1 k
+  exchanged_kept v token new InTurn answer cs h k = rw h.1 k
+  exchanged_kept v token new (Source d) answer cs h k = rw h.1 (tidy_put nobody (Source new) v.slots token.slot v.held.lifecycle refl k)
+
   once_kept : (v : View D P) (R : View D P → List (Change D P) → Type 0) (css : List (List (Change D P))) → Once O R v css
       → ((cs : List (Change D P)) → R v cs → Tidy nobody (all_viewed v cs).slots (all_viewed v cs).held.lifecycle) → Tidy nobody (traced v css).slots (traced v css).held.lifecycle
   once_kept v R [] h f = absurd h
@@ -335,6 +340,7 @@ module _ {D P X Q : Type 0} (M : Meaning D P (Lent X Q)) (O : Outside P) where
   case_kept v (Update token) (Updated answer) css h k = once_kept v (UpdatedBy M token answer) css h (λ cs r. asked_kept v _ _ token answer cs (named v.slots token) (entered_kept token answer) refl r k)
   case_kept v (Disable token) (Disabled answer) css h k = once_kept v (DisabledBy M token answer) css h (λ cs r. asked_kept v _ _ token answer cs (named v.slots token) (left_kept token answer) refl r k)
   case_kept v (RemoveCall token) (Removed answer) css h k = once_kept v (RemovedBy M token answer) css h (λ cs r. removed_kept v token answer cs (named v.slots token) refl r k)
+  case_kept v (Exchange token d) (Exchanged answer) css h k = once_kept v (ExchangedBy token d answer) css h (λ cs r. exchanged_kept v token d (named v.slots token) answer cs r k)
   case_kept v (Dispatch timeout x) (Dispatched answer x') css (inl h) k = rw h.2 k
   case_kept v (Dispatch timeout x) (Dispatched answer x') css (inr h) k = steps_kept v (Beginning (nanos_of timeout) x) (Leaving answer x') css h k
   case_kept v (NewPoller p) (OldPoller q) css h k = rw h.1 k

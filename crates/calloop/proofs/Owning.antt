@@ -22,15 +22,15 @@ use Rattle.calloop_core.specs.Polls.{PollView, PollStep, AllAllowed, with_pass, 
 use Rattle.calloop_core.specs.Holdings.{Hold, Free, Spent, Standing, Keeps, IsBelow, IsWithin}
 use Rattle.calloop_core.specs.Deeds.{Deed, Registered, Reregistered, Unregistered, Turned, Slept, Noticed, Lent, lent}
 use Rattle.calloop_core.specs.Meanings.{Meaning, IsKeeping}
-use Rattle.calloop.specs.Machine.{World, View, IsNew, Registration, Change, Put, Claim, Polls, Polling, Watching, Counting, Holds, Appended, Gathered, Cut, Ended, holding, reused, with_claim, done, all_done, seen, slot_of, AllFit}
+use Rattle.calloop.specs.Machine.{World, View, IsNew, Registration, Change, Put, Claim, Swapped, Polls, Polling, Watching, Counting, Holds, Appended, Gathered, Cut, Ended, holding, reused, with_claim, done, all_done, seen, slot_of, AllFit}
 use Rattle.calloop.specs.declared.loop_logic.LoopCall.{LoopCall}
-use Rattle.calloop.specs.declared.loop_logic.LoopCall.TheVariants.{Insert, Enable, Update, Disable, Remove as RemoveCall, Dispatch, Poller as NewPoller}
+use Rattle.calloop.specs.declared.loop_logic.LoopCall.TheVariants.{Insert, Enable, Update, Disable, Remove as RemoveCall, Exchange, Dispatch, Poller as NewPoller}
 use Rattle.calloop.specs.declared.loop_logic.LoopAnswer.{LoopAnswer}
-use Rattle.calloop.specs.declared.loop_logic.LoopAnswer.TheVariants.{Inserted, Enabled, Updated, Disabled, Removed, Dispatched, Poller as OldPoller}
+use Rattle.calloop.specs.declared.loop_logic.LoopAnswer.TheVariants.{Inserted, Enabled, Updated, Disabled, Removed, Exchanged, Dispatched, Poller as OldPoller}
 use Rattle.calloop.specs.Held.{HeldStep, Listed, Unlisted}
-use Rattle.calloop.specs.Rules.{Doing, Beginning, Sleeping, Waiting, Gathering, Noticing, Cutting, Ending, Returning, Leaving, Step, Steps, SleptAs, SleptBy, NoticedBy, told_in, CutTo, CutFrom, ActedBy, ReturnedTo, emptied, entered, after_turn, after_wait, Outcome, RegisteredBy, Case, Once, Run, InsertedBy, AskedIn, EnabledBy, UpdatedBy, DisabledBy, RemovedIn, RemovedBy, factory_of, all_traced}
+use Rattle.calloop.specs.Rules.{Doing, Beginning, Sleeping, Waiting, Gathering, Noticing, Cutting, Ending, Returning, Leaving, Step, Steps, SleptAs, SleptBy, NoticedBy, told_in, CutTo, CutFrom, ActedBy, ReturnedTo, emptied, entered, after_turn, after_wait, Outcome, RegisteredBy, Case, Once, Run, InsertedBy, AskedIn, EnabledBy, UpdatedBy, DisabledBy, RemovedIn, RemovedBy, ExchangedIn, ExchangedBy, factory_of, all_traced}
 use Rattle.calloop.specs.Ledgers.{Ledger}
-use Rattle.calloop.specs.Laws.{HoldsNone, AllFresh, joined, changes_of}
+use Rattle.calloop.specs.Laws.{HoldsNone, HoldsNoMore, AllFresh, joined, changes_of}
 use Rattle.calloop.proofs.Seen.{seen-all_done}
 use Rattle.calloop.proofs.Noting.{IsNoted, IsGood, IsApart, apart_sym, noted_alike, noted_gathered, noted_appended, noted_cut, good_gathered, good_appended, good_cut, cut_deadlines, done_steps}
 
@@ -243,6 +243,12 @@ module _ {D P X Q : Type 0} (M : Meaning D P (Lent X Q)) (O : Outside P) (law : 
             j e is differ;
       }
 
+-- what is put into a slot last stands there
+put_twice : {D : Type 0} (c e : Content D) (slots : List (Registration D)) (i : ℕ) → changed (holding c) (changed (holding e) slots i) i ≡ changed (holding c) slots i
+put_twice c e [] i = refl
+put_twice c e (r ∷ rs) zero = refl
+put_twice c e (r ∷ rs) (suc i) = ap (λ ss. r ∷ ss) (put_twice c e rs i)
+
 at_under : {D : Type 0} (v : ℕ) (o : Option (Registration D)) (d : D) → content_under v (option_map slot_of o) ≡ Source d → (r : Registration D) × (o ≡ Some r) × (r.content ≡ Source d)
 at_under v None d e = cc
 at_under {D} v (Some r) d e = elim (nat_eq (r.reuse % 65536) v) as (λ b. (if b then r.content else Vacant) ≡ Source d → (r' : Registration D) × (◌≡◌ {A = Option (Registration D)} (Some r) (Some r')) × (r'.content ≡ Source d)) [ true ↦ λ full. (r, refl, full) | false ↦ λ none. cc ] e
@@ -428,6 +434,21 @@ module _ {D P X Q : Type 0} (M : Meaning D P (Lent X Q)) (O : Outside P) (law : 
   fresh_rest [] ds h = h
   fresh_rest (c ∷ cs) ds h = fresh_rest cs ds h.1
 
+  -- another source takes the place of one: that goes out of its slot, and this comes in
+  owned_swapped : (w : World D P) (k : ℕ) (old new : D) → At w.slots k old → HoldsNoMore M old new × M.fits new → IsOwned M w [] → IsOwned M (done w (Swapped k old new)) []
+  owned_swapped w k old new here less h =
+      let out : World D P = done w (Put k InTurn) in
+      let same : changed (holding (Source new)) (changed (holding InTurn) w.slots k) k ≡ changed (holding (Source new)) w.slots k = put_twice (Source new) InTurn w.slots k in
+      subst (λ (slots : List (Registration D)). IsOwned M (record w { slots = slots }) []) same
+      (owned_back M O law out [] k new (owned_polls M O law out [] old new [] tt (λ fits below. (less.1, less.0)) (owned_out M O law w [] k old here h)))
+
+  exchanged_owned : (w : World D P) (token : RegistrationToken) (new : D) (answer : Result D D) (cs : List (Change D P)) (c : Content D) → named (map slot_of w.slots) token ≡ c → AllFresh M cs → ExchangedIn token new c answer cs → IsOwned M w [] → IsOwned M (all_done w cs) []
+  exchanged_owned w token new answer cs Vacant is fresh h k = rw h.1 k
+  exchanged_owned w token new answer cs InTurn is fresh h k = rw h.1 k
+  exchanged_owned w token new answer cs (Source d) is fresh h k =
+      let less : HoldsNoMore M d new × M.fits new = (rw h.1 at fresh).0 in
+      rw h.1 (owned_swapped w token.slot d new (at_named w.slots token d is) less k)
+
   once_owned : (w : World D P) (R : View D P → List (Change D P) → Type 0) (css : List (List (Change D P))) → AllFresh M (joined css) → Once O R (seen w) css → ((cs : List (Change D P)) → AllFresh M cs → R (seen w) cs → AllFit O (seen w) cs → IsOwned M (all_done w cs) []) → IsOwned M (all_traced w css) []
   once_owned w R [] fresh h f = absurd h
   once_owned w R (cs ∷ []) fresh h f = f cs (fresh_first cs [] fresh) h.0 h.1
@@ -445,6 +466,8 @@ module _ {D P X Q : Type 0} (M : Meaning D P (Lent X Q)) (O : Outside P) (law : 
       once_owned w (DisabledBy M token answer) css free h
       (λ cs fresh r fit. asked_owned w _ _ token answer cs (named (map slot_of w.slots) token) (λ d e l u fits below. law d e w.poll (Unregistered answer) l fits below u) refl r fit k)
   case_owned w (RemoveCall token) (Removed answer) css free h k = once_owned w (RemovedBy M token answer) css free h (λ cs fresh r fit. removed_owned w token answer cs (named (map slot_of w.slots) token) refl r fit k)
+  case_owned w (Exchange token d) (Exchanged answer) css free h k =
+      once_owned w (ExchangedBy token d answer) css free h (λ cs fresh r fit. exchanged_owned w token d answer cs (named (map slot_of w.slots) token) refl fresh r k)
   case_owned w (Dispatch timeout x) (Dispatched answer x') css free (inl h) k = rw h.2 k
   case_owned w (Dispatch timeout x) (Dispatched answer x') css free (inr h) k = steps_owned w (Beginning (nanos_of timeout) x) (Leaving answer x') css h k
   case_owned w (NewPoller p) (OldPoller q) css free h k = rw h.1 (owned_same M O law w (done w (Polling p)) [] refl refl refl refl k)

@@ -1,5 +1,5 @@
 -- What becomes of the entry of a source whose registration was tried.
-use Rattle.std.proofs.Common.{◌≡◌, Bool, true, false, ◌&&◌, List, refl, ap, if◌then◌else◌}
+use Rattle.std.proofs.Common.{◌≡◌, Bool, true, false, ◌&&◌, List, ap, if◌then◌else◌}
 use Rattle.calloop_wake.specs.declared.token.RegistrationToken.{RegistrationToken}
 use Rattle.calloop.specs.Held.{Held, Listed, listed, held_after}
 

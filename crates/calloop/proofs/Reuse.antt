@@ -2,8 +2,9 @@
 use Rattle.std.proofs.Common.{◌≡◌, ℕ, suc, zero, ◌+◌, ◌-◌, ◌*◌, ◌/◌, ◌%◌, ◌≤◌, ◌<◌, ◌⊎◌, List, [], ◌∷◌, refl, ap, sym, ◌∙◌, arith, inl, inr, Some, true, false, if◌then◌else◌, slice_get}
 use Rattle.std.proofs.Math.Nat.{mod-add-div}
 use Rattle.calloop_wake.specs.declared.list.Content.{Content}
+use Rattle.calloop_wake.specs.declared.list.Content.TheVariants.{Source}
 use Rattle.calloop_wake.specs.Slots.{changed, is_empty}
-use Rattle.calloop.specs.Machine.{World, Registration, Change, Put, Claim, Polls, Polling, Watching, Counting, Holds, Appended, Gathered, Cut, Ended, holding, reused, with_claim, done, all_done}
+use Rattle.calloop.specs.Machine.{World, Registration, Change, Put, Claim, Swapped, Polls, Polling, Watching, Counting, Holds, Appended, Gathered, Cut, Ended, holding, reused, with_claim, done, all_done}
 use Rattle.calloop.specs.Laws.{NamesLater}
 
 abbrev pub Older : {D : Type 0} → List (Registration D) → ℕ → Registration D → Type 0
@@ -26,6 +27,7 @@ older_claim {D} (x ∷ xs) (suc i) r h =
 
 older_done : {D P : Type 0} (w : World D P) (c : Change D P) (i : ℕ) (r : Registration D) → Older w.slots i r → Older (done w c).slots i r
 older_done w (Put slot content) i r h = older_changed content w.slots slot i r h
+older_done w (Swapped slot old new) i r h = older_changed (Source new) w.slots slot i r h
 older_done w (Claim source) i r h = older_claim w.slots i r h
 older_done w (Polls steps) i r h = h
 older_done w (Polling poller) i r h = h

@@ -18,13 +18,13 @@ use Rattle.calloop_core.specs.declared.sources.PostAction.TheVariants.{Continue,
 use Rattle.calloop_core.specs.Pollers.{Outside}
 use Rattle.calloop_core.specs.Polls.{PollStep}
 use Rattle.calloop.specs.declared.loop_logic.LoopCall.{LoopCall}
-use Rattle.calloop.specs.declared.loop_logic.LoopCall.TheVariants.{Insert, Enable, Update, Disable, Remove as RemoveCall, Dispatch, Poller as NewPoller}
+use Rattle.calloop.specs.declared.loop_logic.LoopCall.TheVariants.{Insert, Enable, Update, Disable, Remove as RemoveCall, Exchange, Dispatch, Poller as NewPoller}
 use Rattle.calloop.specs.declared.loop_logic.LoopAnswer.{LoopAnswer}
-use Rattle.calloop.specs.declared.loop_logic.LoopAnswer.TheVariants.{Inserted, Enabled, Updated, Disabled, Removed, Dispatched, Poller as OldPoller}
+use Rattle.calloop.specs.declared.loop_logic.LoopAnswer.TheVariants.{Inserted, Enabled, Updated, Disabled, Removed, Exchanged, Dispatched, Poller as OldPoller}
 use Rattle.calloop_core.specs.Deeds.{Lent}
 use Rattle.calloop_core.specs.Meanings.{Meaning}
 use Rattle.calloop.specs.Machine.{World, View, Registration, Change, Ended, seen, slot_of, done, all_done}
-use Rattle.calloop.specs.Rules.{Doing, Beginning, Sleeping, Waiting, Gathering, Noticing, Cutting, Ending, Returning, Leaving, Outcome, Step, Steps, SleptAs, SleptBy, NoticedBy, told_in, CutTo, CutFrom, ActedBy, ReturnedTo, emptied, Case, Run, InsertedBy, AskedIn, RemovedIn, EnabledBy, UpdatedBy, DisabledBy, RemovedBy, Once, all_traced}
+use Rattle.calloop.specs.Rules.{Doing, Beginning, Sleeping, Waiting, Gathering, Noticing, Cutting, Ending, Returning, Leaving, Outcome, Step, Steps, SleptAs, SleptBy, NoticedBy, told_in, CutTo, CutFrom, ActedBy, ReturnedTo, emptied, Case, Run, InsertedBy, AskedIn, RemovedIn, EnabledBy, UpdatedBy, DisabledBy, RemovedBy, ExchangedIn, ExchangedBy, Once, all_traced}
 use Rattle.calloop.specs.Held.{HeldStep}
 use Rattle.calloop.specs.Laws.{IsSource, AllRight, joined, changes_of}
 use Rattle.calloop.proofs.Seen.{seen-all_done}
@@ -129,6 +129,11 @@ module _ {D P X Q : Type 0} (M : Meaning D P (Lent X Q)) (O : Outside P) where
   removed_right w token InTurn answer cs h = rw h.1 tt
   removed_right w token (Source d) answer cs h = rw h.5 (tt, (tt, (tt, tt)))
 
+  exchanged_right : (w : World D P) (token : RegistrationToken) (new : D) (c : Content D) (answer : Result D D) (cs : List (Change D P)) → ExchangedIn token new c answer cs → AllRight w cs
+  exchanged_right w token new Vacant answer cs h = rw h.1 tt
+  exchanged_right w token new InTurn answer cs h = rw h.1 tt
+  exchanged_right w token new (Source d) answer cs h = rw h.1 (tt, tt)
+
   right-one : (w : World D P) (cs : List (Change D P)) → AllRight w cs → AllRight w (cs ++ [])
   right-one w cs h = right-append w cs [] h tt
 
@@ -145,6 +150,7 @@ module _ {D P X Q : Type 0} (M : Meaning D P (Lent X Q)) (O : Outside P) where
   case_right w (Update token) (Updated answer) css h = once_right w (UpdatedBy M token answer) css h (λ cs r. asked_right w _ _ token (named (map slot_of w.slots) token) answer cs r)
   case_right w (Disable token) (Disabled answer) css h = once_right w (DisabledBy M token answer) css h (λ cs r. asked_right w _ _ token (named (map slot_of w.slots) token) answer cs r)
   case_right w (RemoveCall token) (Removed answer) css h = once_right w (RemovedBy M token answer) css h (λ cs r. removed_right w token (named (map slot_of w.slots) token) answer cs r)
+  case_right w (Exchange token d) (Exchanged answer) css h = once_right w (ExchangedBy token d answer) css h (λ cs r. exchanged_right w token d (named (map slot_of w.slots) token) answer cs r)
   case_right w (Dispatch timeout x) (Dispatched answer x') css h = elim h [ inl k ↦ rw k.2 tt | inr k ↦ steps_right w _ _ css k ]
   case_right w (NewPoller p) (OldPoller q) css h = rw h.1 (tt, tt)
   case_right w call answer css h = absurd h

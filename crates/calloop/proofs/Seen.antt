@@ -1,10 +1,10 @@
 -- A change of the machine is seen as the change of what the loop holds.
 use Rattle.std.proofs.Common.{◌≡◌, ℕ, ◌+◌, ◌*◌, ◌/◌, ◌%◌, List, [], ◌∷◌, map, refl, ap, sym, ◌∙◌, arith, subst, true, false, if◌then◌else◌}
 use Rattle.std.proofs.Math.Nat.{mod-add-div, add-mul-mod_self_left}
-use Rattle.calloop_wake.specs.declared.list.Content.TheVariants.{InTurn}
+use Rattle.calloop_wake.specs.declared.list.Content.TheVariants.{Source, InTurn}
 use Rattle.calloop_wake.specs.Slots.{claimed, taken_up, is_empty, with_content}
 use Rattle.calloop_wake.proofs.Indexed.{map-changed}
-use Rattle.calloop.specs.Machine.{World, View, Registration, Change, Put, Claim, Polls, Polling, Watching, Counting, Holds, Appended, Gathered, Cut, Ended, seen, slot_of, holding, reused, with_claim, viewed, all_viewed, done, all_done}
+use Rattle.calloop.specs.Machine.{World, View, Registration, Change, Put, Claim, Swapped, Polls, Polling, Watching, Counting, Holds, Appended, Gathered, Cut, Ended, seen, slot_of, holding, reused, with_claim, viewed, all_viewed, done, all_done}
 use Rattle.calloop.specs.Rules.{traced, all_traced, Did, Leads}
 
 -- counted on or wrapped, a reuse count has the same version
@@ -25,6 +25,7 @@ seen-with_claim {D} (r ∷ rs) =
 
 pub seen-done : {D P : Type 0} (w : World D P) (c : Change D P) → seen (done w c) ≡ viewed (seen w) c
 seen-done w (Put slot content) = ap (λ ss. record (seen w) { slots = ss }) (map-changed slot_of (holding content) (with_content content) w.slots slot (λ r. refl))
+seen-done w (Swapped slot old new) = ap (λ ss. record (seen w) { slots = ss }) (map-changed slot_of (holding (Source new)) (with_content (Source new)) w.slots slot (λ r. refl))
 seen-done w (Claim source) = ap (λ ss. record (seen w) { slots = ss }) (seen-with_claim w.slots)
 seen-done w (Polls steps) = refl
 seen-done w (Polling poller) = refl

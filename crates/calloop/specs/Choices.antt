@@ -1,7 +1,6 @@
 -- A choice of sources with the data of its loop, which is a type alone. calloop keeps sources of any type behind a
 -- pointer; here the loop's type names them.
-use Rattle.std.specs.Prelude.{◌≡◌}
-use Rattle.std.proofs.Common.{refl, ap}
+use Rattle.std.proofs.Common.{ap}
 use Rattle.calloop_core.specs.Meanings.{Meaning, IsHeld, seen_as}
 use Rattle.calloop.specs.declared.loop_logic.Sources.{Sources}
 

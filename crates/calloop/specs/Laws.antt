@@ -5,14 +5,14 @@ use Rattle.calloop_wake.specs.declared.list.Content.{Content}
 use Rattle.calloop_wake.specs.declared.list.Content.TheVariants.{Source}
 use Rattle.calloop_core.specs.declared.sys.poll.Pending.{Pending}
 use Rattle.calloop_core.specs.Polls.{PollView}
-use Rattle.calloop_core.specs.Holdings.{Free}
+use Rattle.calloop_core.specs.Holdings.{Free, IsWithin}
 use Rattle.calloop_core.specs.Deeds.{Lent}
 use Rattle.calloop_core.specs.Meanings.{Meaning}
 use Rattle.calloop.specs.Ledgers.{Ledger, Arming, Armed, Origin, Elsewhere, Due, Waiting, Called, entry_in}
 use Rattle.calloop_wake.specs.declared.token.RegistrationToken.{RegistrationToken}
 use Rattle.calloop_wake.specs.Slots.{named, is_empty}
 use Rattle.calloop.specs.Held.{is_listed}
-use Rattle.calloop.specs.Machine.{World, Registration, Change, Claim, Cut, done, all_done, is_free, slot_of}
+use Rattle.calloop.specs.Machine.{World, Registration, Change, Claim, Swapped, Cut, done, all_done, is_free, slot_of}
 
 -- a source stands there that isn't in its turn
 abbrev pub IsSource : {D : Type 0} → Content D → Type 0
@@ -158,10 +158,15 @@ pub record IsKept {P : Type 0} (l : Ledger) (v : PollView P) : Type 0 where
 abbrev pub HoldsNone : {D P X Q : Type 0} → Meaning D P (Lent X Q) → D → Type 0
 HoldsNone m d = (counter : ℕ) → m.holds d counter ≡ Free
 
+-- what takes a source's place holds no counter that this doesn't hold, and each as this holds it
+abbrev pub HoldsNoMore : {D P X Q : Type 0} → Meaning D P (Lent X Q) → (old new : D) → Type 0
+HoldsNoMore m old new = (counter : ℕ) → IsWithin (m.holds new counter) (m.holds old counter)
+
 -- what comes into the loop holds no counter then: each source is used with one loop. One that was taken out holds none any
--- more, so it may come again.
+-- more, so it may come again. A source that is changed in its slot, or exchanged there, holds no more than before.
 abbrev pub IsFresh : {D P X Q : Type 0} → Meaning D P (Lent X Q) → Change D P → Type 0
 IsFresh m (Claim source) = HoldsNone m source × m.fits source
+IsFresh m (Swapped slot old new) = HoldsNoMore m old new × m.fits new
 IsFresh m change = Unit {0}
 
 abbrev pub AllFresh : {D P X Q : Type 0} → Meaning D P (Lent X Q) → List (Change D P) → Type 0

@@ -1,4 +1,7 @@
--- What a loop becomes where its poller was lent through a handle.
+-- What a loop becomes where its poller, or a source of it, was lent through a handle.
+use Rattle.calloop_wake.specs.declared.token.RegistrationToken.{RegistrationToken}
+use Rattle.calloop_wake.specs.declared.list.Content.TheVariants.{Source}
+use Rattle.calloop_wake.specs.Slots.{changed, with_content}
 use Rattle.calloop_core.specs.Lending.{with_poller}
 use Rattle.calloop.specs.declared.loop_logic.EventLoop.{EventLoop}
 use Rattle.calloop.specs.declared.loop_logic.LoopHandle.{LoopHandle}
@@ -8,3 +11,9 @@ with_loop_poller w l = record l { poll = with_poller w l.poll }
 
 abbrev pub with_handle_poller : {D P C R : Type 0} → P → LoopHandle D P C R → LoopHandle D P C R
 with_handle_poller w h = record { inner = record h.inner { now = with_loop_poller w h.inner.now } }
+
+abbrev pub with_loop_source : {D P C R : Type 0} → RegistrationToken → D → EventLoop D P C R → EventLoop D P C R
+with_loop_source token d l = record l { sources = changed (with_content (Source d)) l.sources token.slot }
+
+abbrev pub with_handle_source : {D P C R : Type 0} → RegistrationToken → D → LoopHandle D P C R → LoopHandle D P C R
+with_handle_source token d h = record { inner = record h.inner { now = with_loop_source token d h.inner.now } }

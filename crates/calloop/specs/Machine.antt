@@ -2,7 +2,7 @@
 -- itself also has reuse counts without bound and a ledger of all armings, which calloop keeps nowhere.
 use Rattle.std.specs.Prelude.{◌≡◌, ℕ, ◌+◌, ◌%◌, List, [], ◌∷◌, map, Bool, false, Option, Some, None, slice_get}
 use Rattle.calloop_wake.specs.declared.list.Content.{Content}
-use Rattle.calloop_wake.specs.declared.list.Content.TheVariants.{InTurn}
+use Rattle.calloop_wake.specs.declared.list.Content.TheVariants.{Source, InTurn}
 use Rattle.calloop_wake.specs.declared.list.Slot.{Slot}
 use Rattle.calloop_wake.specs.Slots.{changed, first_changed, with_content, claimed, is_empty}
 use Rattle.calloop_wake.specs.Boards.{IsRising}
@@ -50,6 +50,8 @@ pub data Change (D P : Type 0) : Type 0 where
   Claim : (source : D) → Change D P
   -- another content is put into a slot that isn't vacant
   Put : (slot : ℕ) (content : Content D) → Change D P
+  -- a source is changed in its slot, or another one takes its place there
+  Swapped : (slot : ℕ) (old new : D) → Change D P
   -- a source's steps
   Polls : (steps : List (PollStep P)) → Change D P
   -- the poller changed
@@ -72,6 +74,7 @@ pub data Change (D P : Type 0) : Type 0 where
 -- by what is seen
 abbrev pub viewed : {D P : Type 0} → View D P → Change D P → View D P
 viewed v (Put slot content) = record v { slots = changed (with_content content) v.slots slot }
+viewed v (Swapped slot old new) = record v { slots = changed (with_content (Source new)) v.slots slot }
 viewed v (Claim source) = record v { slots = claimed v.slots }
 viewed v (Polls steps) = record v { poll = polls_after v.poll steps }
 viewed v (Polling poller) = record v { poll = polling poller v.poll }
@@ -104,6 +107,7 @@ with_claim rs = first_changed is_free reused (record { reuse = 0; content = InTu
 
 abbrev pub done : {D P : Type 0} → World D P → Change D P → World D P
 done w (Put slot content) = record w { slots = changed (holding content) w.slots slot }
+done w (Swapped slot old new) = record w { slots = changed (holding (Source new)) w.slots slot }
 done w (Claim source) = record w { slots = with_claim w.slots }
 done w (Polls steps) = record w { poll = polls_after w.poll steps; ledger = steps_noted w.ledger w.poll steps }
 done w (Polling poller) = record w { poll = polling poller w.poll }
@@ -123,10 +127,15 @@ all_done w (c ∷ cs) = all_done (done w c) cs
 abbrev pub IsFull : {D : Type 0} → List (Slot D) → ℕ → Type 0
 IsFull {D} slots i = (s : Slot D) × (slice_get slots i ≡ Some s) × (is_empty s.content ≡ false)
 
--- What every change keeps to: a vacant slot stays vacant until it is claimed, a source's steps can be made, no source makes up
+-- this source stands in this slot
+abbrev pub StandsIn : {D : Type 0} → List (Slot D) → ℕ → D → Type 0
+StandsIn {D} slots i d = (s : Slot D) × (slice_get slots i ≡ Some s) × (s.content ≡ Source d)
+
+-- What every change keeps to: a vacant slot stays vacant until it is claimed, what is exchanged stood there, a source's steps can be made, no source makes up
 -- a posted event, and posted keys ascend. Which they are is the answer of the board, which lies under a lock; calloop has them from the kernel.
 abbrev pub Fits : {D P : Type 0} → Outside P → View D P → Change D P → Type 0
 Fits O v (Put slot content) = IsFull v.slots slot
+Fits O v (Swapped slot old new) = StandsIn v.slots slot old
 Fits O v (Polls steps) = AllAllowed O v.poll steps
 Fits O v (Appended event) = event.posted ≡ false
 Fits O v (Gathered posted given now) = IsRising posted

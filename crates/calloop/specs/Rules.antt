@@ -26,11 +26,11 @@ use Rattle.calloop_core.specs.Events.{events_of}
 use Rattle.calloop_core.specs.Polls.{PollView, PollStep, AllAllowed, own_event, cut, with_pass}
 use Rattle.calloop_core.specs.Waits.{Waited}
 use Rattle.calloop.specs.declared.loop_logic.LoopCall.{LoopCall}
-use Rattle.calloop.specs.declared.loop_logic.LoopCall.TheVariants.{Insert, Enable, Update, Disable, Remove as RemoveCall, Dispatch, Poller as NewPoller}
+use Rattle.calloop.specs.declared.loop_logic.LoopCall.TheVariants.{Insert, Enable, Update, Disable, Remove as RemoveCall, Exchange, Dispatch, Poller as NewPoller}
 use Rattle.calloop.specs.declared.loop_logic.LoopAnswer.{LoopAnswer}
-use Rattle.calloop.specs.declared.loop_logic.LoopAnswer.TheVariants.{Inserted, Enabled, Updated, Disabled, Removed, Dispatched, Poller as OldPoller}
+use Rattle.calloop.specs.declared.loop_logic.LoopAnswer.TheVariants.{Inserted, Enabled, Updated, Disabled, Removed, Exchanged, Dispatched, Poller as OldPoller}
 use Rattle.calloop.specs.Held.{HeldStep, Listed, Unlisted}
-use Rattle.calloop.specs.Machine.{World, View, Change, Put, Claim, Polls, Polling, Watching, Counting, Holds, Appended, Gathered, Cut, Ended, AllFit, all_viewed, all_done, seen}
+use Rattle.calloop.specs.Machine.{World, View, Change, Put, Claim, Swapped, Polls, Polling, Watching, Counting, Holds, Appended, Gathered, Cut, Ended, AllFit, all_viewed, all_done, seen}
 
 -- a factory that has given no token
 abbrev pub factory_of : RegistrationToken → TokenFactory
@@ -110,6 +110,16 @@ RemovedIn {D} {P} M token (Source d) answer v cs =
 
 abbrev pub RemovedBy : {D P X Q : Type 0} → Meaning D P (Lent X Q) → RegistrationToken → Option D → View D P → List (Change D P) → Type 0
 RemovedBy M token answer v cs = RemovedIn M token (named v.slots token) answer v cs
+
+-- another source takes the place of the one that a token names, which is answered: so does who changes it where it stands.
+-- Where the token names none, the other one is handed back.
+abbrev pub ExchangedIn : {D P : Type 0} → RegistrationToken → D → Content D → Result D D → List (Change D P) → Type 0
+ExchangedIn token new Vacant answer cs = (answer ≡ Err new) × (cs ≡ [])
+ExchangedIn token new InTurn answer cs = (answer ≡ Err new) × (cs ≡ [])
+ExchangedIn token new (Source d) answer cs = (answer ≡ Ok d) × (cs ≡ Swapped token.slot d new ∷ [])
+
+abbrev pub ExchangedBy : {D P : Type 0} → RegistrationToken → D → Result D D → View D P → List (Change D P) → Type 0
+ExchangedBy token new answer v cs = ExchangedIn token new (named v.slots token) answer cs
 
 -- what the loop is doing within a dispatch; X is the data that the caller lends
 pub data Doing (D X : Type 0) : Type 0 where
@@ -252,6 +262,7 @@ Case M O (Enable token) (Enabled answer) v css = Once O (EnabledBy M token answe
 Case M O (Update token) (Updated answer) v css = Once O (UpdatedBy M token answer) v css
 Case M O (Disable token) (Disabled answer) v css = Once O (DisabledBy M token answer) v css
 Case M O (RemoveCall token) (Removed answer) v css = Once O (RemovedBy M token answer) v css
+Case M O (Exchange token d) (Exchanged answer) v css = Once O (ExchangedBy token d answer) v css
 Case M O (Dispatch timeout x) (Dispatched answer x') v css = DispatchedBy M O (nanos_of timeout) x answer x' v css
 Case M O (NewPoller p) (OldPoller q) v css = (q ≡ v.poll.poller) × (css ≡ (Polling p ∷ []) ∷ [])
 Case M O call answer v css = ⊥

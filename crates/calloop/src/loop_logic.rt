@@ -46,11 +46,13 @@ pub enum LoopCall<D, P, X> {
     Update(RegistrationToken),
     Disable(RegistrationToken),
     Remove(RegistrationToken),
+    Exchange(RegistrationToken, D),
     Dispatch(Option<Duration>, X),
     Poller(P),
 }
 
-/// What a call answered. A dispatch gives its data back, and a change of the poller the one before.
+/// What a call answered. A dispatch gives its data back, a change of the poller the one before, and an exchange of a source
+/// the one before, or the other one where the token names none.
 #[derive(Drop)]
 pub enum LoopAnswer<D, P, X> {
     Inserted(std::result::Result<RegistrationToken, InsertError<D>>),
@@ -58,6 +60,7 @@ pub enum LoopAnswer<D, P, X> {
     Updated(Result<()>),
     Disabled(Result<()>),
     Removed(Option<D>),
+    Exchanged(std::result::Result<D, D>),
     Dispatched(Result<()>, X),
     Poller(P),
 }

@@ -1,10 +1,13 @@
 //! Lists of calls, as values.
 ghost use Rattle.std.specs.Prelude.{◌≡◌, IfOk, IfErr, OnErr};
+ghost use Rattle.calloop.specs.declared.loop_logic.LoopCall.TheVariants.{Exchange};
+ghost use Rattle.calloop.specs.declared.loop_logic.LoopAnswer.TheVariants.{Exchanged};
 ghost use Rattle.calloop.specs.Machine.{view_of};
 ghost use Rattle.calloop.specs.Rules.{Case, Did, RunLeads};
 
 use super::{EventDispatcher, EventLoop, LoopAnswer, LoopCall};
 use calloop_core::sys::{Clock, Poller};
+use calloop_wake::token::RegistrationToken;
 use std::alloc::Global;
 use std::collections::VecDeque;
 use std::mem;
@@ -25,6 +28,9 @@ impl<D: EventDispatcher<P, C, R>, P: Poller, C: Clock, R: Wait + Drop> EventLoop
             LoopCall::Update(token) => LoopAnswer::Updated(self.update(token)),
             LoopCall::Disable(token) => LoopAnswer::Disabled(self.disable(token)),
             LoopCall::Remove(token) => LoopAnswer::Removed(self.remove(token)),
+            LoopCall::Exchange(token, dispatcher) => {
+                LoopAnswer::Exchanged(self.exchange(token, dispatcher))
+            }
             LoopCall::Dispatch(timeout, data) => {
                 let mut data = data;
                 let answer = self.dispatch(rt, timeout, &mut data);
@@ -33,6 +39,16 @@ impl<D: EventDispatcher<P, C, R>, P: Poller, C: Clock, R: Wait + Drop> EventLoop
             LoopCall::Poller(poller) => {
                 LoopAnswer::Poller(mem::replace(self.poll.poller_mut(), poller))
             }
+        }
+    }
+
+    // Puts another source in the place of the one that the token names. Where it names none, the other one is handed back.
+    fn exchange(&mut self, token: RegistrationToken, dispatcher: D) -> Result<D, D>
+        ensures { Did (Case D.means P.outside (Exchange token dispatcher) (Exchanged result)) (view_of self.old) (view_of self.new) }
+    {
+        match self.sources.get_mut(token) {
+            Ok(held) => Ok(mem::replace(held, dispatcher)),
+            Err(_) => Err(dispatcher),
         }
     }
 

@@ -3,11 +3,11 @@ ghost use Rattle.std.specs.Prelude.{◌≡◌, ◌↔◌, None, Ok, Err, IfOk, I
 ghost use Rattle.calloop_wake.specs.declared.error.Error.TheVariants.{InvalidToken};
 ghost use Rattle.calloop_wake.specs.declared.list.Content.TheVariants.{Source};
 ghost use Rattle.calloop_wake.specs.Slots.{named as named_by, source_of};
-ghost use Rattle.std.specs.Borrow.{Lends, sem};
+ghost use Rattle.std.specs.Borrow.{Lends, LendsIfOk, sem};
 ghost use Rattle.std.specs.Prelude.{[]};
 ghost use mir.Syntax.{named};
 ghost use Rattle.calloop.specs.contracts.loop_logic.LoopHandle.{the_row};
-ghost use Rattle.calloop.specs.Lending.{with_handle_poller};
+ghost use Rattle.calloop.specs.Lending.{with_handle_poller, with_handle_source};
 ghost use Rattle.calloop.specs.declared.loop_logic.LoopCall.TheVariants.{Insert, Enable, Update, Disable, Remove};
 ghost use Rattle.calloop.specs.declared.loop_logic.LoopAnswer.TheVariants.{Inserted, Enabled, Updated, Disabled, Removed};
 ghost use Rattle.calloop.specs.Machine.{view_of};
@@ -177,6 +177,22 @@ impl<D: EventDispatcher<P, C, R>, P: Poller, C: Clock, R: Wait + Drop> LoopHandl
         ensures err { IfErr result (λ e. e ≡ InvalidToken) }
     {
         self.inner.sources.get(*token)
+    }
+
+    /// The source that the token names, with its callback, to be changed in its slot. Where it names none the answer is
+    /// `InvalidToken`.
+    ///
+    /// The loop learns of a change at the next `update`: a timer that is given another deadline fires at the one it was registered
+    /// with before. Another source can be put in the place of this one. It then stands there with what it holds, and the one
+    /// before isn't unregistered: that no timer fires twice for one arming is promised of loops into which none is put that
+    /// holds a timer which the one before didn't hold.
+    pub fn dispatcher_mut(&mut self, token: &RegistrationToken) -> Result<&mut D>
+        ensures* writes_back { sem 𝓛 (LendsIfOk (the_row (record { mir = named 1; lft = [] }) D.row P.row C.row R.row) D.row self.entry result (λ w. with_handle_source token.now w self.old) self.old) }
+        ensures ok { IfOk result (λ held. named_by (view_of self.old.inner.now).slots token.now ≡ Source held.now) }
+        ensures refuses { IsErr result ↔ (source_of (named_by (view_of self.old.inner.now).slots token.now) ≡ None) }
+        ensures err { IfErr result (λ e. e ≡ InvalidToken) }
+    {
+        self.inner.sources.get_mut(*token)
     }
 
     /// Registers the source that the token names, with tokens of a new factory, as after `disable`.

@@ -1,9 +1,6 @@
-use Rattle.std.proofs.Common.{◌≡◌, List, refl, ap, ◌∙◌, None, Ok, Err}
-use Rattle.calloop_wake.specs.declared.list.Slot.{Slot}
+use Rattle.std.proofs.Common.{◌≡◌, refl, ap, ◌∙◌, None, Ok, Err}
 use Rattle.calloop_core.specs.declared.sources.PostAction.{PostAction}
 use Rattle.calloop_core.specs.declared.sources.PostAction.TheVariants.{Continue, Reregister, Disable, Remove}
-use Rattle.calloop_wake.specs.declared.error.Error.{Error}
-use Rattle.std.proofs.Common.{Result}
 use Rattle.calloop_core.specs.Deeds.{Reregistered, Unregistered}
 use Rattle.calloop_core.specs.Polls.{PollView, poll_view, with_pass}
 use Rattle.calloop.specs.Machine.{View, view_of}

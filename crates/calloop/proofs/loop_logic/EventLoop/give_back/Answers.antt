@@ -1,6 +1,5 @@
-use Rattle.std.proofs.Common.{◌≡◌, ap, ◌∙◌, sym, true, false, Bool, Some, None, if◌then◌else◌}
-use Rattle.calloop_wake.specs.declared.list.Content.TheVariants.{Source}
-use Rattle.calloop_wake.specs.Slots.{after_turn as ended, changed, with_content, named, is_in_turn}
+use Rattle.std.proofs.Common.{◌≡◌, ap, ◌∙◌}
+use Rattle.calloop_wake.specs.Slots.{named, is_in_turn}
 use Rattle.calloop_core.specs.Polls.{poll_view}
 use Rattle.calloop.specs.Machine.{View, view_of}
 use Rattle.calloop.proofs.Going.{returned, gone, batch-stepped, was_in_turn, not_in_turn}

@@ -1,4 +1,4 @@
-use Rattle.std.proofs.Common.{◌≡◌, ◌&&◌, true, inr, refl, sym, ap, ◌∙◌}
+use Rattle.std.proofs.Common.{◌&&◌, true, inr, ap, ◌∙◌}
 use Rattle.calloop_core.specs.Polls.{PollView, poll_view}
 use Rattle.calloop.specs.Held.{Held, Listed, held_after}
 use Rattle.calloop.specs.Machine.{View, view_of}

@@ -1,4 +1,4 @@
-use Rattle.std.proofs.Common.{◌≡◌, sym, Some, None}
+use Rattle.std.proofs.Common.{◌≡◌, sym}
 use Rattle.calloop_wake.specs.declared.list.Content.TheVariants.{Source}
 use Rattle.calloop_wake.specs.Slots.{named}
 use Rattle.calloop_wake.proofs.Named.{source_is}

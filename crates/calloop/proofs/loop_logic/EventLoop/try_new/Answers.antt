@@ -1,4 +1,4 @@
-use Rattle.std.proofs.Common.{◌≡◌, [], List, refl, sym, ap, ◌∙◌, None}
+use Rattle.std.proofs.Common.{[], List, refl, sym, ap, ◌∙◌, None}
 use Rattle.calloop_wake.specs.declared.list.Slot.{Slot}
 use Rattle.calloop_wake.specs.declared.token.RegistrationToken.{RegistrationToken}
 use Rattle.calloop.specs.Held.{Held}

@@ -1,5 +1,4 @@
-use Rattle.std.proofs.Common.{◌≡◌, ◌*◌, ◌+◌, ◌<◌, ◌≤◌, ◌⊎◌, inl, inr, ℕ, Bool, true, false, List, [], ◌∷◌, Some, None, refl, sym, ap, ◌∙◌, ◌%◌, arith, slice_get}
-use Rattle.calloop_wake.specs.declared.token.Token.{Token}
+use Rattle.std.proofs.Common.{◌≡◌, inl, inr, ℕ, Bool, true, false, List, refl, sym, ap, ◌∙◌, ◌%◌, arith, slice_get}
 use Rattle.calloop.specs.Machine.{Registration}
 use Rattle.calloop.specs.Wrong.{first_token, first_registration, used, given_up}
 use Rattle.calloop.proofs.loop_logic.laws.wrong_runs_are_ruled_out.Goals as goal

@@ -1,4 +1,4 @@
-use Rattle.std.proofs.Common.{rules, ◌≡◌}
+use Rattle.std.proofs.Common.{rules}
 use Rattle.std.proofs.lemmas.Fn.{filter_same}
 use Rattle.calloop.specs.Held.{is_another}
 use Rattle.calloop.proofs.loop_logic.lifecycle.Lifecycle.leave.Goals as goal
