@@ -12,6 +12,7 @@ use lifecycle::Lifecycle;
 use std::marker::PhantomData;
 use std::sync::Wait;
 use std::time::Duration;
+use warnings::Warnings;
 
 mod calls;
 mod dispatch;
@@ -20,6 +21,7 @@ mod laws;
 mod lifecycle;
 mod registering;
 mod telling;
+mod warnings;
 
 pub use laws::{once, wrong_runs_are_ruled_out};
 
@@ -30,6 +32,7 @@ pub struct EventLoop<D, P, C, R: Wait + Drop> {
     sources: SourceList<D>,
     poll: Poll<P, C, R>,
     lifecycle: Lifecycle,
+    warnings: Warnings,
 }
 
 /// The calls on a loop that act at once. It is lent by the loop.

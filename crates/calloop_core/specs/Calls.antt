@@ -3,7 +3,7 @@
 use Rattle.std.specs.Prelude.{◌≡◌, ◌⊎◌, List, [], ◌∷◌, Result, Ok, Err}
 use Rattle.anyhow.specs.declared.error.Error.{Error as Cause}
 use Rattle.calloop_wake.specs.declared.error.Error.{Error}
-use Rattle.calloop_wake.specs.declared.error.Error.TheVariants.{OtherError, OutOfMemory}
+use Rattle.calloop_wake.specs.declared.error.Error.TheVariants.{InvalidToken, IoError, OtherError, OutOfMemory, TooManySources, TooManyTokens, TooManyTimers}
 
 -- one call: the event, the metadata before and after it, and what the callback answered
 pub record Call (E M T : Type 0) : Type 0 where
@@ -25,10 +25,24 @@ Went {F} {E} {M} {T} {X} {Q} may reaches f x q (c ∷ cs) g y r =
     (f' : F) × (x' : X) × (q' : Q) × may f c.event c.before x q c.answer f' c.after x' q' × reaches q q'
     × Went may reaches f' x' q' cs g y r
 
+-- another failure, of which the text is kept
+abbrev pub IsOther : Error → Type 0
+IsOther e = (cause : Cause) × (e ≡ OtherError cause)
+
 -- an error that is of a source: its own failure, or want of memory. calloop has `OtherError` alone, since it aborts
 -- there.
 abbrev pub IsOfSource : Error → Type 0
-IsOfSource e = ((cause : Cause) × (e ≡ OtherError cause)) ⊎ (e ≡ OutOfMemory)
+IsOfSource e = IsOther e ⊎ (e ≡ OutOfMemory)
+
+-- an error of the loop where a source answers it: one that is of no source becomes another failure
+abbrev pub AsOfSource : Error → Error → Type 0
+AsOfSource (OtherError cause) e = e ≡ OtherError cause
+AsOfSource OutOfMemory e = e ≡ OutOfMemory
+AsOfSource InvalidToken e = IsOther e
+AsOfSource (IoError cause) e = IsOther e
+AsOfSource TooManySources e = IsOther e
+AsOfSource TooManyTokens e = IsOther e
+AsOfSource TooManyTimers e = IsOther e
 
 -- the answer of a source, with its error as the loop's
 abbrev pub Becomes : {A Cause : Type 0} → (Cause → Error → Type 0) → Result A Cause → Result A Error → Type 0

@@ -1,14 +1,14 @@
 -- Proofs that the dispatchers of the library meet the laws of `Meanings`. They define nothing; impls cite them, so
 -- they stand here.
-use Rattle.std.specs.Prelude.{◌≡◌, ◌↔◌, ℕ, List, [], ◌∷◌, Result, Ok, Err}
+use Rattle.std.specs.Prelude.{◌≡◌, ◌↔◌, List, [], ◌∷◌, Result, Ok, Err}
 use Rattle.std.proofs.Common.{refl, sym, ap, ◌∙◌, inl, inr}
 use Rattle.anyhow.specs.declared.error.Error.{Error as Cause}
 use Rattle.calloop_wake.specs.declared.error.Error.{Error}
-use Rattle.calloop_wake.specs.declared.error.Error.TheVariants.{OtherError, OutOfMemory}
+use Rattle.calloop_wake.specs.declared.error.Error.TheVariants.{InvalidToken, IoError, OtherError, OutOfMemory, TooManySources, TooManyTokens, TooManyTimers}
 use Rattle.calloop_core.specs.declared.sources.OneOf.{OneOf}
 use Rattle.calloop_core.specs.declared.sources.OneOf.TheVariants.{First, Other}
-use Rattle.calloop_core.specs.Polls.{PollView, PollStep}
-use Rattle.calloop_core.specs.Calls.{Call, Calling, Went, Becomes, IsOfSource}
+use Rattle.calloop_core.specs.Polls.{PollView}
+use Rattle.calloop_core.specs.Calls.{Call, Calling, Went, Becomes, IsOther, IsOfSource, AsOfSource}
 use Rattle.calloop_core.specs.Deeds.{Deed, Registered, Reregistered, Unregistered, Turned, Slept, Noticed}
 use Rattle.calloop_core.specs.Deeds.{Heard, Lent}
 use Rattle.calloop_core.specs.Meanings.{Meaning, IsKeeping, IsAsking, FailsAsSource, IsHeld}
@@ -21,6 +21,18 @@ other_of_source cause e is = inl (cause, is)
 
 pub memory_of_source : (e : Error) → e ≡ OutOfMemory → IsOfSource e
 memory_of_source e is = inr is
+
+pub any_other_of_source : (e : Error) → IsOther e → IsOfSource e
+any_other_of_source e is = inl is
+
+pub as_of_source : (refusal e : Error) → AsOfSource refusal e → IsOfSource e
+as_of_source (OtherError cause) e is = inl (cause, is)
+as_of_source OutOfMemory e is = inr is
+as_of_source InvalidToken e is = inl is
+as_of_source (IoError cause) e is = inl is
+as_of_source TooManySources e is = inl is
+as_of_source TooManyTokens e is = inl is
+as_of_source TooManyTimers e is = inl is
 
 -- Of what does nothing to `Poll`.
 

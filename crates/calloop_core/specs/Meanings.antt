@@ -1,7 +1,7 @@
 -- What a source or a dispatcher means: a relation between what it is before a call, what the call read of `Poll`,
 -- what was done, the steps that it made there, and what it is after it. calloop's `EventSource` and
 -- `EventDispatcher`, seen from outside; calloop promises nothing of them.
-use Rattle.std.specs.Prelude.{◌≡◌, ◌↔◌, ℕ, List, [], Bool, true, false, Result, Err}
+use Rattle.std.specs.Prelude.{◌≡◌, ◌↔◌, ℕ, List, [], Bool, true, false, Err}
 use Rattle.calloop_wake.specs.declared.error.Error.{Error}
 use Rattle.calloop_wake.specs.declared.token.Token.{Token}
 use Rattle.calloop_core.specs.declared.sys.Readiness.{Readiness}

@@ -191,6 +191,46 @@ pub struct Dispatcher<S, F> {
     pub callback: F,
 }
 
+impl<S, F> Dispatcher<S, F> {
+    ghost use Rattle.std.specs.Prelude.{◌≡◌};
+    ghost use Rattle.std.specs.Borrow.{Lends, sem};
+    ghost use Rattle.calloop_core.specs.Lending.{with_source};
+    ghost use Rattle.calloop_core.specs.contracts.sources.Dispatcher.{the_row};
+
+    pub fn new(source: S, callback: F) -> Dispatcher<S, F>
+        ensures { result ≡ record { source = source; callback = callback } }
+    {
+        Dispatcher { source, callback }
+    }
+
+    pub fn as_source_ref(&self) -> &S
+        ensures { result.now ≡ self.now.source }
+    {
+        &self.source
+    }
+
+    /// The source, to be changed.
+    pub fn as_source_mut(&mut self) -> &mut S
+        ensures* writes_back { sem 𝓛 (Lends (the_row S.row F.row) S.row self.entry result (λ s. with_source s self.old)) }
+        ensures value { result.now ≡ self.old.source }
+    {
+        &mut self.source
+    }
+
+    /// The source; its callback is dropped.
+    pub fn into_source_inner(self) -> S
+    where
+        F: Drop,
+        ensures { result ≡ self.source }
+    {
+        let Dispatcher {
+            source,
+            callback: _,
+        } = self;
+        source
+    }
+}
+
 /// What a loop calls: a source with its callback, or a choice of such. `X` is the data that a dispatch lends, and `Q` takes
 /// the requests of callbacks.
 pub trait Dispatch<P: Poller, C, R: Wait + Drop, X, Q: Asking> {

@@ -8,6 +8,7 @@ ghost use Rattle.calloop.specs.Machine.{World, IsNew, seen, view_of};
 ghost use Rattle.calloop.specs.Rules.{Case, Did, Leads, Goes, Cutting, Ending, Returning, Leaving, Outcome, after_turn, after_hand_out};
 
 use super::lifecycle::Lifecycle;
+use super::warnings::Warnings;
 use super::{EventDispatcher, EventLoop, LoopHandle, Requests};
 use calloop_core::sources::PostAction;
 use calloop_core::sys::poll::Poll;
@@ -31,6 +32,7 @@ impl<D: EventDispatcher<P, C, R>, P: Poller, C: Clock, R: Wait + Drop> EventLoop
             sources: SourceList::new(alloc),
             poll: Poll::new(rt.clone()?, alloc, poller, clock)?,
             lifecycle: Lifecycle::new(alloc),
+            warnings: Warnings::new(alloc),
         })
     }
 
@@ -48,7 +50,7 @@ impl<D: EventDispatcher<P, C, R>, P: Poller, C: Clock, R: Wait + Drop> EventLoop
     /// Want of memory for the batch changes nothing. A fault of the wait is `IoError`, and leaves posted keys
     /// posted. The error of a turn ends the dispatch; the rest of the batch comes first in the next one. After its turn a
     /// source is registered anew, unregistered, or leaves its slot, as it answered; a refusal of the first two is an error
-    /// of the turn. One that left its slot is unregistered last; a failure of that is not answered.
+    /// of the turn. One that left its slot is unregistered last; a failure of that is a warning. The warnings of before are cleared.
     pub fn dispatch<Q: Wait>(
         &mut self,
         rt: &Q,
@@ -59,6 +61,7 @@ impl<D: EventDispatcher<P, C, R>, P: Poller, C: Clock, R: Wait + Drop> EventLoop
         ensures machine { Leads (Case D.means P.outside (Dispatch timeout «data».old) (Dispatched result «data».new)) (view_of self.old) (view_of self.new) }
     {
         self.poll.reserve(self.lifecycle.len())?;
+        self.warnings.clear();
         self.tell_of_wait()?;
         let from = self.poll.waiting();
         self.poll.poll(rt, timeout)?;
@@ -109,7 +112,8 @@ impl<D: EventDispatcher<P, C, R>, P: Poller, C: Clock, R: Wait + Drop> EventLoop
         }
     }
 
-    // Puts a source back into its slot. One whose slot isn't in its turn any more is unregistered and dropped.
+    // Puts a source back into its slot. One whose slot isn't in its turn any more is unregistered and dropped; a failure of
+    // that is a warning.
     fn give_back(&mut self, token: RegistrationToken, source: D)
         ensures machine { (told : Outcome) (x : D.Data) → Goes D.means P.outside (Returning token source told x) (after_turn told x) (view_of self.old) (view_of self.new) }
         ensures batch { self.new.poll.batch.events ≡ self.old.poll.batch.events }
@@ -117,7 +121,8 @@ impl<D: EventDispatcher<P, C, R>, P: Poller, C: Clock, R: Wait + Drop> EventLoop
         let Some(mut left) = self.sources.end_turn(token, source) else {
             return;
         };
-        let _ = self.unregister(token, &mut left);
+        let told = self.unregister(token, &mut left);
+        self.warnings.note(told);
     }
 
     // The post action of a turn; after an error there is none. `Remove` empties the source's slot.

@@ -125,13 +125,14 @@ impl<D: EventDispatcher<P, C, R>, P: Poller, C: Clock, R: Wait + Drop> EventLoop
         answer
     }
 
-    // Takes the source that the token names out of the loop.
+    // Takes the source that the token names out of the loop. A failure of the unregistration is a warning.
     pub(super) fn remove(&mut self, token: RegistrationToken) -> Option<D>
         ensures { Did (Case D.means P.outside (Remove token) (Removed result)) (view_of self.old) (view_of self.new) }
     {
         let mut source = self.sources.begin_turn(token)?;
         self.sources.vacate(token);
-        let _ = self.unregister(token, &mut source);
+        let told = self.unregister(token, &mut source);
+        self.warnings.note(told);
         Some(source)
     }
 }
@@ -228,7 +229,7 @@ impl<D: EventDispatcher<P, C, R>, P: Poller, C: Clock, R: Wait + Drop> LoopHandl
     }
 
     /// Takes the source that the token names out of the loop, and hands it back unregistered. Its slot is vacant, and the
-    /// token names nothing from then on. A failure of the unregistration is not answered.
+    /// token names nothing from then on. A failure of the unregistration is a warning.
     ///
     /// Where the token names no source the answer is `None`, and nothing changes.
     pub fn remove(&mut self, token: RegistrationToken) -> Option<D>
@@ -237,6 +238,14 @@ impl<D: EventDispatcher<P, C, R>, P: Poller, C: Clock, R: Wait + Drop> LoopHandl
         ensures machine { Leads (Case D.means P.outside (Remove token) (Removed result)) (view_of self.old.inner.now) (view_of self.new.inner.now) }
     {
         self.inner.remove(token)
+    }
+
+    /// Why sources that left the loop failed to take their registration back, since the last dispatch began: those that were
+    /// removed, and those that left it at the end of their turn. Where there was no memory for one, it is missing.
+    pub fn warnings(&self) -> &[Error]
+        ensures { result.now ≡ self.now.inner.now.warnings.errors.items }
+    {
+        self.inner.warnings.as_slice()
     }
 
     /// The poller itself, as to give a scripted one its answers. Pings wake the poller that the loop was made with: another one in

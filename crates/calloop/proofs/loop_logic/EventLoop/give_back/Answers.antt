@@ -16,8 +16,8 @@ returns-clause-machine g c told x =
     let ss = c.args.self.now.sources in
     let there = not_in_turn (is_in_turn (named ss c.args.token)) c.args.source c.in-Some.left c.in-Some.ensures.value in
     let ss' : c.end_turn.new.self ≡ ss = rw there.0 at c.in-Some.ensures.list in
-    gone g.D.Dispatch.means g.P.Poller.outside c.args.token (view_of c.args.self.now) (view_of c.unregister.new.self) c.args.source c.unregister.new.source told c.unregister.result x there.0
-    (rw (there.1, ss') at c.unregister.ensures)
+    gone g.D.Dispatch.means g.P.Poller.outside c.args.token (view_of c.args.self.now) (view_of c.unregister-told.new.self) c.args.source c.unregister-told.new.source told c.unregister-told.result x there.0
+    (rw (there.1, ss') at c.unregister-told.ensures)
 
 pub returns-clause-batch : goal.returns-clause-batch
-returns-clause-batch g c = ap (λ (u : View g.row.D.Denot g.row.P.Denot). u.poll.batch) c.unregister.ensures.3 ∙ batch-stepped (poll_view c.args.self.now.poll) c.unregister.ensures.0
+returns-clause-batch g c = ap (λ (u : View g.row.D.Denot g.row.P.Denot). u.poll.batch) c.unregister-told.ensures.3 ∙ batch-stepped (poll_view c.args.self.now.poll) c.unregister-told.ensures.0

@@ -1,0 +1,43 @@
+//! What went wrong where nothing could be answered: a source that left the loop failed to take its registration back.
+ghost use Rattle.std.specs.Prelude.{◌≡◌, ◌⊎◌, ◌++◌, ◌∷◌, [], Ok, IfErr};
+
+use calloop_wake::error::{Error, Result};
+use std::alloc::Global;
+
+/// In the order in which they came. Each is kept where there is memory for it.
+#[derive(Drop)]
+pub(super) struct Warnings {
+    errors: Vec<Error>,
+}
+
+impl Warnings {
+    pub(super) fn new(alloc: Global) -> Warnings
+        ensures { result.errors.items ≡ [] }
+    {
+        Warnings {
+            errors: Vec::new(alloc),
+        }
+    }
+
+    // Keeps the error of what was told, where it failed.
+    pub(super) fn note(&mut self, told: Result<()>)
+        ensures fine { told ≡ Ok tt → self.new.errors.items ≡ self.old.errors.items }
+        ensures failed { IfErr told (λ e. (self.new.errors.items ≡ self.old.errors.items ++ e ∷ []) ⊎ (self.new.errors.items ≡ self.old.errors.items)) }
+    {
+        if let Err(error) = told {
+            let _ = self.errors.push(error);
+        }
+    }
+
+    pub(super) fn clear(&mut self)
+        ensures { self.new.errors.items ≡ [] }
+    {
+        self.errors.clear();
+    }
+
+    pub(super) fn as_slice(&self) -> &[Error]
+        ensures { result.now ≡ self.now.errors.items }
+    {
+        self.errors.as_slice()
+    }
+}

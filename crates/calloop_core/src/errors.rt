@@ -1,0 +1,36 @@
+//! What fails in a source of one's own, as an error of the loop.
+use crate::sources::IntoError;
+use calloop_wake::error::Error;
+use std::io;
+
+impl IntoError for io::Error {
+    ghost use Rattle.calloop_core.specs.Calls.{IsOther};
+    ghost use Rattle.calloop_core.specs.Lawful.{any_other_of_source};
+
+    ghost becomes = { λ _ e. IsOther e };
+
+    ghost of_source = { λ _ e is. any_other_of_source e is };
+
+    /// An `OtherError` with its text.
+    fn into_error(self) -> Error {
+        Error::OtherError(anyhow::Error::from(self))
+    }
+}
+
+impl IntoError for Error {
+    ghost use Rattle.calloop_core.specs.Calls.{AsOfSource};
+    ghost use Rattle.calloop_core.specs.Lawful.{as_of_source};
+
+    ghost becomes = { AsOfSource };
+
+    ghost of_source = { as_of_source };
+
+    /// An `OtherError` and want of memory stay what they are. Each other one, which is the loop's own, becomes an `OtherError`
+    /// with its text.
+    fn into_error(self) -> Error {
+        match self {
+            Error::OtherError(_) | Error::OutOfMemory => self,
+            refusal => Error::OtherError(anyhow::Error::from(refusal)),
+        }
+    }
+}
