@@ -1,15 +1,15 @@
--- A choice of sources with the data of its loop, which is a type alone. calloop keeps sources of any type behind a
+-- A choice of sources with the data and the idles of its loop, which are types alone. calloop keeps sources of any type behind a
 -- pointer; here the loop's type names them.
 use Rattle.std.proofs.Common.{ap}
 use Rattle.calloop_core.specs.Meanings.{Meaning, IsHeld, seen_as}
 use Rattle.calloop.specs.declared.loop_logic.Sources.{Sources}
 
-abbrev pub with_data : {A X : Type 0} → A → Sources A X
-with_data a = record { held = a; of = record {} }
+abbrev pub with_data : {A X I : Type 0} → A → Sources A X I
+with_data a = record { held = a; of = record {}; idles = record {} }
 
 -- The proof that it means what it holds, which an impl cites.
-pub held_with_data : {D A P T X : Type 0} (held : D → A) (m : Meaning D P T) (n : Meaning A P T) → IsHeld held m n
-    → IsHeld (λ d. with_data {X = X} (held d)) m (seen_as (λ s. s.held) n)
+pub held_with_data : {D A P T X I : Type 0} (held : D → A) (m : Meaning D P T) (n : Meaning A P T) → IsHeld held m n
+    → IsHeld (λ d. with_data {X = X} {I = I} (held d)) m (seen_as (λ s. s.held) n)
 held_with_data held m n h =
     record {
       holds = λ s. h.holds s;

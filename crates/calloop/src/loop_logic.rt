@@ -1,4 +1,5 @@
 //! The loop, and what it asks of the caller's sources.
+use calloop_core::idles::IdleCallback;
 use calloop_core::sources::{
     Asking, Callback, Dispatch, Dispatcher, EventSource, Hold, PostAction,
 };
@@ -100,35 +101,40 @@ pub trait EventDispatcher<P: Poller, C, R: Wait + Drop>: Dispatch<
     + Sized {
     /// What a dispatch lends to each callback.
     type Data;
+
+    /// What the loop can be asked to call once. There is nothing yet by which it is asked.
+    type Idle: IdleCallback<<Self as EventDispatcher<P, C, R>>::Data, Requests<Self>> + Drop;
 }
 
 /// A choice of sources, each with its callback, for a loop whose dispatches lend an `X`. A loop over pings and timers is one
-/// over `Sources<OneOf<Dispatcher<PingSource<R>, F>, Dispatcher<Timer, G>>, X>`.
+/// over `Sources<OneOf<Dispatcher<PingSource<R>, F>, Dispatcher<Timer, G>>, X>`. `I` is what it can be asked to call once.
 #[derive(Drop)]
-pub struct Sources<A, X> {
+pub struct Sources<A, X, I = ()> {
     pub held: A,
     of: PhantomData<X>,
+    idles: PhantomData<I>,
 }
 
-impl<A, X> Sources<A, X> {
+impl<A, X, I> Sources<A, X, I> {
     ghost use Rattle.std.specs.Prelude.{◌≡◌};
     ghost use Rattle.calloop.specs.Choices.{with_data};
 
     /// One that holds this.
-    pub fn new(held: A) -> Sources<A, X>
+    pub fn new(held: A) -> Sources<A, X, I>
         ensures { result ≡ with_data held }
     {
         Sources {
             held,
             of: PhantomData,
+            idles: PhantomData,
         }
     }
 }
 
-impl<P: Poller, C, R: Wait + Drop, A, X> Dispatch<P, C, R, X, Requests<Sources<A, X>>>
-    for Sources<A, X>
+impl<P: Poller, C, R: Wait + Drop, A, X, I> Dispatch<P, C, R, X, Requests<Sources<A, X, I>>>
+    for Sources<A, X, I>
 where
-    A: Dispatch<P, C, R, X, Requests<Sources<A, X>>>,
+    A: Dispatch<P, C, R, X, Requests<Sources<A, X, I>>>,
 {
     ghost use Rattle.calloop_core.specs.Meanings.{seen_as};
     ghost use Rattle.calloop_core.specs.Lawful.{keeping_seen, asking_seen, failing_seen};
@@ -153,7 +159,7 @@ where
         token: Token,
         poll: &mut Poll<P, C, R>,
         data: &mut X,
-        requests: &mut Requests<Sources<A, X>>,
+        requests: &mut Requests<Sources<A, X, I>>,
     ) -> Result<PostAction> {
         self.held
             .process_events(readiness, token, poll, data, requests)
@@ -173,38 +179,41 @@ where
 
     ghost keeps = { keeping_seen (λ s. s.held) A.means A.keeps };
 
-    ghost asks = { asking_seen (λ s. s.held) ⟦<Requests<Sources<A, X>> as Asking>⟧.reaches A.means A.asks };
+    ghost asks = { asking_seen (λ s. s.held) ⟦<Requests<Sources<A, X, I>> as Asking>⟧.reaches A.means A.asks };
 
     ghost fails = { failing_seen (λ s. s.held) A.means A.fails };
 }
 
-impl<P: Poller, C, R: Wait + Drop, A, X> EventDispatcher<P, C, R> for Sources<A, X>
+impl<P: Poller, C, R: Wait + Drop, A, X, I> EventDispatcher<P, C, R> for Sources<A, X, I>
 where
-    A: Dispatch<P, C, R, X, Requests<Sources<A, X>>> + Drop,
+    A: Dispatch<P, C, R, X, Requests<Sources<A, X, I>>> + Drop,
+    I: IdleCallback<X, Requests<Sources<A, X, I>>> + Drop,
 {
     type Data = X;
+
+    type Idle = I;
 }
 
-impl<S, F, P: Poller, C, R: Wait + Drop, A, X, N> Hold<S, F, P, C, R, X, Requests<Sources<A, X>>, N>
-    for Sources<A, X>
+impl<S, F, P: Poller, C, R: Wait + Drop, A, X, I, N> Hold<S, F, P, C, R, X, Requests<Sources<A, X, I>>, N>
+    for Sources<A, X, I>
 where
     S: EventSource<P, C, R>,
-    F: Callback<S::Event, S::Metadata, S::Ret, X, Requests<Sources<A, X>>>,
-    A: Hold<S, F, P, C, R, X, Requests<Sources<A, X>>, N>,
+    F: Callback<S::Event, S::Metadata, S::Ret, X, Requests<Sources<A, X, I>>>,
+    A: Hold<S, F, P, C, R, X, Requests<Sources<A, X, I>>, N>,
 {
     ghost use Rattle.std.specs.Prelude.{◌≡◌};
     ghost use Rattle.calloop.specs.Choices.{with_data, held_with_data};
 
     ghost held = { λ d. with_data (A.held d) };
 
-    fn hold(dispatcher: Dispatcher<S, F>) -> Sources<A, X>
+    fn hold(dispatcher: Dispatcher<S, F>) -> Sources<A, X, I>
         ensures { result ≡ with_data (A.held dispatcher) }
     {
         Sources::new(A::hold(dispatcher))
     }
 
     ghost held_means = { held_with_data A.held
-        ⟦<Dispatcher<S, F> as Dispatch<P, C, R, X, Requests<Sources<A, X>>>>⟧.means
-        ⟦<A as Dispatch<P, C, R, X, Requests<Sources<A, X>>>>⟧.means
+        ⟦<Dispatcher<S, F> as Dispatch<P, C, R, X, Requests<Sources<A, X, I>>>>⟧.means
+        ⟦<A as Dispatch<P, C, R, X, Requests<Sources<A, X, I>>>>⟧.means
         A.held_means };
 }

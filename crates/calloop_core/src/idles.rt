@@ -1,0 +1,23 @@
+//! What a loop is asked to do once, when nothing else is left to do.
+ghost use Rattle.std.specs.Prelude.{◌≡◌};
+
+use crate::sources::Asking;
+
+/// Called once, with the data that a dispatch lends. `Q` takes its requests. calloop takes a closure.
+pub trait IdleCallback<X, Q: Asking> {
+    /// The callback, the data and the requests before the call, and these two after it.
+    ghost runs: { Self → X → Q → X → Q → Type 0 };
+
+    fn run(self, data: &mut X, requests: &mut Q)
+        ensures runs { runs self «data».old requests.old «data».new requests.new }
+        ensures asks { Q.reaches requests.old requests.new };
+}
+
+/// Nothing to do, as in a loop that is asked for nothing of the kind.
+impl<X, Q: Asking> IdleCallback<X, Q> for () {
+    ghost use Rattle.std.specs.Prelude.{◌≡◌};
+
+    ghost runs = { λ _ x q y r. (y ≡ x) × (r ≡ q) };
+
+    fn run(self, _data: &mut X, _requests: &mut Q) {}
+}
