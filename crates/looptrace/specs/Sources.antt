@@ -35,7 +35,7 @@ tells_deadline alarm deadline metadata said asked answer after metadata' said' a
 
 -- the sources of a script: a ping with its teller, or a timer with its alarm
 abbrev pub Source : Type 0 → Type 0
-Source R = Sources (OneOf (Dispatcher (PingSource R) Teller) (Dispatcher Timer Alarm)) (Option (List ℕ))
+Source R = Sources (OneOf (Dispatcher (PingSource R) Teller) (Dispatcher Timer Alarm)) (Option (List ℕ)) (Unit {0})
 
 abbrev pub ping_in : {R : Type 0} → Dispatcher (PingSource R) Teller → Source R
 ping_in d = with_data (First d)
