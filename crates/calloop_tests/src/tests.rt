@@ -14,6 +14,7 @@ use std::test::Fail;
 use std::time::Duration;
 use std::{io, thread};
 
+mod exchanges;
 mod waits;
 
 #[test]
@@ -722,6 +723,7 @@ fn told<R: Wait + Drop>(answer: &Answer<R>) -> (&'static str, bool) {
         LoopAnswer::Updated(answer) => told_as("updated", answer),
         LoopAnswer::Disabled(answer) => told_as("disabled", answer),
         LoopAnswer::Removed(source) => ("removed", source.is_some()),
+        LoopAnswer::Exchanged(answer) => ("exchanged", answer.is_ok()),
         LoopAnswer::Dispatched(answer, said) => ("dispatched", answer.is_ok() && said.is_empty()),
         LoopAnswer::Poller(before) => ("poller", are_waits(before.waits(), &[Some(0)])),
     }
