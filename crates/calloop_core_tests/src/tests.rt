@@ -24,6 +24,8 @@ use std::sync::{Arc, Wait};
 use std::time::Duration;
 use std::{io, mem};
 
+mod conversions;
+
 #[test]
 fn a_script_answers_in_its_order_and_then_by_the_timeout(rt: HostRuntime) {
     let mut poller = ScriptPoller::new(rt.alloc()).expect(&rt, "a poller");
