@@ -4,7 +4,7 @@ use Rattle.std.specs.Prelude.{ℕ, ◌+◌, List, [], ◌∷◌, ◌++◌, map, 
 use Rattle.calloop_wake.specs.declared.token.Token.{Token}
 use Rattle.calloop_wake.specs.declared.wheel.Entry.{Entry}
 use Rattle.calloop_wake.specs.declared.wheel.Instant.{Instant}
-use Rattle.calloop_wake.specs.Deadlines.{is_before, is_due, is_of, is_other, entry_of}
+use Rattle.calloop_wake.specs.Deadlines.{is_before, is_due, is_of, is_other, entry_of, put_behind, front, behind_front}
 use Rattle.calloop_core.specs.declared.sys.Readiness.{Readiness}
 use Rattle.calloop_core.specs.declared.sys.poll.Pending.{Pending}
 use Rattle.calloop_core.specs.Polls.{PollView, PollStep, TakePass, PutBack, Arm, ArmAgain, Cancel, Call, ReadClock, poll_after, posted_events, polled_events, timer_event, tail_of}
@@ -54,8 +54,7 @@ latest counter (a ∷ as') = if nat_eq a.counter counter then Some a else latest
 
 -- in its place among the deadlines
 abbrev pub armed_among : Armed → List Armed → List Armed
-armed_among a [] = a ∷ []
-armed_among a (x ∷ xs) = if is_before x.entry a.entry then x ∷ armed_among a xs else a ∷ x ∷ xs
+armed_among a armed = put_behind (λ x. is_before x.entry a.entry) a armed
 
 abbrev pub entry_in : Armed → Entry
 entry_in a = a.entry
@@ -104,14 +103,15 @@ from_elsewhere e = record { event = e; origin = Elsewhere }
 abbrev pub from_deadline : (now : ℕ) → Armed → Waiting
 from_deadline now a = record { event = timer_event a.entry; origin = Due (arming_of a) now }
 
--- the longest front that is due, and what is left behind it
+abbrev pub is_due_entry : (now : ℕ) → Armed → Bool
+is_due_entry now a = is_due now a.entry
+
+-- those that are due, and what is left behind them
 abbrev pub due_in : (now : ℕ) → List Armed → List Armed
-due_in now [] = []
-due_in now (a ∷ as') = if is_due now a.entry then a ∷ due_in now as' else []
+due_in now armed = front (is_due_entry now) armed
 
 abbrev pub not_due_in : (now : ℕ) → List Armed → List Armed
-not_due_in now [] = []
-not_due_in now (a ∷ as') = if is_due now a.entry then not_due_in now as' else a ∷ as'
+not_due_in now armed = behind_front (is_due_entry now) armed
 
 -- what a gathering notes
 abbrev pub gathering_noted : Ledger → (posted : List ℕ) → (given : List (ℕ × Readiness)) → (now : ℕ) → Ledger

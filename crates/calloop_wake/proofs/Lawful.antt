@@ -1,7 +1,7 @@
 -- The cells of pings are a lawful kind.
-use Rattle.std.proofs.Common.{◌≡◌, ℕ, Bool, true, false, ◌&&◌, ◌||◌, not, if◌then◌else◌, ◌⊎◌, inl, inr, List, Option, Some, None, nat_eq, refl, sym, ◌∙◌, ap, eqb-true}
-use Rattle.calloop_wake.specs.Cells.{Cell, fresh, is_own, IsLit, IsStanding, after_ring, after_close, after_set_key, after_clear_key, in_turn, after_end_turn, opens}
-use Rattle.calloop_wake.specs.Wakes.{Kind, Step, start, after_all, IsSchedule, IsCovered}
+use Rattle.std.proofs.Common.{◌≡◌, ℕ, Bool, true, false, ◌&&◌, ◌||◌, not, List, Option, Some, None, refl, sym, ap, eqb-true}
+use Rattle.calloop_wake.specs.Cells.{Cell, fresh, is_own, IsLit, in_turn}
+use Rattle.calloop_wake.specs.Wakes.{Step, start, after_all, IsSchedule, IsCovered}
 use Rattle.calloop_wake.specs.PingKind.{PingStep, Ring, Close, EndTurn, ping_kind}
 use Rattle.calloop_wake.proofs.Schedules.{IsLawful, IsFresh, covered-schedule}
 

@@ -23,10 +23,23 @@ pub record Deadlines : Type 0 where
 abbrev pub is_before : Entry → Entry → Bool
 is_before x y = nat_lt x.deadline.nanos y.deadline.nanos || (nat_eq x.deadline.nanos y.deadline.nanos && nat_lt x.counter y.counter)
 
+-- a list with one more, behind the front of what comes before it
+abbrev pub put_behind : {A : Type 0} → (comes_before : A → Bool) → A → List A → List A
+put_behind comes_before a [] = a ∷ []
+put_behind comes_before a (x ∷ xs) = if comes_before x then x ∷ put_behind comes_before a xs else a ∷ x ∷ xs
+
+-- the longest front that passes, and what is left behind it
+abbrev pub front : {A : Type 0} → (A → Bool) → List A → List A
+front passes [] = []
+front passes (x ∷ xs) = if passes x then x ∷ front passes xs else []
+
+abbrev pub behind_front : {A : Type 0} → (A → Bool) → List A → List A
+behind_front passes [] = []
+behind_front passes (x ∷ xs) = if passes x then behind_front passes xs else x ∷ xs
+
 -- with one more, in its place
 abbrev pub inserted : Entry → List Entry → List Entry
-inserted e [] = e ∷ []
-inserted e (x ∷ xs) = if is_before x e then x ∷ inserted e xs else e ∷ x ∷ xs
+inserted e entries = put_behind (λ x. is_before x e) e entries
 
 abbrev pub entry_of : (counter : ℕ) → (deadline : Instant) → Token → Entry
 entry_of counter deadline token = record { deadline = deadline; counter = counter; token = token }
@@ -77,14 +90,12 @@ abbrev pub after_first_due : (now : ℕ) → List Entry → List Entry
 after_first_due now [] = []
 after_first_due now (e ∷ es) = if is_due now e then es else e ∷ es
 
--- the longest front of which nothing is later than now, and what is left behind it
+-- those that are due, and what is left behind them
 abbrev pub due : (now : ℕ) → List Entry → List Entry
-due now [] = []
-due now (e ∷ es) = if is_due now e then e ∷ due now es else []
+due now entries = front (is_due now) entries
 
 abbrev pub not_due : (now : ℕ) → List Entry → List Entry
-not_due now [] = []
-not_due now (e ∷ es) = if is_due now e then not_due now es else e ∷ es
+not_due now entries = behind_front (is_due now) entries
 
 -- this entry comes before all of these, and none of them has its counter
 abbrev pub IsAhead : Entry → List Entry → Type 0

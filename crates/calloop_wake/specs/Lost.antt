@@ -1,5 +1,5 @@
 -- Small states in which something is lost, which `covered` rules out.
-use Rattle.std.specs.Prelude.{ℕ, [], ◌∷◌, true, false, Some}
+use Rattle.std.specs.Prelude.{[], ◌∷◌, true, Some}
 use Rattle.calloop_wake.specs.Cells.{Cell, fresh}
 use Rattle.calloop_wake.specs.Wakes.{World, Looked, start}
 

@@ -1,4 +1,4 @@
-use Rattle.std.proofs.Common.{◌≡◌, ◌<◌, ◌⊎◌, inl, inr, ℕ, Bool, true, false, refl, arith}
+use Rattle.std.proofs.Common.{◌≡◌, ◌<◌, inl, inr, Bool, true, false, refl, arith}
 use Rattle.calloop_wake.proofs.wake.ping.lost_is_not_covered.Goals as goal
 
 not_true : ◌≡◌ {A = Bool} false true → ⊥
