@@ -1,9 +1,11 @@
 //! A callback event loop, after the Rust crate calloop: every call of the loop is proved a case of a small machine.
 #![tactic(auto)]
 
+mod cell;
 pub mod loop_logic;
 pub mod ping;
 
+pub use calloop_core::idles::IdleCallback;
 pub use calloop_core::sources::{
     Asking, Callback, Dispatch, Dispatcher, EventSource, Here, Hold, IntoError, OneOf, PostAction,
     There,

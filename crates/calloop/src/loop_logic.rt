@@ -194,8 +194,16 @@ where
     type Idle = I;
 }
 
-impl<S, F, P: Poller, C, R: Wait + Drop, A, X, I, N> Hold<S, F, P, C, R, X, Requests<Sources<A, X, I>>, N>
-    for Sources<A, X, I>
+impl<S, F, P: Poller, C, R: Wait + Drop, A, X, I, N> Hold<
+    S,
+    F,
+    P,
+    C,
+    R,
+    X,
+    Requests<Sources<A, X, I>>,
+    N,
+> for Sources<A, X, I>
 where
     S: EventSource<P, C, R>,
     F: Callback<S::Event, S::Metadata, S::Ret, X, Requests<Sources<A, X, I>>>,

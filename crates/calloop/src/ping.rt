@@ -3,10 +3,11 @@ ghost use Rattle.std.specs.Prelude.{◌≡◌, None, IfOk, IfErr};
 ghost use Rattle.std.specs.Arc.{arc_value};
 ghost use Rattle.calloop_wake.specs.declared.error.Error.TheVariants.{OutOfMemory};
 
+use crate::cell::{SharedCell, abandon, add_sender, drop_sender, receiver};
 use calloop_core::sys::hub::share;
 use calloop_wake::error::Result as LoopResult;
+use calloop_wake::wake::ping::PingCore;
 use calloop_wake::wake::{Receipt, Sender, Twin};
-use cell::{PingCell, SharedCell};
 use std::alloc::{AllocError, Global};
 use std::sync::{Arc, Wait};
 
@@ -18,7 +19,7 @@ pub use source::PingError;
 /// Rings its source, from any thread. As many as are cloned ring the same source, and the drop of the last one closes it.
 pub struct Ping<R: Wait + Drop> {
     rt: R,
-    shared: SharedCell,
+    shared: SharedCell<PingCore>,
     sender: Sender,
     ghost tied: { sender.name ≡ (arc_value shared).slot },
 }
@@ -28,7 +29,7 @@ pub struct Ping<R: Wait + Drop> {
 /// Its drop, as by the drop of the loop that it is registered with, takes its registration back.
 pub struct PingSource<R: Wait + Drop> {
     rt: R,
-    shared: SharedCell,
+    shared: SharedCell<PingCore>,
     twin: Twin,
     ghost tied: { twin.name ≡ (arc_value shared).slot },
 }
@@ -47,11 +48,11 @@ pub fn make_ping<R: Wait + Clone + Drop>(
 {
     let of_ping = rt.clone()?;
     let of_source = rt.clone()?;
-    let (locked, right) = PingCell::locked();
+    let (locked, right) = cell::locked();
     let shared = Arc::new(alloc, locked)?;
     let again = share(rt, &shared);
-    let sender = cell::add_sender(rt, &shared)?;
-    let twin = cell::receiver(rt, &shared, right);
+    let sender = add_sender(rt, &shared)?;
+    let twin = receiver(rt, &shared, right);
     let ping = Ping {
         rt: of_ping,
         shared,
@@ -85,7 +86,7 @@ impl<R: Wait + Clone + Drop> Clone for Ping<R> {
     fn clone(&self) -> Result<Ping<R>, AllocError> {
         let rt = self.rt.clone()?;
         let shared = Arc::try_clone(&self.shared)?;
-        let sender = cell::add_sender(&self.rt, &self.shared)?;
+        let sender = add_sender(&self.rt, &self.shared)?;
         Ok(Ping { rt, shared, sender })
     }
 }
@@ -93,13 +94,13 @@ impl<R: Wait + Clone + Drop> Clone for Ping<R> {
 impl<R: Wait + Drop> Drop for Ping<R> {
     fn drop(self) {
         let Ping { rt, shared, sender } = self;
-        cell::drop_sender(&rt, &shared, sender);
+        drop_sender(&rt, &shared, sender);
     }
 }
 
 impl<R: Wait + Drop> Drop for PingSource<R> {
     fn drop(self) {
         let PingSource { rt, shared, twin } = self;
-        cell::abandon(&rt, &shared, twin);
+        abandon(&rt, &shared, twin);
     }
 }

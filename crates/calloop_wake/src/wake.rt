@@ -10,6 +10,7 @@ use ghosts::{Count, Name};
 use std::marker::Model;
 
 pub mod board;
+pub mod cell;
 pub mod ghosts;
 pub mod locked;
 pub mod notes;

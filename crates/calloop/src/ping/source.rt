@@ -8,6 +8,7 @@ ghost use Rattle.calloop_wake.specs.Cells.{is_own};
 ghost use Rattle.calloop.specs.Pings.{calls_of, action_of};
 
 use super::{PingSource, cell};
+use crate::cell::{attach, detach};
 use calloop_core::sources::{Asking, Callback, EventSource, IntoError, PostAction};
 use calloop_core::sys::events::EventIterator;
 use calloop_core::sys::poll::Poll;
@@ -129,7 +130,7 @@ impl<P: Poller, C, R: Wait + Drop> EventSource<P, C, R> for PingSource<R> {
             return Err(Error::IoError(cause));
         }
         let token = factory.token()?;
-        cell::attach(&self.rt, &self.shared, &mut self.twin, poll.hub(), token)
+        attach(&self.rt, &self.shared, &mut self.twin, poll.hub(), token)
     }
 
     /// Moves the registration to the factory's next token; under the same key it does nothing. What stands is posted
@@ -151,7 +152,7 @@ impl<P: Poller, C, R: Wait + Drop> EventSource<P, C, R> for PingSource<R> {
         if self.is_mine(next) {
             return Ok(());
         }
-        cell::attach(&self.rt, &self.shared, &mut self.twin, poll.hub(), next)
+        attach(&self.rt, &self.shared, &mut self.twin, poll.hub(), next)
     }
 
     /// Takes the registration back. What stands is told after the next registration. Where the ping isn't registered
@@ -161,7 +162,7 @@ impl<P: Poller, C, R: Wait + Drop> EventSource<P, C, R> for PingSource<R> {
             let cause = io::Error::from(io::ErrorKind::NotFound);
             return Err(Error::IoError(cause));
         }
-        cell::detach(&self.rt, &self.shared, &mut self.twin);
+        detach(&self.rt, &self.shared, &mut self.twin);
         Ok(())
     }
 

@@ -6,6 +6,7 @@ ghost use Rattle.calloop_wake.specs.Wakes.{Step, start, after_all, IsSchedule, I
 ghost use Rattle.calloop_wake.specs.PingKind.{ping_kind};
 ghost use Rattle.calloop_wake.specs.Lost.{with_a_ring_unseen, with_a_close_unseen, with_a_key_forgotten, with_nobody_told};
 
+use super::cell::CellCore;
 use super::ghosts::{Count, Name};
 use super::locked::Core;
 use super::{
@@ -361,6 +362,46 @@ impl PingCore {
         self.draining = false;
         None
     }
+}
+
+impl CellCore for PingCore {
+    ghost use Rattle.calloop_wake.specs.Passes.{on};
+
+    ghost name_of = { λ c. c.name };
+
+    ghost place_of = { λ c. on c.board c.cell.key };
+
+    ghost named_by = { λ tag. tag };
+
+    fn receiver(&self, right: ReceivingRight) -> Twin {
+        PingCore::receiver(self, right)
+    }
+
+    fn add_sender(&mut self) -> Result<Sender, AllocError> {
+        PingCore::add_sender(self)
+    }
+
+    fn drop_sender(&mut self, sender: Sender) -> Option<Debt> {
+        PingCore::drop_sender(self, sender)
+    }
+
+    fn set_key(
+        &mut self,
+        pass: OpenedPass,
+        twin: &mut Twin,
+    ) -> (Option<Debt>, Option<LeaveToClose>) {
+        PingCore::set_key(self, pass, twin)
+    }
+
+    fn clear_key(&mut self, twin: &mut Twin) -> Option<LeaveToClose> {
+        PingCore::clear_key(self, twin)
+    }
+
+    fn abandon(&mut self, twin: Twin) -> Option<LeaveToClose> {
+        PingCore::abandon(self, twin)
+    }
+
+    ghost is_named = { λ tag core fits. fits };
 }
 
 /// Over every schedule of the wake machine, by any number of cells, from the state in which nothing has happened: what is

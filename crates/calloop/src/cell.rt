@@ -1,0 +1,174 @@
+//! A cell with the board of its key, under one lock, and the sections of that lock that every kind of cell has. No other lock
+//! is taken and nobody is called within one: what a section owes to the board is settled after it.
+ghost use Rattle.std.specs.Prelude.{◌≡◌, ◌≢◌, ◌-◌, ◌^◌, None, Some, IfOk, IfErr, IfSome};
+ghost use Rattle.std.specs.Option.{option_map};
+ghost use Rattle.std.proofs.Props.{props};
+ghost use Rattle.std.specs.Arc.{arc_value};
+ghost use Rattle.calloop_wake.specs.Tokens.{key_of};
+ghost use Rattle.calloop_wake.specs.Passes.{Keyed};
+ghost use Rattle.calloop_core.specs.Polls.{CannotOpen};
+
+use calloop_core::sys::hub::{SharedHub, share};
+use calloop_wake::error::Result as LoopResult;
+use calloop_wake::token::Token;
+use calloop_wake::wake::cell::CellCore;
+use calloop_wake::wake::locked::{Core, Locked};
+use calloop_wake::wake::{Debt, Last, LeaveToClose, ReceivingRight, Sender, Twin};
+use counted_slot::Fits;
+use std::alloc::{AllocError, Global};
+use std::sync::{Arc, Wait};
+
+/// What the ends of a cell share: its core, and the hub of the very board on which its key has a place.
+pub struct Cell<K: CellCore> {
+    pub(crate) core: K,
+    hub: Option<SharedHub>,
+    ghost keyed: { (place : Keyed) → K.place_of core ≡ Some place → option_map arc_value hub ≡ Some place.board } by { Prim.hlevel props },
+}
+
+impl<K: CellCore> Fits for Cell<K> {
+    type Tag = K::Tag;
+
+    ghost fits = { λ tag cell. K.fits tag cell.core };
+}
+
+impl<K: CellCore> Core for Cell<K> {
+    fn dissolve(self, last: Last) {
+        let Cell { core, hub: _ } = self;
+        core.dissolve(last);
+    }
+}
+
+/// What the ends of a cell share, under its lock. In a clause `slot` is the tag of its core.
+pub type SharedCell<K> = Arc<Locked<Cell<K>>, Global>;
+
+impl<K: CellCore> Cell<K> {
+    /// A cell without a key, under its lock.
+    pub fn locked(core: K, tag: &K::Tag) -> Locked<Cell<K>>
+        requires fits { K.fits tag.now core }
+        requires place { K.place_of core ≡ None }
+        ensures { result.slot ≡ tag.now }
+    {
+        Locked::new(Cell { core, hub: None }, tag)
+    }
+
+    /// The debt with the board on which it is settled, outside the lock.
+    pub(crate) fn owed<R: Wait>(&self, rt: &R, debt: Option<Debt>) -> Option<(Debt, SharedHub)>
+        requires { IfSome debt (λ d. option_map arc_value self.now.hub ≡ Some d.board) }
+        ensures { IfSome result (λ owed. owed.0.board ≡ arc_value owed.1) }
+    {
+        let debt = debt?;
+        match &self.hub {
+            Some(hub) => Some((debt, share(rt, hub))),
+            None => unreachable!(),
+        }
+    }
+}
+
+/// Posts the key of a debt, where there is one.
+pub(crate) fn settle<R: Wait>(rt: &R, owed: Option<(Debt, SharedHub)>)
+    requires { IfSome owed (λ owed. owed.0.board ≡ arc_value owed.1) }
+{
+    if let Some((debt, hub)) = owed {
+        hub.settle(rt, debt);
+    }
+}
+
+// Closes the place of a key that the cell has no more.
+fn close_place<R: Wait>(rt: &R, hub: &Option<SharedHub>, leave: Option<LeaveToClose>)
+    requires { IfSome leave (λ l. option_map arc_value hub.now ≡ Some l.board) }
+{
+    let Some(leave) = leave else {
+        return;
+    };
+    match hub {
+        Some(hub) => hub.close_place(rt, leave),
+        None => unreachable!(),
+    }
+}
+
+/// The receiving end of the cell.
+pub fn receiver<K: CellCore, R: Wait>(
+    rt: &R,
+    shared: &Locked<Cell<K>>,
+    right: ReceivingRight,
+) -> Twin
+    requires { right.name ≡ K.named_by shared.now.slot }
+    ensures { result ≡ record { name = K.named_by shared.now.slot; key = None; turns = 0; number = 0; closes = 0 } }
+{
+    let (gate, cell) = shared.lock(rt);
+    let twin = cell.core.receiver(right);
+    shared.unlock(rt, gate, cell);
+    twin
+}
+
+/// One sender more. There can be 2^64 - 1.
+pub fn add_sender<K: CellCore, R: Wait>(
+    rt: &R,
+    shared: &Locked<Cell<K>>,
+) -> Result<Sender, AllocError>
+    ensures { IfOk result (λ sender. sender.name ≡ K.named_by shared.now.slot) }
+{
+    let (gate, mut cell) = shared.lock(rt);
+    let added = cell.core.add_sender();
+    shared.unlock(rt, gate, cell);
+    added
+}
+
+/// One sender less. The last one closes the cell.
+pub fn drop_sender<K: CellCore, R: Wait>(rt: &R, shared: &Locked<Cell<K>>, sender: Sender)
+    requires { sender.name ≡ K.named_by shared.now.slot }
+{
+    let (gate, mut cell) = shared.lock(rt);
+    let debt = cell.core.drop_sender(sender);
+    let owed = cell.owed(rt, debt);
+    shared.unlock(rt, gate, cell);
+    settle(rt, owed);
+}
+
+/// Opens the place of the token, gives the cell its key, and then closes the place of the key that it had.
+pub fn attach<K: CellCore, R: Wait>(
+    rt: &R,
+    shared: &Locked<Cell<K>>,
+    twin: &mut Twin,
+    hub: &SharedHub,
+    token: Token,
+) -> LoopResult<()>
+    requires name { twin.old.name ≡ K.named_by shared.now.slot }
+    requires key { key_of token ≢ 2 ^ 64 - 1 }
+    ensures ok { IfOk result (λ _. twin.new ≡ record twin.old { key = Some (key_of token) }) }
+    ensures err { IfErr result (λ e. CannotOpen e × (twin.new ≡ twin.old)) }
+{
+    let pass = hub.open_place(rt, token)?;
+    let mine = share(rt, hub);
+    let (gate, mut cell) = shared.lock(rt);
+    let old = cell.hub.replace(mine);
+    let (debt, leave) = cell.core.set_key(pass, twin);
+    let owed = cell.owed(rt, debt);
+    shared.unlock(rt, gate, cell);
+    close_place(rt, &old, leave);
+    settle(rt, owed);
+    Ok(())
+}
+
+/// Clears the cell's key, and then closes its place.
+pub fn detach<K: CellCore, R: Wait>(rt: &R, shared: &Locked<Cell<K>>, twin: &mut Twin)
+    requires { twin.old.name ≡ K.named_by shared.now.slot }
+    ensures { twin.new ≡ record twin.old { key = None } }
+{
+    let (gate, mut cell) = shared.lock(rt);
+    let leave = cell.core.clear_key(twin);
+    let hub = cell.hub.take();
+    shared.unlock(rt, gate, cell);
+    close_place(rt, &hub, leave);
+}
+
+/// The receiving end goes: its key is cleared, and then the place of that is closed.
+pub fn abandon<K: CellCore, R: Wait>(rt: &R, shared: &Locked<Cell<K>>, twin: Twin)
+    requires { twin.name ≡ K.named_by shared.now.slot }
+{
+    let (gate, mut cell) = shared.lock(rt);
+    let leave = cell.core.abandon(twin);
+    let hub = cell.hub.take();
+    shared.unlock(rt, gate, cell);
+    close_place(rt, &hub, leave);
+}
