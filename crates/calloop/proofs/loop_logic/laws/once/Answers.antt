@@ -17,6 +17,6 @@ returns g c =
             gone = stay_gone g.P.Poller.outside w (changes_of csss) (run_fits g.D.Dispatch.means g.P.Poller.outside calls answers csss w w' run);
           };
       armings = λ calls answers csss w w' new fresh run.
-          (run_owned g.D.Dispatch.means g.P.Poller.outside g.met.D.Dispatch.keeps calls answers csss w w' fresh run (new_owned g.D.Dispatch.means w new)).noted.kept;
+          (run_owned g.D.Dispatch.means g.P.Poller.outside g.met.D.Dispatch.keeps.counters calls answers csss w w' fresh run (new_owned g.D.Dispatch.means w new)).noted.kept;
       told = run_told g.D.Dispatch.means g.P.Poller.outside;
     }
