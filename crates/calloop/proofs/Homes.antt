@@ -132,11 +132,11 @@ module _ {D P X Q : Type 0} (M : Meaning D P (Lent X Q)) (O : Outside P) (law : 
 
   first_home : (token : RegistrationToken) (v : PollView P) (d e : D) (answer : Outcome) (l : List (PollStep P)) → RegisteredBy M Registered token v d answer l e → IsAtHome M token d → IsAtHome M token e
   first_home token v d e answer l (inl h) home = rw h.3 home
-  first_home token v d e answer l (inr h) home = law token d e v (Registered (factory_of token) answer h.0) l (begins_first token d answer h.0 home) h.1
+  first_home token v d e answer l (inr h) home = (law token d e v (Registered (factory_of token) answer h.0) l (begins_first token d answer h.0 home) h.1).0
 
   anew_home : (token : RegistrationToken) (v : PollView P) (d e : D) (answer : Outcome) (l : List (PollStep P)) → RegisteredBy M Reregistered token v d answer l e → IsAtHome M token d → IsAtHome M token e
   anew_home token v d e answer l (inl h) home = rw h.3 home
-  anew_home token v d e answer l (inr h) home = law token d e v (Reregistered (factory_of token) answer h.0) l (home, own_factory token) h.1
+  anew_home token v d e answer l (inr h) home = (law token d e v (Reregistered (factory_of token) answer h.0) l (home, own_factory token) h.1).0
 
   slept_as : (v : View D P) (timeout : Option ℕ) (later : List RegistrationToken) (answer : Result (Option (Readiness × Token)) Error) (x : X) (cs : List (Change D P)) (b : Doing D X) → SleptAs timeout later answer x cs b → Homely v.slots → Homely (all_viewed v cs).slots × AsideHomely b
   slept_as v timeout later (Ok None) x cs b h k = rw (h.0, h.1) (k, tt)
@@ -147,14 +147,14 @@ module _ {D P X Q : Type 0} (M : Meaning D P (Lent X Q)) (O : Outside P) (law : 
   slept_homely v timeout token later x cs b Vacant is h k = rw (h.0, h.1) (k, tt)
   slept_homely v timeout token later x cs b InTurn is h k = rw (h.0, h.1) (k, tt)
   slept_homely v timeout token later x cs b (Source d) is h k =
-      let home = law token d h.0 v.poll (Slept h.1) [] (home_named v.slots token d is k) h.3 in
+      let home = (law token d h.0 v.poll (Slept h.1) [] (home_named v.slots token d is k) h.3).0 in
       rw h.5 (slept_as (all_viewed v (told_in token h.0)) timeout later h.1 x h.2 b h.4 (homely_again v.slots token d h.0 is home k))
 
   noticed_homely : (v : View D P) (from : ℕ) (token : RegistrationToken) (later : List RegistrationToken) (x : X) (cs : List (Change D P)) (b : Doing D X) (c : Content D) → named v.slots token ≡ c → NoticedBy M from token later c v x cs b → Homely v.slots → Homely (all_viewed v cs).slots × AsideHomely b
   noticed_homely v from token later x cs b Vacant is h k = rw (h.0, h.1) (k, tt)
   noticed_homely v from token later x cs b InTurn is h k = rw (h.0, h.1) (k, tt)
   noticed_homely v from token later x cs b (Source d) is h k =
-      let home = law token d h.0 v.poll _ [] (home_named v.slots token d is k) h.1 in
+      let home = (law token d h.0 v.poll _ [] (home_named v.slots token d is k) h.1).0 in
       rw (h.2, h.3) (homely_again v.slots token d h.0 is home k, tt)
 
   cut_homely : (v : View D P) (e : Pending) (x : X) (cs : List (Change D P)) (b : Doing D X) (c : Content D) → named v.slots (registration_of e.token) ≡ c → CutTo M e c v x cs b → Homely v.slots → Homely (all_viewed v cs).slots × AsideHomely b
@@ -162,7 +162,7 @@ module _ {D P X Q : Type 0} (M : Meaning D P (Lent X Q)) (O : Outside P) (law : 
   cut_homely v e x cs b InTurn is h k = rw (h.0, h.1) (k, tt)
   cut_homely v e x cs b (Source d) is h k =
       let token = registration_of e.token in
-      let home = law token d h.0 (cut v.poll) (Turned e.readiness e.token (lent x h.4 h.1 h.3 h.5)) h.2 (home_named v.slots token d is k) h.6 in
+      let home = (law token d h.0 (cut v.poll) (Turned e.readiness e.token (lent x h.4 h.1 h.3 h.5)) h.2 (home_named v.slots token d is k) h.6).0 in
       rw (h.7, h.8) (homely_without v.slots e.token.slot InTurn (λ d e. cc) k, home)
 
   from_homely : (v : View D P) (es : List Pending) (x : X) (cs : List (Change D P)) (b : Doing D X) → CutFrom M es v x cs b → Homely v.slots → Homely (all_viewed v cs).slots × AsideHomely b
@@ -177,7 +177,7 @@ module _ {D P X Q : Type 0} (M : Meaning D P (Lent X Q)) (O : Outside P) (law : 
   acted_homely : (v : View D P) (token : RegistrationToken) (d : D) (answer : Result PostAction Error) (cs : List (Change D P)) (e : D) (told : Outcome) → ActedBy M token d answer v cs e told → Homely v.slots → IsAtHome M token d → Homely (all_viewed v cs).slots × IsAtHome M token e
   acted_homely v token d (Ok Continue) cs e told h k home = rw (h.0, h.1) (k, home)
   acted_homely v token d (Ok Reregister) cs e told h k home = rw h.2 (k, anew_home token (with_pass None v.poll) d e told h.0 h.1 home)
-  acted_homely v token d (Ok DisableIt) cs e told h k home = rw h.2 (k, law token d e (with_pass None v.poll) (Unregistered told) h.0 home h.1)
+  acted_homely v token d (Ok DisableIt) cs e told h k home = rw h.2 (k, (law token d e (with_pass None v.poll) (Unregistered told) h.0 home h.1).0)
   acted_homely v token d (Ok Remove) cs e told h k home = rw (h.0, h.1) (emptied_homely (viewed v Ended) token (named v.slots token) k, home)
   acted_homely v token d (Err error) cs e told h k home = rw (h.0, h.1) (k, home)
 
@@ -215,7 +215,7 @@ module _ {D P X Q : Type 0} (M : Meaning D P (Lent X Q)) (O : Outside P) (law : 
 
   inserted_homely : (v : View D P) (d : D) (answer : Result RegistrationToken (InsertError D)) (cs : List (Change D P)) → InsertedBy M d answer v cs → Homely v.slots → Homely (all_viewed v cs).slots
   inserted_homely v d (Ok token) cs h k =
-      let home = law token d h.2 v.poll (Registered (factory_of token) (Ok tt) h.3) h.4 (own_factory token) h.5 in
+      let home = (law token d h.2 v.poll (Registered (factory_of token) (Ok tt) h.3) h.4 (own_factory token) h.5).0 in
       let there : IsThere (claimed v.slots) token.slot token.version = subst (λ (t : RegistrationToken). IsThere (claimed v.slots) t.slot t.version) (sym h.1) (named_there (claimed v.slots) (next_registration v.slots) InTurn (named_claimed v.slots) refl) in
       rw h.6 (homely_back (claimed v.slots) token h.2 there home (homely_claim v.slots k))
   inserted_homely v d (Err refused) cs (inl h) k = rw h.2 k
@@ -242,7 +242,7 @@ module _ {D P X Q : Type 0} (M : Meaning D P (Lent X Q)) (O : Outside P) (law : 
   case_homely v (Insert d) (Inserted answer) css h k = once_homely v (InsertedBy M d answer) css h (λ cs r. inserted_homely v d answer cs r k)
   case_homely v (Enable token) (Enabled answer) css h k = once_homely v (EnabledBy M token answer) css h (λ cs r. asked_homely v _ _ token answer cs (named v.slots token) (λ d e l u home. first_home token v.poll d e answer l u home) refl r k)
   case_homely v (Update token) (Updated answer) css h k = once_homely v (UpdatedBy M token answer) css h (λ cs r. asked_homely v _ _ token answer cs (named v.slots token) (λ d e l u home. anew_home token v.poll d e answer l u home) refl r k)
-  case_homely v (Disable token) (Disabled answer) css h k = once_homely v (DisabledBy M token answer) css h (λ cs r. asked_homely v _ _ token answer cs (named v.slots token) (λ d e l u home. law token d e v.poll (Unregistered answer) l home u) refl r k)
+  case_homely v (Disable token) (Disabled answer) css h k = once_homely v (DisabledBy M token answer) css h (λ cs r. asked_homely v _ _ token answer cs (named v.slots token) (λ d e l u home. (law token d e v.poll (Unregistered answer) l home u).0) refl r k)
   case_homely v (RemoveCall token) (Removed answer) css h k = once_homely v (RemovedBy M token answer) css h (λ cs r. removed_homely v token answer cs (named v.slots token) r k)
   case_homely v (Dispatch timeout x) (Dispatched answer x') css (inl h) k = rw h.2 k
   case_homely v (Dispatch timeout x) (Dispatched answer x') css (inr h) k = steps_homely v (Beginning (nanos_of timeout) x) (Leaving answer x') css h k tt

@@ -11,7 +11,7 @@ use Rattle.calloop_wake.specs.Cells.{is_own}
 use Rattle.calloop_wake.specs.Passes.{Taken}
 use Rattle.calloop_core.specs.declared.sources.PostAction.{PostAction}
 use Rattle.calloop_core.specs.Deeds.{Registered, Reregistered, Unregistered, Turned, Slept, Noticed}
-use Rattle.calloop_core.specs.Keys.{IsKeyOf, IsFactoryOf}
+use Rattle.calloop_core.specs.Keys.{IsKeyOf, IsFactoryOf, AllArmFor}
 use Rattle.calloop_core.specs.Lawful.{next_is_own}
 use Rattle.calloop_core.specs.Meanings.{IsKeeping, KeepsCounters, KeepsHome}
 use Rattle.calloop_core.specs.Polls.{PollView, PollStep}
@@ -86,37 +86,45 @@ home_same r s t home same key e = home key (sym same ∙ e)
 home_none : {R : Type 0} (r : RegistrationToken) (t : PingSource R) → t.twin.key ≡ None → Home r t
 home_none r t none key e = let same : None ≡ Some key = sym none ∙ e in cc
 
-served_key : {P : Type 0} (served : Served) (p : Taken) (before after : Twin) (cs : Calls) (action : PostAction)
-    (l : List (PollStep P)) → ServedSo served p before cs action l after → after.key ≡ before.key
-served_key (Opened rung told) p before after cs action l h = ap (λ x. x.key) h.3
-served_key Refused p before after cs action l h = ap (λ x. x.key) h.3
+served_key : {P : Type 0} (r : RegistrationToken) (served : Served) (p : Taken) (before after : Twin) (cs : Calls)
+    (action : PostAction) (l : List (PollStep P)) → ServedSo served p before cs action l after
+    → (after.key ≡ before.key) × AllArmFor r l
+served_key r (Opened rung told) p before after cs action l h = (ap (λ x. x.key) h.3, rw h.2 (tt, tt))
+served_key r Refused p before after cs action l h = (ap (λ x. x.key) h.3, rw h.2 (tt, (tt, tt)))
 
-with_key : {P : Type 0} (pass : Option Taken) (before after : Twin) (cs : Calls) (action : PostAction)
-    (l : List (PollStep P)) → PingTurnWith pass before cs action l after → after.key ≡ before.key
-with_key None before after cs action l h = ap (λ x. x.key) h.3
-with_key (Some p) before after cs action l h = served_key h.0 p before after cs action l h.1
+with_key : {P : Type 0} (r : RegistrationToken) (pass : Option Taken) (before after : Twin) (cs : Calls)
+    (action : PostAction) (l : List (PollStep P)) → PingTurnWith pass before cs action l after
+    → (after.key ≡ before.key) × AllArmFor r l
+with_key r None before after cs action l h = (ap (λ x. x.key) h.3, rw h.2 (tt, tt))
+with_key r (Some p) before after cs action l h = served_key r h.0 p before after cs action l h.1
 
-for_key : {P : Type 0} (is_own : Bool) (pass : Option Taken) (before after : Twin) (cs : Calls) (action : PostAction)
-    (l : List (PollStep P)) → PingTurnFor is_own pass before cs action l after → after.key ≡ before.key
-for_key true pass before after cs action l h = with_key pass before after cs action l h
-for_key false pass before after cs action l h = ap (λ x. x.key) h.3
+for_key : {P : Type 0} (r : RegistrationToken) (is_own : Bool) (pass : Option Taken) (before after : Twin) (cs : Calls)
+    (action : PostAction) (l : List (PollStep P)) → PingTurnFor is_own pass before cs action l after
+    → (after.key ≡ before.key) × AllArmFor r l
+for_key r true pass before after cs action l h = with_key r pass before after cs action l h
+for_key r false pass before after cs action l h = (ap (λ x. x.key) h.3, rw h.2 tt)
 
-turn_key : {P R : Type 0} (s t : PingSource R) (k : Token) (v : PollView P) (cs : Calls)
-    (a : Result PostAction PingError) (l : List (PollStep P)) → IsPingTurn s k v cs a l t → t.twin.key ≡ s.twin.key
-turn_key s t k v cs (Ok action) l h = for_key (is_own (key_of k) s.twin.key) v.pass s.twin t.twin cs action l h.0
-turn_key s t k v cs (Err e) l h = absurd h.0
+turn_key : {P R : Type 0} (r : RegistrationToken) (s t : PingSource R) (k : Token) (v : PollView P) (cs : Calls)
+    (a : Result PostAction PingError) (l : List (PollStep P)) → IsPingTurn s k v cs a l t
+    → (t.twin.key ≡ s.twin.key) × AllArmFor r l
+turn_key r s t k v cs (Ok action) l h = for_key r (is_own (key_of k) s.twin.key) v.pass s.twin t.twin cs action l h.0
+turn_key r s t k v cs (Err e) l h = absurd h.0
 
 ping_stays : {P R : Type 0} → KeepsHome (ping_meaning {P = P} {R = R})
-ping_stays r s t v (Registered f (Ok u) g) l begins h = home_next r f t begins (ap (λ x. x.key) h.0.2)
-ping_stays r s t v (Registered f (Err e) g) l begins h = home_same r s t begins.0 (ap (λ x. x.key) h.0.1)
-ping_stays r s t v (Reregistered f (Ok u) g) l begins h = home_next r f t begins.1 (ap (λ x. x.key) h.0.2)
-ping_stays r s t v (Reregistered f (Err e) g) l begins h = home_same r s t begins.0 (ap (λ x. x.key) h.0.1)
-ping_stays r s t v (Unregistered (Ok u)) l home h = home_none r t (ap (λ x. x.key) h.0.2)
-ping_stays r s t v (Unregistered (Err e)) l home h = home_same r s t home (ap (λ x. x.key) h.0.3)
-ping_stays r s t v (Slept a) l home h = home_same r s t home (ap (λ x. x.twin.key) h.2)
-ping_stays r s t v (Noticed es) l home h = home_same r s t home (ap (λ x. x.twin.key) h.1)
+ping_stays r s t v (Registered f (Ok u) g) l begins h =
+    (home_next r f t begins (ap (λ x. x.key) h.0.2), rw h.0.1 tt)
+ping_stays r s t v (Registered f (Err e) g) l begins h =
+    (home_same r s t begins.0 (ap (λ x. x.key) h.0.1), rw h.0.0 tt)
+ping_stays r s t v (Reregistered f (Ok u) g) l begins h =
+    (home_next r f t begins.1 (ap (λ x. x.key) h.0.2), rw h.0.1 tt)
+ping_stays r s t v (Reregistered f (Err e) g) l begins h =
+    (home_same r s t begins.0 (ap (λ x. x.key) h.0.1), rw h.0.0 tt)
+ping_stays r s t v (Unregistered (Ok u)) l home h = (home_none r t (ap (λ x. x.key) h.0.2), rw h.0.1 tt)
+ping_stays r s t v (Unregistered (Err e)) l home h = (home_same r s t home (ap (λ x. x.key) h.0.3), rw h.0.2 tt)
+ping_stays r s t v (Slept a) l home h = (home_same r s t home (ap (λ x. x.twin.key) h.2), rw h.1 tt)
+ping_stays r s t v (Noticed es) l home h = (home_same r s t home (ap (λ x. x.twin.key) h.1), rw h.0 tt)
 ping_stays r s t v (Turned readiness k turn) l home h =
-    home_same r s t home (turn_key s t k v turn.calls turn.answer l h)
+    let x = turn_key r s t k v turn.calls turn.answer l h in (home_same r s t home x.0, x.1)
 
 pub ping_keeps : {P R : Type 0} → IsKeeping (ping_meaning {P = P} {R = R})
 ping_keeps = record { counters = ping_counts; home = ping_stays }

@@ -7,7 +7,7 @@ use Rattle.calloop_wake.specs.Deadlines.{entry_of}
 use Rattle.calloop_wake.specs.Tokens.{key_of}
 use Rattle.calloop_core.specs.Deeds.{Lent}
 use Rattle.calloop_core.specs.Meanings.{Meaning, still}
-use Rattle.calloop_core.specs.Polls.{timer_event}
+use Rattle.calloop_core.specs.Polls.{timer_event, Arm}
 use Rattle.calloop.specs.Ledgers.{Ledger, Arming, Origin, Due, Waiting, Called, new_ledger}
 use Rattle.calloop.specs.Machine.{Registration}
 
@@ -64,6 +64,13 @@ called_from_nowhere = record new_ledger { cancelled = 0 ∷ []; made = first_arm
 abbrev pub unmoved : Meaning ℕ (Unit {0}) (Lent (Unit {0}) (Unit {0}))
 unmoved = record (still (λ s v deed t. t ≡ s)) { keys = λ s key. key ≡ s }
 
--- a slot that is used once more, with such a source, which has a key of the slot's first use
+-- one without a key, which arms a deadline under a token of the first registration whatever is asked of it
+abbrev pub arms_elsewhere : Meaning (Unit {0}) (Unit {0}) (Lent (Unit {0}) (Unit {0}))
+arms_elsewhere =
+    record (still (λ s v deed t. t ≡ s)) {
+      does = λ s v deed steps t. (steps ≡ Arm (record { nanos = 5 }) first_token ∷ []) × (t ≡ s);
+    }
+
+-- a slot that is used once more, with a source whose key is of the slot's first use
 abbrev pub used_with_an_old_key : Registration ℕ
 used_with_an_old_key = record { reuse = 1; content = Source (key_of first_token) }

@@ -38,7 +38,7 @@ pub keeping_still : {D P T : Type 0} (does : D → PollView P → Deed T → D �
 keeping_still does =
     record {
       counters = λ s t v deed steps fits below h. (tt, rw h.0 (λ counter. tt));
-      home = λ registration s t v deed steps begins h key held. absurd held;
+      home = λ registration s t v deed steps begins h. (λ key held. absurd held, rw h.0 tt);
     }
 
 pub keeping_attentive : {D P T : Type 0} (does : D → PollView P → Deed T → D → Type 0) → IsKeeping (attentive does)

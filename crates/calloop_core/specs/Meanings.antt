@@ -15,7 +15,7 @@ use Rattle.calloop_core.specs.Calls.{Calling, Went, Becomes, IsOfSource}
 use Rattle.calloop_core.specs.Deeds.{Deed, Registered, Reregistered, Unregistered, Turned, Slept, Noticed}
 use Rattle.calloop_core.specs.Deeds.{Heard, Lent}
 use Rattle.calloop_core.specs.Holdings.{Hold, Keeps, IsBelow, holds_none}
-use Rattle.calloop_core.specs.Keys.{IsKeyOf, IsFactoryOf, no_key}
+use Rattle.calloop_core.specs.Keys.{IsKeyOf, IsFactoryOf, AllArmFor, no_key}
 
 -- D is the source or dispatcher, P the poller, T what a turn takes and gives
 pub record Meaning (D P T : Type 0) : Type 1 where
@@ -56,11 +56,12 @@ BeginsIn at_home registration (Turned readiness token turn) = at_home
 BeginsIn at_home registration (Slept answer) = at_home
 BeginsIn at_home registration (Noticed events) = at_home
 
--- each deed that begins in a registration leaves it at home there
+-- each deed that begins in a registration leaves it at home there, and arms deadlines under keys of that registration alone
 abbrev pub KeepsHome : {D P T : Type 0} → Meaning D P T → Type 0
 KeepsHome {D} {P} {T} m =
     (registration : RegistrationToken) (s t : D) (v : PollView P) (deed : Deed T) (steps : List (PollStep P))
-    → BeginsIn (IsAtHome m registration s) registration deed → m.does s v deed steps t → IsAtHome m registration t
+    → BeginsIn (IsAtHome m registration s) registration deed → m.does s v deed steps t
+    → IsAtHome m registration t × AllArmFor registration steps
 
 -- what is promised of every source
 pub record IsKeeping {D P T : Type 0} (m : Meaning D P T) : Type 0 where

@@ -181,7 +181,7 @@ pub trait EventSource<P: Poller, C, R: Wait + Drop> {
         ensures { (v : PollView P) → means.does self.old v (Noticed (events_left events.entry)) [] self.new };
 
     /// It leaves the counters of others alone, and calls at most once for each arming of its own. A registration that succeeds
-    /// leaves it with keys of that registration alone, and so does each later call.
+    /// leaves it with keys of that registration alone, and so does each later call; it arms deadlines under no others.
     ghost keeps: { IsKeeping means };
 }
 
@@ -243,7 +243,7 @@ pub trait Dispatch<P: Poller, C, R: Wait + Drop, X, Q: Asking> {
         ensures { (v : PollView P) → means.does self.old v (Noticed (events_left events.entry)) [] self.new };
 
     /// It leaves the counters of others alone, and calls at most once for each arming of its own. A registration that succeeds
-    /// leaves it with keys of that registration alone, and so does each later call.
+    /// leaves it with keys of that registration alone, and so does each later call; it arms deadlines under no others.
     ghost keeps: { IsKeeping means };
 
     /// What a turn asks for is reached from what was asked for before it.

@@ -8,7 +8,7 @@ ghost use Rattle.calloop.specs.Homes.{AllAtHome};
 ghost use Rattle.calloop.specs.Laws.{IsSound, IsKept, IsTold, AllFresh, changes_of, GoesRight, NamesLater, StaysGone, OnTime};
 ghost use Rattle.calloop_core.specs.Polls.{PollView};
 ghost use Rattle.calloop_core.specs.Meanings.{IsKeeping};
-ghost use Rattle.calloop.specs.Wrong.{first_token, first_registration, used, given_up, early, in_two_places, called_twice, called_early, called_from_nowhere, unmoved, used_with_an_old_key};
+ghost use Rattle.calloop.specs.Wrong.{first_token, first_registration, used, given_up, early, in_two_places, called_twice, called_early, called_from_nowhere, unmoved, arms_elsewhere, used_with_an_old_key};
 
 use super::EventDispatcher;
 use calloop_core::sys::{Clock, Poller};
@@ -35,7 +35,8 @@ pub fn once<D: EventDispatcher<P, C, R>, P: Poller, C: Clock, R: Wait + Drop>()
 /// registration, or to none though its source stands there; a token that names an earlier registration than before; one that
 /// was given up and is there again; an event that was gathered early; an arming in two places; one that is called for twice,
 /// early, or though it was cancelled; a registration that is told of waits twice, or after its slot was given up; a source that
-/// has a key of an earlier use of its slot, and one that keeps its key where it is registered under another.
+/// has a key of an earlier use of its slot, one that keeps its key where it is registered under another, and one that arms a deadline
+/// under a token of another registration.
 pub fn wrong_runs_are_ruled_out()
     ensures wrong_slot { ¬ GoesRight (used 0 ∷ used 0 ∷ []) first_token (Some 1) }
     ensures later_registration { ¬ GoesRight (used 1 ∷ []) first_token (Some 0) }
@@ -50,5 +51,6 @@ pub fn wrong_runs_are_ruled_out()
     ensures told_when_gone { (w : World (Unit {0}) (Unit {0})) → w.held.lifecycle ≡ first_registration ∷ [] → w.slots ≡ given_up 0 ∷ [] → ¬ IsTold w }
     ensures old_key { (w : World ℕ (Unit {0})) → w.slots ≡ used_with_an_old_key ∷ [] → ¬ AllAtHome unmoved w }
     ensures kept_key { (v : PollView (Unit {0})) → ¬ IsKeeping unmoved }
+    ensures armed_elsewhere { (v : PollView (Unit {0})) → ¬ IsKeeping arms_elsewhere }
     ensures call_from_nowhere { (v : PollView (Unit {0})) → ¬ IsKept called_from_nowhere v }
 {}

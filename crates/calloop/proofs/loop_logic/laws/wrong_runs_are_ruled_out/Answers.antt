@@ -1,8 +1,9 @@
-use Rattle.std.proofs.Common.{◌≡◌, inl, inr, ℕ, Bool, true, false, List, [], Ok, refl, sym, ap, ◌∙◌, ◌%◌, arith, slice_get}
+use Rattle.std.proofs.Common.{◌≡◌, inl, inr, ℕ, Bool, true, false, List, [], ◌∷◌, Ok, refl, sym, ap, ◌∙◌, ◌%◌, arith, slice_get}
 use Rattle.calloop.specs.Machine.{Registration}
 use Rattle.calloop_wake.specs.declared.token.RegistrationToken.{RegistrationToken}
 use Rattle.calloop_wake.specs.Tokens.{key_of}
-use Rattle.calloop_core.specs.Deeds.{Registered}
+use Rattle.calloop_core.specs.Deeds.{Registered, Unregistered}
+use Rattle.calloop_core.specs.Polls.{Arm}
 use Rattle.calloop.specs.Rules.{factory_of}
 use Rattle.calloop.specs.Wrong.{first_token, first_registration, used, given_up, used_with_an_old_key}
 use Rattle.calloop.proofs.loop_logic.laws.wrong_runs_are_ruled_out.Goals as goal
@@ -72,5 +73,11 @@ returns-clause-old_key c = λ w slots h.
 pub returns-clause-kept_key : goal.returns-clause-kept_key
 returns-clause-kept_key c = λ v h.
     let second : RegistrationToken = record { slot = 0; version = 1 } in
-    let own = h.home second 0 0 v (Registered (factory_of second) (Ok tt) (factory_of second)) [] (refl, omega arith) (refl, refl) 0 refl in
+    let own = (h.home second 0 0 v (Registered (factory_of second) (Ok tt) (factory_of second)) [] (refl, omega arith) (refl, refl)).0 0 refl in
+    absurd (omega (arith, own.2))
+
+pub returns-clause-armed_elsewhere : goal.returns-clause-armed_elsewhere
+returns-clause-armed_elsewhere c = λ v h.
+    let second : RegistrationToken = record { slot = 0; version = 1 } in
+    let own = (h.home second tt tt v (Unregistered (Ok tt)) (Arm (record { nanos = 5 }) first_token ∷ []) (λ key none. absurd none) (refl, refl)).1.0 in
     absurd (omega (arith, own.2))
