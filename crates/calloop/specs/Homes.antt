@@ -1,4 +1,4 @@
--- Where the sources of a loop are registered, at each moment of a run.
+-- Where the sources of a loop are registered.
 use Rattle.std.specs.Prelude.{◌≡◌, ℕ, ◌%◌, Some, slice_get}
 use Rattle.calloop_wake.specs.declared.list.Content.TheVariants.{Source}
 use Rattle.calloop_core.specs.Deeds.{Lent}
