@@ -13,3 +13,4 @@ pub mod Pinging
 pub mod Registering
 pub mod Telling
 pub mod Listing
+pub mod Homes

@@ -21,7 +21,7 @@ use Rattle.calloop_core.specs.Pollers.{Outside, nanos_of}
 use Rattle.calloop_core.specs.Polls.{PollView, PollStep, AllAllowed, with_pass, cut}
 use Rattle.calloop_core.specs.Holdings.{Hold, Free, Spent, Standing, Keeps, IsBelow, IsWithin}
 use Rattle.calloop_core.specs.Deeds.{Deed, Registered, Reregistered, Unregistered, Turned, Slept, Noticed, Lent, lent}
-use Rattle.calloop_core.specs.Meanings.{Meaning, IsKeeping}
+use Rattle.calloop_core.specs.Meanings.{Meaning, KeepsCounters}
 use Rattle.calloop.specs.Machine.{World, View, IsNew, Registration, Change, Put, Claim, Swapped, Polls, Polling, Watching, Counting, Holds, Appended, Gathered, Cut, Ended, holding, reused, with_claim, done, all_done, seen, slot_of, AllFit}
 use Rattle.calloop.specs.declared.loop_logic.LoopCall.{LoopCall}
 use Rattle.calloop.specs.declared.loop_logic.LoopCall.TheVariants.{Insert, Enable, Update, Disable, Remove as RemoveCall, Exchange, Dispatch, Poller as NewPoller}
@@ -73,7 +73,7 @@ pub record IsOwned {D P X Q : Type 0} (M : Meaning D P (Lent X Q)) (w : World D 
   pub alone : (k : ℕ) (d e : D) (i : ℕ) → slice_get aside k ≡ Some d → At w.slots i e → IsApart (M.holds d) (M.holds e)
   pub among : (j k : ℕ) (d e : D) → j ≢ k → slice_get aside j ≡ Some d → slice_get aside k ≡ Some e → IsApart (M.holds d) (M.holds e)
 
-module _ {D P X Q : Type 0} (M : Meaning D P (Lent X Q)) (O : Outside P) (law : IsKeeping M) where
+module _ {D P X Q : Type 0} (M : Meaning D P (Lent X Q)) (O : Outside P) (law : KeepsCounters M) where
   -- changes that leave slots, deadlines and ledger as they are
   owned_same : (w w' : World D P) (aside : List D) → w'.slots ≡ w.slots → w'.ledger ≡ w.ledger → w'.poll.deadlines ≡ w.poll.deadlines → w'.poll.batch ≡ w.poll.batch → IsOwned M w aside → IsOwned M w' aside
   owned_same w w' aside slots ledger deadlines batch h =
@@ -270,7 +270,7 @@ aside_of (Ending token d answer x) = d ∷ []
 aside_of (Returning token d told x) = d ∷ []
 aside_of (Leaving answer x) = []
 
-module _ {D P X Q : Type 0} (M : Meaning D P (Lent X Q)) (O : Outside P) (law : IsKeeping M) where
+module _ {D P X Q : Type 0} (M : Meaning D P (Lent X Q)) (O : Outside P) (law : KeepsCounters M) where
   aside_wait : (answer : Result ℕ Cause) (given : List (ℕ × Readiness)) (x : X) → aside_of {D = D} (after_wait answer given x) ≡ []
   aside_wait (Ok now) given x = refl
   aside_wait (Err cause) given x = refl

@@ -13,6 +13,7 @@ pub held_with_data : {D A P T X I : Type 0} (held : D → A) (m : Meaning D P T)
 held_with_data held m n h =
     record {
       holds = λ s. h.holds s;
+      keys = λ s key. h.keys s key;
       fits = λ s. h.fits s;
       needs = λ s. h.needs s;
       does = λ s v deed l t. (

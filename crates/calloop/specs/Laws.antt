@@ -162,6 +162,10 @@ HoldsNone m d = (counter : ℕ) → m.holds d counter ≡ Free
 abbrev pub HoldsNoMore : {D P X Q : Type 0} → Meaning D P (Lent X Q) → (old new : D) → Type 0
 HoldsNoMore m old new = (counter : ℕ) → IsWithin (m.holds new counter) (m.holds old counter)
 
+-- and has no key that this doesn't have
+abbrev pub HasNoMoreKeys : {D P X Q : Type 0} → Meaning D P (Lent X Q) → (old new : D) → Type 0
+HasNoMoreKeys m old new = (key : ℕ) → m.keys new key → m.keys old key
+
 -- what comes into the loop holds no counter then: each source is used with one loop. One that was taken out holds none any
 -- more, so it may come again. A source that is changed in its slot, or exchanged there, holds no more than before.
 abbrev pub IsFresh : {D P X Q : Type 0} → Meaning D P (Lent X Q) → Change D P → Type 0
@@ -172,6 +176,15 @@ IsFresh m change = Unit {0}
 abbrev pub AllFresh : {D P X Q : Type 0} → Meaning D P (Lent X Q) → List (Change D P) → Type 0
 AllFresh m [] = Unit {0}
 AllFresh m (c ∷ cs) = IsFresh m c × AllFresh m cs
+
+-- no exchange brings a key into the loop
+abbrev pub BringsNoKey : {D P X Q : Type 0} → Meaning D P (Lent X Q) → Change D P → Type 0
+BringsNoKey m (Swapped slot old new) = HasNoMoreKeys m old new
+BringsNoKey m change = Unit {0}
+
+abbrev pub AllBringNoKey : {D P X Q : Type 0} → Meaning D P (Lent X Q) → List (Change D P) → Type 0
+AllBringNoKey m [] = Unit {0}
+AllBringNoKey m (c ∷ cs) = BringsNoKey m c × AllBringNoKey m cs
 
 -- each of these stands once among them
 abbrev pub AllOnce : List RegistrationToken → Type 0

@@ -9,3 +9,4 @@ pub mod Laws
 pub mod Lending
 pub mod Choices
 pub mod Wrong
+pub mod Homes

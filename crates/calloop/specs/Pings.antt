@@ -146,5 +146,10 @@ IsPing s v (Slept answer) steps t = (answer ≡ Ok None) × (steps ≡ []) × (t
 IsPing s v (Noticed events) steps t = (steps ≡ []) × (t ≡ s)
 IsPing s v (Turned readiness token turn) steps t = IsPingTurn s token v turn.calls turn.answer steps t
 
+-- the key that it gave its cell
+abbrev pub ping_keys : {R : Type 0} → PingSource R → (key : ℕ) → Type 0
+ping_keys s key = s.twin.key ≡ Some key
+
 abbrev pub ping_meaning : {P R : Type 0} → Meaning (PingSource R) P (Heard (Unit {0}) (Unit {0}) (Unit {0}) PingError)
-ping_meaning = record { holds = λ s. holds_none; fits = λ s. Unit {0}; needs = λ s. false; does = IsPing }
+ping_meaning =
+    record { holds = λ s. holds_none; keys = ping_keys; fits = λ s. Unit {0}; needs = λ s. false; does = IsPing }

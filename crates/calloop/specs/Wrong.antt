@@ -1,10 +1,13 @@
 -- Small cases that the laws over all runs rule out.
-use Rattle.std.specs.Prelude.{ℕ, [], ◌∷◌, Some}
+use Rattle.std.specs.Prelude.{◌≡◌, ℕ, [], ◌∷◌, Some}
 use Rattle.calloop_wake.specs.declared.token.Token.{Token}
 use Rattle.calloop_wake.specs.declared.token.RegistrationToken.{RegistrationToken}
 use Rattle.calloop_wake.specs.declared.list.Content.TheVariants.{Vacant, Source}
 use Rattle.calloop_wake.specs.Deadlines.{entry_of}
-use Rattle.calloop_core.specs.Polls.{timer_event}
+use Rattle.calloop_wake.specs.Tokens.{key_of}
+use Rattle.calloop_core.specs.Deeds.{Lent}
+use Rattle.calloop_core.specs.Meanings.{Meaning, still}
+use Rattle.calloop_core.specs.Polls.{timer_event, Arm}
 use Rattle.calloop.specs.Ledgers.{Ledger, Arming, Origin, Due, Waiting, Called, new_ledger}
 use Rattle.calloop.specs.Machine.{Registration}
 
@@ -56,3 +59,18 @@ called_early = record new_ledger { cut = gathered_at 4 ∷ []; made = first_armi
 -- one that was called for, and never gathered
 abbrev pub called_from_nowhere : Ledger
 called_from_nowhere = record new_ledger { cancelled = 0 ∷ []; made = first_arming ∷ []; count = 1; calls = first_call ∷ [] }
+
+-- a source that is the key which it is registered under, and that stays as it is whatever is asked of it
+abbrev pub unmoved : Meaning ℕ (Unit {0}) (Lent (Unit {0}) (Unit {0}))
+unmoved = record (still (λ s v deed t. t ≡ s)) { keys = λ s key. key ≡ s }
+
+-- one without a key, which arms a deadline under a token of the first registration whatever is asked of it
+abbrev pub arms_elsewhere : Meaning (Unit {0}) (Unit {0}) (Lent (Unit {0}) (Unit {0}))
+arms_elsewhere =
+    record (still (λ s v deed t. t ≡ s)) {
+      does = λ s v deed steps t. (steps ≡ Arm (record { nanos = 5 }) first_token ∷ []) × (t ≡ s);
+    }
+
+-- a slot that is used once more, with a source whose key is of the slot's first use
+abbrev pub used_with_an_old_key : Registration ℕ
+used_with_an_old_key = record { reuse = 1; content = Source (key_of first_token) }

@@ -1,12 +1,14 @@
--- A timer makes steps of its own counter alone, and calls at most once for each arming. The impl cites these proofs, so they
--- stand here.
+-- A timer makes steps of its own counter alone, calls at most once for each arming, and stays at home. The impl cites these
+-- proofs, so they stand here.
 use Rattle.std.proofs.Common.{◌≡◌, ◌≢◌, inl, inr, ℕ, ◌++◌, List, Option, None, Some, Result, Ok, Err, refl, sym, ◌∙◌}
 use Rattle.std.proofs.Common.{ap, true, false, Bool, nat_eq, if◌then◌else◌, arith}
 use Rattle.std.proofs.lemmas.Bool.Decides.{nat_tests}
 use Rattle.calloop_wake.specs.declared.error.Error.{Error}
 use Rattle.calloop_wake.specs.declared.token.Token.{Token}
 use Rattle.calloop_wake.specs.declared.token.TokenFactory.{TokenFactory}
+use Rattle.calloop_wake.specs.declared.token.RegistrationToken.{RegistrationToken}
 use Rattle.calloop_wake.specs.declared.wheel.Instant.{Instant}
+use Rattle.calloop_wake.specs.Tokens.{key_of}
 use Rattle.calloop_wake.specs.Deadlines.{moment_after}
 use Rattle.calloop_core.specs.declared.sources.PostAction.{PostAction}
 use Rattle.calloop_core.specs.declared.timer.TimeoutAction.{TimeoutAction}
@@ -15,11 +17,13 @@ use Rattle.calloop_core.specs.declared.timer.TimerError.{TimerError}
 use Rattle.calloop_core.specs.declared.timer.Timer.{Timer}
 use Rattle.calloop_core.specs.declared.timer.Registration.{Registration}
 use Rattle.calloop_core.specs.Deeds.{Registered, Reregistered, Unregistered, Turned, Slept, Noticed}
-use Rattle.calloop_core.specs.Meanings.{IsKeeping}
+use Rattle.calloop_core.specs.Keys.{IsKeyOf, IsFactoryOf, AllArmFor}
+use Rattle.calloop_core.specs.Lawful.{next_is_own}
+use Rattle.calloop_core.specs.Meanings.{IsKeeping, KeepsCounters, KeepsHome}
 use Rattle.calloop_core.specs.Polls.{PollView, PollStep}
 use Rattle.calloop_core.specs.Holdings.{Hold, Free, Spent, Standing, IsWithin, Keeps, with_hold}
 use Rattle.calloop_core.specs.Timers.{Calls, timer_holds, held_as, releases, Armed, ArmedAgain, ArmedFor, Answered}
-use Rattle.calloop_core.specs.Timers.{IsTimerReg, IsTimerUnreg, IsTimerTurn, timer_meaning}
+use Rattle.calloop_core.specs.Timers.{IsTimerReg, IsTimerUnreg, IsTimerTurn, timer_keys, timer_meaning}
 
 within_same : (h : Hold) → IsWithin h h
 within_same Free = tt
@@ -111,10 +115,81 @@ timer_turn_keeps s t k v cs a l (inl (r, h)) =
     rw h.steps_are (mine, keeps_answered (timer_holds s) v.deadlines.next s r h.action a h.more t h.answered)
 timer_turn_keeps s t k v cs a l (inr h) = rw (h.no_steps, h.same) (λ counter. within_same (timer_holds s counter))
 
+timer_counts : {P : Type 0} → KeepsCounters (timer_meaning {P = P})
+timer_counts s t v (Registered f a g) l fits below h = (tt, timer_reg_keeps s t v f g a l h)
+timer_counts s t v (Reregistered f a g) l fits below h = (tt, timer_reg_keeps s t v f g a l h)
+timer_counts s t v (Unregistered a) l fits below h = (tt, timer_unreg_keeps s t v a l h)
+timer_counts s t v (Slept a) l fits below h = (tt, rw (h.1, h.2) (λ counter. within_same (timer_holds s counter)))
+timer_counts s t v (Noticed es) l fits below h = (tt, rw (h.0, h.1) (λ counter. within_same (timer_holds s counter)))
+timer_counts s t v (Turned r k turn) l fits below h = (tt, timer_turn_keeps s t k v turn.calls turn.answer l h)
+
+-- Of its key.
+
+-- each key of this timer is of that registration
+abbrev Home : RegistrationToken → Timer → Type 0
+Home r t = (key : ℕ) → timer_keys t key → IsKeyOf r key
+
+arms_released : {P : Type 0} (r : RegistrationToken) (o : Option Registration) (more : List (PollStep P))
+    → AllArmFor r more → AllArmFor r (releases o ++ more)
+arms_released r None more h = h
+arms_released r (Some own) more h = (tt, h)
+
+arms_none : (P : Type 0) (r : RegistrationToken) (o : Option Registration) → AllArmFor {P = P} r (releases o)
+arms_none P r None = tt
+arms_none P r (Some own) = (tt, tt)
+
+home_armed : {P : Type 0} (r : RegistrationToken) (o : Option Instant) (next : ℕ) (f g : TokenFactory)
+    (a : Result (Unit {0}) Error) (l : List (PollStep P)) (t : Timer) → IsFactoryOf r f → Armed o next f a l t g
+    → Home r t × AllArmFor r l
+home_armed r None next f g a l t is h = rw (h.1, h.2) (λ key none. absurd none, tt)
+home_armed r (Some at) next f g (Ok u) l t is h =
+    rw (h.0, h.1) (λ key e. next_is_own f r key is e, (next_is_own f r _ is refl, tt))
+home_armed r (Some at) next f g (Err e) l t is h = rw (h.0, h.1) (λ key none. absurd none, tt)
+
+home_again : {P : Type 0} (r : RegistrationToken) (own : Registration) (at : Instant) (a : Result PostAction TimerError)
+    (l : List (PollStep P)) (t : Timer) → IsKeyOf r (key_of own.token) → ArmedAgain own at a l t
+    → Home r t × AllArmFor r l
+home_again r own at (Ok x) l t mine h = rw (h.1, h.2) (λ key e. rw e mine, (mine, tt))
+home_again r own at (Err e) l t mine h = rw (h.0, h.1) (λ key none. absurd none, tt)
+
+home_for : {P : Type 0} (r : RegistrationToken) (own : Registration) (moment : Option Instant)
+    (a : Result PostAction TimerError) (l : List (PollStep P)) (t : Timer) → IsKeyOf r (key_of own.token)
+    → ArmedFor own moment a l t → Home r t × AllArmFor r l
+home_for r own (Some at) a l t mine h = home_again r own at a l t mine h
+home_for r own None a l t mine h = rw (h.1, h.2) (λ key e. rw e mine, tt)
+
+home_answered : {P : Type 0} (r : RegistrationToken) (s : Timer) (own : Registration) (x : TimeoutAction)
+    (a : Result PostAction TimerError) (l : List (PollStep P)) (t : Timer) → IsKeyOf r (key_of own.token)
+    → Answered s own x a l t → Home r t × AllArmFor r l
+home_answered r s own Drop a l t mine h = rw (h.1, h.2) (λ key e. rw e mine, tt)
+home_answered r s own (ToInstant at) a l t mine h = home_again r own at a l t mine h
+home_answered r s own (ToDuration time) a l t mine h =
+    let x = home_for r own (moment_after h.0 time) a h.2 t mine h.4 in (x.0, rw h.3 (tt, x.1))
+
+home_turn : {P : Type 0} (r : RegistrationToken) (s t : Timer) (k : Token) (v : PollView P) (cs : Calls)
+    (a : Result PostAction TimerError) (l : List (PollStep P)) → Home r s → IsTimerTurn s k v cs a l t
+    → Home r t × AllArmFor r l
+home_turn r s t k v cs a l home (inl (own, h)) =
+    let mine : IsKeyOf r (key_of own.token) = home (key_of own.token) (rw h.registered refl) in
+    let x = home_answered r s own h.action a h.more t mine h.answered in
+    (x.0, rw h.steps_are (tt, x.1))
+home_turn r s t k v cs a l home (inr h) = rw (h.no_steps, h.same) (home, tt)
+
+home_registered : {P : Type 0} (r : RegistrationToken) (s t : Timer) (v : PollView P) (f g : TokenFactory)
+    (a : Result (Unit {0}) Error) (l : List (PollStep P)) → IsFactoryOf r f → IsTimerReg s v f a l t g
+    → Home r t × AllArmFor r l
+home_registered r s t v f g a l is h =
+    let x = home_armed r s.deadline v.deadlines.next f g a h.0 t is h.2 in
+    (x.0, rw h.1 (arms_released r s.registration h.0 x.1))
+
+timer_stays : {P : Type 0} → KeepsHome (timer_meaning {P = P})
+timer_stays r s t v (Registered f (Ok u) g) l begins h = home_registered r s t v f g (Ok u) l begins h
+timer_stays r s t v (Registered f (Err e) g) l begins h = home_registered r s t v f g (Err e) l begins.1 h
+timer_stays r s t v (Reregistered f a g) l begins h = home_registered r s t v f g a l begins.1 h
+timer_stays r s t v (Unregistered a) l home h = rw (h.1, h.2) (λ key none. absurd none, arms_none _ r s.registration)
+timer_stays r s t v (Slept a) l home h = rw (h.1, h.2) (home, tt)
+timer_stays r s t v (Noticed es) l home h = rw (h.0, h.1) (home, tt)
+timer_stays r s t v (Turned readiness k turn) l home h = home_turn r s t k v turn.calls turn.answer l home h
+
 pub timer_keeps : {P : Type 0} → IsKeeping (timer_meaning {P = P})
-timer_keeps s t v (Registered f a g) l fits below h = (tt, timer_reg_keeps s t v f g a l h)
-timer_keeps s t v (Reregistered f a g) l fits below h = (tt, timer_reg_keeps s t v f g a l h)
-timer_keeps s t v (Unregistered a) l fits below h = (tt, timer_unreg_keeps s t v a l h)
-timer_keeps s t v (Slept a) l fits below h = (tt, rw (h.1, h.2) (λ counter. within_same (timer_holds s counter)))
-timer_keeps s t v (Noticed es) l fits below h = (tt, rw (h.0, h.1) (λ counter. within_same (timer_holds s counter)))
-timer_keeps s t v (Turned r k turn) l fits below h = (tt, timer_turn_keeps s t k v turn.calls turn.answer l h)
+timer_keeps = record { counters = timer_counts; home = timer_stays }

@@ -1,17 +1,21 @@
 -- Proofs that the dispatchers of the library meet the laws of `Meanings`. They define nothing; impls cite them, so
 -- they stand here.
-use Rattle.std.specs.Prelude.{◌≡◌, ◌↔◌, List, [], ◌∷◌, Result, Ok, Err}
-use Rattle.std.proofs.Common.{refl, sym, ap, ◌∙◌, inl, inr}
+use Rattle.std.specs.Prelude.{◌≡◌, ◌↔◌, ℕ, List, [], ◌∷◌, Result, Ok, Err}
+use Rattle.std.proofs.Common.{refl, sym, ap, subst, ◌∙◌, inl, inr}
 use Rattle.anyhow.specs.declared.error.Error.{Error as Cause}
 use Rattle.calloop_wake.specs.declared.error.Error.{Error}
 use Rattle.calloop_wake.specs.declared.error.Error.TheVariants.{InvalidToken, IoError, OtherError, OutOfMemory, TooManySources, TooManyTokens, TooManyTimers}
+use Rattle.calloop_wake.specs.declared.token.RegistrationToken.{RegistrationToken}
+use Rattle.calloop_wake.specs.declared.token.TokenFactory.{TokenFactory}
+use Rattle.calloop_wake.specs.Tokens.{key_of, next_token}
 use Rattle.calloop_core.specs.declared.sources.OneOf.{OneOf}
 use Rattle.calloop_core.specs.declared.sources.OneOf.TheVariants.{First, Other}
 use Rattle.calloop_core.specs.Polls.{PollView}
 use Rattle.calloop_core.specs.Calls.{Call, Calling, Went, Becomes, IsOther, IsOfSource, AsOfSource}
 use Rattle.calloop_core.specs.Deeds.{Deed, Registered, Reregistered, Unregistered, Turned, Slept, Noticed}
 use Rattle.calloop_core.specs.Deeds.{Heard, Lent}
-use Rattle.calloop_core.specs.Meanings.{Meaning, IsKeeping, IsAsking, FailsAsSource, IsHeld}
+use Rattle.calloop_core.specs.Keys.{IsKeyOf, IsFactoryOf}
+use Rattle.calloop_core.specs.Meanings.{Meaning, IsKeeping, KeepsCounters, KeepsHome, IsAsking, FailsAsSource, IsHeld}
 use Rattle.calloop_core.specs.Meanings.{with_callback, on_both, one_of, seen_as, still, attentive}
 
 -- Of an error of a source.
@@ -34,31 +38,69 @@ as_of_source TooManySources e is = inl is
 as_of_source TooManyTokens e is = inl is
 as_of_source TooManyTimers e is = inl is
 
+-- Of the key of a token that a factory gives.
+
+pub next_is_own : (f : TokenFactory) (r : RegistrationToken) (key : ℕ) → IsFactoryOf r f → key ≡ key_of (next_token f)
+    → IsKeyOf r key
+next_is_own f r key is e = subst (λ x. IsKeyOf x key) is.0 (f.given, is.1, e)
+
 -- Of what does nothing to `Poll`.
 
 pub keeping_still : {D P T : Type 0} (does : D → PollView P → Deed T → D → Type 0) → IsKeeping (still does)
-keeping_still does s t v deed steps fits below h = (tt, rw h.0 (λ counter. tt))
+keeping_still does =
+    record {
+      counters = λ s t v deed steps fits below h. (tt, rw h.0 (λ counter. tt));
+      home = λ registration s t v deed steps begins h. (λ key held. absurd held, rw h.0 tt);
+    }
 
 pub keeping_attentive : {D P T : Type 0} (does : D → PollView P → Deed T → D → Type 0) → IsKeeping (attentive does)
-keeping_attentive does = keeping_still does
+keeping_attentive does =
+    let still = keeping_still does in record { counters = still.counters; home = still.home }
 
 -- Of a source with its callback.
+
+counters_with_callback : {S F P E M T Cause X Q : Type 0} (m : Meaning S P (Heard E M T Cause))
+    (may : Calling F E M T X Q) (reaches : Q → Q → Type 0) (becomes : Cause → Error → Type 0)
+    → KeepsCounters m → KeepsCounters (with_callback m may reaches becomes)
+counters_with_callback m may reaches becomes k s t v (Registered f a g) steps fits below h =
+    k s.source t.source v (Registered f a g) steps fits below h.0
+counters_with_callback m may reaches becomes k s t v (Reregistered f a g) steps fits below h =
+    k s.source t.source v (Reregistered f a g) steps fits below h.0
+counters_with_callback m may reaches becomes k s t v (Unregistered a) steps fits below h =
+    k s.source t.source v (Unregistered a) steps fits below h.0
+counters_with_callback m may reaches becomes k s t v (Slept a) steps fits below h =
+    k s.source t.source v (Slept a) steps fits below h.0
+counters_with_callback m may reaches becomes k s t v (Noticed es) steps fits below h =
+    k s.source t.source v (Noticed es) steps fits below h.0
+counters_with_callback m may reaches becomes k s t v (Turned r j turn) steps fits below h =
+    k s.source t.source v (Turned r j h.inner) steps fits below h.turned
+
+home_with_callback : {S F P E M T Cause X Q : Type 0} (m : Meaning S P (Heard E M T Cause))
+    (may : Calling F E M T X Q) (reaches : Q → Q → Type 0) (becomes : Cause → Error → Type 0)
+    → KeepsHome m → KeepsHome (with_callback m may reaches becomes)
+home_with_callback m may reaches becomes k registration s t v (Registered f (Ok u) g) steps begins h =
+    k registration s.source t.source v (Registered f (Ok u) g) steps begins h.0
+home_with_callback m may reaches becomes k registration s t v (Registered f (Err e) g) steps begins h =
+    k registration s.source t.source v (Registered f (Err e) g) steps begins h.0
+home_with_callback m may reaches becomes k registration s t v (Reregistered f a g) steps begins h =
+    k registration s.source t.source v (Reregistered f a g) steps begins h.0
+home_with_callback m may reaches becomes k registration s t v (Unregistered a) steps begins h =
+    k registration s.source t.source v (Unregistered a) steps begins h.0
+home_with_callback m may reaches becomes k registration s t v (Slept a) steps begins h =
+    k registration s.source t.source v (Slept a) steps begins h.0
+home_with_callback m may reaches becomes k registration s t v (Noticed es) steps begins h =
+    k registration s.source t.source v (Noticed es) steps begins h.0
+home_with_callback m may reaches becomes k registration s t v (Turned r j turn) steps begins h =
+    k registration s.source t.source v (Turned r j h.inner) steps begins h.turned
 
 pub keeping_with_callback : {S F P E M T Cause X Q : Type 0} (m : Meaning S P (Heard E M T Cause))
     (may : Calling F E M T X Q) (reaches : Q → Q → Type 0) (becomes : Cause → Error → Type 0)
     → IsKeeping m → IsKeeping (with_callback m may reaches becomes)
-keeping_with_callback m may reaches becomes k s t v (Registered f a g) steps fits below h =
-    k s.source t.source v (Registered f a g) steps fits below h.0
-keeping_with_callback m may reaches becomes k s t v (Reregistered f a g) steps fits below h =
-    k s.source t.source v (Reregistered f a g) steps fits below h.0
-keeping_with_callback m may reaches becomes k s t v (Unregistered a) steps fits below h =
-    k s.source t.source v (Unregistered a) steps fits below h.0
-keeping_with_callback m may reaches becomes k s t v (Slept a) steps fits below h =
-    k s.source t.source v (Slept a) steps fits below h.0
-keeping_with_callback m may reaches becomes k s t v (Noticed es) steps fits below h =
-    k s.source t.source v (Noticed es) steps fits below h.0
-keeping_with_callback m may reaches becomes k s t v (Turned r j turn) steps fits below h =
-    k s.source t.source v (Turned r j h.inner) steps fits below h.turned
+keeping_with_callback m may reaches becomes k =
+    record {
+      counters = counters_with_callback m may reaches becomes k.counters;
+      home = home_with_callback m may reaches becomes k.home;
+    }
 
 -- what many calls ask for is reached too
 went_reaches : {F E M T X Q : Type 0} (may : Calling F E M T X Q) (reaches : Q → Q → Type 0)
@@ -93,12 +135,24 @@ failing_with_callback m may reaches becomes law s t v r j turn steps h e is =
 
 -- Of a choice of two.
 
+counters_one_of : {A B P T : Type 0} (m : Meaning A P T) (n : Meaning B P T)
+    → KeepsCounters m → KeepsCounters n → KeepsCounters (one_of m n)
+counters_one_of m n h k (First a) (First b) v deed steps fits below d = h a b v deed steps fits below d
+counters_one_of m n h k (Other a) (Other b) v deed steps fits below d = k a b v deed steps fits below d
+counters_one_of m n h k (First a) (Other b) v deed steps fits below d = absurd d
+counters_one_of m n h k (Other a) (First b) v deed steps fits below d = absurd d
+
+home_one_of : {A B P T : Type 0} (m : Meaning A P T) (n : Meaning B P T)
+    → KeepsHome m → KeepsHome n → KeepsHome (one_of m n)
+home_one_of m n h k registration (First a) (First b) v deed steps begins d = h registration a b v deed steps begins d
+home_one_of m n h k registration (Other a) (Other b) v deed steps begins d = k registration a b v deed steps begins d
+home_one_of m n h k registration (First a) (Other b) v deed steps begins d = absurd d
+home_one_of m n h k registration (Other a) (First b) v deed steps begins d = absurd d
+
 pub keeping_one_of : {A B P T : Type 0} (m : Meaning A P T) (n : Meaning B P T)
     → IsKeeping m → IsKeeping n → IsKeeping (one_of m n)
-keeping_one_of m n h k (First a) (First b) v deed steps fits below d = h a b v deed steps fits below d
-keeping_one_of m n h k (Other a) (Other b) v deed steps fits below d = k a b v deed steps fits below d
-keeping_one_of m n h k (First a) (Other b) v deed steps fits below d = absurd d
-keeping_one_of m n h k (Other a) (First b) v deed steps fits below d = absurd d
+keeping_one_of m n h k =
+    record { counters = counters_one_of m n h.counters k.counters; home = home_one_of m n h.home k.home }
 
 pub asking_one_of : {A B P X Q : Type 0} (reaches : Q → Q → Type 0)
     (m : Meaning A P (Lent X Q)) (n : Meaning B P (Lent X Q))
@@ -118,7 +172,11 @@ failing_one_of m n h k (Other a) (First b) v r j turn steps d = absurd d
 -- Of what is seen as another value.
 
 pub keeping_seen : {D A P T : Type 0} (see : D → A) (m : Meaning A P T) → IsKeeping m → IsKeeping (seen_as see m)
-keeping_seen see m h s t = h (see s) (see t)
+keeping_seen see m h =
+    record {
+      counters = λ s t. h.counters (see s) (see t);
+      home = λ registration s t. h.home registration (see s) (see t);
+    }
 
 pub asking_seen : {D A P X Q : Type 0} (see : D → A) (reaches : Q → Q → Type 0) (m : Meaning A P (Lent X Q))
     → IsAsking reaches m → IsAsking reaches (seen_as see m)
@@ -144,6 +202,7 @@ pub held_itself : {A P T : Type 0} (m : Meaning A P T) → IsHeld (λ a. a) m m
 held_itself m =
     record {
       holds = λ s. refl;
+      keys = λ s key. (λ h. h, λ h. h);
       fits = λ s. (λ h. h, λ h. h);
       needs = λ s. refl;
       does = λ s v deed steps t. (λ h. (t, refl, h), λ u. rw u.1 u.2);
@@ -153,6 +212,7 @@ pub held_first : {A B P T : Type 0} (m : Meaning A P T) (n : Meaning B P T) → 
 held_first m n =
     record {
       holds = λ s. refl;
+      keys = λ s key. (λ h. h, λ h. h);
       fits = λ s. (λ h. h, λ h. h);
       needs = λ s. refl;
       does = λ s v deed steps. first_step (λ a b. m.does a v deed steps b) (λ a b. n.does a v deed steps b) s;
@@ -162,6 +222,7 @@ pub held_other : {A B P T : Type 0} (m : Meaning A P T) (n : Meaning B P T) → 
 held_other m n =
     record {
       holds = λ s. refl;
+      keys = λ s key. (λ h. h, λ h. h);
       fits = λ s. (λ h. h, λ h. h);
       needs = λ s. refl;
       does = λ s v deed steps. other_step (λ a b. m.does a v deed steps b) (λ a b. n.does a v deed steps b) s;
@@ -174,6 +235,8 @@ pub held_through : {A B D P T : Type 0} (f : A → B) (g : B → D)
 held_through f g m n o h k =
     record {
       holds = λ s. k.holds (f s) ∙ h.holds s;
+      keys = λ s key.
+          (λ x. (h.keys s key).0 ((k.keys (f s) key).0 x), λ x. (k.keys (f s) key).1 ((h.keys s key).1 x));
       fits = λ s. (λ x. (h.fits s).0 ((k.fits (f s)).0 x), λ x. (k.fits (f s)).1 ((h.fits s).1 x));
       needs = λ s. k.needs (f s) ∙ h.needs s;
       does = λ s v deed steps t. (

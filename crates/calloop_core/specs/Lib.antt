@@ -7,6 +7,7 @@ pub mod Calls
 pub mod Deeds
 pub mod Holdings
 pub mod Hubs
+pub mod Keys
 pub mod Meanings
 pub mod Lawful
 pub mod Timers

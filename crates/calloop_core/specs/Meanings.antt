@@ -1,9 +1,10 @@
 -- What a source or a dispatcher means: a relation between what it is before a call, what the call read of `Poll`,
 -- what was done, the steps that it made there, and what it is after it. calloop's `EventSource` and
 -- `EventDispatcher`, seen from outside; calloop promises nothing of them.
-use Rattle.std.specs.Prelude.{◌≡◌, ◌↔◌, ℕ, List, [], Bool, true, false, Err}
+use Rattle.std.specs.Prelude.{◌≡◌, ◌↔◌, ℕ, List, [], Bool, true, false, Ok, Err}
 use Rattle.calloop_wake.specs.declared.error.Error.{Error}
 use Rattle.calloop_wake.specs.declared.token.Token.{Token}
+use Rattle.calloop_wake.specs.declared.token.RegistrationToken.{RegistrationToken}
 use Rattle.calloop_core.specs.declared.sys.Readiness.{Readiness}
 use Rattle.calloop_core.specs.declared.sources.Dispatcher.{Dispatcher}
 use Rattle.calloop_core.specs.declared.sources.OneOf.{OneOf}
@@ -14,11 +15,14 @@ use Rattle.calloop_core.specs.Calls.{Calling, Went, Becomes, IsOfSource}
 use Rattle.calloop_core.specs.Deeds.{Deed, Registered, Reregistered, Unregistered, Turned, Slept, Noticed}
 use Rattle.calloop_core.specs.Deeds.{Heard, Lent}
 use Rattle.calloop_core.specs.Holdings.{Hold, Keeps, IsBelow, holds_none}
+use Rattle.calloop_core.specs.Keys.{IsKeyOf, IsFactoryOf, AllArmFor, no_key}
 
 -- D is the source or dispatcher, P the poller, T what a turn takes and gives
 pub record Meaning (D P T : Type 0) : Type 1 where
   -- the counters of timers that it holds
   pub holds : D → ℕ → Hold
+  -- the keys that it is registered under
+  pub keys : D → ℕ → Type 0
   -- what has to be true of it besides, as that two timers within it hold different counters
   pub fits : D → Type 0
   -- whether it is told of waits: before each, and after each
@@ -31,11 +35,38 @@ Does {D} {P} {T} outside m s v deed t w =
     (steps : List (PollStep P)) × m.does s v deed steps t × AllStepped outside v steps w
 
 -- it leaves the counters of others alone, and calls at most once for each arming of its own
-abbrev pub IsKeeping : {D P T : Type 0} → Meaning D P T → Type 0
-IsKeeping {D} {P} {T} m =
+abbrev pub KeepsCounters : {D P T : Type 0} → Meaning D P T → Type 0
+KeepsCounters {D} {P} {T} m =
     (s t : D) (v : PollView P) (deed : Deed T) (steps : List (PollStep P))
     → m.fits s → IsBelow v.deadlines.next (m.holds s) → m.does s v deed steps t
     → m.fits t × Keeps (m.holds s) v.deadlines.next steps (m.holds t)
+
+-- it is at home in this registration: each key that it is registered under is one of it
+abbrev pub IsAtHome : {D P T : Type 0} → Meaning D P T → RegistrationToken → D → Type 0
+IsAtHome m registration s = (key : ℕ) → m.keys s key → IsKeyOf registration key
+
+-- where a deed begins: at home, with a factory of that registration where one is lent; a registration that succeeds may
+-- begin anywhere
+abbrev pub BeginsIn : {T : Type 0} → (at_home : Type 0) → RegistrationToken → Deed T → Type 0
+BeginsIn at_home registration (Registered f (Ok u) g) = IsFactoryOf registration f
+BeginsIn at_home registration (Registered f (Err e) g) = at_home × IsFactoryOf registration f
+BeginsIn at_home registration (Reregistered f answer g) = at_home × IsFactoryOf registration f
+BeginsIn at_home registration (Unregistered answer) = at_home
+BeginsIn at_home registration (Turned readiness token turn) = at_home
+BeginsIn at_home registration (Slept answer) = at_home
+BeginsIn at_home registration (Noticed events) = at_home
+
+-- each deed that begins in a registration leaves it at home there, and arms deadlines under keys of that registration alone
+abbrev pub KeepsHome : {D P T : Type 0} → Meaning D P T → Type 0
+KeepsHome {D} {P} {T} m =
+    (registration : RegistrationToken) (s t : D) (v : PollView P) (deed : Deed T) (steps : List (PollStep P))
+    → BeginsIn (IsAtHome m registration s) registration deed → m.does s v deed steps t
+    → IsAtHome m registration t × AllArmFor registration steps
+
+-- what is promised of every source
+pub record IsKeeping {D P T : Type 0} (m : Meaning D P T) : Type 0 where
+  pub counters : KeepsCounters m
+  pub home : KeepsHome m
 
 -- what a turn asks for is reached from what was asked before it
 abbrev pub IsAsking : {D P X Q : Type 0} → (Q → Q → Type 0) → Meaning D P (Lent X Q) → Type 0
@@ -86,6 +117,7 @@ abbrev pub with_callback : {S F P E M T Cause X Q : Type 0}
 with_callback m may reaches becomes =
     record {
       holds = λ s. m.holds s.source;
+      keys = λ s. m.keys s.source;
       fits = λ s. m.fits s.source;
       needs = λ s. m.needs s.source;
       does = dispatched m may reaches becomes;
@@ -108,6 +140,7 @@ abbrev pub one_of : {A B P T : Type 0} → Meaning A P T → Meaning B P T → M
 one_of m n =
     record {
       holds = of_either m.holds n.holds;
+      keys = of_either m.keys n.keys;
       fits = of_either m.fits n.fits;
       needs = of_either m.needs n.needs;
       does = λ s v deed steps t. on_both (λ a b. m.does a v deed steps b) (λ a b. n.does a v deed steps b) s t;
@@ -118,16 +151,18 @@ abbrev pub seen_as : {D A P T : Type 0} → (D → A) → Meaning A P T → Mean
 seen_as see m =
     record {
       holds = λ s. m.holds (see s);
+      keys = λ s. m.keys (see s);
       fits = λ s. m.fits (see s);
       needs = λ s. m.needs (see s);
       does = λ s v deed steps t. m.does (see s) v deed steps (see t);
     }
 
--- what holds no counter, does nothing to `Poll`, and isn't told of waits
+-- what holds no counter and no key, does nothing to `Poll`, and isn't told of waits
 abbrev pub still : {D P T : Type 0} → (D → PollView P → Deed T → D → Type 0) → Meaning D P T
 still does =
     record {
       holds = λ s. holds_none;
+      keys = λ s. no_key;
       fits = λ s. Unit {0};
       needs = λ s. false;
       does = λ s v deed steps t. (steps ≡ []) × does s v deed t;
@@ -140,6 +175,7 @@ attentive does = record (still does) { needs = λ s. true }
 -- what is held means what the part means: it goes just where the part goes, and is held again
 pub record IsHeld {A D P T : Type 0} (held : A → D) (m : Meaning A P T) (n : Meaning D P T) : Type 0 where
   pub holds : (s : A) → n.holds (held s) ≡ m.holds s
+  pub keys : (s : A) (key : ℕ) → n.keys (held s) key ↔ m.keys s key
   pub fits : (s : A) → n.fits (held s) ↔ m.fits s
   pub needs : (s : A) → n.needs (held s) ≡ m.needs s
   pub does : (s : A) (v : PollView P) (deed : Deed T) (steps : List (PollStep P)) (t : D)

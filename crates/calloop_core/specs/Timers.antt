@@ -8,7 +8,7 @@ use Rattle.calloop_wake.specs.declared.token.Token.{Token}
 use Rattle.calloop_wake.specs.declared.token.TokenFactory.{TokenFactory}
 use Rattle.calloop_wake.specs.declared.wheel.Instant.{Instant}
 use Rattle.calloop_wake.specs.Deadlines.{is_armed, moment_after, CannotArm}
-use Rattle.calloop_wake.specs.Tokens.{next_token, after_token}
+use Rattle.calloop_wake.specs.Tokens.{key_of, next_token, after_token}
 use Rattle.calloop_core.specs.declared.sources.PostAction.{PostAction}
 use Rattle.calloop_core.specs.declared.sources.PostAction.TheVariants.{Continue, Remove}
 use Rattle.calloop_core.specs.declared.timer.TimeoutAction.{TimeoutAction}
@@ -18,6 +18,7 @@ use Rattle.calloop_core.specs.declared.timer.Timer.{Timer}
 use Rattle.calloop_core.specs.declared.timer.Registration.{Registration}
 use Rattle.calloop_core.specs.Calls.{Call as OneCall}
 use Rattle.calloop_core.specs.Holdings.{Hold, Free, Spent, Standing}
+use Rattle.calloop_core.specs.Keys.{no_key}
 use Rattle.calloop_core.specs.Deeds.{Deed, Registered, Reregistered, Unregistered, Turned, Slept, Noticed, Heard}
 use Rattle.calloop_core.specs.Meanings.{Meaning}
 use Rattle.calloop_core.specs.Polls.{PollView, PollStep, Arm, ArmAgain, Cancel, Call, ReadClock}
@@ -45,6 +46,14 @@ held_as (Some r) counter =
 
 abbrev pub timer_holds : Timer → ℕ → Hold
 timer_holds t = held_as t.registration
+
+-- the key of the token that it was armed under, also after its call
+abbrev pub registered_under : Option Registration → (key : ℕ) → Type 0
+registered_under None = no_key
+registered_under (Some r) = λ key. key ≡ key_of r.token
+
+abbrev pub timer_keys : Timer → (key : ℕ) → Type 0
+timer_keys t = registered_under t.registration
 
 -- the calls of a timer's callback
 abbrev pub Calls : Type 0
@@ -142,4 +151,5 @@ IsTimer s v (Noticed events) steps t = (steps ≡ []) × (t ≡ s)
 IsTimer s v (Turned readiness token turn) steps t = IsTimerTurn s token v turn.calls turn.answer steps t
 
 abbrev pub timer_meaning : {P : Type 0} → Meaning Timer P (Heard Instant (Unit {0}) TimeoutAction TimerError)
-timer_meaning = record { holds = timer_holds; fits = λ s. Unit {0}; needs = λ s. false; does = IsTimer }
+timer_meaning =
+    record { holds = timer_holds; keys = timer_keys; fits = λ s. Unit {0}; needs = λ s. false; does = IsTimer }

@@ -180,7 +180,8 @@ pub trait EventSource<P: Poller, C, R: Wait + Drop> {
     fn before_handle_events(&mut self, events: EventIterator<'_>)
         ensures { (v : PollView P) → means.does self.old v (Noticed (events_left events.entry)) [] self.new };
 
-    /// It leaves the counters of others alone, and calls at most once for each arming of its own.
+    /// It leaves the counters of others alone, and calls at most once for each arming of its own. A registration that succeeds
+    /// leaves it with keys of that registration alone, and so does each later call; it arms deadlines under no others.
     ghost keeps: { IsKeeping means };
 }
 
@@ -281,7 +282,8 @@ pub trait Dispatch<P: Poller, C, R: Wait + Drop, X, Q: Asking> {
     fn before_handle_events(&mut self, events: EventIterator<'_>)
         ensures { (v : PollView P) → means.does self.old v (Noticed (events_left events.entry)) [] self.new };
 
-    /// It leaves the counters of others alone, and calls at most once for each arming of its own.
+    /// It leaves the counters of others alone, and calls at most once for each arming of its own. A registration that succeeds
+    /// leaves it with keys of that registration alone, and so does each later call; it arms deadlines under no others.
     ghost keeps: { IsKeeping means };
 
     /// What a turn asks for is reached from what was asked for before it.

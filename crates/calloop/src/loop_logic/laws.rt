@@ -1,12 +1,14 @@
 //! What holds of every run.
-ghost use Rattle.std.specs.Prelude.{◌≡◌, List, [], ◌∷◌, Some, None};
+ghost use Rattle.std.specs.Prelude.{◌≡◌, ℕ, List, [], ◌∷◌, Some, None};
 ghost use Rattle.calloop.specs.declared.loop_logic.LoopCall.{LoopCall};
 ghost use Rattle.calloop.specs.declared.loop_logic.LoopAnswer.{LoopAnswer};
 ghost use Rattle.calloop.specs.Machine.{World, Change, IsNew};
 ghost use Rattle.calloop.specs.Rules.{Run};
-ghost use Rattle.calloop.specs.Laws.{IsSound, IsKept, IsTold, AllFresh, changes_of, GoesRight, NamesLater, StaysGone, OnTime};
+ghost use Rattle.calloop.specs.Homes.{AllAtHome};
+ghost use Rattle.calloop.specs.Laws.{IsSound, IsKept, IsTold, AllFresh, AllBringNoKey, changes_of, GoesRight, NamesLater, StaysGone, OnTime};
 ghost use Rattle.calloop_core.specs.Polls.{PollView};
-ghost use Rattle.calloop.specs.Wrong.{first_token, first_registration, used, given_up, early, in_two_places, called_twice, called_early, called_from_nowhere};
+ghost use Rattle.calloop_core.specs.Meanings.{IsKeeping};
+ghost use Rattle.calloop.specs.Wrong.{first_token, first_registration, used, given_up, early, in_two_places, called_twice, called_early, called_from_nowhere, unmoved, arms_elsewhere, used_with_an_old_key};
 
 use super::EventDispatcher;
 use calloop_core::sys::{Clock, Poller};
@@ -20,17 +22,21 @@ use std::sync::Wait;
 /// inserted: each arming of a timer is in just one place, also across errors and re-arming; each call of a timer belongs to
 /// an arming of its own, which was gathered when its deadline had come, and hands out its deadline.
 ///
-/// And from such a state, each registration that is told of waits stands once in their list, and names a slot that isn't vacant.
+/// And from such a state, each registration that is told of waits stands once in their list, and names a slot that isn't vacant;
+/// and each source that stands in a slot is registered under keys of that slot alone, of the version under which it stands there.
 pub fn once<D: EventDispatcher<P, C, R>, P: Poller, C: Clock, R: Wait + Drop>()
     ensures sound { (calls : List (LoopCall D P D.Data)) (answers : List (LoopAnswer D P D.Data)) (csss : List (List (List (Change D P)))) (w w' : World D P) → Run D.means P.outside calls answers csss w w' → IsSound w (changes_of csss) }
     ensures armings { (calls : List (LoopCall D P D.Data)) (answers : List (LoopAnswer D P D.Data)) (csss : List (List (List (Change D P)))) (w w' : World D P) → IsNew w → AllFresh D.means (changes_of csss) → Run D.means P.outside calls answers csss w w' → IsKept w'.ledger w'.poll }
+    ensures home { (calls : List (LoopCall D P D.Data)) (answers : List (LoopAnswer D P D.Data)) (csss : List (List (List (Change D P)))) (w w' : World D P) → IsNew w → AllBringNoKey D.means (changes_of csss) → Run D.means P.outside calls answers csss w w' → AllAtHome D.means w' }
     ensures told { (calls : List (LoopCall D P D.Data)) (answers : List (LoopAnswer D P D.Data)) (csss : List (List (List (Change D P)))) (w w' : World D P) → IsNew w → Run D.means P.outside calls answers csss w w' → IsTold w' }
 {}
 
 /// Small cases that the laws of `once` rule out: an event that goes to another slot than its token names, to a later
 /// registration, or to none though its source stands there; a token that names an earlier registration than before; one that
 /// was given up and is there again; an event that was gathered early; an arming in two places; one that is called for twice,
-/// early, or though it was cancelled; a registration that is told of waits twice, or after its slot was given up.
+/// early, or though it was cancelled; a registration that is told of waits twice, or after its slot was given up; a source that
+/// has a key of an earlier use of its slot, one that keeps its key where it is registered under another, and one that arms a deadline
+/// under a token of another registration.
 pub fn wrong_runs_are_ruled_out()
     ensures wrong_slot { ¬ GoesRight (used 0 ∷ used 0 ∷ []) first_token (Some 1) }
     ensures later_registration { ¬ GoesRight (used 1 ∷ []) first_token (Some 0) }
@@ -43,5 +49,8 @@ pub fn wrong_runs_are_ruled_out()
     ensures early_call { (v : PollView (Unit {0})) → ¬ IsKept called_early v }
     ensures told_twice { (w : World (Unit {0}) (Unit {0})) → w.held.lifecycle ≡ first_registration ∷ first_registration ∷ [] → ¬ IsTold w }
     ensures told_when_gone { (w : World (Unit {0}) (Unit {0})) → w.held.lifecycle ≡ first_registration ∷ [] → w.slots ≡ given_up 0 ∷ [] → ¬ IsTold w }
+    ensures old_key { (w : World ℕ (Unit {0})) → w.slots ≡ used_with_an_old_key ∷ [] → ¬ AllAtHome unmoved w }
+    ensures kept_key { (v : PollView (Unit {0})) → ¬ IsKeeping unmoved }
+    ensures armed_elsewhere { (v : PollView (Unit {0})) → ¬ IsKeeping arms_elsewhere }
     ensures call_from_nowhere { (v : PollView (Unit {0})) → ¬ IsKept called_from_nowhere v }
 {}

@@ -4,6 +4,7 @@ use Rattle.calloop.proofs.Reuse.{names_later}
 use Rattle.calloop.specs.Laws.{changes_of}
 use Rattle.calloop.proofs.Gone.{stay_gone, run_fits}
 use Rattle.calloop.proofs.Listing.{run_told}
+use Rattle.calloop.proofs.Homes.{run_home}
 use Rattle.calloop.proofs.Owning.{run_owned, new_owned}
 use Rattle.calloop.proofs.loop_logic.laws.once.Goals as goal
 
@@ -17,6 +18,7 @@ returns g c =
             gone = stay_gone g.P.Poller.outside w (changes_of csss) (run_fits g.D.Dispatch.means g.P.Poller.outside calls answers csss w w' run);
           };
       armings = λ calls answers csss w w' new fresh run.
-          (run_owned g.D.Dispatch.means g.P.Poller.outside g.met.D.Dispatch.keeps calls answers csss w w' fresh run (new_owned g.D.Dispatch.means w new)).noted.kept;
+          (run_owned g.D.Dispatch.means g.P.Poller.outside g.met.D.Dispatch.keeps.counters calls answers csss w w' fresh run (new_owned g.D.Dispatch.means w new)).noted.kept;
+      home = run_home g.D.Dispatch.means g.P.Poller.outside g.met.D.Dispatch.keeps.home;
       told = run_told g.D.Dispatch.means g.P.Poller.outside;
     }

@@ -1,6 +1,11 @@
-use Rattle.std.proofs.Common.{◌≡◌, inl, inr, ℕ, Bool, true, false, List, refl, sym, ap, ◌∙◌, ◌%◌, arith, slice_get}
+use Rattle.std.proofs.Common.{◌≡◌, inl, inr, ℕ, Bool, true, false, List, [], ◌∷◌, Ok, refl, sym, ap, ◌∙◌, ◌%◌, arith, slice_get}
 use Rattle.calloop.specs.Machine.{Registration}
-use Rattle.calloop.specs.Wrong.{first_token, first_registration, used, given_up}
+use Rattle.calloop_wake.specs.declared.token.RegistrationToken.{RegistrationToken}
+use Rattle.calloop_wake.specs.Tokens.{key_of}
+use Rattle.calloop_core.specs.Deeds.{Registered, Unregistered}
+use Rattle.calloop_core.specs.Polls.{Arm}
+use Rattle.calloop.specs.Rules.{factory_of}
+use Rattle.calloop.specs.Wrong.{first_token, first_registration, used, given_up, used_with_an_old_key}
 use Rattle.calloop.proofs.loop_logic.laws.wrong_runs_are_ruled_out.Goals as goal
 
 zero_one : ◌≡◌ {A = ℕ} 0 1 → ⊥
@@ -59,3 +64,20 @@ returns-clause-told_twice c = λ w twice h. (let once = rw twice at h.once in fa
 pub returns-clause-told_when_gone : goal.returns-clause-told_when_gone
 returns-clause-told_when_gone c = λ w one gone h.
     (let full = rw (one, gone) at h.full in false_true (sym (full first_registration refl)))
+
+pub returns-clause-old_key : goal.returns-clause-old_key
+returns-clause-old_key c = λ w slots h.
+    let own = h 0 used_with_an_old_key (key_of first_token) (ap (λ (l : List (Registration ℕ)). slice_get l 0) slots) refl (key_of first_token) refl in
+    absurd (omega (arith, own.2))
+
+pub returns-clause-kept_key : goal.returns-clause-kept_key
+returns-clause-kept_key c = λ v h.
+    let second : RegistrationToken = record { slot = 0; version = 1 } in
+    let own = (h.home second 0 0 v (Registered (factory_of second) (Ok tt) (factory_of second)) [] (refl, omega arith) (refl, refl)).0 0 refl in
+    absurd (omega (arith, own.2))
+
+pub returns-clause-armed_elsewhere : goal.returns-clause-armed_elsewhere
+returns-clause-armed_elsewhere c = λ v h.
+    let second : RegistrationToken = record { slot = 0; version = 1 } in
+    let own = (h.home second tt tt v (Unregistered (Ok tt)) (Arm (record { nanos = 5 }) first_token ∷ []) (λ key none. absurd none) (refl, refl)).1.0 in
+    absurd (omega (arith, own.2))

@@ -1,0 +1,287 @@
+-- Each source that stands in a slot is at home there.
+use Rattle.std.proofs.Common.{◌≡◌, ◌⊎◌, inl, inr, ℕ, zero, suc, ◌%◌, List, [], ◌∷◌, ◌++◌, map, true, false, if◌then◌else◌, refl, ap, sym, ◌∙◌, subst, arith, Some, None, Option, Result, Ok, Err, slice_get}
+use Rattle.std.proofs.lemmas.Bool.Decides.{nat_tests}
+use Rattle.std.proofs.lemmas.Option.{slice_get-map}
+use Rattle.std.specs.Option.{option_map}
+use Rattle.std.specs.declared.io.Error.{Error as Cause}
+use Rattle.calloop_wake.specs.declared.error.Error.{Error}
+use Rattle.calloop_wake.specs.declared.error.InsertError.{InsertError}
+use Rattle.calloop_wake.specs.declared.token.RegistrationToken.{RegistrationToken}
+use Rattle.calloop_wake.specs.declared.token.TokenFactory.{TokenFactory}
+use Rattle.calloop_wake.specs.declared.token.Token.{Token}
+use Rattle.calloop_wake.specs.declared.list.Content.{Content}
+use Rattle.calloop_wake.specs.declared.list.Content.TheVariants.{Vacant, Source, InTurn}
+use Rattle.calloop_wake.specs.declared.list.Slot.{Slot}
+use Rattle.calloop_wake.specs.Tokens.{registration_of}
+use Rattle.calloop_wake.specs.Slots.{changed, with_content, named, is_empty, is_vacant, first_vacant, next_registration, claimed, taken_up}
+use Rattle.calloop_wake.proofs.Named.{named_slot}
+use Rattle.calloop_wake.proofs.Inserted.{named_claimed}
+use Rattle.calloop_core.specs.declared.sys.Readiness.{Readiness}
+use Rattle.calloop_core.specs.declared.sys.poll.Pending.{Pending}
+use Rattle.calloop_core.specs.declared.sources.PostAction.{PostAction}
+use Rattle.calloop_core.specs.declared.sources.PostAction.TheVariants.{Continue, Reregister, Disable as DisableIt, Remove}
+use Rattle.calloop_core.specs.Pollers.{Outside, nanos_of}
+use Rattle.calloop_core.specs.Polls.{PollView, PollStep, with_pass, cut}
+use Rattle.calloop_core.specs.Keys.{IsFactoryOf}
+use Rattle.calloop_core.specs.Deeds.{Registered, Reregistered, Unregistered, Turned, Slept, Lent, lent}
+use Rattle.calloop_core.specs.Meanings.{Meaning, IsAtHome, BeginsIn, KeepsHome}
+use Rattle.calloop.specs.declared.loop_logic.LoopCall.{LoopCall}
+use Rattle.calloop.specs.declared.loop_logic.LoopCall.TheVariants.{Insert, Enable, Update, Disable, Remove as RemoveCall, Exchange, Dispatch, Poller as NewPoller}
+use Rattle.calloop.specs.declared.loop_logic.LoopAnswer.{LoopAnswer}
+use Rattle.calloop.specs.declared.loop_logic.LoopAnswer.TheVariants.{Inserted, Enabled, Updated, Disabled, Removed, Exchanged, Dispatched, Poller as OldPoller}
+use Rattle.calloop.specs.Held.{HeldStep}
+use Rattle.calloop.specs.Machine.{World, View, IsNew, Change, Ended, all_viewed, seen, slot_of, viewed}
+use Rattle.calloop.specs.Rules.{Doing, Beginning, Sleeping, Waiting, Gathering, Noticing, Cutting, Ending, Returning, Leaving, Step, Steps, SleptAs, SleptBy, NoticedBy, told_in, CutTo, CutFrom, ActedBy, ReturnedTo, emptied, after_turn, after_wait, Outcome, RegisteredBy, Case, Once, Run, InsertedBy, AskedIn, EnabledBy, UpdatedBy, DisabledBy, RemovedIn, RemovedBy, ExchangedIn, ExchangedBy, factory_of, traced, all_traced}
+use Rattle.calloop.specs.Homes.{AllAtHome}
+use Rattle.calloop.specs.Laws.{HasNoMoreKeys, AllBringNoKey, joined, changes_of}
+use Rattle.calloop.proofs.Seen.{seen-all_traced}
+
+-- Of slots.
+
+-- the slot in this place has this version
+abbrev IsThere : {D : Type 0} → List (Slot D) → ℕ → ℕ → Type 0
+IsThere {D} slots i version = (s : Slot D) × (slice_get slots i ≡ Some s) × (s.version ≡ version)
+
+-- and this source stands there
+abbrev Stands : {D : Type 0} → List (Slot D) → ℕ → ℕ → D → Type 0
+Stands {D} slots i version d = (s : Slot D) × (slice_get slots i ≡ Some s) × (s.version ≡ version) × (s.content ≡ Source d)
+
+same_version : {D : Type 0} (slots : List (Slot D)) (i v u : ℕ) → IsThere slots i v → IsThere slots i u → v ≡ u
+same_version slots i v u a b = (let e = a.1 in let f = b.1 in let same : a.0 ≡ b.0 = cc in sym a.2 ∙ ap (λ s. s.version) same ∙ b.2)
+
+put : {D : Type 0} (slots : List (Slot D)) (k i v : ℕ) (c : Content D) (d : D) → Stands (changed (with_content c) slots k) i v d → ((i ≡ k) × (c ≡ Source d) × IsThere slots k v) ⊎ Stands slots i v d
+put [] k i v c d h = (let e = h.1 in cc)
+put (x ∷ xs) zero zero v c d h = (let e = h.1 in let f = h.3 in let is : with_content c x ≡ h.0 = cc in inl (refl, ap (λ s. s.content) is ∙ f, (x, refl, ap (λ s. s.version) is ∙ h.2)))
+put (x ∷ xs) zero (suc i) v c d h = inr (h.0, h.1, h.2, h.3)
+put (x ∷ xs) (suc k) zero v c d h = inr (h.0, h.1, h.2, h.3)
+put (x ∷ xs) (suc k) (suc i) v c d h = elim (put xs k i v c d h) [ inl e ↦ inl (ap suc e.0, e.1, e.2) | inr e ↦ inr e ]
+
+put_there : {D : Type 0} (slots : List (Slot D)) (k i v : ℕ) (c : Content D) → IsThere slots i v → IsThere (changed (with_content c) slots k) i v
+put_there [] k i v c h = (let e = h.1 in cc)
+put_there (x ∷ xs) zero zero v c h = (let e = h.1 in let is : x ≡ h.0 = cc in (with_content c x, refl, ap (λ s. s.version) is ∙ h.2))
+put_there (x ∷ xs) zero (suc i) v c h = (h.0, h.1, h.2)
+put_there (x ∷ xs) (suc k) zero v c h = (h.0, h.1, h.2)
+put_there (x ∷ xs) (suc k) (suc i) v c h = put_there xs k i v c h
+
+claim : {D : Type 0} (slots : List (Slot D)) (i v : ℕ) (d : D) → Stands (claimed slots) i v d → Stands slots i v d
+claim [] zero v d h = (let e = h.1 in let f = h.3 in cc)
+claim [] (suc i) v d h = (let e = h.1 in cc)
+claim {D} (x ∷ xs) zero v d h =
+    elim (is_vacant x) as (λ b. slice_get (if b then taken_up x ∷ xs else x ∷ claimed xs) 0 ≡ Some h.0 → Stands (x ∷ xs) 0 v d)
+    [ true ↦ λ e. (let f = h.3 in cc) | false ↦ λ e. (h.0, e, h.2, h.3) ] h.1
+claim {D} (x ∷ xs) (suc i) v d h =
+    elim (is_vacant x) as (λ b. slice_get (if b then taken_up x ∷ xs else x ∷ claimed xs) (suc i) ≡ Some h.0 → Stands (x ∷ xs) (suc i) v d)
+    [ true ↦ λ e. (h.0, e, h.2, h.3) | false ↦ λ e. claim xs i v d (h.0, e, h.2, h.3) ] h.1
+
+-- what a token names isn't vacant, so it has the token's version
+named_there : {D : Type 0} (slots : List (Slot D)) (token : RegistrationToken) (c : Content D) → named slots token ≡ c → is_empty c ≡ false → IsThere slots token.slot token.version
+named_there {D} slots token c is full =
+    let s = named_slot slots token (ap (λ (x : Content D). is_empty x) is ∙ full) in
+    let same = s.2 in
+    (s.0, s.1, grind (arith, nat_tests))
+
+named_stands : {D : Type 0} (slots : List (Slot D)) (token : RegistrationToken) (d : D) → named slots token ≡ Source d → Stands slots token.slot token.version d
+named_stands {D} slots token d is =
+    let s = named_slot slots token (ap (λ (x : Content D). is_empty x) is) in
+    let same = s.2 in
+    (s.0, s.1, grind (arith, nat_tests), sym s.3 ∙ is)
+
+none_there : {D : Type 0} (slots : List (Slot D)) → slots ≡ [] → (i v : ℕ) (d : D) → Stands slots i v d → ⊥
+none_there [] none i v d h = (let e = h.1 in cc)
+none_there (x ∷ xs) none i v d h = cc
+
+module _ {D P X Q : Type 0} (M : Meaning D P (Lent X Q)) (O : Outside P) (law : KeepsHome M) where
+  -- each source that stands in a slot is at home there
+  abbrev Homely : List (Slot D) → Type 0
+  Homely slots = (i v : ℕ) (d : D) → Stands slots i v d → IsAtHome M (record { slot = i; version = v }) d
+
+  -- so is one that is out of its slot
+  abbrev AsideHomely : Doing D X → Type 0
+  AsideHomely (Ending token d answer x) = IsAtHome M token d
+  AsideHomely (Returning token d told x) = IsAtHome M token d
+  AsideHomely a = Unit {0}
+
+  -- what is no source is put into a slot
+  homely_without : (slots : List (Slot D)) (k : ℕ) (c : Content D) → ((d : D) → c ≡ Source d → ⊥) → Homely slots → Homely (changed (with_content c) slots k)
+  homely_without slots k c none h i v d at = elim (put slots k i v c d at) [ inl e ↦ absurd (none d e.1) | inr e ↦ h i v d e ]
+
+  homely_back : (slots : List (Slot D)) (token : RegistrationToken) (d : D) → IsThere slots token.slot token.version → IsAtHome M token d → Homely slots → Homely (changed (with_content (Source d)) slots token.slot)
+  homely_back slots token d there home h i v e at =
+      elim (put slots token.slot i v (Source d) e at) [
+        | inl x ↦ (let f = x.1 in let same : d ≡ e = cc in let version : v ≡ token.version = same_version slots token.slot v token.version x.2 there in rw (x.0, version, ← same) home)
+        | inr x ↦ h i v e x
+      ]
+
+  -- it goes out of its slot and back into it
+  homely_again : (slots : List (Slot D)) (token : RegistrationToken) (d e : D) → named slots token ≡ Source d → IsAtHome M token e → Homely slots → Homely (changed (with_content (Source e)) (changed (with_content InTurn) slots token.slot) token.slot)
+  homely_again slots token d e is home h =
+      homely_back (changed (with_content InTurn) slots token.slot) token e (put_there slots token.slot token.slot token.version InTurn (named_there slots token (Source d) is refl)) home
+      (homely_without slots token.slot InTurn (λ d e. cc) h)
+
+  homely_claim : (slots : List (Slot D)) → Homely slots → Homely (claimed slots)
+  homely_claim slots h i v d at = h i v d (claim slots i v d at)
+
+  home_named : (slots : List (Slot D)) (token : RegistrationToken) (d : D) → named slots token ≡ Source d → Homely slots → IsAtHome M token d
+  home_named slots token d is h = h token.slot token.version d (named_stands slots token d is)
+
+  own_factory : (token : RegistrationToken) → IsFactoryOf token (factory_of token)
+  own_factory token = (refl, omega arith)
+
+  begins_first : (token : RegistrationToken) (d : D) (answer : Outcome) (f : TokenFactory) → IsAtHome M token d → BeginsIn {T = Lent X Q} (IsAtHome M token d) token (Registered (factory_of token) answer f)
+  begins_first token d (Ok u) f home = own_factory token
+  begins_first token d (Err e) f home = (home, own_factory token)
+
+  first_home : (token : RegistrationToken) (v : PollView P) (d e : D) (answer : Outcome) (l : List (PollStep P)) → RegisteredBy M Registered token v d answer l e → IsAtHome M token d → IsAtHome M token e
+  first_home token v d e answer l (inl h) home = rw h.3 home
+  first_home token v d e answer l (inr h) home = (law token d e v (Registered (factory_of token) answer h.0) l (begins_first token d answer h.0 home) h.1).0
+
+  anew_home : (token : RegistrationToken) (v : PollView P) (d e : D) (answer : Outcome) (l : List (PollStep P)) → RegisteredBy M Reregistered token v d answer l e → IsAtHome M token d → IsAtHome M token e
+  anew_home token v d e answer l (inl h) home = rw h.3 home
+  anew_home token v d e answer l (inr h) home = (law token d e v (Reregistered (factory_of token) answer h.0) l (home, own_factory token) h.1).0
+
+  slept_as : (v : View D P) (timeout : Option ℕ) (later : List RegistrationToken) (answer : Result (Option (Readiness × Token)) Error) (x : X) (cs : List (Change D P)) (b : Doing D X) → SleptAs timeout later answer x cs b → Homely v.slots → Homely (all_viewed v cs).slots × AsideHomely b
+  slept_as v timeout later (Ok None) x cs b h k = rw (h.0, h.1) (k, tt)
+  slept_as v timeout later (Ok (Some given)) x cs b h k = rw (h.0, h.1) (k, tt)
+  slept_as v timeout later (Err e) x cs b h k = rw (h.0, h.1) (k, tt)
+
+  slept_homely : (v : View D P) (timeout : Option ℕ) (token : RegistrationToken) (later : List RegistrationToken) (x : X) (cs : List (Change D P)) (b : Doing D X) (c : Content D) → named v.slots token ≡ c → SleptBy M timeout token later c v x cs b → Homely v.slots → Homely (all_viewed v cs).slots × AsideHomely b
+  slept_homely v timeout token later x cs b Vacant is h k = rw (h.0, h.1) (k, tt)
+  slept_homely v timeout token later x cs b InTurn is h k = rw (h.0, h.1) (k, tt)
+  slept_homely v timeout token later x cs b (Source d) is h k =
+      let home = (law token d h.0 v.poll (Slept h.1) [] (home_named v.slots token d is k) h.3).0 in
+      rw h.5 (slept_as (all_viewed v (told_in token h.0)) timeout later h.1 x h.2 b h.4 (homely_again v.slots token d h.0 is home k))
+
+  noticed_homely : (v : View D P) (from : ℕ) (token : RegistrationToken) (later : List RegistrationToken) (x : X) (cs : List (Change D P)) (b : Doing D X) (c : Content D) → named v.slots token ≡ c → NoticedBy M from token later c v x cs b → Homely v.slots → Homely (all_viewed v cs).slots × AsideHomely b
+  noticed_homely v from token later x cs b Vacant is h k = rw (h.0, h.1) (k, tt)
+  noticed_homely v from token later x cs b InTurn is h k = rw (h.0, h.1) (k, tt)
+  noticed_homely v from token later x cs b (Source d) is h k =
+      let home = (law token d h.0 v.poll _ [] (home_named v.slots token d is k) h.1).0 in
+      rw (h.2, h.3) (homely_again v.slots token d h.0 is home k, tt)
+
+  cut_homely : (v : View D P) (e : Pending) (x : X) (cs : List (Change D P)) (b : Doing D X) (c : Content D) → named v.slots (registration_of e.token) ≡ c → CutTo M e c v x cs b → Homely v.slots → Homely (all_viewed v cs).slots × AsideHomely b
+  cut_homely v e x cs b Vacant is h k = rw (h.0, h.1) (k, tt)
+  cut_homely v e x cs b InTurn is h k = rw (h.0, h.1) (k, tt)
+  cut_homely v e x cs b (Source d) is h k =
+      let token = registration_of e.token in
+      let home = (law token d h.0 (cut v.poll) (Turned e.readiness e.token (lent x h.4 h.1 h.3 h.5)) h.2 (home_named v.slots token d is k) h.6).0 in
+      rw (h.7, h.8) (homely_without v.slots e.token.slot InTurn (λ d e. cc) k, home)
+
+  from_homely : (v : View D P) (es : List Pending) (x : X) (cs : List (Change D P)) (b : Doing D X) → CutFrom M es v x cs b → Homely v.slots → Homely (all_viewed v cs).slots × AsideHomely b
+  from_homely v [] x cs b h k = rw (h.0, h.1) (k, tt)
+  from_homely v (e ∷ es) x cs b h k = cut_homely v e x cs b (named v.slots (registration_of e.token)) refl h k
+
+  emptied_homely : (v : View D P) (token : RegistrationToken) (c : Content D) → Homely v.slots → Homely (all_viewed v (emptied token c)).slots
+  emptied_homely v token Vacant k = k
+  emptied_homely v token (Source d) k = k
+  emptied_homely v token InTurn k = homely_without v.slots token.slot Vacant (λ d e. cc) k
+
+  acted_homely : (v : View D P) (token : RegistrationToken) (d : D) (answer : Result PostAction Error) (cs : List (Change D P)) (e : D) (told : Outcome) → ActedBy M token d answer v cs e told → Homely v.slots → IsAtHome M token d → Homely (all_viewed v cs).slots × IsAtHome M token e
+  acted_homely v token d (Ok Continue) cs e told h k home = rw (h.0, h.1) (k, home)
+  acted_homely v token d (Ok Reregister) cs e told h k home = rw h.2 (k, anew_home token (with_pass None v.poll) d e told h.0 h.1 home)
+  acted_homely v token d (Ok DisableIt) cs e told h k home = rw h.2 (k, (law token d e (with_pass None v.poll) (Unregistered told) h.0 home h.1).0)
+  acted_homely v token d (Ok Remove) cs e told h k home = rw (h.0, h.1) (emptied_homely (viewed v Ended) token (named v.slots token) k, home)
+  acted_homely v token d (Err error) cs e told h k home = rw (h.0, h.1) (k, home)
+
+  returned_homely : (v : View D P) (token : RegistrationToken) (d : D) (c : Content D) (cs : List (Change D P)) → named v.slots token ≡ c → ReturnedTo M token d c v cs → Homely v.slots → IsAtHome M token d → Homely (all_viewed v cs).slots
+  returned_homely v token d InTurn cs is h k home = rw h (homely_back v.slots token d (named_there v.slots token InTurn is refl) home k)
+  returned_homely v token d Vacant cs is h k home = rw h.4 k
+  returned_homely v token d (Source f) cs is h k home = rw h.4 k
+
+  aside_after : (told : Outcome) (x : X) → AsideHomely (after_turn told x)
+  aside_after (Ok u) x = tt
+  aside_after (Err e) x = tt
+
+  aside_waited : (answer : Result ℕ Cause) (given : List (ℕ × Readiness)) (x : X) → AsideHomely (after_wait answer given x)
+  aside_waited (Ok now) given x = tt
+  aside_waited (Err cause) given x = tt
+
+  step_homely : (v : View D P) (a b : Doing D X) (cs : List (Change D P)) → Step M O v a cs b → Homely v.slots → AsideHomely a → Homely (all_viewed v cs).slots × AsideHomely b
+  step_homely v (Beginning timeout x) b cs h k aside = rw (h.1, h.2) (k, tt)
+  step_homely v (Sleeping timeout [] x) b cs h k aside = rw (h.0, h.1) (k, tt)
+  step_homely v (Sleeping timeout (t ∷ later) x) b cs h k aside = slept_homely v timeout t later x cs b (named v.slots t) refl h k
+  step_homely v (Waiting timeout x) b cs h k aside = rw (h.5, h.6) (k, aside_waited h.0 h.1 x)
+  step_homely v (Gathering now given x) b cs h k aside = rw (h.1, h.2) (k, tt)
+  step_homely v (Noticing from [] x) b cs h k aside = rw (h.0, h.1) (k, tt)
+  step_homely v (Noticing from (t ∷ later) x) b cs h k aside = noticed_homely v from t later x cs b (named v.slots t) refl h k
+  step_homely v (Cutting x) b cs h k aside = from_homely v v.poll.batch x cs b h k
+  step_homely v (Ending token d answer x) b cs h k aside = rw h.3 (acted_homely v token d answer cs h.0 h.1 h.2 k aside)
+  step_homely v (Returning token d told x) b cs h k aside = rw h.1 (returned_homely v token d (named v.slots token) cs refl h.0 k aside, aside_after told x)
+  step_homely v (Leaving answer x) b cs h k aside = absurd h
+
+  steps_homely : (v : View D P) (a b : Doing D X) (css : List (List (Change D P))) → Steps M O v a css b → Homely v.slots → AsideHomely a → Homely (traced v css).slots
+  steps_homely v a b [] h k aside = k
+  steps_homely v a b (cs ∷ css) h k aside =
+      let one = step_homely v a h.0 cs h.1 k aside in
+      steps_homely (all_viewed v cs) h.0 b css h.3 one.0 one.1
+
+  inserted_homely : (v : View D P) (d : D) (answer : Result RegistrationToken (InsertError D)) (cs : List (Change D P)) → InsertedBy M d answer v cs → Homely v.slots → Homely (all_viewed v cs).slots
+  inserted_homely v d (Ok token) cs h k =
+      let home = (law token d h.2 v.poll (Registered (factory_of token) (Ok tt) h.3) h.4 (own_factory token) h.5).0 in
+      let there : IsThere (claimed v.slots) token.slot token.version = subst (λ (t : RegistrationToken). IsThere (claimed v.slots) t.slot t.version) (sym h.1) (named_there (claimed v.slots) (next_registration v.slots) InTurn (named_claimed v.slots) refl) in
+      rw h.6 (homely_back (claimed v.slots) token h.2 there home (homely_claim v.slots k))
+  inserted_homely v d (Err refused) cs (inl h) k = rw h.2 k
+  inserted_homely v d (Err refused) cs (inr h) k = rw h.4 (homely_without (claimed v.slots) (first_vacant v.slots) Vacant (λ d e. cc) (homely_claim v.slots k))
+
+  asked_homely : (v : View D P) (R : D → Outcome → List (PollStep P) → D → Type 0) (noted : D → Outcome → HeldStep) (token : RegistrationToken) (answer : Outcome) (cs : List (Change D P)) (c : Content D)
+      → ((d e : D) (l : List (PollStep P)) → R d answer l e → IsAtHome M token d → IsAtHome M token e)
+      → named v.slots token ≡ c → AskedIn R noted token c answer cs → Homely v.slots → Homely (all_viewed v cs).slots
+  asked_homely v R noted token answer cs Vacant f is h k = rw h.1 k
+  asked_homely v R noted token answer cs InTurn f is h k = rw h.1 k
+  asked_homely v R noted token answer cs (Source d) f is h k = rw h.3 (homely_again v.slots token d h.0 is (f d h.0 h.1 h.2 (home_named v.slots token d is k)) k)
+
+  removed_homely : (v : View D P) (token : RegistrationToken) (answer : Option D) (cs : List (Change D P)) (c : Content D) → RemovedIn M token c answer v cs → Homely v.slots → Homely (all_viewed v cs).slots
+  removed_homely v token answer cs Vacant h k = rw h.1 k
+  removed_homely v token answer cs InTurn h k = rw h.1 k
+  removed_homely v token answer cs (Source d) h k = rw h.5 (homely_without v.slots token.slot Vacant (λ d e. cc) k)
+
+  exchanged_homely : (v : View D P) (token : RegistrationToken) (new : D) (c : Content D) (answer : Result D D) (cs : List (Change D P)) → named v.slots token ≡ c → AllBringNoKey M cs → ExchangedIn token new c answer cs → Homely v.slots → Homely (all_viewed v cs).slots
+  exchanged_homely v token new Vacant answer cs is fresh h k = rw h.1 k
+  exchanged_homely v token new InTurn answer cs is fresh h k = rw h.1 k
+  exchanged_homely v token new (Source d) answer cs is fresh h k =
+      let fewer : HasNoMoreKeys M d new = (rw h.1 at fresh).0 in
+      let home = home_named v.slots token d is k in
+      rw h.1 (homely_back v.slots token new (named_there v.slots token (Source d) is refl) (λ key held. home key (fewer key held)) k)
+
+  fresh_first : (cs ds : List (Change D P)) → AllBringNoKey M (cs ++ ds) → AllBringNoKey M cs
+  fresh_first [] ds h = tt
+  fresh_first (c ∷ cs) ds h = (h.0, fresh_first cs ds h.1)
+
+  fresh_rest : (cs ds : List (Change D P)) → AllBringNoKey M (cs ++ ds) → AllBringNoKey M ds
+  fresh_rest [] ds h = h
+  fresh_rest (c ∷ cs) ds h = fresh_rest cs ds h.1
+
+  once_fresh : (v : View D P) (R : View D P → List (Change D P) → Type 0) (css : List (List (Change D P))) → AllBringNoKey M (joined css) → Once O R v css
+      → ((cs : List (Change D P)) → AllBringNoKey M cs → R v cs → Homely (all_viewed v cs).slots) → Homely (traced v css).slots
+  once_fresh v R [] fresh h f = absurd h
+  once_fresh v R (cs ∷ []) fresh h f = f cs (fresh_first cs [] fresh) h.0
+  once_fresh v R (cs ∷ ds ∷ css) fresh h f = absurd h
+
+  once_homely : (v : View D P) (R : View D P → List (Change D P) → Type 0) (css : List (List (Change D P))) → Once O R v css → ((cs : List (Change D P)) → R v cs → Homely (all_viewed v cs).slots) → Homely (traced v css).slots
+  once_homely v R [] h f = absurd h
+  once_homely v R (cs ∷ []) h f = f cs h.0
+  once_homely v R (cs ∷ ds ∷ css) h f = absurd h
+
+  case_homely : (v : View D P) (call : LoopCall D P X) (answer : LoopAnswer D P X) (css : List (List (Change D P))) → AllBringNoKey M (joined css) → Case M O call answer v css → Homely v.slots → Homely (traced v css).slots
+  case_homely v (Insert d) (Inserted answer) css fresh h k = once_homely v (InsertedBy M d answer) css h (λ cs r. inserted_homely v d answer cs r k)
+  case_homely v (Enable token) (Enabled answer) css fresh h k = once_homely v (EnabledBy M token answer) css h (λ cs r. asked_homely v _ _ token answer cs (named v.slots token) (λ d e l u home. first_home token v.poll d e answer l u home) refl r k)
+  case_homely v (Update token) (Updated answer) css fresh h k = once_homely v (UpdatedBy M token answer) css h (λ cs r. asked_homely v _ _ token answer cs (named v.slots token) (λ d e l u home. anew_home token v.poll d e answer l u home) refl r k)
+  case_homely v (Disable token) (Disabled answer) css fresh h k = once_homely v (DisabledBy M token answer) css h (λ cs r. asked_homely v _ _ token answer cs (named v.slots token) (λ d e l u home. (law token d e v.poll (Unregistered answer) l home u).0) refl r k)
+  case_homely v (RemoveCall token) (Removed answer) css fresh h k = once_homely v (RemovedBy M token answer) css h (λ cs r. removed_homely v token answer cs (named v.slots token) r k)
+  case_homely v (Exchange token d) (Exchanged answer) css fresh h k =
+      once_fresh v (ExchangedBy token d answer) css fresh h (λ cs less r. exchanged_homely v token d (named v.slots token) answer cs refl less r k)
+  case_homely v (Dispatch timeout x) (Dispatched answer x') css fresh (inl h) k = rw h.2 k
+  case_homely v (Dispatch timeout x) (Dispatched answer x') css fresh (inr h) k = steps_homely v (Beginning (nanos_of timeout) x) (Leaving answer x') css h k tt
+  case_homely v (NewPoller p) (OldPoller q) css fresh h k = rw h.1 k
+  case_homely v call answer css fresh h k = absurd h
+
+  run_homely : (calls : List (LoopCall D P X)) (answers : List (LoopAnswer D P X)) (csss : List (List (List (Change D P)))) (w w' : World D P) → AllBringNoKey M (changes_of csss) → Run M O calls answers csss w w' → Homely (seen w).slots → Homely (seen w').slots
+  run_homely [] [] [] w w' fresh run k = rw run k
+  run_homely (call ∷ calls) (answer ∷ answers) (css ∷ csss) w w' fresh run k =
+      run_homely calls answers csss (all_traced w css) w' (fresh_rest (joined css) (changes_of csss) fresh) run.1
+      (subst (λ (v : View D P). Homely v.slots) (sym (seen-all_traced w css)) (case_homely (seen w) call answer css (fresh_first (joined css) (changes_of csss) fresh) run.0 k))
+  run_homely calls answers csss w w' fresh run k = absurd run
+
+  pub run_home : (calls : List (LoopCall D P X)) (answers : List (LoopAnswer D P X)) (csss : List (List (List (Change D P)))) (w w' : World D P) → IsNew w → AllBringNoKey M (changes_of csss) → Run M O calls answers csss w w' → AllAtHome M w'
+  run_home calls answers csss w w' new fresh run i r d here is =
+      let none : Homely (seen w).slots = λ j v e at. absurd (none_there (seen w).slots (ap (λ rs. map slot_of rs) new.slots) j v e at) in
+      run_homely calls answers csss w w' fresh run none i (r.reuse % 65536) d (slot_of r, slice_get-map slot_of w'.slots i ∙ ap (λ o. option_map slot_of o) here, refl, is)
