@@ -14,6 +14,7 @@ use std::test::Fail;
 use std::time::Duration;
 use std::{io, thread};
 
+mod guards;
 mod places;
 mod stage;
 mod waits;
