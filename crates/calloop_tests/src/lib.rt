@@ -6,3 +6,4 @@ pub mod guarded;
 pub mod source;
 #[cfg(test)]
 mod tests;
+pub mod trio;

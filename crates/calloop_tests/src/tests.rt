@@ -17,6 +17,7 @@ use std::{io, thread};
 mod guards;
 mod places;
 mod stage;
+mod trios;
 mod waits;
 
 #[test]
