@@ -14,7 +14,8 @@ use Rattle.calloop_tests.specs.declared.trio.Part.{Part}
 use Rattle.calloop_tests.specs.declared.trio.Trio.{Trio}
 
 -- what a part did in a call of the whole, by steps that can be made
-pub record DidPart {S P U : Type 0} (O : Outside P) (whole : Deed OfTrio) (m : Meaning S P U) (s : S) (v : PollView P) (t : S) (w : PollView P) : Type 0 where
+pub record DidPart {S P U : Type 0} (O : Outside P) (whole : Deed OfTrio) (m : Meaning S P U) (s : S) (v : PollView P) (t : S)
+    (w : PollView P) : Type 0 where
   pub deed : Option (Deed U)
   pub steps : List (PollStep P)
   pub may : MayDo whole m s v deed steps t

@@ -125,7 +125,8 @@ pub record IsBeside {P : Type 0} (next : ℕ) (l : List (PollStep P)) (h h' k g 
   pub below : IsBelow (next_after next l) h'
   pub other : IsBelow (next_after next l) k
 
-pub keeps_beside : {P : Type 0} (next : ℕ) (l : List (PollStep P)) (h h' k g g' : ℕ → Hold) → Keeps h next l h' → IsApart h k → IsBelow next h → IsBelow next k → Together h k g → (IsApart h' k → Together h' k g') → IsBeside next l h h' k g g'
+pub keeps_beside : {P : Type 0} (next : ℕ) (l : List (PollStep P)) (h h' k g g' : ℕ → Hold) → Keeps h next l h' → IsApart h k
+    → IsBelow next h → IsBelow next k → Together h k g → (IsApart h' k → Together h' k g') → IsBeside next l h h' k g g'
 keeps_beside next [] h h' k g g' kept apart below other is is' =
     let apart' : IsApart h' k = λ c. elim (apart c) [ inl e ↦ inl (within_free (h' c) (h c) (kept c) e) | inr e ↦ inr e ] in
     record {
@@ -136,13 +137,16 @@ keeps_beside next [] h h' k g g' kept apart below other is is' =
     }
 keeps_beside next (Arm deadline token ∷ ss) h h' k g g' kept apart below other is is' =
     let free : k next ≡ Free = free_at next (k next) (other next) in
-    let r = keeps_beside (next + 1) ss (with_hold next (Standing deadline) h) h' k (with_hold next (Standing deadline) g) g' kept (apart_with next (Standing deadline) h k free apart)
-    (below_with next (next + 1) (Standing deadline) h (omega arith) (below_more next h below)) (below_more next k other) (together_with next (Standing deadline) h k g free is) is' in
+    let r = keeps_beside (next + 1) ss (with_hold next (Standing deadline) h) h' k (with_hold next (Standing deadline) g) g' kept
+    (apart_with next (Standing deadline) h k free apart)
+    (below_with next (next + 1) (Standing deadline) h (omega arith) (below_more next h below)) (below_more next k other)
+    (together_with next (Standing deadline) h k g free is) is' in
     record { keeps = r.keeps; apart = r.apart; below = r.below; other = r.other }
 keeps_beside next (ArmAgain n deadline token ∷ ss) h h' k g g' kept apart below other is is' =
     let mine : h n ≢ Free = spent_held (h n) kept.0 in
     let free : k n ≡ Free = other_is_free (h n) (k n) (apart n) mine in
-    let r = keeps_beside next ss (with_hold n (Standing deadline) h) h' k (with_hold n (Standing deadline) g) g' kept.1 (apart_with n (Standing deadline) h k free apart)
+    let r = keeps_beside next ss (with_hold n (Standing deadline) h) h' k (with_hold n (Standing deadline) g) g' kept.1
+    (apart_with n (Standing deadline) h k free apart)
     (below_with n next (Standing deadline) h (below n mine) below) other (together_with n (Standing deadline) h k g free is) is' in
     record { keeps = (is n ∙ join_held (h n) (k n) mine ∙ kept.0, r.keeps); apart = r.apart; below = r.below; other = r.other }
 keeps_beside next (Cancel n ∷ ss) h h' k g g' kept apart below other is is' =
@@ -178,19 +182,33 @@ within_twice Spent y z h k = within_is y z Spent (λ e. cc) k h
 within_twice (Standing deadline) y z h k = within_is y z (Standing deadline) (λ e. cc) k h
 
 -- what holds more can make the same steps
-keeps_more : {P : Type 0} (next : ℕ) (l : List (PollStep P)) (g f h : ℕ → Hold) → ((c : ℕ) → IsWithin (g c) (f c)) → Keeps g next l h → Keeps f next l h
+keeps_more : {P : Type 0} (next : ℕ) (l : List (PollStep P)) (g f h : ℕ → Hold) → ((c : ℕ) → IsWithin (g c) (f c))
+    → Keeps g next l h → Keeps f next l h
 keeps_more next [] g f h w k = λ c. within_twice (h c) (g c) (f c) (k c) (w c)
-keeps_more next (Arm deadline token ∷ ss) g f h w k = keeps_more (next + 1) ss (with_hold next (Standing deadline) g) (with_hold next (Standing deadline) f) h (λ c. within_with next c (Standing deadline) g f w) k
-keeps_more next (ArmAgain n deadline token ∷ ss) g f h w k =
-    (within_is (g n) (f n) Spent (λ e. cc) (w n) k.0, keeps_more next ss (with_hold n (Standing deadline) g) (with_hold n (Standing deadline) f) h (λ c. within_with n c (Standing deadline) g f w) k.1)
-keeps_more next (Cancel n ∷ ss) g f h w k = (within_held (g n) (f n) (w n) k.0, keeps_more next ss (with_hold n Free g) (with_hold n Free f) h (λ c. within_with n c Free g f w) k.1)
-keeps_more next (Call n deadline ∷ ss) g f h w k = (within_is (g n) (f n) (Standing deadline) (λ e. cc) (w n) k.0, keeps_more next ss (with_hold n Spent g) (with_hold n Spent f) h (λ c. within_with n c Spent g f w) k.1)
+keeps_more next (Arm deadline token ∷ ss) g f h w k = keeps_more (next + 1) ss (with_hold next (Standing deadline) g)
+    (with_hold next (Standing deadline) f) h (λ c. within_with next c (Standing deadline) g f w) k
+keeps_more next (ArmAgain n deadline token ∷ ss) g f h w k = (
+  within_is (g n) (f n) Spent (λ e. cc) (w n) k.0,
+  keeps_more next ss (with_hold n (Standing deadline) g)
+      (with_hold n (Standing deadline) f) h (λ c. within_with n c (Standing deadline) g f w) k.1,
+)
+keeps_more next (Cancel n ∷ ss) g f h w k = (
+  within_held (g n) (f n) (w n) k.0,
+  keeps_more next ss (with_hold n Free g) (with_hold n Free f) h
+      (λ c. within_with n c Free g f w) k.1,
+)
+keeps_more next (Call n deadline ∷ ss) g f h w k = (
+  within_is (g n) (f n) (Standing deadline) (λ e. cc) (w n) k.0,
+  keeps_more next ss (with_hold n Spent g)
+      (with_hold n Spent f) h (λ c. within_with n c Spent g f w) k.1,
+)
 keeps_more next (TakePass ∷ ss) g f h w k = keeps_more next ss g f h w k
 keeps_more next (PutBack pass ∷ ss) g f h w k = keeps_more next ss g f h w k
 keeps_more next (ReadClock now after ∷ ss) g f h w k = keeps_more next ss g f h w k
 
 -- steps, and then others from where those led
-pub keeps_then : {P : Type 0} (next : ℕ) (l m : List (PollStep P)) (f g h : ℕ → Hold) → Keeps f next l g → Keeps g (next_after next l) m h → Keeps f next (l ++ m) h
+pub keeps_then : {P : Type 0} (next : ℕ) (l m : List (PollStep P)) (f g h : ℕ → Hold) → Keeps f next l g → Keeps g
+    (next_after next l) m h → Keeps f next (l ++ m) h
 keeps_then next [] m f g h a b = keeps_more next m g f h a b
 keeps_then next (Arm deadline token ∷ ss) m f g h a b = keeps_then (next + 1) ss m (with_hold next (Standing deadline) f) g h a b
 keeps_then next (ArmAgain n deadline token ∷ ss) m f g h a b = (a.0, keeps_then next ss m (with_hold n (Standing deadline) f) g h a.1 b)

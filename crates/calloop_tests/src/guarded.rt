@@ -7,7 +7,8 @@ use calloop::{
 use std::io;
 use std::sync::Wait;
 
-/// A ping behind a guard. So many turns fail before they reach the ping, and where it is stuck each unregistration does.
+/// A ping behind a guard. So many turns fail before they reach the ping, and where it is stuck each unregistration
+/// does.
 #[derive(Drop)]
 pub struct Guarded<R: Wait + Drop> {
     pub ping: PingSource<R>,

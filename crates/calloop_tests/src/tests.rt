@@ -14,9 +14,12 @@ use std::test::Fail;
 use std::time::Duration;
 use std::{io, thread};
 
+mod actions;
 mod guards;
+mod pings;
 mod places;
 mod stage;
+mod timers;
 mod trios;
 mod waits;
 

@@ -17,8 +17,8 @@ pub enum Part {
     Second(Instant),
 }
 
-/// A ping and two timers, which are registered together, and of which each event is for one. A timer is called for once in each
-/// registration, and the source stays in the loop.
+/// A ping and two timers, which are registered together, and of which each event is for one. A timer is called for once
+/// in each registration, and the source stays in the loop.
 #[derive(Drop)]
 pub struct Trio<R: Wait + Drop> {
     pub bell: PingSource<R>,

@@ -86,7 +86,8 @@ fn fails<R: Wait + Clone + Drop + Abort>(stage: &mut Stage<Guards<R>, R>) -> boo
     matches!(answer, Err(Error::OtherError(_))) && said.is_empty()
 }
 
-// Takes the guarded ping that the token names out of the loop. The place to look at the loop's warnings, once it has them.
+// Takes the guarded ping that the token names out of the loop. The place to look at the loop's warnings, once it has
+// them.
 fn removed<R: Wait + Clone + Drop + Abort>(
     stage: &mut Stage<Guards<R>, R>,
     token: RegistrationToken,

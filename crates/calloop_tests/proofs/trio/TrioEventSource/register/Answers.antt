@@ -7,21 +7,30 @@ use Rattle.calloop_tests.proofs.trio.TrioEventSource.register.Goals as goal
 
 pub returns-in_err-register : goal.returns-in_err-register
 returns-in_err-register g c =
-    asked g.P.Poller.outside _ _ _ (poll_view c.args.poll.now) (poll_view c.register.new.poll) (poll_view c.register.new.poll) (poll_view c.register.new.poll)
-    (reached g.P.Poller.outside _ ping_meaning _ _ _ _ (Registered c.args.factory.now c.register.result c.register.new.factory) tt c.register.ensures)
-    (unreached g.P.Poller.outside _ timer_meaning _ _)
-    (unreached g.P.Poller.outside _ timer_meaning _ _)
+    let O = g.P.Poller.outside in
+    asked O _ _ _ (poll_view c.args.poll.now) (poll_view c.register.new.poll) (poll_view c.register.new.poll) (poll_view c.register.new.poll)
+    (reached O _ ping_meaning _ _ _ _
+    (Registered c.args.factory.now c.register.result c.register.new.factory) tt c.register.ensures)
+    (unreached O _ timer_meaning _ _)
+    (unreached O _ timer_meaning _ _)
 
 pub returns-in_err-register-2 : goal.returns-in_err-register-2
 returns-in_err-register-2 g c =
-    asked g.P.Poller.outside _ _ _ (poll_view c.args.poll.now) (poll_view c.register.new.poll) (poll_view c.register-2.new.poll) (poll_view c.register-2.new.poll)
-    (reached g.P.Poller.outside _ ping_meaning _ _ _ _ (Registered c.args.factory.now c.register.result c.register.new.factory) tt c.register.ensures)
-    (reached g.P.Poller.outside _ timer_meaning _ _ _ _ (Registered c.register.new.factory c.register-2.result c.register-2.new.factory) tt c.register-2.ensures)
-    (unreached g.P.Poller.outside _ timer_meaning _ _)
+    let O = g.P.Poller.outside in
+    asked O _ _ _ (poll_view c.args.poll.now) (poll_view c.register.new.poll) (poll_view c.register-2.new.poll) (poll_view c.register-2.new.poll)
+    (reached O _ ping_meaning _ _ _ _
+    (Registered c.args.factory.now c.register.result c.register.new.factory) tt c.register.ensures)
+    (reached O _ timer_meaning _ _ _ _
+    (Registered c.register.new.factory c.register-2.result c.register-2.new.factory) tt c.register-2.ensures)
+    (unreached O _ timer_meaning _ _)
 
 pub returns : goal.returns
 returns g c =
-    asked g.P.Poller.outside _ _ _ (poll_view c.args.poll.now) (poll_view c.register.new.poll) (poll_view c.register-2.new.poll) (poll_view c.register-3.new.poll)
-    (reached g.P.Poller.outside _ ping_meaning _ _ _ _ (Registered c.args.factory.now c.register.result c.register.new.factory) tt c.register.ensures)
-    (reached g.P.Poller.outside _ timer_meaning _ _ _ _ (Registered c.register.new.factory c.register-2.result c.register-2.new.factory) tt c.register-2.ensures)
-    (reached g.P.Poller.outside _ timer_meaning _ _ _ _ (Registered c.register-2.new.factory c.register-3.result c.register-3.new.factory) tt c.register-3.ensures)
+    let O = g.P.Poller.outside in
+    asked O _ _ _ (poll_view c.args.poll.now) (poll_view c.register.new.poll) (poll_view c.register-2.new.poll) (poll_view c.register-3.new.poll)
+    (reached O _ ping_meaning _ _ _ _
+    (Registered c.args.factory.now c.register.result c.register.new.factory) tt c.register.ensures)
+    (reached O _ timer_meaning _ _ _ _
+    (Registered c.register.new.factory c.register-2.result c.register-2.new.factory) tt c.register-2.ensures)
+    (reached O _ timer_meaning _ _ _ _
+    (Registered c.register-2.new.factory c.register-3.result c.register-3.new.factory) tt c.register-3.ensures)
