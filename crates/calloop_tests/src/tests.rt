@@ -15,6 +15,7 @@ use std::time::Duration;
 use std::{io, thread};
 
 mod actions;
+mod borrowed;
 mod guards;
 mod pings;
 mod places;
