@@ -1,7 +1,9 @@
 -- What a source of a ping and two timers means: its parts are asked one after the other, the ping first.
-use Rattle.std.specs.Prelude.{◌≡◌, ℕ, ◌++◌, List, [], ◌∷◌, Option, None, Some, Ok, false}
+use Rattle.std.specs.Prelude.{◌≡◌, ℕ, ◌++◌, List, [], ◌∷◌, Option, None, Some, Result, Ok, Err, false}
 use Rattle.std.proofs.Common.{inl, refl}
 use Rattle.calloop_wake.specs.declared.wheel.Instant.{Instant}
+use Rattle.calloop_core.specs.declared.sources.PostAction.{PostAction}
+use Rattle.calloop_core.specs.declared.sources.PostAction.TheVariants.{Continue}
 use Rattle.calloop_core.specs.declared.timer.TimeoutAction.{TimeoutAction}
 use Rattle.calloop_core.specs.declared.timer.TimerError.{TimerError}
 use Rattle.calloop_core.specs.Calls.{Call}
@@ -18,6 +20,7 @@ use Rattle.calloop_tests.specs.Beside.{IsApart, beside, apart_sym, join_swap, ke
 use Rattle.calloop_tests.specs.Beside.{left_held, right_held, within_itself}
 use Rattle.calloop_tests.specs.declared.source.Broken.{Broken}
 use Rattle.calloop_tests.specs.declared.trio.Part.{Part}
+use Rattle.calloop_tests.specs.declared.trio.Part.TheVariants.{Bell, First, Second}
 use Rattle.calloop_tests.specs.declared.trio.Trio.{Trio}
 
 -- the same call of two sources; a turn, for the same event
@@ -57,10 +60,32 @@ pub record AsksParts {P R : Type 0} (s : Trio R) (v : PollView P) (deed : Deed O
   pub first : MayDo deed timer_meaning s.first (polls_after v bell_steps) first_deed first_steps t.first
   pub second : MayDo deed timer_meaning s.second (polls_after (polls_after v bell_steps) first_steps) second_deed second_steps t.second
 
--- at most one call, for one part
+-- one call for a part, or none
 abbrev pub calls_of : Option Part → List (Call Part (Unit {0}) (Unit {0}))
 calls_of None = []
 calls_of (Some part) = record { event = part; before = tt; after = tt; answer = tt } ∷ []
+
+-- the event of the last of these calls, or else the one before them
+abbrev pub after_calls : {E M T : Type 0} → Option E → List (Call E M T) → Option E
+after_calls before [] = before
+after_calls before (c ∷ cs) = after_calls (Some c.event) cs
+
+-- the event that a part was called with in its turn
+abbrev pub heard_of : {E M T Cause : Type 0} → Option (Deed (Heard E M T Cause)) → Option E
+heard_of (Some (Turned readiness token turn)) = after_calls None turn.calls
+heard_of deed = None
+
+-- the first part that was called
+abbrev pub part_heard : Option (Unit {0}) → Option Instant → Option Instant → Option Part
+part_heard (Some u) first second = Some Bell
+part_heard None (Some deadline) second = Some (First deadline)
+part_heard None None (Some deadline) = Some (Second deadline)
+part_heard None None None = None
+
+-- one call for that part, and the source stays in the loop; where a part fails, nobody is called
+abbrev pub EndsSo : Option Part → List (Call Part (Unit {0}) (Unit {0})) → Result PostAction Broken → Type 0
+EndsSo part calls (Ok action) = (calls ≡ calls_of part) × (action ≡ Continue)
+EndsSo part calls (Err cause) = calls ≡ []
 
 abbrev pub IsTrio : {P R : Type 0} → Trio R → PollView P → Deed OfTrio
     → List (PollStep P) → Trio R → Type 0
@@ -70,7 +95,8 @@ IsTrio s v (Unregistered answer) steps t = AsksParts s v (Unregistered answer) s
 IsTrio s v (Slept answer) steps t = (answer ≡ Ok None) × (steps ≡ []) × (t ≡ s)
 IsTrio s v (Noticed events) steps t = (steps ≡ []) × (t ≡ s)
 IsTrio s v (Turned readiness token turn) steps t =
-    (part : Option Part) × (turn.calls ≡ calls_of part) × AsksParts s v (Turned readiness token turn) steps t
+    (did : AsksParts s v (Turned readiness token turn) steps t)
+    × EndsSo (part_heard (heard_of did.bell_deed) (heard_of did.first_deed) (heard_of did.second_deed)) turn.calls turn.answer
 
 abbrev pub trio_holds : {R : Type 0} → Trio R → ℕ → Hold
 trio_holds s = beside (timer_holds s.first) (timer_holds s.second)
@@ -140,4 +166,4 @@ trio_keeps s t v (Reregistered f a g) l fits below h = parts_keep s t v (Reregis
 trio_keeps s t v (Unregistered a) l fits below h = parts_keep s t v (Unregistered a) l fits below h
 trio_keeps s t v (Slept a) l fits below h = rw (h.1, h.2) (fits, λ c. within_itself (trio_holds s c))
 trio_keeps s t v (Noticed es) l fits below h = rw (h.0, h.1) (fits, λ c. within_itself (trio_holds s c))
-trio_keeps s t v (Turned r k turn) l fits below h = parts_keep s t v (Turned r k turn) l fits below h.2
+trio_keeps s t v (Turned r k turn) l fits below h = parts_keep s t v (Turned r k turn) l fits below h.0

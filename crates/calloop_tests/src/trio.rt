@@ -1,6 +1,7 @@
 //! A source of the tests' own that is made of a ping and two timers.
+ghost use Rattle.std.specs.Prelude.{◌≡◌};
 ghost use Rattle.calloop_core.specs.Calls.{Went};
-ghost use Rattle.calloop_tests.specs.Trios.{calls_of};
+ghost use Rattle.calloop_tests.specs.Trios.{calls_of, part_heard};
 
 use crate::source::Broken;
 use calloop::{
@@ -33,7 +34,9 @@ struct Noted<E> {
 }
 
 impl<X, Q: Asking> Callback<(), (), (), X, Q> for Noted<()> {
-    ghost may = { λ _ _ _ _ _ _ _ _ _ _. Unit {0} };
+    ghost use Rattle.std.specs.Prelude.{◌≡◌, Some};
+
+    ghost may = { λ s event m x q answer t n y r. t.event ≡ Some event };
 
     fn call(&mut self, _event: (), _metadata: &mut (), _data: &mut X, _requests: &mut Q) {
         self.event = Some(());
@@ -41,7 +44,9 @@ impl<X, Q: Asking> Callback<(), (), (), X, Q> for Noted<()> {
 }
 
 impl<X, Q: Asking> Callback<Instant, (), TimeoutAction, X, Q> for Noted<Instant> {
-    ghost may = { λ _ _ _ _ _ _ _ _ _ _. Unit {0} };
+    ghost use Rattle.std.specs.Prelude.{◌≡◌, Some};
+
+    ghost may = { λ s event m x q answer t n y r. t.event ≡ Some event };
 
     fn call(
         &mut self,
@@ -55,14 +60,20 @@ impl<X, Q: Asking> Callback<Instant, (), TimeoutAction, X, Q> for Noted<Instant>
     }
 }
 
-fn part_of(bell: Noted<()>, first: Noted<Instant>, second: Noted<Instant>) -> Option<Part> {
+// The first part that was called.
+fn part_of(bell: Noted<()>, first: Noted<Instant>, second: Noted<Instant>) -> Option<Part>
+    ensures { result ≡ part_heard bell.event first.event second.event }
+{
     if bell.event.is_some() {
         return Some(Part::Bell);
     }
     if let Some(deadline) = first.event {
         return Some(Part::First(deadline));
     }
-    second.event.map(Part::Second)
+    match second.event {
+        Some(deadline) => Some(Part::Second(deadline)),
+        None => None,
+    }
 }
 
 // Calls back, where a part had an event.
