@@ -1,5 +1,5 @@
 -- What the counting source of the tests means.
-use Rattle.std.specs.Prelude.{◌≡◌, ℕ, [], ◌∷◌, None, Result, Ok}
+use Rattle.std.specs.Prelude.{◌≡◌, ℕ, [], ◌∷◌, None, Ok}
 use Rattle.anyhow.specs.declared.error.Error.{Error as Cause}
 use Rattle.calloop_wake.specs.declared.error.Error.{Error}
 use Rattle.calloop_wake.specs.declared.error.Error.TheVariants.{OtherError}

@@ -2,6 +2,8 @@
 #![tactic(auto)]
 
 pub mod attendant;
+pub mod guarded;
 pub mod source;
 #[cfg(test)]
 mod tests;
+pub mod trio;

@@ -14,7 +14,15 @@ use std::test::Fail;
 use std::time::Duration;
 use std::{io, thread};
 
+mod actions;
+mod borrowed;
 mod exchanges;
+mod guards;
+mod pings;
+mod places;
+mod stage;
+mod timers;
+mod trios;
 mod waits;
 
 #[test]
@@ -44,6 +52,16 @@ fn a_ring_is_one_call(rt: HostRuntime) {
     bell.ping();
     assert!(rt; desk.says(Some(0), &[7]));
     assert!(rt; desk.says(Some(0), &[]));
+}
+
+#[test]
+fn a_ping_whose_dispatcher_is_registered_is_called(rt: HostRuntime) {
+    let mut desk = Desk::new(&rt, rt.alloc());
+    let (token, bell) = desk.registered_ping(7);
+    assert_eq!(rt; token, RegistrationToken::new(0, 0));
+    bell.ping();
+    assert!(rt; desk.says(Some(0), &[7]));
+    assert_eq!(rt; desk.removed_ping(token), Some(7));
 }
 
 #[test]
@@ -205,6 +223,33 @@ fn an_error_of_a_turn_keeps_a_due_timer(rt: HostRuntime) {
     desk.script(0, &[FIRST_OF_SLOT_1]);
     assert!(rt; desk.fails(&[1], None));
     assert!(rt; desk.says(None, &[5]));
+}
+
+#[test]
+fn a_due_timer_that_is_updated_after_an_error_is_called_once(rt: HostRuntime) {
+    let mut desk = Desk::new(&rt, rt.alloc());
+    let token = desk.alarm(0, TimeoutAction::ToInstant(at(1000)));
+    desk.count(1, None);
+    desk.script(0, &[FIRST_OF_SLOT_1]);
+    assert!(rt; desk.fails(&[1], None));
+    assert!(rt; desk.update(token).is_ok());
+    assert!(rt; desk.says(Some(100), &[5]));
+    assert!(rt; desk.says(Some(100), &[]));
+    assert!(rt; desk.asked(&[Some(0), Some(0), Some(100)]));
+}
+
+#[test]
+fn a_due_timer_that_is_disabled_after_an_error_is_called_once_enabled(rt: HostRuntime) {
+    let mut desk = Desk::new(&rt, rt.alloc());
+    let token = desk.alarm(0, TimeoutAction::Drop);
+    desk.count(1, None);
+    desk.script(0, &[FIRST_OF_SLOT_1]);
+    assert!(rt; desk.fails(&[1], None));
+    assert!(rt; desk.disable(token).is_ok());
+    assert!(rt; desk.says(Some(100), &[]));
+    assert!(rt; desk.enable(token).is_ok());
+    assert!(rt; desk.says(Some(100), &[5]));
+    assert!(rt; desk.asked(&[Some(0), Some(0), Some(0)]));
 }
 
 #[test]
@@ -446,6 +491,17 @@ impl<R: Wait + Clone + Drop + Abort> Desk<R> {
     fn ping(&mut self, number: u32) -> (RegistrationToken, Ping<R>) {
         let (ping, source) = make_ping(&self.rt, self.alloc).expect(&self.rt, "a ping");
         (self.insert(source, number), ping)
+    }
+
+    // Registers the dispatcher of a ping that says this number.
+    fn registered_ping(&mut self, number: u32) -> (RegistrationToken, Ping<R>) {
+        let (ping, source) = make_ping(&self.rt, self.alloc).expect(&self.rt, "a ping");
+        let held = Sources::new(OneOf::First(Dispatcher {
+            source,
+            callback: Teller { number },
+        }));
+        let registered = self.event_loop.handle().register_dispatcher(held);
+        (token_of(&self.rt, registered), ping)
     }
 
     // Inserts the source of a ping that is dropped before.

@@ -36,6 +36,18 @@ fn a_source_that_is_updated_twice_is_told_once(rt: HostRuntime) {
 }
 
 #[test]
+fn a_source_that_was_disabled_is_told_again_once_enabled(rt: HostRuntime) {
+    let mut room = Room::new(&rt, rt.alloc());
+    let token = room.attend(Attendant::new(0));
+    assert!(rt; room.event_loop.handle().disable(&token).is_ok());
+    assert!(rt; room.says(&[]));
+    assert_eq!(rt; room.waits_of(token), Some(0));
+    assert!(rt; room.event_loop.handle().enable(&token).is_ok());
+    assert!(rt; room.says(&[]));
+    assert_eq!(rt; room.waits_of(token), Some(1));
+}
+
+#[test]
 fn a_source_that_was_refused_is_not_told(rt: HostRuntime) {
     let mut room = Room::new(&rt, rt.alloc());
     assert!(rt; room.hands_back());

@@ -1,0 +1,86 @@
+-- What a source of a ping and two timers did, from what its parts did.
+use Rattle.std.proofs.Common.{◌≡◌, ◌∙◌, ap, List, [], ◌∷◌, ◌++◌, Option, None, Some, Ok, Err, refl}
+use Rattle.calloop_core.specs.Pollers.{Outside}
+use Rattle.calloop_core.specs.Polls.{PollView, PollStep, AllStepped}
+use Rattle.calloop_wake.specs.declared.token.Token.{Token}
+use Rattle.calloop_core.specs.declared.sys.Readiness.{Readiness}
+use Rattle.calloop_core.specs.declared.sources.PostAction.TheVariants.{Continue}
+use Rattle.calloop_core.specs.Calls.{Call, Went}
+use Rattle.calloop_core.specs.Deeds.{Deed, Turned, heard}
+use Rattle.calloop_core.specs.Meanings.{Meaning, Does}
+use Rattle.calloop_core.specs.Timers.{timer_meaning}
+use Rattle.calloop_core.proofs.Stepping.{stepped-append}
+use Rattle.calloop.specs.Pings.{ping_meaning}
+use Rattle.calloop_tests.specs.Trios.{IsAlike, MayDo, AsksParts, OfTrio, OfBell, OfTimer, calls_of, after_calls, part_heard, trio_meaning}
+use Rattle.calloop_tests.specs.declared.source.Broken.{Broken}
+use Rattle.calloop_tests.specs.declared.trio.Part.{Part}
+use Rattle.calloop_tests.specs.declared.trio.Trio.{Trio}
+
+-- what a part did in a call of the whole, by steps that can be made
+pub record DidPart {S P U : Type 0} (O : Outside P) (whole : Deed OfTrio) (m : Meaning S P U) (s : S) (v : PollView P) (t : S)
+    (w : PollView P) : Type 0 where
+  pub deed : Option (Deed U)
+  pub steps : List (PollStep P)
+  pub may : MayDo whole m s v deed steps t
+  pub stepped : AllStepped O v steps w
+
+abbrev pub reached : {S P U : Type 0} (O : Outside P) (whole : Deed OfTrio) (m : Meaning S P U) (s t : S) (v w : PollView P) (deed : Deed U)
+    → IsAlike whole deed → Does O m s v deed t w → DidPart O whole m s v t w
+reached O whole m s t v w deed alike h = record { deed = Some deed; steps = h.0; may = (alike, h.1); stepped = h.2 }
+
+abbrev pub unreached : {S P U : Type 0} (O : Outside P) (whole : Deed OfTrio) (m : Meaning S P U) (s : S) (v : PollView P)
+    → DidPart O whole m s v s v
+unreached O whole m s v = record { deed = None; steps = []; may = (refl, refl); stepped = (tt, refl) }
+
+abbrev pub asked : {P R : Type 0} (O : Outside P) (whole : Deed OfTrio) (s t : Trio R) (v u w x : PollView P)
+    → DidPart O whole ping_meaning s.bell v t.bell u → DidPart O whole timer_meaning s.first u t.first w
+    → DidPart O whole timer_meaning s.second w t.second x
+    → (steps : List (PollStep P)) × AsksParts s v whole steps t × AllStepped O v steps x
+asked O whole s t v u w x b f g = (
+  b.steps ++ (f.steps ++ g.steps),
+  record {
+    bell_deed = b.deed;
+    first_deed = f.deed;
+    second_deed = g.deed;
+    bell_steps = b.steps;
+    first_steps = f.steps;
+    second_steps = g.steps;
+    steps_are = refl;
+    bell = b.may;
+    first = rw (← b.stepped.1) f.may;
+    second = rw (← b.stepped.1, ← f.stepped.1) g.may;
+  },
+  stepped-append O v u x b.steps (f.steps ++ g.steps) b.stepped (stepped-append O u w x f.steps g.steps f.stepped g.stepped),
+)
+
+-- what a callback that notes its event has noted after these calls
+pub noted : {N E M T X Q : Type 0} (event : N → Option E) (reaches : Q → Q → Type 0) (s t : N) (x y : X) (q r : Q) (cs : List (Call E M T))
+    → Went (λ s e m x q a t n y r. event t ≡ Some e) reaches s x q cs t y r → event t ≡ after_calls (event s) cs
+noted event reaches s t x y q r [] h = ap event h.0
+noted event reaches s t x y q r (c ∷ cs) h =
+    noted event reaches h.0 t h.1 y h.2 r cs h.5 ∙ ap (λ o. after_calls o cs) h.3
+
+pub failed : {P R : Type 0} (O : Outside P) (readiness : Readiness) (token : Token) (cause : Broken) (s t : Trio R)
+    (v u w x : PollView P)
+    → DidPart O (Turned readiness token (heard [] (Err cause))) ping_meaning s.bell v t.bell u
+    → DidPart O (Turned readiness token (heard [] (Err cause))) timer_meaning s.first u t.first w
+    → DidPart O (Turned readiness token (heard [] (Err cause))) timer_meaning s.second w t.second x
+    → Does O trio_meaning s v (Turned readiness token (heard [] (Err cause))) t x
+failed O readiness token cause s t v u w x b f g =
+    let did = asked O (Turned readiness token (heard [] (Err cause))) s t v u w x b f g in
+    (did.0, (did.1, refl), did.2)
+
+pub served : {P R : Type 0} (O : Outside P) (readiness : Readiness) (token : Token) (b : OfBell) (f g : OfTimer) (s t : Trio R)
+    (v u w x : PollView P) (part : Option Part)
+    → Does O ping_meaning s.bell v (Turned readiness token b) t.bell u
+    → Does O timer_meaning s.first u (Turned readiness token f) t.first w
+    → Does O timer_meaning s.second w (Turned readiness token g) t.second x
+    → part ≡ part_heard (after_calls None b.calls) (after_calls None f.calls) (after_calls None g.calls)
+    → Does O trio_meaning s v (Turned readiness token (heard (calls_of part) (Ok Continue))) t x
+served O readiness token b f g s t v u w x part bell first second is =
+    let whole : Deed OfTrio = Turned readiness token (heard (calls_of part) (Ok Continue)) in
+    let did = asked O whole s t v u w x
+    (reached O whole ping_meaning s.bell t.bell v u (Turned readiness token b) (refl, refl) bell)
+    (reached O whole timer_meaning s.first t.first u w (Turned readiness token f) (refl, refl) first)
+    (reached O whole timer_meaning s.second t.second w x (Turned readiness token g) (refl, refl) second) in
+    (did.0, (did.1, (ap calls_of is, refl)), did.2)

@@ -1,0 +1,42 @@
+-- What the ping behind a guard means: what the ping does, where it is reached, and else nothing.
+use Rattle.std.specs.Prelude.{◌≡◌, ◌⊎◌, [], List, Result, Ok, IsErr, None, false}
+use Rattle.std.proofs.Common.{inl, inr}
+use Rattle.calloop_core.specs.declared.sources.PostAction.{PostAction}
+use Rattle.calloop_core.specs.Polls.{PollView, PollStep}
+use Rattle.calloop_core.specs.Deeds.{Deed, Registered, Reregistered, Unregistered, Turned, Slept, Noticed, Heard, heard}
+use Rattle.calloop_core.specs.Holdings.{holds_none}
+use Rattle.calloop_core.specs.Meanings.{Meaning, IsKeeping}
+use Rattle.calloop.specs.declared.ping.source.PingError.{PingError}
+use Rattle.calloop.specs.Pings.{IsPing}
+use Rattle.calloop.specs.Quiet.{ping_keeps}
+use Rattle.calloop_tests.specs.declared.guarded.Guarded.{Guarded}
+use Rattle.calloop_tests.specs.declared.source.Broken.{Broken}
+
+-- a turn or an unregistration may end before the ping is reached: then nobody is called, and the ping stays as it is
+abbrev pub Guards : {P R : Type 0} → Guarded R → PollView P → Deed (Heard (Unit {0}) (Unit {0}) (Unit {0}) Broken)
+    → List (PollStep P) → Guarded R → Type 0
+Guards s v (Registered f answer g) steps t = IsPing s.ping v (Registered f answer g) steps t.ping
+Guards s v (Reregistered f answer g) steps t = IsPing s.ping v (Reregistered f answer g) steps t.ping
+Guards s v (Unregistered answer) steps t =
+    IsPing s.ping v (Unregistered answer) steps t.ping ⊎ ((steps ≡ []) × (t ≡ s))
+Guards s v (Slept answer) steps t = (answer ≡ Ok None) × (steps ≡ []) × (t ≡ s)
+Guards s v (Noticed events) steps t = (steps ≡ []) × (t ≡ s)
+Guards s v (Turned readiness token turn) steps t =
+    ((answer : Result PostAction PingError) × IsPing s.ping v (Turned readiness token (heard turn.calls answer)) steps t.ping)
+    ⊎ (IsErr turn.answer × (turn.calls ≡ []) × (steps ≡ []) × (t.ping ≡ s.ping))
+
+abbrev pub guarded_meaning : {P R : Type 0}
+    → Meaning (Guarded R) P (Heard (Unit {0}) (Unit {0}) (Unit {0}) Broken)
+guarded_meaning = record { holds = λ s. holds_none; fits = λ s. Unit {0}; needs = λ s. false; does = Guards }
+
+-- A proof, which the impl cites.
+pub guarded_keeps : {P R : Type 0} → IsKeeping (guarded_meaning {P = P} {R = R})
+guarded_keeps s t v (Registered f a g) l fits below h = ping_keeps s.ping t.ping v (Registered f a g) l fits below h
+guarded_keeps s t v (Reregistered f a g) l fits below h = ping_keeps s.ping t.ping v (Reregistered f a g) l fits below h
+guarded_keeps s t v (Unregistered a) l fits below (inl h) = ping_keeps s.ping t.ping v (Unregistered a) l fits below h
+guarded_keeps s t v (Unregistered a) l fits below (inr h) = (tt, rw h.0 (λ counter. tt))
+guarded_keeps s t v (Slept a) l fits below h = (tt, rw h.1 (λ counter. tt))
+guarded_keeps s t v (Noticed es) l fits below h = (tt, rw h.0 (λ counter. tt))
+guarded_keeps s t v (Turned r k turn) l fits below (inl h) =
+    ping_keeps s.ping t.ping v (Turned r k (heard turn.calls h.0)) l fits below h.1
+guarded_keeps s t v (Turned r k turn) l fits below (inr h) = (tt, rw h.2 (λ counter. tt))

@@ -1,0 +1,54 @@
+//! Data of a dispatch that borrows.
+use calloop::loop_logic::EventLoop;
+use calloop::ping::make_ping;
+use calloop::{Asking, Callback, Dispatcher, PingSource, Sources};
+use calloop_core::sys::script::{ScriptClock, ScriptPoller};
+use std::sync::Wait;
+use std::time::Duration;
+
+#[test]
+fn the_data_of_a_dispatch_may_borrow_what_outlives_the_loop(rt: HostRuntime) {
+    let mut rings = 0;
+    {
+        let poller = ScriptPoller::new(rt.alloc()).expect(&rt, "a poller");
+        let clock = poller.clock().expect(&rt, "a clock");
+        let mut event_loop: Borrowing<'_, HostRuntime> = EventLoop::try_new(
+            &rt,
+            rt.alloc(),
+            poller,
+            clock,
+        ).expect(&rt, "a loop");
+        let (ping, source) = make_ping(&rt, rt.alloc()).expect(&rt, "a ping");
+        assert!(rt; event_loop.handle().insert_source(source, Ringer).is_ok());
+        ping.ping();
+        let mut count = Count { rings: &mut rings };
+        let answer = event_loop.dispatch(&rt, Some(Duration::ZERO), &mut count);
+        assert!(rt; answer.is_ok());
+    }
+    assert_eq!(rt; rings, 1);
+}
+
+type Borrowing<'a, R> = EventLoop<
+    Sources<Dispatcher<PingSource<R>, Ringer>, Count<'a>>,
+    ScriptPoller,
+    ScriptClock,
+    R,
+>;
+
+// Lends a number.
+#[derive(Drop)]
+struct Count<'a> {
+    rings: &'a mut u32,
+}
+
+// Counts a ring.
+#[derive(Drop)]
+struct Ringer;
+
+impl<'a, Q: Asking> Callback<(), (), (), Count<'a>, Q> for Ringer {
+    ghost may = { λ _ _ _ _ _ _ _ _ _ _. Unit {0} };
+
+    fn call(&mut self, _event: (), _metadata: &mut (), count: &mut Count<'a>, _requests: &mut Q) {
+        *count.rings = count.rings.saturating_add(1);
+    }
+}
