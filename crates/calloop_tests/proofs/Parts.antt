@@ -11,7 +11,7 @@ use Rattle.calloop_core.specs.Meanings.{Meaning, Does}
 use Rattle.calloop_core.specs.Timers.{timer_meaning}
 use Rattle.calloop_core.proofs.Stepping.{stepped-append}
 use Rattle.calloop.specs.Pings.{ping_meaning}
-use Rattle.calloop_tests.specs.Trios.{IsAlike, MayDo, AsksParts, OfTrio, OfBell, OfTimer, calls_of, after_calls, part_heard, trio_meaning}
+use Rattle.calloop_tests.specs.Trios.{IsAlike, MayStop, MayDo, AsksParts, OfTrio, OfBell, OfTimer, calls_of, after_calls, part_heard, trio_meaning}
 use Rattle.calloop_tests.specs.declared.source.Broken.{Broken}
 use Rattle.calloop_tests.specs.declared.trio.Part.{Part}
 use Rattle.calloop_tests.specs.declared.trio.Trio.{Trio}
@@ -28,9 +28,9 @@ abbrev pub reached : {S P U : Type 0} (O : Outside P) (whole : Deed OfTrio) (m :
     → IsAlike whole deed → Does O m s v deed t w → DidPart O whole m s v t w
 reached O whole m s t v w deed alike h = record { deed = Some deed; steps = h.0; may = (alike, h.1); stepped = h.2 }
 
-abbrev pub unreached : {S P U : Type 0} (O : Outside P) (whole : Deed OfTrio) (m : Meaning S P U) (s : S) (v : PollView P)
+abbrev pub unreached : {S P U : Type 0} (O : Outside P) (whole : Deed OfTrio) (m : Meaning S P U) (s : S) (v : PollView P) → MayStop whole
     → DidPart O whole m s v s v
-unreached O whole m s v = record { deed = None; steps = []; may = (refl, refl); stepped = (tt, refl) }
+unreached O whole m s v may = record { deed = None; steps = []; may = (may, refl, refl); stepped = (tt, refl) }
 
 abbrev pub asked : {P R : Type 0} (O : Outside P) (whole : Deed OfTrio) (s t : Trio R) (v u w x : PollView P)
     → DidPart O whole ping_meaning s.bell v t.bell u → DidPart O whole timer_meaning s.first u t.first w

@@ -1,13 +1,13 @@
 -- What the ping behind a guard means: what the ping does, where it is reached, and else nothing.
-use Rattle.std.specs.Prelude.{◌≡◌, ◌⊎◌, [], List, Result, Ok, IsErr, None, false}
+use Rattle.std.specs.Prelude.{◌≡◌, ◌⊎◌, [], List, Result, Ok, Err, IsErr, None, false}
 use Rattle.std.proofs.Common.{inl, inr}
 use Rattle.calloop_core.specs.declared.sources.PostAction.{PostAction}
 use Rattle.calloop_core.specs.Polls.{PollView, PollStep}
 use Rattle.calloop_core.specs.Deeds.{Deed, Registered, Reregistered, Unregistered, Turned, Slept, Noticed, Heard, heard}
 use Rattle.calloop_core.specs.Holdings.{holds_none}
-use Rattle.calloop_core.specs.Meanings.{Meaning, IsKeeping}
+use Rattle.calloop_core.specs.Meanings.{Meaning, IsKeeping, KeepsCounters, KeepsHome}
 use Rattle.calloop.specs.declared.ping.source.PingError.{PingError}
-use Rattle.calloop.specs.Pings.{IsPing}
+use Rattle.calloop.specs.Pings.{IsPing, ping_keys}
 use Rattle.calloop.specs.Quiet.{ping_keeps}
 use Rattle.calloop_tests.specs.declared.guarded.Guarded.{Guarded}
 use Rattle.calloop_tests.specs.declared.source.Broken.{Broken}
@@ -27,16 +27,33 @@ Guards s v (Turned readiness token turn) steps t =
 
 abbrev pub guarded_meaning : {P R : Type 0}
     → Meaning (Guarded R) P (Heard (Unit {0}) (Unit {0}) (Unit {0}) Broken)
-guarded_meaning = record { holds = λ s. holds_none; fits = λ s. Unit {0}; needs = λ s. false; does = Guards }
+guarded_meaning =
+    record { holds = λ s. holds_none; keys = λ s. ping_keys s.ping; fits = λ s. Unit {0}; needs = λ s. false; does = Guards }
 
--- A proof, which the impl cites.
+-- Proofs, which the impl cites.
+
+guarded_counts : {P R : Type 0} → KeepsCounters (guarded_meaning {P = P} {R = R})
+guarded_counts s t v (Registered f a g) l fits below h = ping_keeps.counters s.ping t.ping v (Registered f a g) l fits below h
+guarded_counts s t v (Reregistered f a g) l fits below h = ping_keeps.counters s.ping t.ping v (Reregistered f a g) l fits below h
+guarded_counts s t v (Unregistered a) l fits below (inl h) = ping_keeps.counters s.ping t.ping v (Unregistered a) l fits below h
+guarded_counts s t v (Unregistered a) l fits below (inr h) = (tt, rw h.0 (λ counter. tt))
+guarded_counts s t v (Slept a) l fits below h = (tt, rw h.1 (λ counter. tt))
+guarded_counts s t v (Noticed es) l fits below h = (tt, rw h.0 (λ counter. tt))
+guarded_counts s t v (Turned r k turn) l fits below (inl h) =
+    ping_keeps.counters s.ping t.ping v (Turned r k (heard turn.calls h.0)) l fits below h.1
+guarded_counts s t v (Turned r k turn) l fits below (inr h) = (tt, rw h.2 (λ counter. tt))
+
+guarded_stays : {P R : Type 0} → KeepsHome (guarded_meaning {P = P} {R = R})
+guarded_stays r s t v (Registered f (Ok u) g) l begins h = ping_keeps.home r s.ping t.ping v (Registered f (Ok u) g) l begins h
+guarded_stays r s t v (Registered f (Err e) g) l begins h = ping_keeps.home r s.ping t.ping v (Registered f (Err e) g) l begins h
+guarded_stays r s t v (Reregistered f a g) l begins h = ping_keeps.home r s.ping t.ping v (Reregistered f a g) l begins h
+guarded_stays r s t v (Unregistered a) l home (inl h) = ping_keeps.home r s.ping t.ping v (Unregistered a) l home h
+guarded_stays r s t v (Unregistered a) l home (inr h) = rw (h.0, h.1) (home, tt)
+guarded_stays r s t v (Slept a) l home h = rw (h.1, h.2) (home, tt)
+guarded_stays r s t v (Noticed es) l home h = rw (h.0, h.1) (home, tt)
+guarded_stays r s t v (Turned readiness k turn) l home (inl h) =
+    ping_keeps.home r s.ping t.ping v (Turned readiness k (heard turn.calls h.0)) l home h.1
+guarded_stays r s t v (Turned readiness k turn) l home (inr h) = rw (h.2, h.3) (home, tt)
+
 pub guarded_keeps : {P R : Type 0} → IsKeeping (guarded_meaning {P = P} {R = R})
-guarded_keeps s t v (Registered f a g) l fits below h = ping_keeps s.ping t.ping v (Registered f a g) l fits below h
-guarded_keeps s t v (Reregistered f a g) l fits below h = ping_keeps s.ping t.ping v (Reregistered f a g) l fits below h
-guarded_keeps s t v (Unregistered a) l fits below (inl h) = ping_keeps s.ping t.ping v (Unregistered a) l fits below h
-guarded_keeps s t v (Unregistered a) l fits below (inr h) = (tt, rw h.0 (λ counter. tt))
-guarded_keeps s t v (Slept a) l fits below h = (tt, rw h.1 (λ counter. tt))
-guarded_keeps s t v (Noticed es) l fits below h = (tt, rw h.0 (λ counter. tt))
-guarded_keeps s t v (Turned r k turn) l fits below (inl h) =
-    ping_keeps s.ping t.ping v (Turned r k (heard turn.calls h.0)) l fits below h.1
-guarded_keeps s t v (Turned r k turn) l fits below (inr h) = (tt, rw h.2 (λ counter. tt))
+guarded_keeps = record { counters = guarded_counts; home = guarded_stays }

@@ -1,6 +1,6 @@
 -- What a source of a ping and two timers means: its parts are asked one after the other, the ping first.
-use Rattle.std.specs.Prelude.{◌≡◌, ℕ, ◌++◌, List, [], ◌∷◌, Option, None, Some, Result, Ok, Err, false}
-use Rattle.std.proofs.Common.{inl, refl}
+use Rattle.std.specs.Prelude.{◌≡◌, ◌⊎◌, ℕ, ◌^◌, ◌<◌, ◌++◌, List, [], ◌∷◌, Option, None, Some, Result, Ok, Err, false}
+use Rattle.std.proofs.Common.{inl, inr, refl, ◌∙◌}
 use Rattle.calloop_wake.specs.declared.wheel.Instant.{Instant}
 use Rattle.calloop_core.specs.declared.sources.PostAction.{PostAction}
 use Rattle.calloop_core.specs.declared.sources.PostAction.TheVariants.{Continue}
@@ -10,11 +10,14 @@ use Rattle.calloop_core.specs.Calls.{Call}
 use Rattle.calloop_core.specs.Polls.{PollView, PollStep, polls_after}
 use Rattle.calloop_core.specs.Deeds.{Deed, Registered, Reregistered, Unregistered, Turned, Slept, Noticed, Heard}
 use Rattle.calloop_core.specs.Holdings.{Hold, holds_none, IsBelow, Keeps}
-use Rattle.calloop_core.specs.Meanings.{Meaning, IsKeeping}
-use Rattle.calloop_core.specs.Timers.{timer_holds, timer_meaning}
+use Rattle.calloop_wake.specs.declared.token.TokenFactory.{TokenFactory}
+use Rattle.calloop_wake.specs.declared.token.RegistrationToken.{RegistrationToken}
+use Rattle.calloop_core.specs.Keys.{AllArmFor}
+use Rattle.calloop_core.specs.Meanings.{Meaning, IsKeeping, KeepsCounters, KeepsHome, IsAtHome, BeginsIn}
+use Rattle.calloop_core.specs.Timers.{timer_holds, timer_keys, timer_meaning}
 use Rattle.calloop_core.specs.Keeping.{timer_keeps}
 use Rattle.calloop.specs.declared.ping.source.PingError.{PingError}
-use Rattle.calloop.specs.Pings.{ping_meaning}
+use Rattle.calloop.specs.Pings.{ping_meaning, ping_keys}
 use Rattle.calloop.specs.Quiet.{ping_keeps}
 use Rattle.calloop_tests.specs.Beside.{IsApart, beside, apart_sym, join_swap, keeps_beside, keeps_then, next_after, next_is}
 use Rattle.calloop_tests.specs.Beside.{left_held, right_held, within_itself}
@@ -23,18 +26,28 @@ use Rattle.calloop_tests.specs.declared.trio.Part.{Part}
 use Rattle.calloop_tests.specs.declared.trio.Part.TheVariants.{Bell, First, Second}
 use Rattle.calloop_tests.specs.declared.trio.Trio.{Trio}
 
--- the same call of two sources; a turn, for the same event
+-- a factory of the same registration as this one, by a count that fits its 16 bits
+abbrev pub IsFrom : TokenFactory → TokenFactory → Type 0
+IsFrom f f' = (f'.registration ≡ f.registration) × (f'.given < 2 ^ 16)
+
+-- the same call of two sources: a registration, with a factory of the same one, which succeeds where the whole does; a turn, for
+-- the same event
 abbrev pub IsAlike : {T U : Type 0} → Deed T → Deed U → Type 0
-IsAlike (Registered f answer g) (Registered f' answer' g') = Unit {0}
-IsAlike (Reregistered f answer g) (Reregistered f' answer' g') = Unit {0}
+IsAlike (Registered f answer g) (Registered f' answer' g') = IsFrom f f' × (answer ≡ Ok tt → answer' ≡ Ok tt)
+IsAlike (Reregistered f answer g) (Reregistered f' answer' g') = IsFrom f f'
 IsAlike (Unregistered answer) (Unregistered answer') = Unit {0}
 IsAlike (Turned readiness token turn) (Turned readiness' token' turn') = (readiness' ≡ readiness) × (token' ≡ token)
 IsAlike whole part = ⊥
 
+-- a call may not reach a part, unless it is a registration that succeeds
+abbrev pub MayStop : {T : Type 0} → Deed T → Type 0
+MayStop (Registered f (Ok u) g) = ⊥
+MayStop deed = Unit {0}
+
 -- what a part does in a call of the whole, which may not reach it
 abbrev pub MayDo : {S P T U : Type 0} → Deed T → Meaning S P U → S → PollView P → Option (Deed U) → List (PollStep P) → S
     → Type 0
-MayDo whole m s v None steps t = (steps ≡ []) × (t ≡ s)
+MayDo whole m s v None steps t = MayStop whole × (steps ≡ []) × (t ≡ s)
 MayDo whole m s v (Some deed) steps t = IsAlike whole deed × m.does s v deed steps t
 
 -- what a turn of the whole took and gave, and what one of a part did
@@ -101,11 +114,15 @@ IsTrio s v (Turned readiness token turn) steps t =
 abbrev pub trio_holds : {R : Type 0} → Trio R → ℕ → Hold
 trio_holds s = beside (timer_holds s.first) (timer_holds s.second)
 
+abbrev pub trio_keys : {R : Type 0} → Trio R → (key : ℕ) → Type 0
+trio_keys s key = ping_keys s.bell key ⊎ (timer_keys s.first key ⊎ timer_keys s.second key)
+
 -- its timers hold different counters
 abbrev pub trio_meaning : {P R : Type 0} → Meaning (Trio R) P OfTrio
 trio_meaning =
     record {
       holds = trio_holds;
+      keys = trio_keys;
       fits = λ s. IsApart (timer_holds s.first) (timer_holds s.second);
       needs = λ s. false;
       does = IsTrio;
@@ -113,10 +130,10 @@ trio_meaning =
 
 -- Proofs, which the impl cites.
 
-may_keep : {S P T U : Type 0} (whole : Deed T) (m : Meaning S P U) → IsKeeping m → (s t : S) (v : PollView P)
+may_keep : {S P T U : Type 0} (whole : Deed T) (m : Meaning S P U) → KeepsCounters m → (s t : S) (v : PollView P)
     (deed : Option (Deed U)) (l : List (PollStep P)) → m.fits s → IsBelow v.deadlines.next (m.holds s)
     → MayDo whole m s v deed l t → m.fits t × Keeps (m.holds s) v.deadlines.next l (m.holds t)
-may_keep whole m k s t v None l fits below h = rw (h.0, h.1) (fits, λ counter. within_itself (m.holds s counter))
+may_keep whole m k s t v None l fits below h = rw (h.1, h.2) (fits, λ counter. within_itself (m.holds s counter))
 may_keep whole m k s t v (Some deed) l fits below h = k s t v deed l fits below h.1
 
 timers_keep : {P R : Type 0} (s t : Trio R) (v : PollView P) (deed : Deed OfTrio)
@@ -133,11 +150,11 @@ timers_keep s t v deed d e l m fits below one other =
     let b' = timer_holds t.second in
     let below_a : IsBelow next a = λ c held. below c (left_held (a c) (b c) held) in
     let below_b : IsBelow next b = λ c held. below c (right_held (a c) (b c) held) in
-    let first = may_keep deed timer_meaning timer_keeps s.first t.first v d l tt below_a one in
+    let first = may_keep deed timer_meaning timer_keeps.counters s.first t.first v d l tt below_a one in
     let x = keeps_beside next l a a' b (beside a b) (beside a' b) first.1 fits below_a below_b (λ c. refl) (λ _ c. refl) in
     let at : (polls_after v l).deadlines.next ≡ next_after next l = next_is v l in
     let below_b' : IsBelow (polls_after v l).deadlines.next b = rw at x.other in
-    let second = may_keep deed timer_meaning timer_keeps s.second t.second (polls_after v l) e m tt below_b' other in
+    let second = may_keep deed timer_meaning timer_keeps.counters s.second t.second (polls_after v l) e m tt below_b' other in
     let kept : Keeps b (next_after next l) m b' = rw at at second.1 in
     let y = keeps_beside (next_after next l) m b b' a' (beside a' b) (beside a' b') kept (apart_sym a' b x.apart) x.other x.below
     (λ c. join_swap (a' c) (b c) (x.apart c)) (λ apart c. join_swap (a' c) (b' c) (apart_sym b' a' apart c)) in
@@ -152,7 +169,7 @@ parts_keep s t v deed l fits below h =
     let u = polls_after v h.bell_steps in
     let held = trio_holds s in
     let none : IsBelow next holds_none = λ c held. absurd (held refl) in
-    let bell = may_keep deed ping_meaning ping_keeps s.bell t.bell v h.bell_deed h.bell_steps tt none h.bell in
+    let bell = may_keep deed ping_meaning ping_keeps.counters s.bell t.bell v h.bell_deed h.bell_steps tt none h.bell in
     let x = keeps_beside next h.bell_steps holds_none holds_none held held held bell.1 (λ c. inl refl) none below (λ c. refl) (λ _ c. refl) in
     let at : u.deadlines.next ≡ next_after next h.bell_steps = next_is v h.bell_steps in
     let below' : IsBelow u.deadlines.next held = rw at x.other in
@@ -160,10 +177,80 @@ parts_keep s t v deed l fits below h =
     let kept : Keeps held (next_after next h.bell_steps) (h.first_steps ++ h.second_steps) (trio_holds t) = rw at at both.1 in
     (both.0, rw h.steps_are (keeps_then next h.bell_steps (h.first_steps ++ h.second_steps) held held (trio_holds t) x.keeps kept))
 
+trio_counts : {P R : Type 0} → KeepsCounters (trio_meaning {P = P} {R = R})
+trio_counts s t v (Registered f a g) l fits below h = parts_keep s t v (Registered f a g) l fits below h
+trio_counts s t v (Reregistered f a g) l fits below h = parts_keep s t v (Reregistered f a g) l fits below h
+trio_counts s t v (Unregistered a) l fits below h = parts_keep s t v (Unregistered a) l fits below h
+trio_counts s t v (Slept a) l fits below h = rw (h.1, h.2) (fits, λ c. within_itself (trio_holds s c))
+trio_counts s t v (Noticed es) l fits below h = rw (h.0, h.1) (fits, λ c. within_itself (trio_holds s c))
+trio_counts s t v (Turned r k turn) l fits below h = parts_keep s t v (Turned r k turn) l fits below h.0
+
+-- Of its keys.
+
+arms_then : {P : Type 0} (r : RegistrationToken) (l m : List (PollStep P)) → AllArmFor r l → AllArmFor r m → AllArmFor r (l ++ m)
+arms_then r [] m a b = b
+arms_then r (s ∷ ss) m a b = (a.0, arms_then r ss m a.1 b)
+
+begins_part : {T : Type 0} (whole part : Type 0) (r : RegistrationToken) (deed : Deed T) → (whole → part)
+    → BeginsIn whole r deed → BeginsIn part r deed
+begins_part whole part r (Registered f (Ok u) g) home begins = begins
+begins_part whole part r (Registered f (Err e) g) home begins = (home begins.0, begins.1)
+begins_part whole part r (Reregistered f a g) home begins = (home begins.0, begins.1)
+begins_part whole part r (Unregistered a) home begins = home begins
+begins_part whole part r (Slept a) home begins = home begins
+begins_part whole part r (Noticed es) home begins = home begins
+begins_part whole part r (Turned readiness k turn) home begins = home begins
+
+stops_at_home : {T : Type 0} (home : Type 0) (r : RegistrationToken) (deed : Deed T) → MayStop deed → BeginsIn home r deed → home
+stops_at_home home r (Registered f (Ok u) g) may begins = absurd may
+stops_at_home home r (Registered f (Err e) g) may begins = begins.0
+stops_at_home home r (Reregistered f a g) may begins = begins.0
+stops_at_home home r (Unregistered a) may begins = begins
+stops_at_home home r (Slept a) may begins = begins
+stops_at_home home r (Noticed es) may begins = begins
+stops_at_home home r (Turned readiness k turn) may begins = begins
+
+begins_alike : {T U : Type 0} (home : Type 0) (r : RegistrationToken) (whole : Deed T) (part : Deed U) → IsAlike whole part
+    → BeginsIn home r whole → BeginsIn home r part
+begins_alike home r (Registered f (Ok u) g) (Registered f' (Ok u') g') alike begins = (alike.0.0 ∙ begins.0, alike.0.1)
+begins_alike home r (Registered f (Ok u) g) (Registered f' (Err e) g') alike begins = (let no = alike.1 refl in cc)
+begins_alike home r (Registered f (Err e) g) (Registered f' (Ok u) g') alike begins = (alike.0.0 ∙ begins.1.0, alike.0.1)
+begins_alike home r (Registered f (Err e) g) (Registered f' (Err e') g') alike begins = (begins.0, (alike.0.0 ∙ begins.1.0, alike.0.1))
+begins_alike home r (Reregistered f a g) (Reregistered f' a' g') alike begins = (begins.0, (alike.0 ∙ begins.1.0, alike.1))
+begins_alike home r (Unregistered a) (Unregistered a') alike begins = begins
+begins_alike home r (Turned readiness k turn) (Turned readiness' k' turn') alike begins = begins
+begins_alike home r whole part alike begins = absurd alike
+
+may_stay : {S P T U : Type 0} (whole : Deed T) (m : Meaning S P U) → KeepsHome m → (r : RegistrationToken) (s t : S) (v : PollView P)
+    (deed : Option (Deed U)) (l : List (PollStep P)) → BeginsIn (IsAtHome m r s) r whole
+    → MayDo whole m s v deed l t → IsAtHome m r t × AllArmFor r l
+may_stay whole m k r s t v None l begins h = rw (h.1, h.2) (stops_at_home (IsAtHome m r s) r whole h.0 begins, tt)
+may_stay whole m k r s t v (Some deed) l begins h = k r s t v deed l (begins_alike (IsAtHome m r s) r whole deed h.0 begins) h.1
+
+parts_stay : {P R : Type 0} (r : RegistrationToken) (s t : Trio R) (v : PollView P) (deed : Deed OfTrio) (l : List (PollStep P))
+    → BeginsIn (IsAtHome (trio_meaning {P = P}) r s) r deed → AsksParts s v deed l t
+    → IsAtHome (trio_meaning {P = P}) r t × AllArmFor r l
+parts_stay {P} r s t v deed l begins h =
+    let w = polls_after v h.bell_steps in
+    let whole = IsAtHome (trio_meaning {P = P}) r s in
+    let bell = may_stay deed ping_meaning ping_keeps.home r s.bell t.bell v h.bell_deed h.bell_steps
+    (begins_part whole (IsAtHome (ping_meaning {P = P}) r s.bell) r deed (λ home key held. home key (inl held)) begins) h.bell in
+    let first = may_stay deed timer_meaning timer_keeps.home r s.first t.first w h.first_deed h.first_steps
+    (begins_part whole (IsAtHome (timer_meaning {P = P}) r s.first) r deed (λ home key held. home key (inr (inl held))) begins) h.first in
+    let second = may_stay deed timer_meaning timer_keeps.home r s.second t.second (polls_after w h.first_steps) h.second_deed h.second_steps
+    (begins_part whole (IsAtHome (timer_meaning {P = P}) r s.second) r deed (λ home key held. home key (inr (inr held))) begins) h.second in
+    (
+      λ key held. elim held [ inl x ↦ bell.0 key x | inr y ↦ elim y [ inl x ↦ first.0 key x | inr x ↦ second.0 key x ] ],
+      rw h.steps_are (arms_then r h.bell_steps (h.first_steps ++ h.second_steps) bell.1 (arms_then r h.first_steps h.second_steps first.1 second.1)),
+    )
+
+trio_stays : {P R : Type 0} → KeepsHome (trio_meaning {P = P} {R = R})
+trio_stays r s t v (Registered f a g) l begins h = parts_stay r s t v (Registered f a g) l begins h
+trio_stays r s t v (Reregistered f a g) l begins h = parts_stay r s t v (Reregistered f a g) l begins h
+trio_stays r s t v (Unregistered a) l home h = parts_stay r s t v (Unregistered a) l home h
+trio_stays r s t v (Slept a) l home h = rw (h.1, h.2) (home, tt)
+trio_stays r s t v (Noticed es) l home h = rw (h.0, h.1) (home, tt)
+trio_stays r s t v (Turned readiness k turn) l home h = parts_stay r s t v (Turned readiness k turn) l home h.0
+
 pub trio_keeps : {P R : Type 0} → IsKeeping (trio_meaning {P = P} {R = R})
-trio_keeps s t v (Registered f a g) l fits below h = parts_keep s t v (Registered f a g) l fits below h
-trio_keeps s t v (Reregistered f a g) l fits below h = parts_keep s t v (Reregistered f a g) l fits below h
-trio_keeps s t v (Unregistered a) l fits below h = parts_keep s t v (Unregistered a) l fits below h
-trio_keeps s t v (Slept a) l fits below h = rw (h.1, h.2) (fits, λ c. within_itself (trio_holds s c))
-trio_keeps s t v (Noticed es) l fits below h = rw (h.0, h.1) (fits, λ c. within_itself (trio_holds s c))
-trio_keeps s t v (Turned r k turn) l fits below h = parts_keep s t v (Turned r k turn) l fits below h.0
+trio_keeps = record { counters = trio_counts; home = trio_stays }
