@@ -1,5 +1,14 @@
 -- What a source of a ping and two timers did, from what its parts did.
-use Rattle.std.proofs.Common.{◌≡◌, ◌∙◌, ap, List, [], ◌∷◌, ◌++◌, Option, None, Some, Ok, Err, refl}
+use Rattle.std.proofs.Common.{◌≡◌, ◌∙◌, ap, ℕ, List, [], ◌∷◌, ◌++◌, Option, None, Some, Ok, Err, refl}
+use Rattle.std.proofs.Common.{Result, IsErr, inl, inr}
+use Rattle.calloop_wake.specs.declared.error.Error.{Error}
+use Rattle.calloop_wake.specs.declared.token.TokenFactory.{TokenFactory}
+use Rattle.calloop_wake.specs.declared.wheel.Instant.{Instant}
+use Rattle.calloop_core.specs.declared.timer.Timer.{Timer}
+use Rattle.calloop_core.specs.Deeds.{Registered, Reregistered}
+use Rattle.calloop_core.specs.Timers.{Armed}
+use Rattle.calloop.specs.declared.ping.PingSource.{PingSource}
+use Rattle.calloop.specs.Pings.{RefusedPing, Registered as AlreadyRegistered, NoToken, NoPlace, RefusedAnew, NotRegistered, NoTokenAnew, NoPlaceAnew}
 use Rattle.calloop_core.specs.Pollers.{Outside}
 use Rattle.calloop_core.specs.Polls.{PollView, PollStep, AllStepped}
 use Rattle.calloop_wake.specs.declared.token.Token.{Token}
@@ -84,3 +93,54 @@ served O readiness token b f g s t v u w x part bell first second is =
     (reached O whole timer_meaning s.first t.first u w (Turned readiness token f) (refl, refl) first)
     (reached O whole timer_meaning s.second t.second w x (Turned readiness token g) (refl, refl) second) in
     (did.0, (did.1, (ap calls_of is, refl)), did.2)
+
+-- Of the factory that is passed on from part to part.
+
+abbrev Passed : TokenFactory → TokenFactory → Type 0
+Passed f g = g.registration ≡ f.registration
+
+same_registration : (f g h : TokenFactory) → g ≡ h → Passed f h → Passed f g
+same_registration f g h is same = ap (λ x. x.registration) is ∙ same
+
+refused_ping : (own : Option ℕ) (f g : TokenFactory) (e : Error) → RefusedPing own f e g → Passed f g
+refused_ping own f g e (AlreadyRegistered a b is) = same_registration f g f is refl
+refused_ping own f g e (NoToken a b c is) = same_registration f g f is refl
+refused_ping own f g e (NoPlace a b is) = ap (λ x. x.registration) is
+
+refused_anew : (own : Option ℕ) (f g : TokenFactory) (e : Error) → RefusedAnew own f e g → Passed f g
+refused_anew own f g e (NotRegistered a b is) = same_registration f g f is refl
+refused_anew own f g e (NoTokenAnew a b c is) = same_registration f g f is refl
+refused_anew own f g e (NoPlaceAnew a b c is) = ap (λ x. x.registration) is
+
+pub bell_passes : {P R : Type 0} (s t : PingSource R) (v : PollView P) (f g : TokenFactory) (a : Result (Unit {0}) Error) (l : List (PollStep P))
+    → ping_meaning.does s v (Registered f a g) l t → Passed f g
+bell_passes s t v f g (Ok u) l h = ap (λ x. x.registration) h.0.3
+bell_passes s t v f g (Err e) l h = refused_ping s.twin.key f g e h.0.2
+
+pub bell_passes_anew : {P R : Type 0} (s t : PingSource R) (v : PollView P) (f g : TokenFactory) (a : Result (Unit {0}) Error) (l : List (PollStep P))
+    → ping_meaning.does s v (Reregistered f a g) l t → Passed f g
+bell_passes_anew s t v f g (Ok u) l h = ap (λ x. x.registration) h.0.3
+bell_passes_anew s t v f g (Err e) l h = refused_anew s.twin.key f g e h.0.2
+
+armed_passes : {P : Type 0} (deadline : Option Instant) (next : ℕ) (f g : TokenFactory) (a : Result (Unit {0}) Error) (l : List (PollStep P)) (t : Timer)
+    → Armed deadline next f a l t g → Passed f g
+armed_passes None next f g a l t h = ap (λ x. x.registration) h.3
+armed_passes (Some at) next f g (Ok u) l t h = ap (λ x. x.registration) h.2
+armed_passes (Some at) next f g (Err e) l t h = elim h.2 [ inl x ↦ ap (λ y. y.registration) x.2 | inr x ↦ ap (λ y. y.registration) x.1 ]
+
+pub timer_passes : {P : Type 0} (s t : Timer) (v : PollView P) (f g : TokenFactory) (a : Result (Unit {0}) Error) (l : List (PollStep P))
+    → timer_meaning.does s v (Registered f a g) l t → Passed f g
+timer_passes s t v f g a l h = armed_passes s.deadline v.deadlines.next f g a h.0 t h.2
+
+pub timer_passes_anew : {P : Type 0} (s t : Timer) (v : PollView P) (f g : TokenFactory) (a : Result (Unit {0}) Error) (l : List (PollStep P))
+    → timer_meaning.does s v (Reregistered f a g) l t → Passed f g
+timer_passes_anew s t v f g a l h = armed_passes s.deadline v.deadlines.next f g a h.0 t h.2
+
+-- a call that fails may stop, and nothing is asked of its parts
+pub stops : (f g : TokenFactory) (answer : Result (Unit {0}) Error) → IsErr answer → MayStop {T = OfTrio} (Registered f answer g)
+stops f g (Ok u) h = cc
+stops f g (Err e) h = tt
+
+pub not_done : (answer part : Result (Unit {0}) Error) → IsErr answer → answer ≡ Ok tt → part ≡ Ok tt
+not_done (Ok u) part h e = cc
+not_done (Err e') part h e = cc

@@ -238,8 +238,7 @@ parts_stay {P} r s t v deed l begins h =
     let first = may_stay deed timer_meaning timer_keeps.home r s.first t.first w h.first_deed h.first_steps
     (begins_part whole (IsAtHome (timer_meaning {P = P}) r s.first) r deed (λ home key held. home key (inr (inl held))) begins) h.first in
     let second = may_stay deed timer_meaning timer_keeps.home r s.second t.second (polls_after w h.first_steps) h.second_deed h.second_steps
-    (begins_part whole (IsAtHome (timer_meaning {P = P}) r s.second) r deed (λ home key held. home key (inr (inr held))) begins) h.second in
-    (
+    (begins_part whole (IsAtHome (timer_meaning {P = P}) r s.second) r deed (λ home key held. home key (inr (inr held))) begins) h.second in (
       λ key held. elim held [ inl x ↦ bell.0 key x | inr y ↦ elim y [ inl x ↦ first.0 key x | inr x ↦ second.0 key x ] ],
       rw h.steps_are (arms_then r h.bell_steps (h.first_steps ++ h.second_steps) bell.1 (arms_then r h.first_steps h.second_steps first.1 second.1)),
     )

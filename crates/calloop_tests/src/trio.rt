@@ -1,5 +1,5 @@
 //! A source of the tests' own that is made of a ping and two timers.
-ghost use Rattle.std.specs.Prelude.{◌≡◌};
+ghost use Rattle.std.specs.Prelude.{◌≡◌, ◌<◌, ◌^◌};
 ghost use Rattle.calloop_core.specs.Calls.{Went};
 ghost use Rattle.calloop_tests.specs.Trios.{calls_of, part_heard};
 
@@ -76,6 +76,13 @@ fn part_of(bell: Noted<()>, first: Noted<Instant>, second: Noted<Instant>) -> Op
     }
 }
 
+// Shows that the count of a factory fits 16 bits.
+fn count_fits(factory: &TokenFactory)
+    ensures { factory.now.given < 2 ^ 16 }
+{
+    let _given = factory.given();
+}
+
 // Calls back, where a part had an event.
 fn call_if<F, X, Q>(part: Option<Part>, callback: &mut F, data: &mut X, requests: &mut Q)
 where
@@ -140,14 +147,20 @@ impl<P: Poller, C, R: Wait + Drop> EventSource<P, C, R> for Trio<R> {
     }
 
     fn register(&mut self, poll: &mut Poll<P, C, R>, factory: &mut TokenFactory) -> Result<()> {
+        count_fits(factory);
         self.bell.register(poll, factory)?;
+        count_fits(factory);
         self.first.register(poll, factory)?;
+        count_fits(factory);
         self.second.register(poll, factory)
     }
 
     fn reregister(&mut self, poll: &mut Poll<P, C, R>, factory: &mut TokenFactory) -> Result<()> {
+        count_fits(factory);
         self.bell.reregister(poll, factory)?;
+        count_fits(factory);
         self.first.reregister(poll, factory)?;
+        count_fits(factory);
         self.second.reregister(poll, factory)
     }
 

@@ -99,6 +99,13 @@ impl TokenFactory {
         }
     }
 
+    /// How many tokens it gave, at most 65,535.
+    pub fn given(&self) -> u16
+        ensures { result ≡ self.now.given }
+    {
+        self.given
+    }
+
     /// The next token: sub-ids 0 to 65,534 in order.
     ///
     /// After these it refuses with `TooManyTokens`, each time, and stays as it is. Calloop panics there.

@@ -128,6 +128,7 @@ fn two_tokens_of_a_factory_differ(rt: HostRuntime) {
     let mut factory = TokenFactory::new(RegistrationToken::new(1, 2));
     let first = factory.token().expect(&rt, "a token");
     let second = factory.token().expect(&rt, "another token");
+    assert_eq!(rt; factory.given(), 2);
     assert!(rt; first != second);
     assert_eq!(rt; (first.key(), second.key()), (4_295_098_368, 4_295_098_369));
 }

@@ -30,7 +30,9 @@ fn what_is_of_a_source_stays_what_it_is(rt: HostRuntime) {
 fn a_dispatcher_lends_its_source_and_hands_it_back(rt: HostRuntime) {
     let mut dispatcher = Dispatcher::new(Timer::from_deadline(Instant { nanos: 4 }), ());
     assert!(rt; is_due_at(dispatcher.as_source_ref(), 4));
-    dispatcher.as_source_mut().set_deadline(Instant { nanos: 9 });
+    dispatcher
+        .as_source_mut()
+        .set_deadline(Instant { nanos: 9 });
     assert!(rt; is_due_at(dispatcher.as_source_ref(), 9));
     assert!(rt; is_due_at(&dispatcher.into_source_inner(), 9));
 }

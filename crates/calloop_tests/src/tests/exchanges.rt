@@ -33,7 +33,11 @@ fn a_source_is_exchanged_for_the_one_before(rt: HostRuntime) {
     let token = desk.count(1, None);
     let mut calls = VecDeque::with_capacity(rt.alloc(), 2).expect(&rt, "room");
     for named in [token, RegistrationToken::new(1, 0)] {
-        assert!(rt; calls.push_back(LoopCall::Exchange(named, counter(9, None))).is_ok());
+        assert!(rt;
+            calls
+                .push_back(LoopCall::Exchange(named, counter(9, None)))
+                .is_ok()
+        );
     }
     assert!(rt; desk.answers(calls, &[("exchanged", true), ("exchanged", false)]));
     assert_eq!(rt; desk.removed_counter(token), Some((0, 1)));

@@ -42,6 +42,7 @@ fn a_ping_whose_source_could_not_be_unregistered_ends_no_wait_once_dropped(rt: H
     let mut stage = Stage::new(&rt, rt.alloc());
     let (token, bell) = guarded(&rt, &mut stage, 0, true);
     let removed = removed(&mut stage, token).expect(&rt, "a source");
+    assert!(rt; warns(&mut stage));
     drop(removed);
     bell.ping();
     assert!(rt; stage.says(Some(100), &[]));
@@ -86,8 +87,14 @@ fn fails<R: Wait + Clone + Drop + Abort>(stage: &mut Stage<Guards<R>, R>) -> boo
     matches!(answer, Err(Error::OtherError(_))) && said.is_empty()
 }
 
-// Takes the guarded ping that the token names out of the loop. The place to look at the loop's warnings, once it has
-// them.
+// Whether there is one warning, of an error of a source.
+fn warns<R: Wait + Clone + Drop + Abort>(stage: &mut Stage<Guards<R>, R>) -> bool {
+    let handle = stage.event_loop.handle();
+    let warnings = handle.warnings();
+    warnings.len() == 1 && matches!(warnings.first(), Some(Error::OtherError(_)))
+}
+
+// Takes the guarded ping that the token names out of the loop.
 fn removed<R: Wait + Clone + Drop + Abort>(
     stage: &mut Stage<Guards<R>, R>,
     token: RegistrationToken,

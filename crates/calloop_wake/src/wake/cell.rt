@@ -39,11 +39,7 @@ pub trait CellCore: Core {
 
     /// Gives the cell the key of a place that was opened. First comes what is owed under the new key, and then the leave to close
     /// the place of the key that it had.
-    fn set_key(
-        &mut self,
-        pass: OpenedPass,
-        twin: &mut Twin,
-    ) -> (Option<Debt>, Option<LeaveToClose>)
+    fn set_key(&mut self, pass: OpenedPass, twin: &mut Twin) -> (Option<Debt>, Option<LeaveToClose>)
         requires { twin.old.name ≡ name_of self.old }
         ensures twin { twin.new ≡ record twin.old { key = Some pass.key } }
         ensures fits { (tag : Self.Tag) → Self.fits tag self.old → Self.fits tag self.new }

@@ -19,7 +19,7 @@ returns-then-is_err-2 g c =
           (reached O _ timer_meaning _ _ _ _
           (Turned c.args.readiness c.args.token (heard c.process_events-came.ensures.0 c.process_events-came.result)) (refl, refl)
           c.process_events-came.ensures.1)
-          (unreached O _ timer_meaning _ _),
+          (unreached O _ timer_meaning _ _ tt),
       (refl, refl, refl),
     )
 

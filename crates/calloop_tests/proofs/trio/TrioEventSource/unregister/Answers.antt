@@ -11,8 +11,8 @@ returns-in_err-unregister g c =
     asked O _ _ _ (poll_view c.args.poll.now) (poll_view c.unregister.new._poll) (poll_view c.unregister.new._poll) (poll_view c.unregister.new._poll)
     (reached O _ ping_meaning _ _ _ _
     (Unregistered c.unregister.result) tt c.unregister.ensures)
-    (unreached O _ timer_meaning _ _)
-    (unreached O _ timer_meaning _ _)
+    (unreached O _ timer_meaning _ _ tt)
+    (unreached O _ timer_meaning _ _ tt)
 
 pub returns : goal.returns
 returns g c =
