@@ -185,8 +185,8 @@ impl<D: EventDispatcher<P, C, R>, P: Poller, C: Clock, R: Wait + Drop> LoopHandl
     ///
     /// The loop learns of a change at the next `update`: a timer that is given another deadline fires at the one it was registered
     /// with before. Another source can be put in the place of this one. It then stands there with what it holds, and the one
-    /// before isn't unregistered: that no timer fires twice for one arming is promised of loops into which none is put that
-    /// holds a timer which the one before didn't hold.
+    /// before isn't unregistered: that no timer fires twice for one arming, and that a source in a slot has keys of this slot alone,
+    /// is promised of loops into which none is put with a counter of a timer, or a key, which the one before didn't have.
     pub fn dispatcher_mut(&mut self, token: &RegistrationToken) -> Result<&mut D>
         ensures* writes_back { sem 𝓛 (LendsIfOk (the_row (record { mir = named 1; lft = [] }) D.row P.row C.row R.row) D.row self.entry result (λ w. with_handle_source token.now w self.old) self.old) }
         ensures ok { IfOk result (λ held. named_by (view_of self.old.inner.now).slots token.now ≡ Source held.now) }

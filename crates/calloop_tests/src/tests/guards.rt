@@ -87,11 +87,11 @@ fn fails<R: Wait + Clone + Drop + Abort>(stage: &mut Stage<Guards<R>, R>) -> boo
     matches!(answer, Err(Error::OtherError(_))) && said.is_empty()
 }
 
-// Whether there is one warning, of an error of a source.
+// Whether there is one warning, of an error of the system.
 fn warns<R: Wait + Clone + Drop + Abort>(stage: &mut Stage<Guards<R>, R>) -> bool {
     let handle = stage.event_loop.handle();
     let warnings = handle.warnings();
-    warnings.len() == 1 && matches!(warnings.first(), Some(Error::OtherError(_)))
+    warnings.len() == 1 && matches!(warnings.first(), Some(Error::IoError(_)))
 }
 
 // Takes the guarded ping that the token names out of the loop.
