@@ -8,6 +8,7 @@ pub trait IdleCallback<X, Q: Asking> {
     /// The callback, the data and the requests before the call, and these two after it.
     ghost runs: { Self → X → Q → X → Q → Type 0 };
 
+    /// What is done. The callback is spent.
     fn run(self, data: &mut X, requests: &mut Q)
         ensures runs { runs self «data».old requests.old «data».new requests.new }
         ensures asks { Q.reaches requests.old requests.new };

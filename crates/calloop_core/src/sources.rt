@@ -198,12 +198,14 @@ impl<S, F> Dispatcher<S, F> {
     ghost use Rattle.calloop_core.specs.Lending.{with_source};
     ghost use Rattle.calloop_core.specs.contracts.sources.Dispatcher.{the_row};
 
+    /// A source with the callback for its events.
     pub fn new(source: S, callback: F) -> Dispatcher<S, F>
         ensures { result ≡ record { source = source; callback = callback } }
     {
         Dispatcher { source, callback }
     }
 
+    /// The source, to be looked at.
     pub fn as_source_ref(&self) -> &S
         ensures { result.now ≡ self.now.source }
     {
