@@ -1,6 +1,10 @@
-use super::{Desk, at, counter, is_invalid};
+use super::stage::Stage;
+use super::{Desk, at, counter};
 use calloop::loop_logic::LoopCall;
-use calloop::{Error, OneOf, RegistrationToken, Sources, TimeoutAction};
+use calloop::{
+    Asking, Callback, Dispatcher, Error, Instant, OneOf, RegistrationToken, Sources, TimeoutAction,
+    Timer,
+};
 use std::collections::VecDeque;
 use std::io::ErrorKind;
 use std::process::Abort;
@@ -16,6 +20,19 @@ fn a_deadline_that_is_set_counts_from_the_next_update(rt: HostRuntime) {
     assert!(rt; desk.says(Some(200), &[5]));
     assert!(rt; desk.says(Some(900), &[5]));
     assert!(rt; desk.asked(&[Some(100), Some(500)]));
+}
+
+#[test]
+fn a_deadline_that_is_set_without_an_update_is_not_handed_out(rt: HostRuntime) {
+    let mut stage: Stage<Dispatcher<Timer, Herald>, _> = Stage::new(&rt, rt.alloc());
+    let timer = Timer::from_deadline(at(100));
+    let inserted = stage.event_loop.handle().insert_source(timer, Herald);
+    let token = inserted.ok().expect(&rt, "a registration");
+    let mut handle = stage.event_loop.handle();
+    let held = handle.dispatcher_mut(&token).expect(&rt, "a source");
+    held.held.as_source_mut().set_deadline(at(300));
+    assert!(rt; stage.says(Some(200), &[100]));
+    assert!(rt; stage.asked(&[Some(100)]));
 }
 
 #[test]
@@ -53,6 +70,27 @@ fn a_source_that_fails_as_it_leaves_is_a_warning_until_the_next_dispatch(rt: Hos
     assert!(rt; desk.warns_of(&[ErrorKind::NotFound]));
     assert!(rt; desk.says(Some(0), &[]));
     assert!(rt; desk.warns_of(&[]));
+}
+
+// Says the deadline in milliseconds, and leaves.
+#[derive(Drop)]
+struct Herald;
+
+impl<Q: Asking> Callback<Instant, (), TimeoutAction, Vec<u32>, Q> for Herald {
+    ghost may = { λ _ _ _ _ _ _ _ _ _ _. Unit {0} };
+
+    fn call(
+        &mut self,
+        deadline: Instant,
+        _metadata: &mut (),
+        said: &mut Vec<u32>,
+        _requests: &mut Q,
+    ) -> TimeoutAction {
+        if let Ok(millis) = u32::try_from(deadline.nanos / 1_000_000) {
+            let _failed = said.push(millis);
+        }
+        TimeoutAction::Drop
+    }
 }
 
 impl<R: Wait + Clone + Drop + Abort> Desk<R> {
