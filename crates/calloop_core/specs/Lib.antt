@@ -15,4 +15,5 @@ pub mod Keeping
 pub mod Waits
 pub mod Scripts
 pub mod Lending
+pub mod ScriptCalls
 pub mod ScriptPollers

@@ -1,24 +1,47 @@
 -- What the calls of a poller may do. A poller is seen from outside: the loop is proved for all of its answers.
-use Rattle.std.specs.Prelude.{◌≡◌, ℕ, ◌+◌, List, Option, Some, None, Result, Ok, Err}
+use Rattle.std.specs.Prelude.{◌≡◌, ℕ, ◌+◌, Bool, ◌||◌, List, Option, Some, None, Result, Ok, Err}
 use Rattle.std.specs.Duration.{as_nanos}
 use Rattle.std.specs.declared.time.Duration.{Duration}
 use Rattle.std.specs.declared.io.Error.{Error as IoError}
 use Rattle.std.specs.IoError.{error_kind}
 use Rattle.std.specs.declared.io.ErrorKind.TheVariants.{Interrupted}
 use Rattle.calloop_core.specs.declared.sys.Readiness.{Readiness}
+use Rattle.calloop_core.specs.declared.sys.Interest.{Interest}
 
 -- a time in nanoseconds, where there is one
 abbrev pub nanos_of : Option Duration → Option ℕ
 nanos_of None = None
 nanos_of (Some d) = Some (as_nanos d)
 
+-- an interest in anything
+abbrev pub asks : Interest → Bool
+asks interest = interest.readable || interest.writable
+
+-- a call for a socket: from now on a wait gives its events under this key; its key or its interest is another; a wait gives none
+-- of its events any more. calloop's poller names a socket by its descriptor; here it is lent beside the call.
+pub data PollerCall : Type 0 where
+  Add : (key : ℕ) (interest : Interest) → PollerCall
+  Modify : (key : ℕ) (interest : Interest) → PollerCall
+  Delete : PollerCall
+
+-- of a poller with sockets of type I: the poller and the socket before a call, its answer, and both after it
+abbrev pub Sockets : (P I : Type 0) → Type 1
+Sockets P I = P → I → PollerCall → Result (Unit {0}) IoError → P → I → Type 0
+
 -- the poller before, what it was given, what it answered, and the poller after
 pub record Outside (P : Type 0) : Type 1 where
   pub reads : P → (now : ℕ) → P → Type 0
   -- the asked wait in nanoseconds, and the events: keys of tokens with what was found
   pub waits : P → (asked : Option ℕ) → Result (Unit {0}) IoError → (given : List (ℕ × Readiness)) → P → Type 0
+  -- a call for some socket
+  pub calls : P → PollerCall → Result (Unit {0}) IoError → P → Type 0
   -- how many faults there were
   pub faults : P → ℕ
+
+-- by how much an answer counts: a fault is one more
+abbrev pub faults_of : {A : Type 0} → Result A IoError → ℕ
+faults_of (Ok a) = 0
+faults_of (Err cause) = 1
 
 -- each wait with a fault is counted, and an interruption is none
 abbrev pub IsCounted : ℕ → Result (Unit {0}) IoError → ℕ → Type 0

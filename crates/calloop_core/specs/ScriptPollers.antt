@@ -1,15 +1,18 @@
 -- What a scripted poller's calls do: a tool for tests and traces, which calloop lacks.
-use Rattle.std.specs.Prelude.{◌≡◌, ℕ, ◌+◌, ◌-◌, ◌^◌, min, List, [], ◌∷◌, Option, Some, None, Result, Ok, Err, vec_capacity}
+use Rattle.std.specs.Prelude.{◌≡◌, ℕ, ◌+◌, ◌-◌, ◌^◌, ◌++◌, ◌⊎◌, min, false, List, [], ◌∷◌, Option, Some, None, Result, Ok, Err, vec_capacity}
 use Rattle.std.specs.declared.io.Error.{Error as IoError}
 use Rattle.std.specs.IoError.{error_kind}
-use Rattle.std.specs.declared.io.ErrorKind.TheVariants.{Interrupted, Other}
+use Rattle.std.specs.declared.io.ErrorKind.TheVariants.{Interrupted, Other, OutOfMemory}
 use Rattle.std.specs.declared.time.Duration.{Duration}
 use Rattle.calloop_core.specs.declared.sys.Readiness.{Readiness}
 use Rattle.calloop_core.specs.declared.sys.script.ScriptAnswer.{ScriptAnswer}
 use Rattle.calloop_core.specs.declared.sys.script.ScriptEnd.{ScriptEnd}
 use Rattle.calloop_core.specs.declared.sys.script.ScriptEnd.TheVariants.{Events, Interrupted as Interruption, Fault}
 use Rattle.calloop_core.specs.declared.sys.script.ScriptPoller.{ScriptPoller}
-use Rattle.calloop_core.specs.Pollers.{Outside, nanos_of}
+use Rattle.calloop_core.specs.declared.sys.script.calls.ScriptIo.{ScriptIo}
+use Rattle.calloop_core.specs.declared.sys.script.calls.ScriptCall.{ScriptCall}
+use Rattle.calloop_core.specs.Pollers.{Outside, Sockets, nanos_of}
+use Rattle.calloop_core.specs.ScriptCalls.{shown_call, kind_of, is_to_fail, with_failing, CallAnswered}
 use Rattle.calloop_core.specs.Scripts.{kept_waits}
 
 -- the clock after a wait with no answer left
@@ -35,11 +38,32 @@ pub record ScriptWaits (p : ScriptPoller) (asked : Option ℕ) (answer : Result 
   pub asked_is : nanos_of timeout ≡ asked
   pub noted : q.waits.items ≡ kept_waits p.waits.items (vec_capacity p.waits) timeout
   pub room : vec_capacity q.waits ≡ vec_capacity p.waits
+  pub calls : q.calls ≡ p.calls
+  pub failing : q.failing ≡ p.failing
+
+-- it is noted, also where it fails as it was told to; or there is no memory to note it, which is a fault too
+abbrev pub IsNoted : ScriptPoller → ScriptCall → Result (Unit {0}) IoError → ScriptPoller → Type 0
+IsNoted p call answer q =
+    ((q.calls.items ≡ p.calls.items ++ call ∷ []) × (q.failing ≡ with_failing (kind_of call) false p.failing)
+    × CallAnswered (is_to_fail (kind_of call) p.failing) answer)
+    ⊎ ((q.calls.items ≡ p.calls.items) × (q.failing ≡ p.failing)
+    × (cause : IoError) × (answer ≡ Err cause) × (error_kind cause ≡ OutOfMemory))
+
+-- one call for a socket
+pub record ScriptCalled (p : ScriptPoller) (call : ScriptCall) (answer : Result (Unit {0}) IoError) (q : ScriptPoller) : Type 0 where
+  pub noted : IsNoted p call answer q
+  pub moment : q.moment ≡ p.moment
+  pub answers : q.answers ≡ p.answers
+  pub waits : q.waits ≡ p.waits
+
+abbrev pub script_sockets : Sockets ScriptPoller ScriptIo
+script_sockets p io call answer q after = ScriptCalled p (shown_call call io.number) answer q × (after ≡ io)
 
 abbrev pub script_outside : Outside ScriptPoller
 script_outside =
     record {
       reads = λ p now q. (now ≡ p.moment.nanos) × (q ≡ p);
       waits = λ p asked answer given q. ScriptWaits p asked answer given q;
+      calls = λ p call answer q. (number : ℕ) × ScriptCalled p (shown_call call number) answer q;
       faults = λ p. p.faults.count;
     }

@@ -13,7 +13,7 @@ use Rattle.calloop_wake.specs.Watches.{noted}
 use Rattle.calloop_wake.specs.declared.wake.watch.Watch.{Watch}
 use Rattle.calloop_wake.specs.declared.wake.notes.Note.TheVariants.{Looked}
 use Rattle.calloop_core.specs.declared.sys.Readiness.{Readiness}
-use Rattle.calloop_core.specs.Pollers.{Outside}
+use Rattle.calloop_core.specs.Pollers.{Outside, faults_of}
 use Rattle.calloop_core.specs.Polls.{PollView, polling, watching, gathered, is_filled}
 
 -- what is left of the caller's timeout, counted from the start; differences stop at zero
@@ -70,13 +70,8 @@ abbrev pub looked : {P : Type 0} → List (Interruption P) → Watch → Watch
 looked [] w = w
 looked (i ∷ is) w = looked is (noted (Looked i.posted) w)
 
--- over a whole wait a fault is one more in the poller's count, and nothing else is
-abbrev pub faults_of : Result ℕ Cause → ℕ
-faults_of (Ok now) = 0
-faults_of (Err cause) = 1
-
 -- a whole wait: the clock is read once at the start, and the board is looked at; the watch notes this look and one for each
--- interruption, and no more
+-- interruption, and no more; a fault is one more in the poller's count, and nothing else is
 abbrev pub Waited : {P : Type 0} → Outside P → PollView P → (timeout : Option ℕ) → Result ℕ Cause → List (ℕ × Readiness) → P → Watch → Type 0
 Waited {P} O v timeout answer given q w =
     (start : ℕ) × (p : P) × O.reads v.poller start p × (posted : Bool) × (interruptions : List (Interruption P))

@@ -1,6 +1,6 @@
 //! Pollers and clocks, and what sources register with.
-ghost use Rattle.std.specs.Prelude.{◌≡◌, ℕ, ◌+◌, ◌≤◌, ◌++◌, List, length, vec_len, vec_capacity};
-ghost use Rattle.calloop_core.specs.Pollers.{Outside, IsCounted, nanos_of};
+ghost use Rattle.std.specs.Prelude.{◌≡◌, ℕ, ◌+◌, ◌≤◌, ◌++◌, ◌||◌, List, length, vec_len, vec_capacity};
+ghost use Rattle.calloop_core.specs.Pollers.{Outside, IsCounted, nanos_of, asks};
 ghost use Rattle.calloop_core.specs.declared.sys.Readiness.{Readiness};
 
 use calloop_wake::error::Result as LoopResult;
@@ -43,6 +43,57 @@ impl Readiness {
     };
 }
 
+/// What a source wants to hear of, as in calloop.
+#[derive(Clone, Copy, Debug, PartialEq, Eq)]
+pub struct Interest {
+    pub readable: bool,
+    pub writable: bool,
+}
+
+impl Interest {
+    /// In nothing: a socket with it is in no poller.
+    pub const EMPTY: Interest = Interest {
+        readable: false,
+        writable: false,
+    };
+
+    /// In whether it can be read.
+    pub const READ: Interest = Interest {
+        readable: true,
+        writable: false,
+    };
+
+    /// In whether it can be written.
+    pub const WRITE: Interest = Interest {
+        readable: false,
+        writable: true,
+    };
+
+    /// In both.
+    pub const BOTH: Interest = Interest {
+        readable: true,
+        writable: true,
+    };
+
+    /// Whether it is an interest in anything.
+    pub fn asks(self) -> bool
+        ensures { result ≡ asks self }
+    {
+        self.readable || self.writable
+    }
+}
+
+/// How often a socket's source hears of what it is ready for, as in calloop. The source keeps it; no poller knows of it.
+#[derive(Clone, Copy, Debug, PartialEq, Eq)]
+pub enum Mode {
+    /// Once, until it is registered anew.
+    OneShot,
+    /// In each wait, as long as it is ready.
+    Level,
+    /// When it becomes ready.
+    Edge,
+}
+
 /// Tells the moment. Any answer is lawful, also one that is smaller than an earlier one.
 pub trait Clock: Clone + Drop {
     ghost use Rattle.std.specs.Prelude.{ℕ};
@@ -59,11 +110,36 @@ pub trait Poller: Drop {
     ghost use Rattle.std.specs.Prelude.{◌≡◌, ℕ, ◌+◌, ◌≤◌, ◌++◌, List, length, vec_len, vec_capacity};
     ghost use Rattle.std.specs.Prelude.{IfErr};
     ghost use Rattle.calloop_wake.specs.declared.error.Error.TheVariants.{OutOfMemory};
-    ghost use Rattle.calloop_core.specs.Pollers.{Outside, IsCounted, nanos_of};
+    ghost use Rattle.calloop_core.specs.Pollers.{Outside, Sockets, Add, Modify, Delete, IsCounted, faults_of, nanos_of};
     ghost use Rattle.calloop_core.specs.declared.sys.Readiness.{Readiness};
+
+    /// What it waits on: a socket.
+    type Io: Drop;
 
     /// What its calls may do.
     ghost outside: { Outside Self };
+
+    /// What its calls for a socket may do, to the socket too.
+    ghost sockets: { Sockets Self Self.Io };
+
+    /// From now on a wait gives the events of this socket, under this key. An `Err` is a fault, and is counted.
+    fn add(&mut self, io: &mut Self::Io, key: u64, interest: Interest) -> io::Result<()>
+        ensures sockets { sockets self.old io.old (Add key interest) result self.new io.new }
+        ensures calls { outside.calls self.old (Add key interest) result self.new }
+        ensures faults { outside.faults self.new ≡ outside.faults self.old + faults_of result };
+
+    /// A socket that was added has another key or another interest, and what it is ready for is told anew. An `Err` is a fault,
+    /// and is counted.
+    fn modify(&mut self, io: &mut Self::Io, key: u64, interest: Interest) -> io::Result<()>
+        ensures sockets { sockets self.old io.old (Modify key interest) result self.new io.new }
+        ensures calls { outside.calls self.old (Modify key interest) result self.new }
+        ensures faults { outside.faults self.new ≡ outside.faults self.old + faults_of result };
+
+    /// A wait gives no event of this socket any more. An `Err` is a fault, and is counted.
+    fn delete(&mut self, io: &mut Self::Io) -> io::Result<()>
+        ensures sockets { sockets self.old io.old Delete result self.new io.new }
+        ensures calls { outside.calls self.old Delete result self.new }
+        ensures faults { outside.faults self.new ≡ outside.faults self.old + faults_of result };
 
     /// The moment that the poller's clock shows.
     fn now(&mut self) -> Instant

@@ -1,12 +1,12 @@
 //! A poller that answers what it was told to, with a clock of its own: for tests and for recorded answers.
-ghost use Rattle.std.specs.Prelude.{◌≡◌, ℕ, ◌+◌, ◌≤◌, ◌++◌, [], ◌∷◌, List, length, nat_le, Option, vec_len, vec_capacity, IsOk, OnOk, OnErr, IfOk, IfErr, is_ok, if◌then◌else◌};
+ghost use Rattle.std.specs.Prelude.{◌≡◌, ℕ, ◌+◌, ◌≤◌, ◌++◌, [], ◌∷◌, List, length, nat_le, false, Option, vec_len, vec_capacity, IsOk, OnOk, OnErr, IfOk, IfErr, is_ok, if◌then◌else◌};
 ghost use Rattle.calloop_core.specs.Polls.{head_of};
 ghost use Rattle.calloop_core.specs.Scripts.{kept_waits};
 ghost use Rattle.calloop_core.specs.declared.sys.Readiness.{Readiness};
 
 use super::faults::FaultCount;
 use super::notifier::Notifier;
-use super::{Clock, EVENTS_PER_WAIT, Poller, Readiness};
+use super::{Clock, EVENTS_PER_WAIT, Interest, Poller, Readiness};
 use calloop_wake::error::{Error, Result as LoopResult};
 use calloop_wake::wheel::Instant;
 use std::alloc::{AllocError, AllocFailed, Global};
@@ -15,6 +15,10 @@ use std::io;
 use std::sync::Arc;
 use std::sync::atomic::{AtomicBool, AtomicU64, Ordering};
 use std::time::Duration;
+
+mod calls;
+
+pub use calls::{ScriptCall, ScriptFaults, ScriptIo, ScriptKind};
 
 /// The events of one scripted wait, at most 1,024 of them.
 #[derive(Drop)]
@@ -91,6 +95,8 @@ pub struct ScriptPoller {
     moment: Instant,
     answers: VecDeque<ScriptAnswer>,
     waits: Vec<Option<Duration>>,
+    calls: Vec<ScriptCall>,
+    failing: ScriptFaults,
     faults: FaultCount,
     shown: Arc<AtomicU64, Global>,
     signal: Arc<AtomicBool, Global>,
@@ -123,12 +129,14 @@ impl Clock for ScriptClock {
 impl ScriptPoller {
     /// With the clock at 0, no answer, and no room for asked waits.
     pub fn new(alloc: Global) -> Result<ScriptPoller, AllocError>
-        ensures { IfOk result (λ made. (made.moment.nanos ≡ 0) × (made.answers.items ≡ []) × (made.waits.items ≡ []) × (vec_capacity made.waits ≡ 0) × (made.faults.count ≡ 0)) }
+        ensures { IfOk result (λ made. (made.moment.nanos ≡ 0) × (made.answers.items ≡ []) × (made.waits.items ≡ []) × (vec_capacity made.waits ≡ 0) × (made.calls.items ≡ []) × (made.failing ≡ record { add = false; modify = false; delete = false }) × (made.faults.count ≡ 0)) }
     {
         Ok(ScriptPoller {
             moment: Instant { nanos: 0 },
             answers: VecDeque::new(alloc),
             waits: Vec::new(alloc),
+            calls: Vec::new(alloc),
+            failing: ScriptFaults::NONE,
             faults: FaultCount::new(),
             shown: Arc::new(alloc, AtomicU64::new(0))?,
             signal: Arc::new(alloc, AtomicBool::new(false))?,
@@ -163,6 +171,8 @@ impl ScriptPoller {
         ensures value_returned { IfErr result (λ failed. failed.value ≡ answer) }
         ensures moment { self.new.moment ≡ self.old.moment }
         ensures waits { self.new.waits ≡ self.old.waits }
+        ensures calls { self.new.calls ≡ self.old.calls }
+        ensures failing { self.new.failing ≡ self.old.failing }
         ensures faults { self.new.faults ≡ self.old.faults }
     {
         self.answers.push_back(answer)
@@ -174,6 +184,8 @@ impl ScriptPoller {
         ensures answers { self.new.answers.items ≡ [] }
         ensures moment { self.new.moment ≡ self.old.moment }
         ensures waits { self.new.waits ≡ self.old.waits }
+        ensures calls { self.new.calls ≡ self.old.calls }
+        ensures failing { self.new.failing ≡ self.old.failing }
         ensures faults { self.new.faults ≡ self.old.faults }
     {
         let first = self.answers.pop_front();
@@ -189,6 +201,8 @@ impl ScriptPoller {
         ensures succeeds { n ≤ vec_capacity self.old.waits → IsOk result }
         ensures moment { self.new.moment ≡ self.old.moment }
         ensures answers { self.new.answers ≡ self.old.answers }
+        ensures calls { self.new.calls ≡ self.old.calls }
+        ensures failing { self.new.failing ≡ self.old.failing }
         ensures faults { self.new.faults ≡ self.old.faults }
     {
         self.waits
@@ -214,6 +228,8 @@ impl ScriptPoller {
         ensures room { vec_capacity self.new.waits ≡ vec_capacity self.old.waits }
         ensures moment { self.new.moment ≡ self.old.moment }
         ensures answers { self.new.answers ≡ self.old.answers }
+        ensures calls { self.new.calls ≡ self.old.calls }
+        ensures failing { self.new.failing ≡ self.old.failing }
         ensures faults { self.new.faults ≡ self.old.faults }
     {
         if self.waits.len() < self.waits.capacity() {
@@ -232,9 +248,25 @@ fn append(mut events: Vec<(u64, Readiness)>, out: &mut Vec<(u64, Readiness)>)
 }
 
 impl Poller for ScriptPoller {
-    ghost use Rattle.calloop_core.specs.ScriptPollers.{script_outside};
+    ghost use Rattle.calloop_core.specs.ScriptPollers.{script_outside, script_sockets};
+
+    type Io = ScriptIo;
 
     ghost outside = { script_outside };
+
+    ghost sockets = { script_sockets };
+
+    fn add(&mut self, io: &mut ScriptIo, key: u64, interest: Interest) -> io::Result<()> {
+        self.call(ScriptCall::Add(io.number, key, interest))
+    }
+
+    fn modify(&mut self, io: &mut ScriptIo, key: u64, interest: Interest) -> io::Result<()> {
+        self.call(ScriptCall::Modify(io.number, key, interest))
+    }
+
+    fn delete(&mut self, io: &mut ScriptIo) -> io::Result<()> {
+        self.call(ScriptCall::Delete(io.number))
+    }
 
     fn now(&mut self) -> Instant {
         self.moment

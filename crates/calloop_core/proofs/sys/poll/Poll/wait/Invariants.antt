@@ -3,7 +3,8 @@ use Rattle.std.specs.declared.io.Error.{Error as Cause}
 use Rattle.calloop_core.specs.declared.sys.Readiness.{Readiness}
 use Rattle.calloop_core.specs.Pollers.{nanos_of}
 use Rattle.calloop_core.specs.Polls.{poll_view}
-use Rattle.calloop_core.specs.Waits.{Interruption, Waits, Waited, looked, faults_of}
+use Rattle.calloop_core.specs.Waits.{Interruption, Waits, Waited, looked}
+use Rattle.calloop_core.specs.Pollers.{faults_of}
 use Rattle.calloop_core.proofs.sys.poll.Poll.wait.Given as goal
 
 -- what the waits from now on end with, the whole wait ends with

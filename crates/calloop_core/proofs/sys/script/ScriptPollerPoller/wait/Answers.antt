@@ -1,4 +1,4 @@
-use Rattle.std.proofs.Common.{sym, [], refl, arith}
+use Rattle.std.proofs.Common.{rules, sym, [], refl, arith}
 use Rattle.std.proofs.lemmas.List.{append-nil}
 use Rattle.calloop_core.specs.Pollers.{nanos_of}
 use Rattle.calloop_core.proofs.Scripted.{interrupted, faulted}
@@ -13,6 +13,8 @@ returns-in-Interrupted-clause-waits c = (
     asked_is = refl;
     noted = c.note.ensures.waits;
     room = c.note.ensures.room;
+    calls = c.note.ensures.calls;
+    failing = c.note.ensures.failing;
   },
   sym (append-nil c.args.events.now.items),
   omega (arith),
@@ -27,6 +29,24 @@ returns-in-Fault-clause-waits c = (
     asked_is = refl;
     noted = c.note.ensures.waits;
     room = c.note.ensures.room;
+    calls = c.note.ensures.calls;
+    failing = c.note.ensures.failing;
+  },
+  sym (append-nil c.args.events.now.items),
+  omega (arith),
+)
+
+pub returns-in-Some-timeout-clause-waits : goal.returns-in-Some-timeout-clause-waits
+returns-in-Some-timeout-clause-waits c = (
+  [],
+  record {
+    answered = search rules;
+    timeout = c.args.timeout;
+    asked_is = refl;
+    noted = c.note.ensures.waits;
+    room = c.note.ensures.room;
+    calls = c.note.ensures.calls;
+    failing = c.note.ensures.failing;
   },
   sym (append-nil c.args.events.now.items),
   omega (arith),
