@@ -1,4 +1,9 @@
 //! What the program is asked for by its arguments.
+ghost use Rattle.std.specs.Prelude.{◌≡◌, ◌<◌, ◌^◌, ℕ, MatchResult, IfOk};
+ghost use Rattle.std.specs.Int.NonZero.{non_zero_u32_get};
+ghost use Rattle.loop_bench.specs.Requests.{IsNumber, Asks};
+ghost use Rattle.loop_bench.specs.Rows.{name_of};
+
 use crate::row::{Kind, Row};
 use std::fmt;
 use std::num::NonZeroU32;
@@ -37,22 +42,44 @@ impl fmt::Display for Unreadable<'_> {
     }
 }
 
-fn number(word: &str) -> Result<NonZeroU32, Unreadable<'_>> {
-    word.parse::<u32>()
-        .ok()
-        .and_then(NonZeroU32::new)
-        .ok_or(Unreadable::Number(word))
+// A whole number from 1 to 2^32 - 1.
+fn number(word: &str) -> Result<NonZeroU32, Unreadable<'_>>
+    ensures { MatchResult result (λ number. IsNumber word.now (non_zero_u32_get number)) (λ _. (n : ℕ) → IsNumber word.now n → 0 < n → ¬ (n < 2 ^ 32)) }
+{
+    match word.parse::<NonZeroU32>() {
+        Ok(number) => Ok(number),
+        Err(_) => Err(Unreadable::Number(word)),
+    }
+}
+
+// A row by the words for its name, its count and its size.
+fn row<'a>(kind: &'a str, count: &'a str, size: &'a str) -> Result<Row, Unreadable<'a>>
+    ensures kind { IfOk result (λ row. name_of row.kind ≡ kind.now) }
+    ensures count { IfOk result (λ row. IsNumber count.now (non_zero_u32_get row.count)) }
+    ensures size { IfOk result (λ row. IsNumber size.now (non_zero_u32_get row.size)) }
+{
+    let Some(named) = Kind::named(kind) else {
+        return Err(Unreadable::Row(kind));
+    };
+    let count = number(count)?;
+    let size = number(size)?;
+    Ok(Row {
+        kind: named,
+        count,
+        size,
+    })
 }
 
 /// Reads the arguments, without the program's name.
-pub fn read(words: &[String]) -> Result<Request, Unreadable<'_>> {
+pub fn read(words: &[String]) -> Result<Request, Unreadable<'_>>
+    ensures { IfOk result (λ request. Asks words.now request) }
+{
     match words {
         [word] if word.as_str() == "check" => Ok(Request::Check),
-        [kind, count, size] => Ok(Request::Measure(Row {
-            kind: Kind::named(kind.as_str()).ok_or(Unreadable::Row(kind.as_str()))?,
-            count: number(count.as_str())?,
-            size: number(size.as_str())?,
-        })),
+        [kind, count, size] => match row(kind.as_str(), count.as_str(), size.as_str()) {
+            Ok(row) => Ok(Request::Measure(row)),
+            Err(unreadable) => Err(unreadable),
+        },
         _ => Err(Unreadable::Usage),
     }
 }

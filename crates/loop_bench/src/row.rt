@@ -1,4 +1,9 @@
-//! The rows, and what the program is asked for.
+//! The rows.
+ghost use Rattle.std.specs.Prelude.{◌≡◌, ◌<◌, IfSome};
+ghost use Rattle.std.specs.List.{find};
+ghost use Rattle.std.specs.Int.NonZero.{non_zero_u32_get};
+ghost use Rattle.loop_bench.specs.Rows.{name_of, is_named, operations_of, calls_of};
+
 use std::num::NonZeroU32;
 
 /// What a row measures.
@@ -27,7 +32,9 @@ impl Kind {
     ];
 
     /// Its name among the arguments, and in what is printed.
-    pub fn name(self) -> &'static str {
+    pub fn name(self) -> &'static str
+        ensures { result.now ≡ name_of self }
+    {
         match self {
             Kind::RingAndDispatch => "ring_and_dispatch",
             Kind::TimersFired => "timers_fired",
@@ -38,8 +45,11 @@ impl Kind {
     }
 
     /// The kind of this name.
-    pub fn named(name: &str) -> Option<Kind> {
-        Kind::ALL.into_iter().find(|kind| kind.name() == name)
+    pub fn named(name: &str) -> Option<Kind>
+        ensures first { result ≡ find (is_named name.now) Self.ALL }
+        ensures named { IfSome result (λ kind. name_of kind ≡ name.now) }
+    {
+        Kind::ALL.iter().copied().find(|kind| kind.name() == name)
     }
 }
 
@@ -53,7 +63,10 @@ pub struct Row {
 
 impl Row {
     /// In how many steps its time is divided: each timer that fires is one.
-    pub fn operations(&self) -> u64 {
+    pub fn operations(&self) -> u64
+        ensures value { result ≡ operations_of self.now.kind (non_zero_u32_get self.now.count) (non_zero_u32_get self.now.size) }
+        ensures nonzero { 0 < result }
+    {
         let count = u64::from(self.count.get());
         match self.kind {
             Kind::TimersFired => count * u64::from(self.size.get()),
@@ -62,7 +75,9 @@ impl Row {
     }
 
     /// How many callbacks it has to call.
-    pub fn calls(&self) -> u64 {
+    pub fn calls(&self) -> u64
+        ensures { result ≡ calls_of self.now.kind (non_zero_u32_get self.now.count) (non_zero_u32_get self.now.size) }
+    {
         match self.kind {
             Kind::RingAndDispatch | Kind::TimersFired => self.operations(),
             Kind::TimersCancelled | Kind::InsertAndRemove | Kind::IdleDispatch => 0,
