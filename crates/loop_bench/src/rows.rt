@@ -74,7 +74,7 @@ impl<P: Measured<C, R>, C: Clock, R: Wait + time::Clock + Clone + Drop> Bench<P,
         self.stop(began)
     }
 
-    // Arms so many timers that are far from due.
+    // Arms so many timers that are far from due, and answers from which moment on.
     fn insert_far_timers(&mut self, size: u32) -> Result<Instant> {
         let far = self.now().after(Duration::from_secs(FAR));
         self.insert_timers(size, far)?;
