@@ -1,8 +1,9 @@
 //! What the program is asked for by its arguments.
-ghost use Rattle.std.specs.Prelude.{◌≡◌, ◌<◌, ◌^◌, ℕ, MatchResult, IfOk};
+ghost use Rattle.std.specs.Prelude.{ℕ, MatchResult};
 ghost use Rattle.std.specs.Int.NonZero.{non_zero_u32_get};
-ghost use Rattle.loop_bench.specs.Requests.{IsNumber, Asks};
-ghost use Rattle.loop_bench.specs.Rows.{name_of};
+ghost use Rattle.loop_bench.specs.Requests.{IsNumber, IsRow, Asks};
+ghost use Rattle.loop_bench.specs.declared.request.Request.{Request};
+ghost use Rattle.loop_bench.specs.declared.row.Row.{Row};
 
 use crate::row::{Kind, Row};
 use std::fmt;
@@ -44,7 +45,7 @@ impl fmt::Display for Unreadable<'_> {
 
 // A whole number from 1 to 2^32 - 1.
 fn number(word: &str) -> Result<NonZeroU32, Unreadable<'_>>
-    ensures { MatchResult result (λ number. IsNumber word.now (non_zero_u32_get number)) (λ _. (n : ℕ) → IsNumber word.now n → 0 < n → ¬ (n < 2 ^ 32)) }
+    ensures { MatchResult result (λ number. IsNumber word.now (non_zero_u32_get number)) (λ _. (n : ℕ) → ¬ IsNumber word.now n) }
 {
     match word.parse::<NonZeroU32>() {
         Ok(number) => Ok(number),
@@ -54,9 +55,7 @@ fn number(word: &str) -> Result<NonZeroU32, Unreadable<'_>>
 
 // A row by the words for its name, its count and its size.
 fn row<'a>(kind: &'a str, count: &'a str, size: &'a str) -> Result<Row, Unreadable<'a>>
-    ensures kind { IfOk result (λ row. name_of row.kind ≡ kind.now) }
-    ensures count { IfOk result (λ row. IsNumber count.now (non_zero_u32_get row.count)) }
-    ensures size { IfOk result (λ row. IsNumber size.now (non_zero_u32_get row.size)) }
+    ensures { MatchResult result (λ row. IsRow kind.now count.now size.now row) (λ _. (row : Row) → ¬ IsRow kind.now count.now size.now row) }
 {
     let Some(named) = Kind::named(kind) else {
         return Err(Unreadable::Row(kind));
@@ -72,7 +71,7 @@ fn row<'a>(kind: &'a str, count: &'a str, size: &'a str) -> Result<Row, Unreadab
 
 /// Reads the arguments, without the program's name.
 pub fn read(words: &[String]) -> Result<Request, Unreadable<'_>>
-    ensures { IfOk result (λ request. Asks words.now request) }
+    ensures { MatchResult result (λ request. Asks words.now request) (λ _. (request : Request) → ¬ Asks words.now request) }
 {
     match words {
         [word] if word.as_str() == "check" => Ok(Request::Check),
