@@ -1,3 +1,5 @@
+pub mod Editing
+pub mod Frames
 pub mod Gathering
 pub mod Scripted
 pub mod Stepping

@@ -94,6 +94,13 @@ pub enum Mode {
     Edge,
 }
 
+/// What is waited for under a key.
+#[derive(Clone, Copy, Debug, PartialEq, Eq)]
+pub struct Watched {
+    pub interest: Interest,
+    pub mode: Mode,
+}
+
 /// Tells the moment. Any answer is lawful, also one that is smaller than an earlier one.
 pub trait Clock: Clone + Drop {
     ghost use Rattle.std.specs.Prelude.{ℕ};
