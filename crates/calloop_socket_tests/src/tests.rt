@@ -40,6 +40,7 @@ const GOES_ON: Option<PostAction> = Some(PostAction::Continue);
 
 // The one key of the socket in the first slot, and in the second.
 const KEY: u64 = 0;
+
 const SECOND: u64 = 1 << 32;
 
 impl<R: Wait + Clone + Drop + Abort> Desk<R> {

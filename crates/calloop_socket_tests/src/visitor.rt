@@ -12,8 +12,7 @@ pub struct Visitor {
 }
 
 impl<Q: Asking> Callback<Readiness, NoIoDrop<ScriptIo>, io::Result<PostAction>, Vec<u32>, Q>
-    for Visitor
-{
+    for Visitor {
     ghost may = { λ _ _ _ _ _ _ _ _ _ _. Unit {0} };
 
     fn call(

@@ -83,8 +83,11 @@ fn an_update_that_the_poller_refuses_leaves_the_socket_as_it_was(rt: HostRuntime
 #[test]
 fn a_socket_is_unwrapped_where_it_is_not_registered(rt: HostRuntime) {
     let mut desk = Desk::new(&rt, rt.alloc());
-    let idle: Generic<ScriptPoller, io::Error> =
-        Generic::new(ScriptIo { number: 4 }, Interest::READ, Mode::Edge);
+    let idle: Generic<ScriptPoller, io::Error> = Generic::new(
+        ScriptIo { number: 4 },
+        Interest::READ,
+        Mode::Edge,
+    );
     assert_eq!(rt; idle.get_ref().number, 4);
     match idle.unwrap() {
         Ok(io) => assert_eq!(rt; io.number, 4),
