@@ -1,3 +1,4 @@
+pub mod Found
 pub mod Gathering
 pub mod Scripted
 pub mod Stepping
