@@ -6,11 +6,11 @@ use Rattle.mio.specs.Event as found
 use Rattle.calloop_core.specs.declared.sys.Readiness.{Readiness}
 use Rattle.calloop_core.specs.Polls.{is_for_a_token}
 
--- a socket whose peer hung up can be read, to its end, and written, to an error, as in calloop
+-- one that failed, or whose peer hung up, is ready for both, to an error or an end, as in calloop, which doesn't tell of an error
 abbrev pub readiness_of : Event → Readiness
 readiness_of event = record {
-  readable = found.is_readable event || found.is_read_closed event;
-  writable = found.is_writable event || found.is_write_closed event;
+  readable = found.is_readable event || found.is_read_closed event || found.is_error event;
+  writable = found.is_writable event || found.is_write_closed event || found.is_error event;
   error = found.is_error event;
 }
 

@@ -49,8 +49,8 @@ fn readiness_of(event: &Event) -> Readiness
     ensures { result ≡ readiness_of event.now }
 {
     Readiness {
-        readable: event.is_readable() || event.is_read_closed(),
-        writable: event.is_writable() || event.is_write_closed(),
+        readable: event.is_readable() || event.is_read_closed() || event.is_error(),
+        writable: event.is_writable() || event.is_write_closed() || event.is_error(),
         error: event.is_error(),
     }
 }
