@@ -1,4 +1,5 @@
 pub mod Editing
+pub mod Found
 pub mod Frames
 pub mod Gathering
 pub mod Scripted

@@ -21,3 +21,6 @@ pub mod Scripts
 pub mod Lending
 pub mod ScriptCalls
 pub mod ScriptPollers
+pub mod Clocks
+pub mod SystemEvents
+pub mod SystemPollers

@@ -15,6 +15,7 @@ pub mod hub;
 pub mod notifier;
 pub mod poll;
 pub mod script;
+pub mod system;
 
 /// The most events that one wait gives.
 pub const EVENTS_PER_WAIT: usize = 1024;
