@@ -83,6 +83,7 @@ impl<P: Poller, E> Generic<P, E> {
         ensures interest { result.interest ≡ interest }
         ensures mode { result.mode ≡ mode }
         ensures token { result.token ≡ None }
+        ensures heard { result.heard ≡ false }
     {
         Generic {
             io: NoIoDrop { io },
@@ -99,9 +100,9 @@ impl<P: Poller, E> Generic<P, E> {
         ensures ok { IfOk result (λ io. (io ≡ self.io.io) × (self.token ≡ None)) }
         ensures err { IfErr result (λ source. (source ≡ self) × IsSome self.token) }
     {
-        if let Some(_) = self.token {
+        let None = self.token else {
             return Err(self);
-        }
+        };
         let Generic { io, .. } = self;
         let NoIoDrop { io } = io;
         Ok(io)
@@ -131,6 +132,7 @@ impl<P: Poller> Generic<P, io::Error> {
         ensures interest { result.interest ≡ interest }
         ensures mode { result.mode ≡ mode }
         ensures token { result.token ≡ None }
+        ensures heard { result.heard ≡ false }
     {
         Generic::new_with_error(io, interest, mode)
     }

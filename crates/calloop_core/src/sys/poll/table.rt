@@ -80,11 +80,11 @@ impl<P: Poller, C, R: Wait + Drop> Poll<P, C, R> {
         requires known { is_known (watched_at (key_of before) (poll_view self.old).table) ≡ known }
         ensures { DidEdit P.outside P.sockets (Change before token watched) (poll_view self.old) io.old result (poll_view self.new) io.new }
     {
-        let key = token.key();
-        match tell(&mut self.poller, io, known, key, watched.interest) {
+        let same = token.key();
+        match tell(&mut self.poller, io, known, same, watched.interest) {
             Ok(()) => {
                 // The key is there, so it takes no memory.
-                self.table.insert(key, watched)?;
+                self.table.insert(same, watched)?;
                 Ok(())
             }
             Err(cause) => Err(Error::IoError(cause)),
