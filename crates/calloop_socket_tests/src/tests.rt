@@ -17,8 +17,11 @@ use std::process::Abort;
 use std::sync::Wait;
 use std::time::Duration;
 
+mod crowds;
 mod modes;
+mod peers;
 mod refusals;
+mod square;
 
 // A loop over pings, sockets that aren't there, and timers, over a scripted poller.
 type Held<R> = Sources<
