@@ -87,7 +87,7 @@ impl<P: Poller, C, R: Wait + Drop> Poll<P, C, R> {
                 self.table.insert(same, watched)?;
                 Ok(())
             }
-            Err(cause) => Err(Error::IoError(cause)),
+            Err(fault) => Err(Error::IoError(fault)),
         }
     }
 

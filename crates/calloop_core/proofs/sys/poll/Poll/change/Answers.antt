@@ -15,4 +15,4 @@ pub returns-in-Err : goal.returns-in-Err
 returns-in-Err g c =
     let same : nat_eq (key_of c.args.before) (key_of c.args.token) ≡ true = search rules in
     let can : cannot (Change c.args.before c.args.token c.args.watched) (poll_view c.args.self.now).table ≡ None = can_change _ _ c.requires.there (search rules) in
-    faulted g.P.Poller.outside g.P.Poller.sockets (poll_view c.args.self.now) (Change c.args.before c.args.token c.args.watched) c.args.io.now c.in-Err.cause c.tell.new.poller c.tell.new.io _ can (search rules) (search rules) refl
+    faulted g.P.Poller.outside g.P.Poller.sockets (poll_view c.args.self.now) (Change c.args.before c.args.token c.args.watched) c.args.io.now c.in-Err.fault c.tell.new.poller c.tell.new.io _ can (search rules) (search rules) refl
