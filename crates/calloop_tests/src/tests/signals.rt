@@ -2,9 +2,10 @@
 use crate::source::{Source, Teller};
 use calloop::loop_logic::EventLoop;
 use calloop::ping::{Ping, make_ping};
-use calloop::{Clock, LoopSignal, Poller, Readiness, Result};
+use calloop::{Clock, Error, Instant, LoopSignal, Poller, Readiness, Result};
 use calloop_core::sys::EVENTS_PER_WAIT;
 use calloop_core::sys::notifier::Notifier;
+use calloop_core::sys::script::{ScriptAnswer, ScriptEnd, ScriptEvents, ScriptPoller};
 use calloop_core::sys::system::{MioPoller, SystemClock};
 use calloop_wake::wake::Notify;
 use std::alloc::AllocGlobal;
@@ -72,6 +73,66 @@ fn a_wakeup_before_a_dispatch_ends_its_wait(rt: HostRuntime) {
     signal.stop();
 }
 
+#[test]
+fn a_run_ends_once_another_thread_stops_it(rt: HostRuntime) -> std::result::Result<(), Fail> {
+    let clock = SystemClock::new(&rt)?;
+    let mut event_loop = loop_of(&rt, &clock).expect(&rt, "a loop");
+    let signal = event_loop.get_signal().expect(&rt, "a signal");
+    let child = thread::spawn(&rt, move || stops_later(&rt, signal))?;
+    let mut said = Vec::new(rt.alloc());
+    let answer = event_loop.run(&rt, minute(), &mut said, |said| says(said, 1));
+    assert!(rt; answer.is_ok() && is_early(&clock));
+    assert_eq!(rt; said.as_slice(), [1].as_slice());
+    child.join(&rt);
+    Ok(())
+}
+
+#[test]
+fn a_run_calls_after_each_dispatch_until_it_is_stopped(rt: HostRuntime) {
+    let clock = SystemClock::new(&rt).expect(&rt, "a clock");
+    let mut event_loop = loop_of(&rt, &clock).expect(&rt, "a loop");
+    let signal = event_loop.get_signal().expect(&rt, "a signal");
+    let (ping, source) = make_ping(&rt, rt.alloc()).expect(&rt, "a ping");
+    let teller = Teller { number: 7 };
+    assert!(rt; event_loop.handle().insert_source(source, teller).is_ok());
+    // A stop of before is forgotten.
+    signal.stop();
+    let mut said = Vec::new(rt.alloc());
+    let answer = event_loop.run(&rt, Some(Duration::ZERO), &mut said, |said| {
+        says(said, 1);
+        match said.len() {
+            1 => drop(ping.ping()),
+            2 => {}
+            _ => signal.stop(),
+        }
+    });
+    assert!(rt; answer.is_ok());
+    assert_eq!(rt; said.as_slice(), [1, 7, 1].as_slice());
+}
+
+#[test]
+fn a_fault_ends_a_run_without_a_call(rt: HostRuntime) {
+    let mut poller = ScriptPoller::new(rt.alloc()).expect(&rt, "a poller");
+    let clock = poller.clock().expect(&rt, "a clock");
+    for end in [
+        ScriptEnd::Events(ScriptEvents::new(rt.alloc())),
+        ScriptEnd::Fault,
+    ] {
+        let moment = Instant { nanos: 5 };
+        assert!(rt; poller.script(ScriptAnswer { moment, end }).is_ok());
+    }
+    let mut event_loop: EventLoop<Source<HostRuntime>, _, _, HostRuntime> = EventLoop::try_new(
+        &rt,
+        rt.alloc(),
+        poller,
+        clock,
+    ).expect(&rt, "a loop");
+    let mut said = Vec::new(rt.alloc());
+    let answer = event_loop.run(&rt, None, &mut said, |said| says(said, 1));
+    assert!(rt; matches!(answer, Err(Error::IoError(_))));
+    assert_eq!(rt; said.as_slice(), [1].as_slice());
+}
+
 type SystemLoop<R> = EventLoop<Source<R>, MioPoller<SystemClock<R>>, SystemClock<R>, R>;
 
 fn poller_of<R: Net + AllocGlobal + MachineClock + Clone + Drop>(
@@ -115,4 +176,14 @@ fn rings_later<R: MachineClock, Q: Wait + Drop>(rt: &R, ping: Ping<Q>) {
 fn wakes_later<R: MachineClock>(rt: &R, signal: LoopSignal) {
     thread::sleep(rt, pause());
     signal.wakeup();
+}
+
+fn stops_later<R: MachineClock>(rt: &R, signal: LoopSignal) {
+    thread::sleep(rt, pause());
+    signal.stop();
+    signal.wakeup();
+}
+
+fn says(said: &mut Vec<u32>, number: u32) {
+    let _failed = said.push(number);
 }
