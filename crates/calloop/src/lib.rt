@@ -19,5 +19,5 @@ pub use calloop_core::timer::{TimeoutAction, Timer, TimerError};
 pub use calloop_wake::error::{Error, InsertError, Result};
 pub use calloop_wake::token::{RegistrationToken, Token, TokenFactory};
 pub use calloop_wake::wheel::Instant;
-pub use loop_logic::{EventDispatcher, EventLoop, LoopHandle, Requests, Sources};
+pub use loop_logic::{EventDispatcher, EventLoop, LoopHandle, LoopSignal, Requests, Sources};
 pub use ping::{Ping, PingError, PingSource, make_ping};
