@@ -17,7 +17,7 @@ use Rattle.calloop_core.specs.declared.sys.Readiness.{Readiness}
 use Rattle.calloop_core.specs.Pollers.{Outside}
 use Rattle.calloop_core.specs.Waits.{Polled}
 use Rattle.calloop_core.specs.Events.{events_of}
-use Rattle.calloop_core.specs.Polls.{PollView, PollStep, polling, watching, counted, with_pass, cut, cut_from, begun, tail_of, head_of, poll_after, polls_after, TakePass, PutBack, Arm, ArmAgain, Cancel, Call, ReadClock}
+use Rattle.calloop_core.specs.Polls.{PollView, PollStep, polling, watching, counted, with_pass, cut, cut_from, begun, tail_of, head_of, poll_after, polls_after, TakePass, PutBack, Arm, ArmAgain, Cancel, Call, ReadClock, Socket, Fault}
 use Rattle.calloop_core.specs.Deeds.{Turned, Unregistered, Slept, Noticed, Lent, lent}
 use Rattle.calloop_core.specs.Meanings.{Meaning, Does}
 use Rattle.calloop.specs.Held.{HeldStep, Unlisted}
@@ -45,6 +45,8 @@ batch-after v (ArmAgain counter deadline token) = refl
 batch-after v (Cancel counter) = refl
 batch-after v (Call counter deadline) = refl
 batch-after v (ReadClock now after) = refl
+batch-after v (Socket edit after) = refl
+batch-after v (Fault call cause after) = refl
 
 pub batch-stepped : {P : Type 0} (v : PollView P) (steps : List (PollStep P)) → (polls_after v steps).batch ≡ v.batch
 batch-stepped v [] = refl

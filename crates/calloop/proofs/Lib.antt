@@ -8,6 +8,7 @@ pub mod Inserting
 pub mod Held
 pub mod Rights
 pub mod Reuse
+pub mod Rounds
 pub mod Running
 pub mod Pinging
 pub mod Registering

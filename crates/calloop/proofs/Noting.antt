@@ -8,7 +8,7 @@ use Rattle.calloop_wake.specs.Deadlines.{is_armed, entry_of, inserted, without_c
 use Rattle.calloop_core.specs.declared.sys.Readiness.{Readiness}
 use Rattle.calloop_core.specs.declared.sys.poll.Pending.{Pending}
 use Rattle.calloop_core.specs.Pollers.{Outside}
-use Rattle.calloop_core.specs.Polls.{PollView, PollStep, TakePass, PutBack, Arm, ArmAgain, Cancel, Call, ReadClock, poll_after, polls_after, AllAllowed, gathered, appended, posted_events, polled_events, cut, cut_from, begun, tail_of, head_of, with_pass}
+use Rattle.calloop_core.specs.Polls.{PollView, PollStep, TakePass, PutBack, Arm, ArmAgain, Cancel, Call, ReadClock, Socket, Fault, poll_after, polls_after, AllAllowed, gathered, appended, posted_events, polled_events, cut, cut_from, begun, tail_of, head_of, with_pass}
 use Rattle.calloop_core.specs.Holdings.{Hold, Free, Spent, Standing, with_hold, IsWithin, Keeps}
 use Rattle.calloop.specs.Ledgers.{Ledger, Arming, Armed, Called, latest, arm, step_noted, steps_noted, gathering_noted, appended_noted, cut_noted, is_under, number_of, from_elsewhere, from_deadline, due_in}
 use Rattle.calloop.specs.Laws.{IsKept, one, counted, is_armed_as, waits_as, is_number, is_call_as, came_timely, timely, event_of}
@@ -458,3 +458,5 @@ module _ {P : Type 0} (O : Outside P) where
   done_steps (TakePass ∷ ss) l v h h' allowed keeps k g = done_then l l _ v (poll_after v TakePass) _ h h h' (done_same l v (poll_after v TakePass) h refl refl k g) (λ k g. done_steps ss l (poll_after v TakePass) h h' allowed.1 keeps k g)
   done_steps (PutBack pass ∷ ss) l v h h' allowed keeps k g = done_then l l _ v (poll_after v (PutBack pass)) _ h h h' (done_same l v (poll_after v (PutBack pass)) h refl refl k g) (λ k g. done_steps ss l (poll_after v (PutBack pass)) h h' allowed.1 keeps k g)
   done_steps (ReadClock now after ∷ ss) l v h h' allowed keeps k g = done_then l l _ v (poll_after v (ReadClock now after)) _ h h h' (done_same l v (poll_after v (ReadClock now after)) h refl refl k g) (λ k g. done_steps ss l (poll_after v (ReadClock now after)) h h' allowed.1 keeps k g)
+  done_steps (Socket edit after ∷ ss) l v h h' allowed keeps k g = done_then l l _ v (poll_after v (Socket edit after)) _ h h h' (done_same l v (poll_after v (Socket edit after)) h refl refl k g) (λ k g. done_steps ss l (poll_after v (Socket edit after)) h h' allowed.1 keeps k g)
+  done_steps (Fault call cause after ∷ ss) l v h h' allowed keeps k g = done_then l l _ v (poll_after v (Fault call cause after)) _ h h h' (done_same l v (poll_after v (Fault call cause after)) h refl refl k g) (λ k g. done_steps ss l (poll_after v (Fault call cause after)) h h' allowed.1 keeps k g)

@@ -7,7 +7,7 @@ use Rattle.calloop_wake.specs.declared.wheel.Instant.{Instant}
 use Rattle.calloop_wake.specs.Deadlines.{is_before, is_due, is_of, is_other, entry_of, put_behind, front, behind_front}
 use Rattle.calloop_core.specs.declared.sys.Readiness.{Readiness}
 use Rattle.calloop_core.specs.declared.sys.poll.Pending.{Pending}
-use Rattle.calloop_core.specs.Polls.{PollView, PollStep, TakePass, PutBack, Arm, ArmAgain, Cancel, Call, ReadClock, poll_after, posted_events, polled_events, timer_event, tail_of}
+use Rattle.calloop_core.specs.Polls.{PollView, PollStep, TakePass, PutBack, Arm, ArmAgain, Cancel, Call, ReadClock, Socket, Fault, poll_after, posted_events, polled_events, timer_event, tail_of}
 
 -- an arming: its number, its counter and its deadline
 pub record Arming : Type 0 where
@@ -92,6 +92,8 @@ step_noted l v (Call counter deadline) = record l { calls = l.calls ++ record { 
 step_noted l v TakePass = l
 step_noted l v (PutBack pass) = l
 step_noted l v (ReadClock now after) = l
+step_noted l v (Socket edit after) = l
+step_noted l v (Fault call cause after) = l
 
 abbrev pub steps_noted : {P : Type 0} → Ledger → PollView P → List (PollStep P) → Ledger
 steps_noted l v [] = l

@@ -10,3 +10,4 @@ pub mod Lending
 pub mod Choices
 pub mod Wrong
 pub mod Homes
+pub mod Running

@@ -148,6 +148,7 @@ AllFit O v (c ∷ cs) = Fits O v c × AllFit O (viewed v c) cs
 -- nothing has happened yet
 pub record IsNew {D P : Type 0} (w : World D P) : Type 0 where
   pub slots : w.slots ≡ []
+  pub table : w.poll.table ≡ []
   pub deadlines : w.poll.deadlines ≡ record { entries = []; next = 0 }
   pub batch : w.poll.batch ≡ []
   pub passes : w.poll.passes ≡ []

@@ -11,7 +11,7 @@ use Rattle.calloop_wake.specs.Cells.{is_own}
 use Rattle.calloop_wake.specs.Passes.{Taken}
 use Rattle.calloop_core.specs.declared.sources.PostAction.{PostAction}
 use Rattle.calloop_core.specs.Deeds.{Registered, Reregistered, Unregistered, Turned, Slept, Noticed}
-use Rattle.calloop_core.specs.Keys.{IsKeyOf, IsFactoryOf, AllArmFor}
+use Rattle.calloop_core.specs.Keys.{IsKeyOf, IsFactoryOf, AllActFor}
 use Rattle.calloop_core.specs.Lawful.{next_is_own}
 use Rattle.calloop_core.specs.Meanings.{IsKeeping, KeepsCounters, KeepsHome}
 use Rattle.calloop_core.specs.Polls.{PollView, PollStep}
@@ -88,25 +88,25 @@ home_none r t none key e = let same : None ≡ Some key = sym none ∙ e in cc
 
 served_key : {P : Type 0} (r : RegistrationToken) (served : Served) (p : Taken) (before after : Twin) (cs : Calls)
     (action : PostAction) (l : List (PollStep P)) → ServedSo served p before cs action l after
-    → (after.key ≡ before.key) × AllArmFor r l
+    → (after.key ≡ before.key) × AllActFor r l
 served_key r (Opened rung told) p before after cs action l h = (ap (λ x. x.key) h.3, rw h.2 (tt, tt))
 served_key r Refused p before after cs action l h = (ap (λ x. x.key) h.3, rw h.2 (tt, (tt, tt)))
 
 with_key : {P : Type 0} (r : RegistrationToken) (pass : Option Taken) (before after : Twin) (cs : Calls)
     (action : PostAction) (l : List (PollStep P)) → PingTurnWith pass before cs action l after
-    → (after.key ≡ before.key) × AllArmFor r l
+    → (after.key ≡ before.key) × AllActFor r l
 with_key r None before after cs action l h = (ap (λ x. x.key) h.3, rw h.2 (tt, tt))
 with_key r (Some p) before after cs action l h = served_key r h.0 p before after cs action l h.1
 
 for_key : {P : Type 0} (r : RegistrationToken) (is_own : Bool) (pass : Option Taken) (before after : Twin) (cs : Calls)
     (action : PostAction) (l : List (PollStep P)) → PingTurnFor is_own pass before cs action l after
-    → (after.key ≡ before.key) × AllArmFor r l
+    → (after.key ≡ before.key) × AllActFor r l
 for_key r true pass before after cs action l h = with_key r pass before after cs action l h
 for_key r false pass before after cs action l h = (ap (λ x. x.key) h.3, rw h.2 tt)
 
 turn_key : {P R : Type 0} (r : RegistrationToken) (s t : PingSource R) (k : Token) (v : PollView P) (cs : Calls)
     (a : Result PostAction PingError) (l : List (PollStep P)) → IsPingTurn s k v cs a l t
-    → (t.twin.key ≡ s.twin.key) × AllArmFor r l
+    → (t.twin.key ≡ s.twin.key) × AllActFor r l
 turn_key r s t k v cs (Ok action) l h = for_key r (is_own (key_of k) s.twin.key) v.pass s.twin t.twin cs action l h.0
 turn_key r s t k v cs (Err e) l h = absurd h.0
 

@@ -5,6 +5,8 @@ mod cell;
 pub mod loop_logic;
 pub mod ping;
 
+pub use calloop_core::generic;
+pub use calloop_core::generic::{Generic, NoIoDrop};
 pub use calloop_core::idles::IdleCallback;
 pub use calloop_core::sources::{
     Asking, Callback, Dispatch, Dispatcher, EventSource, Here, Hold, IntoError, OneOf, PostAction,
@@ -12,10 +14,10 @@ pub use calloop_core::sources::{
 };
 pub use calloop_core::sys::events::EventIterator;
 pub use calloop_core::sys::poll::Poll;
-pub use calloop_core::sys::{Clock, Poller, Readiness};
+pub use calloop_core::sys::{Clock, Interest, Mode, Poller, Readiness};
 pub use calloop_core::timer::{TimeoutAction, Timer, TimerError};
 pub use calloop_wake::error::{Error, InsertError, Result};
 pub use calloop_wake::token::{RegistrationToken, Token, TokenFactory};
 pub use calloop_wake::wheel::Instant;
-pub use loop_logic::{EventDispatcher, EventLoop, LoopHandle, Requests, Sources};
+pub use loop_logic::{EventDispatcher, EventLoop, LoopHandle, LoopSignal, Requests, Sources};
 pub use ping::{Ping, PingError, PingSource, make_ping};

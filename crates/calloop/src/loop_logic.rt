@@ -21,10 +21,12 @@ mod handle;
 mod laws;
 mod lifecycle;
 mod registering;
+mod signal;
 mod telling;
 mod warnings;
 
 pub use laws::{once, wrong_runs_are_ruled_out};
+pub use signal::LoopSignal;
 
 /// A loop over sources of one type `D` of the caller, a poller and a clock. It owns its sources. `R` is the runtime by
 /// which it locks the board of posted keys.
@@ -34,6 +36,7 @@ pub struct EventLoop<D, P, C, R: Wait + Drop> {
     poll: Poll<P, C, R>,
     lifecycle: Lifecycle,
     warnings: Warnings,
+    signal: LoopSignal,
 }
 
 /// The calls on a loop that act at once. It is lent by the loop.

@@ -1,3 +1,6 @@
+pub mod Editing
+pub mod Found
+pub mod Frames
 pub mod Gathering
 pub mod Scripted
 pub mod Stepping

@@ -2,7 +2,7 @@
 -- that no other source uses it.
 use Rattle.std.specs.Prelude.{◌≡◌, ◌≢◌, ℕ, ◌+◌, ◌<◌, List, [], ◌∷◌, nat_eq, if◌then◌else◌}
 use Rattle.calloop_wake.specs.declared.wheel.Instant.{Instant}
-use Rattle.calloop_core.specs.Polls.{PollStep, TakePass, PutBack, Arm, ArmAgain, Cancel, Call, ReadClock}
+use Rattle.calloop_core.specs.Polls.{PollStep, TakePass, PutBack, Arm, ArmAgain, Cancel, Call, ReadClock, Socket, Fault}
 
 -- a counter isn't held; or it is held, and its last arming was called for; or it is held, and its last arming, for
 -- this deadline, wasn't called for yet
@@ -42,3 +42,5 @@ Keeps held next (Call counter deadline ∷ ss) after =
 Keeps held next (TakePass ∷ ss) after = Keeps held next ss after
 Keeps held next (PutBack pass ∷ ss) after = Keeps held next ss after
 Keeps held next (ReadClock now after' ∷ ss) after = Keeps held next ss after
+Keeps held next (Socket edit after' ∷ ss) after = Keeps held next ss after
+Keeps held next (Fault call cause after' ∷ ss) after = Keeps held next ss after

@@ -17,7 +17,7 @@ use Rattle.calloop_core.specs.declared.timer.TimerError.{TimerError}
 use Rattle.calloop_core.specs.declared.timer.Timer.{Timer}
 use Rattle.calloop_core.specs.declared.timer.Registration.{Registration}
 use Rattle.calloop_core.specs.Deeds.{Registered, Reregistered, Unregistered, Turned, Slept, Noticed}
-use Rattle.calloop_core.specs.Keys.{IsKeyOf, IsFactoryOf, AllArmFor}
+use Rattle.calloop_core.specs.Keys.{IsKeyOf, IsFactoryOf, AllActFor}
 use Rattle.calloop_core.specs.Lawful.{next_is_own}
 use Rattle.calloop_core.specs.Meanings.{IsKeeping, KeepsCounters, KeepsHome}
 use Rattle.calloop_core.specs.Polls.{PollView, PollStep}
@@ -130,17 +130,17 @@ abbrev Home : RegistrationToken → Timer → Type 0
 Home r t = (key : ℕ) → timer_keys t key → IsKeyOf r key
 
 arms_released : {P : Type 0} (r : RegistrationToken) (o : Option Registration) (more : List (PollStep P))
-    → AllArmFor r more → AllArmFor r (releases o ++ more)
+    → AllActFor r more → AllActFor r (releases o ++ more)
 arms_released r None more h = h
 arms_released r (Some own) more h = (tt, h)
 
-arms_none : (P : Type 0) (r : RegistrationToken) (o : Option Registration) → AllArmFor {P = P} r (releases o)
+arms_none : (P : Type 0) (r : RegistrationToken) (o : Option Registration) → AllActFor {P = P} r (releases o)
 arms_none P r None = tt
 arms_none P r (Some own) = (tt, tt)
 
 home_armed : {P : Type 0} (r : RegistrationToken) (o : Option Instant) (next : ℕ) (f g : TokenFactory)
     (a : Result (Unit {0}) Error) (l : List (PollStep P)) (t : Timer) → IsFactoryOf r f → Armed o next f a l t g
-    → Home r t × AllArmFor r l
+    → Home r t × AllActFor r l
 home_armed r None next f g a l t is h = rw (h.1, h.2) (λ key none. absurd none, tt)
 home_armed r (Some at) next f g (Ok u) l t is h =
     rw (h.0, h.1) (λ key e. next_is_own f r key is e, (next_is_own f r _ is refl, tt))
@@ -148,19 +148,19 @@ home_armed r (Some at) next f g (Err e) l t is h = rw (h.0, h.1) (λ key none. a
 
 home_again : {P : Type 0} (r : RegistrationToken) (own : Registration) (at : Instant) (a : Result PostAction TimerError)
     (l : List (PollStep P)) (t : Timer) → IsKeyOf r (key_of own.token) → ArmedAgain own at a l t
-    → Home r t × AllArmFor r l
+    → Home r t × AllActFor r l
 home_again r own at (Ok x) l t mine h = rw (h.1, h.2) (λ key e. rw e mine, (mine, tt))
 home_again r own at (Err e) l t mine h = rw (h.0, h.1) (λ key none. absurd none, tt)
 
 home_for : {P : Type 0} (r : RegistrationToken) (own : Registration) (moment : Option Instant)
     (a : Result PostAction TimerError) (l : List (PollStep P)) (t : Timer) → IsKeyOf r (key_of own.token)
-    → ArmedFor own moment a l t → Home r t × AllArmFor r l
+    → ArmedFor own moment a l t → Home r t × AllActFor r l
 home_for r own (Some at) a l t mine h = home_again r own at a l t mine h
 home_for r own None a l t mine h = rw (h.1, h.2) (λ key e. rw e mine, tt)
 
 home_answered : {P : Type 0} (r : RegistrationToken) (s : Timer) (own : Registration) (x : TimeoutAction)
     (a : Result PostAction TimerError) (l : List (PollStep P)) (t : Timer) → IsKeyOf r (key_of own.token)
-    → Answered s own x a l t → Home r t × AllArmFor r l
+    → Answered s own x a l t → Home r t × AllActFor r l
 home_answered r s own Drop a l t mine h = rw (h.1, h.2) (λ key e. rw e mine, tt)
 home_answered r s own (ToInstant at) a l t mine h = home_again r own at a l t mine h
 home_answered r s own (ToDuration time) a l t mine h =
@@ -168,7 +168,7 @@ home_answered r s own (ToDuration time) a l t mine h =
 
 home_turn : {P : Type 0} (r : RegistrationToken) (s t : Timer) (k : Token) (v : PollView P) (cs : Calls)
     (a : Result PostAction TimerError) (l : List (PollStep P)) → Home r s → IsTimerTurn s k v cs a l t
-    → Home r t × AllArmFor r l
+    → Home r t × AllActFor r l
 home_turn r s t k v cs a l home (inl (own, h)) =
     let mine : IsKeyOf r (key_of own.token) = home (key_of own.token) (rw h.registered refl) in
     let x = home_answered r s own h.action a h.more t mine h.answered in
@@ -177,7 +177,7 @@ home_turn r s t k v cs a l home (inr h) = rw (h.no_steps, h.same) (home, tt)
 
 home_registered : {P : Type 0} (r : RegistrationToken) (s t : Timer) (v : PollView P) (f g : TokenFactory)
     (a : Result (Unit {0}) Error) (l : List (PollStep P)) → IsFactoryOf r f → IsTimerReg s v f a l t g
-    → Home r t × AllArmFor r l
+    → Home r t × AllActFor r l
 home_registered r s t v f g a l is h =
     let x = home_armed r s.deadline v.deadlines.next f g a h.0 t is h.2 in
     (x.0, rw h.1 (arms_released r s.registration h.0 x.1))

@@ -4,7 +4,8 @@ use Rattle.std.specs.Prelude.{◌≡◌, ℕ, ◌^◌, ◌<◌, List, [], ◌∷
 use Rattle.calloop_wake.specs.declared.token.RegistrationToken.{RegistrationToken}
 use Rattle.calloop_wake.specs.declared.token.TokenFactory.{TokenFactory}
 use Rattle.calloop_wake.specs.Tokens.{key_of}
-use Rattle.calloop_core.specs.Polls.{PollStep, Arm, ArmAgain}
+use Rattle.calloop_core.specs.Tables.{Edit, Enter, Change, Leave}
+use Rattle.calloop_core.specs.Polls.{PollStep, Arm, ArmAgain, Socket}
 
 -- the key of one of its tokens, whichever part that is of
 abbrev pub IsKeyOf : RegistrationToken → (key : ℕ) → Type 0
@@ -15,15 +16,21 @@ IsKeyOf r key =
 abbrev pub IsFactoryOf : RegistrationToken → TokenFactory → Type 0
 IsFactoryOf r f = (f.registration ≡ r) × (f.given < 2 ^ 16)
 
--- a step arms no deadline, or one under a key of this registration
-abbrev pub ArmsFor : {P : Type 0} → RegistrationToken → PollStep P → Type 0
-ArmsFor r (Arm deadline token) = IsKeyOf r (key_of token)
-ArmsFor r (ArmAgain counter deadline token) = IsKeyOf r (key_of token)
-ArmsFor r step = Unit {0}
+abbrev pub EditsFor : RegistrationToken → Edit → Type 0
+EditsFor r (Enter token watched) = IsKeyOf r (key_of token)
+EditsFor r (Change before token watched) = IsKeyOf r (key_of before) × IsKeyOf r (key_of token)
+EditsFor r (Leave token) = IsKeyOf r (key_of token)
 
-abbrev pub AllArmFor : {P : Type 0} → RegistrationToken → List (PollStep P) → Type 0
-AllArmFor r [] = Unit {0}
-AllArmFor r (s ∷ ss) = ArmsFor r s × AllArmFor r ss
+-- a step arms deadlines and edits the table under keys of this registration alone
+abbrev pub ActsFor : {P : Type 0} → RegistrationToken → PollStep P → Type 0
+ActsFor r (Arm deadline token) = IsKeyOf r (key_of token)
+ActsFor r (ArmAgain counter deadline token) = IsKeyOf r (key_of token)
+ActsFor r (Socket edit after) = EditsFor r edit
+ActsFor r step = Unit {0}
+
+abbrev pub AllActFor : {P : Type 0} → RegistrationToken → List (PollStep P) → Type 0
+AllActFor r [] = Unit {0}
+AllActFor r (s ∷ ss) = ActsFor r s × AllActFor r ss
 
 -- registered under no key
 abbrev pub no_key : (key : ℕ) → Type 0

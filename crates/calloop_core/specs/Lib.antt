@@ -1,4 +1,5 @@
 pub mod Pollers
+pub mod Tables
 pub mod Batches
 pub mod Polls
 pub mod Events
@@ -6,14 +7,20 @@ pub mod Actions
 pub mod Calls
 pub mod Deeds
 pub mod Holdings
+pub mod Registering
 pub mod Hubs
 pub mod Keys
 pub mod Meanings
 pub mod Lawful
 pub mod Timers
+pub mod Generics
+pub mod GenericKeeping
 pub mod Keeping
 pub mod Waits
 pub mod Scripts
 pub mod Lending
 pub mod ScriptCalls
 pub mod ScriptPollers
+pub mod Clocks
+pub mod SystemEvents
+pub mod SystemPollers

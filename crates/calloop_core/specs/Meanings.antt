@@ -15,7 +15,7 @@ use Rattle.calloop_core.specs.Calls.{Calling, Went, Becomes, IsOfSource}
 use Rattle.calloop_core.specs.Deeds.{Deed, Registered, Reregistered, Unregistered, Turned, Slept, Noticed}
 use Rattle.calloop_core.specs.Deeds.{Heard, Lent}
 use Rattle.calloop_core.specs.Holdings.{Hold, Keeps, IsBelow, holds_none}
-use Rattle.calloop_core.specs.Keys.{IsKeyOf, IsFactoryOf, AllArmFor, no_key}
+use Rattle.calloop_core.specs.Keys.{IsKeyOf, IsFactoryOf, AllActFor, no_key}
 
 -- D is the source or dispatcher, P the poller, T what a turn takes and gives
 pub record Meaning (D P T : Type 0) : Type 1 where
@@ -61,7 +61,7 @@ abbrev pub KeepsHome : {D P T : Type 0} → Meaning D P T → Type 0
 KeepsHome {D} {P} {T} m =
     (registration : RegistrationToken) (s t : D) (v : PollView P) (deed : Deed T) (steps : List (PollStep P))
     → BeginsIn (IsAtHome m registration s) registration deed → m.does s v deed steps t
-    → IsAtHome m registration t × AllArmFor registration steps
+    → IsAtHome m registration t × AllActFor registration steps
 
 -- what is promised of every source
 pub record IsKeeping {D P T : Type 0} (m : Meaning D P T) : Type 0 where

@@ -1,7 +1,7 @@
 -- What a source reads of `Poll`, and what it can do to it; and what the loop does with the batch.
 -- calloop's `Poll` stands on the machine's poller and on files for its pings; here pings have a board, which lies under a
 -- lock and isn't seen, and the loop owns the batch that calloop hands out from a buffer.
-use Rattle.std.specs.Prelude.{◌≡◌, ℕ, ◌+◌, ◌-◌, ◌^◌, ◌≤◌, ◌<◌, List, [], ◌∷◌, ◌++◌, map, filter, length, not, nat_eq, Bool, true, false, Option, Some, None, if◌then◌else◌, vec_capacity, ◌⊎◌}
+use Rattle.std.specs.Prelude.{◌≡◌, ℕ, ◌+◌, ◌-◌, ◌^◌, ◌≤◌, ◌<◌, List, [], ◌∷◌, ◌++◌, map, filter, length, not, nat_eq, Bool, true, false, Option, Some, None, Ok, Err, if◌then◌else◌, vec_capacity, ◌⊎◌}
 use Rattle.std.specs.Option.{option_map}
 use Rattle.std.specs.declared.io.Error.{Error as Cause}
 use Rattle.calloop_wake.specs.declared.error.Error.{Error}
@@ -22,13 +22,15 @@ use Rattle.calloop_wake.specs.declared.wake.notes.Note.TheVariants.{Counted, Unp
 use Rattle.calloop_core.specs.declared.sys.Readiness.{Readiness}
 use Rattle.calloop_core.specs.declared.sys.poll.Pending.{Pending}
 use Rattle.calloop_core.specs.declared.sys.poll.Poll.{Poll}
-use Rattle.calloop_core.specs.Pollers.{Outside}
+use Rattle.calloop_core.specs.Pollers.{Outside, PollerCall}
+use Rattle.calloop_core.specs.Tables.{Table, Edit, edited, cannot, call_of, Called}
 use Rattle.calloop_core.specs.Batches.{key_of_pass}
 
--- the poller, the armed deadlines, the events that wait for their turn, the passes of the posted ones among them in their
--- order, and the pass of the event whose turn it is
+-- the poller, the table of sockets, the armed deadlines, the events that wait for their turn, the passes of the posted ones
+-- among them in their order, and the pass of the event whose turn it is
 pub record PollView (P : Type 0) : Type 0 where
   pub poller : P
+  pub table : Table
   pub deadlines : Deadlines
   pub batch : List Pending
   pub passes : List Taken
@@ -39,7 +41,7 @@ pub record PollView (P : Type 0) : Type 0 where
   pub watch : Watch
 
 abbrev pub poll_view : {P C R : Type 0} → Poll P C R → PollView P
-poll_view p = record { poller = p.poller; deadlines = p.wheel; batch = p.batch.events; passes = p.batch.passes; pass = p.batch.pass; places = p.places; watch = p.batch.watch }
+poll_view p = record { poller = p.poller; table = p.table.entries; deadlines = p.wheel; batch = p.batch.events; passes = p.batch.passes; pass = p.batch.pass; places = p.places; watch = p.batch.watch }
 
 -- another pass, or none, for the event whose turn it is; the one before goes back to the board
 abbrev pub with_pass : {P : Type 0} → Option Taken → PollView P → PollView P
@@ -69,6 +71,10 @@ pub data PollStep (P : Type 0) : Type 0 where
   -- the callback of the timer of this counter is called with this deadline
   Call : (counter : ℕ) (deadline : Instant) → PollStep P
   ReadClock : (now : ℕ) (after : P) → PollStep P
+  -- the table of sockets is edited, and the poller told of it where it has to be
+  Socket : (edit : Edit) (after : P) → PollStep P
+  -- the poller refused a call for a socket
+  Fault : (call : PollerCall) (cause : Cause) (after : P) → PollStep P
 
 abbrev pub poll_after : {P : Type 0} → PollView P → PollStep P → PollView P
 poll_after v TakePass = record v { pass = None }
@@ -78,6 +84,8 @@ poll_after v (ArmAgain counter deadline token) = with_deadlines (with_again coun
 poll_after v (Cancel counter) = with_deadlines (cancelled counter v.deadlines) v
 poll_after v (Call counter deadline) = v
 poll_after v (ReadClock now after) = polling after v
+poll_after v (Socket edit after) = record v { poller = after; table = edited edit v.table }
+poll_after v (Fault call cause after) = polling after v
 
 abbrev pub polls_after : {P : Type 0} → PollView P → List (PollStep P) → PollView P
 polls_after v [] = v
@@ -92,6 +100,8 @@ Allowed O v (ArmAgain counter deadline token) = (is_armed counter v.deadlines �
 Allowed O v (Cancel counter) = Unit {0}
 Allowed O v (Call counter deadline) = is_armed counter v.deadlines ≡ false
 Allowed O v (ReadClock now after) = O.reads v.poller now after
+Allowed O v (Socket edit after) = (cannot edit v.table ≡ None) × Called O v.poller (call_of edit v.table) (Ok tt) after
+Allowed O v (Fault call cause after) = Called O v.poller (Some call) (Err cause) after
 
 abbrev pub AllAllowed : {P : Type 0} → Outside P → PollView P → List (PollStep P) → Type 0
 AllAllowed O v [] = Unit {0}

@@ -2,6 +2,7 @@
 #![tactic(auto)]
 
 mod errors;
+pub mod generic;
 pub mod idles;
 pub mod sources;
 pub mod sys;

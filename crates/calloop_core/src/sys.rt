@@ -15,6 +15,7 @@ pub mod hub;
 pub mod notifier;
 pub mod poll;
 pub mod script;
+pub mod system;
 
 /// The most events that one wait gives.
 pub const EVENTS_PER_WAIT: usize = 1024;
@@ -92,6 +93,13 @@ pub enum Mode {
     Level,
     /// When it becomes ready.
     Edge,
+}
+
+/// What is waited for under a key.
+#[derive(Clone, Copy, Debug, PartialEq, Eq)]
+pub struct Watched {
+    pub interest: Interest,
+    pub mode: Mode,
 }
 
 /// Tells the moment. Any answer is lawful, also one that is smaller than an earlier one.

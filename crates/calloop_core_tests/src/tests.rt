@@ -7,7 +7,7 @@ use calloop_core::sys::hub::{Hub, SharedHub, share};
 use calloop_core::sys::notifier::Notifier;
 use calloop_core::sys::poll::Poll;
 use calloop_core::sys::script::{ScriptAnswer, ScriptClock, ScriptEnd, ScriptEvents, ScriptPoller};
-use calloop_core::sys::{Clock, Poller, Readiness};
+use calloop_core::sys::{Clock, Interest, Poller, Readiness};
 use calloop_core::timer::{TimeoutAction, Timer};
 use calloop_wake::error::Error;
 use calloop_wake::token::{RegistrationToken, Token, TokenFactory};
@@ -25,6 +25,7 @@ use std::time::Duration;
 use std::{io, mem};
 
 mod conversions;
+mod system;
 
 #[test]
 fn a_script_answers_in_its_order_and_then_by_the_timeout(rt: HostRuntime) {
@@ -768,7 +769,23 @@ struct FailsFirst {
 }
 
 impl Poller for FailsFirst {
-    ghost outside = { record { reads = λ _ _ _. Unit {0}; waits = λ _ _ _ _ _. Unit {0}; faults = λ p. p.waits } };
+    type Io = ();
+
+    ghost outside = { record { reads = λ _ _ _. Unit {0}; waits = λ _ _ _ _ _. Unit {0}; calls = λ _ _ _ _. Unit {0}; faults = λ p. p.waits } };
+
+    ghost sockets = { λ _ _ _ _ _ _. Unit {0} };
+
+    fn add(&mut self, _io: &mut (), _key: u64, _interest: Interest) -> io::Result<()> {
+        Ok(())
+    }
+
+    fn modify(&mut self, _io: &mut (), _key: u64, _interest: Interest) -> io::Result<()> {
+        Ok(())
+    }
+
+    fn delete(&mut self, _io: &mut ()) -> io::Result<()> {
+        Ok(())
+    }
 
     fn now(&mut self) -> Instant {
         Instant { nanos: 0 }

@@ -3,7 +3,7 @@
 use Rattle.std.proofs.Common.{◌≡◌, ◌≢◌, ◌⊎◌, inl, inr, ℕ, ◌+◌, ◌<◌, ◌++◌, List, [], ◌∷◌, refl, sym, ◌∙◌}
 use Rattle.std.proofs.Common.{ap, true, false, nat_eq, if◌then◌else◌, arith}
 use Rattle.std.proofs.lemmas.Bool.Decides.{nat_tests}
-use Rattle.calloop_core.specs.Polls.{PollView, PollStep, TakePass, PutBack, Arm, ArmAgain, Cancel, Call, ReadClock}
+use Rattle.calloop_core.specs.Polls.{PollView, PollStep, TakePass, PutBack, Arm, ArmAgain, Cancel, Call, ReadClock, Socket, Fault}
 use Rattle.calloop_core.specs.Polls.{polls_after}
 use Rattle.calloop_core.specs.Holdings.{Hold, Free, Spent, Standing, IsWithin, IsBelow, Keeps, with_hold}
 
@@ -107,6 +107,8 @@ next_after next (Call counter deadline ∷ ss) = next_after next ss
 next_after next (TakePass ∷ ss) = next_after next ss
 next_after next (PutBack pass ∷ ss) = next_after next ss
 next_after next (ReadClock now after ∷ ss) = next_after next ss
+next_after next (Socket edit after ∷ ss) = next_after next ss
+next_after next (Fault call cause after ∷ ss) = next_after next ss
 
 pub next_is : {P : Type 0} (v : PollView P) (l : List (PollStep P)) → (polls_after v l).deadlines.next ≡ next_after v.deadlines.next l
 next_is v [] = refl
@@ -117,6 +119,8 @@ next_is v (Call counter deadline ∷ ss) = next_is v ss
 next_is v (TakePass ∷ ss) = next_is (polls_after v (TakePass ∷ [])) ss
 next_is v (PutBack pass ∷ ss) = next_is (polls_after v (PutBack pass ∷ [])) ss
 next_is v (ReadClock now after ∷ ss) = next_is (polls_after v (ReadClock now after ∷ [])) ss
+next_is v (Socket edit after ∷ ss) = next_is (polls_after v (Socket edit after ∷ [])) ss
+next_is v (Fault call cause after ∷ ss) = next_is (polls_after v (Fault call cause after ∷ [])) ss
 
 -- what one source's steps keep beside another source's counters
 pub record IsBeside {P : Type 0} (next : ℕ) (l : List (PollStep P)) (h h' k g g' : ℕ → Hold) : Type 0 where
@@ -167,6 +171,10 @@ keeps_beside next (PutBack pass ∷ ss) h h' k g g' kept apart below other is is
     let r = keeps_beside next ss h h' k g g' kept apart below other is is' in record { keeps = r.keeps; apart = r.apart; below = r.below; other = r.other }
 keeps_beside next (ReadClock now after ∷ ss) h h' k g g' kept apart below other is is' =
     let r = keeps_beside next ss h h' k g g' kept apart below other is is' in record { keeps = r.keeps; apart = r.apart; below = r.below; other = r.other }
+keeps_beside next (Socket edit after ∷ ss) h h' k g g' kept apart below other is is' =
+    let r = keeps_beside next ss h h' k g g' kept apart below other is is' in record { keeps = r.keeps; apart = r.apart; below = r.below; other = r.other }
+keeps_beside next (Fault call cause after ∷ ss) h h' k g g' kept apart below other is is' =
+    let r = keeps_beside next ss h h' k g g' kept apart below other is is' in record { keeps = r.keeps; apart = r.apart; below = r.below; other = r.other }
 
 within_is : (x y z : Hold) → z ≢ Free → IsWithin x y → x ≡ z → y ≡ z
 within_is Free y z held h e = absurd (held (sym e))
@@ -205,6 +213,8 @@ keeps_more next (Call n deadline ∷ ss) g f h w k = (
 keeps_more next (TakePass ∷ ss) g f h w k = keeps_more next ss g f h w k
 keeps_more next (PutBack pass ∷ ss) g f h w k = keeps_more next ss g f h w k
 keeps_more next (ReadClock now after ∷ ss) g f h w k = keeps_more next ss g f h w k
+keeps_more next (Socket edit after ∷ ss) g f h w k = keeps_more next ss g f h w k
+keeps_more next (Fault call cause after ∷ ss) g f h w k = keeps_more next ss g f h w k
 
 -- steps, and then others from where those led
 pub keeps_then : {P : Type 0} (next : ℕ) (l m : List (PollStep P)) (f g h : ℕ → Hold) → Keeps f next l g → Keeps g
@@ -217,6 +227,8 @@ keeps_then next (Call n deadline ∷ ss) m f g h a b = (a.0, keeps_then next ss 
 keeps_then next (TakePass ∷ ss) m f g h a b = keeps_then next ss m f g h a b
 keeps_then next (PutBack pass ∷ ss) m f g h a b = keeps_then next ss m f g h a b
 keeps_then next (ReadClock now after ∷ ss) m f g h a b = keeps_then next ss m f g h a b
+keeps_then next (Socket edit after ∷ ss) m f g h a b = keeps_then next ss m f g h a b
+keeps_then next (Fault call cause after ∷ ss) m f g h a b = keeps_then next ss m f g h a b
 
 pub left_held : (h k : Hold) → h ≢ Free → join_hold h k ≢ Free
 left_held Free k held = absurd (held refl)

@@ -12,7 +12,7 @@ use Rattle.calloop_core.specs.Deeds.{Deed, Registered, Reregistered, Unregistere
 use Rattle.calloop_core.specs.Holdings.{Hold, holds_none, IsBelow, Keeps}
 use Rattle.calloop_wake.specs.declared.token.TokenFactory.{TokenFactory}
 use Rattle.calloop_wake.specs.declared.token.RegistrationToken.{RegistrationToken}
-use Rattle.calloop_core.specs.Keys.{AllArmFor}
+use Rattle.calloop_core.specs.Keys.{AllActFor}
 use Rattle.calloop_core.specs.Meanings.{Meaning, IsKeeping, KeepsCounters, KeepsHome, IsAtHome, BeginsIn}
 use Rattle.calloop_core.specs.Timers.{timer_holds, timer_keys, timer_meaning}
 use Rattle.calloop_core.specs.Keeping.{timer_keeps}
@@ -187,7 +187,7 @@ trio_counts s t v (Turned r k turn) l fits below h = parts_keep s t v (Turned r 
 
 -- Of its keys.
 
-arms_then : {P : Type 0} (r : RegistrationToken) (l m : List (PollStep P)) → AllArmFor r l → AllArmFor r m → AllArmFor r (l ++ m)
+arms_then : {P : Type 0} (r : RegistrationToken) (l m : List (PollStep P)) → AllActFor r l → AllActFor r m → AllActFor r (l ++ m)
 arms_then r [] m a b = b
 arms_then r (s ∷ ss) m a b = (a.0, arms_then r ss m a.1 b)
 
@@ -223,13 +223,13 @@ begins_alike home r whole part alike begins = absurd alike
 
 may_stay : {S P T U : Type 0} (whole : Deed T) (m : Meaning S P U) → KeepsHome m → (r : RegistrationToken) (s t : S) (v : PollView P)
     (deed : Option (Deed U)) (l : List (PollStep P)) → BeginsIn (IsAtHome m r s) r whole
-    → MayDo whole m s v deed l t → IsAtHome m r t × AllArmFor r l
+    → MayDo whole m s v deed l t → IsAtHome m r t × AllActFor r l
 may_stay whole m k r s t v None l begins h = rw (h.1, h.2) (stops_at_home (IsAtHome m r s) r whole h.0 begins, tt)
 may_stay whole m k r s t v (Some deed) l begins h = k r s t v deed l (begins_alike (IsAtHome m r s) r whole deed h.0 begins) h.1
 
 parts_stay : {P R : Type 0} (r : RegistrationToken) (s t : Trio R) (v : PollView P) (deed : Deed OfTrio) (l : List (PollStep P))
     → BeginsIn (IsAtHome (trio_meaning {P = P}) r s) r deed → AsksParts s v deed l t
-    → IsAtHome (trio_meaning {P = P}) r t × AllArmFor r l
+    → IsAtHome (trio_meaning {P = P}) r t × AllActFor r l
 parts_stay {P} r s t v deed l begins h =
     let w = polls_after v h.bell_steps in
     let whole = IsAtHome (trio_meaning {P = P}) r s in

@@ -20,6 +20,7 @@ mod exchanges;
 mod guards;
 mod pings;
 mod places;
+mod signals;
 mod stage;
 mod timers;
 mod trios;

@@ -8,6 +8,7 @@ ghost use Rattle.calloop.specs.Machine.{World, IsNew, seen, view_of};
 ghost use Rattle.calloop.specs.Rules.{Case, Did, Leads, Goes, Cutting, Ending, Returning, Leaving, Outcome, after_turn, after_hand_out};
 
 use super::lifecycle::Lifecycle;
+use super::signal::LoopSignal;
 use super::warnings::Warnings;
 use super::{EventDispatcher, EventLoop, LoopHandle, Requests};
 use calloop_core::sources::PostAction;
@@ -28,11 +29,13 @@ impl<D: EventDispatcher<P, C, R>, P: Poller, C: Clock, R: Wait + Drop> EventLoop
         ensures ok { IfOk result (λ made. (w : World D P) × IsNew w × (w.poll.poller ≡ poller) × (seen w ≡ view_of made)) }
         ensures err { IfErr result (λ e. e ≡ OutOfMemory) }
     {
+        let notifier = poller.notifier()?;
         Ok(EventLoop {
             sources: SourceList::new(alloc),
             poll: Poll::new(rt.clone()?, alloc, poller, clock)?,
             lifecycle: Lifecycle::new(alloc),
             warnings: Warnings::new(alloc),
+            signal: LoopSignal::new(alloc, notifier)?,
         })
     }
 

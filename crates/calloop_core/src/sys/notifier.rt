@@ -1,5 +1,6 @@
 //! What wakes a poller that waits.
 use calloop_wake::wake::Notify;
+use mio::Waker;
 use std::alloc::Global;
 use std::sync::Arc;
 use std::sync::atomic::{AtomicBool, Ordering};
@@ -9,12 +10,18 @@ use std::sync::atomic::{AtomicBool, Ordering};
 pub enum Notifier {
     /// That of a scripted poller: its signal.
     Script(Arc<AtomicBool, Global>),
+    /// That of the machine's poller.
+    Mio(Arc<Waker, Global>),
 }
 
 impl Notify for Notifier {
+    /// A fault of the machine is ignored: the wait ends by its timeout then.
     fn notify(&self) {
         match self {
             Notifier::Script(signal) => signal.store(true, Ordering::SeqCst),
+            Notifier::Mio(waker) => {
+                let _failed = waker.wake();
+            }
         }
     }
 }

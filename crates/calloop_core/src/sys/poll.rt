@@ -11,16 +11,18 @@ ghost use Rattle.calloop_core.specs.contracts.sys.poll.Poll.{the_row};
 
 use super::events::EventIterator;
 use super::hub::{SharedHub, WatchedHub};
-use super::{EVENTS_PER_WAIT, Poller, Readiness};
+use super::{EVENTS_PER_WAIT, Poller, Readiness, Watched};
 use batch::Batch;
 use calloop_wake::error::{Error, Result};
 use calloop_wake::token::{RegistrationToken, Token};
 use calloop_wake::wake::TakenPass;
 use calloop_wake::wheel::{Instant, Wheel};
 use std::alloc::Global;
+use std::collections::BTreeMap;
 use std::sync::Wait;
 
 mod batch;
+pub mod table;
 mod timers;
 mod waiting;
 
@@ -33,12 +35,13 @@ pub struct Pending {
     pub posted: bool,
 }
 
-/// What sources register with. It owns the poller, the deadlines of timers, and the events that wait for their turn,
-/// and shares the hub of posted keys with the ends of pings.
+/// What sources register with. It owns the poller, the table of sockets, the deadlines of timers, and the events that wait for
+/// their turn, and shares the hub of posted keys with the ends of pings.
 pub struct Poll<P, C, R: Wait + Drop> {
     rt: R,
     poller: P,
     clock: C,
+    table: BTreeMap<u64, Watched>,
     batch: Batch,
     wheel: Wheel,
     // How many keys had places when they were counted last, to reserve room for what they give.
@@ -52,6 +55,7 @@ impl<P: Drop, C: Drop, R: Wait + Drop> Drop for Poll<P, C, R> {
             rt,
             poller: _,
             clock: _,
+            table: _,
             batch,
             wheel: _,
             places: _,
@@ -62,9 +66,9 @@ impl<P: Drop, C: Drop, R: Wait + Drop> Drop for Poll<P, C, R> {
 }
 
 impl<P: Poller, C: Drop, R: Wait + Drop> Poll<P, C, R> {
-    /// Over this poller, with an empty board, no deadline and an empty batch. Want of memory is `OutOfMemory`.
+    /// Over this poller, with no socket, an empty board, no deadline and an empty batch. Want of memory is `OutOfMemory`.
     pub fn new(rt: R, alloc: Global, poller: P, clock: C) -> Result<Poll<P, C, R>>
-        ensures ok { IfOk result (λ made. poll_view made ≡ record { poller = poller; deadlines = record { entries = []; next = 0 }; batch = []; passes = []; pass = None; places = 0; watch = record { name = (poll_view made).watch.name; notes = [] } }) }
+        ensures ok { IfOk result (λ made. poll_view made ≡ record { poller = poller; table = []; deadlines = record { entries = []; next = 0 }; batch = []; passes = []; pass = None; places = 0; watch = record { name = (poll_view made).watch.name; notes = [] } }) }
         ensures err { IfErr result (λ e. e ≡ OutOfMemory) }
     {
         let hub = WatchedHub::new(alloc, poller.notifier()?)?;
@@ -72,6 +76,7 @@ impl<P: Poller, C: Drop, R: Wait + Drop> Poll<P, C, R> {
             rt,
             poller,
             clock,
+            table: BTreeMap::new(alloc),
             batch: Batch::new(alloc, hub),
             wheel: Wheel::new(alloc),
             places: 0,

@@ -10,12 +10,12 @@ pub returns : goal.returns
 returns g c =
     let watch = (poll_view c.in_ok-new.field-0).watch in
     let new : PollView g.row.P.Denot =
-    record { poller = c.args.poller; deadlines = record { entries = []; next = 0 }; batch = []; passes = []; pass = None; places = 0; watch = record { name = watch.name; notes = [] } } in
+    record { poller = c.args.poller; table = []; deadlines = record { entries = []; next = 0 }; batch = []; passes = []; pass = None; places = 0; watch = record { name = watch.name; notes = [] } } in
     let none : Held = record { lifecycle = [] } in
     record {
       ok = (
         record { slots = []; poll = new; held = none; ledger = new_ledger },
-        record { slots = refl; deadlines = refl; batch = refl; passes = refl; pass = refl; unwatched = refl; unlisted = refl; ledger = refl },
+        record { slots = refl; table = refl; deadlines = refl; batch = refl; passes = refl; pass = refl; unwatched = refl; unlisted = refl; ledger = refl },
         refl,
         sym
             (ap (λ (s : List (Slot g.row.D.Denot)). record { slots = s; poll = poll_view c.in_ok-new.field-0; held = record { lifecycle = c.new-3.result.tokens.items } }) c.new.ensures

@@ -1,0 +1,31 @@
+-- The dispatches of a loop that runs until it is stopped, one after the other.
+use Rattle.std.proofs.Common.{[], ◌∷◌, Option, Result, Ok, Err, refl}
+use Rattle.std.specs.declared.time.Duration.{Duration}
+use Rattle.calloop_wake.specs.declared.error.Error.{Error}
+use Rattle.calloop_core.specs.Pollers.{Outside}
+use Rattle.calloop_core.specs.Deeds.{Lent}
+use Rattle.calloop_core.specs.Meanings.{Meaning}
+use Rattle.calloop.specs.declared.loop_logic.LoopCall.TheVariants.{Dispatch}
+use Rattle.calloop.specs.declared.loop_logic.LoopAnswer.TheVariants.{Dispatched}
+use Rattle.calloop.specs.Machine.{View}
+use Rattle.calloop.specs.Rules.{Case, Did}
+use Rattle.calloop.specs.Running.{Called, RunsTo}
+use Rattle.calloop.proofs.Running.{run_none, run_first}
+
+module _ {D P X Q F : Type 0} (M : Meaning D P (Lent X Q)) (O : Outside P) (called : Called F X) (timeout : Option Duration) where
+  -- it is stopped
+  pub runs-stopped : (f : F) (x : X) (v : View D P) → RunsTo M O called timeout f x v (Ok tt) x v
+  runs-stopped f x v = ([], [], (refl, refl), run_none M O v)
+
+  -- its dispatch fails
+  pub runs-failed : (f : F) (x : X) (v : View D P) (e : Error) (left : X) (u : View D P)
+      → Did (Case M O (Dispatch timeout x) (Dispatched (Err e) left)) v u → RunsTo M O called timeout f x v (Err e) left u
+  runs-failed f x v e left u did =
+      (Dispatch timeout x ∷ [], Dispatched (Err e) left ∷ [], (refl, refl, refl, refl, refl), run_first M O (Dispatch timeout x) (Dispatched (Err e) left) [] [] v u u did (run_none M O u))
+
+  -- one more dispatch and call stand before a run
+  pub runs-on : (f : F) (x : X) (v : View D P) (left : X) (u : View D P) (g : F) (next : X) (answer : Result (Unit {0}) Error) (y : X) (t : View D P)
+      → Did (Case M O (Dispatch timeout x) (Dispatched (Ok tt) left)) v u → called f left tt g next
+      → RunsTo M O called timeout g next u answer y t → RunsTo M O called timeout f x v answer y t
+  runs-on f x v left u g next answer y t did call (calls, answers, turns, leads) =
+      (Dispatch timeout x ∷ calls, Dispatched (Ok tt) left ∷ answers, (refl, g, next, call, turns), run_first M O (Dispatch timeout x) (Dispatched (Ok tt) left) calls answers v u t did leads)

@@ -1,0 +1,32 @@
+use Rattle.std.proofs.Common.{of_calls, Ok, Err}
+use Rattle.std.proofs.lemmas.Result.{err_from_is_err_and}
+use Rattle.std.proofs.RetainMut.{Called-Mut}
+use Rattle.std.specs.Fn.{CalledAtMut}
+use Rattle.calloop.specs.Machine.{view_of}
+use Rattle.calloop.proofs.Rounds.{runs-stopped, runs-failed, runs-on}
+use Rattle.calloop.proofs.loop_logic.EventLoop.run.Goals as goal
+
+pub returns-then-is_stopped : goal.returns-then-is_stopped
+returns-then-is_stopped g c =
+    c.rounds.invariant.leads (Ok tt) c.rounds.«data» (view_of c.rounds.self)
+    (runs-stopped g.D.Dispatch.means g.P.Poller.outside (CalledAtMut g.F.FnMut) c.args.timeout c.rounds.callback c.rounds.«data» (view_of c.rounds.self))
+
+pub returns-in_err-dispatch : goal.returns-in_err-dispatch
+returns-in_err-dispatch g c =
+    let p = err_from_is_err_and c.from_residual.result c.from_residual.ensures.1 in
+    rw (p.1, p.2)
+    (c.rounds.invariant.leads (Err c.in_err-dispatch.field-0.0) c.dispatch.new.«data» (view_of c.dispatch.new.self)
+    (runs-failed g.D.Dispatch.means g.P.Poller.outside (CalledAtMut g.F.FnMut) c.args.timeout c.rounds.callback c.rounds.«data» (view_of c.rounds.self)
+    c.in_err-dispatch.field-0.0 c.dispatch.new.«data» (view_of c.dispatch.new.self) c.in_err-dispatch.ensures.case))
+
+pub rounds-preserved : goal.rounds-preserved
+rounds-preserved g c =
+    record {
+      can = tt;
+      finite = tt;
+      callable = search of_calls;
+      leads = λ answer left t runs.
+          c.rounds.invariant.leads answer left t
+          (runs-on g.D.Dispatch.means g.P.Poller.outside (CalledAtMut g.F.FnMut) c.args.timeout c.rounds.callback c.rounds.«data» (view_of c.rounds.self)
+          c.dispatch.new.«data» (view_of c.dispatch.new.self) c.callback.new.self _ answer left t c.in_ok-dispatch.ensures.case (Called-Mut g.F.FnMut c.callback.ensures) runs);
+    }

@@ -1,0 +1,54 @@
+-- What a call for a socket did, by how it ended.
+use Rattle.std.proofs.Common.{◌≡◌, ◌∷◌, [], inl, inr, ℕ, true, false, Bool, Option, None, Some, Ok, Err, refl, sym, ◌∙◌, ap, subst, arith, if◌then◌else◌}
+use Rattle.std.specs.declared.io.Error.{Error as Cause}
+use Rattle.std.specs.declared.io.ErrorKind.{ErrorKind}
+use Rattle.std.specs.declared.io.ErrorKind.TheVariants.{NotFound}
+use Rattle.std.specs.declared.cmp.Ordering.TheVariants.{Less, Equal, Greater}
+use Rattle.std.specs.Ordering.{nat_cmp, is_eq, match_ordering}
+use Rattle.calloop_wake.specs.declared.error.Error.{Error}
+use Rattle.calloop_wake.specs.declared.error.Error.TheVariants.{IoError, OutOfMemory}
+use Rattle.calloop_core.specs.declared.sys.Watched.{Watched}
+use Rattle.calloop_core.specs.Pollers.{Outside, Sockets, PollerCall}
+use Rattle.calloop_core.specs.Tables.{Table, Edit, unless_in, cannot, grows, call_of, edited, Called, CalledFor, with_key, without_key, watched_at}
+use Rattle.calloop_core.specs.Polls.{PollView, IsOfKind, Socket, Fault, polling}
+use Rattle.calloop_core.specs.Registering.{DidEdit, IsFaulted, TriedUnless}
+
+module _ {P I : Type 0} (O : Outside P) (sockets : Sockets P I) (v : PollView P) (edit : Edit) (io : I) where
+  pub refused : (kind : ErrorKind) (e : Error) → cannot edit v.table ≡ Some kind → IsOfKind kind e → DidEdit O sockets edit v io (Err e) v io
+  refused kind e is of = ([], rw is (e, refl, of, refl, refl), (tt, refl))
+
+  pub no_room : cannot edit v.table ≡ None → grows edit ≡ true → DidEdit O sockets edit v io (Err OutOfMemory) v io
+  no_room is more = ([], rw is (inl (more, refl, refl, refl)), (tt, refl))
+
+  faulted_by : (wanted : Option PollerCall) (cause : Cause) (after : P) (io' : I) (w : PollView P) → call_of edit v.table ≡ wanted → cannot edit v.table ≡ None → CalledFor sockets v.poller io wanted (Err cause) after io' → Called O v.poller wanted (Err cause) after
+      → w ≡ polling after v → DidEdit O sockets edit v io (Err (IoError cause)) w io'
+  faulted_by None cause after io' w is can called out to = (let e = called.0 in cc)
+  faulted_by (Some c) cause after io' w is can called out to =
+      let f : IsFaulted sockets v edit io (IoError cause) (Fault c cause after ∷ []) io' =
+      record { call = c; cause = cause; after = after; wanted = is; told = refl; called = called; stepped = refl } in
+      (Fault c cause after ∷ [], subst (λ (k : Option ErrorKind). TriedUnless k sockets v edit io (Err (IoError cause)) (Fault c cause after ∷ []) io') (sym can) (inr f), ((out, tt), to))
+
+  pub faulted : (cause : Cause) (after : P) (io' : I) (w : PollView P) → cannot edit v.table ≡ None → CalledFor sockets v.poller io (call_of edit v.table) (Err cause) after io' → Called O v.poller (call_of edit v.table) (Err cause) after
+      → w ≡ polling after v → DidEdit O sockets edit v io (Err (IoError cause)) w io'
+  faulted cause after io' w can called out to = faulted_by (call_of edit v.table) cause after io' w refl can called out to
+
+  pub made : (after : P) (io' : I) (w : PollView P) → cannot edit v.table ≡ None → CalledFor sockets v.poller io (call_of edit v.table) (Ok tt) after io' → Called O v.poller (call_of edit v.table) (Ok tt) after
+      → w ≡ record v { poller = after; table = edited edit v.table } → DidEdit O sockets edit v io (Ok tt) w io'
+  made after io' w can called out is =
+      (Socket edit after ∷ [], subst (λ (k : Option ErrorKind). TriedUnless k sockets v edit io (Ok tt) (Socket edit after ∷ []) io') (sym can) (after, called, refl), (((can, out), tt), is))
+
+pub can_change : (there taken : Bool) → there ≡ true → taken ≡ false → (if there then unless_in taken else Some NotFound) ≡ None
+can_change there taken e f = ap (λ b. if b then unless_in taken else Some NotFound) e ∙ ap (λ b. unless_in b) f
+
+same_key : (k : ℕ) → nat_cmp k k ≡ Equal
+same_key k = grind (arith)
+
+-- what was entered leaves again
+pub left_again : (k : ℕ) (w : Watched) (t : Table) → watched_at k t ≡ None → without_key k (with_key k w t) ≡ t
+left_again k w [] none = ap (λ o. if is_eq o then [] else (k, w) ∷ []) (same_key k)
+left_again k w (e ∷ es) none =
+    elim (nat_cmp k e.0) as (λ o. (if is_eq o then Some e.1 else watched_at k es) ≡ None → nat_cmp k e.0 ≡ o → without_key k (match_ordering o ((k, w) ∷ e ∷ es) ((e.0, w) ∷ es) (e ∷ with_key k w es)) ≡ e ∷ es) [
+      | Less ↦ λ n is. ap (λ o. if is_eq o then e ∷ es else (k, w) ∷ without_key k (e ∷ es)) (same_key k)
+      | Equal ↦ λ n is. cc
+      | Greater ↦ λ n is. ap (λ o. if is_eq o then with_key k w es else e ∷ without_key k (with_key k w es)) is ∙ ap (λ l. e ∷ l) (left_again k w es n)
+    ] none refl

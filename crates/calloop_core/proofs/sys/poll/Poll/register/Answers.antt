@@ -1,0 +1,24 @@
+use Rattle.std.proofs.Common.{rules, refl, ◌≡◌, ap, true, false, None}
+use Rattle.std.specs.declared.io.ErrorKind.TheVariants.{AlreadyExists}
+use Rattle.calloop_wake.specs.Tokens.{key_of}
+use Rattle.calloop_core.specs.Tables.{Enter, is_in, unless_in, watched_at}
+use Rattle.calloop_core.specs.Polls.{poll_view}
+use Rattle.calloop_core.proofs.Editing.{refused, faulted, made, left_again}
+use Rattle.calloop_core.proofs.sys.poll.Poll.register.Goals as goal
+
+pub returns-then-contains_key : goal.returns-then-contains_key
+returns-then-contains_key g c =
+    let there : is_in (key_of c.args.token) (poll_view c.args.self.now).table ≡ true = search rules in
+    refused g.P.Poller.outside g.P.Poller.sockets (poll_view c.args.self.now) (Enter c.args.token (record { interest = c.args.interest; mode = c.args.mode })) c.args.io.now AlreadyExists _ (ap (λ b. unless_in b) there) (c.from.result, refl, c.from.ensures)
+
+pub returns-in-Ok : goal.returns-in-Ok
+returns-in-Ok g c =
+    let free : is_in (key_of c.args.token) (poll_view c.args.self.now).table ≡ false = search rules in
+    made g.P.Poller.outside g.P.Poller.sockets (poll_view c.args.self.now) (Enter c.args.token (record { interest = c.args.interest; mode = c.args.mode })) c.args.io.now c.tell.new.poller c.tell.new.io _ (ap (λ b. unless_in b) free) (search rules) (search rules) (search rules)
+
+pub returns-in-Err : goal.returns-in-Err
+returns-in-Err g c =
+    let free : is_in (key_of c.args.token) (poll_view c.args.self.now).table ≡ false = search rules in
+    let absent : watched_at (key_of c.args.token) (poll_view c.args.self.now).table ≡ None = search rules in
+    let same : c.remove.new.self.entries ≡ (poll_view c.args.self.now).table = search (rules, left_again (key_of c.args.token) (record { interest = c.args.interest; mode = c.args.mode }) (poll_view c.args.self.now).table absent) in
+    faulted g.P.Poller.outside g.P.Poller.sockets (poll_view c.args.self.now) (Enter c.args.token (record { interest = c.args.interest; mode = c.args.mode })) c.args.io.now c.in-Err.cause c.tell.new.poller c.tell.new.io _ (ap (λ b. unless_in b) free) (search rules) (search rules) (search rules)

@@ -1,0 +1,19 @@
+use Rattle.std.proofs.Common.{rules, refl, ◌≡◌, ap, true, Some, None, if◌then◌else◌}
+use Rattle.std.specs.declared.io.ErrorKind.TheVariants.{NotFound}
+use Rattle.calloop_wake.specs.Tokens.{key_of}
+use Rattle.calloop_core.specs.Tables.{Leave, cannot, is_in}
+use Rattle.calloop_core.specs.Polls.{poll_view}
+use Rattle.calloop_core.proofs.Editing.{faulted, made}
+use Rattle.calloop_core.proofs.sys.poll.Poll.unregister.Goals as goal
+
+pub returns-in-Ok : goal.returns-in-Ok
+returns-in-Ok g c =
+    let there : is_in (key_of c.args.token) (poll_view c.args.self.now).table ≡ true = search rules in
+    let can : cannot (Leave c.args.token) (poll_view c.args.self.now).table ≡ None = ap (λ b. if b then None else Some NotFound) there in
+    made g.P.Poller.outside g.P.Poller.sockets (poll_view c.args.self.now) (Leave c.args.token) c.args.io.now c.tell.new.poller c.tell.new.io _ can (search rules) (search rules) (search rules)
+
+pub returns-in-Err : goal.returns-in-Err
+returns-in-Err g c =
+    let there : is_in (key_of c.args.token) (poll_view c.args.self.now).table ≡ true = search rules in
+    let can : cannot (Leave c.args.token) (poll_view c.args.self.now).table ≡ None = ap (λ b. if b then None else Some NotFound) there in
+    faulted g.P.Poller.outside g.P.Poller.sockets (poll_view c.args.self.now) (Leave c.args.token) c.args.io.now c.in-Err.cause c.tell.new.poller c.tell.new.io _ can (search rules) (search rules) refl

@@ -1,0 +1,282 @@
+//! Sockets as sources. From calloop's `generic.rs`.
+ghost use Rattle.std.specs.Prelude.{◌≡◌, ◌⊎◌, List, None, Some, true, false, Bool, MatchBool, IsSome, IfOk, IfErr};
+ghost use Rattle.std.specs.Borrow.{Lends, sem};
+ghost use Rattle.calloop_core.specs.Lending.{with_socket};
+ghost use Rattle.calloop_core.specs.Polls.{PollStep, poll_view, AllStepped};
+ghost use Rattle.calloop_core.specs.Generics.{ArmedBy, Hears, heard_in};
+ghost use Rattle.calloop_core.specs.contracts.generic.NoIoDrop.{the_row as lent_row};
+ghost use Rattle.calloop_core.specs.contracts.generic.Generic.{the_row};
+
+use crate::sources::{Asking, Callback, EventSource, IntoError, PostAction};
+use crate::sys::events::EventIterator;
+use crate::sys::poll::Poll;
+use crate::sys::{Interest, Mode, Poller, Readiness};
+use calloop_wake::error::{Error, Result as LoopResult};
+use calloop_wake::token::{Token, TokenFactory};
+use std::convert::AsRef;
+use std::io;
+use std::marker::PhantomData;
+use std::ops::Deref;
+use std::sync::Wait;
+
+/// A socket that is lent to a callback, which can't take it out of its source.
+#[derive(Drop)]
+pub struct NoIoDrop<T> {
+    io: T,
+}
+
+impl<T> NoIoDrop<T> {
+    /// The socket, to be changed. One that is changed while it is registered can make a later call of the poller fail, and
+    /// nothing worse; calloop has this call as an unsafe one.
+    pub fn get_mut(&mut self) -> &mut T
+        ensures* writes_back { sem 𝓛 (Lends (lent_row T.row) T.row self.entry result (λ io. record { io = io })) }
+        ensures value { result.now ≡ self.old.io }
+    {
+        &mut self.io
+    }
+}
+
+impl<T> AsRef<T> for NoIoDrop<T> {
+    /// The socket.
+    fn as_ref(&self) -> &T
+        ensures { result.now ≡ self.now.io }
+    {
+        &self.io
+    }
+}
+
+impl<T> Deref for NoIoDrop<T> {
+    ghost use Rattle.std.specs.Prelude.{◌≡◌};
+
+    type Target = T;
+
+    ghost deref_gives = { λ lent io. io ≡ lent.io };
+
+    /// The socket.
+    fn deref(&self) -> &T {
+        &self.io
+    }
+}
+
+/// A socket as a source. Its callback gets what was found, and the socket. `P` is the poller, and `E` the error of the callback,
+/// of which a fault of the poller in this source's turn becomes one.
+///
+/// The poller tells of each change of readiness once, and the source keeps its mode. Its drop calls no poller: one that is dropped
+/// while it is registered leaves its key in the loop's table, where calloop's takes its descriptor out.
+#[derive(Drop)]
+pub struct Generic<P: Poller, E = io::Error> {
+    io: NoIoDrop<P::Io>,
+    /// What it is registered for, from its next registration on; `Level` takes it up after each call.
+    pub interest: Interest,
+    /// How often it hears of that.
+    pub mode: Mode,
+    token: Option<Token>,
+    // An event came under `OneShot` since it was registered.
+    heard: bool,
+    error: PhantomData<E>,
+}
+
+impl<P: Poller, E> Generic<P, E> {
+    /// Not registered yet.
+    pub fn new_with_error(io: P::Io, interest: Interest, mode: Mode) -> Generic<P, E>
+        ensures io { result.io.io ≡ io }
+        ensures interest { result.interest ≡ interest }
+        ensures mode { result.mode ≡ mode }
+        ensures token { result.token ≡ None }
+        ensures heard { result.heard ≡ false }
+    {
+        Generic {
+            io: NoIoDrop { io },
+            interest,
+            mode,
+            token: None,
+            heard: false,
+            error: PhantomData,
+        }
+    }
+
+    /// The socket, where it isn't registered. Else this very source.
+    pub fn unwrap(self) -> Result<P::Io, Generic<P, E>>
+        ensures ok { IfOk result (λ io. (io ≡ self.io.io) × (self.token ≡ None)) }
+        ensures err { IfErr result (λ source. (source ≡ self) × IsSome self.token) }
+    {
+        let None = self.token else {
+            return Err(self);
+        };
+        let Generic { io, .. } = self;
+        let NoIoDrop { io } = io;
+        Ok(io)
+    }
+
+    /// The socket.
+    pub fn get_ref(&self) -> &P::Io
+        ensures { result.now ≡ self.now.io.io }
+    {
+        &self.io.io
+    }
+
+    /// The socket, to be changed. One that is changed while it is registered can make a later call of the poller fail, and
+    /// nothing worse; calloop has this call as an unsafe one.
+    pub fn get_mut(&mut self) -> &mut P::Io
+        ensures* writes_back { sem 𝓛 (Lends (the_row P.row E.row P.Io.row) P.Io.row self.entry result (λ io. with_socket io self.old)) }
+        ensures value { result.now ≡ self.old.io.io }
+    {
+        self.io.get_mut()
+    }
+}
+
+impl<P: Poller> Generic<P, io::Error> {
+    /// Not registered yet, with a callback that fails with what a call of the system fails with.
+    pub fn new(io: P::Io, interest: Interest, mode: Mode) -> Generic<P, io::Error>
+        ensures io { result.io.io ≡ io }
+        ensures interest { result.interest ≡ interest }
+        ensures mode { result.mode ≡ mode }
+        ensures token { result.token ≡ None }
+        ensures heard { result.heard ≡ false }
+    {
+        Generic::new_with_error(io, interest, mode)
+    }
+}
+
+impl<P: Poller, E> Generic<P, E> {
+    // Whether an event of this token is for its callback.
+    fn hears(&self, token: Token) -> bool
+        ensures { MatchBool result (Hears token self.now) (¬ Hears token self.now) }
+    {
+        let Some(own) = self.token else {
+            return false;
+        };
+        match self.mode {
+            Mode::OneShot => own == token && !self.heard,
+            Mode::Level | Mode::Edge => own == token,
+        }
+    }
+
+    // Whether it hears no more events, once it has heard this one.
+    fn is_heard(&self) -> bool
+        ensures { result ≡ heard_in self.now.mode self.now.heard }
+    {
+        match self.mode {
+            Mode::OneShot => true,
+            Mode::Level | Mode::Edge => self.heard,
+        }
+    }
+}
+
+impl<P: Poller, E: From<io::Error>> Generic<P, E> {
+    // Under `Level` the poller is told of the socket again.
+    fn arm_again<C, R: Wait + Drop>(
+        &mut self,
+        token: Token,
+        action: PostAction,
+        poll: &mut Poll<P, C, R>,
+    ) -> Result<PostAction, E>
+        ensures { (steps : List (PollStep P)) × ArmedBy P.sockets E.from_gives self.old.mode token self.old (poll_view poll.old) action result steps self.new
+            × AllStepped P.outside (poll_view poll.old) steps (poll_view poll.new) }
+    {
+        if self.mode != Mode::Level {
+            return Ok(action);
+        }
+        match poll.reregister(&mut self.io.io, token, self.interest, self.mode, token) {
+            Ok(()) => Ok(action),
+            Err(refusal) => Err(E::from(io::Error::from(refusal))),
+        }
+    }
+}
+
+impl<P: Poller, C, R: Wait + Drop, E> EventSource<P, C, R> for Generic<P, E>
+where
+    E: IntoError + From<io::Error>,
+{
+    ghost use Rattle.calloop_core.specs.Generics.{generic_meaning};
+    ghost use Rattle.calloop_core.specs.GenericKeeping.{generic_keeps};
+
+    type Event = Readiness;
+
+    type Metadata = NoIoDrop<P::Io>;
+
+    type Ret = Result<PostAction, E>;
+
+    type Error = E;
+
+    ghost means = { generic_meaning P.sockets E.from_gives };
+
+    /// Calls back with what was found, where the token is its own; under `OneShot` for one event alone. After a callback that
+    /// succeeded, `Level` tells the poller of the socket again, under the same key, and a refusal of that is the turn's error.
+    fn process_events<F, X, Q>(
+        &mut self,
+        readiness: Readiness,
+        token: Token,
+        poll: &mut Poll<P, C, R>,
+        callback: &mut F,
+        data: &mut X,
+        requests: &mut Q,
+    ) -> Result<PostAction, E>
+    where
+        Q: Asking,
+        F: Callback<Readiness, NoIoDrop<P::Io>, Result<PostAction, E>, X, Q>,
+    {
+        if !self.hears(token) {
+            return Ok(PostAction::Continue);
+        }
+        self.heard = self.is_heard();
+        match callback.call(readiness, &mut self.io, data, requests) {
+            Ok(action) => self.arm_again(token, action, poll),
+            Err(error) => Err(error),
+        }
+    }
+
+    /// Enters the socket under the factory's next token. What is registered is refused with `IoError` of kind `AlreadyExists`; a
+    /// refusal leaves the source as it was.
+    fn register(&mut self, poll: &mut Poll<P, C, R>, factory: &mut TokenFactory) -> LoopResult<()> {
+        if let Some(_) = self.token {
+            return Err(Error::IoError(io::Error::from(io::ErrorKind::AlreadyExists)));
+        }
+        let token = factory.token()?;
+        poll.register(&mut self.io.io, self.interest, self.mode, token)?;
+        self.token = Some(token);
+        self.heard = false;
+        Ok(())
+    }
+
+    /// Under the factory's next token, with the interest and the mode as they are now. What isn't registered is refused with
+    /// `IoError` of kind `NotFound`; a refusal leaves the source registered as it was.
+    fn reregister(
+        &mut self,
+        poll: &mut Poll<P, C, R>,
+        factory: &mut TokenFactory,
+    ) -> LoopResult<()> {
+        let Some(own) = self.token else {
+            return Err(Error::IoError(io::Error::from(io::ErrorKind::NotFound)));
+        };
+        let token = factory.token()?;
+        poll.reregister(&mut self.io.io, own, self.interest, self.mode, token)?;
+        self.token = Some(token);
+        self.heard = false;
+        Ok(())
+    }
+
+    /// Takes the socket out. What isn't registered is refused with `IoError` of kind `NotFound`; after a refusal it is registered
+    /// as it was.
+    fn unregister(&mut self, poll: &mut Poll<P, C, R>) -> LoopResult<()> {
+        let Some(own) = self.token else {
+            return Err(Error::IoError(io::Error::from(io::ErrorKind::NotFound)));
+        };
+        poll.unregister(&mut self.io.io, own)?;
+        self.token = None;
+        Ok(())
+    }
+
+    /// It isn't told of waits.
+    fn needs_extra_lifecycle_events() -> bool {
+        false
+    }
+
+    fn before_sleep(&mut self) -> LoopResult<Option<(Readiness, Token)>> {
+        Ok(None)
+    }
+
+    fn before_handle_events(&mut self, _events: EventIterator<'_>) {}
+
+    ghost keeps = { generic_keeps P.sockets E.from_gives };
+}

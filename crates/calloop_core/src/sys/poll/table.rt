@@ -1,0 +1,178 @@
+//! The table of sockets.
+ghost use Rattle.std.specs.Prelude.{◌≡◌, ◌+◌, true, false, nat_eq, ℕ, List};
+ghost use Rattle.calloop_wake.specs.Tokens.{key_of};
+ghost use Rattle.calloop_core.specs.Tables.{Called, CalledFor, call_for, is_known, watched_at, is_in, Enter, Change, Leave};
+ghost use Rattle.calloop_core.specs.Polls.{poll_view};
+ghost use Rattle.calloop_core.specs.Registering.{DidEdit};
+ghost use Rattle.calloop_wake.specs.declared.token.RegistrationToken.{RegistrationToken};
+ghost use Rattle.calloop_core.specs.Polls.{PollView, PollStep, polls_after};
+ghost use Rattle.calloop_core.specs.Keys.{IsKeyOf, AllActFor};
+
+use super::Poll;
+use crate::sys::{Interest, Mode, Poller, Watched};
+use calloop_wake::error::{Error, Result};
+use calloop_wake::token::Token;
+use std::io;
+use std::sync::Wait;
+
+// Tells the poller of a socket, where it knows it or is to know it.
+fn tell<P: Poller>(
+    poller: &mut P,
+    io: &mut P::Io,
+    known: bool,
+    key: u64,
+    interest: Interest,
+) -> io::Result<()>
+    ensures sockets { CalledFor P.sockets poller.old io.old (call_for known key interest) result poller.new io.new }
+    ensures calls { Called P.outside poller.old (call_for known key interest) result poller.new }
+{
+    if interest.asks() {
+        if known {
+            poller.modify(io, key, interest)
+        } else {
+            poller.add(io, key, interest)
+        }
+    } else if known {
+        poller.delete(io)
+    } else {
+        Ok(())
+    }
+}
+
+impl<P: Poller, C, R: Wait + Drop> Poll<P, C, R> {
+    /// Enters a socket under the key of this token, and adds it to the poller, unless the interest is empty. Refusals, in this
+    /// order: `IoError` of kind `AlreadyExists`, where the key is in the table; `OutOfMemory`; and `IoError` with the poller's
+    /// fault. Each leaves the table as it was, and before the last no poller is called.
+    pub fn register(
+        &mut self,
+        io: &mut P::Io,
+        interest: Interest,
+        mode: Mode,
+        token: Token,
+    ) -> Result<()>
+        ensures { DidEdit P.outside P.sockets (Enter token (record { interest = interest; mode = mode })) (poll_view self.old) io.old result (poll_view self.new) io.new }
+    {
+        let key = token.key();
+        if self.table.contains_key(&key) {
+            return Err(Error::IoError(io::Error::from(io::ErrorKind::AlreadyExists)));
+        }
+        self.table.insert(key, Watched { interest, mode })?;
+        match tell(&mut self.poller, io, false, key, interest) {
+            Ok(()) => Ok(()),
+            Err(cause) => {
+                self.table.remove(&key);
+                Err(Error::IoError(cause))
+            }
+        }
+    }
+
+    // Under the key that it has.
+    fn change(
+        &mut self,
+        io: &mut P::Io,
+        known: bool,
+        before: Token,
+        token: Token,
+        watched: Watched,
+    ) -> Result<()>
+        requires same { key_of before ≡ key_of token }
+        requires there { is_in (key_of before) (poll_view self.old).table ≡ true }
+        requires known { is_known (watched_at (key_of before) (poll_view self.old).table) ≡ known }
+        ensures { DidEdit P.outside P.sockets (Change before token watched) (poll_view self.old) io.old result (poll_view self.new) io.new }
+    {
+        let same = token.key();
+        match tell(&mut self.poller, io, known, same, watched.interest) {
+            Ok(()) => {
+                // The key is there, so it takes no memory.
+                self.table.insert(same, watched)?;
+                Ok(())
+            }
+            Err(fault) => Err(Error::IoError(fault)),
+        }
+    }
+
+    // Under another key, which isn't there.
+    fn change_key(
+        &mut self,
+        io: &mut P::Io,
+        known: bool,
+        before: Token,
+        token: Token,
+        watched: Watched,
+    ) -> Result<()>
+        requires other { nat_eq (key_of before) (key_of token) ≡ false }
+        requires there { is_in (key_of before) (poll_view self.old).table ≡ true }
+        requires free { is_in (key_of token) (poll_view self.old).table ≡ false }
+        requires known { is_known (watched_at (key_of before) (poll_view self.old).table) ≡ known }
+        ensures { DidEdit P.outside P.sockets (Change before token watched) (poll_view self.old) io.old result (poll_view self.new) io.new }
+    {
+        let key = token.key();
+        self.table.insert(key, watched)?;
+        match tell(&mut self.poller, io, known, key, watched.interest) {
+            Ok(()) => {
+                self.table.remove(&before.key());
+                Ok(())
+            }
+            Err(cause) => {
+                self.table.remove(&key);
+                Err(Error::IoError(cause))
+            }
+        }
+    }
+
+    /// Gives a socket that was registered with `before` this interest, this mode and the key of `token`, which may be the same.
+    /// The poller is told of it, by an `add` or `delete` where the interest was empty or becomes so. Refusals, in this order:
+    /// `IoError` of kind `NotFound`, where the key of `before` isn't in the table, and of kind `AlreadyExists`, where another key of
+    /// `token` is; `OutOfMemory`, for another key alone; and `IoError` with the poller's fault. Each leaves the table as it was.
+    pub fn reregister(
+        &mut self,
+        io: &mut P::Io,
+        before: Token,
+        interest: Interest,
+        mode: Mode,
+        token: Token,
+    ) -> Result<()>
+        ensures { DidEdit P.outside P.sockets (Change before token (record { interest = interest; mode = mode })) (poll_view self.old) io.old result (poll_view self.new) io.new }
+    {
+        let key = token.key();
+        let old = before.key();
+        let known = match self.table.get(&old) {
+            Some(watched) => watched.interest.asks(),
+            None => return Err(Error::IoError(io::Error::from(io::ErrorKind::NotFound))),
+        };
+        let watched = Watched { interest, mode };
+        if old == key {
+            return self.change(io, known, before, token, watched);
+        }
+        if self.table.contains_key(&key) {
+            return Err(Error::IoError(io::Error::from(io::ErrorKind::AlreadyExists)));
+        }
+        self.change_key(io, known, before, token, watched)
+    }
+
+    /// Takes a socket out, and from the poller, unless its interest is empty. A token whose key isn't in the table is refused
+    /// with `IoError` of kind `NotFound`, and a fault of the poller is one; each leaves the table as it was.
+    pub fn unregister(&mut self, io: &mut P::Io, token: Token) -> Result<()>
+        ensures { DidEdit P.outside P.sockets (Leave token) (poll_view self.old) io.old result (poll_view self.new) io.new }
+    {
+        let key = token.key();
+        let known = match self.table.get(&key) {
+            Some(watched) => watched.interest.asks(),
+            None => return Err(Error::IoError(io::Error::from(io::ErrorKind::NotFound))),
+        };
+        match tell(&mut self.poller, io, known, key, Interest::EMPTY) {
+            Ok(()) => {
+                self.table.remove(&key);
+                Ok(())
+            }
+            Err(cause) => Err(Error::IoError(cause)),
+        }
+    }
+}
+
+/// The steps of one registration leave alone what every key of another waits for.
+#[tactic(auto, using(crate::proofs::Frames::stepped_elsewhere))]
+pub fn other_keys_stay<P>()
+    ensures { (registration : RegistrationToken) (key : ℕ) (v : PollView P) (steps : List (PollStep P))
+        → ¬ IsKeyOf registration key → AllActFor registration steps → watched_at key (polls_after v steps).table ≡ watched_at key v.table }
+{}

@@ -1,0 +1,70 @@
+//! The events of a wait of the machine.
+ghost use Rattle.std.specs.Prelude.{◌≡◌, ◌+◌, ◌≤◌, ◌++◌, [], length, vec_len, vec_capacity, OnErr};
+ghost use Rattle.mio.specs.Events.{items, capacity as events_capacity};
+ghost use Rattle.calloop_core.specs.SystemEvents.{readiness_of, told_events};
+
+use super::OWN_KEY;
+use crate::sys::{EVENTS_PER_WAIT, Readiness};
+use mio::event::Event;
+use mio::{Events, Poll};
+use std::alloc::{AllocError, Global};
+use std::io;
+use std::time::Duration;
+
+/// What the machine found in the last wait, at most 1,024 events.
+#[derive(Drop)]
+pub struct Found {
+    events: Events,
+    ghost room: { events_capacity events ≤ 1024 },
+    ghost few: { length (items events) ≤ 1024 },
+}
+
+impl Found {
+    /// Nothing yet. All its memory is taken now.
+    pub fn new(alloc: Global) -> Result<Found, AllocError> {
+        Ok(Found {
+            events: Events::with_capacity(alloc, EVENTS_PER_WAIT)?,
+        })
+    }
+
+    /// Waits. Where that fails nothing was found.
+    pub fn wait(&mut self, poll: &mut Poll, timeout: Option<Duration>) -> io::Result<()>
+        ensures { OnErr result (items self.new.events ≡ []) }
+    {
+        poll.poll(&mut self.events, timeout)
+    }
+
+    /// Appends what the loop is told.
+    pub fn append_to(&self, events: &mut Vec<(u64, Readiness)>)
+        requires { vec_len events.old + 1024 ≤ vec_capacity events.old }
+        ensures items { events.new.items ≡ events.old.items ++ told_events (items self.now.events) }
+        ensures few { length (told_events (items self.now.events)) ≤ 1024 }
+        ensures room { vec_capacity events.new ≡ vec_capacity events.old }
+    {
+        append(self.events.iter().as_slice(), events);
+    }
+}
+
+fn readiness_of(event: &Event) -> Readiness
+    ensures { result ≡ readiness_of event.now }
+{
+    Readiness {
+        readable: event.is_readable() || event.is_read_closed() || event.is_error(),
+        writable: event.is_writable() || event.is_write_closed() || event.is_error(),
+        error: event.is_error(),
+    }
+}
+
+// What the loop is told of these.
+fn append(found: &[Event], events: &mut Vec<(u64, Readiness)>)
+    requires { vec_len events.old + length found.now ≤ vec_capacity events.old }
+    ensures items { events.new.items ≡ events.old.items ++ told_events found.now }
+    ensures room { vec_capacity events.new ≡ vec_capacity events.old }
+{
+    for event in found {
+        let token = event.token();
+        if token != OWN_KEY {
+            events.push_reserved((token.0 as u64, readiness_of(event)));
+        }
+    }
+}

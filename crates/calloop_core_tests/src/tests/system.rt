@@ -1,0 +1,195 @@
+//! The poller of the operating system, over two streams that are connected.
+use calloop_core::sys::system::{MioIo, MioPoller, SystemClock};
+use calloop_core::sys::{Clock, EVENTS_PER_WAIT, Interest, Poller, Readiness};
+use calloop_wake::wake::Notify;
+use mio::net::UnixStream;
+use std::alloc::{AllocGlobal, Global};
+use std::io;
+use std::io::Write;
+use std::net::Net;
+use std::process::Abort;
+use std::time::{Clock as MachineClock, Duration};
+
+#[test]
+fn a_socket_is_told_of_once_it_can_be_read(rt: HostRuntime) {
+    let mut desk = Desk::new(&rt);
+    assert!(rt; desk.add(KEY, Interest::READ).is_ok());
+    assert!(rt; desk.tells(&[]));
+    assert!(rt; desk.writes());
+    assert!(rt; desk.tells(&[(KEY, true, false)]));
+    assert!(rt; desk.tells(&[]));
+}
+
+#[test]
+fn a_socket_is_told_of_as_its_interest_asks(rt: HostRuntime) {
+    let table = [
+        (Interest::READ, true, false),
+        (Interest::WRITE, false, true),
+        (Interest::BOTH, true, true),
+    ];
+    for (interest, readable, writable) in table {
+        let mut desk = Desk::new(&rt);
+        assert!(rt; desk.writes());
+        assert!(rt; desk.add(KEY, interest).is_ok());
+        assert!(rt; desk.tells(&[(KEY, readable, writable)]));
+    }
+}
+
+#[test]
+fn a_socket_that_is_modified_is_told_of_anew(rt: HostRuntime) {
+    let mut desk = Desk::new(&rt);
+    assert!(rt; desk.add(KEY, Interest::READ).is_ok());
+    assert!(rt; desk.writes());
+    assert!(rt; desk.tells(&[(KEY, true, false)]));
+    assert!(rt; desk.modify(KEY, Interest::READ).is_ok());
+    assert!(rt; desk.tells(&[(KEY, true, false)]));
+    assert!(rt; desk.modify(OTHER_KEY, Interest::BOTH).is_ok());
+    assert!(rt; desk.tells(&[(OTHER_KEY, true, true)]));
+}
+
+#[test]
+fn a_socket_that_was_taken_out_is_not_told_of(rt: HostRuntime) {
+    let mut desk = Desk::new(&rt);
+    assert!(rt; desk.add(KEY, Interest::READ).is_ok());
+    assert!(rt; desk.delete().is_ok());
+    assert!(rt; desk.writes());
+    assert!(rt; desk.tells(&[]));
+    assert!(rt; desk.add(KEY, Interest::READ).is_ok());
+    assert!(rt; desk.tells(&[(KEY, true, false)]));
+}
+
+#[test]
+fn what_the_machine_refuses_is_answered(rt: HostRuntime) {
+    let mut desk = Desk::new(&rt);
+    assert!(rt; fails(desk.modify(KEY, Interest::READ), io::ErrorKind::NotFound));
+    assert!(rt; fails(desk.delete(), io::ErrorKind::NotFound));
+    assert!(rt; desk.add(KEY, Interest::READ).is_ok());
+    assert!(rt; fails(desk.add(KEY, Interest::READ), io::ErrorKind::AlreadyExists));
+}
+
+#[test]
+fn an_empty_interest_is_refused(rt: HostRuntime) {
+    let mut desk = Desk::new(&rt);
+    assert!(rt; fails(desk.add(KEY, Interest::EMPTY), io::ErrorKind::InvalidInput));
+    assert!(rt; desk.add(KEY, Interest::READ).is_ok());
+    assert!(rt;
+        fails(
+            desk.modify(OTHER_KEY, Interest::EMPTY),
+            io::ErrorKind::InvalidInput
+        )
+    );
+    assert!(rt; desk.writes());
+    assert!(rt; desk.tells(&[(KEY, true, false)]));
+}
+
+#[test]
+fn a_socket_whose_peer_hung_up_is_ready_for_both(rt: HostRuntime) {
+    let mut desk = Desk::new(&rt);
+    assert!(rt; desk.add(KEY, Interest::READ).is_ok());
+    desk.peer = None;
+    assert!(rt; desk.tells(&[(KEY, true, true)]));
+}
+
+#[test]
+fn a_nudge_ends_a_wait_without_an_event(rt: HostRuntime) {
+    let mut desk = Desk::new(&rt);
+    let notifier = desk.poller.notifier().expect(&rt, "a notifier");
+    notifier.notify();
+    assert!(rt; desk.waits(Duration::from_secs(60), &[]));
+    assert!(rt; desk.clock.now().nanos < MINUTE);
+}
+
+#[test]
+fn a_clock_of_the_machine_counts_from_its_making(rt: HostRuntime) {
+    let mut desk = Desk::new(&rt);
+    let first = desk.clock.now().nanos;
+    assert!(rt; desk.waits(Duration::from_millis(20), &[]));
+    let then = desk.poller.now().nanos;
+    let later = desk.clock.now().nanos;
+    assert!(rt; first.saturating_add(20_000_000) <= then && then <= later && later < MINUTE);
+}
+
+const KEY: u64 = 4294967296;
+
+const OTHER_KEY: u64 = 65536;
+
+const MINUTE: u64 = 60_000_000_000;
+
+// One stream stands before the poller, and the other is its peer.
+#[derive(Drop)]
+struct Desk<R: MachineClock + Clone + Drop> {
+    alloc: Global,
+    clock: SystemClock<R>,
+    poller: MioPoller<SystemClock<R>>,
+    io: MioIo,
+    peer: Option<UnixStream>,
+}
+
+impl<R: Net + AllocGlobal + MachineClock + Clone + Drop + Abort> Desk<R> {
+    fn new(rt: &R) -> Desk<R> {
+        let clock = SystemClock::new(rt).expect(rt, "a clock");
+        let read_by_poller = clock.clone().expect(rt, "a clock");
+        let (near, far) = UnixStream::pair(rt).expect(rt, "two streams");
+        Desk {
+            alloc: rt.alloc(),
+            clock,
+            poller: MioPoller::new(rt, rt.alloc(), read_by_poller).expect(rt, "a poller"),
+            io: MioIo::from(near),
+            peer: Some(far),
+        }
+    }
+}
+
+impl<R: MachineClock + Clone + Drop> Desk<R> {
+    fn add(&mut self, key: u64, interest: Interest) -> io::Result<()> {
+        self.poller.add(&mut self.io, key, interest)
+    }
+
+    fn modify(&mut self, key: u64, interest: Interest) -> io::Result<()> {
+        self.poller.modify(&mut self.io, key, interest)
+    }
+
+    fn delete(&mut self) -> io::Result<()> {
+        self.poller.delete(&mut self.io)
+    }
+
+    // The peer writes a byte.
+    fn writes(&mut self) -> bool {
+        match &mut self.peer {
+            Some(peer) => peer.write_all(b"x").is_ok(),
+            None => false,
+        }
+    }
+
+    // Whether a wait of 0 gives these keys, readable and writable as they say, and no error.
+    fn tells(&mut self, wanted: &[(u64, bool, bool)]) -> bool {
+        self.waits(Duration::ZERO, wanted)
+    }
+
+    fn waits(&mut self, timeout: Duration, wanted: &[(u64, bool, bool)]) -> bool {
+        let Ok(mut told) = Vec::with_capacity(self.alloc, EVENTS_PER_WAIT) else {
+            return false;
+        };
+        self.poller.wait(Some(timeout), &mut told).is_ok() && are(&told, wanted)
+    }
+}
+
+fn are(told: &[(u64, Readiness)], wanted: &[(u64, bool, bool)]) -> bool {
+    told.len() == wanted.len()
+        && told
+            .iter()
+            .zip(wanted)
+            .all(|(told, wanted)| is(told, wanted))
+}
+
+fn is(told: &(u64, Readiness), wanted: &(u64, bool, bool)) -> bool {
+    let (key, readiness) = *told;
+    (key, readiness.readable, readiness.writable) == *wanted && !readiness.error
+}
+
+fn fails(answer: io::Result<()>, kind: io::ErrorKind) -> bool {
+    match answer {
+        Ok(()) => false,
+        Err(cause) => cause.kind() == kind,
+    }
+}

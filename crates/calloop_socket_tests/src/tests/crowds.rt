@@ -1,0 +1,92 @@
+//! Many sockets, no more of them, and many rings.
+use super::square::{Square, refuses_a_poller};
+use calloop::ping::Ping;
+use calloop::{Interest, Mode};
+use calloop_core::sys::system::MioIo;
+use mio::net::UnixStream;
+use std::alloc::Global;
+use std::net::Net;
+use std::process::Abort;
+use std::sync::Wait;
+use std::test::Fail;
+use std::thread;
+use std::time::{Clock as MachineClock, Duration};
+
+#[test]
+fn a_wait_tells_of_1024_sockets_and_the_next_of_the_last(rt: HostRuntime) {
+    for (count, rest) in [(1024usize, 0usize), (1025, 1)] {
+        let mut square = Square::new(&rt, rt.alloc());
+        let peers = crowd(&rt, rt.alloc(), &mut square, count);
+        assert_eq!(rt; peers.len(), count);
+        assert_eq!(rt; square.writable(), 1024);
+        assert_eq!(rt; square.writable(), rest);
+        assert_eq!(rt; square.writable(), 0);
+    }
+}
+
+#[test]
+fn without_descriptors_a_poller_is_refused_and_a_loop_goes_on(rt: HostRuntime) {
+    let mut square = Square::new(&rt, rt.alloc());
+    let (_, mut peer) = square.stream(Mode::Level);
+    let pairs = all_pairs(&rt, rt.alloc());
+    assert!(rt; pairs.len() > 1);
+    assert!(rt; UnixStream::pair(&rt).is_err());
+    assert!(rt; refuses_a_poller(&rt, rt.alloc()));
+    assert!(rt; std::io::Write::write_all(&mut peer, &[8]).is_ok());
+    assert!(rt; square.says(&[8]));
+    drop(pairs);
+    assert!(rt; UnixStream::pair(&rt).is_ok());
+    assert!(rt; !refuses_a_poller(&rt, rt.alloc()));
+}
+
+#[test]
+fn ten_thousand_rings_of_a_thread_leave_nothing_standing(rt: HostRuntime) -> Result<(), Fail> {
+    let mut square = Square::new(&rt, rt.alloc());
+    let bell = square.ping(1);
+    let rings = bell.clone().expect(&rt, "a ping");
+    let child = thread::spawn(&rt, move || rings_often(&rings))?;
+    let mut calls = 0usize;
+    for _ in 0..100u32 {
+        calls = calls.saturating_add(square.dispatch(Duration::from_millis(1)).1.len());
+    }
+    assert!(rt; child.join(&rt));
+    calls = calls.saturating_add(square.dispatch(Duration::ZERO).1.len());
+    assert!(rt; calls >= 1 && calls <= 10_000);
+    assert!(rt; square.says(&[]));
+    Ok(())
+}
+
+fn rings_often<R: Wait + Drop>(bell: &Ping<R>) -> bool {
+    for _ in 0..10_000u32 {
+        let _receipt = bell.ping();
+    }
+    true
+}
+
+// So many streams of the loop, each of which can be written to: their peers.
+fn crowd<R: Net + MachineClock + Wait + Clone + Drop + Abort>(
+    rt: &R,
+    alloc: Global,
+    square: &mut Square<R>,
+    count: usize,
+) -> Vec<UnixStream> {
+    let mut peers = Vec::with_capacity(alloc, count).expect(rt, "room");
+    for _ in 0..count {
+        let (near, far) = UnixStream::pair(rt).expect(rt, "two streams");
+        square.insert(MioIo::from(near), Interest::WRITE, Mode::Edge);
+        assert!(rt; peers.push(far).is_ok());
+    }
+    peers
+}
+
+// As many streams as the machine gives, at most 100,000 pairs.
+fn all_pairs<R: Net + Abort>(rt: &R, alloc: Global) -> Vec<(UnixStream, UnixStream)> {
+    let mut pairs = Vec::new(alloc);
+    for _ in 0..100_000u32 {
+        let Ok(pair) = UnixStream::pair(rt) else {
+            break;
+        };
+        assert!(rt; pairs.push(pair).is_ok());
+    }
+    pairs
+}

@@ -1,0 +1,189 @@
+//! What ends a wait of the machine's poller from another thread, and signals of a loop.
+use crate::source::{Source, Teller};
+use calloop::loop_logic::EventLoop;
+use calloop::ping::{Ping, make_ping};
+use calloop::{Clock, Error, Instant, LoopSignal, Poller, Readiness, Result};
+use calloop_core::sys::EVENTS_PER_WAIT;
+use calloop_core::sys::notifier::Notifier;
+use calloop_core::sys::script::{ScriptAnswer, ScriptEnd, ScriptEvents, ScriptPoller};
+use calloop_core::sys::system::{MioPoller, SystemClock};
+use calloop_wake::wake::Notify;
+use std::alloc::AllocGlobal;
+use std::net::Net;
+use std::sync::Wait;
+use std::test::Fail;
+use std::thread;
+use std::time::{Clock as MachineClock, Duration};
+
+#[test]
+fn a_notifier_of_another_thread_ends_a_long_wait(rt: HostRuntime) -> std::result::Result<(), Fail> {
+    let clock = SystemClock::new(&rt)?;
+    let mut poller = poller_of(&rt, &clock).expect(&rt, "a poller");
+    let notifier = poller.notifier().expect(&rt, "a notifier");
+    let child = thread::spawn(&rt, move || notifies_later(&rt, notifier))?;
+    let mut told: Vec<(u64, Readiness)> = Vec::with_capacity(rt.alloc(), EVENTS_PER_WAIT)?;
+    assert!(rt; poller.wait(minute(), &mut told).is_ok());
+    assert!(rt; told.is_empty() && is_early(&clock));
+    child.join(&rt);
+    Ok(())
+}
+
+#[test]
+fn a_ring_of_another_thread_ends_a_long_dispatch(rt: HostRuntime) -> std::result::Result<(), Fail> {
+    let clock = SystemClock::new(&rt)?;
+    let mut event_loop = loop_of(&rt, &clock).expect(&rt, "a loop");
+    let (ping, source) = make_ping(&rt, rt.alloc()).expect(&rt, "a ping");
+    let teller = Teller { number: 7 };
+    assert!(rt; event_loop.handle().insert_source(source, teller).is_ok());
+    let child = thread::spawn(&rt, move || rings_later(&rt, ping))?;
+    let mut said = Vec::new(rt.alloc());
+    assert!(rt; event_loop.dispatch(&rt, minute(), &mut said).is_ok());
+    assert_eq!(rt; said.as_slice(), [7].as_slice());
+    assert!(rt; is_early(&clock));
+    child.join(&rt);
+    Ok(())
+}
+
+#[test]
+fn a_signal_of_another_thread_ends_a_long_dispatch(
+    rt: HostRuntime,
+) -> std::result::Result<(), Fail> {
+    let clock = SystemClock::new(&rt)?;
+    let mut event_loop = loop_of(&rt, &clock).expect(&rt, "a loop");
+    let signal = event_loop.get_signal().expect(&rt, "a signal");
+    let child = thread::spawn(&rt, move || wakes_later(&rt, signal))?;
+    let mut said = Vec::new(rt.alloc());
+    assert!(rt; event_loop.dispatch(&rt, minute(), &mut said).is_ok());
+    assert!(rt; said.is_empty() && is_early(&clock));
+    child.join(&rt);
+    Ok(())
+}
+
+#[test]
+fn a_wakeup_before_a_dispatch_ends_its_wait(rt: HostRuntime) {
+    let clock = SystemClock::new(&rt).expect(&rt, "a clock");
+    let mut event_loop = loop_of(&rt, &clock).expect(&rt, "a loop");
+    let signal = event_loop.get_signal().expect(&rt, "a signal");
+    signal.clone().expect(&rt, "a signal").wakeup();
+    let mut said = Vec::new(rt.alloc());
+    assert!(rt; event_loop.dispatch(&rt, minute(), &mut said).is_ok());
+    assert!(rt; is_early(&clock));
+    drop(event_loop);
+    signal.wakeup();
+    signal.stop();
+}
+
+#[test]
+fn a_run_ends_once_another_thread_stops_it(rt: HostRuntime) -> std::result::Result<(), Fail> {
+    let clock = SystemClock::new(&rt)?;
+    let mut event_loop = loop_of(&rt, &clock).expect(&rt, "a loop");
+    let signal = event_loop.get_signal().expect(&rt, "a signal");
+    let child = thread::spawn(&rt, move || stops_later(&rt, signal))?;
+    let mut said = Vec::new(rt.alloc());
+    let answer = event_loop.run(&rt, minute(), &mut said, |said| says(said, 1));
+    assert!(rt; answer.is_ok() && is_early(&clock));
+    assert_eq!(rt; said.as_slice(), [1].as_slice());
+    child.join(&rt);
+    Ok(())
+}
+
+#[test]
+fn a_run_calls_after_each_dispatch_until_it_is_stopped(rt: HostRuntime) {
+    let clock = SystemClock::new(&rt).expect(&rt, "a clock");
+    let mut event_loop = loop_of(&rt, &clock).expect(&rt, "a loop");
+    let signal = event_loop.get_signal().expect(&rt, "a signal");
+    let (ping, source) = make_ping(&rt, rt.alloc()).expect(&rt, "a ping");
+    let teller = Teller { number: 7 };
+    assert!(rt; event_loop.handle().insert_source(source, teller).is_ok());
+    // A stop of before is forgotten.
+    signal.stop();
+    let mut said = Vec::new(rt.alloc());
+    let answer = event_loop.run(&rt, Some(Duration::ZERO), &mut said, |said| {
+        says(said, 1);
+        match said.len() {
+            1 => drop(ping.ping()),
+            2 => {}
+            _ => signal.stop(),
+        }
+    });
+    assert!(rt; answer.is_ok());
+    assert_eq!(rt; said.as_slice(), [1, 7, 1].as_slice());
+}
+
+#[test]
+fn a_fault_ends_a_run_without_a_call(rt: HostRuntime) {
+    let mut poller = ScriptPoller::new(rt.alloc()).expect(&rt, "a poller");
+    let clock = poller.clock().expect(&rt, "a clock");
+    for end in [
+        ScriptEnd::Events(ScriptEvents::new(rt.alloc())),
+        ScriptEnd::Fault,
+    ] {
+        let moment = Instant { nanos: 5 };
+        assert!(rt; poller.script(ScriptAnswer { moment, end }).is_ok());
+    }
+    let mut event_loop: EventLoop<Source<HostRuntime>, _, _, HostRuntime> = EventLoop::try_new(
+        &rt,
+        rt.alloc(),
+        poller,
+        clock,
+    ).expect(&rt, "a loop");
+    let mut said = Vec::new(rt.alloc());
+    let answer = event_loop.run(&rt, None, &mut said, |said| says(said, 1));
+    assert!(rt; matches!(answer, Err(Error::IoError(_))));
+    assert_eq!(rt; said.as_slice(), [1].as_slice());
+}
+
+type SystemLoop<R> = EventLoop<Source<R>, MioPoller<SystemClock<R>>, SystemClock<R>, R>;
+
+fn poller_of<R: Net + AllocGlobal + MachineClock + Clone + Drop>(
+    rt: &R,
+    clock: &SystemClock<R>,
+) -> Result<MioPoller<SystemClock<R>>> {
+    MioPoller::new(rt, rt.alloc(), clock.clone()?)
+}
+
+fn minute() -> Option<Duration> {
+    Some(Duration::from_secs(60))
+}
+
+fn pause() -> Duration {
+    Duration::from_millis(50)
+}
+
+// An empty loop over the machine's poller.
+fn loop_of<R: Net + Wait + AllocGlobal + MachineClock + Clone + Drop>(
+    rt: &R,
+    clock: &SystemClock<R>,
+) -> Result<SystemLoop<R>> {
+    EventLoop::try_new(rt, rt.alloc(), poller_of(rt, clock)?, clock.clone()?)
+}
+
+// Whether less than a minute went by since the clock was made.
+fn is_early<C: Clock>(clock: &C) -> bool {
+    clock.now().nanos < 60_000_000_000
+}
+
+fn notifies_later<R: MachineClock>(rt: &R, notifier: Notifier) {
+    thread::sleep(rt, pause());
+    notifier.notify();
+}
+
+fn rings_later<R: MachineClock, Q: Wait + Drop>(rt: &R, ping: Ping<Q>) {
+    thread::sleep(rt, pause());
+    ping.ping();
+}
+
+fn wakes_later<R: MachineClock>(rt: &R, signal: LoopSignal) {
+    thread::sleep(rt, pause());
+    signal.wakeup();
+}
+
+fn stops_later<R: MachineClock>(rt: &R, signal: LoopSignal) {
+    thread::sleep(rt, pause());
+    signal.stop();
+    signal.wakeup();
+}
+
+fn says(said: &mut Vec<u32>, number: u32) {
+    let _failed = said.push(number);
+}
