@@ -2,12 +2,15 @@
 #![tactic(auto)]
 
 use anyhow::Result;
+use calloop::Clock;
 use calloop_core::sys::script::{ScriptClock, ScriptPoller};
+use calloop_core::sys::system::{MioPoller, SystemClock};
 use measured::Measured;
 use request::{Request, read};
 use row::{Kind, Row};
 use std::alloc::Global;
 use std::env;
+use std::net::Net;
 use std::num::NonZeroU32;
 use std::process::ExitCode;
 use std::rt::Runtime;
@@ -19,41 +22,44 @@ mod request;
 mod row;
 mod rows;
 
-// The poller and the clock that the rows run over.
-type RowPoller = ScriptPoller;
+type System<R> = MioPoller<SystemClock<R>>;
 
-type RowClock = ScriptClock;
-
-fn poller_name<R>() -> &'static str {
-    <RowPoller as Measured<RowClock, R>>::name()
-}
-
-fn measure<R: Runtime + AllocGlobal + Wait>(rt: &R, alloc: Global, row: &Row) -> Result<()> {
-    let nanoseconds = rows::run::<RowPoller, RowClock, R>(rt, alloc, row)?;
+fn measure<P, C, R>(rt: &R, alloc: Global, row: &Row) -> Result<()>
+where
+    P: Measured<C, R>,
+    C: Clock,
+    R: Runtime + Wait,
+{
+    let nanoseconds = rows::run::<P, C, R>(rt, alloc, row)?;
     let per_operation = nanoseconds / row.operations();
     println!(rt;
         "{{\"row\":\"{}\",\"poller\":\"{}\",\"count\":{},\"size\":{},\"nanoseconds\":{nanoseconds},\"per_operation\":{per_operation}}}",
         row.kind.name(),
-        poller_name::<R>(),
+        P::name(),
         row.count.get(),
         row.size.get()
     )?;
     Ok(())
 }
 
-// Each row three times over two sources, without its time.
-fn check<R: Runtime + AllocGlobal + Wait>(rt: &R, alloc: Global) -> Result<()> {
-    for kind in Kind::ALL {
+// Each of these kinds three times over two sources, without its time.
+fn check<P, C, R>(rt: &R, alloc: Global, kinds: &[Kind]) -> Result<()>
+where
+    P: Measured<C, R>,
+    C: Clock,
+    R: Runtime + Wait,
+{
+    for kind in kinds {
         let row = Row {
-            kind,
+            kind: *kind,
             count: NonZeroU32::new(3).unwrap(),
             size: NonZeroU32::new(2).unwrap(),
         };
-        let _nanoseconds = rows::run::<RowPoller, RowClock, R>(rt, alloc, &row)?;
+        let _nanoseconds = rows::run::<P, C, R>(rt, alloc, &row)?;
         println!(rt;
             "{{\"row\":\"{}\",\"poller\":\"{}\",\"count\":{},\"size\":{},\"calls\":{}}}",
             kind.name(),
-            poller_name::<R>(),
+            P::name(),
             row.count.get(),
             row.size.get(),
             row.calls()
@@ -62,11 +68,17 @@ fn check<R: Runtime + AllocGlobal + Wait>(rt: &R, alloc: Global) -> Result<()> {
     Ok(())
 }
 
-fn run<R: Runtime + AllocGlobal + Wait>(rt: &R, alloc: Global) -> Result<ExitCode> {
+fn run<R: Runtime + AllocGlobal + Wait + Net>(rt: &R, alloc: Global) -> Result<ExitCode> {
     let words: Vec<String> = env::args(rt)?.skip(1).collect(alloc)?;
     match read(&words) {
-        Ok(Request::Check) => check(rt, alloc)?,
-        Ok(Request::Measure(row)) => measure(rt, alloc, &row)?,
+        Ok(Request::Check) => {
+            check::<System<R>, SystemClock<R>, R>(rt, alloc, &Kind::ALL)?;
+            check::<ScriptPoller, ScriptClock, R>(rt, alloc, &Kind::WITHOUT_SOCKETS)?;
+        }
+        Ok(Request::Measure(row)) => measure::<System<R>, SystemClock<R>, R>(rt, alloc, &row)?,
+        Ok(Request::MeasureScripted(row)) => {
+            measure::<ScriptPoller, ScriptClock, R>(rt, alloc, &row)?
+        }
         Err(unreadable) => {
             eprintln!(rt; "loop_bench: {unreadable}")?;
             return Ok(ExitCode::from(2));

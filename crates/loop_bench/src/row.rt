@@ -19,11 +19,23 @@ pub enum Kind {
     InsertAndRemove,
     /// Dispatches while no timer is due.
     IdleDispatch,
+    /// Dispatches while sockets can be read.
+    ReadableSockets,
 }
 
 impl Kind {
     /// Each of them once, in the order in which they are printed.
-    pub const ALL: [Kind; 5] = [
+    pub const ALL: [Kind; 6] = [
+        Kind::RingAndDispatch,
+        Kind::TimersFired,
+        Kind::TimersCancelled,
+        Kind::InsertAndRemove,
+        Kind::IdleDispatch,
+        Kind::ReadableSockets,
+    ];
+
+    /// Those in which nothing is read.
+    pub const WITHOUT_SOCKETS: [Kind; 5] = [
         Kind::RingAndDispatch,
         Kind::TimersFired,
         Kind::TimersCancelled,
@@ -41,6 +53,7 @@ impl Kind {
             Kind::TimersCancelled => "timers_cancelled",
             Kind::InsertAndRemove => "insert_and_remove",
             Kind::IdleDispatch => "idle_dispatch",
+            Kind::ReadableSockets => "readable_sockets",
         }
     }
 
@@ -62,24 +75,26 @@ pub struct Row {
 }
 
 impl Row {
-    /// In how many steps its time is divided: each timer that fires is one.
+    /// In how many steps its time is divided: each timer that fires is one, and each call for a socket.
     pub fn operations(&self) -> u64
         ensures value { result ≡ operations_of self.now.kind (non_zero_u32_get self.now.count) (non_zero_u32_get self.now.size) }
         ensures nonzero { 0 < result }
     {
         let count = u64::from(self.count.get());
+        let size = u64::from(self.size.get());
         match self.kind {
-            Kind::TimersFired => count * u64::from(self.size.get()),
+            Kind::TimersFired => count * size,
+            Kind::ReadableSockets => count * size.min(1024),
             _ => count,
         }
     }
 
-    /// How many callbacks it has to call.
+    /// How many callbacks it has to call. A wait gives at most 1,024 events.
     pub fn calls(&self) -> u64
         ensures { result ≡ calls_of self.now.kind (non_zero_u32_get self.now.count) (non_zero_u32_get self.now.size) }
     {
         match self.kind {
-            Kind::RingAndDispatch | Kind::TimersFired => self.operations(),
+            Kind::RingAndDispatch | Kind::TimersFired | Kind::ReadableSockets => self.operations(),
             Kind::TimersCancelled | Kind::InsertAndRemove | Kind::IdleDispatch => 0,
         }
     }
