@@ -1,0 +1,31 @@
+-- The rows: how they are called, and what they count. Calloop has no such program.
+use Rattle.std.specs.Prelude.{ℕ, ◌*◌, Bool, List, nat_eq, codes}
+use Rattle.std.specs.Cmp.Lexicographic.{pointwise}
+use Rattle.loop_bench.specs.declared.row.Kind.{Kind}
+use Rattle.loop_bench.specs.declared.row.Kind.TheVariants.{RingAndDispatch, TimersFired, TimersCancelled, InsertAndRemove, IdleDispatch}
+
+abbrev pub name_of : Kind → List ℕ
+name_of RingAndDispatch = codes "ring_and_dispatch"
+name_of TimersFired = codes "timers_fired"
+name_of TimersCancelled = codes "timers_cancelled"
+name_of InsertAndRemove = codes "insert_and_remove"
+name_of IdleDispatch = codes "idle_dispatch"
+
+abbrev pub is_named : List ℕ → Kind → Bool
+is_named name kind = pointwise nat_eq (name_of kind) name
+
+-- in how many steps the time of a row is divided: each timer that fires is one
+abbrev pub operations_of : Kind → (count size : ℕ) → ℕ
+operations_of RingAndDispatch count size = count
+operations_of TimersFired count size = count * size
+operations_of TimersCancelled count size = count
+operations_of InsertAndRemove count size = count
+operations_of IdleDispatch count size = count
+
+-- how many callbacks a row calls: one for each ring, and one for each timer that fires
+abbrev pub calls_of : Kind → (count size : ℕ) → ℕ
+calls_of RingAndDispatch count size = count
+calls_of TimersFired count size = count * size
+calls_of TimersCancelled count size = 0
+calls_of InsertAndRemove count size = 0
+calls_of IdleDispatch count size = 0

@@ -1,0 +1,173 @@
+//! A loop that is measured.
+ghost use Rattle.std.specs.Prelude.{◌≡◌, ◌+◌, ◌*◌, ◌%◌, ◌^◌, ◌-◌, ◌≤◌, min, IfOk, vec_len};
+
+use crate::measured::Measured;
+use anyhow::{Context, Result};
+use calloop::loop_logic::EventLoop;
+use calloop::ping::{Ping, make_ping};
+use calloop::{
+    Asking, Callback, Clock, Dispatcher, Instant, OneOf, PingSource, RegistrationToken, Sources,
+    TimeoutAction, Timer,
+};
+use std::alloc::Global;
+use std::sync::Wait;
+use std::time::{self, Duration};
+
+/// Counts its calls in the data that a dispatch lends.
+#[derive(Drop)]
+pub struct Counts;
+
+impl<Q: Asking> Callback<(), (), (), u64, Q> for Counts {
+    ghost use Rattle.loop_bench.specs.Counting.{counts};
+
+    ghost may = { counts };
+
+    fn call(&mut self, _event: (), _: &mut (), calls: &mut u64, _: &mut Q) {
+        *calls = calls.saturating_add(1);
+    }
+}
+
+impl<Q: Asking> Callback<Instant, (), TimeoutAction, u64, Q> for Counts {
+    ghost use Rattle.loop_bench.specs.Counting.{counts_and_leaves};
+
+    ghost may = { counts_and_leaves };
+
+    fn call(
+        &mut self,
+        _deadline: Instant,
+        _: &mut (),
+        calls: &mut u64,
+        _: &mut Q,
+    ) -> TimeoutAction {
+        *calls = calls.saturating_add(1);
+        TimeoutAction::Drop
+    }
+}
+
+/// The sources of the rows, and the count of calls that each dispatch lends.
+pub type Held<R> = Sources<
+    OneOf<Dispatcher<PingSource<R>, Counts>, Dispatcher<Timer, Counts>>,
+    u64,
+>;
+
+/// A loop, the calls of its callbacks, and the time that was measured, in nanoseconds.
+#[derive(Drop)]
+pub struct Bench<P, C, R: Wait + Drop> {
+    rt: R,
+    alloc: Global,
+    pub event_loop: EventLoop<Held<R>, P, C, R>,
+    clock: C,
+    pub calls: u64,
+    pub nanoseconds: u64,
+}
+
+impl<P: Measured<C, R>, C: Clock, R: Wait + time::Clock + Clone + Drop> Bench<P, C, R> {
+    /// A loop without sources. Nothing was measured yet.
+    pub fn new(rt: &R, alloc: Global) -> Result<Bench<P, C, R>>
+        ensures { IfOk result (λ made. (made.calls ≡ 0) × (made.nanoseconds ≡ 0)) }
+    {
+        let (poller, clock) = P::make(rt, alloc)?;
+        Ok(Bench {
+            rt: rt.clone()?,
+            alloc,
+            clock: clock.clone()?,
+            event_loop: EventLoop::try_new(rt, alloc, poller, clock)?,
+            calls: 0,
+            nanoseconds: 0,
+        })
+    }
+
+    /// When a span of time begins that is to be measured.
+    pub fn start(&self) -> Result<time::Instant> {
+        time::Instant::now(&self.rt).context("reading the clock")
+    }
+
+    /// Adds the time since then to what was measured.
+    pub fn stop(&mut self, began: time::Instant) -> Result<()>
+        ensures adds { self.old.nanoseconds ≤ self.new.nanoseconds }
+        ensures calls { self.new.calls ≡ self.old.calls }
+    {
+        let span = began.elapsed(&self.rt).context("reading the clock")?;
+        let nanoseconds = u64::try_from(span.as_nanos()).unwrap_or(u64::MAX);
+        self.nanoseconds = self.nanoseconds.saturating_add(nanoseconds);
+        Ok(())
+    }
+
+    /// A dispatch that doesn't wait.
+    pub fn dispatch(&mut self) -> Result<()>
+        ensures { self.new.nanoseconds ≡ self.old.nanoseconds }
+    {
+        self.event_loop
+            .dispatch(&self.rt, Some(Duration::ZERO), &mut self.calls)?;
+        Ok(())
+    }
+
+    /// What the loop's clock shows.
+    pub fn now(&self) -> Instant
+        ensures { C.shows self.now.clock result.nanos }
+    {
+        self.clock.now()
+    }
+
+    /// Returns once the loop's clock shows this moment or a later one.
+    pub fn come_to(&mut self, moment: Instant)
+        ensures calls { self.new.calls ≡ self.old.calls }
+        ensures nanoseconds { self.new.nanoseconds ≡ self.old.nanoseconds }
+    {
+        self.event_loop
+            .handle()
+            .poller_mut()
+            .come_to(&self.rt, moment);
+    }
+
+    /// A ping that is registered nowhere, with its source.
+    pub fn make_ping(&self) -> Result<(Ping<R>, PingSource<R>)> {
+        Ok(make_ping(&self.rt, self.alloc)?)
+    }
+
+    /// Puts so many pings into the loop.
+    pub fn insert_pings(&mut self, size: u32) -> Result<Vec<Ping<R>>>
+        ensures pings { IfOk result (λ pings. vec_len pings ≡ size) }
+        ensures calls { self.new.calls ≡ self.old.calls }
+        ensures nanoseconds { self.new.nanoseconds ≡ self.old.nanoseconds }
+    {
+        let mut pings = Vec::new(self.alloc);
+        for _ in 0..size {
+            let (ping, source) = self.make_ping()?;
+            self.event_loop.handle().insert_source(source, Counts)?;
+            pings.push(ping)?;
+        }
+        Ok(pings)
+    }
+
+    /// Arms a timer for this moment.
+    pub fn insert_timer(&mut self, deadline: Instant) -> Result<RegistrationToken>
+        ensures calls { self.new.calls ≡ self.old.calls }
+        ensures nanoseconds { self.new.nanoseconds ≡ self.old.nanoseconds }
+    {
+        let timer = Timer::from_deadline(deadline);
+        Ok(self.event_loop.handle().insert_source(timer, Counts)?)
+    }
+
+    /// Arms so many timers, for the scattered moments from this one on.
+    pub fn insert_timers(&mut self, size: u32, from: Instant) -> Result<()>
+        ensures calls { self.new.calls ≡ self.old.calls }
+        ensures nanoseconds { self.new.nanoseconds ≡ self.old.nanoseconds }
+    {
+        for i in 0..size {
+            self.insert_timer(scattered(from, i))?;
+        }
+        Ok(())
+    }
+}
+
+/// Within how many nanoseconds the scattered moments lie.
+pub const SCATTER: u64 = 1 << 20;
+
+/// The moment of this number among 2^20 that are a nanosecond apart, in an order that goes to and fro. Further numbers give them again.
+pub fn scattered(from: Instant, number: u32) -> Instant
+    ensures { result.nanos ≡ min (from.nanos + number * 489905 % 2 ^ 20) (2 ^ 64 - 1) }
+{
+    let nanoseconds = u64::from(number) * 489_905 % SCATTER;
+    from.after(Duration::from_nanos(nanoseconds))
+}

@@ -1,0 +1,86 @@
+//! The program `loop_bench`: measures a row of the loop, and prints it as a line of JSON.
+#![tactic(auto)]
+
+use anyhow::Result;
+use calloop_core::sys::script::{ScriptClock, ScriptPoller};
+use measured::Measured;
+use request::{Request, read};
+use row::{Kind, Row};
+use std::alloc::Global;
+use std::env;
+use std::num::NonZeroU32;
+use std::process::ExitCode;
+use std::rt::Runtime;
+use std::sync::Wait;
+
+mod bench;
+mod measured;
+mod request;
+mod row;
+mod rows;
+
+// The poller and the clock that the rows run over.
+type RowPoller = ScriptPoller;
+
+type RowClock = ScriptClock;
+
+fn poller_name<R>() -> &'static str {
+    <RowPoller as Measured<RowClock, R>>::name()
+}
+
+fn measure<R: Runtime + AllocGlobal + Wait>(rt: &R, alloc: Global, row: &Row) -> Result<()> {
+    let nanoseconds = rows::run::<RowPoller, RowClock, R>(rt, alloc, row)?;
+    let per_operation = nanoseconds / row.operations();
+    println!(rt;
+        "{{\"row\":\"{}\",\"poller\":\"{}\",\"count\":{},\"size\":{},\"nanoseconds\":{nanoseconds},\"per_operation\":{per_operation}}}",
+        row.kind.name(),
+        poller_name::<R>(),
+        row.count.get(),
+        row.size.get()
+    )?;
+    Ok(())
+}
+
+// Each row three times over two sources, without its time.
+fn check<R: Runtime + AllocGlobal + Wait>(rt: &R, alloc: Global) -> Result<()> {
+    for kind in Kind::ALL {
+        let row = Row {
+            kind,
+            count: NonZeroU32::new(3).unwrap(),
+            size: NonZeroU32::new(2).unwrap(),
+        };
+        let _nanoseconds = rows::run::<RowPoller, RowClock, R>(rt, alloc, &row)?;
+        println!(rt;
+            "{{\"row\":\"{}\",\"poller\":\"{}\",\"count\":{},\"size\":{},\"calls\":{}}}",
+            kind.name(),
+            poller_name::<R>(),
+            row.count.get(),
+            row.size.get(),
+            row.calls()
+        )?;
+    }
+    Ok(())
+}
+
+fn run<R: Runtime + AllocGlobal + Wait>(rt: &R, alloc: Global) -> Result<ExitCode> {
+    let words: Vec<String> = env::args(rt)?.skip(1).collect(alloc)?;
+    match read(&words) {
+        Ok(Request::Check) => check(rt, alloc)?,
+        Ok(Request::Measure(row)) => measure(rt, alloc, &row)?,
+        Err(unreadable) => {
+            eprintln!(rt; "loop_bench: {unreadable}")?;
+            return Ok(ExitCode::from(2));
+        }
+    }
+    Ok(ExitCode::SUCCESS)
+}
+
+fn main(rt: HostRuntime) -> ExitCode {
+    match run(&rt, rt.alloc()) {
+        Ok(status) => status,
+        Err(error) => {
+            let _unsaid = eprintln!(rt; "loop_bench: {error}");
+            ExitCode::FAILURE
+        }
+    }
+}

@@ -1,0 +1,86 @@
+//! The rows.
+ghost use Rattle.std.specs.Prelude.{◌≡◌, ◌<◌, IfSome};
+ghost use Rattle.std.specs.List.{find};
+ghost use Rattle.std.specs.Int.NonZero.{non_zero_u32_get};
+ghost use Rattle.loop_bench.specs.Rows.{name_of, is_named, operations_of, calls_of};
+
+use std::num::NonZeroU32;
+
+/// What a row measures.
+#[derive(Clone, Copy, Debug, PartialEq, Eq)]
+pub enum Kind {
+    /// Rings one of the pings in turn, and dispatches.
+    RingAndDispatch,
+    /// Arms timers, and dispatches until all have fired.
+    TimersFired,
+    /// Inserts a timer beside others, and removes it.
+    TimersCancelled,
+    /// Inserts a ping beside others, and removes it.
+    InsertAndRemove,
+    /// Dispatches while no timer is due.
+    IdleDispatch,
+}
+
+impl Kind {
+    /// Each of them once, in the order in which they are printed.
+    pub const ALL: [Kind; 5] = [
+        Kind::RingAndDispatch,
+        Kind::TimersFired,
+        Kind::TimersCancelled,
+        Kind::InsertAndRemove,
+        Kind::IdleDispatch,
+    ];
+
+    /// Its name among the arguments, and in what is printed.
+    pub fn name(self) -> &'static str
+        ensures { result.now ≡ name_of self }
+    {
+        match self {
+            Kind::RingAndDispatch => "ring_and_dispatch",
+            Kind::TimersFired => "timers_fired",
+            Kind::TimersCancelled => "timers_cancelled",
+            Kind::InsertAndRemove => "insert_and_remove",
+            Kind::IdleDispatch => "idle_dispatch",
+        }
+    }
+
+    /// The kind of this name.
+    pub fn named(name: &str) -> Option<Kind>
+        ensures first { result ≡ find (is_named name.now) Self.ALL }
+        ensures named { IfSome result (λ kind. name_of kind ≡ name.now) }
+    {
+        Kind::ALL.iter().copied().find(|kind| kind.name() == name)
+    }
+}
+
+/// What is measured, how often, and with how many sources.
+#[derive(Clone, Copy, Debug)]
+pub struct Row {
+    pub kind: Kind,
+    pub count: NonZeroU32,
+    pub size: NonZeroU32,
+}
+
+impl Row {
+    /// In how many steps its time is divided: each timer that fires is one.
+    pub fn operations(&self) -> u64
+        ensures value { result ≡ operations_of self.now.kind (non_zero_u32_get self.now.count) (non_zero_u32_get self.now.size) }
+        ensures nonzero { 0 < result }
+    {
+        let count = u64::from(self.count.get());
+        match self.kind {
+            Kind::TimersFired => count * u64::from(self.size.get()),
+            _ => count,
+        }
+    }
+
+    /// How many callbacks it has to call.
+    pub fn calls(&self) -> u64
+        ensures { result ≡ calls_of self.now.kind (non_zero_u32_get self.now.count) (non_zero_u32_get self.now.size) }
+    {
+        match self.kind {
+            Kind::RingAndDispatch | Kind::TimersFired => self.operations(),
+            Kind::TimersCancelled | Kind::InsertAndRemove | Kind::IdleDispatch => 0,
+        }
+    }
+}

@@ -1,0 +1,119 @@
+//! Runs the rows. What is set up before isn't measured.
+use crate::bench::{Bench, Counts, Held, SCATTER, scattered};
+use crate::measured::Measured;
+use crate::row::{Kind, Row};
+use anyhow::{Context, Result, ensure};
+use calloop::{Clock, Dispatcher, Instant, OneOf, Sources};
+use std::alloc::Global;
+use std::sync::Wait;
+use std::time::{self, Duration};
+
+// In how many seconds the timers are due that don't fire while a row runs.
+const FAR: u64 = 1_000_000;
+
+/// Runs a row, and answers what it took, in nanoseconds. An error says what went wrong, also where not as many callbacks were called as had to be.
+pub fn run<P: Measured<C, R>, C: Clock, R: Wait + time::Clock + Clone + Drop>(
+    rt: &R,
+    alloc: Global,
+    row: &Row,
+) -> Result<u64> {
+    let mut bench: Bench<P, C, R> = Bench::new(rt, alloc)?;
+    let (count, size) = (row.count.get(), row.size.get());
+    match row.kind {
+        Kind::RingAndDispatch => bench.ring_and_dispatch(count, size)?,
+        Kind::TimersFired => bench.timers_fired(count, size)?,
+        Kind::TimersCancelled => bench.timers_cancelled(count, size)?,
+        Kind::InsertAndRemove => bench.insert_and_remove(count, size)?,
+        Kind::IdleDispatch => bench.idle_dispatch(count, size)?,
+    }
+    let calls = bench.calls;
+    ensure!(
+        calls == row.calls(),
+        "{calls} calls in place of {}",
+        row.calls()
+    );
+    Ok(bench.nanoseconds)
+}
+
+impl<P: Measured<C, R>, C: Clock, R: Wait + time::Clock + Clone + Drop> Bench<P, C, R> {
+    fn ring_and_dispatch(&mut self, count: u32, size: u32) -> Result<()> {
+        let pings = self.insert_pings(size)?;
+        let began = self.start()?;
+        let mut turn = 0usize;
+        for _ in 0..count {
+            let ping = pings.get(turn).context("a ping for each turn")?;
+            ping.ping();
+            self.dispatch()?;
+            turn = if turn + 1 < pings.len() { turn + 1 } else { 0 };
+        }
+        self.stop(began)
+    }
+
+    fn timers_fired(&mut self, count: u32, size: u32) -> Result<()> {
+        for _ in 0..count {
+            self.fire_timers(size)?;
+        }
+        Ok(())
+    }
+
+    // One round: the way to the last deadline isn't measured.
+    fn fire_timers(&mut self, size: u32) -> Result<()> {
+        let from = self.now();
+        let began = self.start()?;
+        self.insert_timers(size, from)?;
+        self.stop(began)?;
+        self.come_to(from.after(Duration::from_nanos(SCATTER)));
+        let wanted = self.calls.saturating_add(u64::from(size));
+        let began = self.start()?;
+        for _ in 0..size {
+            if self.calls >= wanted {
+                break;
+            }
+            self.dispatch()?;
+        }
+        self.stop(began)
+    }
+
+    // Arms so many timers that are far from due, and answers from which moment on.
+    fn insert_far_timers(&mut self, size: u32) -> Result<Instant> {
+        let far = self.now().after(Duration::from_secs(FAR));
+        self.insert_timers(size, far)?;
+        Ok(far)
+    }
+
+    fn timers_cancelled(&mut self, count: u32, size: u32) -> Result<()> {
+        let far = self.insert_far_timers(size)?;
+        let began = self.start()?;
+        for i in 0..count {
+            let token = self.insert_timer(scattered(far, size.wrapping_add(i)))?;
+            let removed = self.event_loop.handle().remove(token);
+            ensure!(removed.is_some(), "a timer is gone");
+        }
+        self.stop(began)
+    }
+
+    fn insert_and_remove(&mut self, count: u32, size: u32) -> Result<()> {
+        let _standing = self.insert_pings(size)?;
+        let (_ping, source) = self.make_ping()?;
+        let mut held: Held<R> = Sources::new(OneOf::First(Dispatcher::new(source, Counts)));
+        let began = self.start()?;
+        for _ in 0..count {
+            let token = self.event_loop.handle().register_dispatcher(held)?;
+            held = self
+                .event_loop
+                .handle()
+                .remove(token)
+                .context("a ping is gone")?;
+        }
+        self.stop(began)
+    }
+
+    fn idle_dispatch(&mut self, count: u32, size: u32) -> Result<()> {
+        let _far = self.insert_far_timers(size)?;
+        let began = self.start()?;
+        for _ in 0..count {
+            self.dispatch()?;
+        }
+        self.stop(began)
+    }
+}
