@@ -1,8 +1,8 @@
 -- The rows: how they are called, and what they count. Calloop has no such program.
-use Rattle.std.specs.Prelude.{ℕ, ◌*◌, Bool, List, nat_eq, codes}
+use Rattle.std.specs.Prelude.{ℕ, ◌*◌, min, Bool, List, nat_eq, codes}
 use Rattle.std.specs.Cmp.Lexicographic.{pointwise}
 use Rattle.loop_bench.specs.declared.row.Kind.{Kind}
-use Rattle.loop_bench.specs.declared.row.Kind.TheVariants.{RingAndDispatch, TimersFired, TimersCancelled, InsertAndRemove, IdleDispatch}
+use Rattle.loop_bench.specs.declared.row.Kind.TheVariants.{RingAndDispatch, TimersFired, TimersCancelled, InsertAndRemove, IdleDispatch, ReadableSockets}
 
 abbrev pub name_of : Kind → List ℕ
 name_of RingAndDispatch = codes "ring_and_dispatch"
@@ -10,6 +10,7 @@ name_of TimersFired = codes "timers_fired"
 name_of TimersCancelled = codes "timers_cancelled"
 name_of InsertAndRemove = codes "insert_and_remove"
 name_of IdleDispatch = codes "idle_dispatch"
+name_of ReadableSockets = codes "readable_sockets"
 
 abbrev pub is_named : List ℕ → Kind → Bool
 is_named name kind = pointwise nat_eq (name_of kind) name
@@ -21,11 +22,13 @@ operations_of TimersFired count size = count * size
 operations_of TimersCancelled count size = count
 operations_of InsertAndRemove count size = count
 operations_of IdleDispatch count size = count
+operations_of ReadableSockets count size = count
 
--- how many callbacks a row calls: one for each ring, and one for each timer that fires
+-- how many callbacks a row calls: one for each ring, one for each timer that fires, and one for each socket that a wait tells of
 abbrev pub calls_of : Kind → (count size : ℕ) → ℕ
 calls_of RingAndDispatch count size = count
 calls_of TimersFired count size = count * size
 calls_of TimersCancelled count size = 0
 calls_of InsertAndRemove count size = 0
 calls_of IdleDispatch count size = 0
+calls_of ReadableSockets count size = count * min size 1024

@@ -6,10 +6,11 @@ use anyhow::{Context, Result};
 use calloop::loop_logic::EventLoop;
 use calloop::ping::{Ping, make_ping};
 use calloop::{
-    Asking, Callback, Clock, Dispatcher, Instant, OneOf, PingSource, RegistrationToken, Sources,
-    TimeoutAction, Timer,
+    Asking, Callback, Clock, Dispatcher, Generic, Instant, Interest, Mode, NoIoDrop, OneOf,
+    PingSource, Poller, PostAction, Readiness, RegistrationToken, Sources, TimeoutAction, Timer,
 };
 use std::alloc::Global;
+use std::io;
 use std::sync::Wait;
 use std::time::{self, Duration};
 
@@ -44,18 +45,39 @@ impl<Q: Asking> Callback<Instant, (), TimeoutAction, u64, Q> for Counts {
     }
 }
 
+impl<I, Q: Asking> Callback<Readiness, NoIoDrop<I>, io::Result<PostAction>, u64, Q> for Counts {
+    ghost use Rattle.loop_bench.specs.Counting.{counts_and_stays};
+
+    ghost may = { counts_and_stays };
+
+    // It reads nothing, so the socket stays readable.
+    fn call(
+        &mut self,
+        _readiness: Readiness,
+        _: &mut NoIoDrop<I>,
+        calls: &mut u64,
+        _: &mut Q,
+    ) -> io::Result<PostAction> {
+        *calls = calls.saturating_add(1);
+        Ok(PostAction::Continue)
+    }
+}
+
 /// The sources of the rows, and the count of calls that each dispatch lends.
-pub type Held<R> = Sources<
-    OneOf<Dispatcher<PingSource<R>, Counts>, Dispatcher<Timer, Counts>>,
+pub type Held<P, R> = Sources<
+    OneOf<
+        Dispatcher<PingSource<R>, Counts>,
+        OneOf<Dispatcher<Timer, Counts>, Dispatcher<Generic<P>, Counts>>,
+    >,
     u64,
 >;
 
 /// A loop, the calls of its callbacks, and the time that was measured, in nanoseconds.
 #[derive(Drop)]
-pub struct Bench<P, C, R: Wait + Drop> {
+pub struct Bench<P: Poller, C, R: Wait + Drop> {
     rt: R,
     alloc: Global,
-    pub event_loop: EventLoop<Held<R>, P, C, R>,
+    pub event_loop: EventLoop<Held<P, R>, P, C, R>,
     clock: C,
     pub calls: u64,
     pub nanoseconds: u64,
@@ -138,6 +160,21 @@ impl<P: Measured<C, R>, C: Clock, R: Wait + time::Clock + Clone + Drop> Bench<P,
             pings.push(ping)?;
         }
         Ok(pings)
+    }
+
+    /// Puts so many sockets into the loop, each with a byte to be read: their peers.
+    pub fn insert_sockets(&mut self, size: u32) -> Result<Vec<P::Peer>>
+        ensures calls { self.new.calls ≡ self.old.calls }
+        ensures nanoseconds { self.new.nanoseconds ≡ self.old.nanoseconds }
+    {
+        let mut peers = Vec::new(self.alloc);
+        for _ in 0..size {
+            let (io, peer) = P::readable(&self.rt)?;
+            let source: Generic<P> = Generic::new(io, Interest::READ, Mode::Level);
+            self.event_loop.handle().insert_source(source, Counts)?;
+            peers.push(peer)?;
+        }
+        Ok(peers)
     }
 
     /// Arms a timer for this moment.

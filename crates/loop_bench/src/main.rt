@@ -2,12 +2,13 @@
 #![tactic(auto)]
 
 use anyhow::Result;
-use calloop_core::sys::script::{ScriptClock, ScriptPoller};
+use calloop_core::sys::system::{MioPoller, SystemClock};
 use measured::Measured;
 use request::{Request, read};
 use row::{Kind, Row};
 use std::alloc::Global;
 use std::env;
+use std::net::Net;
 use std::num::NonZeroU32;
 use std::process::ExitCode;
 use std::rt::Runtime;
@@ -20,16 +21,14 @@ mod row;
 mod rows;
 
 // The poller and the clock that the rows run over.
-type RowPoller = ScriptPoller;
+type RowPoller<R> = MioPoller<SystemClock<R>>;
 
-type RowClock = ScriptClock;
-
-fn poller_name<R>() -> &'static str {
-    <RowPoller as Measured<RowClock, R>>::name()
+fn poller_name<R: Runtime + Wait + Net>() -> &'static str {
+    <RowPoller<R> as Measured<SystemClock<R>, R>>::name()
 }
 
-fn measure<R: Runtime + AllocGlobal + Wait>(rt: &R, alloc: Global, row: &Row) -> Result<()> {
-    let nanoseconds = rows::run::<RowPoller, RowClock, R>(rt, alloc, row)?;
+fn measure<R: Runtime + AllocGlobal + Wait + Net>(rt: &R, alloc: Global, row: &Row) -> Result<()> {
+    let nanoseconds = rows::run::<RowPoller<R>, SystemClock<R>, R>(rt, alloc, row)?;
     let per_operation = nanoseconds / row.operations();
     println!(rt;
         "{{\"row\":\"{}\",\"poller\":\"{}\",\"count\":{},\"size\":{},\"nanoseconds\":{nanoseconds},\"per_operation\":{per_operation}}}",
@@ -42,14 +41,14 @@ fn measure<R: Runtime + AllocGlobal + Wait>(rt: &R, alloc: Global, row: &Row) ->
 }
 
 // Each row three times over two sources, without its time.
-fn check<R: Runtime + AllocGlobal + Wait>(rt: &R, alloc: Global) -> Result<()> {
+fn check<R: Runtime + AllocGlobal + Wait + Net>(rt: &R, alloc: Global) -> Result<()> {
     for kind in Kind::ALL {
         let row = Row {
             kind,
             count: NonZeroU32::new(3).unwrap(),
             size: NonZeroU32::new(2).unwrap(),
         };
-        let _nanoseconds = rows::run::<RowPoller, RowClock, R>(rt, alloc, &row)?;
+        let _nanoseconds = rows::run::<RowPoller<R>, SystemClock<R>, R>(rt, alloc, &row)?;
         println!(rt;
             "{{\"row\":\"{}\",\"poller\":\"{}\",\"count\":{},\"size\":{},\"calls\":{}}}",
             kind.name(),
@@ -62,7 +61,7 @@ fn check<R: Runtime + AllocGlobal + Wait>(rt: &R, alloc: Global) -> Result<()> {
     Ok(())
 }
 
-fn run<R: Runtime + AllocGlobal + Wait>(rt: &R, alloc: Global) -> Result<ExitCode> {
+fn run<R: Runtime + AllocGlobal + Wait + Net>(rt: &R, alloc: Global) -> Result<ExitCode> {
     let words: Vec<String> = env::args(rt)?.skip(1).collect(alloc)?;
     match read(&words) {
         Ok(Request::Check) => check(rt, alloc)?,

@@ -1,35 +1,59 @@
 //! The pollers that rows can be measured over.
 use calloop::{Clock, Instant, Poller, Result};
-use calloop_core::sys::script::{ScriptClock, ScriptPoller};
+use calloop_core::sys::system::{MioIo, MioPoller, SystemClock};
+use mio::net::UnixStream;
 use std::alloc::Global;
+use std::io::Write;
+use std::net::Net;
+use std::sync::Wait;
+use std::time::Clock as MachineClock;
 
 /// A poller that rows can be measured over, with its clock.
 pub trait Measured<C: Clock, R>: Poller + Sized {
+    /// The other end of a socket, which has to stay.
+    type Peer: Drop;
+
     /// What the output calls it.
     fn name() -> &'static str;
 
     /// One that nothing is registered with, and its clock.
     fn make(rt: &R, alloc: Global) -> Result<(Self, C)>;
 
+    /// A socket with a byte to be read, and its peer.
+    fn readable(rt: &R) -> Result<(Self::Io, Self::Peer)>;
+
     /// Returns once its clock shows this moment or a later one.
     fn come_to(&mut self, rt: &R, moment: Instant);
 }
 
-/// It gives no events, so each wait returns at once: what is measured is the loop alone.
-impl<R> Measured<ScriptClock, R> for ScriptPoller {
+/// Each dispatch has a call of the system in it.
+impl<R> Measured<SystemClock<R>, R> for MioPoller<SystemClock<R>>
+where
+    R: Net + MachineClock + Wait + Clone + Drop,
+{
+    type Peer = UnixStream;
+
     fn name() -> &'static str {
-        "scripted"
+        "system"
     }
 
-    fn make(_rt: &R, alloc: Global) -> Result<(ScriptPoller, ScriptClock)> {
-        let poller = ScriptPoller::new(alloc)?;
-        let clock = poller.clock()?;
+    fn make(rt: &R, alloc: Global) -> Result<(MioPoller<SystemClock<R>>, SystemClock<R>)> {
+        let clock = SystemClock::new(rt)?;
+        let poller = MioPoller::new(rt, alloc, clock.clone()?)?;
         Ok((poller, clock))
     }
 
-    fn come_to(&mut self, _rt: &R, moment: Instant) {
-        if self.moment() < moment {
-            self.set_clock(moment);
+    fn readable(rt: &R) -> Result<(MioIo, UnixStream)> {
+        let (near, mut far) = UnixStream::pair(rt)?;
+        far.write_all(b"x")?;
+        Ok((MioIo::from(near), far))
+    }
+
+    fn come_to(&mut self, rt: &R, moment: Instant) {
+        for _ in rt.forever() {
+            if self.now() >= moment {
+                return;
+            }
         }
     }
 }

@@ -6,6 +6,9 @@ ghost use Rattle.loop_bench.specs.Rows.{name_of, is_named, operations_of, calls_
 
 use std::num::NonZeroU32;
 
+// The most events of one wait.
+const EVENTS_PER_WAIT: u64 = 1024;
+
 /// What a row measures.
 #[derive(Clone, Copy, Debug, PartialEq, Eq)]
 pub enum Kind {
@@ -19,16 +22,19 @@ pub enum Kind {
     InsertAndRemove,
     /// Dispatches while no timer is due.
     IdleDispatch,
+    /// Dispatches while sockets are readable.
+    ReadableSockets,
 }
 
 impl Kind {
     /// Each of them once, in the order in which they are printed.
-    pub const ALL: [Kind; 5] = [
+    pub const ALL: [Kind; 6] = [
         Kind::RingAndDispatch,
         Kind::TimersFired,
         Kind::TimersCancelled,
         Kind::InsertAndRemove,
         Kind::IdleDispatch,
+        Kind::ReadableSockets,
     ];
 
     /// Its name among the arguments, and in what is printed.
@@ -41,6 +47,7 @@ impl Kind {
             Kind::TimersCancelled => "timers_cancelled",
             Kind::InsertAndRemove => "insert_and_remove",
             Kind::IdleDispatch => "idle_dispatch",
+            Kind::ReadableSockets => "readable_sockets",
         }
     }
 
@@ -80,6 +87,9 @@ impl Row {
     {
         match self.kind {
             Kind::RingAndDispatch | Kind::TimersFired => self.operations(),
+            Kind::ReadableSockets => {
+                u64::from(self.count.get()) * u64::from(self.size.get()).min(EVENTS_PER_WAIT)
+            }
             Kind::TimersCancelled | Kind::InsertAndRemove | Kind::IdleDispatch => 0,
         }
     }

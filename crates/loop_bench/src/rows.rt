@@ -25,6 +25,7 @@ pub fn run<P: Measured<C, R>, C: Clock, R: Wait + time::Clock + Clone + Drop>(
         Kind::TimersCancelled => bench.timers_cancelled(count, size)?,
         Kind::InsertAndRemove => bench.insert_and_remove(count, size)?,
         Kind::IdleDispatch => bench.idle_dispatch(count, size)?,
+        Kind::ReadableSockets => bench.readable_sockets(count, size)?,
     }
     let calls = bench.calls;
     ensure!(
@@ -95,7 +96,7 @@ impl<P: Measured<C, R>, C: Clock, R: Wait + time::Clock + Clone + Drop> Bench<P,
     fn insert_and_remove(&mut self, count: u32, size: u32) -> Result<()> {
         let _standing = self.insert_pings(size)?;
         let (_ping, source) = self.make_ping()?;
-        let mut held: Held<R> = Sources::new(OneOf::First(Dispatcher::new(source, Counts)));
+        let mut held: Held<P, R> = Sources::new(OneOf::First(Dispatcher::new(source, Counts)));
         let began = self.start()?;
         for _ in 0..count {
             let token = self.event_loop.handle().register_dispatcher(held)?;
@@ -110,6 +111,15 @@ impl<P: Measured<C, R>, C: Clock, R: Wait + time::Clock + Clone + Drop> Bench<P,
 
     fn idle_dispatch(&mut self, count: u32, size: u32) -> Result<()> {
         let _far = self.insert_far_timers(size)?;
+        let began = self.start()?;
+        for _ in 0..count {
+            self.dispatch()?;
+        }
+        self.stop(began)
+    }
+
+    fn readable_sockets(&mut self, count: u32, size: u32) -> Result<()> {
+        let _peers = self.insert_sockets(size)?;
         let began = self.start()?;
         for _ in 0..count {
             self.dispatch()?;
