@@ -1,14 +1,14 @@
 -- What the callbacks of the rows do.
 use Rattle.std.specs.Prelude.{◌≡◌, ℕ, ◌+◌, ◌-◌, ◌^◌, min, Result, Ok}
 use Rattle.calloop_wake.specs.declared.wheel.Instant.{Instant}
-use Rattle.std.specs.declared.io.Error.{Error}
-use Rattle.calloop_core.specs.declared.generic.NoIoDrop.{NoIoDrop}
-use Rattle.calloop_core.specs.declared.sources.PostAction.{PostAction}
-use Rattle.calloop_core.specs.declared.sources.PostAction.TheVariants.{Continue}
-use Rattle.calloop_core.specs.declared.sys.Readiness.{Readiness}
 use Rattle.calloop_core.specs.declared.timer.TimeoutAction.{TimeoutAction}
 use Rattle.calloop_core.specs.declared.timer.TimeoutAction.TheVariants.{Drop}
 use Rattle.loop_bench.specs.declared.bench.Counts.{Counts}
+use Rattle.std.specs.declared.io.Error.{Error as Cause}
+use Rattle.calloop_core.specs.declared.sys.Readiness.{Readiness}
+use Rattle.calloop_core.specs.declared.sources.PostAction.{PostAction}
+use Rattle.calloop_core.specs.declared.sources.PostAction.TheVariants.{Continue}
+use Rattle.calloop_core.specs.declared.generic.NoIoDrop.{NoIoDrop}
 
 -- one more call, up to the greatest number of 64 bits
 abbrev pub counted : ℕ → ℕ
@@ -25,8 +25,8 @@ abbrev pub counts_and_leaves : {Q : Type 0} → Counts → Instant → Unit {0} 
 counts_and_leaves callback deadline metadata calls asked answer after metadata' calls' asked' =
     (answer ≡ Drop) × (calls' ≡ counted calls)
 
--- each call of a socket, too, which stays in the loop
-abbrev pub counts_and_stays : {T Q : Type 0} → Counts → Readiness → NoIoDrop T → ℕ → Q → Result PostAction Error
-    → Counts → NoIoDrop T → ℕ → Q → Type 0
+-- each call of a socket, too, which goes on, and is left as it is
+abbrev pub counts_and_stays : {I Q : Type 0} → Counts → Readiness → NoIoDrop I → ℕ → Q → Result PostAction Cause
+    → Counts → NoIoDrop I → ℕ → Q → Type 0
 counts_and_stays callback readiness io calls asked answer after io' calls' asked' =
-    (answer ≡ Ok Continue) × (calls' ≡ counted calls)
+    (answer ≡ Ok Continue) × (io' ≡ io) × (calls' ≡ counted calls)

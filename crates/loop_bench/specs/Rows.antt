@@ -1,5 +1,5 @@
 -- The rows: how they are called, and what they count. Calloop has no such program.
-use Rattle.std.specs.Prelude.{ℕ, ◌*◌, Bool, List, nat_eq, min, codes}
+use Rattle.std.specs.Prelude.{ℕ, ◌*◌, min, Bool, List, nat_eq, codes}
 use Rattle.std.specs.Cmp.Lexicographic.{pointwise}
 use Rattle.loop_bench.specs.declared.row.Kind.{Kind}
 use Rattle.loop_bench.specs.declared.row.Kind.TheVariants.{RingAndDispatch, TimersFired, TimersCancelled, InsertAndRemove, IdleDispatch, ReadableSockets}
@@ -15,17 +15,16 @@ name_of ReadableSockets = codes "readable_sockets"
 abbrev pub is_named : List ℕ → Kind → Bool
 is_named name kind = pointwise nat_eq (name_of kind) name
 
--- in how many steps the time of a row is divided: each timer that fires is one, and each call for a socket
+-- in how many steps the time of a row is divided: each timer that fires is one
 abbrev pub operations_of : Kind → (count size : ℕ) → ℕ
 operations_of RingAndDispatch count size = count
 operations_of TimersFired count size = count * size
 operations_of TimersCancelled count size = count
 operations_of InsertAndRemove count size = count
 operations_of IdleDispatch count size = count
-operations_of ReadableSockets count size = count * min size 1024
+operations_of ReadableSockets count size = count
 
--- how many callbacks a row calls: one for each ring, for each timer that fires, and for each socket that a wait told of, of which
--- it tells at most 1,024 times
+-- how many callbacks a row calls: one for each ring, one for each timer that fires, and one for each socket that a wait tells of
 abbrev pub calls_of : Kind → (count size : ℕ) → ℕ
 calls_of RingAndDispatch count size = count
 calls_of TimersFired count size = count * size

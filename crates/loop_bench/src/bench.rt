@@ -45,15 +45,16 @@ impl<Q: Asking> Callback<Instant, (), TimeoutAction, u64, Q> for Counts {
     }
 }
 
-impl<T, Q: Asking> Callback<Readiness, NoIoDrop<T>, io::Result<PostAction>, u64, Q> for Counts {
+impl<I, Q: Asking> Callback<Readiness, NoIoDrop<I>, io::Result<PostAction>, u64, Q> for Counts {
     ghost use Rattle.loop_bench.specs.Counting.{counts_and_stays};
 
     ghost may = { counts_and_stays };
 
+    // It reads nothing, so the socket stays readable.
     fn call(
         &mut self,
         _readiness: Readiness,
-        _io: &mut NoIoDrop<T>,
+        _: &mut NoIoDrop<I>,
         calls: &mut u64,
         _: &mut Q,
     ) -> io::Result<PostAction> {
@@ -66,7 +67,7 @@ impl<T, Q: Asking> Callback<Readiness, NoIoDrop<T>, io::Result<PostAction>, u64,
 pub type Held<P, R> = Sources<
     OneOf<
         Dispatcher<PingSource<R>, Counts>,
-        OneOf<Dispatcher<Generic<P>, Counts>, Dispatcher<Timer, Counts>>,
+        OneOf<Dispatcher<Timer, Counts>, Dispatcher<Generic<P>, Counts>>,
     >,
     u64,
 >;
@@ -161,20 +162,19 @@ impl<P: Measured<C, R>, C: Clock, R: Wait + time::Clock + Clone + Drop> Bench<P,
         Ok(pings)
     }
 
-    /// Puts so many sockets into the loop that can be read, and gives their other ends.
-    pub fn insert_sockets(&mut self, size: u32) -> Result<Vec<P::Io>>
-        ensures sockets { IfOk result (λ ends. vec_len ends ≡ size) }
+    /// Puts so many sockets into the loop, each with a byte to be read: their peers.
+    pub fn insert_sockets(&mut self, size: u32) -> Result<Vec<P::Peer>>
         ensures calls { self.new.calls ≡ self.old.calls }
         ensures nanoseconds { self.new.nanoseconds ≡ self.old.nanoseconds }
     {
-        let mut ends = Vec::new(self.alloc);
+        let mut peers = Vec::new(self.alloc);
         for _ in 0..size {
-            let (near, far) = P::readable(&self.rt)?;
-            let source = Generic::new(near, Interest::READ, Mode::Level);
+            let (io, peer) = P::readable(&self.rt)?;
+            let source: Generic<P> = Generic::new(io, Interest::READ, Mode::Level);
             self.event_loop.handle().insert_source(source, Counts)?;
-            ends.push(far)?;
+            peers.push(peer)?;
         }
-        Ok(ends)
+        Ok(peers)
     }
 
     /// Arms a timer for this moment.

@@ -2,8 +2,6 @@
 #![tactic(auto)]
 
 use anyhow::Result;
-use calloop::Clock;
-use calloop_core::sys::script::{ScriptClock, ScriptPoller};
 use calloop_core::sys::system::{MioPoller, SystemClock};
 use measured::Measured;
 use request::{Request, read};
@@ -22,44 +20,39 @@ mod request;
 mod row;
 mod rows;
 
-type System<R> = MioPoller<SystemClock<R>>;
+// The poller and the clock that the rows run over.
+type RowPoller<R> = MioPoller<SystemClock<R>>;
 
-fn measure<P, C, R>(rt: &R, alloc: Global, row: &Row) -> Result<()>
-where
-    P: Measured<C, R>,
-    C: Clock,
-    R: Runtime + Wait,
-{
-    let nanoseconds = rows::run::<P, C, R>(rt, alloc, row)?;
+fn poller_name<R: Runtime + Wait + Net>() -> &'static str {
+    <RowPoller<R> as Measured<SystemClock<R>, R>>::name()
+}
+
+fn measure<R: Runtime + AllocGlobal + Wait + Net>(rt: &R, alloc: Global, row: &Row) -> Result<()> {
+    let nanoseconds = rows::run::<RowPoller<R>, SystemClock<R>, R>(rt, alloc, row)?;
     let per_operation = nanoseconds / row.operations();
     println!(rt;
         "{{\"row\":\"{}\",\"poller\":\"{}\",\"count\":{},\"size\":{},\"nanoseconds\":{nanoseconds},\"per_operation\":{per_operation}}}",
         row.kind.name(),
-        P::name(),
+        poller_name::<R>(),
         row.count.get(),
         row.size.get()
     )?;
     Ok(())
 }
 
-// Each of these kinds three times over two sources, without its time.
-fn check<P, C, R>(rt: &R, alloc: Global, kinds: &[Kind]) -> Result<()>
-where
-    P: Measured<C, R>,
-    C: Clock,
-    R: Runtime + Wait,
-{
-    for kind in kinds {
+// Each row three times over two sources, without its time.
+fn check<R: Runtime + AllocGlobal + Wait + Net>(rt: &R, alloc: Global) -> Result<()> {
+    for kind in Kind::ALL {
         let row = Row {
-            kind: *kind,
+            kind,
             count: NonZeroU32::new(3).unwrap(),
             size: NonZeroU32::new(2).unwrap(),
         };
-        let _nanoseconds = rows::run::<P, C, R>(rt, alloc, &row)?;
+        let _nanoseconds = rows::run::<RowPoller<R>, SystemClock<R>, R>(rt, alloc, &row)?;
         println!(rt;
             "{{\"row\":\"{}\",\"poller\":\"{}\",\"count\":{},\"size\":{},\"calls\":{}}}",
             kind.name(),
-            P::name(),
+            poller_name::<R>(),
             row.count.get(),
             row.size.get(),
             row.calls()
@@ -71,14 +64,8 @@ where
 fn run<R: Runtime + AllocGlobal + Wait + Net>(rt: &R, alloc: Global) -> Result<ExitCode> {
     let words: Vec<String> = env::args(rt)?.skip(1).collect(alloc)?;
     match read(&words) {
-        Ok(Request::Check) => {
-            check::<System<R>, SystemClock<R>, R>(rt, alloc, &Kind::ALL)?;
-            check::<ScriptPoller, ScriptClock, R>(rt, alloc, &Kind::WITHOUT_SOCKETS)?;
-        }
-        Ok(Request::Measure(row)) => measure::<System<R>, SystemClock<R>, R>(rt, alloc, &row)?,
-        Ok(Request::MeasureScripted(row)) => {
-            measure::<ScriptPoller, ScriptClock, R>(rt, alloc, &row)?
-        }
+        Ok(Request::Check) => check(rt, alloc)?,
+        Ok(Request::Measure(row)) => measure(rt, alloc, &row)?,
         Err(unreadable) => {
             eprintln!(rt; "loop_bench: {unreadable}")?;
             return Ok(ExitCode::from(2));

@@ -14,16 +14,14 @@ use std::num::NonZeroU32;
 pub enum Request {
     /// Runs each kind of row a few times, and prints no times.
     Check,
-    /// Measures a row over the poller of the operating system.
+    /// Measures a row.
     Measure(Row),
-    /// Measures a row over the scripted poller.
-    MeasureScripted(Row),
 }
 
 /// Why the arguments can't be read.
 #[derive(Clone, Copy, Debug)]
 pub enum Unreadable<'a> {
-    /// There are neither three words, nor `scripted` before three, nor the one word `check`.
+    /// There are neither three words nor the one word `check`.
     Usage,
     /// No row has this name.
     Row(&'a str),
@@ -34,10 +32,7 @@ pub enum Unreadable<'a> {
 impl fmt::Display for Unreadable<'_> {
     fn fmt<W: fmt::Write>(&self, f: &mut fmt::Formatter<W>) -> fmt::Result {
         match self {
-            Unreadable::Usage => write!(
-                f,
-                "usage: loop_bench [scripted] ROW COUNT SIZE, or loop_bench check"
-            ),
+            Unreadable::Usage => write!(f, "usage: loop_bench ROW COUNT SIZE, or loop_bench check"),
             Unreadable::Row(word) => write!(f, "no row has the name {word:?}"),
             Unreadable::Number(word) => write!(
                 f,
@@ -84,12 +79,6 @@ pub fn read(words: &[String]) -> Result<Request, Unreadable<'_>>
             Ok(row) => Ok(Request::Measure(row)),
             Err(unreadable) => Err(unreadable),
         },
-        [poller, kind, count, size] if poller.as_str() == "scripted" => {
-            match row(kind.as_str(), count.as_str(), size.as_str()) {
-                Ok(row) => Ok(Request::MeasureScripted(row)),
-                Err(unreadable) => Err(unreadable),
-            }
-        }
         _ => Err(Unreadable::Usage),
     }
 }

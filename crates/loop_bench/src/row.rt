@@ -6,6 +6,9 @@ ghost use Rattle.loop_bench.specs.Rows.{name_of, is_named, operations_of, calls_
 
 use std::num::NonZeroU32;
 
+// The most events of one wait.
+const EVENTS_PER_WAIT: u64 = 1024;
+
 /// What a row measures.
 #[derive(Clone, Copy, Debug, PartialEq, Eq)]
 pub enum Kind {
@@ -19,7 +22,7 @@ pub enum Kind {
     InsertAndRemove,
     /// Dispatches while no timer is due.
     IdleDispatch,
-    /// Dispatches while sockets can be read.
+    /// Dispatches while sockets are readable.
     ReadableSockets,
 }
 
@@ -32,15 +35,6 @@ impl Kind {
         Kind::InsertAndRemove,
         Kind::IdleDispatch,
         Kind::ReadableSockets,
-    ];
-
-    /// Those in which nothing is read.
-    pub const WITHOUT_SOCKETS: [Kind; 5] = [
-        Kind::RingAndDispatch,
-        Kind::TimersFired,
-        Kind::TimersCancelled,
-        Kind::InsertAndRemove,
-        Kind::IdleDispatch,
     ];
 
     /// Its name among the arguments, and in what is printed.
@@ -75,26 +69,27 @@ pub struct Row {
 }
 
 impl Row {
-    /// In how many steps its time is divided: each timer that fires is one, and each call for a socket.
+    /// In how many steps its time is divided: each timer that fires is one.
     pub fn operations(&self) -> u64
         ensures value { result ≡ operations_of self.now.kind (non_zero_u32_get self.now.count) (non_zero_u32_get self.now.size) }
         ensures nonzero { 0 < result }
     {
         let count = u64::from(self.count.get());
-        let size = u64::from(self.size.get());
         match self.kind {
-            Kind::TimersFired => count * size,
-            Kind::ReadableSockets => count * size.min(1024),
+            Kind::TimersFired => count * u64::from(self.size.get()),
             _ => count,
         }
     }
 
-    /// How many callbacks it has to call. A wait gives at most 1,024 events.
+    /// How many callbacks it has to call.
     pub fn calls(&self) -> u64
         ensures { result ≡ calls_of self.now.kind (non_zero_u32_get self.now.count) (non_zero_u32_get self.now.size) }
     {
         match self.kind {
-            Kind::RingAndDispatch | Kind::TimersFired | Kind::ReadableSockets => self.operations(),
+            Kind::RingAndDispatch | Kind::TimersFired => self.operations(),
+            Kind::ReadableSockets => {
+                u64::from(self.count.get()) * u64::from(self.size.get()).min(EVENTS_PER_WAIT)
+            }
             Kind::TimersCancelled | Kind::InsertAndRemove | Kind::IdleDispatch => 0,
         }
     }

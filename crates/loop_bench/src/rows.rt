@@ -111,15 +111,15 @@ impl<P: Measured<C, R>, C: Clock, R: Wait + time::Clock + Clone + Drop> Bench<P,
 
     fn idle_dispatch(&mut self, count: u32, size: u32) -> Result<()> {
         let _far = self.insert_far_timers(size)?;
-        self.dispatch_often(count)
+        let began = self.start()?;
+        for _ in 0..count {
+            self.dispatch()?;
+        }
+        self.stop(began)
     }
 
     fn readable_sockets(&mut self, count: u32, size: u32) -> Result<()> {
-        let _ends = self.insert_sockets(size)?;
-        self.dispatch_often(count)
-    }
-
-    fn dispatch_often(&mut self, count: u32) -> Result<()> {
+        let _peers = self.insert_sockets(size)?;
         let began = self.start()?;
         for _ in 0..count {
             self.dispatch()?;
