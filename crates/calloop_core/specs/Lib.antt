@@ -10,6 +10,7 @@ pub mod Holdings
 pub mod Registering
 pub mod Hubs
 pub mod Keys
+pub mod WrongSteps
 pub mod Meanings
 pub mod Lawful
 pub mod Timers

@@ -1,5 +1,5 @@
 //! The table of sockets.
-ghost use Rattle.std.specs.Prelude.{◌≡◌, ◌+◌, true, false, nat_eq, ℕ, List};
+ghost use Rattle.std.specs.Prelude.{◌≡◌, ◌+◌, true, false, nat_eq, ℕ, List, [], Some};
 ghost use Rattle.calloop_wake.specs.Tokens.{key_of};
 ghost use Rattle.calloop_core.specs.Tables.{Called, CalledFor, call_for, is_known, watched_at, is_in, Enter, Change, Leave};
 ghost use Rattle.calloop_core.specs.Polls.{poll_view};
@@ -7,6 +7,7 @@ ghost use Rattle.calloop_core.specs.Registering.{DidEdit};
 ghost use Rattle.calloop_wake.specs.declared.token.RegistrationToken.{RegistrationToken};
 ghost use Rattle.calloop_core.specs.Polls.{PollView, PollStep, polls_after};
 ghost use Rattle.calloop_core.specs.Keys.{IsKeyOf, AllActFor};
+ghost use Rattle.calloop_core.specs.WrongSteps.{first_registration, token_of_second, to_be_read, enters_second};
 
 use super::Poll;
 use crate::sys::{Interest, Mode, Poller, Watched};
@@ -175,4 +176,11 @@ impl<P: Poller, C, R: Wait + Drop> Poll<P, C, R> {
 pub fn other_keys_stay<P>()
     ensures { (registration : RegistrationToken) (key : ℕ) (v : PollView P) (steps : List (PollStep P))
         → ¬ IsKeyOf registration key → AllActFor registration steps → watched_at key (polls_after v steps).table ≡ watched_at key v.table }
+{}
+
+/// A case that this rules out: a socket that is entered under a key of the second slot. It doesn't act for the registration in the
+/// first one, and that key waits for something then.
+pub fn wrong_steps_are_ruled_out<P>()
+    ensures elsewhere { (after : P) → ¬ AllActFor first_registration (enters_second after) }
+    ensures changed { (v : PollView P) (after : P) → v.table ≡ [] → watched_at (key_of token_of_second) (polls_after v (enters_second after)).table ≡ Some to_be_read }
 {}
