@@ -1,7 +1,9 @@
 //! How often a socket hears of what it is ready for.
 use super::{Desk, GOES_ON, KEY};
 use calloop::{Interest, Mode};
+use calloop_core::sys::poll::table::{other_keys_stay, wrong_steps_are_ruled_out};
 use calloop_core::sys::script::ScriptCall::{Add, Delete, Modify};
+use calloop_core::sys::script::ScriptPoller;
 
 #[test]
 fn level_tells_the_poller_again_after_each_call(rt: HostRuntime) {
@@ -74,6 +76,17 @@ fn an_update_takes_up_the_interest_that_was_set(rt: HostRuntime) {
     assert!(rt; desk.called(&[Add(1, KEY, Interest::READ)]));
     assert!(rt; desk.event_loop.handle().update(&token).is_ok());
     assert!(rt; desk.called(&[Add(1, KEY, Interest::READ), Modify(1, KEY, Interest::BOTH)]));
+}
+
+#[test]
+fn one_socket_leaves_the_key_of_another_alone(rt: HostRuntime) {
+    other_keys_stay::<ScriptPoller>();
+    wrong_steps_are_ruled_out::<ScriptPoller>();
+    let mut desk = Desk::new(&rt, rt.alloc());
+    let token = desk.socket(Interest::READ, Mode::Edge, GOES_ON);
+    desk.socket(Interest::READ, Mode::Edge, GOES_ON);
+    assert!(rt; desk.event_loop.handle().remove(token).is_some());
+    assert!(rt; desk.hears(super::SECOND, &[1]));
 }
 
 #[test]
