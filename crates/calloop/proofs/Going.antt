@@ -11,7 +11,7 @@ use Rattle.calloop_wake.specs.Slots.{changed, with_content, named, source_of, is
 use Rattle.calloop_wake.proofs.Named.{source_is, named_slot, turn_ended, named_changed}
 use Rattle.calloop_core.specs.declared.sys.poll.Pending.{Pending}
 use Rattle.calloop_core.specs.declared.sources.PostAction.{PostAction}
-use Rattle.calloop_core.specs.declared.sources.PostAction.TheVariants.{Remove}
+use Rattle.calloop_core.specs.declared.sources.PostAction.TheVariants.{Continue, Remove}
 use Rattle.calloop_wake.specs.declared.token.Token.{Token}
 use Rattle.calloop_core.specs.declared.sys.Readiness.{Readiness}
 use Rattle.calloop_core.specs.Pollers.{Outside}
@@ -20,11 +20,16 @@ use Rattle.calloop_core.specs.Events.{events_of}
 use Rattle.calloop_core.specs.Polls.{PollView, PollStep, polling, watching, counted, with_pass, cut, cut_from, begun, tail_of, head_of, poll_after, polls_after, TakePass, PutBack, Arm, ArmAgain, Cancel, Call, ReadClock, Socket, Fault}
 use Rattle.calloop_core.specs.Deeds.{Turned, Unregistered, Slept, Noticed, Lent, lent}
 use Rattle.calloop_core.specs.Meanings.{Meaning, Does}
-use Rattle.calloop.specs.Held.{HeldStep, Unlisted}
+use Rattle.calloop.specs.declared.loop_logic.asks.Answer.TheVariants.{Removed as RemovedAnswer}
+use Rattle.calloop.specs.declared.loop_logic.asks.Asked.{Asked}
+use Rattle.calloop.specs.declared.loop_logic.asks.Idling.{Idling as Waiter}
+use Rattle.calloop.specs.Held.{HeldStep, Unlisted, Pend, Asking, Paid, Cleared, IdlesTaken, IdleBegun, held_after}
+use Rattle.calloop.specs.Askings.{Asks, AskStep, Runs, Reaches, asks_after, cleared, idle_begun, running_of}
 use Rattle.calloop.specs.Machine.{View, Change, Put, Polls, Polling, Watching, Counting, Holds, Gathered, Cut, Ended, all_viewed, AllFit, IsFull}
-use Rattle.calloop.specs.Rules.{Goes, Steps, Step, Doing, Beginning, Sleeping, Waiting, Gathering, Noticing, Cutting, Ending, Returning, Leaving, Outcome, ByOne, left, traced, told_in, SleptAs, SleptBy, NoticedBy, ActedBy, ReturnedTo, emptied, after_turn as after, CutTo, CutFrom, DispatchedBy, Did}
+use Rattle.calloop.specs.Rules.{Goes, Steps, Step, Doing, Beginning, Sleeping, Waiting, Gathering, Noticing, Cutting, Serving, Ending, Returning, Idling, RunningIdles, ServingIdle, Leaving, Outcome, ByOne, left, traced, told_in, SleptAs, SleptBy, NoticedBy, ActedBy, ReturnedTo, emptied, after_turn as after, CutTo, CutFrom, ServedFrom, RunFrom, action_of, DispatchedBy, Did}
+use Rattle.calloop.specs.Serving.{FirstServed, AllServed}
 
-traced-append : {D P : Type 0} (v : View D P) (css dss : List (List (Change D P))) → traced v (css ++ dss) ≡ traced (traced v css) dss
+traced-append : {D I P : Type 0} (v : View D I P) (css dss : List (List (Change D I P))) → traced v (css ++ dss) ≡ traced (traced v css) dss
 traced-append v [] dss = refl
 traced-append v (cs ∷ css) dss = traced-append (all_viewed v cs) css dss
 
@@ -75,119 +80,177 @@ not_in_turn false d e h = (refl, cc)
 pub full_named : {D : Type 0} (slots : List (Slot D)) (token : RegistrationToken) → is_empty (named slots token) ≡ false → IsFull slots token.slot
 full_named slots token e = let s = named_slot slots token e in (s.0, s.1, sym (ap is_empty s.3) ∙ e)
 
-module _ {D P X Q : Type 0} (M : Meaning D P (Lent X Q)) (O : Outside P) where
-  steps-append : (v : View D P) (a b c : Doing D X) (css dss : List (List (Change D P))) → Steps M O v a css b → Steps M O (traced v css) b dss c → Steps M O v a (css ++ dss) c
+module _ {D I P X : Type 0} (M : Meaning D P (Lent X (Asks D I))) (runs : Runs D I X) (O : Outside P) where
+  steps-append : (v : View D I P) (a b c : Doing D X) (css dss : List (List (Change D I P))) → Steps M runs O v a css b → Steps M runs O (traced v css) b dss c → Steps M runs O v a (css ++ dss) c
   steps-append v a b c [] dss h k = rw (← h) k
   steps-append v a b c (cs ∷ css) dss h k = (h.0, h.1, h.2, steps-append (all_viewed v cs) h.0 b c css dss h.3 k)
 
   -- one after the other
-  pub goes_on : (a b c : Doing D X) (v u t : View D P) → Goes M O a b v u → Goes M O b c u t → Goes M O a c v t
+  pub goes_on : (a b c : Doing D X) (v u t : View D I P) → Goes M runs O a b v u → Goes M runs O b c u t → Goes M runs O a c v t
   goes_on a b c v u t h k = (
     h.0 ++ k.0,
-    steps-append v a b c h.0 k.0 h.1 (subst (λ (x : View D P). Steps M O x b k.0 c) h.2 k.1),
-    k.2 ∙ ap (λ (x : View D P). traced x k.0) h.2 ∙ sym (traced-append v h.0 k.0),
+    steps-append v a b c h.0 k.0 h.1 (subst (λ (x : View D I P). Steps M runs O x b k.0 c) h.2 k.1),
+    k.2 ∙ ap (λ (x : View D I P). traced x k.0) h.2 ∙ sym (traced-append v h.0 k.0),
   )
 
   -- to what is the same
-  pub goes_to : (a b : Doing D X) (v u t : View D P) → t ≡ u → Goes M O a b v u → Goes M O a b v t
+  pub goes_to : (a b : Doing D X) (v u t : View D I P) → t ≡ u → Goes M runs O a b v u → Goes M runs O a b v t
   goes_to a b v u t e h = (h.0, h.1, e ∙ h.2)
 
-  pub goes_nowhere : (a : Doing D X) (v : View D P) → Goes M O a a v v
+  pub goes_nowhere : (a : Doing D X) (v : View D I P) → Goes M runs O a a v v
   goes_nowhere a v = ([], refl, refl)
 
   -- one step
-  pub goes_by : (a b : Doing D X) (cs : List (Change D P)) (v u : View D P) → Step M O v a cs b → AllFit O v cs → u ≡ all_viewed v cs → Goes M O a b v u
+  pub goes_by : (a b : Doing D X) (cs : List (Change D I P)) (v u : View D I P) → Step M runs O v a cs b → AllFit O v cs → u ≡ all_viewed v cs → Goes M runs O a b v u
   goes_by a b cs v u step fit is = (cs ∷ [], (b, step, fit, refl), is)
 
+  first_from : (asked : List (Asked D I)) (on next : Doing D X) (v : View D I P) (cs : List (Change D I P)) → FirstServed M asked v cs → ServedFrom M asked on next on v cs
+  first_from [] on next v cs h = absurd h
+  first_from (a ∷ as') on next v cs h = (h.0, h.1, h.2, refl)
+
+  none_running : (idles : List (Waiter I)) (x : X) (v : View D I P) → None ≡ running_of idles → RunFrom runs idles v x [] (Leaving (Ok tt) x)
+  none_running [] x v none = (refl, refl)
+  none_running (i ∷ is) x v none = cc
+
+  one_running : (idles : List (Waiter I)) (x x' : X) (v : View D I P) (idle : I) (asked : List (AskStep D I)) → Some idle ≡ running_of idles → runs idle x (idle_begun v.held.asks) x' (asks_after (idle_begun v.held.asks) asked)
+      → RunFrom runs idles v x (Holds IdleBegun ∷ Holds (Asking asked) ∷ []) (ServingIdle x')
+  one_running [] x x' v idle asked first ran = cc
+  one_running (i ∷ is) x x' v idle asked first ran = (let same : idle ≡ i.idle = cc in (x', asked, subst (λ (j : I). runs j x (idle_begun v.held.asks) x' (asks_after (idle_begun v.held.asks) asked)) same ran, refl, refl))
+
+  -- nothing is pending any more
+  abbrev pub still_v : View D I P → View D I P
+  still_v v = record v { held = held_after v.held (Pend Continue) }
+
   -- room for the batch
-  pub begun_with : (v : View D P) (places : ℕ) (timeout : Option ℕ) (x : X) → Goes M O (Beginning timeout x) (Sleeping timeout v.held.lifecycle x) v (record v { poll = counted places v.poll })
-  begun_with v places timeout x = goes_by (Beginning timeout x) (Sleeping timeout v.held.lifecycle x) (Counting places ∷ []) v (record v { poll = counted places v.poll }) (places, refl, refl) (tt, tt) refl
+  abbrev pub ready : (places : ℕ) → View D I P → View D I P
+  ready places v = record v { poll = counted places v.poll; held = held_after v.held Cleared }
+
+  pub begun_with : (v : View D I P) (places : ℕ) (timeout : Option ℕ) (x : X) → Goes M runs O (Beginning timeout x) (Sleeping timeout v.held.lifecycle x) v (ready places v)
+  begun_with v places timeout x = goes_by (Beginning timeout x) (Sleeping timeout v.held.lifecycle x) (Counting places ∷ Holds Cleared ∷ []) v (ready places v) (places, refl, refl) (tt, (tt, tt)) refl
+
+  -- and what follows
+  pub begun_then : (v u : View D I P) (places : ℕ) (p' : PollView P) (asked : Asks D I) (timeout : Option ℕ) (x : X) (b : Doing D X) → p' ≡ counted places v.poll → asked ≡ cleared v.held.asks
+      → Goes M runs O (Sleeping timeout v.held.lifecycle x) b (record v { poll = p'; held = record v.held { asks = asked } }) u → Goes M runs O (Beginning timeout x) b v u
+  begun_then v u places p' asked timeout x b polls asks h =
+      let a : Doing D X = Sleeping timeout v.held.lifecycle x in
+      let now : View D I P = record v { poll = p'; held = record v.held { asks = asked } } in
+      goes_on (Beginning timeout x) a b v now u
+      (goes_to (Beginning timeout x) a v (ready places v) now (ap (λ (q : PollView P). record v { poll = q; held = record v.held { asks = asked } }) polls ∙ ap (λ (r : Asks D I). record v { poll = counted places v.poll; held = record v.held { asks = r } }) asks) (begun_with v places timeout x)) h
 
   -- the wait and the gathering
-  pub polled : (v : View D P) (p' : PollView P) (timeout : Option ℕ) (x : X) → Polled O timeout (Ok tt) v.poll p' → Goes M O (Waiting timeout x) (Noticing (length v.poll.batch) v.held.lifecycle x) v (record v { poll = p' })
+  pub polled : (v : View D I P) (p' : PollView P) (timeout : Option ℕ) (x : X) → Polled O timeout (Ok tt) v.poll p' → Goes M runs O (Waiting timeout x) (Noticing (length v.poll.batch) v.held.lifecycle x) v (record v { poll = p' })
   polled v p' timeout x h =
       let now = h.0 in
       let given = h.1 in
       let p = h.2 in
       let w = h.3 in
-      let u : View D P = record v { poll = watching w (polling p v.poll) } in
+      let u : View D I P = record v { poll = watching w (polling p v.poll) } in
       let told : Doing D X = Noticing (length v.poll.batch) v.held.lifecycle x in
       goes_on (Waiting timeout x) (Gathering now given x) told v u (record v { poll = p' })
       (goes_by (Waiting timeout x) (Gathering now given x) (Polling p ∷ Watching w ∷ []) v u (Ok now, given, p, w, h.4, refl, refl) (tt, (tt, tt)) refl)
       (goes_by (Gathering now given x) told (Gathered h.5 given now ∷ []) u (record v { poll = p' }) (h.5, refl, refl) (h.6, tt)
       (ap (λ (q : PollView P). record v { poll = q }) h.7))
 
-  pub not_polled : (v : View D P) (p' : PollView P) (timeout : Option ℕ) (x : X) (e : Error) → Polled O timeout (Err e) v.poll p' → Goes M O (Waiting timeout x) (Leaving (Err e) x) v (record v { poll = p' })
+  pub not_polled : (v : View D I P) (p' : PollView P) (timeout : Option ℕ) (x : X) (e : Error) → Polled O timeout (Err e) v.poll p' → Goes M runs O (Waiting timeout x) (Leaving (Err e) x) v (record v { poll = p' })
   not_polled v p' timeout x e h =
       goes_by (Waiting timeout x) (Leaving (Err e) x) (Polling h.1 ∷ Watching h.2 ∷ []) v (record v { poll = p' }) (Err h.3, h.0, h.1, h.2, h.5, refl, ap (λ (r : Error). Leaving (Err r) x) h.4) (tt, (tt, tt))
       (ap (λ (q : PollView P). record v { poll = q }) h.6)
 
   -- a batch without events
-  pub no_event : (v : View D P) (x : X) → None ≡ head_of v.poll.batch → Goes M O (Cutting x) (Leaving (Ok tt) x) v (record v { poll = cut v.poll })
+  pub no_event : (v : View D I P) (x : X) → None ≡ head_of v.poll.batch → Goes M runs O (Cutting x) (Idling x) v (record v { poll = cut v.poll })
   no_event v x none =
       let nil : v.poll.batch ≡ [] = nil_of_head v.poll.batch none in
-      goes_by (Cutting x) (Leaving (Ok tt) x) [] v (record v { poll = cut v.poll }) (rw nil (refl, refl)) tt (ap (λ es. record v { poll = cut_from es v.poll }) nil)
+      goes_by (Cutting x) (Idling x) [] v (record v { poll = cut v.poll }) (rw nil (refl, refl)) tt (ap (λ es. record v { poll = cut_from es v.poll }) nil)
 
-  from_cons : (es rest : List Pending) (e : Pending) (v : View D P) (x : X) (cs : List (Change D P)) (b : Doing D X) → es ≡ e ∷ rest → CutTo M e (named v.slots (registration_of e.token)) v x cs b → CutFrom M es v x cs b
+  from_cons : (es rest : List Pending) (e : Pending) (v : View D I P) (x : X) (cs : List (Change D I P)) (b : Doing D X) → es ≡ e ∷ rest → CutTo M e (named v.slots (registration_of e.token)) v x cs b → CutFrom M es v x cs b
   from_cons es rest e v x cs b is h = rw is h
 
-  none_named : (e : Pending) (v : View D P) (x : X) (c : Content D) → None ≡ source_of c → CutTo M e c v x (Cut None ∷ Ended ∷ []) (Cutting x)
+  none_named : (e : Pending) (v : View D I P) (x : X) (c : Content D) → None ≡ source_of c → CutTo M e c v x (Cut None ∷ Ended ∷ []) (Cutting x)
   none_named e v x Vacant h = (refl, refl)
   none_named e v x InTurn h = (refl, refl)
   none_named e v x (Source d) h = cc
 
   -- an event whose token names no source
-  pub cut_none : (e : Pending) (v : View D P) (x : X) → Some e ≡ head_of v.poll.batch → None ≡ source_of (named v.slots (registration_of e.token))
-      → Goes M O (Cutting x) (Cutting x) v (record v { poll = with_pass None (cut v.poll) })
+  pub cut_none : (e : Pending) (v : View D I P) (x : X) → Some e ≡ head_of v.poll.batch → None ≡ source_of (named v.slots (registration_of e.token))
+      → Goes M runs O (Cutting x) (Cutting x) v (record v { poll = with_pass None (cut v.poll) })
   cut_none e v x first none =
       let f = cons_of_head v.poll.batch e first in
       goes_by (Cutting x) (Cutting x) (Cut None ∷ Ended ∷ []) v (record v { poll = with_pass None (cut v.poll) })
       (from_cons v.poll.batch f.0 e v x (Cut None ∷ Ended ∷ []) (Cutting x) f.1 (none_named e v x (named v.slots (registration_of e.token)) none)) (tt, (tt, tt)) refl
 
   -- an event whose token names a source has its turn
-  pub turned : (e : Pending) (v : View D P) (d d' : D) (answer : Result PostAction Error) (q p' : PollView P) (x x' : X) (y y' : Q) → Some e ≡ head_of v.poll.batch → Some d ≡ source_of (named v.slots (registration_of e.token)) → q ≡ cut v.poll
-      → Does O M d q (Turned e.readiness e.token (lent x y answer x' y')) d' p'
-      → Goes M O (Cutting x) (Ending (registration_of e.token) d' answer x') v (record v { slots = changed (with_content InTurn) v.slots e.token.slot; poll = p' })
-  turned e v d d' answer q p' x x' y y' first named_as is u =
+  pub turned : (e : Pending) (v : View D I P) (d d' : D) (answer : Result PostAction Error) (q p' : PollView P) (x x' : X) (asked : Asks D I) → Some e ≡ head_of v.poll.batch → Some d ≡ source_of (named v.slots (registration_of e.token)) → q ≡ cut v.poll
+      → Does O M d q (Turned e.readiness e.token (lent x v.held.asks answer x' asked)) d' p' → Reaches v.held.asks asked
+      → Goes M runs O (Cutting x) (Serving (registration_of e.token) d' answer x') v (record v { slots = changed (with_content InTurn) v.slots e.token.slot; poll = with_pass None p'; held = record v.held { asks = asked } })
+  turned e v d d' answer q p' x x' asked first named_as is u asks =
       let f = cons_of_head v.poll.batch e first in
       let full = source_is (named v.slots (registration_of e.token)) d (sym named_as) in
-      let t = subst (λ (r : PollView P). Does O M d r (Turned e.readiness e.token (lent x y answer x' y')) d' p') is u in
-      let mid : View D P = record v { slots = changed (with_content InTurn) v.slots e.token.slot; poll = p' } in
-      let a : Doing D X = Ending (registration_of e.token) d' answer x' in
-      goes_by (Cutting x) a (Cut (Some e.token.slot) ∷ Put e.token.slot InTurn ∷ Polls t.0 ∷ []) v mid
-      (from_cons v.poll.batch f.0 e v x (Cut (Some e.token.slot) ∷ Put e.token.slot InTurn ∷ Polls t.0 ∷ []) a f.1 (rw full (d', answer, t.0, x', y, y', t.1, refl, refl)))
-      (tt, (full_named v.slots (registration_of e.token) (ap is_empty full), (t.2.0, tt)))
-      (ap (λ (q : PollView P). record v { slots = changed (with_content InTurn) v.slots e.token.slot; poll = q }) t.2.1)
+      let t = subst (λ (r : PollView P). Does O M d r (Turned e.readiness e.token (lent x v.held.asks answer x' asked)) d' p') is u in
+      let a : Doing D X = Serving (registration_of e.token) d' answer x' in
+      let cs : List (Change D I P) = Cut (Some e.token.slot) ∷ Put e.token.slot InTurn ∷ Polls t.0 ∷ Ended ∷ Holds (Asking asks.steps) ∷ [] in
+      let does = subst (λ (r : Asks D I). M.does d (cut v.poll) (Turned e.readiness e.token (lent x v.held.asks answer x' r)) t.0 d') asks.is t.1 in
+      goes_by (Cutting x) a cs v (record v { slots = changed (with_content InTurn) v.slots e.token.slot; poll = with_pass None p'; held = record v.held { asks = asked } })
+      (from_cons v.poll.batch f.0 e v x cs a f.1 (rw full (d', answer, t.0, x', asks.steps, does, refl, refl)))
+      (tt, (full_named v.slots (registration_of e.token) (ap is_empty full), (t.2.0, (tt, (tt, tt)))))
+      (ap (λ (r : Asks D I). record v { slots = changed (with_content InTurn) v.slots e.token.slot; poll = with_pass None p'; held = record v.held { asks = r } }) asks.is
+      ∙ ap (λ (r : PollView P). record v { slots = changed (with_content InTurn) v.slots e.token.slot; poll = with_pass None r; held = record v.held { asks = asks_after v.held.asks asks.steps } }) t.2.1)
+
+  -- what was asked for is carried out
+  pub turn_served : (token : RegistrationToken) (d : D) (answer : Result PostAction Error) (x : X) (css : List (List (Change D I P))) (v u : View D I P) → AllServed M O v css → u ≡ traced v css → Goes M runs O (Serving token d answer x) (Ending token d answer x) v u
+  turn_served token d answer x [] v u h is = goes_by (Serving token d answer x) (Ending token d answer x) [] v u (rw h (refl, refl)) tt is
+  turn_served token d answer x (cs ∷ css) v u h is =
+      let a : Doing D X = Serving token d answer x in
+      goes_on a a (Ending token d answer x) v (all_viewed v cs) u (goes_by a a cs v (all_viewed v cs) (first_from v.held.asks.written a (Ending token d answer x) v cs h.0) h.1 refl) (turn_served token d answer x css (all_viewed v cs) u h.2 is)
+
+  pub idle_served : (x : X) (css : List (List (Change D I P))) (v u : View D I P) → AllServed M O v css → u ≡ traced v css → Goes M runs O (ServingIdle x) (RunningIdles x) v u
+  idle_served x [] v u h is = goes_by (ServingIdle x) (RunningIdles x) [] v u (rw h (refl, refl)) tt is
+  idle_served x (cs ∷ css) v u h is =
+      let a : Doing D X = ServingIdle x in
+      goes_on a a (RunningIdles x) v (all_viewed v cs) u (goes_by a a cs v (all_viewed v cs) (first_from v.held.asks.written a (RunningIdles x) v cs h.0) h.1 refl) (idle_served x css (all_viewed v cs) u h.2 is)
+
+  -- a round of idles
+  pub round_begun : (x : X) (v : View D I P) → Goes M runs O (Idling x) (RunningIdles x) v (record v { held = held_after v.held IdlesTaken })
+  round_begun x v = goes_by (Idling x) (RunningIdles x) (Holds IdlesTaken ∷ []) v (record v { held = held_after v.held IdlesTaken }) (refl, refl) (tt, tt) refl
+
+  pub no_idle : (x : X) (v : View D I P) → None ≡ running_of v.held.asks.running → Goes M runs O (RunningIdles x) (Leaving (Ok tt) x) v v
+  no_idle x v none = goes_by (RunningIdles x) (Leaving (Ok tt) x) [] v v (none_running v.held.asks.running x v none) tt refl
+
+  pub idle_run : (x x' : X) (v : View D I P) (idle : I) (asked : Asks D I) → Some idle ≡ running_of v.held.asks.running → runs idle x (idle_begun v.held.asks) x' asked → Reaches (idle_begun v.held.asks) asked
+      → Goes M runs O (RunningIdles x) (ServingIdle x') v (record v { held = record v.held { asks = asked } })
+  idle_run x x' v idle asked first ran asks =
+      goes_by (RunningIdles x) (ServingIdle x') (Holds IdleBegun ∷ Holds (Asking asks.steps) ∷ []) v (record v { held = record v.held { asks = asked } })
+      (one_running v.held.asks.running x x' v idle asks.steps first (subst (λ (r : Asks D I). runs idle x (idle_begun v.held.asks) x' r) asks.is ran)) (tt, (tt, tt))
+      (ap (λ (r : Asks D I). record v { held = record v.held { asks = r } }) asks.is)
 
   -- a post action without steps
-  pub acted : (token : RegistrationToken) (v : View D P) (d : D) (answer : Result PostAction Error) (told : Result (Unit {0}) Error) (x : X) → ActedBy M token d answer v (Ended ∷ []) d told
-      → Goes M O (Ending token d answer x) (Returning token d told x) v (record v { poll = with_pass None v.poll })
-  acted token v d answer told x h = goes_by (Ending token d answer x) (Returning token d told x) (Ended ∷ []) v (record v { poll = with_pass None v.poll }) (d, told, h, refl) (tt, tt) refl
+  pub acted : (token : RegistrationToken) (v : View D I P) (d : D) (answer : Result PostAction Error) (told : Result (Unit {0}) Error) (x : X) → ActedBy M token d (action_of answer v.held.pending) v (Holds (Pend Continue) ∷ []) d told
+      → Goes M runs O (Ending token d answer x) (Returning token d told x) v (still_v v)
+  acted token v d answer told x h = goes_by (Ending token d answer x) (Returning token d told x) (Holds (Pend Continue) ∷ []) v (still_v v) (d, told, h, refl) (tt, tt) refl
 
   -- one with steps of the source
-  pub acted_with : (R : D → Outcome → List (PollStep P) → D → Type 0) (noted : D → Outcome → HeldStep) (token : RegistrationToken) (v u : View D P) (d e : D) (answer : Result PostAction Error) (told : Outcome) (x : X)
-      → ((steps : List (PollStep P)) → R d told steps e → ActedBy M token d answer v (Ended ∷ Polls steps ∷ Holds (noted d told) ∷ []) e told)
-      → ByOne O R noted d told e (record v { poll = with_pass None v.poll }) u
-      → Goes M O (Ending token d answer x) (Returning token e told x) v u
+  pub acted_with : (R : D → Outcome → List (PollStep P) → D → Type 0) (noted : D → Outcome → HeldStep D I) (token : RegistrationToken) (v u : View D I P) (d e : D) (answer : Result PostAction Error) (told : Outcome) (x : X)
+      → ((steps : List (PollStep P)) → R d told steps e → ActedBy M token d (action_of answer v.held.pending) v (Holds (Pend Continue) ∷ Polls steps ∷ Holds (noted d told) ∷ []) e told)
+      → ByOne O R noted d told e (still_v v) u
+      → Goes M runs O (Ending token d answer x) (Returning token e told x) v u
   acted_with R noted token v u d e answer told x by r =
-      goes_by (Ending token d answer x) (Returning token e told x) (Ended ∷ Polls r.0 ∷ Holds (noted d told) ∷ []) v u (e, told, by r.0 r.1, refl) (tt, (r.2, (tt, tt))) r.3
+      goes_by (Ending token d answer x) (Returning token e told x) (Holds (Pend Continue) ∷ Polls r.0 ∷ Holds (noted d told) ∷ []) v u (e, told, by r.0 r.1, refl) (tt, (r.2, (tt, tt))) r.3
 
-  emptied_fit : (token : RegistrationToken) (v : View D P) (c : Content D) → named v.slots token ≡ c → AllFit O v (emptied token c)
+  emptied_fit : (token : RegistrationToken) (v : View D I P) (c : Content D) → named v.slots token ≡ c → AllFit O v (emptied token c)
   emptied_fit token v Vacant is = tt
   emptied_fit token v (Source d) is = tt
   emptied_fit token v InTurn is = (full_named v.slots token (ap is_empty is), tt)
 
-  emptied_view : (token : RegistrationToken) (v : View D P) (c : Content D) → record v { slots = (if is_in_turn c then changed (with_content Vacant) v.slots token.slot else v.slots) } ≡ all_viewed v (emptied token c)
+  emptied_view : (token : RegistrationToken) (v : View D I P) (c : Content D) → record v { slots = (if is_in_turn c then changed (with_content Vacant) v.slots token.slot else v.slots) } ≡ all_viewed v (emptied token c)
   emptied_view token v Vacant = refl
   emptied_view token v (Source d) = refl
   emptied_view token v InTurn = refl
 
   -- the one that empties the slot
-  pub acted_leaving : (token : RegistrationToken) (v : View D P) (d : D) (x : X) → Goes M O (Ending token d (Ok Remove) x) (Returning token d (Ok tt) x) v (record v { slots = after_turn Vacant token v.slots; poll = with_pass None v.poll })
-  acted_leaving token v d x =
-      let u : View D P = record v { poll = with_pass None v.poll } in
-      goes_by (Ending token d (Ok Remove) x) (Returning token d (Ok tt) x) (Ended ∷ emptied token (named v.slots token)) v (record v { slots = after_turn Vacant token v.slots; poll = with_pass None v.poll }) (d, Ok tt, (refl, refl, refl), refl)
-      (tt, emptied_fit token u (named v.slots token) refl) (emptied_view token u (named v.slots token))
+  pub acted_leaving : (token : RegistrationToken) (v : View D I P) (d : D) (answer : Result PostAction Error) (x : X) → action_of answer v.held.pending ≡ Ok Remove
+      → Goes M runs O (Ending token d answer x) (Returning token d (Ok tt) x) v (record (still_v v) { slots = after_turn Vacant token v.slots })
+  acted_leaving token v d answer x is =
+      goes_by (Ending token d answer x) (Returning token d (Ok tt) x) (Holds (Pend Continue) ∷ emptied token (named v.slots token)) v (record (still_v v) { slots = after_turn Vacant token v.slots }) (d, Ok tt, rw is (refl, refl, refl), refl)
+      (tt, emptied_fit token (still_v v) (named v.slots token) refl) (emptied_view token (still_v v) (named v.slots token))
 
   turn_is : (c : Content D) → is_in_turn c ≡ true → c ≡ InTurn
   turn_is Vacant e = cc
@@ -195,30 +258,31 @@ module _ {D P X Q : Type 0} (M : Meaning D P (Lent X Q)) (O : Outside P) where
   turn_is InTurn e = refl
 
   -- the source goes back to its slot
-  pub returned : (token : RegistrationToken) (v : View D P) (d : D) (told : Result (Unit {0}) Error) (x : X) → is_in_turn (named v.slots token) ≡ true
-      → Goes M O (Returning token d told x) (after told x) v (record v { slots = changed (with_content (Source d)) v.slots token.slot })
+  pub returned : (token : RegistrationToken) (v : View D I P) (d : D) (told : Result (Unit {0}) Error) (x : X) → is_in_turn (named v.slots token) ≡ true
+      → Goes M runs O (Returning token d told x) (after told x) v (record v { slots = changed (with_content (Source d)) v.slots token.slot })
   returned token v d told x here =
       let is = turn_is (named v.slots token) here in
       goes_by (Returning token d told x) (after told x) (Put token.slot (Source d) ∷ []) v (record v { slots = changed (with_content (Source d)) v.slots token.slot }) (rw is refl, refl) (full_named v.slots token (ap is_empty is), tt) refl
 
-  gone_by : (token : RegistrationToken) (v : View D P) (d e : D) (c : Content D) (answer : Result (Unit {0}) Error) (steps : List (PollStep P)) → is_in_turn c ≡ false → M.does d v.poll (Unregistered answer) steps e → ReturnedTo M token d c v (Polls steps ∷ Holds (Unlisted token) ∷ [])
+  gone_by : (token : RegistrationToken) (v : View D I P) (d e : D) (c : Content D) (answer : Result (Unit {0}) Error) (steps : List (PollStep P)) → is_in_turn c ≡ false → M.does d v.poll (Unregistered answer) steps e → ReturnedTo M token d c v (Polls steps ∷ Holds (Unlisted token) ∷ Holds (Paid (RemovedAnswer (Some e))) ∷ [])
   gone_by token v d e Vacant answer steps none h = (e, answer, steps, h, refl)
   gone_by token v d e (Source f) answer steps none h = (e, answer, steps, h, refl)
   gone_by token v d e InTurn answer steps none h = cc
 
   -- it left the loop
-  pub gone : (token : RegistrationToken) (v u : View D P) (d e : D) (told answer : Outcome) (x : X) → is_in_turn (named v.slots token) ≡ false
+  pub gone : (token : RegistrationToken) (v u : View D I P) (d e : D) (told answer : Outcome) (x : X) → is_in_turn (named v.slots token) ≡ false
       → ByOne O (λ f a steps g. M.does f v.poll (Unregistered a) steps g) (left token) d answer e v u
-      → Goes M O (Returning token d told x) (after told x) v u
+      → Goes M runs O (Returning token d told x) (after told x) v (record u { held = held_after u.held (Paid (RemovedAnswer (Some e))) })
   gone token v u d e told answer x none r =
-      goes_by (Returning token d told x) (after told x) (Polls r.0 ∷ Holds (Unlisted token) ∷ []) v u (gone_by token v d e (named v.slots token) answer r.0 none r.1, refl) (r.2, (tt, tt)) r.3
+      goes_by (Returning token d told x) (after told x) (Polls r.0 ∷ Holds (Unlisted token) ∷ Holds (Paid (RemovedAnswer (Some e))) ∷ []) v (record u { held = held_after u.held (Paid (RemovedAnswer (Some e))) })
+      (gone_by token v d e (named v.slots token) answer r.0 none r.1, refl) (r.2, (tt, (tt, tt))) (ap (λ (t : View D I P). record t { held = held_after t.held (Paid (RemovedAnswer (Some e))) }) r.3)
 
   -- one that is told of a wait was taken out and put back
-  abbrev pub told : RegistrationToken → D → View D P → View D P
+  abbrev pub told : RegistrationToken → D → View D I P → View D I P
   told token e v = record v { slots = ended (Source e) token (changed (with_content InTurn) v.slots token.slot) }
 
-  told_by : (a b : Doing D X) (token : RegistrationToken) (v : View D P) (d e : D) (joined : List (Change D P)) → named v.slots token ≡ Source d → Step M O v a (told_in token e ++ joined) b
-      → ((u : View D P) → AllFit O u joined) → Goes M O a b v (all_viewed (told token e v) joined)
+  told_by : (a b : Doing D X) (token : RegistrationToken) (v : View D I P) (d e : D) (joined : List (Change D I P)) → named v.slots token ≡ Source d → Step M runs O v a (told_in token e ++ joined) b
+      → ((u : View D I P) → AllFit O u joined) → Goes M runs O a b v (all_viewed (told token e v) joined)
   told_by a b token v d e joined is step fit =
       let full : is_empty (named v.slots token) ≡ false = ap is_empty is in
       let out = changed (with_content InTurn) v.slots token.slot in
@@ -226,46 +290,46 @@ module _ {D P X Q : Type 0} (M : Meaning D P (Lent X Q)) (O : Outside P) where
       (full_named v.slots token full, (tt, (full_named out token (ap is_empty (named_changed v.slots token InTurn full)), fit _)))
       (ap (λ (ss : List (Slot D)). all_viewed (record v { slots = ss }) joined) (turn_ended v.slots token (Source e) full))
 
-  none_slept : (timeout : Option ℕ) (token : RegistrationToken) (later : List RegistrationToken) (c : Content D) (v : View D P) (x : X) → None ≡ source_of c → SleptBy M timeout token later c v x [] (Sleeping timeout later x)
+  none_slept : (timeout : Option ℕ) (token : RegistrationToken) (later : List RegistrationToken) (c : Content D) (v : View D I P) (x : X) → None ≡ source_of c → SleptBy M timeout token later c v x [] (Sleeping timeout later x)
   none_slept timeout token later Vacant v x h = (refl, refl)
   none_slept timeout token later InTurn v x h = (refl, refl)
   none_slept timeout token later (Source d) v x h = cc
 
-  pub not_slept : (timeout : Option ℕ) (token : RegistrationToken) (later : List RegistrationToken) (v : View D P) (x : X) → None ≡ source_of (named v.slots token)
-      → Goes M O (Sleeping timeout (token ∷ later) x) (Sleeping timeout later x) v v
+  pub not_slept : (timeout : Option ℕ) (token : RegistrationToken) (later : List RegistrationToken) (v : View D I P) (x : X) → None ≡ source_of (named v.slots token)
+      → Goes M runs O (Sleeping timeout (token ∷ later) x) (Sleeping timeout later x) v v
   not_slept timeout token later v x none =
       goes_by (Sleeping timeout (token ∷ later) x) (Sleeping timeout later x) [] v v (none_slept timeout token later (named v.slots token) v x none) tt refl
 
-  pub slept : (timeout : Option ℕ) (token : RegistrationToken) (later : List RegistrationToken) (v : View D P) (x : X) (d e : D) (answer : Result (Option (Readiness × Token)) Error) (joined : List (Change D P)) (b : Doing D X)
-      → named v.slots token ≡ Source d → M.does d v.poll (Slept answer) [] e → SleptAs timeout later answer x joined b → ((u : View D P) → AllFit O u joined)
-      → Goes M O (Sleeping timeout (token ∷ later) x) b v (all_viewed (told token e v) joined)
+  pub slept : (timeout : Option ℕ) (token : RegistrationToken) (later : List RegistrationToken) (v : View D I P) (x : X) (d e : D) (answer : Result (Option (Readiness × Token)) Error) (joined : List (Change D I P)) (b : Doing D X)
+      → named v.slots token ≡ Source d → M.does d v.poll (Slept answer) [] e → SleptAs timeout later answer x joined b → ((u : View D I P) → AllFit O u joined)
+      → Goes M runs O (Sleeping timeout (token ∷ later) x) b v (all_viewed (told token e v) joined)
   slept timeout token later v x d e answer joined b is does joins fit =
       told_by (Sleeping timeout (token ∷ later) x) b token v d e joined is (rw is (e, answer, joined, does, joins, refl)) fit
 
-  none_noticed : (from : ℕ) (token : RegistrationToken) (later : List RegistrationToken) (c : Content D) (v : View D P) (x : X) → None ≡ source_of c → NoticedBy M from token later c v x [] (Noticing from later x)
+  none_noticed : (from : ℕ) (token : RegistrationToken) (later : List RegistrationToken) (c : Content D) (v : View D I P) (x : X) → None ≡ source_of c → NoticedBy M from token later c v x [] (Noticing from later x)
   none_noticed from token later Vacant v x h = (refl, refl)
   none_noticed from token later InTurn v x h = (refl, refl)
   none_noticed from token later (Source d) v x h = cc
 
-  pub not_noticed : (from : ℕ) (token : RegistrationToken) (later : List RegistrationToken) (v : View D P) (x : X) → None ≡ source_of (named v.slots token)
-      → Goes M O (Noticing from (token ∷ later) x) (Noticing from later x) v v
+  pub not_noticed : (from : ℕ) (token : RegistrationToken) (later : List RegistrationToken) (v : View D I P) (x : X) → None ≡ source_of (named v.slots token)
+      → Goes M runs O (Noticing from (token ∷ later) x) (Noticing from later x) v v
   not_noticed from token later v x none =
       goes_by (Noticing from (token ∷ later) x) (Noticing from later x) [] v v (none_noticed from token later (named v.slots token) v x none) tt refl
 
-  pub noticed : (from : ℕ) (token : RegistrationToken) (later : List RegistrationToken) (v : View D P) (x : X) (d e : D) → named v.slots token ≡ Source d → M.does d v.poll (Noticed (events_of token (drop from v.poll.batch))) [] e
-      → Goes M O (Noticing from (token ∷ later) x) (Noticing from later x) v (told token e v)
+  pub noticed : (from : ℕ) (token : RegistrationToken) (later : List RegistrationToken) (v : View D I P) (x : X) (d e : D) → named v.slots token ≡ Source d → M.does d v.poll (Noticed (events_of token (drop from v.poll.batch))) [] e
+      → Goes M runs O (Noticing from (token ∷ later) x) (Noticing from later x) v (told token e v)
   noticed from token later v x d e is does =
       told_by (Noticing from (token ∷ later) x) (Noticing from later x) token v d e [] is (rw is (e, does, refl, refl)) (λ u. tt)
 
   -- all of them were told
-  pub all_slept : (timeout : Option ℕ) (v : View D P) (x : X) → Goes M O (Sleeping timeout [] x) (Waiting timeout x) v v
+  pub all_slept : (timeout : Option ℕ) (v : View D I P) (x : X) → Goes M runs O (Sleeping timeout [] x) (Waiting timeout x) v v
   all_slept timeout v x = goes_by (Sleeping timeout [] x) (Waiting timeout x) [] v v (refl, refl) tt refl
 
-  pub all_noticed : (from : ℕ) (v : View D P) (x : X) → Goes M O (Noticing from [] x) (Cutting x) v v
+  pub all_noticed : (from : ℕ) (v : View D I P) (x : X) → Goes M runs O (Noticing from [] x) (Cutting x) v v
   all_noticed from v x = goes_by (Noticing from [] x) (Cutting x) [] v v (refl, refl) tt refl
 
-  pub dispatched : (v u : View D P) (timeout : Option ℕ) (x x' : X) (answer : Result (Unit {0}) Error) → Goes M O (Beginning timeout x) (Leaving answer x') v u → Did (DispatchedBy M O timeout x answer x') v u
+  pub dispatched : (v u : View D I P) (timeout : Option ℕ) (x x' : X) (answer : Result (Unit {0}) Error) → Goes M runs O (Beginning timeout x) (Leaving answer x') v u → Did (DispatchedBy M runs O timeout x answer x') v u
   dispatched v u timeout x x' answer h = (h.0, inr h.1, h.2)
 
-  pub refused : (v : View D P) (timeout : Option ℕ) (x : X) (e : Error) → e ≡ OutOfMemory → Did (DispatchedBy M O timeout x (Err e) x) v v
+  pub refused : (v : View D I P) (timeout : Option ℕ) (x : X) (e : Error) → e ≡ OutOfMemory → Did (DispatchedBy M runs O timeout x (Err e) x) v v
   refused v timeout x e is = ([], inl (ap (λ (r : Error). Err r) is, refl, refl), refl)

@@ -7,11 +7,12 @@ use Rattle.calloop_core.specs.Pollers.{Outside}
 use Rattle.calloop_core.specs.Deeds.{Lent}
 use Rattle.calloop_core.specs.Meanings.{Meaning}
 use Rattle.calloop.specs.declared.loop_logic.LoopCall.{LoopCall}
-use Rattle.calloop.specs.declared.loop_logic.LoopCall.TheVariants.{Insert, Enable, Update, Disable, Remove as RemoveCall, Exchange, Dispatch, Poller as NewPoller}
+use Rattle.calloop.specs.declared.loop_logic.LoopCall.TheVariants.{Insert, Enable, Update, Disable, Remove as RemoveCall, Exchange, Dispatch, InsertIdle, Cancel, Answer as AnswerOf, Poller as NewPoller}
 use Rattle.calloop.specs.declared.loop_logic.LoopAnswer.{LoopAnswer}
-use Rattle.calloop.specs.declared.loop_logic.LoopAnswer.TheVariants.{Inserted, Enabled, Updated, Disabled, Removed, Exchanged, Dispatched, Poller as OldPoller}
+use Rattle.calloop.specs.declared.loop_logic.LoopAnswer.TheVariants.{Inserted, Enabled, Updated, Disabled, Removed, Exchanged, Dispatched, IdleInserted, Cancelled, Answered, Poller as OldPoller}
+use Rattle.calloop.specs.Askings.{Asks, Runs}
 use Rattle.calloop.specs.Machine.{World, View, Registration, Change, Put, Claim, Swapped, Polls, Polling, Watching, Counting, Holds, Appended, Gathered, Cut, Ended, Fits, AllFit, IsFull, holding, reused, is_free, with_claim, slot_of, seen, viewed, all_viewed, done, all_done}
-use Rattle.calloop.specs.Rules.{Doing, Steps, Case, Run, Once, InsertedBy, EnabledBy, UpdatedBy, DisabledBy, RemovedBy, ExchangedBy, traced, all_traced}
+use Rattle.calloop.specs.Rules.{Doing, Steps, Case, Run, Once, InsertedBy, EnabledBy, UpdatedBy, DisabledBy, RemovedBy, ExchangedBy, IdleInsertedBy, traced, all_traced}
 use Rattle.calloop.specs.Laws.{StaysGone, AllStayGone, joined, changes_of}
 use Rattle.calloop.proofs.Seen.{seen-done, seen-all_done, seen-all_traced}
 
@@ -39,8 +40,8 @@ left_claim {D} (x ∷ xs) zero n h =
 left_claim {D} (x ∷ xs) (suc i) n h =
     elim (is_empty x.content) as (λ b. Left (if b then reused x ∷ xs else x ∷ with_claim xs) (suc i) n) [ true ↦ h | false ↦ left_claim xs i n h ]
 
-module _ {D P : Type 0} (O : Outside P) where
-  left_done : (w : World D P) (c : Change D P) (i n : ℕ) → Fits O (seen w) c → Left w.slots i n → Left (done w c).slots i n
+module _ {D I P : Type 0} (O : Outside P) where
+  left_done : (w : World D I P) (c : Change D I P) (i n : ℕ) → Fits O (seen w) c → Left w.slots i n → Left (done w c).slots i n
   left_done w (Put slot content) i n fit h = left_put content w.slots slot i n fit h
   left_done w (Swapped slot old new) i n fit h = left_put (Source new) w.slots slot i n (fit.0, fit.1, ap is_empty fit.2) h
   left_done w (Claim source) i n fit h = left_claim w.slots i n h
@@ -54,53 +55,53 @@ module _ {D P : Type 0} (O : Outside P) where
   left_done w (Cut slot) i n fit h = h
   left_done w Ended i n fit h = h
 
-  left_all : (w : World D P) (cs : List (Change D P)) (i n : ℕ) → AllFit O (seen w) cs → Left w.slots i n → Left (all_done w cs).slots i n
+  left_all : (w : World D I P) (cs : List (Change D I P)) (i n : ℕ) → AllFit O (seen w) cs → Left w.slots i n → Left (all_done w cs).slots i n
   left_all w [] i n fit h = h
-  left_all w (c ∷ cs) i n fit h = left_all (done w c) cs i n (subst (λ (v : View D P). AllFit O v cs) (sym (seen-done w c)) fit.1) (left_done w c i n fit.0 h)
+  left_all w (c ∷ cs) i n fit h = left_all (done w c) cs i n (subst (λ (v : View D I P). AllFit O v cs) (sym (seen-done w c)) fit.1) (left_done w c i n fit.0 h)
 
-  stays : (w : World D P) (cs : List (Change D P)) → AllFit O (seen w) cs → StaysGone w (all_done w cs)
+  stays : (w : World D I P) (cs : List (Change D I P)) → AllFit O (seen w) cs → StaysGone w (all_done w cs)
   stays w cs fit i r r' here there same free =
       let g = left_all w cs i r.reuse fit (r, here, inl (refl, free)) in
       let e : g.0 ≡ r' = (let f : Some g.0 ≡ Some r' = sym g.1 ∙ there in cc) in
       elim g.2 [ inl u ↦ rw e at u.1 | inr lt ↦ absurd (omega (arith, lt, same, ap (λ (y : Registration D). y.reuse) e)) ]
 
-  fit-append : (v : View D P) (cs ds : List (Change D P)) → AllFit O v cs → AllFit O (all_viewed v cs) ds → AllFit O v (cs ++ ds)
+  fit-append : (v : View D I P) (cs ds : List (Change D I P)) → AllFit O v cs → AllFit O (all_viewed v cs) ds → AllFit O v (cs ++ ds)
   fit-append v [] ds h k = k
   fit-append v (c ∷ cs) ds h k = (h.0, fit-append (viewed v c) cs ds h.1 k)
 
-  fit_first : (v : View D P) (cs ds : List (Change D P)) → AllFit O v (cs ++ ds) → AllFit O v cs
+  pub fit_first : (v : View D I P) (cs ds : List (Change D I P)) → AllFit O v (cs ++ ds) → AllFit O v cs
   fit_first v [] ds h = tt
   fit_first v (c ∷ cs) ds h = (h.0, fit_first (viewed v c) cs ds h.1)
 
-  fit_rest : (v : View D P) (cs ds : List (Change D P)) → AllFit O v (cs ++ ds) → AllFit O (all_viewed v cs) ds
+  fit_rest : (v : View D I P) (cs ds : List (Change D I P)) → AllFit O v (cs ++ ds) → AllFit O (all_viewed v cs) ds
   fit_rest v [] ds h = h
   fit_rest v (c ∷ cs) ds h = fit_rest (viewed v c) cs ds h.1
 
-  pub stay_gone : (w : World D P) (cs : List (Change D P)) → AllFit O (seen w) cs → AllStayGone w cs
+  pub stay_gone : (w : World D I P) (cs : List (Change D I P)) → AllFit O (seen w) cs → AllStayGone w cs
   stay_gone w cs fit before between after is =
-      let all = subst (λ (l : List (Change D P)). AllFit O (seen w) l) is fit in
+      let all = subst (λ (l : List (Change D I P)). AllFit O (seen w) l) is fit in
       let rest = fit_first (all_viewed (seen w) before) between after (fit_rest (seen w) before (between ++ after) all) in
-      stays (all_done w before) between (subst (λ (v : View D P). AllFit O v between) (sym (seen-all_done w before)) rest)
+      stays (all_done w before) between (subst (λ (v : View D I P). AllFit O v between) (sym (seen-all_done w before)) rest)
 
-module _ {D P X Q : Type 0} (M : Meaning D P (Lent X Q)) (O : Outside P) where
-  viewed-append : (v : View D P) (cs ds : List (Change D P)) → all_viewed v (cs ++ ds) ≡ all_viewed (all_viewed v cs) ds
+module _ {D I P X : Type 0} (M : Meaning D P (Lent X (Asks D I))) (runs : Runs D I X) (O : Outside P) where
+  viewed-append : (v : View D I P) (cs ds : List (Change D I P)) → all_viewed v (cs ++ ds) ≡ all_viewed (all_viewed v cs) ds
   viewed-append v [] ds = refl
   viewed-append v (c ∷ cs) ds = viewed-append (viewed v c) cs ds
 
-  viewed-joined : (v : View D P) (css : List (List (Change D P))) → all_viewed v (joined css) ≡ traced v css
+  viewed-joined : (v : View D I P) (css : List (List (Change D I P))) → all_viewed v (joined css) ≡ traced v css
   viewed-joined v [] = refl
   viewed-joined v (cs ∷ css) = viewed-append v cs (joined css) ∙ viewed-joined (all_viewed v cs) css
 
-  steps_fit : (v : View D P) (a b : Doing D X) (css : List (List (Change D P))) → Steps M O v a css b → AllFit O v (joined css)
+  steps_fit : (v : View D I P) (a b : Doing D X) (css : List (List (Change D I P))) → Steps M runs O v a css b → AllFit O v (joined css)
   steps_fit v a b [] h = tt
   steps_fit v a b (cs ∷ css) h = fit-append O v cs (joined css) h.2 (steps_fit (all_viewed v cs) h.0 b css h.3)
 
-  once_fit : (v : View D P) (R : View D P → List (Change D P) → Type 0) (css : List (List (Change D P))) → Once O R v css → AllFit O v (joined css)
+  once_fit : (v : View D I P) (R : View D I P → List (Change D I P) → Type 0) (css : List (List (Change D I P))) → Once O R v css → AllFit O v (joined css)
   once_fit v R [] h = absurd h
   once_fit v R (cs ∷ []) h = fit-append O v cs [] h.1 tt
   once_fit v R (cs ∷ ds ∷ css) h = absurd h
 
-  case_fit : (v : View D P) (call : LoopCall D P X) (answer : LoopAnswer D P X) (css : List (List (Change D P))) → Case M O call answer v css → AllFit O v (joined css)
+  case_fit : (v : View D I P) (call : LoopCall D P X I) (answer : LoopAnswer D P X I) (css : List (List (Change D I P))) → Case M runs O call answer v css → AllFit O v (joined css)
   case_fit v (Insert d) (Inserted answer) css h = once_fit v (InsertedBy M d answer) css h
   case_fit v (Enable token) (Enabled answer) css h = once_fit v (EnabledBy M token answer) css h
   case_fit v (Update token) (Updated answer) css h = once_fit v (UpdatedBy M token answer) css h
@@ -108,13 +109,16 @@ module _ {D P X Q : Type 0} (M : Meaning D P (Lent X Q)) (O : Outside P) where
   case_fit v (RemoveCall token) (Removed answer) css h = once_fit v (RemovedBy M token answer) css h
   case_fit v (Exchange token d) (Exchanged answer) css h = once_fit v (ExchangedBy token d answer) css h
   case_fit v (Dispatch timeout x) (Dispatched answer x') css h = elim h [ inl k ↦ rw k.2 tt | inr k ↦ steps_fit v _ _ css k ]
+  case_fit v (InsertIdle idle) (IdleInserted answer) css h = once_fit v (IdleInsertedBy idle answer) css h
+  case_fit v (Cancel idle) Cancelled css h = rw h (tt, tt)
+  case_fit v (AnswerOf ticket) (Answered answer) css h = rw h.1 (tt, tt)
   case_fit v (NewPoller p) (OldPoller q) css h = rw h.1 (tt, tt)
   case_fit v call answer css h = absurd h
 
-  pub run_fits : (calls : List (LoopCall D P X)) (answers : List (LoopAnswer D P X)) (csss : List (List (List (Change D P)))) (w w' : World D P) → Run M O calls answers csss w w' → AllFit O (seen w) (changes_of csss)
+  pub run_fits : (calls : List (LoopCall D P X I)) (answers : List (LoopAnswer D P X I)) (csss : List (List (List (Change D I P)))) (w w' : World D I P) → Run M runs O calls answers csss w w' → AllFit O (seen w) (changes_of csss)
   run_fits [] [] [] w w' h = tt
   run_fits (call ∷ calls) (answer ∷ answers) (css ∷ csss) w w' h =
       let rest = run_fits calls answers csss (all_traced w css) w' h.1 in
       fit-append O (seen w) (joined css) (changes_of csss) (case_fit (seen w) call answer css h.0)
-      (subst (λ (v : View D P). AllFit O v (changes_of csss)) (seen-all_traced w css ∙ sym (viewed-joined (seen w) css)) rest)
+      (subst (λ (v : View D I P). AllFit O v (changes_of csss)) (seen-all_traced w css ∙ sym (viewed-joined (seen w) css)) rest)
   run_fits calls answers csss w w' h = absurd h

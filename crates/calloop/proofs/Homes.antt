@@ -26,15 +26,21 @@ use Rattle.calloop_core.specs.Keys.{IsFactoryOf}
 use Rattle.calloop_core.specs.Deeds.{Registered, Reregistered, Unregistered, Turned, Slept, Lent, lent}
 use Rattle.calloop_core.specs.Meanings.{Meaning, IsAtHome, BeginsIn, KeepsHome}
 use Rattle.calloop.specs.declared.loop_logic.LoopCall.{LoopCall}
-use Rattle.calloop.specs.declared.loop_logic.LoopCall.TheVariants.{Insert, Enable, Update, Disable, Remove as RemoveCall, Exchange, Dispatch, Poller as NewPoller}
+use Rattle.calloop.specs.declared.loop_logic.LoopCall.TheVariants.{Insert, Enable, Update, Disable, Remove as RemoveCall, Exchange, Dispatch, InsertIdle, Cancel, Answer as AnswerOf, Poller as NewPoller}
 use Rattle.calloop.specs.declared.loop_logic.LoopAnswer.{LoopAnswer}
-use Rattle.calloop.specs.declared.loop_logic.LoopAnswer.TheVariants.{Inserted, Enabled, Updated, Disabled, Removed, Exchanged, Dispatched, Poller as OldPoller}
-use Rattle.calloop.specs.Held.{HeldStep}
-use Rattle.calloop.specs.Machine.{World, View, IsNew, Change, Ended, all_viewed, seen, slot_of, viewed}
-use Rattle.calloop.specs.Rules.{Doing, Beginning, Sleeping, Waiting, Gathering, Noticing, Cutting, Ending, Returning, Leaving, Step, Steps, SleptAs, SleptBy, NoticedBy, told_in, CutTo, CutFrom, ActedBy, ReturnedTo, emptied, after_turn, after_wait, Outcome, RegisteredBy, Case, Once, Run, InsertedBy, AskedIn, EnabledBy, UpdatedBy, DisabledBy, RemovedIn, RemovedBy, ExchangedIn, ExchangedBy, factory_of, traced, all_traced}
+use Rattle.calloop.specs.declared.loop_logic.LoopAnswer.TheVariants.{Inserted, Enabled, Updated, Disabled, Removed, Exchanged, Dispatched, IdleInserted, Cancelled, Answered, Poller as OldPoller}
+use Rattle.calloop.specs.Held.{HeldStep, Begun, Pend}
+use Rattle.calloop.specs.declared.loop_logic.asks.Asked.{Asked}
+use Rattle.calloop.specs.declared.loop_logic.asks.Idle.{Idle}
+use Rattle.calloop.specs.declared.loop_logic.asks.Idling.{Idling as Waiter}
+use Rattle.calloop.specs.declared.loop_logic.asks.Request.{Request}
+use Rattle.calloop.specs.declared.loop_logic.asks.Request.TheVariants.{Insert as AskInsert, Enable as AskEnable, Update as AskUpdate, Disable as AskDisable, Remove as AskRemove, Idle as AskIdle, Cancel as AskCancel}
+use Rattle.calloop.specs.Askings.{Asks, Runs, asks_after}
+use Rattle.calloop.specs.Machine.{World, View, IsNew, Change, Holds, all_viewed, seen, slot_of, viewed}
+use Rattle.calloop.specs.Rules.{Doing, Beginning, Sleeping, Waiting, Gathering, Noticing, Cutting, Serving, Ending, Returning, Idling, RunningIdles, ServingIdle, Leaving, Step, Steps, SleptAs, SleptBy, NoticedBy, told_in, CutTo, CutFrom, ActedBy, ReturnedTo, emptied, after_turn, after_wait, Outcome, RegisteredBy, Case, Once, Run, InsertedBy, AskedIn, EnabledBy, UpdatedBy, DisabledBy, RemovedIn, RemovedBy, ExchangedIn, ExchangedBy, IdleInsertedBy, OwnOr, Served, ServedAs, ServedFrom, RunFrom, action_of, factory_of, traced, all_traced}
 use Rattle.calloop.specs.Homes.{AllAtHome}
 use Rattle.calloop.specs.Laws.{HasNoMoreKeys, AllBringNoKey, joined, changes_of}
-use Rattle.calloop.proofs.Seen.{seen-all_traced}
+use Rattle.calloop.proofs.Seen.{seen-all_traced, viewed-append}
 
 -- Of slots.
 
@@ -90,13 +96,14 @@ none_there : {D : Type 0} (slots : List (Slot D)) → slots ≡ [] → (i v : �
 none_there [] none i v d h = (let e = h.1 in cc)
 none_there (x ∷ xs) none i v d h = cc
 
-module _ {D P X Q : Type 0} (M : Meaning D P (Lent X Q)) (O : Outside P) (law : KeepsHome M) where
+module _ {D I P X : Type 0} (M : Meaning D P (Lent X (Asks D I))) (runs : Runs D I X) (O : Outside P) (law : KeepsHome M) where
   -- each source that stands in a slot is at home there
   abbrev Homely : List (Slot D) → Type 0
   Homely slots = (i v : ℕ) (d : D) → Stands slots i v d → IsAtHome M (record { slot = i; version = v }) d
 
   -- so is one that is out of its slot
   abbrev AsideHomely : Doing D X → Type 0
+  AsideHomely (Serving token d answer x) = IsAtHome M token d
   AsideHomely (Ending token d answer x) = IsAtHome M token d
   AsideHomely (Returning token d told x) = IsAtHome M token d
   AsideHomely a = Unit {0}
@@ -127,7 +134,7 @@ module _ {D P X Q : Type 0} (M : Meaning D P (Lent X Q)) (O : Outside P) (law : 
   own_factory : (token : RegistrationToken) → IsFactoryOf token (factory_of token)
   own_factory token = (refl, omega arith)
 
-  begins_first : (token : RegistrationToken) (d : D) (answer : Outcome) (f : TokenFactory) → IsAtHome M token d → BeginsIn {T = Lent X Q} (IsAtHome M token d) token (Registered (factory_of token) answer f)
+  begins_first : (token : RegistrationToken) (d : D) (answer : Outcome) (f : TokenFactory) → IsAtHome M token d → BeginsIn {T = Lent X (Asks D I)} (IsAtHome M token d) token (Registered (factory_of token) answer f)
   begins_first token d (Ok u) f home = own_factory token
   begins_first token d (Err e) f home = (home, own_factory token)
 
@@ -139,50 +146,50 @@ module _ {D P X Q : Type 0} (M : Meaning D P (Lent X Q)) (O : Outside P) (law : 
   anew_home token v d e answer l (inl h) home = rw h.3 home
   anew_home token v d e answer l (inr h) home = (law token d e v (Reregistered (factory_of token) answer h.0) l (home, own_factory token) h.1).0
 
-  slept_as : (v : View D P) (timeout : Option ℕ) (later : List RegistrationToken) (answer : Result (Option (Readiness × Token)) Error) (x : X) (cs : List (Change D P)) (b : Doing D X) → SleptAs timeout later answer x cs b → Homely v.slots → Homely (all_viewed v cs).slots × AsideHomely b
+  slept_as : (v : View D I P) (timeout : Option ℕ) (later : List RegistrationToken) (answer : Result (Option (Readiness × Token)) Error) (x : X) (cs : List (Change D I P)) (b : Doing D X) → SleptAs timeout later answer x cs b → Homely v.slots → Homely (all_viewed v cs).slots × AsideHomely b
   slept_as v timeout later (Ok None) x cs b h k = rw (h.0, h.1) (k, tt)
   slept_as v timeout later (Ok (Some given)) x cs b h k = rw (h.0, h.1) (k, tt)
   slept_as v timeout later (Err e) x cs b h k = rw (h.0, h.1) (k, tt)
 
-  slept_homely : (v : View D P) (timeout : Option ℕ) (token : RegistrationToken) (later : List RegistrationToken) (x : X) (cs : List (Change D P)) (b : Doing D X) (c : Content D) → named v.slots token ≡ c → SleptBy M timeout token later c v x cs b → Homely v.slots → Homely (all_viewed v cs).slots × AsideHomely b
+  slept_homely : (v : View D I P) (timeout : Option ℕ) (token : RegistrationToken) (later : List RegistrationToken) (x : X) (cs : List (Change D I P)) (b : Doing D X) (c : Content D) → named v.slots token ≡ c → SleptBy M timeout token later c v x cs b → Homely v.slots → Homely (all_viewed v cs).slots × AsideHomely b
   slept_homely v timeout token later x cs b Vacant is h k = rw (h.0, h.1) (k, tt)
   slept_homely v timeout token later x cs b InTurn is h k = rw (h.0, h.1) (k, tt)
   slept_homely v timeout token later x cs b (Source d) is h k =
       let home = (law token d h.0 v.poll (Slept h.1) [] (home_named v.slots token d is k) h.3).0 in
       rw h.5 (slept_as (all_viewed v (told_in token h.0)) timeout later h.1 x h.2 b h.4 (homely_again v.slots token d h.0 is home k))
 
-  noticed_homely : (v : View D P) (from : ℕ) (token : RegistrationToken) (later : List RegistrationToken) (x : X) (cs : List (Change D P)) (b : Doing D X) (c : Content D) → named v.slots token ≡ c → NoticedBy M from token later c v x cs b → Homely v.slots → Homely (all_viewed v cs).slots × AsideHomely b
+  noticed_homely : (v : View D I P) (from : ℕ) (token : RegistrationToken) (later : List RegistrationToken) (x : X) (cs : List (Change D I P)) (b : Doing D X) (c : Content D) → named v.slots token ≡ c → NoticedBy M from token later c v x cs b → Homely v.slots → Homely (all_viewed v cs).slots × AsideHomely b
   noticed_homely v from token later x cs b Vacant is h k = rw (h.0, h.1) (k, tt)
   noticed_homely v from token later x cs b InTurn is h k = rw (h.0, h.1) (k, tt)
   noticed_homely v from token later x cs b (Source d) is h k =
       let home = (law token d h.0 v.poll _ [] (home_named v.slots token d is k) h.1).0 in
       rw (h.2, h.3) (homely_again v.slots token d h.0 is home k, tt)
 
-  cut_homely : (v : View D P) (e : Pending) (x : X) (cs : List (Change D P)) (b : Doing D X) (c : Content D) → named v.slots (registration_of e.token) ≡ c → CutTo M e c v x cs b → Homely v.slots → Homely (all_viewed v cs).slots × AsideHomely b
+  cut_homely : (v : View D I P) (e : Pending) (x : X) (cs : List (Change D I P)) (b : Doing D X) (c : Content D) → named v.slots (registration_of e.token) ≡ c → CutTo M e c v x cs b → Homely v.slots → Homely (all_viewed v cs).slots × AsideHomely b
   cut_homely v e x cs b Vacant is h k = rw (h.0, h.1) (k, tt)
   cut_homely v e x cs b InTurn is h k = rw (h.0, h.1) (k, tt)
   cut_homely v e x cs b (Source d) is h k =
       let token = registration_of e.token in
-      let home = (law token d h.0 (cut v.poll) (Turned e.readiness e.token (lent x h.4 h.1 h.3 h.5)) h.2 (home_named v.slots token d is k) h.6).0 in
-      rw (h.7, h.8) (homely_without v.slots e.token.slot InTurn (λ d e. cc) k, home)
+      let home = (law token d h.0 (cut v.poll) (Turned e.readiness e.token (lent x v.held.asks h.1 h.3 (asks_after v.held.asks h.4))) h.2 (home_named v.slots token d is k) h.5).0 in
+      rw (h.6, h.7) (homely_without v.slots e.token.slot InTurn (λ d e. cc) k, home)
 
-  from_homely : (v : View D P) (es : List Pending) (x : X) (cs : List (Change D P)) (b : Doing D X) → CutFrom M es v x cs b → Homely v.slots → Homely (all_viewed v cs).slots × AsideHomely b
+  from_homely : (v : View D I P) (es : List Pending) (x : X) (cs : List (Change D I P)) (b : Doing D X) → CutFrom M es v x cs b → Homely v.slots → Homely (all_viewed v cs).slots × AsideHomely b
   from_homely v [] x cs b h k = rw (h.0, h.1) (k, tt)
   from_homely v (e ∷ es) x cs b h k = cut_homely v e x cs b (named v.slots (registration_of e.token)) refl h k
 
-  emptied_homely : (v : View D P) (token : RegistrationToken) (c : Content D) → Homely v.slots → Homely (all_viewed v (emptied token c)).slots
+  emptied_homely : (v : View D I P) (token : RegistrationToken) (c : Content D) → Homely v.slots → Homely (all_viewed v (emptied token c)).slots
   emptied_homely v token Vacant k = k
   emptied_homely v token (Source d) k = k
   emptied_homely v token InTurn k = homely_without v.slots token.slot Vacant (λ d e. cc) k
 
-  acted_homely : (v : View D P) (token : RegistrationToken) (d : D) (answer : Result PostAction Error) (cs : List (Change D P)) (e : D) (told : Outcome) → ActedBy M token d answer v cs e told → Homely v.slots → IsAtHome M token d → Homely (all_viewed v cs).slots × IsAtHome M token e
+  acted_homely : (v : View D I P) (token : RegistrationToken) (d : D) (answer : Result PostAction Error) (cs : List (Change D I P)) (e : D) (told : Outcome) → ActedBy M token d answer v cs e told → Homely v.slots → IsAtHome M token d → Homely (all_viewed v cs).slots × IsAtHome M token e
   acted_homely v token d (Ok Continue) cs e told h k home = rw (h.0, h.1) (k, home)
-  acted_homely v token d (Ok Reregister) cs e told h k home = rw h.2 (k, anew_home token (with_pass None v.poll) d e told h.0 h.1 home)
-  acted_homely v token d (Ok DisableIt) cs e told h k home = rw h.2 (k, (law token d e (with_pass None v.poll) (Unregistered told) h.0 home h.1).0)
-  acted_homely v token d (Ok Remove) cs e told h k home = rw (h.0, h.1) (emptied_homely (viewed v Ended) token (named v.slots token) k, home)
+  acted_homely v token d (Ok Reregister) cs e told h k home = rw h.2 (k, anew_home token (v.poll) d e told h.0 h.1 home)
+  acted_homely v token d (Ok DisableIt) cs e told h k home = rw h.2 (k, (law token d e (v.poll) (Unregistered told) h.0 home h.1).0)
+  acted_homely v token d (Ok Remove) cs e told h k home = rw (h.0, h.1) (emptied_homely (viewed v (Holds (Pend Continue))) token (named v.slots token) k, home)
   acted_homely v token d (Err error) cs e told h k home = rw (h.0, h.1) (k, home)
 
-  returned_homely : (v : View D P) (token : RegistrationToken) (d : D) (c : Content D) (cs : List (Change D P)) → named v.slots token ≡ c → ReturnedTo M token d c v cs → Homely v.slots → IsAtHome M token d → Homely (all_viewed v cs).slots
+  returned_homely : (v : View D I P) (token : RegistrationToken) (d : D) (c : Content D) (cs : List (Change D I P)) → named v.slots token ≡ c → ReturnedTo M token d c v cs → Homely v.slots → IsAtHome M token d → Homely (all_viewed v cs).slots
   returned_homely v token d InTurn cs is h k home = rw h (homely_back v.slots token d (named_there v.slots token InTurn is refl) home k)
   returned_homely v token d Vacant cs is h k home = rw h.4 k
   returned_homely v token d (Source f) cs is h k home = rw h.4 k
@@ -195,7 +202,63 @@ module _ {D P X Q : Type 0} (M : Meaning D P (Lent X Q)) (O : Outside P) (law : 
   aside_waited (Ok now) given x = tt
   aside_waited (Err cause) given x = tt
 
-  step_homely : (v : View D P) (a b : Doing D X) (cs : List (Change D P)) → Step M O v a cs b → Homely v.slots → AsideHomely a → Homely (all_viewed v cs).slots × AsideHomely b
+  inserted_homely : (v : View D I P) (d : D) (answer : Result RegistrationToken (InsertError D)) (cs : List (Change D I P)) → InsertedBy M d answer v cs → Homely v.slots → Homely (all_viewed v cs).slots
+  inserted_homely v d (Ok token) cs h k =
+      let home = (law token d h.2 v.poll (Registered (factory_of token) (Ok tt) h.3) h.4 (own_factory token) h.5).0 in
+      let there : IsThere (claimed v.slots) token.slot token.version = subst (λ (t : RegistrationToken). IsThere (claimed v.slots) t.slot t.version) (sym h.1) (named_there (claimed v.slots) (next_registration v.slots) InTurn (named_claimed v.slots) refl) in
+      rw h.6 (homely_back (claimed v.slots) token h.2 there home (homely_claim v.slots k))
+  inserted_homely v d (Err refused) cs (inl h) k = rw h.2 k
+  inserted_homely v d (Err refused) cs (inr h) k = rw h.4 (homely_without (claimed v.slots) (first_vacant v.slots) Vacant (λ d e. cc) (homely_claim v.slots k))
+
+  asked_homely : (v : View D I P) (R : D → Outcome → List (PollStep P) → D → Type 0) (noted : D → Outcome → HeldStep D I) (token : RegistrationToken) (answer : Outcome) (cs : List (Change D I P)) (c : Content D)
+      → ((d e : D) (l : List (PollStep P)) → R d answer l e → IsAtHome M token d → IsAtHome M token e)
+      → named v.slots token ≡ c → AskedIn R noted token c answer cs → Homely v.slots → Homely (all_viewed v cs).slots
+  asked_homely v R noted token answer cs Vacant f is h k = rw h.1 k
+  asked_homely v R noted token answer cs InTurn f is h k = rw h.1 k
+  asked_homely v R noted token answer cs (Source d) f is h k = rw h.3 (homely_again v.slots token d h.0 is (f d h.0 h.1 h.2 (home_named v.slots token d is k)) k)
+
+  removed_homely : (v : View D I P) (token : RegistrationToken) (answer : Option D) (cs : List (Change D I P)) (c : Content D) → RemovedIn M token c answer v cs → Homely v.slots → Homely (all_viewed v cs).slots
+  removed_homely v token answer cs Vacant h k = rw h.1 k
+  removed_homely v token answer cs InTurn h k = rw h.1 k
+  removed_homely v token answer cs (Source d) h k = rw h.5 (homely_without v.slots token.slot Vacant (λ d e. cc) k)
+
+  -- what stays of slots and sources where only what both hold changes
+  told_homely : (v : View D I P) (ds cs : List (Change D I P)) (step : HeldStep D I) → cs ≡ ds ++ Holds step ∷ [] → Homely (all_viewed v ds).slots → Homely (all_viewed v cs).slots
+  told_homely v ds cs step is h = rw (is, viewed-append v ds (Holds step ∷ [])) h
+
+  own_or : {A B G : Type 0} (c : Content D) → (c ≡ InTurn → A → G) → (B → G) → OwnOr c A B → G
+  own_or InTurn f g h = f refl h
+  own_or Vacant f g h = g h
+  own_or (Source d) f g h = g h
+
+  served_as_homely : (v : View D I P) (request : Request D I) (answer : Outcome) (cs : List (Change D I P)) → ServedAs M request answer v cs → Homely v.slots → Homely (all_viewed v cs).slots
+  served_as_homely v (AskEnable token) answer cs h k = own_or (named v.slots token) (λ _ o. rw o.1 k) (λ o. asked_homely v _ _ token answer cs (named v.slots token) (λ d e l u home. first_home token v.poll d e answer l u home) refl o k) h
+  served_as_homely v (AskUpdate token) answer cs h k = own_or (named v.slots token) (λ _ o. rw o.1 k) (λ o. asked_homely v _ _ token answer cs (named v.slots token) (λ d e l u home. anew_home token v.poll d e answer l u home) refl o k) h
+  served_as_homely v (AskDisable token) answer cs h k = own_or (named v.slots token) (λ _ o. rw o.1 k) (λ o. asked_homely v _ _ token answer cs (named v.slots token) (λ d e l u home. (law token d e v.poll (Unregistered answer) l home u).0) refl o k) h
+  served_as_homely v (AskInsert d) answer cs h k = absurd h
+  served_as_homely v (AskRemove token) answer cs h k = absurd h
+  served_as_homely v (AskIdle idle) answer cs h k = absurd h
+  served_as_homely v (AskCancel ticket) answer cs h k = absurd h
+
+  served_homely : (v : View D I P) (request : Request D I) (cs : List (Change D I P)) → Served M request v cs → Homely v.slots → Homely (all_viewed v cs).slots
+  served_homely v (AskInsert d) cs h k = told_homely v h.1 cs _ h.3 (inserted_homely v d h.0 h.1 h.2 k)
+  served_homely v (AskEnable token) cs h k = told_homely v h.1 cs _ h.3 (served_as_homely v (AskEnable token) h.0 h.1 h.2 k)
+  served_homely v (AskUpdate token) cs h k = told_homely v h.1 cs _ h.3 (served_as_homely v (AskUpdate token) h.0 h.1 h.2 k)
+  served_homely v (AskDisable token) cs h k = told_homely v h.1 cs _ h.3 (served_as_homely v (AskDisable token) h.0 h.1 h.2 k)
+  served_homely v (AskRemove token) cs h k =
+      own_or (named v.slots token) (λ _ o. rw o (homely_without v.slots token.slot Vacant (λ d e. cc) k)) (λ o. told_homely v o.1 cs _ o.3 (removed_homely v token o.0 o.1 (named v.slots token) o.2 k)) h
+  served_homely v (AskIdle idle) cs h k = rw h k
+  served_homely v (AskCancel ticket) cs h k = rw h k
+
+  served_from_homely : (v : View D I P) (asked : List (Asked D I)) (on next b : Doing D X) (cs : List (Change D I P)) → ServedFrom M asked on next b v cs → Homely v.slots → AsideHomely on → AsideHomely next → Homely (all_viewed v cs).slots × AsideHomely b
+  served_from_homely v [] on next b cs h k aside after = rw (h.0, h.1) (k, after)
+  served_from_homely v (a ∷ as') on next b cs h k aside after = rw (h.2, h.3) (served_homely (viewed v (Holds Begun)) a.request h.0 h.1 k, aside)
+
+  run_from_homely : (v : View D I P) (idles : List (Waiter I)) (x : X) (cs : List (Change D I P)) (b : Doing D X) → RunFrom runs idles v x cs b → Homely v.slots → Homely (all_viewed v cs).slots × AsideHomely b
+  run_from_homely v [] x cs b h k = rw (h.0, h.1) (k, tt)
+  run_from_homely v (i ∷ is) x cs b h k = rw (h.3, h.4) (k, tt)
+
+  step_homely : (v : View D I P) (a b : Doing D X) (cs : List (Change D I P)) → Step M runs O v a cs b → Homely v.slots → AsideHomely a → Homely (all_viewed v cs).slots × AsideHomely b
   step_homely v (Beginning timeout x) b cs h k aside = rw (h.1, h.2) (k, tt)
   step_homely v (Sleeping timeout [] x) b cs h k aside = rw (h.0, h.1) (k, tt)
   step_homely v (Sleeping timeout (t ∷ later) x) b cs h k aside = slept_homely v timeout t later x cs b (named v.slots t) refl h k
@@ -204,37 +267,21 @@ module _ {D P X Q : Type 0} (M : Meaning D P (Lent X Q)) (O : Outside P) (law : 
   step_homely v (Noticing from [] x) b cs h k aside = rw (h.0, h.1) (k, tt)
   step_homely v (Noticing from (t ∷ later) x) b cs h k aside = noticed_homely v from t later x cs b (named v.slots t) refl h k
   step_homely v (Cutting x) b cs h k aside = from_homely v v.poll.batch x cs b h k
-  step_homely v (Ending token d answer x) b cs h k aside = rw h.3 (acted_homely v token d answer cs h.0 h.1 h.2 k aside)
+  step_homely v (Serving token d answer x) b cs h k aside = served_from_homely v v.held.asks.written _ _ b cs h k aside aside
+  step_homely v (Ending token d answer x) b cs h k aside = rw h.3 (acted_homely v token d (action_of answer v.held.pending) cs h.0 h.1 h.2 k aside)
   step_homely v (Returning token d told x) b cs h k aside = rw h.1 (returned_homely v token d (named v.slots token) cs refl h.0 k aside, aside_after told x)
+  step_homely v (Idling x) b cs h k aside = rw (h.0, h.1) (k, tt)
+  step_homely v (RunningIdles x) b cs h k aside = run_from_homely v v.held.asks.running x cs b h k
+  step_homely v (ServingIdle x) b cs h k aside = served_from_homely v v.held.asks.written _ _ b cs h k tt tt
   step_homely v (Leaving answer x) b cs h k aside = absurd h
 
-  steps_homely : (v : View D P) (a b : Doing D X) (css : List (List (Change D P))) → Steps M O v a css b → Homely v.slots → AsideHomely a → Homely (traced v css).slots
+  steps_homely : (v : View D I P) (a b : Doing D X) (css : List (List (Change D I P))) → Steps M runs O v a css b → Homely v.slots → AsideHomely a → Homely (traced v css).slots
   steps_homely v a b [] h k aside = k
   steps_homely v a b (cs ∷ css) h k aside =
       let one = step_homely v a h.0 cs h.1 k aside in
       steps_homely (all_viewed v cs) h.0 b css h.3 one.0 one.1
 
-  inserted_homely : (v : View D P) (d : D) (answer : Result RegistrationToken (InsertError D)) (cs : List (Change D P)) → InsertedBy M d answer v cs → Homely v.slots → Homely (all_viewed v cs).slots
-  inserted_homely v d (Ok token) cs h k =
-      let home = (law token d h.2 v.poll (Registered (factory_of token) (Ok tt) h.3) h.4 (own_factory token) h.5).0 in
-      let there : IsThere (claimed v.slots) token.slot token.version = subst (λ (t : RegistrationToken). IsThere (claimed v.slots) t.slot t.version) (sym h.1) (named_there (claimed v.slots) (next_registration v.slots) InTurn (named_claimed v.slots) refl) in
-      rw h.6 (homely_back (claimed v.slots) token h.2 there home (homely_claim v.slots k))
-  inserted_homely v d (Err refused) cs (inl h) k = rw h.2 k
-  inserted_homely v d (Err refused) cs (inr h) k = rw h.4 (homely_without (claimed v.slots) (first_vacant v.slots) Vacant (λ d e. cc) (homely_claim v.slots k))
-
-  asked_homely : (v : View D P) (R : D → Outcome → List (PollStep P) → D → Type 0) (noted : D → Outcome → HeldStep) (token : RegistrationToken) (answer : Outcome) (cs : List (Change D P)) (c : Content D)
-      → ((d e : D) (l : List (PollStep P)) → R d answer l e → IsAtHome M token d → IsAtHome M token e)
-      → named v.slots token ≡ c → AskedIn R noted token c answer cs → Homely v.slots → Homely (all_viewed v cs).slots
-  asked_homely v R noted token answer cs Vacant f is h k = rw h.1 k
-  asked_homely v R noted token answer cs InTurn f is h k = rw h.1 k
-  asked_homely v R noted token answer cs (Source d) f is h k = rw h.3 (homely_again v.slots token d h.0 is (f d h.0 h.1 h.2 (home_named v.slots token d is k)) k)
-
-  removed_homely : (v : View D P) (token : RegistrationToken) (answer : Option D) (cs : List (Change D P)) (c : Content D) → RemovedIn M token c answer v cs → Homely v.slots → Homely (all_viewed v cs).slots
-  removed_homely v token answer cs Vacant h k = rw h.1 k
-  removed_homely v token answer cs InTurn h k = rw h.1 k
-  removed_homely v token answer cs (Source d) h k = rw h.5 (homely_without v.slots token.slot Vacant (λ d e. cc) k)
-
-  exchanged_homely : (v : View D P) (token : RegistrationToken) (new : D) (c : Content D) (answer : Result D D) (cs : List (Change D P)) → named v.slots token ≡ c → AllBringNoKey M cs → ExchangedIn token new c answer cs → Homely v.slots → Homely (all_viewed v cs).slots
+  exchanged_homely : (v : View D I P) (token : RegistrationToken) (new : D) (c : Content D) (answer : Result D D) (cs : List (Change D I P)) → named v.slots token ≡ c → AllBringNoKey M cs → ExchangedIn token new c answer cs → Homely v.slots → Homely (all_viewed v cs).slots
   exchanged_homely v token new Vacant answer cs is fresh h k = rw h.1 k
   exchanged_homely v token new InTurn answer cs is fresh h k = rw h.1 k
   exchanged_homely v token new (Source d) answer cs is fresh h k =
@@ -242,26 +289,26 @@ module _ {D P X Q : Type 0} (M : Meaning D P (Lent X Q)) (O : Outside P) (law : 
       let home = home_named v.slots token d is k in
       rw h.1 (homely_back v.slots token new (named_there v.slots token (Source d) is refl) (λ key held. home key (fewer key held)) k)
 
-  fresh_first : (cs ds : List (Change D P)) → AllBringNoKey M (cs ++ ds) → AllBringNoKey M cs
+  fresh_first : (cs ds : List (Change D I P)) → AllBringNoKey M (cs ++ ds) → AllBringNoKey M cs
   fresh_first [] ds h = tt
   fresh_first (c ∷ cs) ds h = (h.0, fresh_first cs ds h.1)
 
-  fresh_rest : (cs ds : List (Change D P)) → AllBringNoKey M (cs ++ ds) → AllBringNoKey M ds
+  fresh_rest : (cs ds : List (Change D I P)) → AllBringNoKey M (cs ++ ds) → AllBringNoKey M ds
   fresh_rest [] ds h = h
   fresh_rest (c ∷ cs) ds h = fresh_rest cs ds h.1
 
-  once_fresh : (v : View D P) (R : View D P → List (Change D P) → Type 0) (css : List (List (Change D P))) → AllBringNoKey M (joined css) → Once O R v css
-      → ((cs : List (Change D P)) → AllBringNoKey M cs → R v cs → Homely (all_viewed v cs).slots) → Homely (traced v css).slots
+  once_fresh : (v : View D I P) (R : View D I P → List (Change D I P) → Type 0) (css : List (List (Change D I P))) → AllBringNoKey M (joined css) → Once O R v css
+      → ((cs : List (Change D I P)) → AllBringNoKey M cs → R v cs → Homely (all_viewed v cs).slots) → Homely (traced v css).slots
   once_fresh v R [] fresh h f = absurd h
   once_fresh v R (cs ∷ []) fresh h f = f cs (fresh_first cs [] fresh) h.0
   once_fresh v R (cs ∷ ds ∷ css) fresh h f = absurd h
 
-  once_homely : (v : View D P) (R : View D P → List (Change D P) → Type 0) (css : List (List (Change D P))) → Once O R v css → ((cs : List (Change D P)) → R v cs → Homely (all_viewed v cs).slots) → Homely (traced v css).slots
+  once_homely : (v : View D I P) (R : View D I P → List (Change D I P) → Type 0) (css : List (List (Change D I P))) → Once O R v css → ((cs : List (Change D I P)) → R v cs → Homely (all_viewed v cs).slots) → Homely (traced v css).slots
   once_homely v R [] h f = absurd h
   once_homely v R (cs ∷ []) h f = f cs h.0
   once_homely v R (cs ∷ ds ∷ css) h f = absurd h
 
-  case_homely : (v : View D P) (call : LoopCall D P X) (answer : LoopAnswer D P X) (css : List (List (Change D P))) → AllBringNoKey M (joined css) → Case M O call answer v css → Homely v.slots → Homely (traced v css).slots
+  case_homely : (v : View D I P) (call : LoopCall D P X I) (answer : LoopAnswer D P X I) (css : List (List (Change D I P))) → AllBringNoKey M (joined css) → Case M runs O call answer v css → Homely v.slots → Homely (traced v css).slots
   case_homely v (Insert d) (Inserted answer) css fresh h k = once_homely v (InsertedBy M d answer) css h (λ cs r. inserted_homely v d answer cs r k)
   case_homely v (Enable token) (Enabled answer) css fresh h k = once_homely v (EnabledBy M token answer) css h (λ cs r. asked_homely v _ _ token answer cs (named v.slots token) (λ d e l u home. first_home token v.poll d e answer l u home) refl r k)
   case_homely v (Update token) (Updated answer) css fresh h k = once_homely v (UpdatedBy M token answer) css h (λ cs r. asked_homely v _ _ token answer cs (named v.slots token) (λ d e l u home. anew_home token v.poll d e answer l u home) refl r k)
@@ -271,17 +318,21 @@ module _ {D P X Q : Type 0} (M : Meaning D P (Lent X Q)) (O : Outside P) (law : 
       once_fresh v (ExchangedBy token d answer) css fresh h (λ cs less r. exchanged_homely v token d (named v.slots token) answer cs refl less r k)
   case_homely v (Dispatch timeout x) (Dispatched answer x') css fresh (inl h) k = rw h.2 k
   case_homely v (Dispatch timeout x) (Dispatched answer x') css fresh (inr h) k = steps_homely v (Beginning (nanos_of timeout) x) (Leaving answer x') css h k tt
+  case_homely v (InsertIdle idle) (IdleInserted (Ok made)) css fresh h k = once_homely v (IdleInsertedBy idle (Ok made)) css h (λ cs r. rw r.2 k)
+  case_homely v (InsertIdle idle) (IdleInserted (Err refused)) css fresh h k = once_homely v (IdleInsertedBy idle (Err refused)) css h (λ cs r. rw r.2 k)
+  case_homely v (Cancel idle) Cancelled css fresh h k = rw h k
+  case_homely v (AnswerOf ticket) (Answered answer) css fresh h k = rw h.1 k
   case_homely v (NewPoller p) (OldPoller q) css fresh h k = rw h.1 k
   case_homely v call answer css fresh h k = absurd h
 
-  run_homely : (calls : List (LoopCall D P X)) (answers : List (LoopAnswer D P X)) (csss : List (List (List (Change D P)))) (w w' : World D P) → AllBringNoKey M (changes_of csss) → Run M O calls answers csss w w' → Homely (seen w).slots → Homely (seen w').slots
+  run_homely : (calls : List (LoopCall D P X I)) (answers : List (LoopAnswer D P X I)) (csss : List (List (List (Change D I P)))) (w w' : World D I P) → AllBringNoKey M (changes_of csss) → Run M runs O calls answers csss w w' → Homely (seen w).slots → Homely (seen w').slots
   run_homely [] [] [] w w' fresh run k = rw run k
   run_homely (call ∷ calls) (answer ∷ answers) (css ∷ csss) w w' fresh run k =
       run_homely calls answers csss (all_traced w css) w' (fresh_rest (joined css) (changes_of csss) fresh) run.1
-      (subst (λ (v : View D P). Homely v.slots) (sym (seen-all_traced w css)) (case_homely (seen w) call answer css (fresh_first (joined css) (changes_of csss) fresh) run.0 k))
+      (subst (λ (v : View D I P). Homely v.slots) (sym (seen-all_traced w css)) (case_homely (seen w) call answer css (fresh_first (joined css) (changes_of csss) fresh) run.0 k))
   run_homely calls answers csss w w' fresh run k = absurd run
 
-  pub run_home : (calls : List (LoopCall D P X)) (answers : List (LoopAnswer D P X)) (csss : List (List (List (Change D P)))) (w w' : World D P) → IsNew w → AllBringNoKey M (changes_of csss) → Run M O calls answers csss w w' → AllAtHome M w'
+  pub run_home : (calls : List (LoopCall D P X I)) (answers : List (LoopAnswer D P X I)) (csss : List (List (List (Change D I P)))) (w w' : World D I P) → IsNew w → AllBringNoKey M (changes_of csss) → Run M runs O calls answers csss w w' → AllAtHome M w'
   run_home calls answers csss w w' new fresh run i r d here is =
       let none : Homely (seen w).slots = λ j v e at. absurd (none_there (seen w).slots (ap (λ rs. map slot_of rs) new.slots) j v e at) in
       run_homely calls answers csss w w' fresh run none i (r.reuse % 65536) d (slot_of r, slice_get-map slot_of w'.slots i ∙ ap (λ o. option_map slot_of o) here, refl, is)

@@ -1,5 +1,7 @@
 -- Insertions, and what else is asked of one source.
-use Rattle.std.proofs.Common.{◌≡◌, ◌<◌, ◌^◌, ℕ, zero, suc, List, [], ◌∷◌, refl, ap, sym, ◌∙◌, subst, false, None, Some, Ok, Err, inl, inr}
+use Rattle.std.proofs.Common.{◌≡◌, ◌<◌, ◌^◌, ◌-◌, IfOk, IfErr, Result, ℕ, zero, suc, List, [], ◌∷◌, refl, ap, sym, ◌∙◌, subst, false, None, Some, Ok, Err, inl, inr}
+use Rattle.calloop.specs.declared.loop_logic.asks.Idle.{Idle}
+use Rattle.calloop_wake.specs.declared.error.InsertError.{InsertError}
 use Rattle.calloop_wake.specs.declared.error.Error.{Error}
 use Rattle.calloop_wake.specs.declared.error.Error.TheVariants.{InvalidToken}
 use Rattle.calloop_wake.specs.declared.token.TokenFactory.{TokenFactory}
@@ -13,14 +15,15 @@ use Rattle.calloop_wake.proofs.Inserted.{claim_ended}
 use Rattle.calloop_wake.proofs.Vacancy.{slice_get-claimed_at}
 use Rattle.calloop_core.specs.Polls.{PollView, PollStep, polls_after}
 use Rattle.calloop_core.specs.Pollers.{Outside}
-use Rattle.calloop.specs.declared.loop_logic.LoopCall.TheVariants.{Insert, Enable, Update, Disable, Remove, Exchange}
-use Rattle.calloop.specs.declared.loop_logic.LoopAnswer.TheVariants.{Inserted, Enabled, Updated, Disabled, Removed, Exchanged}
+use Rattle.calloop.specs.declared.loop_logic.LoopCall.TheVariants.{Insert, Enable, Update, Disable, Remove, Exchange, InsertIdle}
+use Rattle.calloop.specs.declared.loop_logic.LoopAnswer.TheVariants.{Inserted, Enabled, Updated, Disabled, Removed, Exchanged, IdleInserted}
 use Rattle.calloop_core.specs.Deeds.{Registered, Reregistered, Unregistered, Lent}
 use Rattle.calloop_core.specs.Meanings.{Meaning, Does}
-use Rattle.calloop.specs.Held.{HeldStep, Listed, Unlisted, held_after}
+use Rattle.calloop.specs.Held.{HeldStep, IdleNew, Listed, Unlisted, held_after}
+use Rattle.calloop.specs.Askings.{Asks, Runs, CannotAsk, with_new_idle}
 use Rattle.calloop.specs.Machine.{View, Change, Put, Claim, Swapped, Polls, Holds, AllFit, IsFull, StandsIn, all_viewed}
 use Rattle.calloop.proofs.Going.{full_named}
-use Rattle.calloop.specs.Rules.{Did, Case, Once, Outcome, ByOne, RegisteredBy, entered, left, CannotInsert, InsertedBy, EnabledBy, UpdatedBy, DisabledBy, RemovedBy, RemovedIn, ExchangedIn, ExchangedBy, AskedIn, factory_of}
+use Rattle.calloop.specs.Rules.{Did, Case, Once, Outcome, ByOne, RegisteredBy, entered, left, CannotInsert, InsertedBy, EnabledBy, UpdatedBy, DisabledBy, RemovedBy, RemovedIn, ExchangedIn, ExchangedBy, IdleInsertedBy, AskedIn, factory_of}
 
 -- what is put into a slot last stands there
 changed_twice : {D : Type 0} (c d : Content D) (ss : List (Slot D)) (i : ℕ) → changed (with_content c) (changed (with_content d) ss i) i ≡ changed (with_content c) ss i
@@ -28,11 +31,11 @@ changed_twice c d [] i = refl
 changed_twice c d (s ∷ ss) zero = refl
 changed_twice c d (s ∷ ss) (suc i) = ap (λ ts. s ∷ ts) (changed_twice c d ss i)
 
-module _ {D P X Q : Type 0} (M : Meaning D P (Lent X Q)) (O : Outside P) (v : View D P) where
-  one_step : (R : View D P → List (Change D P) → Type 0) (cs : List (Change D P)) (u : View D P) → R v cs → AllFit O v cs → u ≡ all_viewed v cs → Did (Once O R) v u
+module _ {D I P X : Type 0} (M : Meaning D P (Lent X (Asks D I))) (runs : Runs D I X) (O : Outside P) (v : View D I P) where
+  one_step : (R : View D I P → List (Change D I P) → Type 0) (cs : List (Change D I P)) (u : View D I P) → R v cs → AllFit O v cs → u ≡ all_viewed v cs → Did (Once O R) v u
   one_step R cs u r fit is = (cs ∷ [], (r, fit), is)
 
-  pub not_claimed : (d : D) (error : Error) (u : View D P) → CannotInsert v.slots (M.needs d) error → u ≡ v → Did (Case M O (Insert d) (Inserted (Err (record { inserted = d; error = error })))) v u
+  pub not_claimed : (d : D) (error : Error) (u : View D I P) → CannotInsert v.slots (M.needs d) error → u ≡ v → Did (Case M runs O (Insert d) (Inserted (Err (record { inserted = d; error = error })))) v u
   not_claimed d error u h same = one_step (InsertedBy M d (Err (record { inserted = d; error = error }))) [] u (inl (refl, h, refl)) tt same
 
   claim_full : IsFull (claimed v.slots) (first_vacant v.slots)
@@ -40,9 +43,9 @@ module _ {D P X Q : Type 0} (M : Meaning D P (Lent X Q)) (O : Outside P) (v : Vi
 
   pub not_registered : (d e : D) (error : Error) (token : RegistrationToken) (f : TokenFactory) (p' : PollView P) → token ≡ next_registration v.slots → token.slot < 2 ^ 32
       → Does O M d v.poll (Registered (factory_of token) (Err error) f) e p'
-      → Did (Case M O (Insert d) (Inserted (Err (record { inserted = e; error = error })))) v (record v { slots = after_turn Vacant token (claimed v.slots); poll = p' })
+      → Did (Case M runs O (Insert d) (Inserted (Err (record { inserted = e; error = error })))) v (record v { slots = after_turn Vacant token (claimed v.slots); poll = p' })
   not_registered d e error token f p' is few r =
-      let u : View D P = record v { slots = after_turn Vacant token (claimed v.slots); poll = p' } in
+      let u : View D I P = record v { slots = after_turn Vacant token (claimed v.slots); poll = p' } in
       let ended : after_turn Vacant token (claimed v.slots) ≡ changed (with_content Vacant) (claimed v.slots) (first_vacant v.slots) =
       ap (λ (t : RegistrationToken). after_turn Vacant t (claimed v.slots)) is ∙ claim_ended v.slots Vacant in
       one_step (InsertedBy M d (Err (record { inserted = e; error = error }))) (Claim d ∷ Polls r.0 ∷ Put (first_vacant v.slots) Vacant ∷ []) u
@@ -52,7 +55,7 @@ module _ {D P X Q : Type 0} (M : Meaning D P (Lent X Q)) (O : Outside P) (v : Vi
 
   pub registered : (d e : D) (token : RegistrationToken) (f : TokenFactory) (p' : PollView P) → token ≡ next_registration v.slots → token.slot < 2 ^ 32
       → Does O M d v.poll (Registered (factory_of token) (Ok tt) f) e p'
-      → Did (Case M O (Insert d) (Inserted (Ok token))) v (record { slots = after_turn (Source e) token (claimed v.slots); poll = p'; held = held_after v.held (Listed (M.needs d) token) })
+      → Did (Case M runs O (Insert d) (Inserted (Ok token))) v (record { slots = after_turn (Source e) token (claimed v.slots); poll = p'; held = held_after v.held (Listed (M.needs d) token) })
   registered d e token f p' is few r =
       let ended : after_turn (Source e) token (claimed v.slots) ≡ changed (with_content (Source e)) (claimed v.slots) token.slot =
       ap (λ (t : RegistrationToken). after_turn (Source e) t (claimed v.slots)) is ∙ claim_ended v.slots (Source e) ∙ ap (λ (t : RegistrationToken). changed (with_content (Source e)) (claimed v.slots) t.slot) (sym is) in
@@ -61,20 +64,20 @@ module _ {D P X Q : Type 0} (M : Meaning D P (Lent X Q)) (O : Outside P) (v : Vi
       (tt, (r.2.0, (tt, (subst (λ (t : RegistrationToken). IsFull (claimed v.slots) t.slot) (sym is) claim_full, tt))))
       (ap (λ (ss : List (Slot D)). record { slots = ss; poll = p'; held = held_after v.held (Listed (M.needs d) token) }) ended ∙ ap (λ (q : PollView P). record { slots = changed (with_content (Source e)) (claimed v.slots) token.slot; poll = q; held = held_after v.held (Listed (M.needs d) token) }) r.2.1)
 
-  none_asked : (R : D → Outcome → List (PollStep P) → D → Type 0) (noted : D → Outcome → HeldStep) (token : RegistrationToken) (c : Content D) → None ≡ source_of c → AskedIn R noted token c (Err InvalidToken) []
+  none_asked : (R : D → Outcome → List (PollStep P) → D → Type 0) (noted : D → Outcome → HeldStep D I) (token : RegistrationToken) (c : Content D) → None ≡ source_of c → AskedIn R noted token c (Err InvalidToken) []
   none_asked R noted token Vacant h = (refl, refl)
   none_asked R noted token InTurn h = (refl, refl)
   none_asked R noted token (Source d) h = cc
 
   -- without its source, which goes back to its slot
-  abbrev pub out : RegistrationToken → View D P
+  abbrev pub out : RegistrationToken → View D I P
   out token = record v { slots = changed (with_content InTurn) v.slots token.slot }
 
-  abbrev pub back : RegistrationToken → D → View D P → View D P
+  abbrev pub back : RegistrationToken → D → View D I P → View D I P
   back token e u = record u { slots = after_turn (Source e) token u.slots }
 
-  asked : (R : D → Outcome → List (PollStep P) → D → Type 0) (noted : D → Outcome → HeldStep) (B : View D P → List (Change D P) → Type 0) (token : RegistrationToken) (d e : D) (answer : Outcome) (u : View D P)
-      → ((cs : List (Change D P)) → AskedIn R noted token (named v.slots token) answer cs → B v cs) → named v.slots token ≡ Source d
+  asked : (R : D → Outcome → List (PollStep P) → D → Type 0) (noted : D → Outcome → HeldStep D I) (B : View D I P → List (Change D I P) → Type 0) (token : RegistrationToken) (d e : D) (answer : Outcome) (u : View D I P)
+      → ((cs : List (Change D I P)) → AskedIn R noted token (named v.slots token) answer cs → B v cs) → named v.slots token ≡ Source d
       → ByOne O R noted d answer e (out token) u → Did (Once O B) v (back token e u)
   asked R noted B token d e answer u by is r =
       let full : is_empty (named v.slots token) ≡ false = ap is_empty is in
@@ -84,25 +87,25 @@ module _ {D P X Q : Type 0} (M : Meaning D P (Lent X Q)) (O : Outside P) (v : Vi
       (full_named v.slots token full, (r.2, (tt, (full_named gone token (ap is_empty (named_changed v.slots token InTurn full)), tt))))
       (ap (back token e) r.3 ∙ ap (λ (ss : List (Slot D)). record { slots = ss; poll = polls_after v.poll r.0; held = held_after v.held (noted d answer) }) (turn_ended v.slots token (Source e) full))
 
-  pub not_enabled : (token : RegistrationToken) → None ≡ source_of (named v.slots token) → Did (Case M O (Enable token) (Enabled (Err InvalidToken))) v v
+  pub not_enabled : (token : RegistrationToken) → None ≡ source_of (named v.slots token) → Did (Case M runs O (Enable token) (Enabled (Err InvalidToken))) v v
   not_enabled token h = one_step (EnabledBy M token (Err InvalidToken)) [] v (none_asked _ _ token (named v.slots token) h) tt refl
 
-  pub not_updated : (token : RegistrationToken) → None ≡ source_of (named v.slots token) → Did (Case M O (Update token) (Updated (Err InvalidToken))) v v
+  pub not_updated : (token : RegistrationToken) → None ≡ source_of (named v.slots token) → Did (Case M runs O (Update token) (Updated (Err InvalidToken))) v v
   not_updated token h = one_step (UpdatedBy M token (Err InvalidToken)) [] v (none_asked _ _ token (named v.slots token) h) tt refl
 
-  pub not_disabled : (token : RegistrationToken) → None ≡ source_of (named v.slots token) → Did (Case M O (Disable token) (Disabled (Err InvalidToken))) v v
+  pub not_disabled : (token : RegistrationToken) → None ≡ source_of (named v.slots token) → Did (Case M runs O (Disable token) (Disabled (Err InvalidToken))) v v
   not_disabled token h = one_step (DisabledBy M token (Err InvalidToken)) [] v (none_asked _ _ token (named v.slots token) h) tt refl
 
-  pub enabled : (token : RegistrationToken) (d e : D) (answer : Outcome) (u : View D P) → named v.slots token ≡ Source d
-      → ByOne O (RegisteredBy M Registered token v.poll) (entered M token) d answer e (out token) u → Did (Case M O (Enable token) (Enabled answer)) v (back token e u)
+  pub enabled : (token : RegistrationToken) (d e : D) (answer : Outcome) (u : View D I P) → named v.slots token ≡ Source d
+      → ByOne O (RegisteredBy M Registered token v.poll) (entered M token) d answer e (out token) u → Did (Case M runs O (Enable token) (Enabled answer)) v (back token e u)
   enabled token d e answer u is r = asked (RegisteredBy M Registered token v.poll) (entered M token) (EnabledBy M token answer) token d e answer u (λ cs h. h) is r
 
-  pub updated : (token : RegistrationToken) (d e : D) (answer : Outcome) (u : View D P) → named v.slots token ≡ Source d
-      → ByOne O (RegisteredBy M Reregistered token v.poll) (entered M token) d answer e (out token) u → Did (Case M O (Update token) (Updated answer)) v (back token e u)
+  pub updated : (token : RegistrationToken) (d e : D) (answer : Outcome) (u : View D I P) → named v.slots token ≡ Source d
+      → ByOne O (RegisteredBy M Reregistered token v.poll) (entered M token) d answer e (out token) u → Did (Case M runs O (Update token) (Updated answer)) v (back token e u)
   updated token d e answer u is r = asked (RegisteredBy M Reregistered token v.poll) (entered M token) (UpdatedBy M token answer) token d e answer u (λ cs h. h) is r
 
-  pub disabled : (token : RegistrationToken) (d e : D) (answer : Outcome) (u : View D P) → named v.slots token ≡ Source d
-      → ByOne O (λ f a steps g. M.does f v.poll (Unregistered a) steps g) (left token) d answer e (out token) u → Did (Case M O (Disable token) (Disabled answer)) v (back token e u)
+  pub disabled : (token : RegistrationToken) (d e : D) (answer : Outcome) (u : View D I P) → named v.slots token ≡ Source d
+      → ByOne O (λ f a steps g. M.does f v.poll (Unregistered a) steps g) (left token) d answer e (out token) u → Did (Case M runs O (Disable token) (Disabled answer)) v (back token e u)
   disabled token d e answer u is r = asked (λ f a steps g. M.does f v.poll (Unregistered a) steps g) (left token) (DisabledBy M token answer) token d e answer u (λ cs h. h) is r
 
   none_removed : (token : RegistrationToken) (c : Content D) → None ≡ source_of c → RemovedIn M token c None v []
@@ -110,29 +113,38 @@ module _ {D P X Q : Type 0} (M : Meaning D P (Lent X Q)) (O : Outside P) (v : Vi
   none_removed token InTurn h = (refl, refl)
   none_removed token (Source d) h = cc
 
-  pub not_removed : (token : RegistrationToken) → None ≡ source_of (named v.slots token) → Did (Case M O (Remove token) (Removed None)) v v
+  pub not_removed : (token : RegistrationToken) → None ≡ source_of (named v.slots token) → Did (Case M runs O (Remove token) (Removed None)) v v
   not_removed token h = one_step (RemovedBy M token None) [] v (none_removed token (named v.slots token) h) tt refl
 
-  pub removed : (token : RegistrationToken) (d e : D) (told : Outcome) (u : View D P) → named v.slots token ≡ Source d
+  pub removed : (token : RegistrationToken) (d e : D) (told : Outcome) (u : View D I P) → named v.slots token ≡ Source d
       → ByOne O (λ f a steps g. M.does f v.poll (Unregistered a) steps g) (left token) d told e (record v { slots = after_turn Vacant token (changed (with_content InTurn) v.slots token.slot) }) u
-      → Did (Case M O (Remove token) (Removed (Some e))) v u
+      → Did (Case M runs O (Remove token) (Removed (Some e))) v u
   removed token d e told u is r =
       let full : is_empty (named v.slots token) ≡ false = ap is_empty is in
       one_step (RemovedBy M token (Some e)) (Put token.slot Vacant ∷ Polls r.0 ∷ Holds (Unlisted token) ∷ []) u
       (rw is (e, told, r.0, r.1, refl, refl)) (full_named v.slots token full, (r.2, (tt, tt)))
       (r.3 ∙ ap (λ (ss : List (Slot D)). record { slots = ss; poll = polls_after v.poll r.0; held = held_after v.held (Unlisted token) }) (turn_ended v.slots token Vacant full ∙ changed_twice Vacant InTurn v.slots token.slot))
 
-  none_exchanged : (token : RegistrationToken) (new : D) (c : Content D) → None ≡ source_of c → ExchangedIn {P = P} token new c (Err new) []
+  none_exchanged : (token : RegistrationToken) (new : D) (c : Content D) → None ≡ source_of c → ExchangedIn {I = I} {P = P} token new c (Err new) []
   none_exchanged token new Vacant h = (refl, refl)
   none_exchanged token new InTurn h = (refl, refl)
   none_exchanged token new (Source d) h = cc
 
-  pub not_exchanged : (token : RegistrationToken) (new : D) → None ≡ source_of (named v.slots token) → Did (Case M O (Exchange token new) (Exchanged (Err new))) v v
+  pub not_exchanged : (token : RegistrationToken) (new : D) → None ≡ source_of (named v.slots token) → Did (Case M runs O (Exchange token new) (Exchanged (Err new))) v v
   not_exchanged token new h = one_step (ExchangedBy token new (Err new)) [] v (none_exchanged token new (named v.slots token) h) tt refl
 
   pub exchanged : (token : RegistrationToken) (old new : D) → named v.slots token ≡ Source old
-      → Did (Case M O (Exchange token new) (Exchanged (Ok old))) v (record v { slots = changed (with_content (Source new)) v.slots token.slot })
+      → Did (Case M runs O (Exchange token new) (Exchanged (Ok old))) v (record v { slots = changed (with_content (Source new)) v.slots token.slot })
   exchanged token old new is =
       let s = named_slot v.slots token (ap is_empty is) in
       let stands : StandsIn v.slots token.slot old = (s.0, s.1, sym s.3 ∙ is) in
       one_step (ExchangedBy token new (Ok old)) (Swapped token.slot old new ∷ []) (record v { slots = changed (with_content (Source new)) v.slots token.slot }) (rw is (refl, refl)) (stands, tt) refl
+
+  pub idle_added : (idle : I) (answer : Result Idle (InsertError I)) (asked : Asks D I)
+      → IfOk answer (λ i. (v.held.asks.next < 2 ^ 64 - 1) × (i.ticket.number ≡ v.held.asks.next) × (asked ≡ with_new_idle idle v.held.asks))
+      → IfErr answer (λ e. (e.inserted ≡ idle) × CannotAsk v.held.asks e.error × (asked ≡ v.held.asks))
+      → Did (Case M runs O (InsertIdle idle) (IdleInserted answer)) v (record v { held = record v.held { asks = asked } })
+  idle_added idle (Ok made) asked ok err =
+      one_step (IdleInsertedBy idle (Ok made)) (Holds (IdleNew idle) ∷ []) (record v { held = record v.held { asks = asked } }) (ok.0, ok.1, refl) (tt, tt) (ap (λ (q : Asks D I). record v { held = record v.held { asks = q } }) ok.2)
+  idle_added idle (Err refused) asked ok err =
+      one_step (IdleInsertedBy idle (Err refused)) [] (record v { held = record v.held { asks = asked } }) (err.0, err.1, refl) tt (ap (λ (q : Asks D I). record v { held = record v.held { asks = q } }) err.2)

@@ -10,8 +10,11 @@ pub mod Rights
 pub mod Reuse
 pub mod Rounds
 pub mod Running
+pub mod Finding
 pub mod Pinging
 pub mod Registering
+pub mod Tickets
+pub mod Serving
 pub mod Telling
 pub mod Listing
 pub mod Homes

@@ -24,14 +24,21 @@ use Rattle.calloop_core.specs.Polls.{PollStep}
 use Rattle.calloop_core.specs.Deeds.{Lent}
 use Rattle.calloop_core.specs.Meanings.{Meaning}
 use Rattle.calloop.specs.declared.loop_logic.LoopCall.{LoopCall}
-use Rattle.calloop.specs.declared.loop_logic.LoopCall.TheVariants.{Insert, Enable, Update, Disable, Remove as RemoveCall, Exchange, Dispatch, Poller as NewPoller}
+use Rattle.calloop.specs.declared.loop_logic.LoopCall.TheVariants.{Insert, Enable, Update, Disable, Remove as RemoveCall, Exchange, Dispatch, InsertIdle, Cancel, Answer as AnswerOf, Poller as NewPoller}
 use Rattle.calloop.specs.declared.loop_logic.LoopAnswer.{LoopAnswer}
-use Rattle.calloop.specs.declared.loop_logic.LoopAnswer.TheVariants.{Inserted, Enabled, Updated, Disabled, Removed, Exchanged, Dispatched, Poller as OldPoller}
-use Rattle.calloop.specs.Held.{Held, HeldStep, held_after, listed, is_listed, is_one, is_another}
-use Rattle.calloop.specs.Machine.{World, View, Change, Ended, IsNew, seen, viewed, all_viewed}
-use Rattle.calloop.specs.Rules.{Doing, Beginning, Sleeping, Waiting, Gathering, Noticing, Cutting, Ending, Returning, Leaving, Outcome, Step, Steps, SleptAs, SleptBy, NoticedBy, told_in, CutTo, CutFrom, ActedBy, ReturnedTo, emptied, entered, left, after_turn, after_wait, Case, Once, Run, InsertedBy, AskedIn, EnabledBy, UpdatedBy, DisabledBy, RemovedIn, RemovedBy, ExchangedIn, ExchangedBy, traced, all_traced}
+use Rattle.calloop.specs.declared.loop_logic.LoopAnswer.TheVariants.{Inserted, Enabled, Updated, Disabled, Removed, Exchanged, Dispatched, IdleInserted, Cancelled, Answered, Poller as OldPoller}
+use Rattle.calloop.specs.declared.loop_logic.asks.Answer.{Answer}
+use Rattle.calloop.specs.Held.{Held, HeldStep, Begun, Pend, Told, held_after, listed, is_listed, is_one, is_another}
+use Rattle.calloop.specs.declared.loop_logic.asks.Asked.{Asked}
+use Rattle.calloop.specs.declared.loop_logic.asks.Idle.{Idle}
+use Rattle.calloop.specs.declared.loop_logic.asks.Idling.{Idling as Waiter}
+use Rattle.calloop.specs.declared.loop_logic.asks.Request.{Request}
+use Rattle.calloop.specs.declared.loop_logic.asks.Request.TheVariants.{Insert as AskInsert, Enable as AskEnable, Update as AskUpdate, Disable as AskDisable, Remove as AskRemove, Idle as AskIdle, Cancel as AskCancel}
+use Rattle.calloop.specs.Askings.{Asks, Runs}
+use Rattle.calloop.specs.Machine.{World, View, Change, Holds, IsNew, seen, viewed, all_viewed}
+use Rattle.calloop.specs.Rules.{Doing, Beginning, Sleeping, Waiting, Gathering, Noticing, Cutting, Serving, Ending, Returning, Idling, RunningIdles, ServingIdle, Leaving, Outcome, Step, Steps, SleptAs, SleptBy, NoticedBy, told_in, CutTo, CutFrom, ActedBy, ReturnedTo, emptied, entered, left, after_turn, after_wait, Case, Once, Run, InsertedBy, AskedIn, EnabledBy, UpdatedBy, DisabledBy, RemovedIn, RemovedBy, ExchangedIn, ExchangedBy, IdleInsertedBy, OwnOr, Served, ServedAs, ServedFrom, RunFrom, action_of, traced, all_traced}
 use Rattle.calloop.specs.Laws.{AllOnce, IsTold}
-use Rattle.calloop.proofs.Seen.{seen-all_traced}
+use Rattle.calloop.proofs.Seen.{seen-all_traced, viewed-append}
 
 -- Of names.
 
@@ -195,6 +202,15 @@ module _ {D : Type 0} where
         full = λ t is no. elim (is_in_listed t token ts is) [ inl k ↦ h.full t k refl | inr k ↦ subst (λ (u : RegistrationToken). Full slots u) (one_is token t k) mine ];
       }
 
+  -- one that is skipped is entered
+  tidy_in_skipped : (needed : Bool) (token : RegistrationToken) (slots : List (Slot D)) (ts : List RegistrationToken) → Tidy nobody slots ts → Tidy (is_one token) slots (if needed then listed token ts else ts)
+  tidy_in_skipped false token slots ts h = tidy_less (is_one token) slots ts h
+  tidy_in_skipped true token slots ts h =
+      record {
+        once = once_listed token ts h.once;
+        full = λ t is other. elim (is_in_listed t token ts is) [ inl k ↦ h.full t k refl | inr k ↦ cc ];
+      }
+
   -- the source goes back to its slot
   tidy_back : (c : Content D) (token : RegistrationToken) (slots : List (Slot D)) (ts : List RegistrationToken) → is_empty c ≡ false → Full slots token → Tidy (is_one token) slots ts → Tidy nobody (changed (with_content c) slots token.slot) ts
   tidy_back c token slots ts full mine h =
@@ -208,98 +224,80 @@ module _ {D : Type 0} where
       }
 
 -- what every state keeps, with what the loop is doing in it
-abbrev Kept : {D P X : Type 0} → Doing D X → View D P → Type 0
-Kept (Ending token d answer x) v = Tidy nobody v.slots v.held.lifecycle × Full v.slots token
+abbrev Kept : {D I P X : Type 0} → Doing D X → View D I P → Type 0
 Kept (Returning token d told x) v = Tidy (is_one token) v.slots v.held.lifecycle
 Kept a v = Tidy nobody v.slots v.held.lifecycle
 
-module _ {D P X Q : Type 0} (M : Meaning D P (Lent X Q)) (O : Outside P) where
+module _ {D I P X : Type 0} (M : Meaning D P (Lent X (Asks D I))) (runs : Runs D I X) (O : Outside P) where
   source_full : (slots : List (Slot D)) (token : RegistrationToken) (c : Content D) → named slots token ≡ c → is_empty c ≡ false → Full slots token
   source_full slots token c is full = ap (λ (x : Content D). is_empty x) is ∙ full
 
   -- a source was told of a wait
-  told_kept : (v : View D P) (token : RegistrationToken) (d e : D) → named v.slots token ≡ Source d → Tidy nobody v.slots v.held.lifecycle
+  told_kept : (v : View D I P) (token : RegistrationToken) (d e : D) → named v.slots token ≡ Source d → Tidy nobody v.slots v.held.lifecycle
       → Tidy nobody (all_viewed v (told_in token e)).slots v.held.lifecycle
   told_kept v token d e is k = tidy_put nobody (Source e) (changed (with_content InTurn) v.slots token.slot) token.slot v.held.lifecycle refl (tidy_put nobody InTurn v.slots token.slot v.held.lifecycle refl k)
 
-  slept_as : (v : View D P) (timeout : Option ℕ) (later : List RegistrationToken) (answer : Result (Option (Readiness × Token)) Error) (x : X) (cs : List (Change D P)) (b : Doing D X) → SleptAs timeout later answer x cs b → Tidy nobody v.slots v.held.lifecycle → Kept b (all_viewed v cs)
+  slept_as : (v : View D I P) (timeout : Option ℕ) (later : List RegistrationToken) (answer : Result (Option (Readiness × Token)) Error) (x : X) (cs : List (Change D I P)) (b : Doing D X) → SleptAs timeout later answer x cs b → Tidy nobody v.slots v.held.lifecycle → Kept b (all_viewed v cs)
   slept_as v timeout later (Ok None) x cs b h k = rw (h.0, h.1) k
   slept_as v timeout later (Ok (Some given)) x cs b h k = rw (h.0, h.1) k
   slept_as v timeout later (Err e) x cs b h k = rw (h.0, h.1) k
 
-  slept_kept : (v : View D P) (timeout : Option ℕ) (token : RegistrationToken) (later : List RegistrationToken) (x : X) (cs : List (Change D P)) (b : Doing D X) (c : Content D) → named v.slots token ≡ c → SleptBy M timeout token later c v x cs b → Tidy nobody v.slots v.held.lifecycle → Kept b (all_viewed v cs)
+  slept_kept : (v : View D I P) (timeout : Option ℕ) (token : RegistrationToken) (later : List RegistrationToken) (x : X) (cs : List (Change D I P)) (b : Doing D X) (c : Content D) → named v.slots token ≡ c → SleptBy M timeout token later c v x cs b → Tidy nobody v.slots v.held.lifecycle → Kept b (all_viewed v cs)
   slept_kept v timeout token later x cs b Vacant is h k = rw (h.0, h.1) k
   slept_kept v timeout token later x cs b InTurn is h k = rw (h.0, h.1) k
   slept_kept v timeout token later x cs b (Source d) is h k = rw h.5 (slept_as (all_viewed v (told_in token h.0)) timeout later h.1 x h.2 b h.4 (told_kept v token d h.0 is k))
 
-  noticed_kept : (v : View D P) (from : ℕ) (token : RegistrationToken) (later : List RegistrationToken) (x : X) (cs : List (Change D P)) (b : Doing D X) (c : Content D) → named v.slots token ≡ c → NoticedBy M from token later c v x cs b → Tidy nobody v.slots v.held.lifecycle → Kept b (all_viewed v cs)
+  noticed_kept : (v : View D I P) (from : ℕ) (token : RegistrationToken) (later : List RegistrationToken) (x : X) (cs : List (Change D I P)) (b : Doing D X) (c : Content D) → named v.slots token ≡ c → NoticedBy M from token later c v x cs b → Tidy nobody v.slots v.held.lifecycle → Kept b (all_viewed v cs)
   noticed_kept v from token later x cs b Vacant is h k = rw (h.0, h.1) k
   noticed_kept v from token later x cs b InTurn is h k = rw (h.0, h.1) k
   noticed_kept v from token later x cs b (Source d) is h k = rw (h.2, h.3) (told_kept v token d h.0 is k)
 
-  cut_kept : (v : View D P) (e : Pending) (x : X) (cs : List (Change D P)) (b : Doing D X) (c : Content D) → named v.slots (registration_of e.token) ≡ c → CutTo M e c v x cs b → Tidy nobody v.slots v.held.lifecycle → Kept b (all_viewed v cs)
+  cut_kept : (v : View D I P) (e : Pending) (x : X) (cs : List (Change D I P)) (b : Doing D X) (c : Content D) → named v.slots (registration_of e.token) ≡ c → CutTo M e c v x cs b → Tidy nobody v.slots v.held.lifecycle → Kept b (all_viewed v cs)
   cut_kept v e x cs b Vacant is h k = rw (h.0, h.1) k
   cut_kept v e x cs b InTurn is h k = rw (h.0, h.1) k
   cut_kept v e x cs b (Source d) is h k =
       let full = source_full v.slots (registration_of e.token) (Source d) is refl in
-      rw (h.7, h.8) (tidy_put nobody InTurn v.slots e.token.slot v.held.lifecycle refl k, ap (λ (y : Content D). is_empty y) (named_changed v.slots (registration_of e.token) InTurn full))
+      rw (h.6, h.7) (tidy_put nobody InTurn v.slots e.token.slot v.held.lifecycle refl k)
 
-  from_kept : (v : View D P) (es : List Pending) (x : X) (cs : List (Change D P)) (b : Doing D X) → CutFrom M es v x cs b → Tidy nobody v.slots v.held.lifecycle → Kept b (all_viewed v cs)
+  from_kept : (v : View D I P) (es : List Pending) (x : X) (cs : List (Change D I P)) (b : Doing D X) → CutFrom M es v x cs b → Tidy nobody v.slots v.held.lifecycle → Kept b (all_viewed v cs)
   from_kept v [] x cs b h k = rw (h.0, h.1) k
   from_kept v (e ∷ es) x cs b h k = cut_kept v e x cs b (named v.slots (registration_of e.token)) refl h k
 
-  emptied_kept : (v : View D P) (token : RegistrationToken) (c : Content D) → named v.slots token ≡ c → Full v.slots token → Tidy nobody v.slots v.held.lifecycle → Tidy (is_one token) (all_viewed v (emptied token c)).slots (all_viewed v (emptied token c)).held.lifecycle
-  emptied_kept v token Vacant is full k = tidy_less (is_one token) v.slots v.held.lifecycle k
-  emptied_kept v token (Source d) is full k = tidy_less (is_one token) v.slots v.held.lifecycle k
-  emptied_kept v token InTurn is full k = tidy_vacated v.slots token v.held.lifecycle full k
+  emptied_kept : (v : View D I P) (token : RegistrationToken) (c : Content D) → named v.slots token ≡ c → Tidy nobody v.slots v.held.lifecycle → Tidy (is_one token) (all_viewed v (emptied token c)).slots (all_viewed v (emptied token c)).held.lifecycle
+  emptied_kept v token Vacant is k = tidy_less (is_one token) v.slots v.held.lifecycle k
+  emptied_kept v token (Source d) is k = tidy_less (is_one token) v.slots v.held.lifecycle k
+  emptied_kept v token InTurn is k = tidy_vacated v.slots token v.held.lifecycle (source_full v.slots token InTurn is refl) k
 
-  acted_kept : (v : View D P) (token : RegistrationToken) (d : D) (answer : Result PostAction Error) (cs : List (Change D P)) (e : D) (told : Outcome) → ActedBy M token d answer v cs e told → Tidy nobody v.slots v.held.lifecycle → Full v.slots token
+  acted_kept : (v : View D I P) (token : RegistrationToken) (d : D) (answer : Result PostAction Error) (cs : List (Change D I P)) (e : D) (told : Outcome) → ActedBy M token d answer v cs e told → Tidy nobody v.slots v.held.lifecycle
       → Tidy (is_one token) (all_viewed v cs).slots (all_viewed v cs).held.lifecycle
-  acted_kept v token d (Ok Continue) cs e told h k full = rw h.0 (tidy_less (is_one token) v.slots v.held.lifecycle k)
-  acted_kept v token d (Ok Reregister) cs e told h k full = rw h.2 (tidy_less (is_one token) v.slots _ (tidy_in _ token v.slots v.held.lifecycle full k))
-  acted_kept v token d (Ok DisableIt) cs e told h k full = rw h.2 (tidy_less (is_one token) v.slots _ (tidy_out token v.slots v.held.lifecycle (tidy_less (is_one token) v.slots v.held.lifecycle k)))
-  acted_kept v token d (Ok Remove) cs e told h k full = rw h.0 (emptied_kept (viewed v Ended) token (named v.slots token) refl full k)
-  acted_kept v token d (Err error) cs e told h k full = rw h.0 (tidy_less (is_one token) v.slots v.held.lifecycle k)
+  acted_kept v token d (Ok Continue) cs e told h k = rw h.0 (tidy_less (is_one token) v.slots v.held.lifecycle k)
+  acted_kept v token d (Ok Reregister) cs e told h k = rw h.2 (tidy_in_skipped _ token v.slots v.held.lifecycle k)
+  acted_kept v token d (Ok DisableIt) cs e told h k = rw h.2 (tidy_less (is_one token) v.slots _ (tidy_out token v.slots v.held.lifecycle (tidy_less (is_one token) v.slots v.held.lifecycle k)))
+  acted_kept v token d (Ok Remove) cs e told h k = rw h.0 (emptied_kept (viewed v (Holds (Pend Continue))) token (named v.slots token) refl k)
+  acted_kept v token d (Err error) cs e told h k = rw h.0 (tidy_less (is_one token) v.slots v.held.lifecycle k)
 
-  returned_kept : (v : View D P) (token : RegistrationToken) (d : D) (c : Content D) (cs : List (Change D P)) → named v.slots token ≡ c → ReturnedTo M token d c v cs → Tidy (is_one token) v.slots v.held.lifecycle → Tidy nobody (all_viewed v cs).slots (all_viewed v cs).held.lifecycle
+  returned_kept : (v : View D I P) (token : RegistrationToken) (d : D) (c : Content D) (cs : List (Change D I P)) → named v.slots token ≡ c → ReturnedTo M token d c v cs → Tidy (is_one token) v.slots v.held.lifecycle → Tidy nobody (all_viewed v cs).slots (all_viewed v cs).held.lifecycle
   returned_kept v token d InTurn cs is h k = rw h (tidy_back (Source d) token v.slots v.held.lifecycle refl (source_full v.slots token InTurn is refl) k)
   returned_kept v token d Vacant cs is h k = rw h.4 (tidy_out token v.slots v.held.lifecycle k)
   returned_kept v token d (Source f) cs is h k = rw h.4 (tidy_out token v.slots v.held.lifecycle k)
 
-  after_kept : (told : Outcome) (x : X) (v : View D P) → Tidy nobody v.slots v.held.lifecycle → Kept {D = D} (after_turn told x) v
+  after_kept : (told : Outcome) (x : X) (v : View D I P) → Tidy nobody v.slots v.held.lifecycle → Kept {D = D} (after_turn told x) v
   after_kept (Ok u) x v k = k
   after_kept (Err e) x v k = k
 
-  waited_kept : (answer : Result ℕ Cause) (given : List (ℕ × Readiness)) (x : X) (v : View D P) → Tidy nobody v.slots v.held.lifecycle → Kept {D = D} (after_wait answer given x) v
+  waited_kept : (answer : Result ℕ Cause) (given : List (ℕ × Readiness)) (x : X) (v : View D I P) → Tidy nobody v.slots v.held.lifecycle → Kept {D = D} (after_wait answer given x) v
   waited_kept (Ok now) given x v k = k
   waited_kept (Err cause) given x v k = k
 
-  step_kept : (v : View D P) (a b : Doing D X) (cs : List (Change D P)) → Step M O v a cs b → Kept a v → Kept b (all_viewed v cs)
-  step_kept v (Beginning timeout x) b cs h k = rw (h.1, h.2) k
-  step_kept v (Sleeping timeout [] x) b cs h k = rw (h.0, h.1) k
-  step_kept v (Sleeping timeout (t ∷ later) x) b cs h k = slept_kept v timeout t later x cs b (named v.slots t) refl h k
-  step_kept v (Waiting timeout x) b cs h k = rw (h.5, h.6) (waited_kept h.0 h.1 x _ k)
-  step_kept v (Gathering now given x) b cs h k = rw (h.1, h.2) k
-  step_kept v (Noticing from [] x) b cs h k = rw (h.0, h.1) k
-  step_kept v (Noticing from (t ∷ later) x) b cs h k = noticed_kept v from t later x cs b (named v.slots t) refl h k
-  step_kept v (Cutting x) b cs h k = from_kept v v.poll.batch x cs b h k
-  step_kept v (Ending token d answer x) b cs h k = rw h.3 (acted_kept v token d answer cs h.0 h.1 h.2 k.0 k.1)
-  step_kept v (Returning token d told x) b cs h k = rw h.1 (after_kept told x (all_viewed v cs) (returned_kept v token d (named v.slots token) cs refl h.0 k))
-  step_kept v (Leaving answer x) b cs h k = absurd h
-
-  steps_kept : (v : View D P) (a b : Doing D X) (css : List (List (Change D P))) → Steps M O v a css b → Kept a v → Kept b (traced v css)
-  steps_kept v a b [] h k = rw h k
-  steps_kept v a b (cs ∷ css) h k = steps_kept (all_viewed v cs) h.0 b css h.3 (step_kept v a h.0 cs h.1 k)
-
-  inserted_kept : (v : View D P) (d : D) (answer : Result RegistrationToken (InsertError D)) (cs : List (Change D P)) → InsertedBy M d answer v cs → Tidy nobody v.slots v.held.lifecycle → Tidy nobody (all_viewed v cs).slots (all_viewed v cs).held.lifecycle
+  inserted_kept : (v : View D I P) (d : D) (answer : Result RegistrationToken (InsertError D)) (cs : List (Change D I P)) → InsertedBy M d answer v cs → Tidy nobody v.slots v.held.lifecycle → Tidy nobody (all_viewed v cs).slots (all_viewed v cs).held.lifecycle
   inserted_kept v d (Ok token) cs h k =
       let mine : Full (claimed v.slots) token = ap (λ (t : RegistrationToken). is_empty (named (claimed v.slots) t)) h.1 ∙ ap (λ (x : Content D). is_empty x) (named_claimed v.slots) in
       rw h.6 (tidy_put nobody (Source h.2) (claimed v.slots) token.slot _ refl (tidy_in (M.needs d) token (claimed v.slots) v.held.lifecycle mine (tidy_claimed v.slots v.held.lifecycle k)))
   inserted_kept v d (Err refused) cs (inl h) k = rw h.2 k
   inserted_kept v d (Err refused) cs (inr h) k = rw h.4 (tidy_refused v.slots v.held.lifecycle k)
 
-  asked_kept : (v : View D P) (R : D → Outcome → List (PollStep P) → D → Type 0) (noted : D → Outcome → HeldStep) (token : RegistrationToken) (answer : Outcome) (cs : List (Change D P)) (c : Content D)
-      → ((d : D) (slots : List (Slot D)) (h : Held) → Full slots token → Tidy nobody slots h.lifecycle → Tidy nobody slots (held_after h (noted d answer)).lifecycle)
+  asked_kept : (v : View D I P) (R : D → Outcome → List (PollStep P) → D → Type 0) (noted : D → Outcome → HeldStep D I) (token : RegistrationToken) (answer : Outcome) (cs : List (Change D I P)) (c : Content D)
+      → ((d : D) (slots : List (Slot D)) (h : Held D I) → Full slots token → Tidy nobody slots h.lifecycle → Tidy nobody slots (held_after h (noted d answer)).lifecycle)
       → named v.slots token ≡ c → AskedIn R noted token c answer cs → Tidy nobody v.slots v.held.lifecycle → Tidy nobody (all_viewed v cs).slots (all_viewed v cs).held.lifecycle
   asked_kept v R noted token answer cs Vacant note is h k = rw h.1 k
   asked_kept v R noted token answer cs InTurn note is h k = rw h.1 k
@@ -310,31 +308,90 @@ module _ {D P X Q : Type 0} (M : Meaning D P (Lent X Q)) (O : Outside P) where
       (tidy_put nobody (Source h.0) out token.slot _ refl
       (note d out v.held (ap (λ (x : Content D). is_empty x) (named_changed v.slots token InTurn full)) (tidy_put nobody InTurn v.slots token.slot v.held.lifecycle refl k)))
 
-  entered_kept : (token : RegistrationToken) (answer : Outcome) (d : D) (slots : List (Slot D)) (h : Held) → Full slots token → Tidy nobody slots h.lifecycle → Tidy nobody slots (held_after h (entered M token d answer)).lifecycle
+  entered_kept : (token : RegistrationToken) (answer : Outcome) (d : D) (slots : List (Slot D)) (h : Held D I) → Full slots token → Tidy nobody slots h.lifecycle → Tidy nobody slots (held_after h (entered M token d answer)).lifecycle
   entered_kept token answer d slots h full k = tidy_in _ token slots h.lifecycle full k
 
-  left_kept : (token : RegistrationToken) (answer : Outcome) (d : D) (slots : List (Slot D)) (h : Held) → Full slots token → Tidy nobody slots h.lifecycle → Tidy nobody slots (held_after h (left token d answer)).lifecycle
+  left_kept : (token : RegistrationToken) (answer : Outcome) (d : D) (slots : List (Slot D)) (h : Held D I) → Full slots token → Tidy nobody slots h.lifecycle → Tidy nobody slots (held_after h (left token d answer)).lifecycle
   left_kept token answer d slots h full k = tidy_out token slots h.lifecycle (tidy_less (is_one token) slots h.lifecycle k)
 
-  removed_kept : (v : View D P) (token : RegistrationToken) (answer : Option D) (cs : List (Change D P)) (c : Content D) → named v.slots token ≡ c → RemovedIn M token c answer v cs → Tidy nobody v.slots v.held.lifecycle → Tidy nobody (all_viewed v cs).slots (all_viewed v cs).held.lifecycle
+  removed_kept : (v : View D I P) (token : RegistrationToken) (answer : Option D) (cs : List (Change D I P)) (c : Content D) → named v.slots token ≡ c → RemovedIn M token c answer v cs → Tidy nobody v.slots v.held.lifecycle → Tidy nobody (all_viewed v cs).slots (all_viewed v cs).held.lifecycle
   removed_kept v token answer cs Vacant is h k = rw h.1 k
   removed_kept v token answer cs InTurn is h k = rw h.1 k
   removed_kept v token answer cs (Source d) is h k =
       let out = changed (with_content Vacant) v.slots token.slot in
       rw h.5 (tidy_out token out v.held.lifecycle (tidy_vacated v.slots token v.held.lifecycle (source_full v.slots token (Source d) is refl) k))
 
-  exchanged_kept : (v : View D P) (token : RegistrationToken) (new : D) (c : Content D) (answer : Result D D) (cs : List (Change D P)) → ExchangedIn token new c answer cs → Tidy nobody v.slots v.held.lifecycle → Tidy nobody (all_viewed v cs).slots (all_viewed v cs).held.lifecycle
+  told_tidy : (v : View D I P) (ds cs : List (Change D I P)) (answer : Answer D) → cs ≡ ds ++ Holds (Told answer) ∷ [] → Tidy nobody (all_viewed v ds).slots (all_viewed v ds).held.lifecycle → Tidy nobody (all_viewed v cs).slots (all_viewed v cs).held.lifecycle
+  told_tidy v ds cs answer is h = rw (is, viewed-append v ds (Holds (Told answer) ∷ [])) h
+
+  own_or : {A B G : Type 0} (c : Content D) → (c ≡ InTurn → A → G) → (B → G) → OwnOr c A B → G
+  own_or InTurn f g h = f refl h
+  own_or Vacant f g h = g h
+  own_or (Source d) f g h = g h
+
+  served_as_kept : (v : View D I P) (request : Request D I) (answer : Outcome) (cs : List (Change D I P)) → ServedAs M request answer v cs → Tidy nobody v.slots v.held.lifecycle → Tidy nobody (all_viewed v cs).slots (all_viewed v cs).held.lifecycle
+  served_as_kept v (AskEnable token) answer cs h k = own_or (named v.slots token) (λ _ o. rw o.1 k) (λ o. asked_kept v _ _ token answer cs (named v.slots token) (entered_kept token answer) refl o k) h
+  served_as_kept v (AskUpdate token) answer cs h k = own_or (named v.slots token) (λ _ o. rw o.1 k) (λ o. asked_kept v _ _ token answer cs (named v.slots token) (entered_kept token answer) refl o k) h
+  served_as_kept v (AskDisable token) answer cs h k = own_or (named v.slots token) (λ _ o. rw o.1 k) (λ o. asked_kept v _ _ token answer cs (named v.slots token) (left_kept token answer) refl o k) h
+  served_as_kept v (AskInsert d) answer cs h k = absurd h
+  served_as_kept v (AskRemove token) answer cs h k = absurd h
+  served_as_kept v (AskIdle idle) answer cs h k = absurd h
+  served_as_kept v (AskCancel ticket) answer cs h k = absurd h
+
+  served_kept : (v : View D I P) (request : Request D I) (cs : List (Change D I P)) → Served M request v cs → Tidy nobody v.slots v.held.lifecycle → Tidy nobody (all_viewed v cs).slots (all_viewed v cs).held.lifecycle
+  served_kept v (AskInsert d) cs h k = told_tidy v h.1 cs _ h.3 (inserted_kept v d h.0 h.1 h.2 k)
+  served_kept v (AskEnable token) cs h k = told_tidy v h.1 cs _ h.3 (served_as_kept v (AskEnable token) h.0 h.1 h.2 k)
+  served_kept v (AskUpdate token) cs h k = told_tidy v h.1 cs _ h.3 (served_as_kept v (AskUpdate token) h.0 h.1 h.2 k)
+  served_kept v (AskDisable token) cs h k = told_tidy v h.1 cs _ h.3 (served_as_kept v (AskDisable token) h.0 h.1 h.2 k)
+  served_kept v (AskRemove token) cs h k =
+      own_or (named v.slots token)
+      (λ mine o. rw o (tidy_out token (changed (with_content Vacant) v.slots token.slot) v.held.lifecycle (tidy_vacated v.slots token v.held.lifecycle (source_full v.slots token InTurn mine refl) k)))
+      (λ o. told_tidy v o.1 cs _ o.3 (removed_kept v token o.0 o.1 (named v.slots token) refl o.2 k)) h
+  served_kept v (AskIdle idle) cs h k = rw h k
+  served_kept v (AskCancel ticket) cs h k = rw h k
+
+  served_from_kept : (v : View D I P) (asked : List (Asked D I)) (on next b : Doing D X) (cs : List (Change D I P)) → ServedFrom M asked on next b v cs
+      → ((u : View D I P) → Tidy nobody u.slots u.held.lifecycle → Kept on u) → ((u : View D I P) → Tidy nobody u.slots u.held.lifecycle → Kept next u) → Tidy nobody v.slots v.held.lifecycle → Kept b (all_viewed v cs)
+  served_from_kept v [] on next b cs h f g k = rw (h.0, h.1) (g v k)
+  served_from_kept v (a ∷ as') on next b cs h f g k = rw (h.2, h.3) (f (all_viewed (viewed v (Holds Begun)) h.0) (served_kept (viewed v (Holds Begun)) a.request h.0 h.1 k))
+
+  run_from_kept : (v : View D I P) (idles : List (Waiter I)) (x : X) (cs : List (Change D I P)) (b : Doing D X) → RunFrom runs idles v x cs b → Tidy nobody v.slots v.held.lifecycle → Kept b (all_viewed v cs)
+  run_from_kept v [] x cs b h k = rw (h.0, h.1) k
+  run_from_kept v (i ∷ is) x cs b h k = rw (h.3, h.4) k
+
+  step_kept : (v : View D I P) (a b : Doing D X) (cs : List (Change D I P)) → Step M runs O v a cs b → Kept a v → Kept b (all_viewed v cs)
+  step_kept v (Beginning timeout x) b cs h k = rw (h.1, h.2) k
+  step_kept v (Sleeping timeout [] x) b cs h k = rw (h.0, h.1) k
+  step_kept v (Sleeping timeout (t ∷ later) x) b cs h k = slept_kept v timeout t later x cs b (named v.slots t) refl h k
+  step_kept v (Waiting timeout x) b cs h k = rw (h.5, h.6) (waited_kept h.0 h.1 x _ k)
+  step_kept v (Gathering now given x) b cs h k = rw (h.1, h.2) k
+  step_kept v (Noticing from [] x) b cs h k = rw (h.0, h.1) k
+  step_kept v (Noticing from (t ∷ later) x) b cs h k = noticed_kept v from t later x cs b (named v.slots t) refl h k
+  step_kept v (Cutting x) b cs h k = from_kept v v.poll.batch x cs b h k
+  step_kept v (Serving token d answer x) b cs h k = served_from_kept v v.held.asks.written _ _ b cs h (λ u t. t) (λ u t. t) k
+  step_kept v (Ending token d answer x) b cs h k = rw h.3 (acted_kept v token d (action_of answer v.held.pending) cs h.0 h.1 h.2 k)
+  step_kept v (Returning token d told x) b cs h k = rw h.1 (after_kept told x (all_viewed v cs) (returned_kept v token d (named v.slots token) cs refl h.0 k))
+  step_kept v (Idling x) b cs h k = rw (h.0, h.1) k
+  step_kept v (RunningIdles x) b cs h k = run_from_kept v v.held.asks.running x cs b h k
+  step_kept v (ServingIdle x) b cs h k = served_from_kept v v.held.asks.written _ _ b cs h (λ u t. t) (λ u t. t) k
+  step_kept v (Leaving answer x) b cs h k = absurd h
+
+  steps_kept : (v : View D I P) (a b : Doing D X) (css : List (List (Change D I P))) → Steps M runs O v a css b → Kept a v → Kept b (traced v css)
+  steps_kept v a b [] h k = rw h k
+  steps_kept v a b (cs ∷ css) h k = steps_kept (all_viewed v cs) h.0 b css h.3 (step_kept v a h.0 cs h.1 k)
+
+  exchanged_kept : (v : View D I P) (token : RegistrationToken) (new : D) (c : Content D) (answer : Result D D) (cs : List (Change D I P)) → ExchangedIn token new c answer cs → Tidy nobody v.slots v.held.lifecycle → Tidy nobody (all_viewed v cs).slots (all_viewed v cs).held.lifecycle
   exchanged_kept v token new Vacant answer cs h k = rw h.1 k
   exchanged_kept v token new InTurn answer cs h k = rw h.1 k
   exchanged_kept v token new (Source d) answer cs h k = rw h.1 (tidy_put nobody (Source new) v.slots token.slot v.held.lifecycle refl k)
 
-  once_kept : (v : View D P) (R : View D P → List (Change D P) → Type 0) (css : List (List (Change D P))) → Once O R v css
-      → ((cs : List (Change D P)) → R v cs → Tidy nobody (all_viewed v cs).slots (all_viewed v cs).held.lifecycle) → Tidy nobody (traced v css).slots (traced v css).held.lifecycle
+  once_kept : (v : View D I P) (R : View D I P → List (Change D I P) → Type 0) (css : List (List (Change D I P))) → Once O R v css
+      → ((cs : List (Change D I P)) → R v cs → Tidy nobody (all_viewed v cs).slots (all_viewed v cs).held.lifecycle) → Tidy nobody (traced v css).slots (traced v css).held.lifecycle
   once_kept v R [] h f = absurd h
   once_kept v R (cs ∷ []) h f = f cs h.0
   once_kept v R (cs ∷ ds ∷ css) h f = absurd h
 
-  case_kept : (v : View D P) (call : LoopCall D P X) (answer : LoopAnswer D P X) (css : List (List (Change D P))) → Case M O call answer v css → Tidy nobody v.slots v.held.lifecycle → Tidy nobody (traced v css).slots (traced v css).held.lifecycle
+  case_kept : (v : View D I P) (call : LoopCall D P X I) (answer : LoopAnswer D P X I) (css : List (List (Change D I P))) → Case M runs O call answer v css → Tidy nobody v.slots v.held.lifecycle → Tidy nobody (traced v css).slots (traced v css).held.lifecycle
   case_kept v (Insert d) (Inserted answer) css h k = once_kept v (InsertedBy M d answer) css h (λ cs r. inserted_kept v d answer cs r k)
   case_kept v (Enable token) (Enabled answer) css h k = once_kept v (EnabledBy M token answer) css h (λ cs r. asked_kept v _ _ token answer cs (named v.slots token) (entered_kept token answer) refl r k)
   case_kept v (Update token) (Updated answer) css h k = once_kept v (UpdatedBy M token answer) css h (λ cs r. asked_kept v _ _ token answer cs (named v.slots token) (entered_kept token answer) refl r k)
@@ -343,18 +400,22 @@ module _ {D P X Q : Type 0} (M : Meaning D P (Lent X Q)) (O : Outside P) where
   case_kept v (Exchange token d) (Exchanged answer) css h k = once_kept v (ExchangedBy token d answer) css h (λ cs r. exchanged_kept v token d (named v.slots token) answer cs r k)
   case_kept v (Dispatch timeout x) (Dispatched answer x') css (inl h) k = rw h.2 k
   case_kept v (Dispatch timeout x) (Dispatched answer x') css (inr h) k = steps_kept v (Beginning (nanos_of timeout) x) (Leaving answer x') css h k
+  case_kept v (InsertIdle idle) (IdleInserted (Ok made)) css h k = once_kept v (IdleInsertedBy idle (Ok made)) css h (λ cs r. rw r.2 k)
+  case_kept v (InsertIdle idle) (IdleInserted (Err refused)) css h k = once_kept v (IdleInsertedBy idle (Err refused)) css h (λ cs r. rw r.2 k)
+  case_kept v (Cancel idle) Cancelled css h k = rw h k
+  case_kept v (AnswerOf ticket) (Answered answer) css h k = rw h.1 k
   case_kept v (NewPoller p) (OldPoller q) css h k = rw h.1 k
   case_kept v call answer css h k = absurd h
 
-  run_kept : (calls : List (LoopCall D P X)) (answers : List (LoopAnswer D P X)) (csss : List (List (List (Change D P)))) (w w' : World D P) → Run M O calls answers csss w w' → Tidy nobody (seen w).slots (seen w).held.lifecycle → Tidy nobody (seen w').slots (seen w').held.lifecycle
+  run_kept : (calls : List (LoopCall D P X I)) (answers : List (LoopAnswer D P X I)) (csss : List (List (List (Change D I P)))) (w w' : World D I P) → Run M runs O calls answers csss w w' → Tidy nobody (seen w).slots (seen w).held.lifecycle → Tidy nobody (seen w').slots (seen w').held.lifecycle
   run_kept [] [] [] w w' run k = rw run k
   run_kept (call ∷ calls) (answer ∷ answers) (css ∷ csss) w w' run k =
       run_kept calls answers csss (all_traced w css) w' run.1
-      (subst (λ (v : View D P). Tidy nobody v.slots v.held.lifecycle) (sym (seen-all_traced w css)) (case_kept (seen w) call answer css run.0 k))
+      (subst (λ (v : View D I P). Tidy nobody v.slots v.held.lifecycle) (sym (seen-all_traced w css)) (case_kept (seen w) call answer css run.0 k))
   run_kept calls answers csss w w' run k = absurd run
 
-  pub run_told : (calls : List (LoopCall D P X)) (answers : List (LoopAnswer D P X)) (csss : List (List (List (Change D P)))) (w w' : World D P) → IsNew w → Run M O calls answers csss w w' → IsTold w'
+  pub run_told : (calls : List (LoopCall D P X I)) (answers : List (LoopAnswer D P X I)) (csss : List (List (List (Change D I P)))) (w w' : World D I P) → IsNew w → Run M runs O calls answers csss w w' → IsTold w'
   run_told calls answers csss w w' new run =
-      let first : Tidy nobody (seen w).slots (seen w).held.lifecycle = record { once = rw new.unlisted tt; full = λ t is no. (let e : is_listed t w.held.lifecycle ≡ true = is in let f : is_listed t w.held.lifecycle ≡ false = rw new.unlisted refl in cc) } in
+      let first : Tidy nobody (seen w).slots (seen w).held.lifecycle = record { once = rw (ap (λ h. h.lifecycle) new.held) tt; full = λ t is no. (let e : is_listed t w.held.lifecycle ≡ true = is in let f : is_listed t w.held.lifecycle ≡ false = rw (ap (λ h. h.lifecycle) new.held) refl in cc) } in
       let k = run_kept calls answers csss w w' run first in
       record { once = k.once; full = λ t is. k.full t is refl }

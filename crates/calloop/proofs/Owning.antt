@@ -22,16 +22,25 @@ use Rattle.calloop_core.specs.Polls.{PollView, PollStep, AllAllowed, with_pass, 
 use Rattle.calloop_core.specs.Holdings.{Hold, Free, Spent, Standing, Keeps, IsBelow, IsWithin}
 use Rattle.calloop_core.specs.Deeds.{Deed, Registered, Reregistered, Unregistered, Turned, Slept, Noticed, Lent, lent}
 use Rattle.calloop_core.specs.Meanings.{Meaning, KeepsCounters}
-use Rattle.calloop.specs.Machine.{World, View, IsNew, Registration, Change, Put, Claim, Swapped, Polls, Polling, Watching, Counting, Holds, Appended, Gathered, Cut, Ended, holding, reused, with_claim, done, all_done, seen, slot_of, AllFit}
+use Rattle.calloop.specs.declared.loop_logic.asks.Asked.{Asked}
+use Rattle.calloop.specs.declared.loop_logic.asks.Idle.{Idle}
+use Rattle.calloop.specs.declared.loop_logic.asks.Idling.{Idling as Waiter}
+use Rattle.calloop.specs.declared.loop_logic.asks.Request.{Request}
+use Rattle.calloop.specs.declared.loop_logic.asks.Request.TheVariants.{Insert as AskInsert, Enable as AskEnable, Update as AskUpdate, Disable as AskDisable, Remove as AskRemove, Idle as AskIdle, Cancel as AskCancel}
+use Rattle.calloop.specs.Askings.{Asks, Runs, Take, asks_after}
+use Rattle.calloop.specs.Machine.{World, View, IsNew, Registration, Change, Put, Claim, Swapped, Polls, Polling, Watching, Counting, Holds, Appended, Gathered, Cut, Ended, holding, reused, with_claim, done, all_done, seen, slot_of, viewed, AllFit}
 use Rattle.calloop.specs.declared.loop_logic.LoopCall.{LoopCall}
-use Rattle.calloop.specs.declared.loop_logic.LoopCall.TheVariants.{Insert, Enable, Update, Disable, Remove as RemoveCall, Exchange, Dispatch, Poller as NewPoller}
+use Rattle.calloop.specs.declared.loop_logic.LoopCall.TheVariants.{Insert, Enable, Update, Disable, Remove as RemoveCall, Exchange, Dispatch, InsertIdle, Cancel, Answer as AnswerOf, Poller as NewPoller}
 use Rattle.calloop.specs.declared.loop_logic.LoopAnswer.{LoopAnswer}
-use Rattle.calloop.specs.declared.loop_logic.LoopAnswer.TheVariants.{Inserted, Enabled, Updated, Disabled, Removed, Exchanged, Dispatched, Poller as OldPoller}
-use Rattle.calloop.specs.Held.{HeldStep, Listed, Unlisted}
-use Rattle.calloop.specs.Rules.{Doing, Beginning, Sleeping, Waiting, Gathering, Noticing, Cutting, Ending, Returning, Leaving, Step, Steps, SleptAs, SleptBy, NoticedBy, told_in, CutTo, CutFrom, ActedBy, ReturnedTo, emptied, entered, after_turn, after_wait, Outcome, RegisteredBy, Case, Once, Run, InsertedBy, AskedIn, EnabledBy, UpdatedBy, DisabledBy, RemovedIn, RemovedBy, ExchangedIn, ExchangedBy, factory_of, all_traced}
+use Rattle.calloop.specs.declared.loop_logic.LoopAnswer.TheVariants.{Inserted, Enabled, Updated, Disabled, Removed, Exchanged, Dispatched, IdleInserted, Cancelled, Answered, Poller as OldPoller}
+use Rattle.calloop.specs.declared.loop_logic.asks.Answer.{Answer}
+use Rattle.calloop.specs.declared.loop_logic.asks.Answer.TheVariants.{Done, Removed as RemovedAnswer}
+use Rattle.calloop.specs.Held.{HeldStep, Listed, Unlisted, Pend, Asking, Begun, Told, Owe, Paid, Cleared, IdleIn, IdleNew, IdleOut, IdlesTaken, IdleBegun}
+use Rattle.calloop.specs.Rules.{Doing, Beginning, Sleeping, Waiting, Gathering, Noticing, Cutting, Serving, Ending, Returning, Idling, RunningIdles, ServingIdle, Leaving, Step, Steps, SleptAs, SleptBy, NoticedBy, told_in, CutTo, CutFrom, ActedBy, ReturnedTo, emptied, entered, after_turn, after_wait, Outcome, RegisteredBy, Case, Once, Run, InsertedBy, AskedIn, EnabledBy, UpdatedBy, DisabledBy, RemovedIn, RemovedBy, ExchangedIn, ExchangedBy, IdleInsertedBy, OwnOr, Served, ServedAs, ServedFrom, RunFrom, action_of, factory_of, all_traced}
 use Rattle.calloop.specs.Ledgers.{Ledger}
 use Rattle.calloop.specs.Laws.{HoldsNone, HoldsNoMore, AllFresh, joined, changes_of}
-use Rattle.calloop.proofs.Seen.{seen-all_done}
+use Rattle.calloop.proofs.Seen.{seen-all_done, done-append}
+use Rattle.calloop.proofs.Gone.{fit_first}
 use Rattle.calloop.proofs.Noting.{IsNoted, IsGood, IsApart, apart_sym, noted_alike, noted_gathered, noted_appended, noted_cut, good_gathered, good_appended, good_cut, cut_deadlines, done_steps}
 
 -- this source stands in this slot
@@ -56,7 +65,7 @@ at_claim {D} (x ∷ xs) (suc i) d h =
     [ true ↦ λ e. (h.0, e, h.2) | false ↦ λ e. at_claim xs i d (h.0, e, h.2) ] h.1
 
 -- what a source holds agrees with the ledger
-abbrev pub IsWell : {D P X Q : Type 0} → Meaning D P (Lent X Q) → Ledger → (next : ℕ) → D → Type 0
+abbrev pub IsWell : {D I P X : Type 0} → Meaning D P (Lent X (Asks D I)) → Ledger → (next : ℕ) → D → Type 0
 IsWell M l next d = IsGood l next (M.holds d) × M.fits d
 
 -- of a list with one more in front
@@ -65,7 +74,7 @@ front {A} rest d Q first others zero e is = (let same : d ≡ e = cc in subst (�
 front rest d Q first others (suc k) e is = others k e is
 
 -- what every machine state keeps, with the sources that stand aside, as that which has its turn
-pub record IsOwned {D P X Q : Type 0} (M : Meaning D P (Lent X Q)) (w : World D P) (aside : List D) : Type 0 where
+pub record IsOwned {D I P X : Type 0} (M : Meaning D P (Lent X (Asks D I))) (w : World D I P) (aside : List D) : Type 0 where
   pub noted : IsNoted w.ledger w.poll
   pub good : (i : ℕ) (d : D) → At w.slots i d → IsWell M w.ledger w.poll.deadlines.next d
   pub apart : (i j : ℕ) (d e : D) → i ≢ j → At w.slots i d → At w.slots j e → IsApart (M.holds d) (M.holds e)
@@ -73,9 +82,9 @@ pub record IsOwned {D P X Q : Type 0} (M : Meaning D P (Lent X Q)) (w : World D 
   pub alone : (k : ℕ) (d e : D) (i : ℕ) → slice_get aside k ≡ Some d → At w.slots i e → IsApart (M.holds d) (M.holds e)
   pub among : (j k : ℕ) (d e : D) → j ≢ k → slice_get aside j ≡ Some d → slice_get aside k ≡ Some e → IsApart (M.holds d) (M.holds e)
 
-module _ {D P X Q : Type 0} (M : Meaning D P (Lent X Q)) (O : Outside P) (law : KeepsCounters M) where
+module _ {D I P X : Type 0} (M : Meaning D P (Lent X (Asks D I))) (O : Outside P) (law : KeepsCounters M) where
   -- changes that leave slots, deadlines and ledger as they are
-  owned_same : (w w' : World D P) (aside : List D) → w'.slots ≡ w.slots → w'.ledger ≡ w.ledger → w'.poll.deadlines ≡ w.poll.deadlines → w'.poll.batch ≡ w.poll.batch → IsOwned M w aside → IsOwned M w' aside
+  owned_same : (w w' : World D I P) (aside : List D) → w'.slots ≡ w.slots → w'.ledger ≡ w.ledger → w'.poll.deadlines ≡ w.poll.deadlines → w'.poll.batch ≡ w.poll.batch → IsOwned M w aside → IsOwned M w' aside
   owned_same w w' aside slots ledger deadlines batch h =
       record {
         noted = rw ledger (noted_alike w.ledger w.poll w'.poll deadlines batch h.noted);
@@ -86,7 +95,7 @@ module _ {D P X Q : Type 0} (M : Meaning D P (Lent X Q)) (O : Outside P) (law : 
         among = h.among;
       }
 
-  owned_gathered : (w : World D P) (aside : List D) (posted : List ℕ) (given : List (ℕ × Readiness)) (now : ℕ) → IsOwned M w aside → IsOwned M (done w (Gathered posted given now)) aside
+  owned_gathered : (w : World D I P) (aside : List D) (posted : List ℕ) (given : List (ℕ × Readiness)) (now : ℕ) → IsOwned M w aside → IsOwned M (done w (Gathered posted given now)) aside
   owned_gathered w aside posted given now h =
       record {
         noted = noted_gathered w.ledger w.poll posted given now h.noted;
@@ -97,7 +106,7 @@ module _ {D P X Q : Type 0} (M : Meaning D P (Lent X Q)) (O : Outside P) (law : 
         among = h.among;
       }
 
-  owned_cut : (w : World D P) (aside : List D) (place : Option ℕ) → IsOwned M w aside → IsOwned M (done w (Cut place)) aside
+  owned_cut : (w : World D I P) (aside : List D) (place : Option ℕ) → IsOwned M w aside → IsOwned M (done w (Cut place)) aside
   owned_cut w aside place h =
       record {
         noted = noted_cut w.ledger w.poll h.noted;
@@ -108,7 +117,7 @@ module _ {D P X Q : Type 0} (M : Meaning D P (Lent X Q)) (O : Outside P) (law : 
         among = h.among;
       }
 
-  owned_appended : (w : World D P) (aside : List D) (e : Pending) → IsOwned M w aside → IsOwned M (done w (Appended e)) aside
+  owned_appended : (w : World D I P) (aside : List D) (e : Pending) → IsOwned M w aside → IsOwned M (done w (Appended e)) aside
   owned_appended w aside e h =
       record {
         noted = noted_appended w.ledger w.poll e h.noted;
@@ -119,10 +128,10 @@ module _ {D P X Q : Type 0} (M : Meaning D P (Lent X Q)) (O : Outside P) (law : 
         among = h.among;
       }
 
-  owned_listed : (w : World D P) (step : HeldStep) (aside : List D) → IsOwned M w aside → IsOwned M (done w (Holds step)) aside
+  owned_listed : (w : World D I P) (step : HeldStep D I) (aside : List D) → IsOwned M w aside → IsOwned M (done w (Holds step)) aside
   owned_listed w step aside h = owned_same w (done w (Holds step)) aside refl refl refl refl h
 
-  owned_claim : (w : World D P) (source : D) (aside : List D) → IsOwned M w aside → IsOwned M (done w (Claim source)) aside
+  owned_claim : (w : World D I P) (source : D) (aside : List D) → IsOwned M w aside → IsOwned M (done w (Claim source)) aside
   owned_claim w source aside h =
       record {
         noted = h.noted;
@@ -134,7 +143,7 @@ module _ {D P X Q : Type 0} (M : Meaning D P (Lent X Q)) (O : Outside P) (law : 
       }
 
   -- what is no source is put into a slot
-  owned_emptied : (w : World D P) (aside : List D) (k : ℕ) (content : Content D) → ((d : D) → content ≡ Source d → ⊥) → IsOwned M w aside → IsOwned M (done w (Put k content)) aside
+  owned_emptied : (w : World D I P) (aside : List D) (k : ℕ) (content : Content D) → ((d : D) → content ≡ Source d → ⊥) → IsOwned M w aside → IsOwned M (done w (Put k content)) aside
   owned_emptied w aside k content none h =
       let back : (i : ℕ) (d : D) → At (changed (holding content) w.slots k) i d → At w.slots i d = λ i d is. elim (at_put w.slots k i content d is) [ inl e ↦ absurd (none d e.1) | inr e ↦ e.1 ] in
       record {
@@ -147,7 +156,7 @@ module _ {D P X Q : Type 0} (M : Meaning D P (Lent X Q)) (O : Outside P) (law : 
       }
 
   -- a source is taken out of its slot
-  owned_without : (w : World D P) (rest : List D) (k : ℕ) (content : Content D) (d : D) → ((e : D) → content ≡ Source e → ⊥) → At w.slots k d → IsOwned M w rest → IsOwned M (done w (Put k content)) (d ∷ rest)
+  owned_without : (w : World D I P) (rest : List D) (k : ℕ) (content : Content D) (d : D) → ((e : D) → content ≡ Source e → ⊥) → At w.slots k d → IsOwned M w rest → IsOwned M (done w (Put k content)) (d ∷ rest)
   owned_without w rest k content d none here h =
       let others = owned_emptied w rest k content none h in
       record {
@@ -167,11 +176,11 @@ module _ {D P X Q : Type 0} (M : Meaning D P (Lent X Q)) (O : Outside P) (law : 
       }
 
   -- for its turn
-  owned_out : (w : World D P) (rest : List D) (k : ℕ) (d : D) → At w.slots k d → IsOwned M w rest → IsOwned M (done w (Put k InTurn)) (d ∷ rest)
+  owned_out : (w : World D I P) (rest : List D) (k : ℕ) (d : D) → At w.slots k d → IsOwned M w rest → IsOwned M (done w (Put k InTurn)) (d ∷ rest)
   owned_out w rest k d here h = owned_without w rest k InTurn d (λ e is. cc) here h
 
   -- it goes back to a slot
-  owned_back : (w : World D P) (rest : List D) (k : ℕ) (d : D) → IsOwned M w (d ∷ rest) → IsOwned M (done w (Put k (Source d))) rest
+  owned_back : (w : World D I P) (rest : List D) (k : ℕ) (d : D) → IsOwned M w (d ∷ rest) → IsOwned M (done w (Put k (Source d))) rest
   owned_back w rest k d h =
       record {
         noted = h.noted;
@@ -194,7 +203,7 @@ module _ {D P X Q : Type 0} (M : Meaning D P (Lent X Q)) (O : Outside P) (law : 
         among = λ j l e f differ is other. h.among (suc j) (suc l) e f (λ eq. differ (omega (arith, eq))) is other;
       }
 
-  owned_dropped : (w : World D P) (rest : List D) (d : D) → IsOwned M w (d ∷ rest) → IsOwned M w rest
+  owned_dropped : (w : World D I P) (rest : List D) (d : D) → IsOwned M w (d ∷ rest) → IsOwned M w rest
   owned_dropped w rest d h =
       record {
         noted = h.noted;
@@ -206,7 +215,7 @@ module _ {D P X Q : Type 0} (M : Meaning D P (Lent X Q)) (O : Outside P) (law : 
       }
 
   -- one that holds no counter comes
-  owned_fresh : (w : World D P) (rest : List D) (d : D) → HoldsNone M d × M.fits d → IsOwned M w rest → IsOwned M w (d ∷ rest)
+  owned_fresh : (w : World D I P) (rest : List D) (d : D) → HoldsNone M d × M.fits d → IsOwned M w rest → IsOwned M w (d ∷ rest)
   owned_fresh w rest d free h =
       record {
         noted = h.noted;
@@ -223,7 +232,7 @@ module _ {D P X Q : Type 0} (M : Meaning D P (Lent X Q)) (O : Outside P) (law : 
       }
 
   -- the steps of the first of them
-  owned_polls : (w : World D P) (rest : List D) (d d' : D) (steps : List (PollStep P)) → AllAllowed O w.poll steps → (M.fits d → IsBelow w.poll.deadlines.next (M.holds d) → M.fits d' × Keeps (M.holds d) w.poll.deadlines.next steps (M.holds d')) → IsOwned M w (d ∷ rest) → IsOwned M (done w (Polls steps)) (d' ∷ rest)
+  owned_polls : (w : World D I P) (rest : List D) (d d' : D) (steps : List (PollStep P)) → AllAllowed O w.poll steps → (M.fits d → IsBelow w.poll.deadlines.next (M.holds d) → M.fits d' × Keeps (M.holds d) w.poll.deadlines.next steps (M.holds d')) → IsOwned M w (d ∷ rest) → IsOwned M (done w (Polls steps)) (d' ∷ rest)
   owned_polls w rest d d' steps allowed keeps h =
       let own = h.own 0 d refl in
       let kept = keeps own.1 own.0.below in
@@ -266,11 +275,15 @@ aside_of (Waiting timeout x) = []
 aside_of (Gathering now given x) = []
 aside_of (Noticing from later x) = []
 aside_of (Cutting x) = []
+aside_of (Serving token d answer x) = d ∷ []
 aside_of (Ending token d answer x) = d ∷ []
 aside_of (Returning token d told x) = d ∷ []
+aside_of (Idling x) = []
+aside_of (RunningIdles x) = []
+aside_of (ServingIdle x) = []
 aside_of (Leaving answer x) = []
 
-module _ {D P X Q : Type 0} (M : Meaning D P (Lent X Q)) (O : Outside P) (law : KeepsCounters M) where
+module _ {D I P X : Type 0} (M : Meaning D P (Lent X (Asks D I))) (runs : Runs D I X) (O : Outside P) (law : KeepsCounters M) where
   aside_wait : (answer : Result ℕ Cause) (given : List (ℕ × Readiness)) (x : X) → aside_of {D = D} (after_wait answer given x) ≡ []
   aside_wait (Ok now) given x = refl
   aside_wait (Err cause) given x = refl
@@ -285,195 +298,260 @@ module _ {D P X Q : Type 0} (M : Meaning D P (Lent X Q)) (O : Outside P) (law : 
   within_same (Standing deadline) = refl
 
   -- a registration, or a refusal of it for want of room
-  registered_keeps : (deed : TokenFactory → Outcome → TokenFactory → Deed (Lent X Q)) (token : RegistrationToken) (v : PollView P) (d e : D) (answer : Outcome) (steps : List (PollStep P)) → RegisteredBy M deed token v d answer steps e
+  registered_keeps : (deed : TokenFactory → Outcome → TokenFactory → Deed (Lent X (Asks D I))) (token : RegistrationToken) (v : PollView P) (d e : D) (answer : Outcome) (steps : List (PollStep P)) → RegisteredBy M deed token v d answer steps e
       → M.fits d → IsBelow v.deadlines.next (M.holds d) → M.fits e × Keeps (M.holds d) v.deadlines.next steps (M.holds e)
   registered_keeps deed token v d e answer steps (inl h) fits below = rw (h.2, h.3) (fits, λ counter. within_same (M.holds d counter))
   registered_keeps deed token v d e answer steps (inr h) fits below = law d e v (deed (factory_of token) answer h.0) steps fits below h.1
 
   -- a source is told of a wait
-  told_owned : (w : World D P) (token : RegistrationToken) (d e : D) (deed : Deed (Lent X Q)) → named (map slot_of w.slots) token ≡ Source d → M.does d w.poll deed [] e → IsOwned M w [] → IsOwned M (all_done w (told_in token e)) []
+  told_owned : (w : World D I P) (token : RegistrationToken) (d e : D) (deed : Deed (Lent X (Asks D I))) → named (map slot_of w.slots) token ≡ Source d → M.does d w.poll deed [] e → IsOwned M w [] → IsOwned M (all_done w (told_in token e)) []
   told_owned w token d e deed is does k =
-      let out : World D P = done w (Put token.slot InTurn) in
+      let out : World D I P = done w (Put token.slot InTurn) in
       owned_back M O law (done out (Polls [])) [] token.slot e
       (owned_polls M O law out [] d e [] tt (λ fits below. law d e w.poll deed [] fits below does) (owned_out M O law w [] token.slot d (at_named w.slots token d is) k))
 
-  slept_as : (w : World D P) (timeout : Option ℕ) (later : List RegistrationToken) (answer : Result (Option (Readiness × Token)) Error) (x : X) (cs : List (Change D P)) (b : Doing D X) → SleptAs timeout later answer x cs b → IsOwned M w [] → IsOwned M (all_done w cs) (aside_of b)
+  slept_as : (w : World D I P) (timeout : Option ℕ) (later : List RegistrationToken) (answer : Result (Option (Readiness × Token)) Error) (x : X) (cs : List (Change D I P)) (b : Doing D X) → SleptAs timeout later answer x cs b → IsOwned M w [] → IsOwned M (all_done w cs) (aside_of b)
   slept_as w timeout later (Ok None) x cs b h k = rw (h.0, h.1) k
   slept_as w timeout later (Ok (Some given)) x cs b h k = rw (h.0, h.1) (owned_appended M O law w [] _ k)
   slept_as w timeout later (Err e) x cs b h k = rw (h.0, h.1) k
 
-  slept_owned : (w : World D P) (timeout : Option ℕ) (token : RegistrationToken) (later : List RegistrationToken) (x : X) (cs : List (Change D P)) (b : Doing D X) (c : Content D) → named (map slot_of w.slots) token ≡ c → SleptBy M timeout token later c (seen w) x cs b → IsOwned M w [] → IsOwned M (all_done w cs) (aside_of b)
+  slept_owned : (w : World D I P) (timeout : Option ℕ) (token : RegistrationToken) (later : List RegistrationToken) (x : X) (cs : List (Change D I P)) (b : Doing D X) (c : Content D) → named (map slot_of w.slots) token ≡ c → SleptBy M timeout token later c (seen w) x cs b → IsOwned M w [] → IsOwned M (all_done w cs) (aside_of b)
   slept_owned w timeout token later x cs b Vacant is h k = rw (h.0, h.1) k
   slept_owned w timeout token later x cs b InTurn is h k = rw (h.0, h.1) k
   slept_owned w timeout token later x cs b (Source d) is h k =
       rw h.5 (slept_as (all_done w (told_in token h.0)) timeout later h.1 x h.2 b h.4 (told_owned w token d h.0 (Slept h.1) is h.3 k))
 
-  noticed_owned : (w : World D P) (from : ℕ) (token : RegistrationToken) (later : List RegistrationToken) (x : X) (cs : List (Change D P)) (b : Doing D X) (c : Content D) → named (map slot_of w.slots) token ≡ c → NoticedBy M from token later c (seen w) x cs b → IsOwned M w [] → IsOwned M (all_done w cs) (aside_of b)
+  noticed_owned : (w : World D I P) (from : ℕ) (token : RegistrationToken) (later : List RegistrationToken) (x : X) (cs : List (Change D I P)) (b : Doing D X) (c : Content D) → named (map slot_of w.slots) token ≡ c → NoticedBy M from token later c (seen w) x cs b → IsOwned M w [] → IsOwned M (all_done w cs) (aside_of b)
   noticed_owned w from token later x cs b Vacant is h k = rw (h.0, h.1) k
   noticed_owned w from token later x cs b InTurn is h k = rw (h.0, h.1) k
   noticed_owned w from token later x cs b (Source d) is h k = rw (h.2, h.3) (told_owned w token d h.0 (Noticed _) is h.1 k)
 
-  cut_owned : (w : World D P) (e : Pending) (x : X) (cs : List (Change D P)) (b : Doing D X) (c : Content D) → named (map slot_of w.slots) (registration_of e.token) ≡ c → CutTo M e c (seen w) x cs b → AllFit O (seen w) cs → IsOwned M w [] → IsOwned M (all_done w cs) (aside_of b)
+  cut_owned : (w : World D I P) (e : Pending) (x : X) (cs : List (Change D I P)) (b : Doing D X) (c : Content D) → named (map slot_of w.slots) (registration_of e.token) ≡ c → CutTo M e c (seen w) x cs b → AllFit O (seen w) cs → IsOwned M w [] → IsOwned M (all_done w cs) (aside_of b)
   cut_owned w e x cs b Vacant is h fit k = rw (h.0, h.1) (owned_same M O law (done w (Cut None)) (done (done w (Cut None)) Ended) [] refl refl refl refl (owned_cut M O law w [] None k))
   cut_owned w e x cs b InTurn is h fit k = rw (h.0, h.1) (owned_same M O law (done w (Cut None)) (done (done w (Cut None)) Ended) [] refl refl refl refl (owned_cut M O law w [] None k))
   cut_owned w e x cs b (Source d) is h fit k =
-      let begun : World D P = done w (Cut (Some e.token.slot)) in
-      let out : World D P = done begun (Put e.token.slot InTurn) in
-      let allowed : AllAllowed O (cut w.poll) h.2 = (rw h.7 at fit).1.1.0 in
-      rw (h.7, h.8)
-      (owned_polls M O law out [] d h.0 h.2 allowed (λ fits below. law d h.0 (cut w.poll) (Turned e.readiness e.token (lent x h.4 h.1 h.3 h.5)) h.2 fits below h.6)
-      (owned_out M O law begun [] e.token.slot d (at_named w.slots (registration_of e.token) d is) (owned_cut M O law w [] (Some e.token.slot) k)))
+      let begun : World D I P = done w (Cut (Some e.token.slot)) in
+      let out : World D I P = done begun (Put e.token.slot InTurn) in
+      let allowed : AllAllowed O (cut w.poll) h.2 = (rw h.6 at fit).1.1.0 in
+      let polled : World D I P = done out (Polls h.2) in
+      let own : IsOwned M polled (h.0 ∷ []) =
+      owned_polls M O law out [] d h.0 h.2 allowed (λ fits below. law d h.0 (cut w.poll) (Turned e.readiness e.token (lent x w.held.asks h.1 h.3 (asks_after w.held.asks h.4))) h.2 fits below h.5)
+      (owned_out M O law begun [] e.token.slot d (at_named w.slots (registration_of e.token) d is) (owned_cut M O law w [] (Some e.token.slot) k)) in
+      rw (h.6, h.7) (owned_listed M O law (done polled Ended) (Asking h.4) (h.0 ∷ []) (owned_same M O law polled (done polled Ended) (h.0 ∷ []) refl refl refl refl own))
 
-  from_owned : (w : World D P) (es : List Pending) (x : X) (cs : List (Change D P)) (b : Doing D X) → CutFrom M es (seen w) x cs b → AllFit O (seen w) cs → IsOwned M w [] → IsOwned M (all_done w cs) (aside_of b)
+  from_owned : (w : World D I P) (es : List Pending) (x : X) (cs : List (Change D I P)) (b : Doing D X) → CutFrom M es (seen w) x cs b → AllFit O (seen w) cs → IsOwned M w [] → IsOwned M (all_done w cs) (aside_of b)
   from_owned w [] x cs b h fit k = rw (h.0, h.1) k
   from_owned w (e ∷ es) x cs b h fit k = cut_owned w e x cs b (named (map slot_of w.slots) (registration_of e.token)) refl h fit k
 
-  emptied_owned : (w : World D P) (token : RegistrationToken) (c : Content D) (aside : List D) → IsOwned M w aside → IsOwned M (all_done w (emptied token c)) aside
+  emptied_owned : (w : World D I P) (token : RegistrationToken) (c : Content D) (aside : List D) → IsOwned M w aside → IsOwned M (all_done w (emptied token c)) aside
   emptied_owned w token Vacant aside k = k
   emptied_owned w token (Source d) aside k = k
   emptied_owned w token InTurn aside k = owned_emptied M O law w aside token.slot Vacant (λ e is. cc) k
 
-  acted_owned : (w : World D P) (token : RegistrationToken) (d : D) (answer : Result PostAction Error) (cs : List (Change D P)) (e : D) (told : Result (Unit {0}) Error) → ActedBy M token d answer (seen w) cs e told → AllFit O (seen w) cs → IsOwned M w (d ∷ []) → IsOwned M (all_done w cs) (e ∷ [])
-  acted_owned w token d (Ok Continue) cs e told h fit k = rw (h.0, h.1) (owned_same M O law w (done w Ended) (d ∷ []) refl refl refl refl k)
+  acted_owned : (w : World D I P) (token : RegistrationToken) (d : D) (answer : Result PostAction Error) (cs : List (Change D I P)) (e : D) (told : Result (Unit {0}) Error) → ActedBy M token d answer (seen w) cs e told → AllFit O (seen w) cs → IsOwned M w (d ∷ []) → IsOwned M (all_done w cs) (e ∷ [])
+  acted_owned w token d (Ok Continue) cs e told h fit k = rw (h.0, h.1) (owned_listed M O law w (Pend Continue) (d ∷ []) k)
   acted_owned w token d (Ok Reregister) cs e told h fit k =
-      let allowed : AllAllowed O (with_pass None w.poll) h.0 = (rw h.2 at fit).1.0 in
+      let allowed : AllAllowed O w.poll h.0 = (rw h.2 at fit).1.0 in
       rw h.2
-      (owned_listed M O law (done (done w Ended) (Polls h.0)) (entered M token d told) (e ∷ [])
-      (owned_polls M O law (done w Ended) [] d e h.0 allowed (registered_keeps Reregistered token (with_pass None w.poll) d e told h.0 h.1)
-      (owned_same M O law w (done w Ended) (d ∷ []) refl refl refl refl k)))
+      (owned_listed M O law (done (done w (Holds (Pend Continue))) (Polls h.0)) (entered M token d told) (e ∷ [])
+      (owned_polls M O law (done w (Holds (Pend Continue))) [] d e h.0 allowed (registered_keeps Reregistered token w.poll d e told h.0 h.1)
+      (owned_listed M O law w (Pend Continue) (d ∷ []) k)))
   acted_owned w token d (Ok DisableIt) cs e told h fit k =
-      let allowed : AllAllowed O (with_pass None w.poll) h.0 = (rw h.2 at fit).1.0 in
+      let allowed : AllAllowed O w.poll h.0 = (rw h.2 at fit).1.0 in
       rw h.2
-      (owned_listed M O law (done (done w Ended) (Polls h.0)) (Unlisted token) (e ∷ [])
-      (owned_polls M O law (done w Ended) [] d e h.0 allowed (λ fits below. law d e (with_pass None w.poll) (Unregistered told) h.0 fits below h.1)
-      (owned_same M O law w (done w Ended) (d ∷ []) refl refl refl refl k)))
+      (owned_listed M O law (done (done w (Holds (Pend Continue))) (Polls h.0)) (Unlisted token) (e ∷ [])
+      (owned_polls M O law (done w (Holds (Pend Continue))) [] d e h.0 allowed (λ fits below. law d e w.poll (Unregistered told) h.0 fits below h.1)
+      (owned_listed M O law w (Pend Continue) (d ∷ []) k)))
   acted_owned w token d (Ok Remove) cs e told h fit k =
-      rw (h.0, h.1) (emptied_owned (done w Ended) token (named (map slot_of w.slots) token) (d ∷ []) (owned_same M O law w (done w Ended) (d ∷ []) refl refl refl refl k))
-  acted_owned w token d (Err error) cs e told h fit k = rw (h.0, h.1) (owned_same M O law w (done w Ended) (d ∷ []) refl refl refl refl k)
+      rw (h.0, h.1) (emptied_owned (done w (Holds (Pend Continue))) token (named (map slot_of w.slots) token) (d ∷ []) (owned_listed M O law w (Pend Continue) (d ∷ []) k))
+  acted_owned w token d (Err error) cs e told h fit k = rw (h.0, h.1) (owned_listed M O law w (Pend Continue) (d ∷ []) k)
 
-  gone_owned : (w : World D P) (token : RegistrationToken) (d : D) (cs : List (Change D P)) → (h : (e : D) × (answer : Result (Unit {0}) Error) × (steps : List (PollStep P)) × M.does d w.poll (Unregistered answer) steps e × (cs ≡ Polls steps ∷ Holds (Unlisted token) ∷ [])) → AllFit O (seen w) cs → IsOwned M w (d ∷ []) → IsOwned M (all_done w cs) []
+  gone_owned : (w : World D I P) (token : RegistrationToken) (d : D) (cs : List (Change D I P)) → (h : (e : D) × (answer : Result (Unit {0}) Error) × (steps : List (PollStep P)) × M.does d w.poll (Unregistered answer) steps e × (cs ≡ Polls steps ∷ Holds (Unlisted token) ∷ Holds (Paid (RemovedAnswer (Some e))) ∷ [])) → AllFit O (seen w) cs → IsOwned M w (d ∷ []) → IsOwned M (all_done w cs) []
   gone_owned w token d cs h fit k =
       let allowed : AllAllowed O w.poll h.2 = (rw h.4 at fit).0 in
       rw h.4
+      (owned_listed M O law (done (done w (Polls h.2)) (Holds (Unlisted token))) (Paid (RemovedAnswer (Some h.0))) []
       (owned_listed M O law (done w (Polls h.2)) (Unlisted token) []
-      (owned_dropped M O law (done w (Polls h.2)) [] h.0 (owned_polls M O law w [] d h.0 h.2 allowed (λ fits below. law d h.0 w.poll (Unregistered h.1) h.2 fits below h.3) k)))
+      (owned_dropped M O law (done w (Polls h.2)) [] h.0 (owned_polls M O law w [] d h.0 h.2 allowed (λ fits below. law d h.0 w.poll (Unregistered h.1) h.2 fits below h.3) k))))
 
-  returned_owned : (w : World D P) (token : RegistrationToken) (d : D) (c : Content D) (cs : List (Change D P)) → ReturnedTo M token d c (seen w) cs → AllFit O (seen w) cs → IsOwned M w (d ∷ []) → IsOwned M (all_done w cs) []
+  returned_owned : (w : World D I P) (token : RegistrationToken) (d : D) (c : Content D) (cs : List (Change D I P)) → ReturnedTo M token d c (seen w) cs → AllFit O (seen w) cs → IsOwned M w (d ∷ []) → IsOwned M (all_done w cs) []
   returned_owned w token d InTurn cs h fit k = rw h (owned_back M O law w [] token.slot d k)
   returned_owned w token d Vacant cs h fit k = gone_owned w token d cs h fit k
   returned_owned w token d (Source f) cs h fit k = gone_owned w token d cs h fit k
 
-  step_owned : (w : World D P) (a b : Doing D X) (cs : List (Change D P)) → Step M O (seen w) a cs b → AllFit O (seen w) cs → IsOwned M w (aside_of a) → IsOwned M (all_done w cs) (aside_of b)
-  step_owned w (Beginning timeout x) b cs h fit k = rw (h.1, h.2) (owned_same M O law w (done w (Counting h.0)) [] refl refl refl refl k)
-  step_owned w (Sleeping timeout [] x) b cs h fit k = rw (h.0, h.1) k
-  step_owned w (Sleeping timeout (t ∷ later) x) b cs h fit k = slept_owned w timeout t later x cs b (named (map slot_of w.slots) t) refl h k
-  step_owned w (Waiting timeout x) b cs h fit k = rw (h.5, h.6, aside_wait h.0 h.1 x) (owned_same M O law w (done (done w (Polling h.2)) (Watching h.3)) [] refl refl refl refl k)
-  step_owned w (Gathering now given x) b cs h fit k = rw (h.1, h.2) (owned_gathered M O law w [] h.0 given now k)
-  step_owned w (Noticing from [] x) b cs h fit k = rw (h.0, h.1) k
-  step_owned w (Noticing from (t ∷ later) x) b cs h fit k = noticed_owned w from t later x cs b (named (map slot_of w.slots) t) refl h k
-  step_owned w (Cutting x) b cs h fit k = from_owned w w.poll.batch x cs b h fit k
-  step_owned w (Ending token d answer x) b cs h fit k = rw h.3 (acted_owned w token d answer cs h.0 h.1 h.2 fit k)
-  step_owned w (Returning token d told x) b cs h fit k = rw (h.1, aside_after told x) (returned_owned w token d (named (map slot_of w.slots) token) cs h.0 fit k)
-  step_owned w (Leaving answer x) b cs h fit k = absurd h
-
-  steps_owned : (w : World D P) (a b : Doing D X) (css : List (List (Change D P))) → Steps M O (seen w) a css b → IsOwned M w (aside_of a) → IsOwned M (all_traced w css) (aside_of b)
-  steps_owned w a b [] h k = rw h k
-  steps_owned w a b (cs ∷ css) h k =
-      steps_owned (all_done w cs) h.0 b css (subst (λ (v : View D P). Steps M O v h.0 css b) (sym (seen-all_done w cs)) h.3) (step_owned w a h.0 cs h.1 h.2 k)
-
-  inserted_owned : (w : World D P) (d : D) (answer : Result RegistrationToken (InsertError D)) (cs : List (Change D P)) → AllFresh M cs → InsertedBy M d answer (seen w) cs → AllFit O (seen w) cs → IsOwned M w [] → IsOwned M (all_done w cs) []
-  inserted_owned w d (Ok token) cs fresh h fit k =
-      let claimed : World D P = done w (Claim d) in
+  inserted_owned : (w : World D I P) (rest : List D) (d : D) (answer : Result RegistrationToken (InsertError D)) (cs : List (Change D I P)) → AllFresh M cs → InsertedBy M d answer (seen w) cs → AllFit O (seen w) cs → IsOwned M w rest → IsOwned M (all_done w cs) rest
+  inserted_owned w rest d (Ok token) cs fresh h fit k =
+      let claimed : World D I P = done w (Claim d) in
       let allowed : AllAllowed O w.poll h.4 = (rw h.6 at fit).1.0 in
       let free : HoldsNone M d × M.fits d = (rw h.6 at fresh).0 in
       rw h.6
-      (owned_back M O law (done (done claimed (Polls h.4)) (Holds (Listed (M.needs d) token))) [] token.slot h.2
-      (owned_listed M O law (done claimed (Polls h.4)) (Listed (M.needs d) token) (h.2 ∷ [])
-      (owned_polls M O law claimed [] d h.2 h.4 allowed (λ fits below. law d h.2 w.poll (Registered (factory_of token) (Ok tt) h.3) h.4 fits below h.5) (owned_fresh M O law claimed [] d free (owned_claim M O law w d [] k)))))
-  inserted_owned w d (Err refused) cs fresh (inl h) fit k = rw h.2 k
-  inserted_owned w d (Err refused) cs fresh (inr h) fit k =
-      let claimed : World D P = done w (Claim d) in
+      (owned_back M O law (done (done claimed (Polls h.4)) (Holds (Listed (M.needs d) token))) rest token.slot h.2
+      (owned_listed M O law (done claimed (Polls h.4)) (Listed (M.needs d) token) (h.2 ∷ rest)
+      (owned_polls M O law claimed rest d h.2 h.4 allowed (λ fits below. law d h.2 w.poll (Registered (factory_of token) (Ok tt) h.3) h.4 fits below h.5) (owned_fresh M O law claimed rest d free (owned_claim M O law w d rest k)))))
+  inserted_owned w rest d (Err refused) cs fresh (inl h) fit k = rw h.2 k
+  inserted_owned w rest d (Err refused) cs fresh (inr h) fit k =
+      let claimed : World D I P = done w (Claim d) in
       let allowed : AllAllowed O w.poll h.2 = (rw h.4 at fit).1.0 in
       let free : HoldsNone M d × M.fits d = (rw h.4 at fresh).0 in
-      let polled : World D P = done claimed (Polls h.2) in
+      let polled : World D I P = done claimed (Polls h.2) in
       let place = first_vacant (map slot_of w.slots) in
       rw h.4
-      (owned_dropped M O law (done polled (Put place Vacant)) [] refused.inserted
-      (owned_emptied M O law polled (refused.inserted ∷ []) place Vacant (λ e is. cc)
-      (owned_polls M O law claimed [] d refused.inserted h.2 allowed (λ fits below. law d refused.inserted w.poll (Registered (factory_of (next_registration (map slot_of w.slots))) (Err refused.error) h.1) h.2 fits below h.3) (owned_fresh M O law claimed [] d free (owned_claim M O law w d [] k)))))
+      (owned_dropped M O law (done polled (Put place Vacant)) rest refused.inserted
+      (owned_emptied M O law polled (refused.inserted ∷ rest) place Vacant (λ e is. cc)
+      (owned_polls M O law claimed rest d refused.inserted h.2 allowed (λ fits below. law d refused.inserted w.poll (Registered (factory_of (next_registration (map slot_of w.slots))) (Err refused.error) h.1) h.2 fits below h.3) (owned_fresh M O law claimed rest d free (owned_claim M O law w d rest k)))))
 
-  asked_owned : (w : World D P) (R : D → Result (Unit {0}) Error → List (PollStep P) → D → Type 0) (noted : D → Outcome → HeldStep) (token : RegistrationToken) (answer : Result (Unit {0}) Error) (cs : List (Change D P)) (c : Content D)
+  asked_owned : (w : World D I P) (rest : List D) (R : D → Result (Unit {0}) Error → List (PollStep P) → D → Type 0) (noted : D → Outcome → HeldStep D I) (token : RegistrationToken) (answer : Result (Unit {0}) Error) (cs : List (Change D I P)) (c : Content D)
       → ((d e : D) (l : List (PollStep P)) → R d answer l e → M.fits d → IsBelow w.poll.deadlines.next (M.holds d) → M.fits e × Keeps (M.holds d) w.poll.deadlines.next l (M.holds e))
-      → named (map slot_of w.slots) token ≡ c → AskedIn R noted token c answer cs → AllFit O (seen w) cs → IsOwned M w [] → IsOwned M (all_done w cs) []
-  asked_owned w R noted token answer cs Vacant keeps is h fit k = rw h.1 k
-  asked_owned w R noted token answer cs InTurn keeps is h fit k = rw h.1 k
-  asked_owned w R noted token answer cs (Source d) keeps is h fit k =
-      let out : World D P = done w (Put token.slot InTurn) in
+      → named (map slot_of w.slots) token ≡ c → AskedIn R noted token c answer cs → AllFit O (seen w) cs → IsOwned M w rest → IsOwned M (all_done w cs) rest
+  asked_owned w rest R noted token answer cs Vacant keeps is h fit k = rw h.1 k
+  asked_owned w rest R noted token answer cs InTurn keeps is h fit k = rw h.1 k
+  asked_owned w rest R noted token answer cs (Source d) keeps is h fit k =
+      let out : World D I P = done w (Put token.slot InTurn) in
       let allowed : AllAllowed O w.poll h.1 = (rw h.3 at fit).1.0 in
       rw h.3
-      (owned_back M O law (done (done out (Polls h.1)) (Holds (noted d answer))) [] token.slot h.0
-      (owned_listed M O law (done out (Polls h.1)) (noted d answer) (h.0 ∷ [])
-      (owned_polls M O law out [] d h.0 h.1 allowed (keeps d h.0 h.1 h.2) (owned_out M O law w [] token.slot d (at_named w.slots token d is) k))))
+      (owned_back M O law (done (done out (Polls h.1)) (Holds (noted d answer))) rest token.slot h.0
+      (owned_listed M O law (done out (Polls h.1)) (noted d answer) (h.0 ∷ rest)
+      (owned_polls M O law out rest d h.0 h.1 allowed (keeps d h.0 h.1 h.2) (owned_out M O law w rest token.slot d (at_named w.slots token d is) k))))
 
-  removed_owned : (w : World D P) (token : RegistrationToken) (answer : Option D) (cs : List (Change D P)) (c : Content D) → named (map slot_of w.slots) token ≡ c → RemovedIn M token c answer (seen w) cs → AllFit O (seen w) cs → IsOwned M w [] → IsOwned M (all_done w cs) []
-  removed_owned w token answer cs Vacant is h fit k = rw h.1 k
-  removed_owned w token answer cs InTurn is h fit k = rw h.1 k
-  removed_owned w token answer cs (Source d) is h fit k =
-      let out : World D P = done w (Put token.slot Vacant) in
+  removed_owned : (w : World D I P) (rest : List D) (token : RegistrationToken) (answer : Option D) (cs : List (Change D I P)) (c : Content D) → named (map slot_of w.slots) token ≡ c → RemovedIn M token c answer (seen w) cs → AllFit O (seen w) cs → IsOwned M w rest → IsOwned M (all_done w cs) rest
+  removed_owned w rest token answer cs Vacant is h fit k = rw h.1 k
+  removed_owned w rest token answer cs InTurn is h fit k = rw h.1 k
+  removed_owned w rest token answer cs (Source d) is h fit k =
+      let out : World D I P = done w (Put token.slot Vacant) in
       let allowed : AllAllowed O w.poll h.2 = (rw h.5 at fit).1.0 in
       rw h.5
-      (owned_listed M O law (done out (Polls h.2)) (Unlisted token) []
-      (owned_dropped M O law (done out (Polls h.2)) [] h.0
-      (owned_polls M O law out [] d h.0 h.2 allowed (λ fits below. law d h.0 w.poll (Unregistered h.1) h.2 fits below h.3) (owned_without M O law w [] token.slot Vacant d (λ e is. cc) (at_named w.slots token d is) k))))
+      (owned_listed M O law (done out (Polls h.2)) (Unlisted token) rest
+      (owned_dropped M O law (done out (Polls h.2)) rest h.0
+      (owned_polls M O law out rest d h.0 h.2 allowed (λ fits below. law d h.0 w.poll (Unregistered h.1) h.2 fits below h.3) (owned_without M O law w rest token.slot Vacant d (λ e is. cc) (at_named w.slots token d is) k))))
 
-  fresh_first : (cs ds : List (Change D P)) → AllFresh M (cs ++ ds) → AllFresh M cs
+  fresh_first : (cs ds : List (Change D I P)) → AllFresh M (cs ++ ds) → AllFresh M cs
   fresh_first [] ds h = tt
   fresh_first (c ∷ cs) ds h = (h.0, fresh_first cs ds h.1)
 
-  fresh_rest : (cs ds : List (Change D P)) → AllFresh M (cs ++ ds) → AllFresh M ds
+  fresh_rest : (cs ds : List (Change D I P)) → AllFresh M (cs ++ ds) → AllFresh M ds
   fresh_rest [] ds h = h
   fresh_rest (c ∷ cs) ds h = fresh_rest cs ds h.1
 
+  -- the changes of a request, and its answer behind them
+  told_owned_by : (w : World D I P) (rest : List D) (ds cs : List (Change D I P)) (answer : Answer D) → cs ≡ ds ++ Holds (Told answer) ∷ [] → AllFresh M cs → AllFit O (seen w) cs
+      → (AllFresh M ds → AllFit O (seen w) ds → IsOwned M (all_done w ds) rest) → IsOwned M (all_done w cs) rest
+  told_owned_by w rest ds cs answer is fresh fit f =
+      let step : Change D I P = Holds (Told answer) in
+      let some : AllFresh M ds = fresh_first ds (step ∷ []) (subst (λ (l : List (Change D I P)). AllFresh M l) is fresh) in
+      let fits : AllFit O (seen w) ds = fit_first O (seen w) ds (step ∷ []) (subst (λ (l : List (Change D I P)). AllFit O (seen w) l) is fit) in
+      rw (is, done-append w ds (step ∷ [])) (owned_listed M O law (all_done w ds) (Told answer) rest (f some fits))
+
+  own_or : {A B G : Type 0} (c : Content D) → (c ≡ InTurn → A → G) → (B → G) → OwnOr c A B → G
+  own_or InTurn f g h = f refl h
+  own_or Vacant f g h = g h
+  own_or (Source d) f g h = g h
+
+  served_as_owned : (w : World D I P) (rest : List D) (request : Request D I) (answer : Outcome) (cs : List (Change D I P)) → ServedAs M request answer (seen w) cs → AllFit O (seen w) cs → IsOwned M w rest → IsOwned M (all_done w cs) rest
+  served_as_owned w rest (AskEnable token) answer cs h fit k =
+      own_or (named (map slot_of w.slots) token) (λ _ o. rw o.1 k)
+      (λ o. asked_owned w rest _ _ token answer cs (named (map slot_of w.slots) token) (λ d e l u. registered_keeps Registered token w.poll d e answer l u) refl o fit k) h
+  served_as_owned w rest (AskUpdate token) answer cs h fit k =
+      own_or (named (map slot_of w.slots) token) (λ _ o. rw o.1 (owned_listed M O law w (Pend Reregister) rest k))
+      (λ o. asked_owned w rest _ _ token answer cs (named (map slot_of w.slots) token) (λ d e l u. registered_keeps Reregistered token w.poll d e answer l u) refl o fit k) h
+  served_as_owned w rest (AskDisable token) answer cs h fit k =
+      own_or (named (map slot_of w.slots) token) (λ _ o. rw o.1 (owned_listed M O law w (Pend DisableIt) rest k))
+      (λ o. asked_owned w rest _ _ token answer cs (named (map slot_of w.slots) token) (λ d e l u fits below. law d e w.poll (Unregistered answer) l fits below u) refl o fit k) h
+  served_as_owned w rest (AskInsert d) answer cs h fit k = absurd h
+  served_as_owned w rest (AskRemove token) answer cs h fit k = absurd h
+  served_as_owned w rest (AskIdle idle) answer cs h fit k = absurd h
+  served_as_owned w rest (AskCancel ticket) answer cs h fit k = absurd h
+
+  served_owned : (w : World D I P) (rest : List D) (request : Request D I) (cs : List (Change D I P)) → AllFresh M cs → Served M request (seen w) cs → AllFit O (seen w) cs → IsOwned M w rest → IsOwned M (all_done w cs) rest
+  served_owned w rest (AskInsert d) cs fresh h fit k = told_owned_by w rest h.1 cs _ h.3 fresh fit (λ some fits. inserted_owned w rest d h.0 h.1 some h.2 fits k)
+  served_owned w rest (AskEnable token) cs fresh h fit k = told_owned_by w rest h.1 cs _ h.3 fresh fit (λ some fits. served_as_owned w rest (AskEnable token) h.0 h.1 h.2 fits k)
+  served_owned w rest (AskUpdate token) cs fresh h fit k = told_owned_by w rest h.1 cs _ h.3 fresh fit (λ some fits. served_as_owned w rest (AskUpdate token) h.0 h.1 h.2 fits k)
+  served_owned w rest (AskDisable token) cs fresh h fit k = told_owned_by w rest h.1 cs _ h.3 fresh fit (λ some fits. served_as_owned w rest (AskDisable token) h.0 h.1 h.2 fits k)
+  served_owned w rest (AskRemove token) cs fresh h fit k =
+      let out : World D I P = done w (Put token.slot Vacant) in
+      own_or (named (map slot_of w.slots) token)
+      (λ _ o. rw o (owned_listed M O law (done out (Holds (Unlisted token))) Owe rest (owned_listed M O law out (Unlisted token) rest (owned_emptied M O law w rest token.slot Vacant (λ e is. cc) k))))
+      (λ o. told_owned_by w rest o.1 cs _ o.3 fresh fit (λ some fits. removed_owned w rest token o.0 o.1 (named (map slot_of w.slots) token) refl o.2 fits k)) h
+  served_owned w rest (AskIdle idle) cs fresh h fit k = rw h (owned_listed M O law w (IdleIn idle) rest k)
+  served_owned w rest (AskCancel ticket) cs fresh h fit k = rw h (owned_listed M O law (done w (Holds (IdleOut ticket))) (Told Done) rest (owned_listed M O law w (IdleOut ticket) rest k))
+
+  served_from_owned : (w : World D I P) (asked : List (Asked D I)) (on next b : Doing D X) (cs : List (Change D I P)) → AllFresh M cs → ServedFrom M asked on next b (seen w) cs → AllFit O (seen w) cs → aside_of next ≡ aside_of on
+      → IsOwned M w (aside_of on) → IsOwned M (all_done w cs) (aside_of b)
+  served_from_owned w [] on next b cs fresh h fit same k = rw (h.0, h.1, same) k
+  served_from_owned w (a ∷ as') on next b cs fresh h fit same k =
+      let some : AllFresh M h.0 = (rw h.2 at fresh).1 in
+      let fits : AllFit O (viewed (seen w) (Holds Begun)) h.0 = (rw h.2 at fit).1 in
+      rw (h.2, h.3) (served_owned (done w (Holds Begun)) (aside_of on) a.request h.0 some h.1 fits (owned_listed M O law w Begun (aside_of on) k))
+
+  run_from_owned : (w : World D I P) (idles : List (Waiter I)) (x : X) (cs : List (Change D I P)) (b : Doing D X) → RunFrom runs idles (seen w) x cs b → IsOwned M w [] → IsOwned M (all_done w cs) (aside_of b)
+  run_from_owned w [] x cs b h k = rw (h.0, h.1) k
+  run_from_owned w (i ∷ is) x cs b h k = rw (h.3, h.4) (owned_listed M O law (done w (Holds IdleBegun)) (Asking h.1) [] (owned_listed M O law w IdleBegun [] k))
+
+  step_owned : (w : World D I P) (a b : Doing D X) (cs : List (Change D I P)) → AllFresh M cs → Step M runs O (seen w) a cs b → AllFit O (seen w) cs → IsOwned M w (aside_of a) → IsOwned M (all_done w cs) (aside_of b)
+  step_owned w (Beginning timeout x) b cs fresh h fit k = rw (h.1, h.2) (owned_listed M O law (done w (Counting h.0)) Cleared [] (owned_same M O law w (done w (Counting h.0)) [] refl refl refl refl k))
+  step_owned w (Sleeping timeout [] x) b cs fresh h fit k = rw (h.0, h.1) k
+  step_owned w (Sleeping timeout (t ∷ later) x) b cs fresh h fit k = slept_owned w timeout t later x cs b (named (map slot_of w.slots) t) refl h k
+  step_owned w (Waiting timeout x) b cs fresh h fit k = rw (h.5, h.6, aside_wait h.0 h.1 x) (owned_same M O law w (done (done w (Polling h.2)) (Watching h.3)) [] refl refl refl refl k)
+  step_owned w (Gathering now given x) b cs fresh h fit k = rw (h.1, h.2) (owned_gathered M O law w [] h.0 given now k)
+  step_owned w (Noticing from [] x) b cs fresh h fit k = rw (h.0, h.1) k
+  step_owned w (Noticing from (t ∷ later) x) b cs fresh h fit k = noticed_owned w from t later x cs b (named (map slot_of w.slots) t) refl h k
+  step_owned w (Cutting x) b cs fresh h fit k = from_owned w w.poll.batch x cs b h fit k
+  step_owned w (Serving token d answer x) b cs fresh h fit k = served_from_owned w w.held.asks.written _ _ b cs fresh h fit refl k
+  step_owned w (Ending token d answer x) b cs fresh h fit k = rw h.3 (acted_owned w token d (action_of answer w.held.pending) cs h.0 h.1 h.2 fit k)
+  step_owned w (Returning token d told x) b cs fresh h fit k = rw (h.1, aside_after told x) (returned_owned w token d (named (map slot_of w.slots) token) cs h.0 fit k)
+  step_owned w (Idling x) b cs fresh h fit k = rw (h.0, h.1) (owned_listed M O law w IdlesTaken [] k)
+  step_owned w (RunningIdles x) b cs fresh h fit k = run_from_owned w w.held.asks.running x cs b h k
+  step_owned w (ServingIdle x) b cs fresh h fit k = served_from_owned w w.held.asks.written _ _ b cs fresh h fit refl k
+  step_owned w (Leaving answer x) b cs fresh h fit k = absurd h
+
+  steps_owned : (w : World D I P) (a b : Doing D X) (css : List (List (Change D I P))) → AllFresh M (joined css) → Steps M runs O (seen w) a css b → IsOwned M w (aside_of a) → IsOwned M (all_traced w css) (aside_of b)
+  steps_owned w a b [] fresh h k = rw h k
+  steps_owned w a b (cs ∷ css) fresh h k =
+      steps_owned (all_done w cs) h.0 b css (fresh_rest cs (joined css) fresh) (subst (λ (v : View D I P). Steps M runs O v h.0 css b) (sym (seen-all_done w cs)) h.3) (step_owned w a h.0 cs (fresh_first cs (joined css) fresh) h.1 h.2 k)
+
   -- another source takes the place of one: that goes out of its slot, and this comes in
-  owned_swapped : (w : World D P) (k : ℕ) (old new : D) → At w.slots k old → HoldsNoMore M old new × M.fits new → IsOwned M w [] → IsOwned M (done w (Swapped k old new)) []
+  owned_swapped : (w : World D I P) (k : ℕ) (old new : D) → At w.slots k old → HoldsNoMore M old new × M.fits new → IsOwned M w [] → IsOwned M (done w (Swapped k old new)) []
   owned_swapped w k old new here less h =
-      let out : World D P = done w (Put k InTurn) in
+      let out : World D I P = done w (Put k InTurn) in
       let same : changed (holding (Source new)) (changed (holding InTurn) w.slots k) k ≡ changed (holding (Source new)) w.slots k = put_twice (Source new) InTurn w.slots k in
       subst (λ (slots : List (Registration D)). IsOwned M (record w { slots = slots }) []) same
       (owned_back M O law out [] k new (owned_polls M O law out [] old new [] tt (λ fits below. (less.1, less.0)) (owned_out M O law w [] k old here h)))
 
-  exchanged_owned : (w : World D P) (token : RegistrationToken) (new : D) (answer : Result D D) (cs : List (Change D P)) (c : Content D) → named (map slot_of w.slots) token ≡ c → AllFresh M cs → ExchangedIn token new c answer cs → IsOwned M w [] → IsOwned M (all_done w cs) []
+  exchanged_owned : (w : World D I P) (token : RegistrationToken) (new : D) (answer : Result D D) (cs : List (Change D I P)) (c : Content D) → named (map slot_of w.slots) token ≡ c → AllFresh M cs → ExchangedIn token new c answer cs → IsOwned M w [] → IsOwned M (all_done w cs) []
   exchanged_owned w token new answer cs Vacant is fresh h k = rw h.1 k
   exchanged_owned w token new answer cs InTurn is fresh h k = rw h.1 k
   exchanged_owned w token new answer cs (Source d) is fresh h k =
       let less : HoldsNoMore M d new × M.fits new = (rw h.1 at fresh).0 in
       rw h.1 (owned_swapped w token.slot d new (at_named w.slots token d is) less k)
 
-  once_owned : (w : World D P) (R : View D P → List (Change D P) → Type 0) (css : List (List (Change D P))) → AllFresh M (joined css) → Once O R (seen w) css → ((cs : List (Change D P)) → AllFresh M cs → R (seen w) cs → AllFit O (seen w) cs → IsOwned M (all_done w cs) []) → IsOwned M (all_traced w css) []
+  once_owned : (w : World D I P) (R : View D I P → List (Change D I P) → Type 0) (css : List (List (Change D I P))) → AllFresh M (joined css) → Once O R (seen w) css → ((cs : List (Change D I P)) → AllFresh M cs → R (seen w) cs → AllFit O (seen w) cs → IsOwned M (all_done w cs) []) → IsOwned M (all_traced w css) []
   once_owned w R [] fresh h f = absurd h
   once_owned w R (cs ∷ []) fresh h f = f cs (fresh_first cs [] fresh) h.0 h.1
   once_owned w R (cs ∷ ds ∷ css) fresh h f = absurd h
 
-  case_owned : (w : World D P) (call : LoopCall D P X) (answer : LoopAnswer D P X) (css : List (List (Change D P))) → AllFresh M (joined css) → Case M O call answer (seen w) css → IsOwned M w [] → IsOwned M (all_traced w css) []
-  case_owned w (Insert d) (Inserted answer) css free h k = once_owned w (InsertedBy M d answer) css free h (λ cs fresh r fit. inserted_owned w d answer cs fresh r fit k)
+  case_owned : (w : World D I P) (call : LoopCall D P X I) (answer : LoopAnswer D P X I) (css : List (List (Change D I P))) → AllFresh M (joined css) → Case M runs O call answer (seen w) css → IsOwned M w [] → IsOwned M (all_traced w css) []
+  case_owned w (Insert d) (Inserted answer) css free h k = once_owned w (InsertedBy M d answer) css free h (λ cs fresh r fit. inserted_owned w [] d answer cs fresh r fit k)
   case_owned w (Enable token) (Enabled answer) css free h k =
       once_owned w (EnabledBy M token answer) css free h
-      (λ cs fresh r fit. asked_owned w _ _ token answer cs (named (map slot_of w.slots) token) (λ d e l u. registered_keeps Registered token w.poll d e answer l u) refl r fit k)
+      (λ cs fresh r fit. asked_owned w [] _ _ token answer cs (named (map slot_of w.slots) token) (λ d e l u. registered_keeps Registered token w.poll d e answer l u) refl r fit k)
   case_owned w (Update token) (Updated answer) css free h k =
       once_owned w (UpdatedBy M token answer) css free h
-      (λ cs fresh r fit. asked_owned w _ _ token answer cs (named (map slot_of w.slots) token) (λ d e l u. registered_keeps Reregistered token w.poll d e answer l u) refl r fit k)
+      (λ cs fresh r fit. asked_owned w [] _ _ token answer cs (named (map slot_of w.slots) token) (λ d e l u. registered_keeps Reregistered token w.poll d e answer l u) refl r fit k)
   case_owned w (Disable token) (Disabled answer) css free h k =
       once_owned w (DisabledBy M token answer) css free h
-      (λ cs fresh r fit. asked_owned w _ _ token answer cs (named (map slot_of w.slots) token) (λ d e l u fits below. law d e w.poll (Unregistered answer) l fits below u) refl r fit k)
-  case_owned w (RemoveCall token) (Removed answer) css free h k = once_owned w (RemovedBy M token answer) css free h (λ cs fresh r fit. removed_owned w token answer cs (named (map slot_of w.slots) token) refl r fit k)
+      (λ cs fresh r fit. asked_owned w [] _ _ token answer cs (named (map slot_of w.slots) token) (λ d e l u fits below. law d e w.poll (Unregistered answer) l fits below u) refl r fit k)
+  case_owned w (RemoveCall token) (Removed answer) css free h k = once_owned w (RemovedBy M token answer) css free h (λ cs fresh r fit. removed_owned w [] token answer cs (named (map slot_of w.slots) token) refl r fit k)
   case_owned w (Exchange token d) (Exchanged answer) css free h k =
       once_owned w (ExchangedBy token d answer) css free h (λ cs fresh r fit. exchanged_owned w token d answer cs (named (map slot_of w.slots) token) refl fresh r k)
   case_owned w (Dispatch timeout x) (Dispatched answer x') css free (inl h) k = rw h.2 k
-  case_owned w (Dispatch timeout x) (Dispatched answer x') css free (inr h) k = steps_owned w (Beginning (nanos_of timeout) x) (Leaving answer x') css h k
+  case_owned w (Dispatch timeout x) (Dispatched answer x') css free (inr h) k = steps_owned w (Beginning (nanos_of timeout) x) (Leaving answer x') css free h k
+  case_owned w (InsertIdle idle) (IdleInserted (Ok made)) css free h k = once_owned w (IdleInsertedBy idle (Ok made)) css free h (λ cs fresh r fit. rw r.2 (owned_listed M O law w (IdleNew idle) [] k))
+  case_owned w (InsertIdle idle) (IdleInserted (Err refused)) css free h k = once_owned w (IdleInsertedBy idle (Err refused)) css free h (λ cs fresh r fit. rw r.2 k)
+  case_owned w (Cancel idle) Cancelled css free h k = rw h (owned_listed M O law w (IdleOut idle.ticket.number) [] k)
+  case_owned w (AnswerOf ticket) (Answered answer) css free h k = rw h.1 (owned_listed M O law w (Asking (Take ticket.number ∷ [])) [] k)
   case_owned w (NewPoller p) (OldPoller q) css free h k = rw h.1 (owned_same M O law w (done w (Polling p)) [] refl refl refl refl k)
   case_owned w call answer css free h k = absurd h
 
-  pub run_owned : (calls : List (LoopCall D P X)) (answers : List (LoopAnswer D P X)) (csss : List (List (List (Change D P)))) (w w' : World D P) → AllFresh M (changes_of csss) → Run M O calls answers csss w w' → IsOwned M w [] → IsOwned M w' []
+  pub run_owned : (calls : List (LoopCall D P X I)) (answers : List (LoopAnswer D P X I)) (csss : List (List (List (Change D I P)))) (w w' : World D I P) → AllFresh M (changes_of csss) → Run M runs O calls answers csss w w' → IsOwned M w [] → IsOwned M w' []
   run_owned [] [] [] w w' free run k = rw run k
   run_owned (call ∷ calls) (answer ∷ answers) (css ∷ csss) w w' free run k = run_owned calls answers csss (all_traced w css) w' (fresh_rest (joined css) (changes_of csss) free) run.1 (case_owned w call answer css (fresh_first (joined css) (changes_of csss) free) run.0 k)
   run_owned calls answers csss w w' free run k = absurd run
@@ -490,8 +568,8 @@ none_armed : (n : ℕ) → ◌≡◌ {A = ℕ} 0 (if nat_lt n 0 then 1 else 0)
 none_armed n = grind (arith, nat_tests)
 
 -- a machine to which nothing has happened
-pub new_owned : {D P X Q : Type 0} (M : Meaning D P (Lent X Q)) (w : World D P) → IsNew w → IsOwned M w []
-new_owned {D} {P} M w h =
+pub new_owned : {D I P X : Type 0} (M : Meaning D P (Lent X (Asks D I))) (w : World D I P) → IsNew w → IsOwned M w []
+new_owned {D} {I} {P} M w h =
     record {
       noted = record { kept = rw h.ledger (record { entries = sym (ap (λ d. d.entries) h.deadlines); events = sym h.batch; placed = λ n. none_armed n; batch_on_time = tt; cut_on_time = tt; own = tt; once = λ n. omega arith; gathered = λ n. omega arith }); falls = rw h.ledger tt };
       good = λ i d is. absurd (nobody w.slots h.slots i d is);

@@ -25,7 +25,7 @@ older_claim {D} (x ∷ xs) zero r h =
 older_claim {D} (x ∷ xs) (suc i) r h =
     elim (is_empty x.content) as (λ b. Older (if b then reused x ∷ xs else x ∷ with_claim xs) (suc i) r) [ true ↦ h | false ↦ older_claim xs i r h ]
 
-older_done : {D P : Type 0} (w : World D P) (c : Change D P) (i : ℕ) (r : Registration D) → Older w.slots i r → Older (done w c).slots i r
+older_done : {D I P : Type 0} (w : World D I P) (c : Change D I P) (i : ℕ) (r : Registration D) → Older w.slots i r → Older (done w c).slots i r
 older_done w (Put slot content) i r h = older_changed content w.slots slot i r h
 older_done w (Swapped slot old new) i r h = older_changed (Source new) w.slots slot i r h
 older_done w (Claim source) i r h = older_claim w.slots i r h
@@ -39,7 +39,7 @@ older_done w (Gathered posted given now) i r h = h
 older_done w (Cut slot) i r h = h
 older_done w Ended i r h = h
 
-older_all : {D P : Type 0} (w : World D P) (cs : List (Change D P)) (i : ℕ) (r : Registration D) → Older w.slots i r → Older (all_done w cs).slots i r
+older_all : {D I P : Type 0} (w : World D I P) (cs : List (Change D I P)) (i : ℕ) (r : Registration D) → Older w.slots i r → Older (all_done w cs).slots i r
 older_all w [] i r h = h
 older_all w (c ∷ cs) i r h = older_all (done w c) cs i r (older_done w c i r h)
 
@@ -49,8 +49,8 @@ wraps n m h e =
     elim (m / 65536 - n / 65536) as (λ k. m / 65536 - n / 65536 ≡ k → (m ≡ n) ⊎ ((k : ℕ) × (0 < k) × (m ≡ n + 65536 * k)))
     [ zero ↦ λ is. inl (omega (arith, mod-add-div n 65536, mod-add-div m 65536)) | suc k ↦ λ is. inr (m / 65536 - n / 65536, omega (arith, is), omega (arith, mod-add-div n 65536, mod-add-div m 65536)) ] refl
 
-pub names_later : {D P : Type 0} (w : World D P) (cs : List (Change D P)) → NamesLater w (all_done w cs)
-names_later {D} {P} w cs token r r' here there =
+pub names_later : {D I P : Type 0} (w : World D I P) (cs : List (Change D I P)) → NamesLater w (all_done w cs)
+names_later {D} {I} {P} w cs token r r' here there =
     let old = older_all w cs token.slot r (r, here.0, omega arith) in
     let same : old.0 ≡ r' = let e : Some old.0 ≡ Some r' = sym old.1 ∙ there.0 in cc in
     wraps r.reuse r'.reuse (omega (arith, old.2, ap (λ (y : Registration D). y.reuse) same)) (there.1 ∙ sym here.1)

@@ -5,16 +5,17 @@ use Rattle.calloop.specs.declared.loop_logic.LoopCall.{LoopCall}
 use Rattle.calloop.specs.declared.loop_logic.LoopAnswer.{LoopAnswer}
 use Rattle.calloop_core.specs.Deeds.{Lent}
 use Rattle.calloop_core.specs.Meanings.{Meaning}
+use Rattle.calloop.specs.Askings.{Asks, Runs}
 use Rattle.calloop.specs.Machine.{View}
 use Rattle.calloop.specs.Rules.{Case, Did, RunLeads, all_traced}
 use Rattle.calloop.proofs.Seen.{did_leads}
 
-module _ {D P X Q : Type 0} (M : Meaning D P (Lent X Q)) (O : Outside P) where
-  pub run_none : (v : View D P) → RunLeads M O [] [] v v
+module _ {D I P X : Type 0} (M : Meaning D P (Lent X (Asks D I))) (runs : Runs D I X) (O : Outside P) where
+  pub run_none : (v : View D I P) → RunLeads M runs O [] [] v v
   run_none v w e = ([], w, refl, e)
 
-  pub run_first : (call : LoopCall D P X) (answer : LoopAnswer D P X) (calls : List (LoopCall D P X)) (answers : List (LoopAnswer D P X)) (v u t : View D P) → Did (Case M O call answer) v u → RunLeads M O calls answers u t → RunLeads M O (call ∷ calls) (answer ∷ answers) v t
+  pub run_first : (call : LoopCall D P X I) (answer : LoopAnswer D P X I) (calls : List (LoopCall D P X I)) (answers : List (LoopAnswer D P X I)) (v u t : View D I P) → Did (Case M runs O call answer) v u → RunLeads M runs O calls answers u t → RunLeads M runs O (call ∷ calls) (answer ∷ answers) v t
   run_first call answer calls answers v u t d h w e =
-      let x = did_leads (Case M O call answer) v u d w e in
+      let x = did_leads (Case M runs O call answer) v u d w e in
       let y = h (all_traced w x.0) x.2 in
       (x.0 ∷ y.0, y.1, (x.1, y.2), y.3)

@@ -1,5 +1,5 @@
 -- A change of the machine is seen as the change of what the loop holds.
-use Rattle.std.proofs.Common.{◌≡◌, ℕ, ◌+◌, ◌*◌, ◌/◌, ◌%◌, List, [], ◌∷◌, map, refl, ap, sym, ◌∙◌, arith, subst, true, false, if◌then◌else◌}
+use Rattle.std.proofs.Common.{◌≡◌, ℕ, ◌+◌, ◌*◌, ◌/◌, ◌%◌, List, [], ◌∷◌, ◌++◌, map, refl, ap, sym, ◌∙◌, arith, subst, true, false, if◌then◌else◌}
 use Rattle.std.proofs.Math.Nat.{mod-add-div, add-mul-mod_self_left}
 use Rattle.calloop_wake.specs.declared.list.Content.TheVariants.{Source, InTurn}
 use Rattle.calloop_wake.specs.Slots.{claimed, taken_up, is_empty, with_content}
@@ -23,7 +23,7 @@ seen-with_claim {D} (r ∷ rs) =
     elim (is_empty r.content) as (λ b. map slot_of (if b then reused r ∷ rs else r ∷ with_claim rs) ≡ (if b then taken_up (slot_of r) ∷ map slot_of rs else slot_of r ∷ claimed (map slot_of rs)))
     [ true ↦ ap (λ s. s ∷ map slot_of rs) (slot_of-reused r) | false ↦ ap (λ ss. slot_of r ∷ ss) (seen-with_claim rs) ]
 
-pub seen-done : {D P : Type 0} (w : World D P) (c : Change D P) → seen (done w c) ≡ viewed (seen w) c
+pub seen-done : {D I P : Type 0} (w : World D I P) (c : Change D I P) → seen (done w c) ≡ viewed (seen w) c
 seen-done w (Put slot content) = ap (λ ss. record (seen w) { slots = ss }) (map-changed slot_of (holding content) (with_content content) w.slots slot (λ r. refl))
 seen-done w (Swapped slot old new) = ap (λ ss. record (seen w) { slots = ss }) (map-changed slot_of (holding (Source new)) (with_content (Source new)) w.slots slot (λ r. refl))
 seen-done w (Claim source) = ap (λ ss. record (seen w) { slots = ss }) (seen-with_claim w.slots)
@@ -37,15 +37,23 @@ seen-done w (Gathered posted given now) = refl
 seen-done w (Cut slot) = refl
 seen-done w Ended = refl
 
-pub seen-all_done : {D P : Type 0} (w : World D P) (cs : List (Change D P)) → seen (all_done w cs) ≡ all_viewed (seen w) cs
+pub seen-all_done : {D I P : Type 0} (w : World D I P) (cs : List (Change D I P)) → seen (all_done w cs) ≡ all_viewed (seen w) cs
 seen-all_done w [] = refl
-seen-all_done {D} {P} w (c ∷ cs) = seen-all_done (done w c) cs ∙ ap (λ (v : View D P). all_viewed v cs) (seen-done w c)
+seen-all_done {D} {I} {P} w (c ∷ cs) = seen-all_done (done w c) cs ∙ ap (λ (v : View D I P). all_viewed v cs) (seen-done w c)
 
-pub seen-all_traced : {D P : Type 0} (w : World D P) (css : List (List (Change D P))) → seen (all_traced w css) ≡ traced (seen w) css
+pub done-append : {D I P : Type 0} (w : World D I P) (cs ds : List (Change D I P)) → all_done w (cs ++ ds) ≡ all_done (all_done w cs) ds
+done-append w [] ds = refl
+done-append w (c ∷ cs) ds = done-append (done w c) cs ds
+
+pub viewed-append : {D I P : Type 0} (v : View D I P) (cs ds : List (Change D I P)) → all_viewed v (cs ++ ds) ≡ all_viewed (all_viewed v cs) ds
+viewed-append v [] ds = refl
+viewed-append v (c ∷ cs) ds = viewed-append (viewed v c) cs ds
+
+pub seen-all_traced : {D I P : Type 0} (w : World D I P) (css : List (List (Change D I P))) → seen (all_traced w css) ≡ traced (seen w) css
 seen-all_traced w [] = refl
-seen-all_traced {D} {P} w (cs ∷ css) = seen-all_traced (all_done w cs) css ∙ ap (λ (v : View D P). traced v css) (seen-all_done w cs)
+seen-all_traced {D} {I} {P} w (cs ∷ css) = seen-all_traced (all_done w cs) css ∙ ap (λ (v : View D I P). traced v css) (seen-all_done w cs)
 
 -- what a function did by what is seen, every machine that agreed does, and agrees again
-pub did_leads : {D P : Type 0} (R : View D P → List (List (Change D P)) → Type 0) (old new : View D P) → Did R old new → Leads R old new
-did_leads {D} {P} R old new h w e =
-    (h.0, subst (λ (v : View D P). R v h.0) (sym e) h.1, seen-all_traced w h.0 ∙ ap (λ (v : View D P). traced v h.0) e ∙ sym h.2)
+pub did_leads : {D I P : Type 0} (R : View D I P → List (List (Change D I P)) → Type 0) (old new : View D I P) → Did R old new → Leads R old new
+did_leads {D} {I} {P} R old new h w e =
+    (h.0, subst (λ (v : View D I P). R v h.0) (sym e) h.1, seen-all_traced w h.0 ∙ ap (λ (v : View D I P). traced v h.0) e ∙ sym h.2)

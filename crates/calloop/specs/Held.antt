@@ -1,11 +1,19 @@
--- What loop and machine hold alike, beside slots and `Poll`: which registrations are told of waits. calloop enters one again
--- at each registration, and leaves it there where that fails; here each stands once, in its first place.
-use Rattle.std.specs.Prelude.{List, [], ◌∷◌, ◌++◌, filter, Bool, false, not, ◌&&◌, ◌||◌, nat_eq, if◌then◌else◌}
+-- What loop and machine hold alike, beside slots and `Poll`: which registrations are told of waits, what the source in its turn
+-- asked for itself, and what callbacks asked for. calloop enters a registration again each time, and leaves it there where
+-- that fails; here each stands once, in its first place.
+use Rattle.std.specs.Prelude.{ℕ, List, [], ◌∷◌, ◌++◌, filter, Bool, false, not, ◌&&◌, ◌||◌, nat_eq, if◌then◌else◌}
 use Rattle.calloop_wake.specs.declared.token.RegistrationToken.{RegistrationToken}
+use Rattle.calloop_core.specs.declared.sources.PostAction.{PostAction}
+use Rattle.calloop.specs.declared.loop_logic.asks.Answer.{Answer}
+use Rattle.calloop.specs.Askings.{Asks, AskStep, asks_after, begun, cleared, idle_begun, owing, paid, taken_up, told, with_idle, with_new_idle, without_idle}
 
-pub record Held : Type 0 where
+pub record Held (D I : Type 0) : Type 0 where
   -- the registrations that are told of waits, in the order of their entry
   pub lifecycle : List RegistrationToken
+  -- what the source in its turn asked for itself
+  pub pending : PostAction
+  -- what callbacks asked for, and what came of it
+  pub asks : Asks D I
 
 abbrev pub is_one : RegistrationToken → RegistrationToken → Bool
 is_one a b = nat_eq a.slot b.slot && nat_eq a.version b.version
@@ -21,11 +29,41 @@ is_listed token (t ∷ ts) = is_one t token || is_listed token ts
 abbrev pub listed : RegistrationToken → List RegistrationToken → List RegistrationToken
 listed token ts = if is_listed token ts then ts else ts ++ token ∷ []
 
-pub data HeldStep : Type 0 where
+pub data HeldStep (D I : Type 0) : Type 0 where
   -- a registration is entered, where it is needed
-  Listed : (needed : Bool) (token : RegistrationToken) → HeldStep
-  Unlisted : (token : RegistrationToken) → HeldStep
+  Listed : (needed : Bool) (token : RegistrationToken) → HeldStep D I
+  Unlisted : (token : RegistrationToken) → HeldStep D I
+  -- the source in its turn asked for this
+  Pend : (action : PostAction) → HeldStep D I
+  -- a callback wrote requests, or answers were handed out
+  Asking : (steps : List (AskStep D I)) → HeldStep D I
+  -- the first request is carried out from now on; it is answered, or its answer is owed; and what is owed is answered
+  Begun : HeldStep D I
+  Told : (answer : Answer D) → HeldStep D I
+  Owe : HeldStep D I
+  Paid : (answer : Answer D) → HeldStep D I
+  -- answers that weren't handed out are gone
+  Cleared : HeldStep D I
+  -- an idle that a callback asked for, which is answered; one that the loop's caller asked for; and one that is cancelled
+  IdleIn : (idle : I) → HeldStep D I
+  IdleNew : (idle : I) → HeldStep D I
+  IdleOut : (ticket : ℕ) → HeldStep D I
+  -- a round of idles begins, and the first one of it runs
+  IdlesTaken : HeldStep D I
+  IdleBegun : HeldStep D I
 
-abbrev pub held_after : Held → HeldStep → Held
-held_after h (Listed needed token) = record { lifecycle = if needed then listed token h.lifecycle else h.lifecycle }
-held_after h (Unlisted token) = record { lifecycle = filter (is_another token) h.lifecycle }
+abbrev pub held_after : {D I : Type 0} → Held D I → HeldStep D I → Held D I
+held_after h (Listed needed token) = record h { lifecycle = if needed then listed token h.lifecycle else h.lifecycle }
+held_after h (Unlisted token) = record h { lifecycle = filter (is_another token) h.lifecycle }
+held_after h (Pend action) = record h { pending = action }
+held_after h (Asking steps) = record h { asks = asks_after h.asks steps }
+held_after h Begun = record h { asks = begun h.asks }
+held_after h (Told answer) = record h { asks = told answer h.asks }
+held_after h Owe = record h { asks = owing h.asks }
+held_after h (Paid answer) = record h { asks = paid answer h.asks }
+held_after h Cleared = record h { asks = cleared h.asks }
+held_after h (IdleIn idle) = record h { asks = with_idle idle h.asks }
+held_after h (IdleNew idle) = record h { asks = with_new_idle idle h.asks }
+held_after h (IdleOut ticket) = record h { asks = without_idle ticket h.asks }
+held_after h IdlesTaken = record h { asks = taken_up h.asks }
+held_after h IdleBegun = record h { asks = idle_begun h.asks }

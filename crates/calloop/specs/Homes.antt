@@ -6,7 +6,7 @@ use Rattle.calloop_core.specs.Meanings.{Meaning, IsAtHome}
 use Rattle.calloop.specs.Machine.{World, Registration}
 
 -- each source that stands in a slot has keys of that slot alone, under its reuse count modulo 65,536
-abbrev pub AllAtHome : {D P X Q : Type 0} → Meaning D P (Lent X Q) → World D P → Type 0
+abbrev pub AllAtHome : {D I P X Q : Type 0} → Meaning D P (Lent X Q) → World D I P → Type 0
 AllAtHome {D} M w =
     (i : ℕ) (r : Registration D) (d : D) → slice_get w.slots i ≡ Some r → r.content ≡ Source d
     → IsAtHome M (record { slot = i; version = r.reuse % 65536 }) d

@@ -11,6 +11,9 @@ use Rattle.calloop_core.specs.Meanings.{Meaning}
 use Rattle.calloop.specs.Ledgers.{Ledger, Arming, Armed, Origin, Elsewhere, Due, Waiting, Called, entry_in}
 use Rattle.calloop_wake.specs.declared.token.RegistrationToken.{RegistrationToken}
 use Rattle.calloop_wake.specs.Slots.{named, is_empty}
+use Rattle.calloop.specs.declared.loop_logic.asks.Asked.{Asked}
+use Rattle.calloop.specs.declared.loop_logic.asks.Answered.{Answered}
+use Rattle.calloop.specs.Askings.{Asks}
 use Rattle.calloop.specs.Held.{is_listed}
 use Rattle.calloop.specs.Machine.{World, Registration, Change, Claim, Swapped, Cut, done, all_done, is_free, slot_of}
 
@@ -29,12 +32,12 @@ abbrev pub FirstGoesRight : {D : Type 0} → List (Registration D) → List Pend
 FirstGoesRight slots [] place = ⊥
 FirstGoesRight slots (e ∷ es) place = GoesRight slots e.token place
 
-abbrev pub IsRight : {D P : Type 0} → World D P → Change D P → Type 0
+abbrev pub IsRight : {D I P : Type 0} → World D I P → Change D I P → Type 0
 IsRight w (Cut place) = FirstGoesRight w.slots w.poll.batch place
 IsRight w change = Unit {0}
 
 -- each event that is cut in these changes goes right at its moment
-abbrev pub AllRight : {D P : Type 0} → World D P → List (Change D P) → Type 0
+abbrev pub AllRight : {D I P : Type 0} → World D I P → List (Change D I P) → Type 0
 AllRight w [] = Unit {0}
 AllRight w (c ∷ cs) = IsRight w c × AllRight (done w c) cs
 
@@ -43,32 +46,32 @@ joined [] = []
 joined (xs ∷ xss) = xs ++ joined xss
 
 -- all changes of a run, one after the other
-abbrev pub changes_of : {D P : Type 0} → List (List (List (Change D P))) → List (Change D P)
+abbrev pub changes_of : {D I P : Type 0} → List (List (List (Change D I P))) → List (Change D I P)
 changes_of [] = []
 changes_of (css ∷ csss) = joined css ++ changes_of csss
 
 -- the token names this registration
-abbrev pub Names : {D P : Type 0} → World D P → Token → Registration D → Type 0
+abbrev pub Names : {D I P : Type 0} → World D I P → Token → Registration D → Type 0
 Names w token r = (slice_get w.slots token.slot ≡ Some r) × (r.reuse % 65536 ≡ token.version)
 
 -- a token that named a registration names it still, or a later one whose reuse count is greater by a positive
 -- multiple of 65,536
-abbrev pub NamesLater : {D P : Type 0} → World D P → World D P → Type 0
-NamesLater {D} {P} w w' = (token : Token) (r r' : Registration D) → Names w token r → Names w' token r' → (r'.reuse ≡ r.reuse) ⊎ ((k : ℕ) × (0 < k) × (r'.reuse ≡ r.reuse + 65536 * k))
+abbrev pub NamesLater : {D I P : Type 0} → World D I P → World D I P → Type 0
+NamesLater {D} {I} {P} w w' = (token : Token) (r r' : Registration D) → Names w token r → Names w' token r' → (r'.reuse ≡ r.reuse) ⊎ ((k : ℕ) × (0 < k) × (r'.reuse ≡ r.reuse + 65536 * k))
 
 -- between any two moments of these changes
-abbrev pub AllNamesLater : {D P : Type 0} → World D P → List (Change D P) → Type 0
-AllNamesLater {D} {P} w cs = (before between after : List (Change D P)) → cs ≡ before ++ (between ++ after) → NamesLater (all_done w before) (all_done (all_done w before) between)
+abbrev pub AllNamesLater : {D I P : Type 0} → World D I P → List (Change D I P) → Type 0
+AllNamesLater {D} {I} {P} w cs = (before between after : List (Change D I P)) → cs ≡ before ++ (between ++ after) → NamesLater (all_done w before) (all_done (all_done w before) between)
 
 -- a registration that was given up stays so: under this reuse count nothing stands in its slot any more
-abbrev pub StaysGone : {D P : Type 0} → World D P → World D P → Type 0
-StaysGone {D} {P} w w' =
+abbrev pub StaysGone : {D I P : Type 0} → World D I P → World D I P → Type 0
+StaysGone {D} {I} {P} w w' =
     (i : ℕ) (r r' : Registration D) → slice_get w.slots i ≡ Some r → slice_get w'.slots i ≡ Some r' → r'.reuse ≡ r.reuse
     → is_free r ≡ true → is_free r' ≡ true
 
 -- between any two moments of these changes
-abbrev pub AllStayGone : {D P : Type 0} → World D P → List (Change D P) → Type 0
-AllStayGone {D} {P} w cs = (before between after : List (Change D P)) → cs ≡ before ++ (between ++ after) → StaysGone (all_done w before) (all_done (all_done w before) between)
+abbrev pub AllStayGone : {D I P : Type 0} → World D I P → List (Change D I P) → Type 0
+AllStayGone {D} {I} {P} w cs = (before between after : List (Change D I P)) → cs ≡ before ++ (between ++ after) → StaysGone (all_done w before) (all_done (all_done w before) between)
 
 -- The armings of timers.
 
@@ -168,21 +171,21 @@ HasNoMoreKeys m old new = (key : ℕ) → m.keys new key → m.keys old key
 
 -- what comes into the loop holds no counter then: each source is used with one loop. One that was taken out holds none any
 -- more, so it may come again. A source that is changed in its slot, or exchanged there, holds no more than before.
-abbrev pub IsFresh : {D P X Q : Type 0} → Meaning D P (Lent X Q) → Change D P → Type 0
+abbrev pub IsFresh : {D I P X Q : Type 0} → Meaning D P (Lent X Q) → Change D I P → Type 0
 IsFresh m (Claim source) = HoldsNone m source × m.fits source
 IsFresh m (Swapped slot old new) = HoldsNoMore m old new × m.fits new
 IsFresh m change = Unit {0}
 
-abbrev pub AllFresh : {D P X Q : Type 0} → Meaning D P (Lent X Q) → List (Change D P) → Type 0
+abbrev pub AllFresh : {D I P X Q : Type 0} → Meaning D P (Lent X Q) → List (Change D I P) → Type 0
 AllFresh m [] = Unit {0}
 AllFresh m (c ∷ cs) = IsFresh m c × AllFresh m cs
 
 -- no exchange brings a key into the loop
-abbrev pub BringsNoKey : {D P X Q : Type 0} → Meaning D P (Lent X Q) → Change D P → Type 0
+abbrev pub BringsNoKey : {D I P X Q : Type 0} → Meaning D P (Lent X Q) → Change D I P → Type 0
 BringsNoKey m (Swapped slot old new) = HasNoMoreKeys m old new
 BringsNoKey m change = Unit {0}
 
-abbrev pub AllBringNoKey : {D P X Q : Type 0} → Meaning D P (Lent X Q) → List (Change D P) → Type 0
+abbrev pub AllBringNoKey : {D I P X Q : Type 0} → Meaning D P (Lent X Q) → List (Change D I P) → Type 0
 AllBringNoKey m [] = Unit {0}
 AllBringNoKey m (c ∷ cs) = BringsNoKey m c × AllBringNoKey m cs
 
@@ -192,11 +195,30 @@ AllOnce [] = Unit {0}
 AllOnce (t ∷ ts) = (is_listed t ts ≡ false) × AllOnce ts
 
 -- the registrations that are told of waits: each stands once, and names a slot that isn't vacant
-pub record IsTold {D P : Type 0} (w : World D P) : Type 0 where
+pub record IsTold {D I P : Type 0} (w : World D I P) : Type 0 where
   pub once : AllOnce w.held.lifecycle
   pub full : (token : RegistrationToken) → is_listed token w.held.lifecycle ≡ true → is_empty (named (map slot_of w.slots) token) ≡ false
 
-pub record IsSound {D P : Type 0} (w : World D P) (cs : List (Change D P)) : Type 0 where
+abbrev pub is_asked_as : {D I : Type 0} → (ticket : ℕ) → Asked D I → Bool
+is_asked_as n a = nat_eq a.ticket n
+
+abbrev pub is_answered_as : {D : Type 0} → (ticket : ℕ) → Answered D → Bool
+is_answered_as n a = nat_eq a.ticket n
+
+abbrev pub stands_as : (ticket : ℕ) → Option ℕ → ℕ
+stands_as n None = 0
+stands_as n (Some ticket) = one (is_number n) ticket
+
+-- how often a ticket stands: over a request that wasn't carried out yet, that is carried out, or whose answer is owed, or over
+-- an answer
+abbrev pub standing : {D I : Type 0} → (ticket : ℕ) → Asks D I → ℕ
+standing n q = counted (is_asked_as n) q.written + (stands_as n q.serving + (stands_as n q.owed + counted (is_answered_as n) q.answers))
+
+-- a ticket that was given stands at most once, or its answer was handed out, once; no other ticket stands anywhere
+abbrev pub IsTicketed : {D I P : Type 0} → World D I P → Type 0
+IsTicketed w = (n : ℕ) → standing n w.held.asks + counted (is_number n) w.handed ≤ (if nat_lt n w.held.asks.next then 1 else 0)
+
+pub record IsSound {D I P : Type 0} (w : World D I P) (cs : List (Change D I P)) : Type 0 where
   pub reaches : AllRight w cs
   pub stale : AllNamesLater w cs
   pub gone : AllStayGone w cs

@@ -1,10 +1,12 @@
 pub mod Pings
+pub mod Askings
 pub mod Quiet
 pub mod Ledgers
 pub mod Held
 pub mod Rooms
 pub mod Machine
 pub mod Rules
+pub mod Serving
 pub mod Laws
 pub mod Lending
 pub mod Choices

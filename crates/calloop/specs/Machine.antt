@@ -1,17 +1,19 @@
 -- The machine of the loop: its state, and the changes of it. What the code holds of the state is a `View`; the state
 -- itself also has reuse counts without bound and a ledger of all armings, which calloop keeps nowhere.
-use Rattle.std.specs.Prelude.{◌≡◌, ℕ, ◌+◌, ◌%◌, List, [], ◌∷◌, map, Bool, false, Option, Some, None, slice_get}
+use Rattle.std.specs.Prelude.{◌≡◌, ℕ, ◌+◌, ◌%◌, List, [], ◌∷◌, ◌++◌, map, Bool, false, Option, Some, None, slice_get}
 use Rattle.calloop_wake.specs.declared.list.Content.{Content}
 use Rattle.calloop_wake.specs.declared.list.Content.TheVariants.{Source, InTurn}
 use Rattle.calloop_wake.specs.declared.list.Slot.{Slot}
 use Rattle.calloop_wake.specs.Slots.{changed, first_changed, with_content, claimed, is_empty}
 use Rattle.calloop_wake.specs.Boards.{IsRising}
 use Rattle.calloop_wake.specs.declared.wake.watch.Watch.{Watch}
+use Rattle.calloop_core.specs.declared.sources.PostAction.TheVariants.{Continue}
 use Rattle.calloop_core.specs.declared.sys.Readiness.{Readiness}
 use Rattle.calloop_core.specs.declared.sys.poll.Pending.{Pending}
 use Rattle.calloop_core.specs.Pollers.{Outside}
 use Rattle.calloop_core.specs.Polls.{PollView, PollStep, poll_view, polls_after, AllAllowed, gathered, appended, polling, watching, counted, with_pass, cut}
-use Rattle.calloop.specs.Held.{Held, HeldStep, held_after}
+use Rattle.calloop.specs.Held.{Held, HeldStep, Asking, held_after}
+use Rattle.calloop.specs.Askings.{all_handed, no_asks}
 use Rattle.calloop.specs.Ledgers.{Ledger, steps_noted, gathering_noted, appended_noted, cut_noted, new_ledger}
 use Rattle.calloop.specs.declared.loop_logic.EventLoop.{EventLoop}
 
@@ -21,58 +23,65 @@ pub record Registration (D : Type 0) : Type 0 where
   pub content : Content D
 
 -- the machine's state between two steps
-pub record World (D P : Type 0) : Type 0 where
+pub record World (D I P : Type 0) : Type 0 where
   pub slots : List (Registration D)
   pub poll : PollView P
-  pub held : Held
+  pub held : Held D I
+  -- the tickets whose answers were handed out
+  pub handed : List ℕ
   -- what is known of the armings of timers
   pub ledger : Ledger
 
 -- what the loop holds of it
-pub record View (D P : Type 0) : Type 0 where
+pub record View (D I P : Type 0) : Type 0 where
   pub slots : List (Slot D)
   pub poll : PollView P
-  pub held : Held
+  pub held : Held D I
 
 abbrev pub slot_of : {D : Type 0} → Registration D → Slot D
 slot_of r = record { version = r.reuse % 65536; content = r.content }
 
 -- reuse counts are known modulo 65,536, and the ledger isn't
-abbrev pub seen : {D P : Type 0} → World D P → View D P
+abbrev pub seen : {D I P : Type 0} → World D I P → View D I P
 seen w = record { slots = map slot_of w.slots; poll = w.poll; held = w.held }
 
-abbrev pub view_of : {D P C R : Type 0} → EventLoop D P C R → View D P
-view_of l = record { slots = l.sources; poll = poll_view l.poll; held = record { lifecycle = l.lifecycle.tokens.items } }
+abbrev pub view_of : {D P C R X I S : Type 0} → EventLoop D P C R X I S → View D I P
+view_of l =
+    record {
+      slots = l.sources;
+      poll = poll_view l.poll;
+      held = record { lifecycle = l.lifecycle.tokens.items; pending = l.pending; asks = l.requests };
+    }
 
 -- every change of the state is one of these
-pub data Change (D P : Type 0) : Type 0 where
+pub data Change (D I P : Type 0) : Type 0 where
   -- the first vacant slot is used once more, or a slot is added, for a source that comes into the loop
-  Claim : (source : D) → Change D P
+  Claim : (source : D) → Change D I P
   -- another content is put into a slot that isn't vacant
-  Put : (slot : ℕ) (content : Content D) → Change D P
+  Put : (slot : ℕ) (content : Content D) → Change D I P
   -- a source is changed in its slot, or another one takes its place there
-  Swapped : (slot : ℕ) (old new : D) → Change D P
+  Swapped : (slot : ℕ) (old new : D) → Change D I P
   -- a source's steps
-  Polls : (steps : List (PollStep P)) → Change D P
+  Polls : (steps : List (PollStep P)) → Change D I P
   -- the poller changed
-  Polling : (poller : P) → Change D P
+  Polling : (poller : P) → Change D I P
   -- the loop looked at its board, which its watch noted
-  Watching : (watch : Watch) → Change D P
+  Watching : (watch : Watch) → Change D I P
   -- room was made for what so many places can give
-  Counting : (places : ℕ) → Change D P
+  Counting : (places : ℕ) → Change D I P
   -- what loop and machine hold alike changes
-  Holds : (step : HeldStep) → Change D P
+  Holds : (step : HeldStep D I) → Change D I P
   -- an event that a source asks for before a wait joins the batch
-  Appended : (event : Pending) → Change D P
+  Appended : (event : Pending) → Change D I P
   -- the batch is put together, of these posted keys, of what the poller gave, and of the timers that are due at this moment
-  Gathered : (posted : List ℕ) (given : List (ℕ × Readiness)) (now : ℕ) → Change D P
+  Gathered : (posted : List ℕ) (given : List (ℕ × Readiness)) (now : ℕ) → Change D I P
   -- the first event leaves the batch, for this slot or for none
-  Cut : (slot : Option ℕ) → Change D P
+  Cut : (slot : Option ℕ) → Change D I P
   -- its turn is over
-  Ended : Change D P
+  Ended : Change D I P
 
 -- by what is seen
-abbrev pub viewed : {D P : Type 0} → View D P → Change D P → View D P
+abbrev pub viewed : {D I P : Type 0} → View D I P → Change D I P → View D I P
 viewed v (Put slot content) = record v { slots = changed (with_content content) v.slots slot }
 viewed v (Swapped slot old new) = record v { slots = changed (with_content (Source new)) v.slots slot }
 viewed v (Claim source) = record v { slots = claimed v.slots }
@@ -86,11 +95,16 @@ viewed v (Gathered posted given now) = record v { poll = gathered posted given n
 viewed v (Cut slot) = record v { poll = cut v.poll }
 viewed v Ended = record v { poll = with_pass None v.poll }
 
-abbrev pub all_viewed : {D P : Type 0} → View D P → List (Change D P) → View D P
+abbrev pub all_viewed : {D I P : Type 0} → View D I P → List (Change D I P) → View D I P
 all_viewed v [] = v
 all_viewed v (c ∷ cs) = all_viewed (viewed v c) cs
 
 -- in the machine
+
+-- the tickets whose answers a step hands out
+abbrev pub handed_in : {D I : Type 0} → Held D I → HeldStep D I → List ℕ
+handed_in h (Asking steps) = all_handed h.asks steps
+handed_in h step = []
 
 abbrev pub holding : {D : Type 0} → Content D → Registration D → Registration D
 holding c r = record { reuse = r.reuse; content = c }
@@ -105,7 +119,7 @@ is_free r = is_empty r.content
 abbrev pub with_claim : {D : Type 0} → List (Registration D) → List (Registration D)
 with_claim rs = first_changed is_free reused (record { reuse = 0; content = InTurn }) rs
 
-abbrev pub done : {D P : Type 0} → World D P → Change D P → World D P
+abbrev pub done : {D I P : Type 0} → World D I P → Change D I P → World D I P
 done w (Put slot content) = record w { slots = changed (holding content) w.slots slot }
 done w (Swapped slot old new) = record w { slots = changed (holding (Source new)) w.slots slot }
 done w (Claim source) = record w { slots = with_claim w.slots }
@@ -113,13 +127,13 @@ done w (Polls steps) = record w { poll = polls_after w.poll steps; ledger = step
 done w (Polling poller) = record w { poll = polling poller w.poll }
 done w (Watching watch) = record w { poll = watching watch w.poll }
 done w (Counting places) = record w { poll = counted places w.poll }
-done w (Holds step) = record w { held = held_after w.held step }
+done w (Holds step) = record w { held = held_after w.held step; handed = w.handed ++ handed_in w.held step }
 done w (Appended event) = record w { poll = appended event w.poll; ledger = appended_noted w.ledger event }
 done w (Gathered posted given now) = record w { poll = gathered posted given now w.poll; ledger = gathering_noted w.ledger posted given now }
 done w (Cut slot) = record w { poll = cut w.poll; ledger = cut_noted w.ledger }
 done w Ended = record w { poll = with_pass None w.poll }
 
-abbrev pub all_done : {D P : Type 0} → World D P → List (Change D P) → World D P
+abbrev pub all_done : {D I P : Type 0} → World D I P → List (Change D I P) → World D I P
 all_done w [] = w
 all_done w (c ∷ cs) = all_done (done w c) cs
 
@@ -133,7 +147,7 @@ StandsIn {D} slots i d = (s : Slot D) × (slice_get slots i ≡ Some s) × (s.co
 
 -- What every change keeps to: a vacant slot stays vacant until it is claimed, what is exchanged stood there, a source's steps can be made, no source makes up
 -- a posted event, and posted keys ascend. Which they are is the answer of the board, which lies under a lock; calloop has them from the kernel.
-abbrev pub Fits : {D P : Type 0} → Outside P → View D P → Change D P → Type 0
+abbrev pub Fits : {D I P : Type 0} → Outside P → View D I P → Change D I P → Type 0
 Fits O v (Put slot content) = IsFull v.slots slot
 Fits O v (Swapped slot old new) = StandsIn v.slots slot old
 Fits O v (Polls steps) = AllAllowed O v.poll steps
@@ -141,12 +155,12 @@ Fits O v (Appended event) = event.posted ≡ false
 Fits O v (Gathered posted given now) = IsRising posted
 Fits O v change = Unit {0}
 
-abbrev pub AllFit : {D P : Type 0} → Outside P → View D P → List (Change D P) → Type 0
+abbrev pub AllFit : {D I P : Type 0} → Outside P → View D I P → List (Change D I P) → Type 0
 AllFit O v [] = Unit {0}
 AllFit O v (c ∷ cs) = Fits O v c × AllFit O (viewed v c) cs
 
 -- nothing has happened yet
-pub record IsNew {D P : Type 0} (w : World D P) : Type 0 where
+pub record IsNew {D I P : Type 0} (w : World D I P) : Type 0 where
   pub slots : w.slots ≡ []
   pub table : w.poll.table ≡ []
   pub deadlines : w.poll.deadlines ≡ record { entries = []; next = 0 }
@@ -154,5 +168,6 @@ pub record IsNew {D P : Type 0} (w : World D P) : Type 0 where
   pub passes : w.poll.passes ≡ []
   pub pass : w.poll.pass ≡ None
   pub unwatched : w.poll.watch.notes ≡ []
-  pub unlisted : w.held.lifecycle ≡ []
+  pub held : w.held ≡ record { lifecycle = []; pending = Continue; asks = no_asks }
+  pub handed : w.handed ≡ []
   pub ledger : w.ledger ≡ new_ledger

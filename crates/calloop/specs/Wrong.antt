@@ -8,6 +8,8 @@ use Rattle.calloop_wake.specs.Tokens.{key_of}
 use Rattle.calloop_core.specs.Deeds.{Lent}
 use Rattle.calloop_core.specs.Meanings.{Meaning, still}
 use Rattle.calloop_core.specs.Polls.{timer_event, Arm}
+use Rattle.calloop.specs.declared.loop_logic.asks.Answer.TheVariants.{Done}
+use Rattle.calloop.specs.Askings.{Asks, no_asks}
 use Rattle.calloop.specs.Ledgers.{Ledger, Arming, Origin, Due, Waiting, Called, new_ledger}
 use Rattle.calloop.specs.Machine.{Registration}
 
@@ -74,3 +76,15 @@ arms_elsewhere =
 -- a slot that is used once more, with a source whose key is of the slot's first use
 abbrev pub used_with_an_old_key : Registration ℕ
 used_with_an_old_key = record { reuse = 1; content = Source (key_of first_token) }
+
+-- two answers under one ticket
+abbrev pub answered_twice : Asks (Unit {0}) (Unit {0})
+answered_twice =
+    record no_asks {
+      next = 1;
+      answers = record { ticket = 0; answer = Done } ∷ record { ticket = 0; answer = Done } ∷ [];
+    }
+
+-- one ticket was given, and nothing stands under it
+abbrev pub one_ticket : Asks (Unit {0}) (Unit {0})
+one_ticket = record no_asks { next = 1 }

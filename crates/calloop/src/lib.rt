@@ -9,8 +9,8 @@ pub use calloop_core::generic;
 pub use calloop_core::generic::{Generic, NoIoDrop};
 pub use calloop_core::idles::IdleCallback;
 pub use calloop_core::sources::{
-    Asking, Callback, Dispatch, Dispatcher, EventSource, Here, Hold, IntoError, OneOf, PostAction,
-    There,
+    Asking, Callback, Choice, Dispatch, Dispatcher, EventSource, Here, Hold, IntoError, OneOf,
+    PostAction, There,
 };
 pub use calloop_core::sys::events::EventIterator;
 pub use calloop_core::sys::poll::Poll;
@@ -19,5 +19,7 @@ pub use calloop_core::timer::{TimeoutAction, Timer, TimerError};
 pub use calloop_wake::error::{Error, InsertError, Result};
 pub use calloop_wake::token::{RegistrationToken, Token, TokenFactory};
 pub use calloop_wake::wheel::Instant;
-pub use loop_logic::{EventDispatcher, EventLoop, LoopHandle, LoopSignal, Requests, Sources};
+pub use loop_logic::{
+    Answer, EventDispatcher, EventLoop, Idle, LoopHandle, LoopSignal, Requests, Sources, Ticket,
+};
 pub use ping::{Ping, PingError, PingSource, make_ping};

@@ -1,11 +1,11 @@
 //! The loop, and what it asks of the caller's sources.
 use calloop_core::idles::IdleCallback;
 use calloop_core::sources::{
-    Asking, Callback, Dispatch, Dispatcher, EventSource, Hold, PostAction,
+    Asking, Callback, Choice, Dispatch, Dispatcher, EventSource, Hold, PostAction,
 };
 use calloop_core::sys::events::EventIterator;
 use calloop_core::sys::poll::Poll;
-use calloop_core::sys::{Poller, Readiness};
+use calloop_core::sys::{Clock, Poller, Readiness};
 use calloop_wake::error::{InsertError, Result};
 use calloop_wake::list::SourceList;
 use calloop_wake::token::{RegistrationToken, Token, TokenFactory};
@@ -15,39 +15,45 @@ use std::sync::Wait;
 use std::time::Duration;
 use warnings::Warnings;
 
+mod asks;
 mod calls;
 mod dispatch;
 mod handle;
 mod laws;
 mod lifecycle;
 mod registering;
+mod serving;
 mod signal;
 mod telling;
 mod warnings;
 
+pub use asks::{Answer, Idle, Requests, Ticket};
 pub use laws::{once, wrong_runs_are_ruled_out};
 pub use signal::LoopSignal;
 
 /// A loop over sources of one type `D` of the caller, a poller and a clock. It owns its sources. `R` is the runtime by
 /// which it locks the board of posted keys.
 #[derive(Drop)]
-pub struct EventLoop<D, P, C, R: Wait + Drop> {
+pub struct EventLoop<D: EventDispatcher<P, C, R>, P: Poller, C: Clock, R: Wait + Drop> {
     sources: SourceList<D>,
     poll: Poll<P, C, R>,
     lifecycle: Lifecycle,
+    // What the source in its turn asked for itself.
+    pending: PostAction,
+    requests: Requests<D, D::Idle>,
     warnings: Warnings,
     signal: LoopSignal,
 }
 
 /// The calls on a loop that act at once. It is lent by the loop.
 #[derive(Drop)]
-pub struct LoopHandle<'l, D, P, C, R: Wait + Drop> {
+pub struct LoopHandle<'l, D: EventDispatcher<P, C, R>, P: Poller, C: Clock, R: Wait + Drop> {
     inner: &'l mut EventLoop<D, P, C, R>,
 }
 
 /// A call on a loop, as a value.
 #[derive(Drop)]
-pub enum LoopCall<D, P, X> {
+pub enum LoopCall<D, P, X, I = ()> {
     Insert(D),
     Enable(RegistrationToken),
     Update(RegistrationToken),
@@ -55,13 +61,16 @@ pub enum LoopCall<D, P, X> {
     Remove(RegistrationToken),
     Exchange(RegistrationToken, D),
     Dispatch(Option<Duration>, X),
+    InsertIdle(I),
+    Cancel(Idle),
+    Answer(Ticket),
     Poller(P),
 }
 
 /// What a call answered. A dispatch gives its data back, a change of the poller the one before, and an exchange of a source
 /// the one before, or the other one where the token names none.
 #[derive(Drop)]
-pub enum LoopAnswer<D, P, X> {
+pub enum LoopAnswer<D, P, X, I = ()> {
     Inserted(std::result::Result<RegistrationToken, InsertError<D>>),
     Enabled(Result<()>),
     Updated(Result<()>),
@@ -69,27 +78,10 @@ pub enum LoopAnswer<D, P, X> {
     Removed(Option<D>),
     Exchanged(std::result::Result<D, D>),
     Dispatched(Result<()>, X),
+    IdleInserted(std::result::Result<Idle, InsertError<I>>),
+    Cancelled,
+    Answered(Option<Answer<D>>),
     Poller(P),
-}
-
-/// What the callbacks of a loop over `D` ask for. There is nothing yet that can be asked for, and no calls on it.
-#[derive(Drop)]
-pub struct Requests<D> {
-    of: PhantomData<D>,
-}
-
-impl<D> Requests<D> {
-    fn new() -> Requests<D> {
-        Requests { of: PhantomData }
-    }
-}
-
-impl<D> Asking for Requests<D> {
-    ghost reaches = { λ q r. Unit {0} };
-
-    ghost stays = { λ q. tt };
-
-    ghost goes_on = { λ q r s h k. tt };
 }
 
 /// What a loop is over: a choice of sources with their callbacks, and the data that a dispatch lends. `Sources` is one.
@@ -98,19 +90,23 @@ pub trait EventDispatcher<P: Poller, C, R: Wait + Drop>: Dispatch<
     C,
     R,
     <Self as EventDispatcher<P, C, R>>::Data,
-    Requests<Self>,
+    Requests<Self, <Self as EventDispatcher<P, C, R>>::Idle>,
 >
     + Drop
     + Sized {
     /// What a dispatch lends to each callback.
     type Data;
 
-    /// What the loop can be asked to call once. There is nothing yet by which it is asked.
-    type Idle: IdleCallback<<Self as EventDispatcher<P, C, R>>::Data, Requests<Self>> + Drop;
+    /// What the loop can be asked to do once.
+    type Idle: IdleCallback<
+        <Self as EventDispatcher<P, C, R>>::Data,
+        Requests<Self, <Self as EventDispatcher<P, C, R>>::Idle>,
+    >
+        + Drop;
 }
 
 /// A choice of sources, each with its callback, for a loop whose dispatches lend an `X`. A loop over pings and timers is one
-/// over `Sources<OneOf<Dispatcher<PingSource<R>, F>, Dispatcher<Timer, G>>, X>`. `I` is what it can be asked to call once.
+/// over `Sources<OneOf<Dispatcher<PingSource<R>, F>, Dispatcher<Timer, G>>, X>`. `I` is what it can be asked to do once.
 #[derive(Drop)]
 pub struct Sources<A, X, I = ()> {
     pub held: A,
@@ -134,10 +130,10 @@ impl<A, X, I> Sources<A, X, I> {
     }
 }
 
-impl<P: Poller, C, R: Wait + Drop, A, X, I> Dispatch<P, C, R, X, Requests<Sources<A, X, I>>>
+impl<P: Poller, C, R: Wait + Drop, A, X, I> Dispatch<P, C, R, X, Requests<Sources<A, X, I>, I>>
     for Sources<A, X, I>
 where
-    A: Dispatch<P, C, R, X, Requests<Sources<A, X, I>>>,
+    A: Dispatch<P, C, R, X, Requests<Sources<A, X, I>, I>>,
 {
     ghost use Rattle.calloop_core.specs.Meanings.{seen_as};
     ghost use Rattle.calloop_core.specs.Lawful.{keeping_seen, asking_seen, failing_seen};
@@ -162,7 +158,7 @@ where
         token: Token,
         poll: &mut Poll<P, C, R>,
         data: &mut X,
-        requests: &mut Requests<Sources<A, X, I>>,
+        requests: &mut Requests<Sources<A, X, I>, I>,
     ) -> Result<PostAction> {
         self.held
             .process_events(readiness, token, poll, data, requests)
@@ -182,19 +178,35 @@ where
 
     ghost keeps = { keeping_seen (λ s. s.held) A.means A.keeps };
 
-    ghost asks = { asking_seen (λ s. s.held) ⟦<Requests<Sources<A, X, I>> as Asking>⟧.reaches A.means A.asks };
+    ghost asks = { asking_seen (λ s. s.held) ⟦<Requests<Sources<A, X, I>, I> as Asking>⟧.reaches A.means A.asks };
 
     ghost fails = { failing_seen (λ s. s.held) A.means A.fails };
 }
 
 impl<P: Poller, C, R: Wait + Drop, A, X, I> EventDispatcher<P, C, R> for Sources<A, X, I>
 where
-    A: Dispatch<P, C, R, X, Requests<Sources<A, X, I>>> + Drop,
-    I: IdleCallback<X, Requests<Sources<A, X, I>>> + Drop,
+    A: Dispatch<P, C, R, X, Requests<Sources<A, X, I>, I>> + Drop,
+    I: IdleCallback<X, Requests<Sources<A, X, I>, I>> + Drop,
 {
     type Data = X;
 
     type Idle = I;
+}
+
+impl<S, F, A, X, I, N> Choice<S, F, N> for Sources<A, X, I>
+where
+    A: Choice<S, F, N>,
+{
+    ghost use Rattle.std.specs.Prelude.{◌≡◌};
+    ghost use Rattle.calloop.specs.Choices.{with_data};
+
+    ghost held = { λ d. with_data (A.held d) };
+
+    fn hold(dispatcher: Dispatcher<S, F>) -> Sources<A, X, I>
+        ensures { result ≡ with_data (A.held dispatcher) }
+    {
+        Sources::new(A::hold(dispatcher))
+    }
 }
 
 impl<S, F, P: Poller, C, R: Wait + Drop, A, X, I, N> Hold<
@@ -204,27 +216,18 @@ impl<S, F, P: Poller, C, R: Wait + Drop, A, X, I, N> Hold<
     C,
     R,
     X,
-    Requests<Sources<A, X, I>>,
+    Requests<Sources<A, X, I>, I>,
     N,
 > for Sources<A, X, I>
 where
     S: EventSource<P, C, R>,
-    F: Callback<S::Event, S::Metadata, S::Ret, X, Requests<Sources<A, X, I>>>,
-    A: Hold<S, F, P, C, R, X, Requests<Sources<A, X, I>>, N>,
+    F: Callback<S::Event, S::Metadata, S::Ret, X, Requests<Sources<A, X, I>, I>>,
+    A: Hold<S, F, P, C, R, X, Requests<Sources<A, X, I>, I>, N>,
 {
-    ghost use Rattle.std.specs.Prelude.{◌≡◌};
-    ghost use Rattle.calloop.specs.Choices.{with_data, held_with_data};
+    ghost use Rattle.calloop.specs.Choices.{held_with_data};
 
-    ghost held = { λ d. with_data (A.held d) };
-
-    fn hold(dispatcher: Dispatcher<S, F>) -> Sources<A, X, I>
-        ensures { result ≡ with_data (A.held dispatcher) }
-    {
-        Sources::new(A::hold(dispatcher))
-    }
-
-    ghost held_means = { held_with_data A.held
-        ⟦<Dispatcher<S, F> as Dispatch<P, C, R, X, Requests<Sources<A, X, I>>>>⟧.means
-        ⟦<A as Dispatch<P, C, R, X, Requests<Sources<A, X, I>>>>⟧.means
+    ghost held_means = { held_with_data ⟦<A as Choice<S, F, N>>⟧.held
+        ⟦<Dispatcher<S, F> as Dispatch<P, C, R, X, Requests<Sources<A, X, I>, I>>>⟧.means
+        ⟦<A as Dispatch<P, C, R, X, Requests<Sources<A, X, I>, I>>>⟧.means
         A.held_means };
 }

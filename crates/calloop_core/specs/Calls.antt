@@ -3,7 +3,7 @@
 use Rattle.std.specs.Prelude.{◌≡◌, ◌⊎◌, List, [], ◌∷◌, Result, Ok, Err}
 use Rattle.anyhow.specs.declared.error.Error.{Error as Cause}
 use Rattle.calloop_wake.specs.declared.error.Error.{Error}
-use Rattle.calloop_wake.specs.declared.error.Error.TheVariants.{InvalidToken, IoError, OtherError, OutOfMemory, TooManySources, TooManyTokens, TooManyTimers}
+use Rattle.calloop_wake.specs.declared.error.Error.TheVariants.{InvalidToken, IoError, OtherError, OutOfMemory, TooManySources, TooManyTokens, TooManyTimers, TooManyTickets, OwnTurn}
 
 -- one call: the event, the metadata before and after it, and what the callback answered
 pub record Call (E M T : Type 0) : Type 0 where
@@ -43,6 +43,8 @@ AsOfSource (IoError cause) e = IsOther e
 AsOfSource TooManySources e = IsOther e
 AsOfSource TooManyTokens e = IsOther e
 AsOfSource TooManyTimers e = IsOther e
+AsOfSource TooManyTickets e = IsOther e
+AsOfSource OwnTurn e = IsOther e
 
 -- the answer of a source, with its error as the loop's
 abbrev pub Becomes : {A Cause : Type 0} → (Cause → Error → Type 0) → Result A Cause → Result A Error → Type 0

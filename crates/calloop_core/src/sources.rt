@@ -451,33 +451,19 @@ pub struct There<N> {
 }
 
 /// It has a place for a source `S` with a callback `F`, and `N` says which: it is found by the two types, where they have
-/// one place. What is held means just what the source with its callback means.
-pub trait Hold<S, F, P: Poller, C, R: Wait + Drop, X, Q, N>: Dispatch<P, C, R, X, Q>
-where
-    Q: Asking,
-    S: EventSource<P, C, R>,
-    F: Callback<S::Event, S::Metadata, S::Ret, X, Q>,
-{
+/// one place.
+pub trait Choice<S, F, N>: Sized {
     ghost use Rattle.std.specs.Prelude.{◌≡◌};
     ghost use Rattle.calloop_core.specs.declared.sources.Dispatcher.{Dispatcher};
-    ghost use Rattle.calloop_core.specs.Meanings.{IsHeld};
 
     ghost held: { Dispatcher S F → Self };
 
     fn hold(dispatcher: Dispatcher<S, F>) -> Self
         ensures { result ≡ held dispatcher };
-
-    ghost held_means: { IsHeld held ⟦<Dispatcher<S, F> as Dispatch<P, C, R, X, Q>>⟧.means Self.means };
 }
 
-impl<S, F, P: Poller, C, R: Wait + Drop, X, Q: Asking> Hold<S, F, P, C, R, X, Q, Here>
-    for Dispatcher<S, F>
-where
-    S: EventSource<P, C, R>,
-    F: Callback<S::Event, S::Metadata, S::Ret, X, Q>,
-{
+impl<S, F> Choice<S, F, Here> for Dispatcher<S, F> {
     ghost use Rattle.std.specs.Prelude.{◌≡◌};
-    ghost use Rattle.calloop_core.specs.Lawful.{held_itself};
 
     ghost held = { λ d. d };
 
@@ -486,6 +472,58 @@ where
     {
         dispatcher
     }
+}
+
+impl<S, F, B> Choice<S, F, Here> for OneOf<Dispatcher<S, F>, B> {
+    ghost use Rattle.std.specs.Prelude.{◌≡◌};
+    ghost use Rattle.calloop_core.specs.declared.sources.OneOf.TheVariants.{First};
+
+    ghost held = { λ d. First d };
+
+    fn hold(dispatcher: Dispatcher<S, F>) -> OneOf<Dispatcher<S, F>, B>
+        ensures { result ≡ First dispatcher }
+    {
+        OneOf::First(dispatcher)
+    }
+}
+
+impl<S, F, A, B, N> Choice<S, F, There<N>> for OneOf<A, B>
+where
+    B: Choice<S, F, N>,
+{
+    ghost use Rattle.std.specs.Prelude.{◌≡◌};
+    ghost use Rattle.calloop_core.specs.declared.sources.OneOf.TheVariants.{Other};
+
+    ghost held = { λ d. Other (B.held d) };
+
+    fn hold(dispatcher: Dispatcher<S, F>) -> OneOf<A, B>
+        ensures { result ≡ Other (B.held dispatcher) }
+    {
+        OneOf::Other(B::hold(dispatcher))
+    }
+}
+
+/// It has a place for a source `S` with a callback `F`, and what is held there means just what the source with its callback
+/// means.
+pub trait Hold<S, F, P: Poller, C, R: Wait + Drop, X, Q, N>: Dispatch<P, C, R, X, Q>
+    + Choice<S, F, N>
+where
+    Q: Asking,
+    S: EventSource<P, C, R>,
+    F: Callback<S::Event, S::Metadata, S::Ret, X, Q>,
+{
+    ghost use Rattle.calloop_core.specs.Meanings.{IsHeld};
+
+    ghost held_means: { IsHeld ⟦<Self as Choice<S, F, N>>⟧.held ⟦<Dispatcher<S, F> as Dispatch<P, C, R, X, Q>>⟧.means Self.means };
+}
+
+impl<S, F, P: Poller, C, R: Wait + Drop, X, Q: Asking> Hold<S, F, P, C, R, X, Q, Here>
+    for Dispatcher<S, F>
+where
+    S: EventSource<P, C, R>,
+    F: Callback<S::Event, S::Metadata, S::Ret, X, Q>,
+{
+    ghost use Rattle.calloop_core.specs.Lawful.{held_itself};
 
     ghost held_means = { held_itself ⟦<Dispatcher<S, F> as Dispatch<P, C, R, X, Q>>⟧.means };
 }
@@ -497,17 +535,7 @@ where
     F: Callback<S::Event, S::Metadata, S::Ret, X, Q>,
     B: Dispatch<P, C, R, X, Q>,
 {
-    ghost use Rattle.std.specs.Prelude.{◌≡◌};
     ghost use Rattle.calloop_core.specs.Lawful.{held_first};
-    ghost use Rattle.calloop_core.specs.declared.sources.OneOf.TheVariants.{First};
-
-    ghost held = { λ d. First d };
-
-    fn hold(dispatcher: Dispatcher<S, F>) -> OneOf<Dispatcher<S, F>, B>
-        ensures { result ≡ First dispatcher }
-    {
-        OneOf::First(dispatcher)
-    }
 
     ghost held_means = { held_first ⟦<Dispatcher<S, F> as Dispatch<P, C, R, X, Q>>⟧.means B.means };
 }
@@ -520,20 +548,11 @@ where
     A: Dispatch<P, C, R, X, Q>,
     B: Hold<S, F, P, C, R, X, Q, N>,
 {
-    ghost use Rattle.std.specs.Prelude.{◌≡◌};
+    ghost use Rattle.calloop_core.specs.declared.sources.OneOf.TheVariants.{Other};
     ghost use Rattle.calloop_core.specs.Meanings.{one_of};
     ghost use Rattle.calloop_core.specs.Lawful.{held_other, held_through};
-    ghost use Rattle.calloop_core.specs.declared.sources.OneOf.TheVariants.{Other};
 
-    ghost held = { λ d. Other (B.held d) };
-
-    fn hold(dispatcher: Dispatcher<S, F>) -> OneOf<A, B>
-        ensures { result ≡ Other (B.held dispatcher) }
-    {
-        OneOf::Other(B::hold(dispatcher))
-    }
-
-    ghost held_means = { held_through B.held (λ b. Other b)
+    ghost held_means = { held_through ⟦<B as Choice<S, F, N>>⟧.held (λ b. Other b)
         ⟦<Dispatcher<S, F> as Dispatch<P, C, R, X, Q>>⟧.means
         ⟦<B as Dispatch<P, C, R, X, Q>>⟧.means
         (one_of A.means ⟦<B as Dispatch<P, C, R, X, Q>>⟧.means)

@@ -1,7 +1,6 @@
 -- What each step of the board does to the keys that are open and to those that are marked.
-use Rattle.std.proofs.Common.{◌≡◌, ◌≢◌, ℕ, zero, suc, ◌+◌, ◌-◌, ◌^◌, ◌<◌, ◌≤◌, Bool, true, false, ◌&&◌, ◌||◌, not, cond, if◌then◌else◌, ◌⊎◌, inl, List, [], ◌∷◌, nat_eq, nat_lt, map, filter, length, get_or, take, refl, sym, ◌∙◌, ap, arith, ltb-true, ltb-false, lt-ltb, le-ltb, false-eqb}
+use Rattle.std.proofs.Common.{◌≡◌, ◌≢◌, ℕ, zero, suc, ◌-◌, ◌^◌, ◌<◌, ◌≤◌, Bool, true, false, ◌&&◌, ◌||◌, not, cond, if◌then◌else◌, ◌⊎◌, inl, List, [], ◌∷◌, nat_eq, nat_lt, map, filter, length, refl, sym, ◌∙◌, ap, arith, ltb-true, ltb-false, le-ltb, false-eqb}
 use Rattle.std.proofs.lemmas.Bool.Decides.{nat_tests}
-use Rattle.std.specs.List.{insert}
 use Rattle.calloop_wake.specs.Boards.{place, is_open, is_marked, any_marked, after_open_place, after_close_place, after_post, wakes, after_unpost, is_taken, bound, keys_within, taken_keys, AllAbove, IsAscending, AllGreater, IsRising}
 use Rattle.calloop_wake.specs.declared.wake.board.Place.{Place}
 
@@ -52,14 +51,6 @@ pub AllAbove-less : (j k : ℕ) (ps : List Place) → j ≤ k → AllAbove k ps 
 AllAbove-less j k [] le h = omega arith
 AllAbove-less j k (p ∷ ps) le h = (omega arith, AllAbove-less j k ps le h.1)
 
-pub AllAbove-map : (f : Place → Place) → ((p : Place) → (f p).key ≡ p.key) → (k : ℕ) (ps : List Place) → AllAbove k ps → AllAbove k (map f ps)
-AllAbove-map f same k [] h = h
-AllAbove-map f same k (p ∷ ps) h = (let e = same p in omega arith, AllAbove-map f same k ps h.1)
-
-pub IsAscending-map : (f : Place → Place) → ((p : Place) → (f p).key ≡ p.key) → (ps : List Place) → IsAscending ps → IsAscending (map f ps)
-IsAscending-map f same [] h = tt
-IsAscending-map f same (p ∷ ps) h = (AllAbove-less (f p).key p.key (map f ps) (let e = same p in omega arith) (AllAbove-map f same p.key ps h.0), IsAscending-map f same ps h.1)
-
 pub AllAbove-filter : (t : Place → Bool) (k : ℕ) (ps : List Place) → AllAbove k ps → AllAbove k (filter t ps)
 AllAbove-filter t k [] h = h
 AllAbove-filter t k (p ∷ ps) h =
@@ -106,50 +97,9 @@ IsAscending-open k (p ∷ ps) token shut h =
     (λ lt. AllAbove-open p.key k ps lt h.0)
     (IsAscending-open k ps token (or-false_right (nat_eq p.key k) (is_open k ps) shut) h.1)
 
--- where a new place goes in: behind the places of keys that aren't greater, before one that is
-pub insert_place : (k i : ℕ) (d : Place) (ps : List Place) → i ≤ length ps → ((j : ℕ) (e : Place) → j < i → (get_or ps j e).key ≤ k)
-    → (i < length ps → k < (get_or ps i d).key) → insert ps i (place k) ≡ after_open_place k ps
-insert_place k zero d [] within below above = refl
-insert_place k (suc i) d [] within below above = absurd (omega arith)
-insert_place k zero d (p ∷ ps) within below above =
-    let lt : nat_lt k p.key ≡ true = lt-ltb k p.key (above (omega arith)) in
-    sym (ap (λ b. if b then place k ∷ p ∷ ps else p ∷ after_open_place k ps) lt)
-insert_place k (suc i) d (p ∷ ps) within below above =
-    let le : nat_lt k p.key ≡ false = le-ltb k p.key (below 0 p (omega arith)) in
-    let rest = insert_place k i d ps (omega arith) (λ j e h. below (suc j) e (omega arith)) (λ h. above (omega arith)) in
-    ap (λ l. p ∷ l) rest ∙ sym (ap (λ b. if b then place k ∷ p ∷ ps else p ∷ after_open_place k ps) le)
-
--- a place whose key is to be taken has one that is still to be taken
-pub taken_keys-more : (b : ℕ) (ps : List Place) (i : ℕ) (d : Place) → i < length ps → is_taken b (get_or ps i d) ≡ true
-    → length (taken_keys b (take i ps)) + 1 ≤ length (taken_keys b ps)
-taken_keys-more b [] i d lt is = absurd (omega arith)
-taken_keys-more b (p ∷ ps) zero d lt is =
-    let e : taken_keys b (p ∷ ps) ≡ p.key ∷ taken_keys b ps = ap (λ t. map (λ q. q.key) (cond t (p ∷ filter (is_taken b) ps) (filter (is_taken b) ps))) is in
-    rw e (omega arith)
-taken_keys-more b (p ∷ ps) (suc i) d lt is =
-    let h = taken_keys-more b ps i d (omega arith) is in
-    elim (is_taken b p) as (λ t. length (map (λ q. q.key) (cond t (p ∷ filter (is_taken b) (take i ps)) (filter (is_taken b) (take i ps)))) + 1
-    ≤ length (map (λ q. q.key) (cond t (p ∷ filter (is_taken b) ps) (filter (is_taken b) ps)))) [
-      | true ↦ omega arith
-      | false ↦ h
-    ]
-
 and-false : (a : Bool) → (a && false) ≡ false
 and-false true = refl
 and-false false = refl
-
--- the bound, from one place to the next
-pub bound-skip : (left : ℕ) (p : Place) (ps : List Place) → p.marked ≡ false → bound left (p ∷ ps) ≡ bound left ps
-bound-skip zero p ps m = ap (λ b. if b then p.key else bound zero ps) m
-bound-skip (suc r) p ps m = ap (λ b. if b then bound r ps else bound (suc r) ps) m
-
-pub bound-stop : (left : ℕ) (p : Place) (ps : List Place) → left ≡ 0 → p.marked ≡ true → bound left (p ∷ ps) ≡ p.key
-bound-stop zero p ps e m = ap (λ b. if b then p.key else bound zero ps) m
-bound-stop (suc r) p ps e m = absurd (omega arith)
-
-pub bound-spend : (left : ℕ) (p : Place) (ps : List Place) → 0 < left → p.marked ≡ true → bound left (p ∷ ps) ≡ bound (left - 1) ps
-bound-spend zero p ps e m = absurd (omega arith)
-bound-spend (suc r) p ps e m = let one : r ≡ suc r - 1 = omega arith in ap (λ b. if b then bound r ps else bound (suc r) ps) m ∙ ap (λ n. bound n ps) one
 
 -- no key below another one is taken from the places above that
 none-below : (b : ℕ) (ps : List Place) → AllAbove b ps → length (taken_keys b ps) ≡ 0
@@ -182,7 +132,7 @@ keys-greater : (k : ℕ) (ps : List Place) → AllAbove k ps → AllGreater k (m
 keys-greater k [] h = h
 keys-greater k (p ∷ ps) h = (h.0, keys-greater k ps h.1)
 
-keys-rising : (ps : List Place) → IsAscending ps → IsRising (map (λ p. p.key) ps)
+pub keys-rising : (ps : List Place) → IsAscending ps → IsRising (map (λ p. p.key) ps)
 keys-rising [] h = tt
 keys-rising (p ∷ ps) h = (keys-greater p.key ps h.0, keys-rising ps h.1)
 

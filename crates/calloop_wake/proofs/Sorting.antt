@@ -1,19 +1,8 @@
 -- The order of the wheel is kept.
-use Rattle.std.proofs.Common.{◌≡◌, ◌≢◌, ℕ, zero, suc, ◌<◌, ◌≤◌, Bool, true, false, cond, if◌then◌else◌, List, [], ◌∷◌, filter, length, get_or, refl, sym, ◌∙◌, ap, arith}
+use Rattle.std.proofs.Common.{◌≡◌, ◌≢◌, ℕ, ◌<◌, ◌≤◌, Bool, true, false, cond, if◌then◌else◌, List, [], ◌∷◌, filter, refl, sym, arith}
 use Rattle.std.proofs.lemmas.Bool.Decides.{nat_tests}
-use Rattle.std.specs.List.{insert}
 use Rattle.calloop_wake.specs.Deadlines.{is_before, inserted, has_counter, is_due, after_first_due, IsAhead, IsSorted, AllBelow}
 use Rattle.calloop_wake.specs.declared.wheel.Entry.{Entry}
-
-pub insert_place : (e : Entry) (i : ℕ) (d : Entry) (xs : List Entry) → i ≤ length xs → ((j : ℕ) (b : Entry) → j < i → is_before (get_or xs j b) e ≡ true)
-    → (i < length xs → is_before (get_or xs i d) e ≡ false) → insert xs i e ≡ inserted e xs
-insert_place e zero d [] within below above = refl
-insert_place e (suc i) d [] within below above = absurd (omega arith)
-insert_place e zero d (x ∷ xs) within below above =
-    sym (ap (λ b. if b then x ∷ inserted e xs else e ∷ x ∷ xs) (above (omega arith)))
-insert_place e (suc i) d (x ∷ xs) within below above =
-    let rest = insert_place e i d xs (omega arith) (λ j b h. below (suc j) b (omega arith)) (λ h. above (omega arith)) in
-    ap (λ l. x ∷ l) rest ∙ sym (ap (λ b. if b then x ∷ inserted e xs else e ∷ x ∷ xs) (below 0 x (omega arith)))
 
 before-trans : (x y z : Entry) → is_before x y ≡ true → is_before y z ≡ true → is_before x z ≡ true
 before-trans x y z h k = grind (arith, nat_tests)

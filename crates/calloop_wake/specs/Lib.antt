@@ -3,7 +3,9 @@ pub mod Tokens
 pub mod Passes
 pub mod Cells
 pub mod Boards
+pub mod Posts
 pub mod Deadlines
+pub mod Wheels
 pub mod Wakes
 pub mod PingKind
 pub mod Lost

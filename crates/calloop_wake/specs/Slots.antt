@@ -1,7 +1,7 @@
 -- Slots, and what the calls of a source list do to them. A list's value is the list of its slots.
 use Rattle.std.specs.Prelude.{◌≡◌, ℕ, suc, zero, ◌+◌, ◌%◌, ◌^◌, ◌<◌, ◌≤◌, List, [], ◌∷◌, length, if◌then◌else◌, nat_eq, Bool, true, false, Option, Some, None, slice_get}
 use Rattle.calloop_wake.specs.declared.error.Error.{Error}
-use Rattle.calloop_wake.specs.declared.error.Error.TheVariants.{InvalidToken, IoError, OtherError, OutOfMemory, TooManySources, TooManyTokens, TooManyTimers}
+use Rattle.calloop_wake.specs.declared.error.Error.TheVariants.{InvalidToken, IoError, OtherError, OutOfMemory, TooManySources, TooManyTokens, TooManyTimers, TooManyTickets, OwnTurn}
 use Rattle.calloop_wake.specs.declared.token.RegistrationToken.{RegistrationToken}
 use Rattle.calloop_wake.specs.declared.list.Content.{Content}
 use Rattle.calloop_wake.specs.declared.list.Content.TheVariants.{Vacant, Source, InTurn}
@@ -89,3 +89,5 @@ CannotClaim ss (IoError cause) = ⊥
 CannotClaim ss (OtherError cause) = ⊥
 CannotClaim ss TooManyTokens = ⊥
 CannotClaim ss TooManyTimers = ⊥
+CannotClaim ss TooManyTickets = ⊥
+CannotClaim ss OwnTurn = ⊥

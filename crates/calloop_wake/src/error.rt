@@ -9,7 +9,8 @@ use thiserror::Error as ThisError;
 /// Why a call refused.
 ///
 /// Calloop panics or aborts where this crate answers `OutOfMemory`, `TooManySources` and
-/// `TooManyTokens`, and its counters of timers run over where this crate answers `TooManyTimers`.
+/// `TooManyTokens`, and its counters of timers run over where this crate answers `TooManyTimers`. It has no tickets, and
+/// it panics where a source is registered in its own turn.
 #[derive(Debug, Drop, ThisError)]
 pub enum Error {
     /// The token names no source, as after the source was removed.
@@ -33,6 +34,12 @@ pub enum Error {
     /// The wheel has given out all 2^64 - 1 counters of timers.
     #[error("too many timers")]
     TooManyTimers,
+    /// The requests of a loop have been given all 2^64 - 1 tickets.
+    #[error("too many requests")]
+    TooManyTickets,
+    /// A source can't be registered in its own turn: it is.
+    #[error("the source is in its turn")]
+    OwnTurn,
 }
 
 /// What a call of the loop answers.
@@ -92,6 +99,8 @@ impl From<Error> for io::Error {
             Error::TooManySources => io::Error::other("too many event sources"),
             Error::TooManyTokens => io::Error::other("too many tokens for one event source"),
             Error::TooManyTimers => io::Error::other("too many timers"),
+            Error::TooManyTickets => io::Error::other("too many requests"),
+            Error::OwnTurn => io::Error::other("the source is in its turn"),
         }
     }
 }

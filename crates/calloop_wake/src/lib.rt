@@ -3,6 +3,7 @@
 
 pub mod error;
 pub mod list;
+pub mod steps;
 pub mod token;
 pub mod wake;
 pub mod wheel;

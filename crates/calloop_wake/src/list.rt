@@ -238,6 +238,13 @@ impl<S: Drop> SourceList<S> {
         None
     }
 
+    /// Whether the source of the slot that the token names is taken out, for its turn.
+    pub fn is_in_turn(&self, token: RegistrationToken) -> bool
+        ensures { result ≡ is_in_turn (named self.now token) }
+    {
+        is_in_turn(&self.slots, token)
+    }
+
     /// Gives up the slot of a source that was taken out: it is vacant, under the same version.
     ///
     /// Where the slot isn't in its turn under this version, the list stays as it is.

@@ -15,6 +15,7 @@ pub mod ghosts;
 pub mod locked;
 pub mod notes;
 pub mod ping;
+pub(crate) mod places;
 pub mod watch;
 
 /// Its key has to be posted on its board.

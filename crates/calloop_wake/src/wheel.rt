@@ -1,13 +1,14 @@
 //! Moments of the loop's clock, and the deadlines that are armed. From calloop's `TimerWheel` in `timer.rs`.
-ghost use Rattle.std.specs.Prelude.{◌≡◌, ◌↔◌, ◌+◌, ◌-◌, ◌^◌, ◌≤◌, ◌<◌, min, [], false, true, length, IfOk, IfErr, OnOk, OnErr, IsErrOf};
+ghost use Rattle.std.specs.Prelude.{◌≡◌, ◌↔◌, ◌+◌, ◌-◌, ◌^◌, ◌≤◌, ◌<◌, min, [], ◌∷◌, false, true, length, IfSome, IfNone, IfOk, IfErr, OnOk, OnErr, IsErrOf};
 ghost use Rattle.std.specs.Duration.{as_nanos};
-ghost use Rattle.std.specs.List.{insert};
-ghost use Rattle.calloop_wake.specs.Deadlines.{moment_after, is_before, inserted, has_counter, without_counter, with_new, with_again, cancelled, is_armed, first_deadline, first_due, after_first_due, with_entries, IsOrdered, CannotArm, CannotArmAgain};
+ghost use Rattle.calloop_wake.specs.Deadlines.{moment_after, inserted, has_counter, without_counter, with_new, with_again, cancelled, is_armed, first_deadline, first_due, after_first_due, with_entries, IsOrdered, IsSorted, CannotArm, CannotArmAgain};
+ghost use Rattle.calloop_wake.specs.Wheels.{entry_at, entries_of, first_key, NameTheSame};
 ghost use Rattle.calloop_wake.specs.declared.error.Error.TheVariants.{OutOfMemory, TooManyTimers};
 
 use crate::error::{Error, Result};
 use crate::token::Token;
 use std::alloc::Global;
+use std::collections::BTreeMap;
 use std::marker::Model;
 use std::time::Duration;
 
@@ -51,73 +52,96 @@ pub struct Entry {
     pub token: Token,
 }
 
+/// When a deadline comes due: by deadline, then by counter.
+#[derive(Clone, Copy, Debug, PartialEq, Eq, PartialOrd, Ord)]
+struct Due {
+    pub deadline: Instant,
+    /// Under which it was armed.
+    pub counter: u64,
+}
+
 /// The armed deadlines, in the order in which they come due: by deadline, then by counter. Calloop keeps a heap, in
 /// which those of one deadline come in any order, and counters of 32 bits, which run out in silence.
 #[derive(Drop)]
 pub struct Wheel {
-    entries: Vec<Entry>,
+    by_due: BTreeMap<Due, Token>,
+    // The deadline of each counter that has one.
+    by_counter: BTreeMap<u64, Instant>,
     counter: u64,
 }
 
 impl Model for Wheel {
-    ghost use Rattle.calloop_wake.specs.Deadlines.{Deadlines, IsOrdered};
+    ghost use Rattle.calloop_wake.specs.Deadlines.{Deadlines};
+    ghost use Rattle.calloop_wake.specs.Wheels.{entries_of, IsWheel};
 
     ghost Value = { Deadlines };
 
-    ghost view = { λ w. record { entries = w.entries.items; next = w.counter } };
+    ghost view = { λ w. record { entries = entries_of w.by_due.entries; next = w.counter } };
 
-    ghost invariant = { λ w. IsOrdered (record { entries = w.entries.items; next = w.counter }) };
+    ghost invariant = { λ w. IsWheel w.by_due.entries w.by_counter.entries w.counter };
 }
 
-fn is_before(entry: &Entry, other: &Entry) -> bool
-    ensures { result ≡ is_before entry.now other.now }
+// Enters a deadline in both maps, or in none where there is no memory.
+fn enter(
+    by_due: &mut BTreeMap<Due, Token>,
+    by_counter: &mut BTreeMap<u64, Instant>,
+    due: Due,
+    token: Token,
+) -> Result<()>
+    requires free { has_counter due.counter (entries_of by_due.old.entries) ≡ false }
+    requires same { NameTheSame (entries_of by_due.old.entries) by_counter.old.entries }
+    ensures ok { OnOk result (entries_of by_due.new.entries ≡ inserted (entry_at (due, token)) (entries_of by_due.old.entries)) }
+    ensures err { IfErr result (λ e. (e ≡ OutOfMemory) × (by_due.new.entries ≡ by_due.old.entries)) }
+    ensures same { NameTheSame (entries_of by_due.new.entries) by_counter.new.entries }
 {
-    entry.deadline.nanos < other.deadline.nanos
-        || (entry.deadline.nanos == other.deadline.nanos && entry.counter < other.counter)
-}
-
-// At how many entries a new one goes in.
-fn place_for(entries: &[Entry], entry: &Entry) -> usize
-    ensures within { result ≤ length entries.now }
-    ensures sorted { insert entries.now result entry.now ≡ inserted entry.now entries.now }
-{
-    for (i, other) in entries.iter().enumerate() {
-        if !is_before(other, entry) {
-            return i;
+    by_counter.insert(due.counter, due.deadline)?;
+    match by_due.insert(due, token) {
+        Ok(_) => Ok(()),
+        Err(_) => {
+            by_counter.remove(&due.counter);
+            Err(Error::OutOfMemory)
         }
     }
-    entries.len()
 }
 
-fn put(entries: &mut Vec<Entry>, entry: Entry) -> Result<()>
-    ensures ok { OnOk result (entries.new.items ≡ inserted entry entries.old.items) }
-    ensures err { IfErr result (λ e. (e ≡ OutOfMemory) × (entries.new.items ≡ entries.old.items)) }
+// Takes the deadline of this counter out of both maps.
+fn leave(by_due: &mut BTreeMap<Due, Token>, by_counter: &mut BTreeMap<u64, Instant>, counter: u64)
+    requires sorted { IsSorted (entries_of by_due.old.entries) }
+    requires same { NameTheSame (entries_of by_due.old.entries) by_counter.old.entries }
+    ensures entries { entries_of by_due.new.entries ≡ without_counter counter (entries_of by_due.old.entries) }
+    ensures same { NameTheSame (entries_of by_due.new.entries) by_counter.new.entries }
 {
-    let place = place_for(entries, &entry);
-    entries.insert(place, entry)?;
-    Ok(())
-}
-
-fn has_counter(entries: &[Entry], counter: u64) -> bool
-    ensures { result ≡ has_counter counter entries.now }
-{
-    entries.iter().any(|entry| entry.counter == counter)
-}
-
-fn remove_counter(entries: &mut Vec<Entry>, counter: u64)
-    ensures { entries.new.items ≡ without_counter counter entries.old.items }
-{
-    entries.retain(|entry| entry.counter != counter);
-}
-
-fn take_due(entries: &mut Vec<Entry>, now: Instant) -> Option<Entry>
-    ensures first { result ≡ first_due now.nanos entries.old.items }
-    ensures rest { entries.new.items ≡ after_first_due now.nanos entries.old.items }
-{
-    if entries.is_empty() || entries[0].deadline.nanos > now.nanos {
-        return None;
+    if let Some(deadline) = by_counter.remove(&counter) {
+        by_due.remove(&Due { deadline, counter });
     }
-    Some(entries.remove(0))
+}
+
+// When the first deadline comes due.
+fn next_due(by_due: &BTreeMap<Due, Token>) -> Option<Due>
+    ensures { result ≡ first_key by_due.now.entries }
+{
+    let (due, _) = by_due.first_key_value()?;
+    Some(*due)
+}
+
+// Takes the first deadline out of both maps.
+fn take_first(
+    by_due: &mut BTreeMap<Due, Token>,
+    by_counter: &mut BTreeMap<u64, Instant>,
+) -> Option<Entry>
+    requires sorted { IsSorted (entries_of by_due.old.entries) }
+    requires same { NameTheSame (entries_of by_due.old.entries) by_counter.old.entries }
+    ensures first { IfSome result (λ e. entries_of by_due.old.entries ≡ e ∷ entries_of by_due.new.entries) }
+    ensures none { IfNone result ((by_due.old.entries ≡ []) × (by_due.new.entries ≡ [])) }
+    ensures same { NameTheSame (entries_of by_due.new.entries) by_counter.new.entries }
+{
+    let (due, token) = by_due.pop_first()?;
+    by_counter.remove(&due.counter);
+    Some(Entry {
+        deadline: due.deadline,
+        counter: due.counter,
+        token,
+    })
 }
 
 impl Wheel {
@@ -126,7 +150,8 @@ impl Wheel {
         ensures { result ≡ record { entries = []; next = 0 } }
     {
         Wheel {
-            entries: Vec::new(alloc),
+            by_due: BTreeMap::new(alloc),
+            by_counter: BTreeMap::new(alloc),
             counter: 0,
         }
     }
@@ -135,14 +160,14 @@ impl Wheel {
     pub fn len(&self) -> usize
         ensures { result ≡ length self.now.entries }
     {
-        self.entries.len()
+        self.by_due.len()
     }
 
     /// Shows that the deadlines are sorted, that no counter stands twice, and that the next one is above all of them.
     pub fn keeps_order(&self)
         ensures { IsOrdered self.now }
     {
-        let _ = &self.entries;
+        let _ = &self.by_due;
     }
 
     /// Arms a deadline under the next counter, which it gives.
@@ -158,12 +183,8 @@ impl Wheel {
         if counter == u64::MAX {
             return Err(Error::TooManyTimers);
         }
-        let entry = Entry {
-            deadline,
-            counter,
-            token,
-        };
-        put(&mut self.entries, entry)?;
+        let due = Due { deadline, counter };
+        enter(&mut self.by_due, &mut self.by_counter, due, token)?;
         self.counter = counter + 1;
         Ok(counter)
     }
@@ -180,12 +201,8 @@ impl Wheel {
         if counter >= self.counter {
             return Err(Error::InvalidToken);
         }
-        let entry = Entry {
-            deadline,
-            counter,
-            token,
-        };
-        put(&mut self.entries, entry)?;
+        let due = Due { deadline, counter };
+        enter(&mut self.by_due, &mut self.by_counter, due, token)?;
         Ok(())
     }
 
@@ -193,24 +210,22 @@ impl Wheel {
     pub fn cancel(&mut self, counter: u64)
         ensures { self.new ≡ cancelled counter self.old }
     {
-        remove_counter(&mut self.entries, counter);
+        leave(&mut self.by_due, &mut self.by_counter, counter);
     }
 
     /// Whether the counter has a deadline now.
     pub fn is_armed(&self, counter: u64) -> bool
         ensures { result ≡ is_armed counter self.now }
     {
-        has_counter(&self.entries, counter)
+        self.by_counter.contains_key(&counter)
     }
 
     /// The first deadline.
     pub fn next_deadline(&self) -> Option<Instant>
         ensures { result ≡ first_deadline self.now.entries }
     {
-        if self.entries.is_empty() {
-            return None;
-        }
-        Some(self.entries[0].deadline)
+        let due = next_due(&self.by_due)?;
+        Some(due.deadline)
     }
 
     /// Takes the first deadline out where it isn't later than `now`.
@@ -218,6 +233,10 @@ impl Wheel {
         ensures first { result ≡ first_due now.nanos self.old.entries }
         ensures rest { self.new ≡ with_entries (after_first_due now.nanos self.old.entries) self.old }
     {
-        take_due(&mut self.entries, now)
+        let due = next_due(&self.by_due)?;
+        if due.deadline.nanos > now.nanos {
+            return None;
+        }
+        take_first(&mut self.by_due, &mut self.by_counter)
     }
 }

@@ -4,6 +4,7 @@ ghost use Rattle.calloop_wake.specs.Passes.{AreOf};
 
 use calloop_wake::error::{Error, InsertError};
 use calloop_wake::list::SourceList;
+use calloop_wake::steps::Steps;
 use calloop_wake::token::{
     RegistrationToken, Token, TokenFactory, factory_tokens_differ, keys_differ,
 };
@@ -26,6 +27,8 @@ use std::sync::{Arc, Wait};
 use std::test::Fail;
 use std::{io, thread};
 
+mod plain;
+
 #[test]
 fn a_refusal_shows_its_text_and_so_does_its_io_error(rt: HostRuntime) {
     let refusals = [
@@ -37,6 +40,8 @@ fn a_refusal_shows_its_text_and_so_does_its_io_error(rt: HostRuntime) {
         (Error::TooManySources, "too many event sources"),
         (Error::TooManyTokens, "too many tokens for one event source"),
         (Error::TooManyTimers, "too many timers"),
+        (Error::TooManyTickets, "too many requests"),
+        (Error::OwnTurn, "the source is in its turn"),
     ];
     for (refusal, text) in refusals {
         assert!(rt; shows(rt.alloc(), &refusal, text));
@@ -55,6 +60,8 @@ fn a_refusal_has_the_kind_of_its_io_error(rt: HostRuntime) {
         (Error::TooManySources, io::ErrorKind::Other),
         (Error::TooManyTokens, io::ErrorKind::Other),
         (Error::TooManyTimers, io::ErrorKind::Other),
+        (Error::TooManyTickets, io::ErrorKind::Other),
+        (Error::OwnTurn, io::ErrorKind::Other),
     ];
     for (refusal, kind) in kinds {
         assert_eq!(rt; io::Error::from(refusal).kind(), kind);
@@ -546,14 +553,16 @@ impl Desk {
         &mut self,
         rt: &R,
         alloc: Global,
+        steps: &mut Steps,
     ) -> Result<VecDeque<TakenPass>, AllocError>
+        requires { steps.old ≡ 0 }
         ensures same { (arc_value self.new.board).slot ≡ (arc_value self.old.board).slot }
         ensures own { IfOk result (λ passes. AreOf (arc_value self.old.board).slot passes.items) }
     {
         let places = self.places(rt);
         let mut passes = VecDeque::with_capacity(alloc, places)?;
         let (gate, mut board) = self.board.lock(rt);
-        board.unpost(places, &mut self.watch, &mut passes);
+        board.unpost(places, &mut self.watch, &mut passes, steps);
         self.board.unlock(rt, gate, board);
         Ok(passes)
     }
@@ -862,7 +871,7 @@ fn serve_all<R: Wait>(
     ensures desk { (arc_value desk.new.board).slot ≡ (arc_value desk.old.board).slot }
 {
     let mut turns = Vec::with_capacity(alloc, desk.places(rt))?;
-    let mut passes = desk.take_passes(rt, alloc)?;
+    let mut passes = desk.take_passes(rt, alloc, &mut Steps::new())?;
     let board = &desk.board;
     while let Some(pass) = passes.pop_front() {
         let turn = serve(rt, board, lock, twin, pass);
@@ -887,7 +896,7 @@ fn serve_within<R: Wait>(
     ensures { twin.new.name ≡ lock.now.slot.cell }
 {
     let mut within = Ok(Vec::new(alloc));
-    let mut passes = desk.take_passes(rt, alloc)?;
+    let mut passes = desk.take_passes(rt, alloc, &mut Steps::new())?;
     while let Some(pass) = passes.pop_front() {
         match open(rt, lock, twin, pass) {
             Ok(

@@ -5,8 +5,8 @@
 use calloop::loop_logic::EventLoop;
 use calloop::ping::{Ping, make_ping};
 use calloop::{
-    Asking, Callback, Dispatcher, Error, Generic, Instant, Interest, Mode, OneOf, PingSource,
-    Result, Sources, TimeoutAction, Timer,
+    Asking, Callback, Dispatcher, Error, EventDispatcher, Generic, Here, Hold, Instant, Interest,
+    Mode, OneOf, PingSource, Requests, Result, Sources, There, TimeoutAction, Timer,
 };
 use calloop_core::sys::system::{MioIo, MioPoller, SystemClock};
 use echo::{Echo, Session};
@@ -16,9 +16,9 @@ use std::io::Write;
 use std::net::Net;
 use std::process::ExitCode;
 use std::sync::Wait;
-use std::thread;
-use std::thread::Threads;
+use std::thread::{JoinHandle, Threads};
 use std::time::{Clock as MachineClock, Duration};
+use std::{io, thread};
 
 mod client;
 mod echo;
@@ -64,17 +64,27 @@ type Held<R> = Sources<
     Session,
 >;
 
-type Server<R> = EventLoop<Held<R>, Machine<R>, SystemClock<R>, R>;
+type Second = There<Here>;
+
+type Third = There<There<Here>>;
+
+// A loop over any choice of sources that holds those of the server. What a call does to a loop whose types are written out costs the
+// prover far more.
+type Server<D, R> = EventLoop<D, Machine<R>, SystemClock<R>, R>;
 
 // A loop with the server's end of a socket, a timer of a millisecond, and the ping that is handed out.
-fn open<R>(rt: &R, alloc: Global, near: UnixStream) -> Result<(Server<R>, Ping<R>)>
+fn open<D, R>(rt: &R, alloc: Global, near: UnixStream) -> Result<(Server<D, R>, Ping<R>)>
 where
+    D: EventDispatcher<Machine<R>, SystemClock<R>, R, Data = Session, Idle = ()>,
+    D: Hold<PingSource<R>, Rung, Machine<R>, SystemClock<R>, R, Session, Requests<D>, Here>,
+    D: Hold<Generic<Machine<R>>, Echo, Machine<R>, SystemClock<R>, R, Session, Requests<D>, Second>,
+    D: Hold<Timer, Late, Machine<R>, SystemClock<R>, R, Session, Requests<D>, Third>,
     R: Net + MachineClock + Wait + Clone + Drop,
 {
     let clock = SystemClock::new(rt)?;
     let poller = MioPoller::new(rt, alloc, clock.clone()?)?;
     let timer = Timer::from_duration(&clock, Duration::from_millis(1));
-    let mut event_loop: Server<R> = EventLoop::try_new(rt, alloc, poller, clock)?;
+    let mut event_loop: Server<D, R> = EventLoop::try_new(rt, alloc, poller, clock)?;
     let (bell, source) = make_ping(rt, alloc)?;
     let socket = Generic::new(MioIo::from(near), Interest::READ, Mode::Level);
     let mut handle = event_loop.handle();
@@ -90,18 +100,16 @@ where
     Ok((event_loop, bell))
 }
 
-// Serves a client of another thread, until all has come that is waited for, or ten seconds are over. Answers whether all has, and
-// the client's end.
-fn serve<R>(rt: &R, alloc: Global) -> Result<(bool, UnixStream)>
+// Dispatches until all has come that is waited for, or ten seconds are over. Answers whether all has, and the client's end.
+fn listen<D, R>(
+    rt: &R,
+    mut event_loop: Server<D, R>,
+    child: JoinHandle<io::Result<UnixStream>>,
+) -> Result<(bool, UnixStream)>
 where
-    R: Threads + Net + MachineClock + Wait + Clone + Drop + Send + Sync + 'static,
+    D: EventDispatcher<Machine<R>, SystemClock<R>, R, Data = Session, Idle = ()>,
+    R: Threads + Net + MachineClock + Wait + Clone + Drop,
 {
-    let (near, far) = UnixStream::pair(rt)?;
-    let (mut event_loop, bell) = open(rt, alloc, near)?;
-    let child = match thread::spawn(rt, move || client::speaks(far, bell)) {
-        Ok(child) => child,
-        Err(_) => return Err(Error::OutOfMemory),
-    };
     let mut session = Session::new();
     for _ in 0..1000u32 {
         if session.is_over() {
@@ -111,6 +119,19 @@ where
     }
     let far = child.join(rt)?;
     Ok((session.is_over(), far))
+}
+
+// Serves a client of another thread. This alone knows of which types the loop is.
+fn serve<R>(rt: &R, alloc: Global) -> Result<(bool, UnixStream)>
+where
+    R: Threads + Net + MachineClock + Wait + Clone + Drop + Send + Sync + 'static,
+{
+    let (near, far) = UnixStream::pair(rt)?;
+    let (event_loop, bell) = open::<Held<R>, R>(rt, alloc, near)?;
+    match thread::spawn(rt, move || client::speaks(far, bell)) {
+        Ok(child) => listen(rt, event_loop, child),
+        Err(_) => Err(Error::OutOfMemory),
+    }
 }
 
 fn main(rt: HostRuntime) -> ExitCode {

@@ -74,7 +74,7 @@ pub type Held<P, R> = Sources<
 
 /// A loop, the calls of its callbacks, and the time that was measured, in nanoseconds.
 #[derive(Drop)]
-pub struct Bench<P: Poller, C, R: Wait + Drop> {
+pub struct Bench<P: Poller, C: Clock, R: Wait + Drop> {
     rt: R,
     alloc: Global,
     pub event_loop: EventLoop<Held<P, R>, P, C, R>,

@@ -25,7 +25,7 @@ says_held held callback (Ok token) name ping before after said h = h
 says_held held callback (Err refused) name ping before after said h = h
 
 pub line_is : {S F R : Type 0} (held : Dispatcher S F → Source R) (callback : F) (answer : Result RegistrationToken (InsertError S)) (name kept : List ℕ) (ping : Option Book) (d : Source R) (made : Source R → Option Book → Type 0)
-    (v w x : View (Source R) ScriptPoller) (before after : List Named) (fault : Bool) (pending : Option Pending) (said : List ℕ)
+    (v w x : View (Source R) (Unit {0}) ScriptPoller) (before after : List Named) (fault : Bool) (pending : Option Pending) (said : List ℕ)
     → is_taken name before ≡ false → made d ping → v ≡ w → kept ≡ name
     → Calls (Insert d) (Inserted (held_answer held callback answer)) v x → InsertSays kept ping answer before after said
     → InsertLine (record { loop = w; sources = before; fault = fault; pending = pending }) name made (Some (record { loop = x; sources = after; fault = fault; pending = pending }, said))
@@ -35,7 +35,7 @@ line_is {S} {F} {R} held callback answer name kept ping d made v w x before afte
   ping,
   is_made,
   held_answer held callback answer,
-  subst (λ (w : View (Source R) ScriptPoller). Calls (Insert d) (Inserted (held_answer held callback answer)) w x) loop call,
+  subst (λ (w : View (Source R) (Unit {0}) ScriptPoller). Calls (Insert d) (Inserted (held_answer held callback answer)) w x) loop call,
   subst (λ (n : List ℕ). InsertSays n ping (held_answer held callback answer) before after said) same (says_held held callback answer kept ping before after said says),
   refl,
   refl,

@@ -8,7 +8,7 @@ use Rattle.std.specs.Duration.{as_nanos}
 use Rattle.std.specs.declared.time.Duration.{Duration}
 use Rattle.calloop_wake.specs.declared.error.Error.{Error}
 use Rattle.calloop_wake.specs.declared.error.Error.TheVariants.{InvalidToken, IoError, OtherError, OutOfMemory}
-use Rattle.calloop_wake.specs.declared.error.Error.TheVariants.{TooManySources, TooManyTokens, TooManyTimers}
+use Rattle.calloop_wake.specs.declared.error.Error.TheVariants.{TooManySources, TooManyTokens, TooManyTimers, TooManyTickets, OwnTurn}
 use Rattle.calloop_wake.specs.declared.error.InsertError.{InsertError}
 use Rattle.calloop_wake.specs.declared.token.RegistrationToken.{RegistrationToken}
 use Rattle.logbook.specs.Pages.{Book}
@@ -46,7 +46,7 @@ use Rattle.calloop_core.specs.declared.timer.Timer.{Timer as TimerSource}
 use Rattle.calloop.specs.declared.ping.PingSource.{PingSource}
 use Rattle.looptrace.specs.declared.source.Teller.{Teller}
 use Rattle.looptrace.specs.declared.source.Alarm.{Alarm}
-use Rattle.looptrace.specs.Sources.{Source, timer_in, source_meaning}
+use Rattle.looptrace.specs.Sources.{Source, timer_in, source_meaning, no_idles}
 
 -- the answer that waits for a wait: what the clock showed at its last event, and its events
 pub record Pending : Type 0 where
@@ -58,7 +58,7 @@ pending_of p = record { moment = p.moment; events = p.events.events.items }
 
 -- what the loop holds, the sources that were made, whether the next wait is to fail, and the pending answer
 pub record State (R : Type 0) : Type 0 where
-  pub loop : View (Source R) ScriptPoller
+  pub loop : View (Source R) (Unit {0}) ScriptPoller
   pub sources : List Named
   pub fault : Bool
   pub pending : Option Pending
@@ -74,7 +74,7 @@ state_of s =
 
 -- a machine to which nothing has happened agrees, over a poller with the clock at 0 and without answers
 pub record IsStart {R : Type 0} (s : State R) : Type 0 where
-  pub world : World (Source R) ScriptPoller
+  pub world : World (Source R) (Unit {0}) ScriptPoller
   pub new : IsNew world
   pub agrees : seen world ≡ s.loop
   pub moment : s.loop.poll.poller.moment.nanos ≡ 0
@@ -84,10 +84,10 @@ pub record IsStart {R : Type 0} (s : State R) : Type 0 where
   pub pending : s.pending ≡ None
 
 -- a call on the loop is a case of its machine
-abbrev pub Calls : {R : Type 0} → LoopCall (Source R) ScriptPoller (Option (List ℕ))
-    → LoopAnswer (Source R) ScriptPoller (Option (List ℕ))
-    → View (Source R) ScriptPoller → View (Source R) ScriptPoller → Type 0
-Calls call answer old new = Did (Case source_meaning script_outside call answer) old new
+abbrev pub Calls : {R : Type 0} → LoopCall (Source R) ScriptPoller (Option (List ℕ)) (Unit {0})
+    → LoopAnswer (Source R) ScriptPoller (Option (List ℕ)) (Unit {0})
+    → View (Source R) (Unit {0}) ScriptPoller → View (Source R) (Unit {0}) ScriptPoller → Type 0
+Calls call answer old new = Did (Case source_meaning no_idles script_outside call answer) old new
 
 -- the names of the refusals
 abbrev pub word_of : Error → List ℕ
@@ -98,6 +98,8 @@ word_of OutOfMemory = codes "OutOfMemory"
 word_of TooManySources = codes "TooManySources"
 word_of TooManyTokens = codes "TooManyTokens"
 word_of TooManyTimers = codes "TooManyTimers"
+word_of TooManyTickets = codes "TooManyTickets"
+word_of OwnTurn = codes "OwnTurn"
 
 abbrev pub answer_text : Result (Unit {0}) Error → List ℕ
 answer_text (Ok u) = []
@@ -246,13 +248,13 @@ pending_after stands fault pending = if stands || fault then pending else None
 pub record DispatchLine {R : Type 0} (s : State R) (timeout : Option ℕ) (t : State R) (said : List ℕ) : Type 0 where
   pub ready : ScriptPoller
   pub is_ready : IsReady s.fault s.pending s.loop.poll.poller ready
-  pub before : View (Source R) ScriptPoller
+  pub before : View (Source R) (Unit {0}) ScriptPoller
   pub lent : Calls (NewPoller ready) (OldPoller s.loop.poll.poller) s.loop before
   pub limit : Option Duration
   pub limit_is : nanos_of limit ≡ timeout
   pub answer : Result (Unit {0}) Error
   pub called : List ℕ
-  pub after : View (Source R) ScriptPoller
+  pub after : View (Source R) (Unit {0}) ScriptPoller
   pub dispatched : Calls (DispatchCall limit (Some [])) (Dispatched answer (Some called)) before after
   pub is_back : IsTakenBack after.poll.poller t.loop.poll.poller
   pub back : Calls (NewPoller t.loop.poll.poller) (OldPoller after.poll.poller) after t.loop

@@ -11,7 +11,7 @@ use Rattle.calloop_core.specs.Meanings.{Meaning, with_callback, one_of, seen_as}
 use Rattle.calloop_core.specs.declared.sources.OneOf.{OneOf}
 use Rattle.calloop_core.specs.declared.sources.OneOf.TheVariants.{First, Other}
 use Rattle.calloop.specs.declared.loop_logic.Sources.{Sources}
-use Rattle.calloop.specs.declared.loop_logic.Requests.{Requests}
+use Rattle.calloop.specs.Askings.{Asks, Reaches, Runs}
 use Rattle.calloop.specs.Choices.{with_data}
 use Rattle.calloop_core.specs.Timers.{timer_meaning}
 use Rattle.calloop.specs.declared.ping.PingSource.{PingSource}
@@ -43,8 +43,12 @@ ping_in d = with_data (First d)
 abbrev pub timer_in : {R : Type 0} → Dispatcher Timer Alarm → Source R
 timer_in d = with_data (Other d)
 
-abbrev pub source_meaning : {P R : Type 0} → Meaning (Source R) P (Lent (Option (List ℕ)) (Requests (Source R)))
+abbrev pub source_meaning : {P R : Type 0} → Meaning (Source R) P (Lent (Option (List ℕ)) (Asks (Source R) (Unit {0})))
 source_meaning =
     seen_as (λ s. s.held)
-    (one_of (with_callback ping_meaning tells (λ q r. Unit {0}) (λ cause e. e ≡ OutOfMemory))
-    (with_callback timer_meaning tells_deadline (λ q r. Unit {0}) (λ cause e. e ≡ OutOfMemory)))
+    (one_of (with_callback ping_meaning tells Reaches (λ cause e. e ≡ OutOfMemory))
+    (with_callback timer_meaning tells_deadline Reaches (λ cause e. e ≡ OutOfMemory)))
+
+-- a script asks for no idle
+abbrev pub no_idles : {R : Type 0} → Runs (Source R) (Unit {0}) (Option (List ℕ))
+no_idles idle said asked said' asked' = (said' ≡ said) × (asked' ≡ asked)

@@ -65,6 +65,8 @@ fn word_of(error: &Error) -> &'static str
         Error::TooManySources => "TooManySources",
         Error::TooManyTokens => "TooManyTokens",
         Error::TooManyTimers => "TooManyTimers",
+        Error::TooManyTickets => "TooManyTickets",
+        Error::OwnTurn => "OwnTurn",
     }
 }
 

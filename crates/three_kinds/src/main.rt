@@ -1,10 +1,12 @@
-//! A loop over three kinds of source: a ping, a timer, and one of the program's own.
+//! A loop over three kinds of source: a ping, a timer, and one of the program's own. The ping's callback puts another source in
+//! the place of its own.
 #![tactic(auto)]
 
 use calloop::loop_logic::EventLoop;
 use calloop::ping::make_ping;
 use calloop::{
-    Asking, Callback, Dispatcher, Instant, OneOf, PingSource, Result, Sources, TimeoutAction, Timer,
+    Asking, Callback, Choice, Dispatcher, Here, IdleCallback, Instant, OneOf, PingSource,
+    RegistrationToken, Requests, Result, Sources, There, TimeoutAction, Timer,
 };
 use calloop_core::sys::script::ScriptPoller;
 use countdown::Countdown;
@@ -15,17 +17,65 @@ use std::time::Duration;
 
 mod countdown;
 
-/// Adds its line to what was said.
+/// What a dispatch lends: what was said so far, and which source the ping is.
+#[derive(Drop)]
+struct Said {
+    text: String,
+    ping: Option<RegistrationToken>,
+}
+
+impl Said {
+    fn line(&mut self, line: &str) {
+        let _failed = self.text.push_str(line);
+    }
+}
+
+/// Says its line.
 #[derive(Drop)]
 struct Says {
     line: &'static str,
 }
 
-impl<Q: Asking> Callback<(), (), (), String, Q> for Says {
+impl<Q: Asking> Callback<(), (), (), Said, Q> for Says {
     ghost may = { λ _ _ _ _ _ _ _ _ _ _. Unit {0} };
 
-    fn call(&mut self, _event: (), _: &mut (), said: &mut String, _: &mut Q) {
-        let _failed = said.push_str(self.line);
+    fn call(&mut self, _event: (), _: &mut (), said: &mut Said, _: &mut Q) {
+        said.line(self.line);
+    }
+}
+
+/// Asks for its own source to leave and for a countdown to come, which has its slot then, and for a rest.
+#[derive(Drop)]
+struct Replaces;
+
+impl<D> Callback<(), (), (), Said, Requests<D, Rest>> for Replaces
+where
+    D: Choice<Countdown, Says, There<There<Here>>> + Drop,
+{
+    ghost may = { λ _ _ _ _ _ _ _ _ _ _. Unit {0} };
+
+    fn call(&mut self, _event: (), _: &mut (), said: &mut Said, requests: &mut Requests<D, Rest>) {
+        said.line("rung\n");
+        if let Some(own) = said.ping {
+            let _removal = requests.remove(own);
+            let says = Says {
+                line: "in its place\n",
+            };
+            let _insertion = requests.insert_source(Countdown::new(1), says);
+            let _idle = requests.insert_idle(Rest);
+        }
+    }
+}
+
+/// Says at the end of a dispatch that nothing is left to do in it.
+#[derive(Drop)]
+struct Rest;
+
+impl<Q: Asking> IdleCallback<Said, Q> for Rest {
+    ghost runs = { λ _ _ _ _ _. Unit {0} };
+
+    fn run(self, said: &mut Said, _: &mut Q) {
+        said.line("nothing left\n");
     }
 }
 
@@ -33,28 +83,30 @@ impl<Q: Asking> Callback<(), (), (), String, Q> for Says {
 #[derive(Drop)]
 struct Alarm;
 
-impl<Q: Asking> Callback<Instant, (), TimeoutAction, String, Q> for Alarm {
+impl<Q: Asking> Callback<Instant, (), TimeoutAction, Said, Q> for Alarm {
     ghost may = { λ _ _ _ _ _ _ _ _ _ _. Unit {0} };
 
     fn call(
         &mut self,
         _deadline: Instant,
         _: &mut (),
-        said: &mut String,
+        said: &mut Said,
         _: &mut Q,
     ) -> TimeoutAction {
-        let _failed = said.push_str("five milliseconds\n");
+        said.line("five milliseconds\n");
         TimeoutAction::Drop
     }
 }
 
-/// What the loop holds: three kinds of source with their callbacks, and the data that each dispatch lends.
+/// What the loop holds: three kinds of source with their callbacks, the data that each dispatch lends, and what it can be asked to
+/// do at the end of one.
 type Held<R> = Sources<
     OneOf<
-        Dispatcher<PingSource<R>, Says>,
+        Dispatcher<PingSource<R>, Replaces>,
         OneOf<Dispatcher<Timer, Alarm>, Dispatcher<Countdown, Says>>,
     >,
-    String,
+    Said,
+    Rest,
 >;
 
 // Three dispatches of a loop: what the callbacks said.
@@ -64,8 +116,8 @@ fn run<R: Wait + Clone + Drop>(rt: &R, alloc: Global) -> Result<String> {
     let mut event_loop: EventLoop<Held<R>, _, _, R> = EventLoop::try_new(rt, alloc, poller, clock)?;
     let (ping, source) = make_ping(rt, alloc)?;
     let mut handle = event_loop.handle();
-    handle
-        .insert_source(source, Says { line: "rung\n" })
+    let token = handle
+        .insert_source(source, Replaces)
         .map_err(|refused| refused.error)?;
     let timer = Timer::from_deadline(Instant { nanos: 5_000_000 });
     handle
@@ -77,11 +129,14 @@ fn run<R: Wait + Clone + Drop>(rt: &R, alloc: Global) -> Result<String> {
         .map_err(|refused| refused.error)?;
 
     ping.ping();
-    let mut said = String::new(alloc);
+    let mut said = Said {
+        text: String::new(alloc),
+        ping: Some(token),
+    };
     for _ in 0..3u32 {
         event_loop.dispatch(rt, Some(Duration::from_millis(10)), &mut said)?;
     }
-    Ok(said)
+    Ok(said.text)
 }
 
 fn main(rt: HostRuntime) -> ExitCode {

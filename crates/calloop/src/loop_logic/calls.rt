@@ -18,9 +18,9 @@ impl<D: EventDispatcher<P, C, R>, P: Poller, C: Clock, R: Wait + Drop> EventLoop
     pub fn carry_out<Q: Wait>(
         &mut self,
         rt: &Q,
-        call: LoopCall<D, P, D::Data>,
-    ) -> LoopAnswer<D, P, D::Data>
-        ensures { Did (Case D.means P.outside call result) (view_of self.old) (view_of self.new) }
+        call: LoopCall<D, P, D::Data, D::Idle>,
+    ) -> LoopAnswer<D, P, D::Data, D::Idle>
+        ensures { Did (Case D.means D.Idle.runs P.outside call result) (view_of self.old) (view_of self.new) }
     {
         match call {
             LoopCall::Insert(dispatcher) => LoopAnswer::Inserted(self.insert(dispatcher)),
@@ -36,6 +36,12 @@ impl<D: EventDispatcher<P, C, R>, P: Poller, C: Clock, R: Wait + Drop> EventLoop
                 let answer = self.dispatch(rt, timeout, &mut data);
                 LoopAnswer::Dispatched(answer, data)
             }
+            LoopCall::InsertIdle(idle) => LoopAnswer::IdleInserted(self.insert_idle(idle)),
+            LoopCall::Cancel(idle) => {
+                self.requests.take_out_idle(idle.ticket().number());
+                LoopAnswer::Cancelled
+            }
+            LoopCall::Answer(ticket) => LoopAnswer::Answered(self.requests.answer(ticket)),
             LoopCall::Poller(poller) => {
                 LoopAnswer::Poller(mem::replace(self.poll.poller_mut(), poller))
             }
@@ -44,7 +50,7 @@ impl<D: EventDispatcher<P, C, R>, P: Poller, C: Clock, R: Wait + Drop> EventLoop
 
     // Puts another source in the place of the one that the token names. Where it names none, the other one is handed back.
     fn exchange(&mut self, token: RegistrationToken, dispatcher: D) -> Result<D, D>
-        ensures { Did (Case D.means P.outside (Exchange token dispatcher) (Exchanged result)) (view_of self.old) (view_of self.new) }
+        ensures { Did (Case D.means D.Idle.runs P.outside (Exchange token dispatcher) (Exchanged result)) (view_of self.old) (view_of self.new) }
     {
         match self.sources.get_mut(token) {
             Ok(held) => Ok(mem::replace(held, dispatcher)),
@@ -58,11 +64,11 @@ impl<D: EventDispatcher<P, C, R>, P: Poller, C: Clock, R: Wait + Drop> EventLoop
         &mut self,
         rt: &Q,
         alloc: Global,
-        calls: VecDeque<LoopCall<D, P, D::Data>>,
-    ) -> Result<Vec<LoopAnswer<D, P, D::Data>>, VecDeque<LoopCall<D, P, D::Data>>>
+        calls: VecDeque<LoopCall<D, P, D::Data, D::Idle>>,
+    ) -> Result<Vec<LoopAnswer<D, P, D::Data, D::Idle>>, VecDeque<LoopCall<D, P, D::Data, D::Idle>>>
     where
         D::Data: Drop,
-        ensures run { IfOk result (λ answers. RunLeads D.means P.outside calls.items answers.items (view_of self.old) (view_of self.new)) }
+        ensures run { IfOk result (λ answers. RunLeads D.means D.Idle.runs P.outside calls.items answers.items (view_of self.old) (view_of self.new)) }
         ensures err { IfErr result (λ back. (back.items ≡ calls.items) × (self.new ≡ self.old)) }
     {
         let Ok(mut answers) = Vec::with_capacity(alloc, calls.len()) else {

@@ -5,12 +5,14 @@ ghost use Rattle.calloop_core.specs.Pollers.{nanos_of};
 ghost use Rattle.calloop.specs.declared.loop_logic.LoopCall.TheVariants.{Dispatch};
 ghost use Rattle.calloop.specs.declared.loop_logic.LoopAnswer.TheVariants.{Dispatched};
 ghost use Rattle.calloop.specs.Machine.{World, IsNew, seen, view_of};
-ghost use Rattle.calloop.specs.Rules.{Case, Did, Leads, Goes, Cutting, Ending, Returning, Leaving, Outcome, after_turn, after_hand_out};
+ghost use Rattle.calloop.specs.Rules.{Case, Did, Leads, Goes, Cutting, Ending, Returning, Idling, RunningIdles, Leaving, Outcome, action_of, after_batch, after_idle, after_turn, after_hand_out};
 
+use super::asks::{Answer, Requests};
 use super::lifecycle::Lifecycle;
 use super::signal::LoopSignal;
 use super::warnings::Warnings;
-use super::{EventDispatcher, EventLoop, LoopHandle, Requests};
+use super::{EventDispatcher, EventLoop, LoopHandle};
+use calloop_core::idles::IdleCallback;
 use calloop_core::sources::PostAction;
 use calloop_core::sys::poll::Poll;
 use calloop_core::sys::{Clock, Poller};
@@ -26,7 +28,7 @@ impl<D: EventDispatcher<P, C, R>, P: Poller, C: Clock, R: Wait + Drop> EventLoop
     pub fn try_new(rt: &R, alloc: Global, poller: P, clock: C) -> Result<EventLoop<D, P, C, R>>
     where
         R: Clone,
-        ensures ok { IfOk result (λ made. (w : World D P) × IsNew w × (w.poll.poller ≡ poller) × (seen w ≡ view_of made)) }
+        ensures ok { IfOk result (λ made. (w : World D D.Idle P) × IsNew w × (w.poll.poller ≡ poller) × (seen w ≡ view_of made)) }
         ensures err { IfErr result (λ e. e ≡ OutOfMemory) }
     {
         let notifier = poller.notifier()?;
@@ -34,6 +36,8 @@ impl<D: EventDispatcher<P, C, R>, P: Poller, C: Clock, R: Wait + Drop> EventLoop
             sources: SourceList::new(alloc),
             poll: Poll::new(rt.clone()?, alloc, poller, clock)?,
             lifecycle: Lifecycle::new(alloc),
+            pending: PostAction::Continue,
+            requests: Requests::new(alloc),
             warnings: Warnings::new(alloc),
             signal: LoopSignal::new(alloc, notifier)?,
         })
@@ -53,28 +57,35 @@ impl<D: EventDispatcher<P, C, R>, P: Poller, C: Clock, R: Wait + Drop> EventLoop
     /// Want of memory for the batch changes nothing. A fault of the wait is `IoError`, and leaves posted keys
     /// posted. The error of a turn ends the dispatch; the rest of the batch comes first in the next one. After its turn a
     /// source is registered anew, unregistered, or leaves its slot, as it answered; a refusal of the first two is an error
-    /// of the turn. One that left its slot is unregistered last; a failure of that is a warning. The warnings of before are cleared.
+    /// of the turn. One that left its slot is unregistered last; a failure of that is a warning.
+    ///
+    /// What callbacks ask for in a turn is carried out in order when it ends, before that. When the batch is empty, the idles that
+    /// stand then run once each, in order, with what each asks for after it; later ones wait for the next dispatch, and after an error
+    /// none runs. Warnings and answers of before are cleared at the beginning.
     pub fn dispatch<Q: Wait>(
         &mut self,
         rt: &Q,
         timeout: Option<Duration>,
         data: &mut D::Data,
     ) -> Result<()>
-        ensures case { Did (Case D.means P.outside (Dispatch timeout «data».old) (Dispatched result «data».new)) (view_of self.old) (view_of self.new) }
-        ensures machine { Leads (Case D.means P.outside (Dispatch timeout «data».old) (Dispatched result «data».new)) (view_of self.old) (view_of self.new) }
+        ensures case { Did (Case D.means D.Idle.runs P.outside (Dispatch timeout «data».old) (Dispatched result «data».new)) (view_of self.old) (view_of self.new) }
+        ensures machine { Leads (Case D.means D.Idle.runs P.outside (Dispatch timeout «data».old) (Dispatched result «data».new)) (view_of self.old) (view_of self.new) }
     {
         self.poll.reserve(self.lifecycle.len())?;
+        self.requests.clear_answers();
         self.warnings.clear();
         self.tell_of_wait()?;
         let from = self.poll.waiting();
         self.poll.poll(rt, timeout)?;
         self.tell_of_events(from);
-        self.hand_out_all(data)
+        self.hand_out_all(data)?;
+        self.run_idles(data);
+        Ok(())
     }
 
     // Gives the first event of the batch to the source that its token names. False where there is no event.
     fn hand_out(&mut self, data: &mut D::Data) -> Result<bool>
-        ensures machine { Goes D.means P.outside (Cutting «data».old) (after_hand_out result «data».new) (view_of self.old) (view_of self.new) }
+        ensures machine { Goes D.means D.Idle.runs P.outside (Cutting «data».old) (after_hand_out result «data».new) (view_of self.old) (view_of self.new) }
         ensures shorter { result ≡ Ok true → length self.new.poll.batch.events < length self.old.poll.batch.events }
     {
         let Some(event) = self.poll.next_event() else {
@@ -85,14 +96,15 @@ impl<D: EventDispatcher<P, C, R>, P: Poller, C: Clock, R: Wait + Drop> EventLoop
             self.poll.end_event();
             return Ok(true);
         };
-        let mut requests = Requests::new();
         let answer = source.process_events(
             event.readiness,
             event.token,
             &mut self.poll,
             data,
-            &mut requests,
+            &mut self.requests,
         );
+        self.poll.end_event();
+        self.serve_all();
         self.end_turn(token, source, answer)
     }
 
@@ -103,7 +115,7 @@ impl<D: EventDispatcher<P, C, R>, P: Poller, C: Clock, R: Wait + Drop> EventLoop
         source: D,
         answer: Result<PostAction>,
     ) -> Result<bool>
-        ensures machine { (x : D.Data) → Goes D.means P.outside (Ending token source answer x) (after_hand_out result x) (view_of self.old) (view_of self.new) }
+        ensures machine { (x : D.Data) → Goes D.means D.Idle.runs P.outside (Ending token source answer x) (after_hand_out result x) (view_of self.old) (view_of self.new) }
         ensures batch { self.new.poll.batch.events ≡ self.old.poll.batch.events }
     {
         let mut source = source;
@@ -116,9 +128,9 @@ impl<D: EventDispatcher<P, C, R>, P: Poller, C: Clock, R: Wait + Drop> EventLoop
     }
 
     // Puts a source back into its slot. One whose slot isn't in its turn any more is unregistered and dropped; a failure of
-    // that is a warning.
+    // that is a warning. It is handed back where it asked for its own removal.
     fn give_back(&mut self, token: RegistrationToken, source: D)
-        ensures machine { (told : Outcome) (x : D.Data) → Goes D.means P.outside (Returning token source told x) (after_turn told x) (view_of self.old) (view_of self.new) }
+        ensures machine { (told : Outcome) (x : D.Data) → Goes D.means D.Idle.runs P.outside (Returning token source told x) (after_turn told x) (view_of self.old) (view_of self.new) }
         ensures batch { self.new.poll.batch.events ≡ self.old.poll.batch.events }
     {
         let Some(mut left) = self.sources.end_turn(token, source) else {
@@ -126,6 +138,7 @@ impl<D: EventDispatcher<P, C, R>, P: Poller, C: Clock, R: Wait + Drop> EventLoop
         };
         let told = self.unregister(token, &mut left);
         self.warnings.note(told);
+        self.requests.pay(Answer::Removed(Some(left)));
     }
 
     // The post action of a turn; after an error there is none. `Remove` empties the source's slot.
@@ -135,11 +148,12 @@ impl<D: EventDispatcher<P, C, R>, P: Poller, C: Clock, R: Wait + Drop> EventLoop
         source: &mut D,
         answer: Result<PostAction>,
     ) -> Result<()>
-        ensures machine { (x : D.Data) → Goes D.means P.outside (Ending token source.old answer x) (Returning token source.new result x) (view_of self.old) (view_of self.new) }
+        ensures machine { (x : D.Data) → Goes D.means D.Idle.runs P.outside (Ending token source.old answer x) (Returning token source.new result x) (view_of self.old) (view_of self.new) }
         ensures batch { self.new.poll.batch.events ≡ self.old.poll.batch.events }
     {
-        self.poll.end_event();
-        match answer {
+        let action = action_of(answer, self.pending);
+        self.pending = PostAction::Continue;
+        match action {
             Ok(PostAction::Continue) => Ok(()),
             Ok(PostAction::Reregister) => self.reregister(token, source),
             Ok(PostAction::Disable) => self.unregister(token, source),
@@ -152,9 +166,39 @@ impl<D: EventDispatcher<P, C, R>, P: Poller, C: Clock, R: Wait + Drop> EventLoop
     }
 
     fn hand_out_all(&mut self, data: &mut D::Data) -> Result<()>
-        ensures { Goes D.means P.outside (Cutting «data».old) (Leaving result «data».new) (view_of self.old) (view_of self.new) }
+        ensures { Goes D.means D.Idle.runs P.outside (Cutting «data».old) (after_batch result «data».new) (view_of self.old) (view_of self.new) }
     {
         'batch: while self.hand_out(data)? {}
         Ok(())
+    }
+
+    // Runs the first of the idles that were taken, and carries out what it asked for. False where there is none.
+    fn run_idle(&mut self, data: &mut D::Data) -> bool
+        ensures machine { Goes D.means D.Idle.runs P.outside (RunningIdles «data».old) (after_idle result «data».new) (view_of self.old) (view_of self.new) }
+        ensures fewer { result ≡ true → length self.new.requests.running < length self.old.requests.running }
+    {
+        let Some(idle) = self.requests.next_idle() else {
+            return false;
+        };
+        idle.run(data, &mut self.requests);
+        self.serve_all();
+        true
+    }
+
+    fn run_idles(&mut self, data: &mut D::Data)
+        ensures { Goes D.means D.Idle.runs P.outside (Idling «data».old) (Leaving (Ok tt) «data».new) (view_of self.old) (view_of self.new) }
+    {
+        self.requests.take_up_idles();
+        'round: while self.run_idle(data) {}
+    }
+}
+
+// What is done at the end of a turn: what a source asked for itself counts only beside `Continue`.
+fn action_of(answer: Result<PostAction>, pending: PostAction) -> Result<PostAction>
+    ensures { result ≡ action_of answer pending }
+{
+    match answer {
+        Ok(PostAction::Continue) => Ok(pending),
+        other => other,
     }
 }

@@ -8,12 +8,13 @@ ghost use Rattle.std.specs.Prelude.{[]};
 ghost use mir.Syntax.{named};
 ghost use Rattle.calloop.specs.contracts.loop_logic.LoopHandle.{the_row};
 ghost use Rattle.calloop.specs.Lending.{with_handle_poller, with_handle_source};
-ghost use Rattle.calloop.specs.declared.loop_logic.LoopCall.TheVariants.{Insert, Enable, Update, Disable, Remove};
-ghost use Rattle.calloop.specs.declared.loop_logic.LoopAnswer.TheVariants.{Inserted, Enabled, Updated, Disabled, Removed};
+ghost use Rattle.calloop.specs.declared.loop_logic.LoopCall.TheVariants.{Insert, Enable, Update, Disable, Remove, InsertIdle, Cancel, Answer as AnswerOf};
+ghost use Rattle.calloop.specs.declared.loop_logic.LoopAnswer.TheVariants.{Inserted, Enabled, Updated, Disabled, Removed, IdleInserted, Cancelled, Answered};
 ghost use Rattle.calloop.specs.Machine.{view_of};
 ghost use Rattle.calloop.specs.Rules.{Case, Did, Leads, held_answer};
 
-use super::{EventDispatcher, EventLoop, LoopHandle, Requests};
+use super::asks::{Answer, Idle, Requests, Ticket};
+use super::{EventDispatcher, EventLoop, LoopHandle};
 use calloop_core::sources::{Callback, Dispatcher, EventSource, Hold};
 use calloop_core::sys::{Clock, Poller};
 use calloop_wake::error::{Error, InsertError, Result};
@@ -28,10 +29,10 @@ impl<D: EventDispatcher<P, C, R>, P: Poller, C: Clock, R: Wait + Drop> EventLoop
         callback: F,
     ) -> std::result::Result<RegistrationToken, InsertError<S>>
     where
-        D: Hold<S, F, P, C, R, D::Data, Requests<D>, N>,
+        D: Hold<S, F, P, C, R, D::Data, Requests<D, D::Idle>, N>,
         S: EventSource<P, C, R>,
-        F: Callback<S::Event, S::Metadata, S::Ret, D::Data, Requests<D>> + Drop,
-        ensures { Did (Case D.means P.outside (Insert (D.held (record { source = source; callback = callback }))) (Inserted (held_answer D.held callback result))) (view_of self.old) (view_of self.new) }
+        F: Callback<S::Event, S::Metadata, S::Ret, D::Data, Requests<D, D::Idle>> + Drop,
+        ensures { Did (Case D.means D.Idle.runs P.outside (Insert (D.held (record { source = source; callback = callback }))) (Inserted (held_answer D.held callback result))) (view_of self.old) (view_of self.new) }
     {
         let mut source = source;
         let needed = <S as EventSource<P, C, R>>::needs_extra_lifecycle_events();
@@ -67,7 +68,7 @@ impl<D: EventDispatcher<P, C, R>, P: Poller, C: Clock, R: Wait + Drop> EventLoop
         &mut self,
         dispatcher: D,
     ) -> std::result::Result<RegistrationToken, InsertError<D>>
-        ensures { Did (Case D.means P.outside (Insert dispatcher) (Inserted result)) (view_of self.old) (view_of self.new) }
+        ensures { Did (Case D.means D.Idle.runs P.outside (Insert dispatcher) (Inserted result)) (view_of self.old) (view_of self.new) }
     {
         let mut inserted = dispatcher;
         let needed = inserted.needs_extra_lifecycle_events();
@@ -91,7 +92,7 @@ impl<D: EventDispatcher<P, C, R>, P: Poller, C: Clock, R: Wait + Drop> EventLoop
 
     // Registers the source that the token names.
     pub(super) fn enable(&mut self, token: RegistrationToken) -> Result<()>
-        ensures { Did (Case D.means P.outside (Enable token) (Enabled result)) (view_of self.old) (view_of self.new) }
+        ensures { Did (Case D.means D.Idle.runs P.outside (Enable token) (Enabled result)) (view_of self.old) (view_of self.new) }
     {
         let Some(mut source) = self.sources.begin_turn(token) else {
             return Err(Error::InvalidToken);
@@ -103,7 +104,7 @@ impl<D: EventDispatcher<P, C, R>, P: Poller, C: Clock, R: Wait + Drop> EventLoop
 
     // Registers the source that the token names anew.
     pub(super) fn update(&mut self, token: RegistrationToken) -> Result<()>
-        ensures { Did (Case D.means P.outside (Update token) (Updated result)) (view_of self.old) (view_of self.new) }
+        ensures { Did (Case D.means D.Idle.runs P.outside (Update token) (Updated result)) (view_of self.old) (view_of self.new) }
     {
         let Some(mut source) = self.sources.begin_turn(token) else {
             return Err(Error::InvalidToken);
@@ -115,7 +116,7 @@ impl<D: EventDispatcher<P, C, R>, P: Poller, C: Clock, R: Wait + Drop> EventLoop
 
     // Takes back the registration of the source that the token names.
     pub(super) fn disable(&mut self, token: RegistrationToken) -> Result<()>
-        ensures { Did (Case D.means P.outside (Disable token) (Disabled result)) (view_of self.old) (view_of self.new) }
+        ensures { Did (Case D.means D.Idle.runs P.outside (Disable token) (Disabled result)) (view_of self.old) (view_of self.new) }
     {
         let Some(mut source) = self.sources.begin_turn(token) else {
             return Err(Error::InvalidToken);
@@ -127,13 +128,23 @@ impl<D: EventDispatcher<P, C, R>, P: Poller, C: Clock, R: Wait + Drop> EventLoop
 
     // Takes the source that the token names out of the loop. A failure of the unregistration is a warning.
     pub(super) fn remove(&mut self, token: RegistrationToken) -> Option<D>
-        ensures { Did (Case D.means P.outside (Remove token) (Removed result)) (view_of self.old) (view_of self.new) }
+        ensures { Did (Case D.means D.Idle.runs P.outside (Remove token) (Removed result)) (view_of self.old) (view_of self.new) }
     {
         let mut source = self.sources.begin_turn(token)?;
         self.sources.vacate(token);
         let told = self.unregister(token, &mut source);
         self.warnings.note(told);
         Some(source)
+    }
+
+    // Puts an idle at the end.
+    pub(super) fn insert_idle(
+        &mut self,
+        idle: D::Idle,
+    ) -> std::result::Result<Idle, InsertError<D::Idle>>
+        ensures { Did (Case D.means D.Idle.runs P.outside (InsertIdle idle) (IdleInserted result)) (view_of self.old) (view_of self.new) }
+    {
+        self.requests.add_idle(idle)
     }
 }
 
@@ -148,12 +159,12 @@ impl<D: EventDispatcher<P, C, R>, P: Poller, C: Clock, R: Wait + Drop> LoopHandl
         callback: F,
     ) -> std::result::Result<RegistrationToken, InsertError<S>>
     where
-        D: Hold<S, F, P, C, R, D::Data, Requests<D>, N>,
+        D: Hold<S, F, P, C, R, D::Data, Requests<D, D::Idle>, N>,
         S: EventSource<P, C, R>,
-        F: Callback<S::Event, S::Metadata, S::Ret, D::Data, Requests<D>> + Drop,
+        F: Callback<S::Event, S::Metadata, S::Ret, D::Data, Requests<D, D::Idle>> + Drop,
         ensures same { self.new.inner.ghost_name ≡ self.old.inner.ghost_name }
-        ensures case { Did (Case D.means P.outside (Insert (D.held (record { source = source; callback = callback }))) (Inserted (held_answer D.held callback result))) (view_of self.old.inner.now) (view_of self.new.inner.now) }
-        ensures machine { Leads (Case D.means P.outside (Insert (D.held (record { source = source; callback = callback }))) (Inserted (held_answer D.held callback result))) (view_of self.old.inner.now) (view_of self.new.inner.now) }
+        ensures case { Did (Case D.means D.Idle.runs P.outside (Insert (D.held (record { source = source; callback = callback }))) (Inserted (held_answer D.held callback result))) (view_of self.old.inner.now) (view_of self.new.inner.now) }
+        ensures machine { Leads (Case D.means D.Idle.runs P.outside (Insert (D.held (record { source = source; callback = callback }))) (Inserted (held_answer D.held callback result))) (view_of self.old.inner.now) (view_of self.new.inner.now) }
     {
         self.inner.insert_source(source, callback)
     }
@@ -165,8 +176,8 @@ impl<D: EventDispatcher<P, C, R>, P: Poller, C: Clock, R: Wait + Drop> LoopHandl
         dispatcher: D,
     ) -> std::result::Result<RegistrationToken, InsertError<D>>
         ensures same { self.new.inner.ghost_name ≡ self.old.inner.ghost_name }
-        ensures case { Did (Case D.means P.outside (Insert dispatcher) (Inserted result)) (view_of self.old.inner.now) (view_of self.new.inner.now) }
-        ensures machine { Leads (Case D.means P.outside (Insert dispatcher) (Inserted result)) (view_of self.old.inner.now) (view_of self.new.inner.now) }
+        ensures case { Did (Case D.means D.Idle.runs P.outside (Insert dispatcher) (Inserted result)) (view_of self.old.inner.now) (view_of self.new.inner.now) }
+        ensures machine { Leads (Case D.means D.Idle.runs P.outside (Insert dispatcher) (Inserted result)) (view_of self.old.inner.now) (view_of self.new.inner.now) }
     {
         self.inner.insert(dispatcher)
     }
@@ -188,7 +199,7 @@ impl<D: EventDispatcher<P, C, R>, P: Poller, C: Clock, R: Wait + Drop> LoopHandl
     /// before isn't unregistered: that no timer fires twice for one arming, and that a source in a slot has keys of this slot alone,
     /// is promised of loops into which none is put with a counter of a timer, or a key, which the one before didn't have.
     pub fn dispatcher_mut(&mut self, token: &RegistrationToken) -> Result<&mut D>
-        ensures* writes_back { sem 𝓛 (LendsIfOk (the_row (record { mir = named 1; lft = [] }) D.row P.row C.row R.row) D.row self.entry result (λ w. with_handle_source token.now w self.old) self.old) }
+        ensures* writes_back { sem 𝓛 (LendsIfOk (the_row (record { mir = named 1; lft = [] }) D.row P.row C.row R.row D.Data.row D.Idle.row P.Io.row) D.row self.entry result (λ w. with_handle_source token.now w self.old) self.old) }
         ensures ok { IfOk result (λ held. named_by (view_of self.old.inner.now).slots token.now ≡ Source held.now) }
         ensures refuses { IsErr result ↔ (source_of (named_by (view_of self.old.inner.now).slots token.now) ≡ None) }
         ensures err { IfErr result (λ e. e ≡ InvalidToken) }
@@ -202,8 +213,8 @@ impl<D: EventDispatcher<P, C, R>, P: Poller, C: Clock, R: Wait + Drop> LoopHandl
     /// source, which stays in its slot as that left it, also after a refusal.
     pub fn enable(&mut self, token: &RegistrationToken) -> Result<()>
         ensures same { self.new.inner.ghost_name ≡ self.old.inner.ghost_name }
-        ensures case { Did (Case D.means P.outside (Enable token.now) (Enabled result)) (view_of self.old.inner.now) (view_of self.new.inner.now) }
-        ensures machine { Leads (Case D.means P.outside (Enable token.now) (Enabled result)) (view_of self.old.inner.now) (view_of self.new.inner.now) }
+        ensures case { Did (Case D.means D.Idle.runs P.outside (Enable token.now) (Enabled result)) (view_of self.old.inner.now) (view_of self.new.inner.now) }
+        ensures machine { Leads (Case D.means D.Idle.runs P.outside (Enable token.now) (Enabled result)) (view_of self.old.inner.now) (view_of self.new.inner.now) }
     {
         self.inner.enable(*token)
     }
@@ -212,8 +223,8 @@ impl<D: EventDispatcher<P, C, R>, P: Poller, C: Clock, R: Wait + Drop> LoopHandl
     /// `enable`.
     pub fn update(&mut self, token: &RegistrationToken) -> Result<()>
         ensures same { self.new.inner.ghost_name ≡ self.old.inner.ghost_name }
-        ensures case { Did (Case D.means P.outside (Update token.now) (Updated result)) (view_of self.old.inner.now) (view_of self.new.inner.now) }
-        ensures machine { Leads (Case D.means P.outside (Update token.now) (Updated result)) (view_of self.old.inner.now) (view_of self.new.inner.now) }
+        ensures case { Did (Case D.means D.Idle.runs P.outside (Update token.now) (Updated result)) (view_of self.old.inner.now) (view_of self.new.inner.now) }
+        ensures machine { Leads (Case D.means D.Idle.runs P.outside (Update token.now) (Updated result)) (view_of self.old.inner.now) (view_of self.new.inner.now) }
     {
         self.inner.update(*token)
     }
@@ -222,8 +233,8 @@ impl<D: EventDispatcher<P, C, R>, P: Poller, C: Clock, R: Wait + Drop> LoopHandl
     /// again. The answer is as that of `enable`.
     pub fn disable(&mut self, token: &RegistrationToken) -> Result<()>
         ensures same { self.new.inner.ghost_name ≡ self.old.inner.ghost_name }
-        ensures case { Did (Case D.means P.outside (Disable token.now) (Disabled result)) (view_of self.old.inner.now) (view_of self.new.inner.now) }
-        ensures machine { Leads (Case D.means P.outside (Disable token.now) (Disabled result)) (view_of self.old.inner.now) (view_of self.new.inner.now) }
+        ensures case { Did (Case D.means D.Idle.runs P.outside (Disable token.now) (Disabled result)) (view_of self.old.inner.now) (view_of self.new.inner.now) }
+        ensures machine { Leads (Case D.means D.Idle.runs P.outside (Disable token.now) (Disabled result)) (view_of self.old.inner.now) (view_of self.new.inner.now) }
     {
         self.inner.disable(*token)
     }
@@ -234,10 +245,38 @@ impl<D: EventDispatcher<P, C, R>, P: Poller, C: Clock, R: Wait + Drop> LoopHandl
     /// Where the token names no source the answer is `None`, and nothing changes.
     pub fn remove(&mut self, token: RegistrationToken) -> Option<D>
         ensures same { self.new.inner.ghost_name ≡ self.old.inner.ghost_name }
-        ensures case { Did (Case D.means P.outside (Remove token) (Removed result)) (view_of self.old.inner.now) (view_of self.new.inner.now) }
-        ensures machine { Leads (Case D.means P.outside (Remove token) (Removed result)) (view_of self.old.inner.now) (view_of self.new.inner.now) }
+        ensures case { Did (Case D.means D.Idle.runs P.outside (Remove token) (Removed result)) (view_of self.old.inner.now) (view_of self.new.inner.now) }
+        ensures machine { Leads (Case D.means D.Idle.runs P.outside (Remove token) (Removed result)) (view_of self.old.inner.now) (view_of self.new.inner.now) }
     {
         self.inner.remove(token)
+    }
+
+    /// Asks for something to be done once, at the end of the next dispatch. A refusal hands it back: `OutOfMemory`, or `TooManyTickets`
+    /// where 2^64 - 1 tickets were given.
+    pub fn insert_idle(&mut self, idle: D::Idle) -> std::result::Result<Idle, InsertError<D::Idle>>
+        ensures same { self.new.inner.ghost_name ≡ self.old.inner.ghost_name }
+        ensures case { Did (Case D.means D.Idle.runs P.outside (InsertIdle idle) (IdleInserted result)) (view_of self.old.inner.now) (view_of self.new.inner.now) }
+        ensures machine { Leads (Case D.means D.Idle.runs P.outside (InsertIdle idle) (IdleInserted result)) (view_of self.old.inner.now) (view_of self.new.inner.now) }
+    {
+        self.inner.insert_idle(idle)
+    }
+
+    /// Asks for an idle not to be run. One that has run is not undone. calloop has this as `Idle::cancel`.
+    pub fn cancel(&mut self, idle: Idle)
+        ensures same { self.new.inner.ghost_name ≡ self.old.inner.ghost_name }
+        ensures case { Did (Case D.means D.Idle.runs P.outside (Cancel idle) Cancelled) (view_of self.old.inner.now) (view_of self.new.inner.now) }
+        ensures machine { Leads (Case D.means D.Idle.runs P.outside (Cancel idle) Cancelled) (view_of self.old.inner.now) (view_of self.new.inner.now) }
+    {
+        self.inner.requests.take_out_idle(idle.ticket().number());
+    }
+
+    /// What came of the request of this ticket, where it was carried out in the last dispatch. It is handed out once.
+    pub fn answer(&mut self, ticket: Ticket) -> Option<Answer<D>>
+        ensures same { self.new.inner.ghost_name ≡ self.old.inner.ghost_name }
+        ensures case { Did (Case D.means D.Idle.runs P.outside (AnswerOf ticket) (Answered result)) (view_of self.old.inner.now) (view_of self.new.inner.now) }
+        ensures machine { Leads (Case D.means D.Idle.runs P.outside (AnswerOf ticket) (Answered result)) (view_of self.old.inner.now) (view_of self.new.inner.now) }
+    {
+        self.inner.requests.answer(ticket)
     }
 
     /// Why sources that left the loop failed to take their registration back, since the last dispatch began: those that were
@@ -251,7 +290,7 @@ impl<D: EventDispatcher<P, C, R>, P: Poller, C: Clock, R: Wait + Drop> LoopHandl
     /// The poller itself, as to give a scripted one its answers. Pings wake the poller that the loop was made with: another one in
     /// its place hears of them only at its next wait.
     pub fn poller_mut(&mut self) -> &mut P
-        ensures* writes_back { sem 𝓛 (Lends (the_row (record { mir = named 1; lft = [] }) D.row P.row C.row R.row) P.row self.entry result (λ w. with_handle_poller w self.old)) }
+        ensures* writes_back { sem 𝓛 (Lends (the_row (record { mir = named 1; lft = [] }) D.row P.row C.row R.row D.Data.row D.Idle.row P.Io.row) P.row self.entry result (λ w. with_handle_poller w self.old)) }
         ensures value { result.now ≡ self.old.inner.now.poll.poller }
     {
         self.inner.poll.poller_mut()

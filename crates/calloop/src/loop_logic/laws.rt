@@ -5,10 +5,10 @@ ghost use Rattle.calloop.specs.declared.loop_logic.LoopAnswer.{LoopAnswer};
 ghost use Rattle.calloop.specs.Machine.{World, Change, IsNew};
 ghost use Rattle.calloop.specs.Rules.{Run};
 ghost use Rattle.calloop.specs.Homes.{AllAtHome};
-ghost use Rattle.calloop.specs.Laws.{IsSound, IsKept, IsTold, AllFresh, AllBringNoKey, changes_of, GoesRight, NamesLater, StaysGone, OnTime};
+ghost use Rattle.calloop.specs.Laws.{IsSound, IsKept, IsTold, IsTicketed, AllFresh, AllBringNoKey, changes_of, GoesRight, NamesLater, StaysGone, OnTime};
 ghost use Rattle.calloop_core.specs.Polls.{PollView};
 ghost use Rattle.calloop_core.specs.Meanings.{IsKeeping};
-ghost use Rattle.calloop.specs.Wrong.{first_token, first_registration, used, given_up, early, in_two_places, called_twice, called_early, called_from_nowhere, unmoved, arms_elsewhere, used_with_an_old_key};
+ghost use Rattle.calloop.specs.Wrong.{first_token, first_registration, used, given_up, early, in_two_places, called_twice, called_early, called_from_nowhere, unmoved, arms_elsewhere, used_with_an_old_key, answered_twice, one_ticket};
 
 use super::EventDispatcher;
 use calloop_core::sys::{Clock, Poller};
@@ -24,11 +24,15 @@ use std::sync::Wait;
 ///
 /// And from such a state, each registration that is told of waits stands once in their list, and names a slot that isn't vacant;
 /// and each source that stands in a slot is registered under keys of that slot alone, of the version under which it stands there.
+///
+/// And from such a state, each ticket that was given stands over one request or one answer at most, and its answer is handed out
+/// at most once.
 pub fn once<D: EventDispatcher<P, C, R>, P: Poller, C: Clock, R: Wait + Drop>()
-    ensures sound { (calls : List (LoopCall D P D.Data)) (answers : List (LoopAnswer D P D.Data)) (csss : List (List (List (Change D P)))) (w w' : World D P) → Run D.means P.outside calls answers csss w w' → IsSound w (changes_of csss) }
-    ensures armings { (calls : List (LoopCall D P D.Data)) (answers : List (LoopAnswer D P D.Data)) (csss : List (List (List (Change D P)))) (w w' : World D P) → IsNew w → AllFresh D.means (changes_of csss) → Run D.means P.outside calls answers csss w w' → IsKept w'.ledger w'.poll }
-    ensures home { (calls : List (LoopCall D P D.Data)) (answers : List (LoopAnswer D P D.Data)) (csss : List (List (List (Change D P)))) (w w' : World D P) → IsNew w → AllBringNoKey D.means (changes_of csss) → Run D.means P.outside calls answers csss w w' → AllAtHome D.means w' }
-    ensures told { (calls : List (LoopCall D P D.Data)) (answers : List (LoopAnswer D P D.Data)) (csss : List (List (List (Change D P)))) (w w' : World D P) → IsNew w → Run D.means P.outside calls answers csss w w' → IsTold w' }
+    ensures sound { (calls : List (LoopCall D P D.Data D.Idle)) (answers : List (LoopAnswer D P D.Data D.Idle)) (csss : List (List (List (Change D D.Idle P)))) (w w' : World D D.Idle P) → Run D.means D.Idle.runs P.outside calls answers csss w w' → IsSound w (changes_of csss) }
+    ensures armings { (calls : List (LoopCall D P D.Data D.Idle)) (answers : List (LoopAnswer D P D.Data D.Idle)) (csss : List (List (List (Change D D.Idle P)))) (w w' : World D D.Idle P) → IsNew w → AllFresh D.means (changes_of csss) → Run D.means D.Idle.runs P.outside calls answers csss w w' → IsKept w'.ledger w'.poll }
+    ensures home { (calls : List (LoopCall D P D.Data D.Idle)) (answers : List (LoopAnswer D P D.Data D.Idle)) (csss : List (List (List (Change D D.Idle P)))) (w w' : World D D.Idle P) → IsNew w → AllBringNoKey D.means (changes_of csss) → Run D.means D.Idle.runs P.outside calls answers csss w w' → AllAtHome D.means w' }
+    ensures told { (calls : List (LoopCall D P D.Data D.Idle)) (answers : List (LoopAnswer D P D.Data D.Idle)) (csss : List (List (List (Change D D.Idle P)))) (w w' : World D D.Idle P) → IsNew w → Run D.means D.Idle.runs P.outside calls answers csss w w' → IsTold w' }
+    ensures tickets { (calls : List (LoopCall D P D.Data D.Idle)) (answers : List (LoopAnswer D P D.Data D.Idle)) (csss : List (List (List (Change D D.Idle P)))) (w w' : World D D.Idle P) → IsNew w → Run D.means D.Idle.runs P.outside calls answers csss w w' → IsTicketed w' }
 {}
 
 /// Small cases that the laws of `once` rule out: an event that goes to another slot than its token names, to a later
@@ -36,21 +40,23 @@ pub fn once<D: EventDispatcher<P, C, R>, P: Poller, C: Clock, R: Wait + Drop>()
 /// was given up and is there again; an event that was gathered early; an arming in two places; one that is called for twice,
 /// early, or though it was cancelled; a registration that is told of waits twice, or after its slot was given up; a source that
 /// has a key of an earlier use of its slot, one that keeps its key where it is registered under another, and one that arms a deadline
-/// under a token of another registration.
+/// under a token of another registration; two answers under one ticket, and an answer that was handed out twice.
 pub fn wrong_runs_are_ruled_out()
     ensures wrong_slot { ¬ GoesRight (used 0 ∷ used 0 ∷ []) first_token (Some 1) }
     ensures later_registration { ¬ GoesRight (used 1 ∷ []) first_token (Some 0) }
     ensures lost_event { ¬ GoesRight (used 0 ∷ []) first_token None }
-    ensures earlier_registration { (w w' : World (Unit {0}) (Unit {0})) → w.slots ≡ used 65536 ∷ [] → w'.slots ≡ used 0 ∷ [] → ¬ NamesLater w w' }
-    ensures there_again { (w w' : World (Unit {0}) (Unit {0})) → w.slots ≡ given_up 0 ∷ [] → w'.slots ≡ used 0 ∷ [] → ¬ StaysGone w w' }
+    ensures earlier_registration { (w w' : World (Unit {0}) (Unit {0}) (Unit {0})) → w.slots ≡ used 65536 ∷ [] → w'.slots ≡ used 0 ∷ [] → ¬ NamesLater w w' }
+    ensures there_again { (w w' : World (Unit {0}) (Unit {0}) (Unit {0})) → w.slots ≡ given_up 0 ∷ [] → w'.slots ≡ used 0 ∷ [] → ¬ StaysGone w w' }
     ensures early_event { ¬ OnTime early }
     ensures two_places { (v : PollView (Unit {0})) → ¬ IsKept in_two_places v }
     ensures two_calls { (v : PollView (Unit {0})) → ¬ IsKept called_twice v }
     ensures early_call { (v : PollView (Unit {0})) → ¬ IsKept called_early v }
-    ensures told_twice { (w : World (Unit {0}) (Unit {0})) → w.held.lifecycle ≡ first_registration ∷ first_registration ∷ [] → ¬ IsTold w }
-    ensures told_when_gone { (w : World (Unit {0}) (Unit {0})) → w.held.lifecycle ≡ first_registration ∷ [] → w.slots ≡ given_up 0 ∷ [] → ¬ IsTold w }
-    ensures old_key { (w : World ℕ (Unit {0})) → w.slots ≡ used_with_an_old_key ∷ [] → ¬ AllAtHome unmoved w }
+    ensures told_twice { (w : World (Unit {0}) (Unit {0}) (Unit {0})) → w.held.lifecycle ≡ first_registration ∷ first_registration ∷ [] → ¬ IsTold w }
+    ensures told_when_gone { (w : World (Unit {0}) (Unit {0}) (Unit {0})) → w.held.lifecycle ≡ first_registration ∷ [] → w.slots ≡ given_up 0 ∷ [] → ¬ IsTold w }
+    ensures old_key { (w : World ℕ (Unit {0}) (Unit {0})) → w.slots ≡ used_with_an_old_key ∷ [] → ¬ AllAtHome unmoved w }
     ensures kept_key { (v : PollView (Unit {0})) → ¬ IsKeeping unmoved }
     ensures armed_elsewhere { (v : PollView (Unit {0})) → ¬ IsKeeping arms_elsewhere }
+    ensures answered_twice { (w : World (Unit {0}) (Unit {0}) (Unit {0})) → w.held.asks ≡ answered_twice → ¬ IsTicketed w }
+    ensures handed_out_twice { (w : World (Unit {0}) (Unit {0}) (Unit {0})) → w.held.asks ≡ one_ticket → w.handed ≡ 0 ∷ 0 ∷ [] → ¬ IsTicketed w }
     ensures call_from_nowhere { (v : PollView (Unit {0})) → ¬ IsKept called_from_nowhere v }
 {}

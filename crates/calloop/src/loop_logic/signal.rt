@@ -77,7 +77,7 @@ impl Clone for LoopSignal {
     }
 }
 
-impl<D, P, C, R: Wait + Drop> EventLoop<D, P, C, R> {
+impl<D: EventDispatcher<P, C, R>, P: Poller, C: Clock, R: Wait + Drop> EventLoop<D, P, C, R> {
     /// A signal of this loop, which stops its runs and ends its waits. At 2^63 of them it is `OutOfMemory`.
     pub fn get_signal(&self) -> Result<LoopSignal>
         ensures ok { IfOk result (λ signal. arc_value signal.shared ≡ arc_value self.now.signal.shared) }
@@ -101,7 +101,7 @@ impl<D: EventDispatcher<P, C, R>, P: Poller, C: Clock, R: Wait + Drop> EventLoop
         callback: F,
     ) -> Result<()>
         requires { F.IsAlwaysCallable callback }
-        ensures { RunsTo D.means P.outside (CalledAtMut F.FnMut) timeout callback «data».old (view_of self.old) result «data».new (view_of self.new) }
+        ensures { RunsTo D.means D.Idle.runs P.outside (CalledAtMut F.FnMut) timeout callback «data».old (view_of self.old) result «data».new (view_of self.new) }
     {
         let mut callback = callback;
         self.signal.clear_stop();

@@ -11,6 +11,7 @@ ghost use Rattle.calloop_core.specs.Polls.{CannotOpen};
 
 use super::notifier::Notifier;
 use calloop_wake::error::{Error, Result};
+use calloop_wake::steps::Steps;
 use calloop_wake::token::Token;
 use calloop_wake::wake::board::OpenRefusal;
 use calloop_wake::wake::locked::Locked;
@@ -143,7 +144,7 @@ impl Hub {
         ensures capacity { deque_capacity passes.new ≡ deque_capacity passes.old }
     {
         let (gate, mut board) = self.board.lock(rt);
-        board.unpost(room, watch, passes);
+        board.unpost(room, watch, passes, &mut Steps::new());
         self.board.unlock(rt, gate, board);
     }
 }

@@ -14,6 +14,8 @@ fn what_is_of_no_source_becomes_another_failure(rt: HostRuntime) {
         Error::TooManySources,
         Error::TooManyTokens,
         Error::TooManyTimers,
+        Error::TooManyTickets,
+        Error::OwnTurn,
     ];
     for refusal in of_the_loop {
         assert!(rt; is_other(refusal.into_error()));

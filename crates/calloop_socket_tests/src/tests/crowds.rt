@@ -1,5 +1,5 @@
 //! Many sockets, no more of them, and many rings.
-use super::square::{Square, refuses_a_poller};
+use super::square::{Scene, Square, plays, with_a_ping};
 use calloop::ping::Ping;
 use calloop::{Interest, Mode};
 use calloop_core::sys::system::MioIo;
@@ -10,52 +10,77 @@ use std::process::Abort;
 use std::sync::Wait;
 use std::test::Fail;
 use std::thread;
-use std::time::{Clock as MachineClock, Duration};
+use std::thread::{JoinHandle, Threads};
+use std::time::Duration;
 
 #[test]
 fn a_wait_tells_of_1024_sockets_and_the_next_of_the_last(rt: HostRuntime) {
-    for count in [1024usize, 1025] {
-        let mut square = Square::new(&rt, rt.alloc());
-        // Fewer where the machine gives no more descriptors.
-        let peers = crowd(&rt, rt.alloc(), &mut square, count);
-        let there = peers.len();
-        assert_eq!(rt; square.writable(), there.min(1024));
-        assert_eq!(rt; square.writable(), there.saturating_sub(1024));
-        assert_eq!(rt; square.writable(), 0);
+    plays::<AWaitTellsOf1024SocketsAndTheNextOfTheLast, _>(&rt, rt.alloc());
+}
+
+struct AWaitTellsOf1024SocketsAndTheNextOfTheLast;
+
+impl Scene for AWaitTellsOf1024SocketsAndTheNextOfTheLast {
+    fn play<R: Net + Abort, S: Square<R> + Drop>(rt: &R, alloc: Global) {
+        for count in [1024usize, 1025] {
+            let mut square = S::new(rt, alloc);
+            // Fewer where the machine gives no more descriptors.
+            let peers = crowd(rt, alloc, &mut square, count);
+            let there = peers.len();
+            assert_eq!(rt; square.writable(), there.min(1024));
+            assert_eq!(rt; square.writable(), there.saturating_sub(1024));
+            assert_eq!(rt; square.writable(), 0);
+        }
     }
 }
 
 #[test]
 fn without_descriptors_a_poller_is_refused_and_a_loop_goes_on(rt: HostRuntime) {
-    let mut square = Square::new(&rt, rt.alloc());
-    let (_, mut peer) = square.stream(Mode::Level);
-    let pairs = many_pairs(&rt, rt.alloc());
-    // A machine may give more descriptors than these take.
-    let is_over = UnixStream::pair(&rt).is_err();
-    assert!(rt; is_over || pairs.len() == MANY);
-    assert_eq!(rt; refuses_a_poller(&rt, rt.alloc()), is_over);
-    assert!(rt; std::io::Write::write_all(&mut peer, &[8]).is_ok());
-    assert!(rt; square.says(&[8]));
-    drop(pairs);
-    assert!(rt; UnixStream::pair(&rt).is_ok());
-    assert!(rt; !refuses_a_poller(&rt, rt.alloc()));
+    plays::<WithoutDescriptorsAPollerIsRefusedAndALoopGoesOn, _>(&rt, rt.alloc());
+}
+
+struct WithoutDescriptorsAPollerIsRefusedAndALoopGoesOn;
+
+impl Scene for WithoutDescriptorsAPollerIsRefusedAndALoopGoesOn {
+    fn play<R: Net + Abort, S: Square<R> + Drop>(rt: &R, alloc: Global) {
+        let mut square = S::new(rt, alloc);
+        let (_, mut peer) = square.stream(Mode::Level);
+        let pairs = many_pairs(rt, alloc);
+        // A machine may give more descriptors than these take.
+        let is_over = UnixStream::pair(rt).is_err();
+        assert!(rt; is_over || pairs.len() == MANY);
+        assert_eq!(rt; square.refuses_a_poller(), is_over);
+        assert!(rt; std::io::Write::write_all(&mut peer, &[8]).is_ok());
+        assert!(rt; square.says(&[8]));
+        drop(pairs);
+        assert!(rt; UnixStream::pair(rt).is_ok());
+        assert!(rt; !square.refuses_a_poller());
+    }
 }
 
 #[test]
 fn ten_thousand_rings_of_a_thread_leave_nothing_standing(rt: HostRuntime) -> Result<(), Fail> {
-    let mut square = Square::new(&rt, rt.alloc());
-    let bell = square.ping(1);
+    let (square, bell) = with_a_ping(&rt, rt.alloc());
     let rings = bell.clone().expect(&rt, "a ping");
     let child = thread::spawn(&rt, move || rings_often(&rings))?;
+    hears_all(&rt, square, child);
+    Ok(())
+}
+
+// The callbacks are called at least once and at most ten thousand times by the end of the thread, and then no more.
+fn hears_all<R: Threads + Abort, S: Square<R> + Drop>(
+    rt: &R,
+    mut square: S,
+    child: JoinHandle<bool>,
+) {
     let mut calls = 0usize;
     for _ in 0..100u32 {
         calls = calls.saturating_add(square.dispatch(Duration::from_millis(1)).1.len());
     }
-    assert!(rt; child.join(&rt));
+    assert!(rt; child.join(rt));
     calls = calls.saturating_add(square.dispatch(Duration::ZERO).1.len());
     assert!(rt; calls >= 1 && calls <= 10_000);
     assert!(rt; square.says(&[]));
-    Ok(())
 }
 
 fn rings_often<R: Wait + Drop>(bell: &Ping<R>) -> bool {
@@ -66,10 +91,10 @@ fn rings_often<R: Wait + Drop>(bell: &Ping<R>) -> bool {
 }
 
 // Of so many streams of the loop, as far as there are descriptors, each of which can be written to, the peers.
-fn crowd<R: Net + MachineClock + Wait + Clone + Drop + Abort>(
+fn crowd<R: Net + Abort, S: Square<R>>(
     rt: &R,
     alloc: Global,
-    square: &mut Square<R>,
+    square: &mut S,
     count: usize,
 ) -> Vec<UnixStream> {
     let mut peers = Vec::with_capacity(alloc, count).expect(rt, "room");

@@ -1,9 +1,10 @@
 //! Streams of the machine, and what their peers do.
-use super::square::Square;
+use super::square::{Scene, Square, plays};
 use crate::visitor::{CONNECTED, END, WRITABLE};
 use calloop::{Error, Interest, Mode, RegistrationToken};
 use calloop_core::sys::system::MioIo;
 use mio::net::{TcpListener, TcpStream};
+use std::alloc::Global;
 use std::io::Write;
 use std::net::{Ipv4Addr, Net, Shutdown, SocketAddr};
 use std::process::Abort;
@@ -11,115 +12,179 @@ use std::time::Duration;
 
 #[test]
 fn bytes_of_a_peer_are_read(rt: HostRuntime) {
-    let mut square = Square::new(&rt, rt.alloc());
-    let (_, mut peer) = square.stream(Mode::Level);
-    assert!(rt; square.says(&[]));
-    assert!(rt; peer.write_all(&[1, 2, 3, 4, 5, 6]).is_ok());
-    assert!(rt; square.hears(&[1, 2, 3, 4, 5, 6]));
-    assert!(rt; square.says(&[]));
+    plays::<BytesOfAPeerAreRead, _>(&rt, rt.alloc());
+}
+
+struct BytesOfAPeerAreRead;
+
+impl Scene for BytesOfAPeerAreRead {
+    fn play<R: Net + Abort, S: Square<R> + Drop>(rt: &R, alloc: Global) {
+        let mut square = S::new(rt, alloc);
+        let (_, mut peer) = square.stream(Mode::Level);
+        assert!(rt; square.says(&[]));
+        assert!(rt; peer.write_all(&[1, 2, 3, 4, 5, 6]).is_ok());
+        assert!(rt; square.hears(&[1, 2, 3, 4, 5, 6]));
+        assert!(rt; square.says(&[]));
+    }
 }
 
 #[test]
 fn level_hears_again_of_what_it_left_and_edge_does_not(rt: HostRuntime) {
-    for (mode, rest) in [
-        (Mode::Level, [9, 10].as_slice()),
-        (Mode::Edge, [].as_slice()),
-    ] {
-        let mut square = Square::new(&rt, rt.alloc());
-        let (_, mut peer) = square.stream(mode);
-        assert!(rt; peer.write_all(&[1, 2, 3, 4, 5, 6, 7, 8, 9, 10]).is_ok());
-        assert!(rt; square.says(&[1, 2, 3, 4, 5, 6, 7, 8]));
-        assert!(rt; square.says(rest));
-        assert!(rt; square.says(&[]));
+    plays::<LevelHearsAgainOfWhatItLeftAndEdgeDoesNot, _>(&rt, rt.alloc());
+}
+
+struct LevelHearsAgainOfWhatItLeftAndEdgeDoesNot;
+
+impl Scene for LevelHearsAgainOfWhatItLeftAndEdgeDoesNot {
+    fn play<R: Net + Abort, S: Square<R> + Drop>(rt: &R, alloc: Global) {
+        for (mode, rest) in [
+            (Mode::Level, [9, 10].as_slice()),
+            (Mode::Edge, [].as_slice()),
+        ] {
+            let mut square = S::new(rt, alloc);
+            let (_, mut peer) = square.stream(mode);
+            assert!(rt; peer.write_all(&[1, 2, 3, 4, 5, 6, 7, 8, 9, 10]).is_ok());
+            assert!(rt; square.says(&[1, 2, 3, 4, 5, 6, 7, 8]));
+            assert!(rt; square.says(rest));
+            assert!(rt; square.says(&[]));
+        }
     }
 }
 
 #[test]
 fn a_stream_is_heard_of_as_its_interest_asks(rt: HostRuntime) {
-    let mut square = Square::new(&rt, rt.alloc());
-    let (token, mut peer) = square.stream(Mode::Level);
-    assert!(rt; peer.write_all(&[1, 2, 3]).is_ok());
-    assert!(rt; square.says(&[1, 2, 3]));
-    assert!(rt; square.updates(token, Interest::WRITE));
-    assert!(rt; square.says(&[WRITABLE]) && square.says(&[WRITABLE]));
-    assert!(rt; square.updates(token, Interest::READ));
-    assert!(rt; square.says(&[]));
+    plays::<AStreamIsHeardOfAsItsInterestAsks, _>(&rt, rt.alloc());
 }
 
-#[test]
-fn a_stream_that_was_taken_out_is_heard_again_once_inserted(rt: HostRuntime) {
-    let mut square = Square::new(&rt, rt.alloc());
-    let (token, mut peer) = square.stream(Mode::Level);
-    assert!(rt; square.says(&[]));
-    let io = square.takes_out(token).expect(&rt, "a socket");
-    assert!(rt; peer.write_all(&[4]).is_ok());
-    assert!(rt; square.says(&[]));
-    let again = square.insert(io, Interest::READ, Mode::Level);
-    assert_eq!(rt; again, RegistrationToken::new(0, 1));
-    assert!(rt; square.says(&[4]));
-}
+struct AStreamIsHeardOfAsItsInterestAsks;
 
-#[test]
-fn a_peer_that_closes_is_an_end_behind_its_last_bytes(rt: HostRuntime) {
-    let mut square = Square::new(&rt, rt.alloc());
-    let (token, mut peer) = square.stream(Mode::Level);
-    assert!(rt; peer.write_all(&[7]).is_ok());
-    drop(peer);
-    assert!(rt; square.says(&[7]));
-    assert!(rt; square.says(&[END]));
-    assert!(rt; square.takes_out(token).is_none());
-    assert!(rt; square.says(&[]));
-}
-
-#[test]
-fn a_peer_that_closes_by_half_is_an_end(rt: HostRuntime) {
-    for mode in [Mode::Level, Mode::OneShot, Mode::Edge] {
-        let mut square = Square::new(&rt, rt.alloc());
-        let (token, peer) = square.stream(mode);
-        assert!(rt; peer.shutdown(Shutdown::Write).is_ok());
-        assert!(rt; square.says(&[END]));
-        assert!(rt; square.takes_out(token).is_none());
-        drop(peer);
+impl Scene for AStreamIsHeardOfAsItsInterestAsks {
+    fn play<R: Net + Abort, S: Square<R> + Drop>(rt: &R, alloc: Global) {
+        let mut square = S::new(rt, alloc);
+        let (token, mut peer) = square.stream(Mode::Level);
+        assert!(rt; peer.write_all(&[1, 2, 3]).is_ok());
+        assert!(rt; square.says(&[1, 2, 3]));
+        assert!(rt; square.updates(token, Interest::WRITE));
+        assert!(rt; square.says(&[WRITABLE]) && square.says(&[WRITABLE]));
+        assert!(rt; square.updates(token, Interest::READ));
         assert!(rt; square.says(&[]));
     }
 }
 
 #[test]
+fn a_stream_that_was_taken_out_is_heard_again_once_inserted(rt: HostRuntime) {
+    plays::<AStreamThatWasTakenOutIsHeardAgainOnceInserted, _>(&rt, rt.alloc());
+}
+
+struct AStreamThatWasTakenOutIsHeardAgainOnceInserted;
+
+impl Scene for AStreamThatWasTakenOutIsHeardAgainOnceInserted {
+    fn play<R: Net + Abort, S: Square<R> + Drop>(rt: &R, alloc: Global) {
+        let mut square = S::new(rt, alloc);
+        let (token, mut peer) = square.stream(Mode::Level);
+        assert!(rt; square.says(&[]));
+        let io = square.takes_out(token).expect(rt, "a socket");
+        assert!(rt; peer.write_all(&[4]).is_ok());
+        assert!(rt; square.says(&[]));
+        let again = square.insert(io, Interest::READ, Mode::Level);
+        assert_eq!(rt; again, RegistrationToken::new(0, 1));
+        assert!(rt; square.says(&[4]));
+    }
+}
+
+#[test]
+fn a_peer_that_closes_is_an_end_behind_its_last_bytes(rt: HostRuntime) {
+    plays::<APeerThatClosesIsAnEndBehindItsLastBytes, _>(&rt, rt.alloc());
+}
+
+struct APeerThatClosesIsAnEndBehindItsLastBytes;
+
+impl Scene for APeerThatClosesIsAnEndBehindItsLastBytes {
+    fn play<R: Net + Abort, S: Square<R> + Drop>(rt: &R, alloc: Global) {
+        let mut square = S::new(rt, alloc);
+        let (token, mut peer) = square.stream(Mode::Level);
+        assert!(rt; peer.write_all(&[7]).is_ok());
+        drop(peer);
+        assert!(rt; square.says(&[7]));
+        assert!(rt; square.says(&[END]));
+        assert!(rt; square.takes_out(token).is_none());
+        assert!(rt; square.says(&[]));
+    }
+}
+
+#[test]
+fn a_peer_that_closes_by_half_is_an_end(rt: HostRuntime) {
+    plays::<APeerThatClosesByHalfIsAnEnd, _>(&rt, rt.alloc());
+}
+
+struct APeerThatClosesByHalfIsAnEnd;
+
+impl Scene for APeerThatClosesByHalfIsAnEnd {
+    fn play<R: Net + Abort, S: Square<R> + Drop>(rt: &R, alloc: Global) {
+        for mode in [Mode::Level, Mode::OneShot, Mode::Edge] {
+            let mut square = S::new(rt, alloc);
+            let (token, peer) = square.stream(mode);
+            assert!(rt; peer.shutdown(Shutdown::Write).is_ok());
+            assert!(rt; square.says(&[END]));
+            assert!(rt; square.takes_out(token).is_none());
+            drop(peer);
+            assert!(rt; square.says(&[]));
+        }
+    }
+}
+
+#[test]
 fn a_peer_that_resets_is_an_error_that_keeps_the_rest(rt: HostRuntime) {
-    let mut square = Square::new(&rt, rt.alloc());
-    let (mut near, far) = connected(&rt);
-    assert!(rt; near.write_all(&[1]).is_ok());
-    let token = square.insert(MioIo::from(near), Interest::READ, Mode::Level);
-    let (_, mut other) = square.stream(Mode::Level);
-    assert!(rt; other.write_all(&[5]).is_ok());
-    drop(far);
-    let (answer, said) = square.dispatch(Duration::from_millis(10));
-    assert!(rt; matches!(answer, Err(Error::OtherError(_))));
-    let (rest, later) = square.dispatch(Duration::ZERO);
-    assert!(rt; rest.is_ok());
-    assert!(rt; said.len().saturating_add(later.len()) == 1);
-    assert!(rt; square.takes_out(token).is_some());
+    plays::<APeerThatResetsIsAnErrorThatKeepsTheRest, _>(&rt, rt.alloc());
+}
+
+struct APeerThatResetsIsAnErrorThatKeepsTheRest;
+
+impl Scene for APeerThatResetsIsAnErrorThatKeepsTheRest {
+    fn play<R: Net + Abort, S: Square<R> + Drop>(rt: &R, alloc: Global) {
+        let mut square = S::new(rt, alloc);
+        let (mut near, far) = connected(rt);
+        assert!(rt; near.write_all(&[1]).is_ok());
+        let token = square.insert(MioIo::from(near), Interest::READ, Mode::Level);
+        let (_, mut other) = square.stream(Mode::Level);
+        assert!(rt; other.write_all(&[5]).is_ok());
+        drop(far);
+        let (answer, said) = square.dispatch(Duration::from_millis(10));
+        assert!(rt; matches!(answer, Err(Error::OtherError(_))));
+        let (rest, later) = square.dispatch(Duration::ZERO);
+        assert!(rt; rest.is_ok());
+        assert!(rt; said.len().saturating_add(later.len()) == 1);
+        assert!(rt; square.takes_out(token).is_some());
+    }
 }
 
 #[test]
 fn a_listener_lets_in_while_a_stream_leaves(rt: HostRuntime) {
-    let mut square = Square::new(&rt, rt.alloc());
-    let listener = TcpListener::bind(&rt, any_port()).expect(&rt, "a listener");
-    let address = listener.local_addr().expect(&rt, "an address");
-    square.insert(MioIo::from(listener), Interest::READ, Mode::Level);
-    let (leaving, peer) = square.stream(Mode::Level);
-    drop(peer);
-    let mut caller = TcpStream::connect(&rt, address).expect(&rt, "a stream");
-    let (answer, mut said) = square.dispatch(Duration::from_millis(10));
-    assert!(rt; answer.is_ok());
-    said.sort_unstable();
-    assert_eq!(rt; said.as_slice(), [END, CONNECTED].as_slice());
-    let guest = square.guest().expect(&rt, "a guest");
-    let token = square.insert(MioIo::from(guest), Interest::READ, Mode::Level);
-    assert_eq!(rt; token, RegistrationToken::new(1, 1));
-    assert!(rt; square.takes_out(leaving).is_none());
-    assert!(rt; caller.write_all(&[3]).is_ok());
-    assert!(rt; square.hears(&[3]));
+    plays::<AListenerLetsInWhileAStreamLeaves, _>(&rt, rt.alloc());
+}
+
+struct AListenerLetsInWhileAStreamLeaves;
+
+impl Scene for AListenerLetsInWhileAStreamLeaves {
+    fn play<R: Net + Abort, S: Square<R> + Drop>(rt: &R, alloc: Global) {
+        let mut square = S::new(rt, alloc);
+        let listener = TcpListener::bind(rt, any_port()).expect(rt, "a listener");
+        let address = listener.local_addr().expect(rt, "an address");
+        square.insert(MioIo::from(listener), Interest::READ, Mode::Level);
+        let (leaving, peer) = square.stream(Mode::Level);
+        drop(peer);
+        let mut caller = TcpStream::connect(rt, address).expect(rt, "a stream");
+        let (answer, mut said) = square.dispatch(Duration::from_millis(10));
+        assert!(rt; answer.is_ok());
+        said.sort_unstable();
+        assert_eq!(rt; said.as_slice(), [END, CONNECTED].as_slice());
+        let guest = square.guest().expect(rt, "a guest");
+        let token = square.insert(MioIo::from(guest), Interest::READ, Mode::Level);
+        assert_eq!(rt; token, RegistrationToken::new(1, 1));
+        assert!(rt; square.takes_out(leaving).is_none());
+        assert!(rt; caller.write_all(&[3]).is_ok());
+        assert!(rt; square.hears(&[3]));
+    }
 }
 
 fn any_port() -> SocketAddr {

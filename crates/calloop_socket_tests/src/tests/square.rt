@@ -1,8 +1,12 @@
+use super::table::Table;
 use crate::visitor::{Reader, WRITABLE};
 use calloop::generic::Generic;
 use calloop::loop_logic::EventLoop;
 use calloop::ping::{Ping, make_ping};
-use calloop::{Dispatcher, Error, Interest, Mode, OneOf, PingSource, RegistrationToken, Sources};
+use calloop::{
+    Dispatcher, Error, EventDispatcher, Here, Hold, Interest, Mode, OneOf, PingSource,
+    RegistrationToken, Requests, Sources, There,
+};
 use calloop_core::sys::system::{MioIo, MioPoller, SystemClock};
 use calloop_tests::source::Teller;
 use mio::net::{TcpStream, UnixStream};
@@ -12,73 +16,155 @@ use std::process::Abort;
 use std::sync::Wait;
 use std::time::{Clock as MachineClock, Duration};
 
-pub type Machine<R> = MioPoller<SystemClock<R>>;
+// A loop over pings and sockets of the machine.
+pub trait Square<R>: Sized {
+    // One end of a ping.
+    type Bell: Drop;
 
-pub type Held<R> = Sources<
+    fn new(rt: &R, alloc: Global) -> Self;
+
+    // A socket of the loop.
+    fn insert(&mut self, io: MioIo, interest: Interest, mode: Mode) -> RegistrationToken;
+
+    // A stream of the loop that waits to be read, and its peer.
+    fn stream(&mut self, mode: Mode) -> (RegistrationToken, UnixStream);
+
+    // A ping that says its number.
+    fn ping(&mut self, number: u32) -> Self::Bell;
+
+    // What a dispatch answers, and what the callbacks say.
+    fn dispatch(&mut self, timeout: Duration) -> (calloop::Result<()>, Vec<u32>);
+
+    // Whether a dispatch without a wait succeeds, in which the callbacks say these numbers.
+    fn says(&mut self, numbers: &[u32]) -> bool;
+
+    // Whether the callbacks say just these numbers in at most a hundred dispatches of ten milliseconds.
+    fn hears(&mut self, numbers: &[u32]) -> bool;
+
+    // Gives a socket another interest, and updates it.
+    fn updates(&mut self, token: RegistrationToken, interest: Interest) -> bool;
+
+    // The source that a token names leaves the loop: its socket, where it is one that is registered no more.
+    fn takes_out(&mut self, token: RegistrationToken) -> Option<MioIo>;
+
+    // How many streams can be written to, by a dispatch without a wait.
+    fn writable(&mut self) -> usize;
+
+    // The one who connected last to the socket that came first.
+    fn guest(&mut self) -> Option<TcpStream>;
+
+    // Whether no other poller can be made.
+    fn refuses_a_poller(&self) -> bool;
+}
+
+// What tests look for in a source with its callback.
+pub trait Choice {
+    // Sets the interest of a socket. False of a ping.
+    fn interests(&mut self, interest: Interest) -> bool;
+
+    // Its socket, where it is one that is registered no more.
+    fn socket(self) -> Option<MioIo>;
+
+    // The one who connected last to it.
+    fn guest(&mut self) -> Option<TcpStream>;
+}
+
+// What a test does at a square.
+pub trait Scene {
+    fn play<R: Net + Abort, S: Square<R> + Drop>(rt: &R, alloc: Global);
+}
+
+// This and the next alone know of which types the square is.
+pub fn plays<S, R>(rt: &R, alloc: Global)
+where
+    S: Scene,
+    R: Net + MachineClock + Wait + Clone + Drop + Abort,
+{
+    S::play::<R, Over<R>>(rt, alloc);
+}
+
+// A square with a ping that says 1.
+pub fn with_a_ping<R>(rt: &R, alloc: Global) -> (Over<R>, Ping<R>)
+where
+    R: Net + MachineClock + Wait + Clone + Drop + Abort,
+{
+    let mut square: Over<R> = Square::new(rt, alloc);
+    let bell = square.ping(1);
+    (square, bell)
+}
+
+pub type Over<R> = Table<Held<R>, Machine<R>, SystemClock<R>, R>;
+
+type Machine<R> = MioPoller<SystemClock<R>>;
+
+type Held<R> = Sources<
     OneOf<Dispatcher<PingSource<R>, Teller>, Dispatcher<Generic<Machine<R>>, Reader>>,
     Vec<u32>,
 >;
 
-// A loop over pings and sockets of the machine.
-#[derive(Drop)]
-pub struct Square<R: MachineClock + Wait + Clone + Drop> {
-    rt: R,
-    alloc: Global,
-    pub event_loop: EventLoop<Held<R>, Machine<R>, SystemClock<R>, R>,
-}
+type Second = There<Here>;
 
-impl<R: Net + MachineClock + Wait + Clone + Drop + Abort> Square<R> {
-    pub fn new(rt: &R, alloc: Global) -> Square<R> {
+impl<D, R> Square<R> for Table<D, Machine<R>, SystemClock<R>, R>
+where
+    D: EventDispatcher<Machine<R>, SystemClock<R>, R, Data = Vec<u32>, Idle = ()> + Choice,
+    D: Hold<PingSource<R>, Teller, Machine<R>, SystemClock<R>, R, Vec<u32>, Requests<D>, Here>,
+    D: Hold<
+        Generic<Machine<R>>,
+        Reader,
+        Machine<R>,
+        SystemClock<R>,
+        R,
+        Vec<u32>,
+        Requests<D>,
+        Second,
+    >,
+    R: Net + MachineClock + Wait + Clone + Drop + Abort,
+{
+    type Bell = Ping<R>;
+
+    fn new(rt: &R, alloc: Global) -> Table<D, Machine<R>, SystemClock<R>, R> {
         let clock = SystemClock::new(rt).expect(rt, "a clock");
         let read_by_poller = clock.clone().expect(rt, "a clock");
         let poller = MioPoller::new(rt, alloc, read_by_poller).expect(rt, "a poller");
-        Square {
+        Table {
             rt: rt.clone().expect(rt, "a runtime"),
             alloc,
             event_loop: EventLoop::try_new(rt, alloc, poller, clock).expect(rt, "a loop"),
         }
     }
 
-    // A socket of the loop.
-    pub fn insert(&mut self, io: MioIo, interest: Interest, mode: Mode) -> RegistrationToken {
+    fn insert(&mut self, io: MioIo, interest: Interest, mode: Mode) -> RegistrationToken {
         let source = Generic::new(io, interest, mode);
         let reader = Reader::new(self.alloc);
         let inserted = self.event_loop.handle().insert_source(source, reader);
         inserted.ok().expect(&self.rt, "a registration")
     }
 
-    // A stream of the loop that waits to be read, and its peer.
-    pub fn stream(&mut self, mode: Mode) -> (RegistrationToken, UnixStream) {
+    fn stream(&mut self, mode: Mode) -> (RegistrationToken, UnixStream) {
         let (near, far) = UnixStream::pair(&self.rt).expect(&self.rt, "two streams");
         (self.insert(MioIo::from(near), Interest::READ, mode), far)
     }
 
-    // A ping that says its number.
-    pub fn ping(&mut self, number: u32) -> Ping<R> {
+    fn ping(&mut self, number: u32) -> Ping<R> {
         let (bell, source) = make_ping(&self.rt, self.alloc).expect(&self.rt, "a ping");
-        let inserted = self
-            .event_loop
-            .handle()
-            .insert_source(source, Teller { number });
+        let teller = Teller { number };
+        let inserted = self.event_loop.handle().insert_source(source, teller);
         assert!(self.rt; inserted.is_ok());
         bell
     }
 
-    // What a dispatch answers, and what the callbacks say.
-    pub fn dispatch(&mut self, timeout: Duration) -> (calloop::Result<()>, Vec<u32>) {
+    fn dispatch(&mut self, timeout: Duration) -> (calloop::Result<()>, Vec<u32>) {
         let mut said = Vec::new(self.alloc);
         let answer = self.event_loop.dispatch(&self.rt, Some(timeout), &mut said);
         (answer, said)
     }
 
-    // Whether a dispatch without a wait succeeds, in which the callbacks say these numbers.
-    pub fn says(&mut self, numbers: &[u32]) -> bool {
+    fn says(&mut self, numbers: &[u32]) -> bool {
         let (answer, said) = self.dispatch(Duration::ZERO);
         answer.is_ok() && said.as_slice() == numbers
     }
 
-    // Whether the callbacks say just these numbers in at most a hundred dispatches of ten milliseconds.
-    pub fn hears(&mut self, numbers: &[u32]) -> bool {
+    fn hears(&mut self, numbers: &[u32]) -> bool {
         let mut said = Vec::new(self.alloc);
         for _ in 0..100u32 {
             if said.len() >= numbers.len() {
@@ -96,61 +182,65 @@ impl<R: Net + MachineClock + Wait + Clone + Drop + Abort> Square<R> {
         said.as_slice() == numbers
     }
 
-    // Gives a socket another interest, and updates it.
-    pub fn updates(&mut self, token: RegistrationToken, interest: Interest) -> bool {
+    fn updates(&mut self, token: RegistrationToken, interest: Interest) -> bool {
         let mut handle = self.event_loop.handle();
-        match handle.dispatcher_mut(&token) {
-            Ok(
-                Sources {
-                    held: OneOf::Other(socket),
-                    ..
-                },
-            ) => socket.as_source_mut().interest = interest,
-            _ => return false,
-        }
-        handle.update(&token).is_ok()
+        let is_set = match handle.dispatcher_mut(&token) {
+            Ok(held) => held.interests(interest),
+            Err(_) => false,
+        };
+        is_set && handle.update(&token).is_ok()
     }
 
-    // The source that a token names leaves the loop: its socket, where it is one that is registered no more.
-    pub fn takes_out(&mut self, token: RegistrationToken) -> Option<MioIo> {
-        match self.event_loop.handle().remove(token) {
-            Some(
-                Sources {
-                    held: OneOf::Other(socket),
-                    ..
-                },
-            ) => socket.into_source_inner().unwrap().ok(),
-            _ => None,
-        }
+    fn takes_out(&mut self, token: RegistrationToken) -> Option<MioIo> {
+        self.event_loop.handle().remove(token)?.socket()
     }
 
-    // How many streams can be written to, by a dispatch without a wait.
-    pub fn writable(&mut self) -> usize {
+    fn writable(&mut self) -> usize {
         let (answer, said) = self.dispatch(Duration::ZERO);
         assert!(self.rt; answer.is_ok());
         said.iter().filter(|number| **number == WRITABLE).count()
     }
 
-    // The one who connected last to the socket that came first.
-    pub fn guest(&mut self) -> Option<TcpStream> {
+    fn guest(&mut self) -> Option<TcpStream> {
         let first = RegistrationToken::new(0, 0);
         match self.event_loop.handle().dispatcher_mut(&first) {
-            Ok(
-                Sources {
-                    held: OneOf::Other(socket),
-                    ..
-                },
-            ) => socket.callback.guests.pop(),
-            _ => None,
+            Ok(held) => held.guest(),
+            Err(_) => None,
         }
+    }
+
+    fn refuses_a_poller(&self) -> bool {
+        let clock = SystemClock::new(&self.rt).expect(&self.rt, "a clock");
+        let made = MioPoller::new(&self.rt, self.alloc, clock);
+        matches!(made, Err(Error::IoError(_)))
     }
 }
 
-// Whether no poller can be made.
-pub fn refuses_a_poller<R: Net + MachineClock + Clone + Drop + Abort>(
-    rt: &R,
-    alloc: Global,
-) -> bool {
-    let clock = SystemClock::new(rt).expect(rt, "a clock");
-    matches!(MioPoller::new(rt, alloc, clock), Err(Error::IoError(_)))
+impl<R> Choice for Held<R>
+where
+    R: MachineClock + Wait + Clone + Drop,
+{
+    fn interests(&mut self, interest: Interest) -> bool {
+        match &mut self.held {
+            OneOf::Other(socket) => {
+                socket.as_source_mut().interest = interest;
+                true
+            }
+            OneOf::First(_) => false,
+        }
+    }
+
+    fn socket(self) -> Option<MioIo> {
+        match self.held {
+            OneOf::Other(socket) => socket.into_source_inner().unwrap().ok(),
+            OneOf::First(_) => None,
+        }
+    }
+
+    fn guest(&mut self) -> Option<TcpStream> {
+        match &mut self.held {
+            OneOf::Other(socket) => socket.callback.guests.pop(),
+            OneOf::First(_) => None,
+        }
+    }
 }

@@ -3,7 +3,6 @@ use calloop::loop_logic::EventLoop;
 use calloop::ping::make_ping;
 use calloop::{Asking, Callback, Dispatcher, PingSource, Sources};
 use calloop_core::sys::script::{ScriptClock, ScriptPoller};
-use std::sync::Wait;
 use std::time::Duration;
 
 #[test]

@@ -1,75 +1,92 @@
-use super::stage::Stage;
-use super::{Desk, at, counter};
-use calloop::loop_logic::LoopCall;
+//! Sources that are changed or exchanged within the loop, and warnings.
+use super::at;
+use super::desk::{Act, Desk, Scene, plays};
+use super::stage::{Stage, Table};
 use calloop::{
-    Asking, Callback, Dispatcher, Error, Instant, OneOf, RegistrationToken, Sources, TimeoutAction,
-    Timer,
+    Asking, Callback, Dispatcher, Instant, RegistrationToken, Sources, TimeoutAction, Timer,
 };
-use std::collections::VecDeque;
 use std::io::ErrorKind;
 use std::process::Abort;
 use std::sync::Wait;
 
 #[test]
 fn a_deadline_that_is_set_counts_from_the_next_update(rt: HostRuntime) {
-    let mut desk = Desk::new(&rt, rt.alloc());
-    let first = desk.alarm(100, TimeoutAction::Drop);
-    let second = desk.alarm(400, TimeoutAction::Drop);
-    assert!(rt; desk.postpones(first, 300) && desk.postpones(second, 600));
-    assert!(rt; desk.update(second).is_ok());
-    assert!(rt; desk.says(Some(200), &[5]));
-    assert!(rt; desk.says(Some(900), &[5]));
-    assert!(rt; desk.asked(&[Some(100), Some(500)]));
+    plays::<ADeadlineThatIsSetCountsFromTheNextUpdate, _>(&rt, rt.alloc());
+}
+
+struct ADeadlineThatIsSetCountsFromTheNextUpdate;
+
+impl Scene for ADeadlineThatIsSetCountsFromTheNextUpdate {
+    fn play<R: Abort, D: Desk + Drop>(rt: &R, mut desk: D) {
+        let first = desk.alarm(100, TimeoutAction::Drop);
+        let second = desk.alarm(400, TimeoutAction::Drop);
+        assert!(rt; desk.postpones(first, 300) && desk.postpones(second, 600));
+        assert!(rt; desk.update(second).is_ok());
+        assert!(rt; desk.says(Some(200), &[5]));
+        assert!(rt; desk.says(Some(900), &[5]));
+        assert!(rt; desk.asked(&[Some(100), Some(500)]));
+    }
 }
 
 #[test]
 fn a_deadline_that_is_set_without_an_update_is_not_handed_out(rt: HostRuntime) {
-    let mut stage: Stage<Dispatcher<Timer, Herald>, _> = Stage::new(&rt, rt.alloc());
-    let timer = Timer::from_deadline(at(100));
-    let inserted = stage.event_loop.handle().insert_source(timer, Herald);
-    let token = inserted.ok().expect(&rt, "a registration");
-    let mut handle = stage.event_loop.handle();
-    let held = handle.dispatcher_mut(&token).expect(&rt, "a source");
-    held.held.as_source_mut().set_deadline(at(300));
-    assert!(rt; stage.says(Some(200), &[100]));
-    assert!(rt; stage.asked(&[Some(100)]));
+    let mut table: Table<Sources<Dispatcher<Timer, Herald>, Vec<u32>>, _> = Table::new(
+        &rt,
+        rt.alloc(),
+    );
+    assert!(rt; sets_without_an_update(&mut table));
+    assert!(rt; table.says(Some(200), &[100]));
+    assert!(rt; table.asked(&[Some(100)]));
 }
 
 #[test]
 fn a_dead_token_lends_no_source(rt: HostRuntime) {
-    let mut desk = Desk::new(&rt, rt.alloc());
-    let token = desk.alarm(100, TimeoutAction::Drop);
-    assert!(rt; desk.remove(token).is_some());
-    let mut handle = desk.event_loop.handle();
-    assert!(rt; matches!(handle.dispatcher_mut(&token), Err(Error::InvalidToken)));
+    plays::<ADeadTokenLendsNoSource, _>(&rt, rt.alloc());
+}
+
+struct ADeadTokenLendsNoSource;
+
+impl Scene for ADeadTokenLendsNoSource {
+    fn play<R: Abort, D: Desk + Drop>(rt: &R, mut desk: D) {
+        let token = desk.alarm(100, TimeoutAction::Drop);
+        assert!(rt; desk.remove(token).is_some());
+        assert!(rt; desk.lends_none(token));
+    }
 }
 
 #[test]
 fn a_source_is_exchanged_for_the_one_before(rt: HostRuntime) {
-    let mut desk = Desk::new(&rt, rt.alloc());
-    let token = desk.count(1, None);
-    let mut calls = VecDeque::with_capacity(rt.alloc(), 2).expect(&rt, "room");
-    for named in [token, RegistrationToken::new(1, 0)] {
-        assert!(rt;
-            calls
-                .push_back(LoopCall::Exchange(named, counter(9, None)))
-                .is_ok()
-        );
+    plays::<ASourceIsExchangedForTheOneBefore, _>(&rt, rt.alloc());
+}
+
+struct ASourceIsExchangedForTheOneBefore;
+
+impl Scene for ASourceIsExchangedForTheOneBefore {
+    fn play<R: Abort, D: Desk + Drop>(rt: &R, mut desk: D) {
+        let token = desk.count(1, None);
+        let acts = [token, RegistrationToken::new(1, 0)].map(|named| Act::Exchange(named, 9));
+        assert!(rt; desk.answers(&acts, &[("exchanged", true), ("exchanged", false)]));
+        assert_eq!(rt; desk.removed_counter(token), Some((0, 1)));
     }
-    assert!(rt; desk.answers(calls, &[("exchanged", true), ("exchanged", false)]));
-    assert_eq!(rt; desk.removed_counter(token), Some((0, 1)));
 }
 
 #[test]
 fn a_source_that_fails_as_it_leaves_is_a_warning_until_the_next_dispatch(rt: HostRuntime) {
-    let mut desk = Desk::new(&rt, rt.alloc());
-    let (token, _bell) = desk.ping(7);
-    assert!(rt; desk.disable(token).is_ok());
-    assert!(rt; desk.warns_of(&[]));
-    assert_eq!(rt; desk.removed_ping(token), Some(7));
-    assert!(rt; desk.warns_of(&[ErrorKind::NotFound]));
-    assert!(rt; desk.says(Some(0), &[]));
-    assert!(rt; desk.warns_of(&[]));
+    plays::<ASourceThatFailsAsItLeavesIsAWarningUntilTheNextDispatch, _>(&rt, rt.alloc());
+}
+
+struct ASourceThatFailsAsItLeavesIsAWarningUntilTheNextDispatch;
+
+impl Scene for ASourceThatFailsAsItLeavesIsAWarningUntilTheNextDispatch {
+    fn play<R: Abort, D: Desk + Drop>(rt: &R, mut desk: D) {
+        let (token, _bell) = desk.ping(7);
+        assert!(rt; desk.disable(token).is_ok());
+        assert!(rt; desk.warns_of(&[]));
+        assert_eq!(rt; desk.removed_ping(token), Some(7));
+        assert!(rt; desk.warns_of(&[ErrorKind::NotFound]));
+        assert!(rt; desk.says(Some(0), &[]));
+        assert!(rt; desk.warns_of(&[]));
+    }
 }
 
 // Says the deadline in milliseconds, and leaves.
@@ -93,31 +110,20 @@ impl<Q: Asking> Callback<Instant, (), TimeoutAction, Vec<u32>, Q> for Herald {
     }
 }
 
-impl<R: Wait + Clone + Drop + Abort> Desk<R> {
-    // Sets a timer's deadline, without an update. False where the token names no timer.
-    fn postpones(&mut self, token: RegistrationToken, millis: u64) -> bool {
-        match self.event_loop.handle().dispatcher_mut(&token) {
-            Ok(
-                Sources {
-                    held: OneOf::Other(OneOf::First(alarm)),
-                    ..
-                },
-            ) => {
-                alarm.as_source_mut().set_deadline(at(millis));
-                true
-            }
-            _ => false,
+// Inserts a timer of 100 milliseconds, and sets its deadline to 300.
+fn sets_without_an_update<R: Wait + Clone + Drop + Abort>(
+    table: &mut Table<Sources<Dispatcher<Timer, Herald>, Vec<u32>>, R>,
+) -> bool {
+    let mut handle = table.event_loop.handle();
+    let timer = Timer::from_deadline(at(100));
+    let Ok(token) = handle.insert_source(timer, Herald) else {
+        return false;
+    };
+    match handle.dispatcher_mut(&token) {
+        Ok(held) => {
+            held.held.as_source_mut().set_deadline(at(300));
+            true
         }
-    }
-
-    // Whether the warnings are of these kinds.
-    fn warns_of(&mut self, kinds: &[ErrorKind]) -> bool {
-        let handle = self.event_loop.handle();
-        let warnings = handle.warnings();
-        warnings.len() == kinds.len()
-            && warnings.iter().zip(kinds).all(|(warning, kind)| match warning {
-                Error::IoError(cause) => cause.kind() == *kind,
-                _ => false,
-            })
+        Err(_) => false,
     }
 }

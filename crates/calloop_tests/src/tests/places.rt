@@ -1,15 +1,15 @@
 //! Two places of one choice for the same source and callback.
-use super::stage::Stage;
+use super::stage::{Stage, Table};
 use crate::source::Teller;
-use calloop::{Dispatcher, Here, OneOf, PingSource, RegistrationToken, There};
+use calloop::{Dispatcher, Here, OneOf, PingSource, RegistrationToken, Sources, There, make_ping};
 use std::process::Abort;
 use std::sync::Wait;
 
 #[test]
 fn each_place_of_one_kind_of_source_is_called_for_its_own_event(rt: HostRuntime) {
-    let mut stage = Stage::new(&rt, rt.alloc());
-    let (first, first_source) = stage.ping();
-    let (second, second_source) = stage.ping();
+    let mut stage: Table<Twice<HostRuntime>, _> = Table::new(&rt, rt.alloc());
+    let (first, first_source) = make_ping(&rt, rt.alloc()).expect(&rt, "a ping");
+    let (second, second_source) = make_ping(&rt, rt.alloc()).expect(&rt, "a ping");
     let mut handle = stage.event_loop.handle();
     let one = handle
         .insert_source::<_, _, Here>(first_source, Teller { number: 1 })
@@ -28,11 +28,14 @@ fn each_place_of_one_kind_of_source_is_called_for_its_own_event(rt: HostRuntime)
 }
 
 // Pings that say their numbers, in two places.
-type Twice<R> = OneOf<Dispatcher<PingSource<R>, Teller>, Dispatcher<PingSource<R>, Teller>>;
+type Twice<R> = Sources<
+    OneOf<Dispatcher<PingSource<R>, Teller>, Dispatcher<PingSource<R>, Teller>>,
+    Vec<u32>,
+>;
 
 // At which place the source is that the token names, and the number that it says.
 fn place_of<R: Wait + Clone + Drop + Abort>(
-    stage: &mut Stage<Twice<R>, R>,
+    stage: &mut Table<Twice<R>, R>,
     token: RegistrationToken,
 ) -> Option<(u32, u32)> {
     let handle = stage.event_loop.handle();

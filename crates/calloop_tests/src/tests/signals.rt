@@ -1,14 +1,17 @@
 //! What ends a wait of the machine's poller from another thread, and signals of a loop.
-use crate::source::{Source, Teller};
+use crate::source::Teller;
 use calloop::loop_logic::EventLoop;
 use calloop::ping::{Ping, make_ping};
-use calloop::{Clock, Error, Instant, LoopSignal, Poller, Readiness, Result};
+use calloop::{
+    Clock, Dispatcher, Error, EventDispatcher, Here, Hold, Instant, LoopSignal, PingSource, Poller,
+    Readiness, Requests, Result, Sources,
+};
 use calloop_core::sys::EVENTS_PER_WAIT;
 use calloop_core::sys::notifier::Notifier;
 use calloop_core::sys::script::{ScriptAnswer, ScriptEnd, ScriptEvents, ScriptPoller};
 use calloop_core::sys::system::{MioPoller, SystemClock};
 use calloop_wake::wake::Notify;
-use std::alloc::AllocGlobal;
+use std::alloc::{AllocGlobal, Global};
 use std::net::Net;
 use std::sync::Wait;
 use std::test::Fail;
@@ -32,9 +35,7 @@ fn a_notifier_of_another_thread_ends_a_long_wait(rt: HostRuntime) -> std::result
 fn a_ring_of_another_thread_ends_a_long_dispatch(rt: HostRuntime) -> std::result::Result<(), Fail> {
     let clock = SystemClock::new(&rt)?;
     let mut event_loop = loop_of(&rt, &clock).expect(&rt, "a loop");
-    let (ping, source) = make_ping(&rt, rt.alloc()).expect(&rt, "a ping");
-    let teller = Teller { number: 7 };
-    assert!(rt; event_loop.handle().insert_source(source, teller).is_ok());
+    let ping = ping_of(&rt, rt.alloc(), &mut event_loop).expect(&rt, "a ping");
     let child = thread::spawn(&rt, move || rings_later(&rt, ping))?;
     let mut said = Vec::new(rt.alloc());
     assert!(rt; event_loop.dispatch(&rt, minute(), &mut said).is_ok());
@@ -92,9 +93,7 @@ fn a_run_calls_after_each_dispatch_until_it_is_stopped(rt: HostRuntime) {
     let clock = SystemClock::new(&rt).expect(&rt, "a clock");
     let mut event_loop = loop_of(&rt, &clock).expect(&rt, "a loop");
     let signal = event_loop.get_signal().expect(&rt, "a signal");
-    let (ping, source) = make_ping(&rt, rt.alloc()).expect(&rt, "a ping");
-    let teller = Teller { number: 7 };
-    assert!(rt; event_loop.handle().insert_source(source, teller).is_ok());
+    let ping = ping_of(&rt, rt.alloc(), &mut event_loop).expect(&rt, "a ping");
     // A stop of before is forgotten.
     signal.stop();
     let mut said = Vec::new(rt.alloc());
@@ -121,7 +120,7 @@ fn a_fault_ends_a_run_without_a_call(rt: HostRuntime) {
         let moment = Instant { nanos: 5 };
         assert!(rt; poller.script(ScriptAnswer { moment, end }).is_ok());
     }
-    let mut event_loop: EventLoop<Source<HostRuntime>, _, _, HostRuntime> = EventLoop::try_new(
+    let mut event_loop: EventLoop<Pings<HostRuntime>, _, _, HostRuntime> = EventLoop::try_new(
         &rt,
         rt.alloc(),
         poller,
@@ -133,7 +132,9 @@ fn a_fault_ends_a_run_without_a_call(rt: HostRuntime) {
     assert_eq!(rt; said.as_slice(), [1].as_slice());
 }
 
-type SystemLoop<R> = EventLoop<Source<R>, MioPoller<SystemClock<R>>, SystemClock<R>, R>;
+type Pings<R> = Sources<Dispatcher<PingSource<R>, Teller>, Vec<u32>>;
+
+type SystemLoop<R> = EventLoop<Pings<R>, MioPoller<SystemClock<R>>, SystemClock<R>, R>;
 
 fn poller_of<R: Net + AllocGlobal + MachineClock + Clone + Drop>(
     rt: &R,
@@ -156,6 +157,22 @@ fn loop_of<R: Net + Wait + AllocGlobal + MachineClock + Clone + Drop>(
     clock: &SystemClock<R>,
 ) -> Result<SystemLoop<R>> {
     EventLoop::try_new(rt, rt.alloc(), poller_of(rt, clock)?, clock.clone()?)
+}
+
+// A ping of the loop, which says 7. None where memory is short.
+fn ping_of<D, P: Poller, C: Clock, R: Wait + Clone + Drop>(
+    rt: &R,
+    alloc: Global,
+    event_loop: &mut EventLoop<D, P, C, R>,
+) -> Option<Ping<R>>
+where
+    D: EventDispatcher<P, C, R, Data = Vec<u32>, Idle = ()>,
+    D: Hold<PingSource<R>, Teller, P, C, R, Vec<u32>, Requests<D>, Here>,
+{
+    let (ping, source) = make_ping(rt, alloc).ok()?;
+    let teller = Teller { number: 7 };
+    event_loop.handle().insert_source(source, teller).ok()?;
+    Some(ping)
 }
 
 // Whether less than a minute went by since the clock was made.

@@ -1,12 +1,17 @@
 //! The board: one place for each open key, which is marked while the key is posted.
-ghost use Rattle.std.specs.Prelude.{◌≡◌, ◌≤◌, ◌+◌, ◌++◌, ◌∷◌, ◌<◌, ◌-◌, ◌^◌, [], false, true, not, map, length, is_ok, is_some, Err, IfErr, if◌then◌else◌};
+ghost use Rattle.std.specs.Prelude.{ℕ, nat_eq, IsSome, drop, ◌≡◌, ◌≤◌, ◌+◌, ◌++◌, ◌∷◌, ◌<◌, ◌-◌, ◌^◌, [], false, true, not, map, length, is_ok, is_some, Err, OnOk, IfErr, if◌then◌else◌};
 ghost use Rattle.std.specs.VecDeque.{deque_len, deque_capacity};
-ghost use Rattle.std.specs.List.{insert};
+ghost use Rattle.std.specs.Vec.{vec_capacity};
+ghost use Rattle.calloop_wake.specs.Posts.{places_of, posted_keys, standing_at, index_of, renumbered, IsBoard};
+ghost use Rattle.std.specs.List.{list_any, IsDistinct};
+ghost use Rattle.std.specs.Map.{keys_of};
 ghost use Rattle.calloop_wake.specs.Boards.{place, is_open, any_marked, wakes, marked_at, after_open_place, after_close_place, after_post, after_unpost, is_taken, unmarked, bound, keys_within, taken, taken_keys, IsRising};
 ghost use Rattle.calloop_wake.specs.declared.wake.board.OpenRefusal.TheVariants.{AlreadyExists, OutOfMemory};
 
 use super::ghosts::Name;
+use super::places::Places;
 use super::{LeaveToSleep, Nudge, TakenPass};
+use crate::steps::Steps;
 use std::alloc::Global;
 use std::collections::VecDeque;
 use std::marker::Model;
@@ -29,138 +34,113 @@ pub enum OpenRefusal {
     OutOfMemory,
 }
 
-/// The places in ascending order of their keys. In calloop the kernel's poller keeps such a table.
+/// The open places, and the posted keys. In calloop the kernel's poller keeps such a table.
 #[derive(Drop)]
 pub(crate) struct Board {
-    places: Vec<Place>,
+    places: Places,
+    // In no order, with room for all keys that have a place.
+    posted: Vec<u64>,
 }
 
 impl Model for Board {
     ghost use Rattle.std.specs.Prelude.{List};
-    ghost use Rattle.calloop_wake.specs.Boards.{IsAscending};
+    ghost use Rattle.std.specs.Vec.{vec_capacity};
+    ghost use Rattle.calloop_wake.specs.Posts.{places_of, IsBoard};
     ghost use Rattle.calloop_wake.specs.declared.wake.board.Place.{Place};
 
     ghost Value = { List Place };
 
-    ghost view = { λ b. b.places.items };
+    ghost view = { λ b. places_of b.places };
 
-    ghost invariant = { λ b. IsAscending b.places.items };
+    ghost invariant = { λ b. IsBoard b.places b.posted.items (vec_capacity b.posted) };
 }
 
-// At how many places a new one goes in.
-fn place_for(places: &[Place], key: u64) -> usize
-    ensures within { result ≤ length places.now }
-    ensures sorted { insert places.now result (place key) ≡ after_open_place key places.now }
+// Makes room for so many posted keys.
+fn make_room(posted: &mut Vec<u64>, keys: usize) -> Result<(), OpenRefusal>
+    ensures items { posted.new.items ≡ posted.old.items }
+    ensures capacity { vec_capacity posted.old ≤ vec_capacity posted.new }
+    ensures ok { OnOk result (keys ≤ vec_capacity posted.new) }
+    ensures err { IfErr result (λ e. e ≡ OutOfMemory) }
 {
-    for (i, p) in places.iter().enumerate() {
-        if key < p.key {
-            return i;
+    match posted.reserve(keys.saturating_sub(posted.len())) {
+        Ok(()) => Ok(()),
+        Err(_) => Err(OpenRefusal::OutOfMemory),
+    }
+}
+
+// Closes the place of a key.
+fn close(places: &mut Places, posted: &mut Vec<u64>, key: u64)
+    requires { IsBoard places.old posted.old.items (vec_capacity posted.old) }
+    ensures places { places_of places.new ≡ after_close_place key (places_of places.old) }
+    ensures board { IsBoard places.new posted.new.items (vec_capacity posted.new) }
+{
+    if let Some(at) = places.close(key) {
+        posted.swap_remove(at);
+        if at < posted.len() {
+            places.note(posted[at], Some(at), &mut Steps::new());
         }
     }
-    places.len()
 }
 
-fn has_place(places: &[Place], key: u64) -> bool
-    ensures { result ≡ is_open key places.now }
+// Marks the place of a key, if it has one. Whether that set a mark anew.
+fn mark(places: &mut Places, posted: &mut Vec<u64>, key: u64) -> bool
+    requires { IsBoard places.old posted.old.items (vec_capacity posted.old) }
+    ensures wakes { result ≡ wakes key (places_of places.old) }
+    ensures places { places_of places.new ≡ after_post key (places_of places.old) }
+    ensures board { IsBoard places.new posted.new.items (vec_capacity posted.new) }
 {
-    places.iter().any(|p| p.key == key)
-}
-
-fn has_mark(places: &[Place]) -> bool
-    ensures { result ≡ any_marked places.now }
-{
-    places.iter().any(|p| p.marked)
-}
-
-// Whether the key has a place that isn't marked.
-fn has_unmarked(places: &[Place], key: u64) -> bool
-    ensures { result ≡ wakes key places.now }
-{
-    places.iter().any(|p| p.key == key && !p.marked)
-}
-
-fn marked(place: Place, key: u64) -> Place
-    ensures { result ≡ marked_at key place }
-{
-    Place {
-        key: place.key,
-        marked: place.marked || place.key == key,
+    let mut steps = Steps::new();
+    if !places.is_quiet(key, &mut steps) {
+        return false;
+    }
+    places.note(key, Some(posted.len()), &mut steps);
+    match posted.push(key) {
+        Ok(()) => true,
+        Err(_) => unreachable!(),
     }
 }
 
-fn remove_place(places: &mut Vec<Place>, key: u64)
-    ensures { places.new.items ≡ after_close_place key places.old.items }
+// Notes where each posted key stands once so many of the first are gone, by one look-up each.
+fn renumber(places: &mut Places, posted: &[u64], gone: usize, steps: &mut Steps)
+    requires fresh { steps.old ≡ 0 }
+    requires open { (key : ℕ) → list_any (nat_eq key) posted.now ≡ true → IsSome (standing_at key places.old) }
+    requires once { IsDistinct nat_eq posted.now }
+    ensures standing { (key : ℕ) → standing_at key places.new ≡ renumbered gone (index_of key posted.now) (standing_at key places.old) }
+    ensures keys { keys_of places.new ≡ keys_of places.old }
+    ensures steps { steps.new ≡ length posted.now }
 {
-    places.retain(|p| p.key != key);
-}
-
-fn mark(places: &mut Vec<Place>, key: u64)
-    ensures { places.new.items ≡ after_post key places.old.items }
-{
-    for p in places.iter_mut() {
-        *p = marked(*p, key);
+    for (i, key) in posted.iter().enumerate() {
+        places.note(*key, i.checked_sub(gone), steps);
     }
 }
 
-fn is_taken(place: Place, below: u64) -> bool
-    ensures { result ≡ is_taken below place }
-{
-    place.marked && place.key < below
-}
-
-fn unmarked(place: Place, below: u64) -> Place
-    ensures { result ≡ unmarked below place }
-{
-    Place {
-        key: place.key,
-        marked: place.marked && place.key >= below,
-    }
-}
-
-fn unmark(places: &mut Vec<Place>, below: u64)
-    ensures { places.new.items ≡ after_unpost below places.old.items }
-{
-    for p in places.iter_mut() {
-        *p = unmarked(*p, below);
-    }
-}
-
-// Below which keys there is room for all marked ones.
-fn bound(places: &[Place], room: usize) -> u64
-    ensures { result ≡ bound room places.now }
-{
-    let mut left = room;
-    for p in places {
-        if p.marked {
-            if left == 0 {
-                return p.key;
-            }
-            left -= 1;
-        }
-    }
-    u64::MAX
-}
-
-// Appends a pass of the board of this name for each mark below this key.
-fn take(places: &[Place], below: u64, name: &Name, passes: &mut VecDeque<TakenPass>)
-    requires { deque_len passes.old + length (taken_keys below places.now) ≤ deque_capacity passes.old }
-    ensures items { passes.new.items ≡ passes.old.items ++ map (taken name.now) (taken_keys below places.now) }
-    ensures len { deque_len passes.new ≡ deque_len passes.old + length (taken_keys below places.now) }
+// Appends a pass of the board of this name for each key.
+fn give(keys: &[u64], name: &Name, passes: &mut VecDeque<TakenPass>)
+    requires { deque_len passes.old + length keys.now ≤ deque_capacity passes.old }
+    ensures items { passes.new.items ≡ passes.old.items ++ map (taken name.now) keys.now }
+    ensures len { deque_len passes.new ≡ deque_len passes.old + length keys.now }
     ensures capacity { deque_capacity passes.new ≡ deque_capacity passes.old }
 {
-    for p in places {
-        if is_taken(*p, below) {
-            let pass = TakenPass {
-                key: p.key,
-                board: name.again(),
-                refused: None,
-            };
-            match passes.push_back(pass) {
-                Ok(()) => {}
-                Err(_) => unreachable!(),
-            }
+    for key in keys {
+        let pass = TakenPass {
+            key: *key,
+            board: name.again(),
+            refused: None,
+        };
+        match passes.push_back(pass) {
+            Ok(()) => {}
+            Err(_) => unreachable!(),
         }
     }
+}
+
+// Takes so many of the first out.
+fn drop_first(posted: &mut Vec<u64>, gone: usize)
+    requires { gone ≤ length posted.old.items }
+    ensures items { posted.new.items ≡ drop gone posted.old.items }
+    ensures capacity { vec_capacity posted.new ≡ vec_capacity posted.old }
+{
+    posted.drain(..gone);
 }
 
 impl Board {
@@ -169,7 +149,8 @@ impl Board {
         ensures { result ≡ [] }
     {
         Board {
-            places: Vec::new(alloc),
+            places: Places::new(alloc),
+            posted: Vec::new(alloc),
         }
     }
 
@@ -190,22 +171,19 @@ impl Board {
         ensures open { is_open key self.old ≡ true → result ≡ Err AlreadyExists }
         ensures shut { is_open key self.old ≡ false → IfErr result (λ e. e ≡ OutOfMemory) }
     {
-        if has_place(&self.places, key) {
+        if self.places.is_open(key, &mut Steps::new()) {
             return Err(OpenRefusal::AlreadyExists);
         }
-        let at = place_for(&self.places, key);
-        let place = Place { key, marked: false };
-        match self.places.insert(at, place) {
-            Ok(()) => Ok(()),
-            Err(_) => Err(OpenRefusal::OutOfMemory),
-        }
+        make_room(&mut self.posted, self.places.len() + 1)?;
+        self.places.open(key)?;
+        Ok(())
     }
 
     /// Closes the place of a key, with its mark.
     pub(crate) fn close_place(&mut self, key: u64)
         ensures { self.new ≡ after_close_place key self.old }
     {
-        remove_place(&mut self.places, key);
+        close(&mut self.places, &mut self.posted, key);
     }
 
     /// Marks a key, where its place is open, and gives a nudge exactly where that set a mark anew.
@@ -213,9 +191,7 @@ impl Board {
         ensures board { self.new ≡ after_post key self.old }
         ensures nudges { is_some result ≡ wakes key self.old }
     {
-        let anew = has_unmarked(&self.places, key);
-        mark(&mut self.places, key);
-        if anew {
+        if mark(&mut self.places, &mut self.posted, key) {
             Some(Nudge { of_wake: () })
         } else {
             None
@@ -226,25 +202,36 @@ impl Board {
     pub(crate) fn look(&self) -> Option<LeaveToSleep>
         ensures { is_some result ≡ not (any_marked self.now) }
     {
-        if has_mark(&self.places) {
-            None
-        } else {
+        if self.posted.is_empty() {
             Some(LeaveToSleep { of_wake: () })
+        } else {
+            None
         }
     }
 
     /// Takes the marked keys, ascending, as many as there is room for, and appends a pass of the board of this name for each.
-    pub(crate) fn unpost(&mut self, room: usize, name: &Name, passes: &mut VecDeque<TakenPass>)
-        requires { deque_len passes.old + room ≤ deque_capacity passes.old }
+    /// It looks up as many places as there were marked keys.
+    pub(crate) fn unpost(
+        &mut self,
+        room: usize,
+        name: &Name,
+        passes: &mut VecDeque<TakenPass>,
+        steps: &mut Steps,
+    )
+        requires room { deque_len passes.old + room ≤ deque_capacity passes.old }
+        requires fresh { steps.old ≡ 0 }
         ensures board { self.new ≡ after_unpost (bound room self.old) self.old }
         ensures gives { passes.new.items ≡ passes.old.items ++ map (taken name.now) (keys_within room self.old) }
         ensures len { deque_len passes.new ≡ deque_len passes.old + length (keys_within room self.old) }
         ensures capacity { deque_capacity passes.new ≡ deque_capacity passes.old }
         ensures rising { IsRising (keys_within room self.old) }
         ensures few { length (keys_within room self.old) ≤ room }
+        ensures steps { steps.new ≡ length (posted_keys self.old) }
     {
-        let below = bound(&self.places, room);
-        take(&self.places, below, name, passes);
-        unmark(&mut self.places, below);
+        self.posted.sort_unstable();
+        let gone = room.min(self.posted.len());
+        renumber(&mut self.places, &self.posted, gone, steps);
+        give(&self.posted[..gone], name, passes);
+        drop_first(&mut self.posted, gone);
     }
 }

@@ -2,6 +2,7 @@
 ghost use Rattle.std.specs.Prelude.{◌≡◌, ◌≤◌, ◌+◌, ◌++◌, ◌∷◌, ◌<◌, ◌-◌, ◌^◌, [], not, map, length, is_ok, is_some, Err, MatchResult, if◌then◌else◌, true, false};
 ghost use Rattle.std.specs.VecDeque.{deque_len, deque_capacity};
 ghost use Rattle.calloop_wake.specs.Boards.{is_open, any_marked, wakes, after_open_place, after_close_place, after_post, after_unpost, bound, taken, keys_within, IsRising};
+ghost use Rattle.calloop_wake.specs.Posts.{posted_keys};
 ghost use Rattle.calloop_wake.specs.Watches.{noted, with_places};
 ghost use Rattle.calloop_wake.specs.declared.wake.board.OpenRefusal.TheVariants.{AlreadyExists, OutOfMemory};
 ghost use Rattle.calloop_wake.specs.declared.wake.notes.Note.TheVariants.{Counted, Looked, Unposted};
@@ -11,6 +12,7 @@ use super::ghosts::Name;
 use super::locked::Core;
 use super::notes::Notes;
 use super::{Debt, Last, LeaveToClose, LeaveToSleep, Nudge, OpenedPass, TakenPass};
+use crate::steps::Steps;
 use counted_slot::Fits;
 use std::alloc::Global;
 use std::collections::VecDeque;
@@ -156,10 +158,18 @@ impl WatchedBoard {
         self.board.look()
     }
 
-    /// Takes the marked keys, ascending, as many as there is room for, appends a pass for each, and has the watch note them.
-    pub fn unpost(&mut self, room: usize, watch: &mut Watch, passes: &mut VecDeque<TakenPass>)
+    /// Takes the marked keys, ascending, as many as there is room for, appends a pass for each, and has the watch note them. It looks
+    /// up as many places as there were marked keys.
+    pub fn unpost(
+        &mut self,
+        room: usize,
+        watch: &mut Watch,
+        passes: &mut VecDeque<TakenPass>,
+        steps: &mut Steps,
+    )
         requires name { watch.old.name ≡ self.old.name }
         requires room { deque_len passes.old + room ≤ deque_capacity passes.old }
+        requires fresh { steps.old ≡ 0 }
         ensures board { self.new ≡ with_places (after_unpost (bound room self.old.places) self.old.places) self.old }
         ensures watch { watch.new ≡ noted (Unposted room (keys_within room self.old.places)) watch.old }
         ensures gives { passes.new.items ≡ passes.old.items ++ map (taken self.old.name) (keys_within room self.old.places) }
@@ -167,8 +177,9 @@ impl WatchedBoard {
         ensures capacity { deque_capacity passes.new ≡ deque_capacity passes.old }
         ensures rising { IsRising (keys_within room self.old.places) }
         ensures few { length (keys_within room self.old.places) ≤ room }
+        ensures steps { steps.new ≡ length (posted_keys self.old.places) }
     {
         watch.notes = watch.notes.and_unposted(&self.board, room);
-        self.board.unpost(room, &self.name, passes);
+        self.board.unpost(room, &self.name, passes, steps);
     }
 }

@@ -18,10 +18,10 @@ loop-call-preserved g c =
     let M = g.D.Dispatch.means in
     record {
       machine = λ later t h.
-          subst (λ (xs : List (LoopAnswer g.row.D.Denot g.row.P.Denot g.row.D-Data.Denot)). RunLeads M g.P.Poller.outside c.args.calls.items xs (view_of c.args.self.now) t)
-          (sym (append_assoc c.loop-call.answers.items (c.carry_out-answer.result ∷ []) later) ∙ ap (λ (xs : List (LoopAnswer g.row.D.Denot g.row.P.Denot g.row.D-Data.Denot)). xs ++ later) (sym c.push_reserved.ensures.items))
+          subst (λ (xs : List (LoopAnswer g.row.D.Denot g.row.P.Denot g.row.D-Data.Denot g.row.D-Idle.Denot)). RunLeads M g.D.Idle.IdleCallback.runs g.P.Poller.outside c.args.calls.items xs (view_of c.args.self.now) t)
+          (sym (append_assoc c.loop-call.answers.items (c.carry_out-answer.result ∷ []) later) ∙ ap (λ (xs : List (LoopAnswer g.row.D.Denot g.row.P.Denot g.row.D-Data.Denot g.row.D-Idle.Denot)). xs ++ later) (sym c.push_reserved.ensures.items))
           (c.loop-call.invariant.machine (c.carry_out-answer.result ∷ later) t
-          (rw c.in-Some.ensures.items (run_first M g.P.Poller.outside c.in-Some.call c.carry_out-answer.result c.pop_front.new.self.items later (view_of c.loop-call.self) (view_of c.carry_out-answer.new.self) t c.carry_out-answer.ensures h)));
+          (rw c.in-Some.ensures.items (run_first M g.D.Idle.IdleCallback.runs g.P.Poller.outside c.in-Some.call c.carry_out-answer.result c.pop_front.new.self.items later (view_of c.loop-call.self) (view_of c.carry_out-answer.new.self) t c.carry_out-answer.ensures h)));
       room = omega (arith, c.loop-call.invariant.room, c.in-Some.ensures.len, c.push_reserved.ensures.len, c.push_reserved.ensures.capacity);
     }
 
@@ -30,7 +30,7 @@ returns g c =
     let none : c.loop-call.calls.items ≡ [] = nil_from_length c.loop-call.calls.items (omega (arith, c.loop-call.calls.ok.0, c.in_default-pop_front.ensures.cases.0)) in
     record {
       run =
-          subst (λ (xs : List (LoopAnswer g.row.D.Denot g.row.P.Denot g.row.D-Data.Denot)). RunLeads g.D.Dispatch.means g.P.Poller.outside c.args.calls.items xs (view_of c.args.self.now) (view_of c.loop-call.self)) (append-nil c.loop-call.answers.items)
-          (c.loop-call.invariant.machine [] (view_of c.loop-call.self) (rw none (run_none g.D.Dispatch.means g.P.Poller.outside (view_of c.loop-call.self))));
+          subst (λ (xs : List (LoopAnswer g.row.D.Denot g.row.P.Denot g.row.D-Data.Denot g.row.D-Idle.Denot)). RunLeads g.D.Dispatch.means g.D.Idle.IdleCallback.runs g.P.Poller.outside c.args.calls.items xs (view_of c.args.self.now) (view_of c.loop-call.self)) (append-nil c.loop-call.answers.items)
+          (c.loop-call.invariant.machine [] (view_of c.loop-call.self) (rw none (run_none g.D.Dispatch.means g.D.Idle.IdleCallback.runs g.P.Poller.outside (view_of c.loop-call.self))));
       err = tt;
     }

@@ -8,8 +8,8 @@ use Rattle.calloop.proofs.loop_logic.EventLoop.carry_out_all.Given as goal
 -- what the calls that are left lead to, all of them lead to
 abbrev pub invariant-loop-call : goal.invariant-loop-call
 invariant-loop-call g l = record {
-  machine : (later : List (LoopAnswer g.row.D.Denot g.row.P.Denot g.row.D-Data.Denot)) (t : View g.row.D.Denot g.row.P.Denot) → RunLeads g.D.Dispatch.means g.P.Poller.outside l.calls.items later (view_of l.self) t
-      → RunLeads g.D.Dispatch.means g.P.Poller.outside l.initial.calls.items (l.answers.items ++ later) (view_of l.initial.self) t;
+  machine : (later : List (LoopAnswer g.row.D.Denot g.row.P.Denot g.row.D-Data.Denot g.row.D-Idle.Denot)) (t : View g.row.D.Denot g.row.D-Idle.Denot g.row.P.Denot) → RunLeads g.D.Dispatch.means g.D.Idle.IdleCallback.runs g.P.Poller.outside l.calls.items later (view_of l.self) t
+      → RunLeads g.D.Dispatch.means g.D.Idle.IdleCallback.runs g.P.Poller.outside l.initial.calls.items (l.answers.items ++ later) (view_of l.initial.self) t;
   room : vec_len l.answers + deque_len l.calls ≤ vec_capacity l.answers;
 }
 

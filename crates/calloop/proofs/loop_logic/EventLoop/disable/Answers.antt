@@ -7,10 +7,10 @@ use Rattle.calloop.proofs.Inserting.{not_disabled, disabled}
 use Rattle.calloop.proofs.loop_logic.EventLoop.disable.Goals as goal
 
 pub returns-in_default : goal.returns-in_default
-returns-in_default g c = rw c.in_default.ensures.list (not_disabled g.D.Dispatch.means g.P.Poller.outside (view_of c.args.self.now) c.args.token c.in_default.ensures.value)
+returns-in_default g c = rw c.in_default.ensures.list (not_disabled g.D.Dispatch.means g.D.Idle.IdleCallback.runs g.P.Poller.outside (view_of c.args.self.now) c.args.token c.in_default.ensures.value)
 
 pub returns : goal.returns
 returns g c =
     let is : named c.args.self.now.sources c.args.token ≡ Source c.in-Some.source = source_is (named c.args.self.now.sources c.args.token) c.in-Some.source (sym c.in-Some.ensures.value) in
     rw c.end_turn-none.ensures.list
-    (disabled g.D.Dispatch.means g.P.Poller.outside (view_of c.args.self.now) c.args.token c.in-Some.source c.unregister-answer.new.source c.unregister-answer.result (view_of c.unregister-answer.new.self) is (rw c.in-Some.ensures.list at c.unregister-answer.ensures))
+    (disabled g.D.Dispatch.means g.D.Idle.IdleCallback.runs g.P.Poller.outside (view_of c.args.self.now) c.args.token c.in-Some.source c.unregister-answer.new.source c.unregister-answer.result (view_of c.unregister-answer.new.self) is (rw c.in-Some.ensures.list at c.unregister-answer.ensures))

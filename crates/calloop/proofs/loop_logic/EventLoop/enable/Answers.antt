@@ -7,10 +7,10 @@ use Rattle.calloop.proofs.Inserting.{not_enabled, enabled}
 use Rattle.calloop.proofs.loop_logic.EventLoop.enable.Goals as goal
 
 pub returns-in_default : goal.returns-in_default
-returns-in_default g c = rw c.in_default.ensures.list (not_enabled g.D.Dispatch.means g.P.Poller.outside (view_of c.args.self.now) c.args.token c.in_default.ensures.value)
+returns-in_default g c = rw c.in_default.ensures.list (not_enabled g.D.Dispatch.means g.D.Idle.IdleCallback.runs g.P.Poller.outside (view_of c.args.self.now) c.args.token c.in_default.ensures.value)
 
 pub returns : goal.returns
 returns g c =
     let is : named c.args.self.now.sources c.args.token ≡ Source c.in-Some.source = source_is (named c.args.self.now.sources c.args.token) c.in-Some.source (sym c.in-Some.ensures.value) in
     rw c.end_turn-none.ensures.list
-    (enabled g.D.Dispatch.means g.P.Poller.outside (view_of c.args.self.now) c.args.token c.in-Some.source c.register-answer.new.source c.register-answer.result (view_of c.register-answer.new.self) is (rw c.in-Some.ensures.list at c.register-answer.ensures))
+    (enabled g.D.Dispatch.means g.D.Idle.IdleCallback.runs g.P.Poller.outside (view_of c.args.self.now) c.args.token c.in-Some.source c.register-answer.new.source c.register-answer.result (view_of c.register-answer.new.self) is (rw c.in-Some.ensures.list at c.register-answer.ensures))

@@ -7,11 +7,11 @@ use Rattle.calloop.proofs.loop_logic.EventLoop.end_turn.Goals as goal
 pub returns-in-Ok-clause-machine : goal.returns-in-Ok-clause-machine
 returns-in-Ok-clause-machine g c x =
     let d = c.act-told.new.source in
-    goes_on g.D.Dispatch.means g.P.Poller.outside (Ending c.args.token c.args.source c.args.answer x) (Returning c.args.token d (Ok tt) x) (Cutting x) (view_of c.args.self.now) (view_of c.act-told.new.self) (view_of c.give_back.new.self)
+    goes_on g.D.Dispatch.means g.D.Idle.IdleCallback.runs g.P.Poller.outside (Ending c.args.token c.args.source c.args.answer x) (Returning c.args.token d (Ok tt) x) (Cutting x) (view_of c.args.self.now) (view_of c.act-told.new.self) (view_of c.give_back.new.self)
     (c.in-Ok.ensures.machine x) (c.give_back.ensures.machine (Ok tt) x)
 
 pub returns-in-Err-clause-machine : goal.returns-in-Err-clause-machine
 returns-in-Err-clause-machine g c x =
     let d = c.act-told.new.source in
-    goes_on g.D.Dispatch.means g.P.Poller.outside (Ending c.args.token c.args.source c.args.answer x) (Returning c.args.token d (Err c.in-Err.error) x) (Leaving (Err c.in-Err.error) x) (view_of c.args.self.now) (view_of c.act-told.new.self) (view_of c.give_back.new.self)
+    goes_on g.D.Dispatch.means g.D.Idle.IdleCallback.runs g.P.Poller.outside (Ending c.args.token c.args.source c.args.answer x) (Returning c.args.token d (Err c.in-Err.error) x) (Leaving (Err c.in-Err.error) x) (view_of c.args.self.now) (view_of c.act-told.new.self) (view_of c.give_back.new.self)
     (c.in-Err.ensures.machine x) (c.give_back.ensures.machine (Err c.in-Err.error) x)

@@ -1,19 +1,37 @@
-use Rattle.std.proofs.Common.{◌&&◌, true, inr, ap, ◌∙◌}
+use Rattle.std.proofs.lemmas.Result.{err_from_is_err_and}
+use Rattle.calloop_core.specs.Polls.{polls_after}
+use Rattle.std.proofs.Common.{◌&&◌, List, true, inr, ap, ◌∙◌}
+use Rattle.calloop_wake.specs.declared.token.RegistrationToken.{RegistrationToken}
 use Rattle.calloop_core.specs.Polls.{PollView, poll_view}
 use Rattle.calloop.specs.Held.{Held, Listed, held_after}
 use Rattle.calloop.specs.Machine.{View, view_of}
-use Rattle.calloop.proofs.Registering.{entered_done}
+use Rattle.calloop.proofs.Registering.{entered_done, entered_not}
 use Rattle.calloop.proofs.loop_logic.EventLoop.register.Goals as goal
 
 pub returns : goal.returns
 returns g c =
-    let v : View g.row.D.Denot g.row.P.Denot = view_of c.args.self.now in
+    let v : View g.row.D.Denot g.row.D-Idle.Denot g.row.P.Denot = view_of c.args.self.now in
     let needs = g.D.Dispatch.means.needs c.args.source.now in
     let r = rw c.new-factory.ensures at c.in_ok-register.ensures in
     let entry = entered_done needs c.args.token v.held c.enter.new.self.tokens.items (rw (c.needs_extra_lifecycle_events-needed.ensures, c.in_ok-reserve.ensures.same) at c.enter.ensures) in (
       r.0,
       inr (c.register.new.factory, r.1),
       r.2.0,
-      ap (λ (h : Held). record { slots = v.slots; poll = poll_view c.register.new.poll; held = h }) entry
+      ap (λ (h : Held g.row.D.Denot g.row.D-Idle.Denot). record { slots = v.slots; poll = poll_view c.register.new.poll; held = h }) entry
           ∙ ap (λ (p : PollView g.row.P.Denot). record { slots = v.slots; poll = p; held = held_after v.held (Listed (needs && true) c.args.token) }) r.2.1,
+    )
+
+pub returns-in_err-register : goal.returns-in_err-register
+returns-in_err-register g c =
+    let v : View g.row.D.Denot g.row.D-Idle.Denot g.row.P.Denot = view_of c.args.self.now in
+    let p = err_from_is_err_and c.from_residual-in_err-register.result c.from_residual-in_err-register.ensures.1 in
+    let r = rw c.new-factory.ensures at c.in_err-register.ensures in
+    let entry = entered_not (g.D.Dispatch.means.needs c.args.source.now) c.args.token v.held in
+    rw (p.1, p.2) (
+      r.0,
+      inr (c.register.new.factory, r.1),
+      r.2.0,
+      ap (λ (l : List RegistrationToken). record { slots = v.slots; poll = poll_view c.register.new.poll; held = record v.held { lifecycle = l } }) c.in_ok-reserve.ensures.same
+          ∙ ap (λ (q : PollView g.row.P.Denot). record v { poll = q }) r.2.1
+          ∙ ap (λ (h : Held g.row.D.Denot g.row.D-Idle.Denot). record { slots = v.slots; poll = polls_after v.poll r.0; held = h }) entry,
     )

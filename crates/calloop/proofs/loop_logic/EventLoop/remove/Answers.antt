@@ -7,10 +7,10 @@ use Rattle.calloop.proofs.Inserting.{not_removed, removed}
 use Rattle.calloop.proofs.loop_logic.EventLoop.remove.Goals as goal
 
 pub returns-in_err-source : goal.returns-in_err-source
-returns-in_err-source g c = rw (c.from_residual.ensures, c.in_err-source.ensures.list) (not_removed g.D.Dispatch.means g.P.Poller.outside (view_of c.args.self.now) c.args.token c.in_err-source.ensures.value)
+returns-in_err-source g c = rw (c.from_residual.ensures, c.in_err-source.ensures.list) (not_removed g.D.Dispatch.means g.D.Idle.IdleCallback.runs g.P.Poller.outside (view_of c.args.self.now) c.args.token c.in_err-source.ensures.value)
 
 pub returns : goal.returns
 returns g c =
     let is : named c.args.self.now.sources c.args.token ≡ Source c.in_ok-source.source = source_is (named c.args.self.now.sources c.args.token) c.in_ok-source.source (sym c.in_ok-source.ensures.value) in
-    removed g.D.Dispatch.means g.P.Poller.outside (view_of c.args.self.now) c.args.token c.in_ok-source.source c.unregister-told.new.source c.unregister-told.result (view_of c.unregister-told.new.self) is
+    removed g.D.Dispatch.means g.D.Idle.IdleCallback.runs g.P.Poller.outside (view_of c.args.self.now) c.args.token c.in_ok-source.source c.unregister-told.new.source c.unregister-told.result (view_of c.unregister-told.new.self) is
     (rw (c.vacate.ensures, c.in_ok-source.ensures.list) at c.unregister-told.ensures)

@@ -9,14 +9,14 @@ use Rattle.calloop.proofs.loop_logic.EventLoop.run.Goals as goal
 pub returns-then-is_stopped : goal.returns-then-is_stopped
 returns-then-is_stopped g c =
     c.rounds.invariant.leads (Ok tt) c.rounds.«data» (view_of c.rounds.self)
-    (runs-stopped g.D.Dispatch.means g.P.Poller.outside (CalledAtMut g.F.FnMut) c.args.timeout c.rounds.callback c.rounds.«data» (view_of c.rounds.self))
+    (runs-stopped g.D.Dispatch.means g.D.Idle.IdleCallback.runs g.P.Poller.outside (CalledAtMut g.F.FnMut) c.args.timeout c.rounds.callback c.rounds.«data» (view_of c.rounds.self))
 
 pub returns-in_err-dispatch : goal.returns-in_err-dispatch
 returns-in_err-dispatch g c =
     let p = err_from_is_err_and c.from_residual.result c.from_residual.ensures.1 in
     rw (p.1, p.2)
     (c.rounds.invariant.leads (Err c.in_err-dispatch.field-0.0) c.dispatch.new.«data» (view_of c.dispatch.new.self)
-    (runs-failed g.D.Dispatch.means g.P.Poller.outside (CalledAtMut g.F.FnMut) c.args.timeout c.rounds.callback c.rounds.«data» (view_of c.rounds.self)
+    (runs-failed g.D.Dispatch.means g.D.Idle.IdleCallback.runs g.P.Poller.outside (CalledAtMut g.F.FnMut) c.args.timeout c.rounds.callback c.rounds.«data» (view_of c.rounds.self)
     c.in_err-dispatch.field-0.0 c.dispatch.new.«data» (view_of c.dispatch.new.self) c.in_err-dispatch.ensures.case))
 
 pub rounds-preserved : goal.rounds-preserved
@@ -27,6 +27,6 @@ rounds-preserved g c =
       callable = search of_calls;
       leads = λ answer left t runs.
           c.rounds.invariant.leads answer left t
-          (runs-on g.D.Dispatch.means g.P.Poller.outside (CalledAtMut g.F.FnMut) c.args.timeout c.rounds.callback c.rounds.«data» (view_of c.rounds.self)
+          (runs-on g.D.Dispatch.means g.D.Idle.IdleCallback.runs g.P.Poller.outside (CalledAtMut g.F.FnMut) c.args.timeout c.rounds.callback c.rounds.«data» (view_of c.rounds.self)
           c.dispatch.new.«data» (view_of c.dispatch.new.self) c.callback.new.self _ answer left t c.in_ok-dispatch.ensures.case (Called-Mut g.F.FnMut c.callback.ensures) runs);
     }

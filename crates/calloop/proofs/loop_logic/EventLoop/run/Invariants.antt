@@ -12,7 +12,7 @@ invariant-rounds g l = record {
   can : (goal.iterator-rounds g).can_next l.iterator';
   finite : (goal.iterator-rounds g).is_finite l.iterator';
   callable : always_mut g.F.FnMut l.initial.callback → always_mut g.F.FnMut l.callback;
-  leads : (answer : Result (Unit {0}) Error) (left : g.row.D-Data.Denot) (t : View g.row.D.Denot g.row.P.Denot)
-      → RunsTo g.D.Dispatch.means g.P.Poller.outside (CalledAtMut g.F.FnMut) l.timeout l.callback l.«data» (view_of l.self) answer left t
-      → RunsTo g.D.Dispatch.means g.P.Poller.outside (CalledAtMut g.F.FnMut) l.timeout l.initial.callback l.initial.«data» (view_of l.initial.self) answer left t;
+  leads : (answer : Result (Unit {0}) Error) (left : g.row.D-Data.Denot) (t : View g.row.D.Denot g.row.D-Idle.Denot g.row.P.Denot)
+      → RunsTo g.D.Dispatch.means g.D.Idle.IdleCallback.runs g.P.Poller.outside (CalledAtMut g.F.FnMut) l.timeout l.callback l.«data» (view_of l.self) answer left t
+      → RunsTo g.D.Dispatch.means g.D.Idle.IdleCallback.runs g.P.Poller.outside (CalledAtMut g.F.FnMut) l.timeout l.initial.callback l.initial.«data» (view_of l.initial.self) answer left t;
 }

@@ -13,7 +13,7 @@ loop-place-preserved g c =
     let rest : drop c.loop-place.place tokens ≡ c.at-token.result ∷ later = rest_from tokens c.loop-place.place c.at-token.result (rw c.loop-place.invariant.entries at c.at-token.ensures) in
     record {
       machine = λ x.
-          goes_on g.D.Dispatch.means g.P.Poller.outside (Noticing c.args.from tokens x) (Noticing c.args.from (c.at-token.result ∷ later) x) (Noticing c.args.from later x) (view_of c.args.self.now) (view_of c.loop-place.self) (view_of c.tell_one_of_events.new.self)
+          goes_on g.D.Dispatch.means g.D.Idle.IdleCallback.runs g.P.Poller.outside (Noticing c.args.from tokens x) (Noticing c.args.from (c.at-token.result ∷ later) x) (Noticing c.args.from later x) (view_of c.args.self.now) (view_of c.loop-place.self) (view_of c.tell_one_of_events.new.self)
           (rw rest at (c.loop-place.invariant.machine x)) (c.tell_one_of_events.ensures.machine later x);
       entries = c.tell_one_of_events.ensures.entries ∙ c.loop-place.invariant.entries;
     }
@@ -24,6 +24,6 @@ returns g c =
     let none : drop c.loop-place.place tokens ≡ [] = drop_all c.loop-place.place tokens (omega (arith, c.loop-place-test.false, c.len-place-end.ensures, c.args.self.now.lifecycle.tokens.ok.0)) in
     record {
       machine = λ x.
-          goes_on g.D.Dispatch.means g.P.Poller.outside (Noticing c.args.from tokens x) (Noticing c.args.from [] x) (Cutting x) (view_of c.args.self.now) (view_of c.loop-place.self) (view_of c.loop-place.self)
-          (rw none at (c.loop-place.invariant.machine x)) (all_noticed g.D.Dispatch.means g.P.Poller.outside c.args.from (view_of c.loop-place.self) x);
+          goes_on g.D.Dispatch.means g.D.Idle.IdleCallback.runs g.P.Poller.outside (Noticing c.args.from tokens x) (Noticing c.args.from [] x) (Cutting x) (view_of c.args.self.now) (view_of c.loop-place.self) (view_of c.loop-place.self)
+          (rw none at (c.loop-place.invariant.machine x)) (all_noticed g.D.Dispatch.means g.D.Idle.IdleCallback.runs g.P.Poller.outside c.args.from (view_of c.loop-place.self) x);
     }

@@ -16,7 +16,7 @@ returns-in_err-tell_one_of_wait-clause-machine g c timeout x =
     let p = err_from_is_err_and c.from_residual.result c.from_residual.ensures.1 in
     let e = c.in_err-tell_one_of_wait.field-0.0 in
     rw (p.1, p.2)
-    (goes_on g.D.Dispatch.means g.P.Poller.outside (Sleeping timeout tokens x) (Sleeping timeout (c.at-token.result ∷ later) x) (Leaving (Err e) x) (view_of c.args.self.now) (view_of c.loop-place.self) (view_of c.tell_one_of_wait.new.self)
+    (goes_on g.D.Dispatch.means g.D.Idle.IdleCallback.runs g.P.Poller.outside (Sleeping timeout tokens x) (Sleeping timeout (c.at-token.result ∷ later) x) (Leaving (Err e) x) (view_of c.args.self.now) (view_of c.loop-place.self) (view_of c.tell_one_of_wait.new.self)
     (rw rest at (c.loop-place.invariant.machine timeout x)) (c.in_err-tell_one_of_wait.ensures.machine timeout later x))
 
 pub loop-place-preserved : goal.loop-place-preserved
@@ -28,7 +28,7 @@ loop-place-preserved g c =
     let less : n - c.loop-place.place ≡ n - (c.loop-place.place + 1) + 1 = omega (arith, c.loop-place-test.true, c.len-place-end.ensures) in
     record {
       machine = λ timeout x.
-          goes_on g.D.Dispatch.means g.P.Poller.outside (Sleeping timeout tokens x) (Sleeping timeout (c.at-token.result ∷ later) x) (Sleeping timeout later x) (view_of c.args.self.now) (view_of c.loop-place.self) (view_of c.tell_one_of_wait.new.self)
+          goes_on g.D.Dispatch.means g.D.Idle.IdleCallback.runs g.P.Poller.outside (Sleeping timeout tokens x) (Sleeping timeout (c.at-token.result ∷ later) x) (Sleeping timeout later x) (view_of c.args.self.now) (view_of c.loop-place.self) (view_of c.tell_one_of_wait.new.self)
           (rw rest at (c.loop-place.invariant.machine timeout x)) (c.in_ok-tell_one_of_wait.ensures.machine timeout later x);
       ready = c.in_ok-tell_one_of_wait.ensures.ready (n - (c.loop-place.place + 1)) (subst (λ k. IsReady k c.loop-place.self.poll) less c.loop-place.invariant.ready);
       entries = c.in_ok-tell_one_of_wait.ensures.entries ∙ c.loop-place.invariant.entries;
@@ -38,5 +38,5 @@ pub returns-clause-machine : goal.returns-clause-machine
 returns-clause-machine g c timeout x =
     let tokens = c.args.self.now.lifecycle.tokens.items in
     let none : drop c.loop-place.place tokens ≡ [] = drop_all c.loop-place.place tokens (omega (arith, c.loop-place-test.false, c.len-place-end.ensures, c.args.self.now.lifecycle.tokens.ok.0)) in
-    goes_on g.D.Dispatch.means g.P.Poller.outside (Sleeping timeout tokens x) (Sleeping timeout [] x) (Waiting timeout x) (view_of c.args.self.now) (view_of c.loop-place.self) (view_of c.loop-place.self)
-    (rw none at (c.loop-place.invariant.machine timeout x)) (all_slept g.D.Dispatch.means g.P.Poller.outside timeout (view_of c.loop-place.self) x)
+    goes_on g.D.Dispatch.means g.D.Idle.IdleCallback.runs g.P.Poller.outside (Sleeping timeout tokens x) (Sleeping timeout [] x) (Waiting timeout x) (view_of c.args.self.now) (view_of c.loop-place.self) (view_of c.loop-place.self)
+    (rw none at (c.loop-place.invariant.machine timeout x)) (all_slept g.D.Dispatch.means g.D.Idle.IdleCallback.runs g.P.Poller.outside timeout (view_of c.loop-place.self) x)

@@ -6,7 +6,7 @@ use Rattle.calloop.proofs.loop_logic.EventLoop.tell_of_wait.Given as goal
 
 abbrev pub invariant-loop-place : goal.invariant-loop-place
 invariant-loop-place g l = record {
-  machine : (timeout : Option ℕ) (x : g.row.D-Data.Denot) → Goes g.D.Dispatch.means g.P.Poller.outside (Sleeping timeout l.initial.self.lifecycle.tokens.items x) (Sleeping timeout (drop l.place l.initial.self.lifecycle.tokens.items) x) (view_of l.initial.self) (view_of l.self);
+  machine : (timeout : Option ℕ) (x : g.row.D-Data.Denot) → Goes g.D.Dispatch.means g.D.Idle.IdleCallback.runs g.P.Poller.outside (Sleeping timeout l.initial.self.lifecycle.tokens.items x) (Sleeping timeout (drop l.place l.initial.self.lifecycle.tokens.items) x) (view_of l.initial.self) (view_of l.self);
   ready : IsReady (vec_len l.initial.self.lifecycle.tokens - l.place) l.self.poll;
   entries : l.self.lifecycle ≡ l.initial.self.lifecycle;
 }

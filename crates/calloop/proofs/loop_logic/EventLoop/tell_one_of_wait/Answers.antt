@@ -13,7 +13,7 @@ use Rattle.calloop.proofs.loop_logic.EventLoop.tell_one_of_wait.Goals as goal
 
 pub returns-in_default-clause-machine : goal.returns-in_default-clause-machine
 returns-in_default-clause-machine g c timeout later x =
-    rw c.in_default.ensures.list (not_slept g.D.Dispatch.means g.P.Poller.outside timeout c.args.token later (view_of c.args.self.now) x c.in_default.ensures.value)
+    rw c.in_default.ensures.list (not_slept g.D.Dispatch.means g.D.Idle.IdleCallback.runs g.P.Poller.outside timeout c.args.token later (view_of c.args.self.now) x c.in_default.ensures.value)
 
 pub returns-in_err-readiness-clause-machine : goal.returns-in_err-readiness-clause-machine
 returns-in_err-readiness-clause-machine g c timeout later x =
@@ -21,7 +21,7 @@ returns-in_err-readiness-clause-machine g c timeout later x =
     let p = err_from_is_err_and c.from_residual.result c.from_residual.ensures.1 in
     let e = c.in_err-readiness.field-0.0 in
     rw (p.1, p.2, c.end_turn-none.ensures.list, c.in-Some.ensures.list)
-    (slept g.D.Dispatch.means g.P.Poller.outside timeout c.args.token later (view_of c.args.self.now) x c.in-Some.source c.before_sleep-answer.new.self (Err e) [] (Leaving (Err e) x) is
+    (slept g.D.Dispatch.means g.D.Idle.IdleCallback.runs g.P.Poller.outside timeout c.args.token later (view_of c.args.self.now) x c.in-Some.source c.before_sleep-answer.new.self (Err e) [] (Leaving (Err e) x) is
     (c.in_err-readiness.ensures (poll_view c.args.self.now.poll)) (refl, refl) (λ u. tt))
 
 pub returns-in-Some-2-clause-machine : goal.returns-in-Some-2-clause-machine
@@ -29,12 +29,12 @@ returns-in-Some-2-clause-machine g c timeout later x =
     let is : named c.args.self.now.sources c.args.token ≡ Source c.in-Some.source = source_is (named c.args.self.now.sources c.args.token) c.in-Some.source (sym c.in-Some.ensures.value) in
     let given : Readiness × Token = (c.in-Some-2.readiness, c.in-Some-2.token) in
     rw (c.append.ensures.view, c.end_turn-none.ensures.list, c.in-Some.ensures.list)
-    (slept g.D.Dispatch.means g.P.Poller.outside timeout c.args.token later (view_of c.args.self.now) x c.in-Some.source c.before_sleep-answer.new.self (Ok (Some given)) (Appended (own_event given) ∷ []) (Sleeping timeout later x) is
+    (slept g.D.Dispatch.means g.D.Idle.IdleCallback.runs g.P.Poller.outside timeout c.args.token later (view_of c.args.self.now) x c.in-Some.source c.before_sleep-answer.new.self (Ok (Some given)) (Appended (own_event given) ∷ []) (Sleeping timeout later x) is
     (rw c.in-Some-2.is at (c.in_ok-readiness.ensures (poll_view c.args.self.now.poll))) (refl, refl) (λ u. (refl, tt)))
 
 pub returns-clause-machine : goal.returns-clause-machine
 returns-clause-machine g c timeout later x =
     let is : named c.args.self.now.sources c.args.token ≡ Source c.in-Some.source = source_is (named c.args.self.now.sources c.args.token) c.in-Some.source (sym c.in-Some.ensures.value) in
     rw (c.end_turn-none.ensures.list, c.in-Some.ensures.list)
-    (slept g.D.Dispatch.means g.P.Poller.outside timeout c.args.token later (view_of c.args.self.now) x c.in-Some.source c.before_sleep-answer.new.self (Ok None) [] (Sleeping timeout later x) is
+    (slept g.D.Dispatch.means g.D.Idle.IdleCallback.runs g.P.Poller.outside timeout c.args.token later (view_of c.args.self.now) x c.in-Some.source c.before_sleep-answer.new.self (Ok None) [] (Sleeping timeout later x) is
     (rw c.in-None.is at (c.in_ok-readiness.ensures (poll_view c.args.self.now.poll))) (refl, refl) (λ u. tt))

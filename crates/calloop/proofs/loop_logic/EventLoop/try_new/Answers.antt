@@ -1,6 +1,8 @@
 use Rattle.std.proofs.Common.{[], List, refl, sym, ap, ◌∙◌, None}
 use Rattle.calloop_wake.specs.declared.list.Slot.{Slot}
 use Rattle.calloop_wake.specs.declared.token.RegistrationToken.{RegistrationToken}
+use Rattle.calloop_core.specs.declared.sources.PostAction.TheVariants.{Continue}
+use Rattle.calloop.specs.Askings.{Asks, no_asks}
 use Rattle.calloop.specs.Held.{Held}
 use Rattle.calloop.specs.Ledgers.{new_ledger}
 use Rattle.calloop_core.specs.Polls.{PollView, poll_view}
@@ -11,16 +13,17 @@ returns g c =
     let watch = (poll_view c.in_ok-new.field-0).watch in
     let new : PollView g.row.P.Denot =
     record { poller = c.args.poller; table = []; deadlines = record { entries = []; next = 0 }; batch = []; passes = []; pass = None; places = 0; watch = record { name = watch.name; notes = [] } } in
-    let none : Held = record { lifecycle = [] } in
+    let none : Held g.row.D.Denot g.row.D-Idle.Denot = record { lifecycle = []; pending = Continue; asks = no_asks } in
     record {
       ok = (
-        record { slots = []; poll = new; held = none; ledger = new_ledger },
-        record { slots = refl; table = refl; deadlines = refl; batch = refl; passes = refl; pass = refl; unwatched = refl; unlisted = refl; ledger = refl },
+        record { slots = []; poll = new; held = none; handed = []; ledger = new_ledger },
+        record { slots = refl; table = refl; deadlines = refl; batch = refl; passes = refl; pass = refl; unwatched = refl; held = refl; handed = refl; ledger = refl },
         refl,
         sym
-            (ap (λ (s : List (Slot g.row.D.Denot)). record { slots = s; poll = poll_view c.in_ok-new.field-0; held = record { lifecycle = c.new-3.result.tokens.items } }) c.new.ensures
-            ∙ ap (λ (p : PollView g.row.P.Denot). record { slots = []; poll = p; held = record { lifecycle = c.new-3.result.tokens.items } }) c.in_ok-new.ensures.ok
-            ∙ ap (λ (l : List RegistrationToken). record { slots = []; poll = new; held = record { lifecycle = l } }) c.new-3.ensures),
+            (ap (λ (s : List (Slot g.row.D.Denot)). record { slots = s; poll = poll_view c.in_ok-new.field-0; held = record { lifecycle = c.new-3.result.tokens.items; pending = Continue; asks = c.new-4.result } }) c.new.ensures
+            ∙ ap (λ (p : PollView g.row.P.Denot). record { slots = []; poll = p; held = record { lifecycle = c.new-3.result.tokens.items; pending = Continue; asks = c.new-4.result } }) c.in_ok-new.ensures.ok
+            ∙ ap (λ (l : List RegistrationToken). record { slots = []; poll = new; held = record { lifecycle = l; pending = Continue; asks = c.new-4.result } }) c.new-3.ensures
+            ∙ ap (λ (q : Asks g.row.D.Denot g.row.D-Idle.Denot). record { slots = []; poll = new; held = record { lifecycle = []; pending = Continue; asks = q } }) c.new-4.ensures),
       );
       err = tt;
     }

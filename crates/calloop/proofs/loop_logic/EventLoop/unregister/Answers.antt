@@ -7,11 +7,11 @@ use Rattle.calloop.proofs.loop_logic.EventLoop.unregister.Goals as goal
 
 pub returns : goal.returns
 returns g c =
-    let v : View g.row.D.Denot g.row.P.Denot = view_of c.args.self.now in
+    let v : View g.row.D.Denot g.row.D-Idle.Denot g.row.P.Denot = view_of c.args.self.now in
     let r = c.unregister-answer.ensures in (
       r.0,
       r.1,
       r.2.0,
-      ap (λ (l : List RegistrationToken). record { slots = v.slots; poll = poll_view c.unregister-answer.new.poll; held = record { lifecycle = l } }) c.leave.ensures
+      ap (λ (l : List RegistrationToken). record { slots = v.slots; poll = poll_view c.unregister-answer.new.poll; held = record v.held { lifecycle = l } }) c.leave.ensures
           ∙ ap (λ (p : PollView g.row.P.Denot). record { slots = v.slots; poll = p; held = held_after v.held (Unlisted c.args.token) }) r.2.1,
     )

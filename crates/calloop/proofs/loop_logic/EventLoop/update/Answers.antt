@@ -7,10 +7,10 @@ use Rattle.calloop.proofs.Inserting.{not_updated, updated}
 use Rattle.calloop.proofs.loop_logic.EventLoop.update.Goals as goal
 
 pub returns-in_default : goal.returns-in_default
-returns-in_default g c = rw c.in_default.ensures.list (not_updated g.D.Dispatch.means g.P.Poller.outside (view_of c.args.self.now) c.args.token c.in_default.ensures.value)
+returns-in_default g c = rw c.in_default.ensures.list (not_updated g.D.Dispatch.means g.D.Idle.IdleCallback.runs g.P.Poller.outside (view_of c.args.self.now) c.args.token c.in_default.ensures.value)
 
 pub returns : goal.returns
 returns g c =
     let is : named c.args.self.now.sources c.args.token ≡ Source c.in-Some.source = source_is (named c.args.self.now.sources c.args.token) c.in-Some.source (sym c.in-Some.ensures.value) in
     rw c.end_turn-none.ensures.list
-    (updated g.D.Dispatch.means g.P.Poller.outside (view_of c.args.self.now) c.args.token c.in-Some.source c.reregister-answer.new.source c.reregister-answer.result (view_of c.reregister-answer.new.self) is (rw c.in-Some.ensures.list at c.reregister-answer.ensures))
+    (updated g.D.Dispatch.means g.D.Idle.IdleCallback.runs g.P.Poller.outside (view_of c.args.self.now) c.args.token c.in-Some.source c.reregister-answer.new.source c.reregister-answer.result (view_of c.reregister-answer.new.self) is (rw c.in-Some.ensures.list at c.reregister-answer.ensures))

@@ -5,6 +5,7 @@ use Rattle.calloop.specs.Laws.{changes_of}
 use Rattle.calloop.proofs.Gone.{stay_gone, run_fits}
 use Rattle.calloop.proofs.Listing.{run_told}
 use Rattle.calloop.proofs.Homes.{run_home}
+use Rattle.calloop.proofs.Tickets.{run_ticketed, new_ticketed}
 use Rattle.calloop.proofs.Owning.{run_owned, new_owned}
 use Rattle.calloop.proofs.loop_logic.laws.once.Goals as goal
 
@@ -13,12 +14,13 @@ returns g c =
     record {
       sound = λ calls answers csss w w' run.
           record {
-            reaches = run_right g.D.Dispatch.means g.P.Poller.outside calls answers csss w w' run;
+            reaches = run_right g.D.Dispatch.means g.D.Idle.IdleCallback.runs g.P.Poller.outside calls answers csss w w' run;
             stale = λ before between after is. names_later (all_done w before) between;
-            gone = stay_gone g.P.Poller.outside w (changes_of csss) (run_fits g.D.Dispatch.means g.P.Poller.outside calls answers csss w w' run);
+            gone = stay_gone g.P.Poller.outside w (changes_of csss) (run_fits g.D.Dispatch.means g.D.Idle.IdleCallback.runs g.P.Poller.outside calls answers csss w w' run);
           };
       armings = λ calls answers csss w w' new fresh run.
-          (run_owned g.D.Dispatch.means g.P.Poller.outside g.met.D.Dispatch.keeps.counters calls answers csss w w' fresh run (new_owned g.D.Dispatch.means w new)).noted.kept;
-      home = run_home g.D.Dispatch.means g.P.Poller.outside g.met.D.Dispatch.keeps.home;
-      told = run_told g.D.Dispatch.means g.P.Poller.outside;
+          (run_owned g.D.Dispatch.means g.D.Idle.IdleCallback.runs g.P.Poller.outside g.met.D.Dispatch.keeps.counters calls answers csss w w' fresh run (new_owned g.D.Dispatch.means w new)).noted.kept;
+      home = run_home g.D.Dispatch.means g.D.Idle.IdleCallback.runs g.P.Poller.outside g.met.D.Dispatch.keeps.home;
+      told = run_told g.D.Dispatch.means g.D.Idle.IdleCallback.runs g.P.Poller.outside;
+      tickets = λ calls answers csss w w' new run. run_ticketed g.D.Dispatch.means g.D.Idle.IdleCallback.runs g.P.Poller.outside calls answers csss w w' run (new_ticketed w new);
     }

@@ -1,4 +1,5 @@
-use Rattle.std.proofs.Common.{◌≡◌, inl, inr, ℕ, Bool, true, false, List, [], ◌∷◌, Ok, refl, sym, ap, ◌∙◌, ◌%◌, arith, slice_get}
+use Rattle.std.proofs.Common.{◌≡◌, inl, inr, ℕ, Bool, true, false, List, [], ◌∷◌, Ok, refl, sym, ap, ◌∙◌, ◌%◌, ◌+◌, ◌≤◌, nat_lt, if◌then◌else◌, arith, slice_get}
+use Rattle.calloop.specs.Laws.{standing, counted, is_number}
 use Rattle.calloop.specs.Machine.{Registration}
 use Rattle.calloop_wake.specs.declared.token.RegistrationToken.{RegistrationToken}
 use Rattle.calloop_wake.specs.Tokens.{key_of}
@@ -81,3 +82,9 @@ returns-clause-armed_elsewhere c = λ v h.
     let second : RegistrationToken = record { slot = 0; version = 1 } in
     let own = (h.home second tt tt v (Unregistered (Ok tt)) (Arm (record { nanos = 5 }) first_token ∷ []) (λ key none. absurd none) (refl, refl)).1.0 in
     absurd (omega (arith, own.2))
+
+pub returns-clause-answered_twice : goal.returns-clause-answered_twice
+returns-clause-answered_twice c = λ w is h. (let g : standing 0 w.held.asks + counted (is_number 0) w.handed ≤ (if nat_lt 0 w.held.asks.next then 1 else 0) = h 0 in absurd (omega (arith, rw is at g)))
+
+pub returns-clause-handed_out_twice : goal.returns-clause-handed_out_twice
+returns-clause-handed_out_twice c = λ w is handed h. (let g : standing 0 w.held.asks + counted (is_number 0) w.handed ≤ (if nat_lt 0 w.held.asks.next then 1 else 0) = h 0 in absurd (omega (arith, rw (is, handed) at g)))

@@ -1,10 +1,33 @@
-use Rattle.std.proofs.Common.{◌<◌, arith, false, get_or, length}
-use Rattle.std.proofs.lemmas.List.{get_or_default}
-use Rattle.std.proofs.lemmas.List.Edits.{map_over_more}
-use Rattle.calloop_wake.specs.Boards.{marked_at}
+use Rattle.std.proofs.Common.{◌∙◌, ◌≡◌, sym, arith, Some, None}
+use Rattle.calloop_wake.specs.Posts.{standing_at}
+use Rattle.calloop_wake.proofs.Posted.{quiet_is, not_anew, marked, wakes-places, room_left}
 use Rattle.calloop_wake.proofs.wake.board.mark.Goals as goal
 
-pub loop-p-preserved : goal.loop-p-preserved
-loop-p-preserved c =
-    let here : c.loop-p.p-index < length c.loop-p.p-items = omega arith in
-    rw c.marked.ensures (map_over_more (marked_at c.args.key) c.deref_mut-p-items.result.now c.loop-p.p-items c.loop-p.p-index (get_or c.loop-p.p-items c.loop-p.p-index (record { key = 0; marked = false })) (omega arith) c.loop-p.invariant (get_or_default c.loop-p.p-items c.loop-p.p-index (record { key = 0; marked = false }) (get_or c.loop-p.p-items c.loop-p.p-index (record { key = 0; marked = false })) here))
+pub returns-then-not-is_quiet-clause-wakes : goal.returns-then-not-is_quiet-clause-wakes
+returns-then-not-is_quiet-clause-wakes c = sym (wakes-places c.args.key c.args.places.now c.requires.ascending ∙ sym c.is_quiet.ensures.value ∙ c.if-not-is_quiet.true)
+
+pub returns-then-not-is_quiet-clause-places : goal.returns-then-not-is_quiet-clause-places
+returns-then-not-is_quiet-clause-places c = not_anew c.args.key c.args.places.now c.requires.ascending (sym c.is_quiet.ensures.value ∙ c.if-not-is_quiet.true)
+
+pub unreachable-requires : goal.unreachable-requires
+unreachable-requires c =
+    let quiet : standing_at c.args.key c.args.places.now ≡ Some None = quiet_is _ (sym c.is_quiet.ensures.value ∙ c.if-not-is_quiet.false) in
+    let left = room_left c.args.key c.args.places.now c.args.posted.now.items _ c.requires quiet in
+    let room = c.requires.room in
+    let full = c.in-Err.ensures.full in
+    omega arith
+
+pub returns-clause-wakes : goal.returns-clause-wakes
+returns-clause-wakes c = sym (wakes-places c.args.key c.args.places.now c.requires.ascending ∙ sym c.is_quiet.ensures.value ∙ c.if-not-is_quiet.false)
+
+pub returns-clause-places : goal.returns-clause-places
+returns-clause-places c =
+    let quiet : standing_at c.args.key c.args.places.now ≡ Some None = quiet_is _ (sym c.is_quiet.ensures.value ∙ c.if-not-is_quiet.false) in
+    (marked c.args.key c.len.result c.args.places.now c.note.new.self c.args.posted.now.items c.push.new.self.items _ _ c.requires quiet (omega (arith, c.len.ensures, c.args.posted.now.ok.0))
+    c.note.ensures.updates c.note.ensures.keys c.note.ensures.len c.in-Ok.ensures.items c.push.ensures.capacity).0
+
+pub returns-clause-board : goal.returns-clause-board
+returns-clause-board c =
+    let quiet : standing_at c.args.key c.args.places.now ≡ Some None = quiet_is _ (sym c.is_quiet.ensures.value ∙ c.if-not-is_quiet.false) in
+    (marked c.args.key c.len.result c.args.places.now c.note.new.self c.args.posted.now.items c.push.new.self.items _ _ c.requires quiet (omega (arith, c.len.ensures, c.args.posted.now.ok.0))
+    c.note.ensures.updates c.note.ensures.keys c.note.ensures.len c.in-Ok.ensures.items c.push.ensures.capacity).1

@@ -6,7 +6,7 @@ use Rattle.looptrace.proofs.runner.ScriptLoop.new.Goals as goal
 
 pub returns-in-Ok-clause-ok : goal.returns-in-Ok-clause-ok
 returns-in-Ok-clause-ok g c =
-    let poller : c.in-Ok.event_loop.poll.poller ≡ c.keep_waits.new.self = sym (ap (λ (v : View (Source g.row.R.Denot) ScriptPoller). v.poll.poller) c.in-Ok.ensures.ok.3) ∙ c.in-Ok.ensures.ok.2 in
+    let poller : c.in-Ok.event_loop.poll.poller ≡ c.keep_waits.new.self = sym (ap (λ (v : View (Source g.row.R.Denot) (Unit {0}) ScriptPoller). v.poll.poller) c.in-Ok.ensures.ok.3) ∙ c.in-Ok.ensures.ok.2 in
     record {
       world = c.in-Ok.ensures.ok.0;
       new = c.in-Ok.ensures.ok.1;

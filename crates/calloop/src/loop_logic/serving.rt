@@ -1,0 +1,124 @@
+//! What callbacks asked for is carried out.
+ghost use Rattle.std.specs.Prelude.{◌≡◌, ◌≤◌, length};
+ghost use Rattle.calloop.specs.declared.loop_logic.asks.Request.TheVariants.{Insert, Enable, Update, Disable, Remove};
+ghost use Rattle.calloop.specs.Machine.{view_of};
+ghost use Rattle.calloop.specs.Rules.{Did, done_answer, inserted_answer};
+ghost use Rattle.calloop.specs.Serving.{AllServed, Serves, ServesAs, ServesFirst};
+
+use super::asks::{Answer, Request};
+use super::{EventDispatcher, EventLoop};
+use calloop_core::sources::PostAction;
+use calloop_core::sys::{Clock, Poller};
+use calloop_wake::error::{Error, InsertError, Result};
+use calloop_wake::token::RegistrationToken;
+use std::sync::Wait;
+
+impl<D: EventDispatcher<P, C, R>, P: Poller, C: Clock, R: Wait + Drop> EventLoop<D, P, C, R> {
+    // All of it, in order.
+    pub(super) fn serve_all(&mut self)
+        ensures { Did (AllServed D.means P.outside) (view_of self.old) (view_of self.new) }
+    {
+        'requests: while self.serve_first() {}
+    }
+
+    // The first request. False where there is none.
+    fn serve_first(&mut self) -> bool
+        ensures { ServesFirst D.means P.outside self.old.requests.written result (view_of self.old) (view_of self.new) }
+    {
+        let Some(request) = self.requests.begin() else {
+            return false;
+        };
+        self.serve(request);
+        true
+    }
+
+    fn serve(&mut self, request: Request<D, D::Idle>)
+        ensures { Serves D.means P.outside request (view_of self.old) (view_of self.new) }
+    {
+        match request {
+            Request::Insert(dispatcher) => {
+                let answer = self.insert(dispatcher);
+                self.requests.tell(inserted_answer(answer));
+            }
+            Request::Enable(token) => {
+                let answer = self.serve_enable(token);
+                self.requests.tell(done_answer(answer));
+            }
+            Request::Update(token) => {
+                let answer = self.serve_update(token);
+                self.requests.tell(done_answer(answer));
+            }
+            Request::Disable(token) => {
+                let answer = self.serve_disable(token);
+                self.requests.tell(done_answer(answer));
+            }
+            Request::Remove(token) => self.serve_removal(token),
+            Request::Idle(idle) => self.requests.put_idle(idle),
+            Request::Cancel(ticket) => {
+                self.requests.take_out_idle(ticket);
+                self.requests.tell(Answer::Done);
+            }
+        }
+    }
+
+    fn serve_enable(&mut self, token: RegistrationToken) -> Result<()>
+        ensures { ServesAs D.means P.outside (Enable token) result (view_of self.old) (view_of self.new) }
+    {
+        if self.sources.is_in_turn(token) {
+            return Err(Error::OwnTurn);
+        }
+        self.enable(token)
+    }
+
+    fn serve_update(&mut self, token: RegistrationToken) -> Result<()>
+        ensures { ServesAs D.means P.outside (Update token) result (view_of self.old) (view_of self.new) }
+    {
+        if self.sources.is_in_turn(token) {
+            self.pending = PostAction::Reregister;
+            return Ok(());
+        }
+        self.update(token)
+    }
+
+    fn serve_disable(&mut self, token: RegistrationToken) -> Result<()>
+        ensures { ServesAs D.means P.outside (Disable token) result (view_of self.old) (view_of self.new) }
+    {
+        if self.sources.is_in_turn(token) {
+            self.pending = PostAction::Disable;
+            return Ok(());
+        }
+        self.disable(token)
+    }
+
+    // The source in its turn leaves its slot at once, and is answered when its turn is over.
+    fn serve_removal(&mut self, token: RegistrationToken)
+        ensures { Serves D.means P.outside (Remove token) (view_of self.old) (view_of self.new) }
+    {
+        if self.sources.is_in_turn(token) {
+            self.sources.vacate(token);
+            self.lifecycle.leave(token);
+            self.requests.owe();
+            return;
+        }
+        let answer = self.remove(token);
+        self.requests.tell(Answer::Removed(answer));
+    }
+}
+
+fn inserted_answer<D>(answer: std::result::Result<RegistrationToken, InsertError<D>>) -> Answer<D>
+    ensures { result ≡ inserted_answer answer }
+{
+    match answer {
+        Ok(token) => Answer::Inserted(token),
+        Err(refused) => Answer::NotInserted(refused),
+    }
+}
+
+fn done_answer<D>(answer: Result<()>) -> Answer<D>
+    ensures { result ≡ done_answer answer }
+{
+    match answer {
+        Ok(()) => Answer::Done,
+        Err(error) => Answer::Refused(error),
+    }
+}

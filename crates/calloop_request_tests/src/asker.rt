@@ -1,0 +1,203 @@
+//! Callbacks and idles that say their number and write requests.
+ghost use Rattle.calloop.specs.Askings.{OnlyAsks};
+
+use calloop::{
+    Callback, Choice, Dispatcher, Here, Idle, IdleCallback, Instant, PostAction, RegistrationToken,
+    Requests, There, Ticket, TimeoutAction,
+};
+use calloop_tests::source::Counter;
+
+/// The place of counters in the choice.
+pub type Third = There<There<Here>>;
+
+/// A request that is to be written.
+#[derive(Clone, Copy)]
+pub enum Wish {
+    /// For a counter that can be registered so often, whose turns end so.
+    Insert(u32, PostAction),
+    Register(u32),
+    Enable(RegistrationToken),
+    Update(RegistrationToken),
+    Disable(RegistrationToken),
+    Remove(RegistrationToken),
+    /// For one of this number, which asks for nothing, or for the idle of this place to be cancelled and another idle.
+    Idle(u32, Option<usize>),
+    /// Of the idle in this place of those that were asked for.
+    Cancel(usize),
+}
+
+/// What was said, and the tickets and idles that were given.
+#[derive(Drop)]
+pub struct Said {
+    pub numbers: Vec<u32>,
+    pub tickets: Vec<Ticket>,
+    pub idles: Vec<Idle>,
+}
+
+impl Said {
+    fn number(&mut self, number: u32) {
+        let _failed = self.numbers.push(number);
+    }
+
+    fn ticket(&mut self, ticket: Option<Ticket>) {
+        if let Some(ticket) = ticket {
+            let _failed = self.tickets.push(ticket);
+        }
+    }
+
+    fn idle(&mut self, idle: Option<Idle>) {
+        if let Some(idle) = idle {
+            self.ticket(Some(idle.ticket()));
+            let _failed = self.idles.push(idle);
+        }
+    }
+
+    // The idle in this place.
+    pub fn take_idle(&mut self, place: usize) -> Option<Idle> {
+        if place < self.idles.len() {
+            Some(self.idles.remove(place))
+        } else {
+            None
+        }
+    }
+}
+
+/// Says its number, and writes its requests.
+#[derive(Drop)]
+pub struct Asker {
+    pub number: u32,
+    pub wishes: Vec<Wish>,
+}
+
+impl Asker {
+    fn answer<D: Choice<Counter, Asker, Third> + Drop>(
+        &mut self,
+        said: &mut Said,
+        requests: &mut Requests<D, Note>,
+    )
+        ensures { OnlyAsks requests.old requests.new }
+    {
+        said.number(self.number);
+        for wish in &self.wishes {
+            write(*wish, said, requests);
+        }
+    }
+}
+
+impl<D: Choice<Counter, Asker, Third> + Drop> Callback<(), (), (), Said, Requests<D, Note>>
+    for Asker {
+    ghost may = { λ _ _ _ _ _ _ _ _ _ _. Unit {0} };
+
+    fn call(&mut self, _event: (), _: &mut (), said: &mut Said, requests: &mut Requests<D, Note>) {
+        self.answer(said, requests);
+    }
+}
+
+impl<D: Choice<Counter, Asker, Third> + Drop> Callback<u32, (), (), Said, Requests<D, Note>>
+    for Asker {
+    ghost may = { λ _ _ _ _ _ _ _ _ _ _. Unit {0} };
+
+    fn call(&mut self, _turns: u32, _: &mut (), said: &mut Said, requests: &mut Requests<D, Note>) {
+        self.answer(said, requests);
+    }
+}
+
+impl<D: Choice<Counter, Asker, Third> + Drop> Callback<
+    Instant,
+    (),
+    TimeoutAction,
+    Said,
+    Requests<D, Note>,
+> for Asker {
+    ghost may = { λ _ _ _ _ _ _ _ _ _ _. Unit {0} };
+
+    fn call(
+        &mut self,
+        _deadline: Instant,
+        _: &mut (),
+        said: &mut Said,
+        requests: &mut Requests<D, Note>,
+    ) -> TimeoutAction {
+        self.answer(said, requests);
+        TimeoutAction::Drop
+    }
+}
+
+/// An idle that says its number, and may cancel another one and ask for one more.
+#[derive(Drop)]
+pub struct Note {
+    pub number: u32,
+    pub cancels: Option<usize>,
+}
+
+impl<D: Choice<Counter, Asker, Third> + Drop> IdleCallback<Said, Requests<D, Note>> for Note {
+    ghost runs = { λ _ _ _ _ _. Unit {0} };
+
+    fn run(self, said: &mut Said, requests: &mut Requests<D, Note>) {
+        said.number(self.number);
+        if let Some(place) = self.cancels {
+            write(Wish::Cancel(place), said, requests);
+            write(
+                Wish::Idle(self.number.saturating_add(100), None),
+                said,
+                requests,
+            );
+        }
+    }
+}
+
+fn write<D: Choice<Counter, Asker, Third> + Drop>(
+    wish: Wish,
+    said: &mut Said,
+    requests: &mut Requests<D, Note>,
+)
+    ensures { OnlyAsks requests.old requests.new }
+{
+    let ticket = match wish {
+        Wish::Insert(limit, ends) => {
+            return insert(Counter::new(limit, Some(ends)), said, requests);
+        }
+        Wish::Register(limit) => return register(limit, said, requests),
+        Wish::Enable(token) => requests.enable(&token).ok(),
+        Wish::Update(token) => requests.update(&token).ok(),
+        Wish::Disable(token) => requests.disable(&token).ok(),
+        Wish::Remove(token) => requests.remove(token).ok(),
+        Wish::Idle(number, cancels) => {
+            said.idle(requests.insert_idle(Note { number, cancels }).ok());
+            return;
+        }
+        Wish::Cancel(place) => match said.take_idle(place) {
+            Some(idle) => requests.cancel(idle).ok(),
+            None => None,
+        },
+    };
+    said.ticket(ticket);
+}
+
+fn insert<D: Choice<Counter, Asker, Third> + Drop>(
+    counter: Counter,
+    said: &mut Said,
+    requests: &mut Requests<D, Note>,
+)
+    ensures { OnlyAsks requests.old requests.new }
+{
+    let wishes = Vec::new(*said.numbers.allocator());
+    said.ticket(
+        requests
+            .insert_source(counter, Asker { number: 9, wishes })
+            .ok(),
+    );
+}
+
+fn register<D: Choice<Counter, Asker, Third> + Drop>(
+    limit: u32,
+    said: &mut Said,
+    requests: &mut Requests<D, Note>,
+)
+    ensures { OnlyAsks requests.old requests.new }
+{
+    let wishes = Vec::new(*said.numbers.allocator());
+    let counter = Counter::new(limit, Some(PostAction::Continue));
+    let held = D::hold(Dispatcher::new(counter, Asker { number: 9, wishes }));
+    said.ticket(requests.register_dispatcher(held).ok());
+}

@@ -1,0 +1,225 @@
+use crate::asker::Wish;
+use crate::stand::{Act, plays};
+use calloop::{PostAction, RegistrationToken};
+
+#[test]
+fn requests_with_a_dead_token_are_refused_and_the_rest_is_carried_out(rt: HostRuntime) {
+    let dead = named(1, 0);
+    let wishes = [
+        Wish::Enable(dead),
+        Wish::Remove(dead),
+        Wish::Insert(1, PostAction::Continue),
+    ];
+    let acts = [
+        Act::Ping(7, &wishes),
+        Act::Timer(9, 8, &[]),
+        Act::Remove(dead),
+        Act::Ring(0),
+        Act::Says(Some(0), &[7]),
+        Act::Told(
+            0,
+            &[
+                ("invalid token", None),
+                ("none", None),
+                ("inserted", Some((1, 1))),
+            ],
+        ),
+        Act::Untold(0),
+        Act::Untold(2),
+    ];
+    assert_eq!(rt; plays(&rt, rt.alloc(), &acts), None);
+}
+
+#[test]
+fn a_source_that_a_callback_removes_is_not_called_behind_it(rt: HostRuntime) {
+    let acts = [
+        Act::Ping(1, &[Wish::Remove(named(1, 0))]),
+        Act::Ping(2, &[]),
+        Act::Ring(0),
+        Act::Ring(1),
+        Act::Says(Some(100), &[1]),
+        Act::Told(0, &[("removed", None)]),
+        Act::Says(Some(100), &[]),
+        Act::Asked(&[Some(0), Some(100)]),
+    ];
+    assert_eq!(rt; plays(&rt, rt.alloc(), &acts), None);
+}
+
+#[test]
+fn a_timer_that_is_updated_in_the_batch_is_called_in_the_next_one(rt: HostRuntime) {
+    let acts = [
+        Act::Timer(0, 1, &[Wish::Update(named(1, 0))]),
+        Act::Timer(0, 2, &[]),
+        Act::Says(Some(100), &[1]),
+        Act::Says(Some(100), &[2]),
+        Act::Says(Some(100), &[]),
+        Act::Asked(&[Some(0), Some(0), Some(100)]),
+    ];
+    assert_eq!(rt; plays(&rt, rt.alloc(), &acts), None);
+}
+
+#[test]
+fn a_callback_that_replaces_its_source_gets_the_next_version_of_the_slot(rt: HostRuntime) {
+    let own = named(0, 0);
+    let next = named(0, 1);
+    let wishes = [Wish::Remove(own), Wish::Insert(1, PostAction::Continue)];
+    let acts = [
+        Act::Counter(Some(PostAction::Continue), 1, &wishes),
+        Act::Script(0, &[0, 65536, 0]),
+        Act::Says(Some(0), &[1, 9]),
+        Act::Told(0, &[("removed", None), ("inserted", Some((0, 1)))]),
+        Act::Names(own, false),
+        Act::Names(next, true),
+    ];
+    assert_eq!(rt; plays(&rt, rt.alloc(), &acts), None);
+}
+
+#[test]
+fn a_pending_update_does_not_count_beside_disable(rt: HostRuntime) {
+    let own = named(0, 0);
+    let acts = [
+        Act::Counter(
+            Some(PostAction::Disable),
+            1,
+            &[Wish::Update(own), Wish::Enable(own)],
+        ),
+        Act::Script(0, &[0]),
+        Act::Says(Some(0), &[1]),
+        Act::Told(0, &[("done", None), ("own turn", None)]),
+        Act::Counts(own, 1, 1),
+    ];
+    assert_eq!(rt; plays(&rt, rt.alloc(), &acts), None);
+}
+
+#[test]
+fn the_last_of_two_pending_actions_counts_beside_continue(rt: HostRuntime) {
+    let own = named(0, 0);
+    let disables = [Wish::Update(own), Wish::Disable(own)];
+    let acts = [
+        Act::Counter(Some(PostAction::Continue), 1, &disables),
+        Act::Script(0, &[0]),
+        Act::Says(Some(0), &[1]),
+        Act::Counts(own, 1, 1),
+    ];
+    assert_eq!(rt; plays(&rt, rt.alloc(), &acts), None);
+    let updates = [Wish::Disable(own), Wish::Update(own)];
+    let acts = [
+        Act::Counter(Some(PostAction::Continue), 2, &updates),
+        Act::Script(0, &[0]),
+        Act::Says(Some(0), &[2]),
+        Act::Counts(own, 2, 0),
+    ];
+    assert_eq!(rt; plays(&rt, rt.alloc(), &acts), None);
+}
+
+#[test]
+fn two_requests_that_change_one_slot_are_carried_out_in_order(rt: HostRuntime) {
+    let other = named(1, 0);
+    let wishes = [
+        Wish::Disable(other),
+        Wish::Enable(other),
+        Wish::Remove(other),
+        Wish::Register(0),
+        Wish::Register(1),
+    ];
+    let acts = [
+        Act::Ping(7, &wishes),
+        Act::Counter(Some(PostAction::Continue), 1, &[]),
+        Act::Ring(0),
+        Act::Says(Some(0), &[7]),
+        Act::Told(
+            0,
+            &[
+                ("done", None),
+                ("done", None),
+                ("removed", None),
+                ("not inserted", None),
+                ("inserted", Some((1, 2))),
+            ],
+        ),
+    ];
+    assert_eq!(rt; plays(&rt, rt.alloc(), &acts), None);
+}
+
+#[test]
+fn a_ping_whose_callback_registers_a_dispatcher_is_called(rt: HostRuntime) {
+    let acts = [
+        Act::Ping(7, &[Wish::Register(1)]),
+        Act::Ring(0),
+        Act::Says(Some(0), &[7]),
+        Act::Told(0, &[("inserted", Some((1, 0)))]),
+    ];
+    assert_eq!(rt; plays(&rt, rt.alloc(), &acts), None);
+}
+
+#[test]
+fn an_idle_cancels_another_and_the_idle_that_it_asks_for_waits(rt: HostRuntime) {
+    let acts = [
+        Act::Idle(1, Some(1)),
+        Act::Idle(2, None),
+        Act::Says(Some(0), &[1]),
+        Act::Told(0, &[("done", None), ("done", None)]),
+        Act::Says(Some(0), &[101]),
+        Act::Says(Some(0), &[]),
+    ];
+    assert_eq!(rt; plays(&rt, rt.alloc(), &acts), None);
+}
+
+#[test]
+fn idles_run_once_in_their_order_behind_the_batch(rt: HostRuntime) {
+    let wishes = [Wish::Idle(5, None), Wish::Idle(6, None), Wish::Cancel(1)];
+    let acts = [
+        Act::Ping(1, &wishes),
+        Act::Idle(4, None),
+        Act::Idle(3, None),
+        Act::Cancel(1),
+        Act::Ring(0),
+        Act::Says(Some(0), &[1, 4, 6]),
+        Act::Says(Some(0), &[]),
+    ];
+    assert_eq!(rt; plays(&rt, rt.alloc(), &acts), None);
+}
+
+#[test]
+fn a_cancel_of_an_idle_that_ran_does_nothing(rt: HostRuntime) {
+    let acts = [
+        Act::Idle(1, None),
+        Act::Idle(2, None),
+        Act::Says(Some(0), &[1, 2]),
+        Act::Cancel(0),
+        Act::Cancel(0),
+        Act::Says(Some(0), &[]),
+    ];
+    assert_eq!(rt; plays(&rt, rt.alloc(), &acts), None);
+}
+
+#[test]
+fn no_idle_runs_behind_an_error(rt: HostRuntime) {
+    let acts = [
+        Act::Counter(None, 1, &[Wish::Idle(5, None)]),
+        Act::Script(0, &[0]),
+        Act::Fails(&[1]),
+        Act::Says(Some(0), &[5]),
+    ];
+    assert_eq!(rt; plays(&rt, rt.alloc(), &acts), None);
+}
+
+#[test]
+fn answers_are_gone_when_the_next_dispatch_has_begun(rt: HostRuntime) {
+    let acts = [
+        Act::Ping(7, &[Wish::Register(1)]),
+        Act::Ring(0),
+        Act::Says(Some(0), &[7]),
+        Act::Says(Some(0), &[]),
+        Act::Untold(0),
+        Act::Ring(0),
+        Act::Says(Some(0), &[7]),
+        Act::Untold(0),
+        Act::Told(1, &[("inserted", Some((2, 0)))]),
+    ];
+    assert_eq!(rt; plays(&rt, rt.alloc(), &acts), None);
+}
+
+fn named(slot: u32, version: u16) -> RegistrationToken {
+    RegistrationToken::new(slot, version)
+}
