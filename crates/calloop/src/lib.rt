@@ -5,7 +5,6 @@ mod cell;
 pub mod loop_logic;
 pub mod ping;
 
-pub use calloop_core::generic;
 pub use calloop_core::generic::{Generic, NoIoDrop};
 pub use calloop_core::idles::IdleCallback;
 pub use calloop_core::sources::{
@@ -14,10 +13,14 @@ pub use calloop_core::sources::{
 };
 pub use calloop_core::sys::events::EventIterator;
 pub use calloop_core::sys::poll::Poll;
+pub use calloop_core::sys::system::{MioIo, MioPoller, SystemClock};
 pub use calloop_core::sys::{Clock, Interest, Mode, Poller, Readiness};
 pub use calloop_core::timer::{TimeoutAction, Timer, TimerError};
+pub use calloop_core::{generic, sys, timer};
+pub use calloop_wake::error;
 pub use calloop_wake::error::{Error, InsertError, Result};
 pub use calloop_wake::token::{RegistrationToken, Token, TokenFactory};
+pub use calloop_wake::wake::Receipt;
 pub use calloop_wake::wheel::Instant;
 pub use loop_logic::{
     Answer, EventDispatcher, EventLoop, Idle, LoopHandle, LoopSignal, Requests, Sources, Ticket,

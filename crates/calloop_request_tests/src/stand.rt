@@ -1,6 +1,6 @@
 //! A loop of askers over a scripted poller, and what a test does at it.
 use crate::asker::{Asker, Note, Said, Third, Wish};
-use calloop::loop_logic::EventLoop;
+use calloop::loop_logic::{EventLoop, LoopAnswer, LoopCall};
 use calloop::ping::{Ping, make_ping};
 use calloop::{
     Answer, Choice, Dispatcher, Error, EventDispatcher, Here, Instant, OneOf, PingSource,
@@ -34,6 +34,10 @@ pub enum Act<'a> {
     Idle(u32, Option<usize>),
     /// The idle in this place of those that were asked for is cancelled.
     Cancel(usize),
+    /// An idle of this number comes by a call that is a value, and is cancelled by another one or not.
+    Queues(u32, bool),
+    /// The request in this place was answered so, by a call that is a value.
+    Answers(usize, Told),
     /// The ping in this place of those that came in is rung.
     Ring(usize),
     /// The source that this names leaves the loop.
@@ -122,6 +126,8 @@ where
             Act::Counter(ends, number, wishes) => self.counter(ends, number, wishes).is_some(),
             Act::Idle(number, cancels) => self.idle(number, cancels),
             Act::Cancel(place) => self.cancel(place),
+            Act::Queues(number, is_cancelled) => self.queues(number, is_cancelled).is_some(),
+            Act::Answers(place, told) => self.answers(place, told) == Some(true),
             Act::Ring(place) => self.ring(place),
             Act::Remove(token) => self.event_loop.handle().remove(token).is_some(),
             Act::Script(millis, keys) => self.script(millis, keys),
@@ -192,6 +198,34 @@ where
         };
         self.event_loop.handle().cancel(idle);
         true
+    }
+
+    fn queues(&mut self, number: u32, is_cancelled: bool) -> Option<()> {
+        let note = Note {
+            number,
+            cancels: None,
+        };
+        let call = LoopCall::InsertIdle(note);
+        let LoopAnswer::IdleInserted(Ok(idle)) = self.event_loop.carry_out(&self.rt, call) else {
+            return None;
+        };
+        if !is_cancelled {
+            return Some(());
+        }
+        match self.event_loop.carry_out(&self.rt, LoopCall::Cancel(idle)) {
+            LoopAnswer::Cancelled => Some(()),
+            _ => None,
+        }
+    }
+
+    // Whether the answer is this one.
+    fn answers(&mut self, place: usize, wanted: Told) -> Option<bool> {
+        let call = LoopCall::Answer(*self.said.tickets.get(place)?);
+        let LoopAnswer::Answered(answer) = self.event_loop.carry_out(&self.rt, call) else {
+            return None;
+        };
+        let (word, given) = wanted;
+        Some(told(&answer?) == (word, named(given)))
     }
 
     fn ring(&mut self, place: usize) -> bool {

@@ -220,6 +220,20 @@ fn answers_are_gone_when_the_next_dispatch_has_begun(rt: HostRuntime) {
     assert_eq!(rt; plays(&rt, rt.alloc(), &acts), None);
 }
 
+#[test]
+fn calls_as_values_queue_and_cancel_idles_and_hand_out_answers_once(rt: HostRuntime) {
+    let acts = [
+        Act::Ping(7, &[Wish::Register(1)]),
+        Act::Queues(3, false),
+        Act::Queues(4, true),
+        Act::Ring(0),
+        Act::Says(Some(0), &[7, 3]),
+        Act::Answers(0, ("inserted", Some((1, 0)))),
+        Act::Untold(0),
+    ];
+    assert_eq!(rt; plays(&rt, rt.alloc(), &acts), None);
+}
+
 fn named(slot: u32, version: u16) -> RegistrationToken {
     RegistrationToken::new(slot, version)
 }

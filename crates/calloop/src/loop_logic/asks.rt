@@ -19,6 +19,9 @@ pub struct Ticket {
     number: u64,
 }
 
+#[cfg(test)]
+mod tests;
+
 impl Ticket {
     pub(super) fn number(self) -> u64
         ensures { result ≡ self.number }
