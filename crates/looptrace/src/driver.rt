@@ -8,6 +8,7 @@ ghost use Rattle.looptrace.specs.Traces.{Written, Writes};
 
 use crate::lines::without_feed;
 use crate::streams::Streams;
+use log::Log;
 use std::alloc::Global;
 use std::io;
 use std::io::{BufRead, Write};
@@ -23,7 +24,7 @@ pub trait Runner {
 
     /// Carries out one line without its line feed, and appends what it prints to `text`.
     /// False where the line can't be read. An `Err` is want of memory, and then nothing is known of `text`.
-    fn line<Q: Wait>(&mut self, rt: &Q, line: &[u8], text: &mut Vec<u8>) -> io::Result<bool>
+    fn line<Q: Wait + Log>(&mut self, rt: &Q, line: &[u8], text: &mut Vec<u8>) -> io::Result<bool>
         ensures read { IfOk result (λ read. MatchBool read
             ((said : List ℕ) × (text.new.items ≡ text.old.items ++ said) × step self.old line.now (Some (self.new, said)))
             (step self.old line.now None)) }
@@ -35,7 +36,7 @@ pub trait Runner {
 /// That number stays at 2^64 - 1 from there on.
 ///
 /// An `Err` is a fault of reading or writing, or want of memory. What was carried out and written before it stays.
-pub fn drive<Q: Wait, L: Runner, R: BufRead, W: Write, E: Write>(
+pub fn drive<Q: Wait + Log, L: Runner, R: BufRead, W: Write, E: Write>(
     rt: &Q,
     alloc: Global,
     runner: &mut L,

@@ -11,3 +11,4 @@ pub mod source;
 pub mod streams;
 pub mod text;
 pub mod trace;
+pub mod warnings;

@@ -15,10 +15,12 @@ use crate::name::Name;
 use crate::named::{NamedSource, close, has_open_ping, is_taken, ring};
 use crate::source::{Alarm, Said, Source, Teller};
 use crate::text::{append_insert, append_refused, append_wait};
+use crate::warnings::log_warnings;
 use calloop::loop_logic::EventLoop;
 use calloop::ping::{Ping, make_ping};
 use calloop::{Error, InsertError, Instant, Readiness, RegistrationToken, Timer};
 use calloop_core::sys::script::{ScriptAnswer, ScriptClock, ScriptEnd, ScriptEvents, ScriptPoller};
+use log::Log;
 use std::alloc::{AllocError, Global};
 use std::io;
 use std::sync::Wait;
@@ -380,7 +382,21 @@ impl<R: Wait + Clone + Drop> ScriptLoop<R> {
         Ok(())
     }
 
-    fn carry_out<Q: Wait>(
+    // How many warnings of the loop stand.
+    fn warnings(&mut self) -> usize
+        ensures { self.new ≡ self.old }
+    {
+        self.event_loop.handle().warnings().len()
+    }
+
+    // Logs the warnings of the loop, but so many of the first.
+    fn log_warnings<L: Log>(&mut self, log: &L, but: usize)
+        ensures { self.new ≡ self.old }
+    {
+        log_warnings(log, self.event_loop.handle().warnings(), but);
+    }
+
+    fn carry_out<Q: Wait + Log>(
         &mut self,
         rt: &Q,
         command: &Command,
@@ -397,7 +413,9 @@ impl<R: Wait + Clone + Drop> ScriptLoop<R> {
             Command::Ring(name) => Ok(self.ring(name)),
             Command::Close(name) => Ok(self.close(name)),
             Command::Remove(slot, version) => {
+                let before = self.warnings();
                 self.remove(*slot, *version, text)?;
+                self.log_warnings(rt, before);
                 Ok(true)
             }
             Command::Answer(key, readiness) => self.answer(*key, *readiness),
@@ -412,6 +430,7 @@ impl<R: Wait + Clone + Drop> ScriptLoop<R> {
             }
             Command::Dispatch(timeout) => {
                 self.dispatch(rt, *timeout, text)?;
+                self.log_warnings(rt, 0);
                 Ok(true)
             }
         }
@@ -423,7 +442,7 @@ impl<R: Wait + Clone + Drop> Runner for ScriptLoop<R> {
 
     ghost step = { line_step };
 
-    fn line<Q: Wait>(&mut self, rt: &Q, line: &[u8], text: &mut Vec<u8>) -> io::Result<bool>
+    fn line<Q: Wait + Log>(&mut self, rt: &Q, line: &[u8], text: &mut Vec<u8>) -> io::Result<bool>
         ensures read { IfOk result (λ read. MatchBool read
             ((said : List ℕ) × (text.new.items ≡ text.old.items ++ said) × line_step self.old line.now (Some (self.new, said)))
             (line_step self.old line.now None)) }

@@ -8,6 +8,7 @@ ghost use Rattle.looptrace.specs.Runs.{MayWrite};
 use crate::driver::drive;
 use crate::runner::ScriptLoop;
 use crate::streams::Streams;
+use log::Log;
 use std::alloc::Global;
 use std::io;
 use std::io::{BufRead, Write};
@@ -16,9 +17,9 @@ use std::sync::Wait;
 /// Runs a loop from the script that the input holds, and answers the exit status: 0 at the end of the script, and 2 at
 /// the first line that can't be read. What the loop does goes to the output, and that line's number to the errors.
 ///
-/// The loop begins with the clock at 0, without sources, and with a poller that gives no events. An `Err` is a fault
-/// of reading or writing, or want of memory; what was written before it stays.
-pub fn trace<Q: Wait + Clone + Drop, R: BufRead, W: Write, E: Write>(
+/// The loop begins with the clock at 0, without sources, and with a poller that gives no events. What it warns of goes to the
+/// log of `rt`. An `Err` is a fault of reading or writing, or want of memory; what was written before it stays.
+pub fn trace<Q: Wait + Log + Clone + Drop, R: BufRead, W: Write, E: Write>(
     rt: &Q,
     alloc: Global,
     streams: &mut Streams<R, W, E>,

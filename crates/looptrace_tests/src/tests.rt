@@ -2,6 +2,9 @@ ghost use Rattle.std.specs.Prelude.{◌≡◌, Some, None, nat_eq, codes, if◌t
 ghost use Rattle.std.specs.Cmp.Lexicographic.{pointwise};
 ghost use Rattle.looptrace.specs.Texts.{call_text, next_number};
 
+use calloop::Error;
+use log::sink::Memory;
+use log::{Level, Log, Logged};
 use looptrace::command::{Command, parse};
 use looptrace::driver::{Runner, drive};
 use looptrace::lines::{read_line, without_feed};
@@ -9,6 +12,7 @@ use looptrace::name::Name;
 use looptrace::streams::Streams;
 use looptrace::text::{append_alarm, append_call, append_insert, append_refused, append_wait};
 use looptrace::trace::trace;
+use looptrace::warnings::log_warnings;
 use std::alloc::{AllocError, Global};
 use std::io;
 use std::io::{BufRead, Read, Write};
@@ -355,6 +359,23 @@ fn an_answer_of_more_than_1024_events_is_refused(rt: HostRuntime) -> Result<(), 
 }
 
 #[test]
+fn what_the_loop_warns_of_is_logged_in_its_order(rt: HostRuntime) {
+    let log = Logged::new((), Level::Warn, Memory::new(rt.alloc()));
+    let warnings = [Error::OwnTurn, Error::InvalidToken, Error::TooManyTimers];
+    log_warnings(&log, &warnings, 1);
+    let (_, memory) = log.into_parts();
+    let lines = memory.into_lines();
+    assert_eq!(rt; lines.len(), 2);
+    assert!(rt;
+        ends_with(
+            lines.as_slice().first(),
+            "invalid token provided to internal function"
+        )
+    );
+    assert!(rt; ends_with(lines.as_slice().last(), "too many timers"));
+}
+
+#[test]
 fn a_run_ends_where_its_output_is_full(rt: HostRuntime) {
     for fault in 0..27 {
         assert!(rt; is_cut_at(&rt, rt.alloc(), fault), "at {fault}");
@@ -397,6 +418,13 @@ const SAID: &[u8] = b"insert a 0 0\nwait 0\ncall a\n";
 const BAD: &[u8] = b"ping a\nring b\nping c\n";
 
 const REFUSAL: &[u8] = b"error line 2\n";
+
+fn ends_with(line: Option<&String>, end: &str) -> bool {
+    match line {
+        Some(line) => line.as_bytes().ends_with(end.as_bytes()),
+        None => false,
+    }
+}
 
 fn is_no_command(alloc: Global, line: &[u8]) -> bool {
     matches!(parse(alloc, line), Ok(None))
@@ -444,7 +472,12 @@ struct Counter {
 impl Runner for Counter {
     ghost step = { λ counter line done. done ≡ (if pointwise nat_eq line (codes "up") then Some (record { count = next_number counter.count }, call_text line) else None) };
 
-    fn line<Q: Wait>(&mut self, _rt: &Q, line: &[u8], text: &mut Vec<u8>) -> io::Result<bool> {
+    fn line<Q: Wait + Log>(
+        &mut self,
+        _rt: &Q,
+        line: &[u8],
+        text: &mut Vec<u8>,
+    ) -> io::Result<bool> {
         if line != b"up".as_slice() {
             return Ok(false);
         }
@@ -455,7 +488,7 @@ impl Runner for Counter {
 }
 
 // Whether the script ends with this status and count, after this was written to the two outputs.
-fn counts<Q: Wait>(
+fn counts<Q: Wait + Log>(
     rt: &Q,
     alloc: Global,
     script: &[u8],
@@ -473,7 +506,7 @@ fn counts<Q: Wait>(
 }
 
 // Whether a whole run over the script ends with this status, after this was written to the two outputs.
-fn runs<Q: Wait + Clone + Drop>(
+fn runs<Q: Wait + Log + Clone + Drop>(
     rt: &Q,
     alloc: Global,
     script: &[u8],
@@ -489,7 +522,7 @@ fn runs<Q: Wait + Clone + Drop>(
 }
 
 // Whether the first line is carried out, and the second can't be.
-fn ends_at_second<Q: Wait + Clone + Drop>(
+fn ends_at_second<Q: Wait + Log + Clone + Drop>(
     rt: &Q,
     alloc: Global,
     first: &[u8],
@@ -584,7 +617,7 @@ fn is_fault(answer: io::Result<u8>, kind: io::ErrorKind) -> bool {
 }
 
 // Whether a run fails whose output does at this call, and the output took the bytes before.
-fn is_cut_at<Q: Wait + Clone + Drop>(rt: &Q, alloc: Global, fault: usize) -> bool {
+fn is_cut_at<Q: Wait + Log + Clone + Drop>(rt: &Q, alloc: Global, fault: usize) -> bool {
     let mut streams = Streams::new(RING, make_full(alloc, fault), Vec::new(alloc));
     let answer = trace(rt, alloc, &mut streams);
     is_fault(answer, io::ErrorKind::StorageFull)
@@ -593,7 +626,7 @@ fn is_cut_at<Q: Wait + Clone + Drop>(rt: &Q, alloc: Global, fault: usize) -> boo
 }
 
 // The same of the errors, of a run that ends with one.
-fn is_error_cut_at<Q: Wait + Clone + Drop>(rt: &Q, alloc: Global, fault: usize) -> bool {
+fn is_error_cut_at<Q: Wait + Log + Clone + Drop>(rt: &Q, alloc: Global, fault: usize) -> bool {
     let mut streams = Streams::new(BAD, Vec::new(alloc), make_full(alloc, fault));
     let answer = trace(rt, alloc, &mut streams);
     is_fault(answer, io::ErrorKind::StorageFull)
@@ -611,7 +644,7 @@ fn said_before(fault: u64) -> &'static [u8] {
 }
 
 // Whether a run fails whose reader does at this call, after it said that.
-fn is_broken_at<Q: Wait + Clone + Drop>(rt: &Q, alloc: Global, fault: u64) -> bool {
+fn is_broken_at<Q: Wait + Log + Clone + Drop>(rt: &Q, alloc: Global, fault: u64) -> bool {
     let mut streams = Streams::new(make_broken(RING, fault), Vec::new(alloc), Vec::new(alloc));
     let answer = trace(rt, alloc, &mut streams);
     is_fault(answer, io::ErrorKind::BrokenPipe)
