@@ -1,70 +1,65 @@
-//! A ping that another thread rings, beside a timer: one loop over the poller and the clock of the operating system.
+//! A ping that another thread rings, beside a timer, in one loop.
 #![tactic(auto)]
 
-use calloop::loop_logic::EventLoop;
 use calloop::{
-    Asking, Callback, Dispatcher, Error, Instant, OneOf, PingSource, Result, Sources,
+    Asking, Callback, Dispatcher, Error, EventLoop, Instant, OneOf, PingSource, Result, Sources,
     TimeoutAction, Timer, make_ping,
 };
-use calloop_core::sys::system::{MioPoller, SystemClock};
-use std::net::Net;
+use calloop_core::sys::script::ScriptPoller;
+use std::alloc::Global;
 use std::process::ExitCode;
 use std::sync::Wait;
-use std::thread::Threads;
-use std::time::{Clock, Duration};
-use std::{alloc::Global, thread};
+use std::thread::{Threads, spawn};
+use std::time::Duration;
 
-/// Counts its calls in the data that each dispatch lends.
+/// Says its line.
 #[derive(Drop)]
-struct Count;
+struct Says(&'static str);
 
-impl<Q: Asking> Callback<(), (), (), u32, Q> for Count {
+impl<Q: Asking> Callback<(), (), (), String, Q> for Says {
     ghost may = { λ _ _ _ _ _ _ _ _ _ _. Unit {0} };
 
-    fn call(&mut self, _: (), _: &mut (), calls: &mut u32, _: &mut Q) {
-        *calls = calls.saturating_add(1);
+    fn call(&mut self, _: (), _: &mut (), said: &mut String, _: &mut Q) {
+        let _failed = said.push_str(self.0);
     }
 }
 
-impl<Q: Asking> Callback<Instant, (), TimeoutAction, u32, Q> for Count {
+impl<Q: Asking> Callback<Instant, (), TimeoutAction, String, Q> for Says {
     ghost may = { λ _ _ _ _ _ _ _ _ _ _. Unit {0} };
 
-    fn call(&mut self, _: Instant, _: &mut (), calls: &mut u32, _: &mut Q) -> TimeoutAction {
-        *calls = calls.saturating_add(1);
+    fn call(&mut self, _: Instant, _: &mut (), said: &mut String, _: &mut Q) -> TimeoutAction {
+        let _failed = said.push_str(self.0);
         TimeoutAction::Drop
     }
 }
 
-type Held<R> = Sources<OneOf<Dispatcher<PingSource<R>, Count>, Dispatcher<Timer, Count>>, u32>;
+type Held<R> = Sources<OneOf<Dispatcher<PingSource<R>, Says>, Dispatcher<Timer, Says>>, String>;
 
-// How often the callbacks were called: dispatches until both were, or ten seconds are over.
-fn run<R>(rt: &R, alloc: Global) -> Result<u32>
+// What the callbacks said in two dispatches, after another thread has rung.
+fn run<R>(rt: &R, alloc: Global) -> Result<String>
 where
-    R: Threads + Net + Clock + Wait + Clone + Drop + Send + Sync + 'static,
+    R: Threads + Wait + Clone + Drop + Send + Sync + 'static,
 {
-    let clock = SystemClock::new(rt)?;
-    let poller = MioPoller::new(rt, alloc, clock.clone()?)?;
-    let timer = Timer::from_duration(&clock, Duration::from_millis(1));
+    let poller = ScriptPoller::new(alloc)?;
+    let clock = poller.clock()?;
     let mut event_loop: EventLoop<Held<R>, _, _, R> = EventLoop::try_new(rt, alloc, poller, clock)?;
     let (ping, source) = make_ping(rt, alloc)?;
-    event_loop.handle().insert_source(source, Count)?;
-    event_loop.handle().insert_source(timer, Count)?;
-
-    let child = thread::spawn(rt, move || ping.ping()).map_err(|_| Error::OutOfMemory)?;
-    let mut calls = 0u32;
-    for _ in 0..1000u32 {
-        if calls == 2 {
-            break;
-        }
-        event_loop.dispatch(rt, Some(Duration::from_millis(10)), &mut calls)?;
-    }
+    let timer = Timer::from_deadline(Instant { nanos: 5_000_000 });
+    let mut handle = event_loop.handle();
+    handle.insert_source(source, Says("rung\n"))?;
+    handle.insert_source(timer, Says("five milliseconds\n"))?;
+    let child = spawn(rt, move || ping.ping()).map_err(|_| Error::OutOfMemory)?;
     child.join(rt);
-    Ok(calls)
+    let mut said = String::new(alloc);
+    for _ in 0..2u32 {
+        event_loop.dispatch(rt, Some(Duration::from_millis(10)), &mut said)?;
+    }
+    Ok(said)
 }
 
 fn main(rt: HostRuntime) -> ExitCode {
     match run(&rt, rt.alloc()) {
-        Ok(calls) if println!(rt; "calls: {calls}").is_ok() => ExitCode::SUCCESS,
+        Ok(said) if print!(rt; "{said}").is_ok() => ExitCode::SUCCESS,
         _ => ExitCode::FAILURE,
     }
 }
