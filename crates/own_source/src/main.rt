@@ -1,8 +1,7 @@
-//! A source of the program's own, whose events carry numbers, with a callback that adds them to the data that each dispatch lends.
+//! A source of the program's own, whose events carry numbers: its callback adds them to what each dispatch lends.
 #![tactic(auto)]
 
-use calloop::loop_logic::EventLoop;
-use calloop::{Asking, Callback, Dispatcher, Result, Sources};
+use calloop::{Asking, Callback, Dispatcher, EventLoop, Result, Sources};
 use calloop_core::sys::script::ScriptPoller;
 use numbers::Numbers;
 use std::alloc::Global;
