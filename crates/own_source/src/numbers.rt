@@ -1,0 +1,108 @@
+//! A source of numbers, one at each of the loop's first waits.
+use calloop::{
+    Asking, Callback, Error, EventIterator, EventSource, IntoError, Poll, Poller, PostAction,
+    Readiness, Result, Token, TokenFactory,
+};
+use std::sync::Wait;
+
+/// Hands out 1, 2 and so on, one number before each wait, and leaves the loop after the last.
+#[derive(Drop)]
+pub struct Numbers {
+    number: u64,
+    last: u64,
+    token: Option<Token>,
+}
+
+impl Numbers {
+    pub fn up_to(last: u64) -> Numbers {
+        Numbers {
+            number: 0,
+            last,
+            token: None,
+        }
+    }
+}
+
+/// Why a turn of it could fail. None does.
+#[derive(Debug, Drop)]
+pub enum NumbersError {
+    OutOfMemory,
+}
+
+impl IntoError for NumbersError {
+    ghost use Rattle.std.specs.Prelude.{◌≡◌};
+    ghost use Rattle.calloop_wake.specs.declared.error.Error.TheVariants.{OutOfMemory};
+    ghost use Rattle.calloop_core.specs.Lawful.{memory_of_source};
+
+    ghost becomes = { λ _ e. e ≡ OutOfMemory };
+
+    ghost of_source = { λ _ e is. memory_of_source e is };
+
+    fn into_error(self) -> Error {
+        Error::OutOfMemory
+    }
+}
+
+impl<P: Poller, C, R: Wait + Drop> EventSource<P, C, R> for Numbers {
+    ghost use Rattle.calloop_core.specs.Meanings.{attentive};
+    ghost use Rattle.calloop_core.specs.Lawful.{keeping_attentive};
+    ghost use Rattle.own_source.specs.Counting.{HandsOut};
+
+    type Event = u64;
+
+    type Metadata = ();
+
+    type Ret = ();
+
+    type Error = NumbersError;
+
+    ghost means = { attentive HandsOut };
+
+    fn process_events<F, X, Q>(
+        &mut self,
+        _readiness: Readiness,
+        _token: Token,
+        _poll: &mut Poll<P, C, R>,
+        callback: &mut F,
+        data: &mut X,
+        requests: &mut Q,
+    ) -> std::result::Result<PostAction, NumbersError>
+    where
+        Q: Asking,
+        F: Callback<u64, (), (), X, Q>,
+    {
+        callback.call(self.number, &mut (), data, requests);
+        if self.number == self.last {
+            Ok(PostAction::Remove)
+        } else {
+            Ok(PostAction::Continue)
+        }
+    }
+
+    fn register(&mut self, _poll: &mut Poll<P, C, R>, factory: &mut TokenFactory) -> Result<()> {
+        self.token = Some(factory.token()?);
+        Ok(())
+    }
+
+    fn reregister(&mut self, poll: &mut Poll<P, C, R>, factory: &mut TokenFactory) -> Result<()> {
+        self.register(poll, factory)
+    }
+
+    fn unregister(&mut self, _poll: &mut Poll<P, C, R>) -> Result<()> {
+        self.token = None;
+        Ok(())
+    }
+
+    fn needs_extra_lifecycle_events() -> bool {
+        true
+    }
+
+    fn before_sleep(&mut self) -> Result<Option<(Readiness, Token)>> {
+        self.number = self.number.saturating_add(1);
+        Ok(self.token.map(|token| (Readiness::EMPTY, token)))
+    }
+
+    fn before_handle_events(&mut self, _events: EventIterator<'_>) {}
+
+    ghost keeps = { keeping_attentive HandsOut };
+}
