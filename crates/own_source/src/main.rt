@@ -1,8 +1,8 @@
 //! A source of the program's own, whose events carry numbers: its callback adds them to what each dispatch lends.
 #![tactic(auto)]
 
+use calloop::sys::script::ScriptPoller;
 use calloop::{Asking, Callback, Dispatcher, EventLoop, Result, Sources};
-use calloop_core::sys::script::ScriptPoller;
 use numbers::Numbers;
 use std::alloc::Global;
 use std::process::ExitCode;

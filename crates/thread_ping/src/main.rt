@@ -1,11 +1,11 @@
 //! A ping that another thread rings, beside a timer, in one loop.
 #![tactic(auto)]
 
+use calloop::sys::script::ScriptPoller;
 use calloop::{
     Asking, Callback, Dispatcher, Error, EventLoop, Instant, OneOf, PingSource, Result, Sources,
     TimeoutAction, Timer, make_ping,
 };
-use calloop_core::sys::script::ScriptPoller;
 use std::alloc::Global;
 use std::process::ExitCode;
 use std::sync::Wait;
