@@ -1,21 +1,10 @@
-use Rattle.std.proofs.Common.{◌≡◌, ◌≢◌, ℕ, suc, zero, ◌+◌, ◌%◌, ◌<◌, ◌≤◌, List, [], ◌∷◌, ◌++◌, length, get_or, drop, refl, ap, sym, ◌∙◌, arith, true, false, add-one, if◌then◌else◌, slice_get, Option, Some}
-use Rattle.std.proofs.Math.Seq.{drop-cons}
+use Rattle.std.proofs.Common.{◌≡◌, ◌≢◌, ℕ, suc, zero, ◌+◌, ◌%◌, ◌<◌, List, [], ◌∷◌, ◌++◌, length, get_or, refl, ap, sym, ◌∙◌, arith, true, false, if◌then◌else◌, slice_get, Option, Some}
 use Rattle.std.proofs.Math.ListN.{set}
 use Rattle.calloop_wake.specs.declared.token.RegistrationToken.{RegistrationToken}
 use Rattle.calloop_wake.proofs.Indexed.{changed-set}
 use Rattle.calloop_wake.specs.declared.list.Content.TheVariants.{InTurn}
 use Rattle.calloop_wake.specs.declared.list.Slot.{Slot}
 use Rattle.calloop_wake.specs.Slots.{changed, first_vacant, next_version, claimed, taken_up, is_vacant, next_registration}
-
-pub first_vacant-le : {S : Type 0} (ss : List (Slot S)) → first_vacant ss ≤ length ss
-first_vacant-le [] = omega arith
-first_vacant-le (s ∷ ss) = elim (is_vacant s) as (λ b. (if b then 0 else suc (first_vacant ss)) ≤ suc (length ss)) [ true ↦ omega arith | false ↦ omega (arith, first_vacant-le ss) ]
-
-pub vacant_here : {S : Type 0} (ss : List (Slot S)) (i : ℕ) (d : Slot S) → i < length ss → is_vacant (get_or ss i d) ≡ true → first_vacant (drop i ss) ≡ 0
-vacant_here ss i d h e = rw (drop-cons ss i d) (rw e refl)
-
-pub vacant_later : {S : Type 0} (ss : List (Slot S)) (i : ℕ) (d : Slot S) → i < length ss → is_vacant (get_or ss i d) ≡ false → first_vacant (drop i ss) ≡ suc (first_vacant (drop (i + 1) ss))
-vacant_later ss i d h e = rw (add-one, drop-cons ss i d) (rw e refl)
 
 -- a vacant slot is taken up
 pub claimed_within : {S : Type 0} (ss : List (Slot S)) → first_vacant ss < length ss → claimed ss ≡ changed taken_up ss (first_vacant ss)

@@ -11,4 +11,5 @@ pub mod PingKind
 pub mod Lost
 pub mod Watches
 pub mod Slots
+pub mod Vacancies
 pub mod Lendings

@@ -5,6 +5,7 @@ pub mod error;
 pub mod list;
 pub mod steps;
 pub mod token;
+mod vacancies;
 pub mod wake;
 pub mod wheel;
 

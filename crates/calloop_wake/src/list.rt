@@ -1,14 +1,17 @@
 //! The slots of the loop's sources, told apart by their versions. From calloop's `list.rs`.
-ghost use Rattle.std.specs.Prelude.{◌≡◌, ◌↔◌, ℕ, ◌+◌, ◌^◌, ◌<◌, ◌≤◌, List, [], ◌∷◌, ◌++◌, length, slice_get, is_some, if◌then◌else◌, Some, None, IfOk, IfErr, IsErr, IsErrOf, OnOk, OnSome};
+ghost use Rattle.std.specs.Prelude.{◌≡◌, ◌↔◌, ◌+◌, ◌^◌, ◌<◌, ◌≤◌, List, [], length, slice_get, is_some, if◌then◌else◌, Some, None, IfOk, IfErr, IsErr, IsErrOf, OnSome};
 ghost use Rattle.calloop_wake.specs.Slots.{named, changed, with_content, source_of, is_in_turn, first_vacant, next_registration, claimed, after_turn, CannotClaim};
+ghost use Rattle.calloop_wake.specs.Vacancies.{TellVacant};
 ghost use Rattle.std.specs.Borrow.{sem};
 ghost use Rattle.calloop_wake.specs.Lendings.{LendsSource, LendsNamed};
-ghost use Rattle.calloop_wake.specs.declared.error.Error.TheVariants.{InvalidToken, OutOfMemory, TooManySources};
+ghost use Rattle.calloop_wake.specs.declared.error.Error.TheVariants.{InvalidToken, TooManySources};
 ghost use Rattle.calloop_wake.specs.declared.list.Content.TheVariants.{Vacant, Source, InTurn};
 ghost use Rattle.calloop_wake.specs.declared.list.Slot.{Slot};
 
 use crate::error::{Error, Result};
+use crate::steps::Steps;
 use crate::token::RegistrationToken;
+use crate::vacancies::Vacancies;
 use std::alloc::Global;
 use std::marker::Model;
 use std::mem;
@@ -37,6 +40,8 @@ pub struct Slot<S> {
 #[derive(Drop)]
 pub struct SourceList<S> {
     slots: Vec<Slot<S>>,
+    // Which of them are vacant.
+    vacancies: Vacancies,
 }
 
 impl<S> Model for SourceList<S> {
@@ -46,6 +51,10 @@ impl<S> Model for SourceList<S> {
     ghost Value = { List (Slot S) };
 
     ghost view = { λ l. l.slots.items };
+
+    ghost use Rattle.calloop_wake.specs.Vacancies.{TellVacant};
+
+    ghost invariant = { λ l. TellVacant l.slots.items l.vacancies };
 }
 
 // Whether the token names a source that is not in its turn.
@@ -58,18 +67,6 @@ fn has_source<S>(slots: &[Slot<S>], token: RegistrationToken) -> bool
     }
 }
 
-// The least index of a vacant slot, or the length.
-fn vacant_place<S>(slots: &[Slot<S>]) -> usize
-    ensures { result ≡ first_vacant slots.now }
-{
-    for (place, slot) in slots.iter().enumerate() {
-        if matches!(slot.content, Content::Vacant) {
-            return place;
-        }
-    }
-    slots.len()
-}
-
 // Whether the source of the slot that the token names is taken out.
 fn is_in_turn<S>(slots: &[Slot<S>], token: RegistrationToken) -> bool
     ensures { result ≡ is_in_turn (named slots.now token) }
@@ -80,37 +77,64 @@ fn is_in_turn<S>(slots: &[Slot<S>], token: RegistrationToken) -> bool
     }
 }
 
-// A new slot, for a source that is being registered.
-fn add<S: Drop>(slots: &mut Vec<Slot<S>>) -> Result<()>
-    ensures ok { OnOk result (slots.new.items ≡ slots.old.items ++ record { version = 0; content = InTurn } ∷ []) }
-    ensures err { IfErr result (λ e. (e ≡ OutOfMemory) × (slots.new.items ≡ slots.old.items)) }
+// Takes up the first vacant slot, which is at this place.
+fn take_up<S: Drop>(slots: &mut Vec<Slot<S>>, place: usize) -> RegistrationToken
+    requires first { place ≡ first_vacant slots.old.items }
+    requires within { (place < length slots.old.items) × (place < 2 ^ 32) }
+    ensures value { result ≡ next_registration slots.old.items }
+    ensures slots { slots.new.items ≡ claimed slots.old.items }
 {
-    slots.push(Slot {
-        version: 0,
-        content: Content::InTurn,
-    })?;
-    Ok(())
-}
-
-// Claims a slot of the list.
-fn claim<S: Drop>(slots: &mut Vec<Slot<S>>) -> Result<RegistrationToken>
-    ensures ok { IfOk result (λ t. (t ≡ next_registration slots.old.items) × (slots.new.items ≡ claimed slots.old.items)) }
-    ensures within { IfOk result (λ t. (t.slot < length slots.new.items) × (t.slot < 2 ^ 32)) }
-    ensures full { IsErrOf result TooManySources ↔ (2 ^ 32 ≤ first_vacant slots.old.items) }
-    ensures err { IfErr result (λ e. (slots.new.items ≡ slots.old.items) × CannotClaim slots.old.items e) }
-{
-    let place = vacant_place(slots);
-    if place > 0xffff_ffff {
-        return Err(Error::TooManySources);
-    }
-    if place == slots.len() {
-        add(slots)?;
-        return Ok(RegistrationToken::new(place as u32, 0));
-    }
     let slot = &mut slots[place];
     slot.version = slot.version.wrapping_add(1);
     slot.content = Content::InTurn;
-    Ok(RegistrationToken::new(place as u32, slot.version))
+    RegistrationToken::new(place as u32, slot.version)
+}
+
+// Adds a slot, where none is vacant. All memory that it takes comes first.
+fn add<S: Drop>(slots: &mut Vec<Slot<S>>, vacancies: &mut Vacancies) -> Result<RegistrationToken>
+    requires full { first_vacant slots.old.items ≡ length slots.old.items }
+    requires told { TellVacant slots.old.items vacancies.old }
+    ensures ok { IfOk result (λ t. (t ≡ next_registration slots.old.items) × (slots.new.items ≡ claimed slots.old.items)) }
+    ensures within { IfOk result (λ t. (t.slot < length slots.new.items) × (t.slot < 2 ^ 32)) }
+    ensures full { IsErrOf result TooManySources ↔ (2 ^ 32 ≤ first_vacant slots.old.items) }
+    ensures err { IfErr result (λ e. (slots.new.items ≡ slots.old.items) × (vacancies.new ≡ vacancies.old) × CannotClaim slots.old.items e) }
+    ensures told { TellVacant slots.new.items vacancies.new }
+{
+    let place = slots.len();
+    if place > 0xffff_ffff {
+        return Err(Error::TooManySources);
+    }
+    slots.reserve(1)?;
+    vacancies.grow(place)?;
+    let slot = Slot {
+        version: 0,
+        content: Content::InTurn,
+    };
+    match slots.push(slot) {
+        Ok(()) => Ok(RegistrationToken::new(place as u32, 0)),
+        Err(_) => unreachable!(),
+    }
+}
+
+// Claims a slot of the list.
+fn claim<S: Drop>(
+    slots: &mut Vec<Slot<S>>,
+    vacancies: &mut Vacancies,
+    steps: &mut Steps,
+) -> Result<RegistrationToken>
+    requires fresh { steps.old ≡ 0 }
+    requires told { TellVacant slots.old.items vacancies.old }
+    ensures ok { IfOk result (λ t. (t ≡ next_registration slots.old.items) × (slots.new.items ≡ claimed slots.old.items)) }
+    ensures within { IfOk result (λ t. (t.slot < length slots.new.items) × (t.slot < 2 ^ 32)) }
+    ensures full { IsErrOf result TooManySources ↔ (2 ^ 32 ≤ first_vacant slots.old.items) }
+    ensures err { IfErr result (λ e. (slots.new.items ≡ slots.old.items) × (vacancies.new ≡ vacancies.old) × CannotClaim slots.old.items e) }
+    ensures told { TellVacant slots.new.items vacancies.new }
+    ensures steps { steps.new ≤ steps.old + 6 }
+{
+    match vacancies.take_first(steps) {
+        Some(place) => Ok(take_up(slots, place)),
+        None => add(slots, vacancies),
+    }
 }
 
 // Puts this into the slot, and gives what stood there.
@@ -155,6 +179,7 @@ impl<S: Drop> SourceList<S> {
     {
         SourceList {
             slots: Vec::new(alloc),
+            vacancies: Vacancies::new(alloc),
         }
     }
 
@@ -194,13 +219,17 @@ impl<S: Drop> SourceList<S> {
     ///
     /// It refuses with `TooManySources` exactly where the slot's number would not fit 32 bits, and with `OutOfMemory`
     /// only where a new slot is to be added. After a refusal the list is as it was. Calloop panics or aborts there.
-    pub fn vacant(&mut self) -> Result<RegistrationToken>
+    ///
+    /// It reads at most six words to find the slot, however many there are. Calloop walks its slots.
+    pub fn vacant(&mut self, steps: &mut Steps) -> Result<RegistrationToken>
+        requires { steps.old ≡ 0 }
         ensures ok { IfOk result (λ t. (t ≡ next_registration self.old) × (self.new ≡ claimed self.old)) }
         ensures within { IfOk result (λ t. (t.slot < length self.new) × (t.slot < 2 ^ 32)) }
         ensures full { IsErrOf result TooManySources ↔ (2 ^ 32 ≤ first_vacant self.old) }
         ensures err { IfErr result (λ e. (self.new ≡ self.old) × CannotClaim self.old e) }
+        ensures steps { steps.new ≤ steps.old + 6 }
     {
-        claim(&mut self.slots)
+        claim(&mut self.slots, &mut self.vacancies, steps)
     }
 
     /// Takes out the source that the token names, for its turn, and leaves the slot in its turn.
@@ -251,8 +280,11 @@ impl<S: Drop> SourceList<S> {
     pub fn vacate(&mut self, token: RegistrationToken)
         ensures { self.new ≡ after_turn Vacant token self.old }
     {
-        if is_in_turn(&self.slots, token) {
-            let _taken_out = put(&mut self.slots, token.slot() as usize, Content::Vacant);
+        if !is_in_turn(&self.slots, token) {
+            return;
         }
+        let place = token.slot() as usize;
+        let _taken_out = put(&mut self.slots, place, Content::Vacant);
+        self.vacancies.insert(place);
     }
 }

@@ -144,14 +144,17 @@ fn two_tokens_of_a_factory_differ(rt: HostRuntime) {
 fn claimed_slots_count_up(rt: HostRuntime) {
     let mut list = SourceList::<u8>::new(rt.alloc());
     for slot in 0..3 {
-        assert_eq!(rt; list.vacant().ok(), Some(RegistrationToken::new(slot, 0)));
+        assert!(rt;
+            claims(&mut list, RegistrationToken::new(slot, 0)),
+            "{slot}"
+        );
     }
 }
 
 #[test]
 fn a_source_in_its_slot_can_be_changed(rt: HostRuntime) {
     let mut list = SourceList::new(rt.alloc());
-    let token = list.vacant().expect(&rt, "a slot");
+    let token = list.vacant(&mut Steps::new()).expect(&rt, "a slot");
     assert_eq!(rt; list.end_turn(token, 5u8), None);
     if let Ok(source) = list.get_mut(token) {
         *source = 6;
@@ -163,7 +166,7 @@ fn a_source_in_its_slot_can_be_changed(rt: HostRuntime) {
 #[test]
 fn a_source_in_its_turn_is_not_found(rt: HostRuntime) {
     let mut list = SourceList::new(rt.alloc());
-    let token = list.vacant().expect(&rt, "a slot");
+    let token = list.vacant(&mut Steps::new()).expect(&rt, "a slot");
     assert_eq!(rt; list.end_turn(token, 6u8), None);
     assert_eq!(rt; list.begin_turn(token), Some(6));
     assert_eq!(rt; list.begin_turn(token), None);
@@ -173,10 +176,28 @@ fn a_source_in_its_turn_is_not_found(rt: HostRuntime) {
 #[test]
 fn a_vacated_slot_hands_its_source_back(rt: HostRuntime) {
     let mut list = SourceList::new(rt.alloc());
-    let token = list.vacant().expect(&rt, "a slot");
+    let token = list.vacant(&mut Steps::new()).expect(&rt, "a slot");
     list.vacate(token);
     assert_eq!(rt; list.end_turn(token, 6u8), Some(6));
     assert!(rt; is_no_token(&list, token));
+}
+
+#[test]
+fn vacated_slots_are_claimed_from_the_front(rt: HostRuntime) {
+    let mut list = SourceList::new(rt.alloc());
+    for slot in 0..70 {
+        assert!(rt;
+            claims(&mut list, RegistrationToken::new(slot, 0)),
+            "{slot}"
+        );
+    }
+    for slot in [65, 3, 69] {
+        list.vacate(RegistrationToken::new(slot, 0));
+    }
+    for (slot, version) in [(3, 1), (65, 1), (69, 1), (70, 0)] {
+        let token = RegistrationToken::new(slot, version);
+        assert!(rt; claims(&mut list, token), "{slot}");
+    }
 }
 
 #[test]
@@ -184,10 +205,10 @@ fn a_slot_that_is_used_65536_times_again_has_its_first_token(rt: HostRuntime) {
     let mut list = SourceList::new(rt.alloc());
     for version in 0..=u16::MAX {
         let token = RegistrationToken::new(0, version);
-        assert_eq!(rt; list.vacant().ok(), Some(token));
+        assert!(rt; claims(&mut list, token), "{version}");
         list.vacate(token);
     }
-    let again = list.vacant().expect(&rt, "the slot");
+    let again = list.vacant(&mut Steps::new()).expect(&rt, "the slot");
     assert_eq!(rt; again, RegistrationToken::new(0, 0));
     assert_eq!(rt; list.end_turn(again, 7u8), None);
     assert!(rt; matches!(list.get(again), Ok(7)));
@@ -432,6 +453,13 @@ fn shows<T: Display>(alloc: Global, shown: &T, text: &str) -> bool {
 // A refusal by the system.
 fn gone() -> Error {
     Error::from(io::Error::new(io::ErrorKind::NotFound, "gone"))
+}
+
+// Whether the next claim gives this token, and reads six words at most.
+fn claims(list: &mut SourceList<u8>, token: RegistrationToken) -> bool {
+    let mut steps = Steps::new();
+    let claimed = list.vacant(&mut steps);
+    matches!(claimed, Ok(given) if given == token) && steps.count() <= 6
 }
 
 fn is_no_token(list: &SourceList<u8>, token: RegistrationToken) -> bool {

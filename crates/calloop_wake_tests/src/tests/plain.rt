@@ -1,9 +1,10 @@
 //! Random calls, and plain lists that say what is to come of them.
 ghost use Rattle.std.specs.Prelude.{◌<◌};
 
-use super::{Desk, Ends, arm_again, at, post};
+use super::{Desk, Ends, arm_again, at, claims, post};
+use calloop_wake::list::SourceList;
 use calloop_wake::steps::Steps;
-use calloop_wake::token::Token;
+use calloop_wake::token::{RegistrationToken, Token};
 use calloop_wake::wheel::{Entry, Wheel};
 use std::alloc::{AllocError, Global};
 use std::process::Abort;
@@ -28,6 +29,22 @@ fn random_calls_of_a_wheel_are_those_of_a_list(rt: HostRuntime) -> Result<(), Fa
         assert_eq!(rt; wheel.len(), armed.len());
     }
     Ok(())
+}
+
+#[test]
+fn random_claims_of_slots_are_those_of_a_search(rt: HostRuntime) {
+    let mut draws = Draws { state: 3 };
+    let mut list = SourceList::new(rt.alloc());
+    let mut slots = Vec::new(rt.alloc());
+    for i in 0..4_500 {
+        assert!(rt; claims_the_first(&mut list, &mut slots), "slot {i}");
+    }
+    for i in 0..3_000 {
+        assert!(rt;
+            claims_or_vacates(&mut list, &mut slots, &mut draws),
+            "call {i}"
+        );
+    }
 }
 
 #[test]
@@ -222,4 +239,49 @@ fn gives_the_first(wheel: &mut Wheel, armed: &mut Vec<(u64, u64)>, now: u64) -> 
         armed.retain(|other| *other != pair);
     }
     is_known && given.map(|entry: Entry| (entry.deadline.nanos, entry.counter)) == due
+}
+
+// A slot of the list that is searched.
+#[derive(Clone, Copy, Drop)]
+struct PlainSlot {
+    version: u16,
+    vacant: bool,
+}
+
+// Claims the first vacant slot that a search finds, or a new one. Whether the list gives the same.
+fn claims_the_first(list: &mut SourceList<u8>, slots: &mut Vec<PlainSlot>) -> bool {
+    let place = slots.iter().take_while(|slot| !slot.vacant).count();
+    let mut version = 0;
+    if let Some(slot) = slots.get_mut(place) {
+        slot.vacant = false;
+        slot.version = slot.version.wrapping_add(1);
+        version = slot.version;
+    } else {
+        let vacant = false;
+        if slots.push(PlainSlot { version, vacant }).is_err() {
+            return false;
+        }
+    }
+    match u32::try_from(place) {
+        Ok(place) => claims(list, RegistrationToken::new(place, version)),
+        Err(_) => false,
+    }
+}
+
+// Claims a slot, or more often vacates one that is drawn. Whether the list does as the one that is searched.
+fn claims_or_vacates(
+    list: &mut SourceList<u8>,
+    slots: &mut Vec<PlainSlot>,
+    draws: &mut Draws,
+) -> bool {
+    if draws.below(3) == 0 {
+        return claims_the_first(list, slots);
+    }
+    let place = draws.below(4_500);
+    let Some(slot) = slots.get_mut(place as usize) else {
+        return false;
+    };
+    slot.vacant = true;
+    list.vacate(RegistrationToken::new(place as u32, slot.version));
+    true
 }

@@ -1,26 +1,39 @@
-use Rattle.std.proofs.Common.{length, arith, ◌∙◌, ap}
-use Rattle.std.proofs.Math.ListN.{length-set}
+use Rattle.std.proofs.Common.{◌≡◌, ◌<◌, ◌≤◌, ◌^◌, length, arith, ap, ◌∙◌}
 use Rattle.calloop_wake.specs.Slots.{first_vacant}
+use Rattle.calloop_wake.specs.Vacancies.{is_vacant_in}
 use Rattle.calloop_wake.specs.declared.token.RegistrationToken.{RegistrationToken}
-use Rattle.calloop_wake.proofs.Vacancy.{first_vacant-le, reused, added}
+use Rattle.calloop_wake.proofs.Told.{first-is, first-within, none-first, claimed-long, told-taken_up}
 use Rattle.calloop_wake.proofs.list.claim.Goals as goal
 
-pub index_mut-slot-requires : goal.index_mut-slot-requires
-index_mut-slot-requires g c =
-    omega (arith, c.vacant_place-place.ensures, first_vacant-le c.deref.result.now, c.deref.ensures.len)
+pub take_up-requires-clause-first : goal.take_up-requires-clause-first
+take_up-requires-clause-first g c =
+    let xs = c.args.slots.now.items in first-is xs c.in-Some.place (c.in-Some.ensures.first (is_vacant_in xs) c.requires.told.told)
 
-pub returns-clause-ok : goal.returns-clause-ok
-returns-clause-ok g c =
-    let within = first_vacant-le c.deref.result.now in
-    let r = reused c.args.slots.now.items c.vacant_place-place.result c.index_mut-slot.result.now (c.vacant_place-place.ensures ∙ ap first_vacant c.deref.ensures.value) (omega (arith, c.vacant_place-place.ensures, within, c.deref.ensures.len, ap length c.deref.ensures.value)) c.index_mut-slot.ensures.value in
-    (c.new-2.ensures ∙ r.0, r.1)
+pub take_up-requires-clause-within : goal.take_up-requires-clause-within
+take_up-requires-clause-within g c =
+    let xs = c.args.slots.now.items in
+    let within : c.in-Some.place < length xs = first-within xs c.in-Some.place (c.in-Some.ensures.first (is_vacant_in xs) c.requires.told.told) in
+    let few : length xs ≤ 2 ^ 32 = c.requires.told.few in
+    (within, omega arith)
 
-pub returns-clause-within : goal.returns-clause-within
-returns-clause-within g c =
-    let named = ap (λ (t : RegistrationToken). t.slot) c.new-2.ensures in
-    (simp length-set (omega (arith, named, c.vacant_place-place.ensures, first_vacant-le c.deref.result.now, c.deref.ensures.len, ap length c.deref.ensures.value)), omega (arith, named))
+pub add-requires-clause-full : goal.add-requires-clause-full
+add-requires-clause-full g c =
+    let xs = c.args.slots.now.items in none-first xs (c.in-None.ensures.none.1 (is_vacant_in xs) c.requires.told.told)
 
-pub returns-then-place-len-clause-ok : goal.returns-then-place-len-clause-ok
-returns-then-place-len-clause-ok g c =
-    let a = added c.args.slots.now.items c.vacant_place-place.result (c.vacant_place-place.ensures ∙ ap first_vacant c.deref.ensures.value) (omega (arith, c.deref.ensures.len, ap length c.deref.ensures.value)) in
-    (c.new.ensures ∙ a.0, c.in_ok-add.ensures.ok ∙ a.1)
+pub returns-in-Some-clause-within : goal.returns-in-Some-clause-within
+returns-in-Some-clause-within g c =
+    let xs = c.args.slots.now.items in
+    let first = c.in-Some.ensures.first (is_vacant_in xs) c.requires.told.told in
+    let is : c.in-Some.place ≡ first_vacant xs = first-is xs c.in-Some.place first in
+    let within : c.in-Some.place < length xs = first-within xs c.in-Some.place first in
+    let few : length xs ≤ 2 ^ 32 = c.requires.told.few in
+    let at : c.take_up.result.slot ≡ first_vacant xs = ap (λ (t : RegistrationToken). t.slot) c.take_up.ensures.value in
+    let long : length c.take_up.new.slots.items ≡ length xs = ap (λ l. length l) c.take_up.ensures.slots ∙ claimed-long xs c.in-Some.place first in
+    (omega arith, omega arith)
+
+pub returns-in-Some-clause-told : goal.returns-in-Some-clause-told
+returns-in-Some-clause-told g c =
+    let xs = c.args.slots.now.items in
+    rw c.take_up.ensures.slots
+    (told-taken_up xs c.args.vacancies.now c.take_first.new.self c.in-Some.place c.requires.told (c.in-Some.ensures.first (is_vacant_in xs) c.requires.told.told) c.take_first.ensures.bits
+    (c.in-Some.ensures.levels (is_vacant_in xs) c.requires.told.told))

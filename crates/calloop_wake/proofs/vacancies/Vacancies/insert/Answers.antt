@@ -1,0 +1,8 @@
+use Rattle.calloop_wake.proofs.Levels.{HasBits-same}
+use Rattle.calloop_wake.proofs.vacancies.Vacancies.insert.Goals as goal
+
+pub returns-clause-levels : goal.returns-clause-levels
+returns-clause-levels c = rw (← c.self.view_is) c.mark.ensures.levels
+
+pub returns-clause-bits : goal.returns-clause-bits
+returns-clause-bits c = rw (← c.self.view_is) (HasBits-same c.self.inside.levels c.mark.new.levels c.mark.ensures.len)
