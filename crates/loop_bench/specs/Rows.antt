@@ -2,7 +2,7 @@
 use Rattle.std.specs.Prelude.{ℕ, ◌*◌, min, Bool, List, nat_eq, codes}
 use Rattle.std.specs.Cmp.Lexicographic.{pointwise}
 use Rattle.loop_bench.specs.declared.row.Kind.{Kind}
-use Rattle.loop_bench.specs.declared.row.Kind.TheVariants.{RingAndDispatch, TimersFired, TimersCancelled, InsertAndRemove, IdleDispatch, ReadableSockets}
+use Rattle.loop_bench.specs.declared.row.Kind.TheVariants.{RingAndDispatch, TimersFired, TimersCancelled, InsertAndRemove, IdleDispatch, IdleBesidePings, PingsServed, ReadableSockets}
 
 abbrev pub name_of : Kind → List ℕ
 name_of RingAndDispatch = codes "ring_and_dispatch"
@@ -10,18 +10,22 @@ name_of TimersFired = codes "timers_fired"
 name_of TimersCancelled = codes "timers_cancelled"
 name_of InsertAndRemove = codes "insert_and_remove"
 name_of IdleDispatch = codes "idle_dispatch"
+name_of IdleBesidePings = codes "idle_beside_pings"
+name_of PingsServed = codes "pings_served"
 name_of ReadableSockets = codes "readable_sockets"
 
 abbrev pub is_named : List ℕ → Kind → Bool
 is_named name kind = pointwise nat_eq (name_of kind) name
 
--- in how many steps the time of a row is divided: each timer that fires is one
+-- in how many steps the time of a row is divided: each timer that fires is one, and each ping that is inserted and served
 abbrev pub operations_of : Kind → (count size : ℕ) → ℕ
 operations_of RingAndDispatch count size = count
 operations_of TimersFired count size = count * size
 operations_of TimersCancelled count size = count
 operations_of InsertAndRemove count size = count
 operations_of IdleDispatch count size = count
+operations_of IdleBesidePings count size = count
+operations_of PingsServed count size = count * size
 operations_of ReadableSockets count size = count
 
 -- how many callbacks a row calls: one for each ring, one for each timer that fires, and one for each socket that a wait tells of
@@ -31,4 +35,6 @@ calls_of TimersFired count size = count * size
 calls_of TimersCancelled count size = 0
 calls_of InsertAndRemove count size = 0
 calls_of IdleDispatch count size = 0
+calls_of IdleBesidePings count size = 0
+calls_of PingsServed count size = count * size
 calls_of ReadableSockets count size = count * min size 1024

@@ -6,8 +6,9 @@ use anyhow::{Context, Result};
 use calloop::loop_logic::EventLoop;
 use calloop::ping::{Ping, make_ping};
 use calloop::{
-    Asking, Callback, Clock, Dispatcher, Generic, Instant, Interest, Mode, NoIoDrop, OneOf,
-    PingSource, Poller, PostAction, Readiness, RegistrationToken, Sources, TimeoutAction, Timer,
+    Asking, Callback, Choice, Clock, Dispatcher, EventDispatcher, Generic, Here, Instant, Interest,
+    Mode, NoIoDrop, OneOf, PingSource, Poller, PostAction, Readiness, RegistrationToken, Sources,
+    There, TimeoutAction, Timer,
 };
 use std::alloc::Global;
 use std::io;
@@ -63,7 +64,7 @@ impl<I, Q: Asking> Callback<Readiness, NoIoDrop<I>, io::Result<PostAction>, u64,
     }
 }
 
-/// The sources of the rows, and the count of calls that each dispatch lends.
+/// The sources of the rows, and the count of calls that each dispatch lends. Only what runs a row names them.
 pub type Held<P, R> = Sources<
     OneOf<
         Dispatcher<PingSource<R>, Counts>,
@@ -74,18 +75,27 @@ pub type Held<P, R> = Sources<
 
 /// A loop, the calls of its callbacks, and the time that was measured, in nanoseconds.
 #[derive(Drop)]
-pub struct Bench<P: Poller, C: Clock, R: Wait + Drop> {
+pub struct Bench<D: EventDispatcher<P, C, R>, P: Poller, C: Clock, R: Wait + Drop> {
     rt: R,
     alloc: Global,
-    pub event_loop: EventLoop<Held<P, R>, P, C, R>,
+    pub event_loop: EventLoop<D, P, C, R>,
     clock: C,
     pub calls: u64,
     pub nanoseconds: u64,
 }
 
-impl<P: Measured<C, R>, C: Clock, R: Wait + time::Clock + Clone + Drop> Bench<P, C, R> {
+impl<D, P, C, R> Bench<D, P, C, R>
+where
+    D: EventDispatcher<P, C, R, Data = u64, Idle = ()>,
+    D: Choice<PingSource<R>, Counts, Here>,
+    D: Choice<Timer, Counts, There<Here>>,
+    D: Choice<Generic<P>, Counts, There<There<Here>>>,
+    P: Measured<C, R>,
+    C: Clock,
+    R: Wait + time::Clock + Clone + Drop,
+{
     /// A loop without sources. Nothing was measured yet.
-    pub fn new(rt: &R, alloc: Global) -> Result<Bench<P, C, R>>
+    pub fn new(rt: &R, alloc: Global) -> Result<Bench<D, P, C, R>>
         ensures { IfOk result (λ made. (made.calls ≡ 0) × (made.nanoseconds ≡ 0)) }
     {
         let (poller, clock) = P::make(rt, alloc)?;
@@ -147,6 +157,22 @@ impl<P: Measured<C, R>, C: Clock, R: Wait + time::Clock + Clone + Drop> Bench<P,
         Ok(make_ping(&self.rt, self.alloc)?)
     }
 
+    /// What holds the source of a ping in the loop.
+    pub fn hold_ping(source: PingSource<R>) -> D {
+        <D as Choice<PingSource<R>, Counts, Here>>::hold(Dispatcher::new(source, Counts))
+    }
+
+    /// Puts a source into the loop.
+    pub fn insert(&mut self, held: D) -> Result<RegistrationToken>
+        ensures calls { self.new.calls ≡ self.old.calls }
+        ensures nanoseconds { self.new.nanoseconds ≡ self.old.nanoseconds }
+    {
+        match self.event_loop.handle().register_dispatcher(held) {
+            Ok(token) => Ok(token),
+            Err(refused) => Err(refused.error.into()),
+        }
+    }
+
     /// Puts so many pings into the loop.
     pub fn insert_pings(&mut self, size: u32) -> Result<Vec<Ping<R>>>
         ensures pings { IfOk result (λ pings. vec_len pings ≡ size) }
@@ -156,7 +182,7 @@ impl<P: Measured<C, R>, C: Clock, R: Wait + time::Clock + Clone + Drop> Bench<P,
         let mut pings = Vec::new(self.alloc);
         for _ in 0..size {
             let (ping, source) = self.make_ping()?;
-            self.event_loop.handle().insert_source(source, Counts)?;
+            self.insert(Self::hold_ping(source))?;
             pings.push(ping)?;
         }
         Ok(pings)
@@ -171,7 +197,8 @@ impl<P: Measured<C, R>, C: Clock, R: Wait + time::Clock + Clone + Drop> Bench<P,
         for _ in 0..size {
             let (io, peer) = P::readable(&self.rt)?;
             let source: Generic<P> = Generic::new(io, Interest::READ, Mode::Level);
-            self.event_loop.handle().insert_source(source, Counts)?;
+            let dispatcher = Dispatcher::new(source, Counts);
+            self.insert(<D as Choice<Generic<P>, Counts, There<There<Here>>>>::hold(dispatcher))?;
             peers.push(peer)?;
         }
         Ok(peers)
@@ -182,8 +209,8 @@ impl<P: Measured<C, R>, C: Clock, R: Wait + time::Clock + Clone + Drop> Bench<P,
         ensures calls { self.new.calls ≡ self.old.calls }
         ensures nanoseconds { self.new.nanoseconds ≡ self.old.nanoseconds }
     {
-        let timer = Timer::from_deadline(deadline);
-        Ok(self.event_loop.handle().insert_source(timer, Counts)?)
+        let timer = Dispatcher::new(Timer::from_deadline(deadline), Counts);
+        self.insert(<D as Choice<Timer, Counts, There<Here>>>::hold(timer))
     }
 
     /// Arms so many timers, for the scattered moments from this one on.

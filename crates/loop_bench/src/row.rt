@@ -22,18 +22,24 @@ pub enum Kind {
     InsertAndRemove,
     /// Dispatches while no timer is due.
     IdleDispatch,
+    /// Dispatches while no ping is rung.
+    IdleBesidePings,
+    /// Inserts pings, rings each, and dispatches until all are called.
+    PingsServed,
     /// Dispatches while sockets are readable.
     ReadableSockets,
 }
 
 impl Kind {
     /// Each of them once, in the order in which they are printed.
-    pub const ALL: [Kind; 6] = [
+    pub const ALL: [Kind; 8] = [
         Kind::RingAndDispatch,
         Kind::TimersFired,
         Kind::TimersCancelled,
         Kind::InsertAndRemove,
         Kind::IdleDispatch,
+        Kind::IdleBesidePings,
+        Kind::PingsServed,
         Kind::ReadableSockets,
     ];
 
@@ -47,6 +53,8 @@ impl Kind {
             Kind::TimersCancelled => "timers_cancelled",
             Kind::InsertAndRemove => "insert_and_remove",
             Kind::IdleDispatch => "idle_dispatch",
+            Kind::IdleBesidePings => "idle_beside_pings",
+            Kind::PingsServed => "pings_served",
             Kind::ReadableSockets => "readable_sockets",
         }
     }
@@ -69,14 +77,14 @@ pub struct Row {
 }
 
 impl Row {
-    /// In how many steps its time is divided: each timer that fires is one.
+    /// In how many steps its time is divided: each timer that fires is one, and each ping that is inserted and served.
     pub fn operations(&self) -> u64
         ensures value { result ≡ operations_of self.now.kind (non_zero_u32_get self.now.count) (non_zero_u32_get self.now.size) }
         ensures nonzero { 0 < result }
     {
         let count = u64::from(self.count.get());
         match self.kind {
-            Kind::TimersFired => count * u64::from(self.size.get()),
+            Kind::TimersFired | Kind::PingsServed => count * u64::from(self.size.get()),
             _ => count,
         }
     }
@@ -86,11 +94,14 @@ impl Row {
         ensures { result ≡ calls_of self.now.kind (non_zero_u32_get self.now.count) (non_zero_u32_get self.now.size) }
     {
         match self.kind {
-            Kind::RingAndDispatch | Kind::TimersFired => self.operations(),
+            Kind::RingAndDispatch | Kind::TimersFired | Kind::PingsServed => self.operations(),
             Kind::ReadableSockets => {
                 u64::from(self.count.get()) * u64::from(self.size.get()).min(EVENTS_PER_WAIT)
             }
-            Kind::TimersCancelled | Kind::InsertAndRemove | Kind::IdleDispatch => 0,
+            Kind::TimersCancelled
+            | Kind::InsertAndRemove
+            | Kind::IdleDispatch
+            | Kind::IdleBesidePings => 0,
         }
     }
 }

@@ -3,7 +3,7 @@ use crate::bench::{Bench, Counts, Held, SCATTER, scattered};
 use crate::measured::Measured;
 use crate::row::{Kind, Row};
 use anyhow::{Context, Result, ensure};
-use calloop::{Clock, Dispatcher, Instant, OneOf, Sources};
+use calloop::{Choice, Clock, EventDispatcher, Generic, Here, Instant, PingSource, There, Timer};
 use std::alloc::Global;
 use std::sync::Wait;
 use std::time::{self, Duration};
@@ -17,16 +17,8 @@ pub fn run<P: Measured<C, R>, C: Clock, R: Wait + time::Clock + Clone + Drop>(
     alloc: Global,
     row: &Row,
 ) -> Result<u64> {
-    let mut bench: Bench<P, C, R> = Bench::new(rt, alloc)?;
-    let (count, size) = (row.count.get(), row.size.get());
-    match row.kind {
-        Kind::RingAndDispatch => bench.ring_and_dispatch(count, size)?,
-        Kind::TimersFired => bench.timers_fired(count, size)?,
-        Kind::TimersCancelled => bench.timers_cancelled(count, size)?,
-        Kind::InsertAndRemove => bench.insert_and_remove(count, size)?,
-        Kind::IdleDispatch => bench.idle_dispatch(count, size)?,
-        Kind::ReadableSockets => bench.readable_sockets(count, size)?,
-    }
+    let mut bench: Bench<Held<P, R>, P, C, R> = Bench::new(rt, alloc)?;
+    bench.measure(row)?;
     let calls = bench.calls;
     ensure!(
         calls == row.calls(),
@@ -36,7 +28,30 @@ pub fn run<P: Measured<C, R>, C: Clock, R: Wait + time::Clock + Clone + Drop>(
     Ok(bench.nanoseconds)
 }
 
-impl<P: Measured<C, R>, C: Clock, R: Wait + time::Clock + Clone + Drop> Bench<P, C, R> {
+impl<D, P, C, R> Bench<D, P, C, R>
+where
+    D: EventDispatcher<P, C, R, Data = u64, Idle = ()>,
+    D: Choice<PingSource<R>, Counts, Here>,
+    D: Choice<Timer, Counts, There<Here>>,
+    D: Choice<Generic<P>, Counts, There<There<Here>>>,
+    P: Measured<C, R>,
+    C: Clock,
+    R: Wait + time::Clock + Clone + Drop,
+{
+    fn measure(&mut self, row: &Row) -> Result<()> {
+        let (count, size) = (row.count.get(), row.size.get());
+        match row.kind {
+            Kind::RingAndDispatch => self.ring_and_dispatch(count, size),
+            Kind::TimersFired => self.timers_fired(count, size),
+            Kind::TimersCancelled => self.timers_cancelled(count, size),
+            Kind::InsertAndRemove => self.insert_and_remove(count, size),
+            Kind::IdleDispatch => self.idle_dispatch(count, size),
+            Kind::IdleBesidePings => self.idle_beside_pings(count, size),
+            Kind::PingsServed => self.pings_served(count, size),
+            Kind::ReadableSockets => self.readable_sockets(count, size),
+        }
+    }
+
     fn ring_and_dispatch(&mut self, count: u32, size: u32) -> Result<()> {
         let pings = self.insert_pings(size)?;
         let began = self.start()?;
@@ -96,10 +111,10 @@ impl<P: Measured<C, R>, C: Clock, R: Wait + time::Clock + Clone + Drop> Bench<P,
     fn insert_and_remove(&mut self, count: u32, size: u32) -> Result<()> {
         let _standing = self.insert_pings(size)?;
         let (_ping, source) = self.make_ping()?;
-        let mut held: Held<P, R> = Sources::new(OneOf::First(Dispatcher::new(source, Counts)));
+        let mut held = Self::hold_ping(source);
         let began = self.start()?;
         for _ in 0..count {
-            let token = self.event_loop.handle().register_dispatcher(held)?;
+            let token = self.insert(held)?;
             held = self
                 .event_loop
                 .handle()
@@ -116,6 +131,41 @@ impl<P: Measured<C, R>, C: Clock, R: Wait + time::Clock + Clone + Drop> Bench<P,
             self.dispatch()?;
         }
         self.stop(began)
+    }
+
+    fn idle_beside_pings(&mut self, count: u32, size: u32) -> Result<()> {
+        let _standing = self.insert_pings(size)?;
+        let began = self.start()?;
+        for _ in 0..count {
+            self.dispatch()?;
+        }
+        self.stop(began)
+    }
+
+    fn pings_served(&mut self, count: u32, size: u32) -> Result<()> {
+        for _ in 0..count {
+            self.serve_pings(size)?;
+        }
+        Ok(())
+    }
+
+    // One round: that the pings are dropped and leave the loop isn't measured.
+    fn serve_pings(&mut self, size: u32) -> Result<()> {
+        let wanted = self.calls.saturating_add(u64::from(size));
+        let began = self.start()?;
+        let pings = self.insert_pings(size)?;
+        for ping in &pings {
+            ping.ping();
+        }
+        for _ in 0..size {
+            if self.calls >= wanted {
+                break;
+            }
+            self.dispatch()?;
+        }
+        self.stop(began)?;
+        drop(pings);
+        self.dispatch()
     }
 
     fn readable_sockets(&mut self, count: u32, size: u32) -> Result<()> {
