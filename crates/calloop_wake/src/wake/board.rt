@@ -82,22 +82,21 @@ fn close(places: &mut Places, posted: &mut Vec<u64>, key: u64)
     }
 }
 
-// Marks the place of a key, if it has one. Whether that set a mark anew.
+// Marks the place of a key, if it has one, and takes no memory. Whether that set a mark anew.
 fn mark(places: &mut Places, posted: &mut Vec<u64>, key: u64) -> bool
     requires { IsBoard places.old posted.old.items (vec_capacity posted.old) }
     ensures wakes { result ≡ wakes key (places_of places.old) }
     ensures places { places_of places.new ≡ after_post key (places_of places.old) }
     ensures board { IsBoard places.new posted.new.items (vec_capacity posted.new) }
+    ensures room { vec_capacity posted.new ≡ vec_capacity posted.old }
 {
     let mut steps = Steps::new();
     if !places.is_quiet(key, &mut steps) {
         return false;
     }
     places.note(key, Some(posted.len()), &mut steps);
-    match posted.push(key) {
-        Ok(()) => true,
-        Err(_) => unreachable!(),
-    }
+    posted.push_reserved(key);
+    true
 }
 
 // Notes where each posted key stands once so many of the first are gone, by one look-up each.
