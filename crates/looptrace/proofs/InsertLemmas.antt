@@ -1,5 +1,5 @@
 -- An insertion of a source under a free name is an insertion of what holds it.
-use Rattle.std.proofs.Common.{Bool, false, ◌≡◌, ℕ, List, ◌∙◌, sym, ap, subst, refl, Some, Option, Result, Ok, Err}
+use Rattle.std.proofs.Common.{Bool, false, ◌≡◌, ℕ, List, subst, refl, Some, Option, Result, Ok, Err}
 use Rattle.logbook.specs.Pages.{Book}
 use Rattle.calloop_wake.specs.declared.error.InsertError.{InsertError}
 use Rattle.calloop_wake.specs.declared.token.RegistrationToken.{RegistrationToken}
@@ -12,11 +12,6 @@ use Rattle.calloop.specs.Rules.{held_answer}
 use Rattle.looptrace.specs.Sources.{Source}
 use Rattle.looptrace.specs.Named.{Named, is_taken}
 use Rattle.looptrace.specs.Runs.{Calls, Pending, InsertSays, InsertLine}
-
--- the name is free
-pub free : (name : List ℕ) (sources : List Named) (found : Bool) (asked : List ℕ) (seen : List Named) → found ≡ is_taken asked seen → asked ≡ name → seen ≡ sources → found ≡ false → is_taken name sources ≡ false
-free name sources found asked seen answers same held none =
-    sym (ap (λ (n : List ℕ). is_taken n sources) same) ∙ sym (ap (λ (ss : List Named). is_taken asked ss) held) ∙ sym answers ∙ none
 
 -- what is said of the answer is said of the held one
 says_held : {S F R : Type 0} (held : Dispatcher S F → Source R) (callback : F) (answer : Result RegistrationToken (InsertError S)) (name : List ℕ) (ping : Option Book) (before after : List Named) (said : List ℕ)

@@ -1,27 +1,32 @@
--- The sources of a script under their names.
-use Rattle.std.specs.Prelude.{ℕ, List, [], ◌∷◌, Bool, if◌then◌else◌, nat_eq, Option, Some, None, is_some}
+-- The sources of a script under their names, as a map holds them: by their bytes in order, each name once.
+use Rattle.std.specs.Prelude.{ℕ, List, Bool, Option, None, is_some}
 use Rattle.std.specs.Option.{option_and_then}
-use Rattle.std.specs.Cmp.Lexicographic.{pointwise}
+use Rattle.std.specs.Ordering.{nat_cmp}
+use Rattle.std.specs.Cmp.Lexicographic.{slice_cmp}
+use Rattle.std.specs.BTreeMap.{insert_entry, is_at}
+use Rattle.std.specs.Map.{lookup, set_value}
 use Rattle.logbook.specs.Pages.{Book}
 
--- a source under its name; while its ping is open, the name of its cell
-pub record Named : Type 0 where
-  pub name : List ℕ
-  pub ping : Option Book
+-- a source's name and, while its ping is open, the name of its cell
+abbrev pub Named : Type 0
+Named = List ℕ × Option Book
 
--- the source of this name
-abbrev pub source_named : List ℕ → List Named → Option Named
-source_named name [] = None
-source_named name (s ∷ ss) = if pointwise nat_eq s.name name then Some s else source_named name ss
+-- what stands under this name
+abbrev pub standing : (name : List ℕ) → List Named → Option (Option Book)
+standing name ss = lookup (is_at (slice_cmp nat_cmp name)) ss
 
 -- some source has the name
-abbrev pub is_taken : List ℕ → List Named → Bool
-is_taken name ss = is_some (source_named name ss)
+abbrev pub is_taken : (name : List ℕ) → List Named → Bool
+is_taken name ss = is_some (standing name ss)
 
 -- the cell of the open ping of this name
-abbrev pub ping_named : List ℕ → List Named → Option Book
-ping_named name ss = option_and_then (λ s. s.ping) (source_named name ss)
+abbrev pub ping_named : (name : List ℕ) → List Named → Option Book
+ping_named name ss = option_and_then (λ ping. ping) (standing name ss)
 
--- a source of this name has no open ping any more
-abbrev pub closed : List ℕ → Named → Named
-closed name s = if pointwise nat_eq s.name name then record s { ping = None } else s
+-- the sources with this one under its name
+abbrev pub with_source : (name : List ℕ) → (ping : Option Book) → List Named → List Named
+with_source name ping ss = insert_entry (slice_cmp nat_cmp) ss name ping
+
+-- the source of this name has no open ping any more
+abbrev pub closed : (name : List ℕ) → List Named → List Named
+closed name ss = set_value (is_at (slice_cmp nat_cmp name)) ss None

@@ -1,7 +1,7 @@
 -- What a line of a script does with the loop, and what it prints: each line is a list of cases of the loop's machine,
 -- and its text is what they answered. The asked waits are those that the scripted poller notes.
 use Rattle.std.specs.Prelude.{◌≡◌, ℕ, ◌-◌, ◌^◌, ◌≤◌, ◌<◌, ◌&&◌, ◌||◌, min, nat_lt, Bool, true, false, if◌then◌else◌}
-use Rattle.std.specs.Prelude.{List, [], ◌∷◌, ◌++◌, map, length, codes, vec_capacity}
+use Rattle.std.specs.Prelude.{List, [], ◌∷◌, ◌++◌, length, codes, vec_capacity}
 use Rattle.std.specs.Prelude.{Option, Some, None, IsSome, Result, Ok, Err}
 use Rattle.std.specs.Option.{option_map}
 use Rattle.std.specs.Duration.{as_nanos}
@@ -36,7 +36,7 @@ use Rattle.calloop_core.specs.declared.sources.OneOf.{OneOf}
 use Rattle.calloop_core.specs.declared.sources.OneOf.TheVariants.{First, Other}
 use Rattle.looptrace.specs.declared.runner.PendingAnswer.{PendingAnswer}
 use Rattle.looptrace.specs.declared.runner.ScriptLoop.{ScriptLoop}
-use Rattle.looptrace.specs.Named.{Named, is_taken, ping_named, closed}
+use Rattle.looptrace.specs.Named.{Named, is_taken, ping_named, with_source, closed}
 use Rattle.looptrace.specs.Lines.{lines_of}
 use Rattle.looptrace.specs.Traces.{Written, Writes}
 use Rattle.looptrace.specs.Commands.{command_of}
@@ -67,7 +67,7 @@ abbrev pub state_of : {R : Type 0} → ScriptLoop R → State R
 state_of s =
     record {
       loop = view_of s.event_loop;
-      sources = s.sources.items;
+      sources = s.sources;
       fault = s.fault;
       pending = option_map pending_of s.pending;
     }
@@ -118,7 +118,7 @@ waits_text (asked ∷ later) = wait_text (nanos_in asked) ++ waits_text later
 abbrev pub InsertSays : {S : Type 0} → List ℕ → (ping : Option Book) → Result RegistrationToken (InsertError S)
     → List Named → List Named → List ℕ → Type 0
 InsertSays name ping (Ok token) before after said =
-    (after ≡ before ++ record { name = name; ping = ping } ∷ []) × (said ≡ insert_text name token.slot token.version)
+    (after ≡ with_source name ping before) × (said ≡ insert_text name token.slot token.version)
 InsertSays name ping (Err refused) before after said = (after ≡ before) × (said ≡ refused_text (word_of refused.error))
 
 -- a source that was made so is inserted under a name that no source has yet; under another name the line can't be read
@@ -161,7 +161,7 @@ RingLine s name (Some (t, said)) = IsSome (ping_named name s.sources) × (t ≡ 
 abbrev pub CloseLine : {R : Type 0} → State R → List ℕ → Option (State R × List ℕ) → Type 0
 CloseLine s name None = ping_named name s.sources ≡ None
 CloseLine s name (Some (t, said)) =
-    IsSome (ping_named name s.sources) × (t ≡ record s { sources = map (closed name) s.sources }) × (said ≡ [])
+    IsSome (ping_named name s.sources) × (t ≡ record s { sources = closed name s.sources }) × (said ≡ [])
 
 -- the token of these numbers, where a token can hold them
 abbrev pub token_with : (slot version : ℕ) → Option RegistrationToken

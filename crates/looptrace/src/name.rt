@@ -1,9 +1,13 @@
-ghost use Rattle.std.specs.Prelude.{◌≡◌, ℕ, List, IfOk};
+ghost use Rattle.std.specs.Prelude.{◌≡◌, ℕ, List, IfOk, Some, refl, nat_eq};
+ghost use Rattle.std.specs.Ordering.{nat_cmp};
+ghost use Rattle.std.specs.Cmp.{partial_equiv_from_equiv};
+ghost use Rattle.std.specs.Cmp.Lexicographic.{pointwise, slice_cmp, nat_list_eq_equiv, nat_list_cmp_total, texts_po, texts_ties};
 
 use std::alloc::{AllocError, Global};
+use std::cmp::Ordering;
 use std::marker::Model;
 
-/// The name of a source: owned bytes.
+/// The name of a source: owned bytes, which are compared as bytes.
 #[derive(Drop)]
 pub struct Name {
     bytes: Vec<u8>,
@@ -30,5 +34,43 @@ impl Name {
         ensures { result.now ≡ self.now }
     {
         self.bytes.as_slice()
+    }
+}
+
+impl PartialEq for Name {
+    ghost eq = { pointwise nat_eq };
+
+    ghost laws = { partial_equiv_from_equiv nat_list_eq_equiv };
+
+    fn eq(&self, other: &Name) -> bool {
+        self.bytes == other.bytes
+    }
+}
+
+impl Eq for Name {
+    ghost laws = { nat_list_eq_equiv };
+}
+
+impl PartialOrd for Name {
+    ghost partial_cmp = { λ a b. Some (slice_cmp nat_cmp a b) };
+
+    ghost laws = { texts_po };
+
+    fn partial_cmp(&self, other: &Name) -> Option<Ordering> {
+        Some(self.cmp(other))
+    }
+}
+
+impl Ord for Name {
+    ghost cmp = { slice_cmp nat_cmp };
+
+    ghost total = { nat_list_cmp_total };
+
+    ghost matches_partial_cmp = { λ a b. refl };
+
+    ghost matches_eq = { texts_ties };
+
+    fn cmp(&self, other: &Name) -> Ordering {
+        self.bytes.cmp(&other.bytes)
     }
 }

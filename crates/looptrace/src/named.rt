@@ -1,35 +1,38 @@
 //! The sources of a script under their names, with the pings that ring them.
-ghost use Rattle.std.specs.Prelude.{◌≡◌, is_some, map};
-ghost use Rattle.std.specs.Option.{option_map, option_copied};
-ghost use Rattle.looptrace.specs.Named.{source_named, is_taken, ping_named, closed};
+ghost use Rattle.std.specs.Prelude.{◌≡◌, [], OnOk, OnErr, None, is_some};
+ghost use Rattle.std.specs.Option.{option_map};
+ghost use Rattle.calloop.specs.Pings.{cell_of};
+ghost use Rattle.looptrace.specs.Named.{is_taken, ping_named, with_source, closed};
 
 use crate::name::Name;
 use calloop::ping::Ping;
 use calloop_wake::wake::Receipt;
+use std::alloc::{AllocError, Global};
+use std::collections::BTreeMap;
 use std::marker::Model;
 use std::sync::Wait;
 
-/// A source of the script, under its name, which is never given back. While its ping is open, it is kept here; a timer has none.
+/// What stands under a name: its ping, while that is open. A timer has none.
 #[derive(Drop)]
-pub struct NamedSource<R: Wait + Drop> {
-    pub name: Name,
-    pub ping: Option<Ping<R>>,
+struct Named<R: Wait + Drop> {
+    ping: Option<Ping<R>>,
 }
 
-impl<R: Wait + Drop> Model for NamedSource<R> {
+impl<R: Wait + Drop> Model for Named<R> {
+    ghost use Rattle.std.specs.Prelude.{Option};
     ghost use Rattle.std.specs.Option.{option_map};
     ghost use Rattle.calloop.specs.Pings.{cell_of};
-    ghost use Rattle.looptrace.specs.Named.{Named};
+    ghost use Rattle.logbook.specs.Pages.{Book};
 
-    ghost Value = { Named };
+    ghost Value = { Option Book };
 
-    ghost view = { λ s. record { name = s.name; ping = option_map cell_of s.ping } };
+    ghost view = { λ s. option_map cell_of s.ping };
 }
 
-impl<R: Wait + Drop> NamedSource<R> {
+impl<R: Wait + Drop> Named<R> {
     // Rings its ping, where that is open.
     fn ring(&self) -> Option<Receipt>
-        ensures { option_map (λ receipt. receipt.name) result ≡ self.now.ping }
+        ensures { option_map (λ receipt. receipt.name) result ≡ self.now }
     {
         match &self.ping {
             Some(ping) => Some(ping.ping()),
@@ -37,60 +40,86 @@ impl<R: Wait + Drop> NamedSource<R> {
         }
     }
 
-    // Drops its ping, where the source has this name.
-    fn close(&mut self, name: &[u8])
+    fn is_open(&self) -> bool
+        ensures { result ≡ is_some self.now }
+    {
+        self.ping.is_some()
+    }
+
+    // Drops its ping.
+    fn close(&mut self)
+        ensures { self.new ≡ None }
+    {
+        self.ping = None;
+    }
+}
+
+/// The sources of a script, each under its name, which is never given back. No call walks them.
+#[derive(Drop)]
+pub struct Names<R: Wait + Drop> {
+    by_name: BTreeMap<Name, Named<R>>,
+}
+
+impl<R: Wait + Drop> Model for Names<R> {
+    ghost use Rattle.std.specs.Prelude.{List};
+    ghost use Rattle.looptrace.specs.Named.{Named};
+
+    ghost Value = { List Named };
+
+    ghost view = { λ s. s.by_name.entries };
+}
+
+impl<R: Wait + Drop> Names<R> {
+    /// No sources.
+    pub fn new(alloc: Global) -> Names<R>
+        ensures { result ≡ [] }
+    {
+        Names {
+            by_name: BTreeMap::new(alloc),
+        }
+    }
+
+    /// Whether some source has this name.
+    pub fn is_taken(&self, name: &Name) -> bool
+        ensures { result ≡ is_taken name.now self.now }
+    {
+        self.by_name.contains_key(name)
+    }
+
+    /// Rings the open ping of this name. Without a receipt there is none.
+    pub fn ring(&self, name: &Name) -> Option<Receipt>
+        ensures { option_map (λ receipt. receipt.name) result ≡ ping_named name.now self.now }
+    {
+        self.by_name.get(name)?.ring()
+    }
+
+    /// Whether an open ping has this name.
+    pub fn has_open_ping(&self, name: &Name) -> bool
+        ensures { result ≡ is_some (ping_named name.now self.now) }
+    {
+        match self.by_name.get(name) {
+            Some(named) => named.is_open(),
+            None => false,
+        }
+    }
+
+    /// Drops the ping of this name. A name that no source has changes nothing.
+    #[tactic(auto, using(crate::proofs::NameLemmas::set_value_absent))]
+    pub fn close(&mut self, name: &Name)
         ensures { self.new ≡ closed name.now self.old }
     {
-        if self.name.as_slice() == name {
-            self.ping = None;
+        if let Some(named) = self.by_name.get_mut(name) {
+            named.close();
         }
     }
-}
 
-// The source of this name.
-fn find<'a, R: Wait + Drop>(
-    sources: &'a [NamedSource<R>],
-    name: &[u8],
-) -> Option<&'a NamedSource<R>>
-    ensures { option_copied result ≡ source_named name.now sources.now }
-{
-    for source in sources {
-        if source.name.as_slice() == name {
-            return Some(source);
-        }
-    }
-    None
-}
-
-/// Whether some source has this name.
-pub fn is_taken<R: Wait + Drop>(sources: &[NamedSource<R>], name: &[u8]) -> bool
-    ensures { result ≡ is_taken name.now sources.now }
-{
-    find(sources, name).is_some()
-}
-
-/// Rings the open ping of this name. Without a receipt there is none.
-pub fn ring<R: Wait + Drop>(sources: &[NamedSource<R>], name: &[u8]) -> Option<Receipt>
-    ensures { option_map (λ receipt. receipt.name) result ≡ ping_named name.now sources.now }
-{
-    find(sources, name)?.ring()
-}
-
-/// Whether an open ping has this name.
-pub fn has_open_ping<R: Wait + Drop>(sources: &[NamedSource<R>], name: &[u8]) -> bool
-    ensures { result ≡ is_some (ping_named name.now sources.now) }
-{
-    match find(sources, name) {
-        Some(source) => source.ping.is_some(),
-        None => false,
-    }
-}
-
-/// Drops the ping of this name.
-pub fn close<R: Wait + Drop>(sources: &mut [NamedSource<R>], name: &[u8])
-    ensures { sources.new ≡ map (closed name.now) sources.old }
-{
-    for source in sources.iter_mut() {
-        source.close(name);
+    /// Keeps a name with its ping. Where it has a source already, that one's ping is dropped. An `Err` is want of memory, and
+    /// nothing changes.
+    pub fn insert(&mut self, name: Name, ping: Option<Ping<R>>) -> Result<(), AllocError>
+        ensures ok { OnOk result (self.new ≡ with_source name (option_map cell_of ping) self.old) }
+        ensures err { OnErr result (self.new ≡ self.old) }
+    {
+        self.by_name.insert(name, Named { ping })?;
+        Ok(())
     }
 }

@@ -1,5 +1,5 @@
 //! The loop of a script, and what each command does with it.
-ghost use Rattle.std.specs.Prelude.{◌≡◌, ℕ, List, [], ◌∷◌, ◌++◌, Option, Some, None, IfOk, IfErr, OnOk, MatchBool, true, false, map};
+ghost use Rattle.std.specs.Prelude.{◌≡◌, ℕ, List, [], ◌∷◌, ◌++◌, Option, Some, None, IfOk, IfErr, OnOk, MatchBool, true, false};
 ghost use Rattle.std.specs.Prelude.{nat_le, length, option_to_list};
 ghost use Rattle.std.specs.Option.{option_map};
 ghost use Rattle.std.specs.IoError.{error_kind};
@@ -12,7 +12,7 @@ ghost use Rattle.looptrace.specs.Runs.{token_with, removed_text, RemoveLine, Pen
 use crate::command::{Command, parse};
 use crate::driver::Runner;
 use crate::name::Name;
-use crate::named::{NamedSource, close, has_open_ping, is_taken, ring};
+use crate::named::Names;
 use crate::source::{Alarm, Said, Source, Teller};
 use crate::text::{append_insert, append_refused, append_wait};
 use crate::warnings::log_warnings;
@@ -40,7 +40,7 @@ pub struct ScriptLoop<R: Wait + Drop> {
     rt: R,
     alloc: Global,
     event_loop: EventLoop<Source<R>, ScriptPoller, ScriptClock, R>,
-    sources: Vec<NamedSource<R>>,
+    sources: Names<R>,
     fault: bool,
     pending: Option<PendingAnswer>,
 }
@@ -132,19 +132,18 @@ fn timeout_of(nanos: Option<u64>) -> Option<Duration>
 
 // Says what an insertion answered, and keeps its name with its ping where it wasn't refused.
 fn keep<S: Drop, R: Wait + Drop>(
-    sources: &mut Vec<NamedSource<R>>,
+    sources: &mut Names<R>,
     name: Name,
     ping: Option<Ping<R>>,
     answer: Result<RegistrationToken, InsertError<S>>,
     text: &mut Vec<u8>,
 ) -> Result<(), AllocError>
-    ensures { OnOk result ((said : List ℕ) × (text.new.items ≡ text.old.items ++ said) × InsertSays name (option_map cell_of ping) answer sources.old.items sources.new.items said) }
+    ensures { OnOk result ((said : List ℕ) × (text.new.items ≡ text.old.items ++ said) × InsertSays name (option_map cell_of ping) answer sources.old sources.new said) }
 {
     match answer {
         Ok(token) => {
             append_insert(text, name.as_slice(), token.slot(), token.version())?;
-            sources.push(NamedSource { name, ping })?;
-            Ok(())
+            sources.insert(name, ping)
         }
         Err(refused) => append_refused(text, word_of(&refused.error)),
     }
@@ -243,7 +242,7 @@ impl<R: Wait + Clone + Drop> ScriptLoop<R> {
                 rt: own,
                 alloc,
                 event_loop,
-                sources: Vec::new(alloc),
+                sources: Names::new(alloc),
                 fault: false,
                 pending: None,
             }),
@@ -257,7 +256,7 @@ impl<R: Wait + Clone + Drop> ScriptLoop<R> {
             (InsertLine (state_of self.old) name.now (IsNewPing name.now) None)) }
         ensures err { IfErr result (λ e. error_kind e ≡ OutOfMemory) }
     {
-        if is_taken(&self.sources, name.as_slice()) {
+        if self.sources.is_taken(name) {
             return Ok(false);
         }
         let callback = Teller {
@@ -278,7 +277,7 @@ impl<R: Wait + Clone + Drop> ScriptLoop<R> {
             (InsertLine (state_of self.old) name.now (IsNewTimer name.now deadline) None)) }
         ensures err { IfErr result (λ e. error_kind e ≡ OutOfMemory) }
     {
-        if is_taken(&self.sources, name.as_slice()) {
+        if self.sources.is_taken(name) {
             return Ok(false);
         }
         let callback = Alarm {
@@ -297,7 +296,7 @@ impl<R: Wait + Clone + Drop> ScriptLoop<R> {
             (RingLine (state_of self.old) name.now (Some (state_of self.new, [])))
             (RingLine (state_of self.old) name.now None) }
     {
-        ring(&self.sources, name.as_slice()).is_some()
+        self.sources.ring(name).is_some()
     }
 
     // False where no open ping has this name.
@@ -306,10 +305,10 @@ impl<R: Wait + Clone + Drop> ScriptLoop<R> {
             (CloseLine (state_of self.old) name.now (Some (state_of self.new, [])))
             (CloseLine (state_of self.old) name.now None) }
     {
-        if !has_open_ping(&self.sources, name.as_slice()) {
+        if !self.sources.has_open_ping(name) {
             return false;
         }
-        close(&mut self.sources, name.as_slice());
+        self.sources.close(name);
         true
     }
 

@@ -13,7 +13,7 @@ returns-in-Ok-clause-ok g c =
       agrees = c.in-Ok.ensures.ok.3;
       moment = ap (λ (p : ScriptPoller). p.moment.nanos) poller ∙ ap (λ m. m.nanos) c.in_ok-keep_waits.ensures.moment ∙ c.in_ok-poller.ensures.0;
       answers = ap (λ (p : ScriptPoller). p.answers.items) poller ∙ ap (λ a. a.items) c.in_ok-keep_waits.ensures.answers ∙ c.in_ok-poller.ensures.1;
-      sources = c.new-in-Ok.ensures.items;
+      sources = c.new-in-Ok.ensures;
       fault = refl;
       pending = refl;
     }

@@ -6,21 +6,21 @@ use Rattle.calloop.specs.Pings.{cell_of}
 use Rattle.looptrace.specs.Sources.{ping_in}
 use Rattle.looptrace.specs.declared.source.Teller.{Teller}
 use Rattle.looptrace.specs.Runs.{IsNewPing, pending_of}
-use Rattle.looptrace.proofs.InsertLemmas.{free, line_is}
+use Rattle.looptrace.proofs.InsertLemmas.{line_is}
 use Rattle.looptrace.proofs.runner.ScriptLoop.ping.Goals as goal
 
 pub returns-clause-ok : goal.returns-clause-ok
 returns-clause-ok g c =
     let name : List ℕ = c.args.name.now in
-    let none = free name c.args.self.now.sources.items c.is_taken.result c.as_slice.result.now c.deref.result.now c.is_taken.ensures c.as_slice.ensures c.deref.ensures.value c.if-is_taken.false in
-    let kept : c.in_ok-kept.kept ≡ name = c.in_ok-kept.ensures ∙ c.as_slice-3.ensures in
+    let none = sym c.is_taken.ensures ∙ c.if-is_taken.false in
+    let kept : c.in_ok-kept.kept ≡ name = c.in_ok-kept.ensures ∙ c.as_slice-2.ensures in
     let teller : Teller = record { name = c.in_ok-new.field-0 } in
     let made = c.in-Ok.ensures.ok in
     let says = c.in_ok-keep.ensures in (
       says.0,
       says.1,
       line_is (λ d. ping_in d) teller c.insert_source-answer.result name c.in_ok-kept.kept (Some (cell_of c.in-Ok.ping)) (ping_in (record { source = c.in-Ok.source; callback = teller })) (IsNewPing name)
-          _ (view_of c.args.self.now.event_loop) _ c.args.self.now.sources.items _ c.args.self.now.fault (option_map pending_of c.args.self.now.pending) says.0
-          none (ap (λ (t : Twin). t.key) made.0, ap (λ (t : Twin). t.number) made.0, ap (λ (n : List ℕ). record { name = n }) (c.in_ok-new.ensures ∙ c.as_slice-2.ensures), sym (ap (λ (t : Twin). Some t.name) made.0))
+          _ (view_of c.args.self.now.event_loop) _ c.args.self.now.sources _ c.args.self.now.fault (option_map pending_of c.args.self.now.pending) says.0
+          none (ap (λ (t : Twin). t.key) made.0, ap (λ (t : Twin). t.number) made.0, ap (λ (n : List ℕ). record { name = n }) (c.in_ok-new.ensures ∙ c.as_slice.ensures), sym (ap (λ (t : Twin). Some t.name) made.0))
           (ap view_of c.handle.ensures.value) kept c.insert_source-answer.ensures.case says.2,
     )
