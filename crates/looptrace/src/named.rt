@@ -113,8 +113,8 @@ impl<R: Wait + Drop> Names<R> {
         }
     }
 
-    /// Keeps a name with its ping. Where it has a source already, that one's ping is dropped. An `Err` is want of memory, and
-    /// nothing changes.
+    /// Keeps a name with its ping. Where the name has a source already, that one's ping is dropped. An `Err` is want of
+    /// memory, and nothing changes.
     pub fn insert(&mut self, name: Name, ping: Option<Ping<R>>) -> Result<(), AllocError>
         ensures ok { OnOk result (self.new ≡ with_source name (option_map cell_of ping) self.old) }
         ensures err { OnErr result (self.new ≡ self.old) }
