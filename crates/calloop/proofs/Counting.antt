@@ -4,29 +4,29 @@ use Rattle.std.proofs.lemmas.Bool.Decides.{nat_tests}
 use Rattle.calloop_wake.specs.Deadlines.{is_before, is_due, is_other, inserted, without_counter, has_counter, due, not_due}
 use Rattle.calloop_core.specs.declared.sys.poll.Pending.{Pending}
 use Rattle.calloop_core.specs.Polls.{timer_event, timer_events, tail_of}
-use Rattle.calloop.specs.Ledgers.{Arming, Armed, Origin, Elsewhere, Due, Waiting, Called, latest, armed_among, entry_in, number_of, arming_of, is_under_other, is_under, from_elsewhere, from_deadline, due_in, not_due_in, heads_of}
+use Rattle.calloop.specs.Ledgers.{Arming, NumberedEntry, Origin, Elsewhere, Due, Waiting, TimerCall, latest, armed_among, entry_in, number_of, arming_of, is_under_other, is_under, from_elsewhere, from_deadline, due_in, not_due_in, heads_of}
 use Rattle.calloop.specs.Laws.{one, counted, is_armed_as, is_due_as, waits_as, is_number, is_same, is_timely, came_timely, AllOnTime, AllOwnCalls, event_of}
 
 pub counted-append : {A : Type 0} (p : A → Bool) (xs ys : List A) → counted p (xs ++ ys) ≡ counted p xs + counted p ys
 counted-append p [] ys = omega arith
 counted-append p (x ∷ xs) ys = omega (arith, counted-append p xs ys)
 
-pub counted-armed_among : (p : Armed → Bool) (a : Armed) (xs : List Armed) → counted p (armed_among a xs) ≡ one p a + counted p xs
+pub counted-armed_among : (p : NumberedEntry → Bool) (a : NumberedEntry) (xs : List NumberedEntry) → counted p (armed_among a xs) ≡ one p a + counted p xs
 counted-armed_among p a [] = refl
 counted-armed_among p a (x ∷ xs) =
     elim (is_before x.entry a.entry) as (λ b. counted p (if b then x ∷ armed_among a xs else a ∷ x ∷ xs) ≡ one p a + (one p x + counted p xs)) [ true ↦ omega (arith, counted-armed_among p a xs) | false ↦ refl ]
 
-pub counted-split : (p : Armed → Bool) (counter : ℕ) (xs : List Armed) → counted p (filter (is_under_other counter) xs) + counted p (filter (is_under counter) xs) ≡ counted p xs
+pub counted-split : (p : NumberedEntry → Bool) (counter : ℕ) (xs : List NumberedEntry) → counted p (filter (is_under_other counter) xs) + counted p (filter (is_under counter) xs) ≡ counted p xs
 counted-split p counter [] = refl
 counted-split p counter (x ∷ xs) =
     elim (nat_eq x.entry.counter counter) as (λ b. counted p (if not b then x ∷ filter (is_under_other counter) xs else filter (is_under_other counter) xs) + counted p (if b then x ∷ filter (is_under counter) xs else filter (is_under counter) xs) ≡ one p x + counted p xs)
     [ true ↦ omega (arith, counted-split p counter xs) | false ↦ omega (arith, counted-split p counter xs) ]
 
-pub counted-number_of : (n : ℕ) (xs : List Armed) → counted (is_number n) (map number_of xs) ≡ counted (is_armed_as n) xs
+pub counted-number_of : (n : ℕ) (xs : List NumberedEntry) → counted (is_number n) (map number_of xs) ≡ counted (is_armed_as n) xs
 counted-number_of n [] = refl
 counted-number_of n (x ∷ xs) = ap (λ k. one (is_armed_as n) x + k) (counted-number_of n xs)
 
-pub counted-due : (n now : ℕ) (xs : List Armed) → counted (waits_as n) (map (from_deadline now) (due_in now xs)) + counted (is_armed_as n) (not_due_in now xs) ≡ counted (is_armed_as n) xs
+pub counted-due : (n now : ℕ) (xs : List NumberedEntry) → counted (waits_as n) (map (from_deadline now) (due_in now xs)) + counted (is_armed_as n) (not_due_in now xs) ≡ counted (is_armed_as n) xs
 counted-due n now [] = refl
 counted-due n now (x ∷ xs) =
     elim (is_due now x.entry) as (λ b. counted (waits_as n) (map (from_deadline now) (if b then x ∷ due_in now xs else [])) + counted (is_armed_as n) (if b then not_due_in now xs else x ∷ xs) ≡ one (is_armed_as n) x + counted (is_armed_as n) xs)
@@ -54,7 +54,7 @@ pub on_time-elsewhere : (es : List Pending) → AllOnTime (map from_elsewhere es
 on_time-elsewhere [] = tt
 on_time-elsewhere (e ∷ es) = (tt, on_time-elsewhere es)
 
-pub on_time-due : (now : ℕ) (xs : List Armed) → AllOnTime (map (from_deadline now) (due_in now xs))
+pub on_time-due : (now : ℕ) (xs : List NumberedEntry) → AllOnTime (map (from_deadline now) (due_in now xs))
 on_time-due now [] = tt
 on_time-due now (x ∷ xs) =
     elim (is_due now x.entry) as (λ b. nat_le x.entry.deadline.nanos now ≡ b → AllOnTime (map (from_deadline now) (if b then x ∷ due_in now xs else []))) [ true ↦ λ e. (grind (arith, nat_tests), on_time-due now xs) | false ↦ λ _. tt ] refl
@@ -67,35 +67,35 @@ pub on_time-heads : (xs : List Waiting) → AllOnTime xs → AllOnTime (heads_of
 on_time-heads [] h = tt
 on_time-heads (x ∷ xs) h = (h.0, tt)
 
-pub own-append : (f : Arming → ℕ) (xs ys : List Called) → AllOwnCalls f xs → AllOwnCalls f ys → AllOwnCalls f (xs ++ ys)
+pub own-append : (f : Arming → ℕ) (xs ys : List TimerCall) → AllOwnCalls f xs → AllOwnCalls f ys → AllOwnCalls f (xs ++ ys)
 own-append f [] ys h k = k
 own-append f (x ∷ xs) ys h k = (h.0, own-append f xs ys h.1 k)
 
 -- what was gathered stays so
-pub own_more : (f g : Arming → ℕ) (cs : List Called) → ((a : Arming) → f a ≤ g a) → AllOwnCalls f cs → AllOwnCalls g cs
+pub own_more : (f g : Arming → ℕ) (cs : List TimerCall) → ((a : Arming) → f a ≤ g a) → AllOwnCalls f cs → AllOwnCalls g cs
 own_more f g [] more h = tt
 own_more f g (c ∷ cs) more h = let m = more h.0.0 in ((h.0.0, h.0.1, h.0.2, omega (arith, h.0.3)), own_more f g cs more h.1)
 
 -- the ledger's lists and what they stand for
 
-pub entries-armed_among : (a : Armed) (xs : List Armed) → map entry_in (armed_among a xs) ≡ inserted a.entry (map entry_in xs)
+pub entries-armed_among : (a : NumberedEntry) (xs : List NumberedEntry) → map entry_in (armed_among a xs) ≡ inserted a.entry (map entry_in xs)
 entries-armed_among a [] = refl
 entries-armed_among a (x ∷ xs) =
     elim (is_before x.entry a.entry) as (λ b. map entry_in (if b then x ∷ armed_among a xs else a ∷ x ∷ xs) ≡ (if b then x.entry ∷ inserted a.entry (map entry_in xs) else a.entry ∷ x.entry ∷ map entry_in xs))
     [ true ↦ ap (λ l. x.entry ∷ l) (entries-armed_among a xs) | false ↦ refl ]
 
-pub entries-filter : (counter : ℕ) (xs : List Armed) → map entry_in (filter (is_under_other counter) xs) ≡ without_counter counter (map entry_in xs)
+pub entries-filter : (counter : ℕ) (xs : List NumberedEntry) → map entry_in (filter (is_under_other counter) xs) ≡ without_counter counter (map entry_in xs)
 entries-filter counter [] = refl
 entries-filter counter (x ∷ xs) =
     elim (is_other counter x.entry) as (λ b. map entry_in (if b then x ∷ filter (is_under_other counter) xs else filter (is_under_other counter) xs) ≡ (if b then x.entry ∷ without_counter counter (map entry_in xs) else without_counter counter (map entry_in xs)))
     [ true ↦ ap (λ l. x.entry ∷ l) (entries-filter counter xs) | false ↦ entries-filter counter xs ]
 
-pub entries-not_due : (now : ℕ) (xs : List Armed) → map entry_in (not_due_in now xs) ≡ not_due now (map entry_in xs)
+pub entries-not_due : (now : ℕ) (xs : List NumberedEntry) → map entry_in (not_due_in now xs) ≡ not_due now (map entry_in xs)
 entries-not_due now [] = refl
 entries-not_due now (x ∷ xs) =
     elim (is_due now x.entry) as (λ b. map entry_in (if b then not_due_in now xs else x ∷ xs) ≡ (if b then not_due now (map entry_in xs) else x.entry ∷ map entry_in xs)) [ true ↦ entries-not_due now xs | false ↦ refl ]
 
-pub events-due : (now : ℕ) (xs : List Armed) → map event_of (map (from_deadline now) (due_in now xs)) ≡ timer_events (due now (map entry_in xs))
+pub events-due : (now : ℕ) (xs : List NumberedEntry) → map event_of (map (from_deadline now) (due_in now xs)) ≡ timer_events (due now (map entry_in xs))
 events-due now [] = refl
 events-due now (x ∷ xs) =
     elim (is_due now x.entry) as (λ b. map event_of (map (from_deadline now) (if b then x ∷ due_in now xs else [])) ≡ timer_events (if b then x.entry ∷ due now (map entry_in xs) else [])) [ true ↦ ap (λ l. timer_event x.entry ∷ l) (events-due now xs) | false ↦ refl ]
@@ -114,14 +114,14 @@ events-tail (x ∷ xs) = refl
 
 -- armings under their counters
 
-abbrev pub is_armed_by : Arming → Armed → Bool
+abbrev pub is_armed_by : Arming → NumberedEntry → Bool
 is_armed_by a x = is_same a (arming_of x)
 
 eq_swap : (m n : ℕ) → nat_eq m n ≡ false → nat_eq n m ≡ false
 eq_swap m n e = grind (arith, nat_tests)
 
 -- those of another counter are left
-pub kept-by : (counter : ℕ) (a : Arming) (xs : List Armed) → nat_eq counter a.counter ≡ false → counted (is_armed_by a) (filter (is_under_other counter) xs) ≡ counted (is_armed_by a) xs
+pub kept-by : (counter : ℕ) (a : Arming) (xs : List NumberedEntry) → nat_eq counter a.counter ≡ false → counted (is_armed_by a) (filter (is_under_other counter) xs) ≡ counted (is_armed_by a) xs
 kept-by counter a [] differs = refl
 kept-by counter a (x ∷ xs) differs =
     elim (nat_eq x.entry.counter counter) as (λ b. nat_eq x.entry.counter counter ≡ b → counted (is_armed_by a) (if not b then x ∷ filter (is_under_other counter) xs else filter (is_under_other counter) xs) ≡ counted (is_armed_by a) (x ∷ xs)) [
@@ -130,7 +130,7 @@ kept-by counter a (x ∷ xs) differs =
     ] refl
 
 -- where no entry stands under its counter
-pub unarmed : (a : Arming) (xs : List Armed) → has_counter a.counter (map entry_in xs) ≡ false → counted (is_armed_by a) xs ≡ 0
+pub unarmed : (a : Arming) (xs : List NumberedEntry) → has_counter a.counter (map entry_in xs) ≡ false → counted (is_armed_by a) xs ≡ 0
 unarmed a [] h = refl
 unarmed a (x ∷ xs) h =
     let no : nat_eq x.entry.counter a.counter ≡ false = grind (arith, nat_tests) in
@@ -143,7 +143,7 @@ all_three true false r e = cc
 all_three false q r e = cc
 
 -- one that is due is gathered in time
-timely_due : (a : Arming) (x : Armed) (now : ℕ) → is_due now x.entry ≡ true → one (is_armed_by a) x ≤ one (came_timely a) (from_deadline now x)
+timely_due : (a : Arming) (x : NumberedEntry) (now : ℕ) → is_due now x.entry ≡ true → one (is_armed_by a) x ≤ one (came_timely a) (from_deadline now x)
 timely_due a x now due =
     elim (is_same a (arming_of x)) as (λ b. is_same a (arming_of x) ≡ b → ◌≤◌ (if b then 1 else 0) (if b && nat_le a.deadline.nanos now then 1 else 0)) [
       | true ↦ λ e.
@@ -152,7 +152,7 @@ timely_due a x now due =
       | false ↦ λ _. omega arith
     ] refl
 
-pub gathered-by : (a : Arming) (now : ℕ) (xs : List Armed) → counted (is_armed_by a) xs ≤ counted (is_armed_by a) (not_due_in now xs) + counted (came_timely a) (map (from_deadline now) (due_in now xs))
+pub gathered-by : (a : Arming) (now : ℕ) (xs : List NumberedEntry) → counted (is_armed_by a) xs ≤ counted (is_armed_by a) (not_due_in now xs) + counted (came_timely a) (map (from_deadline now) (due_in now xs))
 gathered-by a now [] = omega arith
 gathered-by a now (x ∷ xs) =
     elim (is_due now x.entry) as (λ b. is_due now x.entry ≡ b → one (is_armed_by a) x + counted (is_armed_by a) xs ≤ counted (is_armed_by a) (if b then not_due_in now xs else x ∷ xs) + counted (came_timely a) (map (from_deadline now) (if b then x ∷ due_in now xs else [])))

@@ -1,8 +1,6 @@
 -- Where the answer under a ticket stands.
-use Rattle.std.proofs.Common.{◌≡◌, ℕ, zero, suc, ◌<◌, ◌≤◌, ◌+◌, ◌⊎◌, inl, inr, length, get_or, true, false, if◌then◌else◌, nat_eq, List, [], ◌∷◌, Option, Some, None, slice_get, refl, ap, sym, ◌∙◌, subst, arith}
-use Rattle.std.specs.List.{remove}
+use Rattle.std.proofs.Common.{◌≡◌, ℕ, zero, suc, ◌<◌, ◌+◌, ◌⊎◌, inl, inr, length, get_or, true, false, if◌then◌else◌, nat_eq, List, [], ◌∷◌, Some, None, slice_get, refl, ap, sym, ◌∙◌, arith}
 use Rattle.calloop.specs.declared.loop_logic.asks.Answered.{Answered}
-use Rattle.calloop.specs.declared.loop_logic.asks.Answer.{Answer}
 use Rattle.calloop.specs.Askings.{found, without, StandsAt}
 
 -- none of those before this place has the ticket

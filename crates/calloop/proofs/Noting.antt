@@ -9,8 +9,8 @@ use Rattle.calloop_core.specs.declared.sys.Readiness.{Readiness}
 use Rattle.calloop_core.specs.declared.sys.poll.Pending.{Pending}
 use Rattle.calloop_core.specs.Pollers.{Outside}
 use Rattle.calloop_core.specs.Polls.{PollView, PollStep, TakePass, PutBack, Arm, ArmAgain, Cancel, Call, ReadClock, Socket, Fault, poll_after, polls_after, AllAllowed, gathered, appended, posted_events, polled_events, cut, cut_from, begun, tail_of, head_of, with_pass}
-use Rattle.calloop_core.specs.Holdings.{Hold, Free, Spent, Standing, with_hold, IsWithin, Keeps}
-use Rattle.calloop.specs.Ledgers.{Ledger, Arming, Armed, Called, latest, arm, step_noted, steps_noted, gathering_noted, appended_noted, cut_noted, is_under, number_of, from_elsewhere, from_deadline, due_in}
+use Rattle.calloop_core.specs.Holdings.{Holding, Free, Spent, Standing, with_hold, IsWithin, Keeps}
+use Rattle.calloop.specs.Ledgers.{Ledger, Arming, NumberedEntry, TimerCall, latest, arm, step_noted, steps_noted, gathering_noted, appended_noted, cut_noted, is_under, number_of, from_elsewhere, from_deadline, due_in}
 use Rattle.calloop.specs.Laws.{IsKept, one, counted, is_armed_as, waits_as, is_number, is_call_as, came_timely, timely, event_of}
 use Rattle.calloop.proofs.Counting.{counted-append, counted-armed_among, counted-split, counted-number_of, counted-due, counted-elsewhere, counted-cut, next_number, not_yet, on_time-append, on_time-elsewhere, on_time-due, on_time-tail, on_time-heads, own-append, entries-armed_among, entries-filter, entries-not_due, events-due, events-elsewhere, events-append, events-tail, own_more, is_armed_by, kept-by, unarmed, gathered-by, timely-elsewhere, timely-least, Falls, latest_apart}
 
@@ -29,33 +29,33 @@ pub record IsUncalled (counter : ℕ) (deadline : Instant) (l : Ledger) : Type 0
   pub stands : 1 ≤ counted (is_armed_by arming) l.armed + timely l arming
 
 -- what is held was given, and what stands wasn't called for
-pub record IsGood (l : Ledger) (next : ℕ) (held : ℕ → Hold) : Type 0 where
+pub record IsGood (l : Ledger) (next : ℕ) (held : ℕ → Holding) : Type 0 where
   pub below : (c : ℕ) → held c ≢ Free → c < next
   pub standing : (c : ℕ) (deadline : Instant) → held c ≡ Standing deadline → IsUncalled c deadline l
 
 -- no counter is held by both
-abbrev pub IsApart : (ℕ → Hold) → (ℕ → Hold) → Type 0
+abbrev pub IsApart : (ℕ → Holding) → (ℕ → Holding) → Type 0
 IsApart h o = (c : ℕ) → (h c ≡ Free) ⊎ (o c ≡ Free)
 
-pub apart_sym : (h o : ℕ → Hold) → IsApart h o → IsApart o h
+pub apart_sym : (h o : ℕ → Holding) → IsApart h o → IsApart o h
 apart_sym h o a c = elim (a c) [ inl e ↦ inr e | inr e ↦ inl e ]
 
-standing_held : (h : Hold) (deadline : Instant) → h ≡ Standing deadline → h ≢ Free
+standing_held : (h : Holding) (deadline : Instant) → h ≡ Standing deadline → h ≢ Free
 standing_held h deadline e f = cc
 
-other_free : (h o : ℕ → Hold) (c : ℕ) → IsApart h o → h c ≢ Free → o c ≡ Free
+other_free : (h o : ℕ → Holding) (c : ℕ) → IsApart h o → h c ≢ Free → o c ≡ Free
 other_free h o c a held = elim (a c) [ inl e ↦ absurd (held e) | inr e ↦ e ]
 
-free_above : (x : Hold) (next : ℕ) → (x ≢ Free → next < next) → x ≡ Free
+free_above : (x : Holding) (next : ℕ) → (x ≢ Free → next < next) → x ≡ Free
 free_above Free next h = refl
 free_above Spent next h = absurd (let lt = h (λ e. cc) in omega (arith, lt))
 free_above (Standing deadline) next h = absurd (let lt = h (λ e. cc) in omega (arith, lt))
 
 -- with a counter held otherwise
-with_cases : (Q : Hold → Type 0) (n c : ℕ) (x : Hold) (h : ℕ → Hold) → (nat_eq c n ≡ true → Q x) → (nat_eq c n ≡ false → Q (h c)) → Q (with_hold n x h c)
+with_cases : (Q : Holding → Type 0) (n c : ℕ) (x : Holding) (h : ℕ → Holding) → (nat_eq c n ≡ true → Q x) → (nat_eq c n ≡ false → Q (h c)) → Q (with_hold n x h c)
 with_cases Q n c x h here there = elim (nat_eq c n) as (λ b. nat_eq c n ≡ b → Q (if b then x else h c)) [ true ↦ here | false ↦ there ] refl
 
-apart_with : (n : ℕ) (x : Hold) (h o : ℕ → Hold) → o n ≡ Free → IsApart h o → IsApart (with_hold n x h) o
+apart_with : (n : ℕ) (x : Holding) (h o : ℕ → Holding) → o n ≡ Free → IsApart h o → IsApart (with_hold n x h) o
 apart_with n x h o free a c =
     elim (nat_eq c n) as (λ b. nat_eq c n ≡ b → ((if b then x else h c) ≡ Free) ⊎ (o c ≡ Free))
     [ true ↦ λ e. (let same : c ≡ n = grind (arith, nat_tests) in inr (ap o same ∙ free)) | false ↦ λ e. a c ] refl
@@ -107,7 +107,7 @@ uncalled_new l v n at token k =
 
 noted_armed : {P : Type 0} (l : Ledger) (v v' : PollView P) (n : ℕ) (at : Instant) (token : Token) → v'.deadlines.entries ≡ inserted (entry_of n at token) v.deadlines.entries → v'.batch ≡ v.batch → IsNoted l v → IsNoted (arm l n at token) v'
 noted_armed l v v' n at token entries batch h =
-    let a : Armed = record { entry = entry_of n at token; number = l.count } in
+    let a : NumberedEntry = record { entry = entry_of n at token; number = l.count } in
     record {
       kept =
           record {
@@ -146,7 +146,7 @@ one_more n m c bound most here = elim (nat_eq m n) as (λ b. (b ≡ true → c +
 
 noted_called : {P : Type 0} (l : Ledger) (v : PollView P) (n : ℕ) (at : Instant) → is_armed n v.deadlines ≡ false → IsUncalled n at l → IsNoted l v → IsNoted (step_noted l v (Call n at)) (poll_after v (Call n at))
 noted_called l v n at idle g h =
-    let call : Called = record { deadline = at; arming = latest n l.made } in
+    let call : TimerCall = record { deadline = at; arming = latest n l.made } in
     let none_armed : counted (is_armed_by g.arming) l.armed ≡ 0 = unarmed g.arming l.armed (rw g.under (rw (← h.kept.entries) at idle)) in
     let in_time : 1 ≤ timely l g.arming = omega (arith, none_armed, g.stands) in
     let more : (number : ℕ) → counted (is_call_as number) (l.calls ++ call ∷ []) ≡ counted (is_call_as number) l.calls + ((if nat_eq g.arming.number number then 1 else 0) + 0) =
@@ -236,7 +236,7 @@ uncalled_gathered : (l : Ledger) (posted : List ℕ) (given : List (ℕ × Readi
 uncalled_gathered l posted given now c deadline g =
     record { arming = g.arming; last = g.last; under = g.under; for_it = g.for_it; uncalled = g.uncalled; stands = omega (arith, g.stands, timely_sum l posted given now g.arming, gathered-by g.arming now l.armed) }
 
-pub good_gathered : (l : Ledger) (next : ℕ) (held : ℕ → Hold) (posted : List ℕ) (given : List (ℕ × Readiness)) (now : ℕ) → IsGood l next held → IsGood (gathering_noted l posted given now) next held
+pub good_gathered : (l : Ledger) (next : ℕ) (held : ℕ → Holding) (posted : List ℕ) (given : List (ℕ × Readiness)) (now : ℕ) → IsGood l next held → IsGood (gathering_noted l posted given now) next held
 good_gathered l next held posted given now h = record { below = h.below; standing = λ c deadline is. uncalled_gathered l posted given now c deadline (h.standing c deadline is) }
 
 -- an event joins the batch
@@ -261,7 +261,7 @@ noted_appended l v e h =
       falls = h.falls;
     }
 
-pub good_appended : (l : Ledger) (next : ℕ) (held : ℕ → Hold) (e : Pending) → IsGood l next held → IsGood (appended_noted l e) next held
+pub good_appended : (l : Ledger) (next : ℕ) (held : ℕ → Holding) (e : Pending) → IsGood l next held → IsGood (appended_noted l e) next held
 good_appended l next held e h =
     record {
       below = h.below;
@@ -304,32 +304,32 @@ noted_cut l v h =
 uncalled_cut : (l : Ledger) (c : ℕ) (deadline : Instant) → IsUncalled c deadline l → IsUncalled c deadline (cut_noted l)
 uncalled_cut l c deadline g = record { arming = g.arming; last = g.last; under = g.under; for_it = g.for_it; uncalled = g.uncalled; stands = omega (arith, g.stands, counted-cut (came_timely g.arming) l.batch l.cut) }
 
-pub good_cut : (l : Ledger) (next : ℕ) (held : ℕ → Hold) → IsGood l next held → IsGood (cut_noted l) next held
+pub good_cut : (l : Ledger) (next : ℕ) (held : ℕ → Holding) → IsGood l next held → IsGood (cut_noted l) next held
 good_cut l next held h = record { below = h.below; standing = λ c deadline is. uncalled_cut l c deadline (h.standing c deadline is) }
 
 -- what holds after steps of one source, which holds counters h, beside any other
-pub record IsDone {P : Type 0} (l : Ledger) (v : PollView P) (h : ℕ → Hold) (l' : Ledger) (v' : PollView P) (h' : ℕ → Hold) : Type 0 where
+pub record IsDone {P : Type 0} (l : Ledger) (v : PollView P) (h : ℕ → Holding) (l' : Ledger) (v' : PollView P) (h' : ℕ → Holding) : Type 0 where
   pub noted : IsNoted l' v'
   pub good : IsGood l' v'.deadlines.next h'
-  pub others : (o : ℕ → Hold) → IsApart h o → IsGood l v.deadlines.next o → IsGood l' v'.deadlines.next o × IsApart h' o
+  pub others : (o : ℕ → Holding) → IsApart h o → IsGood l v.deadlines.next o → IsGood l' v'.deadlines.next o × IsApart h' o
 
-within_held : (x y : Hold) → IsWithin x y → x ≢ Free → y ≢ Free
+within_held : (x y : Holding) → IsWithin x y → x ≢ Free → y ≢ Free
 within_held Free y h held = absurd (held refl)
 within_held Spent y h held = λ e. cc
 within_held (Standing deadline) y h held = λ e. cc
 
-within_standing : (x y : Hold) (deadline : Instant) → IsWithin x y → x ≡ Standing deadline → y ≡ Standing deadline
+within_standing : (x y : Holding) (deadline : Instant) → IsWithin x y → x ≡ Standing deadline → y ≡ Standing deadline
 within_standing Free y deadline h is = cc
 within_standing Spent y deadline h is = cc
 within_standing (Standing at) y deadline h is = h ∙ is
 
-within_free : (x y : Hold) → IsWithin x y → y ≡ Free → x ≡ Free
+within_free : (x y : Holding) → IsWithin x y → y ≡ Free → x ≡ Free
 within_free Free y h is = refl
 within_free Spent y h e = (let f : y ≡ Spent = h in cc)
 within_free (Standing at) y h is = cc
 
 module _ {P : Type 0} (O : Outside P) where
-  done_none : (l : Ledger) (v : PollView P) (h h' : ℕ → Hold) → ((c : ℕ) → IsWithin (h' c) (h c)) → IsNoted l v → IsGood l v.deadlines.next h → IsDone l v h l v h'
+  done_none : (l : Ledger) (v : PollView P) (h h' : ℕ → Holding) → ((c : ℕ) → IsWithin (h' c) (h c)) → IsNoted l v → IsGood l v.deadlines.next h → IsDone l v h l v h'
   done_none l v h h' within k g =
       record {
         noted = k;
@@ -338,7 +338,7 @@ module _ {P : Type 0} (O : Outside P) where
       }
 
   -- the one after the other
-  done_then : (l m n : Ledger) (v u w : PollView P) (h j k : ℕ → Hold) → IsDone l v h m u j → (IsNoted m u → IsGood m u.deadlines.next j → IsDone m u j n w k) → IsDone l v h n w k
+  done_then : (l m n : Ledger) (v u w : PollView P) (h j k : ℕ → Holding) → IsDone l v h m u j → (IsNoted m u → IsGood m u.deadlines.next j → IsDone m u j n w k) → IsDone l v h n w k
   done_then l m n v u w h j k first later =
       let rest = later first.noted first.good in
       record {
@@ -348,7 +348,7 @@ module _ {P : Type 0} (O : Outside P) where
       }
 
   -- a step that changes neither deadlines nor batch
-  done_same : (l : Ledger) (v v' : PollView P) (h : ℕ → Hold) → v'.deadlines ≡ v.deadlines → v'.batch ≡ v.batch → IsNoted l v → IsGood l v.deadlines.next h → IsDone l v h l v' h
+  done_same : (l : Ledger) (v v' : PollView P) (h : ℕ → Holding) → v'.deadlines ≡ v.deadlines → v'.batch ≡ v.batch → IsNoted l v → IsGood l v.deadlines.next h → IsDone l v h l v' h
   done_same l v v' h deadlines batch k g =
       record {
         noted = noted_same l v v' deadlines batch k;
@@ -356,11 +356,11 @@ module _ {P : Type 0} (O : Outside P) where
         others = λ o apart good. (rw deadlines good, apart);
       }
 
-  done_arm : (l : Ledger) (v : PollView P) (h : ℕ → Hold) (at : Instant) (token : Token) → IsNoted l v → IsGood l v.deadlines.next h
+  done_arm : (l : Ledger) (v : PollView P) (h : ℕ → Holding) (at : Instant) (token : Token) → IsNoted l v → IsGood l v.deadlines.next h
       → IsDone l v h (step_noted l v (Arm at token)) (poll_after v (Arm at token)) (with_hold v.deadlines.next (Standing at) h)
   done_arm l v h at token k g =
       let n = v.deadlines.next in
-      let apart_from : (held : ℕ → Hold) → IsGood l n held → (c : ℕ) → held c ≢ Free → nat_eq n c ≡ false = λ held good c is. (let lt = good.below c is in grind (arith, nat_tests)) in
+      let apart_from : (held : ℕ → Holding) → IsGood l n held → (c : ℕ) → held c ≢ Free → nat_eq n c ≡ false = λ held good c is. (let lt = good.below c is in grind (arith, nat_tests)) in
       record {
         noted = noted_armed l v (poll_after v (Arm at token)) n at token refl refl k;
         good =
@@ -380,13 +380,13 @@ module _ {P : Type 0} (O : Outside P) where
         );
       }
 
-  apart_counter : (h o : ℕ → Hold) (n c : ℕ) → o n ≡ Free → o c ≢ Free → nat_eq n c ≡ false
+  apart_counter : (h o : ℕ → Holding) (n c : ℕ) → o n ≡ Free → o c ≢ Free → nat_eq n c ≡ false
   apart_counter h o n c free held = elim (nat_eq n c) as (λ b. nat_eq n c ≡ b → b ≡ false) [ true ↦ λ e. (let same : n ≡ c = grind (arith, nat_tests) in absurd (held (ap o (sym same) ∙ free))) | false ↦ λ e. refl ] refl
 
   swapped : (n c : ℕ) → nat_eq c n ≡ false → nat_eq n c ≡ false
   swapped n c e = grind (arith, nat_tests)
 
-  done_again : (l : Ledger) (v : PollView P) (h : ℕ → Hold) (n : ℕ) (at : Instant) (token : Token) → h n ≢ Free → IsNoted l v → IsGood l v.deadlines.next h
+  done_again : (l : Ledger) (v : PollView P) (h : ℕ → Holding) (n : ℕ) (at : Instant) (token : Token) → h n ≢ Free → IsNoted l v → IsGood l v.deadlines.next h
       → IsDone l v h (step_noted l v (ArmAgain n at token)) (poll_after v (ArmAgain n at token)) (with_hold n (Standing at) h)
   done_again l v h n at token mine k g =
       record {
@@ -405,7 +405,7 @@ module _ {P : Type 0} (O : Outside P) where
         );
       }
 
-  done_cancel : (l : Ledger) (v : PollView P) (h : ℕ → Hold) (n : ℕ) → h n ≢ Free → IsNoted l v → IsGood l v.deadlines.next h → IsDone l v h (step_noted l v (Cancel n)) (poll_after v (Cancel n)) (with_hold n Free h)
+  done_cancel : (l : Ledger) (v : PollView P) (h : ℕ → Holding) (n : ℕ) → h n ≢ Free → IsNoted l v → IsGood l v.deadlines.next h → IsDone l v h (step_noted l v (Cancel n)) (poll_after v (Cancel n)) (with_hold n Free h)
   done_cancel l v h n mine k g =
       record {
         noted = noted_cancelled l v n k;
@@ -422,7 +422,7 @@ module _ {P : Type 0} (O : Outside P) where
         );
       }
 
-  done_call : (l : Ledger) (v : PollView P) (h : ℕ → Hold) (n : ℕ) (at : Instant) → h n ≡ Standing at → is_armed n v.deadlines ≡ false → IsNoted l v → IsGood l v.deadlines.next h
+  done_call : (l : Ledger) (v : PollView P) (h : ℕ → Holding) (n : ℕ) (at : Instant) → h n ≡ Standing at → is_armed n v.deadlines ≡ false → IsNoted l v → IsGood l v.deadlines.next h
       → IsDone l v h (step_noted l v (Call n at)) (poll_after v (Call n at)) (with_hold n Spent h)
   done_call l v h n at mine idle k g =
       let held_n = standing_held (h n) at mine in
@@ -442,10 +442,10 @@ module _ {P : Type 0} (O : Outside P) where
         );
       }
 
-  spent_held : (h : Hold) → h ≡ Spent → h ≢ Free
+  spent_held : (h : Holding) → h ≡ Spent → h ≢ Free
   spent_held h is e = cc
 
-  pub done_steps : (ss : List (PollStep P)) (l : Ledger) (v : PollView P) (h h' : ℕ → Hold) → AllAllowed O v ss → Keeps h v.deadlines.next ss h' → IsNoted l v → IsGood l v.deadlines.next h → IsDone l v h (steps_noted l v ss) (polls_after v ss) h'
+  pub done_steps : (ss : List (PollStep P)) (l : Ledger) (v : PollView P) (h h' : ℕ → Holding) → AllAllowed O v ss → Keeps h v.deadlines.next ss h' → IsNoted l v → IsGood l v.deadlines.next h → IsDone l v h (steps_noted l v ss) (polls_after v ss) h'
   done_steps [] l v h h' allowed keeps k g = done_none l v h h' keeps k g
   done_steps (Arm at token ∷ ss) l v h h' allowed keeps k g =
       done_then l _ _ v _ _ h _ h' (done_arm l v h at token k g) (λ k g. done_steps ss (step_noted l v (Arm at token)) (poll_after v (Arm at token)) (with_hold v.deadlines.next (Standing at) h) h' allowed.1 keeps k g)

@@ -18,12 +18,11 @@ use Rattle.calloop_core.specs.declared.sys.poll.Pending.{Pending}
 use Rattle.calloop_core.specs.declared.sources.PostAction.{PostAction}
 use Rattle.calloop_core.specs.declared.sources.PostAction.TheVariants.{Continue, Reregister, Disable as DisableIt, Remove}
 use Rattle.calloop_core.specs.Pollers.{Outside, nanos_of}
-use Rattle.calloop_core.specs.Polls.{PollView, PollStep, AllAllowed, with_pass, cut}
-use Rattle.calloop_core.specs.Holdings.{Hold, Free, Spent, Standing, Keeps, IsBelow, IsWithin}
+use Rattle.calloop_core.specs.Polls.{PollView, PollStep, AllAllowed, cut}
+use Rattle.calloop_core.specs.Holdings.{Holding, Free, Spent, Standing, Keeps, IsBelow, IsWithin}
 use Rattle.calloop_core.specs.Deeds.{Deed, Registered, Reregistered, Unregistered, Turned, Slept, Noticed, Lent, lent}
 use Rattle.calloop_core.specs.Meanings.{Meaning, KeepsCounters}
 use Rattle.calloop.specs.declared.loop_logic.asks.Asked.{Asked}
-use Rattle.calloop.specs.declared.loop_logic.asks.Idle.{Idle}
 use Rattle.calloop.specs.declared.loop_logic.asks.Idling.{Idling as Waiter}
 use Rattle.calloop.specs.declared.loop_logic.asks.Request.{Request}
 use Rattle.calloop.specs.declared.loop_logic.asks.Request.TheVariants.{Insert as AskInsert, Enable as AskEnable, Update as AskUpdate, Disable as AskDisable, Remove as AskRemove, Idle as AskIdle, Cancel as AskCancel}
@@ -292,7 +291,7 @@ module _ {D I P X : Type 0} (M : Meaning D P (Lent X (Asks D I))) (runs : Runs D
   aside_after (Ok u) x = refl
   aside_after (Err e) x = refl
 
-  within_same : (h : Hold) → IsWithin h h
+  within_same : (h : Holding) → IsWithin h h
   within_same Free = tt
   within_same Spent = refl
   within_same (Standing deadline) = refl

@@ -10,10 +10,10 @@ use Rattle.calloop.specs.declared.loop_logic.LoopAnswer.TheVariants.{Dispatched}
 use Rattle.calloop.specs.Askings.{Asks, Runs}
 use Rattle.calloop.specs.Machine.{View}
 use Rattle.calloop.specs.Rules.{Case, Did}
-use Rattle.calloop.specs.Running.{Called, RunsTo}
+use Rattle.calloop.specs.Running.{RoundCall, RunsTo}
 use Rattle.calloop.proofs.Running.{run_none, run_first}
 
-module _ {D I P X F : Type 0} (M : Meaning D P (Lent X (Asks D I))) (runs : Runs D I X) (O : Outside P) (called : Called F X) (timeout : Option Duration) where
+module _ {D I P X F : Type 0} (M : Meaning D P (Lent X (Asks D I))) (runs : Runs D I X) (O : Outside P) (called : RoundCall F X) (timeout : Option Duration) where
   -- it is stopped
   pub runs-stopped : (f : F) (x : X) (v : View D I P) → RunsTo M runs O called timeout f x v (Ok tt) x v
   runs-stopped f x v = ([], [], (refl, refl), run_none M runs O v)

@@ -1,5 +1,5 @@
 -- What callbacks asked for is carried out, one after the other.
-use Rattle.std.proofs.Common.{◌≡◌, ℕ, suc, ◌+◌, ◌<◌, ◌≤◌, length, filter, not, nat_eq, if◌then◌else◌, arith, List, [], ◌∷◌, ◌++◌, refl, ap, sym, ◌∙◌, subst, Bool, true, false, Some, None, Option, Result, Ok, Err, inl, inr}
+use Rattle.std.proofs.Common.{◌≡◌, ℕ, suc, ◌+◌, ◌<◌, ◌≤◌, length, filter, not, nat_eq, if◌then◌else◌, arith, List, [], ◌∷◌, ◌++◌, refl, ap, sym, ◌∙◌, subst, true, false, Some, None, Option, Result, Ok, Err, inl, inr}
 use Rattle.calloop_wake.specs.declared.error.InsertError.{InsertError}
 use Rattle.calloop_wake.specs.declared.list.Content.{Content}
 use Rattle.calloop_wake.specs.declared.list.Content.TheVariants.{Vacant, Source, InTurn}
@@ -18,7 +18,7 @@ use Rattle.calloop.specs.Askings.{Asks, AskStep, Write, Take, Reaches, ask_after
 use Rattle.calloop.specs.Held.{HeldStep, Begun, Told, held_after}
 use Rattle.calloop.specs.Machine.{View, Change, Holds, AllFit, viewed, all_viewed}
 use Rattle.calloop.specs.Rules.{Did, Once, OwnOr, Served, ServedAs, InsertedBy, AskedIn, RemovedIn, Outcome, traced}
-use Rattle.calloop.specs.Serving.{Serves, ServesAs, ServesFirst, FirstServed, AllServed}
+use Rattle.calloop.specs.Serving.{ServesFirst, FirstServed, AllServed}
 use Rattle.calloop.proofs.Going.{batch-stepped}
 use Rattle.calloop.proofs.Seen.{viewed-append}
 

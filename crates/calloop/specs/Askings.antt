@@ -1,6 +1,27 @@
--- What callbacks ask of the loop, and what came of it. In calloop a callback holds a handle of its loop; here it writes requests,
--- which are carried out in order when its turn ends, each under a ticket that names its answer.
-use Rattle.std.specs.Prelude.{◌≡◌, ℕ, ◌+◌, ◌^◌, ◌-◌, ◌<◌, ◌⊎◌, List, [], ◌∷◌, ◌++◌, slice_get, filter, not, nat_eq, Bool, Option, Some, None, if◌then◌else◌}
+-- What callbacks ask of the loop, and what came of it. In calloop a callback holds a handle of its loop; here it writes
+-- requests, which are carried out in order when its turn ends, each under a ticket that names its answer.
+use Rattle.std.specs.Prelude.{
+  ◌≡◌,
+  ℕ,
+  ◌+◌,
+  ◌^◌,
+  ◌-◌,
+  ◌<◌,
+  ◌⊎◌,
+  List,
+  [],
+  ◌∷◌,
+  ◌++◌,
+  slice_get,
+  filter,
+  not,
+  nat_eq,
+  Bool,
+  Option,
+  Some,
+  None,
+  if◌then◌else◌,
+}
 use Rattle.std.specs.List.{remove}
 use Rattle.std.proofs.Common.{refl, ◌∙◌, ap, sym}
 use Rattle.calloop_wake.specs.declared.error.Error.{Error}
@@ -43,10 +64,13 @@ without ticket (a ∷ as') = if nat_eq a.ticket ticket then as' else a ∷ witho
 
 -- the first answer under a ticket stands in this place
 abbrev pub StandsAt : {D : Type 0} → (ticket place : ℕ) → List (Answered D) → Type 0
-StandsAt {D} ticket place answers = (a : Answered D) × (slice_get answers place ≡ Some a) × (remove answers place ≡ without ticket answers) × (found ticket answers ≡ Some a.answer)
+StandsAt {D} ticket place answers =
+    (a : Answered D) × (slice_get answers place ≡ Some a) × (remove answers place ≡ without ticket answers)
+    × (found ticket answers ≡ Some a.answer)
 
 abbrev pub ask_after : {D I : Type 0} → Asks D I → AskStep D I → Asks D I
-ask_after q (Write request) = record q { written = q.written ++ record { ticket = q.next; request = request } ∷ []; next = q.next + 1 }
+ask_after q (Write request) =
+    record q { written = q.written ++ record { ticket = q.next; request = request } ∷ []; next = q.next + 1 }
 ask_after q (Take ticket) = record q { answers = without ticket q.answers }
 
 abbrev pub asks_after : {D I : Type 0} → Asks D I → List (AskStep D I) → Asks D I
@@ -135,7 +159,8 @@ is_other_idle ticket i = not (nat_eq i.ticket ticket)
 
 -- a cancelled one is in neither list
 abbrev pub without_idle : {D I : Type 0} → (ticket : ℕ) → Asks D I → Asks D I
-without_idle ticket q = record q { idles = filter (is_other_idle ticket) q.idles; running = filter (is_other_idle ticket) q.running }
+without_idle ticket q =
+    record q { idles = filter (is_other_idle ticket) q.idles; running = filter (is_other_idle ticket) q.running }
 
 -- a round begins: the list is taken whole
 abbrev pub taken_up : {D I : Type 0} → Asks D I → Asks D I
@@ -166,7 +191,8 @@ debt (Some ticket) = 1
 
 -- What is left is proof that an impl cites.
 
-asks_after-append : {D I : Type 0} (q : Asks D I) (l m : List (AskStep D I)) → asks_after q (l ++ m) ≡ asks_after (asks_after q l) m
+asks_after-append : {D I : Type 0} (q : Asks D I) (l m : List (AskStep D I))
+    → asks_after q (l ++ m) ≡ asks_after (asks_after q l) m
 asks_after-append q [] m = refl
 asks_after-append q (s ∷ ss) m = asks_after-append (ask_after q s) ss m
 

@@ -1,5 +1,5 @@
--- A choice of sources with the data and the idles of its loop, which are types alone. calloop keeps sources of any type behind a
--- pointer; here the loop's type names them.
+-- A choice of sources with the data and the idles of its loop, which are types alone. calloop keeps sources of any type
+-- behind a pointer; here the loop's type names them.
 use Rattle.std.proofs.Common.{ap}
 use Rattle.calloop_core.specs.Meanings.{Meaning, IsHeld, seen_as}
 use Rattle.calloop.specs.declared.loop_logic.Sources.{Sources}

@@ -1,11 +1,25 @@
--- What loop and machine hold alike, beside slots and `Poll`: which registrations are told of waits, what the source in its turn
--- asked for itself, and what callbacks asked for. calloop enters a registration again each time, and leaves it there where
--- that fails; here each stands once, in its first place.
+-- What loop and machine hold alike, beside slots and `Poll`: which registrations are told of waits, what the source in
+-- its turn asked for itself, and what callbacks asked for. calloop enters a registration again each time, and leaves it
+-- there where that fails; here each stands once, in its first place.
 use Rattle.std.specs.Prelude.{ℕ, List, [], ◌∷◌, ◌++◌, filter, Bool, false, not, ◌&&◌, ◌||◌, nat_eq, if◌then◌else◌}
 use Rattle.calloop_wake.specs.declared.token.RegistrationToken.{RegistrationToken}
 use Rattle.calloop_core.specs.declared.sources.PostAction.{PostAction}
 use Rattle.calloop.specs.declared.loop_logic.asks.Answer.{Answer}
-use Rattle.calloop.specs.Askings.{Asks, AskStep, asks_after, begun, cleared, idle_begun, owing, paid, taken_up, told, with_idle, with_new_idle, without_idle}
+use Rattle.calloop.specs.Askings.{
+  Asks,
+  AskStep,
+  asks_after,
+  begun,
+  cleared,
+  idle_begun,
+  owing,
+  paid,
+  taken_up,
+  told,
+  with_idle,
+  with_new_idle,
+  without_idle,
+}
 
 pub record Held (D I : Type 0) : Type 0 where
   -- the registrations that are told of waits, in the order of their entry
@@ -44,7 +58,8 @@ pub data HeldStep (D I : Type 0) : Type 0 where
   Paid : (answer : Answer D) → HeldStep D I
   -- answers that weren't handed out are gone
   Cleared : HeldStep D I
-  -- an idle that a callback asked for, which is answered; one that the loop's caller asked for; and one that is cancelled
+  -- an idle that a callback asked for, which is answered; one that the loop's caller asked for; and one that is
+  -- cancelled
   IdleIn : (idle : I) → HeldStep D I
   IdleNew : (idle : I) → HeldStep D I
   IdleOut : (ticket : ℕ) → HeldStep D I

@@ -1,5 +1,31 @@
 -- What holds of every run.
-use Rattle.std.specs.Prelude.{◌≡◌, ℕ, ◌+◌, ◌*◌, ◌%◌, ◌<◌, ◌≤◌, Bool, true, false, ◌&&◌, map, nat_eq, nat_lt, nat_le, if◌then◌else◌, List, [], ◌∷◌, ◌++◌, ◌⊎◌, Option, Some, None, slice_get}
+use Rattle.std.specs.Prelude.{
+  ◌≡◌,
+  ℕ,
+  ◌+◌,
+  ◌*◌,
+  ◌%◌,
+  ◌<◌,
+  ◌≤◌,
+  Bool,
+  true,
+  false,
+  ◌&&◌,
+  map,
+  nat_eq,
+  nat_lt,
+  nat_le,
+  if◌then◌else◌,
+  List,
+  [],
+  ◌∷◌,
+  ◌++◌,
+  ◌⊎◌,
+  Option,
+  Some,
+  None,
+  slice_get,
+}
 use Rattle.calloop_wake.specs.declared.token.Token.{Token}
 use Rattle.calloop_wake.specs.declared.list.Content.{Content}
 use Rattle.calloop_wake.specs.declared.list.Content.TheVariants.{Source}
@@ -8,7 +34,7 @@ use Rattle.calloop_core.specs.Polls.{PollView}
 use Rattle.calloop_core.specs.Holdings.{Free, IsWithin}
 use Rattle.calloop_core.specs.Deeds.{Lent}
 use Rattle.calloop_core.specs.Meanings.{Meaning}
-use Rattle.calloop.specs.Ledgers.{Ledger, Arming, Armed, Origin, Elsewhere, Due, Waiting, Called, entry_in}
+use Rattle.calloop.specs.Ledgers.{Ledger, Arming, NumberedEntry, Origin, Elsewhere, Due, Waiting, TimerCall, entry_in}
 use Rattle.calloop_wake.specs.declared.token.RegistrationToken.{RegistrationToken}
 use Rattle.calloop_wake.specs.Slots.{named, is_empty}
 use Rattle.calloop.specs.declared.loop_logic.asks.Asked.{Asked}
@@ -24,8 +50,11 @@ IsSource {D} c = (d : D) × (c ≡ Source d)
 -- an event goes to the source of the slot that its token names, reuse counts taken modulo 65,536, or to none where
 -- the token names no source
 abbrev pub GoesRight : {D : Type 0} → List (Registration D) → Token → Option ℕ → Type 0
-GoesRight {D} slots token None = (r : Registration D) → slice_get slots token.slot ≡ Some r → r.reuse % 65536 ≡ token.version → ¬ IsSource r.content
-GoesRight {D} slots token (Some i) = (i ≡ token.slot) × (r : Registration D) × (slice_get slots i ≡ Some r) × (r.reuse % 65536 ≡ token.version) × IsSource r.content
+GoesRight {D} slots token None =
+    (r : Registration D) → slice_get slots token.slot ≡ Some r → r.reuse % 65536 ≡ token.version → ¬ IsSource r.content
+GoesRight {D} slots token (Some i) =
+    (i ≡ token.slot) × (r : Registration D) × (slice_get slots i ≡ Some r) × (r.reuse % 65536 ≡ token.version)
+    × IsSource r.content
 
 -- the first event of the batch goes right
 abbrev pub FirstGoesRight : {D : Type 0} → List (Registration D) → List Pending → Option ℕ → Type 0
@@ -57,11 +86,15 @@ Names w token r = (slice_get w.slots token.slot ≡ Some r) × (r.reuse % 65536 
 -- a token that named a registration names it still, or a later one whose reuse count is greater by a positive
 -- multiple of 65,536
 abbrev pub NamesLater : {D I P : Type 0} → World D I P → World D I P → Type 0
-NamesLater {D} {I} {P} w w' = (token : Token) (r r' : Registration D) → Names w token r → Names w' token r' → (r'.reuse ≡ r.reuse) ⊎ ((k : ℕ) × (0 < k) × (r'.reuse ≡ r.reuse + 65536 * k))
+NamesLater {D} {I} {P} w w' =
+    (token : Token) (r r' : Registration D) → Names w token r → Names w' token r'
+    → (r'.reuse ≡ r.reuse) ⊎ ((k : ℕ) × (0 < k) × (r'.reuse ≡ r.reuse + 65536 * k))
 
 -- between any two moments of these changes
 abbrev pub AllNamesLater : {D I P : Type 0} → World D I P → List (Change D I P) → Type 0
-AllNamesLater {D} {I} {P} w cs = (before between after : List (Change D I P)) → cs ≡ before ++ (between ++ after) → NamesLater (all_done w before) (all_done (all_done w before) between)
+AllNamesLater {D} {I} {P} w cs =
+    (before between after : List (Change D I P)) → cs ≡ before ++ (between ++ after)
+    → NamesLater (all_done w before) (all_done (all_done w before) between)
 
 -- a registration that was given up stays so: under this reuse count nothing stands in its slot any more
 abbrev pub StaysGone : {D I P : Type 0} → World D I P → World D I P → Type 0
@@ -71,7 +104,9 @@ StaysGone {D} {I} {P} w w' =
 
 -- between any two moments of these changes
 abbrev pub AllStayGone : {D I P : Type 0} → World D I P → List (Change D I P) → Type 0
-AllStayGone {D} {I} {P} w cs = (before between after : List (Change D I P)) → cs ≡ before ++ (between ++ after) → StaysGone (all_done w before) (all_done (all_done w before) between)
+AllStayGone {D} {I} {P} w cs =
+    (before between after : List (Change D I P)) → cs ≡ before ++ (between ++ after)
+    → StaysGone (all_done w before) (all_done (all_done w before) between)
 
 -- The armings of timers.
 
@@ -83,7 +118,7 @@ abbrev pub counted : {A : Type 0} → (A → Bool) → List A → ℕ
 counted p [] = 0
 counted p (x ∷ xs) = one p x + counted p xs
 
-abbrev pub is_armed_as : (number : ℕ) → Armed → Bool
+abbrev pub is_armed_as : (number : ℕ) → NumberedEntry → Bool
 is_armed_as n a = nat_eq a.number n
 
 abbrev pub is_due_as : (number : ℕ) → Origin → Bool
@@ -100,12 +135,15 @@ abbrev pub is_arming_as : (number : ℕ) → Option Arming → Bool
 is_arming_as n None = false
 is_arming_as n (Some a) = nat_eq a.number n
 
-abbrev pub is_call_as : (number : ℕ) → Called → Bool
+abbrev pub is_call_as : (number : ℕ) → TimerCall → Bool
 is_call_as n c = is_arming_as n c.arming
 
--- how often the arming of this number stands in the deadlines, in the batch, among the cancelled ones, and among the cut ones
+-- how often the arming of this number stands in the deadlines, in the batch, among the cancelled ones, and among the
+-- cut ones
 abbrev pub places : (number : ℕ) → Ledger → ℕ
-places n l = counted (is_armed_as n) l.armed + (counted (waits_as n) l.batch + (counted (is_number n) l.cancelled + counted (waits_as n) l.cut))
+places n l =
+    counted (is_armed_as n) l.armed +
+    (counted (waits_as n) l.batch + (counted (is_number n) l.cancelled + counted (waits_as n) l.cut))
 
 -- gathered when its deadline had come
 abbrev pub OnTime : Origin → Type 0
@@ -132,10 +170,10 @@ abbrev pub timely : Ledger → Arming → ℕ
 timely l a = counted (came_timely a) l.batch + counted (came_timely a) l.cut
 
 -- a call belongs to an arming, which was gathered in time, and handed out its deadline
-abbrev pub IsOwnCall : (gathered : Arming → ℕ) → Called → Type 0
+abbrev pub IsOwnCall : (gathered : Arming → ℕ) → TimerCall → Type 0
 IsOwnCall gathered c = (a : Arming) × (c.arming ≡ Some a) × (a.deadline ≡ c.deadline) × (1 ≤ gathered a)
 
-abbrev pub AllOwnCalls : (gathered : Arming → ℕ) → List Called → Type 0
+abbrev pub AllOwnCalls : (gathered : Arming → ℕ) → List TimerCall → Type 0
 AllOwnCalls gathered [] = Unit {0}
 AllOwnCalls gathered (c ∷ cs) = IsOwnCall gathered c × AllOwnCalls gathered cs
 
@@ -155,7 +193,8 @@ pub record IsKept {P : Type 0} (l : Ledger) (v : PollView P) : Type 0 where
   -- each call belongs to an arming of its own, which was gathered in time, and handed out its deadline
   pub own : AllOwnCalls (timely l) l.calls
   pub once : (number : ℕ) → counted (is_call_as number) l.calls ≤ 1
-  pub gathered : (number : ℕ) → counted (is_call_as number) l.calls ≤ counted (waits_as number) l.batch + counted (waits_as number) l.cut
+  pub gathered : (number : ℕ)
+      → counted (is_call_as number) l.calls ≤ counted (waits_as number) l.batch + counted (waits_as number) l.cut
 
 -- a dispatcher that holds no counter, as one that was never registered
 abbrev pub HoldsNone : {D P X Q : Type 0} → Meaning D P (Lent X Q) → D → Type 0
@@ -169,8 +208,8 @@ HoldsNoMore m old new = (counter : ℕ) → IsWithin (m.holds new counter) (m.ho
 abbrev pub HasNoMoreKeys : {D P X Q : Type 0} → Meaning D P (Lent X Q) → (old new : D) → Type 0
 HasNoMoreKeys m old new = (key : ℕ) → m.keys new key → m.keys old key
 
--- what comes into the loop holds no counter then: each source is used with one loop. One that was taken out holds none any
--- more, so it may come again. A source that is changed in its slot, or exchanged there, holds no more than before.
+-- what comes into the loop holds no counter then: each source is used with one loop. One that was taken out holds none
+-- any more, so it may come again. A source that is changed in its slot, or exchanged there, holds no more than before.
 abbrev pub IsFresh : {D I P X Q : Type 0} → Meaning D P (Lent X Q) → Change D I P → Type 0
 IsFresh m (Claim source) = HoldsNone m source × m.fits source
 IsFresh m (Swapped slot old new) = HoldsNoMore m old new × m.fits new
@@ -197,7 +236,8 @@ AllOnce (t ∷ ts) = (is_listed t ts ≡ false) × AllOnce ts
 -- the registrations that are told of waits: each stands once, and names a slot that isn't vacant
 pub record IsTold {D I P : Type 0} (w : World D I P) : Type 0 where
   pub once : AllOnce w.held.lifecycle
-  pub full : (token : RegistrationToken) → is_listed token w.held.lifecycle ≡ true → is_empty (named (map slot_of w.slots) token) ≡ false
+  pub full : (token : RegistrationToken) → is_listed token w.held.lifecycle ≡ true
+      → is_empty (named (map slot_of w.slots) token) ≡ false
 
 abbrev pub is_asked_as : {D I : Type 0} → (ticket : ℕ) → Asked D I → Bool
 is_asked_as n a = nat_eq a.ticket n
@@ -209,14 +249,17 @@ abbrev pub stands_as : (ticket : ℕ) → Option ℕ → ℕ
 stands_as n None = 0
 stands_as n (Some ticket) = one (is_number n) ticket
 
--- how often a ticket stands: over a request that wasn't carried out yet, that is carried out, or whose answer is owed, or over
--- an answer
+-- how often a ticket stands: over a request that wasn't carried out yet, that is carried out, or whose answer is owed,
+-- or over an answer
 abbrev pub standing : {D I : Type 0} → (ticket : ℕ) → Asks D I → ℕ
-standing n q = counted (is_asked_as n) q.written + (stands_as n q.serving + (stands_as n q.owed + counted (is_answered_as n) q.answers))
+standing n q =
+    counted (is_asked_as n) q.written +
+    (stands_as n q.serving + (stands_as n q.owed + counted (is_answered_as n) q.answers))
 
 -- a ticket that was given stands at most once, or its answer was handed out, once; no other ticket stands anywhere
 abbrev pub IsTicketed : {D I P : Type 0} → World D I P → Type 0
-IsTicketed w = (n : ℕ) → standing n w.held.asks + counted (is_number n) w.handed ≤ (if nat_lt n w.held.asks.next then 1 else 0)
+IsTicketed w =
+    (n : ℕ) → standing n w.held.asks + counted (is_number n) w.handed ≤ (if nat_lt n w.held.asks.next then 1 else 0)
 
 pub record IsSound {D I P : Type 0} (w : World D I P) (cs : List (Change D I P)) : Type 0 where
   pub reaches : AllRight w cs

@@ -12,8 +12,10 @@ with_loop_poller w l = record l { poll = with_poller w l.poll }
 abbrev pub with_handle_poller : {D P C R X I S : Type 0} → P → LoopHandle D P C R X I S → LoopHandle D P C R X I S
 with_handle_poller w h = record { inner = record h.inner { now = with_loop_poller w h.inner.now } }
 
-abbrev pub with_loop_source : {D P C R X I S : Type 0} → RegistrationToken → D → EventLoop D P C R X I S → EventLoop D P C R X I S
+abbrev pub with_loop_source : {D P C R X I S : Type 0} → RegistrationToken → D → EventLoop D P C R X I S
+    → EventLoop D P C R X I S
 with_loop_source token d l = record l { sources = changed (with_content (Source d)) l.sources token.slot }
 
-abbrev pub with_handle_source : {D P C R X I S : Type 0} → RegistrationToken → D → LoopHandle D P C R X I S → LoopHandle D P C R X I S
+abbrev pub with_handle_source : {D P C R X I S : Type 0} → RegistrationToken → D → LoopHandle D P C R X I S
+    → LoopHandle D P C R X I S
 with_handle_source token d h = record { inner = record h.inner { now = with_loop_source token d h.inner.now } }

@@ -11,7 +11,20 @@ use Rattle.calloop_core.specs.declared.sources.PostAction.TheVariants.{Continue}
 use Rattle.calloop_core.specs.declared.sys.Readiness.{Readiness}
 use Rattle.calloop_core.specs.declared.sys.poll.Pending.{Pending}
 use Rattle.calloop_core.specs.Pollers.{Outside}
-use Rattle.calloop_core.specs.Polls.{PollView, PollStep, poll_view, polls_after, AllAllowed, gathered, appended, polling, watching, counted, with_pass, cut}
+use Rattle.calloop_core.specs.Polls.{
+  PollView,
+  PollStep,
+  poll_view,
+  polls_after,
+  AllAllowed,
+  gathered,
+  appended,
+  polling,
+  watching,
+  counted,
+  with_pass,
+  cut,
+}
 use Rattle.calloop.specs.Held.{Held, HeldStep, Asking, held_after}
 use Rattle.calloop.specs.Askings.{all_handed, no_asks}
 use Rattle.calloop.specs.Ledgers.{Ledger, steps_noted, gathering_noted, appended_noted, cut_noted, new_ledger}
@@ -73,7 +86,8 @@ pub data Change (D I P : Type 0) : Type 0 where
   Holds : (step : HeldStep D I) → Change D I P
   -- an event that a source asks for before a wait joins the batch
   Appended : (event : Pending) → Change D I P
-  -- the batch is put together, of these posted keys, of what the poller gave, and of the timers that are due at this moment
+  -- the batch is put together, of these posted keys, of what the poller gave, and of the timers that are due at this
+  -- moment
   Gathered : (posted : List ℕ) (given : List (ℕ × Readiness)) (now : ℕ) → Change D I P
   -- the first event leaves the batch, for this slot or for none
   Cut : (slot : Option ℕ) → Change D I P
@@ -129,7 +143,8 @@ done w (Watching watch) = record w { poll = watching watch w.poll }
 done w (Counting places) = record w { poll = counted places w.poll }
 done w (Holds step) = record w { held = held_after w.held step; handed = w.handed ++ handed_in w.held step }
 done w (Appended event) = record w { poll = appended event w.poll; ledger = appended_noted w.ledger event }
-done w (Gathered posted given now) = record w { poll = gathered posted given now w.poll; ledger = gathering_noted w.ledger posted given now }
+done w (Gathered posted given now) =
+    record w { poll = gathered posted given now w.poll; ledger = gathering_noted w.ledger posted given now }
 done w (Cut slot) = record w { poll = cut w.poll; ledger = cut_noted w.ledger }
 done w Ended = record w { poll = with_pass None w.poll }
 
@@ -145,8 +160,9 @@ IsFull {D} slots i = (s : Slot D) × (slice_get slots i ≡ Some s) × (is_empty
 abbrev pub StandsIn : {D : Type 0} → List (Slot D) → ℕ → D → Type 0
 StandsIn {D} slots i d = (s : Slot D) × (slice_get slots i ≡ Some s) × (s.content ≡ Source d)
 
--- What every change keeps to: a vacant slot stays vacant until it is claimed, what is exchanged stood there, a source's steps can be made, no source makes up
--- a posted event, and posted keys ascend. Which they are is the answer of the board, which lies under a lock; calloop has them from the kernel.
+-- What every change keeps to: a vacant slot stays vacant until it is claimed, what is exchanged stood there, a source's
+-- steps can be made, no source makes up a posted event, and posted keys ascend. Which they are is the answer of the
+-- board, which lies under a lock; calloop has them from the kernel.
 abbrev pub Fits : {D I P : Type 0} → Outside P → View D I P → Change D I P → Type 0
 Fits O v (Put slot content) = IsFull v.slots slot
 Fits O v (Swapped slot old new) = StandsIn v.slots slot old

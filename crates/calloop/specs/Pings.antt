@@ -11,13 +11,22 @@ use Rattle.calloop_wake.specs.declared.error.Error.TheVariants.{TooManyTokens}
 use Rattle.calloop_wake.specs.declared.token.Token.{Token}
 use Rattle.calloop_wake.specs.declared.token.TokenFactory.{TokenFactory}
 use Rattle.calloop_wake.specs.declared.wake.Twin.{Twin}
-use Rattle.calloop_wake.specs.Tokens.{key_of, next_token, after_token}
+use Rattle.calloop_wake.specs.Tokens.{key_of, next_token, after_token, most_tokens}
 use Rattle.calloop_wake.specs.Passes.{Taken}
 use Rattle.calloop_wake.specs.Cells.{one, is_own}
 use Rattle.calloop_core.specs.declared.sources.PostAction.{PostAction}
 use Rattle.calloop_core.specs.declared.sources.PostAction.TheVariants.{Continue, Remove}
-use Rattle.calloop_core.specs.Calls.{Call}
-use Rattle.calloop_core.specs.Deeds.{Deed, Registered as FirstTime, Reregistered, Unregistered, Turned, Slept, Noticed, Heard}
+use Rattle.calloop_core.specs.Calls.{CallbackCall}
+use Rattle.calloop_core.specs.Deeds.{
+  Deed,
+  Registered as FirstTime,
+  Reregistered,
+  Unregistered,
+  Turned,
+  Slept,
+  Noticed,
+  Heard,
+}
 use Rattle.calloop_core.specs.Holdings.{holds_none}
 use Rattle.calloop_core.specs.Meanings.{Meaning}
 use Rattle.calloop_core.specs.Polls.{PollView, PollStep, TakePass, PutBack, CannotOpen, IsOfKind}
@@ -33,7 +42,7 @@ cell_of ping = (arc_value ping.shared).slot
 -- opened
 pub data RefusedPing (own : Option ℕ) (f : TokenFactory) (e : Error) (g : TokenFactory) : Type 0 where
   Registered : IsSome own → IsOfKind AlreadyExists e → g ≡ f → RefusedPing own f e g
-  NoToken : own ≡ None → e ≡ TooManyTokens → f.given ≡ 65535 → g ≡ f → RefusedPing own f e g
+  NoToken : own ≡ None → e ≡ TooManyTokens → f.given ≡ most_tokens → g ≡ f → RefusedPing own f e g
   NoPlace : own ≡ None → CannotOpen e → g ≡ after_token f → RefusedPing own f e g
 
 -- the place of its token is opened, the key is set, and what stood is posted
@@ -48,7 +57,7 @@ Registers twin f (Err e) steps after g = (steps ≡ []) × (after ≡ twin) × R
 -- key can't be opened
 pub data RefusedAnew (own : Option ℕ) (f : TokenFactory) (e : Error) (g : TokenFactory) : Type 0 where
   NotRegistered : own ≡ None → IsOfKind NotFound e → g ≡ f → RefusedAnew own f e g
-  NoTokenAnew : IsSome own → e ≡ TooManyTokens → f.given ≡ 65535 → g ≡ f → RefusedAnew own f e g
+  NoTokenAnew : IsSome own → e ≡ TooManyTokens → f.given ≡ most_tokens → g ≡ f → RefusedAnew own f e g
   NoPlaceAnew : IsSome own → is_own (key_of (next_token f)) own ≡ false → CannotOpen e → g ≡ after_token f
       → RefusedAnew own f e g
 
@@ -68,11 +77,11 @@ Unregisters twin (Ok u) steps after = IsSome twin.key × (steps ≡ []) × (afte
 Unregisters twin (Err e) steps after = (twin.key ≡ None) × IsOfKind NotFound e × (steps ≡ []) × (after ≡ twin)
 
 -- the calls of a ping's callback
-abbrev pub Calls : Type 0
-Calls = List (Call (Unit {0}) (Unit {0}) (Unit {0}))
+abbrev pub PingCalls : Type 0
+PingCalls = List (CallbackCall (Unit {0}) (Unit {0}) (Unit {0}))
 
 -- one call where a ping stood, and else none
-abbrev pub calls_of : (rang : Bool) → Calls
+abbrev pub calls_of : (rang : Bool) → PingCalls
 calls_of true = record { event = tt; before = tt; after = tt; answer = tt } ∷ []
 calls_of false = []
 
@@ -90,7 +99,7 @@ pub data Served : Type 0 where
 
 -- The twin counts the turn that the pass opened; the source is called as often as the twin's number of rings grows
 -- by, and removed where its number of closes does. A pass that the source's own cell refused is put back.
-abbrev pub ServedSo : {P : Type 0} → Served → Taken → Twin → Calls → PostAction → List (PollStep P) → Twin → Type 0
+abbrev pub ServedSo : {P : Type 0} → Served → Taken → Twin → PingCalls → PostAction → List (PollStep P) → Twin → Type 0
 ServedSo (Opened rung told) p twin calls action steps after =
     (calls ≡ calls_of rung) × (action ≡ action_of told) × (steps ≡ TakePass ∷ [])
     × (after ≡ record twin { turns = twin.turns + 1; number = twin.number + one rung; closes = twin.closes + one told })
@@ -98,13 +107,15 @@ ServedSo Refused p twin calls action steps after =
     (calls ≡ []) × (action ≡ Continue)
     × (steps ≡ TakePass ∷ PutBack (record p { refused = Some twin.name }) ∷ []) × (after ≡ twin)
 
-abbrev pub PingTurnWith : {P : Type 0} → Option Taken → Twin → Calls → PostAction → List (PollStep P) → Twin → Type 0
+abbrev pub PingTurnWith : {P : Type 0} → Option Taken → Twin → PingCalls → PostAction → List (PollStep P) → Twin
+    → Type 0
 PingTurnWith None twin calls action steps after =
     (calls ≡ []) × (action ≡ Continue) × (steps ≡ TakePass ∷ []) × (after ≡ twin)
 PingTurnWith (Some p) twin calls action steps after =
     (served : Served) × ServedSo served p twin calls action steps after
 
-abbrev pub PingTurnFor : {P : Type 0} → (is_own : Bool) → Option Taken → Twin → Calls → PostAction → List (PollStep P)
+abbrev pub PingTurnFor : {P : Type 0} → (is_own : Bool) → Option Taken → Twin → PingCalls → PostAction
+    → List (PollStep P)
     → Twin → Type 0
 PingTurnFor true pass twin calls action steps after = PingTurnWith pass twin calls action steps after
 PingTurnFor false pass twin calls action steps after =
@@ -112,7 +123,7 @@ PingTurnFor false pass twin calls action steps after =
 
 -- a turn, which never fails: under another token nothing, without a pass nothing, else by what the cell answers to
 -- the pass
-abbrev pub TurnsBy : {P : Type 0} → Twin → Token → Option Taken → Calls → Result PostAction PingError
+abbrev pub TurnsBy : {P : Type 0} → Twin → Token → Option Taken → PingCalls → Result PostAction PingError
     → List (PollStep P) → Twin → Type 0
 TurnsBy twin token pass calls (Ok action) steps after =
     PingTurnFor (is_own (key_of token) twin.key) pass twin calls action steps after
@@ -132,7 +143,7 @@ abbrev pub IsPingUnreg : {P R : Type 0} → PingSource R → Result (Unit {0}) E
     → Type 0
 IsPingUnreg s answer steps t = Unregisters s.twin answer steps t.twin × (t.shared ≡ s.shared)
 
-abbrev pub IsPingTurn : {P R : Type 0} → PingSource R → Token → PollView P → Calls → Result PostAction PingError
+abbrev pub IsPingTurn : {P R : Type 0} → PingSource R → Token → PollView P → PingCalls → Result PostAction PingError
     → List (PollStep P) → PingSource R → Type 0
 IsPingTurn s token v calls answer steps t =
     TurnsBy s.twin token v.pass calls answer steps t.twin × (t.shared ≡ s.shared)

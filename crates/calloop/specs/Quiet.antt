@@ -1,4 +1,5 @@
--- A ping holds no counter of a timer, makes no step of one, and stays at home. The impl cites these proofs, so they stand here.
+-- A ping holds no counter of a timer, makes no step of one, and stays at home. The impl cites these proofs, so they
+-- stand here.
 use Rattle.std.specs.Prelude.{◌≡◌, ℕ, List, Bool, true, false, Option, Some, None, Result, Ok, Err}
 use Rattle.std.proofs.Common.{ap, sym, ◌∙◌}
 use Rattle.calloop_wake.specs.declared.error.Error.{Error}
@@ -18,7 +19,7 @@ use Rattle.calloop_core.specs.Polls.{PollView, PollStep}
 use Rattle.calloop_core.specs.Holdings.{Keeps, holds_none}
 use Rattle.calloop.specs.declared.ping.source.PingError.{PingError}
 use Rattle.calloop.specs.declared.ping.PingSource.{PingSource}
-use Rattle.calloop.specs.Pings.{Calls, IsPingReg, IsPingRereg, IsPingUnreg, IsPingTurn, ping_meaning, PingTurnFor}
+use Rattle.calloop.specs.Pings.{PingCalls, IsPingReg, IsPingRereg, IsPingUnreg, IsPingTurn, ping_meaning, PingTurnFor}
 use Rattle.calloop.specs.Pings.{PingTurnWith, Served, Opened, Refused, ServedSo, ping_keys}
 
 ping_reg_keeps : {P R : Type 0} (s t : PingSource R) (v : PollView P) (f g : TokenFactory)
@@ -38,24 +39,24 @@ ping_unreg_keeps : {P R : Type 0} (s t : PingSource R) (v : PollView P) (a : Res
 ping_unreg_keeps s t v (Ok u) l h = rw h.0.1 (λ counter. tt)
 ping_unreg_keeps s t v (Err e) l h = rw h.0.2 (λ counter. tt)
 
-served_keeps : {P : Type 0} (next : ℕ) (served : Served) (p : Taken) (before after : Twin) (cs : Calls)
+served_keeps : {P : Type 0} (next : ℕ) (served : Served) (p : Taken) (before after : Twin) (cs : PingCalls)
     (action : PostAction) (l : List (PollStep P)) → ServedSo served p before cs action l after
     → Keeps holds_none next l holds_none
 served_keeps next (Opened rung told) p before after cs action l h = rw h.2 (λ counter. tt)
 served_keeps next Refused p before after cs action l h = rw h.2 (λ counter. tt)
 
-with_keeps : {P : Type 0} (next : ℕ) (pass : Option Taken) (before after : Twin) (cs : Calls) (action : PostAction)
+with_keeps : {P : Type 0} (next : ℕ) (pass : Option Taken) (before after : Twin) (cs : PingCalls) (action : PostAction)
     (l : List (PollStep P)) → PingTurnWith pass before cs action l after → Keeps holds_none next l holds_none
 with_keeps next None before after cs action l h = rw h.2 (λ counter. tt)
 with_keeps next (Some p) before after cs action l h = served_keeps next h.0 p before after cs action l h.1
 
-for_keeps : {P : Type 0} (is_own : Bool) (next : ℕ) (pass : Option Taken) (before after : Twin) (cs : Calls)
+for_keeps : {P : Type 0} (is_own : Bool) (next : ℕ) (pass : Option Taken) (before after : Twin) (cs : PingCalls)
     (action : PostAction) (l : List (PollStep P)) → PingTurnFor is_own pass before cs action l after
     → Keeps holds_none next l holds_none
 for_keeps true next pass before after cs action l h = with_keeps next pass before after cs action l h
 for_keeps false next pass before after cs action l h = rw h.2 (λ counter. tt)
 
-ping_turn_keeps : {P R : Type 0} (s t : PingSource R) (k : Token) (v : PollView P) (cs : Calls)
+ping_turn_keeps : {P R : Type 0} (s t : PingSource R) (k : Token) (v : PollView P) (cs : PingCalls)
     (a : Result PostAction PingError) (l : List (PollStep P)) → IsPingTurn s k v cs a l t
     → Keeps holds_none v.deadlines.next l holds_none
 ping_turn_keeps s t k v cs (Ok action) l h =
@@ -86,25 +87,26 @@ home_same r s t home same key e = home key (sym same ∙ e)
 home_none : {R : Type 0} (r : RegistrationToken) (t : PingSource R) → t.twin.key ≡ None → Home r t
 home_none r t none key e = let same : None ≡ Some key = sym none ∙ e in cc
 
-served_key : {P : Type 0} (r : RegistrationToken) (served : Served) (p : Taken) (before after : Twin) (cs : Calls)
+served_key : {P : Type 0} (r : RegistrationToken) (served : Served) (p : Taken) (before after : Twin) (cs : PingCalls)
     (action : PostAction) (l : List (PollStep P)) → ServedSo served p before cs action l after
     → (after.key ≡ before.key) × AllActFor r l
 served_key r (Opened rung told) p before after cs action l h = (ap (λ x. x.key) h.3, rw h.2 (tt, tt))
 served_key r Refused p before after cs action l h = (ap (λ x. x.key) h.3, rw h.2 (tt, (tt, tt)))
 
-with_key : {P : Type 0} (r : RegistrationToken) (pass : Option Taken) (before after : Twin) (cs : Calls)
+with_key : {P : Type 0} (r : RegistrationToken) (pass : Option Taken) (before after : Twin) (cs : PingCalls)
     (action : PostAction) (l : List (PollStep P)) → PingTurnWith pass before cs action l after
     → (after.key ≡ before.key) × AllActFor r l
 with_key r None before after cs action l h = (ap (λ x. x.key) h.3, rw h.2 (tt, tt))
 with_key r (Some p) before after cs action l h = served_key r h.0 p before after cs action l h.1
 
-for_key : {P : Type 0} (r : RegistrationToken) (is_own : Bool) (pass : Option Taken) (before after : Twin) (cs : Calls)
+for_key : {P : Type 0} (r : RegistrationToken) (is_own : Bool) (pass : Option Taken) (before after : Twin)
+    (cs : PingCalls)
     (action : PostAction) (l : List (PollStep P)) → PingTurnFor is_own pass before cs action l after
     → (after.key ≡ before.key) × AllActFor r l
 for_key r true pass before after cs action l h = with_key r pass before after cs action l h
 for_key r false pass before after cs action l h = (ap (λ x. x.key) h.3, rw h.2 tt)
 
-turn_key : {P R : Type 0} (r : RegistrationToken) (s t : PingSource R) (k : Token) (v : PollView P) (cs : Calls)
+turn_key : {P R : Type 0} (r : RegistrationToken) (s t : PingSource R) (k : Token) (v : PollView P) (cs : PingCalls)
     (a : Result PostAction PingError) (l : List (PollStep P)) → IsPingTurn s k v cs a l t
     → (t.twin.key ≡ s.twin.key) × AllActFor r l
 turn_key r s t k v cs (Ok action) l h = for_key r (is_own (key_of k) s.twin.key) v.pass s.twin t.twin cs action l h.0

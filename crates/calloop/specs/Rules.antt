@@ -1,6 +1,29 @@
 -- The rules of the loop: which changes each call may make. A rule speaks of what the loop holds before, and allows
 -- lists of changes; what source, poller and callback answer, it leaves open.
-use Rattle.std.specs.Prelude.{◌≡◌, ℕ, ◌^◌, ◌-◌, ◌<◌, List, [], ◌∷◌, ◌++◌, drop, length, ◌⊎◌, Bool, true, false, ◌&&◌, Option, Some, None, Result, Ok, Err}
+use Rattle.std.specs.Prelude.{
+  ◌≡◌,
+  ℕ,
+  ◌^◌,
+  ◌-◌,
+  ◌<◌,
+  List,
+  [],
+  ◌∷◌,
+  ◌++◌,
+  drop,
+  length,
+  ◌⊎◌,
+  Bool,
+  true,
+  false,
+  ◌&&◌,
+  Option,
+  Some,
+  None,
+  Result,
+  Ok,
+  Err,
+}
 use Rattle.std.specs.declared.io.Error.{Error as Cause}
 use Rattle.calloop_wake.specs.declared.error.Error.{Error}
 use Rattle.calloop_wake.specs.declared.error.Error.TheVariants.{InvalidToken, IoError, OutOfMemory, OwnTurn}
@@ -18,27 +41,107 @@ use Rattle.calloop_core.specs.declared.sys.Readiness.{Readiness}
 use Rattle.calloop_core.specs.declared.sys.poll.Pending.{Pending}
 use Rattle.calloop_core.specs.declared.sources.Dispatcher.{Dispatcher}
 use Rattle.calloop_core.specs.declared.sources.PostAction.{PostAction}
-use Rattle.calloop_core.specs.declared.sources.PostAction.TheVariants.{Continue, Reregister, Disable as DisableIt, Remove}
+use Rattle.calloop_core.specs.declared.sources.PostAction.TheVariants.{
+  Continue,
+  Reregister,
+  Disable as DisableIt,
+  Remove,
+}
 use Rattle.calloop_core.specs.Deeds.{Deed, Registered, Reregistered, Unregistered, Turned, Slept, Noticed, Lent, lent}
 use Rattle.calloop_core.specs.Meanings.{Meaning}
 use Rattle.calloop_core.specs.Pollers.{Outside, nanos_of}
 use Rattle.calloop_core.specs.Events.{events_of}
-use Rattle.calloop_core.specs.Polls.{PollView, PollStep, AllAllowed, own_event, cut, with_pass}
+use Rattle.calloop_core.specs.Polls.{PollView, PollStep, AllAllowed, own_event, cut}
 use Rattle.calloop_core.specs.Waits.{Waited}
 use Rattle.calloop.specs.declared.loop_logic.LoopCall.{LoopCall}
-use Rattle.calloop.specs.declared.loop_logic.LoopCall.TheVariants.{Insert, Enable, Update, Disable, Remove as RemoveCall, Exchange, Dispatch, InsertIdle, Cancel, Answer as AnswerOf, Poller as NewPoller}
+use Rattle.calloop.specs.declared.loop_logic.LoopCall.TheVariants.{
+  Insert,
+  Enable,
+  Update,
+  Disable,
+  Remove as RemoveCall,
+  Exchange,
+  Dispatch,
+  InsertIdle,
+  Cancel,
+  Answer as AnswerOf,
+  Poller as NewPoller,
+}
 use Rattle.calloop.specs.declared.loop_logic.LoopAnswer.{LoopAnswer}
-use Rattle.calloop.specs.declared.loop_logic.LoopAnswer.TheVariants.{Inserted, Enabled, Updated, Disabled, Removed, Exchanged, Dispatched, IdleInserted, Cancelled, Answered, Poller as OldPoller}
+use Rattle.calloop.specs.declared.loop_logic.LoopAnswer.TheVariants.{
+  Inserted,
+  Enabled,
+  Updated,
+  Disabled,
+  Removed,
+  Exchanged,
+  Dispatched,
+  IdleInserted,
+  Cancelled,
+  Answered,
+  Poller as OldPoller,
+}
 use Rattle.calloop.specs.declared.loop_logic.asks.Answer.{Answer}
-use Rattle.calloop.specs.declared.loop_logic.asks.Answer.TheVariants.{Done, Inserted as InsertedAnswer, NotInserted, Removed as RemovedAnswer, Refused}
+use Rattle.calloop.specs.declared.loop_logic.asks.Answer.TheVariants.{
+  Done,
+  Inserted as InsertedAnswer,
+  NotInserted,
+  Removed as RemovedAnswer,
+  Refused,
+}
 use Rattle.calloop.specs.declared.loop_logic.asks.Asked.{Asked}
 use Rattle.calloop.specs.declared.loop_logic.asks.Idle.{Idle}
 use Rattle.calloop.specs.declared.loop_logic.asks.Idling.{Idling as Waiter}
 use Rattle.calloop.specs.declared.loop_logic.asks.Request.{Request}
-use Rattle.calloop.specs.declared.loop_logic.asks.Request.TheVariants.{Insert as AskInsert, Enable as AskEnable, Update as AskUpdate, Disable as AskDisable, Remove as AskRemove, Idle as AskIdle, Cancel as AskCancel}
+use Rattle.calloop.specs.declared.loop_logic.asks.Request.TheVariants.{
+  Insert as AskInsert,
+  Enable as AskEnable,
+  Update as AskUpdate,
+  Disable as AskDisable,
+  Remove as AskRemove,
+  Idle as AskIdle,
+  Cancel as AskCancel,
+}
 use Rattle.calloop.specs.Askings.{Asks, AskStep, Take, Runs, CannotAsk, asks_after, found, idle_begun}
-use Rattle.calloop.specs.Held.{HeldStep, Listed, Unlisted, Pend, Asking, Begun, Told, Owe, Paid, Cleared, IdleIn, IdleNew, IdleOut, IdlesTaken, IdleBegun}
-use Rattle.calloop.specs.Machine.{World, View, Change, Put, Claim, Swapped, Polls, Polling, Watching, Counting, Holds, Appended, Gathered, Cut, Ended, AllFit, viewed, all_viewed, all_done, seen}
+use Rattle.calloop.specs.Held.{
+  HeldStep,
+  Listed,
+  Unlisted,
+  Pend,
+  Asking,
+  Begun,
+  Told,
+  Owe,
+  Paid,
+  Cleared,
+  IdleIn,
+  IdleNew,
+  IdleOut,
+  IdlesTaken,
+  IdleBegun,
+}
+use Rattle.calloop.specs.Machine.{
+  World,
+  View,
+  Change,
+  Put,
+  Claim,
+  Swapped,
+  Polls,
+  Polling,
+  Watching,
+  Counting,
+  Holds,
+  Appended,
+  Gathered,
+  Cut,
+  Ended,
+  AllFit,
+  viewed,
+  all_viewed,
+  all_done,
+  seen,
+}
 
 -- a factory that has given no token
 abbrev pub factory_of : RegistrationToken → TokenFactory
@@ -52,14 +155,18 @@ abbrev pub is_done : Outcome → Bool
 is_done (Ok u) = true
 is_done (Err e) = false
 
--- a registration, the first one or anew, under this token, with a factory that has given none; one that is to be told of waits
--- is refused where there is no room for its entry, and is then as it was
-abbrev pub RegisteredBy : {D I P X : Type 0} → Meaning D P (Lent X (Asks D I)) → (TokenFactory → Outcome → TokenFactory → Deed (Lent X (Asks D I))) → RegistrationToken → PollView P → D → Outcome → List (PollStep P) → D → Type 0
+-- a registration, the first one or anew, under this token, with a factory that has given none; one that is to be told
+-- of waits is refused where there is no room for its entry, and is then as it was
+abbrev pub RegisteredBy : {D I P X : Type 0} → Meaning D P (Lent X (Asks D I))
+    → (TokenFactory → Outcome → TokenFactory → Deed (Lent X (Asks D I))) → RegistrationToken → PollView P → D → Outcome
+    → List (PollStep P) → D → Type 0
 RegisteredBy M deed token v d answer steps e =
-    ((M.needs d ≡ true) × (answer ≡ Err OutOfMemory) × (steps ≡ []) × (e ≡ d)) ⊎ ((f : TokenFactory) × M.does d v (deed (factory_of token) answer f) steps e)
+    ((M.needs d ≡ true) × (answer ≡ Err OutOfMemory) × (steps ≡ []) × (e ≡ d))
+    ⊎ ((f : TokenFactory) × M.does d v (deed (factory_of token) answer f) steps e)
 
 -- a registration that succeeds enters what is to be told of waits
-abbrev pub entered : {D I P X : Type 0} → Meaning D P (Lent X (Asks D I)) → RegistrationToken → D → Outcome → HeldStep D I
+abbrev pub entered : {D I P X : Type 0} → Meaning D P (Lent X (Asks D I)) → RegistrationToken → D → Outcome
+    → HeldStep D I
 entered M token d answer = Listed (M.needs d && is_done answer) token
 
 -- one that is taken back takes it out, also where that fails
@@ -67,29 +174,35 @@ abbrev pub left : {D I : Type 0} → RegistrationToken → D → Outcome → Hel
 left token d answer = Unlisted token
 
 -- what a source that is out of its slot did, by R, with what becomes of its entry
-abbrev pub ByOne : {D I P : Type 0} → Outside P → (D → Outcome → List (PollStep P) → D → Type 0) → (noted : D → Outcome → HeldStep D I) → D → Outcome → D → View D I P → View D I P → Type 0
+abbrev pub ByOne : {D I P : Type 0} → Outside P → (D → Outcome → List (PollStep P) → D → Type 0)
+    → (noted : D → Outcome → HeldStep D I) → D → Outcome → D → View D I P → View D I P → Type 0
 ByOne {D} {I} {P} O R noted d answer e v u =
-    (steps : List (PollStep P)) × R d answer steps e × AllAllowed O v.poll steps × (u ≡ all_viewed v (Polls steps ∷ Holds (noted d answer) ∷ []))
+    (steps : List (PollStep P)) × R d answer steps e × AllAllowed O v.poll steps
+    × (u ≡ all_viewed v (Polls steps ∷ Holds (noted d answer) ∷ []))
 
 -- why an insertion changes nothing: there is no slot, or no room for an entry
 abbrev pub CannotInsert : {D : Type 0} → List (Slot D) → (needed : Bool) → Error → Type 0
 CannotInsert slots needed error = CannotClaim slots error ⊎ ((needed ≡ true) × (error ≡ OutOfMemory))
 
--- a source is registered in the first vacant slot, which is claimed for it; where its registration is refused, the slot is
--- vacant again under its new version, and the poller is as that registration left it
-abbrev pub InsertedBy : {D I P X : Type 0} → Meaning D P (Lent X (Asks D I)) → D → Result RegistrationToken (InsertError D) → View D I P → List (Change D I P) → Type 0
+-- a source is registered in the first vacant slot, which is claimed for it; where its registration is refused, the slot
+-- is vacant again under its new version, and the poller is as that registration left it
+abbrev pub InsertedBy : {D I P X : Type 0} → Meaning D P (Lent X (Asks D I)) → D
+    → Result RegistrationToken (InsertError D) → View D I P → List (Change D I P) → Type 0
 InsertedBy {D} {I} {P} M d (Ok token) v cs =
     (first_vacant v.slots < 2 ^ 32) × (token ≡ next_registration v.slots)
-    × (e : D) × (f : TokenFactory) × (steps : List (PollStep P)) × M.does d v.poll (Registered (factory_of token) (Ok tt) f) steps e
+    × (e : D) × (f : TokenFactory) × (steps : List (PollStep P))
+    × M.does d v.poll (Registered (factory_of token) (Ok tt) f) steps e
     × (cs ≡ Claim d ∷ Polls steps ∷ Holds (Listed (M.needs d) token) ∷ Put token.slot (Source e) ∷ [])
 InsertedBy {D} {I} {P} M d (Err refused) v cs =
     ((refused.inserted ≡ d) × CannotInsert v.slots (M.needs d) refused.error × (cs ≡ []))
-    ⊎ ((first_vacant v.slots < 2 ^ 32) × (f : TokenFactory) × (steps : List (PollStep P)) × M.does d v.poll (Registered (factory_of (next_registration v.slots)) (Err refused.error) f) steps refused.inserted
+    ⊎ ((first_vacant v.slots < 2 ^ 32) × (f : TokenFactory) × (steps : List (PollStep P))
+    × M.does d v.poll (Registered (factory_of (next_registration v.slots)) (Err refused.error) f) steps refused.inserted
     × (cs ≡ Claim d ∷ Polls steps ∷ Put (first_vacant v.slots) Vacant ∷ []))
 
--- what is asked of the source in a slot: it goes out of the slot, and comes back as that left it, also after a refusal; R
--- relates the source, its answer, its steps, and what it is then, and `noted` is what becomes of its entry
-abbrev pub AskedIn : {D I P : Type 0} → (D → Outcome → List (PollStep P) → D → Type 0) → (noted : D → Outcome → HeldStep D I) → RegistrationToken → Content D → Outcome → List (Change D I P) → Type 0
+-- what is asked of the source in a slot: it goes out of the slot, and comes back as that left it, also after a refusal;
+-- R relates the source, its answer, its steps, and what it is then, and `noted` is what becomes of its entry
+abbrev pub AskedIn : {D I P : Type 0} → (D → Outcome → List (PollStep P) → D → Type 0)
+    → (noted : D → Outcome → HeldStep D I) → RegistrationToken → Content D → Outcome → List (Change D I P) → Type 0
 AskedIn R noted token Vacant answer cs = (answer ≡ Err InvalidToken) × (cs ≡ [])
 AskedIn R noted token InTurn answer cs = (answer ≡ Err InvalidToken) × (cs ≡ [])
 AskedIn {D} {I} {P} R noted token (Source d) answer cs =
@@ -97,41 +210,54 @@ AskedIn {D} {I} {P} R noted token (Source d) answer cs =
     × (cs ≡ Put token.slot InTurn ∷ Polls steps ∷ Holds (noted d answer) ∷ Put token.slot (Source e) ∷ [])
 
 -- the source that a token names is registered, with a factory that has given no token
-abbrev pub EnabledBy : {D I P X : Type 0} → Meaning D P (Lent X (Asks D I)) → RegistrationToken → Result (Unit {0}) Error → View D I P → List (Change D I P) → Type 0
-EnabledBy M token answer v cs = AskedIn (RegisteredBy M Registered token v.poll) (entered M token) token (named v.slots token) answer cs
+abbrev pub EnabledBy : {D I P X : Type 0} → Meaning D P (Lent X (Asks D I)) → RegistrationToken
+    → Result (Unit {0}) Error → View D I P → List (Change D I P) → Type 0
+EnabledBy M token answer v cs =
+    AskedIn (RegisteredBy M Registered token v.poll) (entered M token) token (named v.slots token) answer cs
 
 -- it is registered anew
-abbrev pub UpdatedBy : {D I P X : Type 0} → Meaning D P (Lent X (Asks D I)) → RegistrationToken → Result (Unit {0}) Error → View D I P → List (Change D I P) → Type 0
-UpdatedBy M token answer v cs = AskedIn (RegisteredBy M Reregistered token v.poll) (entered M token) token (named v.slots token) answer cs
+abbrev pub UpdatedBy : {D I P X : Type 0} → Meaning D P (Lent X (Asks D I)) → RegistrationToken
+    → Result (Unit {0}) Error → View D I P → List (Change D I P) → Type 0
+UpdatedBy M token answer v cs =
+    AskedIn (RegisteredBy M Reregistered token v.poll) (entered M token) token (named v.slots token) answer cs
 
 -- its registration is taken back
-abbrev pub DisabledBy : {D I P X : Type 0} → Meaning D P (Lent X (Asks D I)) → RegistrationToken → Result (Unit {0}) Error → View D I P → List (Change D I P) → Type 0
-DisabledBy M token answer v cs = AskedIn (λ d a steps e. M.does d v.poll (Unregistered a) steps e) (left token) token (named v.slots token) answer cs
+abbrev pub DisabledBy : {D I P X : Type 0} → Meaning D P (Lent X (Asks D I)) → RegistrationToken
+    → Result (Unit {0}) Error → View D I P → List (Change D I P) → Type 0
+DisabledBy M token answer v cs =
+    AskedIn (λ d a steps e. M.does d v.poll (Unregistered a) steps e) (left token) token (named v.slots token) answer cs
 
 -- it leaves its slot vacant, is unregistered, of which a failure isn't answered, and is handed back
-abbrev pub RemovedIn : {D I P X : Type 0} → Meaning D P (Lent X (Asks D I)) → RegistrationToken → Content D → Option D → View D I P → List (Change D I P) → Type 0
+abbrev pub RemovedIn : {D I P X : Type 0} → Meaning D P (Lent X (Asks D I)) → RegistrationToken → Content D → Option D
+    → View D I P → List (Change D I P) → Type 0
 RemovedIn M token Vacant answer v cs = (answer ≡ None) × (cs ≡ [])
 RemovedIn M token InTurn answer v cs = (answer ≡ None) × (cs ≡ [])
 RemovedIn {D} {I} {P} M token (Source d) answer v cs =
-    (e : D) × (told : Result (Unit {0}) Error) × (steps : List (PollStep P)) × M.does d v.poll (Unregistered told) steps e × (answer ≡ Some e)
+    (e : D) × (told : Result (Unit {0}) Error) × (steps : List (PollStep P))
+    × M.does d v.poll (Unregistered told) steps e × (answer ≡ Some e)
     × (cs ≡ Put token.slot Vacant ∷ Polls steps ∷ Holds (Unlisted token) ∷ [])
 
-abbrev pub RemovedBy : {D I P X : Type 0} → Meaning D P (Lent X (Asks D I)) → RegistrationToken → Option D → View D I P → List (Change D I P) → Type 0
+abbrev pub RemovedBy : {D I P X : Type 0} → Meaning D P (Lent X (Asks D I)) → RegistrationToken → Option D → View D I P
+    → List (Change D I P) → Type 0
 RemovedBy M token answer v cs = RemovedIn M token (named v.slots token) answer v cs
 
--- another source takes the place of the one that a token names, which is answered: so does who changes it where it stands.
--- Where the token names none, the other one is handed back.
-abbrev pub ExchangedIn : {D I P : Type 0} → RegistrationToken → D → Content D → Result D D → List (Change D I P) → Type 0
+-- another source takes the place of the one that a token names, which is answered: so does who changes it where it
+-- stands. Where the token names none, the other one is handed back.
+abbrev pub ExchangedIn : {D I P : Type 0} → RegistrationToken → D → Content D → Result D D → List (Change D I P)
+    → Type 0
 ExchangedIn token new Vacant answer cs = (answer ≡ Err new) × (cs ≡ [])
 ExchangedIn token new InTurn answer cs = (answer ≡ Err new) × (cs ≡ [])
 ExchangedIn token new (Source d) answer cs = (answer ≡ Ok d) × (cs ≡ Swapped token.slot d new ∷ [])
 
-abbrev pub ExchangedBy : {D I P : Type 0} → RegistrationToken → D → Result D D → View D I P → List (Change D I P) → Type 0
+abbrev pub ExchangedBy : {D I P : Type 0} → RegistrationToken → D → Result D D → View D I P → List (Change D I P)
+    → Type 0
 ExchangedBy token new answer v cs = ExchangedIn token new (named v.slots token) answer cs
 
 -- an idle is put at the end, under the next ticket, or handed back
-abbrev pub IdleInsertedBy : {D I P : Type 0} → I → Result Idle (InsertError I) → View D I P → List (Change D I P) → Type 0
-IdleInsertedBy idle (Ok made) v cs = (v.held.asks.next < 2 ^ 64 - 1) × (made.ticket.number ≡ v.held.asks.next) × (cs ≡ Holds (IdleNew idle) ∷ [])
+abbrev pub IdleInsertedBy : {D I P : Type 0} → I → Result Idle (InsertError I) → View D I P → List (Change D I P)
+    → Type 0
+IdleInsertedBy idle (Ok made) v cs =
+    (v.held.asks.next < 2 ^ 64 - 1) × (made.ticket.number ≡ v.held.asks.next) × (cs ≡ Holds (IdleNew idle) ∷ [])
 IdleInsertedBy idle (Err refused) v cs = (refused.inserted ≡ idle) × CannotAsk v.held.asks refused.error × (cs ≡ [])
 
 -- what the loop is doing within a dispatch; X is the data that the caller lends
@@ -163,24 +289,29 @@ abbrev pub told_in : {D I P : Type 0} → RegistrationToken → D → List (Chan
 told_in token e = Put token.slot InTurn ∷ Polls [] ∷ Put token.slot (Source e) ∷ []
 
 -- before it: the event that it answers joins the batch, and its error ends the dispatch
-abbrev pub SleptAs : {D I P X : Type 0} → (timeout : Option ℕ) → (later : List RegistrationToken) → Result (Option (Readiness × Token)) Error → X → List (Change D I P) → Doing D X → Type 0
+abbrev pub SleptAs : {D I P X : Type 0} → (timeout : Option ℕ) → (later : List RegistrationToken)
+    → Result (Option (Readiness × Token)) Error → X → List (Change D I P) → Doing D X → Type 0
 SleptAs timeout later (Ok None) x cs b = (cs ≡ []) × (b ≡ Sleeping timeout later x)
 SleptAs timeout later (Ok (Some given)) x cs b = (cs ≡ Appended (own_event given) ∷ []) × (b ≡ Sleeping timeout later x)
 SleptAs timeout later (Err e) x cs b = (cs ≡ []) × (b ≡ Leaving (Err e) x)
 
-abbrev pub SleptBy : {D I P X : Type 0} → Meaning D P (Lent X (Asks D I)) → Option ℕ → RegistrationToken → List RegistrationToken → Content D → View D I P → X → List (Change D I P) → Doing D X → Type 0
+abbrev pub SleptBy : {D I P X : Type 0} → Meaning D P (Lent X (Asks D I)) → Option ℕ → RegistrationToken
+    → List RegistrationToken → Content D → View D I P → X → List (Change D I P) → Doing D X → Type 0
 SleptBy M timeout token later Vacant v x cs b = (cs ≡ []) × (b ≡ Sleeping timeout later x)
 SleptBy M timeout token later InTurn v x cs b = (cs ≡ []) × (b ≡ Sleeping timeout later x)
 SleptBy {D} {I} {P} {X} M timeout token later (Source d) v x cs b =
-    (e : D) × (answer : Result (Option (Readiness × Token)) Error) × (joined : List (Change D I P)) × M.does d v.poll (Slept answer) [] e
+    (e : D) × (answer : Result (Option (Readiness × Token)) Error) × (joined : List (Change D I P))
+    × M.does d v.poll (Slept answer) [] e
     × SleptAs timeout later answer x joined b × (cs ≡ told_in token e ++ joined)
 
 -- after it: it is told of the events of its registration that were gathered
-abbrev pub NoticedBy : {D I P X : Type 0} → Meaning D P (Lent X (Asks D I)) → (from : ℕ) → RegistrationToken → List RegistrationToken → Content D → View D I P → X → List (Change D I P) → Doing D X → Type 0
+abbrev pub NoticedBy : {D I P X : Type 0} → Meaning D P (Lent X (Asks D I)) → (from : ℕ) → RegistrationToken
+    → List RegistrationToken → Content D → View D I P → X → List (Change D I P) → Doing D X → Type 0
 NoticedBy M from token later Vacant v x cs b = (cs ≡ []) × (b ≡ Noticing from later x)
 NoticedBy M from token later InTurn v x cs b = (cs ≡ []) × (b ≡ Noticing from later x)
 NoticedBy {D} M from token later (Source d) v x cs b =
-    (e : D) × M.does d v.poll (Noticed (events_of token (drop from v.poll.batch))) [] e × (cs ≡ told_in token e) × (b ≡ Noticing from later x)
+    (e : D) × M.does d v.poll (Noticed (events_of token (drop from v.poll.batch))) [] e × (cs ≡ told_in token e)
+    × (b ≡ Noticing from later x)
 
 -- the events that it brings
 abbrev pub after_telling : {D X : Type 0} → Option ℕ → List RegistrationToken → Outcome → X → Doing D X
@@ -192,16 +323,20 @@ after_all_told timeout (Ok u) x = Waiting timeout x
 after_all_told timeout (Err e) x = Leaving (Err e) x
 
 -- the event that was cut goes to the source that its token names, which has its own turn, or to none
-abbrev pub CutTo : {D I P X : Type 0} → Meaning D P (Lent X (Asks D I)) → Pending → Content D → View D I P → X → List (Change D I P) → Doing D X → Type 0
+abbrev pub CutTo : {D I P X : Type 0} → Meaning D P (Lent X (Asks D I)) → Pending → Content D → View D I P → X
+    → List (Change D I P) → Doing D X → Type 0
 CutTo M e Vacant v x cs b = (cs ≡ Cut None ∷ Ended ∷ []) × (b ≡ Cutting x)
 CutTo M e InTurn v x cs b = (cs ≡ Cut None ∷ Ended ∷ []) × (b ≡ Cutting x)
 CutTo {D} {I} {P} {X} M e (Source d) v x cs b =
-    (d' : D) × (answer : Result PostAction Error) × (steps : List (PollStep P)) × (x' : X) × (asked : List (AskStep D I))
-    × M.does d (cut v.poll) (Turned e.readiness e.token (lent x v.held.asks answer x' (asks_after v.held.asks asked))) steps d'
+    (d' : D) × (answer : Result PostAction Error) × (steps : List (PollStep P)) × (x' : X)
+    × (asked : List (AskStep D I))
+    × M.does d (cut v.poll)
+    (Turned e.readiness e.token (lent x v.held.asks answer x' (asks_after v.held.asks asked))) steps d'
     × (cs ≡ Cut (Some e.token.slot) ∷ Put e.token.slot InTurn ∷ Polls steps ∷ Ended ∷ Holds (Asking asked) ∷ [])
     × (b ≡ Serving (registration_of e.token) d' answer x')
 
-abbrev pub CutFrom : {D I P X : Type 0} → Meaning D P (Lent X (Asks D I)) → List Pending → View D I P → X → List (Change D I P) → Doing D X → Type 0
+abbrev pub CutFrom : {D I P X : Type 0} → Meaning D P (Lent X (Asks D I)) → List Pending → View D I P → X
+    → List (Change D I P) → Doing D X → Type 0
 CutFrom M [] v x cs b = (cs ≡ []) × (b ≡ Idling x)
 CutFrom M (e ∷ es) v x cs b = CutTo M e (named v.slots (registration_of e.token)) v x cs b
 
@@ -228,27 +363,38 @@ OwnOr InTurn own other = own
 OwnOr Vacant own other = other
 OwnOr (Source d) own other = other
 
--- what a request does, and what came of it: a source in its turn can't be registered; that it is registered anew, or that its
--- registration is taken back, waits for the end of its turn
-abbrev pub ServedAs : {D I P X : Type 0} → Meaning D P (Lent X (Asks D I)) → Request D I → Outcome → View D I P → List (Change D I P) → Type 0
-ServedAs M (AskEnable token) answer v cs = OwnOr (named v.slots token) ((answer ≡ Err OwnTurn) × (cs ≡ [])) (EnabledBy M token answer v cs)
-ServedAs M (AskUpdate token) answer v cs = OwnOr (named v.slots token) ((answer ≡ Ok tt) × (cs ≡ Holds (Pend Reregister) ∷ [])) (UpdatedBy M token answer v cs)
-ServedAs M (AskDisable token) answer v cs = OwnOr (named v.slots token) ((answer ≡ Ok tt) × (cs ≡ Holds (Pend DisableIt) ∷ [])) (DisabledBy M token answer v cs)
+-- what a request does, and what came of it: a source in its turn can't be registered; that it is registered anew, or
+-- that its registration is taken back, waits for the end of its turn
+abbrev pub ServedAs : {D I P X : Type 0} → Meaning D P (Lent X (Asks D I)) → Request D I → Outcome → View D I P
+    → List (Change D I P) → Type 0
+ServedAs M (AskEnable token) answer v cs =
+    OwnOr (named v.slots token) ((answer ≡ Err OwnTurn) × (cs ≡ [])) (EnabledBy M token answer v cs)
+ServedAs M (AskUpdate token) answer v cs =
+    OwnOr (named v.slots token) ((answer ≡ Ok tt) × (cs ≡ Holds (Pend Reregister) ∷ [])) (UpdatedBy M token answer v cs)
+ServedAs M (AskDisable token) answer v cs =
+    OwnOr (named v.slots token) ((answer ≡ Ok tt) × (cs ≡ Holds (Pend DisableIt) ∷ [])) (DisabledBy M token answer v cs)
 ServedAs M request answer v cs = ⊥
 
--- a request with its answer. A source that asks for its own removal leaves its slot at once, and is answered when its turn is over.
-abbrev pub Served : {D I P X : Type 0} → Meaning D P (Lent X (Asks D I)) → Request D I → View D I P → List (Change D I P) → Type 0
+-- a request with its answer. A source that asks for its own removal leaves its slot at once, and is answered when its
+-- turn is over.
+abbrev pub Served : {D I P X : Type 0} → Meaning D P (Lent X (Asks D I)) → Request D I → View D I P
+    → List (Change D I P) → Type 0
 Served {D} {I} {P} M (AskInsert d) v cs =
-    (answer : Result RegistrationToken (InsertError D)) × (ds : List (Change D I P)) × InsertedBy M d answer v ds × (cs ≡ ds ++ Holds (Told (inserted_answer answer)) ∷ [])
+    (answer : Result RegistrationToken (InsertError D)) × (ds : List (Change D I P)) × InsertedBy M d answer v ds
+    × (cs ≡ ds ++ Holds (Told (inserted_answer answer)) ∷ [])
 Served {D} {I} {P} M (AskRemove token) v cs =
     OwnOr (named v.slots token) (cs ≡ Put token.slot Vacant ∷ Holds (Unlisted token) ∷ Holds Owe ∷ [])
-    ((answer : Option D) × (ds : List (Change D I P)) × RemovedBy M token answer v ds × (cs ≡ ds ++ Holds (Told (RemovedAnswer answer)) ∷ []))
+    ((answer : Option D) × (ds : List (Change D I P)) × RemovedBy M token answer v ds
+    × (cs ≡ ds ++ Holds (Told (RemovedAnswer answer)) ∷ []))
 Served M (AskIdle idle) v cs = cs ≡ Holds (IdleIn idle) ∷ []
 Served M (AskCancel ticket) v cs = cs ≡ Holds (IdleOut ticket) ∷ Holds (Told Done) ∷ []
-Served {D} {I} {P} M request v cs = (answer : Outcome) × (ds : List (Change D I P)) × ServedAs M request answer v ds × (cs ≡ ds ++ Holds (Told (done_answer answer)) ∷ [])
+Served {D} {I} {P} M request v cs =
+    (answer : Outcome) × (ds : List (Change D I P)) × ServedAs M request answer v ds
+    × (cs ≡ ds ++ Holds (Told (done_answer answer)) ∷ [])
 
 -- the first request that was written is carried out; where there is none, the loop goes on
-abbrev pub ServedFrom : {D I P X : Type 0} → Meaning D P (Lent X (Asks D I)) → List (Asked D I) → (on next b : Doing D X) → View D I P → List (Change D I P) → Type 0
+abbrev pub ServedFrom : {D I P X : Type 0} → Meaning D P (Lent X (Asks D I)) → List (Asked D I)
+    → (on next b : Doing D X) → View D I P → List (Change D I P) → Type 0
 ServedFrom M [] on next b v cs = (cs ≡ []) × (b ≡ next)
 ServedFrom {D} {I} {P} M (a ∷ as') on next b v cs =
     (ds : List (Change D I P)) × Served M a.request (viewed v (Holds Begun)) ds × (cs ≡ Holds Begun ∷ ds) × (b ≡ on)
@@ -262,7 +408,8 @@ action_of (Ok Remove) pending = Ok Remove
 action_of (Err e) pending = Err e
 
 -- the post action of a turn is taken; after an error there is none. calloop takes it likewise.
-abbrev pub ActedBy : {D I P X : Type 0} → Meaning D P (Lent X (Asks D I)) → RegistrationToken → D → Result PostAction Error → View D I P → List (Change D I P) → D → Result (Unit {0}) Error → Type 0
+abbrev pub ActedBy : {D I P X : Type 0} → Meaning D P (Lent X (Asks D I)) → RegistrationToken → D
+    → Result PostAction Error → View D I P → List (Change D I P) → D → Result (Unit {0}) Error → Type 0
 ActedBy M token d (Ok Continue) v cs e told = (cs ≡ Holds (Pend Continue) ∷ []) × (e ≡ d) × (told ≡ Ok tt)
 ActedBy {D} {I} {P} M token d (Ok Reregister) v cs e told =
     (steps : List (PollStep P)) × RegisteredBy M Reregistered token v.poll d told steps e
@@ -270,7 +417,8 @@ ActedBy {D} {I} {P} M token d (Ok Reregister) v cs e told =
 ActedBy {D} {I} {P} M token d (Ok DisableIt) v cs e told =
     (steps : List (PollStep P)) × M.does d v.poll (Unregistered told) steps e
     × (cs ≡ Holds (Pend Continue) ∷ Polls steps ∷ Holds (Unlisted token) ∷ [])
-ActedBy M token d (Ok Remove) v cs e told = (cs ≡ Holds (Pend Continue) ∷ emptied token (named v.slots token)) × (e ≡ d) × (told ≡ Ok tt)
+ActedBy M token d (Ok Remove) v cs e told =
+    (cs ≡ Holds (Pend Continue) ∷ emptied token (named v.slots token)) × (e ≡ d) × (told ≡ Ok tt)
 ActedBy M token d (Err error) v cs e told = (cs ≡ Holds (Pend Continue) ∷ []) × (e ≡ d) × (told ≡ Err error)
 
 -- an error leaves the rest of the batch for the next dispatch
@@ -278,46 +426,59 @@ abbrev pub after_turn : {D X : Type 0} → Result (Unit {0}) Error → X → Doi
 after_turn (Ok u) x = Cutting x
 after_turn (Err e) x = Leaving (Err e) x
 
--- the source goes back to its slot, where that is still in its turn; else it is unregistered last, and a failure of that
--- isn't answered. One that asked for its own removal is handed back.
-abbrev pub ReturnedTo : {D I P X : Type 0} → Meaning D P (Lent X (Asks D I)) → RegistrationToken → D → Content D → View D I P → List (Change D I P) → Type 0
+-- the source goes back to its slot, where that is still in its turn; else it is unregistered last, and a failure of
+-- that isn't answered. One that asked for its own removal is handed back.
+abbrev pub ReturnedTo : {D I P X : Type 0} → Meaning D P (Lent X (Asks D I)) → RegistrationToken → D → Content D
+    → View D I P → List (Change D I P) → Type 0
 ReturnedTo M token d InTurn v cs = cs ≡ Put token.slot (Source d) ∷ []
 ReturnedTo {D} {I} {P} M token d content v cs =
-    (e : D) × (answer : Result (Unit {0}) Error) × (steps : List (PollStep P)) × M.does d v.poll (Unregistered answer) steps e
+    (e : D) × (answer : Result (Unit {0}) Error) × (steps : List (PollStep P))
+    × M.does d v.poll (Unregistered answer) steps e
     × (cs ≡ Polls steps ∷ Holds (Unlisted token) ∷ Holds (Paid (RemovedAnswer (Some e))) ∷ [])
 
 -- the idles that were taken run in order; a cancelled one isn't among them
-abbrev pub RunFrom : {D I P X : Type 0} → Runs D I X → List (Waiter I) → View D I P → X → List (Change D I P) → Doing D X → Type 0
+abbrev pub RunFrom : {D I P X : Type 0} → Runs D I X → List (Waiter I) → View D I P → X → List (Change D I P)
+    → Doing D X → Type 0
 RunFrom runs [] v x cs b = (cs ≡ []) × (b ≡ Leaving (Ok tt) x)
 RunFrom {D} {I} {P} {X} runs (i ∷ is) v x cs b =
-    (x' : X) × (asked : List (AskStep D I)) × runs i.idle x (idle_begun v.held.asks) x' (asks_after (idle_begun v.held.asks) asked)
+    (x' : X) × (asked : List (AskStep D I))
+    × runs i.idle x (idle_begun v.held.asks) x' (asks_after (idle_begun v.held.asks) asked)
     × (cs ≡ Holds IdleBegun ∷ Holds (Asking asked) ∷ []) × (b ≡ ServingIdle x')
 
 -- one small step, by what is seen
-abbrev pub Step : {D I P X : Type 0} → Meaning D P (Lent X (Asks D I)) → Runs D I X → Outside P → View D I P → Doing D X → List (Change D I P) → Doing D X → Type 0
-Step M runs O v (Beginning timeout x) cs b = (places : ℕ) × (cs ≡ Counting places ∷ Holds Cleared ∷ []) × (b ≡ Sleeping timeout v.held.lifecycle x)
+abbrev pub Step : {D I P X : Type 0} → Meaning D P (Lent X (Asks D I)) → Runs D I X → Outside P → View D I P → Doing D X
+    → List (Change D I P) → Doing D X → Type 0
+Step M runs O v (Beginning timeout x) cs b =
+    (places : ℕ) × (cs ≡ Counting places ∷ Holds Cleared ∷ []) × (b ≡ Sleeping timeout v.held.lifecycle x)
 Step M runs O v (Sleeping timeout [] x) cs b = (cs ≡ []) × (b ≡ Waiting timeout x)
 Step M runs O v (Sleeping timeout (t ∷ later) x) cs b = SleptBy M timeout t later (named v.slots t) v x cs b
 Step {D} {I} {P} M runs O v (Waiting timeout x) cs b =
-    (answer : Result ℕ Cause) × (given : List (ℕ × Readiness)) × (p : P) × (w : Watch) × Waited O v.poll timeout answer given p w
+    (answer : Result ℕ Cause) × (given : List (ℕ × Readiness)) × (p : P) × (w : Watch)
+    × Waited O v.poll timeout answer given p w
     × (cs ≡ Polling p ∷ Watching w ∷ []) × (b ≡ after_wait answer given x)
-Step M runs O v (Gathering now given x) cs b = (posted : List ℕ) × (cs ≡ Gathered posted given now ∷ []) × (b ≡ Noticing (length v.poll.batch) v.held.lifecycle x)
+Step M runs O v (Gathering now given x) cs b =
+    (posted : List ℕ) × (cs ≡ Gathered posted given now ∷ []) × (b ≡ Noticing (length v.poll.batch) v.held.lifecycle x)
 Step M runs O v (Noticing from [] x) cs b = (cs ≡ []) × (b ≡ Cutting x)
 Step M runs O v (Noticing from (t ∷ later) x) cs b = NoticedBy M from t later (named v.slots t) v x cs b
 Step M runs O v (Cutting x) cs b = CutFrom M v.poll.batch v x cs b
-Step M runs O v (Serving token d answer x) cs b = ServedFrom M v.held.asks.written (Serving token d answer x) (Ending token d answer x) b v cs
+Step M runs O v (Serving token d answer x) cs b =
+    ServedFrom M v.held.asks.written (Serving token d answer x) (Ending token d answer x) b v cs
 Step {D} M runs O v (Ending token d answer x) cs b =
-    (e : D) × (told : Result (Unit {0}) Error) × ActedBy M token d (action_of answer v.held.pending) v cs e told × (b ≡ Returning token e told x)
-Step M runs O v (Returning token d told x) cs b = ReturnedTo M token d (named v.slots token) v cs × (b ≡ after_turn told x)
+    (e : D) × (told : Result (Unit {0}) Error) × ActedBy M token d (action_of answer v.held.pending) v cs e told
+    × (b ≡ Returning token e told x)
+Step M runs O v (Returning token d told x) cs b =
+    ReturnedTo M token d (named v.slots token) v cs × (b ≡ after_turn told x)
 Step M runs O v (Idling x) cs b = (cs ≡ Holds IdlesTaken ∷ []) × (b ≡ RunningIdles x)
 Step M runs O v (RunningIdles x) cs b = RunFrom runs v.held.asks.running v x cs b
 Step M runs O v (ServingIdle x) cs b = ServedFrom M v.held.asks.written (ServingIdle x) (RunningIdles x) b v cs
 Step M runs O v (Leaving answer x) cs b = ⊥
 
 -- a list of small steps, with the changes of each
-abbrev pub Steps : {D I P X : Type 0} → Meaning D P (Lent X (Asks D I)) → Runs D I X → Outside P → View D I P → Doing D X → List (List (Change D I P)) → Doing D X → Type 0
+abbrev pub Steps : {D I P X : Type 0} → Meaning D P (Lent X (Asks D I)) → Runs D I X → Outside P → View D I P
+    → Doing D X → List (List (Change D I P)) → Doing D X → Type 0
 Steps M runs O v a [] b = b ≡ a
-Steps {D} {I} {P} {X} M runs O v a (cs ∷ css) b = (c : Doing D X) × Step M runs O v a cs c × AllFit O v cs × Steps M runs O (all_viewed v cs) c css b
+Steps {D} {I} {P} {X} M runs O v a (cs ∷ css) b =
+    (c : Doing D X) × Step M runs O v a cs c × AllFit O v cs × Steps M runs O (all_viewed v cs) c css b
 
 abbrev pub traced : {D I P : Type 0} → View D I P → List (List (Change D I P)) → View D I P
 traced v [] = v
@@ -328,45 +489,59 @@ all_traced w [] = w
 all_traced w (cs ∷ css) = all_traced (all_done w cs) css
 
 -- a case of one step
-abbrev pub Once : {D I P : Type 0} → Outside P → (View D I P → List (Change D I P) → Type 0) → View D I P → List (List (Change D I P)) → Type 0
+abbrev pub Once : {D I P : Type 0} → Outside P → (View D I P → List (Change D I P) → Type 0) → View D I P
+    → List (List (Change D I P)) → Type 0
 Once O R v [] = ⊥
 Once O R v (cs ∷ []) = R v cs × AllFit O v cs
 Once O R v (cs ∷ ds ∷ css) = ⊥
 
 -- where the batch finds no memory, nothing is changed; else a dispatch begins with its room and goes on until it leaves
-abbrev pub DispatchedBy : {D I P X : Type 0} → Meaning D P (Lent X (Asks D I)) → Runs D I X → Outside P → Option ℕ → X → Result (Unit {0}) Error → X → View D I P → List (List (Change D I P)) → Type 0
-DispatchedBy M runs O timeout x answer x' v css = ((answer ≡ Err OutOfMemory) × (x' ≡ x) × (css ≡ [])) ⊎ Steps M runs O v (Beginning timeout x) css (Leaving answer x')
+abbrev pub DispatchedBy : {D I P X : Type 0} → Meaning D P (Lent X (Asks D I)) → Runs D I X → Outside P → Option ℕ → X
+    → Result (Unit {0}) Error → X → View D I P → List (List (Change D I P)) → Type 0
+DispatchedBy M runs O timeout x answer x' v css =
+    ((answer ≡ Err OutOfMemory) × (x' ≡ x) × (css ≡ []))
+    ⊎ Steps M runs O v (Beginning timeout x) css (Leaving answer x')
 
-abbrev pub Case : {D I P X : Type 0} → Meaning D P (Lent X (Asks D I)) → Runs D I X → Outside P → LoopCall D P X I → LoopAnswer D P X I → View D I P → List (List (Change D I P)) → Type 0
+abbrev pub Case : {D I P X : Type 0} → Meaning D P (Lent X (Asks D I)) → Runs D I X → Outside P → LoopCall D P X I
+    → LoopAnswer D P X I → View D I P → List (List (Change D I P)) → Type 0
 Case M runs O (Insert d) (Inserted answer) v css = Once O (InsertedBy M d answer) v css
 Case M runs O (Enable token) (Enabled answer) v css = Once O (EnabledBy M token answer) v css
 Case M runs O (Update token) (Updated answer) v css = Once O (UpdatedBy M token answer) v css
 Case M runs O (Disable token) (Disabled answer) v css = Once O (DisabledBy M token answer) v css
 Case M runs O (RemoveCall token) (Removed answer) v css = Once O (RemovedBy M token answer) v css
 Case M runs O (Exchange token d) (Exchanged answer) v css = Once O (ExchangedBy token d answer) v css
-Case M runs O (Dispatch timeout x) (Dispatched answer x') v css = DispatchedBy M runs O (nanos_of timeout) x answer x' v css
+Case M runs O (Dispatch timeout x) (Dispatched answer x') v css =
+    DispatchedBy M runs O (nanos_of timeout) x answer x' v css
 Case M runs O (InsertIdle idle) (IdleInserted answer) v css = Once O (IdleInsertedBy idle answer) v css
 Case M runs O (Cancel idle) Cancelled v css = css ≡ (Holds (IdleOut idle.ticket.number) ∷ []) ∷ []
-Case M runs O (AnswerOf ticket) (Answered answer) v css = (answer ≡ found ticket.number v.held.asks.answers) × (css ≡ (Holds (Asking (Take ticket.number ∷ [])) ∷ []) ∷ [])
+Case M runs O (AnswerOf ticket) (Answered answer) v css =
+    (answer ≡ found ticket.number v.held.asks.answers) × (css ≡ (Holds (Asking (Take ticket.number ∷ [])) ∷ []) ∷ [])
 Case M runs O (NewPoller p) (OldPoller q) v css = (q ≡ v.poll.poller) × (css ≡ (Polling p ∷ []) ∷ [])
 Case M runs O call answer v css = ⊥
 
 -- a list of cases, each beginning where the one before ended; the changes of each are told
-abbrev pub Run : {D I P X : Type 0} → Meaning D P (Lent X (Asks D I)) → Runs D I X → Outside P → List (LoopCall D P X I) → List (LoopAnswer D P X I) → List (List (List (Change D I P))) → World D I P → World D I P → Type 0
+abbrev pub Run : {D I P X : Type 0} → Meaning D P (Lent X (Asks D I)) → Runs D I X → Outside P → List (LoopCall D P X I)
+    → List (LoopAnswer D P X I) → List (List (List (Change D I P))) → World D I P → World D I P → Type 0
 Run M runs O [] [] [] w w' = w' ≡ w
-Run M runs O (call ∷ calls) (answer ∷ answers) (css ∷ csss) w w' = Case M runs O call answer (seen w) css × Run M runs O calls answers csss (all_traced w css) w'
+Run M runs O (call ∷ calls) (answer ∷ answers) (css ∷ csss) w w' =
+    Case M runs O call answer (seen w) css × Run M runs O calls answers csss (all_traced w css) w'
 Run M runs O calls answers csss w w' = ⊥
 
 -- what a function of the loop did, by what is seen
-abbrev pub Did : {D I P : Type 0} → (View D I P → List (List (Change D I P)) → Type 0) → View D I P → View D I P → Type 0
+abbrev pub Did : {D I P : Type 0} → (View D I P → List (List (Change D I P)) → Type 0) → View D I P → View D I P
+    → Type 0
 Did {D} {I} {P} R old new = (css : List (List (Change D I P))) × R old css × (new ≡ traced old css)
 
 -- from every machine state that agrees with what the loop held, the call is a case, and ends in one that agrees again
-abbrev pub Leads : {D I P : Type 0} → (View D I P → List (List (Change D I P)) → Type 0) → View D I P → View D I P → Type 0
-Leads {D} {I} {P} R old new = (w : World D I P) → seen w ≡ old → (css : List (List (Change D I P))) × R (seen w) css × (seen (all_traced w css) ≡ new)
+abbrev pub Leads : {D I P : Type 0} → (View D I P → List (List (Change D I P)) → Type 0) → View D I P → View D I P
+    → Type 0
+Leads {D} {I} {P} R old new =
+    (w : World D I P) → seen w ≡ old
+    → (css : List (List (Change D I P))) × R (seen w) css × (seen (all_traced w css) ≡ new)
 
 -- within a dispatch
-abbrev pub Goes : {D I P X : Type 0} → Meaning D P (Lent X (Asks D I)) → Runs D I X → Outside P → Doing D X → Doing D X → View D I P → View D I P → Type 0
+abbrev pub Goes : {D I P X : Type 0} → Meaning D P (Lent X (Asks D I)) → Runs D I X → Outside P → Doing D X → Doing D X
+    → View D I P → View D I P → Type 0
 Goes M runs O a b old new = Did (λ v css. Steps M runs O v a css b) old new
 
 -- what handing out the first event leads to: another one, or the end where there was none, or an error
@@ -386,11 +561,16 @@ after_idle true x = RunningIdles x
 after_idle false x = Leaving (Ok tt) x
 
 -- the answer of an insertion of a source, where it is held with its callback
-abbrev pub held_answer : {D S F : Type 0} → (Dispatcher S F → D) → F → Result RegistrationToken (InsertError S) → Result RegistrationToken (InsertError D)
+abbrev pub held_answer : {D S F : Type 0} → (Dispatcher S F → D) → F → Result RegistrationToken (InsertError S)
+    → Result RegistrationToken (InsertError D)
 held_answer held f (Ok token) = Ok token
-held_answer held f (Err refused) = Err (record { inserted = held (record { source = refused.inserted; callback = f }); error = refused.error })
+held_answer held f (Err refused) =
+    Err (record { inserted = held (record { source = refused.inserted; callback = f }); error = refused.error })
 
 -- from every machine state that agrees, a list of calls is a run, which ends in one that agrees again
-abbrev pub RunLeads : {D I P X : Type 0} → Meaning D P (Lent X (Asks D I)) → Runs D I X → Outside P → List (LoopCall D P X I) → List (LoopAnswer D P X I) → View D I P → View D I P → Type 0
+abbrev pub RunLeads : {D I P X : Type 0} → Meaning D P (Lent X (Asks D I)) → Runs D I X → Outside P
+    → List (LoopCall D P X I) → List (LoopAnswer D P X I) → View D I P → View D I P → Type 0
 RunLeads {D} {I} {P} M runs O calls answers old new =
-    (w : World D I P) → seen w ≡ old → (csss : List (List (List (Change D I P)))) × (w' : World D I P) × Run M runs O calls answers csss w w' × (seen w' ≡ new)
+    (w : World D I P) → seen w ≡ old
+    → (csss : List (List (List (Change D I P)))) × (w' : World D I P) × Run M runs O calls answers csss w w'
+    × (seen w' ≡ new)

@@ -1,5 +1,5 @@
--- A loop that runs until it is stopped. When a signal comes no contract says, so how many dispatches there are is up to whoever has one, as
--- in calloop.
+-- A loop that runs until it is stopped. When a signal comes no contract says, so how many dispatches there are is up to
+-- whoever has one, as in calloop.
 use Rattle.std.specs.Prelude.{◌≡◌, List, [], ◌∷◌, Option, Result, Ok, Err}
 use Rattle.std.specs.declared.time.Duration.{Duration}
 use Rattle.calloop_wake.specs.declared.error.Error.{Error}
@@ -15,20 +15,24 @@ use Rattle.calloop.specs.Machine.{View}
 use Rattle.calloop.specs.Rules.{RunLeads}
 
 -- a call of a function: the function and the data before it, and both after it
-abbrev pub Called : (F X : Type 0) → Type 1
-Called F X = F → X → Unit {0} → F → X → Type 0
+abbrev pub RoundCall : (F X : Type 0) → Type 1
+RoundCall F X = F → X → Unit {0} → F → X → Type 0
 
--- the dispatches of a run, of this function and these data, with their answers: the function is called after each, with what the dispatch
--- left of the data; the first error ends the run without a call, and is its answer
-abbrev pub InTurn : {D I P X F : Type 0} → Called F X → Option Duration → F → X → List (LoopCall D P X I) → List (LoopAnswer D P X I) → Result (Unit {0}) Error → (left : X) → Type 0
+-- the dispatches of a run, of this function and these data, with their answers: the function is called after each, with
+-- what the dispatch left of the data; the first error ends the run without a call, and is its answer
+abbrev pub InTurn : {D I P X F : Type 0} → RoundCall F X → Option Duration → F → X → List (LoopCall D P X I)
+    → List (LoopAnswer D P X I) → Result (Unit {0}) Error → (left : X) → Type 0
 InTurn called timeout f x [] [] answer y = (answer ≡ Ok tt) × (y ≡ x)
 InTurn {D} {I} {P} {X} {F} called timeout f x (call ∷ calls) (Dispatched (Ok u) left ∷ answers) answer y =
-    (call ≡ Dispatch timeout x) × (g : F) × (next : X) × called f left tt g next × InTurn called timeout g next calls answers answer y
+    (call ≡ Dispatch timeout x) × (g : F) × (next : X) × called f left tt g next
+    × InTurn called timeout g next calls answers answer y
 InTurn called timeout f x (call ∷ calls) (Dispatched (Err e) left ∷ answers) answer y =
     (call ≡ Dispatch timeout x) × (calls ≡ []) × (answers ≡ []) × (answer ≡ Err e) × (y ≡ left)
 InTurn called timeout f x calls answers answer y = ⊥
 
 -- what a run of a loop may do, from what is seen of it and of the data before to both after
-abbrev pub RunsTo : {D I P X F : Type 0} → Meaning D P (Lent X (Asks D I)) → Runs D I X → Outside P → Called F X → Option Duration → F → X → View D I P → Result (Unit {0}) Error → (left : X) → View D I P → Type 0
+abbrev pub RunsTo : {D I P X F : Type 0} → Meaning D P (Lent X (Asks D I)) → Runs D I X → Outside P → RoundCall F X
+    → Option Duration → F → X → View D I P → Result (Unit {0}) Error → (left : X) → View D I P → Type 0
 RunsTo {D} {I} {P} {X} M runs O called timeout f x v answer y t =
-    (calls : List (LoopCall D P X I)) × (answers : List (LoopAnswer D P X I)) × InTurn called timeout f x calls answers answer y × RunLeads M runs O calls answers v t
+    (calls : List (LoopCall D P X I)) × (answers : List (LoopAnswer D P X I))
+    × InTurn called timeout f x calls answers answer y × RunLeads M runs O calls answers v t

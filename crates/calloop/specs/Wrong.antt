@@ -10,7 +10,7 @@ use Rattle.calloop_core.specs.Meanings.{Meaning, still}
 use Rattle.calloop_core.specs.Polls.{timer_event, Arm}
 use Rattle.calloop.specs.declared.loop_logic.asks.Answer.TheVariants.{Done}
 use Rattle.calloop.specs.Askings.{Asks, no_asks}
-use Rattle.calloop.specs.Ledgers.{Ledger, Arming, Origin, Due, Waiting, Called, new_ledger}
+use Rattle.calloop.specs.Ledgers.{Ledger, Arming, Origin, Due, Waiting, TimerCall, new_ledger}
 use Rattle.calloop.specs.Machine.{Registration}
 
 -- a token of slot 0 under version 0
@@ -43,24 +43,33 @@ gathered_at moment =
     record { event = timer_event (entry_of 0 (record { nanos = 5 }) first_token); origin = Due first_arming moment }
 
 -- a call for it
-abbrev pub first_call : Called
+abbrev pub first_call : TimerCall
 first_call = record { deadline = record { nanos = 5 }; arming = Some first_arming }
 
 -- one arming that waits in the batch, and was cut from it too
 abbrev pub in_two_places : Ledger
-in_two_places = record new_ledger { batch = gathered_at 5 ∷ []; cut = gathered_at 5 ∷ []; made = first_arming ∷ []; count = 1 }
+in_two_places =
+    record new_ledger { batch = gathered_at 5 ∷ []; cut = gathered_at 5 ∷ []; made = first_arming ∷ []; count = 1 }
 
 -- one arming that was called for twice
 abbrev pub called_twice : Ledger
-called_twice = record new_ledger { cut = gathered_at 5 ∷ []; made = first_arming ∷ []; count = 1; calls = first_call ∷ first_call ∷ [] }
+called_twice =
+    record new_ledger {
+      cut = gathered_at 5 ∷ [];
+      made = first_arming ∷ [];
+      count = 1;
+      calls = first_call ∷ first_call ∷ [];
+    }
 
 -- one that was called for, and gathered too early
 abbrev pub called_early : Ledger
-called_early = record new_ledger { cut = gathered_at 4 ∷ []; made = first_arming ∷ []; count = 1; calls = first_call ∷ [] }
+called_early =
+    record new_ledger { cut = gathered_at 4 ∷ []; made = first_arming ∷ []; count = 1; calls = first_call ∷ [] }
 
 -- one that was called for, and never gathered
 abbrev pub called_from_nowhere : Ledger
-called_from_nowhere = record new_ledger { cancelled = 0 ∷ []; made = first_arming ∷ []; count = 1; calls = first_call ∷ [] }
+called_from_nowhere =
+    record new_ledger { cancelled = 0 ∷ []; made = first_arming ∷ []; count = 1; calls = first_call ∷ [] }
 
 -- a source that is the key which it is registered under, and that stays as it is whatever is asked of it
 abbrev pub unmoved : Meaning ℕ (Unit {0}) (Lent (Unit {0}) (Unit {0}))

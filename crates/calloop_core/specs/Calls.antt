@@ -3,10 +3,20 @@
 use Rattle.std.specs.Prelude.{◌≡◌, ◌⊎◌, List, [], ◌∷◌, Result, Ok, Err}
 use Rattle.anyhow.specs.declared.error.Error.{Error as Cause}
 use Rattle.calloop_wake.specs.declared.error.Error.{Error}
-use Rattle.calloop_wake.specs.declared.error.Error.TheVariants.{InvalidToken, IoError, OtherError, OutOfMemory, TooManySources, TooManyTokens, TooManyTimers, TooManyTickets, OwnTurn}
+use Rattle.calloop_wake.specs.declared.error.Error.TheVariants.{
+  InvalidToken,
+  IoError,
+  OtherError,
+  OutOfMemory,
+  TooManySources,
+  TooManyTokens,
+  TooManyTimers,
+  TooManyTickets,
+  OwnTurn,
+}
 
 -- one call: the event, the metadata before and after it, and what the callback answered
-pub record Call (E M T : Type 0) : Type 0 where
+pub record CallbackCall (E M T : Type 0) : Type 0 where
   pub event : E
   pub before : M
   pub after : M
@@ -19,7 +29,7 @@ Calling F E M T X Q = F → E → M → X → Q → T → F → M → X → Q �
 
 -- callback, data and requests went through just these calls; what a call asks for is reached from what stood there
 abbrev pub Went : {F E M T X Q : Type 0} → Calling F E M T X Q → (Q → Q → Type 0)
-    → F → X → Q → List (Call E M T) → F → X → Q → Type 0
+    → F → X → Q → List (CallbackCall E M T) → F → X → Q → Type 0
 Went may reaches f x q [] g y r = (g ≡ f) × (y ≡ x) × (r ≡ q)
 Went {F} {E} {M} {T} {X} {Q} may reaches f x q (c ∷ cs) g y r =
     (f' : F) × (x' : X) × (q' : Q) × may f c.event c.before x q c.answer f' c.after x' q' × reaches q q'

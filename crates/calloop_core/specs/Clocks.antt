@@ -3,8 +3,8 @@ use Rattle.std.specs.Prelude.{ℕ, ◌-◌, ◌^◌, min, Option, Some, None}
 use Rattle.std.specs.Time.{instant_nanos}
 use Rattle.std.specs.declared.time.Instant.{Instant}
 
--- the nanoseconds from one reading of the machine's clock to another, at most 2^64 - 1; 0 where either failed, and where the
--- clock went back
+-- the nanoseconds from one reading of the machine's clock to another, at most 2^64 - 1; 0 where either failed, and
+-- where the clock went back
 abbrev pub nanos_between : (start read : Option Instant) → ℕ
 nanos_between None read = 0
 nanos_between (Some start) None = 0

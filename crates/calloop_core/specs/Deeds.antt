@@ -6,7 +6,7 @@ use Rattle.calloop_wake.specs.declared.token.Token.{Token}
 use Rattle.calloop_wake.specs.declared.token.TokenFactory.{TokenFactory}
 use Rattle.calloop_core.specs.declared.sys.Readiness.{Readiness}
 use Rattle.calloop_core.specs.declared.sources.PostAction.{PostAction}
-use Rattle.calloop_core.specs.Calls.{Call}
+use Rattle.calloop_core.specs.Calls.{CallbackCall}
 
 -- T is what a turn took and gave beside its event: `Heard` of a source, `Lent` of a dispatcher; a registration has
 -- the factory before and after it
@@ -22,10 +22,10 @@ pub data Deed (T : Type 0) : Type 0 where
 
 -- the turn of a source: the calls of its callback, and its answer
 pub record Heard (E M T Cause : Type 0) : Type 0 where
-  pub calls : List (Call E M T)
+  pub calls : List (CallbackCall E M T)
   pub answer : Result PostAction Cause
 
-abbrev pub heard : {E M T Cause : Type 0} → List (Call E M T) → Result PostAction Cause → Heard E M T Cause
+abbrev pub heard : {E M T Cause : Type 0} → List (CallbackCall E M T) → Result PostAction Cause → Heard E M T Cause
 heard calls answer = record { calls = calls; answer = answer }
 
 -- the turn of a dispatcher: the data and the requests that were lent, before and after it, and its answer

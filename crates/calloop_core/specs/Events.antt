@@ -1,5 +1,5 @@
--- The events of one registration, which a source is told of after a wait. calloop's `EventIterator` gives the events of the
--- poller and the timers; here posted keys come first.
+-- The events of one registration, which a source is told of after a wait. calloop's `EventIterator` gives the events of
+-- the poller and the timers; here posted keys come first.
 use Rattle.std.specs.Prelude.{List, map, filter, drop, Bool, ◌&&◌, nat_eq}
 use Rattle.calloop_wake.specs.declared.token.Token.{Token}
 use Rattle.calloop_wake.specs.declared.token.RegistrationToken.{RegistrationToken}

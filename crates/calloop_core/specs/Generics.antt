@@ -1,5 +1,5 @@
--- A socket as a source: its registration and its turn. calloop's `Generic` leaves its mode to the poller; here it keeps it, and
--- acts on its own token alone.
+-- A socket as a source: its registration and its turn. calloop's `Generic` leaves its mode to the poller; here it keeps
+-- it, and acts on its own token alone.
 use Rattle.std.specs.Prelude.{◌≡◌, ◌⊎◌, ◌∷◌, [], List, ℕ, true, false, Bool, Option, None, Some, Result, Ok, Err}
 use Rattle.std.specs.declared.io.Error.{Error as Cause}
 use Rattle.std.specs.declared.io.ErrorKind.{ErrorKind}
@@ -8,7 +8,7 @@ use Rattle.calloop_wake.specs.declared.error.Error.{Error}
 use Rattle.calloop_wake.specs.declared.error.Error.TheVariants.{TooManyTokens}
 use Rattle.calloop_wake.specs.declared.token.Token.{Token}
 use Rattle.calloop_wake.specs.declared.token.TokenFactory.{TokenFactory}
-use Rattle.calloop_wake.specs.Tokens.{next_token, after_token, key_of}
+use Rattle.calloop_wake.specs.Tokens.{next_token, after_token, key_of, most_tokens}
 use Rattle.calloop_wake.specs.Errors.{AsIo}
 use Rattle.calloop_core.specs.declared.sys.Mode.{Mode}
 use Rattle.calloop_core.specs.declared.sys.Mode.TheVariants.{OneShot, Level, Edge}
@@ -22,7 +22,7 @@ use Rattle.calloop_core.specs.Pollers.{Sockets}
 use Rattle.calloop_core.specs.Tables.{Edit, Enter, Change, Leave}
 use Rattle.calloop_core.specs.Polls.{PollView, PollStep, IsOfKind}
 use Rattle.calloop_core.specs.Registering.{Edits}
-use Rattle.calloop_core.specs.Calls.{Call as OneCall}
+use Rattle.calloop_core.specs.Calls.{CallbackCall}
 use Rattle.calloop_core.specs.Deeds.{Deed, Registered, Reregistered, Unregistered, Turned, Slept, Noticed, Heard}
 use Rattle.calloop_core.specs.Holdings.{holds_none}
 use Rattle.calloop_core.specs.Keys.{no_key}
@@ -43,8 +43,8 @@ heard_in Level heard = heard
 heard_in Edge heard = heard
 
 -- what its turn takes and gives: the calls of its callback, with the socket, and its answer
-abbrev pub Calls : (I E : Type 0) → Type 0
-Calls I E = List (OneCall Readiness (NoIoDrop I) (Result PostAction E))
+abbrev pub GenericCalls : (I E : Type 0) → Type 0
+GenericCalls I E = List (CallbackCall Readiness (NoIoDrop I) (Result PostAction E))
 
 module _ {P I E : Type 0} where
   abbrev pub watched_by : Generic P E I → Watched
@@ -69,7 +69,8 @@ module _ {P I E : Type 0} where
   left_as (Err e) io s = record s { io = socket io }
 
   -- refused with an error of this kind, and nothing was done
-  abbrev pub IsRefused : ErrorKind → Generic P E I → Result (Unit {0}) Error → List (PollStep P) → Generic P E I → Type 0
+  abbrev pub IsRefused : ErrorKind → Generic P E I → Result (Unit {0}) Error → List (PollStep P) → Generic P E I
+      → Type 0
   IsRefused kind s answer steps t = (e : Error) × (answer ≡ Err e) × IsOfKind kind e × (steps ≡ []) × (t ≡ s)
 
 module _ {P I E : Type 0} (sockets : Sockets P I) where
@@ -77,7 +78,7 @@ module _ {P I E : Type 0} (sockets : Sockets P I) where
   abbrev pub TakesToken : (Token → Edit) → Generic P E I → PollView P → TokenFactory
       → Result (Unit {0}) Error → List (PollStep P) → Generic P E I → TokenFactory → Type 0
   TakesToken edit s v f answer steps t g =
-      ((answer ≡ Err TooManyTokens) × (f.given ≡ 65535) × (steps ≡ []) × (t ≡ s) × (g ≡ f))
+      ((answer ≡ Err TooManyTokens) × (f.given ≡ most_tokens) × (steps ≡ []) × (t ≡ s) × (g ≡ f))
       ⊎ ((io : I) × Edits sockets v (edit (next_token f)) s.io.io answer steps io
       × (t ≡ entered_as answer (next_token f) io s) × (g ≡ after_token f))
 
@@ -90,7 +91,8 @@ module _ {P I E : Type 0} (sockets : Sockets P I) where
   abbrev pub ReregisteredFrom : Option Token → Generic P E I → PollView P → TokenFactory
       → Result (Unit {0}) Error → List (PollStep P) → Generic P E I → TokenFactory → Type 0
   ReregisteredFrom None s v f answer steps t g = IsRefused NotFound s answer steps t × (g ≡ f)
-  ReregisteredFrom (Some own) s v f answer steps t g = TakesToken (λ token. Change own token (watched_by s)) s v f answer steps t g
+  ReregisteredFrom (Some own) s v f answer steps t g =
+      TakesToken (λ token. Change own token (watched_by s)) s v f answer steps t g
 
   abbrev pub UnregisteredFrom : Option Token → Generic P E I → PollView P
       → Result (Unit {0}) Error → List (PollStep P) → Generic P E I → Type 0
@@ -111,7 +113,8 @@ module _ {P I E : Type 0} (sockets : Sockets P I) where
     ArmedBy OneShot token s v action answer steps t = (answer ≡ Ok action) × (steps ≡ []) × (t ≡ s)
     ArmedBy Edge token s v action answer steps t = (answer ≡ Ok action) × (steps ≡ []) × (t ≡ s)
     ArmedBy Level token s v action answer steps t =
-        (armed : Result (Unit {0}) Error) × (io : I) × Edits sockets v (Change token token (watched_by s)) s.io.io armed steps io
+        (armed : Result (Unit {0}) Error) × (io : I)
+        × Edits sockets v (Change token token (watched_by s)) s.io.io armed steps io
         × (t ≡ record s { io = socket io }) × ArmedAnswer armed action answer
 
     -- a callback's error is the turn's, and no poller is called
@@ -122,7 +125,7 @@ module _ {P I E : Type 0} (sockets : Sockets P I) where
 
     -- one call, with what was found and the socket, for an event that it hears
     pub record IsCalled
-        (s : Generic P E I) (v : PollView P) (readiness : Readiness) (token : Token) (calls : Calls I E)
+        (s : Generic P E I) (v : PollView P) (readiness : Readiness) (token : Token) (calls : GenericCalls I E)
         (answer : Result PostAction E) (steps : List (PollStep P)) (t : Generic P E I) : Type 0 where
       pub heard : Hears token s
       pub io : NoIoDrop I
@@ -132,7 +135,7 @@ module _ {P I E : Type 0} (sockets : Sockets P I) where
 
     -- no call
     pub record IsIgnored
-        (s : Generic P E I) (token : Token) (calls : Calls I E)
+        (s : Generic P E I) (token : Token) (calls : GenericCalls I E)
         (answer : Result PostAction E) (steps : List (PollStep P)) (t : Generic P E I) : Type 0 where
       pub unheard : ¬ Hears token s
       pub called : calls ≡ []

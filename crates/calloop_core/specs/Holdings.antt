@@ -6,23 +6,23 @@ use Rattle.calloop_core.specs.Polls.{PollStep, TakePass, PutBack, Arm, ArmAgain,
 
 -- a counter isn't held; or it is held, and its last arming was called for; or it is held, and its last arming, for
 -- this deadline, wasn't called for yet
-pub data Hold : Type 0 where
-  Free : Hold
-  Spent : Hold
-  Standing : (deadline : Instant) → Hold
+pub data Holding : Type 0 where
+  Free : Holding
+  Spent : Holding
+  Standing : (deadline : Instant) → Holding
 
-abbrev pub holds_none : ℕ → Hold
+abbrev pub holds_none : ℕ → Holding
 holds_none counter = Free
 
-abbrev pub with_hold : (counter : ℕ) → Hold → (ℕ → Hold) → ℕ → Hold
+abbrev pub with_hold : (counter : ℕ) → Holding → (ℕ → Holding) → ℕ → Holding
 with_hold counter h held c = if nat_eq c counter then h else held c
 
 -- no counter that wasn't given yet is held
-abbrev pub IsBelow : (next : ℕ) → (ℕ → Hold) → Type 0
+abbrev pub IsBelow : (next : ℕ) → (ℕ → Holding) → Type 0
 IsBelow next held = (counter : ℕ) → held counter ≢ Free → counter < next
 
 -- no more than this is held: a counter may be forgotten
-abbrev pub IsWithin : Hold → Hold → Type 0
+abbrev pub IsWithin : Holding → Holding → Type 0
 IsWithin Free h = Unit {0}
 IsWithin Spent h = h ≡ Spent
 IsWithin (Standing deadline) h = h ≡ Standing deadline
@@ -30,7 +30,7 @@ IsWithin (Standing deadline) h = h ≡ Standing deadline
 -- from what is held before, these steps lead to what is held after them, and each is of a counter that is held: an
 -- arming takes a new counter; a counter is armed again only after its call; a call is of an arming that wasn't
 -- called for yet, and with its deadline
-abbrev pub Keeps : {P : Type 0} → (ℕ → Hold) → (next : ℕ) → List (PollStep P) → (ℕ → Hold) → Type 0
+abbrev pub Keeps : {P : Type 0} → (ℕ → Holding) → (next : ℕ) → List (PollStep P) → (ℕ → Holding) → Type 0
 Keeps held next [] after = (counter : ℕ) → IsWithin (after counter) (held counter)
 Keeps held next (Arm deadline token ∷ ss) after = Keeps (with_hold next (Standing deadline) held) (next + 1) ss after
 Keeps held next (ArmAgain counter deadline token ∷ ss) after =

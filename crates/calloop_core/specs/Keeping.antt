@@ -1,5 +1,5 @@
--- A timer makes steps of its own counter alone, calls at most once for each arming, and stays at home. The impl cites these
--- proofs, so they stand here.
+-- A timer makes steps of its own counter alone, calls at most once for each arming, and stays at home. The impl cites
+-- these proofs, so they stand here.
 use Rattle.std.proofs.Common.{◌≡◌, ◌≢◌, inl, inr, ℕ, ◌++◌, List, Option, None, Some, Result, Ok, Err, refl, sym, ◌∙◌}
 use Rattle.std.proofs.Common.{ap, true, false, Bool, nat_eq, if◌then◌else◌, arith}
 use Rattle.std.proofs.lemmas.Bool.Decides.{nat_tests}
@@ -21,17 +21,17 @@ use Rattle.calloop_core.specs.Keys.{IsKeyOf, IsFactoryOf, AllActFor}
 use Rattle.calloop_core.specs.Lawful.{next_is_own}
 use Rattle.calloop_core.specs.Meanings.{IsKeeping, KeepsCounters, KeepsHome}
 use Rattle.calloop_core.specs.Polls.{PollView, PollStep}
-use Rattle.calloop_core.specs.Holdings.{Hold, Free, Spent, Standing, IsWithin, Keeps, with_hold}
-use Rattle.calloop_core.specs.Timers.{Calls, timer_holds, held_as, releases, Armed, ArmedAgain, ArmedFor, Answered}
+use Rattle.calloop_core.specs.Holdings.{Holding, Free, Spent, Standing, IsWithin, Keeps, with_hold}
+use Rattle.calloop_core.specs.Timers.{TimerCalls, timer_holds, held_as, releases, Armed, ArmedAgain, ArmedFor, Answered}
 use Rattle.calloop_core.specs.Timers.{IsTimerReg, IsTimerUnreg, IsTimerTurn, timer_keys, timer_meaning}
 
-within_same : (h : Hold) → IsWithin h h
+within_same : (h : Holding) → IsWithin h h
 within_same Free = tt
 within_same Spent = refl
 within_same (Standing deadline) = refl
 
 -- what holds one counter, within what holds it too
-within_one : (counter n : ℕ) (h : Hold) (held : ℕ → Hold)
+within_one : (counter n : ℕ) (h : Holding) (held : ℕ → Holding)
     → IsWithin (if nat_eq counter n then h else Free) (with_hold n h held counter)
 within_one counter n h held =
     elim (nat_eq counter n) as
@@ -40,7 +40,7 @@ within_one counter n h held =
 same_counter : (n : ℕ) → nat_eq n n ≡ true
 same_counter n = grind (arith, nat_tests)
 
-held_here : (n : ℕ) (h : Hold) (held : ℕ → Hold) → with_hold n h held n ≡ h
+held_here : (n : ℕ) (h : Holding) (held : ℕ → Holding) → with_hold n h held n ≡ h
 held_here n h held = ap (λ b. if b then h else held n) (same_counter n)
 
 own_state : (r : Registration) → held_as (Some r) r.counter ≡ (if r.spent then Spent else Standing r.armed)
@@ -50,7 +50,7 @@ not_free : (b : Bool) (at : Instant) → (if b then Spent else Standing at) ≢ 
 not_free true at e = cc
 not_free false at e = cc
 
-keeps_armed : {P : Type 0} (held : ℕ → Hold) (o : Option Instant) (next : ℕ) (f g : TokenFactory)
+keeps_armed : {P : Type 0} (held : ℕ → Holding) (o : Option Instant) (next : ℕ) (f g : TokenFactory)
     (a : Result (Unit {0}) Error) (l : List (PollStep P)) (t : Timer) → Armed o next f a l t g
     → Keeps held next l (timer_holds t)
 keeps_armed held None next f g a l t h = rw (h.1, h.2) (λ counter. tt)
@@ -58,8 +58,8 @@ keeps_armed held (Some at) next f g (Ok u) l t h =
     rw (h.0, h.1) (λ counter. within_one counter next (Standing at) held)
 keeps_armed held (Some at) next f g (Err e) l t h = rw (h.0, h.1) (λ counter. tt)
 
-keeps_released : {P : Type 0} (o : Option Registration) (next : ℕ) (more : List (PollStep P)) (after : ℕ → Hold)
-    → ((held : ℕ → Hold) → Keeps held next more after) → Keeps (held_as o) next (releases o ++ more) after
+keeps_released : {P : Type 0} (o : Option Registration) (next : ℕ) (more : List (PollStep P)) (after : ℕ → Holding)
+    → ((held : ℕ → Holding) → Keeps held next more after) → Keeps (held_as o) next (releases o ++ more) after
 keeps_released None next more after h = h (held_as None)
 keeps_released (Some r) next more after h =
     (λ e. not_free r.spent r.armed (sym (own_state r) ∙ e), h (with_hold r.counter Free (held_as (Some r))))
@@ -68,7 +68,7 @@ timer_reg_keeps : {P : Type 0} (s t : Timer) (v : PollView P) (f g : TokenFactor
     (l : List (PollStep P)) → IsTimerReg s v f a l t g → Keeps (timer_holds s) v.deadlines.next l (timer_holds t)
 timer_reg_keeps s t v f g a l h =
     let next = v.deadlines.next in
-    let armed : (held : ℕ → Hold) → Keeps held next h.0 (timer_holds t) =
+    let armed : (held : ℕ → Holding) → Keeps held next h.0 (timer_holds t) =
     λ held. keeps_armed held s.deadline next f g a h.0 t h.2 in
     rw h.1 (keeps_released s.registration next h.0 (timer_holds t) armed)
 
@@ -81,21 +81,21 @@ timer_unreg_keeps : {P : Type 0} (s t : Timer) (v : PollView P) (a : Result (Uni
     → IsTimerUnreg s a l t → Keeps (timer_holds s) v.deadlines.next l (timer_holds t)
 timer_unreg_keeps s t v a l h = rw (h.1, h.2) (only_released _ s.registration v.deadlines.next)
 
-keeps_again : {P : Type 0} (held : ℕ → Hold) (next : ℕ) (r : Registration) (at : Instant)
+keeps_again : {P : Type 0} (held : ℕ → Holding) (next : ℕ) (r : Registration) (at : Instant)
     (a : Result PostAction TimerError) (l : List (PollStep P)) (t : Timer) → held r.counter ≡ Spent
     → ArmedAgain r at a l t → Keeps held next l (timer_holds t)
 keeps_again held next r at (Ok x) l t mine h =
     rw (h.1, h.2) (mine, λ counter. within_one counter r.counter (Standing at) held)
 keeps_again held next r at (Err e) l t mine h = rw (h.0, h.1) (λ counter. tt)
 
-keeps_for : {P : Type 0} (held : ℕ → Hold) (next : ℕ) (r : Registration) (moment : Option Instant)
+keeps_for : {P : Type 0} (held : ℕ → Holding) (next : ℕ) (r : Registration) (moment : Option Instant)
     (a : Result PostAction TimerError) (l : List (PollStep P)) (t : Timer) → ArmedFor r moment a l t
     → Keeps (with_hold r.counter Spent held) next l (timer_holds t)
 keeps_for held next r (Some at) a l t h =
     keeps_again (with_hold r.counter Spent held) next r at a l t (held_here r.counter Spent held) h
 keeps_for held next r None a l t h = rw (h.1, h.2) (λ counter. within_one counter r.counter Spent held)
 
-keeps_answered : {P : Type 0} (held : ℕ → Hold) (next : ℕ) (s : Timer) (r : Registration) (x : TimeoutAction)
+keeps_answered : {P : Type 0} (held : ℕ → Holding) (next : ℕ) (s : Timer) (r : Registration) (x : TimeoutAction)
     (a : Result PostAction TimerError) (l : List (PollStep P)) (t : Timer) → Answered s r x a l t
     → Keeps (with_hold r.counter Spent held) next l (timer_holds t)
 keeps_answered held next s r Drop a l t h = rw (h.1, h.2) (λ counter. within_one counter r.counter Spent held)
@@ -104,7 +104,7 @@ keeps_answered held next s r (ToInstant at) a l t h =
 keeps_answered held next s r (ToDuration time) a l t h =
     rw h.3 (keeps_for held next r (moment_after h.0 time) a h.2 t h.4)
 
-timer_turn_keeps : {P : Type 0} (s t : Timer) (k : Token) (v : PollView P) (cs : Calls)
+timer_turn_keeps : {P : Type 0} (s t : Timer) (k : Token) (v : PollView P) (cs : TimerCalls)
     (a : Result PostAction TimerError) (l : List (PollStep P))
     → IsTimerTurn s k v cs a l t → Keeps (timer_holds s) v.deadlines.next l (timer_holds t)
 timer_turn_keeps s t k v cs a l (inl (r, h)) =
@@ -166,7 +166,7 @@ home_answered r s own (ToInstant at) a l t mine h = home_again r own at a l t mi
 home_answered r s own (ToDuration time) a l t mine h =
     let x = home_for r own (moment_after h.0 time) a h.2 t mine h.4 in (x.0, rw h.3 (tt, x.1))
 
-home_turn : {P : Type 0} (r : RegistrationToken) (s t : Timer) (k : Token) (v : PollView P) (cs : Calls)
+home_turn : {P : Type 0} (r : RegistrationToken) (s t : Timer) (k : Token) (v : PollView P) (cs : TimerCalls)
     (a : Result PostAction TimerError) (l : List (PollStep P)) → Home r s → IsTimerTurn s k v cs a l t
     → Home r t × AllActFor r l
 home_turn r s t k v cs a l home (inl (own, h)) =

@@ -4,14 +4,24 @@ use Rattle.std.specs.Prelude.{◌≡◌, ◌↔◌, ℕ, List, [], ◌∷◌, Re
 use Rattle.std.proofs.Common.{refl, sym, ap, subst, ◌∙◌, inl, inr}
 use Rattle.anyhow.specs.declared.error.Error.{Error as Cause}
 use Rattle.calloop_wake.specs.declared.error.Error.{Error}
-use Rattle.calloop_wake.specs.declared.error.Error.TheVariants.{InvalidToken, IoError, OtherError, OutOfMemory, TooManySources, TooManyTokens, TooManyTimers, TooManyTickets, OwnTurn}
+use Rattle.calloop_wake.specs.declared.error.Error.TheVariants.{
+  InvalidToken,
+  IoError,
+  OtherError,
+  OutOfMemory,
+  TooManySources,
+  TooManyTokens,
+  TooManyTimers,
+  TooManyTickets,
+  OwnTurn,
+}
 use Rattle.calloop_wake.specs.declared.token.RegistrationToken.{RegistrationToken}
 use Rattle.calloop_wake.specs.declared.token.TokenFactory.{TokenFactory}
 use Rattle.calloop_wake.specs.Tokens.{key_of, next_token}
 use Rattle.calloop_core.specs.declared.sources.OneOf.{OneOf}
 use Rattle.calloop_core.specs.declared.sources.OneOf.TheVariants.{First, Other}
 use Rattle.calloop_core.specs.Polls.{PollView}
-use Rattle.calloop_core.specs.Calls.{Call, Calling, Went, Becomes, IsOther, IsOfSource, AsOfSource}
+use Rattle.calloop_core.specs.Calls.{CallbackCall, Calling, Went, Becomes, IsOther, IsOfSource, AsOfSource}
 use Rattle.calloop_core.specs.Deeds.{Deed, Registered, Reregistered, Unregistered, Turned, Slept, Noticed}
 use Rattle.calloop_core.specs.Deeds.{Heard, Lent}
 use Rattle.calloop_core.specs.Keys.{IsKeyOf, IsFactoryOf}
@@ -107,7 +117,7 @@ keeping_with_callback m may reaches becomes k =
 -- what many calls ask for is reached too
 went_reaches : {F E M T X Q : Type 0} (may : Calling F E M T X Q) (reaches : Q → Q → Type 0)
     → ((q : Q) → reaches q q) → ((q r s : Q) → reaches q r → reaches r s → reaches q s)
-    → (f g : F) (x y : X) (q r : Q) (cs : List (Call E M T)) → Went may reaches f x q cs g y r → reaches q r
+    → (f g : F) (x y : X) (q r : Q) (cs : List (CallbackCall E M T)) → Went may reaches f x q cs g y r → reaches q r
 went_reaches may reaches stays goes_on f g x y q r [] h = rw h.2 (stays q)
 went_reaches may reaches stays goes_on f g x y q r (c ∷ cs) h =
     goes_on q h.2 r h.4 (went_reaches may reaches stays goes_on h.0 g h.1 y h.2 r cs h.5)

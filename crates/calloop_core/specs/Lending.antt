@@ -1,4 +1,5 @@
--- What a `Poll` becomes where its poller was lent, a dispatcher where its source was, and a socket's source where its socket was.
+-- What a `Poll` becomes where its poller was lent, a dispatcher where its source was, and a socket's source where its
+-- socket was.
 use Rattle.calloop_core.specs.declared.sys.poll.Poll.{Poll}
 use Rattle.calloop_core.specs.declared.sources.Dispatcher.{Dispatcher}
 use Rattle.calloop_core.specs.declared.generic.Generic.{Generic}

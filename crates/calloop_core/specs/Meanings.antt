@@ -14,13 +14,13 @@ use Rattle.calloop_core.specs.Polls.{PollView, PollStep, AllStepped}
 use Rattle.calloop_core.specs.Calls.{Calling, Went, Becomes, IsOfSource}
 use Rattle.calloop_core.specs.Deeds.{Deed, Registered, Reregistered, Unregistered, Turned, Slept, Noticed}
 use Rattle.calloop_core.specs.Deeds.{Heard, Lent}
-use Rattle.calloop_core.specs.Holdings.{Hold, Keeps, IsBelow, holds_none}
+use Rattle.calloop_core.specs.Holdings.{Holding, Keeps, IsBelow, holds_none}
 use Rattle.calloop_core.specs.Keys.{IsKeyOf, IsFactoryOf, AllActFor, no_key}
 
 -- D is the source or dispatcher, P the poller, T what a turn takes and gives
 pub record Meaning (D P T : Type 0) : Type 1 where
   -- the counters of timers that it holds
-  pub holds : D → ℕ → Hold
+  pub holds : D → ℕ → Holding
   -- the keys that it is registered under
   pub keys : D → ℕ → Type 0
   -- what has to be true of it besides, as that two timers within it hold different counters
@@ -56,7 +56,8 @@ BeginsIn at_home registration (Turned readiness token turn) = at_home
 BeginsIn at_home registration (Slept answer) = at_home
 BeginsIn at_home registration (Noticed events) = at_home
 
--- each deed that begins in a registration leaves it at home there, and arms deadlines under keys of that registration alone
+-- each deed that begins in a registration leaves it at home there, and arms deadlines under keys of that registration
+-- alone
 abbrev pub KeepsHome : {D P T : Type 0} → Meaning D P T → Type 0
 KeepsHome {D} {P} {T} m =
     (registration : RegistrationToken) (s t : D) (v : PollView P) (deed : Deed T) (steps : List (PollStep P))

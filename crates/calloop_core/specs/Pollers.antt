@@ -13,12 +13,17 @@ abbrev pub nanos_of : Option Duration → Option ℕ
 nanos_of None = None
 nanos_of (Some d) = Some (as_nanos d)
 
+-- the most events that one wait gives, as in calloop
+abbrev pub events_per_wait : ℕ
+events_per_wait = 1024
+
 -- an interest in anything
 abbrev pub asks : Interest → Bool
 asks interest = interest.readable || interest.writable
 
--- a call for a socket: from now on a wait gives its events under this key; its key or its interest is another; a wait gives none
--- of its events any more. calloop's poller names a socket by its descriptor; here it is lent beside the call.
+-- a call for a socket: from now on a wait gives its events under this key; its key or its interest is another; a wait
+-- gives none of its events any more. calloop's poller names a socket by its descriptor; here it is lent beside the
+-- call.
 pub data PollerCall : Type 0 where
   Add : (key : ℕ) (interest : Interest) → PollerCall
   Modify : (key : ℕ) (interest : Interest) → PollerCall
@@ -46,4 +51,5 @@ faults_of (Err cause) = 1
 -- each wait with a fault is counted, and an interruption is none
 abbrev pub IsCounted : ℕ → Result (Unit {0}) IoError → ℕ → Type 0
 IsCounted before (Ok u) after = after ≡ before
-IsCounted before (Err cause) after = (error_kind cause ≡ Interrupted → after ≡ before) × (¬ (error_kind cause ≡ Interrupted) → after ≡ before + 1)
+IsCounted before (Err cause) after =
+    (error_kind cause ≡ Interrupted → after ≡ before) × (¬ (error_kind cause ≡ Interrupted) → after ≡ before + 1)

@@ -1,7 +1,35 @@
 -- What a source reads of `Poll`, and what it can do to it; and what the loop does with the batch.
--- calloop's `Poll` stands on the machine's poller and on files for its pings; here pings have a board, which lies under a
--- lock and isn't seen, and the loop owns the batch that calloop hands out from a buffer.
-use Rattle.std.specs.Prelude.{◌≡◌, ℕ, ◌+◌, ◌-◌, ◌^◌, ◌≤◌, ◌<◌, List, [], ◌∷◌, ◌++◌, map, filter, length, not, nat_eq, Bool, true, false, Option, Some, None, Ok, Err, if◌then◌else◌, vec_capacity, ◌⊎◌}
+-- calloop's `Poll` stands on the machine's poller and on files for its pings; here pings have a board, which lies under
+-- a lock and isn't seen, and the loop owns the batch that calloop hands out from a buffer.
+use Rattle.std.specs.Prelude.{
+  ◌≡◌,
+  ℕ,
+  ◌+◌,
+  ◌-◌,
+  ◌^◌,
+  ◌≤◌,
+  ◌<◌,
+  List,
+  [],
+  ◌∷◌,
+  ◌++◌,
+  map,
+  filter,
+  length,
+  not,
+  nat_eq,
+  Bool,
+  true,
+  false,
+  Option,
+  Some,
+  None,
+  Ok,
+  Err,
+  if◌then◌else◌,
+  vec_capacity,
+  ◌⊎◌,
+}
 use Rattle.std.specs.Option.{option_map}
 use Rattle.std.specs.declared.io.Error.{Error as Cause}
 use Rattle.calloop_wake.specs.declared.error.Error.{Error}
@@ -12,7 +40,16 @@ use Rattle.std.specs.declared.io.ErrorKind.TheVariants.{AlreadyExists}
 use Rattle.calloop_wake.specs.declared.token.Token.{Token}
 use Rattle.calloop_wake.specs.declared.wheel.Entry.{Entry}
 use Rattle.calloop_wake.specs.declared.wheel.Instant.{Instant}
-use Rattle.calloop_wake.specs.Deadlines.{Deadlines, with_new, with_again, with_entries, cancelled, is_armed, due, not_due}
+use Rattle.calloop_wake.specs.Deadlines.{
+  Deadlines,
+  with_new,
+  with_again,
+  with_entries,
+  cancelled,
+  is_armed,
+  due,
+  not_due,
+}
 use Rattle.calloop_wake.specs.Tokens.{token_of, key_of}
 use Rattle.calloop_wake.specs.Passes.{Taken}
 use Rattle.calloop_wake.specs.Boards.{taken}
@@ -22,12 +59,12 @@ use Rattle.calloop_wake.specs.declared.wake.notes.Note.TheVariants.{Counted, Unp
 use Rattle.calloop_core.specs.declared.sys.Readiness.{Readiness}
 use Rattle.calloop_core.specs.declared.sys.poll.Pending.{Pending}
 use Rattle.calloop_core.specs.declared.sys.poll.Poll.{Poll}
-use Rattle.calloop_core.specs.Pollers.{Outside, PollerCall}
+use Rattle.calloop_core.specs.Pollers.{Outside, PollerCall, events_per_wait}
 use Rattle.calloop_core.specs.Tables.{Table, Edit, edited, cannot, call_of, Called}
 use Rattle.calloop_core.specs.Batches.{key_of_pass}
 
--- the poller, the table of sockets, the armed deadlines, the events that wait for their turn, the passes of the posted ones
--- among them in their order, and the pass of the event whose turn it is
+-- the poller, the table of sockets, the armed deadlines, the events that wait for their turn, the passes of the posted
+-- ones among them in their order, and the pass of the event whose turn it is
 pub record PollView (P : Type 0) : Type 0 where
   pub poller : P
   pub table : Table
@@ -41,7 +78,17 @@ pub record PollView (P : Type 0) : Type 0 where
   pub watch : Watch
 
 abbrev pub poll_view : {P C R : Type 0} → Poll P C R → PollView P
-poll_view p = record { poller = p.poller; table = p.table.entries; deadlines = p.wheel; batch = p.batch.events; passes = p.batch.passes; pass = p.batch.pass; places = p.places; watch = p.batch.watch }
+poll_view p =
+    record {
+      poller = p.poller;
+      table = p.table.entries;
+      deadlines = p.wheel;
+      batch = p.batch.events;
+      passes = p.batch.passes;
+      pass = p.batch.pass;
+      places = p.places;
+      watch = p.batch.watch;
+    }
 
 -- another pass, or none, for the event whose turn it is; the one before goes back to the board
 abbrev pub with_pass : {P : Type 0} → Option Taken → PollView P → PollView P
@@ -152,9 +199,10 @@ appended e v = record v { batch = v.batch ++ e ∷ [] }
 abbrev pub own_event : Readiness × Token → Pending
 own_event given = record { readiness = given.0; token = given.1; posted = false }
 
--- the posted keys, as far as there is room, and the deadlines that are due are taken, and the batch is what was left over, then the posted keys,
--- then what the poller gave, then the timers
-abbrev pub gathered : {P : Type 0} → (posted : List ℕ) → (given : List (ℕ × Readiness)) → (now : ℕ) → PollView P → PollView P
+-- the posted keys, as far as there is room, and the deadlines that are due are taken, and the batch is what was left
+-- over, then the posted keys, then what the poller gave, then the timers
+abbrev pub gathered : {P : Type 0} → (posted : List ℕ) → (given : List (ℕ × Readiness)) → (now : ℕ) → PollView P
+    → PollView P
 gathered posted given now v =
     record v {
       deadlines = with_entries (not_due now v.deadlines.entries) v.deadlines;
@@ -204,7 +252,7 @@ CannotOpen e = IsOfKind AlreadyExists e ⊎ (e ≡ OutOfMemory)
 
 -- there is room for what one poll can gather, and for so many events more
 pub record IsReady {P C R : Type 0} (more : ℕ) (p : Poll P C R) : Type 0 where
-  pub batch : more + (p.places + (1024 + length p.wheel.entries)) ≤ p.batch.room
+  pub batch : more + (p.places + (events_per_wait + length p.wheel.entries)) ≤ p.batch.room
   pub passes : p.places ≤ p.batch.pass_room
   pub events : p.events.items ≡ []
-  pub room : 1024 ≤ vec_capacity p.events
+  pub room : events_per_wait ≤ vec_capacity p.events

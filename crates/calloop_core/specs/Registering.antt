@@ -1,5 +1,5 @@
--- What the three calls of `Poll` for a socket do. calloop's poller is called at once and refuses by descriptor; here the table
--- refuses first, by key, then want of memory, then the poller; after a refusal the table is as it was.
+-- What the three calls of `Poll` for a socket do. calloop's poller is called at once and refuses by descriptor; here
+-- the table refuses first, by key, then want of memory, then the poller; after a refusal the table is as it was.
 use Rattle.std.specs.Prelude.{◌≡◌, ◌⊎◌, ◌∷◌, [], List, true, Option, None, Some, Result, Ok, Err}
 use Rattle.std.specs.declared.io.Error.{Error as Cause}
 use Rattle.std.specs.declared.io.ErrorKind.{ErrorKind}
@@ -21,11 +21,13 @@ pub record IsFaulted
   pub called : sockets v.poller io call (Err cause) after io'
   pub stepped : steps ≡ Fault call cause after ∷ []
 
--- what the table doesn't refuse is done, by one step; or there is no memory for a key that is new, and no poller was called
+-- what the table doesn't refuse is done, by one step; or there is no memory for a key that is new, and no poller was
+-- called
 abbrev pub Tried : {P I : Type 0} → Sockets P I → PollView P → Edit → I
     → Result (Unit {0}) Error → List (PollStep P) → I → Type 0
 Tried {P} sockets v edit io (Ok u) steps io' =
-    (after : P) × CalledFor sockets v.poller io (call_of edit v.table) (Ok tt) after io' × (steps ≡ Socket edit after ∷ [])
+    (after : P) × CalledFor sockets v.poller io (call_of edit v.table) (Ok tt) after io'
+    × (steps ≡ Socket edit after ∷ [])
 Tried sockets v edit io (Err e) steps io' =
     ((grows edit ≡ true) × (e ≡ OutOfMemory) × (steps ≡ []) × (io' ≡ io)) ⊎ IsFaulted sockets v edit io e steps io'
 

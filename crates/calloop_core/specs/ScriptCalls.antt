@@ -1,14 +1,22 @@
--- The calls for a socket that a scripted poller notes, and which of them are to fail: for tests, which calloop makes with
--- descriptors of the machine.
+-- The calls for a socket that a scripted poller notes, and which of them are to fail: for tests, which calloop makes
+-- with descriptors of the machine.
 use Rattle.std.specs.Prelude.{◌≡◌, ℕ, Bool, true, false, Result, Ok, Err}
 use Rattle.std.specs.declared.io.Error.{Error as IoError}
 use Rattle.std.specs.IoError.{error_kind}
 use Rattle.std.specs.declared.io.ErrorKind.TheVariants.{Other}
 use Rattle.calloop_core.specs.declared.sys.script.calls.ScriptFaults.{ScriptFaults}
 use Rattle.calloop_core.specs.declared.sys.script.calls.ScriptCall.{ScriptCall}
-use Rattle.calloop_core.specs.declared.sys.script.calls.ScriptCall.TheVariants.{Add as AddOf, Modify as ModifyOf, Delete as DeleteOf}
+use Rattle.calloop_core.specs.declared.sys.script.calls.ScriptCall.TheVariants.{
+  Add as AddOf,
+  Modify as ModifyOf,
+  Delete as DeleteOf,
+}
 use Rattle.calloop_core.specs.declared.sys.script.calls.ScriptKind.{ScriptKind}
-use Rattle.calloop_core.specs.declared.sys.script.calls.ScriptKind.TheVariants.{Add as AddKind, Modify as ModifyKind, Delete as DeleteKind}
+use Rattle.calloop_core.specs.declared.sys.script.calls.ScriptKind.TheVariants.{
+  Add as AddKind,
+  Modify as ModifyKind,
+  Delete as DeleteKind,
+}
 use Rattle.calloop_core.specs.Pollers.{PollerCall, Add, Modify, Delete}
 
 -- a call as the list shows it, for the socket of this number

@@ -1,5 +1,25 @@
 -- What a scripted poller's calls do: a tool for tests and traces, which calloop lacks.
-use Rattle.std.specs.Prelude.{◌≡◌, ℕ, ◌+◌, ◌-◌, ◌^◌, ◌++◌, ◌⊎◌, min, false, List, [], ◌∷◌, Option, Some, None, Result, Ok, Err, vec_capacity}
+use Rattle.std.specs.Prelude.{
+  ◌≡◌,
+  ℕ,
+  ◌+◌,
+  ◌-◌,
+  ◌^◌,
+  ◌++◌,
+  ◌⊎◌,
+  min,
+  false,
+  List,
+  [],
+  ◌∷◌,
+  Option,
+  Some,
+  None,
+  Result,
+  Ok,
+  Err,
+  vec_capacity,
+}
 use Rattle.std.specs.declared.io.Error.{Error as IoError}
 use Rattle.std.specs.IoError.{error_kind}
 use Rattle.std.specs.declared.io.ErrorKind.TheVariants.{Interrupted, Other, OutOfMemory}
@@ -23,16 +43,22 @@ moved moment (Some nanos) = min (moment + nanos) (2 ^ 64 - 1)
 -- what a wait answers and gives, by how its script ends it
 abbrev pub Ended : ScriptEnd → Result (Unit {0}) IoError → (given : List (ℕ × Readiness)) → Type 0
 Ended (Events events) answer given = (answer ≡ Ok tt) × (given ≡ events.events.items)
-Ended Interruption answer given = (cause : IoError) × (answer ≡ Err cause) × (error_kind cause ≡ Interrupted) × (given ≡ [])
+Ended Interruption answer given =
+    (cause : IoError) × (answer ≡ Err cause) × (error_kind cause ≡ Interrupted) × (given ≡ [])
 Ended Fault answer given = (cause : IoError) × (answer ≡ Err cause) × (error_kind cause ≡ Other) × (given ≡ [])
 
--- the answer and the events of a wait, the moment after it and the answers that are left, by the answers that there were
-abbrev pub Answered : List ScriptAnswer → ℕ → (asked : Option ℕ) → Result (Unit {0}) IoError → (given : List (ℕ × Readiness)) → ℕ → List ScriptAnswer → Type 0
-Answered [] moment asked answer given after left = (answer ≡ Ok tt) × (given ≡ []) × (after ≡ moved moment asked) × (left ≡ [])
-Answered (first ∷ answers) moment asked answer given after left = Ended first.end answer given × (after ≡ first.moment.nanos) × (left ≡ answers)
+-- the answer and the events of a wait, the moment after it and the answers that are left, by the answers that there
+-- were
+abbrev pub Answered : List ScriptAnswer → ℕ → (asked : Option ℕ) → Result (Unit {0}) IoError
+    → (given : List (ℕ × Readiness)) → ℕ → List ScriptAnswer → Type 0
+Answered [] moment asked answer given after left =
+    (answer ≡ Ok tt) × (given ≡ []) × (after ≡ moved moment asked) × (left ≡ [])
+Answered (first ∷ answers) moment asked answer given after left =
+    Ended first.end answer given × (after ≡ first.moment.nanos) × (left ≡ answers)
 
 -- one scripted wait; it notes what was asked
-pub record ScriptWaits (p : ScriptPoller) (asked : Option ℕ) (answer : Result (Unit {0}) IoError) (given : List (ℕ × Readiness)) (q : ScriptPoller) : Type 0 where
+pub record ScriptWaits (p : ScriptPoller) (asked : Option ℕ) (answer : Result (Unit {0}) IoError)
+    (given : List (ℕ × Readiness)) (q : ScriptPoller) : Type 0 where
   pub answered : Answered p.answers.items p.moment.nanos asked answer given q.moment.nanos q.answers.items
   pub timeout : Option Duration
   pub asked_is : nanos_of timeout ≡ asked
@@ -50,7 +76,8 @@ IsNoted p call answer q =
     × (cause : IoError) × (answer ≡ Err cause) × (error_kind cause ≡ OutOfMemory))
 
 -- one call for a socket
-pub record ScriptCalled (p : ScriptPoller) (call : ScriptCall) (answer : Result (Unit {0}) IoError) (q : ScriptPoller) : Type 0 where
+pub record ScriptCalled (p : ScriptPoller) (call : ScriptCall) (answer : Result (Unit {0}) IoError)
+    (q : ScriptPoller) : Type 0 where
   pub noted : IsNoted p call answer q
   pub moment : q.moment ≡ p.moment
   pub answers : q.answers ≡ p.answers

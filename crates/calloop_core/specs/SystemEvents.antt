@@ -6,7 +6,8 @@ use Rattle.mio.specs.Event as found
 use Rattle.calloop_core.specs.declared.sys.Readiness.{Readiness}
 use Rattle.calloop_core.specs.Polls.{is_for_a_token}
 
--- one that failed, or whose peer hung up, is ready for both, to an error or an end, as in calloop, which doesn't tell of an error
+-- one that failed, or whose peer hung up, is ready for both, to an error or an end, as in calloop, which doesn't tell
+-- of an error
 abbrev pub readiness_of : Event → Readiness
 readiness_of event = record {
   readable = found.is_readable event || found.is_read_closed event || found.is_error event;

@@ -1,5 +1,5 @@
--- What the calls of the machine's poller do, as far as a contract can see: which sockets it waits on, and what becomes ready, is the
--- machine's. calloop's poller is that of the crate polling, which makes the same calls of the system.
+-- What the calls of the machine's poller do, as far as a contract can see: which sockets it waits on, and what becomes
+-- ready, is the machine's. calloop's poller is that of the crate polling, which makes the same calls of the system.
 use Rattle.std.specs.Prelude.{◌≡◌, ℕ, Bool, true, false, List, [], Result, Err, OnErr}
 use Rattle.std.specs.declared.io.Error.{Error as IoError}
 use Rattle.std.specs.IoError.{error_kind}
@@ -18,12 +18,14 @@ can_ask (Modify key interest) = asks interest
 can_ask Delete = true
 
 -- one call for a socket: an empty interest is refused
-pub record SystemCalled {C : Type 0} (p : MioPoller C) (call : PollerCall) (answer : Result (Unit {0}) IoError) (q : MioPoller C) : Type 0 where
+pub record SystemCalled {C : Type 0} (p : MioPoller C) (call : PollerCall) (answer : Result (Unit {0}) IoError)
+    (q : MioPoller C) : Type 0 where
   pub refused : can_ask call ≡ false → (cause : IoError) × (answer ≡ Err cause) × (error_kind cause ≡ InvalidInput)
   pub poller : q ≡ record p { faults = q.faults }
 
 -- one wait: it gives what the machine found then, and nothing where it failed
-pub record SystemWaited {C : Type 0} (p : MioPoller C) (answer : Result (Unit {0}) IoError) (given : List (ℕ × Readiness)) (q : MioPoller C) : Type 0 where
+pub record SystemWaited {C : Type 0} (p : MioPoller C) (answer : Result (Unit {0}) IoError)
+    (given : List (ℕ × Readiness)) (q : MioPoller C) : Type 0 where
   pub told : given ≡ told_events (items q.found.events)
   pub fault : OnErr answer (given ≡ [])
   pub poller : q ≡ record p { poll = q.poll; found = q.found; faults = q.faults }

@@ -1,5 +1,24 @@
--- The table of sockets: under which key what is waited for. calloop's poller keeps it, by descriptor; here `Poll` does, by key.
-use Rattle.std.specs.Prelude.{◌≡◌, ℕ, ◌+◌, List, Bool, true, false, not, nat_eq, ◌&&◌, if◌then◌else◌, Option, None, Some, is_some, Result, Ok}
+-- The table of sockets: under which key what is waited for. calloop's poller keeps it, by descriptor; here `Poll` does,
+-- by key.
+use Rattle.std.specs.Prelude.{
+  ◌≡◌,
+  ℕ,
+  ◌+◌,
+  List,
+  Bool,
+  true,
+  false,
+  not,
+  nat_eq,
+  ◌&&◌,
+  if◌then◌else◌,
+  Option,
+  None,
+  Some,
+  is_some,
+  Result,
+  Ok,
+}
 use Rattle.std.specs.Ordering.{nat_cmp}
 use Rattle.std.specs.BTreeMap.{insert_entry, is_at}
 use Rattle.std.specs.Map.{lookup, remove_entry}
@@ -90,6 +109,7 @@ Called O p None answer q = (answer ≡ Ok tt) × (q ≡ p)
 Called O p (Some call) answer q = O.calls p call answer q × (O.faults q ≡ O.faults p + faults_of answer)
 
 -- the same, with the socket
-abbrev pub CalledFor : {P I : Type 0} → Sockets P I → P → I → Option PollerCall → Result (Unit {0}) Cause → P → I → Type 0
+abbrev pub CalledFor : {P I : Type 0} → Sockets P I → P → I → Option PollerCall → Result (Unit {0}) Cause → P → I
+    → Type 0
 CalledFor sockets p io None answer q after = (answer ≡ Ok tt) × (q ≡ p) × (after ≡ io)
 CalledFor sockets p io (Some call) answer q after = sockets p io call answer q after

@@ -8,7 +8,7 @@ use Rattle.calloop_wake.specs.declared.token.Token.{Token}
 use Rattle.calloop_wake.specs.declared.token.TokenFactory.{TokenFactory}
 use Rattle.calloop_wake.specs.declared.wheel.Instant.{Instant}
 use Rattle.calloop_wake.specs.Deadlines.{is_armed, moment_after, CannotArm}
-use Rattle.calloop_wake.specs.Tokens.{key_of, next_token, after_token}
+use Rattle.calloop_wake.specs.Tokens.{key_of, next_token, after_token, most_tokens}
 use Rattle.calloop_core.specs.declared.sources.PostAction.{PostAction}
 use Rattle.calloop_core.specs.declared.sources.PostAction.TheVariants.{Continue, Remove}
 use Rattle.calloop_core.specs.declared.timer.TimeoutAction.{TimeoutAction}
@@ -16,8 +16,8 @@ use Rattle.calloop_core.specs.declared.timer.TimeoutAction.TheVariants.{Drop, To
 use Rattle.calloop_core.specs.declared.timer.TimerError.{TimerError}
 use Rattle.calloop_core.specs.declared.timer.Timer.{Timer}
 use Rattle.calloop_core.specs.declared.timer.Registration.{Registration}
-use Rattle.calloop_core.specs.Calls.{Call as OneCall}
-use Rattle.calloop_core.specs.Holdings.{Hold, Free, Spent, Standing}
+use Rattle.calloop_core.specs.Calls.{CallbackCall}
+use Rattle.calloop_core.specs.Holdings.{Holding, Free, Spent, Standing}
 use Rattle.calloop_core.specs.Keys.{no_key}
 use Rattle.calloop_core.specs.Deeds.{Deed, Registered, Reregistered, Unregistered, Turned, Slept, Noticed, Heard}
 use Rattle.calloop_core.specs.Meanings.{Meaning}
@@ -39,12 +39,12 @@ abbrev pub armed_for : (deadline : Instant) → Registration → Registration
 armed_for deadline r = record r { armed = deadline; spent = false }
 
 -- the counter that a timer holds
-abbrev pub held_as : Option Registration → ℕ → Hold
+abbrev pub held_as : Option Registration → ℕ → Holding
 held_as None counter = Free
 held_as (Some r) counter =
     if nat_eq counter r.counter then (if r.spent then Spent else Standing r.armed) else Free
 
-abbrev pub timer_holds : Timer → ℕ → Hold
+abbrev pub timer_holds : Timer → ℕ → Holding
 timer_holds t = held_as t.registration
 
 -- the key of the token that it was armed under, also after its call
@@ -56,8 +56,8 @@ abbrev pub timer_keys : Timer → (key : ℕ) → Type 0
 timer_keys t = registered_under t.registration
 
 -- the calls of a timer's callback
-abbrev pub Calls : Type 0
-Calls = List (OneCall Instant (Unit {0}) TimeoutAction)
+abbrev pub TimerCalls : Type 0
+TimerCalls = List (CallbackCall Instant (Unit {0}) TimeoutAction)
 
 -- what takes the older arming back
 abbrev pub releases : {P : Type 0} → Option Registration → List (PollStep P)
@@ -67,7 +67,7 @@ releases (Some r) = Cancel r.counter ∷ []
 -- why a timer can't be armed: the factory has no more tokens, or the wheel refuses
 abbrev pub RefusedTimer : TokenFactory → (next : ℕ) → Error → TokenFactory → Type 0
 RefusedTimer f next e g =
-    ((e ≡ TooManyTokens) × (f.given ≡ 65535) × (g ≡ f)) ⊎ (CannotArm next e × (g ≡ after_token f))
+    ((e ≡ TooManyTokens) × (f.given ≡ most_tokens) × (g ≡ f)) ⊎ (CannotArm next e × (g ≡ after_token f))
 
 -- armed for its deadline under the next counter, where it has one
 abbrev pub Armed : {P : Type 0} → (deadline : Option Instant) → (next : ℕ) → TokenFactory
@@ -113,7 +113,7 @@ Answered {P} s r (ToDuration time) answer steps t =
 
 -- one call, with the armed deadline, and what follows from its answer
 pub record IsCalled
-    {P : Type 0} (s : Timer) (token : Token) (v : PollView P) (calls : Calls)
+    {P : Type 0} (s : Timer) (token : Token) (v : PollView P) (calls : TimerCalls)
     (answer : Result PostAction TimerError) (steps : List (PollStep P)) (t : Timer) (r : Registration) : Type 0 where
   pub registered : s.registration ≡ Some r
   pub named : r.token ≡ token
@@ -127,7 +127,7 @@ pub record IsCalled
 
 -- no call: the token isn't the timer's, its arming was called for, or its counter has a deadline
 pub record IsIgnored
-    {P : Type 0} (s : Timer) (token : Token) (v : PollView P) (calls : Calls)
+    {P : Type 0} (s : Timer) (token : Token) (v : PollView P) (calls : TimerCalls)
     (answer : Result PostAction TimerError) (steps : List (PollStep P)) (t : Timer) : Type 0 where
   pub why : (r : Registration) → s.registration ≡ Some r → r.token ≡ token → r.spent ≡ false
       → is_armed r.counter v.deadlines ≡ true
@@ -136,7 +136,7 @@ pub record IsIgnored
   pub no_steps : steps ≡ []
   pub same : t ≡ s
 
-abbrev pub IsTimerTurn : {P : Type 0} → Timer → Token → PollView P → Calls
+abbrev pub IsTimerTurn : {P : Type 0} → Timer → Token → PollView P → TimerCalls
     → Result PostAction TimerError → List (PollStep P) → Timer → Type 0
 IsTimerTurn s token v calls answer steps t =
     ((r : Registration) × IsCalled s token v calls answer steps t r) ⊎ IsIgnored s token v calls answer steps t

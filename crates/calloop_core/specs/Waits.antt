@@ -1,7 +1,29 @@
 -- How long the loop waits, and what ends a wait. calloop asks for the lesser of its timeout and the first deadline too.
--- After an interruption it waits again, but takes the time since the start off what it had left by then, and where nothing is
--- left it returns without the timers that are due; here the time that is left is counted from the start each time.
-use Rattle.std.specs.Prelude.{◌≡◌, ℕ, ◌+◌, ◌-◌, min, List, [], ◌∷◌, Bool, false, ◌||◌, nat_eq, Option, Some, None, Result, Ok, Err, if◌then◌else◌, MatchBool}
+-- After an interruption it waits again, but takes the time since the start off what it had left by then, and where
+-- nothing is left it returns without the timers that are due; here the time that is left is counted from the start each
+-- time.
+use Rattle.std.specs.Prelude.{
+  ◌≡◌,
+  ℕ,
+  ◌+◌,
+  ◌-◌,
+  min,
+  List,
+  [],
+  ◌∷◌,
+  Bool,
+  false,
+  ◌||◌,
+  nat_eq,
+  Option,
+  Some,
+  None,
+  Result,
+  Ok,
+  Err,
+  if◌then◌else◌,
+  MatchBool,
+}
 use Rattle.std.specs.declared.io.Error.{Error as Cause}
 use Rattle.std.specs.declared.io.ErrorKind.TheVariants.{Interrupted}
 use Rattle.std.specs.IoError.{error_kind}
@@ -34,7 +56,8 @@ lesser (Some a) (Some b) = Some (min a b)
 -- caller's timeout and the time to the first deadline; no limit without either
 abbrev pub asked_for : {P : Type 0} → PollView P → (posted : Bool) → (timeout : Option ℕ) → (start now : ℕ) → Option ℕ
 asked_for v posted timeout start now =
-    if is_filled v.batch || posted then Some 0 else lesser (time_left timeout start now) (time_to_first v.deadlines.entries now)
+    if is_filled v.batch || posted then Some 0
+    else lesser (time_left timeout start now) (time_to_first v.deadlines.entries now)
 
 abbrev pub is_zero : Option ℕ → Bool
 is_zero None = false
@@ -54,10 +77,12 @@ pub record Interruption (P : Type 0) : Type 0 where
   pub posted : Bool
 
 -- with this wait asked first, and with these interruptions: the moment of the gathering or a fault, the events, and the
--- poller then. The clock is read after each interruption and after the last answer. An interruption looks at the board and
--- asks anew, and counts as an empty answer where nothing is left to wait for.
-abbrev pub Waits : {P : Type 0} → Outside P → PollView P → (timeout : Option ℕ) → (start : ℕ) → (asked : Option ℕ) → P → List (Interruption P) → Result ℕ Cause → List (ℕ × Readiness) → P → Type 0
-Waits {P} O v timeout start asked p [] (Ok later) given q = (w : P) × O.waits p asked (Ok tt) given w × O.reads w later q
+-- poller then. The clock is read after each interruption and after the last answer. An interruption looks at the board
+-- and asks anew, and counts as an empty answer where nothing is left to wait for.
+abbrev pub Waits : {P : Type 0} → Outside P → PollView P → (timeout : Option ℕ) → (start : ℕ) → (asked : Option ℕ) → P
+    → List (Interruption P) → Result ℕ Cause → List (ℕ × Readiness) → P → Type 0
+Waits {P} O v timeout start asked p [] (Ok later) given q =
+    (w : P) × O.waits p asked (Ok tt) given w × O.reads w later q
 Waits O v timeout start asked p [] (Err cause) given q = O.waits p asked (Err cause) given q × (¬ IsInterruption cause)
 Waits O v timeout start asked p (i ∷ is) answer given q =
     O.waits p asked (Err i.cause) i.given i.waited × IsInterruption i.cause × O.reads i.waited i.now i.read
@@ -70,19 +95,22 @@ abbrev pub looked : {P : Type 0} → List (Interruption P) → Watch → Watch
 looked [] w = w
 looked (i ∷ is) w = looked is (noted (Looked i.posted) w)
 
--- a whole wait: the clock is read once at the start, and the board is looked at; the watch notes this look and one for each
--- interruption, and no more; a fault is one more in the poller's count, and nothing else is
-abbrev pub Waited : {P : Type 0} → Outside P → PollView P → (timeout : Option ℕ) → Result ℕ Cause → List (ℕ × Readiness) → P → Watch → Type 0
+-- a whole wait: the clock is read once at the start, and the board is looked at; the watch notes this look and one for
+-- each interruption, and no more; a fault is one more in the poller's count, and nothing else is
+abbrev pub Waited : {P : Type 0} → Outside P → PollView P → (timeout : Option ℕ) → Result ℕ Cause → List (ℕ × Readiness)
+    → P → Watch → Type 0
 Waited {P} O v timeout answer given q w =
     (start : ℕ) × (p : P) × O.reads v.poller start p × (posted : Bool) × (interruptions : List (Interruption P))
     × Waits O v timeout start (asked_for v posted timeout start start) p interruptions answer given q
     × (w ≡ looked interruptions (noted (Looked posted) v.watch)) × (O.faults q ≡ O.faults v.poller + faults_of answer)
 
 -- a wait and, where it had no fault, the gathering, of the keys that the board then gives, ascending
-abbrev pub Polled : {P : Type 0} → Outside P → (timeout : Option ℕ) → Result (Unit {0}) Error → PollView P → PollView P → Type 0
+abbrev pub Polled : {P : Type 0} → Outside P → (timeout : Option ℕ) → Result (Unit {0}) Error → PollView P → PollView P
+    → Type 0
 Polled {P} O timeout (Ok u) v v' =
     (now : ℕ) × (given : List (ℕ × Readiness)) × (p : P) × (w : Watch) × Waited O v timeout (Ok now) given p w
     × (posted : List ℕ) × IsRising posted × (v' ≡ gathered posted given now (watching w (polling p v)))
 Polled {P} O timeout (Err e) v v' =
-    (given : List (ℕ × Readiness)) × (p : P) × (w : Watch) × (cause : Cause) × (e ≡ IoError cause) × Waited O v timeout (Err cause) given p w
+    (given : List (ℕ × Readiness)) × (p : P) × (w : Watch) × (cause : Cause) × (e ≡ IoError cause)
+    × Waited O v timeout (Err cause) given p w
     × (v' ≡ watching w (polling p v))

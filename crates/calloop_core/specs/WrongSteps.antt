@@ -1,4 +1,5 @@
--- A small case that the law on keys rules out: a socket that is entered under a key of another registration. calloop has no such law.
+-- A small case that the law on keys rules out: a socket that is entered under a key of another registration. calloop
+-- has no such law.
 use Rattle.std.specs.Prelude.{List, [], ◌∷◌, true, false}
 use Rattle.calloop_wake.specs.declared.token.Token.{Token}
 use Rattle.calloop_wake.specs.declared.token.RegistrationToken.{RegistrationToken}

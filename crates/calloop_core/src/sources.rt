@@ -117,7 +117,7 @@ pub trait EventSource<P: Poller, C, R: Wait + Drop> {
     ghost use Rattle.std.specs.Prelude.{◌≡◌, List, []};
     ghost use Rattle.calloop_core.specs.Polls.{PollView, poll_view};
     ghost use Rattle.calloop_core.specs.Events.{events_left};
-    ghost use Rattle.calloop_core.specs.Calls.{Call, Went};
+    ghost use Rattle.calloop_core.specs.Calls.{CallbackCall, Went};
     ghost use Rattle.calloop_core.specs.Deeds.{Registered, Reregistered, Unregistered, Turned, Slept, Noticed, Heard, heard};
     ghost use Rattle.calloop_core.specs.Meanings.{Meaning, Does, IsKeeping};
 
@@ -148,7 +148,7 @@ pub trait EventSource<P: Poller, C, R: Wait + Drop> {
     where
         Q: Asking,
         F: Callback<Self::Event, Self::Metadata, Self::Ret, X, Q>,
-        ensures { (calls : List (Call Self.Event Self.Metadata Self.Ret))
+        ensures { (calls : List (CallbackCall Self.Event Self.Metadata Self.Ret))
             × Does P.outside means self.old (poll_view poll.old) (Turned readiness token (heard calls result)) self.new (poll_view poll.new)
             × Went F.may Q.reaches callback.old «data».old requests.old calls callback.new «data».new requests.new };
 
@@ -329,13 +329,9 @@ where
         data: &mut X,
         requests: &mut Q,
     ) -> LoopResult<PostAction> {
-        match self
-            .source
+        self.source
             .process_events(readiness, token, poll, &mut self.callback, data, requests)
-        {
-            Ok(action) => Ok(action),
-            Err(cause) => Err(cause.into_error()),
-        }
+            .map_err(|cause| cause.into_error())
     }
 
     fn needs_extra_lifecycle_events(&self) -> bool {

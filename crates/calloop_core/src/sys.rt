@@ -118,7 +118,7 @@ pub trait Poller: Drop {
     ghost use Rattle.std.specs.Prelude.{◌≡◌, ℕ, ◌+◌, ◌≤◌, ◌++◌, List, length, vec_len, vec_capacity};
     ghost use Rattle.std.specs.Prelude.{IfErr};
     ghost use Rattle.calloop_wake.specs.declared.error.Error.TheVariants.{OutOfMemory};
-    ghost use Rattle.calloop_core.specs.Pollers.{Outside, Sockets, Add, Modify, Delete, IsCounted, faults_of, nanos_of};
+    ghost use Rattle.calloop_core.specs.Pollers.{Outside, Sockets, Add, Modify, Delete, IsCounted, faults_of, nanos_of, events_per_wait};
     ghost use Rattle.calloop_core.specs.declared.sys.Readiness.{Readiness};
 
     /// What it waits on: a socket.
@@ -163,8 +163,8 @@ pub trait Poller: Drop {
         timeout: Option<Duration>,
         events: &mut Vec<(u64, Readiness)>,
     ) -> io::Result<()>
-        requires { vec_len events.old + 1024 ≤ vec_capacity events.old }
-        ensures waits { (given : List (ℕ × Readiness)) × outside.waits self.old (nanos_of timeout) result given self.new × (events.new.items ≡ events.old.items ++ given) × (length given ≤ 1024) }
+        requires { vec_len events.old + events_per_wait ≤ vec_capacity events.old }
+        ensures waits { (given : List (ℕ × Readiness)) × outside.waits self.old (nanos_of timeout) result given self.new × (events.new.items ≡ events.old.items ++ given) × (length given ≤ events_per_wait) }
         ensures room { vec_capacity events.old ≤ vec_capacity events.new }
         ensures faults { IsCounted (outside.faults self.old) result (outside.faults self.new) };
 

@@ -4,7 +4,7 @@ ghost use Rattle.calloop_wake.specs.declared.wheel.Instant.{Instant};
 ghost use Rattle.calloop_wake.specs.declared.error.Error.TheVariants.{OutOfMemory};
 ghost use Rattle.calloop_wake.specs.Deadlines.{is_armed, moment_after};
 ghost use Rattle.calloop_core.specs.Polls.{PollView, PollStep, poll_view, AllStepped};
-ghost use Rattle.calloop_core.specs.Calls.{Call, Went};
+ghost use Rattle.calloop_core.specs.Calls.{CallbackCall, Went};
 ghost use Rattle.calloop_core.specs.declared.timer.TimeoutAction.{TimeoutAction};
 ghost use Rattle.calloop_core.specs.Timers.{unarmed, releases, Armed, ArmedAgain, Answered, timer_holds, IsTimerReg, IsTimerUnreg, IsTimerTurn};
 

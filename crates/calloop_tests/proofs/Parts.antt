@@ -14,7 +14,7 @@ use Rattle.calloop_core.specs.Polls.{PollView, PollStep, AllStepped}
 use Rattle.calloop_wake.specs.declared.token.Token.{Token}
 use Rattle.calloop_core.specs.declared.sys.Readiness.{Readiness}
 use Rattle.calloop_core.specs.declared.sources.PostAction.TheVariants.{Continue}
-use Rattle.calloop_core.specs.Calls.{Call, Went}
+use Rattle.calloop_core.specs.Calls.{CallbackCall, Went}
 use Rattle.calloop_core.specs.Deeds.{Deed, Turned, heard}
 use Rattle.calloop_core.specs.Meanings.{Meaning, Does}
 use Rattle.calloop_core.specs.Timers.{timer_meaning}
@@ -63,7 +63,7 @@ asked O whole s t v u w x b f g = (
 )
 
 -- what a callback that notes its event has noted after these calls
-pub noted : {N E M T X Q : Type 0} (event : N → Option E) (reaches : Q → Q → Type 0) (s t : N) (x y : X) (q r : Q) (cs : List (Call E M T))
+pub noted : {N E M T X Q : Type 0} (event : N → Option E) (reaches : Q → Q → Type 0) (s t : N) (x y : X) (q r : Q) (cs : List (CallbackCall E M T))
     → Went (λ s e m x q a t n y r. event t ≡ Some e) reaches s x q cs t y r → event t ≡ after_calls (event s) cs
 noted event reaches s t x y q r [] h = ap event h.0
 noted event reaches s t x y q r (c ∷ cs) h =

@@ -22,20 +22,30 @@ Guards s v (Unregistered answer) steps t =
 Guards s v (Slept answer) steps t = (answer ≡ Ok None) × (steps ≡ []) × (t ≡ s)
 Guards s v (Noticed events) steps t = (steps ≡ []) × (t ≡ s)
 Guards s v (Turned readiness token turn) steps t =
-    ((answer : Result PostAction PingError) × IsPing s.ping v (Turned readiness token (heard turn.calls answer)) steps t.ping)
+    ((answer : Result PostAction PingError)
+    × IsPing s.ping v (Turned readiness token (heard turn.calls answer)) steps t.ping)
     ⊎ (IsErr turn.answer × (turn.calls ≡ []) × (steps ≡ []) × (t.ping ≡ s.ping))
 
 abbrev pub guarded_meaning : {P R : Type 0}
     → Meaning (Guarded R) P (Heard (Unit {0}) (Unit {0}) (Unit {0}) Broken)
 guarded_meaning =
-    record { holds = λ s. holds_none; keys = λ s. ping_keys s.ping; fits = λ s. Unit {0}; needs = λ s. false; does = Guards }
+    record {
+      holds = λ s. holds_none;
+      keys = λ s. ping_keys s.ping;
+      fits = λ s. Unit {0};
+      needs = λ s. false;
+      does = Guards;
+    }
 
 -- Proofs, which the impl cites.
 
 guarded_counts : {P R : Type 0} → KeepsCounters (guarded_meaning {P = P} {R = R})
-guarded_counts s t v (Registered f a g) l fits below h = ping_keeps.counters s.ping t.ping v (Registered f a g) l fits below h
-guarded_counts s t v (Reregistered f a g) l fits below h = ping_keeps.counters s.ping t.ping v (Reregistered f a g) l fits below h
-guarded_counts s t v (Unregistered a) l fits below (inl h) = ping_keeps.counters s.ping t.ping v (Unregistered a) l fits below h
+guarded_counts s t v (Registered f a g) l fits below h =
+    ping_keeps.counters s.ping t.ping v (Registered f a g) l fits below h
+guarded_counts s t v (Reregistered f a g) l fits below h =
+    ping_keeps.counters s.ping t.ping v (Reregistered f a g) l fits below h
+guarded_counts s t v (Unregistered a) l fits below (inl h) =
+    ping_keeps.counters s.ping t.ping v (Unregistered a) l fits below h
 guarded_counts s t v (Unregistered a) l fits below (inr h) = (tt, rw h.0 (λ counter. tt))
 guarded_counts s t v (Slept a) l fits below h = (tt, rw h.1 (λ counter. tt))
 guarded_counts s t v (Noticed es) l fits below h = (tt, rw h.0 (λ counter. tt))
@@ -44,9 +54,12 @@ guarded_counts s t v (Turned r k turn) l fits below (inl h) =
 guarded_counts s t v (Turned r k turn) l fits below (inr h) = (tt, rw h.2 (λ counter. tt))
 
 guarded_stays : {P R : Type 0} → KeepsHome (guarded_meaning {P = P} {R = R})
-guarded_stays r s t v (Registered f (Ok u) g) l begins h = ping_keeps.home r s.ping t.ping v (Registered f (Ok u) g) l begins h
-guarded_stays r s t v (Registered f (Err e) g) l begins h = ping_keeps.home r s.ping t.ping v (Registered f (Err e) g) l begins h
-guarded_stays r s t v (Reregistered f a g) l begins h = ping_keeps.home r s.ping t.ping v (Reregistered f a g) l begins h
+guarded_stays r s t v (Registered f (Ok u) g) l begins h =
+    ping_keeps.home r s.ping t.ping v (Registered f (Ok u) g) l begins h
+guarded_stays r s t v (Registered f (Err e) g) l begins h =
+    ping_keeps.home r s.ping t.ping v (Registered f (Err e) g) l begins h
+guarded_stays r s t v (Reregistered f a g) l begins h =
+    ping_keeps.home r s.ping t.ping v (Reregistered f a g) l begins h
 guarded_stays r s t v (Unregistered a) l home (inl h) = ping_keeps.home r s.ping t.ping v (Unregistered a) l home h
 guarded_stays r s t v (Unregistered a) l home (inr h) = rw (h.0, h.1) (home, tt)
 guarded_stays r s t v (Slept a) l home h = rw (h.1, h.2) (home, tt)

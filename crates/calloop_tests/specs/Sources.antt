@@ -25,7 +25,8 @@ Counts s v (Turned readiness token turn) t =
     turn.calls ≡ record { event = t.turns; before = tt; after = tt; answer = tt } ∷ []
 
 -- a turn hands out how many waits there were, and waits alone change that number
-abbrev pub Attends : {P : Type 0} → Attendant → PollView P → Deed (Heard ℕ (Unit {0}) (Unit {0}) Broken) → Attendant → Type 0
+abbrev pub Attends : {P : Type 0} → Attendant → PollView P → Deed (Heard ℕ (Unit {0}) (Unit {0}) Broken) → Attendant
+    → Type 0
 Attends s v (Registered f answer g) t = t.waits ≡ s.waits
 Attends s v (Reregistered f answer g) t = t.waits ≡ s.waits
 Attends s v (Unregistered answer) t = (answer ≡ Ok tt) × (t.waits ≡ s.waits)

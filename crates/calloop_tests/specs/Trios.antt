@@ -6,10 +6,10 @@ use Rattle.calloop_core.specs.declared.sources.PostAction.{PostAction}
 use Rattle.calloop_core.specs.declared.sources.PostAction.TheVariants.{Continue}
 use Rattle.calloop_core.specs.declared.timer.TimeoutAction.{TimeoutAction}
 use Rattle.calloop_core.specs.declared.timer.TimerError.{TimerError}
-use Rattle.calloop_core.specs.Calls.{Call}
+use Rattle.calloop_core.specs.Calls.{CallbackCall}
 use Rattle.calloop_core.specs.Polls.{PollView, PollStep, polls_after}
 use Rattle.calloop_core.specs.Deeds.{Deed, Registered, Reregistered, Unregistered, Turned, Slept, Noticed, Heard}
-use Rattle.calloop_core.specs.Holdings.{Hold, holds_none, IsBelow, Keeps}
+use Rattle.calloop_core.specs.Holdings.{Holding, holds_none, IsBelow, Keeps}
 use Rattle.calloop_wake.specs.declared.token.TokenFactory.{TokenFactory}
 use Rattle.calloop_wake.specs.declared.token.RegistrationToken.{RegistrationToken}
 use Rattle.calloop_core.specs.Keys.{AllActFor}
@@ -19,7 +19,16 @@ use Rattle.calloop_core.specs.Keeping.{timer_keeps}
 use Rattle.calloop.specs.declared.ping.source.PingError.{PingError}
 use Rattle.calloop.specs.Pings.{ping_meaning, ping_keys}
 use Rattle.calloop.specs.Quiet.{ping_keeps}
-use Rattle.calloop_tests.specs.Beside.{IsApart, beside, apart_sym, join_swap, keeps_beside, keeps_then, next_after, next_is}
+use Rattle.calloop_tests.specs.Beside.{
+  IsApart,
+  beside,
+  apart_sym,
+  join_swap,
+  keeps_beside,
+  keeps_then,
+  next_after,
+  next_is,
+}
 use Rattle.calloop_tests.specs.Beside.{left_held, right_held, within_itself}
 use Rattle.calloop_tests.specs.declared.source.Broken.{Broken}
 use Rattle.calloop_tests.specs.declared.trio.Part.{Part}
@@ -30,8 +39,8 @@ use Rattle.calloop_tests.specs.declared.trio.Trio.{Trio}
 abbrev pub IsFrom : TokenFactory → TokenFactory → Type 0
 IsFrom f f' = (f'.registration ≡ f.registration) × (f'.given < 2 ^ 16)
 
--- the same call of two sources: a registration, with a factory of the same one, which succeeds where the whole does; a turn, for
--- the same event
+-- the same call of two sources: a registration, with a factory of the same one, which succeeds where the whole does; a
+-- turn, for the same event
 abbrev pub IsAlike : {T U : Type 0} → Deed T → Deed U → Type 0
 IsAlike (Registered f answer g) (Registered f' answer' g') = IsFrom f f' × (answer ≡ Ok tt → answer' ≡ Ok tt)
 IsAlike (Reregistered f answer g) (Reregistered f' answer' g') = IsFrom f f'
@@ -45,7 +54,8 @@ MayStop (Registered f (Ok u) g) = ⊥
 MayStop deed = Unit {0}
 
 -- what a part does in a call of the whole, which may not reach it
-abbrev pub MayDo : {S P T U : Type 0} → Deed T → Meaning S P U → S → PollView P → Option (Deed U) → List (PollStep P) → S
+abbrev pub MayDo : {S P T U : Type 0} → Deed T → Meaning S P U → S → PollView P → Option (Deed U) → List (PollStep P)
+    → S
     → Type 0
 MayDo whole m s v None steps t = MayStop whole × (steps ≡ []) × (t ≡ s)
 MayDo whole m s v (Some deed) steps t = IsAlike whole deed × m.does s v deed steps t
@@ -61,7 +71,8 @@ abbrev pub OfTimer : Type 0
 OfTimer = Heard Instant (Unit {0}) TimeoutAction TimerError
 
 -- the ping, then the first timer, then the second
-pub record AsksParts {P R : Type 0} (s : Trio R) (v : PollView P) (deed : Deed OfTrio) (steps : List (PollStep P)) (t : Trio R) : Type 0 where
+pub record AsksParts {P R : Type 0} (s : Trio R) (v : PollView P) (deed : Deed OfTrio) (steps : List (PollStep P))
+    (t : Trio R) : Type 0 where
   pub bell_deed : Option (Deed OfBell)
   pub first_deed : Option (Deed OfTimer)
   pub second_deed : Option (Deed OfTimer)
@@ -71,15 +82,16 @@ pub record AsksParts {P R : Type 0} (s : Trio R) (v : PollView P) (deed : Deed O
   pub steps_are : steps ≡ bell_steps ++ (first_steps ++ second_steps)
   pub bell : MayDo deed ping_meaning s.bell v bell_deed bell_steps t.bell
   pub first : MayDo deed timer_meaning s.first (polls_after v bell_steps) first_deed first_steps t.first
-  pub second : MayDo deed timer_meaning s.second (polls_after (polls_after v bell_steps) first_steps) second_deed second_steps t.second
+  pub second : MayDo deed timer_meaning s.second (polls_after (polls_after v bell_steps) first_steps) second_deed
+      second_steps t.second
 
 -- one call for a part, or none
-abbrev pub calls_of : Option Part → List (Call Part (Unit {0}) (Unit {0}))
+abbrev pub calls_of : Option Part → List (CallbackCall Part (Unit {0}) (Unit {0}))
 calls_of None = []
 calls_of (Some part) = record { event = part; before = tt; after = tt; answer = tt } ∷ []
 
 -- the event of the last of these calls, or else the one before them
-abbrev pub after_calls : {E M T : Type 0} → Option E → List (Call E M T) → Option E
+abbrev pub after_calls : {E M T : Type 0} → Option E → List (CallbackCall E M T) → Option E
 after_calls before [] = before
 after_calls before (c ∷ cs) = after_calls (Some c.event) cs
 
@@ -96,7 +108,7 @@ part_heard None None (Some deadline) = Some (Second deadline)
 part_heard None None None = None
 
 -- one call for that part, and the source stays in the loop; where a part fails, nobody is called
-abbrev pub EndsSo : Option Part → List (Call Part (Unit {0}) (Unit {0})) → Result PostAction Broken → Type 0
+abbrev pub EndsSo : Option Part → List (CallbackCall Part (Unit {0}) (Unit {0})) → Result PostAction Broken → Type 0
 EndsSo part calls (Ok action) = (calls ≡ calls_of part) × (action ≡ Continue)
 EndsSo part calls (Err cause) = calls ≡ []
 
@@ -109,9 +121,10 @@ IsTrio s v (Slept answer) steps t = (answer ≡ Ok None) × (steps ≡ []) × (t
 IsTrio s v (Noticed events) steps t = (steps ≡ []) × (t ≡ s)
 IsTrio s v (Turned readiness token turn) steps t =
     (did : AsksParts s v (Turned readiness token turn) steps t)
-    × EndsSo (part_heard (heard_of did.bell_deed) (heard_of did.first_deed) (heard_of did.second_deed)) turn.calls turn.answer
+    × EndsSo (part_heard (heard_of did.bell_deed) (heard_of did.first_deed) (heard_of did.second_deed)) turn.calls
+    turn.answer
 
-abbrev pub trio_holds : {R : Type 0} → Trio R → ℕ → Hold
+abbrev pub trio_holds : {R : Type 0} → Trio R → ℕ → Holding
 trio_holds s = beside (timer_holds s.first) (timer_holds s.second)
 
 abbrev pub trio_keys : {R : Type 0} → Trio R → (key : ℕ) → Type 0
@@ -141,7 +154,8 @@ timers_keep : {P R : Type 0} (s t : Trio R) (v : PollView P) (deed : Deed OfTrio
     → IsApart (timer_holds s.first) (timer_holds s.second) → IsBelow v.deadlines.next (trio_holds s)
     → MayDo deed timer_meaning s.first v d l t.first
     → MayDo deed timer_meaning s.second (polls_after v l) e m t.second
-    → IsApart (timer_holds t.first) (timer_holds t.second) × Keeps (trio_holds s) v.deadlines.next (l ++ m) (trio_holds t)
+    → IsApart (timer_holds t.first) (timer_holds t.second)
+    × Keeps (trio_holds s) v.deadlines.next (l ++ m) (trio_holds t)
 timers_keep s t v deed d e l m fits below one other =
     let next = v.deadlines.next in
     let a = timer_holds s.first in
@@ -151,12 +165,15 @@ timers_keep s t v deed d e l m fits below one other =
     let below_a : IsBelow next a = λ c held. below c (left_held (a c) (b c) held) in
     let below_b : IsBelow next b = λ c held. below c (right_held (a c) (b c) held) in
     let first = may_keep deed timer_meaning timer_keeps.counters s.first t.first v d l tt below_a one in
-    let x = keeps_beside next l a a' b (beside a b) (beside a' b) first.1 fits below_a below_b (λ c. refl) (λ _ c. refl) in
+    let x = keeps_beside next l a a' b (beside a b) (beside a' b) first.1 fits below_a below_b
+    (λ c. refl) (λ _ c. refl) in
     let at : (polls_after v l).deadlines.next ≡ next_after next l = next_is v l in
     let below_b' : IsBelow (polls_after v l).deadlines.next b = rw at x.other in
-    let second = may_keep deed timer_meaning timer_keeps.counters s.second t.second (polls_after v l) e m tt below_b' other in
+    let second = may_keep deed timer_meaning timer_keeps.counters s.second t.second
+    (polls_after v l) e m tt below_b' other in
     let kept : Keeps b (next_after next l) m b' = rw at at second.1 in
-    let y = keeps_beside (next_after next l) m b b' a' (beside a' b) (beside a' b') kept (apart_sym a' b x.apart) x.other x.below
+    let y = keeps_beside (next_after next l) m b b' a' (beside a' b) (beside a' b')
+    kept (apart_sym a' b x.apart) x.other x.below
     (λ c. join_swap (a' c) (b c) (x.apart c)) (λ apart c. join_swap (a' c) (b' c) (apart_sym b' a' apart c)) in
     (apart_sym b' a' y.apart, keeps_then next l m (beside a b) (beside a' b) (beside a' b') x.keeps y.keeps)
 
@@ -170,12 +187,18 @@ parts_keep s t v deed l fits below h =
     let held = trio_holds s in
     let none : IsBelow next holds_none = λ c held. absurd (held refl) in
     let bell = may_keep deed ping_meaning ping_keeps.counters s.bell t.bell v h.bell_deed h.bell_steps tt none h.bell in
-    let x = keeps_beside next h.bell_steps holds_none holds_none held held held bell.1 (λ c. inl refl) none below (λ c. refl) (λ _ c. refl) in
+    let x = keeps_beside next h.bell_steps holds_none holds_none held held held bell.1 (λ c. inl refl) none below
+    (λ c. refl) (λ _ c. refl) in
     let at : u.deadlines.next ≡ next_after next h.bell_steps = next_is v h.bell_steps in
     let below' : IsBelow u.deadlines.next held = rw at x.other in
-    let both = timers_keep s t u deed h.first_deed h.second_deed h.first_steps h.second_steps fits below' h.first h.second in
-    let kept : Keeps held (next_after next h.bell_steps) (h.first_steps ++ h.second_steps) (trio_holds t) = rw at at both.1 in
-    (both.0, rw h.steps_are (keeps_then next h.bell_steps (h.first_steps ++ h.second_steps) held held (trio_holds t) x.keeps kept))
+    let both = timers_keep s t u deed h.first_deed h.second_deed h.first_steps h.second_steps fits below'
+    h.first h.second in
+    let kept : Keeps held (next_after next h.bell_steps) (h.first_steps ++ h.second_steps) (trio_holds t) =
+    rw at at both.1 in (
+      both.0,
+      rw h.steps_are (
+          keeps_then next h.bell_steps (h.first_steps ++ h.second_steps) held held (trio_holds t) x.keeps kept),
+    )
 
 trio_counts : {P R : Type 0} → KeepsCounters (trio_meaning {P = P} {R = R})
 trio_counts s t v (Registered f a g) l fits below h = parts_keep s t v (Registered f a g) l fits below h
@@ -187,7 +210,8 @@ trio_counts s t v (Turned r k turn) l fits below h = parts_keep s t v (Turned r 
 
 -- Of its keys.
 
-arms_then : {P : Type 0} (r : RegistrationToken) (l m : List (PollStep P)) → AllActFor r l → AllActFor r m → AllActFor r (l ++ m)
+arms_then : {P : Type 0} (r : RegistrationToken) (l m : List (PollStep P)) → AllActFor r l → AllActFor r m
+    → AllActFor r (l ++ m)
 arms_then r [] m a b = b
 arms_then r (s ∷ ss) m a b = (a.0, arms_then r ss m a.1 b)
 
@@ -201,7 +225,8 @@ begins_part whole part r (Slept a) home begins = home begins
 begins_part whole part r (Noticed es) home begins = home begins
 begins_part whole part r (Turned readiness k turn) home begins = home begins
 
-stops_at_home : {T : Type 0} (home : Type 0) (r : RegistrationToken) (deed : Deed T) → MayStop deed → BeginsIn home r deed → home
+stops_at_home : {T : Type 0} (home : Type 0) (r : RegistrationToken) (deed : Deed T) → MayStop deed
+    → BeginsIn home r deed → home
 stops_at_home home r (Registered f (Ok u) g) may begins = absurd may
 stops_at_home home r (Registered f (Err e) g) may begins = begins.0
 stops_at_home home r (Reregistered f a g) may begins = begins.0
@@ -210,37 +235,50 @@ stops_at_home home r (Slept a) may begins = begins
 stops_at_home home r (Noticed es) may begins = begins
 stops_at_home home r (Turned readiness k turn) may begins = begins
 
-begins_alike : {T U : Type 0} (home : Type 0) (r : RegistrationToken) (whole : Deed T) (part : Deed U) → IsAlike whole part
+begins_alike : {T U : Type 0} (home : Type 0) (r : RegistrationToken) (whole : Deed T) (part : Deed U)
+    → IsAlike whole part
     → BeginsIn home r whole → BeginsIn home r part
 begins_alike home r (Registered f (Ok u) g) (Registered f' (Ok u') g') alike begins = (alike.0.0 ∙ begins.0, alike.0.1)
 begins_alike home r (Registered f (Ok u) g) (Registered f' (Err e) g') alike begins = (let no = alike.1 refl in cc)
-begins_alike home r (Registered f (Err e) g) (Registered f' (Ok u) g') alike begins = (alike.0.0 ∙ begins.1.0, alike.0.1)
-begins_alike home r (Registered f (Err e) g) (Registered f' (Err e') g') alike begins = (begins.0, (alike.0.0 ∙ begins.1.0, alike.0.1))
-begins_alike home r (Reregistered f a g) (Reregistered f' a' g') alike begins = (begins.0, (alike.0 ∙ begins.1.0, alike.1))
+begins_alike home r (Registered f (Err e) g) (Registered f' (Ok u) g') alike begins =
+    (alike.0.0 ∙ begins.1.0, alike.0.1)
+begins_alike home r (Registered f (Err e) g) (Registered f' (Err e') g') alike begins =
+    (begins.0, (alike.0.0 ∙ begins.1.0, alike.0.1))
+begins_alike home r (Reregistered f a g) (Reregistered f' a' g') alike begins =
+    (begins.0, (alike.0 ∙ begins.1.0, alike.1))
 begins_alike home r (Unregistered a) (Unregistered a') alike begins = begins
 begins_alike home r (Turned readiness k turn) (Turned readiness' k' turn') alike begins = begins
 begins_alike home r whole part alike begins = absurd alike
 
-may_stay : {S P T U : Type 0} (whole : Deed T) (m : Meaning S P U) → KeepsHome m → (r : RegistrationToken) (s t : S) (v : PollView P)
+may_stay : {S P T U : Type 0} (whole : Deed T) (m : Meaning S P U) → KeepsHome m
+    → (r : RegistrationToken) (s t : S) (v : PollView P)
     (deed : Option (Deed U)) (l : List (PollStep P)) → BeginsIn (IsAtHome m r s) r whole
     → MayDo whole m s v deed l t → IsAtHome m r t × AllActFor r l
 may_stay whole m k r s t v None l begins h = rw (h.1, h.2) (stops_at_home (IsAtHome m r s) r whole h.0 begins, tt)
-may_stay whole m k r s t v (Some deed) l begins h = k r s t v deed l (begins_alike (IsAtHome m r s) r whole deed h.0 begins) h.1
+may_stay whole m k r s t v (Some deed) l begins h =
+    k r s t v deed l (begins_alike (IsAtHome m r s) r whole deed h.0 begins) h.1
 
-parts_stay : {P R : Type 0} (r : RegistrationToken) (s t : Trio R) (v : PollView P) (deed : Deed OfTrio) (l : List (PollStep P))
+parts_stay : {P R : Type 0} (r : RegistrationToken) (s t : Trio R) (v : PollView P) (deed : Deed OfTrio)
+    (l : List (PollStep P))
     → BeginsIn (IsAtHome (trio_meaning {P = P}) r s) r deed → AsksParts s v deed l t
     → IsAtHome (trio_meaning {P = P}) r t × AllActFor r l
 parts_stay {P} r s t v deed l begins h =
     let w = polls_after v h.bell_steps in
     let whole = IsAtHome (trio_meaning {P = P}) r s in
+    let at_bell = IsAtHome (ping_meaning {P = P}) r s.bell in
+    let at_first = IsAtHome (timer_meaning {P = P}) r s.first in
+    let at_second = IsAtHome (timer_meaning {P = P}) r s.second in
     let bell = may_stay deed ping_meaning ping_keeps.home r s.bell t.bell v h.bell_deed h.bell_steps
-    (begins_part whole (IsAtHome (ping_meaning {P = P}) r s.bell) r deed (λ home key held. home key (inl held)) begins) h.bell in
+    (begins_part whole at_bell r deed (λ home key held. home key (inl held)) begins) h.bell in
     let first = may_stay deed timer_meaning timer_keeps.home r s.first t.first w h.first_deed h.first_steps
-    (begins_part whole (IsAtHome (timer_meaning {P = P}) r s.first) r deed (λ home key held. home key (inr (inl held))) begins) h.first in
-    let second = may_stay deed timer_meaning timer_keeps.home r s.second t.second (polls_after w h.first_steps) h.second_deed h.second_steps
-    (begins_part whole (IsAtHome (timer_meaning {P = P}) r s.second) r deed (λ home key held. home key (inr (inr held))) begins) h.second in (
-      λ key held. elim held [ inl x ↦ bell.0 key x | inr y ↦ elim y [ inl x ↦ first.0 key x | inr x ↦ second.0 key x ] ],
-      rw h.steps_are (arms_then r h.bell_steps (h.first_steps ++ h.second_steps) bell.1 (arms_then r h.first_steps h.second_steps first.1 second.1)),
+    (begins_part whole at_first r deed (λ home key held. home key (inr (inl held))) begins) h.first in
+    let second = may_stay deed timer_meaning timer_keeps.home r s.second t.second
+    (polls_after w h.first_steps) h.second_deed h.second_steps
+    (begins_part whole at_second r deed (λ home key held. home key (inr (inr held))) begins) h.second in
+    let timers = arms_then r h.first_steps h.second_steps first.1 second.1 in (
+      λ key held.
+          elim held [ inl x ↦ bell.0 key x | inr y ↦ elim y [ inl x ↦ first.0 key x | inr x ↦ second.0 key x ] ],
+      rw h.steps_are (arms_then r h.bell_steps (h.first_steps ++ h.second_steps) bell.1 timers),
     )
 
 trio_stays : {P R : Type 0} → KeepsHome (trio_meaning {P = P} {R = R})

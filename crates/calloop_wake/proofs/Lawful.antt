@@ -1,7 +1,7 @@
 -- The cells of pings are a lawful kind.
 use Rattle.std.proofs.Common.{◌≡◌, ℕ, Bool, true, false, ◌&&◌, ◌||◌, not, List, Option, Some, None, refl, sym, ap, eqb-true}
 use Rattle.calloop_wake.specs.Cells.{Cell, fresh, is_own, IsLit, in_turn}
-use Rattle.calloop_wake.specs.Wakes.{Step, start, after_all, IsSchedule, IsCovered}
+use Rattle.calloop_wake.specs.Wakes.{WakeStep, start, after_all, IsSchedule, IsCovered}
 use Rattle.calloop_wake.specs.PingKind.{PingStep, Ring, Close, EndTurn, ping_kind}
 use Rattle.calloop_wake.proofs.Schedules.{IsLawful, IsFresh, covered-schedule}
 
@@ -47,5 +47,5 @@ fresh_is : IsFresh ping_kind ping_lawful fresh
 unfolding ping_lawful
 fresh_is = record { lit = λ h. absurd (cc); quiet = refl; unkeyed = refl }
 
-pub covered-pings : (ss : List (Step ping_kind.Own)) → IsSchedule ping_kind (start (λ _. fresh)) ss → IsCovered ping_kind (after_all ping_kind (start (λ _. fresh)) ss)
+pub covered-pings : (ss : List (WakeStep ping_kind.Own)) → IsSchedule ping_kind (start (λ _. fresh)) ss → IsCovered ping_kind (after_all ping_kind (start (λ _. fresh)) ss)
 covered-pings ss met = covered-schedule ping_kind ping_lawful (λ _. fresh) ss (λ n. fresh_is) met

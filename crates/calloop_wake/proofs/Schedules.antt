@@ -4,7 +4,7 @@ use Rattle.std.proofs.lemmas.Bool.Decides.{nat_tests, eqb_tells}
 use Rattle.std.proofs.Math.Bool.{and-true, or-true, or-false}
 use Rattle.calloop_wake.specs.Cells.{one}
 use Rattle.calloop_wake.specs.Boards.{is_open, is_marked, any_marked, after_open_place, after_close_place, after_post, after_unpost}
-use Rattle.calloop_wake.specs.Wakes.{Bag, and_one, and_any, less_one, Loop, Awake, Looked, World, start, Step, At, Kind, owed_by, owed_at, ClearKey, SetKey, OpenTurn, OpenPlace, ClosePlace, Post, Back, Look, Unpost, Nudge, Sleep, Return, with_cell, Needs, after, IsSchedule, after_all, IsCovered}
+use Rattle.calloop_wake.specs.Wakes.{Bag, and_one, and_any, less_one, Loop, Awake, Looked, WakeWorld, start, WakeStep, At, Kind, owed_by, owed_at, ClearKey, SetKey, OpenTurn, OpenPlace, ClosePlace, Post, Back, Look, Unpost, Nudge, Sleep, Return, with_cell, Needs, after, IsSchedule, after_all, IsCovered}
 use Rattle.calloop_wake.specs.declared.wake.board.Place.{Place}
 use Rattle.calloop_wake.proofs.Places.{is_open-after_open, is_marked-after_open, is_open-after_close, is_marked-after_close, is_open-after_post, is_marked-after_post, is_open-after_unpost, is_marked-after_unpost, marked-after_post, none_marked}
 
@@ -53,7 +53,7 @@ pub record IsPlaced (K : Kind) (cells : ℕ → K.Cell) (board : List Place) (op
   pub place : (n k : ℕ) → (K.key (cells n)) ≡ Some k → is_open k board ≡ true
   pub waits : (k : ℕ) → opened k + leaves k ≤ one (is_open k board)
 
-pub record IsKept (K : Kind) (law : IsLawful K) (w : World K.Cell) : Type 0 where
+pub record IsKept (K : Kind) (law : IsLawful K) (w : WakeWorld K.Cell) : Type 0 where
   pub lit : (n : ℕ) → law.IsLit (w.cells n)
   pub known : IsPingedKnown K w.cells w.board w.debts w.passes
   pub heard : IsHeard w.board w.nudges w.signal w.loop
@@ -114,7 +114,7 @@ module _ (K : Kind) (law : IsLawful K) where
   -- Pings.
 
   -- a step of one cell that takes no pass: where the cell is pinged after it, it was so under the same key, or its key is owed
-  pub known-cell : (w : World K.Cell) (n : ℕ) (c : K.Cell) (o : Option ℕ) → IsPingedKnown K w.cells w.board w.debts w.passes
+  pub known-cell : (w : WakeWorld K.Cell) (n : ℕ) (c : K.Cell) (o : Option ℕ) → IsPingedKnown K w.cells w.board w.debts w.passes
       → ((K.pinged c) ≡ true → ((K.pinged (w.cells n)) ≡ true) × ((K.key c) ≡ (K.key (w.cells n))) ⊎ (o ≡ (K.key c)))
       → IsPingedKnown K (with_cell n c w.cells) w.board (and_any o w.debts) w.passes
   known-cell w n c o known fresh j k =
@@ -135,7 +135,7 @@ module _ (K : Kind) (law : IsLawful K) where
   owed_at-pinged k c h = ap (λ b. if b then Some k else None) h
 
   -- a turn is opened by the pass of the cell's own key, which no other cell has
-  pub known-opened : (w : World K.Cell) (n k : ℕ) (c : K.Cell) → (K.pinged c) ≡ false → (K.key (w.cells n)) ≡ Some k
+  pub known-opened : (w : WakeWorld K.Cell) (n k : ℕ) (c : K.Cell) → (K.pinged c) ≡ false → (K.key (w.cells n)) ≡ Some k
       → ((a b x : ℕ) → (K.key (w.cells a)) ≡ Some x → (K.key (w.cells b)) ≡ Some x → a ≡ b)
       → IsPingedKnown K w.cells w.board w.debts w.passes
       → IsPingedKnown K (with_cell n c w.cells) w.board w.debts (less_one k w.passes)
@@ -148,7 +148,7 @@ module _ (K : Kind) (law : IsLawful K) where
       let l = less_one-other k x w.passes other in
       let h = known j x p q in omega arith)
 
-  pub known-board : (w : World K.Cell) (board : List Place) → ((n x : ℕ) → (K.key (w.cells n)) ≡ Some x → one (is_marked x w.board) ≤ one (is_marked x board))
+  pub known-board : (w : WakeWorld K.Cell) (board : List Place) → ((n x : ℕ) → (K.key (w.cells n)) ≡ Some x → one (is_marked x w.board) ≤ one (is_marked x board))
       → IsPingedKnown K w.cells w.board w.debts w.passes → IsPingedKnown K w.cells board w.debts w.passes
   known-board w board more known n x p q = let h = known n x p q in let m = more n x q in omega arith
 
@@ -156,7 +156,7 @@ module _ (K : Kind) (law : IsLawful K) where
   marked-after_close x k ps d = is_marked-after_close x k ps ∙ (ap (λ b. is_marked x ps && not b) (ne_eqb x k d) ∙ and-true (is_marked x ps))
 
   -- a key of a cell is open, so a debt of it that is posted is marked
-  pub known-post : (w : World K.Cell) (k : ℕ) → 0 < w.debts k → IsPlaced K w.cells w.board w.opened w.leaves → IsPingedKnown K w.cells w.board w.debts w.passes
+  pub known-post : (w : WakeWorld K.Cell) (k : ℕ) → 0 < w.debts k → IsPlaced K w.cells w.board w.opened w.leaves → IsPingedKnown K w.cells w.board w.debts w.passes
       → IsPingedKnown K w.cells (after_post k w.board) (less_one k w.debts) w.passes
   known-post w k held placed known n x p q =
       let m = is_marked-after_post x k w.board in
@@ -175,7 +175,7 @@ module _ (K : Kind) (law : IsLawful K) where
             omega arith
       ]
 
-  pub known-back : (w : World K.Cell) (k : ℕ) → IsPingedKnown K w.cells w.board w.debts w.passes
+  pub known-back : (w : WakeWorld K.Cell) (k : ℕ) → IsPingedKnown K w.cells w.board w.debts w.passes
       → IsPingedKnown K w.cells w.board (and_one k w.debts) (less_one k w.passes)
   known-back w k known n x p q =
       let h = known n x p q in
@@ -189,7 +189,7 @@ module _ (K : Kind) (law : IsLawful K) where
   one-split true false = refl
   one-split false b = refl
 
-  pub known-unpost : (w : World K.Cell) (b : ℕ) → IsPingedKnown K w.cells w.board w.debts w.passes
+  pub known-unpost : (w : WakeWorld K.Cell) (b : ℕ) → IsPingedKnown K w.cells w.board w.debts w.passes
       → IsPingedKnown K w.cells (after_unpost b w.board) w.debts (λ j. w.passes j + one (is_marked j w.board && nat_lt j b))
   known-unpost w b known n x p q =
       let h = known n x p q in let m = ap one (is_marked-after_unpost x b w.board) in let s = one-split (is_marked x w.board) (nat_lt x b) in omega arith
@@ -205,7 +205,7 @@ module _ (K : Kind) (law : IsLawful K) where
     waits = p.waits;
   }
 
-  pub placed-cell : (w : World K.Cell) (n : ℕ) (c : K.Cell) → (K.key c) ≡ (K.key (w.cells n)) → IsPlaced K w.cells w.board w.opened w.leaves → IsPlaced K (with_cell n c w.cells) w.board w.opened w.leaves
+  pub placed-cell : (w : WakeWorld K.Cell) (n : ℕ) (c : K.Cell) → (K.key c) ≡ (K.key (w.cells n)) → IsPlaced K w.cells w.board w.opened w.leaves → IsPlaced K (with_cell n c w.cells) w.board w.opened w.leaves
   placed-cell w n c same p =
       placed-same w.cells (with_cell n c w.cells) w.board w.opened w.leaves
       (λ j. let P : K.Cell → Type 0 = λ d. (K.key d) ≡ (K.key (w.cells j)) in
@@ -213,7 +213,7 @@ module _ (K : Kind) (law : IsLawful K) where
       p
 
   -- the cell's key is cleared, and the leave to close its place given
-  pub placed-clear : (w : World K.Cell) (n : ℕ) (c : K.Cell) → (K.key c) ≡ None → IsPlaced K w.cells w.board w.opened w.leaves
+  pub placed-clear : (w : WakeWorld K.Cell) (n : ℕ) (c : K.Cell) → (K.key c) ≡ None → IsPlaced K w.cells w.board w.opened w.leaves
       → IsPlaced K (with_cell n c w.cells) w.board w.opened (and_any (K.key (w.cells n)) w.leaves)
   placed-clear w n c none p =
       let not_here : (k : ℕ) → (K.key c) ≢ Some k = λ k h. absurd (cc (none, h)) in
@@ -272,7 +272,7 @@ module _ (K : Kind) (law : IsLawful K) where
         waits = λ x. let h = p.waits x in let l = less_one-le k opened x in omega arith;
       }
 
-  pub placed-set : (w : World K.Cell) (n k : ℕ) (c : K.Cell) → (K.key c) ≡ Some k → 0 < w.opened k → IsPlaced K w.cells w.board w.opened w.leaves
+  pub placed-set : (w : WakeWorld K.Cell) (n k : ℕ) (c : K.Cell) → (K.key c) ≡ Some k → 0 < w.opened k → IsPlaced K w.cells w.board w.opened w.leaves
       → IsPlaced K (with_cell n c w.cells) w.board (less_one k w.opened) (and_any (K.key (w.cells n)) w.leaves)
   placed-set w n k c is held p =
       let cleared : K.Cell = K.unkeyed false (w.cells n) in
@@ -288,7 +288,7 @@ module _ (K : Kind) (law : IsLawful K) where
       (placed-fill cells w.board w.opened (and_any (K.key (w.cells n)) w.leaves) n k c is none held (placed-clear w n cleared (law.unkeyed_key false (w.cells n)) p))
 
   -- a place that nobody holds is opened
-  pub placed-open : (w : World K.Cell) (k : ℕ) → is_open k w.board ≡ false → IsPlaced K w.cells w.board w.opened w.leaves
+  pub placed-open : (w : WakeWorld K.Cell) (k : ℕ) → is_open k w.board ≡ false → IsPlaced K w.cells w.board w.opened w.leaves
       → IsPlaced K w.cells (after_open_place k w.board) (and_one k w.opened) w.leaves
   placed-open w k shut p =
       let free : (j x : ℕ) → (K.key (w.cells j)) ≡ Some x → x ≢ k =
@@ -316,7 +316,7 @@ module _ (K : Kind) (law : IsLawful K) where
       }
 
   -- a place is closed by its leave
-  pub placed-close : (w : World K.Cell) (k : ℕ) → 0 < w.leaves k → IsPlaced K w.cells w.board w.opened w.leaves
+  pub placed-close : (w : WakeWorld K.Cell) (k : ℕ) → 0 < w.leaves k → IsPlaced K w.cells w.board w.opened w.leaves
       → IsPlaced K w.cells (after_close_place k w.board) w.opened (less_one k w.leaves)
   placed-close w k held p =
       let free : (j x : ℕ) → (K.key (w.cells j)) ≡ Some x → x ≢ k =
@@ -342,7 +342,7 @@ module _ (K : Kind) (law : IsLawful K) where
             ];
       }
 
-  pub placed-post : (w : World K.Cell) (k : ℕ) → IsPlaced K w.cells w.board w.opened w.leaves → IsPlaced K w.cells (after_post k w.board) w.opened w.leaves
+  pub placed-post : (w : WakeWorld K.Cell) (k : ℕ) → IsPlaced K w.cells w.board w.opened w.leaves → IsPlaced K w.cells (after_post k w.board) w.opened w.leaves
   placed-post w k p = record {
     alone = p.alone;
     only = p.only;
@@ -350,7 +350,7 @@ module _ (K : Kind) (law : IsLawful K) where
     waits = λ x. let h = p.waits x in let e = ap one (is_open-after_post x k w.board) in omega arith;
   }
 
-  pub placed-unpost : (w : World K.Cell) (b : ℕ) → IsPlaced K w.cells w.board w.opened w.leaves → IsPlaced K w.cells (after_unpost b w.board) w.opened w.leaves
+  pub placed-unpost : (w : WakeWorld K.Cell) (b : ℕ) → IsPlaced K w.cells w.board w.opened w.leaves → IsPlaced K w.cells (after_unpost b w.board) w.opened w.leaves
   placed-unpost w b p = record {
     alone = p.alone;
     only = p.only;
@@ -360,7 +360,7 @@ module _ (K : Kind) (law : IsLawful K) where
 
   -- Each step.
 
-  pub kept-cell : (w : World K.Cell) (n : ℕ) (c : K.Cell) (o : Option ℕ) → (law.IsLit (w.cells n) → law.IsLit c) → (K.key c) ≡ (K.key (w.cells n))
+  pub kept-cell : (w : WakeWorld K.Cell) (n : ℕ) (c : K.Cell) (o : Option ℕ) → (law.IsLit (w.cells n) → law.IsLit c) → (K.key c) ≡ (K.key (w.cells n))
       → ((K.pinged c) ≡ true → ((K.pinged (w.cells n)) ≡ true) × ((K.key c) ≡ (K.key (w.cells n))) ⊎ (o ≡ (K.key c)))
       → IsKept K law w → IsKept K law (record w { cells = with_cell n c w.cells; debts = and_any o w.debts })
   kept-cell w n c o lit same fresh h = record {
@@ -374,7 +374,7 @@ module _ (K : Kind) (law : IsLawful K) where
   and-left true b h = refl
   and-left false b h = h
 
-  pub kept-opened : (w : World K.Cell) (n k : ℕ) (c : K.Cell) → law.IsLit c → (K.key c) ≡ (K.key (w.cells n)) → (K.pinged c) ≡ false → (K.key (w.cells n)) ≡ Some k
+  pub kept-opened : (w : WakeWorld K.Cell) (n k : ℕ) (c : K.Cell) → law.IsLit c → (K.key c) ≡ (K.key (w.cells n)) → (K.pinged c) ≡ false → (K.key (w.cells n)) ≡ Some k
       → IsKept K law w → IsKept K law (record w { cells = with_cell n c w.cells; passes = less_one k w.passes })
   kept-opened w n k c lit same quiet own h = record {
     lit = with_cell-all law.IsLit n c w.cells lit h.lit;
@@ -383,7 +383,7 @@ module _ (K : Kind) (law : IsLawful K) where
     placed = placed-cell w n c same h.placed;
   }
 
-  pub kept-open_turn : (w : World K.Cell) (n k : ℕ) (b : Bool) → K.opens k (w.cells n) ≡ b → IsKept K law w
+  pub kept-open_turn : (w : WakeWorld K.Cell) (n k : ℕ) (b : Bool) → K.opens k (w.cells n) ≡ b → IsKept K law w
       → IsKept K law (record w {
         cells = with_cell n (if b then K.opened (w.cells n) else w.cells n) w.cells;
         passes = if b then less_one k w.passes else w.passes;
@@ -392,11 +392,11 @@ module _ (K : Kind) (law : IsLawful K) where
       kept-opened w n k (K.opened (w.cells n)) (law.opened_lit (w.cells n) (h.lit n)) (law.opened_key (w.cells n)) (law.opened_pinged (w.cells n)) (law.opens_own k (w.cells n) is) h
   kept-open_turn w n k false is h = kept-cell w n (w.cells n) None (λ l. l) refl (λ p. inl (p, refl)) h
 
-  pub heard-look : (w : World K.Cell) (b : Bool) → any_marked w.board ≡ b → IsHeard w.board w.nudges w.signal (if b then Awake else Looked)
+  pub heard-look : (w : WakeWorld K.Cell) (b : Bool) → any_marked w.board ≡ b → IsHeard w.board w.nudges w.signal (if b then Awake else Looked)
   heard-look w true is x a m = absurd (a refl)
   heard-look w false is x a m = absurd (true≢false (sym m ∙ none_marked x w.board is))
 
-  pub kept-after : (w : World K.Cell) (s : Step K.Own) → Needs K w s → IsKept K law w → IsKept K law (after K w s)
+  pub kept-after : (w : WakeWorld K.Cell) (s : WakeStep K.Own) → Needs K w s → IsKept K law w → IsKept K law (after K w s)
   kept-after w (At n s) need h =
       let d : K.Cell = K.after s (w.cells n) in
       kept-cell w n d (owed_by K (w.cells n) d) (law.own_lit s (w.cells n) need) (law.own_key s (w.cells n)) (fresh-owed (w.cells n) d (law.own_key s (w.cells n))) h
@@ -463,7 +463,7 @@ module _ (K : Kind) (law : IsLawful K) where
     placed = record { alone = λ m n k h. (let e = (is m).unkeyed in absurd (cc (e, h))); only = λ n k h. (let e = (is n).unkeyed in absurd (cc (e, h))); place = λ n k h. (let e = (is n).unkeyed in absurd (cc (e, h))); waits = λ k. omega arith };
   }
 
-  pub kept-after_all : (w : World K.Cell) (ss : List (Step K.Own)) → IsSchedule K w ss → IsKept K law w → IsKept K law (after_all K w ss)
+  pub kept-after_all : (w : WakeWorld K.Cell) (ss : List (WakeStep K.Own)) → IsSchedule K w ss → IsKept K law w → IsKept K law (after_all K w ss)
   kept-after_all w [] met h = h
   kept-after_all w (s ∷ ss) met h = kept-after_all (after K w s) ss met.1 (kept-after w s met.0 h)
 
@@ -472,12 +472,12 @@ module _ (K : Kind) (law : IsLawful K) where
   some_of false zero n h = inr (inr (omega arith))
   some_of false (suc m) n h = inr (inl (omega arith))
 
-  pub covered-kept : (w : World K.Cell) → IsKept K law w → IsCovered K w
+  pub covered-kept : (w : WakeWorld K.Cell) → IsKept K law w → IsCovered K w
   covered-kept w h = record {
     standing = λ n. law.standing (w.cells n) (h.lit n);
     pinged = λ n k p q. some_of (is_marked k w.board) (w.debts k) (w.passes k) (h.known n k p q);
     told = h.heard;
   }
 
-  pub covered-schedule : (fresh : ℕ → K.Cell) (ss : List (Step K.Own)) → ((n : ℕ) → IsFresh K law (fresh n)) → IsSchedule K (start fresh) ss → IsCovered K (after_all K (start fresh) ss)
+  pub covered-schedule : (fresh : ℕ → K.Cell) (ss : List (WakeStep K.Own)) → ((n : ℕ) → IsFresh K law (fresh n)) → IsSchedule K (start fresh) ss → IsCovered K (after_all K (start fresh) ss)
   covered-schedule fresh ss is met = covered-kept (after_all K (start fresh) ss) (kept-after_all (start fresh) ss met (kept-start fresh is))

@@ -1,6 +1,27 @@
 -- The board: one place for each open key, in ascending order of the keys. Calloop has the kernel's poller here: a place
 -- is a descriptor in its table, and a mark says that it is ready.
-use Rattle.std.specs.Prelude.{ℕ, zero, suc, Bool, false, ◌&&◌, ◌||◌, not, if◌then◌else◌, List, [], ◌∷◌, nat_eq, nat_lt, map, filter, ◌<◌, ◌-◌, ◌^◌, None}
+use Rattle.std.specs.Prelude.{
+  ℕ,
+  zero,
+  suc,
+  Bool,
+  false,
+  ◌&&◌,
+  ◌||◌,
+  not,
+  if◌then◌else◌,
+  List,
+  [],
+  ◌∷◌,
+  nat_eq,
+  nat_lt,
+  map,
+  filter,
+  ◌<◌,
+  ◌-◌,
+  ◌^◌,
+  None,
+}
 use Rattle.std.specs.List.{list_any}
 use Rattle.logbook.specs.Pages.{Book}
 use Rattle.calloop_wake.specs.declared.wake.board.Place.{Place}
@@ -60,7 +81,8 @@ after_unpost below ps = map (unmarked below) ps
 abbrev pub taken_keys : (below : ℕ) → List Place → List ℕ
 taken_keys below ps = map (λ p. p.key) (filter (is_taken below) ps)
 
--- below which keys there is room for all that are posted: the first posted key for which there is none, or else the poller's own
+-- below which keys there is room for all that are posted: the first posted key for which there is none, or else the
+-- poller's own
 abbrev pub bound : (room : ℕ) → List Place → ℕ
 bound room [] = 2 ^ 64 - 1
 bound zero (p ∷ ps) = if p.marked then p.key else bound zero ps

@@ -1,5 +1,27 @@
 -- The cell of a ping and its steps: for each step the cell after it, and what it gives.
-use Rattle.std.specs.Prelude.{◌≡◌, ℕ, ◌+◌, ◌-◌, ◌<◌, ◌≤◌, Bool, true, false, ◌&&◌, ◌||◌, not, if◌then◌else◌, Option, Some, None, nat_eq, nat_lt, Result, Ok, Err}
+use Rattle.std.specs.Prelude.{
+  ◌≡◌,
+  ℕ,
+  ◌+◌,
+  ◌-◌,
+  ◌<◌,
+  ◌≤◌,
+  Bool,
+  true,
+  false,
+  ◌&&◌,
+  ◌||◌,
+  not,
+  if◌then◌else◌,
+  Option,
+  Some,
+  None,
+  nat_eq,
+  nat_lt,
+  Result,
+  Ok,
+  Err,
+}
 use Rattle.logbook.specs.Pages.{Book}
 use Rattle.calloop_wake.specs.Passes.{Taken, Keyed}
 use Rattle.calloop_wake.specs.declared.wake.Receipt.{Receipt}
@@ -27,7 +49,17 @@ pub record Cell : Type 0 where
 
 -- a cell to which nothing has happened yet, and which has no sender
 abbrev pub fresh : Cell
-fresh = record { rung = false; pinged = false; draining = false; closed = false; told = false; gone = false; key = None; senders = 0 }
+fresh =
+    record {
+      rung = false;
+      pinged = false;
+      draining = false;
+      closed = false;
+      told = false;
+      gone = false;
+      key = None;
+      senders = 0;
+    }
 
 -- the next turn has something to tell: a ring, or a close that no turn told yet
 abbrev pub is_due : Cell → Bool
@@ -112,7 +144,7 @@ one true = 1
 one false = 0
 
 -- a cell, and what contracts alone see of it: its name, and numbers that calloop keeps nowhere
-pub record Core : Type 0 where
+pub record CoreView : Type 0 where
   pub cell : Cell
   -- no other cell has it
   pub name : Book
@@ -125,32 +157,32 @@ pub record Core : Type 0 where
   -- how many turns took a ring
   pub taken : ℕ
 
--- a ring stands exactly where somebody rang since the last turn was opened; and those that turns took, with the one that
--- stands, are at most the rings
-pub record IsSince (c : Core) : Type 0 where
+-- a ring stands exactly where somebody rang since the last turn was opened; and those that turns took, with the one
+-- that stands, are at most the rings
+pub record IsSince (c : CoreView) : Type 0 where
   pub rung : c.cell.rung ≡ true → c.seen < c.rings
   pub quiet : c.cell.rung ≡ false → c.seen ≡ c.rings
   pub taken : c.taken + one c.cell.rung ≤ c.rings
 
-abbrev pub core_with : Cell → Core → Core
+abbrev pub core_with : Cell → CoreView → CoreView
 core_with cell c = record c { cell = cell }
 
 -- the cell with the key of a place on this board
-abbrev pub core_after_set_key : Keyed → Core → Core
+abbrev pub core_after_set_key : Keyed → CoreView → CoreView
 core_after_set_key k c = record c { cell = after_set_key k.key c.cell; board = k.board }
 
-abbrev pub core_after_ring : Core → Core
+abbrev pub core_after_ring : CoreView → CoreView
 core_after_ring c = record c { cell = after_ring c.cell; rings = c.rings + 1 }
 
 -- the receipt of the next ring: its cell's name, and how many rings there were before
-abbrev pub receipt_of : Core → Receipt
+abbrev pub receipt_of : CoreView → Receipt
 receipt_of c = record { name = c.name; number = c.rings }
 
 -- a pass of this key opens a turn that takes a ring
 abbrev pub takes : ℕ → Cell → ℕ
 takes k c = one (opens k c && c.rung)
 
-abbrev pub core_after_open_turn : ℕ → Core → Core
+abbrev pub core_after_open_turn : ℕ → CoreView → CoreView
 core_after_open_turn k c =
     record c {
       cell = after_open_turn k c.cell;
@@ -163,11 +195,11 @@ abbrev pub tells : ℕ → Cell → ℕ
 tells k c = one (opens k c && (c.closed && not c.told))
 
 -- a receiving end that gave its cell no key yet, and opened no turn
-abbrev pub twin_of : Core → Twin
+abbrev pub twin_of : CoreView → Twin
 twin_of c = record { name = c.name; key = None; turns = 0; number = 0; closes = 0 }
 
 -- the receiving end counts the turns that it opened, the rings that they took, and the closes that they told
-abbrev pub twin_after_open_turn : ℕ → Core → Twin → Twin
+abbrev pub twin_after_open_turn : ℕ → CoreView → Twin → Twin
 twin_after_open_turn k c twin =
     record twin {
       turns = twin.turns + one (opens k c.cell);
@@ -176,7 +208,7 @@ twin_after_open_turn k c twin =
     }
 
 -- what opening a turn gives: the turn of this cell with what was due, or the pass back, marked as refused by it
-abbrev pub turn_of : Taken → Core → Result OpenedTurn Taken
+abbrev pub turn_of : Taken → CoreView → Result OpenedTurn Taken
 turn_of p c =
     if opens p.key c.cell
     then Ok (record { turn = record { name = c.name }; rung = c.cell.rung; told = c.cell.closed && not c.cell.told })

@@ -1,6 +1,32 @@
 -- The armed deadlines of timers. calloop's wheel is a heap, whose entries are found again by counter; here it is a list
 -- in the order in which they come due, and what a heap leaves open (which of one deadline comes first) is decided.
-use Rattle.std.specs.Prelude.{◌≡◌, ◌≢◌, ◌⊎◌, ℕ, ◌+◌, ◌-◌, ◌^◌, ◌<◌, ◌≤◌, ◌&&◌, ◌||◌, ◌∷◌, [], List, Bool, true, not, filter, nat_eq, nat_lt, nat_le, if◌then◌else◌, Option, None, Some}
+use Rattle.std.specs.Prelude.{
+  ◌≡◌,
+  ◌≢◌,
+  ◌⊎◌,
+  ℕ,
+  ◌+◌,
+  ◌-◌,
+  ◌^◌,
+  ◌<◌,
+  ◌≤◌,
+  ◌&&◌,
+  ◌||◌,
+  ◌∷◌,
+  [],
+  List,
+  Bool,
+  true,
+  not,
+  filter,
+  nat_eq,
+  nat_lt,
+  nat_le,
+  if◌then◌else◌,
+  Option,
+  None,
+  Some,
+}
 use Rattle.std.specs.List.{list_any}
 use Rattle.std.specs.Duration.{as_nanos}
 use Rattle.std.specs.declared.time.Duration.{Duration}
@@ -12,7 +38,9 @@ use Rattle.calloop_wake.specs.declared.wheel.Instant.{Instant}
 
 -- the moment that is so much later, where it fits 64 bits of nanoseconds
 abbrev pub moment_after : Instant → Duration → Option Instant
-moment_after moment time = if nat_lt (moment.nanos + as_nanos time) (2 ^ 64) then Some (record { nanos = moment.nanos + as_nanos time }) else None
+moment_after moment time =
+    if nat_lt (moment.nanos + as_nanos time) (2 ^ 64) then Some (record { nanos = moment.nanos + as_nanos time })
+    else None
 
 -- the entries in their order, and the counter that the next new one gets
 pub record Deadlines : Type 0 where
@@ -21,7 +49,8 @@ pub record Deadlines : Type 0 where
 
 -- by deadline, and by counter where the deadlines are one
 abbrev pub is_before : Entry → Entry → Bool
-is_before x y = nat_lt x.deadline.nanos y.deadline.nanos || (nat_eq x.deadline.nanos y.deadline.nanos && nat_lt x.counter y.counter)
+is_before x y =
+    nat_lt x.deadline.nanos y.deadline.nanos || (nat_eq x.deadline.nanos y.deadline.nanos && nat_lt x.counter y.counter)
 
 -- a list with one more, behind the front of what comes before it
 abbrev pub put_behind : {A : Type 0} → (comes_before : A → Bool) → A → List A → List A

@@ -4,7 +4,17 @@ use Rattle.std.specs.IoError.{error_kind}
 use Rattle.std.specs.declared.io.Error.{Error as IoErr}
 use Rattle.std.specs.declared.io.ErrorKind.TheVariants.{InvalidInput, Other}
 use Rattle.calloop_wake.specs.declared.error.Error.{Error}
-use Rattle.calloop_wake.specs.declared.error.Error.TheVariants.{InvalidToken, IoError, OtherError, OutOfMemory, TooManySources, TooManyTokens, TooManyTimers, TooManyTickets, OwnTurn}
+use Rattle.calloop_wake.specs.declared.error.Error.TheVariants.{
+  InvalidToken,
+  IoError,
+  OtherError,
+  OutOfMemory,
+  TooManySources,
+  TooManyTokens,
+  TooManyTimers,
+  TooManyTickets,
+  OwnTurn,
+}
 
 -- the io::Error made of a refusal, as in calloop's error.rs: the content, or one of this kind
 abbrev pub AsIo : Error → IoErr → Type 0

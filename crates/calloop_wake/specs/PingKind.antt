@@ -1,7 +1,17 @@
 -- The cells of pings as a kind of the wake machine, with the steps that only they have: a ring, the close that the last
 -- sender's drop makes, and the end of a turn.
 use Rattle.std.specs.Prelude.{◌≡◌, true}
-use Rattle.calloop_wake.specs.Cells.{Cell, IsStanding, after_ring, after_close, after_set_key, after_clear_key, in_turn, after_end_turn, opens}
+use Rattle.calloop_wake.specs.Cells.{
+  Cell,
+  IsStanding,
+  after_ring,
+  after_close,
+  after_set_key,
+  after_clear_key,
+  in_turn,
+  after_end_turn,
+  opens,
+}
 use Rattle.calloop_wake.specs.Wakes.{Kind}
 
 pub data PingStep : Type 0 where

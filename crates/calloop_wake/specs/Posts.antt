@@ -1,6 +1,30 @@
 -- How a board holds its places: in a map from the key to where it stands in a list of the posted keys, if it is posted.
 -- calloop has the kernel's poller here, which keeps a tree of descriptors and a list of those that are ready.
-use Rattle.std.specs.Prelude.{◌≡◌, ℕ, suc, ◌-◌, ◌≤◌, Bool, false, not, List, [], ◌∷◌, map, filter, length, nat_eq, nat_lt, slice_index_or, ◌<◌, if◌then◌else◌, Option, None, Some, is_some}
+use Rattle.std.specs.Prelude.{
+  ◌≡◌,
+  ℕ,
+  suc,
+  ◌-◌,
+  ◌≤◌,
+  Bool,
+  false,
+  not,
+  List,
+  [],
+  ◌∷◌,
+  map,
+  filter,
+  length,
+  nat_eq,
+  nat_lt,
+  slice_index_or,
+  ◌<◌,
+  if◌then◌else◌,
+  Option,
+  None,
+  Some,
+  is_some,
+}
 use Rattle.std.specs.Option.{option_map}
 use Rattle.std.specs.Ordering.{nat_cmp}
 use Rattle.std.specs.BTreeMap.{is_at}
@@ -38,7 +62,8 @@ pub record IsBoard (entries : List (ℕ × Option ℕ)) (posted : List ℕ) (cap
   pub ascending : IsAscending (places_of entries)
   pub once : IsDistinct nat_eq posted
   pub same : (key : ℕ) → list_any (nat_eq key) posted ≡ is_marked key (places_of entries)
-  pub standing : (key i : ℕ) → standing_at key entries ≡ Some (Some i) → (i < length posted) × ((d : ℕ) → slice_index_or posted i d ≡ key)
+  pub standing : (key i : ℕ) → standing_at key entries ≡ Some (Some i)
+      → (i < length posted) × ((d : ℕ) → slice_index_or posted i d ≡ key)
   pub room : length entries ≤ capacity
 
 -- the places with this at a key, or with none there

@@ -1,7 +1,40 @@
 -- Slots, and what the calls of a source list do to them. A list's value is the list of its slots.
-use Rattle.std.specs.Prelude.{◌≡◌, ℕ, suc, zero, ◌+◌, ◌%◌, ◌^◌, ◌<◌, ◌≤◌, List, [], ◌∷◌, length, if◌then◌else◌, nat_eq, Bool, true, false, Option, Some, None, slice_get}
+use Rattle.std.specs.Prelude.{
+  ◌≡◌,
+  ℕ,
+  suc,
+  zero,
+  ◌+◌,
+  ◌%◌,
+  ◌^◌,
+  ◌<◌,
+  ◌≤◌,
+  List,
+  [],
+  ◌∷◌,
+  length,
+  if◌then◌else◌,
+  nat_eq,
+  Bool,
+  true,
+  false,
+  Option,
+  Some,
+  None,
+  slice_get,
+}
 use Rattle.calloop_wake.specs.declared.error.Error.{Error}
-use Rattle.calloop_wake.specs.declared.error.Error.TheVariants.{InvalidToken, IoError, OtherError, OutOfMemory, TooManySources, TooManyTokens, TooManyTimers, TooManyTickets, OwnTurn}
+use Rattle.calloop_wake.specs.declared.error.Error.TheVariants.{
+  InvalidToken,
+  IoError,
+  OtherError,
+  OutOfMemory,
+  TooManySources,
+  TooManyTokens,
+  TooManyTimers,
+  TooManyTickets,
+  OwnTurn,
+}
 use Rattle.calloop_wake.specs.declared.token.RegistrationToken.{RegistrationToken}
 use Rattle.calloop_wake.specs.declared.list.Content.{Content}
 use Rattle.calloop_wake.specs.declared.list.Content.TheVariants.{Vacant, Source, InTurn}
@@ -67,8 +100,8 @@ first_changed free f new (x ∷ xs) = if free x then f x ∷ xs else x ∷ first
 abbrev pub taken_up : {S : Type 0} → Slot S → Slot S
 taken_up s = record { version = (s.version + 1) % 65536; content = InTurn }
 
--- the list after calloop's vacant_entry: the first vacant slot is used again, or a new one is added, for a source that is
--- registered meanwhile; calloop puts the source there first
+-- the list after calloop's vacant_entry: the first vacant slot is used again, or a new one is added, for a source that
+-- is registered meanwhile; calloop puts the source there first
 abbrev pub claimed : {S : Type 0} → List (Slot S) → List (Slot S)
 claimed ss = first_changed is_vacant taken_up (record { version = 0; content = InTurn }) ss
 

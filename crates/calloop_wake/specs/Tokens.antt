@@ -22,6 +22,10 @@ pub record IsToken (t : Token) : Type 0 where
 abbrev pub registration_of : Token → RegistrationToken
 registration_of t = record { slot = t.slot; version = t.version }
 
+-- how many tokens a factory can give; calloop panics at the next one, too
+abbrev pub most_tokens : ℕ
+most_tokens = 65535
+
 -- what a factory gives next: the count is the sub-id, as in calloop's TokenFactory
 abbrev pub next_token : TokenFactory → Token
 next_token f = record { slot = f.registration.slot; version = f.registration.version; sub_id = f.given }

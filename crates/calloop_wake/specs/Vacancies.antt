@@ -1,6 +1,30 @@
 -- The set of the vacant slots, as bits in levels of words, the highest level first: a bit above the lowest level stands
 -- for a word of the level below, so that the first vacancy is found without a walk. calloop has no set, and walks.
-use Rattle.std.specs.Prelude.{◌≡◌, ℕ, zero, suc, ◌*◌, ◌/◌, ◌%◌, ◌^◌, ◌<◌, ◌≤◌, Bool, true, false, not, if◌then◌else◌, nat_eq, nat_lt, List, [], ◌∷◌, ◌++◌, length, get_or}
+use Rattle.std.specs.Prelude.{
+  ◌≡◌,
+  ℕ,
+  zero,
+  suc,
+  ◌*◌,
+  ◌/◌,
+  ◌%◌,
+  ◌^◌,
+  ◌<◌,
+  ◌≤◌,
+  Bool,
+  true,
+  false,
+  not,
+  if◌then◌else◌,
+  nat_eq,
+  nat_lt,
+  List,
+  [],
+  ◌∷◌,
+  ◌++◌,
+  length,
+  get_or,
+}
 use Rattle.std.specs.Int.{bit_at}
 use Rattle.calloop_wake.specs.declared.list.Slot.{Slot}
 use Rattle.calloop_wake.specs.declared.vacancies.Taken.{Taken}
@@ -57,7 +81,8 @@ pub record Takes (vacant : ℕ → Bool) (at : ℕ) (taken : Taken) (old new : L
   pub found : said vacant old at ≡ true → vacant taken.slot ≡ true
   pub least : ((q : ℕ) → q < at → said vacant old q ≡ false) → (j : ℕ) → j < taken.slot → vacant j ≡ false
   pub levels : said vacant old at ≡ true → AreLevels (with_slot taken.slot false vacant) new
-  pub above : said vacant old at ≡ true → (q : ℕ) → said (with_slot taken.slot false vacant) new q ≡ with_slot at (not taken.emptied) (said vacant old) q
+  pub above : said vacant old at ≡ true → (q : ℕ)
+      → said (with_slot taken.slot false vacant) new q ≡ with_slot at (not taken.emptied) (said vacant old) q
 
 -- the first slot that is vacant
 pub record IsFirst (vacant : ℕ → Bool) (slot : ℕ) : Type 0 where

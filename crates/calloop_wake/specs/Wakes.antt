@@ -1,8 +1,39 @@
 -- The wake machine: cells, a board and a loop, and every step that any party may take, in any order. In calloop the
--- kernel does these steps, for the descriptors of pings and the poller that waits for them; here they are steps on values.
-use Rattle.std.specs.Prelude.{◌≡◌, ◌≢◌, ℕ, ◌+◌, ◌-◌, ◌<◌, Bool, true, false, if◌then◌else◌, ◌⊎◌, List, [], ◌∷◌, Option, Some, None, nat_eq, nat_lt, ◌&&◌}
+-- kernel does these steps, for the descriptors of pings and the poller that waits for them; here they are steps on
+-- values.
+use Rattle.std.specs.Prelude.{
+  ◌≡◌,
+  ◌≢◌,
+  ℕ,
+  ◌+◌,
+  ◌-◌,
+  ◌<◌,
+  Bool,
+  true,
+  false,
+  if◌then◌else◌,
+  ◌⊎◌,
+  List,
+  [],
+  ◌∷◌,
+  Option,
+  Some,
+  None,
+  nat_eq,
+  nat_lt,
+  ◌&&◌,
+}
 use Rattle.calloop_wake.specs.Cells.{one}
-use Rattle.calloop_wake.specs.Boards.{is_open, is_marked, any_marked, wakes, after_open_place, after_close_place, after_post, after_unpost}
+use Rattle.calloop_wake.specs.Boards.{
+  is_open,
+  is_marked,
+  any_marked,
+  wakes,
+  after_open_place,
+  after_close_place,
+  after_post,
+  after_unpost,
+}
 use Rattle.calloop_wake.specs.declared.wake.board.Place.{Place}
 
 -- a kind of cells, as the cells of pings: what the machine reads of a cell, and what its steps do to one
@@ -56,7 +87,7 @@ pub data Loop : Type 0 where
   Awake Looked Asleep : Loop
 
 -- all that the steps change; a turn that stands open is in its cell, as `draining`
-pub record World (C : Type 0) : Type 0 where
+pub record WakeWorld (C : Type 0) : Type 0 where
   -- a cell for each number; one that nobody uses is fresh
   pub cells : ℕ → C
   pub board : List Place
@@ -75,7 +106,7 @@ pub record World (C : Type 0) : Type 0 where
   pub loop : Loop
 
 -- nothing has happened
-abbrev pub start : {C : Type 0} → (ℕ → C) → World C
+abbrev pub start : {C : Type 0} → (ℕ → C) → WakeWorld C
 start fresh =
     record {
       cells = fresh;
@@ -90,17 +121,17 @@ start fresh =
     }
 
 -- A step of any party. A ping's own steps, set key, clear key and open turn are calloop's writes to a descriptor, its
--- registration, the taking back of it, and process_events; place, post, look and unpost are the kernel's poller; nudge, sleep
--- and return are the wait.
-pub data Step (O : Type 0) : Type 0 where
+-- registration, the taking back of it, and process_events; place, post, look and unpost are the kernel's poller; nudge,
+-- sleep and return are the wait.
+pub data WakeStep (O : Type 0) : Type 0 where
   -- one of the steps that only this kind has
-  At : (cell : ℕ) (own : O) → Step O
-  ClearKey : (cell : ℕ) (by_drop : Bool) → Step O
-  SetKey OpenTurn : (cell key : ℕ) → Step O
-  OpenPlace ClosePlace Post Back : (key : ℕ) → Step O
+  At : (cell : ℕ) (own : O) → WakeStep O
+  ClearKey : (cell : ℕ) (by_drop : Bool) → WakeStep O
+  SetKey OpenTurn : (cell key : ℕ) → WakeStep O
+  OpenPlace ClosePlace Post Back : (key : ℕ) → WakeStep O
   -- the posted keys below this bound are taken
-  Unpost : (below : ℕ) → Step O
-  Look Nudge Sleep Return : Step O
+  Unpost : (below : ℕ) → WakeStep O
+  Look Nudge Sleep Return : WakeStep O
 
 -- the cells, with this one in the place of the cell of that number
 abbrev pub with_cell : {C : Type 0} → ℕ → C → (ℕ → C) → ℕ → C
@@ -109,7 +140,7 @@ with_cell n c cells j = if nat_eq j n then c else cells j
 -- What a step needs: the value that it spends, and of the loop its place. A place is opened where the key has none,
 -- and the loop sleeps after a look that found no mark. A wait of zero needs no
 -- look: it returns to a loop that is awake.
-abbrev pub Needs : (K : Kind) → World K.Cell → Step K.Own → Type 0
+abbrev pub Needs : (K : Kind) → WakeWorld K.Cell → WakeStep K.Own → Type 0
 Needs K w (At n s) = K.Needs s (w.cells n)
 Needs K w (SetKey n k) = 0 < w.opened k
 Needs K w (OpenTurn n k) = 0 < w.passes k
@@ -125,7 +156,7 @@ Needs K w Sleep = w.loop ≡ Looked
 Needs K w Return = w.loop ≢ Looked
 
 -- the world after a step: cell and board change as the contracts of the working functions say
-abbrev pub after : (K : Kind) → World K.Cell → Step K.Own → World K.Cell
+abbrev pub after : (K : Kind) → WakeWorld K.Cell → WakeStep K.Own → WakeWorld K.Cell
 after K w (At n s) =
     record w {
       cells = with_cell n (K.after s (w.cells n)) w.cells;
@@ -138,7 +169,11 @@ after K w (SetKey n k) =
       debts = and_any (owed_at K k (w.cells n)) w.debts;
       leaves = and_any (K.key (w.cells n)) w.leaves;
     }
-after K w (ClearKey n by_drop) = record w { cells = with_cell n (K.unkeyed by_drop (w.cells n)) w.cells; leaves = and_any (K.key (w.cells n)) w.leaves }
+after K w (ClearKey n by_drop) =
+    record w {
+      cells = with_cell n (K.unkeyed by_drop (w.cells n)) w.cells;
+      leaves = and_any (K.key (w.cells n)) w.leaves;
+    }
 -- a pass that is refused stays where it is
 after K w (OpenTurn n k) =
     record w {
@@ -154,28 +189,31 @@ after K w (Back k) = record w { passes = less_one k w.passes; debts = and_one k 
 -- the leave to sleep is given where no key is marked
 after K w Look = record w { loop = if any_marked w.board then Awake else Looked }
 after K w (Unpost below) =
-    record w { board = after_unpost below w.board; passes = λ j. w.passes j + one (is_marked j w.board && nat_lt j below) }
+    record w {
+      board = after_unpost below w.board;
+      passes = λ j. w.passes j + one (is_marked j w.board && nat_lt j below);
+    }
 after K w Nudge = record w { nudges = w.nudges - 1; signal = true }
 after K w Sleep = record w { loop = Asleep }
 -- the wait returns, and takes the signal with it
 after K w Return = record w { signal = false; loop = Awake }
 
 -- a schedule: any list of steps, by any number of parties, where each finds what it needs
-abbrev pub IsSchedule : (K : Kind) → World K.Cell → List (Step K.Own) → Type 0
+abbrev pub IsSchedule : (K : Kind) → WakeWorld K.Cell → List (WakeStep K.Own) → Type 0
 IsSchedule K w [] = Unit {0}
 IsSchedule K w (s ∷ ss) = Needs K w s × IsSchedule K (after K w s) ss
 
 -- the world after a list of steps
-abbrev pub after_all : (K : Kind) → World K.Cell → List (Step K.Own) → World K.Cell
+abbrev pub after_all : (K : Kind) → WakeWorld K.Cell → List (WakeStep K.Own) → WakeWorld K.Cell
 after_all K w [] = w
 after_all K w (s ∷ ss) = after_all K (after K w s) ss
 
 -- a key is posted, owed, or held as a pass
-abbrev pub IsKnown : {C : Type 0} → World C → ℕ → Type 0
+abbrev pub IsKnown : {C : Type 0} → WakeWorld C → ℕ → Type 0
 IsKnown w k = (is_marked k w.board ≡ true) ⊎ (0 < w.debts k) ⊎ (0 < w.passes k)
 
 -- nothing that a cell was given is lost; calloop rests on the kernel for all three
-pub record IsCovered (K : Kind) (w : World K.Cell) : Type 0 where
+pub record IsCovered (K : Kind) (w : WakeWorld K.Cell) : Type 0 where
   -- what mustn't be lost in a cell is pinged, or a turn of the cell stands open
   pub standing : (n : ℕ) → K.IsStanding (w.cells n)
   -- a pinged cell's key is known

@@ -1,5 +1,5 @@
--- How a wheel holds the armed deadlines: in a map from deadline and counter to the token, and in one from the counter to the
--- deadline. calloop has a heap alone, and walks it to cancel.
+-- How a wheel holds the armed deadlines: in a map from deadline and counter to the token, and in one from the counter
+-- to the deadline. calloop has a heap alone, and walks it to cancel.
 use Rattle.std.specs.Prelude.{◌≡◌, ℕ, ◌∷◌, [], List, map, if◌then◌else◌, Option, None, Some}
 use Rattle.std.specs.Ordering.{nat_cmp}
 use Rattle.std.specs.BTreeMap.{is_at}
@@ -27,7 +27,8 @@ deadline_of counter (e ∷ es) = if is_of counter e then Some e.deadline else de
 
 -- the second map has for each counter the deadline of its entry
 abbrev pub NameTheSame : List Entry → (by_counter : List (ℕ × Instant)) → Type 0
-NameTheSame entries by_counter = (counter : ℕ) → lookup (is_at (nat_cmp counter)) by_counter ≡ deadline_of counter entries
+NameTheSame entries by_counter =
+    (counter : ℕ) → lookup (is_at (nat_cmp counter)) by_counter ≡ deadline_of counter entries
 
 pub record IsWheel (by_due : List (Due × Token)) (by_counter : List (ℕ × Instant)) (next : ℕ) : Type 0 where
   pub ordered : IsOrdered (record { entries = entries_of by_due; next = next })

@@ -221,7 +221,7 @@ impl<S: Drop> SourceList<S> {
     /// only where a new slot is to be added. After a refusal the list is as it was. Calloop panics or aborts there.
     ///
     /// It reads at most six words to find the slot, however many there are. Calloop walks its slots.
-    pub fn vacant(&mut self, steps: &mut Steps) -> Result<RegistrationToken>
+    pub fn vacant_entry(&mut self, steps: &mut Steps) -> Result<RegistrationToken>
         requires { steps.old ≡ 0 }
         ensures ok { IfOk result (λ t. (t ≡ next_registration self.old) × (self.new ≡ claimed self.old)) }
         ensures within { IfOk result (λ t. (t.slot < length self.new) × (t.slot < 2 ^ 32)) }

@@ -1,6 +1,6 @@
 //! The names of registrations and of their parts. From calloop's `token.rs`, and its `TokenFactory`.
 ghost use Rattle.std.specs.Prelude.{◌≡◌, ◌≢◌, ◌↔◌, ℕ, ◌-◌, ◌^◌, ◌<◌, IfOk, IfErr, IsErr};
-ghost use Rattle.calloop_wake.specs.Tokens.{IsToken, key_of, token_of, registration_of, next_token, after_token};
+ghost use Rattle.calloop_wake.specs.Tokens.{IsToken, key_of, token_of, registration_of, next_token, after_token, most_tokens};
 ghost use Rattle.calloop_wake.specs.declared.error.Error.TheVariants.{TooManyTokens};
 ghost use Rattle.calloop_wake.specs.declared.token.Token.{Token};
 ghost use Rattle.calloop_wake.specs.declared.token.TokenFactory.{TokenFactory};
@@ -111,7 +111,7 @@ impl TokenFactory {
     /// After these it refuses with `TooManyTokens`, each time, and stays as it is. Calloop panics there.
     pub fn token(&mut self) -> Result<Token>
         ensures ok { IfOk result (λ t. (t ≡ next_token self.old) × (self.new ≡ after_token self.old)) }
-        ensures refuses { IsErr result ↔ (self.old.given ≡ 65535) }
+        ensures refuses { IsErr result ↔ (self.old.given ≡ most_tokens) }
         ensures err { IfErr result (λ e. (e ≡ TooManyTokens) × (self.new ≡ self.old)) }
         ensures not_the_poller { IfOk result (λ t. key_of t ≢ 2 ^ 64 - 1) }
     {
@@ -135,5 +135,5 @@ pub fn keys_differ()
 
 /// Tokens that factories of one registration give at different counts differ, and so do their keys.
 pub fn factory_tokens_differ()
-    ensures { (f g : TokenFactory) → f.registration ≡ g.registration → f.given < 65535 → g.given < 65535 → f.given ≢ g.given → (next_token f ≢ next_token g) × (key_of (next_token f) ≢ key_of (next_token g)) }
+    ensures { (f g : TokenFactory) → f.registration ≡ g.registration → f.given < most_tokens → g.given < most_tokens → f.given ≢ g.given → (next_token f ≢ next_token g) × (key_of (next_token f) ≢ key_of (next_token g)) }
 {}

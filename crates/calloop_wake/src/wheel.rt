@@ -63,14 +63,14 @@ struct Due {
 /// The armed deadlines, in the order in which they come due: by deadline, then by counter. Calloop keeps a heap, in
 /// which those of one deadline come in any order, and counters of 32 bits, which run out in silence.
 #[derive(Drop)]
-pub struct Wheel {
+pub struct TimerWheel {
     by_due: BTreeMap<Due, Token>,
     // The deadline of each counter that has one.
     by_counter: BTreeMap<u64, Instant>,
     counter: u64,
 }
 
-impl Model for Wheel {
+impl Model for TimerWheel {
     ghost use Rattle.calloop_wake.specs.Deadlines.{Deadlines};
     ghost use Rattle.calloop_wake.specs.Wheels.{entries_of, IsWheel};
 
@@ -144,12 +144,12 @@ fn take_first(
     })
 }
 
-impl Wheel {
+impl TimerWheel {
     /// No deadline, and the counters from 0 on. It allocates nothing yet.
-    pub fn new(alloc: Global) -> Wheel
+    pub fn new(alloc: Global) -> TimerWheel
         ensures { result ≡ record { entries = []; next = 0 } }
     {
-        Wheel {
+        TimerWheel {
             by_due: BTreeMap::new(alloc),
             by_counter: BTreeMap::new(alloc),
             counter: 0,

@@ -16,7 +16,7 @@ use calloop_wake::wake::watch::{Watch, WatchedBoard};
 use calloop_wake::wake::{
     Debt, Last, LeaveToClose, Notify, OpenedPass, PingTurn, Sender, TakenPass, Twin,
 };
-use calloop_wake::wheel::{Instant, Wheel};
+use calloop_wake::wheel::{Instant, TimerWheel};
 use counted_slot::Fits;
 use std::alloc::{AllocError, Global};
 use std::collections::VecDeque;
@@ -154,7 +154,7 @@ fn claimed_slots_count_up(rt: HostRuntime) {
 #[test]
 fn a_source_in_its_slot_can_be_changed(rt: HostRuntime) {
     let mut list = SourceList::new(rt.alloc());
-    let token = list.vacant(&mut Steps::new()).expect(&rt, "a slot");
+    let token = list.vacant_entry(&mut Steps::new()).expect(&rt, "a slot");
     assert_eq!(rt; list.end_turn(token, 5u8), None);
     if let Ok(source) = list.get_mut(token) {
         *source = 6;
@@ -166,7 +166,7 @@ fn a_source_in_its_slot_can_be_changed(rt: HostRuntime) {
 #[test]
 fn a_source_in_its_turn_is_not_found(rt: HostRuntime) {
     let mut list = SourceList::new(rt.alloc());
-    let token = list.vacant(&mut Steps::new()).expect(&rt, "a slot");
+    let token = list.vacant_entry(&mut Steps::new()).expect(&rt, "a slot");
     assert_eq!(rt; list.end_turn(token, 6u8), None);
     assert_eq!(rt; list.begin_turn(token), Some(6));
     assert_eq!(rt; list.begin_turn(token), None);
@@ -176,7 +176,7 @@ fn a_source_in_its_turn_is_not_found(rt: HostRuntime) {
 #[test]
 fn a_vacated_slot_hands_its_source_back(rt: HostRuntime) {
     let mut list = SourceList::new(rt.alloc());
-    let token = list.vacant(&mut Steps::new()).expect(&rt, "a slot");
+    let token = list.vacant_entry(&mut Steps::new()).expect(&rt, "a slot");
     list.vacate(token);
     assert_eq!(rt; list.end_turn(token, 6u8), Some(6));
     assert!(rt; is_no_token(&list, token));
@@ -208,7 +208,7 @@ fn a_slot_that_is_used_65536_times_again_has_its_first_token(rt: HostRuntime) {
         assert!(rt; claims(&mut list, token), "{version}");
         list.vacate(token);
     }
-    let again = list.vacant(&mut Steps::new()).expect(&rt, "the slot");
+    let again = list.vacant_entry(&mut Steps::new()).expect(&rt, "the slot");
     assert_eq!(rt; again, RegistrationToken::new(0, 0));
     assert_eq!(rt; list.end_turn(again, 7u8), None);
     assert!(rt; matches!(list.get(again), Ok(7)));
@@ -458,7 +458,7 @@ fn gone() -> Error {
 // Whether the next claim gives this token, and reads six words at most.
 fn claims(list: &mut SourceList<u8>, token: RegistrationToken) -> bool {
     let mut steps = Steps::new();
-    let claimed = list.vacant(&mut steps);
+    let claimed = list.vacant_entry(&mut steps);
     matches!(claimed, Ok(given) if given == token) && steps.count() <= 6
 }
 
@@ -952,8 +952,8 @@ fn at(nanos: u64) -> Instant {
 }
 
 // A wheel with these deadlines, under the counters from 0 on.
-fn wheel_of<R: Abort>(rt: &R, alloc: Global, deadlines: &[u64]) -> Wheel {
-    let mut wheel = Wheel::new(alloc);
+fn wheel_of<R: Abort>(rt: &R, alloc: Global, deadlines: &[u64]) -> TimerWheel {
+    let mut wheel = TimerWheel::new(alloc);
     for deadline in deadlines {
         let armed = wheel.insert(at(*deadline), Token::from_key(0));
         assert!(rt; armed.is_ok());
@@ -962,7 +962,7 @@ fn wheel_of<R: Abort>(rt: &R, alloc: Global, deadlines: &[u64]) -> Wheel {
 }
 
 // Whether just these deadlines, with their counters, are due by now: it takes them out.
-fn has_due(wheel: &mut Wheel, now: u64, wanted: &[(u64, u64)]) -> bool {
+fn has_due(wheel: &mut TimerWheel, now: u64, wanted: &[(u64, u64)]) -> bool {
     for (deadline, counter) in wanted {
         match wheel.next_expired(at(now)) {
             Some(entry) if entry.deadline.nanos == *deadline && entry.counter == *counter => {}
@@ -973,7 +973,7 @@ fn has_due(wheel: &mut Wheel, now: u64, wanted: &[(u64, u64)]) -> bool {
 }
 
 // Arms the counter again, where it isn't armed.
-fn arm_again(wheel: &mut Wheel, counter: u64, deadline: u64) -> Result<(), Error> {
+fn arm_again(wheel: &mut TimerWheel, counter: u64, deadline: u64) -> Result<(), Error> {
     if wheel.is_armed(counter) {
         return Ok(());
     }

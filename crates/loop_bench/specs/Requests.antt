@@ -11,7 +11,8 @@ use Rattle.loop_bench.specs.declared.request.Request.TheVariants.{Check, Measure
 -- a whole number from 1 to 2^32 - 1, in decimal digits, with or without a plus before it
 abbrev pub IsNumber : List ℕ → ℕ → Type 0
 IsNumber word n =
-    IsNumeral 10 (without_leading_plus word) × (n ≡ digits_value 10 (without_leading_plus word)) × (0 < n) × (n < 2 ^ 32)
+    IsNumeral 10 (without_leading_plus word) × (n ≡ digits_value 10 (without_leading_plus word)) × (0 < n)
+    × (n < 2 ^ 32)
 
 -- the row that three words ask for: its name, its count and its size
 abbrev pub IsRow : (kind count size : List ℕ) → Row → Type 0

@@ -2,7 +2,16 @@
 use Rattle.std.specs.Prelude.{ℕ, ◌*◌, min, Bool, List, nat_eq, codes}
 use Rattle.std.specs.Cmp.Lexicographic.{pointwise}
 use Rattle.loop_bench.specs.declared.row.Kind.{Kind}
-use Rattle.loop_bench.specs.declared.row.Kind.TheVariants.{RingAndDispatch, TimersFired, TimersCancelled, InsertAndRemove, IdleDispatch, IdleBesidePings, PingsServed, ReadableSockets}
+use Rattle.loop_bench.specs.declared.row.Kind.TheVariants.{
+  RingAndDispatch,
+  TimersFired,
+  TimersCancelled,
+  InsertAndRemove,
+  IdleDispatch,
+  IdleBesidePings,
+  PingsServed,
+  ReadableSockets,
+}
 
 abbrev pub name_of : Kind → List ℕ
 name_of RingAndDispatch = codes "ring_and_dispatch"
@@ -17,7 +26,8 @@ name_of ReadableSockets = codes "readable_sockets"
 abbrev pub is_named : List ℕ → Kind → Bool
 is_named name kind = pointwise nat_eq (name_of kind) name
 
--- in how many steps the time of a row is divided: each timer that fires is one, and each ping that is inserted and served
+-- in how many steps the time of a row is divided: each timer that fires is one, and each ping that is inserted and
+-- served
 abbrev pub operations_of : Kind → (count size : ℕ) → ℕ
 operations_of RingAndDispatch count size = count
 operations_of TimersFired count size = count * size
@@ -28,7 +38,8 @@ operations_of IdleBesidePings count size = count
 operations_of PingsServed count size = count * size
 operations_of ReadableSockets count size = count
 
--- how many callbacks a row calls: one for each ring, one for each timer that fires, and one for each socket that a wait tells of
+-- how many callbacks a row calls: one for each ring, one for each timer that fires, and one for each socket that a wait
+-- tells of
 abbrev pub calls_of : Kind → (count size : ℕ) → ℕ
 calls_of RingAndDispatch count size = count
 calls_of TimersFired count size = count * size

@@ -5,16 +5,16 @@ use Rattle.std.specs.Io.KnownBytes.{Appends}
 use Rattle.std.specs.Io.BufRead.{drop_through}
 use Rattle.looptrace.specs.Lines.{lines_of, first_of}
 use Rattle.looptrace.specs.Texts.{next_number, error_text}
-use Rattle.looptrace.specs.Traces.{Written, Step, Writes, before}
+use Rattle.looptrace.specs.Traces.{Written, LineStep, Writes, before}
 
 -- what was written so far and what the rest may write are what all may write
-abbrev pub Ran : {S : Type 0} → Step S → S → Option (List ℕ) → Option (List ℕ) → Option (List ℕ) → Option (List ℕ) → S → ℕ → Type 0
+abbrev pub Ran : {S : Type 0} → LineStep S → S → Option (List ℕ) → Option (List ℕ) → Option (List ℕ) → Option (List ℕ) → S → ℕ → Type 0
 Ran step start first now out0 out state number =
     IfSome first (λ all. (rest : List ℕ) × (said : List ℕ) × (now ≡ Some rest) × Appends out0 out said
     × ((later : Written) → Writes step state number (lines_of rest) later → Writes step start 1 (lines_of all) (before said later)))
 
 -- a whole run wrote what its lines may write
-abbrev pub RanAll : {S : Type 0} → Step S → S → Option (List ℕ) → Option (List ℕ) → Option (List ℕ) → Option (List ℕ) → Option (List ℕ) → ℕ → Type 0
+abbrev pub RanAll : {S : Type 0} → LineStep S → S → Option (List ℕ) → Option (List ℕ) → Option (List ℕ) → Option (List ℕ) → Option (List ℕ) → ℕ → Type 0
 RanAll step start first out0 out err0 err status =
     IfSome first (λ all. (w : Written) × Writes step start 1 (lines_of all) w × Appends out0 out w.out × Appends err0 err w.err × (status ≡ w.status))
 
@@ -35,7 +35,7 @@ appends-nil (Some a) = sym (append-nil a)
 before-on : (xs ys : List ℕ) (w : Written) → before xs (before ys w) ≡ before (xs ++ ys) w
 before-on xs ys w = ap (λ l. record { out = l; err = w.err; status = w.status }) (sym (append_assoc xs ys w.out))
 
-module _ (S : Type 0) (step : Step S) (start : S) where
+module _ (S : Type 0) (step : LineStep S) (start : S) where
   -- what a runner's answer to one line said
   abbrev pub Answered : S → S → List ℕ → List ℕ → List ℕ → Bool → Type 0
   Answered state after line text0 text read =

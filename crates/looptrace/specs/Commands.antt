@@ -1,11 +1,48 @@
 -- The commands of a script, a line each.
-use Rattle.std.specs.Prelude.{ℕ, ◌+◌, ◌-◌, ◌*◌, ◌^◌, Bool, true, false, ◌&&◌, ◌||◌, List, [], ◌∷◌, length, take, drop, Option, Some, None, nat_lt, nat_le, nat_eq, ◌==◌, if◌then◌else◌, codes}
+use Rattle.std.specs.Prelude.{
+  ℕ,
+  ◌+◌,
+  ◌-◌,
+  ◌*◌,
+  ◌^◌,
+  Bool,
+  true,
+  false,
+  ◌&&◌,
+  ◌||◌,
+  List,
+  [],
+  ◌∷◌,
+  length,
+  take,
+  drop,
+  Option,
+  Some,
+  None,
+  nat_lt,
+  nat_le,
+  nat_eq,
+  ◌==◌,
+  if◌then◌else◌,
+  codes,
+}
 use Rattle.std.specs.List.{list_all, starts_with, position}
 use Rattle.std.specs.Option.{option_map}
 use Rattle.std.specs.Cmp.Lexicographic.{pointwise}
 use Rattle.calloop_core.specs.declared.sys.Readiness.{Readiness}
 use Rattle.looptrace.specs.declared.command.Command.{Command}
-use Rattle.looptrace.specs.declared.command.Command.TheVariants.{Nothing, Ping, Ring, Close, Remove, Answer, Timer, Clock, Fault, Dispatch}
+use Rattle.looptrace.specs.declared.command.Command.TheVariants.{
+  Nothing,
+  Ping,
+  Ring,
+  Close,
+  Remove,
+  Answer,
+  Timer,
+  Clock,
+  Fault,
+  Dispatch,
+}
 
 -- `0` to `9`
 abbrev pub is_digit : ℕ → Bool
@@ -26,7 +63,8 @@ name_of word = if is_name word then Some word else None
 -- the value of more digits after those of this value, where it fits 64 bits
 abbrev pub digits_from : ℕ → List ℕ → Option ℕ
 digits_from value [] = Some value
-digits_from value (b ∷ bs) = if is_digit b && nat_lt (value * 10 + (b - 48)) (2 ^ 64) then digits_from (value * 10 + (b - 48)) bs else None
+digits_from value (b ∷ bs) =
+    if is_digit b && nat_lt (value * 10 + (b - 48)) (2 ^ 64) then digits_from (value * 10 + (b - 48)) bs else None
 
 -- a decimal number of 64 bits with no leading zero but 0 itself
 abbrev pub number_of : List ℕ → Option ℕ
@@ -108,11 +146,14 @@ clock_of word = option_map Clock (number_of word)
 
 -- a command with a timeout
 abbrev pub dispatch_of : List ℕ → Option Command
-dispatch_of line = if starts_with nat_eq line (codes "dispatch ") then option_map Dispatch (timeout_of (drop 9 line)) else None
+dispatch_of line =
+    if starts_with nat_eq line (codes "dispatch ") then option_map Dispatch (timeout_of (drop 9 line)) else None
 
 -- a removal, an event, or a dispatch
 unfoldable pub other_of : List ℕ → Option Command
-other_of line = if starts_with nat_eq line (codes "remove ") then remove_of (drop 7 line) else if starts_with nat_eq line (codes "answer ") then answer_of (drop 7 line) else dispatch_of line
+other_of line =
+    if starts_with nat_eq line (codes "remove ") then remove_of (drop 7 line)
+    else if starts_with nat_eq line (codes "answer ") then answer_of (drop 7 line) else dispatch_of line
 
 -- the command of a line, where the line can be read
 abbrev pub command_of : List ℕ → Option Command

@@ -8,7 +8,13 @@ use Rattle.std.specs.Duration.{as_nanos}
 use Rattle.std.specs.declared.time.Duration.{Duration}
 use Rattle.calloop_wake.specs.declared.error.Error.{Error}
 use Rattle.calloop_wake.specs.declared.error.Error.TheVariants.{InvalidToken, IoError, OtherError, OutOfMemory}
-use Rattle.calloop_wake.specs.declared.error.Error.TheVariants.{TooManySources, TooManyTokens, TooManyTimers, TooManyTickets, OwnTurn}
+use Rattle.calloop_wake.specs.declared.error.Error.TheVariants.{
+  TooManySources,
+  TooManyTokens,
+  TooManyTimers,
+  TooManyTickets,
+  OwnTurn,
+}
 use Rattle.calloop_wake.specs.declared.error.InsertError.{InsertError}
 use Rattle.calloop_wake.specs.declared.token.RegistrationToken.{RegistrationToken}
 use Rattle.logbook.specs.Pages.{Book}
@@ -18,7 +24,7 @@ use Rattle.calloop_core.specs.declared.sys.script.ScriptAnswer.{ScriptAnswer}
 use Rattle.calloop_core.specs.declared.sys.script.ScriptEvents.{ScriptEvents}
 use Rattle.calloop_core.specs.declared.sys.script.ScriptEnd.TheVariants.{Events, Fault as FaultEnd}
 use Rattle.calloop_core.specs.declared.sys.script.ScriptPoller.{ScriptPoller}
-use Rattle.calloop_core.specs.Pollers.{nanos_of}
+use Rattle.calloop_core.specs.Pollers.{nanos_of, events_per_wait}
 use Rattle.calloop_core.specs.Polls.{is_filled}
 use Rattle.calloop_core.specs.ScriptPollers.{script_outside}
 use Rattle.calloop_core.specs.Timers.{unarmed}
@@ -200,9 +206,9 @@ events_of (Some pending) = pending.events
 
 -- one event more in the pending answer, whose moment is what the clock shows; a 1,025th can't be read
 abbrev pub AnswerLine : {R : Type 0} → State R → (key : ℕ) → Readiness → Option (State R × List ℕ) → Type 0
-AnswerLine s key readiness None = 1024 ≤ length (events_of s.pending)
+AnswerLine s key readiness None = events_per_wait ≤ length (events_of s.pending)
 AnswerLine s key readiness (Some (t, said)) =
-    (length (events_of s.pending) < 1024)
+    (length (events_of s.pending) < events_per_wait)
     × (t ≡ record s {
       pending = Some (record {
         moment = s.loop.poll.poller.moment;

@@ -8,7 +8,8 @@ BeginsWith all front = (rest : List ℕ) × (all ≡ front ++ rest)
 
 -- a source of this name was put into a slot at a version
 abbrev pub insert_text : List ℕ → ℕ → ℕ → List ℕ
-insert_text name slot version = codes "insert " ++ name ++ codes " " ++ decimal slot ++ codes " " ++ decimal version ++ codes "\n"
+insert_text name slot version =
+    codes "insert " ++ name ++ codes " " ++ decimal slot ++ codes " " ++ decimal version ++ codes "\n"
 
 -- a number of nanoseconds, or `-` for none
 abbrev pub timeout_text : Option ℕ → List ℕ

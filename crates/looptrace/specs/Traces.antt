@@ -13,13 +13,14 @@ abbrev pub before : List ℕ → Written → Written
 before text later = record { out = text ++ later.out; err = later.err; status = later.status }
 
 -- what one line may do: the state after it and its text, or nothing where the line can't be read
-abbrev pub Step : Type 0 → Type 1
-Step S = S → List ℕ → Option (S × List ℕ) → Type 0
+abbrev pub LineStep : Type 0 → Type 1
+LineStep S = S → List ℕ → Option (S × List ℕ) → Type 0
 
 -- the lines from this number on may write this, from this state
-abbrev pub Writes : {S : Type 0} → Step S → S → ℕ → List (List ℕ) → Written → Type 0
+abbrev pub Writes : {S : Type 0} → LineStep S → S → ℕ → List (List ℕ) → Written → Type 0
 Writes step state number [] w = w ≡ record { out = []; err = []; status = 0 }
 Writes {S} step state number (line ∷ lines) w =
     (step state line None × (w ≡ record { out = []; err = error_text number; status = 2 }))
     ⊎ ((after : S) × (text : List ℕ) × (later : Written)
-    × step state line (Some (after, text)) × Writes step after (next_number number) lines later × (w ≡ before text later))
+    × step state line (Some (after, text)) × Writes step after (next_number number) lines later
+    × (w ≡ before text later))

@@ -2,7 +2,7 @@ ghost use Rattle.std.specs.Prelude.{◌≡◌, IfOk};
 ghost use Rattle.std.specs.List.{list_all, position};
 ghost use Rattle.looptrace.specs.Commands.{is_name, is_name_byte, name_of, number_of, timeout_of, ping_of, ring_of, close_of, is_space, timer_with, timer_of, remove_with, remove_of, readiness_of, answer_with, answer_of, clock_of, dispatch_of, other_of, command_of};
 
-use crate::name::Name;
+use crate::name::SourceName;
 use calloop::Readiness;
 use std::alloc::{AllocError, Global};
 
@@ -12,17 +12,17 @@ pub enum Command {
     /// An empty line.
     Nothing,
     /// Makes a ping source of this name.
-    Ping(Name),
+    Ping(SourceName),
     /// Rings the ping of this name.
-    Ring(Name),
+    Ring(SourceName),
     /// Drops the ping of this name, which closes its source.
-    Close(Name),
+    Close(SourceName),
     /// Removes the source that this slot and this version name.
     Remove(u64, u64),
     /// Adds an event of this key to the pending answer.
     Answer(u64, Readiness),
     /// Makes a timer of this name, for this deadline in nanoseconds.
-    Timer(Name, u64),
+    Timer(SourceName, u64),
     /// Sets the clock to this moment in nanoseconds.
     Clock(u64),
     /// Lets the next wait fail.
@@ -52,13 +52,13 @@ fn is_a_name(word: &[u8]) -> bool
     are_for_names(word)
 }
 
-fn parse_name(alloc: Global, word: &[u8]) -> Result<Option<Name>, AllocError>
+fn parse_name(alloc: Global, word: &[u8]) -> Result<Option<SourceName>, AllocError>
     ensures { IfOk result (λ name. name ≡ name_of word.now) }
 {
     if !is_a_name(word) {
         return Ok(None);
     }
-    Ok(Some(Name::new(alloc, word)?))
+    Ok(Some(SourceName::new(alloc, word)?))
 }
 
 fn parse_number(word: &[u8]) -> Option<u64>

@@ -10,24 +10,24 @@ use std::marker::Model;
 
 /// The name of a source: owned bytes, which are compared as bytes.
 #[derive(Drop)]
-pub struct Name {
+pub struct SourceName {
     bytes: Vec<u8>,
 }
 
-impl Model for Name {
+impl Model for SourceName {
     ghost Value = { List ℕ };
 
     ghost view = { λ name. name.bytes.items };
 }
 
-impl Name {
+impl SourceName {
     /// A copy of these bytes. An `Err` is want of memory.
-    pub fn new(alloc: Global, bytes: &[u8]) -> Result<Name, AllocError>
+    pub fn new(alloc: Global, bytes: &[u8]) -> Result<SourceName, AllocError>
         ensures { IfOk result (λ name. name ≡ bytes.now) }
     {
         let mut copy = Vec::new(alloc);
         copy.extend_from_slice(bytes)?;
-        Ok(Name { bytes: copy })
+        Ok(SourceName { bytes: copy })
     }
 
     /// Its bytes.
@@ -38,31 +38,31 @@ impl Name {
     }
 }
 
-impl PartialEq for Name {
+impl PartialEq for SourceName {
     ghost eq = { pointwise nat_eq };
 
     ghost laws = { partial_equiv_from_equiv nat_list_eq_equiv };
 
-    fn eq(&self, other: &Name) -> bool {
+    fn eq(&self, other: &SourceName) -> bool {
         self.bytes == other.bytes
     }
 }
 
-impl Eq for Name {
+impl Eq for SourceName {
     ghost laws = { nat_list_eq_equiv };
 }
 
-impl PartialOrd for Name {
+impl PartialOrd for SourceName {
     ghost partial_cmp = { λ a b. Some (slice_cmp nat_cmp a b) };
 
     ghost laws = { texts_po };
 
-    fn partial_cmp(&self, other: &Name) -> Option<Ordering> {
+    fn partial_cmp(&self, other: &SourceName) -> Option<Ordering> {
         Some(self.cmp(other))
     }
 }
 
-impl Ord for Name {
+impl Ord for SourceName {
     ghost cmp = { slice_cmp nat_cmp };
 
     ghost total = { nat_list_cmp_total };
@@ -71,7 +71,7 @@ impl Ord for Name {
 
     ghost matches_eq = { texts_ties };
 
-    fn cmp(&self, other: &Name) -> Ordering {
+    fn cmp(&self, other: &SourceName) -> Ordering {
         self.bytes.cmp(&other.bytes)
     }
 }

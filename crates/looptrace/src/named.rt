@@ -4,7 +4,7 @@ ghost use Rattle.std.specs.Option.{option_map};
 ghost use Rattle.calloop.specs.Pings.{cell_of};
 ghost use Rattle.looptrace.specs.Named.{is_taken, ping_named, with_source, closed};
 
-use crate::name::Name;
+use crate::name::SourceName;
 use calloop::ping::Ping;
 use calloop_wake::wake::Receipt;
 use std::alloc::{AllocError, Global};
@@ -57,7 +57,7 @@ impl<R: Wait + Drop> Named<R> {
 /// The sources of a script, each under its name, which is never given back. No call walks them.
 #[derive(Drop)]
 pub struct Names<R: Wait + Drop> {
-    by_name: BTreeMap<Name, Named<R>>,
+    by_name: BTreeMap<SourceName, Named<R>>,
 }
 
 impl<R: Wait + Drop> Model for Names<R> {
@@ -80,21 +80,21 @@ impl<R: Wait + Drop> Names<R> {
     }
 
     /// Whether some source has this name.
-    pub fn is_taken(&self, name: &Name) -> bool
+    pub fn is_taken(&self, name: &SourceName) -> bool
         ensures { result ≡ is_taken name.now self.now }
     {
         self.by_name.contains_key(name)
     }
 
     /// Rings the open ping of this name. Without a receipt there is none.
-    pub fn ring(&self, name: &Name) -> Option<Receipt>
+    pub fn ring(&self, name: &SourceName) -> Option<Receipt>
         ensures { option_map (λ receipt. receipt.name) result ≡ ping_named name.now self.now }
     {
         self.by_name.get(name)?.ring()
     }
 
     /// Whether an open ping has this name.
-    pub fn has_open_ping(&self, name: &Name) -> bool
+    pub fn has_open_ping(&self, name: &SourceName) -> bool
         ensures { result ≡ is_some (ping_named name.now self.now) }
     {
         match self.by_name.get(name) {
@@ -105,7 +105,7 @@ impl<R: Wait + Drop> Names<R> {
 
     /// Drops the ping of this name. A name that no source has changes nothing.
     #[tactic(auto, using(crate::proofs::NameLemmas::set_value_absent))]
-    pub fn close(&mut self, name: &Name)
+    pub fn close(&mut self, name: &SourceName)
         ensures { self.new ≡ closed name.now self.old }
     {
         if let Some(named) = self.by_name.get_mut(name) {
@@ -115,7 +115,7 @@ impl<R: Wait + Drop> Names<R> {
 
     /// Keeps a name with its ping. Where the name has a source already, that one's ping is dropped. An `Err` is want of
     /// memory, and nothing changes.
-    pub fn insert(&mut self, name: Name, ping: Option<Ping<R>>) -> Result<(), AllocError>
+    pub fn insert(&mut self, name: SourceName, ping: Option<Ping<R>>) -> Result<(), AllocError>
         ensures ok { OnOk result (self.new ≡ with_source name (option_map cell_of ping) self.old) }
         ensures err { OnErr result (self.new ≡ self.old) }
     {

@@ -4,14 +4,14 @@ ghost use Rattle.std.specs.Prelude.{nat_le, length, option_to_list};
 ghost use Rattle.std.specs.Option.{option_map};
 ghost use Rattle.std.specs.IoError.{error_kind};
 ghost use Rattle.std.specs.declared.io.ErrorKind.TheVariants.{OutOfMemory};
-ghost use Rattle.calloop_core.specs.Pollers.{nanos_of};
+ghost use Rattle.calloop_core.specs.Pollers.{nanos_of, events_per_wait};
 ghost use Rattle.calloop_core.specs.Polls.{is_filled};
 ghost use Rattle.calloop.specs.Pings.{cell_of};
 ghost use Rattle.looptrace.specs.Runs.{token_with, removed_text, RemoveLine, Pending, pending_of, events_of, AnswerLine, NextAnswer, fault_after, pending_after, IsTakenBack, word_of, waits_text, answer_text, nanos_in, IsStart, state_of, InsertSays, InsertLine, RingLine, CloseLine, ClockLine, IsReady, DispatchLine, Carried, IsNewPing, IsNewTimer};
 
 use crate::command::{Command, parse};
 use crate::driver::Runner;
-use crate::name::Name;
+use crate::name::SourceName;
 use crate::named::Names;
 use crate::source::{Alarm, Said, Source, Teller};
 use crate::text::{append_insert, append_refused, append_wait};
@@ -133,7 +133,7 @@ fn timeout_of(nanos: Option<u64>) -> Option<Duration>
 // Says what an insertion answered, and keeps its name with its ping where it wasn't refused.
 fn keep<S: Drop, R: Wait + Drop>(
     sources: &mut Names<R>,
-    name: Name,
+    name: SourceName,
     ping: Option<Ping<R>>,
     answer: Result<RegistrationToken, InsertError<S>>,
     text: &mut Vec<u8>,
@@ -151,7 +151,7 @@ fn keep<S: Drop, R: Wait + Drop>(
 
 // Whether no event more fits into the pending answer.
 fn is_full(pending: &Option<PendingAnswer>) -> bool
-    ensures { result ≡ nat_le 1024 (length (events_of (option_map pending_of pending.now))) }
+    ensures { result ≡ nat_le events_per_wait (length (events_of (option_map pending_of pending.now))) }
 {
     match pending {
         Some(pending) => pending.events.is_full(),
@@ -250,7 +250,7 @@ impl<R: Wait + Clone + Drop> ScriptLoop<R> {
         }
     }
 
-    fn ping(&mut self, name: &Name, text: &mut Vec<u8>) -> io::Result<bool>
+    fn ping(&mut self, name: &SourceName, text: &mut Vec<u8>) -> io::Result<bool>
         ensures ok { IfOk result (λ read. MatchBool read
             ((said : List ℕ) × (text.new.items ≡ text.old.items ++ said) × InsertLine (state_of self.old) name.now (IsNewPing name.now) (Some (state_of self.new, said)))
             (InsertLine (state_of self.old) name.now (IsNewPing name.now) None)) }
@@ -260,9 +260,9 @@ impl<R: Wait + Clone + Drop> ScriptLoop<R> {
             return Ok(false);
         }
         let callback = Teller {
-            name: Name::new(self.alloc, name.as_slice())?,
+            name: SourceName::new(self.alloc, name.as_slice())?,
         };
-        let kept = Name::new(self.alloc, name.as_slice())?;
+        let kept = SourceName::new(self.alloc, name.as_slice())?;
         let Ok((ping, source)) = make_ping(&self.rt, self.alloc) else {
             return Err(io::Error::from(io::ErrorKind::OutOfMemory));
         };
@@ -271,7 +271,7 @@ impl<R: Wait + Clone + Drop> ScriptLoop<R> {
         Ok(true)
     }
 
-    fn timer(&mut self, name: &Name, deadline: u64, text: &mut Vec<u8>) -> io::Result<bool>
+    fn timer(&mut self, name: &SourceName, deadline: u64, text: &mut Vec<u8>) -> io::Result<bool>
         ensures ok { IfOk result (λ read. MatchBool read
             ((said : List ℕ) × (text.new.items ≡ text.old.items ++ said) × InsertLine (state_of self.old) name.now (IsNewTimer name.now deadline) (Some (state_of self.new, said)))
             (InsertLine (state_of self.old) name.now (IsNewTimer name.now deadline) None)) }
@@ -281,9 +281,9 @@ impl<R: Wait + Clone + Drop> ScriptLoop<R> {
             return Ok(false);
         }
         let callback = Alarm {
-            name: Name::new(self.alloc, name.as_slice())?,
+            name: SourceName::new(self.alloc, name.as_slice())?,
         };
-        let kept = Name::new(self.alloc, name.as_slice())?;
+        let kept = SourceName::new(self.alloc, name.as_slice())?;
         let source = Timer::from_deadline(Instant { nanos: deadline });
         let answer = self.event_loop.handle().insert_source(source, callback);
         keep(&mut self.sources, kept, None, answer, text)?;
@@ -291,7 +291,7 @@ impl<R: Wait + Clone + Drop> ScriptLoop<R> {
     }
 
     // False where no open ping has this name.
-    fn ring(&mut self, name: &Name) -> bool
+    fn ring(&mut self, name: &SourceName) -> bool
         ensures { MatchBool result
             (RingLine (state_of self.old) name.now (Some (state_of self.new, [])))
             (RingLine (state_of self.old) name.now None) }
@@ -300,7 +300,7 @@ impl<R: Wait + Clone + Drop> ScriptLoop<R> {
     }
 
     // False where no open ping has this name.
-    fn close(&mut self, name: &Name) -> bool
+    fn close(&mut self, name: &SourceName) -> bool
         ensures { MatchBool result
             (CloseLine (state_of self.old) name.now (Some (state_of self.new, [])))
             (CloseLine (state_of self.old) name.now None) }

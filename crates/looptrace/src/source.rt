@@ -4,7 +4,7 @@ ghost use Rattle.std.specs.Option.{option_copied};
 ghost use Rattle.looptrace.specs.Says.{Tells};
 ghost use Rattle.looptrace.specs.Texts.{call_text, alarm_text};
 
-use crate::name::Name;
+use crate::name::SourceName;
 use crate::text::{append_alarm, append_call};
 use calloop::{
     Asking, Callback, Dispatcher, Instant, OneOf, PingSource, Sources, TimeoutAction, Timer,
@@ -69,7 +69,7 @@ impl Said {
 /// Says the name of the ping that is called.
 #[derive(Drop)]
 pub struct Teller {
-    pub name: Name,
+    pub name: SourceName,
 }
 
 impl<Q: Asking> Callback<(), (), (), Said, Q> for Teller {
@@ -85,7 +85,7 @@ impl<Q: Asking> Callback<(), (), (), Said, Q> for Teller {
 /// Says the name of the timer that is called, and the deadline that is handed out.
 #[derive(Drop)]
 pub struct Alarm {
-    pub name: Name,
+    pub name: SourceName,
 }
 
 impl<Q: Asking> Callback<Instant, (), TimeoutAction, Said, Q> for Alarm {

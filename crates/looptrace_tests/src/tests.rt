@@ -8,7 +8,7 @@ use log::{Level, Log, Logged};
 use looptrace::command::{Command, parse};
 use looptrace::driver::{Runner, drive};
 use looptrace::lines::{read_line, without_feed};
-use looptrace::name::Name;
+use looptrace::name::SourceName;
 use looptrace::streams::Streams;
 use looptrace::text::{append_alarm, append_call, append_insert, append_refused, append_wait};
 use looptrace::trace::trace;
@@ -116,7 +116,10 @@ fn a_name_of_1_to_32_letters_and_digits_is_read(rt: HostRuntime) {
 
 #[test]
 fn a_name_keeps_its_bytes(rt: HostRuntime) -> Result<(), Fail> {
-    assert_eq!(rt; Name::new(rt.alloc(), b"z9")?.as_slice(), b"z9".as_slice());
+    assert_eq!(rt;
+        SourceName::new(rt.alloc(), b"z9")?.as_slice(),
+        b"z9".as_slice()
+    );
     Ok(())
 }
 

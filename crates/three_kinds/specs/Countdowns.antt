@@ -5,7 +5,8 @@ use Rattle.calloop_core.specs.Deeds.{Deed, Registered, Reregistered, Unregistere
 use Rattle.three_kinds.specs.declared.countdown.Countdown.{Countdown}
 use Rattle.three_kinds.specs.declared.countdown.CountdownError.{CountdownError}
 
-abbrev pub CallsOnce : {P : Type 0} → Countdown → PollView P → Deed (Heard (Unit {0}) (Unit {0}) (Unit {0}) CountdownError) → Countdown → Type 0
+abbrev pub CallsOnce : {P : Type 0} → Countdown → PollView P
+    → Deed (Heard (Unit {0}) (Unit {0}) (Unit {0}) CountdownError) → Countdown → Type 0
 CallsOnce s v (Registered f answer g) t = Unit {0}
 CallsOnce s v (Reregistered f answer g) t = Unit {0}
 CallsOnce s v (Unregistered answer) t = Unit {0}

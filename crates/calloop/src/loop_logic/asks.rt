@@ -219,10 +219,8 @@ impl<D, I> Requests<D, I> {
         ensures err { IfErr result (λ e. CannotAsk self.old e × (self.new ≡ self.old)) }
         ensures asks { OnlyAsks self.old self.new }
     {
-        match self.write(Request::Enable(*token)) {
-            Ok(ticket) => Ok(ticket),
-            Err(refused) => Err(refused.error),
-        }
+        self.write(Request::Enable(*token))
+            .map_err(|refused| refused.error)
     }
 
     /// Asks for the source that the token names to be registered anew. Its answer is as that of `enable`, but that the source in its
@@ -235,10 +233,8 @@ impl<D, I> Requests<D, I> {
         ensures err { IfErr result (λ e. CannotAsk self.old e × (self.new ≡ self.old)) }
         ensures asks { OnlyAsks self.old self.new }
     {
-        match self.write(Request::Update(*token)) {
-            Ok(ticket) => Ok(ticket),
-            Err(refused) => Err(refused.error),
-        }
+        self.write(Request::Update(*token))
+            .map_err(|refused| refused.error)
     }
 
     /// Asks for the registration of the source that the token names to be taken back. Its answer is as that of `update`.
@@ -250,10 +246,8 @@ impl<D, I> Requests<D, I> {
         ensures err { IfErr result (λ e. CannotAsk self.old e × (self.new ≡ self.old)) }
         ensures asks { OnlyAsks self.old self.new }
     {
-        match self.write(Request::Disable(*token)) {
-            Ok(ticket) => Ok(ticket),
-            Err(refused) => Err(refused.error),
-        }
+        self.write(Request::Disable(*token))
+            .map_err(|refused| refused.error)
     }
 
     /// Asks for the source that the token names to leave the loop. Its answer is `Removed`. The slot of the source in its turn is
@@ -266,10 +260,8 @@ impl<D, I> Requests<D, I> {
         ensures err { IfErr result (λ e. CannotAsk self.old e × (self.new ≡ self.old)) }
         ensures asks { OnlyAsks self.old self.new }
     {
-        match self.write(Request::Remove(token)) {
-            Ok(ticket) => Ok(ticket),
-            Err(refused) => Err(refused.error),
-        }
+        self.write(Request::Remove(token))
+            .map_err(|refused| refused.error)
     }
 
     /// Asks for something to be done once, at the end of a dispatch: of this one, or of the next one where this is asked by what runs

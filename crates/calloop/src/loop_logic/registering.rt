@@ -22,7 +22,7 @@ impl<D: EventDispatcher<P, C, R>, P: Poller, C: Clock, R: Wait + Drop> EventLoop
         ensures others { (self.new.poll ≡ self.old.poll) × (self.new.lifecycle.tokens.items ≡ self.old.lifecycle.tokens.items) × (self.new.pending ≡ self.old.pending) × (self.new.requests ≡ self.old.requests) }
     {
         self.lifecycle.reserve(needed)?;
-        self.sources.vacant(&mut Steps::new())
+        self.sources.vacant_entry(&mut Steps::new())
     }
 
     // Registers a source under this token, and enters it where it is to be told of waits.

@@ -2,7 +2,7 @@
 ghost use Rattle.std.specs.Prelude.{◌≡◌, Bool, List, Option, Result};
 ghost use Rattle.calloop_wake.specs.declared.token.Token.{Token};
 ghost use Rattle.calloop_core.specs.Polls.{PollStep, poll_view, AllStepped};
-ghost use Rattle.calloop_core.specs.Calls.{Call, Went};
+ghost use Rattle.calloop_core.specs.Calls.{CallbackCall, Went};
 ghost use Rattle.calloop_wake.specs.Tokens.{key_of};
 ghost use Rattle.calloop_wake.specs.Cells.{is_own};
 ghost use Rattle.calloop.specs.Pings.{calls_of, action_of};

@@ -3,6 +3,7 @@ ghost use Rattle.std.specs.Prelude.{drop, ◌≡◌, ℕ, ◌+◌, ◌≤◌, []
 ghost use Rattle.std.specs.Borrow.{Lends, sem};
 ghost use Rattle.calloop_wake.specs.declared.error.Error.TheVariants.{OutOfMemory};
 ghost use Rattle.calloop_wake.specs.Boards.{IsRising};
+ghost use Rattle.calloop_core.specs.Pollers.{events_per_wait};
 ghost use Rattle.calloop_core.specs.Polls.{PollView, PollStep, TakePass, PutBack, poll_view, poll_after, with_pass, IsPassOf, IsReady, cut, head_of, gathered, counted, appended, own_event};
 ghost use Rattle.calloop_core.specs.Events.{events_left, events_of};
 ghost use Rattle.std.specs.Arc.{arc_value};
@@ -16,7 +17,7 @@ use batch::Batch;
 use calloop_wake::error::{Error, Result};
 use calloop_wake::token::{RegistrationToken, Token};
 use calloop_wake::wake::TakenPass;
-use calloop_wake::wheel::{Instant, Wheel};
+use calloop_wake::wheel::{Instant, TimerWheel};
 use std::alloc::Global;
 use std::collections::BTreeMap;
 use std::sync::Wait;
@@ -43,7 +44,7 @@ pub struct Poll<P, C, R: Wait + Drop> {
     clock: C,
     table: BTreeMap<u64, Watched>,
     batch: Batch,
-    wheel: Wheel,
+    wheel: TimerWheel,
     // How many keys had places when they were counted last, to reserve room for what they give.
     places: usize,
     events: Vec<(u64, Readiness)>,
@@ -78,7 +79,7 @@ impl<P: Poller, C: Drop, R: Wait + Drop> Poll<P, C, R> {
             clock,
             table: BTreeMap::new(alloc),
             batch: Batch::new(alloc, hub),
-            wheel: Wheel::new(alloc),
+            wheel: TimerWheel::new(alloc),
             places: 0,
             events: Vec::new(alloc),
         })
@@ -128,7 +129,7 @@ impl<P: Poller, C, R: Wait + Drop> Poll<P, C, R> {
 
     // How many events one `poll` can gather at most, with this many posted keys, and so many more.
     fn room(&self, places: usize, more: usize) -> Option<usize>
-        ensures { IfSome result (λ n. n ≡ more + (places + (1024 + length self.now.wheel.entries))) }
+        ensures { IfSome result (λ n. n ≡ more + (places + (events_per_wait + length self.now.wheel.entries))) }
     {
         EVENTS_PER_WAIT
             .checked_add(self.wheel.len())?
@@ -196,9 +197,9 @@ impl<P: Poller, C, R: Wait + Drop> Poll<P, C, R> {
     }
 
     fn gather(&mut self, now: Instant)
-        requires batch { self.old.places + (1024 + length self.old.wheel.entries) ≤ self.old.batch.room }
+        requires batch { self.old.places + (events_per_wait + length self.old.wheel.entries) ≤ self.old.batch.room }
         requires passes { self.old.places ≤ self.old.batch.pass_room }
-        requires events { vec_len self.old.events ≤ 1024 }
+        requires events { vec_len self.old.events ≤ events_per_wait }
         ensures { (posted : List ℕ) × IsRising posted × (poll_view self.new ≡ gathered posted self.old.events.items now.nanos (poll_view self.old)) }
     {
         self.batch

@@ -1,5 +1,6 @@
 //! A poller that answers what it was told to, with a clock of its own: for tests and for recorded answers.
 ghost use Rattle.std.specs.Prelude.{◌≡◌, ℕ, ◌+◌, ◌≤◌, ◌++◌, [], ◌∷◌, List, length, nat_le, false, Option, vec_len, vec_capacity, IsOk, OnOk, OnErr, IfOk, IfErr, is_ok, if◌then◌else◌};
+ghost use Rattle.calloop_core.specs.Pollers.{events_per_wait};
 ghost use Rattle.calloop_core.specs.Polls.{head_of};
 ghost use Rattle.calloop_core.specs.Scripts.{kept_waits};
 ghost use Rattle.calloop_core.specs.declared.sys.Readiness.{Readiness};
@@ -24,7 +25,7 @@ pub use calls::{ScriptCall, ScriptFaults, ScriptIo, ScriptKind};
 #[derive(Drop)]
 pub struct ScriptEvents {
     events: Vec<(u64, Readiness)>,
-    ghost few: { vec_len events ≤ 1024 },
+    ghost few: { vec_len events ≤ events_per_wait },
 }
 
 impl ScriptEvents {
@@ -39,7 +40,7 @@ impl ScriptEvents {
 
     /// Whether there are 1,024, so that no more fits.
     pub fn is_full(&self) -> bool
-        ensures { result ≡ nat_le 1024 (length self.now.events.items) }
+        ensures { result ≡ nat_le events_per_wait (length self.now.events.items) }
     {
         self.events.len() >= EVENTS_PER_WAIT
     }
@@ -52,10 +53,9 @@ impl ScriptEvents {
         if self.events.len() >= EVENTS_PER_WAIT {
             return Err((key, readiness));
         }
-        match self.events.push((key, readiness)) {
-            Ok(()) => Ok(()),
-            Err(failed) => Err(failed.value),
-        }
+        self.events
+            .push((key, readiness))
+            .map_err(|failed| failed.value)
     }
 }
 
@@ -302,9 +302,6 @@ impl Poller for ScriptPoller {
     }
 
     fn notifier(&self) -> LoopResult<Notifier> {
-        match Arc::try_clone(&self.signal) {
-            Ok(signal) => Ok(Notifier::Script(signal)),
-            Err(_) => Err(Error::OutOfMemory),
-        }
+        Ok(Notifier::Script(Arc::try_clone(&self.signal)?))
     }
 }

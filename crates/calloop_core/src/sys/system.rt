@@ -157,9 +157,6 @@ impl<C: Clock> Poller for MioPoller<C> {
     }
 
     fn notifier(&self) -> LoopResult<Notifier> {
-        match Arc::try_clone(&self.waker) {
-            Ok(waker) => Ok(Notifier::Mio(waker)),
-            Err(_) => Err(Error::OutOfMemory),
-        }
+        Ok(Notifier::Mio(Arc::try_clone(&self.waker)?))
     }
 }

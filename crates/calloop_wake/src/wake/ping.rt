@@ -2,7 +2,7 @@
 ghost use Rattle.std.specs.Prelude.{◌≡◌, ◌+◌, ◌<◌, ◌^◌, ◌&&◌, not, true, false, None, Some, List, IfOk, IfErr};
 ghost use Rattle.calloop_wake.specs.Cells.{fresh, one, opens, IsLit, IsStanding, IsTold, IsSince, owed, owed_at, owed_by_drop, after_close, after_add_sender, after_drop_sender, after_clear_key, after_end_turn, in_turn, core_with, core_after_set_key, core_after_ring, core_after_open_turn, twin_of, twin_after_open_turn, receipt_of, turn_of};
 ghost use Rattle.calloop_wake.specs.Passes.{on};
-ghost use Rattle.calloop_wake.specs.Wakes.{Step, start, after_all, IsSchedule, IsCovered};
+ghost use Rattle.calloop_wake.specs.Wakes.{WakeStep, start, after_all, IsSchedule, IsCovered};
 ghost use Rattle.calloop_wake.specs.PingKind.{ping_kind};
 ghost use Rattle.calloop_wake.specs.Lost.{with_a_ring_unseen, with_a_close_unseen, with_a_key_forgotten, with_nobody_told};
 
@@ -40,9 +40,9 @@ pub struct PingCore {
 
 impl Model for PingCore {
     ghost use Rattle.std.specs.Prelude.{◌≡◌, ◌<◌, true, false, ◌≤◌, ◌+◌};
-    ghost use Rattle.calloop_wake.specs.Cells.{Core, IsLit, one};
+    ghost use Rattle.calloop_wake.specs.Cells.{CoreView, IsLit, one};
 
-    ghost Value = { Core };
+    ghost Value = { CoreView };
 
     ghost view = { λ c. record {
       cell = record { rung = c.rung; pinged = c.pinged; draining = c.draining; closed = c.closed; told = c.told; gone = c.gone; key = c.key; senders = c.senders };
@@ -408,7 +408,7 @@ impl CellCore for PingCore {
 /// due, a ring or a close that no turn told, is pinged or a turn stands open; a pinged cell's key is posted, owed or held as a
 /// pass; and where the loop has looked and found no mark, a posted key is told to it by a nudge that is owed or by the signal.
 pub fn covered()
-    ensures { (steps : List (Step ping_kind.Own)) → IsSchedule ping_kind (start (λ _. fresh)) steps
+    ensures { (steps : List (WakeStep ping_kind.Own)) → IsSchedule ping_kind (start (λ _. fresh)) steps
         → IsCovered ping_kind (after_all ping_kind (start (λ _. fresh)) steps) }
 {}
 

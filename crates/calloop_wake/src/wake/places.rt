@@ -49,10 +49,10 @@ impl Places {
         ensures len { length self.new ≤ length self.old + 1 }
         ensures err { IfErr result (λ e. (e ≡ OutOfMemory) × (self.new ≡ self.old)) }
     {
-        match self.by_key.insert(key, None) {
-            Ok(_) => Ok(()),
-            Err(_) => Err(OpenRefusal::OutOfMemory),
-        }
+        self.by_key
+            .insert(key, None)
+            .map_err(|_| OpenRefusal::OutOfMemory)?;
+        Ok(())
     }
 
     /// Closes the place of a key, and gives where the key stood among those that are posted.

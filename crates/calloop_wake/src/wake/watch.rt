@@ -119,13 +119,11 @@ impl WatchedBoard {
         ensures open { is_open key self.old.places ≡ true → result ≡ Err AlreadyExists }
         ensures shut { is_open key self.old.places ≡ false → MatchResult result (λ pass. pass ≡ record { key = key; board = self.old.name }) (λ e. e ≡ OutOfMemory) }
     {
-        match self.board.open_place(key) {
-            Ok(()) => Ok(OpenedPass {
-                key,
-                board: self.name.again(),
-            }),
-            Err(refusal) => Err(refusal),
-        }
+        self.board.open_place(key)?;
+        Ok(OpenedPass {
+            key,
+            board: self.name.again(),
+        })
     }
 
     /// Closes the place of a key of this board that no cell has any more, with its mark.

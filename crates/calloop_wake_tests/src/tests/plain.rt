@@ -5,7 +5,7 @@ use super::{Desk, Ends, arm_again, at, claims, post};
 use calloop_wake::list::SourceList;
 use calloop_wake::steps::Steps;
 use calloop_wake::token::{RegistrationToken, Token};
-use calloop_wake::wheel::{Entry, Wheel};
+use calloop_wake::wheel::{Entry, TimerWheel};
 use std::alloc::{AllocError, Global};
 use std::process::Abort;
 use std::sync::Wait;
@@ -14,7 +14,7 @@ use std::test::Fail;
 #[test]
 fn random_calls_of_a_wheel_are_those_of_a_list(rt: HostRuntime) -> Result<(), Fail> {
     let mut draws = Draws { state: 1 };
-    let mut wheel = Wheel::new(rt.alloc());
+    let mut wheel = TimerWheel::new(rt.alloc());
     let mut armed = Vec::new(rt.alloc());
     for i in 0..400 {
         assert!(rt;
@@ -208,7 +208,7 @@ impl Draws {
 }
 
 // Makes a call of the wheel that is drawn, and the same of the list of deadlines and counters. Whether they agree.
-fn makes_one_call(wheel: &mut Wheel, armed: &mut Vec<(u64, u64)>, draws: &mut Draws) -> bool {
+fn makes_one_call(wheel: &mut TimerWheel, armed: &mut Vec<(u64, u64)>, draws: &mut Draws) -> bool {
     let deadline = draws.below(8);
     let counter = draws.below(100);
     match draws.below(5) {
@@ -230,7 +230,7 @@ fn makes_one_call(wheel: &mut Wheel, armed: &mut Vec<(u64, u64)>, draws: &mut Dr
 }
 
 // Whether the wheel gives the least of the list, where that is due by now; both lose it.
-fn gives_the_first(wheel: &mut Wheel, armed: &mut Vec<(u64, u64)>, now: u64) -> bool {
+fn gives_the_first(wheel: &mut TimerWheel, armed: &mut Vec<(u64, u64)>, now: u64) -> bool {
     let first = armed.iter().min().copied();
     let is_known = wheel.next_deadline() == first.map(|pair| at(pair.0));
     let due = first.filter(|pair| pair.0 <= now);

@@ -18,7 +18,7 @@ use crate::sys::hub::{SharedHub, WatchedHub};
 use calloop_wake::token::{RegistrationToken, Token};
 use calloop_wake::wake::watch::OpenPlaces;
 use calloop_wake::wake::{LeaveToSleep, TakenPass};
-use calloop_wake::wheel::{Entry, Instant, Wheel};
+use calloop_wake::wheel::{Entry, Instant, TimerWheel};
 use std::alloc::{AllocError, Global};
 use std::collections::VecDeque;
 use std::marker::Model;
@@ -128,7 +128,7 @@ fn append_polled(batch: &mut VecDeque<Pending>, events: &[(u64, Readiness)])
 }
 
 // The events of the deadlines that are due, which leave the wheel.
-fn append_due(batch: &mut VecDeque<Pending>, wheel: &mut Wheel, now: Instant)
+fn append_due(batch: &mut VecDeque<Pending>, wheel: &mut TimerWheel, now: Instant)
     requires { deque_len batch.old + length wheel.old.entries ≤ deque_capacity batch.old }
     ensures items { batch.new.items ≡ batch.old.items ++ timer_events (due now.nanos wheel.old.entries) }
     ensures wheel { wheel.new ≡ with_entries (not_due now.nanos wheel.old.entries) wheel.old }
@@ -289,7 +289,7 @@ impl Batch {
         rt: &R,
         places: usize,
         given: &[(u64, Readiness)],
-        wheel: &mut Wheel,
+        wheel: &mut TimerWheel,
         now: Instant,
     )
         requires room { places + (length given.now + length wheel.old.entries) ≤ self.old.room }

@@ -11,7 +11,7 @@ use calloop_wake::wheel::Instant;
 use std::sync::Wait;
 
 impl<P: Poller, C, R: Wait + Drop> Poll<P, C, R> {
-    /// Arms a deadline under the next counter, which it gives. The refusals are those of `Wheel::insert`, and change
+    /// Arms a deadline under the next counter, which it gives. The refusals are those of `TimerWheel::insert`, and change
     /// nothing.
     pub fn insert_timer(&mut self, deadline: Instant, token: Token) -> Result<u64>
         ensures ok { IfOk result (λ counter. (counter ≡ (poll_view self.old).deadlines.next) × (poll_view self.new ≡ poll_after (poll_view self.old) (Arm deadline token))) }
@@ -20,7 +20,7 @@ impl<P: Poller, C, R: Wait + Drop> Poll<P, C, R> {
         self.wheel.insert(deadline, token)
     }
 
-    /// Arms a deadline under a counter that has none now. The refusals are those of `Wheel::insert_reuse`, and change
+    /// Arms a deadline under a counter that has none now. The refusals are those of `TimerWheel::insert_reuse`, and change
     /// nothing.
     pub fn insert_timer_again(
         &mut self,

@@ -1,6 +1,6 @@
 //! The wait.
 ghost use Rattle.std.specs.Prelude.{◌≡◌, ◌↔◌, ℕ, ◌≤◌, true, [], List, Result, Ok, Err, IfOk, IfErr, vec_len, vec_capacity, is_none};
-ghost use Rattle.calloop_core.specs.Pollers.{nanos_of};
+ghost use Rattle.calloop_core.specs.Pollers.{nanos_of, events_per_wait};
 ghost use Rattle.calloop_core.specs.Polls.{poll_view, IsReady};
 ghost use Rattle.calloop_core.specs.declared.sys.Readiness.{Readiness};
 ghost use Rattle.calloop_core.specs.Waits.{IsInterruption, asked_for, is_zero, lesser, time_left, time_to_first, Waited, Polled};
@@ -83,11 +83,11 @@ impl<P: Poller, C, R: Wait + Drop> Poll<P, C, R> {
     // Waits until the poller answers or nothing is left to wait for, and gives the moment of the gathering.
     fn wait<Q: Wait>(&mut self, rt: &Q, timeout: Option<Duration>) -> io::Result<Instant>
         requires events { self.old.events.items ≡ [] }
-        requires room { 1024 ≤ vec_capacity self.old.events }
+        requires room { events_per_wait ≤ vec_capacity self.old.events }
         ensures ok { IfOk result (λ now. Waited P.outside (poll_view self.old) (nanos_of timeout) (Ok now.nanos) self.new.events.items self.new.poller self.new.batch.watch) }
         ensures err { IfErr result (λ cause. (given : List (ℕ × Readiness)) × Waited P.outside (poll_view self.old) (nanos_of timeout) (Err cause) given self.new.poller self.new.batch.watch) }
         ensures others { self.new ≡ record self.old { poller = self.new.poller; batch = record self.old.batch { watch = self.new.batch.watch }; events = self.new.events } }
-        ensures few { vec_len self.new.events ≤ 1024 }
+        ensures few { vec_len self.new.events ≤ events_per_wait }
     {
         let start = self.poller.now();
         let leave = self.batch.look(rt);

@@ -1,6 +1,7 @@
 //! The events of a wait of the machine.
 ghost use Rattle.std.specs.Prelude.{◌≡◌, ◌+◌, ◌≤◌, ◌++◌, [], length, vec_len, vec_capacity, OnErr};
 ghost use Rattle.mio.specs.Events.{items, capacity as events_capacity};
+ghost use Rattle.calloop_core.specs.Pollers.{events_per_wait};
 ghost use Rattle.calloop_core.specs.SystemEvents.{readiness_of, told_events};
 
 use super::OWN_KEY;
@@ -15,8 +16,8 @@ use std::time::Duration;
 #[derive(Drop)]
 pub struct Found {
     events: Events,
-    ghost room: { events_capacity events ≤ 1024 },
-    ghost few: { length (items events) ≤ 1024 },
+    ghost room: { events_capacity events ≤ events_per_wait },
+    ghost few: { length (items events) ≤ events_per_wait },
 }
 
 impl Found {
@@ -36,9 +37,9 @@ impl Found {
 
     /// Appends what the loop is told.
     pub fn append_to(&self, events: &mut Vec<(u64, Readiness)>)
-        requires { vec_len events.old + 1024 ≤ vec_capacity events.old }
+        requires { vec_len events.old + events_per_wait ≤ vec_capacity events.old }
         ensures items { events.new.items ≡ events.old.items ++ told_events (items self.now.events) }
-        ensures few { length (told_events (items self.now.events)) ≤ 1024 }
+        ensures few { length (told_events (items self.now.events)) ≤ events_per_wait }
         ensures room { vec_capacity events.new ≡ vec_capacity events.old }
     {
         append(self.events.iter().as_slice(), events);

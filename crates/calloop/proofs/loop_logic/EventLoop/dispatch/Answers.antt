@@ -3,7 +3,7 @@ use Rattle.std.proofs.lemmas.Result.{err_from_is_err_and}
 use Rattle.calloop_core.specs.Pollers.{nanos_of}
 use Rattle.calloop_core.specs.Polls.{poll_view}
 use Rattle.calloop.specs.Machine.{View, view_of}
-use Rattle.calloop.specs.Rules.{Goes, Beginning, Sleeping, Waiting, Noticing, Cutting, Idling, Leaving, DispatchedBy}
+use Rattle.calloop.specs.Rules.{Goes, Sleeping, Waiting, Noticing, Cutting, Idling, Leaving, DispatchedBy}
 use Rattle.calloop.proofs.Going.{dispatched, begun_then, polled, not_polled, goes_on}
 use Rattle.calloop.proofs.Seen.{did_leads}
 use Rattle.calloop.proofs.loop_logic.EventLoop.dispatch.Goals as goal

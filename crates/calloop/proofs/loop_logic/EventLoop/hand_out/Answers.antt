@@ -1,4 +1,4 @@
-use Rattle.std.proofs.Common.{◌≡◌, length, ◌∙◌, ap, subst, arith, None, Some, List, Ok}
+use Rattle.std.proofs.Common.{◌≡◌, length, ◌∙◌, ap, subst, arith, None, Some, List}
 use Rattle.calloop_wake.specs.declared.list.Content.TheVariants.{InTurn}
 use Rattle.calloop_wake.specs.declared.token.RegistrationToken.{RegistrationToken}
 use Rattle.calloop_wake.specs.declared.list.Slot.{Slot}

@@ -1,4 +1,4 @@
-use Rattle.std.proofs.Common.{Ok, Err}
+use Rattle.std.proofs.Common.{Err}
 use Rattle.std.proofs.lemmas.Result.{err_from_is_err_and}
 use Rattle.calloop.specs.Machine.{view_of}
 use Rattle.calloop.specs.Rules.{Cutting, Idling, Leaving}

@@ -1,5 +1,5 @@
-use Rattle.std.proofs.Common.{◌≡◌, ◌∙◌, ap, arith, length, Ok}
-use Rattle.calloop.specs.Askings.{Asks, idle_begun}
+use Rattle.std.proofs.Common.{ap, arith, length}
+use Rattle.calloop.specs.Askings.{Asks}
 use Rattle.calloop.specs.Machine.{View, view_of}
 use Rattle.calloop.specs.Rules.{RunningIdles, ServingIdle}
 use Rattle.calloop.proofs.Going.{goes_on, no_idle, idle_run, idle_served}

@@ -1,4 +1,4 @@
-use Rattle.std.proofs.Common.{[], ◌∷◌, refl, sym, ◌∙◌}
+use Rattle.std.proofs.Common.{[], ◌∷◌, refl}
 use Rattle.calloop.specs.declared.loop_logic.asks.Answer.TheVariants.{Done}
 use Rattle.calloop.specs.declared.loop_logic.asks.Request.TheVariants.{Enable, Update, Disable}
 use Rattle.calloop.specs.Held.{IdleIn, IdleOut, Told}

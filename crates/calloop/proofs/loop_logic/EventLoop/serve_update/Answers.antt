@@ -2,7 +2,7 @@ use Rattle.std.proofs.Common.{[], ◌∷◌, refl, sym, ◌∙◌}
 use Rattle.calloop_core.specs.declared.sources.PostAction.TheVariants.{Reregister as Action}
 use Rattle.calloop_wake.specs.Slots.{named}
 use Rattle.calloop.specs.Held.{Pend}
-use Rattle.calloop.specs.Machine.{Holds, view_of}
+use Rattle.calloop.specs.Machine.{Holds}
 use Rattle.calloop.proofs.Serving.{own_is}
 use Rattle.calloop.proofs.loop_logic.EventLoop.serve_update.Goals as goal
 

@@ -1,6 +1,5 @@
-use Rattle.std.proofs.Common.{◌≡◌, refl, ap, sym, ◌∙◌, nat_eq, false, arith, inl, inr, Some}
+use Rattle.std.proofs.Common.{arith}
 use Rattle.std.proofs.lemmas.Bool.Decides.{nat_tests}
-use Rattle.calloop.specs.declared.loop_logic.asks.Answered.{Answered}
 use Rattle.calloop.proofs.Finding.{stands_at, stands_nowhere, before_next, within, got}
 use Rattle.calloop.proofs.loop_logic.asks.place_of.Goals as goal
 

@@ -51,3 +51,6 @@ returns-in-Some-timeout-clause-waits c = (
   sym (append-nil c.args.events.now.items),
   omega (arith),
 )
+
+pub returns-in-Fault-clause-faults : goal.returns-in-Fault-clause-faults
+returns-in-Fault-clause-faults c = (λ is. absurd cc, λ _. cc)

@@ -1,7 +1,7 @@
 use Rattle.std.proofs.Common.{arith, ◌+◌}
 use Rattle.calloop_wake.specs.Wheels.{entries_of}
 use Rattle.calloop_wake.proofs.Sorting.{IsSorted-inserted, AllBelow-inserted, AllBelow-more, AllBelow-free}
-use Rattle.calloop_wake.proofs.wheel.Wheel.insert.Goals as goal
+use Rattle.calloop_wake.proofs.wheel.TimerWheel.insert.Goals as goal
 
 pub enter-requires-clause-free : goal.enter-requires-clause-free
 enter-requires-clause-free c = AllBelow-free c.self.inside.counter (entries_of c.self.inside.by_due.entries) c.self.invariant.ordered.below

@@ -2,7 +2,7 @@ use Rattle.std.proofs.Common.{◌∙◌, ap, is_some}
 use Rattle.calloop_wake.specs.Deadlines.{Deadlines, is_armed}
 use Rattle.calloop_wake.specs.Wheels.{entries_of}
 use Rattle.calloop_wake.proofs.Paired.{is_some-deadline_of}
-use Rattle.calloop_wake.proofs.wheel.Wheel.is_armed.Goals as goal
+use Rattle.calloop_wake.proofs.wheel.TimerWheel.is_armed.Goals as goal
 
 pub returns : goal.returns
 returns c =

@@ -1,7 +1,7 @@
 use Rattle.calloop_wake.specs.Deadlines.{is_other}
 use Rattle.calloop_wake.specs.Wheels.{entries_of}
 use Rattle.calloop_wake.proofs.Sorting.{IsSorted-filter, AllBelow-filter}
-use Rattle.calloop_wake.proofs.wheel.Wheel.cancel.Goals as goal
+use Rattle.calloop_wake.proofs.wheel.TimerWheel.cancel.Goals as goal
 
 pub invariant_of-self : goal.invariant_of-self
 invariant_of-self c =

@@ -2,7 +2,7 @@ use Rattle.std.proofs.Common.{arith, subst, sym, ◌≡◌, false}
 use Rattle.calloop_wake.specs.Deadlines.{Deadlines, is_armed, has_counter, entry_of}
 use Rattle.calloop_wake.specs.Wheels.{entries_of}
 use Rattle.calloop_wake.proofs.Sorting.{IsSorted-inserted, AllBelow-inserted}
-use Rattle.calloop_wake.proofs.wheel.Wheel.insert_reuse.Goals as goal
+use Rattle.calloop_wake.proofs.wheel.TimerWheel.insert_reuse.Goals as goal
 
 pub invariant_of-self-2 : goal.invariant_of-self-2
 invariant_of-self-2 c =

@@ -1,0 +1,47 @@
+use Rattle.std.proofs.Common.{◌≡◌, [], List, true, false, Result, Ok, Err, refl}
+use Rattle.std.specs.declared.io.Error.{Error as Cause}
+use denote.Enum.Bare.{sameb}
+use mathlib.Core.Bool.{not}
+use Rattle.calloop_wake.specs.declared.token.Token.{Token}
+use Rattle.calloop_core.specs.declared.sys.Mode.{Mode}
+use Rattle.calloop_core.specs.declared.sys.Mode.TheVariants.{OneShot, Level, Edge}
+use Rattle.calloop_core.specs.declared.sources.PostAction.{PostAction}
+use Rattle.calloop_core.specs.declared.generic.Generic.{Generic}
+use Rattle.calloop_core.specs.contracts.sys.Mode.{the_type}
+use Rattle.calloop_core.specs.Pollers.{Sockets}
+use Rattle.calloop_core.specs.Polls.{PollView, PollStep, poll_view}
+use Rattle.calloop_core.specs.Generics.{ArmedBy}
+use Rattle.calloop_core.proofs.generic.Generic.arm_again.Goals as goal
+
+module _ {P I E : Type 0} (sockets : Sockets P I) (gives : Cause → E → Type 0) where
+  quiet : (m : Mode) (token : Token) (s : Generic P E I) (v : PollView P) (action : PostAction) → true ≡ not (sameb the_type m Level)
+      → ArmedBy sockets gives m token s v action (Ok action) [] s
+  quiet OneShot token s v action is = (refl, refl, refl)
+  quiet Edge token s v action is = (refl, refl, refl)
+  quiet Level token s v action is = absurd (cc)
+
+  armed : (m : Mode) (token : Token) (s t : Generic P E I) (v : PollView P) (action : PostAction) (answer : Result PostAction E) (steps : List (PollStep P))
+      → false ≡ not (sameb the_type m Level) → ArmedBy sockets gives Level token s v action answer steps t → ArmedBy sockets gives m token s v action answer steps t
+  armed OneShot token s t v action answer steps is by = absurd (cc)
+  armed Edge token s t v action answer steps is by = absurd (cc)
+  armed Level token s t v action answer steps is by = by
+
+pub returns-then-ne : goal.returns-then-ne
+returns-then-ne g c =
+    ([], quiet g.P.Poller.sockets g.E.From.from_gives _ c.args.token c.args.self.now (poll_view c.args.poll.now) c.args.action c.if-ne.ensures, (tt, refl))
+
+pub returns-in-Ok : goal.returns-in-Ok
+returns-in-Ok g c = (
+  c.in-Ok.ensures.0,
+  armed g.P.Poller.sockets g.E.From.from_gives _ c.args.token c.args.self.now _ (poll_view c.args.poll.now) c.args.action _ _ c.if-ne.ensures
+      (Ok tt, c.reregister.new.io, c.in-Ok.ensures.1, refl, refl),
+  c.in-Ok.ensures.2,
+)
+
+pub returns-in-Err : goal.returns-in-Err
+returns-in-Err g c = (
+  c.in-Err.ensures.0,
+  armed g.P.Poller.sockets g.E.From.from_gives _ c.args.token c.args.self.now _ (poll_view c.args.poll.now) c.args.action _ _ c.if-ne.ensures
+      (Err c.in-Err.refusal, c.reregister.new.io, c.in-Err.ensures.1, refl, (c.from.result, c.from-in-Err.result, c.from.ensures, c.from-in-Err.ensures, refl)),
+  c.in-Err.ensures.2,
+)

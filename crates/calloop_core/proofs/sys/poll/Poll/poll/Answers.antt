@@ -1,0 +1,19 @@
+use Rattle.std.proofs.Common.{ap, ◌∙◌}
+use Rattle.calloop_core.specs.Polls.{poll_view, gathered}
+use Rattle.calloop_core.specs.declared.sys.poll.Poll.{Poll}
+use Rattle.calloop_core.proofs.sys.poll.Poll.poll.Goals as goal
+
+pub returns : goal.returns
+returns g c =
+    let polled = c.wait.new.self in
+    let now = c.in_ok-now.now.nanos in
+    let posted = c.gather.ensures.0 in (
+      now,
+      polled.events.items,
+      polled.poller,
+      polled.batch.watch,
+      c.in_ok-now.ensures.ok,
+      posted,
+      c.gather.ensures.1,
+      c.gather.ensures.2 ∙ ap (λ (p : Poll g.row.P.Denot g.row.C.Denot g.row.R.Denot). gathered posted polled.events.items now (poll_view p)) c.in_ok-now.ensures.others,
+    )

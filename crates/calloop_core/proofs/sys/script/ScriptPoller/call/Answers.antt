@@ -1,0 +1,13 @@
+use Rattle.std.proofs.Common.{false, rules, refl, inl, ap}
+use Rattle.calloop_core.specs.ScriptCalls.{with_failing}
+use Rattle.calloop_core.specs.declared.sys.script.calls.ScriptKind.{ScriptKind}
+use Rattle.calloop_core.proofs.sys.script.ScriptPoller.call.Goals as goal
+
+pub returns-clause-called : goal.returns-clause-called
+returns-clause-called c =
+    rw c.take_failing.ensures.poller (record {
+      noted = inl (search rules, ap (λ (kind : ScriptKind). with_failing kind false c.args.self.now.failing) c.kind.ensures, rw (← c.kind.ensures, ← c.if-take_failing.ensures.fails) refl);
+      moment = refl;
+      answers = refl;
+      waits = refl;
+    })
