@@ -601,8 +601,10 @@ impl Scene for APingThatOutlivesItsLoopCanBeRung {
     fn play<R: Abort, D: Desk + Drop>(rt: &R, mut desk: D) {
         let (_, bell) = desk.ping(1);
         bell.ring();
+        assert!(rt; desk.says(Some(0), &[1]));
         drop(desk);
         bell.ring();
+        assert!(rt; bell.again().is_some());
     }
 }
 
