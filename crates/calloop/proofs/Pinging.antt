@@ -1,5 +1,6 @@
 -- The registrations and the turn of a ping, by what it finds.
-use Rattle.std.proofs.Common.{◌≡◌, List, [], ◌∷◌, refl, subst, Option, Some, None, IsSome, IfOk, IfErr, Result, Ok, Err, true, false}
+use Rattle.std.proofs.Common.{◌≡◌, ℕ, List, [], ◌∷◌, rules, refl, subst, nat_eq, Option, Some, None, IsSome, IfOk, IfErr, Result, Ok, Err, true, false}
+use Rattle.std.specs.Option.{option_eq}
 use Rattle.calloop_wake.specs.declared.error.Error.{Error}
 use Rattle.calloop_wake.specs.declared.token.Token.{Token}
 use Rattle.calloop_wake.specs.declared.token.TokenFactory.{TokenFactory}
@@ -12,6 +13,10 @@ use Rattle.calloop_core.specs.declared.sources.PostAction.TheVariants.{Continue}
 use Rattle.calloop_core.specs.Calls.{CallbackCall}
 use Rattle.calloop_core.specs.Polls.{PollStep, TakePass, CannotOpen}
 use Rattle.calloop.specs.Pings.{Registers, RegistersAnew, NoPlace, NoPlaceAnew, Served, ServedSo, TurnsBy}
+
+pub own_by_equal : (n : ℕ) (k : Option ℕ) → option_eq nat_eq k (Some n) ≡ is_own n k
+own_by_equal n None = refl
+own_by_equal n (Some own) = search rules
 
 -- what a place that is opened, or can't be, makes of a registration
 pub registers : (P : Type 0) (twin : Twin) (f g : TokenFactory) (token : Token) (answer : Result (Unit {0}) Error) (after : Twin) → token ≡ next_token f → g ≡ after_token f → IfOk answer (λ _. after ≡ record twin { key = Some (key_of token) }) → IfErr answer (λ e. CannotOpen e × (after ≡ twin)) → twin.key ≡ None → Registers {P = P} twin f answer [] after g

@@ -1,5 +1,5 @@
 -- What callbacks asked for is carried out, one after the other.
-use Rattle.std.proofs.Common.{◌≡◌, ℕ, suc, ◌+◌, ◌<◌, ◌≤◌, length, filter, not, nat_eq, if◌then◌else◌, arith, List, [], ◌∷◌, ◌++◌, refl, ap, sym, ◌∙◌, subst, true, false, Some, None, Option, Result, Ok, Err, inl, inr}
+use Rattle.std.proofs.Common.{◌≡◌, ℕ, suc, ◌+◌, ◌<◌, ◌≤◌, length, filter, not, nat_eq, if◌then◌else◌, arith, List, [], ◌∷◌, ◌++◌, refl, rules, ap, sym, ◌∙◌, subst, true, false, Some, None, Option, Result, Ok, Err, inl, inr}
 use Rattle.calloop_wake.specs.declared.error.InsertError.{InsertError}
 use Rattle.calloop_wake.specs.declared.list.Content.{Content}
 use Rattle.calloop_wake.specs.declared.list.Content.TheVariants.{Vacant, Source, InTurn}
@@ -14,11 +14,11 @@ use Rattle.calloop.specs.declared.loop_logic.asks.Asked.{Asked}
 use Rattle.calloop.specs.declared.loop_logic.asks.Idling.{Idling as Waiter}
 use Rattle.calloop.specs.declared.loop_logic.asks.Request.{Request}
 use Rattle.calloop.specs.declared.loop_logic.asks.Request.TheVariants.{Insert as AskInsert, Enable as AskEnable, Update as AskUpdate, Disable as AskDisable, Remove as AskRemove, Idle as AskIdle, Cancel as AskCancel}
-use Rattle.calloop.specs.Askings.{Asks, AskStep, Write, Take, Reaches, ask_after, asks_after, all_but_first, begun_from, idle_begun, is_other_idle, running_of}
+use Rattle.calloop.specs.Askings.{Asks, AskStep, Write, Take, Reaches, ask_after, asks_after, all_but_first, begun_from, idle_begun, is_other_idle, request_of, running_of}
 use Rattle.calloop.specs.Held.{HeldStep, Begun, Told, held_after}
 use Rattle.calloop.specs.Machine.{View, Change, Holds, AllFit, viewed, all_viewed}
 use Rattle.calloop.specs.Rules.{Did, Once, OwnOr, Served, ServedAs, InsertedBy, AskedIn, RemovedIn, Outcome, traced}
-use Rattle.calloop.specs.Serving.{ServesFirst, FirstServed, AllServed}
+use Rattle.calloop.specs.Serving.{Serves, ServesFirst, FirstServed, AllServed}
 use Rattle.calloop.proofs.Going.{batch-stepped}
 use Rattle.calloop.proofs.Seen.{viewed-append}
 
@@ -57,6 +57,11 @@ module _ {D I P : Type 0} (O : Outside P) where
   one_done R v u (cs ∷ ds ∷ css, h, is) = absurd h
 
 module _ {D I P X : Type 0} (M : Meaning D P (Lent X (Asks D I))) (O : Outside P) where
+  pub serves_first : (as' : List (Asked D I)) (request : Request D I) (v u : View D I P) → request_of as' ≡ Some request
+      → Serves M O request (viewed v (Holds Begun)) u → ServesFirst M O as' true v u
+  serves_first [] request v u is h = search rules
+  serves_first (a ∷ as') request v u is h = search rules
+
   -- the batch stays, no request is added, and no idle joins those that run
   pub record Steady (v u : View D I P) : Type 0 where
     pub batch : u.poll.batch ≡ v.poll.batch

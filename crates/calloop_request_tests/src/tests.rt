@@ -1,6 +1,6 @@
 use crate::asker::Wish;
 use crate::stand::{Act, plays};
-use calloop::{PostAction, RegistrationToken};
+use calloop::{Error, PostAction, RegistrationToken, Requests};
 
 #[test]
 fn requests_with_a_dead_token_are_refused_and_the_rest_is_carried_out(rt: HostRuntime) {
@@ -232,6 +232,18 @@ fn calls_as_values_queue_and_cancel_idles_and_hand_out_answers_once(rt: HostRunt
         Act::Untold(0),
     ];
     assert_eq!(rt; plays(&rt, rt.alloc(), &acts), None);
+}
+
+#[test]
+fn the_last_ticket_is_given_and_none_behind_it(rt: HostRuntime) {
+    let token = named(0, 0);
+    let mut requests: Requests<(), ()> = Requests::numbered_from(u64::MAX - 1, rt.alloc());
+    assert!(rt; requests.update(&token).is_ok());
+    assert!(rt; matches!(requests.disable(&token), Err(Error::TooManyTickets)));
+    match requests.insert_idle(()) {
+        Ok(_) => assert!(rt; false),
+        Err(refused) => assert!(rt; matches!(refused.error, Error::TooManyTickets)),
+    }
 }
 
 fn named(slot: u32, version: u16) -> RegistrationToken {

@@ -19,9 +19,6 @@ pub struct Ticket {
     number: u64,
 }
 
-#[cfg(test)]
-mod tests;
-
 impl Ticket {
     pub(super) fn number(self) -> u64
         ensures { result ≡ self.number }
@@ -144,6 +141,22 @@ impl<D, I> Asking for Requests<D, I> {
 }
 
 impl<D, I> Requests<D, I> {
+    /// Requests of no loop, with nothing asked for, whose first ticket has this number: to try a callback by itself, or what it does
+    /// when tickets run out. Those of a loop begin at 0.
+    pub fn numbered_from(first: u64, alloc: Global) -> Requests<D, I>
+        ensures { result ≡ record no_asks { next = first } }
+    {
+        Requests {
+            written: VecDeque::new(alloc),
+            next: first,
+            answers: Vec::new(alloc),
+            idles: VecDeque::new(alloc),
+            running: VecDeque::new(alloc),
+            serving: None,
+            owed: None,
+        }
+    }
+
     /// Asks for a source to be registered in the first vacant slot, with a callback for its events. Its answer is `Inserted` or
     /// `NotInserted`. A refusal of this call hands the source back, and its callback is dropped.
     pub fn insert_source<S, F, N>(
@@ -350,21 +363,6 @@ impl<D, I> Requests<D, I> {
 }
 
 impl<D, I> Requests<D, I> {
-    // Nothing was asked for.
-    pub(super) fn new(alloc: Global) -> Requests<D, I>
-        ensures { result ≡ no_asks }
-    {
-        Requests {
-            written: VecDeque::new(alloc),
-            next: 0,
-            answers: Vec::new(alloc),
-            idles: VecDeque::new(alloc),
-            running: VecDeque::new(alloc),
-            serving: None,
-            owed: None,
-        }
-    }
-
     // The first request, which is carried out from now on.
     pub(super) fn begin(&mut self) -> Option<Request<D, I>>
         ensures first { result ≡ request_of self.old.written }

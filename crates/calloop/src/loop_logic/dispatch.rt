@@ -37,7 +37,7 @@ impl<D: EventDispatcher<P, C, R>, P: Poller, C: Clock, R: Wait + Drop> EventLoop
             poll: Poll::new(rt.clone()?, alloc, poller, clock)?,
             lifecycle: Lifecycle::new(alloc),
             pending: PostAction::Continue,
-            requests: Requests::new(alloc),
+            requests: Requests::numbered_from(0, alloc),
             warnings: Warnings::new(alloc),
             signal: LoopSignal::new(alloc, notifier)?,
         })

@@ -20,10 +20,10 @@ returns g c =
         record { slots = refl; table = refl; deadlines = refl; batch = refl; passes = refl; pass = refl; unwatched = refl; held = refl; handed = refl; ledger = refl },
         refl,
         sym
-            (ap (λ (s : List (Slot g.row.D.Denot)). record { slots = s; poll = poll_view c.in_ok-new.field-0; held = record { lifecycle = c.new-3.result.tokens.items; pending = Continue; asks = c.new-4.result } }) c.new.ensures
-            ∙ ap (λ (p : PollView g.row.P.Denot). record { slots = []; poll = p; held = record { lifecycle = c.new-3.result.tokens.items; pending = Continue; asks = c.new-4.result } }) c.in_ok-new.ensures.ok
-            ∙ ap (λ (l : List RegistrationToken). record { slots = []; poll = new; held = record { lifecycle = l; pending = Continue; asks = c.new-4.result } }) c.new-3.ensures
-            ∙ ap (λ (q : Asks g.row.D.Denot g.row.D-Idle.Denot). record { slots = []; poll = new; held = record { lifecycle = []; pending = Continue; asks = q } }) c.new-4.ensures),
+            (ap (λ (s : List (Slot g.row.D.Denot)). record { slots = s; poll = poll_view c.in_ok-new.field-0; held = record { lifecycle = c.new-3.result.tokens.items; pending = Continue; asks = c.numbered_from.result } }) c.new.ensures
+            ∙ ap (λ (p : PollView g.row.P.Denot). record { slots = []; poll = p; held = record { lifecycle = c.new-3.result.tokens.items; pending = Continue; asks = c.numbered_from.result } }) c.in_ok-new.ensures.ok
+            ∙ ap (λ (l : List RegistrationToken). record { slots = []; poll = new; held = record { lifecycle = l; pending = Continue; asks = c.numbered_from.result } }) c.new-3.ensures
+            ∙ ap (λ (q : Asks g.row.D.Denot g.row.D-Idle.Denot). record { slots = []; poll = new; held = record { lifecycle = []; pending = Continue; asks = q } }) c.numbered_from.ensures),
       );
       err = tt;
     }
