@@ -1,6 +1,7 @@
 use Rattle.std.proofs.Common.{◌≡◌, ℕ, ◌<◌, List, length, refl, ap, sym, ◌∙◌, Some, None, Option, true, false, if◌then◌else◌, nat_eq, slice_get, is_some, get_or}
+use Rattle.std.proofs.Common.{subst, arith}
 use Rattle.calloop_wake.proofs.Indexed.{get_some, slice_get-changed_at}
-use Rattle.std.proofs.lemmas.Option.{slice_get_within}
+use Rattle.std.proofs.lemmas.Option.{slice_get_within, slice_get_read}
 use Rattle.calloop_wake.specs.declared.token.RegistrationToken.{RegistrationToken}
 use Rattle.calloop_wake.specs.declared.list.Content.{Content}
 use Rattle.calloop_wake.specs.declared.list.Content.TheVariants.{Vacant, Source, InTurn}
@@ -57,3 +58,12 @@ pub turn_ended : {S : Type 0} (xs : List (Slot S)) (t : RegistrationToken) (c : 
 turn_ended xs t c e =
     let ys = changed (with_content InTurn) xs t.slot in
     ap (λ x. if is_in_turn x then changed (with_content c) ys t.slot else ys) (named_changed xs t InTurn e)
+
+-- a token of the slot's version names what stands there
+pub named_read : {S : Type 0} (xs : List (Slot S)) (t : RegistrationToken) (i : ℕ) (s : Slot S)
+    → i ≡ t.slot → i < length xs → s ≡ get_or xs i s → s.version ≡ t.version → named xs t ≡ s.content
+named_read xs t i s same within at version =
+    let there : slice_get xs t.slot ≡ Some s =
+    subst (λ k. slice_get xs k ≡ Some s) same (slice_get_read xs (length xs) i s refl within at) in
+    let fits : nat_eq s.version t.version ≡ true = grind arith in
+    ap (content_under t.version) there ∙ ap (λ b. if b then s.content else Vacant) fits

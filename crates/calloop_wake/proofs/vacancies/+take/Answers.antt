@@ -1,4 +1,4 @@
-use Rattle.std.proofs.Common.{arith}
+use Rattle.std.proofs.Common.{◌≡◌, suc, length, ap, arith}
 use Rattle.calloop_wake.proofs.Levels.{takes-slot, takes-none, takes-kept, takes-cleared}
 use Rattle.calloop_wake.proofs.vacancies.+take.Goals as goal
 
@@ -18,3 +18,9 @@ pub returns-clause-some : goal.returns-clause-some
 returns-clause-some t c = λ vacant.
     takes-cleared vacant c.args.levels.now c.in-Some.level.now c.write.new.self c.args.place c.read-word.result c.in-Some-take.taken c.in-Some.below.now c.take.new.levels c.in-Some.ensures.cases.0 c.read-word.ensures.value (c.read-word.ensures.within (omega arith)).0 (omega arith) c.read-word.type_inv c.write.ensures c.if-not-taken.false
     (c.in-Some-take.ensures.some vacant)
+
+pub returns-then-word-eq0-clause-steps : goal.returns-then-word-eq0-clause-steps
+returns-then-word-eq0-clause-steps t c =
+    let long : length c.args.levels.now ≡ suc (length c.in-Some.below.now) =
+    ap (λ l. length l) c.in-Some.ensures.cases.0 in
+    omega arith
