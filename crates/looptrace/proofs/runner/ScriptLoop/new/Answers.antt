@@ -17,3 +17,6 @@ returns-in-Ok-clause-ok g c =
       fault = refl;
       pending = refl;
     }
+
+pub returns-in-Err-clause-err : goal.returns-in-Err-clause-err
+returns-in-Err-clause-err g c = c.from.ensures
