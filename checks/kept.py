@@ -1,0 +1,69 @@
+"""What earlier runs of the checks came to on this machine, each by a sum of all that it rests on, so that it never goes stale.
+
+The kit's `rt ci` keeps what it passed in the same way. Nothing here is of the repository: a clone on another machine tries all.
+"""
+import hashlib
+import json
+import os
+import subprocess
+import tempfile
+
+FOLDER = os.path.join(os.environ.get("XDG_CACHE_HOME") or os.path.expanduser("~/.cache"), "calloop-checks")
+PARTS = ("src", "specs", "proofs")
+
+
+def crates_of(root):
+    """What crates.txt names at the top of a repository: each crate with the names behind its own, lowest first."""
+    with open(f"{root}/crates.txt", encoding="utf-8") as it:
+        lines = [line.partition(":") for line in it if line.strip() and not line.startswith("#")]
+    return {head.split()[0]: (head, rest.split()) for head, _, rest in lines}
+
+
+class Kept:
+    """The results of one script over the crates of a copy of the repository, whose files stay as they are meanwhile."""
+
+    def __init__(self, root, script):
+        self.root, self.crates, self.sums = root, crates_of(root), {}
+        self.by = hashlib.sha256(subprocess.run(["rt", "version"], stdout=subprocess.PIPE, check=True).stdout)
+        for file in (script, __file__):
+            with open(file, "rb") as it:
+                self.by.update(it.read())
+
+    def sum_of(self, crate):
+        """The sum of a crate's files, of its line of crates.txt, and of those of the crates below it."""
+        if crate not in self.sums:
+            head, rest = self.crates[crate]
+            found = [repr((head, rest)).encode(), *(self.sum_of(it) for it in rest if it in self.crates)]
+            for part in PARTS:
+                for at, folders, files in os.walk(f"{self.root}/crates/{crate}/{part}"):
+                    folders.sort()
+                    for name in sorted(files):
+                        with open(f"{at}/{name}", "rb") as it:
+                            path = os.path.relpath(f"{at}/{name}", self.root)
+                            found.append(repr((path, hashlib.sha256(it.read()).digest())).encode())
+            self.sums[crate] = hashlib.sha256(b"\n".join(found)).digest()
+        return self.sums[crate]
+
+    def name(self, crate, tried):
+        """The name of the file for what was tried in a crate."""
+        sum = self.by.copy()
+        sum.update(repr((crate, self.sum_of(crate), tried)).encode())
+        return f"{FOLDER}/{sum.hexdigest()}"
+
+    def get(self, name):
+        """What was kept under this name, or None."""
+        try:
+            with open(name, encoding="utf-8") as it:
+                return json.load(it)
+        except (OSError, ValueError):
+            return None
+
+    def put(self, name, said):
+        """Keeps it for later runs, if it can be written; no run meets half of it."""
+        try:
+            os.makedirs(FOLDER, exist_ok=True)
+            with tempfile.NamedTemporaryFile("w", dir=FOLDER, delete=False, encoding="utf-8") as it:
+                json.dump(said, it)
+            os.replace(it.name, name)
+        except OSError:
+            pass
