@@ -1,5 +1,6 @@
 -- Insertions, and what else is asked of one source.
 use Rattle.std.proofs.Common.{◌≡◌, ◌<◌, ◌^◌, ◌-◌, IfOk, IfErr, Result, ℕ, zero, suc, List, [], ◌∷◌, refl, ap, sym, ◌∙◌, subst, false, None, Some, Ok, Err, inl, inr}
+use Rattle.logbook.specs.Pages.{Book}
 use Rattle.calloop.specs.declared.loop_logic.asks.Idle.{Idle}
 use Rattle.calloop_wake.specs.declared.error.InsertError.{InsertError}
 use Rattle.calloop_wake.specs.declared.error.Error.{Error}
@@ -53,16 +54,17 @@ module _ {D I P X : Type 0} (M : Meaning D P (Lent X (Asks D I))) (runs : Runs D
       (tt, (r.2.0, (claim_full, tt)))
       (ap (λ (ss : List (Slot D)). record v { slots = ss; poll = p' }) ended ∙ ap (λ (q : PollView P). record v { slots = changed (with_content Vacant) (claimed v.slots) (first_vacant v.slots); poll = q }) r.2.1)
 
-  pub registered : (d e : D) (token : RegistrationToken) (f : TokenFactory) (p' : PollView P) → token ≡ next_registration v.slots → token.slot < 2 ^ 32
+  pub registered : (d e : D) (token : RegistrationToken) (f : TokenFactory) (p' : PollView P) (signal : Book) → signal ≡ v.signal → token ≡ next_registration v.slots → token.slot < 2 ^ 32
       → Does O M d v.poll (Registered (factory_of token) (Ok tt) f) e p'
-      → Did (Case M runs O (Insert d) (Inserted (Ok token))) v (record { slots = after_turn (Source e) token (claimed v.slots); poll = p'; held = held_after v.held (Listed (M.needs d) token) })
-  registered d e token f p' is few r =
+      → Did (Case M runs O (Insert d) (Inserted (Ok token))) v (record { slots = after_turn (Source e) token (claimed v.slots); poll = p'; held = held_after v.held (Listed (M.needs d) token); signal = signal })
+  registered d e token f p' signal same is few r =
       let ended : after_turn (Source e) token (claimed v.slots) ≡ changed (with_content (Source e)) (claimed v.slots) token.slot =
       ap (λ (t : RegistrationToken). after_turn (Source e) t (claimed v.slots)) is ∙ claim_ended v.slots (Source e) ∙ ap (λ (t : RegistrationToken). changed (with_content (Source e)) (claimed v.slots) t.slot) (sym is) in
-      one_step (InsertedBy M d (Ok token)) (Claim d ∷ Polls r.0 ∷ Holds (Listed (M.needs d) token) ∷ Put token.slot (Source e) ∷ []) (record { slots = after_turn (Source e) token (claimed v.slots); poll = p'; held = held_after v.held (Listed (M.needs d) token) })
+      one_step (InsertedBy M d (Ok token)) (Claim d ∷ Polls r.0 ∷ Holds (Listed (M.needs d) token) ∷ Put token.slot (Source e) ∷ []) (record { slots = after_turn (Source e) token (claimed v.slots); poll = p'; held = held_after v.held (Listed (M.needs d) token); signal = signal })
       (subst (λ (t : RegistrationToken). t.slot < 2 ^ 32) is few, is, e, f, r.0, r.1, refl)
       (tt, (r.2.0, (tt, (subst (λ (t : RegistrationToken). IsFull (claimed v.slots) t.slot) (sym is) claim_full, tt))))
-      (ap (λ (ss : List (Slot D)). record { slots = ss; poll = p'; held = held_after v.held (Listed (M.needs d) token) }) ended ∙ ap (λ (q : PollView P). record { slots = changed (with_content (Source e)) (claimed v.slots) token.slot; poll = q; held = held_after v.held (Listed (M.needs d) token) }) r.2.1)
+      (ap (λ (n : Book). record v { slots = after_turn (Source e) token (claimed v.slots); poll = p'; held = held_after v.held (Listed (M.needs d) token); signal = n }) same
+      ∙ ap (λ (ss : List (Slot D)). record v { slots = ss; poll = p'; held = held_after v.held (Listed (M.needs d) token) }) ended ∙ ap (λ (q : PollView P). record v { slots = changed (with_content (Source e)) (claimed v.slots) token.slot; poll = q; held = held_after v.held (Listed (M.needs d) token) }) r.2.1)
 
   none_asked : (R : D → Outcome → List (PollStep P) → D → Type 0) (noted : D → Outcome → HeldStep D I) (token : RegistrationToken) (c : Content D) → None ≡ source_of c → AskedIn R noted token c (Err InvalidToken) []
   none_asked R noted token Vacant h = (refl, refl)
@@ -85,7 +87,7 @@ module _ {D I P X : Type 0} (M : Meaning D P (Lent X (Asks D I))) (runs : Runs D
       let cs = Put token.slot InTurn ∷ Polls r.0 ∷ Holds (noted d answer) ∷ Put token.slot (Source e) ∷ [] in
       one_step B cs (back token e u) (by cs (rw is (e, r.0, r.1, refl)))
       (full_named v.slots token full, (r.2, (tt, (full_named gone token (ap is_empty (named_changed v.slots token InTurn full)), tt))))
-      (ap (back token e) r.3 ∙ ap (λ (ss : List (Slot D)). record { slots = ss; poll = polls_after v.poll r.0; held = held_after v.held (noted d answer) }) (turn_ended v.slots token (Source e) full))
+      (ap (back token e) r.3 ∙ ap (λ (ss : List (Slot D)). record v { slots = ss; poll = polls_after v.poll r.0; held = held_after v.held (noted d answer) }) (turn_ended v.slots token (Source e) full))
 
   pub not_enabled : (token : RegistrationToken) → None ≡ source_of (named v.slots token) → Did (Case M runs O (Enable token) (Enabled (Err InvalidToken))) v v
   not_enabled token h = one_step (EnabledBy M token (Err InvalidToken)) [] v (none_asked _ _ token (named v.slots token) h) tt refl
@@ -123,7 +125,7 @@ module _ {D I P X : Type 0} (M : Meaning D P (Lent X (Asks D I))) (runs : Runs D
       let full : is_empty (named v.slots token) ≡ false = ap is_empty is in
       one_step (RemovedBy M token (Some e)) (Put token.slot Vacant ∷ Polls r.0 ∷ Holds (Unlisted token) ∷ []) u
       (rw is (e, told, r.0, r.1, refl, refl)) (full_named v.slots token full, (r.2, (tt, tt)))
-      (r.3 ∙ ap (λ (ss : List (Slot D)). record { slots = ss; poll = polls_after v.poll r.0; held = held_after v.held (Unlisted token) }) (turn_ended v.slots token Vacant full ∙ changed_twice Vacant InTurn v.slots token.slot))
+      (r.3 ∙ ap (λ (ss : List (Slot D)). record v { slots = ss; poll = polls_after v.poll r.0; held = held_after v.held (Unlisted token) }) (turn_ended v.slots token Vacant full ∙ changed_twice Vacant InTurn v.slots token.slot))
 
   none_exchanged : (token : RegistrationToken) (new : D) (c : Content D) → None ≡ source_of c → ExchangedIn {I = I} {P = P} token new c (Err new) []
   none_exchanged token new Vacant h = (refl, refl)

@@ -1,6 +1,8 @@
 -- The machine of the loop: its state, and the changes of it. What the code holds of the state is a `View`; the state
 -- itself also has reuse counts without bound and a ledger of all armings, which calloop keeps nowhere.
 use Rattle.std.specs.Prelude.{◌≡◌, ℕ, ◌+◌, ◌%◌, List, [], ◌∷◌, ◌++◌, map, Bool, false, Option, Some, None, slice_get}
+use Rattle.std.specs.Arc.{arc_value}
+use Rattle.logbook.specs.Pages.{Book}
 use Rattle.calloop_wake.specs.declared.list.Content.{Content}
 use Rattle.calloop_wake.specs.declared.list.Content.TheVariants.{Source, InTurn}
 use Rattle.calloop_wake.specs.declared.list.Slot.{Slot}
@@ -44,19 +46,22 @@ pub record World (D I P : Type 0) : Type 0 where
   pub handed : List ℕ
   -- what is known of the armings of timers
   pub ledger : Ledger
+  -- the name of the loop's signal, which stays
+  pub signal : Book
 
 -- what the loop holds of it
 pub record View (D I P : Type 0) : Type 0 where
   pub slots : List (Slot D)
   pub poll : PollView P
   pub held : Held D I
+  pub signal : Book
 
 abbrev pub slot_of : {D : Type 0} → Registration D → Slot D
 slot_of r = record { version = r.reuse % 65536; content = r.content }
 
 -- reuse counts are known modulo 65,536, and the ledger isn't
 abbrev pub seen : {D I P : Type 0} → World D I P → View D I P
-seen w = record { slots = map slot_of w.slots; poll = w.poll; held = w.held }
+seen w = record { slots = map slot_of w.slots; poll = w.poll; held = w.held; signal = w.signal }
 
 abbrev pub view_of : {D P C R X I S : Type 0} → EventLoop D P C R X I S → View D I P
 view_of l =
@@ -64,6 +69,7 @@ view_of l =
       slots = l.sources;
       poll = poll_view l.poll;
       held = record { lifecycle = l.lifecycle.tokens.items; pending = l.pending; asks = l.requests };
+      signal = (arc_value l.signal.shared).name;
     }
 
 -- every change of the state is one of these
@@ -183,6 +189,7 @@ pub record IsNew {D I P : Type 0} (w : World D I P) : Type 0 where
   pub batch : w.poll.batch ≡ []
   pub passes : w.poll.passes ≡ []
   pub pass : w.poll.pass ≡ None
+  pub places : w.poll.places ≡ 0
   pub unwatched : w.poll.watch.notes ≡ []
   pub held : w.held ≡ record { lifecycle = []; pending = Continue; asks = no_asks }
   pub handed : w.handed ≡ []

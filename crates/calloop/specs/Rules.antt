@@ -313,7 +313,7 @@ NoticedBy {D} M from token later (Source d) v x cs b =
     (e : D) × M.does d v.poll (Noticed (events_of token (drop from v.poll.batch))) [] e × (cs ≡ told_in token e)
     × (b ≡ Noticing from later x)
 
--- the events that it brings
+-- what being told of it leads to: the next one is told, or an error ends the dispatch
 abbrev pub after_telling : {D X : Type 0} → Option ℕ → List RegistrationToken → Outcome → X → Doing D X
 after_telling timeout later (Ok u) x = Sleeping timeout later x
 after_telling timeout later (Err e) x = Leaving (Err e) x

@@ -35,7 +35,7 @@ Went {F} {E} {M} {T} {X} {Q} may reaches f x q (c ∷ cs) g y r =
     (f' : F) × (x' : X) × (q' : Q) × may f c.event c.before x q c.answer f' c.after x' q' × reaches q q'
     × Went may reaches f' x' q' cs g y r
 
--- another failure, of which the text is kept
+-- another failure; its text, which no clause says, is kept
 abbrev pub IsOther : Error → Type 0
 IsOther e = (cause : Cause) × (e ≡ OtherError cause)
 

@@ -66,6 +66,8 @@ pub record ScriptWaits (p : ScriptPoller) (asked : Option ℕ) (answer : Result 
   pub room : vec_capacity q.waits ≡ vec_capacity p.waits
   pub calls : q.calls ≡ p.calls
   pub failing : q.failing ≡ p.failing
+  pub shown : q.shown ≡ p.shown
+  pub signal : q.signal ≡ p.signal
 
 -- it is noted, also where it fails as it was told to; or there is no memory to note it, which is a fault too
 abbrev pub IsNoted : ScriptPoller → ScriptCall → Result (Unit {0}) IoError → ScriptPoller → Type 0
@@ -82,6 +84,8 @@ pub record ScriptCalled (p : ScriptPoller) (call : ScriptCall) (answer : Result 
   pub moment : q.moment ≡ p.moment
   pub answers : q.answers ≡ p.answers
   pub waits : q.waits ≡ p.waits
+  pub shown : q.shown ≡ p.shown
+  pub signal : q.signal ≡ p.signal
 
 abbrev pub script_sockets : Sockets ScriptPoller ScriptIo
 script_sockets p io call answer q after = ScriptCalled p (shown_call call io.number) answer q × (after ≡ io)

@@ -102,7 +102,8 @@ pub struct Watched {
     pub mode: Mode,
 }
 
-/// Tells the moment. Any answer is lawful, also one that is smaller than an earlier one.
+/// Tells the moment. Which ones it may show is its own relation; the loop is proved for any, also for one that is smaller than an
+/// earlier one.
 pub trait Clock: Clone + Drop {
     ghost use Rattle.std.specs.Prelude.{ℕ};
 

@@ -3,7 +3,7 @@ ghost use Rattle.std.specs.Prelude.{◌≡◌, ◌+◌, ◌-◌, ◌<◌, ◌^�
 
 use std::marker::Model;
 
-/// A count of what a call looked up. It begins at 0.
+/// A count of what a call looked up: each look-up of the call that it is lent to ticks it. It begins at 0.
 #[derive(Debug, Drop)]
 pub struct Steps {
     count: u64,

@@ -2,7 +2,8 @@
 //! the board of the posted keys.
 //!
 //! In calloop the kernel does this work, through an eventfd or a pipe for each ping and the poller.
-//! The values of this module have no `Drop`, but for a receipt: who has one has to hand it on or to spend it.
+//! The values of this module have no `Drop`, but for a receipt and the right to a receiving end: who has one has to hand it on or to
+//! spend it.
 ghost use Rattle.std.specs.Prelude.{◌≡◌, is_some};
 ghost use Rattle.calloop_wake.specs.Passes.{given_back};
 

@@ -158,7 +158,8 @@ new_timer name deadline =
 abbrev pub IsNewTimer : {R : Type 0} → List ℕ → (deadline : ℕ) → Source R → Option Book → Type 0
 IsNewTimer name deadline source ping = (source ≡ new_timer name deadline) × (ping ≡ None)
 
--- the open ping of this name is rung, which prints nothing; where there is none, the line can't be read
+-- an open ping of this name is rung, which is seen of nothing here and prints nothing; where there is none, the line
+-- can't be read
 abbrev pub RingLine : {R : Type 0} → State R → List ℕ → Option (State R × List ℕ) → Type 0
 RingLine s name None = ping_named name s.sources ≡ None
 RingLine s name (Some (t, said)) = IsSome (ping_named name s.sources) × (t ≡ s) × (said ≡ [])

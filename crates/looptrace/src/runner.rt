@@ -383,7 +383,8 @@ impl<R: Wait + Clone + Drop> ScriptLoop<R> {
 
     // How many warnings of the loop stand.
     fn warnings(&mut self) -> usize
-        ensures { self.new ≡ self.old }
+        ensures same { self.new ≡ self.old }
+        ensures number { result ≡ length self.old.event_loop.warnings.errors.items }
     {
         self.event_loop.handle().warnings().len()
     }

@@ -11,14 +11,16 @@ use calloop_core::sys::notifier::Notifier;
 use calloop_core::sys::{Clock, Poller};
 use calloop_wake::error::Result;
 use calloop_wake::wake::Notify;
+use calloop_wake::wake::ghosts::Name;
 use std::alloc::{AllocError, Global};
 use std::sync::atomic::{AtomicBool, Ordering};
 use std::sync::{Arc, Wait};
 use std::time::Duration;
 
-// What a loop and its signals share.
+// What a loop and its signals share, under a name, which contracts alone see.
 #[derive(Drop)]
 struct Shared {
+    name: Name,
     stopped: AtomicBool,
     notifier: Notifier,
 }
@@ -34,8 +36,11 @@ impl LoopSignal {
     pub(super) fn new(
         alloc: Global,
         notifier: Notifier,
-    ) -> std::result::Result<LoopSignal, AllocError> {
+    ) -> std::result::Result<LoopSignal, AllocError>
+        ensures { IfOk result (λ signal. (arc_value signal.shared).notifier ≡ notifier) }
+    {
         let shared = Shared {
+            name: Name::fresh(),
             stopped: AtomicBool::new(false),
             notifier,
         };

@@ -5,7 +5,8 @@ use std::alloc::Global;
 use std::sync::Arc;
 use std::sync::atomic::{AtomicBool, Ordering};
 
-/// Wakes the poller that it is of, from any thread: its wait ends, or else the next one does at once.
+/// Wakes the poller that it is of, from any thread: a wait of the machine's ends, or else its next one does at once. A scripted one
+/// only notes it, as `ScriptPoller::is_nudged` shows.
 #[derive(Drop)]
 pub enum Notifier {
     /// That of a scripted poller: its signal.

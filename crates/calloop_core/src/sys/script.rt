@@ -174,6 +174,8 @@ impl ScriptPoller {
         ensures calls { self.new.calls ≡ self.old.calls }
         ensures failing { self.new.failing ≡ self.old.failing }
         ensures faults { self.new.faults ≡ self.old.faults }
+        ensures shown { self.new.shown ≡ self.old.shown }
+        ensures signal { self.new.signal ≡ self.old.signal }
     {
         self.answers.push_back(answer)
     }
@@ -187,13 +189,15 @@ impl ScriptPoller {
         ensures calls { self.new.calls ≡ self.old.calls }
         ensures failing { self.new.failing ≡ self.old.failing }
         ensures faults { self.new.faults ≡ self.old.faults }
+        ensures shown { self.new.shown ≡ self.old.shown }
+        ensures signal { self.new.signal ≡ self.old.signal }
     {
         let first = self.answers.pop_front();
         self.answers.clear();
         first
     }
 
-    /// Empties the list of asked waits, and makes room for `n`. Want of memory leaves the list as it was;
+    /// Empties the list of asked waits, and makes room for `n` at least. Want of memory leaves the list as it was;
     /// where there is room for `n` already, it takes no memory.
     pub fn keep_waits(&mut self, n: usize) -> Result<(), AllocError>
         ensures waits { self.new.waits.items ≡ (if is_ok result then [] else self.old.waits.items) }
@@ -204,6 +208,8 @@ impl ScriptPoller {
         ensures calls { self.new.calls ≡ self.old.calls }
         ensures failing { self.new.failing ≡ self.old.failing }
         ensures faults { self.new.faults ≡ self.old.faults }
+        ensures shown { self.new.shown ≡ self.old.shown }
+        ensures signal { self.new.signal ≡ self.old.signal }
     {
         self.waits
             .try_reserve_exact(n.saturating_sub(self.waits.len()))?;
@@ -231,6 +237,8 @@ impl ScriptPoller {
         ensures calls { self.new.calls ≡ self.old.calls }
         ensures failing { self.new.failing ≡ self.old.failing }
         ensures faults { self.new.faults ≡ self.old.faults }
+        ensures shown { self.new.shown ≡ self.old.shown }
+        ensures signal { self.new.signal ≡ self.old.signal }
     {
         if self.waits.len() < self.waits.capacity() {
             self.waits.push_reserved(timeout);

@@ -4,7 +4,7 @@ ghost use Rattle.calloop_wake.specs.Cells.{fresh, one, opens, IsLit, IsStanding,
 ghost use Rattle.calloop_wake.specs.Passes.{on};
 ghost use Rattle.calloop_wake.specs.Wakes.{WakeStep, start, after_all, IsSchedule, IsCovered};
 ghost use Rattle.calloop_wake.specs.PingKind.{ping_kind};
-ghost use Rattle.calloop_wake.specs.Lost.{with_a_ring_unseen, with_a_close_unseen, with_a_key_forgotten, with_nobody_told};
+ghost use Rattle.calloop_wake.specs.Lost.{unused, ring_in_a_wait, with_a_ring_unseen, with_a_close_unseen, with_a_key_forgotten, with_nobody_told};
 
 use super::cell::CellCore;
 use super::ghosts::{Count, Name};
@@ -377,27 +377,45 @@ impl CellCore for PingCore {
         PingCore::receiver(self, right)
     }
 
-    fn add_sender(&mut self) -> Result<Sender, AllocError> {
+    fn add_sender(&mut self) -> Result<Sender, AllocError>
+        ensures ok { IfOk result (λ sender. (sender.name ≡ self.old.name) × (self.new ≡ core_with (after_add_sender self.old.cell) self.old)) }
+        ensures err { IfErr result (λ _. (self.old.cell.senders + 1 ≡ 2 ^ 64) × (self.new ≡ self.old)) }
+    {
         PingCore::add_sender(self)
     }
 
-    fn drop_sender(&mut self, sender: Sender) -> Option<Debt> {
+    fn drop_sender(&mut self, sender: Sender) -> Option<Debt>
+        requires { sender.name ≡ self.old.name }
+        ensures core { self.new ≡ core_with (after_drop_sender self.old.cell) self.old }
+        ensures gives { result ≡ on self.old.board (owed_by_drop self.old.cell) }
+    {
         PingCore::drop_sender(self, sender)
     }
 
-    fn set_key(
-        &mut self,
-        pass: OpenedPass,
-        twin: &mut Twin,
-    ) -> (Option<Debt>, Option<LeaveToClose>) {
+    fn set_key(&mut self, pass: OpenedPass, twin: &mut Twin) -> (Option<Debt>, Option<LeaveToClose>)
+        requires { twin.old.name ≡ self.old.name }
+        ensures twin { twin.new ≡ record twin.old { key = Some pass.key } }
+        ensures core { self.new ≡ core_after_set_key pass self.old }
+        ensures owes { result.0 ≡ on pass.board (owed_at pass.key self.old.cell) }
+        ensures leaves { result.1 ≡ on self.old.board self.old.cell.key }
+    {
         PingCore::set_key(self, pass, twin)
     }
 
-    fn clear_key(&mut self, twin: &mut Twin) -> Option<LeaveToClose> {
+    fn clear_key(&mut self, twin: &mut Twin) -> Option<LeaveToClose>
+        requires { twin.old.name ≡ self.old.name }
+        ensures twin { twin.new ≡ record twin.old { key = None } }
+        ensures core { self.new ≡ core_with (after_clear_key false self.old.cell) self.old }
+        ensures leaves { result ≡ on self.old.board self.old.cell.key }
+    {
         PingCore::clear_key(self, twin)
     }
 
-    fn abandon(&mut self, twin: Twin) -> Option<LeaveToClose> {
+    fn abandon(&mut self, twin: Twin) -> Option<LeaveToClose>
+        requires { twin.name ≡ self.old.name }
+        ensures core { self.new ≡ core_with (after_clear_key true self.old.cell) self.old }
+        ensures leaves { result ≡ on self.old.board self.old.cell.key }
+    {
         PingCore::abandon(self, twin)
     }
 
@@ -413,10 +431,13 @@ pub fn covered()
 {}
 
 /// Four small states that `covered` rules out: a ring or a close that no mark shows, a pinged cell whose key is nowhere, and a
-/// posted key of which nobody tells a loop that is about to sleep.
+/// posted key of which nobody tells a loop that is about to sleep. And a schedule that there is, by which a ring wakes a loop that
+/// sleeps and is taken in a turn.
 pub fn lost_is_not_covered()
     ensures ring { ¬ IsCovered ping_kind with_a_ring_unseen }
     ensures close { ¬ IsCovered ping_kind with_a_close_unseen }
     ensures key { ¬ IsCovered ping_kind with_a_key_forgotten }
     ensures sleeper { ¬ IsCovered ping_kind with_nobody_told }
+    ensures schedule { IsSchedule ping_kind unused ring_in_a_wait }
+    ensures turned { (after_all ping_kind unused ring_in_a_wait).cells 0 ≡ record fresh { key = Some 7; draining = true } }
 {}

@@ -115,6 +115,8 @@ impl ScriptPoller {
         ensures moment { self.new.moment ≡ self.old.moment }
         ensures answers { self.new.answers ≡ self.old.answers }
         ensures waits { self.new.waits ≡ self.old.waits }
+        ensures shown { self.new.shown ≡ self.old.shown }
+        ensures signal { self.new.signal ≡ self.old.signal }
     {
         self.faults = FaultCount::after(&self.faults);
         Err(cause)

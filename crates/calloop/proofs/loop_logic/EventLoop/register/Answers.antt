@@ -17,8 +17,8 @@ returns g c =
       r.0,
       inr (c.register.new.factory, r.1),
       r.2.0,
-      ap (λ (h : Held g.row.D.Denot g.row.D-Idle.Denot). record { slots = v.slots; poll = poll_view c.register.new.poll; held = h }) entry
-          ∙ ap (λ (p : PollView g.row.P.Denot). record { slots = v.slots; poll = p; held = held_after v.held (Listed (needs && true) c.args.token) }) r.2.1,
+      ap (λ (h : Held g.row.D.Denot g.row.D-Idle.Denot). record v { slots = v.slots; poll = poll_view c.register.new.poll; held = h }) entry
+          ∙ ap (λ (p : PollView g.row.P.Denot). record v { slots = v.slots; poll = p; held = held_after v.held (Listed (needs && true) c.args.token) }) r.2.1,
     )
 
 pub returns-in_err-register : goal.returns-in_err-register
@@ -31,7 +31,7 @@ returns-in_err-register g c =
       r.0,
       inr (c.register.new.factory, r.1),
       r.2.0,
-      ap (λ (l : List RegistrationToken). record { slots = v.slots; poll = poll_view c.register.new.poll; held = record v.held { lifecycle = l } }) c.in_ok-reserve.ensures.same
+      ap (λ (l : List RegistrationToken). record v { slots = v.slots; poll = poll_view c.register.new.poll; held = record v.held { lifecycle = l } }) c.in_ok-reserve.ensures.same
           ∙ ap (λ (q : PollView g.row.P.Denot). record v { poll = q }) r.2.1
-          ∙ ap (λ (h : Held g.row.D.Denot g.row.D-Idle.Denot). record { slots = v.slots; poll = polls_after v.poll r.0; held = h }) entry,
+          ∙ ap (λ (h : Held g.row.D.Denot g.row.D-Idle.Denot). record v { slots = v.slots; poll = polls_after v.poll r.0; held = h }) entry,
     )

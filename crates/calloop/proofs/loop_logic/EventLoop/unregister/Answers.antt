@@ -12,6 +12,6 @@ returns g c =
       r.0,
       r.1,
       r.2.0,
-      ap (λ (l : List RegistrationToken). record { slots = v.slots; poll = poll_view c.unregister-answer.new.poll; held = record v.held { lifecycle = l } }) c.leave.ensures
-          ∙ ap (λ (p : PollView g.row.P.Denot). record { slots = v.slots; poll = p; held = held_after v.held (Unlisted c.args.token) }) r.2.1,
+      ap (λ (l : List RegistrationToken). record v { slots = v.slots; poll = poll_view c.unregister-answer.new.poll; held = record v.held { lifecycle = l } }) c.leave.ensures
+          ∙ ap (λ (p : PollView g.row.P.Denot). record v { slots = v.slots; poll = p; held = held_after v.held (Unlisted c.args.token) }) r.2.1,
     )

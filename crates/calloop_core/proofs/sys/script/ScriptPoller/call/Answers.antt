@@ -10,4 +10,6 @@ returns-clause-called c =
       moment = refl;
       answers = refl;
       waits = refl;
+      shown = refl;
+      signal = refl;
     })

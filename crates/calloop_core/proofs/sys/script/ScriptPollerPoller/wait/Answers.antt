@@ -15,6 +15,8 @@ returns-in-Interrupted-clause-waits c = (
     room = c.note.ensures.room;
     calls = c.note.ensures.calls;
     failing = c.note.ensures.failing;
+    shown = c.note.ensures.shown;
+    signal = c.note.ensures.signal;
   },
   sym (append-nil c.args.events.now.items),
   omega (arith),
@@ -31,6 +33,8 @@ returns-in-Fault-clause-waits c = (
     room = c.note.ensures.room;
     calls = c.note.ensures.calls;
     failing = c.note.ensures.failing;
+    shown = c.note.ensures.shown;
+    signal = c.note.ensures.signal;
   },
   sym (append-nil c.args.events.now.items),
   omega (arith),
@@ -47,6 +51,26 @@ returns-in-Some-timeout-clause-waits c = (
     room = c.note.ensures.room;
     calls = c.note.ensures.calls;
     failing = c.note.ensures.failing;
+    shown = c.note.ensures.shown;
+    signal = c.note.ensures.signal;
+  },
+  sym (append-nil c.args.events.now.items),
+  omega (arith),
+)
+
+pub returns-in_default-timeout-clause-waits : goal.returns-in_default-timeout-clause-waits
+returns-in_default-timeout-clause-waits c = (
+  [],
+  record {
+    answered = search rules;
+    timeout = c.args.timeout;
+    asked_is = refl;
+    noted = c.note.ensures.waits;
+    room = c.note.ensures.room;
+    calls = c.note.ensures.calls;
+    failing = c.note.ensures.failing;
+    shown = c.note.ensures.shown;
+    signal = c.note.ensures.signal;
   },
   sym (append-nil c.args.events.now.items),
   omega (arith),
