@@ -1,7 +1,5 @@
-//! Loops whose callbacks ask for something: what the tests call, and their tests.
+//! Tests of loops whose callbacks ask for something.
 #![tactic(auto)]
 
-pub mod asker;
-pub mod stand;
 #[cfg(test)]
 mod tests;

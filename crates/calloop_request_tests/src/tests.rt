@@ -1,6 +1,9 @@
-use crate::asker::Wish;
-use crate::stand::{Act, plays};
+use asker::Wish;
 use calloop::{Error, PostAction, RegistrationToken, Requests};
+use stand::{Act, plays};
+
+mod asker;
+mod stand;
 
 #[test]
 fn requests_with_a_dead_token_are_refused_and_the_rest_is_carried_out(rt: HostRuntime) {

@@ -1,5 +1,5 @@
 //! A loop of askers over a scripted poller, and what a test does at it.
-use crate::asker::{Asker, Note, Said, Third, Wish};
+use super::asker::{Asker, Note, Said, Third, Wish};
 use calloop::loop_logic::{EventLoop, LoopAnswer, LoopCall};
 use calloop::ping::{Ping, make_ping};
 use calloop::{
