@@ -23,7 +23,7 @@ use Rattle.calloop_core.specs.Meanings.{Meaning, Does}
 use Rattle.calloop.specs.declared.loop_logic.asks.Answer.TheVariants.{Removed as RemovedAnswer}
 use Rattle.calloop.specs.declared.loop_logic.asks.Asked.{Asked}
 use Rattle.calloop.specs.declared.loop_logic.asks.Idling.{Idling as Waiter}
-use Rattle.calloop.specs.Held.{HeldStep, Unlisted, Pend, Asking, Paid, Cleared, IdlesTaken, IdleBegun, held_after}
+use Rattle.calloop.specs.Held.{HeldStep, Unlisted, Pend, Asking, Paid, Cleared, Warned, warned, IdlesTaken, IdleBegun, held_after}
 use Rattle.calloop.specs.Askings.{Asks, AskStep, Runs, Reaches, asks_after, cleared, idle_begun, running_of}
 use Rattle.calloop.specs.Machine.{View, Change, Put, Polls, Polling, Watching, Counting, Holds, Gathered, Cut, Ended, all_viewed, AllFit, IsFull}
 use Rattle.calloop.specs.Rules.{Goes, Steps, Step, Doing, Beginning, Sleeping, Waiting, Gathering, Noticing, Cutting, Serving, Ending, Returning, Idling, RunningIdles, ServingIdle, Leaving, Outcome, ByOne, left, traced, told_in, SleptAs, SleptBy, NoticedBy, ActedBy, ReturnedTo, emptied, after_turn as after, CutTo, CutFrom, ServedFrom, RunFrom, action_of, DispatchedBy, Did}
@@ -129,13 +129,15 @@ module _ {D I P X : Type 0} (M : Meaning D P (Lent X (Asks D I))) (runs : Runs D
   begun_with v places timeout x = goes_by (Beginning timeout x) (Sleeping timeout v.held.lifecycle x) (Counting places ∷ Holds Cleared ∷ []) v (ready places v) (places, refl, refl) (tt, (tt, tt)) refl
 
   -- and what follows
-  pub begun_then : (v u : View D I P) (places : ℕ) (p' : PollView P) (asked : Asks D I) (timeout : Option ℕ) (x : X) (b : Doing D X) → p' ≡ counted places v.poll → asked ≡ cleared v.held.asks
-      → Goes M runs O (Sleeping timeout v.held.lifecycle x) b (record v { poll = p'; held = record v.held { asks = asked } }) u → Goes M runs O (Beginning timeout x) b v u
-  begun_then v u places p' asked timeout x b polls asks h =
+  pub begun_then : (v u : View D I P) (places : ℕ) (p' : PollView P) (asked : Asks D I) (es : List Error) (timeout : Option ℕ) (x : X) (b : Doing D X) → p' ≡ counted places v.poll → asked ≡ cleared v.held.asks → es ≡ []
+      → Goes M runs O (Sleeping timeout v.held.lifecycle x) b (record v { poll = p'; held = record v.held { asks = asked; warnings = es } }) u → Goes M runs O (Beginning timeout x) b v u
+  begun_then v u places p' asked es timeout x b polls asks none h =
       let a : Doing D X = Sleeping timeout v.held.lifecycle x in
-      let now : View D I P = record v { poll = p'; held = record v.held { asks = asked } } in
+      let now : View D I P = record v { poll = p'; held = record v.held { asks = asked; warnings = es } } in
       goes_on (Beginning timeout x) a b v now u
-      (goes_to (Beginning timeout x) a v (ready places v) now (ap (λ (q : PollView P). record v { poll = q; held = record v.held { asks = asked } }) polls ∙ ap (λ (r : Asks D I). record v { poll = counted places v.poll; held = record v.held { asks = r } }) asks) (begun_with v places timeout x)) h
+      (goes_to (Beginning timeout x) a v (ready places v) now
+      (ap (λ (q : PollView P). record v { poll = q; held = record v.held { asks = asked; warnings = es } }) polls ∙ ap (λ (r : Asks D I). record v { poll = counted places v.poll; held = record v.held { asks = r; warnings = es } }) asks
+      ∙ ap (λ (l : List Error). record v { poll = counted places v.poll; held = record v.held { asks = cleared v.held.asks; warnings = l } }) none) (begun_with v places timeout x)) h
 
   -- the wait and the gathering
   pub polled : (v : View D I P) (p' : PollView P) (timeout : Option ℕ) (x : X) → Polled O timeout (Ok tt) v.poll p' → Goes M runs O (Waiting timeout x) (Noticing (length v.poll.batch) v.held.lifecycle x) v (record v { poll = p' })
@@ -264,18 +266,21 @@ module _ {D I P X : Type 0} (M : Meaning D P (Lent X (Asks D I))) (runs : Runs D
       let is = turn_is (named v.slots token) here in
       goes_by (Returning token d told x) (after told x) (Put token.slot (Source d) ∷ []) v (record v { slots = changed (with_content (Source d)) v.slots token.slot }) (rw is refl, refl) (full_named v.slots token (ap is_empty is), tt) refl
 
-  gone_by : (token : RegistrationToken) (v : View D I P) (d e : D) (c : Content D) (answer : Result (Unit {0}) Error) (steps : List (PollStep P)) → is_in_turn c ≡ false → M.does d v.poll (Unregistered answer) steps e → ReturnedTo M token d c v (Polls steps ∷ Holds (Unlisted token) ∷ Holds (Paid (RemovedAnswer (Some e))) ∷ [])
-  gone_by token v d e Vacant answer steps none h = (e, answer, steps, h, refl)
-  gone_by token v d e (Source f) answer steps none h = (e, answer, steps, h, refl)
-  gone_by token v d e InTurn answer steps none h = cc
+  gone_by : (token : RegistrationToken) (v : View D I P) (d e : D) (c : Content D) (answer : Outcome) (kept : Bool) (steps : List (PollStep P)) → is_in_turn c ≡ false → M.does d v.poll (Unregistered answer) steps e
+      → ReturnedTo M token d c v (Polls steps ∷ Holds (Unlisted token) ∷ Holds (Warned kept answer) ∷ Holds (Paid (RemovedAnswer (Some e))) ∷ [])
+  gone_by token v d e Vacant answer kept steps none h = (e, answer, kept, steps, h, refl)
+  gone_by token v d e (Source f) answer kept steps none h = (e, answer, kept, steps, h, refl)
+  gone_by token v d e InTurn answer kept steps none h = cc
 
   -- it left the loop
-  pub gone : (token : RegistrationToken) (v u : View D I P) (d e : D) (told answer : Outcome) (x : X) → is_in_turn (named v.slots token) ≡ false
-      → ByOne O (λ f a steps g. M.does f v.poll (Unregistered a) steps g) (left token) d answer e v u
-      → Goes M runs O (Returning token d told x) (after told x) v (record u { held = held_after u.held (Paid (RemovedAnswer (Some e))) })
-  gone token v u d e told answer x none r =
-      goes_by (Returning token d told x) (after told x) (Polls r.0 ∷ Holds (Unlisted token) ∷ Holds (Paid (RemovedAnswer (Some e))) ∷ []) v (record u { held = held_after u.held (Paid (RemovedAnswer (Some e))) })
-      (gone_by token v d e (named v.slots token) answer r.0 none r.1, refl) (r.2, (tt, (tt, tt))) (ap (λ (t : View D I P). record t { held = held_after t.held (Paid (RemovedAnswer (Some e))) }) r.3)
+  pub gone : (token : RegistrationToken) (v u : View D I P) (d e : D) (told answer : Outcome) (kept : Bool) (es : List Error) (x : X) → is_in_turn (named v.slots token) ≡ false
+      → ByOne O (λ f a steps g. M.does f v.poll (Unregistered a) steps g) (left token) d answer e v u → es ≡ warned kept answer u.held.warnings
+      → Goes M runs O (Returning token d told x) (after told x) v (record u { held = held_after (record u.held { warnings = es }) (Paid (RemovedAnswer (Some e))) })
+  gone token v u d e told answer kept es x none r now =
+      goes_by (Returning token d told x) (after told x) (Polls r.0 ∷ Holds (Unlisted token) ∷ Holds (Warned kept answer) ∷ Holds (Paid (RemovedAnswer (Some e))) ∷ []) v (record u { held = held_after (record u.held { warnings = es }) (Paid (RemovedAnswer (Some e))) })
+      (gone_by token v d e (named v.slots token) answer kept r.0 none r.1, refl) (r.2, (tt, (tt, (tt, tt))))
+      (ap (λ (l : List Error). record u { held = held_after (record u.held { warnings = l }) (Paid (RemovedAnswer (Some e))) }) now
+      ∙ ap (λ (t : View D I P). record t { held = held_after (held_after t.held (Warned kept answer)) (Paid (RemovedAnswer (Some e))) }) r.3)
 
   -- one that is told of a wait was taken out and put back
   abbrev pub told : RegistrationToken → D → View D I P → View D I P

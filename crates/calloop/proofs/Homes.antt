@@ -190,8 +190,8 @@ module _ {D I P X : Type 0} (M : Meaning D P (Lent X (Asks D I))) (runs : Runs D
 
   returned_homely : (v : View D I P) (token : RegistrationToken) (d : D) (c : Content D) (cs : List (Change D I P)) → named v.slots token ≡ c → ReturnedTo M token d c v cs → Homely v.slots → IsAtHome M token d → Homely (all_viewed v cs).slots
   returned_homely v token d InTurn cs is h k home = rw h (homely_back v.slots token d (named_there v.slots token InTurn is refl) home k)
-  returned_homely v token d Vacant cs is h k home = rw h.4 k
-  returned_homely v token d (Source f) cs is h k home = rw h.4 k
+  returned_homely v token d Vacant cs is h k home = rw h.5 k
+  returned_homely v token d (Source f) cs is h k home = rw h.5 k
 
   aside_after : (told : Outcome) (x : X) → AsideHomely (after_turn told x)
   aside_after (Ok u) x = tt
@@ -219,7 +219,7 @@ module _ {D I P X : Type 0} (M : Meaning D P (Lent X (Asks D I))) (runs : Runs D
   removed_homely : (v : View D I P) (token : RegistrationToken) (answer : Option D) (cs : List (Change D I P)) (c : Content D) → RemovedIn M token c answer v cs → Homely v.slots → Homely (all_viewed v cs).slots
   removed_homely v token answer cs Vacant h k = rw h.1 k
   removed_homely v token answer cs InTurn h k = rw h.1 k
-  removed_homely v token answer cs (Source d) h k = rw h.5 (homely_without v.slots token.slot Vacant (λ d e. cc) k)
+  removed_homely v token answer cs (Source d) h k = rw h.6 (homely_without v.slots token.slot Vacant (λ d e. cc) k)
 
   -- what stays of slots and sources where only what both hold changes
   told_homely : (v : View D I P) (ds cs : List (Change D I P)) (step : HeldStep D I) → cs ≡ ds ++ Holds step ∷ [] → Homely (all_viewed v ds).slots → Homely (all_viewed v cs).slots

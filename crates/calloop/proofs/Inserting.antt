@@ -1,5 +1,5 @@
 -- Insertions, and what else is asked of one source.
-use Rattle.std.proofs.Common.{◌≡◌, ◌<◌, ◌^◌, ◌-◌, IfOk, IfErr, Result, ℕ, zero, suc, List, [], ◌∷◌, refl, ap, sym, ◌∙◌, subst, false, None, Some, Ok, Err, inl, inr}
+use Rattle.std.proofs.Common.{Bool, ◌≡◌, ◌<◌, ◌^◌, ◌-◌, IfOk, IfErr, Result, ℕ, zero, suc, List, [], ◌∷◌, refl, ap, sym, ◌∙◌, subst, false, None, Some, Ok, Err, inl, inr}
 use Rattle.logbook.specs.Pages.{Book}
 use Rattle.calloop.specs.declared.loop_logic.asks.Idle.{Idle}
 use Rattle.calloop_wake.specs.declared.error.InsertError.{InsertError}
@@ -20,7 +20,7 @@ use Rattle.calloop.specs.declared.loop_logic.LoopCall.TheVariants.{Insert, Enabl
 use Rattle.calloop.specs.declared.loop_logic.LoopAnswer.TheVariants.{Inserted, Enabled, Updated, Disabled, Removed, Exchanged, IdleInserted}
 use Rattle.calloop_core.specs.Deeds.{Registered, Reregistered, Unregistered, Lent}
 use Rattle.calloop_core.specs.Meanings.{Meaning, Does}
-use Rattle.calloop.specs.Held.{HeldStep, IdleNew, Listed, Unlisted, held_after}
+use Rattle.calloop.specs.Held.{Held, HeldStep, IdleNew, Listed, Unlisted, Warned, warned, held_after}
 use Rattle.calloop.specs.Askings.{Asks, Runs, CannotAsk, with_new_idle}
 use Rattle.calloop.specs.Machine.{View, Change, Put, Claim, Swapped, Polls, Holds, AllFit, IsFull, StandsIn, all_viewed}
 use Rattle.calloop.proofs.Going.{full_named}
@@ -54,16 +54,17 @@ module _ {D I P X : Type 0} (M : Meaning D P (Lent X (Asks D I))) (runs : Runs D
       (tt, (r.2.0, (claim_full, tt)))
       (ap (λ (ss : List (Slot D)). record v { slots = ss; poll = p' }) ended ∙ ap (λ (q : PollView P). record v { slots = changed (with_content Vacant) (claimed v.slots) (first_vacant v.slots); poll = q }) r.2.1)
 
-  pub registered : (d e : D) (token : RegistrationToken) (f : TokenFactory) (p' : PollView P) (signal : Book) → signal ≡ v.signal → token ≡ next_registration v.slots → token.slot < 2 ^ 32
+  pub registered : (d e : D) (token : RegistrationToken) (f : TokenFactory) (p' : PollView P) (signal : Book) (es : List Error) → signal ≡ v.signal → es ≡ v.held.warnings → token ≡ next_registration v.slots → token.slot < 2 ^ 32
       → Does O M d v.poll (Registered (factory_of token) (Ok tt) f) e p'
-      → Did (Case M runs O (Insert d) (Inserted (Ok token))) v (record { slots = after_turn (Source e) token (claimed v.slots); poll = p'; held = held_after v.held (Listed (M.needs d) token); signal = signal })
-  registered d e token f p' signal same is few r =
+      → Did (Case M runs O (Insert d) (Inserted (Ok token))) v (record { slots = after_turn (Source e) token (claimed v.slots); poll = p'; held = record (held_after v.held (Listed (M.needs d) token)) { warnings = es }; signal = signal })
+  registered d e token f p' signal es same now is few r =
       let ended : after_turn (Source e) token (claimed v.slots) ≡ changed (with_content (Source e)) (claimed v.slots) token.slot =
       ap (λ (t : RegistrationToken). after_turn (Source e) t (claimed v.slots)) is ∙ claim_ended v.slots (Source e) ∙ ap (λ (t : RegistrationToken). changed (with_content (Source e)) (claimed v.slots) t.slot) (sym is) in
-      one_step (InsertedBy M d (Ok token)) (Claim d ∷ Polls r.0 ∷ Holds (Listed (M.needs d) token) ∷ Put token.slot (Source e) ∷ []) (record { slots = after_turn (Source e) token (claimed v.slots); poll = p'; held = held_after v.held (Listed (M.needs d) token); signal = signal })
+      one_step (InsertedBy M d (Ok token)) (Claim d ∷ Polls r.0 ∷ Holds (Listed (M.needs d) token) ∷ Put token.slot (Source e) ∷ []) (record { slots = after_turn (Source e) token (claimed v.slots); poll = p'; held = record (held_after v.held (Listed (M.needs d) token)) { warnings = es }; signal = signal })
       (subst (λ (t : RegistrationToken). t.slot < 2 ^ 32) is few, is, e, f, r.0, r.1, refl)
       (tt, (r.2.0, (tt, (subst (λ (t : RegistrationToken). IsFull (claimed v.slots) t.slot) (sym is) claim_full, tt))))
-      (ap (λ (n : Book). record v { slots = after_turn (Source e) token (claimed v.slots); poll = p'; held = held_after v.held (Listed (M.needs d) token); signal = n }) same
+      (ap (λ (l : List Error). record { slots = after_turn (Source e) token (claimed v.slots); poll = p'; held = record (held_after v.held (Listed (M.needs d) token)) { warnings = l }; signal = signal }) now
+      ∙ ap (λ (n : Book). record v { slots = after_turn (Source e) token (claimed v.slots); poll = p'; held = held_after v.held (Listed (M.needs d) token); signal = n }) same
       ∙ ap (λ (ss : List (Slot D)). record v { slots = ss; poll = p'; held = held_after v.held (Listed (M.needs d) token) }) ended ∙ ap (λ (q : PollView P). record v { slots = changed (with_content (Source e)) (claimed v.slots) token.slot; poll = q; held = held_after v.held (Listed (M.needs d) token) }) r.2.1)
 
   none_asked : (R : D → Outcome → List (PollStep P) → D → Type 0) (noted : D → Outcome → HeldStep D I) (token : RegistrationToken) (c : Content D) → None ≡ source_of c → AskedIn R noted token c (Err InvalidToken) []
@@ -118,14 +119,16 @@ module _ {D I P X : Type 0} (M : Meaning D P (Lent X (Asks D I))) (runs : Runs D
   pub not_removed : (token : RegistrationToken) → None ≡ source_of (named v.slots token) → Did (Case M runs O (Remove token) (Removed None)) v v
   not_removed token h = one_step (RemovedBy M token None) [] v (none_removed token (named v.slots token) h) tt refl
 
-  pub removed : (token : RegistrationToken) (d e : D) (told : Outcome) (u : View D I P) → named v.slots token ≡ Source d
+  pub removed : (token : RegistrationToken) (d e : D) (told : Outcome) (u : View D I P) (kept : Bool) (es : List Error) → es ≡ warned kept told u.held.warnings → named v.slots token ≡ Source d
       → ByOne O (λ f a steps g. M.does f v.poll (Unregistered a) steps g) (left token) d told e (record v { slots = after_turn Vacant token (changed (with_content InTurn) v.slots token.slot) }) u
-      → Did (Case M runs O (Remove token) (Removed (Some e))) v u
-  removed token d e told u is r =
+      → Did (Case M runs O (Remove token) (Removed (Some e))) v (record u { held = record u.held { warnings = es } })
+  removed token d e told u kept es now is r =
       let full : is_empty (named v.slots token) ≡ false = ap is_empty is in
-      one_step (RemovedBy M token (Some e)) (Put token.slot Vacant ∷ Polls r.0 ∷ Holds (Unlisted token) ∷ []) u
-      (rw is (e, told, r.0, r.1, refl, refl)) (full_named v.slots token full, (r.2, (tt, tt)))
-      (r.3 ∙ ap (λ (ss : List (Slot D)). record v { slots = ss; poll = polls_after v.poll r.0; held = held_after v.held (Unlisted token) }) (turn_ended v.slots token Vacant full ∙ changed_twice Vacant InTurn v.slots token.slot))
+      one_step (RemovedBy M token (Some e)) (Put token.slot Vacant ∷ Polls r.0 ∷ Holds (Unlisted token) ∷ Holds (Warned kept told) ∷ []) (record u { held = record u.held { warnings = es } })
+      (rw is (e, told, kept, r.0, r.1, refl, refl)) (full_named v.slots token full, (r.2, (tt, (tt, tt))))
+      (ap (λ (l : List Error). record u { held = record u.held { warnings = l } }) now
+      ∙ ap (λ (t : View D I P). record t { held = held_after t.held (Warned kept told) }) r.3
+      ∙ ap (λ (ss : List (Slot D)). record v { slots = ss; poll = polls_after v.poll r.0; held = held_after (held_after v.held (Unlisted token)) (Warned kept told) }) (turn_ended v.slots token Vacant full ∙ changed_twice Vacant InTurn v.slots token.slot))
 
   none_exchanged : (token : RegistrationToken) (new : D) (c : Content D) → None ≡ source_of c → ExchangedIn {I = I} {P = P} token new c (Err new) []
   none_exchanged token new Vacant h = (refl, refl)

@@ -277,8 +277,8 @@ module _ {D I P X : Type 0} (M : Meaning D P (Lent X (Asks D I))) (runs : Runs D
 
   returned_kept : (v : View D I P) (token : RegistrationToken) (d : D) (c : Content D) (cs : List (Change D I P)) → named v.slots token ≡ c → ReturnedTo M token d c v cs → Tidy (is_one token) v.slots v.held.lifecycle → Tidy nobody (all_viewed v cs).slots (all_viewed v cs).held.lifecycle
   returned_kept v token d InTurn cs is h k = rw h (tidy_back (Source d) token v.slots v.held.lifecycle refl (source_full v.slots token InTurn is refl) k)
-  returned_kept v token d Vacant cs is h k = rw h.4 (tidy_out token v.slots v.held.lifecycle k)
-  returned_kept v token d (Source f) cs is h k = rw h.4 (tidy_out token v.slots v.held.lifecycle k)
+  returned_kept v token d Vacant cs is h k = rw h.5 (tidy_out token v.slots v.held.lifecycle k)
+  returned_kept v token d (Source f) cs is h k = rw h.5 (tidy_out token v.slots v.held.lifecycle k)
 
   after_kept : (told : Outcome) (x : X) (v : View D I P) → Tidy nobody v.slots v.held.lifecycle → Kept {D = D} (after_turn told x) v
   after_kept (Ok u) x v k = k
@@ -318,7 +318,7 @@ module _ {D I P X : Type 0} (M : Meaning D P (Lent X (Asks D I))) (runs : Runs D
   removed_kept v token answer cs InTurn is h k = rw h.1 k
   removed_kept v token answer cs (Source d) is h k =
       let out = changed (with_content Vacant) v.slots token.slot in
-      rw h.5 (tidy_out token out v.held.lifecycle (tidy_vacated v.slots token v.held.lifecycle (source_full v.slots token (Source d) is refl) k))
+      rw h.6 (tidy_out token out v.held.lifecycle (tidy_vacated v.slots token v.held.lifecycle (source_full v.slots token (Source d) is refl) k))
 
   told_tidy : (v : View D I P) (ds cs : List (Change D I P)) (answer : Answer D) → cs ≡ ds ++ Holds (Told answer) ∷ [] → Tidy nobody (all_viewed v ds).slots (all_viewed v ds).held.lifecycle → Tidy nobody (all_viewed v cs).slots (all_viewed v cs).held.lifecycle
   told_tidy v ds cs answer is h = rw (is, viewed-append v ds (Holds (Told answer) ∷ [])) h

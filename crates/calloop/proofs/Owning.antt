@@ -1,5 +1,5 @@
 -- Over every run, each counter is held by one source at most, and what the ledger says is kept.
-use Rattle.std.proofs.Common.{◌≡◌, ◌≢◌, ◌⊎◌, inl, inr, ℕ, zero, suc, ◌%◌, List, [], ◌∷◌, ◌++◌, map, refl, ap, sym, ◌∙◌, subst, arith, Some, None, Option, Result, Ok, Err, true, false, if◌then◌else◌, nat_eq, nat_lt, slice_get}
+use Rattle.std.proofs.Common.{Bool, ◌≡◌, ◌≢◌, ◌⊎◌, inl, inr, ℕ, zero, suc, ◌%◌, List, [], ◌∷◌, ◌++◌, map, refl, ap, sym, ◌∙◌, subst, arith, Some, None, Option, Result, Ok, Err, true, false, if◌then◌else◌, nat_eq, nat_lt, slice_get}
 use Rattle.std.proofs.lemmas.Bool.Decides.{nat_tests}
 use Rattle.calloop_wake.specs.declared.error.Error.{Error}
 use Rattle.calloop_wake.specs.declared.error.InsertError.{InsertError}
@@ -34,7 +34,7 @@ use Rattle.calloop.specs.declared.loop_logic.LoopAnswer.{LoopAnswer}
 use Rattle.calloop.specs.declared.loop_logic.LoopAnswer.TheVariants.{Inserted, Enabled, Updated, Disabled, Removed, Exchanged, Dispatched, IdleInserted, Cancelled, Answered, Poller as OldPoller}
 use Rattle.calloop.specs.declared.loop_logic.asks.Answer.{Answer}
 use Rattle.calloop.specs.declared.loop_logic.asks.Answer.TheVariants.{Done, Removed as RemovedAnswer}
-use Rattle.calloop.specs.Held.{HeldStep, Listed, Unlisted, Pend, Asking, Begun, Told, Owe, Paid, Cleared, IdleIn, IdleNew, IdleOut, IdlesTaken, IdleBegun}
+use Rattle.calloop.specs.Held.{HeldStep, Listed, Unlisted, Pend, Asking, Begun, Told, Owe, Paid, Cleared, Warned, IdleIn, IdleNew, IdleOut, IdlesTaken, IdleBegun}
 use Rattle.calloop.specs.Rules.{Doing, Beginning, Sleeping, Waiting, Gathering, Noticing, Cutting, Serving, Ending, Returning, Idling, RunningIdles, ServingIdle, Leaving, Step, Steps, SleptAs, SleptBy, NoticedBy, told_in, CutTo, CutFrom, ActedBy, ReturnedTo, emptied, entered, after_turn, after_wait, Outcome, RegisteredBy, Case, Once, Run, InsertedBy, AskedIn, EnabledBy, UpdatedBy, DisabledBy, RemovedIn, RemovedBy, ExchangedIn, ExchangedBy, IdleInsertedBy, OwnOr, Served, ServedAs, ServedFrom, RunFrom, action_of, factory_of, all_traced}
 use Rattle.calloop.specs.Ledgers.{Ledger}
 use Rattle.calloop.specs.Laws.{HoldsNone, HoldsNoMore, AllFresh, joined, changes_of}
@@ -365,13 +365,15 @@ module _ {D I P X : Type 0} (M : Meaning D P (Lent X (Asks D I))) (runs : Runs D
       rw (h.0, h.1) (emptied_owned (done w (Holds (Pend Continue))) token (named (map slot_of w.slots) token) (d ∷ []) (owned_listed M O law w (Pend Continue) (d ∷ []) k))
   acted_owned w token d (Err error) cs e told h fit k = rw (h.0, h.1) (owned_listed M O law w (Pend Continue) (d ∷ []) k)
 
-  gone_owned : (w : World D I P) (token : RegistrationToken) (d : D) (cs : List (Change D I P)) → (h : (e : D) × (answer : Result (Unit {0}) Error) × (steps : List (PollStep P)) × M.does d w.poll (Unregistered answer) steps e × (cs ≡ Polls steps ∷ Holds (Unlisted token) ∷ Holds (Paid (RemovedAnswer (Some e))) ∷ [])) → AllFit O (seen w) cs → IsOwned M w (d ∷ []) → IsOwned M (all_done w cs) []
+  gone_owned : (w : World D I P) (token : RegistrationToken) (d : D) (cs : List (Change D I P)) → (h : (e : D) × (answer : Outcome) × (kept : Bool) × (steps : List (PollStep P)) × M.does d w.poll (Unregistered answer) steps e × (cs ≡ Polls steps ∷ Holds (Unlisted token) ∷ Holds (Warned kept answer) ∷ Holds (Paid (RemovedAnswer (Some e))) ∷ [])) → AllFit O (seen w) cs → IsOwned M w (d ∷ []) → IsOwned M (all_done w cs) []
   gone_owned w token d cs h fit k =
-      let allowed : AllAllowed O w.poll h.2 = (rw h.4 at fit).0 in
-      rw h.4
-      (owned_listed M O law (done (done w (Polls h.2)) (Holds (Unlisted token))) (Paid (RemovedAnswer (Some h.0))) []
-      (owned_listed M O law (done w (Polls h.2)) (Unlisted token) []
-      (owned_dropped M O law (done w (Polls h.2)) [] h.0 (owned_polls M O law w [] d h.0 h.2 allowed (λ fits below. law d h.0 w.poll (Unregistered h.1) h.2 fits below h.3) k))))
+      let allowed : AllAllowed O w.poll h.3 = (rw h.5 at fit).0 in
+      let out : World D I P = done (done w (Polls h.3)) (Holds (Unlisted token)) in
+      rw h.5
+      (owned_listed M O law (done out (Holds (Warned h.2 h.1))) (Paid (RemovedAnswer (Some h.0))) []
+      (owned_listed M O law out (Warned h.2 h.1) []
+      (owned_listed M O law (done w (Polls h.3)) (Unlisted token) []
+      (owned_dropped M O law (done w (Polls h.3)) [] h.0 (owned_polls M O law w [] d h.0 h.3 allowed (λ fits below. law d h.0 w.poll (Unregistered h.1) h.3 fits below h.4) k)))))
 
   returned_owned : (w : World D I P) (token : RegistrationToken) (d : D) (c : Content D) (cs : List (Change D I P)) → ReturnedTo M token d c (seen w) cs → AllFit O (seen w) cs → IsOwned M w (d ∷ []) → IsOwned M (all_done w cs) []
   returned_owned w token d InTurn cs h fit k = rw h (owned_back M O law w [] token.slot d k)
@@ -417,11 +419,12 @@ module _ {D I P X : Type 0} (M : Meaning D P (Lent X (Asks D I))) (runs : Runs D
   removed_owned w rest token answer cs InTurn is h fit k = rw h.1 k
   removed_owned w rest token answer cs (Source d) is h fit k =
       let out : World D I P = done w (Put token.slot Vacant) in
-      let allowed : AllAllowed O w.poll h.2 = (rw h.5 at fit).1.0 in
-      rw h.5
-      (owned_listed M O law (done out (Polls h.2)) (Unlisted token) rest
-      (owned_dropped M O law (done out (Polls h.2)) rest h.0
-      (owned_polls M O law out rest d h.0 h.2 allowed (λ fits below. law d h.0 w.poll (Unregistered h.1) h.2 fits below h.3) (owned_without M O law w rest token.slot Vacant d (λ e is. cc) (at_named w.slots token d is) k))))
+      let allowed : AllAllowed O w.poll h.3 = (rw h.6 at fit).1.0 in
+      rw h.6
+      (owned_listed M O law (done (done out (Polls h.3)) (Holds (Unlisted token))) (Warned h.2 h.1) rest
+      (owned_listed M O law (done out (Polls h.3)) (Unlisted token) rest
+      (owned_dropped M O law (done out (Polls h.3)) rest h.0
+      (owned_polls M O law out rest d h.0 h.3 allowed (λ fits below. law d h.0 w.poll (Unregistered h.1) h.3 fits below h.4) (owned_without M O law w rest token.slot Vacant d (λ e is. cc) (at_named w.slots token d is) k)))))
 
   fresh_first : (cs ds : List (Change D I P)) → AllFresh M (cs ++ ds) → AllFresh M cs
   fresh_first [] ds h = tt

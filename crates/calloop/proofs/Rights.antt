@@ -72,8 +72,8 @@ module _ {D I P X : Type 0} (M : Meaning D P (Lent X (Asks D I))) (runs : Runs D
 
   returned_right : (w : World D I P) (token : RegistrationToken) (d : D) (c : Content D) (cs : List (Change D I P)) → ReturnedTo M token d c (seen w) cs → AllRight w cs
   returned_right w token d InTurn cs h = rw h (tt, tt)
-  returned_right w token d Vacant cs h = rw h.4 (tt, (tt, (tt, tt)))
-  returned_right w token d (Source f) cs h = rw h.4 (tt, (tt, (tt, tt)))
+  returned_right w token d Vacant cs h = rw h.5 (tt, (tt, (tt, (tt, tt))))
+  returned_right w token d (Source f) cs h = rw h.5 (tt, (tt, (tt, (tt, tt))))
 
   slept_as : (w : World D I P) (timeout : Option ℕ) (later : List RegistrationToken) (answer : Result (Option (Readiness × Token)) Error) (x : X) (cs : List (Change D I P)) (b : Doing D X) → SleptAs timeout later answer x cs b → AllRight w cs
   slept_as w timeout later (Ok None) x cs b h = rw h.0 tt
@@ -110,7 +110,7 @@ module _ {D I P X : Type 0} (M : Meaning D P (Lent X (Asks D I))) (runs : Runs D
   removed_right : (w : World D I P) (token : RegistrationToken) (c : Content D) (answer : Option D) (cs : List (Change D I P)) → RemovedIn M token c answer (seen w) cs → AllRight w cs
   removed_right w token Vacant answer cs h = rw h.1 tt
   removed_right w token InTurn answer cs h = rw h.1 tt
-  removed_right w token (Source d) answer cs h = rw h.5 (tt, (tt, (tt, tt)))
+  removed_right w token (Source d) answer cs h = rw h.6 (tt, (tt, (tt, (tt, tt))))
 
   own_or : {A B G : Type 0} (c : Content D) → (A → G) → (B → G) → OwnOr c A B → G
   own_or InTurn f g h = f h

@@ -91,7 +91,7 @@ module _ {D I P X : Type 0} (M : Meaning D P (Lent X (Asks D I))) (O : Outside P
   removed_steady : (v : View D I P) (token : RegistrationToken) (answer : Option D) (cs : List (Change D I P)) (c : Content D) → RemovedIn M token c answer v cs → Steady v (all_viewed v cs)
   removed_steady v token answer cs Vacant h = rw h.1 (still_steady v v refl refl)
   removed_steady v token answer cs InTurn h = rw h.1 (still_steady v v refl refl)
-  removed_steady v token answer cs (Source d) h = rw h.5 (still_steady v _ (batch-stepped v.poll h.2) refl)
+  removed_steady v token answer cs (Source d) h = rw h.6 (still_steady v _ (batch-stepped v.poll h.3) refl)
 
   own_or : {A B G : Type 0} (c : Content D) → (A → G) → (B → G) → OwnOr c A B → G
   own_or InTurn f g h = f h

@@ -1,7 +1,27 @@
 -- What loop and machine hold alike, beside slots and `Poll`: which registrations are told of waits, what the source in
--- its turn asked for itself, and what callbacks asked for. calloop enters a registration again each time, and leaves it
--- there where that fails; here each stands once, in its first place.
-use Rattle.std.specs.Prelude.{ℕ, List, [], ◌∷◌, ◌++◌, filter, Bool, false, not, ◌&&◌, ◌||◌, nat_eq, if◌then◌else◌}
+-- its turn asked for itself, what callbacks asked for, and what the loop warns of. calloop enters a registration again
+-- each time, and leaves it there where that fails; here each stands once, in its first place. What it only logs, that a
+-- source which leaves can't be unregistered, is kept here for whoever wants to read it.
+use Rattle.std.specs.Prelude.{
+  ℕ,
+  List,
+  [],
+  ◌∷◌,
+  ◌++◌,
+  filter,
+  Bool,
+  true,
+  false,
+  not,
+  ◌&&◌,
+  ◌||◌,
+  nat_eq,
+  if◌then◌else◌,
+  Result,
+  Ok,
+  Err,
+}
+use Rattle.calloop_wake.specs.declared.error.Error.{Error}
 use Rattle.calloop_wake.specs.declared.token.RegistrationToken.{RegistrationToken}
 use Rattle.calloop_core.specs.declared.sources.PostAction.{PostAction}
 use Rattle.calloop.specs.declared.loop_logic.asks.Answer.{Answer}
@@ -28,6 +48,8 @@ pub record Held (D I : Type 0) : Type 0 where
   pub pending : PostAction
   -- what callbacks asked for, and what came of it
   pub asks : Asks D I
+  -- why sources that left failed to take their registration back, since the last dispatch began
+  pub warnings : List Error
 
 abbrev pub is_one : RegistrationToken → RegistrationToken → Bool
 is_one a b = nat_eq a.slot b.slot && nat_eq a.version b.version
@@ -43,6 +65,12 @@ is_listed token (t ∷ ts) = is_one t token || is_listed token ts
 abbrev pub listed : RegistrationToken → List RegistrationToken → List RegistrationToken
 listed token ts = if is_listed token ts then ts else ts ++ token ∷ []
 
+-- the error of a source that left is kept where there is memory for it
+abbrev pub warned : (kept : Bool) → Result (Unit {0}) Error → List Error → List Error
+warned kept (Ok u) es = es
+warned true (Err e) es = es ++ e ∷ []
+warned false (Err e) es = es
+
 pub data HeldStep (D I : Type 0) : Type 0 where
   -- a registration is entered, where it is needed
   Listed : (needed : Bool) (token : RegistrationToken) → HeldStep D I
@@ -56,8 +84,10 @@ pub data HeldStep (D I : Type 0) : Type 0 where
   Told : (answer : Answer D) → HeldStep D I
   Owe : HeldStep D I
   Paid : (answer : Answer D) → HeldStep D I
-  -- answers that weren't handed out are gone
+  -- answers that weren't handed out are gone, and so are warnings
   Cleared : HeldStep D I
+  -- a source that left answered this to its unregistration
+  Warned : (kept : Bool) (told : Result (Unit {0}) Error) → HeldStep D I
   -- an idle that a callback asked for, which is answered; one that the loop's caller asked for; and one that is
   -- cancelled
   IdleIn : (idle : I) → HeldStep D I
@@ -76,7 +106,8 @@ held_after h Begun = record h { asks = begun h.asks }
 held_after h (Told answer) = record h { asks = told answer h.asks }
 held_after h Owe = record h { asks = owing h.asks }
 held_after h (Paid answer) = record h { asks = paid answer h.asks }
-held_after h Cleared = record h { asks = cleared h.asks }
+held_after h Cleared = record h { asks = cleared h.asks; warnings = [] }
+held_after h (Warned kept told) = record h { warnings = warned kept told h.warnings }
 held_after h (IdleIn idle) = record h { asks = with_idle idle h.asks }
 held_after h (IdleNew idle) = record h { asks = with_new_idle idle h.asks }
 held_after h (IdleOut ticket) = record h { asks = without_idle ticket h.asks }

@@ -68,7 +68,13 @@ view_of l =
     record {
       slots = l.sources;
       poll = poll_view l.poll;
-      held = record { lifecycle = l.lifecycle.tokens.items; pending = l.pending; asks = l.requests };
+      held =
+          record {
+            lifecycle = l.lifecycle.tokens.items;
+            pending = l.pending;
+            asks = l.requests;
+            warnings = l.warnings.errors.items;
+          };
       signal = (arc_value l.signal.shared).name;
     }
 
@@ -191,6 +197,6 @@ pub record IsNew {D I P : Type 0} (w : World D I P) : Type 0 where
   pub pass : w.poll.pass ≡ None
   pub places : w.poll.places ≡ 0
   pub unwatched : w.poll.watch.notes ≡ []
-  pub held : w.held ≡ record { lifecycle = []; pending = Continue; asks = no_asks }
+  pub held : w.held ≡ record { lifecycle = []; pending = Continue; asks = no_asks; warnings = [] }
   pub handed : w.handed ≡ []
   pub ledger : w.ledger ≡ new_ledger

@@ -114,6 +114,7 @@ use Rattle.calloop.specs.Held.{
   Owe,
   Paid,
   Cleared,
+  Warned,
   IdleIn,
   IdleNew,
   IdleOut,
@@ -227,15 +228,16 @@ abbrev pub DisabledBy : {D I P X : Type 0} → Meaning D P (Lent X (Asks D I)) �
 DisabledBy M token answer v cs =
     AskedIn (λ d a steps e. M.does d v.poll (Unregistered a) steps e) (left token) token (named v.slots token) answer cs
 
--- it leaves its slot vacant, is unregistered, of which a failure isn't answered, and is handed back
+-- it leaves its slot vacant, is unregistered, of which a failure is a warning where there is memory for one, and is
+-- handed back
 abbrev pub RemovedIn : {D I P X : Type 0} → Meaning D P (Lent X (Asks D I)) → RegistrationToken → Content D → Option D
     → View D I P → List (Change D I P) → Type 0
 RemovedIn M token Vacant answer v cs = (answer ≡ None) × (cs ≡ [])
 RemovedIn M token InTurn answer v cs = (answer ≡ None) × (cs ≡ [])
 RemovedIn {D} {I} {P} M token (Source d) answer v cs =
-    (e : D) × (told : Result (Unit {0}) Error) × (steps : List (PollStep P))
+    (e : D) × (told : Outcome) × (kept : Bool) × (steps : List (PollStep P))
     × M.does d v.poll (Unregistered told) steps e × (answer ≡ Some e)
-    × (cs ≡ Put token.slot Vacant ∷ Polls steps ∷ Holds (Unlisted token) ∷ [])
+    × (cs ≡ Put token.slot Vacant ∷ Polls steps ∷ Holds (Unlisted token) ∷ Holds (Warned kept told) ∷ [])
 
 abbrev pub RemovedBy : {D I P X : Type 0} → Meaning D P (Lent X (Asks D I)) → RegistrationToken → Option D → View D I P
     → List (Change D I P) → Type 0
@@ -427,14 +429,15 @@ after_turn (Ok u) x = Cutting x
 after_turn (Err e) x = Leaving (Err e) x
 
 -- the source goes back to its slot, where that is still in its turn; else it is unregistered last, and a failure of
--- that isn't answered. One that asked for its own removal is handed back.
+-- that is a warning, where there is memory for one. One that asked for its own removal is handed back.
 abbrev pub ReturnedTo : {D I P X : Type 0} → Meaning D P (Lent X (Asks D I)) → RegistrationToken → D → Content D
     → View D I P → List (Change D I P) → Type 0
 ReturnedTo M token d InTurn v cs = cs ≡ Put token.slot (Source d) ∷ []
 ReturnedTo {D} {I} {P} M token d content v cs =
-    (e : D) × (answer : Result (Unit {0}) Error) × (steps : List (PollStep P))
+    (e : D) × (answer : Outcome) × (kept : Bool) × (steps : List (PollStep P))
     × M.does d v.poll (Unregistered answer) steps e
-    × (cs ≡ Polls steps ∷ Holds (Unlisted token) ∷ Holds (Paid (RemovedAnswer (Some e))) ∷ [])
+    × (cs
+    ≡ Polls steps ∷ Holds (Unlisted token) ∷ Holds (Warned kept answer) ∷ Holds (Paid (RemovedAnswer (Some e))) ∷ [])
 
 -- the idles that were taken run in order; a cancelled one isn't among them
 abbrev pub RunFrom : {D I P X : Type 0} → Runs D I X → List (Waiter I) → View D I P → X → List (Change D I P)

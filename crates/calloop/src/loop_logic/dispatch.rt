@@ -1,5 +1,5 @@
 //! A dispatch: the wait, the batch, and the turns of its events.
-ghost use Rattle.std.specs.Prelude.{◌≡◌, ◌<◌, [], length, Ok, Err, IfOk, IfErr, true};
+ghost use Rattle.std.specs.Prelude.{◌≡◌, ◌<◌, length, Ok, Err, IfOk, IfErr, true};
 ghost use Rattle.calloop_wake.specs.declared.error.Error.TheVariants.{OutOfMemory};
 ghost use Rattle.calloop_core.specs.Pollers.{nanos_of};
 ghost use Rattle.calloop.specs.declared.loop_logic.LoopCall.TheVariants.{Dispatch};
@@ -29,7 +29,6 @@ impl<D: EventDispatcher<P, C, R>, P: Poller, C: Clock, R: Wait + Drop> EventLoop
     where
         R: Clone,
         ensures ok { IfOk result (λ made. (w : World D D.Idle P) × IsNew w × (w.poll.poller ≡ poller) × (seen w ≡ view_of made)) }
-        ensures silent { IfOk result (λ made. made.warnings.errors.items ≡ []) }
         ensures err { IfErr result (λ e. e ≡ OutOfMemory) }
     {
         let notifier = poller.notifier()?;

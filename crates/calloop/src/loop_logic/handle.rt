@@ -282,7 +282,7 @@ impl<D: EventDispatcher<P, C, R>, P: Poller, C: Clock, R: Wait + Drop> LoopHandl
     /// Why sources that left the loop failed to take their registration back, since the last dispatch began: those that were
     /// removed, and those that left it at the end of their turn. Where there was no memory for one, it is missing.
     pub fn warnings(&self) -> &[Error]
-        ensures { result.now ≡ self.now.inner.now.warnings.errors.items }
+        ensures { result.now ≡ (view_of self.now.inner.now).held.warnings }
     {
         self.inner.warnings.as_slice()
     }

@@ -1,5 +1,6 @@
 //! What went wrong where nothing could be answered: a source that left the loop failed to take its registration back.
-ghost use Rattle.std.specs.Prelude.{◌≡◌, ◌⊎◌, ◌++◌, ◌∷◌, [], Ok, IfErr};
+ghost use Rattle.std.specs.Prelude.{◌≡◌, [], Bool};
+ghost use Rattle.calloop.specs.Held.{warned};
 
 use calloop_wake::error::{Error, Result};
 use std::alloc::Global;
@@ -21,8 +22,7 @@ impl Warnings {
 
     // Keeps the error of what was told, where it failed.
     pub(super) fn note(&mut self, told: Result<()>)
-        ensures fine { told ≡ Ok tt → self.new.errors.items ≡ self.old.errors.items }
-        ensures failed { IfErr told (λ e. (self.new.errors.items ≡ self.old.errors.items ++ e ∷ []) ⊎ (self.new.errors.items ≡ self.old.errors.items)) }
+        ensures { (kept : Bool) × (self.new.errors.items ≡ warned kept told self.old.errors.items) }
     {
         if let Err(error) = told {
             let _ = self.errors.push(error);

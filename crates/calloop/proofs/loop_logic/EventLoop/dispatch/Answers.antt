@@ -22,7 +22,7 @@ returns-in_err-tell_of_wait-clause-case g c =
     let u = view_of c.tell_of_wait.new.self in
     rw (p.1, p.2)
     (dispatched M R O v u t x x (Err e)
-    (begun_then M R O v u room.0 (poll_view c.reserve.new.self) c.clear_answers.new.self t x (Leaving (Err e) x) room.1 c.clear_answers.ensures (c.in_err-tell_of_wait.ensures.machine t x)))
+    (begun_then M R O v u room.0 (poll_view c.reserve.new.self) c.clear_answers.new.self c.clear.new.self.errors.items t x (Leaving (Err e) x) room.1 c.clear_answers.ensures c.clear.ensures (c.in_err-tell_of_wait.ensures.machine t x)))
 
 pub returns-in_err-tell_of_wait-clause-machine : goal.returns-in_err-tell_of_wait-clause-machine
 returns-in_err-tell_of_wait-clause-machine g c =
@@ -40,12 +40,12 @@ returns-in_err-poll-clause-case g c =
     let room = c.in_ok-reserve.ensures.ok in
     let x = c.args.«data».now in
     let t = nanos_of c.args.timeout in
-    let ready : View g.row.D.Denot g.row.D-Idle.Denot g.row.P.Denot = record v { poll = poll_view c.reserve.new.self; held = record v.held { asks = c.clear_answers.new.self } } in
+    let ready : View g.row.D.Denot g.row.D-Idle.Denot g.row.P.Denot = record v { poll = poll_view c.reserve.new.self; held = record v.held { asks = c.clear_answers.new.self; warnings = c.clear.new.self.errors.items } } in
     let u = view_of c.tell_of_wait.new.self in
     let w : View g.row.D.Denot g.row.D-Idle.Denot g.row.P.Denot = record u { poll = poll_view c.poll.new.self } in
     rw (p.1, p.2)
     (dispatched M R O v w t x x (Err e)
-    (begun_then M R O v w room.0 (poll_view c.reserve.new.self) c.clear_answers.new.self t x (Leaving (Err e) x) room.1 c.clear_answers.ensures
+    (begun_then M R O v w room.0 (poll_view c.reserve.new.self) c.clear_answers.new.self c.clear.new.self.errors.items t x (Leaving (Err e) x) room.1 c.clear_answers.ensures c.clear.ensures
     (goes_on M R O (Sleeping t v.held.lifecycle x) (Waiting t x) (Leaving (Err e) x) ready u w (c.in_ok-tell_of_wait.ensures.machine t x)
     (not_polled M R O u (poll_view c.poll.new.self) t x e c.in_err-poll.ensures))))
 
@@ -67,14 +67,14 @@ returns-in_err-hand_out_all-clause-case g c =
     let x = c.args.«data».now in
     let y = c.hand_out_all.new.«data» in
     let t = nanos_of c.args.timeout in
-    let ready : View g.row.D.Denot g.row.D-Idle.Denot g.row.P.Denot = record v { poll = poll_view c.reserve.new.self; held = record v.held { asks = c.clear_answers.new.self } } in
+    let ready : View g.row.D.Denot g.row.D-Idle.Denot g.row.P.Denot = record v { poll = poll_view c.reserve.new.self; held = record v.held { asks = c.clear_answers.new.self; warnings = c.clear.new.self.errors.items } } in
     let u = view_of c.tell_of_wait.new.self in
     let w : View g.row.D.Denot g.row.D-Idle.Denot g.row.P.Denot = record u { poll = poll_view c.poll.new.self } in
     let told = view_of c.tell_of_events.new.self in
     let all = view_of c.hand_out_all.new.self in
     rw (p.1, p.2)
     (dispatched M R O v all t x y (Err e)
-    (begun_then M R O v all room.0 (poll_view c.reserve.new.self) c.clear_answers.new.self t x (Leaving (Err e) y) room.1 c.clear_answers.ensures
+    (begun_then M R O v all room.0 (poll_view c.reserve.new.self) c.clear_answers.new.self c.clear.new.self.errors.items t x (Leaving (Err e) y) room.1 c.clear_answers.ensures c.clear.ensures
     (goes_on M R O (Sleeping t v.held.lifecycle x) (Waiting t x) (Leaving (Err e) y) ready u all (c.in_ok-tell_of_wait.ensures.machine t x)
     (goes_on M R O (Waiting t x) (Noticing (length u.poll.batch) u.held.lifecycle x) (Leaving (Err e) y) u w all (polled M R O u (poll_view c.poll.new.self) t x c.in_ok-poll.ensures)
     (goes_on M R O (Noticing (length u.poll.batch) u.held.lifecycle x) (Cutting x) (Leaving (Err e) y) w told all
@@ -96,14 +96,14 @@ returns-clause-case g c =
     let z = c.run_idles.new.«data» in
     let t = nanos_of c.args.timeout in
     let room = c.in_ok-reserve.ensures.ok in
-    let ready : View g.row.D.Denot g.row.D-Idle.Denot g.row.P.Denot = record v { poll = poll_view c.reserve.new.self; held = record v.held { asks = c.clear_answers.new.self } } in
+    let ready : View g.row.D.Denot g.row.D-Idle.Denot g.row.P.Denot = record v { poll = poll_view c.reserve.new.self; held = record v.held { asks = c.clear_answers.new.self; warnings = c.clear.new.self.errors.items } } in
     let u = view_of c.tell_of_wait.new.self in
     let w : View g.row.D.Denot g.row.D-Idle.Denot g.row.P.Denot = record u { poll = poll_view c.poll.new.self } in
     let told = view_of c.tell_of_events.new.self in
     let all = view_of c.hand_out_all.new.self in
     let ran = view_of c.run_idles.new.self in
     dispatched M R O v ran t x z (Ok tt)
-    (begun_then M R O v ran room.0 (poll_view c.reserve.new.self) c.clear_answers.new.self t x (Leaving (Ok tt) z) room.1 c.clear_answers.ensures
+    (begun_then M R O v ran room.0 (poll_view c.reserve.new.self) c.clear_answers.new.self c.clear.new.self.errors.items t x (Leaving (Ok tt) z) room.1 c.clear_answers.ensures c.clear.ensures
     (goes_on M R O (Sleeping t v.held.lifecycle x) (Waiting t x) (Leaving (Ok tt) z) ready u ran (c.in_ok-tell_of_wait.ensures.machine t x)
     (goes_on M R O (Waiting t x) (Noticing (length u.poll.batch) u.held.lifecycle x) (Leaving (Ok tt) z) u w ran (polled M R O u (poll_view c.poll.new.self) t x c.in_ok-poll.ensures)
     (goes_on M R O (Noticing (length u.poll.batch) u.held.lifecycle x) (Cutting x) (Leaving (Ok tt) z) w told ran

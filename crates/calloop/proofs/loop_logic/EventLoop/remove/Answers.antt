@@ -12,5 +12,6 @@ returns-in_err-source g c = rw (c.from_residual.ensures, c.in_err-source.ensures
 pub returns : goal.returns
 returns g c =
     let is : named c.args.self.now.sources c.args.token ≡ Source c.in_ok-source.source = source_is (named c.args.self.now.sources c.args.token) c.in_ok-source.source (sym c.in_ok-source.ensures.value) in
-    removed g.D.Dispatch.means g.D.Idle.IdleCallback.runs g.P.Poller.outside (view_of c.args.self.now) c.args.token c.in_ok-source.source c.unregister-told.new.source c.unregister-told.result (view_of c.unregister-told.new.self) is
+    removed g.D.Dispatch.means g.D.Idle.IdleCallback.runs g.P.Poller.outside (view_of c.args.self.now) c.args.token c.in_ok-source.source c.unregister-told.new.source c.unregister-told.result (view_of c.unregister-told.new.self) c.note.ensures.0
+    c.note.new.self.errors.items c.note.ensures.1 is
     (rw (c.vacate.ensures, c.in_ok-source.ensures.list) at c.unregister-told.ensures)

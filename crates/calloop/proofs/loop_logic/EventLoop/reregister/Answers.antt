@@ -1,6 +1,7 @@
 use Rattle.std.proofs.lemmas.Result.{err_from_is_err_and}
 use Rattle.calloop_core.specs.Polls.{polls_after}
-use Rattle.std.proofs.Common.{◌&&◌, List, true, inr, ap, ◌∙◌}
+use Rattle.std.proofs.Common.{◌&&◌, List, [], true, Err, inl, inr, refl, ap, ◌∙◌}
+use Rattle.calloop_wake.specs.declared.error.Error.{Error}
 use Rattle.calloop_wake.specs.declared.token.RegistrationToken.{RegistrationToken}
 use Rattle.calloop_core.specs.Polls.{PollView, poll_view}
 use Rattle.calloop.specs.Held.{Held, Listed, held_after}
@@ -34,4 +35,17 @@ returns-in_err-reregister g c =
       ap (λ (l : List RegistrationToken). record v { slots = v.slots; poll = poll_view c.reregister.new.poll; held = record v.held { lifecycle = l } }) c.in_ok-reserve.ensures.same
           ∙ ap (λ (q : PollView g.row.P.Denot). record v { poll = q }) r.2.1
           ∙ ap (λ (h : Held g.row.D.Denot g.row.D-Idle.Denot). record v { slots = v.slots; poll = polls_after v.poll r.0; held = h }) entry,
+    )
+
+pub returns-in_err-reserve : goal.returns-in_err-reserve
+returns-in_err-reserve g c =
+    let v : View g.row.D.Denot g.row.D-Idle.Denot g.row.P.Denot = view_of c.args.self.now in
+    let p = err_from_is_err_and c.from_residual.result c.from_residual.ensures.1 in
+    let err = rw c.needs_extra_lifecycle_events-needed.ensures at c.in_err-reserve.ensures.err in
+    let entry = entered_not (g.D.Dispatch.means.needs c.args.source.now) c.args.token v.held in
+    rw (p.1, p.2) (
+      [],
+      inl (err.0, ap (λ (e : Error). Err e) err.1, refl, refl),
+      tt,
+      ap (λ (l : List RegistrationToken). record v { held = record v.held { lifecycle = l } }) c.in_err-reserve.ensures.same ∙ ap (λ (h : Held g.row.D.Denot g.row.D-Idle.Denot). record v { held = h }) entry,
     )
