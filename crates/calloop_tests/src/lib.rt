@@ -1,9 +1,5 @@
-//! Loops over sources of a caller: what the tests call, and their tests.
+//! Tests of loops over sources of a caller.
 #![tactic(auto)]
 
-pub mod attendant;
-pub mod guarded;
-pub mod source;
 #[cfg(test)]
 mod tests;
-pub mod trio;

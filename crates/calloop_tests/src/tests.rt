@@ -1,7 +1,7 @@
-use crate::source::Source;
 use calloop::loop_logic::{once, wrong_runs_are_ruled_out};
 use calloop::{Instant, PostAction, RegistrationToken, TimeoutAction};
 use calloop_core::sys::script::{ScriptClock, ScriptPoller};
+use calloop_test_sources::source::Source;
 use desk::{Act, Bell, Desk, Scene, plays};
 use stage::Stage;
 use std::io;

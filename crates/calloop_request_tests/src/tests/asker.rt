@@ -5,7 +5,7 @@ use calloop::{
     Callback, Choice, Dispatcher, Here, Idle, IdleCallback, Instant, PostAction, RegistrationToken,
     Requests, There, Ticket, TimeoutAction,
 };
-use calloop_tests::source::Counter;
+use calloop_test_sources::source::Counter;
 
 /// The place of counters in the choice.
 pub type Third = There<There<Here>>;

@@ -7,7 +7,7 @@ use calloop::{
     PostAction, Readiness, RegistrationToken, Sources, There, Timer,
 };
 use calloop_core::sys::script::{ScriptAnswer, ScriptClock, ScriptEnd, ScriptEvents, ScriptPoller};
-use calloop_tests::source::Counter;
+use calloop_test_sources::source::Counter;
 use std::alloc::Global;
 use std::sync::Wait;
 use std::time::Duration;

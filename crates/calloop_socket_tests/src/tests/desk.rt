@@ -1,5 +1,4 @@
 use super::table::Table;
-use crate::visitor::Visitor;
 use calloop::generic::Generic;
 use calloop::loop_logic::EventLoop;
 use calloop::ping::{Ping, make_ping};
@@ -12,7 +11,8 @@ use calloop_core::sys::script::{
     ScriptAnswer, ScriptCall, ScriptClock, ScriptEnd, ScriptEvents, ScriptIo, ScriptKind,
     ScriptPoller,
 };
-use calloop_tests::source::{Teller, Waker};
+use calloop_test_sources::source::{Teller, Waker};
+use calloop_test_sources::visitor::Visitor;
 use std::alloc::Global;
 use std::process::Abort;
 use std::sync::Wait;

@@ -1,5 +1,4 @@
 use super::table::Table;
-use crate::visitor::{Reader, WRITABLE};
 use calloop::generic::Generic;
 use calloop::loop_logic::EventLoop;
 use calloop::ping::{Ping, make_ping};
@@ -8,7 +7,8 @@ use calloop::{
     RegistrationToken, Requests, Sources, There,
 };
 use calloop_core::sys::system::{MioIo, MioPoller, SystemClock};
-use calloop_tests::source::Teller;
+use calloop_test_sources::source::Teller;
+use calloop_test_sources::visitor::{Reader, WRITABLE};
 use mio::net::{TcpStream, UnixStream};
 use std::alloc::Global;
 use std::net::Net;

@@ -1,9 +1,5 @@
 use super::at;
 use super::stage::{Stage, Table, are_waits};
-use crate::attendant::Attendant;
-use crate::guarded::Guarded;
-use crate::source::{Counter, Listener, Teller, Waker};
-use crate::trio::{Announcer, Trio};
 use calloop::loop_logic::{EventLoop, LoopAnswer, LoopCall};
 use calloop::ping::{Ping, make_ping};
 use calloop::{
@@ -11,6 +7,10 @@ use calloop::{
     PostAction, RegistrationToken, Requests, Sources, There, TimeoutAction, Timer,
 };
 use calloop_core::sys::script::{ScriptClock, ScriptPoller};
+use calloop_test_sources::attendant::Attendant;
+use calloop_test_sources::guarded::Guarded;
+use calloop_test_sources::source::{Counter, Listener, Teller, Waker};
+use calloop_test_sources::trio::{Announcer, Trio};
 use std::alloc::Global;
 use std::collections::VecDeque;
 use std::io::ErrorKind;

@@ -1,7 +1,7 @@
 //! Two places of one choice for the same source and callback.
 use super::stage::{Stage, Table};
-use crate::source::Teller;
 use calloop::{Dispatcher, Here, OneOf, PingSource, RegistrationToken, Sources, There, make_ping};
+use calloop_test_sources::source::Teller;
 use std::process::Abort;
 use std::sync::Wait;
 

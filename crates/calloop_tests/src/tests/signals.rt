@@ -1,5 +1,4 @@
 //! What ends a wait of the machine's poller from another thread, and signals of a loop.
-use crate::source::Teller;
 use calloop::loop_logic::EventLoop;
 use calloop::ping::{Ping, make_ping};
 use calloop::{
@@ -10,6 +9,7 @@ use calloop_core::sys::EVENTS_PER_WAIT;
 use calloop_core::sys::notifier::Notifier;
 use calloop_core::sys::script::{ScriptAnswer, ScriptEnd, ScriptEvents, ScriptPoller};
 use calloop_core::sys::system::{MioPoller, SystemClock};
+use calloop_test_sources::source::Teller;
 use calloop_wake::wake::Notify;
 use std::alloc::{AllocGlobal, Global};
 use std::net::Net;

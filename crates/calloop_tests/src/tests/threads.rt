@@ -1,8 +1,8 @@
 //! Pings of another thread.
 use super::stage::{Stage, Table};
-use crate::source::Teller;
 use calloop::ping::{Ping, make_ping};
 use calloop::{Dispatcher, PingSource, RegistrationToken, Sources};
+use calloop_test_sources::source::Teller;
 use std::process::Abort;
 use std::sync::Wait;
 use std::test::Fail;

@@ -2,8 +2,8 @@
 use super::FIRST_OF_SLOT_1;
 use super::desk::{Bell, Desk, Scene, plays};
 use super::stage::Stage;
-use crate::attendant::Attendant;
 use calloop::{PostAction, RegistrationToken};
+use calloop_test_sources::attendant::Attendant;
 use std::process::Abort;
 
 #[test]

@@ -96,7 +96,7 @@ impl Counter {
 pub struct Broken;
 
 impl IntoError for Broken {
-    ghost use Rattle.calloop_tests.specs.Sources.{IsOther, other_is_of_source};
+    ghost use Rattle.calloop_test_sources.specs.Sources.{IsOther, other_is_of_source};
 
     ghost becomes = { λ _ e. IsOther e };
 
@@ -110,7 +110,7 @@ impl IntoError for Broken {
 impl<P: Poller, C, R: Wait + Drop> EventSource<P, C, R> for Counter {
     ghost use Rattle.calloop_core.specs.Meanings.{still};
     ghost use Rattle.calloop_core.specs.Lawful.{keeping_still};
-    ghost use Rattle.calloop_tests.specs.Sources.{Counts};
+    ghost use Rattle.calloop_test_sources.specs.Sources.{Counts};
 
     type Event = u32;
 

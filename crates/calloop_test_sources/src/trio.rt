@@ -1,7 +1,7 @@
 //! A source of the tests' own that is made of a ping and two timers.
 ghost use Rattle.std.specs.Prelude.{◌≡◌, ◌<◌, ◌^◌};
 ghost use Rattle.calloop_core.specs.Calls.{Went};
-ghost use Rattle.calloop_tests.specs.Trios.{calls_of, part_heard};
+ghost use Rattle.calloop_test_sources.specs.Trios.{calls_of, part_heard};
 
 use crate::source::Broken;
 use calloop::{
@@ -96,7 +96,7 @@ where
 }
 
 impl<P: Poller, C, R: Wait + Drop> EventSource<P, C, R> for Trio<R> {
-    ghost use Rattle.calloop_tests.specs.Trios.{trio_meaning, trio_keeps};
+    ghost use Rattle.calloop_test_sources.specs.Trios.{trio_meaning, trio_keeps};
 
     type Event = Part;
 

@@ -20,10 +20,10 @@ use Rattle.calloop_core.specs.Meanings.{Meaning, Does}
 use Rattle.calloop_core.specs.Timers.{timer_meaning}
 use Rattle.calloop_core.proofs.Stepping.{stepped-append}
 use Rattle.calloop.specs.Pings.{ping_meaning}
-use Rattle.calloop_tests.specs.Trios.{IsAlike, MayStop, MayDo, AsksParts, OfTrio, OfBell, OfTimer, calls_of, after_calls, part_heard, trio_meaning}
-use Rattle.calloop_tests.specs.declared.source.Broken.{Broken}
-use Rattle.calloop_tests.specs.declared.trio.Part.{Part}
-use Rattle.calloop_tests.specs.declared.trio.Trio.{Trio}
+use Rattle.calloop_test_sources.specs.Trios.{IsAlike, MayStop, MayDo, AsksParts, OfTrio, OfBell, OfTimer, calls_of, after_calls, part_heard, trio_meaning}
+use Rattle.calloop_test_sources.specs.declared.source.Broken.{Broken}
+use Rattle.calloop_test_sources.specs.declared.trio.Part.{Part}
+use Rattle.calloop_test_sources.specs.declared.trio.Trio.{Trio}
 
 -- what a part did in a call of the whole, by steps that can be made
 pub record DidPart {S P U : Type 0} (O : Outside P) (whole : Deed OfTrio) (m : Meaning S P U) (s : S) (v : PollView P) (t : S)

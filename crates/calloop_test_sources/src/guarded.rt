@@ -17,7 +17,7 @@ pub struct Guarded<R: Wait + Drop> {
 }
 
 impl<P: Poller, C, R: Wait + Drop> EventSource<P, C, R> for Guarded<R> {
-    ghost use Rattle.calloop_tests.specs.Guards.{guarded_meaning, guarded_keeps};
+    ghost use Rattle.calloop_test_sources.specs.Guards.{guarded_meaning, guarded_keeps};
 
     type Event = ();
 

@@ -2,8 +2,8 @@ use Rattle.calloop_core.specs.Polls.{poll_view}
 use Rattle.calloop_core.specs.Deeds.{Unregistered}
 use Rattle.calloop_core.specs.Timers.{timer_meaning}
 use Rattle.calloop.specs.Pings.{ping_meaning}
-use Rattle.calloop_tests.proofs.Parts.{reached, unreached, asked}
-use Rattle.calloop_tests.proofs.trio.TrioEventSource.unregister.Goals as goal
+use Rattle.calloop_test_sources.proofs.Parts.{reached, unreached, asked}
+use Rattle.calloop_test_sources.proofs.trio.TrioEventSource.unregister.Goals as goal
 
 pub returns-in_err-unregister : goal.returns-in_err-unregister
 returns-in_err-unregister g c =

@@ -3,9 +3,9 @@ use Rattle.calloop_core.specs.Polls.{poll_view}
 use Rattle.calloop_core.specs.Deeds.{Turned, heard}
 use Rattle.calloop_core.specs.Timers.{timer_meaning}
 use Rattle.calloop.specs.Pings.{ping_meaning}
-use Rattle.calloop_tests.specs.Trios.{calls_of, part_heard, after_calls}
-use Rattle.calloop_tests.proofs.Parts.{reached, unreached, failed, served, noted}
-use Rattle.calloop_tests.proofs.trio.TrioEventSource.process_events.Goals as goal
+use Rattle.calloop_test_sources.specs.Trios.{calls_of, part_heard, after_calls}
+use Rattle.calloop_test_sources.proofs.Parts.{reached, unreached, failed, served, noted}
+use Rattle.calloop_test_sources.proofs.trio.TrioEventSource.process_events.Goals as goal
 
 pub returns-then-is_err-2 : goal.returns-then-is_err-2
 returns-then-is_err-2 g c =

@@ -19,7 +19,7 @@ use Rattle.calloop_core.specs.Keeping.{timer_keeps}
 use Rattle.calloop.specs.declared.ping.source.PingError.{PingError}
 use Rattle.calloop.specs.Pings.{ping_meaning, ping_keys}
 use Rattle.calloop.specs.Quiet.{ping_keeps}
-use Rattle.calloop_tests.specs.Beside.{
+use Rattle.calloop_test_sources.specs.Beside.{
   IsApart,
   beside,
   apart_sym,
@@ -29,11 +29,11 @@ use Rattle.calloop_tests.specs.Beside.{
   next_after,
   next_is,
 }
-use Rattle.calloop_tests.specs.Beside.{left_held, right_held, within_itself}
-use Rattle.calloop_tests.specs.declared.source.Broken.{Broken}
-use Rattle.calloop_tests.specs.declared.trio.Part.{Part}
-use Rattle.calloop_tests.specs.declared.trio.Part.TheVariants.{Bell, First, Second}
-use Rattle.calloop_tests.specs.declared.trio.Trio.{Trio}
+use Rattle.calloop_test_sources.specs.Beside.{left_held, right_held, within_itself}
+use Rattle.calloop_test_sources.specs.declared.source.Broken.{Broken}
+use Rattle.calloop_test_sources.specs.declared.trio.Part.{Part}
+use Rattle.calloop_test_sources.specs.declared.trio.Part.TheVariants.{Bell, First, Second}
+use Rattle.calloop_test_sources.specs.declared.trio.Trio.{Trio}
 
 -- a factory of the same registration as this one, by a count that fits its 16 bits
 abbrev pub IsFrom : TokenFactory → TokenFactory → Type 0

@@ -9,8 +9,8 @@ use Rattle.calloop_core.specs.Meanings.{Meaning, IsKeeping, KeepsCounters, Keeps
 use Rattle.calloop.specs.declared.ping.source.PingError.{PingError}
 use Rattle.calloop.specs.Pings.{IsPing, ping_keys}
 use Rattle.calloop.specs.Quiet.{ping_keeps}
-use Rattle.calloop_tests.specs.declared.guarded.Guarded.{Guarded}
-use Rattle.calloop_tests.specs.declared.source.Broken.{Broken}
+use Rattle.calloop_test_sources.specs.declared.guarded.Guarded.{Guarded}
+use Rattle.calloop_test_sources.specs.declared.source.Broken.{Broken}
 
 -- a turn or an unregistration may end before the ping is reached: then nobody is called, and the ping stays as it is
 abbrev pub Guards : {P R : Type 0} → Guarded R → PollView P → Deed (Heard (Unit {0}) (Unit {0}) (Unit {0}) Broken)

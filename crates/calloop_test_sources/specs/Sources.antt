@@ -7,9 +7,9 @@ use Rattle.calloop_core.specs.Calls.{IsOfSource}
 use Rattle.calloop_core.specs.Lawful.{other_of_source}
 use Rattle.calloop_core.specs.Polls.{PollView}
 use Rattle.calloop_core.specs.Deeds.{Deed, Registered, Reregistered, Unregistered, Turned, Slept, Noticed, Heard}
-use Rattle.calloop_tests.specs.declared.attendant.Attendant.{Attendant}
-use Rattle.calloop_tests.specs.declared.source.Counter.{Counter}
-use Rattle.calloop_tests.specs.declared.source.Broken.{Broken}
+use Rattle.calloop_test_sources.specs.declared.attendant.Attendant.{Attendant}
+use Rattle.calloop_test_sources.specs.declared.source.Counter.{Counter}
+use Rattle.calloop_test_sources.specs.declared.source.Broken.{Broken}
 
 abbrev pub IsOther : Error → Type 0
 IsOther e = (cause : Cause) × (e ≡ OtherError cause)

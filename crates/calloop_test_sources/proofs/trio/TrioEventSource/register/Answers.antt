@@ -3,8 +3,8 @@ use Rattle.calloop_core.specs.Polls.{poll_view}
 use Rattle.calloop_core.specs.Deeds.{Registered}
 use Rattle.calloop_core.specs.Timers.{timer_meaning}
 use Rattle.calloop.specs.Pings.{ping_meaning}
-use Rattle.calloop_tests.proofs.Parts.{reached, unreached, asked, bell_passes, timer_passes, stops, not_done}
-use Rattle.calloop_tests.proofs.trio.TrioEventSource.register.Goals as goal
+use Rattle.calloop_test_sources.proofs.Parts.{reached, unreached, asked, bell_passes, timer_passes, stops, not_done}
+use Rattle.calloop_test_sources.proofs.trio.TrioEventSource.register.Goals as goal
 
 pub returns-in_err-register : goal.returns-in_err-register
 returns-in_err-register g c =

@@ -3,8 +3,8 @@ use Rattle.calloop_core.specs.Polls.{poll_view}
 use Rattle.calloop_core.specs.Deeds.{Reregistered}
 use Rattle.calloop_core.specs.Timers.{timer_meaning}
 use Rattle.calloop.specs.Pings.{ping_meaning}
-use Rattle.calloop_tests.proofs.Parts.{reached, unreached, asked, bell_passes_anew, timer_passes_anew}
-use Rattle.calloop_tests.proofs.trio.TrioEventSource.reregister.Goals as goal
+use Rattle.calloop_test_sources.proofs.Parts.{reached, unreached, asked, bell_passes_anew, timer_passes_anew}
+use Rattle.calloop_test_sources.proofs.trio.TrioEventSource.reregister.Goals as goal
 
 pub returns-in_err-reregister : goal.returns-in_err-reregister
 returns-in_err-reregister g c =

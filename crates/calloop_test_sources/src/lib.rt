@@ -1,0 +1,8 @@
+//! Sources and callbacks of a caller's own, for the tests of loops.
+#![tactic(auto)]
+
+pub mod attendant;
+pub mod guarded;
+pub mod source;
+pub mod trio;
+pub mod visitor;
