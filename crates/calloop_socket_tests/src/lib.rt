@@ -1,6 +1,5 @@
-//! Loops over sockets: what the tests call, and their tests.
+//! Tests of loops over sockets.
 #![tactic(auto)]
 
 #[cfg(test)]
 mod tests;
-pub mod visitor;
