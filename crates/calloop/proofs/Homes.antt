@@ -26,9 +26,9 @@ use Rattle.calloop_core.specs.Keys.{IsFactoryOf}
 use Rattle.calloop_core.specs.Deeds.{Registered, Reregistered, Unregistered, Turned, Slept, Lent, lent}
 use Rattle.calloop_core.specs.Meanings.{Meaning, IsAtHome, BeginsIn, KeepsHome}
 use Rattle.calloop.specs.declared.loop_logic.LoopCall.{LoopCall}
-use Rattle.calloop.specs.declared.loop_logic.LoopCall.TheVariants.{Insert, Enable, Update, Disable, Remove as RemoveCall, Exchange, Dispatch, InsertIdle, Cancel, Answer as AnswerOf, Poller as NewPoller}
+use Rattle.calloop.specs.declared.loop_logic.LoopCall.TheVariants.{Insert, Enable, Update, Disable, Remove as RemoveCall, Exchange, Dispatch, InsertIdle, Cancel, Answer as AnswerOf, ForgetStop, LookForStop, Poller as NewPoller}
 use Rattle.calloop.specs.declared.loop_logic.LoopAnswer.{LoopAnswer}
-use Rattle.calloop.specs.declared.loop_logic.LoopAnswer.TheVariants.{Inserted, Enabled, Updated, Disabled, Removed, Exchanged, Dispatched, IdleInserted, Cancelled, Answered, Poller as OldPoller}
+use Rattle.calloop.specs.declared.loop_logic.LoopAnswer.TheVariants.{Inserted, Enabled, Updated, Disabled, Removed, Exchanged, Dispatched, IdleInserted, Cancelled, Answered, StopForgotten, Stopped, Poller as OldPoller}
 use Rattle.calloop.specs.Held.{HeldStep, Begun, Pend}
 use Rattle.calloop.specs.declared.loop_logic.asks.Asked.{Asked}
 use Rattle.calloop.specs.declared.loop_logic.asks.Idling.{Idling as Waiter}
@@ -321,6 +321,8 @@ module _ {D I P X : Type 0} (M : Meaning D P (Lent X (Asks D I))) (runs : Runs D
   case_homely v (InsertIdle idle) (IdleInserted (Err refused)) css fresh h k = once_homely v (IdleInsertedBy idle (Err refused)) css h (λ cs r. rw r.2 k)
   case_homely v (Cancel idle) Cancelled css fresh h k = rw h k
   case_homely v (AnswerOf ticket) (Answered answer) css fresh h k = rw h.1 k
+  case_homely v ForgetStop StopForgotten css fresh h k = rw h k
+  case_homely v LookForStop (Stopped found) css fresh h k = rw h k
   case_homely v (NewPoller p) (OldPoller q) css fresh h k = rw h.1 k
   case_homely v call answer css fresh h k = absurd h
 

@@ -20,7 +20,8 @@ use Rattle.calloop.specs.declared.loop_logic.LoopCall.TheVariants.{Insert, Enabl
 use Rattle.calloop.specs.declared.loop_logic.LoopAnswer.TheVariants.{Inserted, Enabled, Updated, Disabled, Removed, Exchanged, IdleInserted}
 use Rattle.calloop_core.specs.Deeds.{Registered, Reregistered, Unregistered, Lent}
 use Rattle.calloop_core.specs.Meanings.{Meaning, Does}
-use Rattle.calloop.specs.Held.{Held, HeldStep, IdleNew, Listed, Unlisted, Warned, warned, held_after}
+use Rattle.calloop.specs.declared.loop_logic.stops.StopNote.{StopNote}
+use Rattle.calloop.specs.Held.{HeldStep, IdleNew, Listed, Unlisted, Warned, warned, held_after}
 use Rattle.calloop.specs.Askings.{Asks, Runs, CannotAsk, with_new_idle}
 use Rattle.calloop.specs.Machine.{View, Change, Put, Claim, Swapped, Polls, Holds, AllFit, IsFull, StandsIn, all_viewed}
 use Rattle.calloop.proofs.Going.{full_named}
@@ -54,16 +55,17 @@ module _ {D I P X : Type 0} (M : Meaning D P (Lent X (Asks D I))) (runs : Runs D
       (tt, (r.2.0, (claim_full, tt)))
       (ap (λ (ss : List (Slot D)). record v { slots = ss; poll = p' }) ended ∙ ap (λ (q : PollView P). record v { slots = changed (with_content Vacant) (claimed v.slots) (first_vacant v.slots); poll = q }) r.2.1)
 
-  pub registered : (d e : D) (token : RegistrationToken) (f : TokenFactory) (p' : PollView P) (signal : Book) (es : List Error) → signal ≡ v.signal → es ≡ v.held.warnings → token ≡ next_registration v.slots → token.slot < 2 ^ 32
+  pub registered : (d e : D) (token : RegistrationToken) (f : TokenFactory) (p' : PollView P) (signal : Book) (es : List Error) (ns : List StopNote) → signal ≡ v.signal → es ≡ v.held.warnings → ns ≡ v.held.stops → token ≡ next_registration v.slots → token.slot < 2 ^ 32
       → Does O M d v.poll (Registered (factory_of token) (Ok tt) f) e p'
-      → Did (Case M runs O (Insert d) (Inserted (Ok token))) v (record { slots = after_turn (Source e) token (claimed v.slots); poll = p'; held = record (held_after v.held (Listed (M.needs d) token)) { warnings = es }; signal = signal })
-  registered d e token f p' signal es same now is few r =
+      → Did (Case M runs O (Insert d) (Inserted (Ok token))) v (record { slots = after_turn (Source e) token (claimed v.slots); poll = p'; held = record (held_after v.held (Listed (M.needs d) token)) { warnings = es; stops = ns }; signal = signal })
+  registered d e token f p' signal es ns same now noted is few r =
       let ended : after_turn (Source e) token (claimed v.slots) ≡ changed (with_content (Source e)) (claimed v.slots) token.slot =
       ap (λ (t : RegistrationToken). after_turn (Source e) t (claimed v.slots)) is ∙ claim_ended v.slots (Source e) ∙ ap (λ (t : RegistrationToken). changed (with_content (Source e)) (claimed v.slots) t.slot) (sym is) in
-      one_step (InsertedBy M d (Ok token)) (Claim d ∷ Polls r.0 ∷ Holds (Listed (M.needs d) token) ∷ Put token.slot (Source e) ∷ []) (record { slots = after_turn (Source e) token (claimed v.slots); poll = p'; held = record (held_after v.held (Listed (M.needs d) token)) { warnings = es }; signal = signal })
+      one_step (InsertedBy M d (Ok token)) (Claim d ∷ Polls r.0 ∷ Holds (Listed (M.needs d) token) ∷ Put token.slot (Source e) ∷ []) (record { slots = after_turn (Source e) token (claimed v.slots); poll = p'; held = record (held_after v.held (Listed (M.needs d) token)) { warnings = es; stops = ns }; signal = signal })
       (subst (λ (t : RegistrationToken). t.slot < 2 ^ 32) is few, is, e, f, r.0, r.1, refl)
       (tt, (r.2.0, (tt, (subst (λ (t : RegistrationToken). IsFull (claimed v.slots) t.slot) (sym is) claim_full, tt))))
-      (ap (λ (l : List Error). record { slots = after_turn (Source e) token (claimed v.slots); poll = p'; held = record (held_after v.held (Listed (M.needs d) token)) { warnings = l }; signal = signal }) now
+      (ap (λ (l : List Error). record { slots = after_turn (Source e) token (claimed v.slots); poll = p'; held = record (held_after v.held (Listed (M.needs d) token)) { warnings = l; stops = ns }; signal = signal }) now
+      ∙ ap (λ (l : List StopNote). record { slots = after_turn (Source e) token (claimed v.slots); poll = p'; held = record (held_after v.held (Listed (M.needs d) token)) { stops = l }; signal = signal }) noted
       ∙ ap (λ (n : Book). record v { slots = after_turn (Source e) token (claimed v.slots); poll = p'; held = held_after v.held (Listed (M.needs d) token); signal = n }) same
       ∙ ap (λ (ss : List (Slot D)). record v { slots = ss; poll = p'; held = held_after v.held (Listed (M.needs d) token) }) ended ∙ ap (λ (q : PollView P). record v { slots = changed (with_content (Source e)) (claimed v.slots) token.slot; poll = q; held = held_after v.held (Listed (M.needs d) token) }) r.2.1)
 

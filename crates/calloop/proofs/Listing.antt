@@ -24,9 +24,9 @@ use Rattle.calloop_core.specs.Polls.{PollStep}
 use Rattle.calloop_core.specs.Deeds.{Lent}
 use Rattle.calloop_core.specs.Meanings.{Meaning}
 use Rattle.calloop.specs.declared.loop_logic.LoopCall.{LoopCall}
-use Rattle.calloop.specs.declared.loop_logic.LoopCall.TheVariants.{Insert, Enable, Update, Disable, Remove as RemoveCall, Exchange, Dispatch, InsertIdle, Cancel, Answer as AnswerOf, Poller as NewPoller}
+use Rattle.calloop.specs.declared.loop_logic.LoopCall.TheVariants.{Insert, Enable, Update, Disable, Remove as RemoveCall, Exchange, Dispatch, InsertIdle, Cancel, Answer as AnswerOf, ForgetStop, LookForStop, Poller as NewPoller}
 use Rattle.calloop.specs.declared.loop_logic.LoopAnswer.{LoopAnswer}
-use Rattle.calloop.specs.declared.loop_logic.LoopAnswer.TheVariants.{Inserted, Enabled, Updated, Disabled, Removed, Exchanged, Dispatched, IdleInserted, Cancelled, Answered, Poller as OldPoller}
+use Rattle.calloop.specs.declared.loop_logic.LoopAnswer.TheVariants.{Inserted, Enabled, Updated, Disabled, Removed, Exchanged, Dispatched, IdleInserted, Cancelled, Answered, StopForgotten, Stopped, Poller as OldPoller}
 use Rattle.calloop.specs.declared.loop_logic.asks.Answer.{Answer}
 use Rattle.calloop.specs.Held.{Held, HeldStep, Begun, Pend, Told, held_after, listed, is_listed, is_one, is_another}
 use Rattle.calloop.specs.declared.loop_logic.asks.Asked.{Asked}
@@ -403,6 +403,8 @@ module _ {D I P X : Type 0} (M : Meaning D P (Lent X (Asks D I))) (runs : Runs D
   case_kept v (InsertIdle idle) (IdleInserted (Err refused)) css h k = once_kept v (IdleInsertedBy idle (Err refused)) css h (λ cs r. rw r.2 k)
   case_kept v (Cancel idle) Cancelled css h k = rw h k
   case_kept v (AnswerOf ticket) (Answered answer) css h k = rw h.1 k
+  case_kept v ForgetStop StopForgotten css h k = rw h k
+  case_kept v LookForStop (Stopped found) css h k = rw h k
   case_kept v (NewPoller p) (OldPoller q) css h k = rw h.1 k
   case_kept v call answer css h k = absurd h
 

@@ -29,12 +29,13 @@ use Rattle.calloop.specs.declared.loop_logic.asks.Request.TheVariants.{Insert as
 use Rattle.calloop.specs.Askings.{Asks, Runs, Take, asks_after}
 use Rattle.calloop.specs.Machine.{World, View, IsNew, Registration, Change, Put, Claim, Swapped, Polls, Polling, Watching, Counting, Holds, Appended, Gathered, Cut, Ended, holding, reused, with_claim, done, all_done, seen, slot_of, viewed, AllFit}
 use Rattle.calloop.specs.declared.loop_logic.LoopCall.{LoopCall}
-use Rattle.calloop.specs.declared.loop_logic.LoopCall.TheVariants.{Insert, Enable, Update, Disable, Remove as RemoveCall, Exchange, Dispatch, InsertIdle, Cancel, Answer as AnswerOf, Poller as NewPoller}
+use Rattle.calloop.specs.declared.loop_logic.LoopCall.TheVariants.{Insert, Enable, Update, Disable, Remove as RemoveCall, Exchange, Dispatch, InsertIdle, Cancel, Answer as AnswerOf, ForgetStop, LookForStop, Poller as NewPoller}
 use Rattle.calloop.specs.declared.loop_logic.LoopAnswer.{LoopAnswer}
-use Rattle.calloop.specs.declared.loop_logic.LoopAnswer.TheVariants.{Inserted, Enabled, Updated, Disabled, Removed, Exchanged, Dispatched, IdleInserted, Cancelled, Answered, Poller as OldPoller}
+use Rattle.calloop.specs.declared.loop_logic.LoopAnswer.TheVariants.{Inserted, Enabled, Updated, Disabled, Removed, Exchanged, Dispatched, IdleInserted, Cancelled, Answered, StopForgotten, Stopped, Poller as OldPoller}
 use Rattle.calloop.specs.declared.loop_logic.asks.Answer.{Answer}
 use Rattle.calloop.specs.declared.loop_logic.asks.Answer.TheVariants.{Done, Removed as RemovedAnswer}
-use Rattle.calloop.specs.Held.{HeldStep, Listed, Unlisted, Pend, Asking, Begun, Told, Owe, Paid, Cleared, Warned, IdleIn, IdleNew, IdleOut, IdlesTaken, IdleBegun}
+use Rattle.calloop.specs.declared.loop_logic.stops.StopNote.TheVariants.{Forgot, Looked}
+use Rattle.calloop.specs.Held.{HeldStep, Listed, Unlisted, Pend, Asking, Begun, Told, Owe, Paid, Cleared, Warned, StopNoted, IdleIn, IdleNew, IdleOut, IdlesTaken, IdleBegun}
 use Rattle.calloop.specs.Rules.{Doing, Beginning, Sleeping, Waiting, Gathering, Noticing, Cutting, Serving, Ending, Returning, Idling, RunningIdles, ServingIdle, Leaving, Step, Steps, SleptAs, SleptBy, NoticedBy, told_in, CutTo, CutFrom, ActedBy, ReturnedTo, emptied, entered, after_turn, after_wait, Outcome, RegisteredBy, Case, Once, Run, InsertedBy, AskedIn, EnabledBy, UpdatedBy, DisabledBy, RemovedIn, RemovedBy, ExchangedIn, ExchangedBy, IdleInsertedBy, OwnOr, Served, ServedAs, ServedFrom, RunFrom, action_of, factory_of, all_traced}
 use Rattle.calloop.specs.Ledgers.{Ledger}
 use Rattle.calloop.specs.Laws.{HoldsNone, HoldsNoMore, AllFresh, joined, changes_of}
@@ -550,6 +551,8 @@ module _ {D I P X : Type 0} (M : Meaning D P (Lent X (Asks D I))) (runs : Runs D
   case_owned w (InsertIdle idle) (IdleInserted (Err refused)) css free h k = once_owned w (IdleInsertedBy idle (Err refused)) css free h (λ cs fresh r fit. rw r.2 k)
   case_owned w (Cancel idle) Cancelled css free h k = rw h (owned_listed M O law w (IdleOut idle.ticket.number) [] k)
   case_owned w (AnswerOf ticket) (Answered answer) css free h k = rw h.1 (owned_listed M O law w (Asking (Take ticket.number ∷ [])) [] k)
+  case_owned w ForgetStop StopForgotten css free h k = rw h (owned_listed M O law w (StopNoted Forgot) [] k)
+  case_owned w LookForStop (Stopped found) css free h k = rw h (owned_listed M O law w (StopNoted (Looked found)) [] k)
   case_owned w (NewPoller p) (OldPoller q) css free h k = rw h.1 (owned_same M O law w (done w (Polling p)) [] refl refl refl refl k)
   case_owned w call answer css free h k = absurd h
 

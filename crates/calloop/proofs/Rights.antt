@@ -18,9 +18,9 @@ use Rattle.calloop_core.specs.declared.sources.PostAction.TheVariants.{Continue,
 use Rattle.calloop_core.specs.Pollers.{Outside}
 use Rattle.calloop_core.specs.Polls.{PollStep}
 use Rattle.calloop.specs.declared.loop_logic.LoopCall.{LoopCall}
-use Rattle.calloop.specs.declared.loop_logic.LoopCall.TheVariants.{Insert, Enable, Update, Disable, Remove as RemoveCall, Exchange, Dispatch, InsertIdle, Cancel, Answer as AnswerOf, Poller as NewPoller}
+use Rattle.calloop.specs.declared.loop_logic.LoopCall.TheVariants.{Insert, Enable, Update, Disable, Remove as RemoveCall, Exchange, Dispatch, InsertIdle, Cancel, Answer as AnswerOf, ForgetStop, LookForStop, Poller as NewPoller}
 use Rattle.calloop.specs.declared.loop_logic.LoopAnswer.{LoopAnswer}
-use Rattle.calloop.specs.declared.loop_logic.LoopAnswer.TheVariants.{Inserted, Enabled, Updated, Disabled, Removed, Exchanged, Dispatched, IdleInserted, Cancelled, Answered, Poller as OldPoller}
+use Rattle.calloop.specs.declared.loop_logic.LoopAnswer.TheVariants.{Inserted, Enabled, Updated, Disabled, Removed, Exchanged, Dispatched, IdleInserted, Cancelled, Answered, StopForgotten, Stopped, Poller as OldPoller}
 use Rattle.calloop_core.specs.Deeds.{Lent}
 use Rattle.calloop_core.specs.Meanings.{Meaning}
 use Rattle.calloop.specs.declared.loop_logic.asks.Asked.{Asked}
@@ -197,6 +197,8 @@ module _ {D I P X : Type 0} (M : Meaning D P (Lent X (Asks D I))) (runs : Runs D
   case_right w (InsertIdle idle) (IdleInserted (Err refused)) css h = once_right w (IdleInsertedBy idle (Err refused)) css h (λ cs r. rw r.2 tt)
   case_right w (Cancel idle) Cancelled css h = rw h (tt, tt)
   case_right w (AnswerOf ticket) (Answered answer) css h = rw h.1 (tt, tt)
+  case_right w ForgetStop StopForgotten css h = rw h (tt, tt)
+  case_right w LookForStop (Stopped found) css h = rw h (tt, tt)
   case_right w (NewPoller p) (OldPoller q) css h = rw h.1 (tt, tt)
   case_right w call answer css h = absurd h
 

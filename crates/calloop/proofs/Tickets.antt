@@ -11,7 +11,7 @@ use Rattle.calloop.specs.declared.loop_logic.asks.Answer.TheVariants.{Done}
 use Rattle.calloop.specs.declared.loop_logic.asks.Answered.{Answered}
 use Rattle.calloop.specs.declared.loop_logic.asks.Asked.{Asked}
 use Rattle.calloop.specs.Askings.{Asks, AskStep, Write, Take, Runs, ask_after, asks_after, all_handed, handed_by, without, taken_from, answering, begun_from}
-use Rattle.calloop.specs.Held.{Held, HeldStep, Listed, Unlisted, Pend, Asking, Begun, Told, Owe, Paid, Cleared, Warned, IdleIn, IdleNew, IdleOut, IdlesTaken, IdleBegun, held_after}
+use Rattle.calloop.specs.Held.{Held, HeldStep, Listed, Unlisted, Pend, Asking, Begun, Told, Owe, Paid, Cleared, Warned, StopNoted, IdleIn, IdleNew, IdleOut, IdlesTaken, IdleBegun, held_after}
 use Rattle.calloop.specs.Machine.{World, IsNew, Change, Put, Claim, Swapped, Polls, Polling, Watching, Counting, Gathered, Appended, Holds, Cut, Ended, done, all_done, handed_in}
 use Rattle.calloop.specs.Rules.{Run, all_traced}
 use Rattle.calloop.specs.Laws.{counted, is_number, is_asked_as, is_answered_as, stands_as, standing, IsTicketed}
@@ -63,6 +63,7 @@ tallied_step k handed Owe h = rw (append_nil handed) (λ n. omega (arith, h n))
 tallied_step k handed (Paid answer) h = rw (append_nil handed) (λ n. omega (arith, h n, counted-append (is_answered_as n) k.asks.answers (answering k.asks.owed answer), counted-answering n k.asks.owed answer))
 tallied_step k handed Cleared h = rw (append_nil handed) (λ n. omega (arith, h n))
 tallied_step k handed (Warned kept told) h = rw (append_nil handed) h
+tallied_step k handed (StopNoted note) h = rw (append_nil handed) h
 tallied_step {D} k handed (IdleIn idle) h = rw (append_nil handed) (λ n. omega (arith, h n, counted-append (is_answered_as n) k.asks.answers (answering k.asks.serving Done), counted-answering {D = D} n k.asks.serving Done))
 tallied_step k handed (IdleNew idle) h = rw (append_nil handed) (λ n. omega (arith, h n, next_number n k.asks.next))
 tallied_step k handed (IdleOut ticket) h = rw (append_nil handed) h

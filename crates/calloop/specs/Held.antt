@@ -25,6 +25,7 @@ use Rattle.calloop_wake.specs.declared.error.Error.{Error}
 use Rattle.calloop_wake.specs.declared.token.RegistrationToken.{RegistrationToken}
 use Rattle.calloop_core.specs.declared.sources.PostAction.{PostAction}
 use Rattle.calloop.specs.declared.loop_logic.asks.Answer.{Answer}
+use Rattle.calloop.specs.declared.loop_logic.stops.StopNote.{StopNote}
 use Rattle.calloop.specs.Askings.{
   Asks,
   AskStep,
@@ -50,6 +51,8 @@ pub record Held (D I : Type 0) : Type 0 where
   pub asks : Asks D I
   -- why sources that left failed to take their registration back, since the last dispatch began
   pub warnings : List Error
+  -- what was done with the stop of the loop's signals, in order
+  pub stops : List StopNote
 
 abbrev pub is_one : RegistrationToken → RegistrationToken → Bool
 is_one a b = nat_eq a.slot b.slot && nat_eq a.version b.version
@@ -88,6 +91,8 @@ pub data HeldStep (D I : Type 0) : Type 0 where
   Cleared : HeldStep D I
   -- a source that left answered this to its unregistration
   Warned : (kept : Bool) (told : Result (Unit {0}) Error) → HeldStep D I
+  -- a stop was forgotten, or looked for
+  StopNoted : (note : StopNote) → HeldStep D I
   -- an idle that a callback asked for, which is answered; one that the loop's caller asked for; and one that is
   -- cancelled
   IdleIn : (idle : I) → HeldStep D I
@@ -108,6 +113,7 @@ held_after h Owe = record h { asks = owing h.asks }
 held_after h (Paid answer) = record h { asks = paid answer h.asks }
 held_after h Cleared = record h { asks = cleared h.asks; warnings = [] }
 held_after h (Warned kept told) = record h { warnings = warned kept told h.warnings }
+held_after h (StopNoted note) = record h { stops = h.stops ++ note ∷ [] }
 held_after h (IdleIn idle) = record h { asks = with_idle idle h.asks }
 held_after h (IdleNew idle) = record h { asks = with_new_idle idle h.asks }
 held_after h (IdleOut ticket) = record h { asks = without_idle ticket h.asks }

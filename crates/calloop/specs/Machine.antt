@@ -74,6 +74,7 @@ view_of l =
             pending = l.pending;
             asks = l.requests;
             warnings = l.warnings.errors.items;
+            stops = l.stops;
           };
       signal = (arc_value l.signal.shared).name;
     }
@@ -197,6 +198,6 @@ pub record IsNew {D I P : Type 0} (w : World D I P) : Type 0 where
   pub pass : w.poll.pass ≡ None
   pub places : w.poll.places ≡ 0
   pub unwatched : w.poll.watch.notes ≡ []
-  pub held : w.held ≡ record { lifecycle = []; pending = Continue; asks = no_asks; warnings = [] }
+  pub held : w.held ≡ record { lifecycle = []; pending = Continue; asks = no_asks; warnings = []; stops = [] }
   pub handed : w.handed ≡ []
   pub ledger : w.ledger ≡ new_ledger

@@ -65,6 +65,8 @@ use Rattle.calloop.specs.declared.loop_logic.LoopCall.TheVariants.{
   InsertIdle,
   Cancel,
   Answer as AnswerOf,
+  ForgetStop,
+  LookForStop,
   Poller as NewPoller,
 }
 use Rattle.calloop.specs.declared.loop_logic.LoopAnswer.{LoopAnswer}
@@ -79,6 +81,8 @@ use Rattle.calloop.specs.declared.loop_logic.LoopAnswer.TheVariants.{
   IdleInserted,
   Cancelled,
   Answered,
+  StopForgotten,
+  Stopped,
   Poller as OldPoller,
 }
 use Rattle.calloop.specs.declared.loop_logic.asks.Answer.{Answer}
@@ -102,6 +106,7 @@ use Rattle.calloop.specs.declared.loop_logic.asks.Request.TheVariants.{
   Idle as AskIdle,
   Cancel as AskCancel,
 }
+use Rattle.calloop.specs.declared.loop_logic.stops.StopNote.TheVariants.{Forgot, Looked}
 use Rattle.calloop.specs.Askings.{Asks, AskStep, Take, Runs, CannotAsk, asks_after, found, idle_begun}
 use Rattle.calloop.specs.Held.{
   HeldStep,
@@ -115,6 +120,7 @@ use Rattle.calloop.specs.Held.{
   Paid,
   Cleared,
   Warned,
+  StopNoted,
   IdleIn,
   IdleNew,
   IdleOut,
@@ -519,6 +525,8 @@ Case M runs O (InsertIdle idle) (IdleInserted answer) v css = Once O (IdleInsert
 Case M runs O (Cancel idle) Cancelled v css = css ≡ (Holds (IdleOut idle.ticket.number) ∷ []) ∷ []
 Case M runs O (AnswerOf ticket) (Answered answer) v css =
     (answer ≡ found ticket.number v.held.asks.answers) × (css ≡ (Holds (Asking (Take ticket.number ∷ [])) ∷ []) ∷ [])
+Case M runs O ForgetStop StopForgotten v css = css ≡ (Holds (StopNoted Forgot) ∷ []) ∷ []
+Case M runs O LookForStop (Stopped found) v css = css ≡ (Holds (StopNoted (Looked found)) ∷ []) ∷ []
 Case M runs O (NewPoller p) (OldPoller q) v css = (q ≡ v.poll.poller) × (css ≡ (Polling p ∷ []) ∷ [])
 Case M runs O call answer v css = ⊥
 

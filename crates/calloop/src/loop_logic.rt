@@ -13,6 +13,7 @@ use lifecycle::Lifecycle;
 use std::marker::PhantomData;
 use std::sync::Wait;
 use std::time::Duration;
+use stops::StopNotes;
 use warnings::Warnings;
 
 mod asks;
@@ -24,6 +25,7 @@ mod lifecycle;
 mod registering;
 mod serving;
 mod signal;
+mod stops;
 mod telling;
 mod warnings;
 
@@ -43,6 +45,7 @@ pub struct EventLoop<D: EventDispatcher<P, C, R>, P: Poller, C: Clock, R: Wait +
     requests: Requests<D, D::Idle>,
     warnings: Warnings,
     signal: LoopSignal,
+    stops: StopNotes,
 }
 
 /// The calls on a loop that act at once. It is lent by the loop.
@@ -51,7 +54,7 @@ pub struct LoopHandle<'l, D: EventDispatcher<P, C, R>, P: Poller, C: Clock, R: W
     inner: &'l mut EventLoop<D, P, C, R>,
 }
 
-/// A call on a loop, as a value.
+/// A call on a loop, as a value. A run of the loop is made of `ForgetStop`, `LookForStop` and dispatches.
 #[derive(Drop)]
 pub enum LoopCall<D, P, X, I = ()> {
     Insert(D),
@@ -64,6 +67,8 @@ pub enum LoopCall<D, P, X, I = ()> {
     InsertIdle(I),
     Cancel(Idle),
     Answer(Ticket),
+    ForgetStop,
+    LookForStop,
     Poller(P),
 }
 
@@ -81,6 +86,8 @@ pub enum LoopAnswer<D, P, X, I = ()> {
     IdleInserted(std::result::Result<Idle, InsertError<I>>),
     Cancelled,
     Answered(Option<Answer<D>>),
+    StopForgotten,
+    Stopped(bool),
     Poller(P),
 }
 

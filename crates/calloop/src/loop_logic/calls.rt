@@ -42,6 +42,11 @@ impl<D: EventDispatcher<P, C, R>, P: Poller, C: Clock, R: Wait + Drop> EventLoop
                 LoopAnswer::Cancelled
             }
             LoopCall::Answer(ticket) => LoopAnswer::Answered(self.requests.answer(ticket)),
+            LoopCall::ForgetStop => {
+                self.forget_stop();
+                LoopAnswer::StopForgotten
+            }
+            LoopCall::LookForStop => LoopAnswer::Stopped(self.is_stopped()),
             LoopCall::Poller(poller) => {
                 LoopAnswer::Poller(mem::replace(self.poll.poller_mut(), poller))
             }

@@ -10,6 +10,7 @@ ghost use Rattle.calloop.specs.Rules.{Case, Did, Leads, Goes, Cutting, Ending, R
 use super::asks::{Answer, Requests};
 use super::lifecycle::Lifecycle;
 use super::signal::LoopSignal;
+use super::stops::StopNotes;
 use super::warnings::Warnings;
 use super::{EventDispatcher, EventLoop, LoopHandle};
 use calloop_core::idles::IdleCallback;
@@ -40,6 +41,7 @@ impl<D: EventDispatcher<P, C, R>, P: Poller, C: Clock, R: Wait + Drop> EventLoop
             requests: Requests::numbered_from(0, alloc),
             warnings: Warnings::new(alloc),
             signal: LoopSignal::new(alloc, notifier)?,
+            stops: StopNotes::none(),
         })
     }
 

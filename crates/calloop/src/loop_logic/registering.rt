@@ -19,7 +19,7 @@ impl<D: EventDispatcher<P, C, R>, P: Poller, C: Clock, R: Wait + Drop> EventLoop
         ensures ok { IfOk result (λ token. (token ≡ next_registration self.old.sources) × (token.slot < 2 ^ 32) × (self.new.sources ≡ claimed self.old.sources)) }
         ensures room { OnOk result (HasRoom needed self.new.lifecycle) }
         ensures err { IfErr result (λ e. CannotInsert self.old.sources needed e × (self.new.sources ≡ self.old.sources)) }
-        ensures others { (self.new.poll ≡ self.old.poll) × (self.new.lifecycle.tokens.items ≡ self.old.lifecycle.tokens.items) × (self.new.pending ≡ self.old.pending) × (self.new.requests ≡ self.old.requests) × (self.new.warnings ≡ self.old.warnings) × (self.new.signal ≡ self.old.signal) }
+        ensures others { (self.new.poll ≡ self.old.poll) × (self.new.lifecycle.tokens.items ≡ self.old.lifecycle.tokens.items) × (self.new.pending ≡ self.old.pending) × (self.new.requests ≡ self.old.requests) × (self.new.warnings ≡ self.old.warnings) × (self.new.signal ≡ self.old.signal) × (self.new.stops ≡ self.old.stops) }
     {
         self.lifecycle.reserve(needed)?;
         self.sources.vacant_entry(&mut Steps::new())

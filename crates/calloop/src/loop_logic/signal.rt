@@ -3,9 +3,13 @@ ghost use Rattle.std.specs.Prelude.{◌≡◌, IfOk, IfErr};
 ghost use Rattle.std.specs.Arc.{arc_value};
 ghost use Rattle.std.specs.Fn.{CalledAtMut};
 ghost use Rattle.calloop_wake.specs.declared.error.Error.TheVariants.{OutOfMemory};
+ghost use Rattle.calloop.specs.declared.loop_logic.LoopCall.TheVariants.{ForgetStop, LookForStop};
+ghost use Rattle.calloop.specs.declared.loop_logic.LoopAnswer.TheVariants.{StopForgotten, Stopped};
 ghost use Rattle.calloop.specs.Machine.{view_of};
+ghost use Rattle.calloop.specs.Rules.{Case, Did};
 ghost use Rattle.calloop.specs.Running.{RunsTo};
 
+use super::stops::StopNote;
 use super::{EventDispatcher, EventLoop};
 use calloop_core::sys::notifier::Notifier;
 use calloop_core::sys::{Clock, Poller};
@@ -93,6 +97,23 @@ impl<D: EventDispatcher<P, C, R>, P: Poller, C: Clock, R: Wait + Drop> EventLoop
 }
 
 impl<D: EventDispatcher<P, C, R>, P: Poller, C: Clock, R: Wait + Drop> EventLoop<D, P, C, R> {
+    // Forgets a stop that came before.
+    pub(super) fn forget_stop(&mut self)
+        ensures { Did (Case D.means D.Idle.runs P.outside ForgetStop StopForgotten) (view_of self.old) (view_of self.new) }
+    {
+        self.signal.clear_stop();
+        self.stops.note(StopNote::Forgot);
+    }
+
+    // Whether a signal has stopped the loop since it last forgot a stop.
+    pub(super) fn is_stopped(&mut self) -> bool
+        ensures { Did (Case D.means D.Idle.runs P.outside LookForStop (Stopped result)) (view_of self.old) (view_of self.new) }
+    {
+        let stopped = self.signal.is_stopped();
+        self.stops.note(StopNote::Looked(stopped));
+        stopped
+    }
+
     /// Dispatches, each time at most for `timeout`, and calls `callback` after each, until a signal of this loop stops it. That may come
     /// in any dispatch or call, and from any thread; one that came before is forgotten. How many dispatches there are is up to whoever
     /// has a signal, and without a stop it goes on for ever.
@@ -109,9 +130,9 @@ impl<D: EventDispatcher<P, C, R>, P: Poller, C: Clock, R: Wait + Drop> EventLoop
         ensures { RunsTo D.means D.Idle.runs P.outside (CalledAtMut F.FnMut) timeout callback «data».old (view_of self.old) result «data».new (view_of self.new) }
     {
         let mut callback = callback;
-        self.signal.clear_stop();
+        self.forget_stop();
         'rounds: for _ in rt.forever() {
-            if self.signal.is_stopped() {
+            if self.is_stopped() {
                 return Ok(());
             }
             self.dispatch(rt, timeout, data)?;

@@ -466,6 +466,8 @@ fn told<D>(answer: &Answer<D>) -> (&'static str, bool) {
         LoopAnswer::IdleInserted(answer) => ("idle inserted", answer.is_ok()),
         LoopAnswer::Cancelled => ("cancelled", true),
         LoopAnswer::Answered(answer) => ("answered", answer.is_some()),
+        LoopAnswer::StopForgotten => ("stop forgotten", true),
+        LoopAnswer::Stopped(found) => ("stopped", *found),
         LoopAnswer::Poller(before) => ("poller", are_waits(before.waits(), &[Some(0)])),
     }
 }

@@ -1,5 +1,5 @@
 //! What ends a wait of the machine's poller from another thread, and signals of a loop.
-use calloop::loop_logic::EventLoop;
+use calloop::loop_logic::{EventLoop, LoopAnswer, LoopCall};
 use calloop::ping::{Ping, make_ping};
 use calloop::{
     Clock, Dispatcher, Error, EventDispatcher, Here, Hold, Instant, LoopSignal, PingSource, Poller,
@@ -110,6 +110,13 @@ fn a_run_calls_after_each_dispatch_until_it_is_stopped(rt: HostRuntime) {
 }
 
 #[test]
+fn a_stop_is_found_until_it_is_forgotten(rt: HostRuntime) {
+    let clock = SystemClock::new(&rt).expect(&rt, "a clock");
+    let mut event_loop = loop_of(&rt, &clock).expect(&rt, "a loop");
+    assert!(rt; is_found_until_forgotten(&rt, &mut event_loop) == Some(true));
+}
+
+#[test]
 fn a_fault_ends_a_run_without_a_call(rt: HostRuntime) {
     let mut poller = ScriptPoller::new(rt.alloc()).expect(&rt, "a poller");
     let clock = poller.clock().expect(&rt, "a clock");
@@ -173,6 +180,44 @@ where
     let teller = Teller { number: 7 };
     event_loop.handle().insert_source(source, teller).ok()?;
     Some(ping)
+}
+
+// Whether each look for a stop finds it until it is forgotten. None where memory is short.
+fn is_found_until_forgotten<D, P: Poller, C: Clock, R: Wait + Drop>(
+    rt: &R,
+    event_loop: &mut EventLoop<D, P, C, R>,
+) -> Option<bool>
+where
+    D: EventDispatcher<P, C, R, Data = Vec<u32>, Idle = ()>,
+{
+    let signal = event_loop.get_signal().ok()?;
+    let is_none = !finds_a_stop(rt, event_loop);
+    signal.stop();
+    let is_found = finds_a_stop(rt, event_loop) && finds_a_stop(rt, event_loop);
+    let is_forgotten = forgets_a_stop(rt, event_loop) && !finds_a_stop(rt, event_loop);
+    Some(is_none && is_found && is_forgotten)
+}
+
+fn finds_a_stop<D, P: Poller, C: Clock, R: Wait + Drop>(
+    rt: &R,
+    event_loop: &mut EventLoop<D, P, C, R>,
+) -> bool
+where
+    D: EventDispatcher<P, C, R, Data = Vec<u32>, Idle = ()>,
+{
+    let answer = event_loop.carry_out(rt, LoopCall::LookForStop);
+    matches!(answer, LoopAnswer::Stopped(true))
+}
+
+fn forgets_a_stop<D, P: Poller, C: Clock, R: Wait + Drop>(
+    rt: &R,
+    event_loop: &mut EventLoop<D, P, C, R>,
+) -> bool
+where
+    D: EventDispatcher<P, C, R, Data = Vec<u32>, Idle = ()>,
+{
+    let answer = event_loop.carry_out(rt, LoopCall::ForgetStop);
+    matches!(answer, LoopAnswer::StopForgotten)
 }
 
 // Whether less than a minute went by since the clock was made.

@@ -3,16 +3,16 @@ use denote.Param.Always.{always_mut}
 use Rattle.std.specs.Fn.{CalledAtMut}
 use Rattle.calloop_wake.specs.declared.error.Error.{Error}
 use Rattle.calloop.specs.Machine.{View, view_of}
-use Rattle.calloop.specs.Running.{RunsTo}
+use Rattle.calloop.proofs.Rounds.{RoundsTo}
 use Rattle.calloop.proofs.loop_logic.EventLoop.run.Given as goal
 
--- what the dispatches from now on lead to, all of them lead to
+-- what the rounds from now on lead to, all of them lead to
 abbrev pub invariant-rounds : goal.invariant-rounds
 invariant-rounds g l = record {
   can : (goal.iterator-rounds g).can_next l.iterator';
   finite : (goal.iterator-rounds g).is_finite l.iterator';
   callable : always_mut g.F.FnMut l.initial.callback → always_mut g.F.FnMut l.callback;
   leads : (answer : Result (Unit {0}) Error) (left : g.row.D-Data.Denot) (t : View g.row.D.Denot g.row.D-Idle.Denot g.row.P.Denot)
-      → RunsTo g.D.Dispatch.means g.D.Idle.IdleCallback.runs g.P.Poller.outside (CalledAtMut g.F.FnMut) l.timeout l.callback l.«data» (view_of l.self) answer left t
-      → RunsTo g.D.Dispatch.means g.D.Idle.IdleCallback.runs g.P.Poller.outside (CalledAtMut g.F.FnMut) l.timeout l.initial.callback l.initial.«data» (view_of l.initial.self) answer left t;
+      → RoundsTo g.D.Dispatch.means g.D.Idle.IdleCallback.runs g.P.Poller.outside (CalledAtMut g.F.FnMut) l.timeout l.callback l.«data» (view_of l.self) answer left t
+      → RoundsTo g.D.Dispatch.means g.D.Idle.IdleCallback.runs g.P.Poller.outside (CalledAtMut g.F.FnMut) l.timeout l.initial.callback l.initial.«data» (view_of l.initial.self) answer left t;
 }

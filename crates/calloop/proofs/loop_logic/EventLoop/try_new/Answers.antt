@@ -4,6 +4,7 @@ use Rattle.calloop_wake.specs.declared.error.Error.{Error}
 use Rattle.calloop_wake.specs.declared.list.Slot.{Slot}
 use Rattle.calloop_wake.specs.declared.token.RegistrationToken.{RegistrationToken}
 use Rattle.calloop_core.specs.declared.sources.PostAction.TheVariants.{Continue}
+use Rattle.calloop.specs.declared.loop_logic.stops.StopNote.{StopNote}
 use Rattle.calloop.specs.Askings.{Asks, no_asks}
 use Rattle.calloop.specs.Held.{Held}
 use Rattle.calloop.specs.Ledgers.{new_ledger}
@@ -16,7 +17,7 @@ returns g c =
     let signal = (arc_value c.in_ok-new-2.field-0.shared).name in
     let new : PollView g.row.P.Denot =
     record { poller = c.args.poller; table = []; deadlines = record { entries = []; next = 0 }; batch = []; passes = []; pass = None; places = 0; watch = record { name = watch.name; notes = [] } } in
-    let none : Held g.row.D.Denot g.row.D-Idle.Denot = record { lifecycle = []; pending = Continue; asks = no_asks; warnings = [] } in
+    let none : Held g.row.D.Denot g.row.D-Idle.Denot = record { lifecycle = []; pending = Continue; asks = no_asks; warnings = []; stops = [] } in
     let warnings = c.new-4.result.errors.items in
     record {
       ok = (
@@ -24,11 +25,12 @@ returns g c =
         record { slots = refl; table = refl; deadlines = refl; batch = refl; passes = refl; pass = refl; places = refl; unwatched = refl; held = refl; handed = refl; ledger = refl },
         refl,
         sym
-            (ap (λ (s : List (Slot g.row.D.Denot)). record { slots = s; poll = poll_view c.in_ok-new.field-0; held = record { lifecycle = c.new-3.result.tokens.items; pending = Continue; asks = c.numbered_from.result; warnings = warnings }; signal = signal }) c.new.ensures
-            ∙ ap (λ (p : PollView g.row.P.Denot). record { slots = []; poll = p; held = record { lifecycle = c.new-3.result.tokens.items; pending = Continue; asks = c.numbered_from.result; warnings = warnings }; signal = signal }) c.in_ok-new.ensures.ok
-            ∙ ap (λ (l : List RegistrationToken). record { slots = []; poll = new; held = record { lifecycle = l; pending = Continue; asks = c.numbered_from.result; warnings = warnings }; signal = signal }) c.new-3.ensures
-            ∙ ap (λ (q : Asks g.row.D.Denot g.row.D-Idle.Denot). record { slots = []; poll = new; held = record { lifecycle = []; pending = Continue; asks = q; warnings = warnings }; signal = signal }) c.numbered_from.ensures
-            ∙ ap (λ (es : List Error). record { slots = []; poll = new; held = record { lifecycle = []; pending = Continue; asks = no_asks; warnings = es }; signal = signal }) c.new-4.ensures),
+            (ap (λ (s : List (Slot g.row.D.Denot)). record { slots = s; poll = poll_view c.in_ok-new.field-0; held = record { lifecycle = c.new-3.result.tokens.items; pending = Continue; asks = c.numbered_from.result; warnings = warnings; stops = c.none.result }; signal = signal }) c.new.ensures
+            ∙ ap (λ (p : PollView g.row.P.Denot). record { slots = []; poll = p; held = record { lifecycle = c.new-3.result.tokens.items; pending = Continue; asks = c.numbered_from.result; warnings = warnings; stops = c.none.result }; signal = signal }) c.in_ok-new.ensures.ok
+            ∙ ap (λ (l : List RegistrationToken). record { slots = []; poll = new; held = record { lifecycle = l; pending = Continue; asks = c.numbered_from.result; warnings = warnings; stops = c.none.result }; signal = signal }) c.new-3.ensures
+            ∙ ap (λ (q : Asks g.row.D.Denot g.row.D-Idle.Denot). record { slots = []; poll = new; held = record { lifecycle = []; pending = Continue; asks = q; warnings = warnings; stops = c.none.result }; signal = signal }) c.numbered_from.ensures
+            ∙ ap (λ (es : List Error). record { slots = []; poll = new; held = record { lifecycle = []; pending = Continue; asks = no_asks; warnings = es; stops = c.none.result }; signal = signal }) c.new-4.ensures
+            ∙ ap (λ (ns : List StopNote). record { slots = []; poll = new; held = record { lifecycle = []; pending = Continue; asks = no_asks; warnings = []; stops = ns }; signal = signal }) c.none.ensures),
       );
       err = tt;
     }
