@@ -1,30 +1,18 @@
 //! Two places of one choice for the same source and callback.
 use super::stage::{Stage, Table};
-use calloop::{Dispatcher, Here, OneOf, PingSource, RegistrationToken, Sources, There, make_ping};
+use calloop::{
+    Dispatcher, EventDispatcher, Here, Hold, OneOf, PingSource, RegistrationToken, Requests,
+    Sources, There, make_ping,
+};
+use calloop_core::sys::script::{ScriptClock, ScriptPoller};
 use calloop_test_sources::source::Teller;
 use std::process::Abort;
 use std::sync::Wait;
 
 #[test]
 fn each_place_of_one_kind_of_source_is_called_for_its_own_event(rt: HostRuntime) {
-    let mut stage: Table<Twice<HostRuntime>, _> = Table::new(&rt, rt.alloc());
-    let (first, first_source) = make_ping(&rt, rt.alloc()).expect(&rt, "a ping");
-    let (second, second_source) = make_ping(&rt, rt.alloc()).expect(&rt, "a ping");
-    let mut handle = stage.event_loop.handle();
-    let one = handle
-        .insert_source::<_, _, Here>(first_source, Teller { number: 1 })
-        .ok()
-        .expect(&rt, "a registration");
-    let other = handle
-        .insert_source::<_, _, There<Here>>(second_source, Teller { number: 2 })
-        .ok()
-        .expect(&rt, "a registration");
-    second.ping();
-    assert!(rt; stage.says(Some(0), &[2]));
-    first.ping();
-    assert!(rt; stage.says(Some(0), &[1]));
-    assert_eq!(rt; place_of(&mut stage, one), Some((0, 1)));
-    assert_eq!(rt; place_of(&mut stage, other), Some((1, 2)));
+    let table: Table<Twice<HostRuntime>, _> = Table::new(&rt, rt.alloc());
+    assert!(rt; is_each_called(table) == Some(true));
 }
 
 // Pings that say their numbers, in two places.
@@ -33,14 +21,61 @@ type Twice<R> = Sources<
     Vec<u32>,
 >;
 
-// At which place the source is that the token names, and the number that it says.
-fn place_of<R: Wait + Clone + Drop + Abort>(
-    stage: &mut Table<Twice<R>, R>,
-    token: RegistrationToken,
-) -> Option<(u32, u32)> {
-    let handle = stage.event_loop.handle();
-    match &handle.dispatcher(&token).ok()?.held {
-        OneOf::First(held) => Some((0, held.callback.number)),
-        OneOf::Other(held) => Some((1, held.callback.number)),
+// What the loop holds for a ping in one of two places.
+trait Placed {
+    // At which it is, and the number that it says.
+    fn place(&self) -> (u32, u32);
+}
+
+impl<R: Wait + Drop> Placed for Twice<R> {
+    fn place(&self) -> (u32, u32) {
+        match &self.held {
+            OneOf::First(held) => (0, held.callback.number),
+            OneOf::Other(held) => (1, held.callback.number),
+        }
     }
+}
+
+// Whether a ping in each place is called for its own ring. None where memory is short.
+fn is_each_called<D, R>(table: Table<D, R>) -> Option<bool>
+where
+    D: EventDispatcher<ScriptPoller, ScriptClock, R, Data = Vec<u32>, Idle = ()> + Placed,
+    D: Hold<PingSource<R>, Teller, ScriptPoller, ScriptClock, R, Vec<u32>, Requests<D>, Here>,
+    D: Hold<
+        PingSource<R>,
+        Teller,
+        ScriptPoller,
+        ScriptClock,
+        R,
+        Vec<u32>,
+        Requests<D>,
+        There<Here>,
+    >,
+    R: Wait + Clone + Drop + Abort,
+{
+    let mut table = table;
+    let (first, first_source) = make_ping(&table.rt, table.alloc).ok()?;
+    let (second, second_source) = make_ping(&table.rt, table.alloc).ok()?;
+    let mut handle = table.event_loop.handle();
+    let one = handle
+        .insert_source::<_, _, Here>(first_source, Teller { number: 1 })
+        .ok()?;
+    let other = handle
+        .insert_source::<_, _, There<Here>>(second_source, Teller { number: 2 })
+        .ok()?;
+    second.ping();
+    let is_second_called = table.says(Some(0), &[2]);
+    first.ping();
+    let is_first_called = table.says(Some(0), &[1]);
+    let places = [place_of(&mut table, one), place_of(&mut table, other)];
+    Some(is_second_called && is_first_called && places == [Some((0, 1)), Some((1, 2))])
+}
+
+fn place_of<D, R>(table: &mut Table<D, R>, token: RegistrationToken) -> Option<(u32, u32)>
+where
+    D: EventDispatcher<ScriptPoller, ScriptClock, R> + Placed,
+    R: Wait + Clone + Drop + Abort,
+{
+    let handle = table.event_loop.handle();
+    Some(handle.dispatcher(&token).ok()?.place())
 }

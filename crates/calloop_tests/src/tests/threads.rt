@@ -1,7 +1,10 @@
 //! Pings of another thread.
 use super::stage::{Stage, Table};
 use calloop::ping::{Ping, make_ping};
-use calloop::{Dispatcher, PingSource, RegistrationToken, Sources};
+use calloop::{
+    Dispatcher, EventDispatcher, Here, Hold, PingSource, RegistrationToken, Requests, Sources,
+};
+use calloop_core::sys::script::{ScriptClock, ScriptPoller};
 use calloop_test_sources::source::Teller;
 use std::process::Abort;
 use std::sync::Wait;
@@ -10,7 +13,7 @@ use std::thread;
 
 #[test]
 fn a_ring_of_another_thread_is_one_call(rt: HostRuntime) -> Result<(), Fail> {
-    let mut table = Table::new(&rt, rt.alloc());
+    let mut table: Ringing<HostRuntime> = Table::new(&rt, rt.alloc());
     let (_, bell) = ringing(&mut table);
     let rings = bell.clone().expect(&rt, "a ping");
     let child = thread::spawn(&rt, move || rings_once(rings))?;
@@ -23,7 +26,7 @@ fn a_ring_of_another_thread_is_one_call(rt: HostRuntime) -> Result<(), Fail> {
 fn rings_of_a_thread_beside_dispatches_are_at_most_as_many_calls(
     rt: HostRuntime,
 ) -> Result<(), Fail> {
-    let mut table = Table::new(&rt, rt.alloc());
+    let mut table: Ringing<HostRuntime> = Table::new(&rt, rt.alloc());
     let (token, bell) = ringing(&mut table);
     let child = thread::spawn(&rt, move || rings_by_clones(bell))?;
     let calls = table.calls_in(1000);
@@ -38,7 +41,12 @@ fn rings_of_a_thread_beside_dispatches_are_at_most_as_many_calls(
 type Ringing<R> = Table<Sources<Dispatcher<PingSource<R>, Teller>, Vec<u32>>, R>;
 
 // Inserts a ping that says 1.
-fn ringing<R: Wait + Clone + Drop + Abort>(table: &mut Ringing<R>) -> (RegistrationToken, Ping<R>) {
+fn ringing<D, R>(table: &mut Table<D, R>) -> (RegistrationToken, Ping<R>)
+where
+    D: EventDispatcher<ScriptPoller, ScriptClock, R, Data = Vec<u32>, Idle = ()>,
+    D: Hold<PingSource<R>, Teller, ScriptPoller, ScriptClock, R, Vec<u32>, Requests<D>, Here>,
+    R: Wait + Clone + Drop + Abort,
+{
     let (bell, source) = make_ping(&table.rt, table.alloc).expect(&table.rt, "a ping");
     let teller = Teller { number: 1 };
     let inserted = table.event_loop.handle().insert_source(source, teller);
