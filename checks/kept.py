@@ -25,7 +25,7 @@ class Kept:
     def __init__(self, root, script):
         self.root, self.crates, self.sums = root, crates_of(root), {}
         self.by = hashlib.sha256(subprocess.run(["rt", "version"], stdout=subprocess.PIPE, check=True).stdout)
-        for file in (script, __file__):
+        for file in (script, __file__, f"{os.path.dirname(__file__)}/sources.py"):
             with open(file, "rb") as it:
                 self.by.update(it.read())
 

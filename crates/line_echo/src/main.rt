@@ -3,7 +3,7 @@
 #![tactic(auto)]
 
 use calloop::loop_logic::EventLoop;
-use calloop::ping::{Ping, make_ping};
+use calloop::ping::make_ping;
 use calloop::{
     Asking, Callback, Dispatcher, Error, EventDispatcher, Generic, Here, Hold, Instant, Interest,
     Mode, OneOf, PingSource, Requests, Result, Sources, There, TimeoutAction, Timer,
@@ -72,8 +72,8 @@ type Third = There<There<Here>>;
 // prover far more.
 type Server<D, R> = EventLoop<D, Machine<R>, SystemClock<R>, R>;
 
-// A loop with the server's end of a socket, a timer of a millisecond, and the ping that is handed out.
-fn open<D, R>(rt: &R, alloc: Global, near: UnixStream) -> Result<(Server<D, R>, Ping<R>)>
+// A loop with the server's end of a socket, a ping, and a timer of a millisecond.
+fn open<D, R>(rt: &R, alloc: Global, near: UnixStream, bell: PingSource<R>) -> Result<Server<D, R>>
 where
     D: EventDispatcher<Machine<R>, SystemClock<R>, R, Data = Session, Idle = ()>,
     D: Hold<PingSource<R>, Rung, Machine<R>, SystemClock<R>, R, Session, Requests<D>, Here>,
@@ -84,20 +84,13 @@ where
     let clock = SystemClock::new(rt)?;
     let poller = MioPoller::new(rt, alloc, clock.clone()?)?;
     let timer = Timer::from_duration(&clock, Duration::from_millis(1));
-    let mut event_loop: Server<D, R> = EventLoop::try_new(rt, alloc, poller, clock)?;
-    let (bell, source) = make_ping(rt, alloc)?;
     let socket = Generic::new(MioIo::from(near), Interest::READ, Mode::Level);
+    let mut event_loop: Server<D, R> = EventLoop::try_new(rt, alloc, poller, clock)?;
     let mut handle = event_loop.handle();
-    handle
-        .insert_source(source, Rung)
-        .map_err(|refused| refused.error)?;
-    handle
-        .insert_source(socket, Echo::new(alloc))
-        .map_err(|refused| refused.error)?;
-    handle
-        .insert_source(timer, Late)
-        .map_err(|refused| refused.error)?;
-    Ok((event_loop, bell))
+    handle.insert_source(bell, Rung)?;
+    handle.insert_source(socket, Echo::new(alloc))?;
+    handle.insert_source(timer, Late)?;
+    Ok(event_loop)
 }
 
 // Dispatches until all has come that is waited for, or ten seconds are over. Answers whether all has, and the client's end.
@@ -121,15 +114,33 @@ where
     Ok((session.is_over(), far))
 }
 
-// Serves a client of another thread. This alone knows of which types the loop is.
+// Serves a client of another thread, which rings this ping.
+fn serve_at<D, R>(
+    rt: &R,
+    alloc: Global,
+    near: UnixStream,
+    bell: PingSource<R>,
+    child: JoinHandle<io::Result<UnixStream>>,
+) -> Result<(bool, UnixStream)>
+where
+    D: EventDispatcher<Machine<R>, SystemClock<R>, R, Data = Session, Idle = ()>,
+    D: Hold<PingSource<R>, Rung, Machine<R>, SystemClock<R>, R, Session, Requests<D>, Here>,
+    D: Hold<Generic<Machine<R>>, Echo, Machine<R>, SystemClock<R>, R, Session, Requests<D>, Second>,
+    D: Hold<Timer, Late, Machine<R>, SystemClock<R>, R, Session, Requests<D>, Third>,
+    R: Threads + Net + MachineClock + Wait + Clone + Drop,
+{
+    listen(rt, open::<D, R>(rt, alloc, near, bell)?, child)
+}
+
+// Starts a client in another thread, and serves it. This alone knows of which types the loop is.
 fn serve<R>(rt: &R, alloc: Global) -> Result<(bool, UnixStream)>
 where
     R: Threads + Net + MachineClock + Wait + Clone + Drop + Send + Sync + 'static,
 {
     let (near, far) = UnixStream::pair(rt)?;
-    let (event_loop, bell) = open::<Held<R>, R>(rt, alloc, near)?;
+    let (bell, source) = make_ping(rt, alloc)?;
     match thread::spawn(rt, move || client::speaks(far, bell)) {
-        Ok(child) => listen(rt, event_loop, child),
+        Ok(child) => serve_at::<Held<R>, R>(rt, alloc, near, source, child),
         Err(_) => Err(Error::OutOfMemory),
     }
 }
