@@ -231,7 +231,11 @@ NextAnswer false (Some pending) now answers =
 pub record IsReady (fault : Bool) (pending : Option Pending) (p q : ScriptPoller) : Type 0 where
   pub moment : q.moment ≡ p.moment
   pub answers : NextAnswer fault pending p.moment q.answers.items
+  pub calls : q.calls ≡ p.calls
+  pub failing : q.failing ≡ p.failing
   pub faults : q.faults ≡ p.faults
+  pub shown : q.shown ≡ p.shown
+  pub signal : q.signal ≡ p.signal
   pub none : q.waits.items ≡ []
   pub room : 1 ≤ vec_capacity q.waits
 
@@ -239,7 +243,11 @@ pub record IsReady (fault : Bool) (pending : Option Pending) (p q : ScriptPoller
 pub record IsTakenBack (p q : ScriptPoller) : Type 0 where
   pub moment : q.moment ≡ p.moment
   pub answers : q.answers.items ≡ []
+  pub calls : q.calls ≡ p.calls
+  pub failing : q.failing ≡ p.failing
   pub faults : q.faults ≡ p.faults
+  pub shown : q.shown ≡ p.shown
+  pub signal : q.signal ≡ p.signal
   pub waits : q.waits ≡ p.waits
 
 -- Where the script stands still after a dispatch, that was refused before its wait, and what was pending stays so. Else
