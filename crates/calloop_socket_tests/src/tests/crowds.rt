@@ -1,7 +1,7 @@
 //! Many sockets, no more of them, and many rings.
-use super::square::{Scene, Square, plays, with_a_ping};
-use calloop::ping::Ping;
-use calloop::{Interest, Mode};
+use super::square::{Scene, Square, plays};
+use calloop::ping::{Ping, make_ping};
+use calloop::{Interest, Mode, PingSource};
 use calloop_core::sys::system::MioIo;
 use mio::net::UnixStream;
 use std::alloc::Global;
@@ -15,13 +15,14 @@ use std::time::Duration;
 
 #[test]
 fn a_wait_tells_of_1024_sockets_and_the_next_of_the_last(rt: HostRuntime) {
-    plays::<AWaitTellsOf1024SocketsAndTheNextOfTheLast, _>(&rt, rt.alloc());
+    plays(&rt, rt.alloc(), AWaitTellsOf1024SocketsAndTheNextOfTheLast);
 }
 
+#[derive(Drop)]
 struct AWaitTellsOf1024SocketsAndTheNextOfTheLast;
 
-impl Scene for AWaitTellsOf1024SocketsAndTheNextOfTheLast {
-    fn play<R: Net + Abort, S: Square<R> + Drop>(rt: &R, alloc: Global) {
+impl<R: Net + Wait + Drop + Abort> Scene<R> for AWaitTellsOf1024SocketsAndTheNextOfTheLast {
+    fn play<S: Square<R> + Drop>(self, rt: &R, alloc: Global) {
         for count in [1024usize, 1025] {
             let mut square = S::new(rt, alloc);
             // Fewer where the machine gives no more descriptors.
@@ -36,13 +37,18 @@ impl Scene for AWaitTellsOf1024SocketsAndTheNextOfTheLast {
 
 #[test]
 fn without_descriptors_a_poller_is_refused_and_a_loop_goes_on(rt: HostRuntime) {
-    plays::<WithoutDescriptorsAPollerIsRefusedAndALoopGoesOn, _>(&rt, rt.alloc());
+    plays(
+        &rt,
+        rt.alloc(),
+        WithoutDescriptorsAPollerIsRefusedAndALoopGoesOn,
+    );
 }
 
+#[derive(Drop)]
 struct WithoutDescriptorsAPollerIsRefusedAndALoopGoesOn;
 
-impl Scene for WithoutDescriptorsAPollerIsRefusedAndALoopGoesOn {
-    fn play<R: Net + Abort, S: Square<R> + Drop>(rt: &R, alloc: Global) {
+impl<R: Net + Wait + Drop + Abort> Scene<R> for WithoutDescriptorsAPollerIsRefusedAndALoopGoesOn {
+    fn play<S: Square<R> + Drop>(self, rt: &R, alloc: Global) {
         let mut square = S::new(rt, alloc);
         let (_, mut peer) = square.stream(Mode::Level);
         let pairs = many_pairs(rt, alloc);
@@ -60,38 +66,51 @@ impl Scene for WithoutDescriptorsAPollerIsRefusedAndALoopGoesOn {
 
 #[test]
 fn ten_thousand_rings_of_a_thread_leave_nothing_standing(rt: HostRuntime) -> Result<(), Fail> {
-    let (square, bell) = with_a_ping(&rt, rt.alloc());
-    let rings = bell.clone().expect(&rt, "a ping");
-    let child = thread::spawn(&rt, move || rings_often(&rings))?;
-    hears_all(&rt, square, child);
+    let (bell, source) = make_ping(&rt, rt.alloc()).expect(&rt, "a ping");
+    let child = thread::spawn(&rt, move || rings_often(bell))?;
+    plays(&rt, rt.alloc(), RingsOfAThread { source, child });
     Ok(())
 }
 
-// The callbacks are called at least once and at most ten thousand times by the end of the thread, and then no more.
-fn hears_all<R: Threads + Abort, S: Square<R> + Drop>(
-    rt: &R,
-    mut square: S,
-    child: JoinHandle<bool>,
-) {
-    let mut calls = 0usize;
-    for _ in 0..100u32 {
-        calls = calls.saturating_add(square.dispatch(Duration::from_millis(1)).1.len());
-    }
-    assert!(rt; child.join(rt));
-    calls = calls.saturating_add(square.dispatch(Duration::ZERO).1.len());
-    assert!(rt; calls >= 1 && calls <= 10_000);
-    assert!(rt; square.says(&[]));
+// The source of a ping, and the thread that rings it ten thousand times.
+struct RingsOfAThread<R: Wait + Drop> {
+    source: PingSource<R>,
+    child: JoinHandle<Ping<R>>,
 }
 
-fn rings_often<R: Wait + Drop>(bell: &Ping<R>) -> bool {
+// The callbacks are called at least once and at most ten thousand times by the end of the thread, and then no more.
+impl<R: Threads + Net + Wait + Drop + Abort> Scene<R> for RingsOfAThread<R> {
+    fn play<S: Square<R> + Drop>(self, rt: &R, alloc: Global) {
+        let RingsOfAThread { source, child } = self;
+        let mut square = S::new(rt, alloc);
+        square.insert_ping(source, 1);
+        let mut calls = calls_in(&mut square, 100);
+        let _bell = child.join(rt);
+        calls = calls.saturating_add(calls_in(&mut square, 1));
+        assert!(rt; calls >= 1 && calls <= 10_000);
+        assert!(rt; square.says(&[]));
+    }
+}
+
+// How often dispatches call, each of which waits for a millisecond at most.
+fn calls_in<R: Wait + Drop, S: Square<R>>(square: &mut S, dispatches: u32) -> usize {
+    let mut calls = 0usize;
+    for _ in 0..dispatches {
+        calls = calls.saturating_add(square.dispatch(Duration::from_millis(1)).1.len());
+    }
+    calls
+}
+
+// Rings ten thousand times, and gives the ping back.
+fn rings_often<R: Wait + Drop>(bell: Ping<R>) -> Ping<R> {
     for _ in 0..10_000u32 {
         let _receipt = bell.ping();
     }
-    true
+    bell
 }
 
 // Of so many streams of the loop, as far as there are descriptors, each of which can be written to, the peers.
-fn crowd<R: Net + Abort, S: Square<R>>(
+fn crowd<R: Net + Wait + Drop + Abort, S: Square<R>>(
     rt: &R,
     alloc: Global,
     square: &mut S,

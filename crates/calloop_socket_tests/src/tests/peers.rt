@@ -8,17 +8,19 @@ use std::alloc::Global;
 use std::io::Write;
 use std::net::{Ipv4Addr, Net, Shutdown, SocketAddr};
 use std::process::Abort;
+use std::sync::Wait;
 use std::time::Duration;
 
 #[test]
 fn bytes_of_a_peer_are_read(rt: HostRuntime) {
-    plays::<BytesOfAPeerAreRead, _>(&rt, rt.alloc());
+    plays(&rt, rt.alloc(), BytesOfAPeerAreRead);
 }
 
+#[derive(Drop)]
 struct BytesOfAPeerAreRead;
 
-impl Scene for BytesOfAPeerAreRead {
-    fn play<R: Net + Abort, S: Square<R> + Drop>(rt: &R, alloc: Global) {
+impl<R: Net + Wait + Drop + Abort> Scene<R> for BytesOfAPeerAreRead {
+    fn play<S: Square<R> + Drop>(self, rt: &R, alloc: Global) {
         let mut square = S::new(rt, alloc);
         let (_, mut peer) = square.stream(Mode::Level);
         assert!(rt; square.says(&[]));
@@ -30,13 +32,14 @@ impl Scene for BytesOfAPeerAreRead {
 
 #[test]
 fn level_hears_again_of_what_it_left_and_edge_does_not(rt: HostRuntime) {
-    plays::<LevelHearsAgainOfWhatItLeftAndEdgeDoesNot, _>(&rt, rt.alloc());
+    plays(&rt, rt.alloc(), LevelHearsAgainOfWhatItLeftAndEdgeDoesNot);
 }
 
+#[derive(Drop)]
 struct LevelHearsAgainOfWhatItLeftAndEdgeDoesNot;
 
-impl Scene for LevelHearsAgainOfWhatItLeftAndEdgeDoesNot {
-    fn play<R: Net + Abort, S: Square<R> + Drop>(rt: &R, alloc: Global) {
+impl<R: Net + Wait + Drop + Abort> Scene<R> for LevelHearsAgainOfWhatItLeftAndEdgeDoesNot {
+    fn play<S: Square<R> + Drop>(self, rt: &R, alloc: Global) {
         for (mode, rest) in [
             (Mode::Level, [9, 10].as_slice()),
             (Mode::Edge, [].as_slice()),
@@ -53,13 +56,14 @@ impl Scene for LevelHearsAgainOfWhatItLeftAndEdgeDoesNot {
 
 #[test]
 fn a_stream_is_heard_of_as_its_interest_asks(rt: HostRuntime) {
-    plays::<AStreamIsHeardOfAsItsInterestAsks, _>(&rt, rt.alloc());
+    plays(&rt, rt.alloc(), AStreamIsHeardOfAsItsInterestAsks);
 }
 
+#[derive(Drop)]
 struct AStreamIsHeardOfAsItsInterestAsks;
 
-impl Scene for AStreamIsHeardOfAsItsInterestAsks {
-    fn play<R: Net + Abort, S: Square<R> + Drop>(rt: &R, alloc: Global) {
+impl<R: Net + Wait + Drop + Abort> Scene<R> for AStreamIsHeardOfAsItsInterestAsks {
+    fn play<S: Square<R> + Drop>(self, rt: &R, alloc: Global) {
         let mut square = S::new(rt, alloc);
         let (token, mut peer) = square.stream(Mode::Level);
         assert!(rt; peer.write_all(&[1, 2, 3]).is_ok());
@@ -73,13 +77,18 @@ impl Scene for AStreamIsHeardOfAsItsInterestAsks {
 
 #[test]
 fn a_stream_that_was_taken_out_is_heard_again_once_inserted(rt: HostRuntime) {
-    plays::<AStreamThatWasTakenOutIsHeardAgainOnceInserted, _>(&rt, rt.alloc());
+    plays(
+        &rt,
+        rt.alloc(),
+        AStreamThatWasTakenOutIsHeardAgainOnceInserted,
+    );
 }
 
+#[derive(Drop)]
 struct AStreamThatWasTakenOutIsHeardAgainOnceInserted;
 
-impl Scene for AStreamThatWasTakenOutIsHeardAgainOnceInserted {
-    fn play<R: Net + Abort, S: Square<R> + Drop>(rt: &R, alloc: Global) {
+impl<R: Net + Wait + Drop + Abort> Scene<R> for AStreamThatWasTakenOutIsHeardAgainOnceInserted {
+    fn play<S: Square<R> + Drop>(self, rt: &R, alloc: Global) {
         let mut square = S::new(rt, alloc);
         let (token, mut peer) = square.stream(Mode::Level);
         assert!(rt; square.says(&[]));
@@ -94,13 +103,14 @@ impl Scene for AStreamThatWasTakenOutIsHeardAgainOnceInserted {
 
 #[test]
 fn a_peer_that_closes_is_an_end_behind_its_last_bytes(rt: HostRuntime) {
-    plays::<APeerThatClosesIsAnEndBehindItsLastBytes, _>(&rt, rt.alloc());
+    plays(&rt, rt.alloc(), APeerThatClosesIsAnEndBehindItsLastBytes);
 }
 
+#[derive(Drop)]
 struct APeerThatClosesIsAnEndBehindItsLastBytes;
 
-impl Scene for APeerThatClosesIsAnEndBehindItsLastBytes {
-    fn play<R: Net + Abort, S: Square<R> + Drop>(rt: &R, alloc: Global) {
+impl<R: Net + Wait + Drop + Abort> Scene<R> for APeerThatClosesIsAnEndBehindItsLastBytes {
+    fn play<S: Square<R> + Drop>(self, rt: &R, alloc: Global) {
         let mut square = S::new(rt, alloc);
         let (token, mut peer) = square.stream(Mode::Level);
         assert!(rt; peer.write_all(&[7]).is_ok());
@@ -114,13 +124,14 @@ impl Scene for APeerThatClosesIsAnEndBehindItsLastBytes {
 
 #[test]
 fn a_peer_that_closes_by_half_is_an_end(rt: HostRuntime) {
-    plays::<APeerThatClosesByHalfIsAnEnd, _>(&rt, rt.alloc());
+    plays(&rt, rt.alloc(), APeerThatClosesByHalfIsAnEnd);
 }
 
+#[derive(Drop)]
 struct APeerThatClosesByHalfIsAnEnd;
 
-impl Scene for APeerThatClosesByHalfIsAnEnd {
-    fn play<R: Net + Abort, S: Square<R> + Drop>(rt: &R, alloc: Global) {
+impl<R: Net + Wait + Drop + Abort> Scene<R> for APeerThatClosesByHalfIsAnEnd {
+    fn play<S: Square<R> + Drop>(self, rt: &R, alloc: Global) {
         for mode in [Mode::Level, Mode::OneShot, Mode::Edge] {
             let mut square = S::new(rt, alloc);
             let (token, peer) = square.stream(mode);
@@ -135,13 +146,14 @@ impl Scene for APeerThatClosesByHalfIsAnEnd {
 
 #[test]
 fn a_peer_that_resets_is_an_error_that_keeps_the_rest(rt: HostRuntime) {
-    plays::<APeerThatResetsIsAnErrorThatKeepsTheRest, _>(&rt, rt.alloc());
+    plays(&rt, rt.alloc(), APeerThatResetsIsAnErrorThatKeepsTheRest);
 }
 
+#[derive(Drop)]
 struct APeerThatResetsIsAnErrorThatKeepsTheRest;
 
-impl Scene for APeerThatResetsIsAnErrorThatKeepsTheRest {
-    fn play<R: Net + Abort, S: Square<R> + Drop>(rt: &R, alloc: Global) {
+impl<R: Net + Wait + Drop + Abort> Scene<R> for APeerThatResetsIsAnErrorThatKeepsTheRest {
+    fn play<S: Square<R> + Drop>(self, rt: &R, alloc: Global) {
         let mut square = S::new(rt, alloc);
         let (mut near, far) = connected(rt);
         assert!(rt; near.write_all(&[1]).is_ok());
@@ -160,13 +172,14 @@ impl Scene for APeerThatResetsIsAnErrorThatKeepsTheRest {
 
 #[test]
 fn a_listener_lets_in_while_a_stream_leaves(rt: HostRuntime) {
-    plays::<AListenerLetsInWhileAStreamLeaves, _>(&rt, rt.alloc());
+    plays(&rt, rt.alloc(), AListenerLetsInWhileAStreamLeaves);
 }
 
+#[derive(Drop)]
 struct AListenerLetsInWhileAStreamLeaves;
 
-impl Scene for AListenerLetsInWhileAStreamLeaves {
-    fn play<R: Net + Abort, S: Square<R> + Drop>(rt: &R, alloc: Global) {
+impl<R: Net + Wait + Drop + Abort> Scene<R> for AListenerLetsInWhileAStreamLeaves {
+    fn play<S: Square<R> + Drop>(self, rt: &R, alloc: Global) {
         let mut square = S::new(rt, alloc);
         let listener = TcpListener::bind(rt, any_port()).expect(rt, "a listener");
         let address = listener.local_addr().expect(rt, "an address");

@@ -1,7 +1,6 @@
 use super::table::Table;
 use calloop::generic::Generic;
 use calloop::loop_logic::EventLoop;
-use calloop::ping::{Ping, make_ping};
 use calloop::{
     Dispatcher, Error, EventDispatcher, Here, Hold, Interest, Mode, OneOf, PingSource,
     RegistrationToken, Requests, Sources, There,
@@ -17,10 +16,7 @@ use std::sync::Wait;
 use std::time::{Clock as MachineClock, Duration};
 
 // A loop over pings and sockets of the machine.
-pub trait Square<R>: Sized {
-    // One end of a ping.
-    type Bell: Drop;
-
+pub trait Square<R: Wait + Drop>: Sized {
     fn new(rt: &R, alloc: Global) -> Self;
 
     // A socket of the loop.
@@ -29,8 +25,8 @@ pub trait Square<R>: Sized {
     // A stream of the loop that waits to be read, and its peer.
     fn stream(&mut self, mode: Mode) -> (RegistrationToken, UnixStream);
 
-    // A ping that says its number.
-    fn ping(&mut self, number: u32) -> Self::Bell;
+    // Inserts the source of a ping, which says this number.
+    fn insert_ping(&mut self, source: PingSource<R>, number: u32);
 
     // What a dispatch answers, and what the callbacks say.
     fn dispatch(&mut self, timeout: Duration) -> (calloop::Result<()>, Vec<u32>);
@@ -70,30 +66,18 @@ pub trait Choice {
 }
 
 // What a test does at a square.
-pub trait Scene {
-    fn play<R: Net + Abort, S: Square<R> + Drop>(rt: &R, alloc: Global);
+pub trait Scene<R: Wait + Drop> {
+    fn play<S: Square<R> + Drop>(self, rt: &R, alloc: Global);
 }
 
-// This and the next alone know of which types the square is.
-pub fn plays<S, R>(rt: &R, alloc: Global)
+// This alone knows of which types the square is.
+pub fn plays<S, R>(rt: &R, alloc: Global, scene: S)
 where
-    S: Scene,
+    S: Scene<R>,
     R: Net + MachineClock + Wait + Clone + Drop + Abort,
 {
-    S::play::<R, Over<R>>(rt, alloc);
+    scene.play::<Table<Held<R>, Machine<R>, SystemClock<R>, R>>(rt, alloc);
 }
-
-// A square with a ping that says 1.
-pub fn with_a_ping<R>(rt: &R, alloc: Global) -> (Over<R>, Ping<R>)
-where
-    R: Net + MachineClock + Wait + Clone + Drop + Abort,
-{
-    let mut square: Over<R> = Square::new(rt, alloc);
-    let bell = square.ping(1);
-    (square, bell)
-}
-
-pub type Over<R> = Table<Held<R>, Machine<R>, SystemClock<R>, R>;
 
 type Machine<R> = MioPoller<SystemClock<R>>;
 
@@ -120,8 +104,6 @@ where
     >,
     R: Net + MachineClock + Wait + Clone + Drop + Abort,
 {
-    type Bell = Ping<R>;
-
     fn new(rt: &R, alloc: Global) -> Table<D, Machine<R>, SystemClock<R>, R> {
         let clock = SystemClock::new(rt).expect(rt, "a clock");
         let read_by_poller = clock.clone().expect(rt, "a clock");
@@ -145,12 +127,12 @@ where
         (self.insert(MioIo::from(near), Interest::READ, mode), far)
     }
 
-    fn ping(&mut self, number: u32) -> Ping<R> {
-        let (bell, source) = make_ping(&self.rt, self.alloc).expect(&self.rt, "a ping");
-        let teller = Teller { number };
-        let inserted = self.event_loop.handle().insert_source(source, teller);
+    fn insert_ping(&mut self, source: PingSource<R>, number: u32) {
+        let inserted = self
+            .event_loop
+            .handle()
+            .insert_source(source, Teller { number });
         assert!(self.rt; inserted.is_ok());
-        bell
     }
 
     fn dispatch(&mut self, timeout: Duration) -> (calloop::Result<()>, Vec<u32>) {
