@@ -445,11 +445,12 @@ fn is_handed_back<D: Choice>(answer: &Answer<D>) -> bool {
 }
 
 fn are_answers<D>(answers: &[Answer<D>], wanted: &[(&str, bool)]) -> bool {
+    for (answer, wanted) in answers.iter().zip(wanted) {
+        if told(answer) != *wanted {
+            return false;
+        }
+    }
     answers.len() == wanted.len()
-        && answers
-            .iter()
-            .zip(wanted)
-            .all(|(answer, wanted)| told(answer) == *wanted)
 }
 
 // Of which call it is the answer, and whether that succeeded: the first slot was given, a dispatch called nothing, and the

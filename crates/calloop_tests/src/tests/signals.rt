@@ -11,7 +11,7 @@ use calloop_core::sys::script::{ScriptAnswer, ScriptEnd, ScriptEvents, ScriptPol
 use calloop_core::sys::system::{MioPoller, SystemClock};
 use calloop_test_sources::source::Teller;
 use calloop_wake::wake::Notify;
-use std::alloc::{AllocGlobal, Global};
+use std::alloc::AllocGlobal;
 use std::net::Net;
 use std::sync::Wait;
 use std::test::Fail;
@@ -34,13 +34,10 @@ fn a_notifier_of_another_thread_ends_a_long_wait(rt: HostRuntime) -> std::result
 #[test]
 fn a_ring_of_another_thread_ends_a_long_dispatch(rt: HostRuntime) -> std::result::Result<(), Fail> {
     let clock = SystemClock::new(&rt)?;
-    let mut event_loop = loop_of(&rt, &clock).expect(&rt, "a loop");
-    let ping = ping_of(&rt, rt.alloc(), &mut event_loop).expect(&rt, "a ping");
+    let (mut event_loop, _signal) = loop_of(&rt, &clock).expect(&rt, "a loop");
+    let ping = ping_of(&rt, &mut event_loop).expect(&rt, "a ping");
     let child = thread::spawn(&rt, move || rings_later(&rt, ping))?;
-    let mut said = Vec::new(rt.alloc());
-    assert!(rt; event_loop.dispatch(&rt, minute(), &mut said).is_ok());
-    assert_eq!(rt; said.as_slice(), [7].as_slice());
-    assert!(rt; is_early(&clock));
+    assert!(rt; says_early(&rt, &clock, &mut event_loop, &[7]));
     child.join(&rt);
     Ok(())
 }
@@ -50,12 +47,9 @@ fn a_signal_of_another_thread_ends_a_long_dispatch(
     rt: HostRuntime,
 ) -> std::result::Result<(), Fail> {
     let clock = SystemClock::new(&rt)?;
-    let mut event_loop = loop_of(&rt, &clock).expect(&rt, "a loop");
-    let signal = event_loop.get_signal().expect(&rt, "a signal");
+    let (mut event_loop, signal) = loop_of(&rt, &clock).expect(&rt, "a loop");
     let child = thread::spawn(&rt, move || wakes_later(&rt, signal))?;
-    let mut said = Vec::new(rt.alloc());
-    assert!(rt; event_loop.dispatch(&rt, minute(), &mut said).is_ok());
-    assert!(rt; said.is_empty() && is_early(&clock));
+    assert!(rt; says_early(&rt, &clock, &mut event_loop, &[]));
     child.join(&rt);
     Ok(())
 }
@@ -63,12 +57,9 @@ fn a_signal_of_another_thread_ends_a_long_dispatch(
 #[test]
 fn a_wakeup_before_a_dispatch_ends_its_wait(rt: HostRuntime) {
     let clock = SystemClock::new(&rt).expect(&rt, "a clock");
-    let mut event_loop = loop_of(&rt, &clock).expect(&rt, "a loop");
-    let signal = event_loop.get_signal().expect(&rt, "a signal");
+    let (mut event_loop, signal) = loop_of(&rt, &clock).expect(&rt, "a loop");
     signal.clone().expect(&rt, "a signal").wakeup();
-    let mut said = Vec::new(rt.alloc());
-    assert!(rt; event_loop.dispatch(&rt, minute(), &mut said).is_ok());
-    assert!(rt; is_early(&clock));
+    assert!(rt; says_early(&rt, &clock, &mut event_loop, &[]));
     drop(event_loop);
     signal.wakeup();
     signal.stop();
@@ -77,11 +68,9 @@ fn a_wakeup_before_a_dispatch_ends_its_wait(rt: HostRuntime) {
 #[test]
 fn a_run_ends_once_another_thread_stops_it(rt: HostRuntime) -> std::result::Result<(), Fail> {
     let clock = SystemClock::new(&rt)?;
-    let mut event_loop = loop_of(&rt, &clock).expect(&rt, "a loop");
-    let signal = event_loop.get_signal().expect(&rt, "a signal");
+    let (mut event_loop, signal) = loop_of(&rt, &clock).expect(&rt, "a loop");
     let child = thread::spawn(&rt, move || stops_later(&rt, signal))?;
-    let mut said = Vec::new(rt.alloc());
-    let answer = event_loop.run(&rt, minute(), &mut said, |said| says(said, 1));
+    let (answer, said) = runs(&rt, &mut event_loop, minute(), |said| says(said, 1));
     assert!(rt; answer.is_ok() && is_early(&clock));
     assert_eq!(rt; said.as_slice(), [1].as_slice());
     child.join(&rt);
@@ -91,13 +80,11 @@ fn a_run_ends_once_another_thread_stops_it(rt: HostRuntime) -> std::result::Resu
 #[test]
 fn a_run_calls_after_each_dispatch_until_it_is_stopped(rt: HostRuntime) {
     let clock = SystemClock::new(&rt).expect(&rt, "a clock");
-    let mut event_loop = loop_of(&rt, &clock).expect(&rt, "a loop");
-    let signal = event_loop.get_signal().expect(&rt, "a signal");
-    let ping = ping_of(&rt, rt.alloc(), &mut event_loop).expect(&rt, "a ping");
+    let (mut event_loop, signal) = loop_of(&rt, &clock).expect(&rt, "a loop");
+    let ping = ping_of(&rt, &mut event_loop).expect(&rt, "a ping");
     // A stop of before is forgotten.
     signal.stop();
-    let mut said = Vec::new(rt.alloc());
-    let answer = event_loop.run(&rt, Some(Duration::ZERO), &mut said, |said| {
+    let (answer, said) = runs(&rt, &mut event_loop, Some(Duration::ZERO), |said| {
         says(said, 1);
         match said.len() {
             1 => drop(ping.ping()),
@@ -112,8 +99,8 @@ fn a_run_calls_after_each_dispatch_until_it_is_stopped(rt: HostRuntime) {
 #[test]
 fn a_stop_is_found_until_it_is_forgotten(rt: HostRuntime) {
     let clock = SystemClock::new(&rt).expect(&rt, "a clock");
-    let mut event_loop = loop_of(&rt, &clock).expect(&rt, "a loop");
-    assert!(rt; is_found_until_forgotten(&rt, &mut event_loop) == Some(true));
+    let (mut event_loop, signal) = loop_of(&rt, &clock).expect(&rt, "a loop");
+    assert!(rt; is_found_until_forgotten(&rt, &mut event_loop, &signal));
 }
 
 #[test]
@@ -127,14 +114,11 @@ fn a_fault_ends_a_run_without_a_call(rt: HostRuntime) {
         let moment = Instant { nanos: 5 };
         assert!(rt; poller.script(ScriptAnswer { moment, end }).is_ok());
     }
-    let mut event_loop: EventLoop<Pings<HostRuntime>, _, _, HostRuntime> = EventLoop::try_new(
-        &rt,
-        rt.alloc(),
-        poller,
-        clock,
-    ).expect(&rt, "a loop");
-    let mut said = Vec::new(rt.alloc());
-    let answer = event_loop.run(&rt, None, &mut said, |said| says(said, 1));
+    let made: Result<(EventLoop<Pings<HostRuntime>, _, _, HostRuntime>, _)> = signalled(
+        &rt, poller, clock,
+    );
+    let (mut event_loop, _signal) = made.expect(&rt, "a loop");
+    let (answer, said) = runs(&rt, &mut event_loop, None, |said| says(said, 1));
     assert!(rt; matches!(answer, Err(Error::IoError(_))));
     assert_eq!(rt; said.as_slice(), [1].as_slice());
 }
@@ -158,44 +142,88 @@ fn pause() -> Duration {
     Duration::from_millis(50)
 }
 
-// An empty loop over the machine's poller.
+// An empty loop over the machine's poller, and a signal of it.
 fn loop_of<R: Net + Wait + AllocGlobal + MachineClock + Clone + Drop>(
     rt: &R,
     clock: &SystemClock<R>,
-) -> Result<SystemLoop<R>> {
-    EventLoop::try_new(rt, rt.alloc(), poller_of(rt, clock)?, clock.clone()?)
+) -> Result<(SystemLoop<R>, LoopSignal)> {
+    signalled(rt, poller_of(rt, clock)?, clock.clone()?)
+}
+
+// An empty loop, and a signal of it.
+fn signalled<D, P: Poller, C: Clock, R: Wait + AllocGlobal + Clone + Drop>(
+    rt: &R,
+    poller: P,
+    clock: C,
+) -> Result<(EventLoop<D, P, C, R>, LoopSignal)>
+where
+    D: EventDispatcher<P, C, R>,
+{
+    let event_loop: EventLoop<D, P, C, R> = EventLoop::try_new(rt, rt.alloc(), poller, clock)?;
+    let signal = event_loop.get_signal()?;
+    Ok((event_loop, signal))
 }
 
 // A ping of the loop, which says 7. None where memory is short.
-fn ping_of<D, P: Poller, C: Clock, R: Wait + Clone + Drop>(
+fn ping_of<D, P: Poller, C: Clock, R: Wait + AllocGlobal + Clone + Drop>(
     rt: &R,
-    alloc: Global,
     event_loop: &mut EventLoop<D, P, C, R>,
 ) -> Option<Ping<R>>
 where
     D: EventDispatcher<P, C, R, Data = Vec<u32>, Idle = ()>,
     D: Hold<PingSource<R>, Teller, P, C, R, Vec<u32>, Requests<D>, Here>,
 {
-    let (ping, source) = make_ping(rt, alloc).ok()?;
+    let (ping, source) = make_ping(rt, rt.alloc()).ok()?;
     let teller = Teller { number: 7 };
     event_loop.handle().insert_source(source, teller).ok()?;
     Some(ping)
 }
 
-// Whether each look for a stop finds it until it is forgotten. None where memory is short.
-fn is_found_until_forgotten<D, P: Poller, C: Clock, R: Wait + Drop>(
+// Whether a dispatch of a minute at most succeeds before that is over, and the callbacks say these numbers.
+fn says_early<D, P: Poller, C: Clock, R: Wait + AllocGlobal + Drop>(
     rt: &R,
+    clock: &C,
     event_loop: &mut EventLoop<D, P, C, R>,
-) -> Option<bool>
+    numbers: &[u32],
+) -> bool
 where
     D: EventDispatcher<P, C, R, Data = Vec<u32>, Idle = ()>,
 {
-    let signal = event_loop.get_signal().ok()?;
+    let mut said = Vec::new(rt.alloc());
+    let answer = event_loop.dispatch(rt, minute(), &mut said);
+    answer.is_ok() && said.as_slice() == numbers && is_early(clock)
+}
+
+// What a run with this callback answers, and what was said in it.
+fn runs<D, P: Poller, C: Clock, R: Wait + AllocGlobal + Drop, F: FnMut(&mut Vec<u32>)>(
+    rt: &R,
+    event_loop: &mut EventLoop<D, P, C, R>,
+    timeout: Option<Duration>,
+    callback: F,
+) -> (Result<()>, Vec<u32>)
+where
+    D: EventDispatcher<P, C, R, Data = Vec<u32>, Idle = ()>,
+    requires { F.IsAlwaysCallable callback }
+{
+    let mut said = Vec::new(rt.alloc());
+    let answer = event_loop.run(rt, timeout, &mut said, callback);
+    (answer, said)
+}
+
+// Whether each look for a stop finds that of this signal until it is forgotten.
+fn is_found_until_forgotten<D, P: Poller, C: Clock, R: Wait + Drop>(
+    rt: &R,
+    event_loop: &mut EventLoop<D, P, C, R>,
+    signal: &LoopSignal,
+) -> bool
+where
+    D: EventDispatcher<P, C, R, Data = Vec<u32>, Idle = ()>,
+{
     let is_none = !finds_a_stop(rt, event_loop);
     signal.stop();
     let is_found = finds_a_stop(rt, event_loop) && finds_a_stop(rt, event_loop);
     let is_forgotten = forgets_a_stop(rt, event_loop) && !finds_a_stop(rt, event_loop);
-    Some(is_none && is_found && is_forgotten)
+    is_none && is_found && is_forgotten
 }
 
 fn finds_a_stop<D, P: Poller, C: Clock, R: Wait + Drop>(
