@@ -229,26 +229,15 @@ NextAnswer false (Some pending) now answers =
 -- the same poller with an empty list of asked waits, in which there is room for one, and with a script of just what the
 -- next wait gives
 pub record IsReady (fault : Bool) (pending : Option Pending) (p q : ScriptPoller) : Type 0 where
-  pub moment : q.moment ≡ p.moment
+  pub same : q ≡ record p { answers = q.answers; waits = q.waits }
   pub answers : NextAnswer fault pending p.moment q.answers.items
-  pub calls : q.calls ≡ p.calls
-  pub failing : q.failing ≡ p.failing
-  pub faults : q.faults ≡ p.faults
-  pub shown : q.shown ≡ p.shown
-  pub signal : q.signal ≡ p.signal
   pub none : q.waits.items ≡ []
   pub room : 1 ≤ vec_capacity q.waits
 
 -- the same poller without a script
 pub record IsTakenBack (p q : ScriptPoller) : Type 0 where
-  pub moment : q.moment ≡ p.moment
+  pub same : q ≡ record p { answers = q.answers }
   pub answers : q.answers.items ≡ []
-  pub calls : q.calls ≡ p.calls
-  pub failing : q.failing ≡ p.failing
-  pub faults : q.faults ≡ p.faults
-  pub shown : q.shown ≡ p.shown
-  pub signal : q.signal ≡ p.signal
-  pub waits : q.waits ≡ p.waits
 
 -- Where the script stands still after a dispatch, that was refused before its wait, and what was pending stays so. Else
 -- the wait took a fault, which only delays the answer, or the answer.

@@ -84,21 +84,15 @@ impl<R: Threads + Net + Wait + Drop + Abort> Scene<R> for RingsOfAThread<R> {
         let RingsOfAThread { source, child } = self;
         let mut square = S::new(rt, alloc);
         square.insert_ping(source, 1);
-        let mut calls = calls_in(&mut square, 100);
+        let mut calls = 0usize;
+        for _ in 0..100u32 {
+            calls = calls.saturating_add(square.dispatch(Duration::from_millis(1)).1.len());
+        }
         let _bell = child.join(rt);
-        calls = calls.saturating_add(calls_in(&mut square, 1));
+        calls = calls.saturating_add(square.dispatch(Duration::ZERO).1.len());
         assert!(rt; calls >= 1 && calls <= 10_000);
         assert!(rt; square.says(&[]));
     }
-}
-
-// How often dispatches call, each of which waits for a millisecond at most.
-fn calls_in<R: Wait + Drop, S: Square<R>>(square: &mut S, dispatches: u32) -> usize {
-    let mut calls = 0usize;
-    for _ in 0..dispatches {
-        calls = calls.saturating_add(square.dispatch(Duration::from_millis(1)).1.len());
-    }
-    calls
 }
 
 // Rings ten thousand times, and gives the ping back.
