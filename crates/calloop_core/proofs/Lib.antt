@@ -1,3 +1,4 @@
+pub mod Calling
 pub mod Editing
 pub mod Found
 pub mod Frames

@@ -1,6 +1,10 @@
 -- The calls of a callback, in order. calloop's callbacks are closures, of which nothing is known; here each is a
 -- value of a named type, which says what a call may do.
 use Rattle.std.specs.Prelude.{◌≡◌, ◌⊎◌, List, [], ◌∷◌, Result, Ok, Err}
+use Rattle.std.specs.declared.io.Error.{Error as IoCause}
+use Rattle.std.specs.IoError.{error_kind}
+use Rattle.std.specs.declared.io.ErrorKind.{ErrorKind}
+use Rattle.std.specs.declared.io.ErrorKind.TheVariants.{OutOfMemory as NoMemory}
 use Rattle.anyhow.specs.declared.error.Error.{Error as Cause}
 use Rattle.calloop_wake.specs.declared.error.Error.{Error}
 use Rattle.calloop_wake.specs.declared.error.Error.TheVariants.{
@@ -13,6 +17,7 @@ use Rattle.calloop_wake.specs.declared.error.Error.TheVariants.{
   TooManyTimers,
   TooManyTickets,
   OwnTurn,
+  NoRendezvous,
 }
 
 -- one call: the event, the metadata before and after it, and what the callback answered
@@ -44,6 +49,14 @@ IsOther e = (cause : Cause) × (e ≡ OtherError cause)
 abbrev pub IsOfSource : Error → Type 0
 IsOfSource e = IsOther e ⊎ (e ≡ OutOfMemory)
 
+-- an error of the system where a source answers it, by its kind
+abbrev pub OfKind : ErrorKind → Error → Type 0
+OfKind NoMemory e = e ≡ OutOfMemory
+OfKind kind e = IsOther e
+
+abbrev pub OfIo : IoCause → Error → Type 0
+OfIo cause e = OfKind (error_kind cause) e
+
 -- an error of the loop where a source answers it: one that is of no source becomes another failure
 abbrev pub AsOfSource : Error → Error → Type 0
 AsOfSource (OtherError cause) e = e ≡ OtherError cause
@@ -55,6 +68,7 @@ AsOfSource TooManyTokens e = IsOther e
 AsOfSource TooManyTimers e = IsOther e
 AsOfSource TooManyTickets e = IsOther e
 AsOfSource OwnTurn e = IsOther e
+AsOfSource NoRendezvous e = IsOther e
 
 -- the answer of a source, with its error as the loop's
 abbrev pub Becomes : {A Cause : Type 0} → (Cause → Error → Type 0) → Result A Cause → Result A Error → Type 0

@@ -19,8 +19,8 @@ use Rattle.calloop_core.specs.Registering.{Edits, Tried, TriedUnless}
 use Rattle.calloop_core.specs.Deeds.{Registered, Reregistered, Unregistered, Turned, Slept, Noticed}
 use Rattle.calloop_core.specs.Holdings.{Keeps, holds_none}
 use Rattle.calloop_core.specs.Keys.{IsKeyOf, IsFactoryOf, EditsFor, AllActFor}
-use Rattle.calloop_core.specs.Lawful.{next_is_own}
-use Rattle.calloop_core.specs.Meanings.{IsKeeping, KeepsCounters, KeepsHome}
+use Rattle.calloop_core.specs.Lawful.{next_is_own, StaysHome, stays_home}
+use Rattle.calloop_core.specs.Meanings.{IsKeeping, KeepsCounters}
 use Rattle.calloop_core.specs.Generics.{
   TakesToken,
   RegisteredFrom,
@@ -206,7 +206,7 @@ module _ {P I E : Type 0} (sockets : Sockets P I) (gives : Cause → E → Type 
   answered_home r (Ok x) token s t v a l of home h = armed_home r s.mode token s t v x a l of home h
   answered_home r (Err e) token s t v a l of home h = rw (h.1, h.2) (home, tt)
 
-  generic_stays : KeepsHome (generic_meaning sockets gives)
+  generic_stays : StaysHome (generic_meaning sockets gives)
   generic_stays r s t v (Registered f (Ok u) g) l begins h = first_home r s.token s t v f g l refl begins h
   generic_stays r s t v (Registered f (Err e) g) l begins h =
       registered_home r s.token s t v f g (Err e) l begins.1 begins.0 h
@@ -221,4 +221,5 @@ module _ {P I E : Type 0} (sockets : Sockets P I) (gives : Cause → E → Type 
   generic_stays r s t v (Turned i token turn) l home (inr h) = rw (h.no_steps, h.same) (home, tt)
 
   pub generic_keeps : IsKeeping (generic_meaning sockets gives)
-  generic_keeps = record { counters = generic_counts; home = generic_stays }
+  generic_keeps =
+      record { counters = generic_counts; home = stays_home (generic_meaning sockets gives) generic_stays }

@@ -18,8 +18,8 @@ use Rattle.calloop_core.specs.declared.timer.Timer.{Timer}
 use Rattle.calloop_core.specs.declared.timer.Registration.{Registration}
 use Rattle.calloop_core.specs.Deeds.{Registered, Reregistered, Unregistered, Turned, Slept, Noticed}
 use Rattle.calloop_core.specs.Keys.{IsKeyOf, IsFactoryOf, AllActFor}
-use Rattle.calloop_core.specs.Lawful.{next_is_own}
-use Rattle.calloop_core.specs.Meanings.{IsKeeping, KeepsCounters, KeepsHome}
+use Rattle.calloop_core.specs.Lawful.{next_is_own, StaysHome, stays_home}
+use Rattle.calloop_core.specs.Meanings.{IsKeeping, KeepsCounters}
 use Rattle.calloop_core.specs.Polls.{PollView, PollStep}
 use Rattle.calloop_core.specs.Holdings.{Holding, Free, Spent, Standing, IsWithin, Keeps, with_hold}
 use Rattle.calloop_core.specs.Timers.{TimerCalls, timer_holds, held_as, releases, Armed, ArmedAgain, ArmedFor, Answered}
@@ -182,7 +182,7 @@ home_registered r s t v f g a l is h =
     let x = home_armed r s.deadline v.deadlines.next f g a h.0 t is h.2 in
     (x.0, rw h.1 (arms_released r s.registration h.0 x.1))
 
-timer_stays : {P : Type 0} → KeepsHome (timer_meaning {P = P})
+timer_stays : {P : Type 0} → StaysHome (timer_meaning {P = P})
 timer_stays r s t v (Registered f (Ok u) g) l begins h = home_registered r s t v f g (Ok u) l begins h
 timer_stays r s t v (Registered f (Err e) g) l begins h = home_registered r s t v f g (Err e) l begins.1 h
 timer_stays r s t v (Reregistered f a g) l begins h = home_registered r s t v f g a l begins.1 h
@@ -192,4 +192,4 @@ timer_stays r s t v (Noticed es) l home h = rw (h.0, h.1) (home, tt)
 timer_stays r s t v (Turned readiness k turn) l home h = home_turn r s t k v turn.calls turn.answer l home h
 
 pub timer_keeps : {P : Type 0} → IsKeeping (timer_meaning {P = P})
-timer_keeps = record { counters = timer_counts; home = timer_stays }
+timer_keeps = record { counters = timer_counts; home = stays_home timer_meaning timer_stays }

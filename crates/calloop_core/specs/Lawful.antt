@@ -14,18 +14,24 @@ use Rattle.calloop_wake.specs.declared.error.Error.TheVariants.{
   TooManyTimers,
   TooManyTickets,
   OwnTurn,
+  NoRendezvous,
 }
 use Rattle.calloop_wake.specs.declared.token.RegistrationToken.{RegistrationToken}
 use Rattle.calloop_wake.specs.declared.token.TokenFactory.{TokenFactory}
 use Rattle.calloop_wake.specs.Tokens.{key_of, next_token}
 use Rattle.calloop_core.specs.declared.sources.OneOf.{OneOf}
 use Rattle.calloop_core.specs.declared.sources.OneOf.TheVariants.{First, Other}
-use Rattle.calloop_core.specs.Polls.{PollView}
-use Rattle.calloop_core.specs.Calls.{CallbackCall, Calling, Went, Becomes, IsOther, IsOfSource, AsOfSource}
+use Rattle.calloop_core.specs.Polls.{PollView, PollStep}
+use Rattle.calloop_core.specs.Calls.{CallbackCall, Calling, Went, Becomes, IsOther, IsOfSource, AsOfSource, OfKind, OfIo}
+use Rattle.std.specs.declared.io.Error.{Error as IoCause}
+use Rattle.std.specs.IoError.{error_kind}
+use Rattle.std.specs.declared.io.ErrorKind.{ErrorKind}
+use Rattle.std.specs.declared.io.ErrorKind.TheVariants.{OutOfMemory as NoMemory}
 use Rattle.calloop_core.specs.Deeds.{Deed, Registered, Reregistered, Unregistered, Turned, Slept, Noticed}
 use Rattle.calloop_core.specs.Deeds.{Heard, Lent}
-use Rattle.calloop_core.specs.Keys.{IsKeyOf, IsFactoryOf}
+use Rattle.calloop_core.specs.Keys.{IsKeyOf, IsFactoryOf, AllActFor}
 use Rattle.calloop_core.specs.Meanings.{Meaning, IsKeeping, KeepsCounters, KeepsHome, IsAsking, FailsAsSource, IsHeld}
+use Rattle.calloop_core.specs.Meanings.{IsAtHome, BeginsIn}
 use Rattle.calloop_core.specs.Meanings.{with_callback, on_both, one_of, seen_as, still, attentive}
 
 -- Of an error of a source.
@@ -36,8 +42,12 @@ other_of_source cause e is = inl (cause, is)
 pub memory_of_source : (e : Error) → e ≡ OutOfMemory → IsOfSource e
 memory_of_source e is = inr is
 
-pub any_other_of_source : (e : Error) → IsOther e → IsOfSource e
-any_other_of_source e is = inl is
+of_kind : (kind : ErrorKind) (e : Error) → OfKind kind e → IsOfSource e
+of_kind NoMemory e is = inr is
+of_kind kind e is = inl is
+
+pub io_of_source : (cause : IoCause) (e : Error) → OfIo cause e → IsOfSource e
+io_of_source cause e is = of_kind (error_kind cause) e is
 
 pub as_of_source : (refusal e : Error) → AsOfSource refusal e → IsOfSource e
 as_of_source (OtherError cause) e is = inl (cause, is)
@@ -49,6 +59,7 @@ as_of_source TooManyTokens e is = inl is
 as_of_source TooManyTimers e is = inl is
 as_of_source TooManyTickets e is = inl is
 as_of_source OwnTurn e is = inl is
+as_of_source NoRendezvous e is = inl is
 
 -- Of the key of a token that a factory gives.
 
@@ -56,13 +67,25 @@ pub next_is_own : (f : TokenFactory) (r : RegistrationToken) (key : ℕ) → IsF
     → IsKeyOf r key
 next_is_own f r key is e = subst (λ x. IsKeyOf x key) is.0 (f.given, is.1, e)
 
+-- Of what acts under keys of its registration alone, wherever it was before.
+
+abbrev pub StaysHome : {D P T : Type 0} → Meaning D P T → Type 0
+StaysHome {D} {P} {T} m =
+    (registration : RegistrationToken) (s t : D) (v : PollView P) (deed : Deed T) (steps : List (PollStep P))
+    → BeginsIn (IsAtHome m registration s) registration deed → m.does s v deed steps t
+    → IsAtHome m registration t × AllActFor registration steps
+
+pub stays_home : {D P T : Type 0} (m : Meaning D P T) → StaysHome m → KeepsHome m
+stays_home m h registration s t v deed steps begins d =
+    let x = h registration s t v deed steps begins d in (x.0, λ home. x.1)
+
 -- Of what does nothing to `Poll`.
 
 pub keeping_still : {D P T : Type 0} (does : D → PollView P → Deed T → D → Type 0) → IsKeeping (still does)
 keeping_still does =
     record {
       counters = λ s t v deed steps fits below h. (tt, rw h.0 (λ counter. tt));
-      home = λ registration s t v deed steps begins h. (λ key held. absurd held, rw h.0 tt);
+      home = λ registration s t v deed steps begins h. (λ key held. absurd held, λ home. rw h.0 tt);
     }
 
 pub keeping_attentive : {D P T : Type 0} (does : D → PollView P → Deed T → D → Type 0) → IsKeeping (attentive does)

@@ -12,6 +12,8 @@ pub mod Hubs
 pub mod Keys
 pub mod WrongSteps
 pub mod Meanings
+pub mod Quiet
+pub mod Beside
 pub mod Lawful
 pub mod Timers
 pub mod Generics

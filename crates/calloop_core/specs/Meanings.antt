@@ -56,13 +56,13 @@ BeginsIn at_home registration (Turned readiness token turn) = at_home
 BeginsIn at_home registration (Slept answer) = at_home
 BeginsIn at_home registration (Noticed events) = at_home
 
--- each deed that begins in a registration leaves it at home there, and arms deadlines under keys of that registration
--- alone
+-- each deed that begins in a registration leaves it at home there, and where it was at home it acts under keys of that
+-- registration alone; one that comes from elsewhere may take what it had there back as it is registered
 abbrev pub KeepsHome : {D P T : Type 0} → Meaning D P T → Type 0
 KeepsHome {D} {P} {T} m =
     (registration : RegistrationToken) (s t : D) (v : PollView P) (deed : Deed T) (steps : List (PollStep P))
     → BeginsIn (IsAtHome m registration s) registration deed → m.does s v deed steps t
-    → IsAtHome m registration t × AllActFor registration steps
+    → IsAtHome m registration t × (IsAtHome m registration s → AllActFor registration steps)
 
 -- what is promised of every source
 pub record IsKeeping {D P T : Type 0} (m : Meaning D P T) : Type 0 where

@@ -4,6 +4,7 @@ use Rattle.std.specs.Duration.{as_nanos}
 use Rattle.std.specs.declared.time.Duration.{Duration}
 use Rattle.std.specs.declared.io.Error.{Error as IoError}
 use Rattle.std.specs.IoError.{error_kind}
+use Rattle.std.specs.declared.io.ErrorKind.{ErrorKind}
 use Rattle.std.specs.declared.io.ErrorKind.TheVariants.{Interrupted}
 use Rattle.calloop_core.specs.declared.sys.Readiness.{Readiness}
 use Rattle.calloop_core.specs.declared.sys.Interest.{Interest}
@@ -47,6 +48,11 @@ pub record Outside (P : Type 0) : Type 1 where
 abbrev pub faults_of : {A : Type 0} → Result A IoError → ℕ
 faults_of (Ok a) = 0
 faults_of (Err cause) = 1
+
+-- the kind of an error
+abbrev pub failure_of : {A : Type 0} → Result A IoError → Option ErrorKind
+failure_of (Ok a) = None
+failure_of (Err cause) = Some (error_kind cause)
 
 -- each wait with a fault is counted, and an interruption is none
 abbrev pub IsCounted : ℕ → Result (Unit {0}) IoError → ℕ → Type 0

@@ -8,7 +8,7 @@ use Rattle.mio.specs.Events.{items}
 use Rattle.calloop_core.specs.declared.sys.Readiness.{Readiness}
 use Rattle.calloop_core.specs.declared.sys.system.MioPoller.{MioPoller}
 use Rattle.calloop_core.specs.declared.sys.system.sockets.MioIo.{MioIo}
-use Rattle.calloop_core.specs.Pollers.{Outside, Sockets, PollerCall, Add, Modify, Delete, asks}
+use Rattle.calloop_core.specs.Pollers.{Outside, Sockets, PollerCall, Add, Modify, Delete, asks, failure_of}
 use Rattle.calloop_core.specs.SystemEvents.{told_events}
 
 -- whether a call asks for something that can be waited for
@@ -23,11 +23,13 @@ pub record SystemCalled {C : Type 0} (p : MioPoller C) (call : PollerCall) (answ
   pub refused : can_ask call ≡ false → (cause : IoError) × (answer ≡ Err cause) × (error_kind cause ≡ InvalidInput)
   pub poller : q ≡ record p { faults = q.faults }
 
--- one wait: it gives what the machine found then, and nothing where it failed
+-- one wait: it gives what the machine found then, and nothing where it failed; it fails where the machine's wait did, with an error
+-- of that kind
 pub record SystemWaited {C : Type 0} (p : MioPoller C) (answer : Result (Unit {0}) IoError)
     (given : List (ℕ × Readiness)) (q : MioPoller C) : Type 0 where
   pub told : given ≡ told_events (items q.found.events)
   pub fault : OnErr answer (given ≡ [])
+  pub kind : failure_of answer ≡ q.found.failed
   pub poller : q ≡ record p { poll = q.poll; found = q.found; faults = q.faults }
 
 -- a socket stays the same value

@@ -4,16 +4,19 @@ use calloop_wake::error::Error;
 use std::io;
 
 impl IntoError for io::Error {
-    ghost use Rattle.calloop_core.specs.Calls.{IsOther};
-    ghost use Rattle.calloop_core.specs.Lawful.{any_other_of_source};
+    ghost use Rattle.calloop_core.specs.Calls.{OfIo};
+    ghost use Rattle.calloop_core.specs.Lawful.{io_of_source};
 
-    ghost becomes = { λ _ e. IsOther e };
+    ghost becomes = { OfIo };
 
-    ghost of_source = { λ _ e is. any_other_of_source e is };
+    ghost of_source = { io_of_source };
 
-    /// An `OtherError` with its text.
+    /// `OutOfMemory` where it is of that kind, and else an `OtherError` with its text.
     fn into_error(self) -> Error {
-        Error::OtherError(anyhow::Error::from(self))
+        match self.kind() {
+            io::ErrorKind::OutOfMemory => Error::OutOfMemory,
+            _ => Error::OtherError(anyhow::Error::from(self)),
+        }
     }
 }
 

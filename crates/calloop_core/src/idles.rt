@@ -14,6 +14,17 @@ pub trait IdleCallback<X, Q: Asking> {
         ensures asks { Q.reaches requests.old requests.new };
 }
 
+/// One whose relation says that it asks the loop for nothing.
+pub trait QuietIdle<X, Q: Asking>: IdleCallback<X, Q> {
+    ghost use Rattle.calloop_core.specs.Quiet.{IsQuietRun};
+
+    ghost quiet: { IsQuietRun Self.runs };
+}
+
+impl<X, Q: Asking> QuietIdle<X, Q> for () {
+    ghost quiet = { λ i x y q r h. h.1 };
+}
+
 /// Nothing to do, as in a loop that is asked for nothing of the kind.
 impl<X, Q: Asking> IdleCallback<X, Q> for () {
     ghost use Rattle.std.specs.Prelude.{◌≡◌};

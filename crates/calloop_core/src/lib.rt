@@ -1,6 +1,7 @@
 //! What the loop's sources stand on: pollers and clocks, what a source registers with, and callbacks.
 #![tactic(auto)]
 
+pub mod callbacks;
 mod errors;
 pub mod generic;
 pub mod idles;

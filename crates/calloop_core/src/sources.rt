@@ -35,11 +35,11 @@ impl Asking for () {
 
 /// Called with the events of a source, as calloop's closures are: a value of a named type, whose clauses say what a call
 /// may do. `E` is the event, `M` the metadata, `T` what the source is told, `X` the data that a dispatch lends, and `Q`
-/// takes the requests.
+/// takes the requests. One that asks the loop for nothing is simpler as an `On`.
 pub trait Callback<E, M, T, X, Q: Asking> {
     /// The callback, the event, the metadata, the data and the requests before a call, its answer, and all but the event
-    /// after it.
-    ghost may: { Self → E → M → X → Q → T → Self → M → X → Q → Type 0 };
+    /// after it. A callback without a relation of its own may do anything.
+    ghost may: { Self → E → M → X → Q → T → Self → M → X → Q → Type 0 } = { λ _ _ _ _ _ _ _ _ _ _. Unit {0} };
 
     fn call(&mut self, event: E, metadata: &mut M, data: &mut X, requests: &mut Q) -> T
         ensures may { may self.old event metadata.old «data».old requests.old result self.new metadata.new «data».new requests.new }

@@ -17,6 +17,7 @@ use calloop_wake::token::{Token, TokenFactory};
 use calloop_wake::wheel::Instant;
 use std::sync::Wait;
 use std::time::Duration;
+use thiserror::Error as ThisError;
 
 /// What a timer's callback answers.
 #[derive(Clone, Copy, Debug)]
@@ -30,10 +31,11 @@ pub enum TimeoutAction {
 }
 
 /// Why a timer's turn failed.
-#[derive(Debug, Drop)]
+#[derive(Debug, Drop, ThisError)]
 pub enum TimerError {
     /// There was no memory to arm it again, or its turn was on a `Poll` that never gave its counter, which no loop does. It is
     /// unarmed then, with the asked deadline.
+    #[error("out of memory")]
     OutOfMemory,
 }
 

@@ -1,15 +1,14 @@
 -- The cells of pings are a lawful kind.
 use Rattle.std.proofs.Common.{◌≡◌, ℕ, Bool, true, false, ◌&&◌, ◌||◌, not, List, Option, Some, None, refl, sym, ap, eqb-true}
 use Rattle.calloop_wake.specs.Cells.{Cell, fresh, is_own, IsLit, in_turn}
-use Rattle.calloop_wake.specs.Wakes.{WakeStep, start, after_all, IsSchedule, IsCovered}
 use Rattle.calloop_wake.specs.PingKind.{PingStep, Ring, Close, EndTurn, ping_kind}
-use Rattle.calloop_wake.proofs.Schedules.{IsLawful, IsFresh, covered-schedule}
+use Rattle.calloop_wake.proofs.Schedules.{IsLawful, IsFresh}
 
-own-is : (k : ℕ) (o : Option ℕ) → is_own k o ≡ true → o ≡ Some k
+pub own-is : (k : ℕ) (o : Option ℕ) → is_own k o ≡ true → o ≡ Some k
 own-is k None h = absurd (cc)
 own-is k (Some j) h = ap Some (sym (eqb-true k j h))
 
-and-left : (a b : Bool) → (a && b) ≡ true → a ≡ true
+pub and-left : (a b : Bool) → (a && b) ≡ true → a ≡ true
 and-left true b h = refl
 and-left false b h = h
 
@@ -39,13 +38,10 @@ ping_lawful = record {
   opens_own = λ k c h. own-is k c.key (and-left (is_own k c.key) (not c.draining) h);
   opened_key = λ c. refl;
   opened_pinged = λ c. refl;
-  opened_lit = λ c l. in_turn-lit c;
+  opened_lit = λ k c o l. in_turn-lit c;
   standing = λ c l h. ap (λ b. b || c.draining) (l h);
 }
 
-fresh_is : IsFresh ping_kind ping_lawful fresh
+pub fresh_is : IsFresh ping_kind ping_lawful fresh
 unfolding ping_lawful
 fresh_is = record { lit = λ h. absurd (cc); quiet = refl; unkeyed = refl }
-
-pub covered-pings : (ss : List (WakeStep ping_kind.Own)) → IsSchedule ping_kind (start (λ _. fresh)) ss → IsCovered ping_kind (after_all ping_kind (start (λ _. fresh)) ss)
-covered-pings ss met = covered-schedule ping_kind ping_lawful (λ _. fresh) ss (λ n. fresh_is) met

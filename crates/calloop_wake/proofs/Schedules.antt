@@ -21,7 +21,7 @@ pub record IsLawful (K : Kind) : Type 1 where
   pub opens_own : (k : ℕ) (c : K.Cell) → K.opens k c ≡ true → K.key c ≡ Some k
   pub opened_key : (c : K.Cell) → K.key (K.opened c) ≡ K.key c
   pub opened_pinged : (c : K.Cell) → K.pinged (K.opened c) ≡ false
-  pub opened_lit : (c : K.Cell) → IsLit c → IsLit (K.opened c)
+  pub opened_lit : (k : ℕ) (c : K.Cell) → K.opens k c ≡ true → IsLit c → IsLit (K.opened c)
   pub standing : (c : K.Cell) → IsLit c → K.IsStanding c
 
 -- a cell to which nothing has happened
@@ -389,7 +389,7 @@ module _ (K : Kind) (law : IsLawful K) where
         passes = if b then less_one k w.passes else w.passes;
       })
   kept-open_turn w n k true is h =
-      kept-opened w n k (K.opened (w.cells n)) (law.opened_lit (w.cells n) (h.lit n)) (law.opened_key (w.cells n)) (law.opened_pinged (w.cells n)) (law.opens_own k (w.cells n) is) h
+      kept-opened w n k (K.opened (w.cells n)) (law.opened_lit k (w.cells n) is (h.lit n)) (law.opened_key (w.cells n)) (law.opened_pinged (w.cells n)) (law.opens_own k (w.cells n) is) h
   kept-open_turn w n k false is h = kept-cell w n (w.cells n) None (λ l. l) refl (λ p. inl (p, refl)) h
 
   pub heard-look : (w : WakeWorld K.Cell) (b : Bool) → any_marked w.board ≡ b → IsHeard w.board w.nudges w.signal (if b then Awake else Looked)

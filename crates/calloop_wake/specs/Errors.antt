@@ -14,6 +14,7 @@ use Rattle.calloop_wake.specs.declared.error.Error.TheVariants.{
   TooManyTimers,
   TooManyTickets,
   OwnTurn,
+  NoRendezvous,
 }
 
 -- the io::Error made of a refusal, as in calloop's error.rs: the content, or one of this kind
@@ -27,3 +28,4 @@ AsIo TooManyTokens made = error_kind made ≡ Other
 AsIo TooManyTimers made = error_kind made ≡ Other
 AsIo TooManyTickets made = error_kind made ≡ Other
 AsIo OwnTurn made = error_kind made ≡ Other
+AsIo NoRendezvous made = error_kind made ≡ Other

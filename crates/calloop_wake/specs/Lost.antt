@@ -1,45 +1,73 @@
--- Small states in which something is lost, which `covered` rules out, and a schedule in which nothing is.
-use Rattle.std.specs.Prelude.{List, [], ◌∷◌, true, Some}
+-- Small states in which something is lost, which `covered` rules out.
+use Rattle.std.specs.Prelude.{List, [], ◌∷◌, true, Option, Some, None}
 use Rattle.calloop_wake.specs.Cells.{Cell, fresh}
-use Rattle.calloop_wake.specs.PingKind.{PingStep, Ring}
-use Rattle.calloop_wake.specs.Wakes.{
-  WakeWorld,
-  WakeStep,
-  At,
-  SetKey,
-  OpenTurn,
-  OpenPlace,
-  Post,
-  Unpost,
-  Look,
-  Nudge,
-  Sleep,
-  Return,
-  Looked,
-  start,
-}
+use Rattle.calloop_wake.specs.Channels.{ChannelCell, fresh_channel}
+use Rattle.calloop_wake.specs.ChannelKind.{ChannelPast, Telling, unused_channel}
+use Rattle.calloop_wake.specs.Kinds.{First, Second, APing, AChannel, every_kind, new_cell}
+use Rattle.calloop_wake.specs.Wakes.{WakeWorld, Looked, start}
 
--- no cell was used yet
-abbrev pub unused : WakeWorld Cell
-unused = start (λ _. fresh)
+-- nothing has happened, and every cell is a ping's; or a channel's, without a bound
+abbrev pub of_pings : WakeWorld every_kind.Cell
+of_pings = start (λ _. new_cell APing)
 
--- a ring stands in every cell, and none is pinged
-abbrev pub with_a_ring_unseen : WakeWorld Cell
-with_a_ring_unseen = record unused { cells = λ _. record fresh { rung = true } }
+abbrev pub of_channels : WakeWorld every_kind.Cell
+of_channels = start (λ _. new_cell (AChannel None))
 
--- every cell was closed, and none is pinged
-abbrev pub with_a_close_unseen : WakeWorld Cell
-with_a_close_unseen = record unused { cells = λ _. record fresh { closed = true } }
+-- every cell is this ping's, or this channel's
+abbrev pub of_this_ping : Cell → WakeWorld every_kind.Cell
+of_this_ping c = record of_pings { cells = λ _. First c }
+
+abbrev pub of_this_channel : ChannelPast → WakeWorld every_kind.Cell
+of_this_channel p = record of_channels { cells = λ _. Second p }
+
+-- a ring stands, and isn't pinged
+abbrev pub with_a_ring_unseen : WakeWorld every_kind.Cell
+with_a_ring_unseen = of_this_ping (record fresh { rung = true })
+
+-- a ping was closed, and isn't pinged
+abbrev pub with_a_close_unseen : WakeWorld every_kind.Cell
+with_a_close_unseen = of_this_ping (record fresh { closed = true })
 
 -- a cell of key 7 is pinged, and its key is neither posted nor owed nor held
-abbrev pub with_a_key_forgotten : WakeWorld Cell
-with_a_key_forgotten = record unused { cells = λ _. record fresh { rung = true; pinged = true; key = Some 7 } }
+abbrev pub with_a_key_forgotten : WakeWorld every_kind.Cell
+with_a_key_forgotten = of_this_ping (record fresh { rung = true; pinged = true; key = Some 7 })
 
 -- the loop looked before key 7 was posted, and nobody tells it
-abbrev pub with_nobody_told : WakeWorld Cell
-with_nobody_told = record unused { board = record { key = 7; marked = true } ∷ []; loop = Looked }
+abbrev pub with_nobody_told : WakeWorld every_kind.Cell
+with_nobody_told = record of_pings { board = record { key = 7; marked = true } ∷ []; loop = Looked }
 
--- a ring that comes while the loop waits is posted and told of, and the wait returns; then its key is taken, and a turn opened
-abbrev pub ring_in_a_wait : List (WakeStep PingStep)
-ring_in_a_wait =
-    OpenPlace 7 ∷ SetKey 0 7 ∷ Look ∷ Sleep ∷ At 0 Ring ∷ Post 7 ∷ Nudge ∷ Return ∷ Unpost 8 ∷ OpenTurn 0 7 ∷ []
+-- message 5 was sent, and the channel isn't pinged
+abbrev pub with_a_message_unseen : WakeWorld every_kind.Cell
+with_a_message_unseen =
+    of_this_channel
+    (record (unused_channel None) { now = record (fresh_channel None) { queue = 5 ∷ [] }; taken = 5 ∷ [] })
+
+-- message 5 was sent, and is nowhere
+abbrev pub with_a_message_lost : WakeWorld every_kind.Cell
+with_a_message_lost = of_this_channel (record (unused_channel None) { taken = 5 ∷ [] })
+
+-- message 5 was sent before 6, and handed out after it
+abbrev pub with_messages_out_of_order : WakeWorld every_kind.Cell
+with_messages_out_of_order = of_this_channel (record (unused_channel None) { taken = 5 ∷ 6 ∷ []; given = 6 ∷ 5 ∷ [] })
+
+-- the close was told of a channel that was closed and empty
+abbrev pub in_time : Telling
+in_time = record { closed = true; left = 0 }
+
+-- it was told twice
+abbrev pub with_a_close_told_twice : WakeWorld every_kind.Cell
+with_a_close_told_twice =
+    of_this_channel
+    (record (unused_channel None) {
+      now = record (fresh_channel None) { cell = record fresh { closed = true; told = true } };
+      tellings = in_time ∷ in_time ∷ [];
+    })
+
+-- it was told before the last message
+abbrev pub with_a_close_told_early : WakeWorld every_kind.Cell
+with_a_close_told_early =
+    of_this_channel
+    (record (unused_channel None) {
+      now = record (fresh_channel None) { cell = record fresh { closed = true; told = true } };
+      tellings = record { closed = true; left = 1 } ∷ [];
+    })

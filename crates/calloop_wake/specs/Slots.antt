@@ -34,6 +34,7 @@ use Rattle.calloop_wake.specs.declared.error.Error.TheVariants.{
   TooManyTimers,
   TooManyTickets,
   OwnTurn,
+  NoRendezvous,
 }
 use Rattle.calloop_wake.specs.declared.token.RegistrationToken.{RegistrationToken}
 use Rattle.calloop_wake.specs.declared.list.Content.{Content}
@@ -124,3 +125,4 @@ CannotClaim ss TooManyTokens = ⊥
 CannotClaim ss TooManyTimers = ⊥
 CannotClaim ss TooManyTickets = ⊥
 CannotClaim ss OwnTurn = ⊥
+CannotClaim ss NoRendezvous = ⊥

@@ -137,9 +137,9 @@ pub data WakeStep (O : Type 0) : Type 0 where
 abbrev pub with_cell : {C : Type 0} → ℕ → C → (ℕ → C) → ℕ → C
 with_cell n c cells j = if nat_eq j n then c else cells j
 
--- What a step needs: the value that it spends, and of the loop its place. A place is opened where the key has none,
--- and the loop sleeps after a look that found no mark. A wait of zero needs no
--- look: it returns to a loop that is awake.
+-- What a step needs: the value that it spends, and of the loop its place. A place is opened where the key has none.
+-- The loop sleeps after a look that found no mark, and a loop that sleeps doesn't look. A wait can return without
+-- having slept: a wait of zero has no look before it, and one that is interrupted may count as an empty answer.
 abbrev pub Needs : (K : Kind) → WakeWorld K.Cell → WakeStep K.Own → Type 0
 Needs K w (At n s) = K.Needs s (w.cells n)
 Needs K w (SetKey n k) = 0 < w.opened k
@@ -149,11 +149,11 @@ Needs K w (OpenPlace k) = is_open k w.board ≡ false
 Needs K w (ClosePlace k) = 0 < w.leaves k
 Needs K w (Post k) = 0 < w.debts k
 Needs K w (Back k) = 0 < w.passes k
-Needs K w Look = w.loop ≡ Awake
+Needs K w Look = w.loop ≢ Asleep
 Needs K w (Unpost below) = Unit {0}
 Needs K w Nudge = 0 < w.nudges
 Needs K w Sleep = w.loop ≡ Looked
-Needs K w Return = w.loop ≢ Looked
+Needs K w Return = Unit {0}
 
 -- the world after a step: cell and board change as the contracts of the working functions say
 abbrev pub after : (K : Kind) → WakeWorld K.Cell → WakeStep K.Own → WakeWorld K.Cell

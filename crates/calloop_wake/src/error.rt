@@ -10,7 +10,7 @@ use thiserror::Error as ThisError;
 ///
 /// Calloop panics or aborts where this crate answers `OutOfMemory`, `TooManySources` and
 /// `TooManyTokens`, and its counters of timers run over where this crate answers `TooManyTimers`. It has no tickets, and
-/// it panics where a source is registered in its own turn.
+/// it panics where a source is registered in its own turn, and has channels of bound 0.
 #[derive(Debug, Drop, ThisError)]
 pub enum Error {
     /// The token names no source, as after the source was removed.
@@ -40,6 +40,9 @@ pub enum Error {
     /// A source can't be registered in its own turn: it is.
     #[error("the source is in its turn")]
     OwnTurn,
+    /// A channel of bound 0, which would hand over messages without a queue, can't be had.
+    #[error("a channel of bound 0 is not supported")]
+    NoRendezvous,
 }
 
 /// What a call of the loop answers.
@@ -101,6 +104,7 @@ impl From<Error> for io::Error {
             Error::TooManyTimers => io::Error::other("too many timers"),
             Error::TooManyTickets => io::Error::other("too many requests"),
             Error::OwnTurn => io::Error::other("the source is in its turn"),
+            Error::NoRendezvous => io::Error::other("a channel of bound 0 is not supported"),
         }
     }
 }

@@ -99,6 +99,13 @@ impl TokenFactory {
         }
     }
 
+    /// The registration that its tokens are of.
+    pub fn registration(&self) -> RegistrationToken
+        ensures { result ≡ self.now.registration }
+    {
+        self.registration
+    }
+
     /// How many tokens it gave, at most 65,535.
     pub fn given(&self) -> u16
         ensures { result ≡ self.now.given }

@@ -1,23 +1,29 @@
-//! The wake machine of pings: values that must be spent, the cell that the ends of a ping share, and
-//! the board of the posted keys.
+//! The wake machine: values that must be spent, the cells that the ends of a ping or of a channel share, and the board of the
+//! posted keys.
 //!
-//! In calloop the kernel does this work, through an eventfd or a pipe for each ping and the poller.
+//! In calloop the kernel does this work, through an eventfd or a pipe for each ping and the poller; a channel has a ping there.
 //! The values of this module have no `Drop`, but for a receipt and the right to a receiving end: who has one has to hand it on or to
 //! spend it.
-ghost use Rattle.std.specs.Prelude.{◌≡◌, is_some};
+ghost use Rattle.std.specs.Prelude.{◌≡◌, ◌&&◌, not, nat_lt, is_some, None};
 ghost use Rattle.calloop_wake.specs.Passes.{given_back};
 
 use ghosts::{Count, Name};
 use std::marker::Model;
 
+pub(crate) mod bell;
 pub mod board;
 pub mod cell;
+pub mod channel;
 pub mod ghosts;
+mod laws;
 pub mod locked;
 pub mod notes;
 pub mod ping;
 pub(crate) mod places;
+pub(crate) mod queue;
 pub mod watch;
+
+pub use laws::{covered, lost_is_not_covered, schedules_that_there_are, steps_are_the_machines};
 
 /// Its key has to be posted on its board.
 #[must_use]
@@ -119,7 +125,25 @@ pub struct PingTurn {
     pub(crate) name: Name,
 }
 
-/// Somebody rang the cell of this name: how many had rung it before.
+/// A turn of a channel's cell stands open: how many pops it may still make, and whether its last one found no message. It has the
+/// name of the cell, so it can't be ended on another.
+#[must_use]
+pub struct ChannelTurn {
+    pub(crate) name: Name,
+    pub(crate) left: u64,
+    pub(crate) done: bool,
+}
+
+impl ChannelTurn {
+    /// Whether it may make one more pop, and its last one found a message.
+    pub fn goes_on(&self) -> bool
+        ensures { result ≡ (nat_lt 0 self.now.left && not self.now.done) }
+    {
+        self.left > 0 && !self.done
+    }
+}
+
+/// Somebody rang the cell of this name, or put a message into it: how many had done so before.
 #[derive(Drop)]
 pub struct Receipt {
     pub(crate) name: Name,
@@ -138,8 +162,9 @@ pub struct ReceivingRight {
     pub(crate) name: Name,
 }
 
-/// The receiving end of the cell of this name: the key that it gave the cell, how many turns it opened, how many of them took a
-/// ring, and how many told the close. It is spent where the cell is abandoned.
+/// The receiving end of the cell of this name: the key that it gave the cell, how many turns it opened, how often it told the close,
+/// and, in `number`, how many of a ping's turns took a ring, or how many messages of a channel were handed out. It is spent where the
+/// cell is abandoned.
 #[must_use]
 pub struct Twin {
     pub(crate) name: Name,
@@ -150,6 +175,29 @@ pub struct Twin {
 }
 
 impl Twin {
+    // A receiving end that gave its cell no key yet and opened no turn.
+    fn new(right: ReceivingRight) -> Twin
+        ensures { result ≡ record { name = right.name; key = None; turns = 0; number = 0; closes = 0 } }
+    {
+        Twin {
+            name: right.name,
+            key: None,
+            turns: Count::zero(),
+            number: Count::zero(),
+            closes: Count::zero(),
+        }
+    }
+
+    fn end(self) {
+        let Twin {
+            name: _,
+            key: _,
+            turns: _,
+            number: _,
+            closes: _,
+        } = self;
+    }
+
     /// The key that this end last gave the cell, where it didn't take it back.
     pub fn key(&self) -> Option<u64>
         ensures { result ≡ self.now.key }

@@ -3,7 +3,7 @@ ghost use Rattle.std.specs.Prelude.{◌≡◌};
 
 use super::Last;
 use counted_slot::{Claim, Counted, FREE, Fits, TAKEN};
-use std::sync::{Mutex, MutexGuard, Wait};
+use std::sync::{Condvar, Mutex, MutexGuard, Wait};
 
 /// What lies under a lock. It has no `Drop`: who takes it out has to put it back.
 pub trait Core: Fits {
@@ -47,6 +47,7 @@ impl<X: Core> Drop for Kept<X> {
 #[derive(Drop)]
 pub struct Locked<X: Core> {
     gate: Mutex<()>,
+    moved: Condvar,
     slot: Counted<Kept<X>>,
 }
 
@@ -58,6 +59,7 @@ impl<X: Core> Locked<X> {
     {
         Locked {
             gate: Mutex::new(()),
+            moved: Condvar::new(),
             slot: Counted::new(Kept { core: Some(core) }, tag),
         }
     }
@@ -110,5 +112,27 @@ impl<X: Core> Locked<X> {
     {
         self.give(rt, core);
         drop(gate);
+    }
+
+    /// Puts the core back, gives the lock up, and waits until somebody tells that the core was changed. Then it has the lock and
+    /// what lies under it again.
+    pub fn wait<'a, R: Wait>(
+        &'a self,
+        rt: &R,
+        gate: MutexGuard<'a, ()>,
+        core: X,
+    ) -> (MutexGuard<'a, ()>, X)
+        requires { X.fits self.now.slot core }
+        ensures { X.fits self.now.slot result.1 }
+    {
+        self.give(rt, core);
+        let gate = self.moved.wait(rt, gate);
+        let core = self.take(rt);
+        (gate, core)
+    }
+
+    /// Tells all that wait that the core was changed.
+    pub fn tell(&self) {
+        self.moved.notify_all();
     }
 }

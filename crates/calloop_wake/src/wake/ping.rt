@@ -1,10 +1,7 @@
 //! The cell of a ping, which its ends share.
-ghost use Rattle.std.specs.Prelude.{◌≡◌, ◌+◌, ◌<◌, ◌^◌, ◌&&◌, not, true, false, None, Some, List, IfOk, IfErr};
+ghost use Rattle.std.specs.Prelude.{◌≡◌, ◌+◌, ◌<◌, ◌^◌, ◌&&◌, not, true, false, None, Some, IfOk, IfErr};
 ghost use Rattle.calloop_wake.specs.Cells.{fresh, one, opens, IsLit, IsStanding, IsTold, IsSince, owed, owed_at, owed_by_drop, after_close, after_add_sender, after_drop_sender, after_clear_key, after_end_turn, in_turn, core_with, core_after_set_key, core_after_ring, core_after_open_turn, twin_of, twin_after_open_turn, receipt_of, turn_of};
 ghost use Rattle.calloop_wake.specs.Passes.{on};
-ghost use Rattle.calloop_wake.specs.Wakes.{WakeStep, start, after_all, IsSchedule, IsCovered};
-ghost use Rattle.calloop_wake.specs.PingKind.{ping_kind};
-ghost use Rattle.calloop_wake.specs.Lost.{unused, ring_in_a_wait, with_a_ring_unseen, with_a_close_unseen, with_a_key_forgotten, with_nobody_told};
 
 use super::cell::CellCore;
 use super::ghosts::{Count, Name};
@@ -131,13 +128,7 @@ impl PingCore {
         requires { right.name ≡ self.now.name }
         ensures { result ≡ twin_of self.now }
     {
-        Twin {
-            name: right.name,
-            key: None,
-            turns: Count::zero(),
-            number: Count::zero(),
-            closes: Count::zero(),
-        }
+        Twin::new(right)
     }
 
     /// Shows that no ring and no close is lost: what is due is pinged, or a turn stands open. A ring stands exactly where
@@ -285,13 +276,7 @@ impl PingCore {
         ensures core { self.new ≡ core_with (after_clear_key true self.old.cell) self.old }
         ensures leaves { result ≡ on self.old.board self.old.cell.key }
     {
-        let Twin {
-            name: _,
-            key: _,
-            turns: _,
-            number: _,
-            closes: _,
-        } = twin;
+        twin.end();
         self.gone = true;
         self.take_key()
     }
@@ -421,23 +406,3 @@ impl CellCore for PingCore {
 
     ghost is_named = { λ tag core fits. fits };
 }
-
-/// Over every schedule of the wake machine, by any number of cells, from the state in which nothing has happened: what is
-/// due, a ring or a close that no turn told, is pinged or a turn stands open; a pinged cell's key is posted, owed or held as a
-/// pass; and where the loop has looked and found no mark, a posted key is told to it by a nudge that is owed or by the signal.
-pub fn covered()
-    ensures { (steps : List (WakeStep ping_kind.Own)) → IsSchedule ping_kind (start (λ _. fresh)) steps
-        → IsCovered ping_kind (after_all ping_kind (start (λ _. fresh)) steps) }
-{}
-
-/// Four small states that `covered` rules out: a ring or a close that no mark shows, a pinged cell whose key is nowhere, and a
-/// posted key of which nobody tells a loop that is about to sleep. And a schedule that there is, by which a ring wakes a loop that
-/// sleeps and is taken in a turn.
-pub fn lost_is_not_covered()
-    ensures ring { ¬ IsCovered ping_kind with_a_ring_unseen }
-    ensures close { ¬ IsCovered ping_kind with_a_close_unseen }
-    ensures key { ¬ IsCovered ping_kind with_a_key_forgotten }
-    ensures sleeper { ¬ IsCovered ping_kind with_nobody_told }
-    ensures schedule { IsSchedule ping_kind unused ring_in_a_wait }
-    ensures turned { (after_all ping_kind unused ring_in_a_wait).cells 0 ≡ record fresh { key = Some 7; draining = true } }
-{}

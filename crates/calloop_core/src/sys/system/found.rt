@@ -1,7 +1,7 @@
 //! The events of a wait of the machine.
 ghost use Rattle.std.specs.Prelude.{◌≡◌, ◌+◌, ◌≤◌, ◌++◌, [], length, vec_len, vec_capacity, OnErr};
 ghost use Rattle.mio.specs.Events.{items, capacity as events_capacity};
-ghost use Rattle.calloop_core.specs.Pollers.{events_per_wait};
+ghost use Rattle.calloop_core.specs.Pollers.{events_per_wait, failure_of};
 ghost use Rattle.calloop_core.specs.SystemEvents.{readiness_of, told_events};
 
 use super::OWN_KEY;
@@ -12,10 +12,12 @@ use std::alloc::{AllocError, Global};
 use std::io;
 use std::time::Duration;
 
-/// What the machine found in the last wait, at most 1,024 events.
+/// What the machine found in the last wait, at most 1,024 events; or how that failed.
 #[derive(Drop)]
 pub struct Found {
     events: Events,
+    // The kind of the last wait's error.
+    failed: Option<io::ErrorKind>,
     ghost room: { events_capacity events ≤ events_per_wait },
     ghost few: { length (items events) ≤ events_per_wait },
 }
@@ -25,14 +27,21 @@ impl Found {
     pub fn new(alloc: Global) -> Result<Found, AllocError> {
         Ok(Found {
             events: Events::with_capacity(alloc, EVENTS_PER_WAIT)?,
+            failed: None,
         })
     }
 
-    /// Waits. Where that fails nothing was found.
+    /// Waits. Where that fails nothing was found, and the kind of the error is kept.
     pub fn wait(&mut self, poll: &mut Poll, timeout: Option<Duration>) -> io::Result<()>
-        ensures { OnErr result (items self.new.events ≡ []) }
+        ensures events { OnErr result (items self.new.events ≡ []) }
+        ensures failed { failure_of result ≡ self.new.failed }
     {
-        poll.poll(&mut self.events, timeout)
+        let answer = poll.poll(&mut self.events, timeout);
+        self.failed = match &answer {
+            Ok(()) => None,
+            Err(cause) => Some(cause.kind()),
+        };
+        answer
     }
 
     /// Appends what the loop is told.

@@ -1,0 +1,60 @@
+//! Callbacks that ask the loop for nothing, and the choices of sources with such callbacks.
+use crate::sources::{Asking, Callback, Dispatch, Dispatcher, EventSource, OneOf};
+use crate::sys::Poller;
+use std::sync::Wait;
+
+/// A callback that neither asks the loop for anything nor looks at what its source lends beside the event. It is a `Callback` by
+/// that, with nothing to prove. `E` is the event, `X` the data that a dispatch lends, and `T` what the source is told.
+pub trait On<E, X, T> {
+    /// Called with an event.
+    fn on(&mut self, event: E, data: &mut X) -> T;
+}
+
+impl<E, M: Drop, T, X, Q: Asking, F: On<E, X, T>> Callback<E, M, T, X, Q> for F {
+    ghost use Rattle.std.specs.Prelude.{◌≡◌};
+
+    ghost may = { λ f e m x q t g n y r. (n ≡ m) × (r ≡ q) };
+
+    fn call(&mut self, event: E, _metadata: &mut M, data: &mut X, _requests: &mut Q) -> T {
+        self.on(event, data)
+    }
+}
+
+/// A callback whose relation says that it asks the loop for nothing. Each `On` is one.
+pub trait QuietCallback<E, M, T, X, Q: Asking>: Callback<E, M, T, X, Q> {
+    ghost use Rattle.calloop_core.specs.Quiet.{IsQuietCall};
+
+    ghost quiet: { IsQuietCall Self.may };
+}
+
+impl<E, M: Drop, T, X, Q: Asking, F: On<E, X, T>> QuietCallback<E, M, T, X, Q> for F {
+    ghost quiet = { λ f g e m n x y q r t h. h.1 };
+}
+
+/// A choice of sources whose callbacks ask the loop for nothing, so that no turn of it does.
+pub trait QuietDispatch<P: Poller, C, R: Wait + Drop, X, Q: Asking>: Dispatch<P, C, R, X, Q> {
+    ghost use Rattle.calloop_core.specs.Quiet.{IsQuiet};
+
+    ghost quiet: { IsQuiet Self.means };
+}
+
+impl<P: Poller, C, R: Wait + Drop, X, Q: Asking, S, F> QuietDispatch<P, C, R, X, Q>
+    for Dispatcher<S, F>
+where
+    S: EventSource<P, C, R>,
+    F: QuietCallback<S::Event, S::Metadata, S::Ret, X, Q>,
+{
+    ghost use Rattle.calloop_core.specs.Quiet.{quiet_dispatcher};
+
+    ghost quiet = { quiet_dispatcher S.means ⟦<F as Callback<S::Event, S::Metadata, S::Ret, X, Q>>⟧.may Q.reaches S.Error.becomes F.quiet };
+}
+
+impl<P: Poller, C, R: Wait + Drop, X, Q: Asking, A, B> QuietDispatch<P, C, R, X, Q> for OneOf<A, B>
+where
+    A: QuietDispatch<P, C, R, X, Q>,
+    B: QuietDispatch<P, C, R, X, Q>,
+{
+    ghost use Rattle.calloop_core.specs.Quiet.{quiet_one_of};
+
+    ghost quiet = { quiet_one_of ⟦<A as Dispatch<P, C, R, X, Q>>⟧.means ⟦<B as Dispatch<P, C, R, X, Q>>⟧.means A.quiet B.quiet };
+}

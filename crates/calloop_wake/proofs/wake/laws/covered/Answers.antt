@@ -1,0 +1,5 @@
+use Rattle.calloop_wake.proofs.wake.laws.covered.Goals as goal
+use Rattle.calloop_wake.proofs.BothLawful.{covered-cells}
+
+pub returns : goal.returns
+returns c = covered-cells

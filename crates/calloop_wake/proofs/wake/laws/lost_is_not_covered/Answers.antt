@@ -1,0 +1,40 @@
+use Rattle.std.proofs.Common.{◌≡◌, ◌<◌, ◌≤◌, ℕ, List, [], ◌∷◌, length, inl, inr, Bool, true, false, refl, ap, arith}
+use Rattle.calloop_wake.proofs.wake.laws.lost_is_not_covered.Goals as goal
+
+not_true : ◌≡◌ {A = Bool} false true → ⊥
+not_true e = cc
+
+none_less : 0 < 0 → ⊥
+none_less h = omega arith
+
+pub returns-clause-ring : goal.returns-clause-ring
+returns-clause-ring c = λ h. not_true (h.standing 0 refl)
+
+pub returns-clause-close : goal.returns-clause-close
+returns-clause-close c = λ h. not_true (h.standing 0 refl)
+
+pub returns-clause-key : goal.returns-clause-key
+returns-clause-key c = λ h. elim (h.pinged 0 7 refl refl) [ inl e ↦ not_true e | inr f ↦ elim f [ inl d ↦ none_less d | inr p ↦ none_less p ] ]
+
+pub returns-clause-sleeper : goal.returns-clause-sleeper
+returns-clause-sleeper c = λ h. elim (h.told 7 (λ e. cc) refl) [ inl n ↦ none_less n | inr s ↦ not_true s ]
+
+-- the first of a list, or 0
+abbrev first_of : List ℕ → ℕ
+first_of [] = 0
+first_of (x ∷ xs) = x
+
+pub returns-clause-message : goal.returns-clause-message
+returns-clause-message c = λ h. not_true ((h.standing 0).standing.queue (omega arith))
+
+pub returns-clause-lost : goal.returns-clause-lost
+returns-clause-lost c = λ h. let e : ◌≡◌ {A = ℕ} 1 0 = ap length (h.standing 0).in_order in omega (arith, e)
+
+pub returns-clause-order : goal.returns-clause-order
+returns-clause-order c = λ h. let e : ◌≡◌ {A = ℕ} 5 6 = ap first_of (h.standing 0).in_order in omega (arith, e)
+
+pub returns-clause-twice : goal.returns-clause-twice
+returns-clause-twice c = λ h. let e : 2 ≤ 1 = (h.standing 0).once in omega (arith, e)
+
+pub returns-clause-early : goal.returns-clause-early
+returns-clause-early c = λ h. let e : ◌≡◌ {A = ℕ} 1 0 = (h.standing 0).of_empty.1 in omega (arith, e)
