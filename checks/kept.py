@@ -5,6 +5,7 @@ The kit's `rt ci` keeps what it passed in the same way. Nothing here is of the r
 import hashlib
 import json
 import os
+import re
 import subprocess
 import tempfile
 
@@ -19,15 +20,26 @@ def crates_of(root):
     return {head.split()[0]: (head, rest.split()) for head, _, rest in lines}
 
 
-class Kept:
-    """The results of one script over the crates of a copy of the repository, whose files stay as they are meanwhile."""
+def version():
+    """What the kit calls itself."""
+    return subprocess.run(["rt", "version"], stdout=subprocess.PIPE, check=True, text=True).stdout.strip()
 
-    def __init__(self, root, script):
-        self.root, self.crates, self.sums = root, crates_of(root), {}
-        self.by = hashlib.sha256(subprocess.run(["rt", "version"], stdout=subprocess.PIPE, check=True).stdout)
-        for file in (script, __file__, f"{os.path.dirname(__file__)}/sources.py"):
-            with open(file, "rb") as it:
-                self.by.update(it.read())
+
+def logic():
+    """The kit's logic, by which it proves and refuses: builds of one kit that differ in their letter have the same."""
+    said = version()
+    found = re.search(r"\blogic \S+", said)
+    return found[0] if found else said
+
+
+class Kept:
+    """The results of one script over the crates of a copy of the repository, whose files stay as they are meanwhile.
+
+    By is what they rest on beside those files. It and the paths within the copy are all that goes into a sum, so that a sum is the same in each clone.
+    """
+
+    def __init__(self, root, *by):
+        self.root, self.crates, self.sums, self.by = root, crates_of(root), {}, by
 
     def sum_of(self, crate):
         """The sum of a crate's files, of its line of crates.txt, and of those of the crates below it."""
@@ -44,26 +56,24 @@ class Kept:
             self.sums[crate] = hashlib.sha256(b"\n".join(found)).digest()
         return self.sums[crate]
 
-    def name(self, crate, tried):
-        """The name of the file for what was tried in a crate."""
-        sum = self.by.copy()
-        sum.update(repr((crate, self.sum_of(crate), tried)).encode())
-        return f"{FOLDER}/{sum.hexdigest()}"
+    def sum_with(self, crate, tried):
+        """The sum of what was tried in a crate and of all that it rests on, in hex digits."""
+        return hashlib.sha256(repr((self.by, crate, self.sum_of(crate), tried)).encode()).hexdigest()
 
-    def get(self, name):
-        """What was kept under this name, or None."""
+    def get(self, sum):
+        """What was kept for this sum, or None."""
         try:
-            with open(name, encoding="utf-8") as it:
+            with open(f"{FOLDER}/{sum}", encoding="utf-8") as it:
                 return json.load(it)
         except (OSError, ValueError):
             return None
 
-    def put(self, name, said):
+    def put(self, sum, said):
         """Keeps it for later runs, if it can be written; no run meets half of it."""
         try:
             os.makedirs(FOLDER, exist_ok=True)
             with tempfile.NamedTemporaryFile("w", dir=FOLDER, delete=False, encoding="utf-8") as it:
                 json.dump(said, it)
-            os.replace(it.name, name)
+            os.replace(it.name, f"{FOLDER}/{sum}")
         except OSError:
             pass
