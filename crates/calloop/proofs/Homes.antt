@@ -1,5 +1,5 @@
 -- Each source that stands in a slot is at home there.
-use Rattle.std.proofs.Common.{◌≡◌, ◌⊎◌, inl, inr, ℕ, zero, suc, ◌%◌, List, [], ◌∷◌, ◌++◌, map, true, false, if◌then◌else◌, refl, ap, sym, ◌∙◌, subst, arith, Some, None, Option, Result, Ok, Err, slice_get}
+use Rattle.std.proofs.Common.{◌≡◌, ◌⊎◌, inl, inr, ℕ, zero, suc, ◌%◌, List, [], ◌∷◌, ◌++◌, map, Bool, true, false, if◌then◌else◌, refl, ap, sym, ◌∙◌, subst, arith, Some, None, Option, Result, Ok, Err, slice_get}
 use Rattle.std.proofs.lemmas.Bool.Decides.{nat_tests}
 use Rattle.std.proofs.lemmas.Option.{slice_get-map}
 use Rattle.std.specs.Option.{option_map}
@@ -137,11 +137,11 @@ module _ {D I P X : Type 0} (M : Meaning D P (Lent X (Asks D I))) (runs : Runs D
   begins_first token d (Ok u) f home = own_factory token
   begins_first token d (Err e) f home = (home, own_factory token)
 
-  first_home : (token : RegistrationToken) (v : PollView P) (d e : D) (answer : Outcome) (l : List (PollStep P)) → RegisteredBy M Registered token v d answer l e → IsAtHome M token d → IsAtHome M token e
+  first_home : {listed : Bool} (token : RegistrationToken) (v : PollView P) (d e : D) (answer : Outcome) (l : List (PollStep P)) → RegisteredBy M Registered token listed v d answer l e → IsAtHome M token d → IsAtHome M token e
   first_home token v d e answer l (inl h) home = rw h.3 home
   first_home token v d e answer l (inr h) home = (law token d e v (Registered (factory_of token) answer h.0) l (begins_first token d answer h.0 home) h.1).0
 
-  anew_home : (token : RegistrationToken) (v : PollView P) (d e : D) (answer : Outcome) (l : List (PollStep P)) → RegisteredBy M Reregistered token v d answer l e → IsAtHome M token d → IsAtHome M token e
+  anew_home : {listed : Bool} (token : RegistrationToken) (v : PollView P) (d e : D) (answer : Outcome) (l : List (PollStep P)) → RegisteredBy M Reregistered token listed v d answer l e → IsAtHome M token d → IsAtHome M token e
   anew_home token v d e answer l (inl h) home = rw h.3 home
   anew_home token v d e answer l (inr h) home = (law token d e v (Reregistered (factory_of token) answer h.0) l (home, own_factory token) h.1).0
 

@@ -21,7 +21,7 @@ use Rattle.calloop.specs.declared.loop_logic.LoopAnswer.TheVariants.{Inserted, E
 use Rattle.calloop_core.specs.Deeds.{Registered, Reregistered, Unregistered, Lent}
 use Rattle.calloop_core.specs.Meanings.{Meaning, Does}
 use Rattle.calloop.specs.declared.loop_logic.stops.StopNote.{StopNote}
-use Rattle.calloop.specs.Held.{HeldStep, IdleNew, Listed, Unlisted, Warned, warned, held_after}
+use Rattle.calloop.specs.Held.{HeldStep, is_listed, IdleNew, Listed, Unlisted, Warned, warned, held_after}
 use Rattle.calloop.specs.Askings.{Asks, Runs, CannotAsk, with_new_idle}
 use Rattle.calloop.specs.Machine.{View, Change, Put, Claim, Swapped, Polls, Holds, AllFit, IsFull, StandsIn, all_viewed}
 use Rattle.calloop.proofs.Going.{full_named}
@@ -102,12 +102,12 @@ module _ {D I P X : Type 0} (M : Meaning D P (Lent X (Asks D I))) (runs : Runs D
   not_disabled token h = one_step (DisabledBy M token (Err InvalidToken)) [] v (none_asked _ _ token (named v.slots token) h) tt refl
 
   pub enabled : (token : RegistrationToken) (d e : D) (answer : Outcome) (u : View D I P) → named v.slots token ≡ Source d
-      → ByOne O (RegisteredBy M Registered token v.poll) (entered M token) d answer e (out token) u → Did (Case M runs O (Enable token) (Enabled answer)) v (back token e u)
-  enabled token d e answer u is r = asked (RegisteredBy M Registered token v.poll) (entered M token) (EnabledBy M token answer) token d e answer u (λ cs h. h) is r
+      → ByOne O (RegisteredBy M Registered token (is_listed token v.held.lifecycle) v.poll) (entered M token) d answer e (out token) u → Did (Case M runs O (Enable token) (Enabled answer)) v (back token e u)
+  enabled token d e answer u is r = asked (RegisteredBy M Registered token (is_listed token v.held.lifecycle) v.poll) (entered M token) (EnabledBy M token answer) token d e answer u (λ cs h. h) is r
 
   pub updated : (token : RegistrationToken) (d e : D) (answer : Outcome) (u : View D I P) → named v.slots token ≡ Source d
-      → ByOne O (RegisteredBy M Reregistered token v.poll) (entered M token) d answer e (out token) u → Did (Case M runs O (Update token) (Updated answer)) v (back token e u)
-  updated token d e answer u is r = asked (RegisteredBy M Reregistered token v.poll) (entered M token) (UpdatedBy M token answer) token d e answer u (λ cs h. h) is r
+      → ByOne O (RegisteredBy M Reregistered token (is_listed token v.held.lifecycle) v.poll) (entered M token) d answer e (out token) u → Did (Case M runs O (Update token) (Updated answer)) v (back token e u)
+  updated token d e answer u is r = asked (RegisteredBy M Reregistered token (is_listed token v.held.lifecycle) v.poll) (entered M token) (UpdatedBy M token answer) token d e answer u (λ cs h. h) is r
 
   pub disabled : (token : RegistrationToken) (d e : D) (answer : Outcome) (u : View D I P) → named v.slots token ≡ Source d
       → ByOne O (λ f a steps g. M.does f v.poll (Unregistered a) steps g) (left token) d answer e (out token) u → Did (Case M runs O (Disable token) (Disabled answer)) v (back token e u)

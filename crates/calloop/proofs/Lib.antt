@@ -12,9 +12,11 @@ pub mod Rounds
 pub mod Running
 pub mod Finding
 pub mod Pinging
+pub mod Receiving
 pub mod Registering
 pub mod Tickets
 pub mod Serving
 pub mod Telling
 pub mod Listing
 pub mod Homes
+pub mod Freshness

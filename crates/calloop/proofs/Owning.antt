@@ -298,7 +298,7 @@ module _ {D I P X : Type 0} (M : Meaning D P (Lent X (Asks D I))) (runs : Runs D
   within_same (Standing deadline) = refl
 
   -- a registration, or a refusal of it for want of room
-  registered_keeps : (deed : TokenFactory → Outcome → TokenFactory → Deed (Lent X (Asks D I))) (token : RegistrationToken) (v : PollView P) (d e : D) (answer : Outcome) (steps : List (PollStep P)) → RegisteredBy M deed token v d answer steps e
+  registered_keeps : {listed : Bool} (deed : TokenFactory → Outcome → TokenFactory → Deed (Lent X (Asks D I))) (token : RegistrationToken) (v : PollView P) (d e : D) (answer : Outcome) (steps : List (PollStep P)) → RegisteredBy M deed token listed v d answer steps e
       → M.fits d → IsBelow v.deadlines.next (M.holds d) → M.fits e × Keeps (M.holds d) v.deadlines.next steps (M.holds e)
   registered_keeps deed token v d e answer steps (inl h) fits below = rw (h.2, h.3) (fits, λ counter. within_same (M.holds d counter))
   registered_keeps deed token v d e answer steps (inr h) fits below = law d e v (deed (factory_of token) answer h.0) steps fits below h.1

@@ -12,7 +12,8 @@ use Rattle.calloop_core.specs.declared.sources.PostAction.{PostAction}
 use Rattle.calloop_core.specs.declared.sources.PostAction.TheVariants.{Continue}
 use Rattle.calloop_core.specs.Calls.{CallbackCall}
 use Rattle.calloop_core.specs.Polls.{PollStep, TakePass, CannotOpen}
-use Rattle.calloop.specs.Pings.{Registers, RegistersAnew, NoPlace, NoPlaceAnew, Served, ServedSo, TurnsBy}
+use Rattle.calloop.specs.CellSources.{Registers, RegistersAnew, NoPlace, NoPlaceAnew}
+use Rattle.calloop.specs.Pings.{Served, ServedSo, TurnsBy}
 
 pub own_by_equal : (n : ℕ) (k : Option ℕ) → option_eq nat_eq k (Some n) ≡ is_own n k
 own_by_equal n None = refl

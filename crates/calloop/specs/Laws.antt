@@ -208,25 +208,33 @@ HoldsNoMore m old new = (counter : ℕ) → IsWithin (m.holds new counter) (m.ho
 abbrev pub HasNoMoreKeys : {D P X Q : Type 0} → Meaning D P (Lent X Q) → (old new : D) → Type 0
 HasNoMoreKeys m old new = (key : ℕ) → m.keys new key → m.keys old key
 
+-- what comes into the loop is such, and what takes a source's place is such beside it
+abbrev pub Brings : {D I P : Type 0} → (D → Type 0) → (D → D → Type 0) → Change D I P → Type 0
+Brings C S (Claim source) = C source
+Brings C S (Swapped slot old new) = S old new
+Brings C S change = Unit {0}
+
+abbrev pub AllBring : {D I P : Type 0} → (D → Type 0) → (D → D → Type 0) → List (Change D I P) → Type 0
+AllBring C S [] = Unit {0}
+AllBring C S (c ∷ cs) = Brings C S c × AllBring C S cs
+
 -- what comes into the loop holds no counter then: each source is used with one loop. One that was taken out holds none
 -- any more, so it may come again. A source that is changed in its slot, or exchanged there, holds no more than before.
-abbrev pub IsFresh : {D I P X Q : Type 0} → Meaning D P (Lent X Q) → Change D I P → Type 0
-IsFresh m (Claim source) = HoldsNone m source × m.fits source
-IsFresh m (Swapped slot old new) = HoldsNoMore m old new × m.fits new
-IsFresh m change = Unit {0}
+abbrev pub IsFresh : {D P X Q : Type 0} → Meaning D P (Lent X Q) → D → Type 0
+IsFresh m d = HoldsNone m d × m.fits d
+
+abbrev pub IsNoMore : {D P X Q : Type 0} → Meaning D P (Lent X Q) → (old new : D) → Type 0
+IsNoMore m old new = HoldsNoMore m old new × m.fits new
 
 abbrev pub AllFresh : {D I P X Q : Type 0} → Meaning D P (Lent X Q) → List (Change D I P) → Type 0
-AllFresh m [] = Unit {0}
-AllFresh m (c ∷ cs) = IsFresh m c × AllFresh m cs
+AllFresh m cs = AllBring (IsFresh m) (IsNoMore m) cs
 
--- no exchange brings a key into the loop
-abbrev pub BringsNoKey : {D I P X Q : Type 0} → Meaning D P (Lent X Q) → Change D I P → Type 0
-BringsNoKey m (Swapped slot old new) = HasNoMoreKeys m old new
-BringsNoKey m change = Unit {0}
+-- whatever comes; and no exchange brings a key into the loop
+abbrev pub Any : {D : Type 0} → D → Type 0
+Any d = Unit {0}
 
 abbrev pub AllBringNoKey : {D I P X Q : Type 0} → Meaning D P (Lent X Q) → List (Change D I P) → Type 0
-AllBringNoKey m [] = Unit {0}
-AllBringNoKey m (c ∷ cs) = BringsNoKey m c × AllBringNoKey m cs
+AllBringNoKey m cs = AllBring Any (HasNoMoreKeys m) cs
 
 -- each of these stands once among them
 abbrev pub AllOnce : List RegistrationToken → Type 0

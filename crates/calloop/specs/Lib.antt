@@ -1,6 +1,11 @@
+pub mod CellSources
+pub mod CellKeeping
 pub mod Pings
+pub mod Sends
+pub mod Channels
 pub mod Askings
 pub mod Quiet
+pub mod Listening
 pub mod Ledgers
 pub mod Held
 pub mod Rooms
@@ -13,3 +18,4 @@ pub mod Choices
 pub mod Wrong
 pub mod Homes
 pub mod Running
+pub mod Freshness

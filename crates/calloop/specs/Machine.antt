@@ -7,7 +7,7 @@ use Rattle.calloop_wake.specs.declared.list.Content.{Content}
 use Rattle.calloop_wake.specs.declared.list.Content.TheVariants.{Source, InTurn}
 use Rattle.calloop_wake.specs.declared.list.Slot.{Slot}
 use Rattle.calloop_wake.specs.Slots.{changed, first_changed, with_content, claimed, is_empty}
-use Rattle.calloop_wake.specs.Boards.{IsRising}
+use Rattle.calloop_core.specs.Batches.{ArePosted}
 use Rattle.calloop_wake.specs.declared.wake.watch.Watch.{Watch}
 use Rattle.calloop_core.specs.declared.sources.PostAction.TheVariants.{Continue}
 use Rattle.calloop_core.specs.declared.sys.Readiness.{Readiness}
@@ -174,14 +174,15 @@ abbrev pub StandsIn : {D : Type 0} → List (Slot D) → ℕ → D → Type 0
 StandsIn {D} slots i d = (s : Slot D) × (slice_get slots i ≡ Some s) × (s.content ≡ Source d)
 
 -- What every change keeps to: a vacant slot stays vacant until it is claimed, what is exchanged stood there, a source's
--- steps can be made, no source makes up a posted event, and posted keys ascend. Which they are is the answer of the
+-- steps can be made, no source makes up a posted event, and posted keys ascend, no more than places
+-- were counted. Which they are is the answer of the
 -- board, which lies under a lock; calloop has them from the kernel.
 abbrev pub Fits : {D I P : Type 0} → Outside P → View D I P → Change D I P → Type 0
 Fits O v (Put slot content) = IsFull v.slots slot
 Fits O v (Swapped slot old new) = StandsIn v.slots slot old
 Fits O v (Polls steps) = AllAllowed O v.poll steps
 Fits O v (Appended event) = event.posted ≡ false
-Fits O v (Gathered posted given now) = IsRising posted
+Fits O v (Gathered posted given now) = ArePosted v.poll.places posted
 Fits O v change = Unit {0}
 
 abbrev pub AllFit : {D I P : Type 0} → Outside P → View D I P → List (Change D I P) → Type 0

@@ -110,6 +110,7 @@ use Rattle.calloop.specs.declared.loop_logic.stops.StopNote.TheVariants.{Forgot,
 use Rattle.calloop.specs.Askings.{Asks, AskStep, Take, Runs, CannotAsk, asks_after, found, idle_begun}
 use Rattle.calloop.specs.Held.{
   HeldStep,
+  is_listed,
   Listed,
   Unlisted,
   Pend,
@@ -163,12 +164,12 @@ is_done (Ok u) = true
 is_done (Err e) = false
 
 -- a registration, the first one or anew, under this token, with a factory that has given none; one that is to be told
--- of waits is refused where there is no room for its entry, and is then as it was
+-- of waits, and isn't listed yet, is refused where there is no room for its entry, and is then as it was
 abbrev pub RegisteredBy : {D I P X : Type 0} → Meaning D P (Lent X (Asks D I))
-    → (TokenFactory → Outcome → TokenFactory → Deed (Lent X (Asks D I))) → RegistrationToken → PollView P → D → Outcome
-    → List (PollStep P) → D → Type 0
-RegisteredBy M deed token v d answer steps e =
-    ((M.needs d ≡ true) × (answer ≡ Err OutOfMemory) × (steps ≡ []) × (e ≡ d))
+    → (TokenFactory → Outcome → TokenFactory → Deed (Lent X (Asks D I))) → RegistrationToken → (listed : Bool) → PollView P
+    → D → Outcome → List (PollStep P) → D → Type 0
+RegisteredBy M deed token listed v d answer steps e =
+    ((M.needs d ≡ true) × (answer ≡ Err OutOfMemory) × (steps ≡ []) × (e ≡ d) × (listed ≡ false))
     ⊎ ((f : TokenFactory) × M.does d v (deed (factory_of token) answer f) steps e)
 
 -- a registration that succeeds enters what is to be told of waits
@@ -220,13 +221,13 @@ AskedIn {D} {I} {P} R noted token (Source d) answer cs =
 abbrev pub EnabledBy : {D I P X : Type 0} → Meaning D P (Lent X (Asks D I)) → RegistrationToken
     → Result (Unit {0}) Error → View D I P → List (Change D I P) → Type 0
 EnabledBy M token answer v cs =
-    AskedIn (RegisteredBy M Registered token v.poll) (entered M token) token (named v.slots token) answer cs
+    AskedIn (RegisteredBy M Registered token (is_listed token v.held.lifecycle) v.poll) (entered M token) token (named v.slots token) answer cs
 
 -- it is registered anew
 abbrev pub UpdatedBy : {D I P X : Type 0} → Meaning D P (Lent X (Asks D I)) → RegistrationToken
     → Result (Unit {0}) Error → View D I P → List (Change D I P) → Type 0
 UpdatedBy M token answer v cs =
-    AskedIn (RegisteredBy M Reregistered token v.poll) (entered M token) token (named v.slots token) answer cs
+    AskedIn (RegisteredBy M Reregistered token (is_listed token v.held.lifecycle) v.poll) (entered M token) token (named v.slots token) answer cs
 
 -- its registration is taken back
 abbrev pub DisabledBy : {D I P X : Type 0} → Meaning D P (Lent X (Asks D I)) → RegistrationToken
@@ -420,7 +421,7 @@ abbrev pub ActedBy : {D I P X : Type 0} → Meaning D P (Lent X (Asks D I)) → 
     → Result PostAction Error → View D I P → List (Change D I P) → D → Result (Unit {0}) Error → Type 0
 ActedBy M token d (Ok Continue) v cs e told = (cs ≡ Holds (Pend Continue) ∷ []) × (e ≡ d) × (told ≡ Ok tt)
 ActedBy {D} {I} {P} M token d (Ok Reregister) v cs e told =
-    (steps : List (PollStep P)) × RegisteredBy M Reregistered token v.poll d told steps e
+    (steps : List (PollStep P)) × RegisteredBy M Reregistered token (is_listed token v.held.lifecycle) v.poll d told steps e
     × (cs ≡ Holds (Pend Continue) ∷ Polls steps ∷ Holds (entered M token d told) ∷ [])
 ActedBy {D} {I} {P} M token d (Ok DisableIt) v cs e told =
     (steps : List (PollStep P)) × M.does d v.poll (Unregistered told) steps e

@@ -2,10 +2,8 @@
 //! is taken and nobody is called within one: what a section owes to the board is settled after it.
 ghost use Rattle.std.specs.Prelude.{◌≡◌, ◌≢◌, ◌-◌, ◌^◌, None, Some, IfOk, IfErr, IfSome};
 ghost use Rattle.std.specs.Option.{option_map};
-ghost use Rattle.std.proofs.Props.{props};
 ghost use Rattle.std.specs.Arc.{arc_value};
 ghost use Rattle.calloop_wake.specs.Tokens.{key_of};
-ghost use Rattle.calloop_wake.specs.Passes.{Keyed};
 ghost use Rattle.calloop_core.specs.Polls.{CannotOpen};
 
 use calloop_core::sys::hub::{SharedHub, share};
@@ -18,17 +16,24 @@ use counted_slot::Fits;
 use std::alloc::{AllocError, Global};
 use std::sync::{Arc, Wait};
 
-/// What the ends of a cell share: its core, and the hub of the very board on which its key has a place.
+pub(crate) mod source;
+
+/// What the ends of a cell share: its core, and a hub. What fits a tag has the hub of the very board on which its key has a place.
 pub struct Cell<K: CellCore> {
     pub(crate) core: K,
     hub: Option<SharedHub>,
-    ghost keyed: { (place : Keyed) → K.place_of core ≡ Some place → option_map arc_value hub ≡ Some place.board } by { Prim.hlevel props },
 }
 
 impl<K: CellCore> Fits for Cell<K> {
+    ghost use Rattle.std.specs.Prelude.{◌≡◌, Some};
+    ghost use Rattle.std.specs.Option.{option_map};
+    ghost use Rattle.std.specs.Arc.{arc_value};
+    ghost use Rattle.calloop_wake.specs.Passes.{Keyed};
+
     type Tag = K::Tag;
 
-    ghost fits = { λ tag cell. K.fits tag cell.core };
+    ghost fits = { λ tag cell. K.fits tag cell.core
+        × ((place : Keyed) → K.place_of cell.core ≡ Some place → option_map arc_value cell.hub ≡ Some place.board) };
 }
 
 impl<K: CellCore> Core for Cell<K> {

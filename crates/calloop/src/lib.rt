@@ -2,11 +2,13 @@
 #![tactic(auto)]
 
 mod cell;
+pub mod channel;
 pub mod loop_logic;
 pub mod ping;
 
+pub use calloop_core::callbacks::{On, QuietCallback, QuietDispatch};
 pub use calloop_core::generic::{Generic, NoIoDrop};
-pub use calloop_core::idles::IdleCallback;
+pub use calloop_core::idles::{IdleCallback, QuietIdle};
 pub use calloop_core::sources::{
     Asking, Callback, Choice, Dispatch, Dispatcher, EventSource, Here, Hold, IntoError, OneOf,
     PostAction, There,

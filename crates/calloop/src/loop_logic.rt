@@ -1,4 +1,5 @@
 //! The loop, and what it asks of the caller's sources.
+use calloop_core::callbacks::QuietDispatch;
 use calloop_core::idles::IdleCallback;
 use calloop_core::sources::{
     Asking, Callback, Choice, Dispatch, Dispatcher, EventSource, Hold, PostAction,
@@ -30,7 +31,7 @@ mod telling;
 mod warnings;
 
 pub use asks::{Answer, Idle, Requests, Ticket};
-pub use laws::{once, wrong_runs_are_ruled_out};
+pub use laws::{once, once_where_nothing_is_asked, wrong_runs_are_ruled_out};
 pub use signal::LoopSignal;
 
 /// A loop over sources of one type `D` of the caller, a poller and a clock. It owns its sources. `R` is the runtime by
@@ -188,6 +189,16 @@ where
     ghost asks = { asking_seen (λ s. s.held) ⟦<Requests<Sources<A, X, I>, I> as Asking>⟧.reaches A.means A.asks };
 
     ghost fails = { failing_seen (λ s. s.held) A.means A.fails };
+}
+
+impl<P: Poller, C, R: Wait + Drop, A, X, I> QuietDispatch<P, C, R, X, Requests<Sources<A, X, I>, I>>
+    for Sources<A, X, I>
+where
+    A: QuietDispatch<P, C, R, X, Requests<Sources<A, X, I>, I>>,
+{
+    ghost use Rattle.calloop_core.specs.Quiet.{quiet_seen};
+
+    ghost quiet = { quiet_seen (λ s. s.held) ⟦<A as Dispatch<P, C, R, X, Requests<Sources<A, X, I>, I>>>⟧.means A.quiet };
 }
 
 impl<P: Poller, C, R: Wait + Drop, A, X, I> EventDispatcher<P, C, R> for Sources<A, X, I>

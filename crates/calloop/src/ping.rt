@@ -12,8 +12,9 @@ use std::alloc::{AllocError, Global};
 use std::sync::{Arc, Wait};
 
 mod cell;
-mod source;
+pub(crate) mod source;
 
+pub use calloop_wake::wake::covered;
 pub use source::PingError;
 
 /// Rings its source, from any thread. As many as are cloned ring the same source, and the drop of the last one closes it.

@@ -1,7 +1,8 @@
 -- The batch of events that wait for their turn, and the passes of the posted ones among them.
-use Rattle.std.specs.Prelude.{◌≡◌, ℕ, List, map, filter, Option, IfSome}
+use Rattle.std.specs.Prelude.{◌≡◌, ℕ, ◌≤◌, List, map, length, filter, Option, IfSome}
 use Rattle.logbook.specs.Pages.{Book}
 use Rattle.calloop_wake.specs.Tokens.{key_of}
+use Rattle.calloop_wake.specs.Boards.{IsRising}
 use Rattle.calloop_wake.specs.Passes.{Taken, AreOf}
 use Rattle.calloop_wake.specs.declared.wake.watch.Watch.{Watch}
 use Rattle.calloop_core.specs.declared.sys.poll.Pending.{Pending}
@@ -34,3 +35,7 @@ pub record IsKept (board : Book) (events : List Pending) (passes : List Taken) (
   pub in_step : IsInStep events passes
   pub own : AreOf board passes
   pub own_turn : IfSome pass (λ p. p.board ≡ board)
+
+-- the keys that one gathering may take from a board of which so many places were counted; calloop's poller hands out any
+abbrev pub ArePosted : (places : ℕ) → List ℕ → Type 0
+ArePosted places posted = IsRising posted × (length posted ≤ places)

@@ -30,7 +30,7 @@ use Rattle.std.specs.IoError.{error_kind}
 use Rattle.calloop_wake.specs.declared.error.Error.{Error}
 use Rattle.calloop_wake.specs.declared.error.Error.TheVariants.{IoError}
 use Rattle.calloop_wake.specs.declared.wheel.Entry.{Entry}
-use Rattle.calloop_wake.specs.Boards.{IsRising}
+use Rattle.calloop_core.specs.Batches.{ArePosted}
 use Rattle.calloop_wake.specs.Watches.{noted}
 use Rattle.calloop_wake.specs.declared.wake.watch.Watch.{Watch}
 use Rattle.calloop_wake.specs.declared.wake.notes.Note.TheVariants.{Looked}
@@ -109,7 +109,7 @@ abbrev pub Polled : {P : Type 0} → Outside P → (timeout : Option ℕ) → Re
     → Type 0
 Polled {P} O timeout (Ok u) v v' =
     (now : ℕ) × (given : List (ℕ × Readiness)) × (p : P) × (w : Watch) × Waited O v timeout (Ok now) given p w
-    × (posted : List ℕ) × IsRising posted × (v' ≡ gathered posted given now (watching w (polling p v)))
+    × (posted : List ℕ) × ArePosted v.places posted × (v' ≡ gathered posted given now (watching w (polling p v)))
 Polled {P} O timeout (Err e) v v' =
     (given : List (ℕ × Readiness)) × (p : P) × (w : Watch) × (cause : Cause) × (e ≡ IoError cause)
     × Waited O v timeout (Err cause) given p w

@@ -5,12 +5,15 @@ ghost use Rattle.calloop.specs.declared.loop_logic.LoopAnswer.{LoopAnswer};
 ghost use Rattle.calloop.specs.Machine.{World, Change, IsNew};
 ghost use Rattle.calloop.specs.Rules.{Run};
 ghost use Rattle.calloop.specs.Homes.{AllAtHome};
-ghost use Rattle.calloop.specs.Laws.{IsSound, IsKept, IsTold, IsTicketed, AllFresh, AllBringNoKey, changes_of, GoesRight, NamesLater, StaysGone, OnTime};
+ghost use Rattle.calloop.specs.Laws.{IsSound, IsKept, IsTold, IsTicketed, changes_of, GoesRight, NamesLater, StaysGone, OnTime};
+ghost use Rattle.calloop.specs.Freshness.{AsksFresh, RunsFresh, AllFreshCalls, AllKeepKeys};
 ghost use Rattle.calloop_core.specs.Polls.{PollView};
 ghost use Rattle.calloop_core.specs.Meanings.{IsKeeping};
 ghost use Rattle.calloop.specs.Wrong.{first_token, first_registration, used, given_up, early, in_two_places, called_twice, called_early, called_from_nowhere, unmoved, arms_elsewhere, used_with_an_old_key, answered_twice, one_ticket};
 
-use super::EventDispatcher;
+use super::{EventDispatcher, Requests};
+use calloop_core::callbacks::QuietDispatch;
+use calloop_core::idles::QuietIdle;
 use calloop_core::sys::{Clock, Poller};
 use std::sync::Wait;
 
@@ -29,11 +32,34 @@ use std::sync::Wait;
 /// at most once.
 pub fn once<D: EventDispatcher<P, C, R>, P: Poller, C: Clock, R: Wait + Drop>()
     ensures sound { (calls : List (LoopCall D P D.Data D.Idle)) (answers : List (LoopAnswer D P D.Data D.Idle)) (csss : List (List (List (Change D D.Idle P)))) (w w' : World D D.Idle P) → Run D.means D.Idle.runs P.outside calls answers csss w w' → IsSound w (changes_of csss) }
-    ensures armings { (calls : List (LoopCall D P D.Data D.Idle)) (answers : List (LoopAnswer D P D.Data D.Idle)) (csss : List (List (List (Change D D.Idle P)))) (w w' : World D D.Idle P) → IsNew w → AllFresh D.means (changes_of csss) → Run D.means D.Idle.runs P.outside calls answers csss w w' → IsKept w'.ledger w'.poll }
-    ensures home { (calls : List (LoopCall D P D.Data D.Idle)) (answers : List (LoopAnswer D P D.Data D.Idle)) (csss : List (List (List (Change D D.Idle P)))) (w w' : World D D.Idle P) → IsNew w → AllBringNoKey D.means (changes_of csss) → Run D.means D.Idle.runs P.outside calls answers csss w w' → AllAtHome D.means w' }
+    ensures armings { AsksFresh D.means → RunsFresh D.means D.Idle.runs → (calls : List (LoopCall D P D.Data D.Idle)) (answers : List (LoopAnswer D P D.Data D.Idle)) (csss : List (List (List (Change D D.Idle P)))) (w w' : World D D.Idle P) → IsNew w → AllFreshCalls D.means calls answers → Run D.means D.Idle.runs P.outside calls answers csss w w' → IsKept w'.ledger w'.poll }
+    ensures home { (calls : List (LoopCall D P D.Data D.Idle)) (answers : List (LoopAnswer D P D.Data D.Idle)) (csss : List (List (List (Change D D.Idle P)))) (w w' : World D D.Idle P) → IsNew w → AllKeepKeys D.means calls answers → Run D.means D.Idle.runs P.outside calls answers csss w w' → AllAtHome D.means w' }
     ensures told { (calls : List (LoopCall D P D.Data D.Idle)) (answers : List (LoopAnswer D P D.Data D.Idle)) (csss : List (List (List (Change D D.Idle P)))) (w w' : World D D.Idle P) → IsNew w → Run D.means D.Idle.runs P.outside calls answers csss w w' → IsTold w' }
     ensures tickets { (calls : List (LoopCall D P D.Data D.Idle)) (answers : List (LoopAnswer D P D.Data D.Idle)) (csss : List (List (List (Change D D.Idle P)))) (w w' : World D D.Idle P) → IsNew w → Run D.means D.Idle.runs P.outside calls answers csss w w' → IsTicketed w' }
 {}
+
+/// The same of a loop whose callbacks ask for nothing, as each `On`: its own calls are all that has to be looked at. Where each source
+/// that these insert holds no counter of a timer, and each that they exchange holds no more than the one before, no timer is called
+/// early, nor twice for one arming.
+pub fn once_where_nothing_is_asked<D, P: Poller, C: Clock, R: Wait + Drop>()
+where
+    D: EventDispatcher<P, C, R>
+        + QuietDispatch<
+            P,
+            C,
+            R,
+            <D as EventDispatcher<P, C, R>>::Data,
+            Requests<D, <D as EventDispatcher<P, C, R>>::Idle>,
+        >,
+    D::Idle: QuietIdle<
+        <D as EventDispatcher<P, C, R>>::Data,
+        Requests<D, <D as EventDispatcher<P, C, R>>::Idle>,
+    >,
+    ensures armings { (calls : List (LoopCall D P D.Data D.Idle)) (answers : List (LoopAnswer D P D.Data D.Idle)) (csss : List (List (List (Change D D.Idle P)))) (w w' : World D D.Idle P)
+        → IsNew w → AllFreshCalls D.means calls answers → Run D.means D.Idle.runs P.outside calls answers csss w w' → IsKept w'.ledger w'.poll }
+{
+    once::<D, P, C, R>();
+}
 
 /// Small cases that the laws of `once` rule out: an event that goes to another slot than its token names, to a later
 /// registration, or to none though its source stands there; a token that names an earlier registration than before; one that

@@ -1,5 +1,5 @@
 //! The registrations whose sources are told of waits.
-ghost use Rattle.std.specs.Prelude.{◌≡◌, ◌<◌, [], true, Some, IfErr, OnOk, filter, slice_get, vec_len, if◌then◌else◌};
+ghost use Rattle.std.specs.Prelude.{◌≡◌, ◌<◌, ◌&&◌, not, [], true, false, Some, IfErr, OnOk, filter, slice_get, vec_len, if◌then◌else◌};
 ghost use Rattle.calloop_wake.specs.declared.error.Error.TheVariants.{OutOfMemory};
 ghost use Rattle.calloop.specs.Held.{is_another, is_listed, listed};
 ghost use Rattle.calloop.specs.Rooms.{HasRoom};
@@ -49,9 +49,19 @@ impl Lifecycle {
         Ok(())
     }
 
+    // Makes room for this registration, where it is needed and doesn't stand there. Want of memory is `OutOfMemory`.
+    pub(super) fn reserve_for(&mut self, needed: bool, token: RegistrationToken) -> Result<()>
+        ensures room { OnOk result (HasRoom (needed && not (is_listed token self.new.tokens.items)) self.new) }
+        ensures err { IfErr result (λ e. (needed ≡ true) × (is_listed token self.old.tokens.items ≡ false) × (e ≡ OutOfMemory)) }
+        ensures same { self.new.tokens.items ≡ self.old.tokens.items }
+    {
+        let is_new = needed && !self.contains(token);
+        self.reserve(is_new)
+    }
+
     // Enters a registration at the end, where it is needed and doesn't stand there.
     pub(super) fn enter(&mut self, needed: bool, token: RegistrationToken)
-        requires { HasRoom needed self.old }
+        requires { HasRoom (needed && not (is_listed token self.old.tokens.items)) self.old }
         ensures { self.new.tokens.items ≡ (if needed then listed token self.old.tokens.items else self.old.tokens.items) }
     {
         if needed && !self.contains(token) {

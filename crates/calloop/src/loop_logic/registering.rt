@@ -3,6 +3,7 @@ ghost use Rattle.std.specs.Prelude.{◌≡◌, ◌<◌, ◌^◌, OnOk, IfOk, IfE
 ghost use Rattle.calloop_wake.specs.Slots.{claimed, next_registration};
 ghost use Rattle.calloop_core.specs.Deeds.{Registered, Reregistered, Unregistered};
 ghost use Rattle.calloop.specs.Machine.{view_of};
+ghost use Rattle.calloop.specs.Held.{is_listed};
 ghost use Rattle.calloop.specs.Rooms.{HasRoom};
 ghost use Rattle.calloop.specs.Rules.{CannotInsert, ByOne, RegisteredBy, entered, left};
 
@@ -27,10 +28,10 @@ impl<D: EventDispatcher<P, C, R>, P: Poller, C: Clock, R: Wait + Drop> EventLoop
 
     // Registers a source under this token, and enters it where it is to be told of waits.
     pub(super) fn register(&mut self, token: RegistrationToken, source: &mut D) -> Result<()>
-        ensures { ByOne P.outside (RegisteredBy D.means Registered token (view_of self.old).poll) (entered D.means token) source.old result source.new (view_of self.old) (view_of self.new) }
+        ensures { ByOne P.outside (RegisteredBy D.means Registered token (is_listed token (view_of self.old).held.lifecycle) (view_of self.old).poll) (entered D.means token) source.old result source.new (view_of self.old) (view_of self.new) }
     {
         let needed = source.needs_extra_lifecycle_events();
-        self.lifecycle.reserve(needed)?;
+        self.lifecycle.reserve_for(needed, token)?;
         let mut factory = TokenFactory::new(token);
         source.register(&mut self.poll, &mut factory)?;
         self.lifecycle.enter(needed, token);
@@ -39,10 +40,10 @@ impl<D: EventDispatcher<P, C, R>, P: Poller, C: Clock, R: Wait + Drop> EventLoop
 
     // Registers a source anew.
     pub(super) fn reregister(&mut self, token: RegistrationToken, source: &mut D) -> Result<()>
-        ensures { ByOne P.outside (RegisteredBy D.means Reregistered token (view_of self.old).poll) (entered D.means token) source.old result source.new (view_of self.old) (view_of self.new) }
+        ensures { ByOne P.outside (RegisteredBy D.means Reregistered token (is_listed token (view_of self.old).held.lifecycle) (view_of self.old).poll) (entered D.means token) source.old result source.new (view_of self.old) (view_of self.new) }
     {
         let needed = source.needs_extra_lifecycle_events();
-        self.lifecycle.reserve(needed)?;
+        self.lifecycle.reserve_for(needed, token)?;
         let mut factory = TokenFactory::new(token);
         source.reregister(&mut self.poll, &mut factory)?;
         self.lifecycle.enter(needed, token);

@@ -3,12 +3,10 @@ ghost use Rattle.std.specs.Prelude.{◌≡◌, Bool, List, Option, Result};
 ghost use Rattle.calloop_wake.specs.declared.token.Token.{Token};
 ghost use Rattle.calloop_core.specs.Polls.{PollStep, poll_view, AllStepped};
 ghost use Rattle.calloop_core.specs.Calls.{CallbackCall, Went};
-ghost use Rattle.calloop_wake.specs.Tokens.{key_of};
-ghost use Rattle.calloop_wake.specs.Cells.{is_own};
 ghost use Rattle.calloop.specs.Pings.{calls_of, action_of};
 
 use super::{PingSource, cell};
-use crate::cell::{attach, detach};
+use crate::cell::source::{is_mine, register, reregister, unregister};
 use calloop_core::sources::{Asking, Callback, EventSource, IntoError, PostAction};
 use calloop_core::sys::events::EventIterator;
 use calloop_core::sys::poll::Poll;
@@ -16,12 +14,13 @@ use calloop_core::sys::{Poller, Readiness};
 use calloop_wake::error::{Error, Result as LoopResult};
 use calloop_wake::token::{Token, TokenFactory};
 use calloop_wake::wake::ping::OpenedTurn;
-use std::io;
 use std::sync::Wait;
+use thiserror::Error as ThisError;
 
 /// Why a ping's turn could fail. No turn of this crate's pings does: all that they need was reserved.
-#[derive(Debug, Drop)]
+#[derive(Debug, Drop, ThisError)]
 pub enum PingError {
+    #[error("out of memory")]
     OutOfMemory,
 }
 
@@ -52,22 +51,14 @@ where
     }
 }
 
-// A close that is told removes the source.
-fn action_of(told: bool) -> PostAction
+/// A close that is told removes the source.
+pub(crate) fn action_of(told: bool) -> PostAction
     ensures { result ≡ action_of told }
 {
     if told {
         PostAction::Remove
     } else {
         PostAction::Continue
-    }
-}
-
-impl<R: Wait + Drop> PingSource<R> {
-    fn is_mine(&self, token: Token) -> bool
-        ensures { result ≡ is_own (key_of token) self.now.twin.key }
-    {
-        self.twin.key() == Some(token.key())
     }
 }
 
@@ -100,7 +91,7 @@ impl<P: Poller, C, R: Wait + Drop> EventSource<P, C, R> for PingSource<R> {
         Q: Asking,
         F: Callback<(), (), (), X, Q>,
     {
-        if !self.is_mine(token) {
+        if !is_mine(&self.twin, token) {
             return Ok(PostAction::Continue);
         }
         let Some(pass) = poll.take_pass() else {
@@ -125,12 +116,7 @@ impl<P: Poller, C, R: Wait + Drop> EventSource<P, C, R> for PingSource<R> {
     /// Where it is registered already the answer is `IoError` of kind `AlreadyExists`; a factory without tokens is
     /// `TooManyTokens`, and want of memory `OutOfMemory`. A refusal leaves the ping and the board as they were.
     fn register(&mut self, poll: &mut Poll<P, C, R>, factory: &mut TokenFactory) -> LoopResult<()> {
-        if self.twin.key().is_some() {
-            let cause = io::Error::from(io::ErrorKind::AlreadyExists);
-            return Err(Error::IoError(cause));
-        }
-        let token = factory.token()?;
-        attach(&self.rt, &self.shared, &mut self.twin, poll.hub(), token)
+        register(&self.rt, &self.shared, &mut self.twin, poll, factory)
     }
 
     /// Moves the registration to the factory's next token; under the same key it does nothing. What stands is posted
@@ -144,26 +130,13 @@ impl<P: Poller, C, R: Wait + Drop> EventSource<P, C, R> for PingSource<R> {
         poll: &mut Poll<P, C, R>,
         factory: &mut TokenFactory,
     ) -> LoopResult<()> {
-        if self.twin.key().is_none() {
-            let cause = io::Error::from(io::ErrorKind::NotFound);
-            return Err(Error::IoError(cause));
-        }
-        let next = factory.token()?;
-        if self.is_mine(next) {
-            return Ok(());
-        }
-        attach(&self.rt, &self.shared, &mut self.twin, poll.hub(), next)
+        reregister(&self.rt, &self.shared, &mut self.twin, poll, factory)
     }
 
     /// Takes the registration back. What stands is told after the next registration. Where the ping isn't registered
     /// the answer is `IoError` of kind `NotFound`, and nothing changes.
-    fn unregister(&mut self, _poll: &mut Poll<P, C, R>) -> LoopResult<()> {
-        if self.twin.key().is_none() {
-            let cause = io::Error::from(io::ErrorKind::NotFound);
-            return Err(Error::IoError(cause));
-        }
-        detach(&self.rt, &self.shared, &mut self.twin);
-        Ok(())
+    fn unregister(&mut self, poll: &mut Poll<P, C, R>) -> LoopResult<()> {
+        unregister(&self.rt, &self.shared, &mut self.twin, poll)
     }
 
     /// It isn't told of waits.

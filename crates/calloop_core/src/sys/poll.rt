@@ -2,7 +2,7 @@
 ghost use Rattle.std.specs.Prelude.{drop, ◌≡◌, ℕ, ◌+◌, ◌≤◌, [], List, None, length, vec_len, vec_capacity, OnOk, IfOk, IfErr, IfSome};
 ghost use Rattle.std.specs.Borrow.{Lends, sem};
 ghost use Rattle.calloop_wake.specs.declared.error.Error.TheVariants.{OutOfMemory};
-ghost use Rattle.calloop_wake.specs.Boards.{IsRising};
+ghost use Rattle.calloop_core.specs.Batches.{ArePosted};
 ghost use Rattle.calloop_core.specs.Pollers.{events_per_wait};
 ghost use Rattle.calloop_core.specs.Polls.{PollView, PollStep, TakePass, PutBack, poll_view, poll_after, with_pass, IsPassOf, IsReady, cut, head_of, gathered, counted, appended, own_event};
 ghost use Rattle.calloop_core.specs.Events.{events_left, events_of};
@@ -200,7 +200,7 @@ impl<P: Poller, C, R: Wait + Drop> Poll<P, C, R> {
         requires batch { self.old.places + (events_per_wait + length self.old.wheel.entries) ≤ self.old.batch.room }
         requires passes { self.old.places ≤ self.old.batch.pass_room }
         requires events { vec_len self.old.events ≤ events_per_wait }
-        ensures { (posted : List ℕ) × IsRising posted × (poll_view self.new ≡ gathered posted self.old.events.items now.nanos (poll_view self.old)) }
+        ensures { (posted : List ℕ) × ArePosted self.old.places posted × (poll_view self.new ≡ gathered posted self.old.events.items now.nanos (poll_view self.old)) }
     {
         self.batch
             .gather(&self.rt, self.places, &self.events, &mut self.wheel, now);

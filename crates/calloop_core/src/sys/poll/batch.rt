@@ -7,7 +7,7 @@ ghost use Rattle.calloop_wake.specs.Passes.{AreOf};
 ghost use Rattle.calloop_wake.specs.Deadlines.{due, not_due, with_entries};
 ghost use Rattle.calloop_wake.specs.Watches.{noted};
 ghost use Rattle.calloop_wake.specs.declared.wake.notes.Note.TheVariants.{Counted, Looked, Unposted};
-ghost use Rattle.calloop_core.specs.Batches.{key_of_pass};
+ghost use Rattle.calloop_core.specs.Batches.{key_of_pass, ArePosted};
 ghost use Rattle.calloop_core.specs.Events.{events_left, events_of};
 ghost use Rattle.calloop_core.specs.Polls.{posted_event, posted_events, polled_event, polled_events, timer_event, timer_events, own_event, IsPassOf, head_of, tail_of, is_filled, own_key};
 
@@ -294,7 +294,7 @@ impl Batch {
     )
         requires room { places + (length given.now + length wheel.old.entries) ≤ self.old.room }
         requires passes { places ≤ self.old.pass_room }
-        ensures batch { (posted : List ℕ) × IsRising posted × (self.new ≡ record self.old {
+        ensures batch { (posted : List ℕ) × ArePosted places posted × (self.new ≡ record self.old {
           events = ((self.old.events ++ posted_events posted) ++ polled_events given.now) ++ timer_events (due now.nanos wheel.old.entries);
           passes = self.old.passes ++ map (taken self.old.watch.name) posted;
           watch = noted (Unposted places posted) self.old.watch;

@@ -4,6 +4,7 @@ use Rattle.calloop_core.specs.declared.sources.PostAction.TheVariants.{Continue,
 use Rattle.calloop_core.specs.Deeds.{Reregistered, Unregistered}
 use Rattle.calloop_core.specs.Polls.{poll_view}
 use Rattle.calloop.specs.Machine.{View, view_of}
+use Rattle.calloop.specs.Held.{is_listed}
 use Rattle.calloop.specs.Rules.{RegisteredBy, action_of, entered, left}
 use Rattle.calloop.proofs.Going.{acted, acted_with, acted_leaving, batch-stepped}
 use Rattle.calloop.proofs.loop_logic.EventLoop.act.Goals as goal
@@ -22,7 +23,7 @@ returns-in-Ok-Reregister-clause-machine g c x =
     let t = c.args.token in
     let action : c.in-Ok-Reregister.field-0 ≡ Reregister = rw c.in-Ok-Reregister.is at c.in-Ok-Reregister.field-0-is in
     let is : action_of c.args.answer c.args.self.now.pending ≡ Ok Reregister = sym c.action_of-action.ensures ∙ c.in-Ok-Reregister.is ∙ ap (λ (a : PostAction). Ok a) action in
-    acted_with M g.D.Idle.IdleCallback.runs g.P.Poller.outside (RegisteredBy M Reregistered t v.poll) (entered M t) t v (view_of c.reregister.new.self) c.args.source.now c.reregister.new.source c.args.answer c.reregister.result x
+    acted_with M g.D.Idle.IdleCallback.runs g.P.Poller.outside (RegisteredBy M Reregistered t (is_listed t v.held.lifecycle) v.poll) (entered M t) t v (view_of c.reregister.new.self) c.args.source.now c.reregister.new.source c.args.answer c.reregister.result x
     (λ steps h. rw is (steps, h, refl)) c.reregister.ensures
 
 pub returns-in-Ok-Reregister-clause-batch : goal.returns-in-Ok-Reregister-clause-batch

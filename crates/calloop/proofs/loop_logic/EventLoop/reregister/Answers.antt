@@ -14,7 +14,7 @@ returns g c =
     let v : View g.row.D.Denot g.row.D-Idle.Denot g.row.P.Denot = view_of c.args.self.now in
     let needs = g.D.Dispatch.means.needs c.args.source.now in
     let r = rw c.new-factory.ensures at c.in_ok-reregister.ensures in
-    let entry = entered_done needs c.args.token v.held c.enter.new.self.tokens.items (rw (c.needs_extra_lifecycle_events-needed.ensures, c.in_ok-reserve.ensures.same) at c.enter.ensures) in (
+    let entry = entered_done needs c.args.token v.held c.enter.new.self.tokens.items (rw (c.needs_extra_lifecycle_events-needed.ensures, c.in_ok-reserve_for.ensures.same) at c.enter.ensures) in (
       r.0,
       inr (c.reregister.new.factory, r.1),
       r.2.0,
@@ -32,20 +32,20 @@ returns-in_err-reregister g c =
       r.0,
       inr (c.reregister.new.factory, r.1),
       r.2.0,
-      ap (λ (l : List RegistrationToken). record v { slots = v.slots; poll = poll_view c.reregister.new.poll; held = record v.held { lifecycle = l } }) c.in_ok-reserve.ensures.same
+      ap (λ (l : List RegistrationToken). record v { slots = v.slots; poll = poll_view c.reregister.new.poll; held = record v.held { lifecycle = l } }) c.in_ok-reserve_for.ensures.same
           ∙ ap (λ (q : PollView g.row.P.Denot). record v { poll = q }) r.2.1
           ∙ ap (λ (h : Held g.row.D.Denot g.row.D-Idle.Denot). record v { slots = v.slots; poll = polls_after v.poll r.0; held = h }) entry,
     )
 
-pub returns-in_err-reserve : goal.returns-in_err-reserve
-returns-in_err-reserve g c =
+pub returns-in_err-reserve_for : goal.returns-in_err-reserve_for
+returns-in_err-reserve_for g c =
     let v : View g.row.D.Denot g.row.D-Idle.Denot g.row.P.Denot = view_of c.args.self.now in
     let p = err_from_is_err_and c.from_residual.result c.from_residual.ensures.1 in
-    let err = rw c.needs_extra_lifecycle_events-needed.ensures at c.in_err-reserve.ensures.err in
+    let err = rw c.needs_extra_lifecycle_events-needed.ensures at c.in_err-reserve_for.ensures.err in
     let entry = entered_not (g.D.Dispatch.means.needs c.args.source.now) c.args.token v.held in
     rw (p.1, p.2) (
       [],
-      inl (err.0, ap (λ (e : Error). Err e) err.1, refl, refl),
+      inl (err.0, ap (λ (e : Error). Err e) err.2, refl, refl, err.1),
       tt,
-      ap (λ (l : List RegistrationToken). record v { held = record v.held { lifecycle = l } }) c.in_err-reserve.ensures.same ∙ ap (λ (h : Held g.row.D.Denot g.row.D-Idle.Denot). record v { held = h }) entry,
+      ap (λ (l : List RegistrationToken). record v { held = record v.held { lifecycle = l } }) c.in_err-reserve_for.ensures.same ∙ ap (λ (h : Held g.row.D.Denot g.row.D-Idle.Denot). record v { held = h }) entry,
     )

@@ -80,7 +80,7 @@ returns-clause-kept_key c = λ v h.
 pub returns-clause-armed_elsewhere : goal.returns-clause-armed_elsewhere
 returns-clause-armed_elsewhere c = λ v h.
     let second : RegistrationToken = record { slot = 0; version = 1 } in
-    let own = (h.home second tt tt v (Unregistered (Ok tt)) (Arm (record { nanos = 5 }) first_token ∷ []) (λ key none. absurd none) (refl, refl)).1.0 in
+    let own = ((h.home second tt tt v (Unregistered (Ok tt)) (Arm (record { nanos = 5 }) first_token ∷ []) (λ key none. absurd none) (refl, refl)).1 (λ key none. absurd none)).0 in
     absurd (omega (arith, own.2))
 
 pub returns-clause-answered_twice : goal.returns-clause-answered_twice

@@ -1,12 +1,5 @@
-use Rattle.std.proofs.Common.{rules, refl, []}
-use Rattle.calloop.specs.Pings.{Registered}
-use Rattle.calloop.proofs.Pinging.{registers}
+use Rattle.std.proofs.Common.{refl, []}
 use Rattle.calloop.proofs.ping.source.PingSourceEventSource.register.Goals as goal
 
 pub returns : goal.returns
-returns g c =
-    let ok = c.in_ok-token.ensures.ok in
-    ([], (registers _ c.args.self.now.twin c.args.factory.now c.token.new.self c.in_ok-token.token c.attach.result c.attach.new.twin ok.0 ok.1 c.attach.ensures.ok c.attach.ensures.err (search rules), refl), (tt, refl))
-
-pub returns-then-is_some : goal.returns-then-is_some
-returns-then-is_some g c = ([], ((refl, refl, Registered (search rules) (c.from-cause.result, refl, c.from-cause.ensures) refl), refl), (tt, refl))
+returns g c = ([], (c.register.ensures, refl), (tt, refl))

@@ -1,8 +1,5 @@
-use Rattle.std.proofs.Common.{rules, refl, []}
+use Rattle.std.proofs.Common.{refl, []}
 use Rattle.calloop.proofs.ping.source.PingSourceEventSource.unregister.Goals as goal
 
 pub returns : goal.returns
-returns g c = ([], ((search rules, refl, search rules), refl), (tt, refl))
-
-pub returns-then-is_none : goal.returns-then-is_none
-returns-then-is_none g c = ([], ((search rules, (c.from-cause.result, refl, c.from-cause.ensures), refl, refl), refl), (tt, refl))
+returns g c = ([], (c.unregister.ensures, refl), (tt, refl))

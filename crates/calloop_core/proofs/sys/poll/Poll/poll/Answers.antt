@@ -1,4 +1,5 @@
-use Rattle.std.proofs.Common.{ap, ◌∙◌}
+use Rattle.std.proofs.Common.{ap, subst, ◌∙◌}
+use Rattle.calloop_core.specs.Batches.{ArePosted}
 use Rattle.calloop_core.specs.Polls.{poll_view, gathered}
 use Rattle.calloop_core.specs.declared.sys.poll.Poll.{Poll}
 use Rattle.calloop_core.proofs.sys.poll.Poll.poll.Goals as goal
@@ -14,6 +15,6 @@ returns g c =
       polled.batch.watch,
       c.in_ok-now.ensures.ok,
       posted,
-      c.gather.ensures.1,
+      subst (λ (p : Poll g.row.P.Denot g.row.C.Denot g.row.R.Denot). ArePosted p.places posted) c.in_ok-now.ensures.others c.gather.ensures.1,
       c.gather.ensures.2 ∙ ap (λ (p : Poll g.row.P.Denot g.row.C.Denot g.row.R.Denot). gathered posted polled.events.items now (poll_view p)) c.in_ok-now.ensures.others,
     )

@@ -46,4 +46,4 @@ returns-clause-batch g c =
     events-gathered c.self.inside.hub.name c.self.inside.events.items c.append_posted.new.batch.items c.append_polled.new.batch.items c.append_due.new.batch.items c.self.inside.passes.items c.unpost.new.passes.items
     keys c.len-first.result c.args.given.now entries (omega (arith, c.len-first.ensures, c.self.inside.passes.ok.0)) c.unpost.ensures.keys.appended c.append_posted.ensures.items
     c.append_polled.ensures.items c.append_due.ensures.items in
-    (keys, c.unpost.ensures.keys.rising, rw (← c.self.view_is, all, c.unpost.ensures.keys.appended, c.unpost.ensures.keys.seen) refl)
+    (keys, (c.unpost.ensures.keys.rising, c.unpost.ensures.keys.few), rw (← c.self.view_is, all, c.unpost.ensures.keys.appended, c.unpost.ensures.keys.seen) refl)

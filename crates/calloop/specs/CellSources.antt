@@ -1,0 +1,83 @@
+-- The receiving end of a cell as a source: what registers, moves and takes back the cell's key, for every kind of cell. calloop
+-- registers a descriptor with its poller; here a place is opened on the board under one lock, and the cell gets its key under
+-- another. What is seen of a source is its twin, which has the key that it gave the cell.
+use Rattle.std.specs.Prelude.{◌≡◌, ℕ, List, [], false, Option, Some, None, IsSome, Result, Ok, Err}
+use Rattle.std.specs.declared.io.ErrorKind.TheVariants.{AlreadyExists, NotFound}
+use Rattle.calloop_wake.specs.declared.error.Error.{Error}
+use Rattle.calloop_wake.specs.declared.error.Error.TheVariants.{TooManyTokens}
+use Rattle.calloop_wake.specs.declared.token.Token.{Token}
+use Rattle.calloop_wake.specs.declared.token.TokenFactory.{TokenFactory}
+use Rattle.calloop_wake.specs.declared.wake.Twin.{Twin}
+use Rattle.calloop_wake.specs.Tokens.{key_of, next_token, after_token, most_tokens}
+use Rattle.calloop_wake.specs.Cells.{is_own}
+use Rattle.calloop_core.specs.Deeds.{Deed, Registered, Reregistered, Unregistered, Turned, Slept, Noticed}
+use Rattle.calloop_core.specs.Holdings.{holds_none}
+use Rattle.calloop_core.specs.Meanings.{Meaning}
+use Rattle.calloop_core.specs.Polls.{PollView, PollStep, CannotOpen, IsOfKind}
+
+-- why a registration is refused: it is registered already, the factory has no more tokens, or the place can't be
+-- opened
+pub data RefusedCell (own : Option ℕ) (f : TokenFactory) (e : Error) (g : TokenFactory) : Type 0 where
+  AlreadyRegistered : IsSome own → IsOfKind AlreadyExists e → g ≡ f → RefusedCell own f e g
+  NoToken : own ≡ None → e ≡ TooManyTokens → f.given ≡ most_tokens → g ≡ f → RefusedCell own f e g
+  NoPlace : own ≡ None → CannotOpen e → g ≡ after_token f → RefusedCell own f e g
+
+-- the place of its token is opened, the key is set, and what stood is posted
+abbrev pub Registers : {P : Type 0} → Twin → TokenFactory → Result (Unit {0}) Error → List (PollStep P) → Twin
+    → TokenFactory → Type 0
+Registers twin f (Ok u) steps after g =
+    (twin.key ≡ None) × (steps ≡ []) × (after ≡ record twin { key = Some (key_of (next_token f)) })
+    × (g ≡ after_token f)
+Registers twin f (Err e) steps after g = (steps ≡ []) × (after ≡ twin) × RefusedCell twin.key f e g
+
+-- why a registration anew is refused: it isn't registered, the factory has no more tokens, or the place of another
+-- key can't be opened
+pub data RefusedAnew (own : Option ℕ) (f : TokenFactory) (e : Error) (g : TokenFactory) : Type 0 where
+  NotRegistered : own ≡ None → IsOfKind NotFound e → g ≡ f → RefusedAnew own f e g
+  NoTokenAnew : IsSome own → e ≡ TooManyTokens → f.given ≡ most_tokens → g ≡ f → RefusedAnew own f e g
+  NoPlaceAnew : IsSome own → is_own (key_of (next_token f)) own ≡ false → CannotOpen e → g ≡ after_token f
+      → RefusedAnew own f e g
+
+-- A cell that is registered moves to its next token: the place of that is opened, the key is set, the old key's
+-- place is closed, and what stood is posted. Under the same key nothing is done. calloop's poller changes the
+-- descriptor's key in one step.
+abbrev pub RegistersAnew : {P : Type 0} → Twin → TokenFactory → Result (Unit {0}) Error → List (PollStep P) → Twin
+    → TokenFactory → Type 0
+RegistersAnew twin f (Ok u) steps after g =
+    IsSome twin.key × (steps ≡ []) × (after ≡ record twin { key = Some (key_of (next_token f)) })
+    × (g ≡ after_token f)
+RegistersAnew twin f (Err e) steps after g = (steps ≡ []) × (after ≡ twin) × RefusedAnew twin.key f e g
+
+-- the key is cleared and its place is closed; what stands stays
+abbrev pub Unregisters : {P : Type 0} → Twin → Result (Unit {0}) Error → List (PollStep P) → Twin → Type 0
+Unregisters twin (Ok u) steps after = IsSome twin.key × (steps ≡ []) × (after ≡ record twin { key = None })
+Unregisters twin (Err e) steps after = (twin.key ≡ None) × IsOfKind NotFound e × (steps ≡ []) × (after ≡ twin)
+
+-- a turn: the source and the view before it, its token, what it took and gave, its steps, and the twin after it
+abbrev pub CellTurns : (S P T : Type 0) → Type 1
+CellTurns S P T = S → PollView P → Token → T → List (PollStep P) → Twin → Type 0
+
+-- a source that is a cell's receiving end, with this twin; `Same` says that its cell stays the same one
+abbrev pub IsCell : {S P T : Type 0} → (twin : S → Twin) → (Same : S → S → Type 0) → CellTurns S P T → S → PollView P
+    → Deed T → List (PollStep P) → S → Type 0
+IsCell twin Same Turns s v (Registered f answer g) steps t = Registers (twin s) f answer steps (twin t) g × Same s t
+IsCell twin Same Turns s v (Reregistered f answer g) steps t =
+    RegistersAnew (twin s) f answer steps (twin t) g × Same s t
+IsCell twin Same Turns s v (Unregistered answer) steps t = Unregisters (twin s) answer steps (twin t) × Same s t
+IsCell twin Same Turns s v (Slept answer) steps t = (answer ≡ Ok None) × (steps ≡ []) × (t ≡ s)
+IsCell twin Same Turns s v (Noticed events) steps t = (steps ≡ []) × (t ≡ s)
+IsCell twin Same Turns s v (Turned readiness token turn) steps t = Turns s v token turn steps (twin t) × Same s t
+
+-- the key that it gave its cell
+abbrev pub cell_keys : {S : Type 0} → (twin : S → Twin) → S → (key : ℕ) → Type 0
+cell_keys twin s key = (twin s).key ≡ Some key
+
+abbrev pub cell_meaning : {S P T : Type 0} → (twin : S → Twin) → (Same : S → S → Type 0) → CellTurns S P T → Meaning S P T
+cell_meaning twin Same Turns =
+    record {
+      holds = λ s. holds_none;
+      keys = cell_keys twin;
+      fits = λ s. Unit {0};
+      needs = λ s. false;
+      does = IsCell twin Same Turns;
+    }

@@ -1,0 +1,145 @@
+-- What a channel means as a source. Its registrations are those of a ping.
+use Rattle.std.specs.Prelude.{◌≡◌, ◌+◌, ◌<◌, ◌⊎◌, Bool, true, false, ◌||◌, List, [], ◌∷◌, ◌++◌, Option, None, Some, Result, Ok, Err}
+use Rattle.std.specs.Arc.{arc_value}
+use Rattle.calloop_wake.specs.declared.token.Token.{Token}
+use Rattle.calloop_wake.specs.declared.wake.Twin.{Twin}
+use Rattle.calloop_wake.specs.declared.wake.ChannelTurn.{ChannelTurn}
+use Rattle.calloop_wake.specs.declared.wake.channel.Popped.{Popped}
+use Rattle.calloop_wake.specs.declared.wake.channel.Popped.TheVariants.{Item, Empty, Closed as NoMore}
+use Rattle.calloop_wake.specs.Tokens.{key_of}
+use Rattle.calloop_wake.specs.Passes.{Taken}
+use Rattle.calloop_wake.specs.Cells.{is_own}
+use Rattle.calloop_wake.specs.Channels.{LabelView, pops, is_close, turn_after_pop, twin_after_pop}
+use Rattle.calloop_core.specs.declared.sources.PostAction.{PostAction}
+use Rattle.calloop_core.specs.declared.sources.PostAction.TheVariants.{Continue}
+use Rattle.calloop_core.specs.Calls.{CallbackCall, Calling, Went}
+use Rattle.calloop_core.specs.Deeds.{Heard}
+use Rattle.calloop_core.specs.Meanings.{Meaning}
+use Rattle.calloop_core.specs.Polls.{PollView, PollStep, TakePass, PutBack}
+use Rattle.calloop.specs.declared.channel.Event.{Event}
+use Rattle.calloop.specs.declared.channel.Event.TheVariants.{Msg, Closed}
+use Rattle.calloop.specs.declared.channel.ChannelError.{ChannelError}
+use Rattle.calloop.specs.declared.channel.Channel.{Channel}
+use Rattle.calloop.specs.CellSources.{cell_meaning}
+use Rattle.calloop.specs.Pings.{action_of}
+
+-- the calls of a channel's callback
+abbrev pub ChannelCalls : Type 0 → Type 0
+ChannelCalls T = List (CallbackCall (Event T) (Unit {0}) (Unit {0}))
+
+abbrev pub calling : {T : Type 0} → Event T → ChannelCalls T
+calling e = record { event = e; before = tt; after = tt; answer = tt } ∷ []
+
+-- what a pop's answer is called with: a message, the close, or nothing
+abbrev pub call_of : {T : Type 0} → Popped T → ChannelCalls T
+call_of (Item x) = calling (Msg x)
+call_of Empty = []
+call_of NoMore = calling Closed
+
+abbrev pub calls_of : {T : Type 0} → List (Popped T) → ChannelCalls T
+calls_of [] = []
+calls_of (p ∷ ps) = call_of p ++ calls_of ps
+
+-- a turn with what its pops gave, in order
+abbrev pub turn_after : {T : Type 0} → List (Popped T) → ChannelTurn → ChannelTurn
+turn_after [] turn = turn
+turn_after (p ∷ ps) turn = turn_after ps (turn_after_pop p turn)
+
+abbrev pub twin_after : {T : Type 0} → List (Popped T) → Twin → Twin
+twin_after [] twin = twin
+twin_after (p ∷ ps) twin = twin_after ps (twin_after_pop p twin)
+
+-- each pop is made by a turn that may make one more, and whose last one found a message
+abbrev pub ArePops : {T : Type 0} → List (Popped T) → ChannelTurn → Type 0
+ArePops [] turn = Unit {0}
+ArePops (p ∷ ps) turn = (0 < turn.left) × (turn.done ≡ false) × ArePops ps (turn_after_pop p turn)
+
+-- a turn ends at a pop that finds no message, or where it made all that it may
+abbrev pub IsOver : ChannelTurn → Type 0
+IsOver turn = (turn.left ≡ 0) ⊎ (turn.done ≡ true)
+
+-- a pop told the close
+abbrev pub told_in : {T : Type 0} → List (Popped T) → Bool
+told_in [] = false
+told_in (p ∷ ps) = is_close p || told_in ps
+
+-- what a turn did: the pops that it made and what they gave, what became of it and of the twin, whether the close was told, and
+-- that the callback was called for just these
+pub record Handed
+    {F T X Q : Type 0}
+    (may : Calling F (Event T) (Unit {0}) (Unit {0}) X Q)
+    (reaches : Q → Q → Type 0)
+    (turn : ChannelTurn) (twin : Twin) (f : F) (x : X) (q : Q)
+    (popped : List (Popped T))
+    (turn' : ChannelTurn) (twin' : Twin) (told : Bool) (g : F) (y : X) (r : Q) : Type 0 where
+  pub are : ArePops popped turn
+  pub turn_is : turn' ≡ turn_after popped turn
+  pub twin_is : twin' ≡ twin_after popped twin
+  pub told_is : told ≡ told_in popped
+  pub went : Went may reaches f x q (calls_of popped) g y r
+
+-- a turn of a channel with this bound that made no pop yet
+abbrev pub begun : LabelView → ChannelTurn
+begun label = record { name = label.name; left = pops label.bound; done = false }
+
+-- what the cell answers to a pass
+pub data Answered (T : Type 0) : Type 0 where
+  -- a turn, with what its pops gave
+  Opened : (popped : List (Popped T)) → Answered T
+  -- no turn: the pass is of another key, or a turn stands open
+  Refused : Answered T
+
+-- The callback is called with the messages of the turn's pops in order, and then with the close where it is told, which removes
+-- the source; the twin counts just these. A turn goes on to a pop that finds no message, or makes all that it may. calloop's
+-- process_events is this loop over its queue.
+abbrev pub AnsweredSo : {P T : Type 0} → LabelView → Answered T → Taken → Twin → ChannelCalls T → PostAction
+    → List (PollStep P) → Twin → Type 0
+AnsweredSo label (Opened popped) p twin calls action steps after =
+    ArePops popped (begun label) × IsOver (turn_after popped (begun label))
+    × (calls ≡ calls_of popped) × (action ≡ action_of (told_in popped)) × (steps ≡ TakePass ∷ [])
+    × (after ≡ twin_after popped (record twin { turns = twin.turns + 1 }))
+AnsweredSo label Refused p twin calls action steps after =
+    (calls ≡ []) × (action ≡ Continue)
+    × (steps ≡ TakePass ∷ PutBack (record p { refused = Some twin.name }) ∷ []) × (after ≡ twin)
+
+abbrev pub ChannelTurnWith : {P T : Type 0} → LabelView → Option Taken → Twin → ChannelCalls T → PostAction
+    → List (PollStep P) → Twin → Type 0
+ChannelTurnWith label None twin calls action steps after =
+    (calls ≡ []) × (action ≡ Continue) × (steps ≡ TakePass ∷ []) × (after ≡ twin)
+ChannelTurnWith {P} {T} label (Some p) twin calls action steps after =
+    (answered : Answered T) × AnsweredSo label answered p twin calls action steps after
+
+abbrev pub ChannelTurnFor : {P T : Type 0} → LabelView → (is_own : Bool) → Option Taken → Twin → ChannelCalls T
+    → PostAction → List (PollStep P) → Twin → Type 0
+ChannelTurnFor label true pass twin calls action steps after =
+    ChannelTurnWith label pass twin calls action steps after
+ChannelTurnFor label false pass twin calls action steps after =
+    (calls ≡ []) × (action ≡ Continue) × (steps ≡ []) × (after ≡ twin)
+
+-- a turn, which never fails
+abbrev pub ChannelTurns : {P T : Type 0} → LabelView → Twin → Token → Option Taken → ChannelCalls T
+    → Result PostAction ChannelError → List (PollStep P) → Twin → Type 0
+ChannelTurns label twin token pass calls (Ok action) steps after =
+    ChannelTurnFor label (is_own (key_of token) twin.key) pass twin calls action steps after
+ChannelTurns label twin token pass calls (Err e) steps after = ⊥
+
+-- what never changes of a channel's cell
+abbrev pub label_of : {T R : Type 0} → Channel T R → LabelView
+label_of s = record { name = (arc_value s.shared).slot.name; bound = (arc_value s.shared).slot.bound }
+
+-- a turn of a channel
+abbrev pub ChannelTakes : {P T R : Type 0} → Channel T R → PollView P → Token
+    → Heard (Event T) (Unit {0}) (Unit {0}) ChannelError → List (PollStep P) → Twin → Type 0
+ChannelTakes s v token turn steps after =
+    ChannelTurns (label_of s) s.twin token v.pass turn.calls turn.answer steps after
+
+abbrev pub channel_twin : {T R : Type 0} → Channel T R → Twin
+channel_twin s = s.twin
+
+-- its cell stays the same one
+abbrev pub SameChannel : {T R : Type 0} → Channel T R → Channel T R → Type 0
+SameChannel s t = t.shared ≡ s.shared
+
+abbrev pub channel_meaning : {P T R : Type 0}
+    → Meaning (Channel T R) P (Heard (Event T) (Unit {0}) (Unit {0}) ChannelError)
+channel_meaning = cell_meaning channel_twin SameChannel ChannelTakes

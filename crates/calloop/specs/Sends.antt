@@ -1,0 +1,18 @@
+-- What a send hands back that is refused.
+use Rattle.calloop.specs.declared.channel.errors.SendError as sent
+use Rattle.calloop.specs.declared.channel.errors.SendError.TheVariants.{Disconnected, OutOfMemory}
+use Rattle.calloop.specs.declared.channel.errors.TrySendError as tried
+use Rattle.calloop.specs.declared.channel.errors.TrySendError.TheVariants.{Full, Disconnected as Left}
+
+-- the message that a send hands back
+abbrev pub unsent : {T : Type 0} → sent.SendError T → T
+unsent (Disconnected x) = x
+unsent (OutOfMemory x) = x
+
+abbrev pub IsDisconnected : {T : Type 0} → sent.SendError T → Type 0
+IsDisconnected (Disconnected x) = Unit {0}
+IsDisconnected (OutOfMemory x) = ⊥
+
+abbrev pub untried : {T : Type 0} → tried.TrySendError T → T
+untried (Full x) = x
+untried (Left x) = x

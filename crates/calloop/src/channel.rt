@@ -1,0 +1,271 @@
+//! Channels: messages that are sent from any thread, as a source.
+ghost use Rattle.std.specs.Prelude.{◌≡◌, ◌<◌, ◌+◌, None, Some, Err, IfOk, IfErr};
+ghost use Rattle.std.specs.Arc.{arc_value};
+ghost use Rattle.std.proofs.Props.{props};
+ghost use Rattle.calloop_wake.specs.declared.error.Error.TheVariants.{OutOfMemory, NoRendezvous};
+ghost use Rattle.calloop.specs.Sends.{unsent, IsDisconnected, untried};
+
+use crate::cell::{SharedCell, abandon, add_sender, drop_sender, receiver};
+use crate::ping::PingError;
+use calloop_core::sys::hub::share;
+use calloop_wake::error::{Error, Result as LoopResult};
+use calloop_wake::wake::channel::{ChannelCore, PutError};
+use calloop_wake::wake::{Receipt, Twin};
+use std::alloc::{AllocError, Global};
+use std::sync::{Arc, Wait};
+use thiserror::Error as ThisError;
+
+mod cell;
+mod errors;
+mod source;
+
+pub use calloop_wake::wake::covered;
+pub use errors::{RecvError, SendError, TryRecvError, TrySendError};
+
+/// What a channel's callback is called with.
+#[derive(Debug, Drop)]
+pub enum Event<T> {
+    /// A message.
+    Msg(T),
+    /// The last sender is gone, and every message was handed out. It is told once.
+    Closed,
+}
+
+/// Why a channel's turn could fail. No turn of this crate's channels does: all that they need was reserved.
+#[derive(Debug, Drop, ThisError)]
+#[error("{0}")]
+pub struct ChannelError(pub PingError);
+
+/// Sends to its channel, from any thread. As many as are cloned send to the same channel, and the drop of the last one closes it.
+pub struct Sender<T: Drop, R: Wait + Drop> {
+    rt: R,
+    shared: SharedCell<ChannelCore<T>>,
+    sender: calloop_wake::wake::Sender,
+    ghost tied: { sender.name ≡ (arc_value shared).slot.name },
+    ghost unbounded: { (arc_value shared).slot.bound ≡ None } by { Prim.hlevel props },
+}
+
+/// Sends to its channel, which holds as many messages as its bound says. A send can wait for room.
+pub struct SyncSender<T: Drop, R: Wait + Drop> {
+    rt: R,
+    shared: SharedCell<ChannelCore<T>>,
+    sender: calloop_wake::wake::Sender,
+    limit: usize,
+    ghost tied: { sender.name ≡ (arc_value shared).slot.name },
+    ghost bounded: { (arc_value shared).slot.bound ≡ Some limit } by { Prim.hlevel props },
+}
+
+/// The receiving end of a channel, and its source. Each message is an event.
+///
+/// Its drop, as by the drop of the loop that it is registered with, takes its registration back.
+pub struct Channel<T: Drop, R: Wait + Drop> {
+    rt: R,
+    shared: SharedCell<ChannelCore<T>>,
+    twin: Twin,
+    ghost tied: { twin.name ≡ (arc_value shared).slot.name },
+}
+
+impl<T: Drop, R: Wait + Drop> Sender<T, R> {
+    /// Appends a message. The receipt is of a message of this very channel.
+    pub fn send(&self, message: T) -> Result<Receipt, SendError<T>>
+        ensures ok { IfOk result (λ r. r.name ≡ (arc_value self.now.shared).slot.name) }
+        ensures err { IfErr result (λ e. unsent e ≡ message) }
+    {
+        match cell::put(&self.rt, &self.shared, message) {
+            Ok(receipt) => Ok(receipt),
+            Err(PutError::Gone(message)) => Err(SendError::Disconnected(message)),
+            Err(PutError::OutOfMemory(message)) => Err(SendError::OutOfMemory(message)),
+            Err(PutError::Full(_)) => unreachable!(),
+        }
+    }
+}
+
+impl<T: Drop, R: Wait + Drop> SyncSender<T, R> {
+    /// Appends a message, and waits while there is no room. The receipt is of a message of this very channel. It takes no
+    /// memory.
+    pub fn send(&self, message: T) -> Result<Receipt, SendError<T>>
+        ensures ok { IfOk result (λ r. r.name ≡ (arc_value self.now.shared).slot.name) }
+        ensures err { IfErr result (λ e. (unsent e ≡ message) × IsDisconnected e) }
+    {
+        cell::put_waiting(&self.rt, &self.shared, message, self.limit)
+    }
+
+    /// Appends a message, where there is room. Where there is none, the channel is pinged. It takes no memory.
+    pub fn try_send(&self, message: T) -> Result<Receipt, TrySendError<T>>
+        ensures ok { IfOk result (λ r. r.name ≡ (arc_value self.now.shared).slot.name) }
+        ensures err { IfErr result (λ e. untried e ≡ message) }
+    {
+        match cell::put(&self.rt, &self.shared, message) {
+            Ok(receipt) => Ok(receipt),
+            Err(PutError::Gone(message)) => Err(TrySendError::Disconnected(message)),
+            Err(PutError::Full(message)) => Err(TrySendError::Full(message)),
+            Err(PutError::OutOfMemory(_)) => unreachable!(),
+        }
+    }
+}
+
+impl<T: Drop, R: Wait + Clone + Drop> Clone for Sender<T, R> {
+    ghost use Rattle.std.specs.Prelude.{◌≡◌};
+    ghost use Rattle.std.specs.Arc.{arc_value};
+
+    ghost is_clone = { λ sender again. (arc_value again.shared).slot ≡ (arc_value sender.shared).slot };
+
+    fn clone(&self) -> Result<Sender<T, R>, AllocError> {
+        let rt = self.rt.clone()?;
+        let shared = Arc::try_clone(&self.shared)?;
+        let sender = add_sender(&self.rt, &self.shared)?;
+        Ok(Sender { rt, shared, sender })
+    }
+}
+
+impl<T: Drop, R: Wait + Clone + Drop> Clone for SyncSender<T, R> {
+    ghost use Rattle.std.specs.Prelude.{◌≡◌};
+    ghost use Rattle.std.specs.Arc.{arc_value};
+
+    ghost is_clone = { λ sender again. (arc_value again.shared).slot ≡ (arc_value sender.shared).slot };
+
+    fn clone(&self) -> Result<SyncSender<T, R>, AllocError> {
+        let rt = self.rt.clone()?;
+        let shared = Arc::try_clone(&self.shared)?;
+        let sender = add_sender(&self.rt, &self.shared)?;
+        let limit = self.limit;
+        Ok(SyncSender {
+            rt,
+            shared,
+            sender,
+            limit,
+        })
+    }
+}
+
+impl<T: Drop, R: Wait + Drop> Drop for Sender<T, R> {
+    fn drop(self) {
+        let Sender { rt, shared, sender } = self;
+        drop_sender(&rt, &shared, sender);
+        shared.tell();
+    }
+}
+
+impl<T: Drop, R: Wait + Drop> Drop for SyncSender<T, R> {
+    fn drop(self) {
+        let SyncSender {
+            rt,
+            shared,
+            sender,
+            limit: _,
+        } = self;
+        drop_sender(&rt, &shared, sender);
+        shared.tell();
+    }
+}
+
+impl<T: Drop, R: Wait + Drop> Drop for Channel<T, R> {
+    fn drop(self) {
+        let Channel { rt, shared, twin } = self;
+        abandon(&rt, &shared, twin);
+        shared.tell();
+    }
+}
+
+impl<T: Drop, R: Wait + Drop> Channel<T, R> {
+    /// The first message. It waits while there is none and a sender is there.
+    pub fn recv(&mut self) -> Result<T, RecvError>
+        ensures ok { IfOk result (λ _. self.new.twin ≡ record self.old.twin { number = self.old.twin.number + 1 }) }
+        ensures err { IfErr result (λ _. self.new.twin ≡ self.old.twin) }
+        ensures shared { self.new.shared ≡ self.old.shared }
+    {
+        cell::take_waiting(&self.rt, &self.shared, &mut self.twin)
+    }
+
+    /// The first message, where there is one.
+    pub fn try_recv(&mut self) -> Result<T, TryRecvError>
+        ensures ok { IfOk result (λ _. self.new.twin ≡ record self.old.twin { number = self.old.twin.number + 1 }) }
+        ensures err { IfErr result (λ _. self.new.twin ≡ self.old.twin) }
+        ensures shared { self.new.shared ≡ self.old.shared }
+    {
+        cell::take(&self.rt, &self.shared, &mut self.twin)
+    }
+}
+
+// Both ends of a cell to which nothing has happened yet.
+fn ends<T: Drop, R: Wait + Clone + Drop>(
+    rt: &R,
+    alloc: Global,
+    bound: Option<usize>,
+) -> LoopResult<
+    (
+        R,
+        SharedCell<ChannelCore<T>>,
+        calloop_wake::wake::Sender,
+        Channel<T, R>,
+    ),
+>
+    ensures sender { IfOk result (λ made. made.2.name ≡ (arc_value made.1).slot.name) }
+    ensures bound { IfOk result (λ made. (arc_value made.1).slot.bound ≡ bound) }
+    ensures twin { IfOk result (λ made. made.3.twin ≡ record { name = (arc_value made.1).slot.name; key = None; turns = 0; number = 0; closes = 0 }) }
+    ensures same { IfOk result (λ made. (arc_value made.3.shared).slot ≡ (arc_value made.1).slot) }
+    ensures err { IfErr result (λ e. e ≡ OutOfMemory) }
+{
+    let of_sender = rt.clone()?;
+    let of_channel = rt.clone()?;
+    let (locked, right) = cell::locked(alloc, bound)?;
+    let shared = Arc::new(alloc, locked)?;
+    let again = share(rt, &shared);
+    let sender = add_sender(rt, &shared)?;
+    let twin = receiver(rt, &shared, right);
+    let channel = Channel {
+        rt: of_channel,
+        shared: again,
+        twin,
+    };
+    Ok((of_sender, shared, sender, channel))
+}
+
+/// A sender and its channel, which holds any number of messages and is registered nowhere. `rt` is the runtime by which they lock
+/// what they share. Calloop has it under the name `channel`.
+///
+/// Want of memory is `OutOfMemory`.
+pub fn make_channel<T: Drop, R: Wait + Clone + Drop>(
+    rt: &R,
+    alloc: Global,
+) -> LoopResult<(Sender<T, R>, Channel<T, R>)>
+    ensures ok { IfOk result (λ made.
+        (made.1.twin ≡ record { name = (arc_value made.0.shared).slot.name; key = None; turns = 0; number = 0; closes = 0 })
+        × ((arc_value made.1.shared).slot ≡ (arc_value made.0.shared).slot)) }
+    ensures err { IfErr result (λ e. e ≡ OutOfMemory) }
+{
+    let (rt, shared, sender, channel) = ends(rt, alloc, None)?;
+    Ok((Sender { rt, shared, sender }, channel))
+}
+
+/// A sender and its channel, which holds at most `bound` messages and is registered nowhere. The queue has room for them from the
+/// beginning.
+///
+/// A bound of 0, which would hand over messages without a queue, is `NoRendezvous`, and want of memory `OutOfMemory`.
+pub fn sync_channel<T: Drop, R: Wait + Clone + Drop>(
+    rt: &R,
+    alloc: Global,
+    bound: usize,
+) -> LoopResult<(SyncSender<T, R>, Channel<T, R>)>
+    ensures ok { IfOk result (λ made.
+        (made.1.twin ≡ record { name = (arc_value made.0.shared).slot.name; key = None; turns = 0; number = 0; closes = 0 })
+        × ((arc_value made.1.shared).slot ≡ (arc_value made.0.shared).slot)
+        × ((arc_value made.0.shared).slot.bound ≡ Some bound)) }
+    ensures none { bound ≡ 0 → result ≡ Err NoRendezvous }
+    ensures err { 0 < bound → IfErr result (λ e. e ≡ OutOfMemory) }
+{
+    if bound == 0 {
+        return Err(Error::NoRendezvous);
+    }
+    let (rt, shared, sender, channel) = ends(rt, alloc, Some(bound))?;
+    let limit = bound;
+    Ok((
+        SyncSender {
+            rt,
+            shared,
+            sender,
+            limit,
+        },
+        channel,
+    ))
+}

@@ -1,0 +1,194 @@
+//! The sections of the lock of a channel's cell that no other kind of cell has.
+ghost use Rattle.std.specs.Prelude.{◌≡◌, ◌⊎◌, ◌<◌, ◌+◌, true, false, None, Some, IfOk, IfErr};
+ghost use Rattle.calloop_wake.specs.Cells.{one};
+ghost use Rattle.calloop_wake.specs.Channels.{handed_back, FitsBound, pops, turn_after_pop, twin_after_pop};
+ghost use Rattle.calloop.specs.Sends.{unsent, IsDisconnected};
+ghost use Rattle.calloop_wake.specs.declared.error.Error.TheVariants.{OutOfMemory};
+
+use super::{RecvError, SendError, TryRecvError};
+use crate::cell::{Cell, settle};
+use calloop_wake::error::Result as LoopResult;
+use calloop_wake::wake::channel::{ChannelCore, Popped, PutError};
+use calloop_wake::wake::locked::Locked;
+use calloop_wake::wake::{ChannelTurn, Receipt, ReceivingRight, TakenPass, Twin};
+use std::alloc::Global;
+use std::sync::Wait;
+
+/// What the ends of a channel share.
+pub type ChannelCell<T> = Cell<ChannelCore<T>>;
+
+/// A cell to which nothing has happened yet, under its lock, and the right to its receiving end.
+pub fn locked<T: Drop>(
+    alloc: Global,
+    bound: Option<usize>,
+) -> LoopResult<(Locked<ChannelCell<T>>, ReceivingRight)>
+    ensures right { IfOk result (λ made. made.1.name ≡ made.0.slot.name) }
+    ensures bound { IfOk result (λ made. made.0.slot.bound ≡ bound) }
+    ensures err { IfErr result (λ e. e ≡ OutOfMemory) }
+{
+    let (core, label, right) = ChannelCore::new(alloc, bound)?;
+    Ok((Cell::locked(core, &label), right))
+}
+
+/// Appends a message. Where there is no room, the channel is pinged.
+pub fn put<T: Drop, R: Wait>(
+    rt: &R,
+    shared: &Locked<ChannelCell<T>>,
+    message: T,
+) -> Result<Receipt, PutError<T>>
+    ensures ok { IfOk result (λ r. r.name ≡ shared.now.slot.name) }
+    ensures err { IfErr result (λ e. (handed_back e ≡ message) × FitsBound shared.now.slot.bound e) }
+{
+    let (gate, mut cell) = shared.lock(rt);
+    match cell.core.put(message) {
+        Ok((receipt, debt)) => {
+            let owed = cell.owed(rt, debt);
+            shared.unlock(rt, gate, cell);
+            shared.tell();
+            settle(rt, owed);
+            Ok(receipt)
+        }
+        Err(PutError::Full(message)) => {
+            let debt = cell.core.ring();
+            let owed = cell.owed(rt, debt);
+            shared.unlock(rt, gate, cell);
+            settle(rt, owed);
+            Err(PutError::Full(message))
+        }
+        Err(refused) => {
+            shared.unlock(rt, gate, cell);
+            Err(refused)
+        }
+    }
+}
+
+/// Appends a message to a channel with a bound, and waits while there is no room.
+pub fn put_waiting<T: Drop, R: Wait>(
+    rt: &R,
+    shared: &Locked<ChannelCell<T>>,
+    message: T,
+    limit: usize,
+) -> Result<Receipt, SendError<T>>
+    requires { shared.now.slot.bound ≡ Some limit }
+    ensures ok { IfOk result (λ r. r.name ≡ shared.now.slot.name) }
+    ensures err { IfErr result (λ e. (unsent e ≡ message) × IsDisconnected e) }
+{
+    let (mut gate, mut cell) = shared.lock(rt);
+    let mut message = message;
+    for _ in rt.forever() {
+        match cell.core.put(message) {
+            Ok((receipt, debt)) => {
+                let owed = cell.owed(rt, debt);
+                shared.unlock(rt, gate, cell);
+                shared.tell();
+                settle(rt, owed);
+                return Ok(receipt);
+            }
+            Err(PutError::Gone(refused)) => {
+                shared.unlock(rt, gate, cell);
+                return Err(SendError::Disconnected(refused));
+            }
+            Err(PutError::Full(refused)) => message = refused,
+            Err(PutError::OutOfMemory(_)) => unreachable!(),
+        }
+        (gate, cell) = shared.wait(rt, gate, cell);
+    }
+    unreachable!()
+}
+
+/// The first message, where there is one.
+pub fn take<T: Drop, R: Wait>(
+    rt: &R,
+    shared: &Locked<ChannelCell<T>>,
+    twin: &mut Twin,
+) -> Result<T, TryRecvError>
+    requires { twin.old.name ≡ shared.now.slot.name }
+    ensures ok { IfOk result (λ _. twin.new ≡ record twin.old { number = twin.old.number + 1 }) }
+    ensures err { IfErr result (λ _. twin.new ≡ twin.old) }
+{
+    let (gate, mut cell) = shared.lock(rt);
+    let message = cell.core.take(twin);
+    let closed = cell.core.is_closed();
+    shared.unlock(rt, gate, cell);
+    shared.tell();
+    match message {
+        Some(message) => Ok(message),
+        None if closed => Err(TryRecvError::Disconnected),
+        None => Err(TryRecvError::Empty),
+    }
+}
+
+/// The first message. It waits while there is none and a sender is there.
+pub fn take_waiting<T: Drop, R: Wait>(
+    rt: &R,
+    shared: &Locked<ChannelCell<T>>,
+    twin: &mut Twin,
+) -> Result<T, RecvError>
+    requires { twin.old.name ≡ shared.now.slot.name }
+    ensures ok { IfOk result (λ _. twin.new ≡ record twin.old { number = twin.old.number + 1 }) }
+    ensures err { IfErr result (λ _. twin.new ≡ twin.old) }
+{
+    let (mut gate, mut cell) = shared.lock(rt);
+    for _ in rt.forever() {
+        if let Some(message) = cell.core.take(twin) {
+            shared.unlock(rt, gate, cell);
+            shared.tell();
+            return Ok(message);
+        }
+        if cell.core.is_closed() {
+            shared.unlock(rt, gate, cell);
+            return Err(RecvError);
+        }
+        (gate, cell) = shared.wait(rt, gate, cell);
+    }
+    unreachable!()
+}
+
+/// Opens a turn of the cell with the pass, which comes back as refused where it opens none.
+pub fn open_turn<T: Drop, R: Wait>(
+    rt: &R,
+    shared: &Locked<ChannelCell<T>>,
+    twin: &mut Twin,
+    pass: TakenPass,
+) -> Result<ChannelTurn, TakenPass>
+    requires { twin.old.name ≡ shared.now.slot.name }
+    ensures ok { IfOk result (λ turn. (turn ≡ record { name = shared.now.slot.name; left = pops shared.now.slot.bound; done = false }) × (twin.new ≡ record twin.old { turns = twin.old.turns + 1 })) }
+    ensures err { IfErr result (λ refused. (refused ≡ record pass { refused = Some twin.old.name }) × (twin.new ≡ twin.old)) }
+{
+    let (gate, mut cell) = shared.lock(rt);
+    let opened = cell.core.open_turn(pass, twin);
+    shared.unlock(rt, gate, cell);
+    opened
+}
+
+/// A pop of the turn.
+pub fn pop<T: Drop, R: Wait>(
+    rt: &R,
+    shared: &Locked<ChannelCell<T>>,
+    twin: &mut Twin,
+    turn: &mut ChannelTurn,
+) -> Popped<T>
+    requires left { 0 < turn.old.left }
+    requires turn { turn.old.name ≡ shared.now.slot.name }
+    requires twin { twin.old.name ≡ shared.now.slot.name }
+    ensures turn { turn.new ≡ turn_after_pop result turn.old }
+    ensures twin { twin.new ≡ twin_after_pop result twin.old }
+{
+    let (gate, mut cell) = shared.lock(rt);
+    let popped = cell.core.pop(turn, twin);
+    shared.unlock(rt, gate, cell);
+    shared.tell();
+    popped
+}
+
+/// Ends a turn of the cell.
+pub fn end_turn<T: Drop, R: Wait>(rt: &R, shared: &Locked<ChannelCell<T>>, turn: ChannelTurn)
+    requires name { turn.name ≡ shared.now.slot.name }
+    requires over { (turn.left ≡ 0) ⊎ (turn.done ≡ true) }
+{
+    let (gate, mut cell) = shared.lock(rt);
+    let debt = cell.core.end_turn(turn);
+    let owed = cell.owed(rt, debt);
+    shared.unlock(rt, gate, cell);
+    settle(rt, owed);
+}
