@@ -147,6 +147,12 @@ module _ {D I P X : Type 0} (M : Meaning D P (Lent X (Asks D I))) (runs : Runs D
       let stands : StandsIn v.slots token.slot old = (s.0, s.1, sym s.3 ∙ is) in
       one_step (ExchangedBy token new (Ok old)) (Swapped token.slot old new ∷ []) (record v { slots = changed (with_content (Source new)) v.slots token.slot }) (rw is (refl, refl)) (stands, tt) refl
 
+  -- whatever is written where a source was lent
+  pub written_back : {B : Type 0} (token : RegistrationToken) (answer : Result B Error) (lent : B → D) → IfOk answer (λ b. named v.slots token ≡ Source (lent b))
+      → IfOk answer (λ b. (written : D) → Did (Case M runs O (Exchange token written) (Exchanged (Ok (lent b)))) v (record v { slots = changed (with_content (Source written)) v.slots token.slot }))
+  written_back token (Ok b) lent is = λ written. exchanged token (lent b) written is
+  written_back token (Err e) lent is = tt
+
   pub idle_added : (idle : I) (answer : Result Idle (InsertError I)) (asked : Asks D I)
       → IfOk answer (λ i. (v.held.asks.next < 2 ^ 64 - 1) × (i.ticket.number ≡ v.held.asks.next) × (asked ≡ with_new_idle idle v.held.asks))
       → IfErr answer (λ e. (e.inserted ≡ idle) × CannotAsk v.held.asks e.error × (asked ≡ v.held.asks))

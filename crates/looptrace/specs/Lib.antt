@@ -7,3 +7,4 @@ pub mod Says
 pub mod Sources
 pub mod Named
 pub mod Runs
+pub mod InTime

@@ -14,6 +14,7 @@ use Rattle.calloop_wake.specs.declared.error.Error.TheVariants.{
   TooManyTimers,
   TooManyTickets,
   OwnTurn,
+  NoRendezvous,
 }
 use Rattle.calloop_wake.specs.declared.error.InsertError.{InsertError}
 use Rattle.calloop_wake.specs.declared.token.RegistrationToken.{RegistrationToken}
@@ -106,6 +107,7 @@ word_of TooManyTokens = codes "TooManyTokens"
 word_of TooManyTimers = codes "TooManyTimers"
 word_of TooManyTickets = codes "TooManyTickets"
 word_of OwnTurn = codes "OwnTurn"
+word_of NoRendezvous = codes "NoRendezvous"
 
 abbrev pub answer_text : Result (Unit {0}) Error → List ℕ
 answer_text (Ok u) = []

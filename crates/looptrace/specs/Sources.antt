@@ -21,17 +21,17 @@ use Rattle.looptrace.specs.declared.source.Alarm.{Alarm}
 use Rattle.looptrace.specs.Says.{Tells}
 use Rattle.looptrace.specs.Texts.{call_text, alarm_text}
 
--- a teller says its name and stays as it is
+-- a teller says its name, stays as it is, and asks for nothing
 abbrev pub tells : {Q : Type 0} → Teller → Unit {0} → Unit {0} → Option (List ℕ) → Q → Unit {0}
     → Teller → Unit {0} → Option (List ℕ) → Q → Type 0
 tells teller event metadata said asked answer after metadata' said' asked' =
-    (after ≡ teller) × Tells (call_text teller.name) said said'
+    (after ≡ teller) × Tells (call_text teller.name) said said' × (asked' ≡ asked)
 
--- an alarm says its name and the deadline, stays as it is, and lets its timer leave the loop
+-- an alarm says its name and the deadline, stays as it is, asks for nothing, and lets its timer leave the loop
 abbrev pub tells_deadline : {Q : Type 0} → Alarm → Instant → Unit {0} → Option (List ℕ) → Q → TimeoutAction
     → Alarm → Unit {0} → Option (List ℕ) → Q → Type 0
 tells_deadline alarm deadline metadata said asked answer after metadata' said' asked' =
-    (answer ≡ Drop) × (after ≡ alarm) × Tells (alarm_text alarm.name deadline.nanos) said said'
+    (answer ≡ Drop) × (after ≡ alarm) × Tells (alarm_text alarm.name deadline.nanos) said said' × (asked' ≡ asked)
 
 -- the sources of a script: a ping with its teller, or a timer with its alarm
 abbrev pub Source : Type 0 → Type 0

@@ -3,6 +3,7 @@
 
 pub mod command;
 pub mod driver;
+pub mod laws;
 pub mod lines;
 pub mod name;
 pub mod named;

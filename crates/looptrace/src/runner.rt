@@ -69,6 +69,7 @@ fn word_of(error: &Error) -> &'static str
         Error::TooManyTimers => "TooManyTimers",
         Error::TooManyTickets => "TooManyTickets",
         Error::OwnTurn => "OwnTurn",
+        Error::NoRendezvous => "NoRendezvous",
     }
 }
 

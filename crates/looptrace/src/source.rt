@@ -7,7 +7,8 @@ ghost use Rattle.looptrace.specs.Texts.{call_text, alarm_text};
 use crate::name::SourceName;
 use crate::text::{append_alarm, append_call};
 use calloop::{
-    Asking, Callback, Dispatcher, Instant, OneOf, PingSource, Sources, TimeoutAction, Timer,
+    Asking, Callback, Dispatcher, Instant, OneOf, PingSource, QuietCallback, Sources,
+    TimeoutAction, Timer,
 };
 use std::alloc::Global;
 use std::marker::Model;
@@ -82,6 +83,10 @@ impl<Q: Asking> Callback<(), (), (), Said, Q> for Teller {
     }
 }
 
+impl<Q: Asking> QuietCallback<(), (), (), Said, Q> for Teller {
+    ghost quiet = { λ f g e m n x y q r t h. h.2 };
+}
+
 /// Says the name of the timer that is called, and the deadline that is handed out.
 #[derive(Drop)]
 pub struct Alarm {
@@ -103,6 +108,10 @@ impl<Q: Asking> Callback<Instant, (), TimeoutAction, Said, Q> for Alarm {
         said.alarm(self.name.as_slice(), deadline);
         TimeoutAction::Drop
     }
+}
+
+impl<Q: Asking> QuietCallback<Instant, (), TimeoutAction, Said, Q> for Alarm {
+    ghost quiet = { λ f g e m n x y q r t h. h.3 };
 }
 
 /// The sources of a script.

@@ -7,9 +7,9 @@ ghost use Rattle.std.specs.Borrow.{Lends, LendsIfOk, sem};
 ghost use Rattle.std.specs.Prelude.{[]};
 ghost use mir.Syntax.{named};
 ghost use Rattle.calloop.specs.contracts.loop_logic.LoopHandle.{the_row};
-ghost use Rattle.calloop.specs.Lending.{with_handle_poller, with_handle_source};
-ghost use Rattle.calloop.specs.declared.loop_logic.LoopCall.TheVariants.{Insert, Enable, Update, Disable, Remove, InsertIdle, Cancel, Answer as AnswerOf};
-ghost use Rattle.calloop.specs.declared.loop_logic.LoopAnswer.TheVariants.{Inserted, Enabled, Updated, Disabled, Removed, IdleInserted, Cancelled, Answered};
+ghost use Rattle.calloop.specs.Lending.{with_loop_poller, with_loop_source, with_handle_poller, with_handle_source};
+ghost use Rattle.calloop.specs.declared.loop_logic.LoopCall.TheVariants.{Insert, Enable, Update, Disable, Remove, Exchange, InsertIdle, Cancel, Answer as AnswerOf, Poller as NewPoller};
+ghost use Rattle.calloop.specs.declared.loop_logic.LoopAnswer.TheVariants.{Inserted, Enabled, Updated, Disabled, Removed, Exchanged, IdleInserted, Cancelled, Answered, Poller as OldPoller};
 ghost use Rattle.calloop.specs.Machine.{view_of};
 ghost use Rattle.calloop.specs.Rules.{Case, Did, Leads, held_answer};
 
@@ -201,6 +201,8 @@ impl<D: EventDispatcher<P, C, R>, P: Poller, C: Clock, R: Wait + Drop> LoopHandl
     pub fn dispatcher_mut(&mut self, token: &RegistrationToken) -> Result<&mut D>
         ensures* writes_back { sem 𝓛 (LendsIfOk (the_row (record { mir = named 1; lft = [] }) D.row P.row C.row R.row D.Data.row D.Idle.row P.Io.row) D.row self.entry result (λ w. with_handle_source token.now w self.old) self.old) }
         ensures ok { IfOk result (λ held. named_by (view_of self.old.inner.now).slots token.now ≡ Source held.now) }
+        ensures machine { IfOk result (λ held. (written : D) → Did (Case D.means D.Idle.runs P.outside (Exchange token.now written) (Exchanged (Ok held.now)))
+            (view_of self.old.inner.now) (view_of (with_loop_source token.now written self.old.inner.now))) }
         ensures refuses { IsErr result ↔ (source_of (named_by (view_of self.old.inner.now).slots token.now) ≡ None) }
         ensures err { IfErr result (λ e. e ≡ InvalidToken) }
     {
@@ -292,6 +294,8 @@ impl<D: EventDispatcher<P, C, R>, P: Poller, C: Clock, R: Wait + Drop> LoopHandl
     pub fn poller_mut(&mut self) -> &mut P
         ensures* writes_back { sem 𝓛 (Lends (the_row (record { mir = named 1; lft = [] }) D.row P.row C.row R.row D.Data.row D.Idle.row P.Io.row) P.row self.entry result (λ w. with_handle_poller w self.old)) }
         ensures value { result.now ≡ self.old.inner.now.poll.poller }
+        ensures machine { (written : P) → Did (Case D.means D.Idle.runs P.outside (NewPoller written) (OldPoller result.now))
+            (view_of self.old.inner.now) (view_of (with_loop_poller written self.old.inner.now)) }
     {
         self.inner.poll.poller_mut()
     }

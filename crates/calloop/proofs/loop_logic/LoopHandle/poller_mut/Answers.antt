@@ -1,5 +1,13 @@
-use Rattle.std.proofs.Common.{refl}
+use Rattle.std.proofs.Common.{refl, [], ◌∷◌}
+use Rattle.calloop.specs.Machine.{Polling}
 use Rattle.calloop.proofs.loop_logic.LoopHandle.poller_mut.Goals as goal
 
 pub returns : goal.returns
-returns g c = ((refl, λ w. refl), c.poller_mut.ensures)
+returns g c = (
+  (refl, λ w. refl),
+  record {
+    writes_back = tt;
+    value = c.poller_mut.ensures.value;
+    machine = λ written. ((Polling written ∷ []) ∷ [], (c.poller_mut.ensures.value, refl), refl);
+  },
+)

@@ -1,0 +1,131 @@
+-- The lines of a script make calls that bring no counter of a timer into the loop.
+use Rattle.std.proofs.Common.{◌≡◌, ◌⊎◌, inl, inr, ℕ, List, [], ◌∷◌, Option, Some, None, true, refl, sym, ap, ◌∙◌, subst}
+use Rattle.logbook.specs.Pages.{Book}
+use Rattle.calloop_wake.specs.declared.token.RegistrationToken.{RegistrationToken}
+use Rattle.calloop_core.specs.declared.sys.script.ScriptPoller.{ScriptPoller}
+use Rattle.calloop_core.specs.declared.sys.Readiness.{Readiness}
+use Rattle.calloop_core.specs.declared.sources.Dispatcher.{Dispatcher}
+use Rattle.calloop_core.specs.declared.sources.OneOf.{OneOf}
+use Rattle.calloop_core.specs.declared.sources.OneOf.TheVariants.{First, Other}
+use Rattle.calloop_core.specs.declared.timer.Timer.{Timer as TimerSource}
+use Rattle.calloop_core.specs.ScriptPollers.{script_outside}
+use Rattle.calloop.specs.declared.ping.PingSource.{PingSource}
+use Rattle.calloop.specs.declared.loop_logic.LoopCall.TheVariants.{Insert, Enable, Update, Disable, Remove as RemoveCall, Exchange, Dispatch as DispatchCall, InsertIdle, Cancel, Answer as AnswerOf, ForgetStop, LookForStop, Poller as NewPoller}
+use Rattle.calloop.specs.declared.loop_logic.LoopAnswer.{LoopAnswer}
+use Rattle.calloop.specs.declared.loop_logic.LoopAnswer.TheVariants.{Inserted, Removed, Dispatched, Poller as OldPoller}
+use Rattle.calloop.specs.Machine.{View, World, seen}
+use Rattle.calloop.specs.Laws.{IsFresh}
+use Rattle.calloop.specs.Freshness.{AllFreshCalls}
+use Rattle.calloop.proofs.Running.{run_none, run_first}
+use Rattle.looptrace.specs.declared.command.Command.{Command}
+use Rattle.looptrace.specs.declared.command.Command.TheVariants.{Nothing, Ping, Ring, Close, Remove}
+use Rattle.looptrace.specs.declared.command.Command.TheVariants.{Answer as Event, Timer, Clock, Fault, Dispatch}
+use Rattle.looptrace.specs.declared.source.Teller.{Teller}
+use Rattle.looptrace.specs.declared.source.Alarm.{Alarm}
+use Rattle.looptrace.specs.Sources.{Source, source_meaning, no_idles}
+use Rattle.looptrace.specs.Runs.{State, Calls, Carried, IsPingOf, IsNewPing, IsNewTimer, new_timer, token_with, RemoveOf, showing, DispatchLine, InsertLine, AnswerLine, RingLine, CloseLine, ClockLine}
+use Rattle.looptrace.specs.InTime.{ScriptCall, IsScripted, AllScripted, Asks}
+
+fresh_ping : {R : Type 0} (name : List ℕ) (held : OneOf (Dispatcher (PingSource R) Teller) (Dispatcher TimerSource Alarm)) (s : Source R) (ping : Option Book) → s.held ≡ held → IsPingOf name held ping
+    → IsFresh (source_meaning {P = ScriptPoller}) s
+fresh_ping name (First d) s ping is h = rw is ((λ counter. refl), tt)
+fresh_ping name (Other d) s ping is h = absurd h
+
+fresh_source : {R : Type 0} (s : Source R) → IsScripted (Insert s) → IsFresh (source_meaning {P = ScriptPoller}) s
+fresh_source s (name, inl h) = fresh_ping name s.held s h.0 refl h.1
+fresh_source s (name, inr h) = rw h.1 ((λ counter. refl), tt)
+
+pub fresh_calls : {R : Type 0} (calls : List (ScriptCall R)) (answers : List (LoopAnswer (Source R) ScriptPoller (Option (List ℕ)) (Unit {0}))) → AllScripted calls → AllFreshCalls source_meaning calls answers
+fresh_calls [] answers h = tt
+fresh_calls (call ∷ calls) [] h = tt
+fresh_calls (Insert s ∷ calls) (answer ∷ answers) h = (fresh_source s h.0, fresh_calls calls answers h.1)
+fresh_calls (Enable token ∷ calls) (answer ∷ answers) h = (tt, fresh_calls calls answers h.1)
+fresh_calls (Update token ∷ calls) (answer ∷ answers) h = (tt, fresh_calls calls answers h.1)
+fresh_calls (Disable token ∷ calls) (answer ∷ answers) h = (tt, fresh_calls calls answers h.1)
+fresh_calls (RemoveCall token ∷ calls) (answer ∷ answers) h = (tt, fresh_calls calls answers h.1)
+fresh_calls (Exchange token s ∷ calls) (answer ∷ answers) h = absurd h.0
+fresh_calls (DispatchCall timeout x ∷ calls) (answer ∷ answers) h = (tt, fresh_calls calls answers h.1)
+fresh_calls (InsertIdle idle ∷ calls) (answer ∷ answers) h = (tt, fresh_calls calls answers h.1)
+fresh_calls (Cancel idle ∷ calls) (answer ∷ answers) h = (tt, fresh_calls calls answers h.1)
+fresh_calls (AnswerOf ticket ∷ calls) (answer ∷ answers) h = (tt, fresh_calls calls answers h.1)
+fresh_calls (ForgetStop ∷ calls) (answer ∷ answers) h = (tt, fresh_calls calls answers h.1)
+fresh_calls (LookForStop ∷ calls) (answer ∷ answers) h = (tt, fresh_calls calls answers h.1)
+fresh_calls (NewPoller p ∷ calls) (answer ∷ answers) h = (tt, fresh_calls calls answers h.1)
+
+no_outcome : {A B : Type 0} (x : A) → ◌≡◌ {A = Option A} (Some x) None → B
+no_outcome x h = cc
+
+module _ {R : Type 0} where
+  asks_nothing : (s t : State R) → t ≡ s → Asks s.loop t.loop
+  asks_nothing s t is = record { calls = []; answers = []; scripted = tt; leads = λ w seen_is. ([], w, refl, seen_is ∙ ap (λ (u : State R). u.loop) (sym is)) }
+
+  asks_same : (s t : State R) → t.loop ≡ s.loop → Asks s.loop t.loop
+  asks_same s t is = record { calls = []; answers = []; scripted = tt; leads = λ w seen_is. ([], w, refl, seen_is ∙ sym is) }
+
+  -- one call, and then further ones
+  asks_then : (call : ScriptCall R) (answer : LoopAnswer (Source R) ScriptPoller (Option (List ℕ)) (Unit {0})) (u v x : View (Source R) (Unit {0}) ScriptPoller) → IsScripted call → Calls call answer u v → Asks v x → Asks u x
+  asks_then call answer u v x is did rest = record {
+    calls = call ∷ rest.calls;
+    answers = answer ∷ rest.answers;
+    scripted = (is, rest.scripted);
+    leads = run_first source_meaning no_idles script_outside call answer rest.calls rest.answers u v x did rest.leads;
+  }
+
+  nothing_more : (v : View (Source R) (Unit {0}) ScriptPoller) → Asks v v
+  nothing_more v = record { calls = []; answers = []; scripted = tt; leads = run_none source_meaning no_idles script_outside v }
+
+  asks_once : (call : ScriptCall R) (answer : LoopAnswer (Source R) ScriptPoller (Option (List ℕ)) (Unit {0})) (u v : View (Source R) (Unit {0}) ScriptPoller) → IsScripted call → Calls call answer u v → Asks u v
+  asks_once call answer u v is did = asks_then call answer u v v is did (nothing_more v)
+
+  asks_removal : (s t : State R) (said : List ℕ) (token : Option RegistrationToken) → RemoveOf s token t said → Asks s.loop t.loop
+  asks_removal s t said None h = asks_nothing s t h.0
+  asks_removal s t said (Some token) h = asks_once (RemoveCall token) (Removed h.0) s.loop t.loop tt h.1
+
+  asks_dispatch : (s t : State R) (timeout : Option ℕ) (said : List ℕ) → DispatchLine s timeout t said → Asks s.loop t.loop
+  asks_dispatch s t timeout said h =
+      asks_then (NewPoller h.ready) (OldPoller s.loop.poll.poller) s.loop h.before t.loop tt h.lent
+      (asks_then (DispatchCall h.limit (Some [])) (Dispatched h.answer (Some h.called)) h.before h.after t.loop tt h.dispatched
+      (asks_once (NewPoller t.loop.poll.poller) (OldPoller h.after.poll.poller) h.after t.loop tt h.back))
+
+  state_in : State R → Option (State R × List ℕ) → State R
+  state_in u None = u
+  state_in u (Some (t, said)) = t
+
+  state_of_some : (t u : State R) (said told : List ℕ) → ◌≡◌ {A = Option (State R × List ℕ)} (Some (t, said)) (Some (u, told)) → t ≡ u
+  unfolding state_in
+  state_of_some t u said told is = ap (state_in u) is
+
+  asks_insertion : (s t : State R) (said : List ℕ) (name : List ℕ) (made : Source R → Option Book → Type 0)
+      → ((source : Source R) (ping : Option Book) → made source ping → IsScripted (Insert source)) → InsertLine s name made (Some (t, said)) → Asks s.loop t.loop
+  asks_insertion s t said name made is h = asks_once (Insert h.1) (Inserted h.4) s.loop t.loop (is h.1 h.2 h.3) h.5
+
+  asks_answer : (s t : State R) (said : List ℕ) (key : ℕ) (readiness : Readiness) → AnswerLine s key readiness (Some (t, said)) → Asks s.loop t.loop
+  asks_answer s t said key readiness h = asks_same s t (ap (λ (u : State R). u.loop) h.1)
+
+  asks_ring : (s t : State R) (said : List ℕ) (name : List ℕ) → RingLine s name (Some (t, said)) → Asks s.loop t.loop
+  asks_ring s t said name h = asks_nothing s t h.1
+
+  asks_close : (s t : State R) (said : List ℕ) (name : List ℕ) → CloseLine s name (Some (t, said)) → Asks s.loop t.loop
+  asks_close s t said name h = asks_same s t (ap (λ (u : State R). u.loop) h.1)
+
+  asks_clock : (s t : State R) (moment : ℕ) → ClockLine s moment t → Asks s.loop t.loop
+  asks_clock s t moment h = asks_once (NewPoller (showing moment s.loop.poll.poller)) (OldPoller s.loop.poll.poller) s.loop t.loop tt h.changed
+
+  asks_fault : (s t : State R) (said : List ℕ) → ◌≡◌ {A = Option (State R × List ℕ)} (Some (t, said)) (Some (record s { fault = true }, [])) → Asks s.loop t.loop
+  asks_fault s t said h = asks_same s t (ap (λ (u : State R). u.loop) (state_of_some t (record s { fault = true }) said [] h))
+
+  command_asks : (s t : State R) (said : List ℕ) (command : Command) → Carried s (Some command) (Some (t, said)) → Asks s.loop t.loop
+  command_asks s t said Nothing h = asks_nothing s t (state_of_some t s said [] h)
+  command_asks s t said (Ping name) h = asks_insertion s t said name (IsNewPing name) (λ source ping is. (name, inl (ping, is))) h
+  command_asks s t said (Ring name) h = asks_ring s t said name h
+  command_asks s t said (Close name) h = asks_close s t said name h
+  command_asks s t said (Remove slot version) h = asks_removal s t said (token_with slot version) h
+  command_asks s t said (Event key readiness) h = asks_answer s t said key readiness h
+  command_asks s t said (Timer name deadline) h = asks_insertion s t said name (IsNewTimer name deadline) (λ source ping is. (name, inr (deadline, is.0))) h
+  command_asks s t said (Clock moment) h = asks_clock s t moment h.0
+  command_asks s t said Fault h = asks_fault s t said h
+  command_asks s t said (Dispatch timeout) h = asks_dispatch s t timeout said h
+
+  pub line_asks : (s t : State R) (said : List ℕ) (command : Option Command) → Carried s command (Some (t, said)) → Asks s.loop t.loop
+  line_asks s t said (Some command) h = command_asks s t said command h
+  line_asks s t said None h = no_outcome (t, said) h

@@ -1,0 +1,11 @@
+use Rattle.looptrace.specs.Commands.{command_of}
+use Rattle.looptrace.proofs.InTimeLemmas.{fresh_calls, line_asks}
+use Rattle.looptrace.proofs.laws.timers_are_called_in_time.Goals as goal
+
+pub returns : goal.returns
+returns g c =
+    record {
+      lines = λ s t line said h. line_asks s t said (command_of line) h;
+      in_time = λ calls answers csss w w' new scripted run.
+          c.once_where_nothing_is_asked.ensures.armings calls answers csss w w' new (fresh_calls calls answers scripted) run;
+    }

@@ -1,0 +1,38 @@
+-- What the lines of a script ask of the loop, for the law of its timers.
+use Rattle.std.specs.Prelude.{◌≡◌, ◌⊎◌, ℕ, List, [], ◌∷◌, Option}
+use Rattle.logbook.specs.Pages.{Book}
+use Rattle.calloop_core.specs.declared.sys.script.ScriptPoller.{ScriptPoller}
+use Rattle.calloop.specs.declared.loop_logic.LoopCall.{LoopCall}
+use Rattle.calloop.specs.declared.loop_logic.LoopCall.TheVariants.{Insert, Exchange}
+use Rattle.looptrace.specs.Sources.{Source}
+use Rattle.calloop.specs.declared.loop_logic.LoopAnswer.{LoopAnswer}
+use Rattle.calloop.specs.Machine.{View}
+use Rattle.calloop.specs.Rules.{RunLeads}
+use Rattle.calloop_core.specs.ScriptPollers.{script_outside}
+use Rattle.looptrace.specs.Sources.{source_meaning, no_idles}
+use Rattle.looptrace.specs.Runs.{IsNewPing, new_timer}
+
+abbrev pub ScriptCall : Type 0 → Type 0
+ScriptCall R = LoopCall (Source R) ScriptPoller (Option (List ℕ)) (Unit {0})
+
+-- a call as lines make it: what it inserts is a ping or a timer that was never registered, and it exchanges no source
+abbrev pub IsScripted : {R : Type 0} → ScriptCall R → Type 0
+IsScripted (Insert source) =
+    (name : List ℕ)
+    × (((ping : Option Book) × IsNewPing name source ping) ⊎ ((deadline : ℕ) × (source ≡ new_timer name deadline)))
+IsScripted (Exchange token source) = ⊥
+IsScripted call = Unit {0}
+
+abbrev pub AllScripted : {R : Type 0} → List (ScriptCall R) → Type 0
+AllScripted [] = Unit {0}
+AllScripted (call ∷ calls) = IsScripted call × AllScripted calls
+
+abbrev pub ScriptAnswerOf : Type 0 → Type 0
+ScriptAnswerOf R = LoopAnswer (Source R) ScriptPoller (Option (List ℕ)) (Unit {0})
+
+-- some such calls lead from what a loop held to what it then holds
+pub record Asks {R : Type 0} (old new : View (Source R) (Unit {0}) ScriptPoller) : Type 0 where
+  pub calls : List (ScriptCall R)
+  pub answers : List (ScriptAnswerOf R)
+  pub scripted : AllScripted calls
+  pub leads : RunLeads source_meaning no_idles script_outside calls answers old new
