@@ -16,6 +16,7 @@ pub mod Laws
 pub mod Lending
 pub mod Choices
 pub mod Wrong
+pub mod ExampleRun
 pub mod Homes
 pub mod Running
 pub mod Freshness

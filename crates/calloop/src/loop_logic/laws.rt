@@ -7,9 +7,12 @@ ghost use Rattle.calloop.specs.Rules.{Run};
 ghost use Rattle.calloop.specs.Homes.{AllAtHome};
 ghost use Rattle.calloop.specs.Laws.{IsSound, IsKept, IsTold, IsTicketed, changes_of, GoesRight, NamesLater, StaysGone, OnTime};
 ghost use Rattle.calloop.specs.Freshness.{AsksFresh, RunsFresh, AllFreshCalls, AllKeepKeys};
+ghost use Rattle.calloop_wake.specs.declared.list.Content.TheVariants.{Vacant};
+ghost use Rattle.calloop.specs.ExampleRun.{only, no_idle, quiet_poller, new_world, its_calls, its_answers, its_changes, end_of_it};
 ghost use Rattle.calloop_core.specs.Polls.{PollView};
+ghost use Rattle.logbook.specs.Pages.{Book};
 ghost use Rattle.calloop_core.specs.Meanings.{IsKeeping};
-ghost use Rattle.calloop.specs.Wrong.{first_token, first_registration, used, given_up, early, in_two_places, called_twice, called_early, called_from_nowhere, unmoved, arms_elsewhere, used_with_an_old_key, answered_twice, one_ticket};
+ghost use Rattle.calloop.specs.Wrong.{first_token, first_registration, used, given_up, early, in_two_places, called_twice, called_early, called_from_nowhere, first_call, unmoved, arms_elsewhere, used_with_an_old_key, answered_twice, one_ticket};
 
 use super::{EventDispatcher, Requests};
 use calloop_core::callbacks::QuietDispatch;
@@ -60,6 +63,17 @@ where
 {
     once::<D, P, C, R>();
 }
+
+/// A run that there is, of which the premises of `once` are proved: a timer for moment 5 is inserted into a new loop, and a dispatch
+/// whose wait ends then calls it once, with that deadline.
+pub fn run_that_there_is()
+    ensures new { (name : Book) → IsNew (new_world name) }
+    ensures quiet { AsksFresh only × RunsFresh only no_idle }
+    ensures fresh { AllFreshCalls only its_calls its_answers × AllKeepKeys only its_calls its_answers }
+    ensures run { (name : Book) → Run only no_idle quiet_poller its_calls its_answers (its_changes name) (new_world name) (end_of_it name) }
+    ensures called { (name : Book) → (end_of_it name).ledger.calls ≡ first_call ∷ [] }
+    ensures over { (name : Book) → (end_of_it name).slots ≡ record { reuse = 0; content = Vacant } ∷ [] }
+{}
 
 /// Small cases that the laws of `once` rule out: an event that goes to another slot than its token names, to a later
 /// registration, or to none though its source stands there; a token that names an earlier registration than before; one that
