@@ -24,6 +24,7 @@ use std::sync::{Arc, Wait};
 use std::time::Duration;
 use std::{io, mem};
 
+mod callbacks;
 mod conversions;
 mod system;
 

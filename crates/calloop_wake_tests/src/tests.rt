@@ -11,10 +11,11 @@ use calloop_wake::token::{
 use calloop_wake::wake::board::OpenRefusal;
 use calloop_wake::wake::ghosts::Name;
 use calloop_wake::wake::locked::{Core, Locked};
-use calloop_wake::wake::ping::{OpenedTurn, PingCore, covered, lost_is_not_covered};
+use calloop_wake::wake::ping::{OpenedTurn, PingCore};
 use calloop_wake::wake::watch::{Watch, WatchedBoard};
 use calloop_wake::wake::{
-    Debt, Last, LeaveToClose, Notify, OpenedPass, PingTurn, Sender, TakenPass, Twin,
+    Debt, Last, LeaveToClose, Notify, OpenedPass, PingTurn, Sender, TakenPass, Twin, covered,
+    lost_is_not_covered, schedules_that_there_are, steps_are_the_machines,
 };
 use calloop_wake::wheel::{Instant, TimerWheel};
 use counted_slot::Fits;
@@ -27,6 +28,7 @@ use std::sync::{Arc, Wait};
 use std::test::Fail;
 use std::{io, thread};
 
+mod channels;
 mod plain;
 
 #[test]
@@ -42,6 +44,7 @@ fn a_refusal_shows_its_text_and_so_does_its_io_error(rt: HostRuntime) {
         (Error::TooManyTimers, "too many timers"),
         (Error::TooManyTickets, "too many requests"),
         (Error::OwnTurn, "the source is in its turn"),
+        (Error::NoRendezvous, "a channel of bound 0 is not supported"),
     ];
     for (refusal, text) in refusals {
         assert!(rt; shows(rt.alloc(), &refusal, text));
@@ -62,6 +65,7 @@ fn a_refusal_has_the_kind_of_its_io_error(rt: HostRuntime) {
         (Error::TooManyTimers, io::ErrorKind::Other),
         (Error::TooManyTickets, io::ErrorKind::Other),
         (Error::OwnTurn, io::ErrorKind::Other),
+        (Error::NoRendezvous, io::ErrorKind::Other),
     ];
     for (refusal, kind) in kinds {
         assert_eq!(rt; io::Error::from(refusal).kind(), kind);
@@ -133,6 +137,7 @@ fn two_tokens_of_a_factory_differ(rt: HostRuntime) {
     keys_differ();
     factory_tokens_differ();
     let mut factory = TokenFactory::new(RegistrationToken::new(1, 2));
+    assert_eq!(rt; factory.registration(), RegistrationToken::new(1, 2));
     let first = factory.token().expect(&rt, "a token");
     let second = factory.token().expect(&rt, "another token");
     assert_eq!(rt; factory.given(), 2);
@@ -280,9 +285,11 @@ fn a_cell_stands_before_a_ring_and_after_it(rt: HostRuntime) {
 }
 
 #[test]
-fn the_law_of_all_schedules_rules_four_states_out(_rt: HostRuntime) {
+fn the_law_of_all_schedules_rules_some_states_out(_rt: HostRuntime) {
     covered();
     lost_is_not_covered();
+    schedules_that_there_are();
+    steps_are_the_machines();
 }
 
 #[test]
