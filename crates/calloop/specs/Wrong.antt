@@ -9,6 +9,7 @@ use Rattle.calloop_core.specs.Deeds.{Lent}
 use Rattle.calloop_core.specs.Meanings.{Meaning, still}
 use Rattle.calloop_core.specs.Polls.{timer_event, Arm}
 use Rattle.calloop.specs.declared.loop_logic.asks.Answer.TheVariants.{Done}
+use Rattle.calloop.specs.declared.loop_logic.asks.Request.TheVariants.{Remove}
 use Rattle.calloop.specs.Askings.{Asks, no_asks}
 use Rattle.calloop.specs.Ledgers.{Ledger, Arming, Origin, Due, Waiting, TimerCall, new_ledger}
 use Rattle.calloop.specs.Machine.{Registration}
@@ -71,6 +72,32 @@ abbrev pub called_from_nowhere : Ledger
 called_from_nowhere =
     record new_ledger { cancelled = 0 ∷ []; made = first_arming ∷ []; count = 1; calls = first_call ∷ [] }
 
+-- one that was called for with another deadline than its own
+abbrev pub called_with_another_deadline : Ledger
+called_with_another_deadline =
+    record new_ledger {
+      cut = gathered_at 5 ∷ [];
+      made = first_arming ∷ [];
+      count = 1;
+      calls = record { deadline = record { nanos = 7 }; arming = Some first_arming } ∷ [];
+    }
+
+-- one that was made, and is nowhere
+abbrev pub in_no_place : Ledger
+in_no_place = record new_ledger { made = first_arming ∷ []; count = 1 }
+
+-- one that waits among the deadlines, and one that waits in the batch
+abbrev pub armed_once : Ledger
+armed_once =
+    record new_ledger {
+      armed = record { entry = entry_of 0 (record { nanos = 5 }) first_token; number = 0 } ∷ [];
+      made = first_arming ∷ [];
+      count = 1;
+    }
+
+abbrev pub gathered_once : Ledger
+gathered_once = record new_ledger { batch = gathered_at 5 ∷ []; made = first_arming ∷ []; count = 1 }
+
 -- a source that is the key which it is registered under, and that stays as it is whatever is asked of it
 abbrev pub unmoved : Meaning ℕ (Unit {0}) (Lent (Unit {0}) (Unit {0}))
 unmoved = record (still (λ s v deed t. t ≡ s)) { keys = λ s key. key ≡ s }
@@ -92,6 +119,17 @@ answered_twice =
     record no_asks {
       next = 1;
       answers = record { ticket = 0; answer = Done } ∷ record { ticket = 0; answer = Done } ∷ [];
+    }
+
+-- two requests under one ticket
+abbrev pub asked_twice : Asks (Unit {0}) (Unit {0})
+asked_twice =
+    record no_asks {
+      next = 1;
+      written =
+          record { ticket = 0; request = Remove first_registration }
+          ∷ record { ticket = 0; request = Remove first_registration }
+          ∷ [];
     }
 
 -- one ticket was given, and nothing stands under it

@@ -31,9 +31,7 @@ mod telling;
 mod warnings;
 
 pub use asks::{Answer, Idle, Requests, Ticket};
-pub use laws::{
-    once, once_where_nothing_is_asked, run_that_there_is, wrong_runs_are_ruled_out,
-};
+pub use laws::{once, once_where_nothing_is_asked, run_that_there_is, wrong_runs_are_ruled_out};
 pub use signal::LoopSignal;
 
 /// A loop over sources of one type `D` of the caller, a poller and a clock. It owns its sources. `R` is the runtime by

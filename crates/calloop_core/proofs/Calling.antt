@@ -1,5 +1,5 @@
 -- The calls of a callback, one list behind another.
-use Rattle.std.proofs.Common.{◌≡◌, List, [], ◌∷◌, ◌++◌, subst}
+use Rattle.std.proofs.Common.{List, [], ◌∷◌, ◌++◌, subst}
 use Rattle.calloop_core.specs.Calls.{CallbackCall, Calling, Went}
 
 -- calls, and then further ones

@@ -22,7 +22,7 @@ use Rattle.calloop_wake.specs.Tokens.{key_of, next_token}
 use Rattle.calloop_core.specs.declared.sources.OneOf.{OneOf}
 use Rattle.calloop_core.specs.declared.sources.OneOf.TheVariants.{First, Other}
 use Rattle.calloop_core.specs.Polls.{PollView, PollStep}
-use Rattle.calloop_core.specs.Calls.{CallbackCall, Calling, Went, Becomes, IsOther, IsOfSource, AsOfSource, OfKind, OfIo}
+use Rattle.calloop_core.specs.Calls.{CallbackCall, Calling, Went, Becomes, IsOfSource, AsOfSource, OfKind, OfIo}
 use Rattle.std.specs.declared.io.Error.{Error as IoCause}
 use Rattle.std.specs.IoError.{error_kind}
 use Rattle.std.specs.declared.io.ErrorKind.{ErrorKind}

@@ -1,10 +1,10 @@
 -- Two lawful kinds are a lawful kind together.
-use Rattle.std.proofs.Common.{◌≡◌, ℕ, Bool, true, false, List, Option, Some, None, refl, ap}
+use Rattle.std.proofs.Common.{◌≡◌, ℕ, Bool, true, false, List, Some, None, refl}
 use Rattle.calloop_wake.specs.Cells.{fresh}
 use Rattle.calloop_wake.specs.Wakes.{Kind, WakeStep, start, after_all, IsSchedule, IsCovered}
 use Rattle.calloop_wake.specs.PingKind.{ping_kind}
 use Rattle.calloop_wake.specs.ChannelKind.{channel_kind, unused_channel}
-use Rattle.calloop_wake.specs.Kinds.{Either, First, Second, either_kind, every_kind, Born, APing, AChannel, new_cell}
+use Rattle.calloop_wake.specs.Kinds.{First, Second, either_kind, every_kind, Born, APing, AChannel, new_cell}
 use Rattle.calloop_wake.proofs.Lawful.{ping_lawful, fresh_is}
 use Rattle.calloop_wake.proofs.ChannelLawful.{channel_lawful, unused_is}
 use Rattle.calloop_wake.proofs.Schedules.{IsLawful, IsFresh, covered-schedule}

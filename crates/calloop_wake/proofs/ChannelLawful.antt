@@ -1,12 +1,11 @@
 -- The cells of channels are a lawful kind: each step keeps what mustn't be lost pinged, the messages in order, and the tellings
 -- counted.
-use Rattle.std.proofs.Common.{◌≡◌, ◌≢◌, ℕ, ◌+◌, ◌<◌, ◌≤◌, Bool, true, false, ◌&&◌, ◌||◌, not, List, [], ◌∷◌, ◌++◌, length, Option, Some, None, IfSome, refl, sym, ◌∙◌, ap, subst, arith, eqb-true, ltb-true, length-append, append_assoc, append-nil}
-use Rattle.std.proofs.Math.Bool.{or-true, or-false}
-use Rattle.calloop_wake.specs.Cells.{Cell, one, is_own, after_close, after_set_key, after_clear_key, opens}
-use Rattle.calloop_wake.specs.Bells.{after_ping, drained, ended, telling}
-use Rattle.calloop_wake.specs.Channels.{ChannelCell, fresh_channel, with_bell, is_below, after_put, after_pop, after_pop_of, popped, popped_of, tells, is_close, is_early, after_end_turn, IsQuiet, IsLitChannel, IsSoundChannel, IsStandingChannel}
+use Rattle.std.proofs.Common.{◌≡◌, ℕ, ◌+◌, ◌<◌, ◌≤◌, Bool, true, false, ◌&&◌, ◌||◌, not, List, [], ◌∷◌, ◌++◌, length, Option, Some, None, IfSome, refl, sym, ◌∙◌, ap, subst, arith, ltb-true, length-append, append_assoc, append-nil}
+use Rattle.std.proofs.Math.Bool.{or-true}
+use Rattle.calloop_wake.specs.Cells.{Cell, one, is_own, after_close, after_set_key, after_clear_key}
+use Rattle.calloop_wake.specs.Bells.{after_ping, ended}
+use Rattle.calloop_wake.specs.Channels.{ChannelCell, fresh_channel, with_bell, is_below, after_put, after_pop_of, popped_of, tells, is_close, is_early, after_end_turn, IsQuiet, IsLitChannel, IsSoundChannel, IsStandingChannel}
 use Rattle.calloop_wake.specs.ChannelKind.{Telling, ChannelPast, unused_channel, ChannelStep, Ring, Close, Pop, EndTurn, Put, channel_kind, item_of, told_by, AllOfEmpty, IsStandingPast}
-use Rattle.calloop_wake.specs.declared.wake.channel.LastPop.TheVariants.{NoPop}
 use Rattle.calloop_wake.proofs.Lawful.{own-is, and-left}
 use Rattle.calloop_wake.proofs.Schedules.{IsLawful, IsFresh}
 

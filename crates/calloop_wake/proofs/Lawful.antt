@@ -1,5 +1,5 @@
 -- The cells of pings are a lawful kind.
-use Rattle.std.proofs.Common.{◌≡◌, ℕ, Bool, true, false, ◌&&◌, ◌||◌, not, List, Option, Some, None, refl, sym, ap, eqb-true}
+use Rattle.std.proofs.Common.{◌≡◌, ℕ, Bool, true, false, ◌&&◌, ◌||◌, not, Option, Some, None, refl, sym, ap, eqb-true}
 use Rattle.calloop_wake.specs.Cells.{Cell, fresh, is_own, IsLit, in_turn}
 use Rattle.calloop_wake.specs.PingKind.{PingStep, Ring, Close, EndTurn, ping_kind}
 use Rattle.calloop_wake.proofs.Schedules.{IsLawful, IsFresh}

@@ -1,9 +1,8 @@
 -- The bell that stands beside a queue: what a channel's cell has beside its messages, and the steps on it. Its fields are
 -- those of every cell, of which `rung` is a ping's alone.
-use Rattle.std.specs.Prelude.{◌≡◌, ℕ, Bool, true, false, ◌||◌, if◌then◌else◌, Option, Some, None}
+use Rattle.std.specs.Prelude.{ℕ, Bool, true, false, ◌||◌, if◌then◌else◌, Option, None}
 use Rattle.logbook.specs.Pages.{Book}
 use Rattle.calloop_wake.specs.Cells.{Cell, owed}
-use Rattle.calloop_wake.specs.Passes.{Keyed}
 
 -- a bell, with the name of its cell and the name of the board of its key
 pub record BellView : Type 0 where

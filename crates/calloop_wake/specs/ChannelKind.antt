@@ -1,41 +1,10 @@
 -- The cells of channels as a kind of the wake machine: a ring, the close that the last sender's drop makes, a put, a pop, and
 -- the end of a turn. Messages are numbers here. The machine also keeps what was put and handed out, and each telling of
 -- the close.
-use Rattle.std.specs.Prelude.{
-  ◌≡◌,
-  ◌≢◌,
-  ℕ,
-  ◌≤◌,
-  Bool,
-  true,
-  false,
-  ◌&&◌,
-  not,
-  if◌then◌else◌,
-  Option,
-  IfSome,
-  List,
-  [],
-  ◌∷◌,
-  ◌++◌,
-  length,
-}
-use Rattle.calloop_wake.specs.Cells.{Cell, one, after_close, after_set_key, after_clear_key, opens}
+use Rattle.std.specs.Prelude.{◌≡◌, ◌≢◌, ℕ, ◌≤◌, Bool, true, false, Option, List, [], ◌∷◌, ◌++◌, length}
+use Rattle.calloop_wake.specs.Cells.{Cell, after_close, after_set_key, after_clear_key, opens}
 use Rattle.calloop_wake.specs.Bells.{after_ping, drained}
-use Rattle.calloop_wake.specs.Channels.{
-  ChannelCell,
-  fresh_channel,
-  with_bell,
-  has_room,
-  after_put,
-  popped,
-  after_pop,
-  tells,
-  is_close,
-  after_end_turn,
-  IsStandingChannel,
-  IsSoundChannel,
-}
+use Rattle.calloop_wake.specs.Channels.{ChannelCell, fresh_channel, with_bell, has_room, after_put, popped, after_pop, is_close, after_end_turn, IsStandingChannel, IsSoundChannel}
 use Rattle.calloop_wake.specs.Wakes.{Kind}
 use Rattle.calloop_wake.specs.declared.wake.channel.LastPop.TheVariants.{NoPop}
 use Rattle.calloop_wake.specs.declared.wake.channel.Popped.{Popped}

@@ -30,9 +30,9 @@ use Rattle.std.specs.Prelude.{
   min,
 }
 use Rattle.logbook.specs.Pages.{Book}
-use Rattle.calloop_wake.specs.Passes.{Taken, Keyed, on}
-use Rattle.calloop_wake.specs.Cells.{Cell, fresh, one, opens, owed, after_set_key}
-use Rattle.calloop_wake.specs.Bells.{BellView, after_ping, drained, ended, owed_if, telling}
+use Rattle.calloop_wake.specs.Passes.{Taken, Keyed}
+use Rattle.calloop_wake.specs.Cells.{Cell, fresh, one, opens, after_set_key}
+use Rattle.calloop_wake.specs.Bells.{BellView, after_ping, drained, ended, telling}
 use Rattle.calloop_wake.specs.declared.wake.Receipt.{Receipt}
 use Rattle.calloop_wake.specs.declared.wake.Twin.{Twin}
 use Rattle.calloop_wake.specs.declared.wake.ChannelTurn.{ChannelTurn}

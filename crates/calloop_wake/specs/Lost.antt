@@ -1,7 +1,7 @@
 -- Small states in which something is lost, which `covered` rules out.
-use Rattle.std.specs.Prelude.{List, [], ◌∷◌, true, Option, Some, None}
+use Rattle.std.specs.Prelude.{[], ◌∷◌, true, Some, None}
 use Rattle.calloop_wake.specs.Cells.{Cell, fresh}
-use Rattle.calloop_wake.specs.Channels.{ChannelCell, fresh_channel}
+use Rattle.calloop_wake.specs.Channels.{fresh_channel}
 use Rattle.calloop_wake.specs.ChannelKind.{ChannelPast, Telling, unused_channel}
 use Rattle.calloop_wake.specs.Kinds.{First, Second, APing, AChannel, every_kind, new_cell}
 use Rattle.calloop_wake.specs.Wakes.{WakeWorld, Looked, start}

@@ -1,5 +1,5 @@
 -- The lines of a script make calls that bring no counter of a timer into the loop.
-use Rattle.std.proofs.Common.{◌≡◌, ◌⊎◌, inl, inr, ℕ, List, [], ◌∷◌, Option, Some, None, true, refl, sym, ap, ◌∙◌, subst}
+use Rattle.std.proofs.Common.{◌≡◌, inl, inr, ℕ, List, [], ◌∷◌, Option, Some, None, true, refl, sym, ap, ◌∙◌}
 use Rattle.logbook.specs.Pages.{Book}
 use Rattle.calloop_wake.specs.declared.token.RegistrationToken.{RegistrationToken}
 use Rattle.calloop_core.specs.declared.sys.script.ScriptPoller.{ScriptPoller}
@@ -13,7 +13,7 @@ use Rattle.calloop.specs.declared.ping.PingSource.{PingSource}
 use Rattle.calloop.specs.declared.loop_logic.LoopCall.TheVariants.{Insert, Enable, Update, Disable, Remove as RemoveCall, Exchange, Dispatch as DispatchCall, InsertIdle, Cancel, Answer as AnswerOf, ForgetStop, LookForStop, Poller as NewPoller}
 use Rattle.calloop.specs.declared.loop_logic.LoopAnswer.{LoopAnswer}
 use Rattle.calloop.specs.declared.loop_logic.LoopAnswer.TheVariants.{Inserted, Removed, Dispatched, Poller as OldPoller}
-use Rattle.calloop.specs.Machine.{View, World, seen}
+use Rattle.calloop.specs.Machine.{View}
 use Rattle.calloop.specs.Laws.{IsFresh}
 use Rattle.calloop.specs.Freshness.{AllFreshCalls}
 use Rattle.calloop.proofs.Running.{run_none, run_first}
@@ -23,7 +23,7 @@ use Rattle.looptrace.specs.declared.command.Command.TheVariants.{Answer as Event
 use Rattle.looptrace.specs.declared.source.Teller.{Teller}
 use Rattle.looptrace.specs.declared.source.Alarm.{Alarm}
 use Rattle.looptrace.specs.Sources.{Source, source_meaning, no_idles}
-use Rattle.looptrace.specs.Runs.{State, Calls, Carried, IsPingOf, IsNewPing, IsNewTimer, new_timer, token_with, RemoveOf, showing, DispatchLine, InsertLine, AnswerLine, RingLine, CloseLine, ClockLine}
+use Rattle.looptrace.specs.Runs.{State, Calls, Carried, IsPingOf, IsNewPing, IsNewTimer, token_with, RemoveOf, showing, DispatchLine, InsertLine, AnswerLine, RingLine, CloseLine, ClockLine}
 use Rattle.looptrace.specs.InTime.{ScriptCall, IsScripted, AllScripted, Asks}
 
 fresh_ping : {R : Type 0} (name : List ℕ) (held : OneOf (Dispatcher (PingSource R) Teller) (Dispatcher TimerSource Alarm)) (s : Source R) (ping : Option Book) → s.held ≡ held → IsPingOf name held ping

@@ -12,7 +12,7 @@ ghost use Rattle.calloop.specs.ExampleRun.{only, no_idle, quiet_poller, new_worl
 ghost use Rattle.calloop_core.specs.Polls.{PollView};
 ghost use Rattle.logbook.specs.Pages.{Book};
 ghost use Rattle.calloop_core.specs.Meanings.{IsKeeping};
-ghost use Rattle.calloop.specs.Wrong.{first_token, first_registration, used, given_up, early, in_two_places, called_twice, called_early, called_from_nowhere, first_call, unmoved, arms_elsewhere, used_with_an_old_key, answered_twice, one_ticket};
+ghost use Rattle.calloop.specs.Wrong.{first_token, first_registration, used, given_up, early, in_two_places, called_twice, called_early, called_from_nowhere, called_with_another_deadline, in_no_place, armed_once, gathered_once, asked_twice, first_call, unmoved, arms_elsewhere, used_with_an_old_key, answered_twice, one_ticket};
 
 use super::{EventDispatcher, Requests};
 use calloop_core::callbacks::QuietDispatch;
@@ -77,10 +77,10 @@ pub fn run_that_there_is()
 
 /// Small cases that the laws of `once` rule out: an event that goes to another slot than its token names, to a later
 /// registration, or to none though its source stands there; a token that names an earlier registration than before; one that
-/// was given up and is there again; an event that was gathered early; an arming in two places; one that is called for twice,
-/// early, or though it was cancelled; a registration that is told of waits twice, or after its slot was given up; a source that
+/// was given up and is there again; an event that was gathered early; an arming in two places, or in none; one that is called for
+/// twice, early, with another deadline, or though it was cancelled; one that is said to wait where `Poll` has no deadline, or no event; a registration that is told of waits twice, or after its slot was given up; a source that
 /// has a key of an earlier use of its slot, one that keeps its key where it is registered under another, and one that arms a deadline
-/// under a token of another registration; two answers under one ticket, and an answer that was handed out twice.
+/// under a token of another registration; two requests or two answers under one ticket, and an answer that was handed out twice.
 pub fn wrong_runs_are_ruled_out()
     ensures wrong_slot { ¬ GoesRight (used 0 ∷ used 0 ∷ []) first_token (Some 1) }
     ensures later_registration { ¬ GoesRight (used 1 ∷ []) first_token (Some 0) }
@@ -99,4 +99,9 @@ pub fn wrong_runs_are_ruled_out()
     ensures answered_twice { (w : World (Unit {0}) (Unit {0}) (Unit {0})) → w.held.asks ≡ answered_twice → ¬ IsTicketed w }
     ensures handed_out_twice { (w : World (Unit {0}) (Unit {0}) (Unit {0})) → w.held.asks ≡ one_ticket → w.handed ≡ 0 ∷ 0 ∷ [] → ¬ IsTicketed w }
     ensures call_from_nowhere { (v : PollView (Unit {0})) → ¬ IsKept called_from_nowhere v }
+    ensures other_deadline { (v : PollView (Unit {0})) → ¬ IsKept called_with_another_deadline v }
+    ensures no_place { (v : PollView (Unit {0})) → ¬ IsKept in_no_place v }
+    ensures no_deadline { (v : PollView (Unit {0})) → v.deadlines.entries ≡ [] → ¬ IsKept armed_once v }
+    ensures no_event { (v : PollView (Unit {0})) → v.batch ≡ [] → ¬ IsKept gathered_once v }
+    ensures asked_twice { (w : World (Unit {0}) (Unit {0}) (Unit {0})) → w.held.asks ≡ asked_twice → ¬ IsTicketed w }
 {}

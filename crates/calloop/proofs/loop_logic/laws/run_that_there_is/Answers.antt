@@ -1,4 +1,4 @@
-use Rattle.std.proofs.Common.{rules, refl, [], ◌∷◌, None, Some, Ok, inl, inr, true, false, arith}
+use Rattle.std.proofs.Common.{rules, refl, [], ◌∷◌, None, Ok, inl, inr, true, false, arith}
 use Rattle.calloop_wake.specs.declared.list.Content.TheVariants.{Source, InTurn}
 use Rattle.calloop_wake.specs.Tokens.{after_token}
 use Rattle.calloop_wake.specs.Watches.{noted}
@@ -14,40 +14,74 @@ use Rattle.calloop.proofs.loop_logic.laws.run_that_there_is.Goals as goal
 
 pub returns-clause-run : goal.returns-clause-run
 returns-clause-run c = λ name. (
-    (
-      (omega arith, refl, as_armed, after_token (factory_of first_registration), Arm five first_token ∷ [], ((Arm five first_token ∷ [], refl, (refl, refl, refl)), refl), refl),
-      (tt, (search rules, (tt, ((record { version = 0; content = InTurn }, refl, refl), tt)))),
-    ),
-    (
-      inr (
-        Sleeping None [] tt, (0, refl, refl), (tt, (tt, tt)), (
-          Waiting None tt, (refl, refl), tt, (
-            Gathering 5 [] tt,
-            (Ok 5, [], tt, noted (Looked false) (record { name = name; notes = Counted 0 ∷ [] }), (0, tt, tt, false, [], (tt, (refl, refl), tt), refl, refl), refl, refl),
-            (tt, (tt, tt)), (
-              Noticing 0 [] tt, ([], refl, refl), ((tt, omega arith), tt), (
-                Cutting tt, (refl, refl), tt, (
-                  Serving first_registration as_called (Ok Remove) tt,
+  (
+    (omega arith, refl, as_armed, after_token (factory_of first_registration), Arm five first_token ∷ [], ((Arm five first_token ∷ [], refl, (refl, refl, refl)), refl), refl),
+    (tt, (search rules, (tt, ((record { version = 0; content = InTurn }, refl, refl), tt)))),
+  ),
+  (
+    inr (
+      Sleeping None [] tt,
+      (0, refl, refl),
+      (tt, (tt, tt)),
+      (
+        Waiting None tt,
+        (refl, refl),
+        tt,
+        (
+          Gathering 5 [] tt,
+          (Ok 5, [], tt, noted (Looked false) (record { name = name; notes = Counted 0 ∷ [] }), (0, tt, tt, false, [], (tt, (refl, refl), tt), refl, refl), refl, refl),
+          (tt, (tt, tt)),
+          (
+            Noticing 0 [] tt,
+            ([], refl, refl),
+            ((tt, omega arith), tt),
+            (
+              Cutting tt,
+              (refl, refl),
+              tt,
+              (
+                Serving first_registration as_called (Ok Remove) tt,
+                (
+                  as_called,
+                  Ok Remove,
+                  Call 0 five ∷ [],
+                  tt,
+                  [],
+                  record {
+                    inner = record { calls = record { event = five; before = tt; after = tt; answer = Drop } ∷ []; answer = Ok Remove };
+                    turned = inl (first_arm, record { registered = refl; named = refl; unspent = refl; unarmed = refl; action = Drop; called = refl; more = []; steps_are = refl; answered = (refl, refl, refl) });
+                    went = (tt, tt, no_asks, (refl, refl), asks_nothing no_asks, (refl, refl, refl));
+                    told = refl;
+                  },
+                  refl,
+                  refl,
+                ),
+                (tt, ((record { version = 0; content = Source as_armed }, refl, refl), (search rules, (tt, (tt, tt))))),
+                (
+                  Ending first_registration as_called (Ok Remove) tt,
+                  (refl, refl),
+                  tt,
                   (
-                    as_called, Ok Remove, Call 0 five ∷ [], tt, [],
-                    record {
-                      inner = record { calls = record { event = five; before = tt; after = tt; answer = Drop } ∷ []; answer = Ok Remove };
-                      turned = inl (first_arm, record { registered = refl; named = refl; unspent = refl; unarmed = refl; action = Drop; called = refl; more = []; steps_are = refl; answered = (refl, refl, refl) });
-                      went = (tt, tt, no_asks, (refl, refl), asks_nothing no_asks, (refl, refl, refl));
-                      told = refl;
-                    },
-                    refl, refl,
-                  ),
-                  (tt, ((record { version = 0; content = Source as_armed }, refl, refl), (search rules, (tt, (tt, tt))))), (
-                    Ending first_registration as_called (Ok Remove) tt, (refl, refl), tt, (
-                      Returning first_registration as_called (Ok tt) tt, (as_called, Ok tt, (refl, refl, refl), refl), (tt, ((record { version = 0; content = InTurn }, refl, refl), tt)), (
-                        Cutting tt,
-                        ((as_removed, Ok tt, true, Cancel 0 ∷ [], ((refl, refl, refl), refl), refl), refl),
-                        (search rules, (tt, (tt, (tt, tt)))), (
-                          Idling tt, (refl, refl), tt, (
-                            RunningIdles tt, (refl, refl), (tt, tt), (
-                              Leaving (Ok tt) tt, (refl, refl), tt, refl,
-                            ),
+                    Returning first_registration as_called (Ok tt) tt,
+                    (as_called, Ok tt, (refl, refl, refl), refl),
+                    (tt, ((record { version = 0; content = InTurn }, refl, refl), tt)),
+                    (
+                      Cutting tt,
+                      ((as_removed, Ok tt, true, Cancel 0 ∷ [], ((refl, refl, refl), refl), refl), refl),
+                      (search rules, (tt, (tt, (tt, tt)))),
+                      (
+                        Idling tt,
+                        (refl, refl),
+                        tt,
+                        (
+                          RunningIdles tt,
+                          (refl, refl),
+                          (tt, tt),
+                          (
+                            Leaving (Ok tt) tt,
+                            (refl, refl),
+                            tt,
+                            refl,
                           ),
                         ),
                       ),
@@ -59,6 +93,7 @@ returns-clause-run c = λ name. (
           ),
         ),
       ),
-      refl,
     ),
-  )
+    refl,
+  ),
+)

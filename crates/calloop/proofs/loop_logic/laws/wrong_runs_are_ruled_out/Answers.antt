@@ -1,4 +1,4 @@
-use Rattle.std.proofs.Common.{◌≡◌, inl, inr, ℕ, Bool, true, false, List, [], ◌∷◌, Ok, refl, sym, ap, ◌∙◌, ◌%◌, ◌+◌, ◌≤◌, nat_lt, if◌then◌else◌, arith, slice_get}
+use Rattle.std.proofs.Common.{◌≡◌, inl, inr, ℕ, Bool, true, false, List, [], ◌∷◌, Ok, refl, sym, ap, ◌∙◌, ◌%◌, ◌+◌, ◌≤◌, nat_lt, if◌then◌else◌, arith, slice_get, length}
 use Rattle.calloop.specs.Laws.{standing, counted, is_number}
 use Rattle.calloop.specs.Machine.{Registration}
 use Rattle.calloop_wake.specs.declared.token.RegistrationToken.{RegistrationToken}
@@ -6,7 +6,11 @@ use Rattle.calloop_wake.specs.Tokens.{key_of}
 use Rattle.calloop_core.specs.Deeds.{Registered, Unregistered}
 use Rattle.calloop_core.specs.Polls.{Arm}
 use Rattle.calloop.specs.Rules.{factory_of}
-use Rattle.calloop.specs.Wrong.{first_token, first_registration, used, given_up, used_with_an_old_key}
+use Rattle.calloop_wake.specs.declared.wheel.Entry.{Entry}
+use Rattle.calloop_wake.specs.declared.wheel.Instant.{Instant}
+use Rattle.calloop_core.specs.declared.sys.poll.Pending.{Pending}
+use Rattle.calloop.specs.Ledgers.{Arming}
+use Rattle.calloop.specs.Wrong.{first_arming, first_token, first_registration, used, given_up, used_with_an_old_key}
 use Rattle.calloop.proofs.loop_logic.laws.wrong_runs_are_ruled_out.Goals as goal
 
 zero_one : ◌≡◌ {A = ℕ} 0 1 → ⊥
@@ -88,3 +92,22 @@ returns-clause-answered_twice c = λ w is h. (let g : standing 0 w.held.asks + c
 
 pub returns-clause-handed_out_twice : goal.returns-clause-handed_out_twice
 returns-clause-handed_out_twice c = λ w is handed h. (let g : standing 0 w.held.asks + counted (is_number 0) w.handed ≤ (if nat_lt 0 w.held.asks.next then 1 else 0) = h 0 in absurd (omega (arith, rw (is, handed) at g)))
+
+pub returns-clause-asked_twice : goal.returns-clause-asked_twice
+returns-clause-asked_twice c = λ w is h. (let g : standing 0 w.held.asks + counted (is_number 0) w.handed ≤ (if nat_lt 0 w.held.asks.next then 1 else 0) = h 0 in absurd (omega (arith, rw is at g)))
+
+pub returns-clause-other_deadline : goal.returns-clause-other_deadline
+returns-clause-other_deadline c = λ v h.
+    let own = h.own.0 in
+    let same : first_arming ≡ own.0 = (let e = own.1 in cc) in
+    let wrong : ◌≡◌ {A = ℕ} 5 7 = ap (λ (a : Arming). a.deadline.nanos) same ∙ ap (λ (i : Instant). i.nanos) own.2 in
+    omega (arith, wrong)
+
+pub returns-clause-no_place : goal.returns-clause-no_place
+returns-clause-no_place c = λ v h. zero_one (h.placed 0)
+
+pub returns-clause-no_deadline : goal.returns-clause-no_deadline
+returns-clause-no_deadline c = λ v none h. one_zero (ap (λ (l : List Entry). length l) (h.entries ∙ none))
+
+pub returns-clause-no_event : goal.returns-clause-no_event
+returns-clause-no_event c = λ v none h. one_zero (ap (λ (l : List Pending). length l) (h.events ∙ none))

@@ -1,4 +1,4 @@
-use Rattle.std.proofs.Common.{◌≡◌, ◌∙◌, refl, ap, sym, Option, Some, None, is_some}
+use Rattle.std.proofs.Common.{◌≡◌, ◌∙◌, refl, ap, Option, Some, None, is_some}
 use Rattle.std.specs.Option.{option_map}
 use Rattle.calloop.specs.Pings.{cell_of}
 use Rattle.looptrace.proofs.named.Named.is_open.Goals as goal

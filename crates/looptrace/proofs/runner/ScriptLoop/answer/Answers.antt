@@ -1,4 +1,4 @@
-use Rattle.std.proofs.Common.{rules, arith, refl}
+use Rattle.std.proofs.Common.{rules, refl}
 use Rattle.looptrace.proofs.runner.ScriptLoop.answer.Goals as goal
 
 pub returns-clause-ok : goal.returns-clause-ok

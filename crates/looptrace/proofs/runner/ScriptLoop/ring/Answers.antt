@@ -1,4 +1,4 @@
-use Rattle.std.proofs.Common.{◌≡◌, rules, refl, List, ℕ, [], Bool, true, false, Option, Some, None, is_some, IsSome}
+use Rattle.std.proofs.Common.{◌≡◌, rules, List, ℕ, [], Bool, true, false, Option, Some, None, is_some, IsSome}
 use Rattle.std.specs.Option.{option_map}
 use Rattle.std.specs.Prelude.{MatchBool}
 use Rattle.looptrace.proofs.runner.ScriptLoop.ring.Goals as goal
