@@ -2,6 +2,7 @@ ghost use Rattle.std.specs.Prelude.{◌≡◌, ◌≢◌, ◌-◌, ◌^◌, None
 ghost use Rattle.std.specs.Arc.{arc_value};
 ghost use Rattle.calloop_wake.specs.Tokens.{key_of};
 
+use calloop_core::callbacks::On;
 use calloop_core::sources::{Asking, Callback, Dispatch, Dispatcher, EventSource, PostAction};
 use calloop_core::sys::hub::{Hub, SharedHub, share};
 use calloop_core::sys::notifier::Notifier;
@@ -830,16 +831,8 @@ struct Noting {
     action: TimeoutAction,
 }
 
-impl<Q: Asking> Callback<Instant, (), TimeoutAction, Vec<Instant>, Q> for Noting {
-    ghost may = { λ _ _ _ _ _ _ _ _ _ _. Unit {0} };
-
-    fn call(
-        &mut self,
-        event: Instant,
-        _metadata: &mut (),
-        data: &mut Vec<Instant>,
-        _requests: &mut Q,
-    ) -> TimeoutAction {
+impl On<Instant, Vec<Instant>, TimeoutAction> for Noting {
+        fn on(&mut self, event: Instant, data: &mut Vec<Instant>) -> TimeoutAction {
         let _ = data.push(event);
         self.action
     }

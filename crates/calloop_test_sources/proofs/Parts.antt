@@ -8,7 +8,7 @@ use Rattle.calloop_core.specs.declared.timer.Timer.{Timer}
 use Rattle.calloop_core.specs.Deeds.{Registered, Reregistered}
 use Rattle.calloop_core.specs.Timers.{Armed}
 use Rattle.calloop.specs.declared.ping.PingSource.{PingSource}
-use Rattle.calloop.specs.Pings.{RefusedPing, Registered as AlreadyRegistered, NoToken, NoPlace, RefusedAnew, NotRegistered, NoTokenAnew, NoPlaceAnew}
+use Rattle.calloop.specs.CellSources.{RefusedCell, AlreadyRegistered, NoToken, NoPlace, RefusedAnew, NotRegistered, NoTokenAnew, NoPlaceAnew}
 use Rattle.calloop_core.specs.Pollers.{Outside}
 use Rattle.calloop_core.specs.Polls.{PollView, PollStep, AllStepped}
 use Rattle.calloop_wake.specs.declared.token.Token.{Token}
@@ -102,7 +102,7 @@ Passed f g = g.registration ≡ f.registration
 same_registration : (f g h : TokenFactory) → g ≡ h → Passed f h → Passed f g
 same_registration f g h is same = ap (λ x. x.registration) is ∙ same
 
-refused_ping : (own : Option ℕ) (f g : TokenFactory) (e : Error) → RefusedPing own f e g → Passed f g
+refused_ping : (own : Option ℕ) (f g : TokenFactory) (e : Error) → RefusedCell own f e g → Passed f g
 refused_ping own f g e (AlreadyRegistered a b is) = same_registration f g f is refl
 refused_ping own f g e (NoToken a b c is) = same_registration f g f is refl
 refused_ping own f g e (NoPlace a b is) = ap (λ x. x.registration) is

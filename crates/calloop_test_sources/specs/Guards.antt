@@ -61,12 +61,12 @@ guarded_stays r s t v (Registered f (Err e) g) l begins h =
 guarded_stays r s t v (Reregistered f a g) l begins h =
     ping_keeps.home r s.ping t.ping v (Reregistered f a g) l begins h
 guarded_stays r s t v (Unregistered a) l home (inl h) = ping_keeps.home r s.ping t.ping v (Unregistered a) l home h
-guarded_stays r s t v (Unregistered a) l home (inr h) = rw (h.0, h.1) (home, tt)
-guarded_stays r s t v (Slept a) l home h = rw (h.1, h.2) (home, tt)
-guarded_stays r s t v (Noticed es) l home h = rw (h.0, h.1) (home, tt)
+guarded_stays r s t v (Unregistered a) l home (inr h) = rw (h.0, h.1) (home, λ at. tt)
+guarded_stays r s t v (Slept a) l home h = rw (h.1, h.2) (home, λ at. tt)
+guarded_stays r s t v (Noticed es) l home h = rw (h.0, h.1) (home, λ at. tt)
 guarded_stays r s t v (Turned readiness k turn) l home (inl h) =
     ping_keeps.home r s.ping t.ping v (Turned readiness k (heard turn.calls h.0)) l home h.1
-guarded_stays r s t v (Turned readiness k turn) l home (inr h) = rw (h.2, h.3) (home, tt)
+guarded_stays r s t v (Turned readiness k turn) l home (inr h) = rw (h.2, h.3) (home, λ at. tt)
 
 pub guarded_keeps : {P R : Type 0} → IsKeeping (guarded_meaning {P = P} {R = R})
 guarded_keeps = record { counters = guarded_counts; home = guarded_stays }

@@ -19,7 +19,7 @@ use Rattle.calloop_core.specs.Keeping.{timer_keeps}
 use Rattle.calloop.specs.declared.ping.source.PingError.{PingError}
 use Rattle.calloop.specs.Pings.{ping_meaning, ping_keys}
 use Rattle.calloop.specs.Quiet.{ping_keeps}
-use Rattle.calloop_test_sources.specs.Beside.{
+use Rattle.calloop_core.specs.Beside.{
   IsApart,
   beside,
   apart_sym,
@@ -29,7 +29,7 @@ use Rattle.calloop_test_sources.specs.Beside.{
   next_after,
   next_is,
 }
-use Rattle.calloop_test_sources.specs.Beside.{left_held, right_held, within_itself}
+use Rattle.calloop_core.specs.Beside.{left_held, right_held, within_itself}
 use Rattle.calloop_test_sources.specs.declared.source.Broken.{Broken}
 use Rattle.calloop_test_sources.specs.declared.trio.Part.{Part}
 use Rattle.calloop_test_sources.specs.declared.trio.Part.TheVariants.{Bell, First, Second}
@@ -253,15 +253,15 @@ begins_alike home r whole part alike begins = absurd alike
 may_stay : {S P T U : Type 0} (whole : Deed T) (m : Meaning S P U) → KeepsHome m
     → (r : RegistrationToken) (s t : S) (v : PollView P)
     (deed : Option (Deed U)) (l : List (PollStep P)) → BeginsIn (IsAtHome m r s) r whole
-    → MayDo whole m s v deed l t → IsAtHome m r t × AllActFor r l
-may_stay whole m k r s t v None l begins h = rw (h.1, h.2) (stops_at_home (IsAtHome m r s) r whole h.0 begins, tt)
+    → MayDo whole m s v deed l t → IsAtHome m r t × (IsAtHome m r s → AllActFor r l)
+may_stay whole m k r s t v None l begins h = rw (h.1, h.2) (stops_at_home (IsAtHome m r s) r whole h.0 begins, λ home. tt)
 may_stay whole m k r s t v (Some deed) l begins h =
     k r s t v deed l (begins_alike (IsAtHome m r s) r whole deed h.0 begins) h.1
 
 parts_stay : {P R : Type 0} (r : RegistrationToken) (s t : Trio R) (v : PollView P) (deed : Deed OfTrio)
     (l : List (PollStep P))
     → BeginsIn (IsAtHome (trio_meaning {P = P}) r s) r deed → AsksParts s v deed l t
-    → IsAtHome (trio_meaning {P = P}) r t × AllActFor r l
+    → IsAtHome (trio_meaning {P = P}) r t × (IsAtHome (trio_meaning {P = P}) r s → AllActFor r l)
 parts_stay {P} r s t v deed l begins h =
     let w = polls_after v h.bell_steps in
     let whole = IsAtHome (trio_meaning {P = P}) r s in
@@ -274,19 +274,21 @@ parts_stay {P} r s t v deed l begins h =
     (begins_part whole at_first r deed (λ home key held. home key (inr (inl held))) begins) h.first in
     let second = may_stay deed timer_meaning timer_keeps.home r s.second t.second
     (polls_after w h.first_steps) h.second_deed h.second_steps
-    (begins_part whole at_second r deed (λ home key held. home key (inr (inr held))) begins) h.second in
-    let timers = arms_then r h.first_steps h.second_steps first.1 second.1 in (
+    (begins_part whole at_second r deed (λ home key held. home key (inr (inr held))) begins) h.second in (
       λ key held.
           elim held [ inl x ↦ bell.0 key x | inr y ↦ elim y [ inl x ↦ first.0 key x | inr x ↦ second.0 key x ] ],
-      rw h.steps_are (arms_then r h.bell_steps (h.first_steps ++ h.second_steps) bell.1 timers),
+      λ home.
+          rw h.steps_are (arms_then r h.bell_steps (h.first_steps ++ h.second_steps) (bell.1 (λ key held. home key (inl held)))
+          (arms_then r h.first_steps h.second_steps (first.1 (λ key held. home key (inr (inl held))))
+          (second.1 (λ key held. home key (inr (inr held)))))),
     )
 
 trio_stays : {P R : Type 0} → KeepsHome (trio_meaning {P = P} {R = R})
 trio_stays r s t v (Registered f a g) l begins h = parts_stay r s t v (Registered f a g) l begins h
 trio_stays r s t v (Reregistered f a g) l begins h = parts_stay r s t v (Reregistered f a g) l begins h
 trio_stays r s t v (Unregistered a) l home h = parts_stay r s t v (Unregistered a) l home h
-trio_stays r s t v (Slept a) l home h = rw (h.1, h.2) (home, tt)
-trio_stays r s t v (Noticed es) l home h = rw (h.0, h.1) (home, tt)
+trio_stays r s t v (Slept a) l home h = rw (h.1, h.2) (home, λ at. tt)
+trio_stays r s t v (Noticed es) l home h = rw (h.0, h.1) (home, λ at. tt)
 trio_stays r s t v (Turned readiness k turn) l home h = parts_stay r s t v (Turned readiness k turn) l home h.0
 
 pub trio_keeps : {P R : Type 0} → IsKeeping (trio_meaning {P = P} {R = R})

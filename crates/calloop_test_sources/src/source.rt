@@ -2,7 +2,7 @@
 ghost use Rattle.std.specs.Prelude.{◌≡◌};
 
 use calloop::{
-    Asking, Callback, Dispatcher, Error, EventIterator, EventSource, Instant, IntoError, OneOf,
+    Asking, Callback, Dispatcher, Error, EventIterator, EventSource, Instant, IntoError, On, OneOf,
     PingSource, Poll, Poller, PostAction, Readiness, Result, Sources, TimeoutAction, Timer, Token,
     TokenFactory,
 };
@@ -15,10 +15,8 @@ pub struct Teller {
     pub number: u32,
 }
 
-impl<Q: Asking> Callback<(), (), (), Vec<u32>, Q> for Teller {
-    ghost may = { λ _ _ _ _ _ _ _ _ _ _. Unit {0} };
-
-    fn call(&mut self, _event: (), _metadata: &mut (), said: &mut Vec<u32>, _requests: &mut Q) {
+impl On<(), Vec<u32>, ()> for Teller {
+    fn on(&mut self, _event: (), said: &mut Vec<u32>) {
         let _failed = said.push(self.number);
     }
 }
@@ -30,16 +28,8 @@ pub struct Waker {
     pub action: TimeoutAction,
 }
 
-impl<Q: Asking> Callback<Instant, (), TimeoutAction, Vec<u32>, Q> for Waker {
-    ghost may = { λ _ _ _ _ _ _ _ _ _ _. Unit {0} };
-
-    fn call(
-        &mut self,
-        _event: Instant,
-        _metadata: &mut (),
-        said: &mut Vec<u32>,
-        _requests: &mut Q,
-    ) -> TimeoutAction {
+impl On<Instant, Vec<u32>, TimeoutAction> for Waker {
+    fn on(&mut self, _event: Instant, said: &mut Vec<u32>) -> TimeoutAction {
         let _failed = said.push(self.number);
         self.action
     }
@@ -49,10 +39,8 @@ impl<Q: Asking> Callback<Instant, (), TimeoutAction, Vec<u32>, Q> for Waker {
 #[derive(Drop)]
 pub struct Listener;
 
-impl<Q: Asking> Callback<u32, (), (), Vec<u32>, Q> for Listener {
-    ghost may = { λ _ _ _ _ _ _ _ _ _ _. Unit {0} };
-
-    fn call(&mut self, turns: u32, _metadata: &mut (), said: &mut Vec<u32>, _requests: &mut Q) {
+impl On<u32, Vec<u32>, ()> for Listener {
+    fn on(&mut self, turns: u32, said: &mut Vec<u32>) {
         let _failed = said.push(turns);
     }
 }

@@ -5,8 +5,8 @@ ghost use Rattle.calloop_test_sources.specs.Trios.{calls_of, part_heard};
 
 use crate::source::Broken;
 use calloop::{
-    Asking, Callback, Dispatcher, EventIterator, EventSource, Instant, PingSource, Poll, Poller,
-    PostAction, Readiness, Result, TimeoutAction, Timer, Token, TokenFactory,
+    Asking, Callback, Dispatcher, EventIterator, EventSource, Instant, On, PingSource, Poll,
+    Poller, PostAction, Readiness, Result, TimeoutAction, Timer, Token, TokenFactory,
 };
 use std::sync::Wait;
 
@@ -33,17 +33,17 @@ struct Noted<E> {
     event: Option<E>,
 }
 
-impl<X, Q: Asking> Callback<(), (), (), X, Q> for Noted<()> {
+impl<Q: Asking> Callback<(), (), (), (), Q> for Noted<()> {
     ghost use Rattle.std.specs.Prelude.{◌≡◌, Some};
 
     ghost may = { λ s event m x q answer t n y r. t.event ≡ Some event };
 
-    fn call(&mut self, _event: (), _metadata: &mut (), _data: &mut X, _requests: &mut Q) {
+    fn call(&mut self, _event: (), _metadata: &mut (), _data: &mut (), _requests: &mut Q) {
         self.event = Some(());
     }
 }
 
-impl<X, Q: Asking> Callback<Instant, (), TimeoutAction, X, Q> for Noted<Instant> {
+impl<Q: Asking> Callback<Instant, (), TimeoutAction, (), Q> for Noted<Instant> {
     ghost use Rattle.std.specs.Prelude.{◌≡◌, Some};
 
     ghost may = { λ s event m x q answer t n y r. t.event ≡ Some event };
@@ -52,7 +52,7 @@ impl<X, Q: Asking> Callback<Instant, (), TimeoutAction, X, Q> for Noted<Instant>
         &mut self,
         event: Instant,
         _metadata: &mut (),
-        _data: &mut X,
+        _data: &mut (),
         _requests: &mut Q,
     ) -> TimeoutAction {
         self.event = Some(event);
@@ -187,10 +187,8 @@ impl<P: Poller, C, R: Wait + Drop> EventSource<P, C, R> for Trio<R> {
 #[derive(Drop)]
 pub struct Announcer;
 
-impl<Q: Asking> Callback<Part, (), (), Vec<u32>, Q> for Announcer {
-    ghost may = { λ _ _ _ _ _ _ _ _ _ _. Unit {0} };
-
-    fn call(&mut self, part: Part, _metadata: &mut (), said: &mut Vec<u32>, _requests: &mut Q) {
+impl On<Part, Vec<u32>, ()> for Announcer {
+    fn on(&mut self, part: Part, said: &mut Vec<u32>) {
         let number = match part {
             Part::Bell => 1,
             Part::First(_) => 2,

@@ -1,6 +1,6 @@
 //! Callbacks for sockets: those of a script, and those of the machine.
 use calloop::generic::NoIoDrop;
-use calloop::{Asking, Callback, PostAction, Readiness};
+use calloop::{Asking, Callback, On, PostAction, Readiness};
 use calloop_core::sys::script::ScriptIo;
 use calloop_core::sys::system::MioIo;
 use mio::net::{TcpListener, TcpStream};
@@ -15,17 +15,8 @@ pub struct Visitor {
     pub ends: Option<PostAction>,
 }
 
-impl<Q: Asking> Callback<Readiness, NoIoDrop<ScriptIo>, io::Result<PostAction>, Vec<u32>, Q>
-    for Visitor {
-    ghost may = { λ _ _ _ _ _ _ _ _ _ _. Unit {0} };
-
-    fn call(
-        &mut self,
-        _readiness: Readiness,
-        _io: &mut NoIoDrop<ScriptIo>,
-        said: &mut Vec<u32>,
-        _requests: &mut Q,
-    ) -> io::Result<PostAction> {
+impl On<Readiness, Vec<u32>, io::Result<PostAction>> for Visitor {
+    fn on(&mut self, _readiness: Readiness, said: &mut Vec<u32>) -> io::Result<PostAction> {
         let _failed = said.push(self.number);
         match self.ends {
             Some(action) => Ok(action),

@@ -5,8 +5,8 @@
 use calloop::loop_logic::EventLoop;
 use calloop::ping::make_ping;
 use calloop::{
-    Asking, Callback, Dispatcher, Error, EventDispatcher, Generic, Here, Hold, Instant, Interest,
-    Mode, OneOf, PingSource, Requests, Result, Sources, There, TimeoutAction, Timer,
+    Dispatcher, Error, EventDispatcher, Generic, Here, Hold, Instant, Interest, Mode, On, OneOf,
+    PingSource, Requests, Result, Sources, There, TimeoutAction, Timer,
 };
 use calloop_core::sys::system::{MioIo, MioPoller, SystemClock};
 use echo::{Echo, Session};
@@ -27,10 +27,8 @@ mod echo;
 #[derive(Drop)]
 struct Rung;
 
-impl<Q: Asking> Callback<(), (), (), Session, Q> for Rung {
-    ghost may = { λ _ _ _ _ _ _ _ _ _ _. Unit {0} };
-
-    fn call(&mut self, _event: (), _: &mut (), session: &mut Session, _: &mut Q) {
+impl On<(), Session, ()> for Rung {
+    fn on(&mut self, _event: (), session: &mut Session) {
         session.is_rung = true;
     }
 }
@@ -39,16 +37,8 @@ impl<Q: Asking> Callback<(), (), (), Session, Q> for Rung {
 #[derive(Drop)]
 struct Late;
 
-impl<Q: Asking> Callback<Instant, (), TimeoutAction, Session, Q> for Late {
-    ghost may = { λ _ _ _ _ _ _ _ _ _ _. Unit {0} };
-
-    fn call(
-        &mut self,
-        _deadline: Instant,
-        _: &mut (),
-        session: &mut Session,
-        _: &mut Q,
-    ) -> TimeoutAction {
+impl On<Instant, Session, TimeoutAction> for Late {
+    fn on(&mut self, _deadline: Instant, session: &mut Session) -> TimeoutAction {
         session.is_late = true;
         TimeoutAction::Drop
     }

@@ -3,8 +3,8 @@
 
 use calloop::sys::script::ScriptPoller;
 use calloop::{
-    Asking, Callback, Dispatcher, Error, EventLoop, Instant, OneOf, PingSource, Result, Sources,
-    TimeoutAction, Timer, make_ping,
+    Dispatcher, Error, EventLoop, Instant, On, OneOf, PingSource, Result, Sources, TimeoutAction,
+    Timer, make_ping,
 };
 use std::alloc::Global;
 use std::process::ExitCode;
@@ -16,18 +16,14 @@ use std::time::Duration;
 #[derive(Drop)]
 struct Says(&'static str);
 
-impl<Q: Asking> Callback<(), (), (), String, Q> for Says {
-    ghost may = { λ _ _ _ _ _ _ _ _ _ _. Unit {0} };
-
-    fn call(&mut self, _: (), _: &mut (), said: &mut String, _: &mut Q) {
+impl On<(), String, ()> for Says {
+    fn on(&mut self, _event: (), said: &mut String) {
         let _failed = said.push_str(self.0);
     }
 }
 
-impl<Q: Asking> Callback<Instant, (), TimeoutAction, String, Q> for Says {
-    ghost may = { λ _ _ _ _ _ _ _ _ _ _. Unit {0} };
-
-    fn call(&mut self, _: Instant, _: &mut (), said: &mut String, _: &mut Q) -> TimeoutAction {
+impl On<Instant, String, TimeoutAction> for Says {
+    fn on(&mut self, _event: Instant, said: &mut String) -> TimeoutAction {
         let _failed = said.push_str(self.0);
         TimeoutAction::Drop
     }

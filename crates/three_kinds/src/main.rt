@@ -5,7 +5,7 @@
 use calloop::loop_logic::EventLoop;
 use calloop::ping::make_ping;
 use calloop::{
-    Asking, Callback, Choice, Dispatcher, Here, IdleCallback, Instant, OneOf, PingSource,
+    Asking, Callback, Choice, Dispatcher, Here, IdleCallback, Instant, On, OneOf, PingSource,
     RegistrationToken, Requests, Result, Sources, There, TimeoutAction, Timer,
 };
 use calloop_core::sys::script::ScriptPoller;
@@ -36,10 +36,8 @@ struct Says {
     line: &'static str,
 }
 
-impl<Q: Asking> Callback<(), (), (), Said, Q> for Says {
-    ghost may = { λ _ _ _ _ _ _ _ _ _ _. Unit {0} };
-
-    fn call(&mut self, _event: (), _: &mut (), said: &mut Said, _: &mut Q) {
+impl On<(), Said, ()> for Says {
+    fn on(&mut self, _event: (), said: &mut Said) {
         said.line(self.line);
     }
 }
@@ -83,16 +81,8 @@ impl<Q: Asking> IdleCallback<Said, Q> for Rest {
 #[derive(Drop)]
 struct Alarm;
 
-impl<Q: Asking> Callback<Instant, (), TimeoutAction, Said, Q> for Alarm {
-    ghost may = { λ _ _ _ _ _ _ _ _ _ _. Unit {0} };
-
-    fn call(
-        &mut self,
-        _deadline: Instant,
-        _: &mut (),
-        said: &mut Said,
-        _: &mut Q,
-    ) -> TimeoutAction {
+impl On<Instant, Said, TimeoutAction> for Alarm {
+    fn on(&mut self, _deadline: Instant, said: &mut Said) -> TimeoutAction {
         said.line("five milliseconds\n");
         TimeoutAction::Drop
     }

@@ -1,7 +1,7 @@
 //! Data of a dispatch that borrows.
 use calloop::loop_logic::EventLoop;
 use calloop::ping::make_ping;
-use calloop::{Asking, Callback, Dispatcher, PingSource, Sources};
+use calloop::{Dispatcher, On, PingSource, Sources};
 use calloop_core::sys::script::{ScriptClock, ScriptPoller};
 use std::time::Duration;
 
@@ -44,10 +44,8 @@ struct Count<'a> {
 #[derive(Drop)]
 struct Ringer;
 
-impl<'a, Q: Asking> Callback<(), (), (), Count<'a>, Q> for Ringer {
-    ghost may = { λ _ _ _ _ _ _ _ _ _ _. Unit {0} };
-
-    fn call(&mut self, _event: (), _metadata: &mut (), count: &mut Count<'a>, _requests: &mut Q) {
+impl<'a> On<(), Count<'a>, ()> for Ringer {
+        fn on(&mut self, _event: (), count: &mut Count<'a>) {
         *count.rings = count.rings.saturating_add(1);
     }
 }

@@ -2,9 +2,7 @@
 use super::at;
 use super::desk::{Act, Desk, Scene, plays};
 use super::stage::{Stage, Table};
-use calloop::{
-    Asking, Callback, Dispatcher, Instant, RegistrationToken, Sources, TimeoutAction, Timer,
-};
+use calloop::{Dispatcher, Instant, On, RegistrationToken, Sources, TimeoutAction, Timer};
 use std::io::ErrorKind;
 use std::process::Abort;
 use std::sync::Wait;
@@ -93,16 +91,8 @@ impl Scene for ASourceThatFailsAsItLeavesIsAWarningUntilTheNextDispatch {
 #[derive(Drop)]
 struct Herald;
 
-impl<Q: Asking> Callback<Instant, (), TimeoutAction, Vec<u32>, Q> for Herald {
-    ghost may = { λ _ _ _ _ _ _ _ _ _ _. Unit {0} };
-
-    fn call(
-        &mut self,
-        deadline: Instant,
-        _metadata: &mut (),
-        said: &mut Vec<u32>,
-        _requests: &mut Q,
-    ) -> TimeoutAction {
+impl On<Instant, Vec<u32>, TimeoutAction> for Herald {
+        fn on(&mut self, deadline: Instant, said: &mut Vec<u32>) -> TimeoutAction {
         if let Ok(millis) = u32::try_from(deadline.nanos / 1_000_000) {
             let _failed = said.push(millis);
         }

@@ -8,7 +8,7 @@ use Rattle.calloop_test_sources.proofs.trio.TrioEventSource.unregister.Goals as 
 pub returns-in_err-unregister : goal.returns-in_err-unregister
 returns-in_err-unregister g c =
     let O = g.P.Poller.outside in
-    asked O _ _ _ (poll_view c.args.poll.now) (poll_view c.unregister.new._poll) (poll_view c.unregister.new._poll) (poll_view c.unregister.new._poll)
+    asked O _ _ _ (poll_view c.args.poll.now) (poll_view c.unregister.new.poll) (poll_view c.unregister.new.poll) (poll_view c.unregister.new.poll)
     (reached O _ ping_meaning _ _ _ _
     (Unregistered c.unregister.result) tt c.unregister.ensures)
     (unreached O _ timer_meaning _ _ tt)
@@ -17,7 +17,7 @@ returns-in_err-unregister g c =
 pub returns : goal.returns
 returns g c =
     let O = g.P.Poller.outside in
-    asked O _ _ _ (poll_view c.args.poll.now) (poll_view c.unregister.new._poll) (poll_view c.unregister-2.new.poll) (poll_view c.unregister-3.new.poll)
+    asked O _ _ _ (poll_view c.args.poll.now) (poll_view c.unregister.new.poll) (poll_view c.unregister-2.new.poll) (poll_view c.unregister-3.new.poll)
     (reached O _ ping_meaning _ _ _ _
     (Unregistered c.unregister.result) tt c.unregister.ensures)
     (reached O _ timer_meaning _ _ _ _
