@@ -1,4 +1,6 @@
-use calloop::loop_logic::{once, wrong_runs_are_ruled_out};
+use calloop::loop_logic::{
+    once, once_where_nothing_is_asked, run_that_there_is, wrong_runs_are_ruled_out,
+};
 use calloop::{Instant, PostAction, RegistrationToken, TimeoutAction};
 use calloop_core::sys::script::{ScriptClock, ScriptPoller};
 use calloop_test_sources::source::Source;
@@ -13,6 +15,7 @@ mod borrowed;
 mod desk;
 mod exchanges;
 mod guards;
+mod own_pings;
 mod pings;
 mod places;
 mod signals;
@@ -290,6 +293,8 @@ impl Scene for RegistrationsAsValuesAreAnsweredInOrder {
 #[test]
 fn the_law_of_all_runs_rules_wrong_runs_out(_rt: HostRuntime) {
     once::<Source<HostRuntime>, ScriptPoller, ScriptClock, HostRuntime>();
+    once_where_nothing_is_asked::<Source<HostRuntime>, ScriptPoller, ScriptClock, HostRuntime>();
+    run_that_there_is();
     wrong_runs_are_ruled_out();
 }
 

@@ -3,9 +3,9 @@ use calloop::generic::Generic;
 use calloop::loop_logic::EventLoop;
 use calloop::ping::{Ping, make_ping};
 use calloop::{
-    Dispatcher, Error, EventDispatcher, Here, Hold, InsertError, Instant, Interest, Mode, OneOf,
-    PingSource, PostAction, Readiness, RegistrationToken, Requests, Sources, There, TimeoutAction,
-    Timer,
+    Asking, Dispatcher, Error, EventDispatcher, Here, Hold, IdleCallback, InsertError, Instant,
+    Interest, Mode, OneOf, PingSource, PostAction, Readiness, RegistrationToken, Requests, Sources,
+    There, TimeoutAction, Timer,
 };
 use calloop_core::sys::script::{
     ScriptAnswer, ScriptCall, ScriptClock, ScriptEnd, ScriptEvents, ScriptIo, ScriptKind,
@@ -54,6 +54,12 @@ pub trait Desk<R>: Sized {
 
     // A timer for the first moment, which says its number.
     fn alarm(&mut self, number: u32);
+
+    // An idle that says 9.
+    fn idle(&mut self);
+
+    // Whether the poller was asked for these waits, in milliseconds.
+    fn asked(&mut self, waits: &[u64]) -> bool;
 
     // Scripts a wait that gives an event of this key.
     fn script(&mut self, key: u64);
@@ -131,7 +137,22 @@ type Held<R> = Sources<
         OneOf<Dispatcher<Generic<ScriptPoller>, Visitor>, Dispatcher<Timer, Waker>>,
     >,
     Vec<u32>,
+    Note,
 >;
+
+// Says 9 at the end of a dispatch.
+#[derive(Drop)]
+pub struct Note;
+
+impl<Q: Asking> IdleCallback<Vec<u32>, Q> for Note {
+    ghost use Rattle.std.specs.Prelude.{◌≡◌};
+
+    ghost runs = { λ _ _ q _ r. r ≡ q };
+
+    fn run(self, said: &mut Vec<u32>, _requests: &mut Q) {
+        let _failed = said.push(9);
+    }
+}
 
 type Second = There<Here>;
 
@@ -139,8 +160,8 @@ type Third = There<There<Here>>;
 
 impl<D, R> Desk<R> for Table<D, ScriptPoller, ScriptClock, R>
 where
-    D: EventDispatcher<ScriptPoller, ScriptClock, R, Data = Vec<u32>, Idle = ()> + Choice,
-    D: Hold<PingSource<R>, Teller, ScriptPoller, ScriptClock, R, Vec<u32>, Requests<D>, Here>,
+    D: EventDispatcher<ScriptPoller, ScriptClock, R, Data = Vec<u32>, Idle = Note> + Choice,
+    D: Hold<PingSource<R>, Teller, ScriptPoller, ScriptClock, R, Vec<u32>, Requests<D, Note>, Here>,
     D: Hold<
         Generic<ScriptPoller>,
         Visitor,
@@ -148,10 +169,10 @@ where
         ScriptClock,
         R,
         Vec<u32>,
-        Requests<D>,
+        Requests<D, Note>,
         Second,
     >,
-    D: Hold<Timer, Waker, ScriptPoller, ScriptClock, R, Vec<u32>, Requests<D>, Third>,
+    D: Hold<Timer, Waker, ScriptPoller, ScriptClock, R, Vec<u32>, Requests<D, Note>, Third>,
     R: Wait + Clone + Drop + Abort,
 {
     type Bell = Ping<R>;
@@ -204,6 +225,15 @@ where
         };
         let inserted = self.event_loop.handle().insert_source(timer, waker);
         assert!(self.rt; inserted.is_ok());
+    }
+
+    fn idle(&mut self) {
+        let inserted = self.event_loop.handle().insert_idle(Note);
+        assert!(self.rt; inserted.is_ok());
+    }
+
+    fn asked(&mut self, waits: &[u64]) -> bool {
+        are_waits(self.event_loop.handle().poller_mut().waits(), waits)
     }
 
     fn script(&mut self, key: u64) {
@@ -307,4 +337,12 @@ impl<R: Wait + Drop> Choice for Held<R> {
             _ => false,
         }
     }
+}
+
+fn are_waits(noted: &[Option<Duration>], waits: &[u64]) -> bool {
+    noted.len() == waits.len()
+        && noted
+            .iter()
+            .zip(waits)
+            .all(|(one, other)| *one == Some(Duration::from_millis(*other)))
 }

@@ -23,11 +23,12 @@ impl Scene for AnErrorOfACallbackKeepsTheRestOfTheBatch {
         let bell = desk.ping(7);
         desk.socket(Interest::READ, Mode::Level, None);
         desk.alarm(5);
-        bell.ring();
+        desk.idle();
         desk.script(SECOND);
+        bell.ring();
         assert!(rt; desk.breaks(&[7, 1]));
-        assert!(rt; desk.says(&[5]));
-        assert!(rt; desk.says(&[]));
+        assert!(rt; desk.says(&[5, 9]));
+        assert!(rt; desk.asked(&[0, 0]));
     }
 }
 

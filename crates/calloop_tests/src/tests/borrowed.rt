@@ -45,7 +45,7 @@ struct Count<'a> {
 struct Ringer;
 
 impl<'a> On<(), Count<'a>, ()> for Ringer {
-        fn on(&mut self, _event: (), count: &mut Count<'a>) {
+    fn on(&mut self, _event: (), count: &mut Count<'a>) {
         *count.rings = count.rings.saturating_add(1);
     }
 }

@@ -29,6 +29,9 @@ pub trait Desk: Stage {
     // Inserts a ping that says this number.
     fn ping(&mut self, number: u32) -> (RegistrationToken, Self::Bell);
 
+    // Inserts as many pings, each of which says its place.
+    fn pings(&mut self, count: u32) -> Vec<Self::Bell>;
+
     // Registers the dispatcher of a ping that says this number.
     fn registered_ping(&mut self, number: u32) -> (RegistrationToken, Self::Bell);
 
@@ -180,6 +183,16 @@ where
         let teller = Teller { number };
         let inserted = self.event_loop.handle().insert_source(source, teller);
         (token_of(&self.rt, inserted), ping)
+    }
+
+    fn pings(&mut self, count: u32) -> Vec<Self::Bell> {
+        let mut bells = Vec::new(self.alloc);
+        for number in 0..count {
+            let (_, bell) = self.ping(number);
+            let pushed = bells.push(bell);
+            assert!(self.rt; pushed.is_ok());
+        }
+        bells
     }
 
     fn registered_ping(&mut self, number: u32) -> (RegistrationToken, Ping<R>) {

@@ -92,7 +92,7 @@ impl Scene for ASourceThatFailsAsItLeavesIsAWarningUntilTheNextDispatch {
 struct Herald;
 
 impl On<Instant, Vec<u32>, TimeoutAction> for Herald {
-        fn on(&mut self, deadline: Instant, said: &mut Vec<u32>) -> TimeoutAction {
+    fn on(&mut self, deadline: Instant, said: &mut Vec<u32>) -> TimeoutAction {
         if let Ok(millis) = u32::try_from(deadline.nanos / 1_000_000) {
             let _failed = said.push(millis);
         }

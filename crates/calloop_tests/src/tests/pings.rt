@@ -64,3 +64,21 @@ impl Scene for APingThatIsRungBeforeItIsDisabledIsCalledOnceEnabled {
         assert!(rt; desk.asked(&[Some(0), Some(100), Some(0)]));
     }
 }
+
+#[test]
+fn of_a_hundred_pings_those_that_are_rung_are_called_by_slot(rt: HostRuntime) {
+    plays::<OfAHundredPingsThoseThatAreRungAreCalledBySlot, _>(&rt, rt.alloc());
+}
+
+struct OfAHundredPingsThoseThatAreRungAreCalledBySlot;
+
+impl Scene for OfAHundredPingsThoseThatAreRungAreCalledBySlot {
+    fn play<R: Abort, D: Desk + Drop>(rt: &R, mut desk: D) {
+        let bells = desk.pings(100);
+        for place in [90usize, 5, 40] {
+            bells.get(place).expect(rt, "a ping").ring();
+        }
+        assert!(rt; desk.says(Some(0), &[5, 40, 90]));
+        assert!(rt; desk.says(Some(0), &[]));
+    }
+}

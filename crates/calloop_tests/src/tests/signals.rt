@@ -97,6 +97,37 @@ fn a_run_calls_after_each_dispatch_until_it_is_stopped(rt: HostRuntime) {
 }
 
 #[test]
+fn a_run_that_is_woken_goes_on(rt: HostRuntime) {
+    let clock = SystemClock::new(&rt).expect(&rt, "a clock");
+    let (mut event_loop, signal) = loop_of(&rt, &clock).expect(&rt, "a loop");
+    signal.wakeup();
+    let (answer, said) = runs(&rt, &mut event_loop, minute(), |said| {
+        says(said, 1);
+        if said.len() > 1 {
+            signal.stop();
+        }
+        signal.wakeup();
+    });
+    assert!(rt; answer.is_ok() && is_early(&clock));
+    assert_eq!(rt; said.as_slice(), [1, 1].as_slice());
+}
+
+#[test]
+fn a_stop_lets_a_wait_run_to_its_end(rt: HostRuntime) {
+    let poller = ScriptPoller::new(rt.alloc()).expect(&rt, "a poller");
+    let clock = poller.clock().expect(&rt, "a clock");
+    let shown = clock.clone().expect(&rt, "a clock");
+    let made: Result<(EventLoop<Pings<HostRuntime>, _, _, HostRuntime>, _)> = signalled(
+        &rt, poller, clock,
+    );
+    let (mut event_loop, signal) = made.expect(&rt, "a loop");
+    signal.stop();
+    let mut said = Vec::new(rt.alloc());
+    assert!(rt; event_loop.dispatch(&rt, Some(pause()), &mut said).is_ok());
+    assert_eq!(rt; shown.now().nanos, 50_000_000);
+}
+
+#[test]
 fn a_stop_is_found_until_it_is_forgotten(rt: HostRuntime) {
     let clock = SystemClock::new(&rt).expect(&rt, "a clock");
     let (mut event_loop, signal) = loop_of(&rt, &clock).expect(&rt, "a loop");
