@@ -3,6 +3,7 @@ use Rattle.std.specs.Prelude.{◌≡◌, ℕ, ◌+◌, ◌-◌, ◌^◌, min, Re
 use Rattle.calloop_wake.specs.declared.wheel.Instant.{Instant}
 use Rattle.calloop_core.specs.declared.timer.TimeoutAction.{TimeoutAction}
 use Rattle.calloop_core.specs.declared.timer.TimeoutAction.TheVariants.{Drop}
+use Rattle.calloop.specs.declared.channel.Event.{Event}
 use Rattle.loop_bench.specs.declared.bench.Counts.{Counts}
 use Rattle.std.specs.declared.io.Error.{Error as Cause}
 use Rattle.calloop_core.specs.declared.sys.Readiness.{Readiness}
@@ -18,6 +19,11 @@ counted calls = min (calls + 1) (2 ^ 64 - 1)
 abbrev pub counts : {Q : Type 0} → Counts → Unit {0} → Unit {0} → ℕ → Q → Unit {0}
     → Counts → Unit {0} → ℕ → Q → Type 0
 counts callback event metadata calls asked answer after metadata' calls' asked' = calls' ≡ counted calls
+
+-- each message, too
+abbrev pub counts_events : {Q : Type 0} → Counts → Event ℕ → Unit {0} → ℕ → Q → Unit {0}
+    → Counts → Unit {0} → ℕ → Q → Type 0
+counts_events callback event metadata calls asked answer after metadata' calls' asked' = calls' ≡ counted calls
 
 -- each call of a timer, too, which then leaves the loop
 abbrev pub counts_and_leaves : {Q : Type 0} → Counts → Instant → Unit {0} → ℕ → Q → TimeoutAction

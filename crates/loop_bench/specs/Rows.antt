@@ -11,6 +11,8 @@ use Rattle.loop_bench.specs.declared.row.Kind.TheVariants.{
   IdleBesidePings,
   PingsServed,
   ReadableSockets,
+  MessagesServed,
+  BoundedMessagesServed,
 }
 
 abbrev pub name_of : Kind → List ℕ
@@ -22,12 +24,14 @@ name_of IdleDispatch = codes "idle_dispatch"
 name_of IdleBesidePings = codes "idle_beside_pings"
 name_of PingsServed = codes "pings_served"
 name_of ReadableSockets = codes "readable_sockets"
+name_of MessagesServed = codes "messages_served"
+name_of BoundedMessagesServed = codes "bounded_messages_served"
 
 abbrev pub is_named : List ℕ → Kind → Bool
 is_named name kind = pointwise nat_eq (name_of kind) name
 
--- in how many steps the time of a row is divided: each timer that fires is one, and each ping that is inserted and
--- served
+-- in how many steps the time of a row is divided: each timer that fires is one, each ping that is inserted and served, and
+-- each message
 abbrev pub operations_of : Kind → (count size : ℕ) → ℕ
 operations_of RingAndDispatch count size = count
 operations_of TimersFired count size = count * size
@@ -37,9 +41,11 @@ operations_of IdleDispatch count size = count
 operations_of IdleBesidePings count size = count
 operations_of PingsServed count size = count * size
 operations_of ReadableSockets count size = count
+operations_of MessagesServed count size = count * size
+operations_of BoundedMessagesServed count size = count * size
 
--- how many callbacks a row calls: one for each ring, one for each timer that fires, and one for each socket that a wait
--- tells of
+-- how many callbacks a row calls: one for each ring, one for each timer that fires, one for each socket that a wait tells of,
+-- and one for each message
 abbrev pub calls_of : Kind → (count size : ℕ) → ℕ
 calls_of RingAndDispatch count size = count
 calls_of TimersFired count size = count * size
@@ -49,3 +55,5 @@ calls_of IdleDispatch count size = 0
 calls_of IdleBesidePings count size = 0
 calls_of PingsServed count size = count * size
 calls_of ReadableSockets count size = count * min size 1024
+calls_of MessagesServed count size = count * size
+calls_of BoundedMessagesServed count size = count * size

@@ -3,6 +3,7 @@ ghost use Rattle.std.specs.Prelude.{◌≡◌, ◌+◌, ◌*◌, ◌%◌, ◌^�
 
 use crate::measured::Measured;
 use anyhow::{Context, Result};
+use calloop::channel::{Channel, Event, Sender, SyncSender, make_channel, sync_channel};
 use calloop::loop_logic::EventLoop;
 use calloop::ping::{Ping, make_ping};
 use calloop::{
@@ -25,6 +26,16 @@ impl<Q: Asking> Callback<(), (), (), u64, Q> for Counts {
     ghost may = { counts };
 
     fn call(&mut self, _event: (), _: &mut (), calls: &mut u64, _: &mut Q) {
+        *calls = calls.saturating_add(1);
+    }
+}
+
+impl<Q: Asking> Callback<Event<u64>, (), (), u64, Q> for Counts {
+    ghost use Rattle.loop_bench.specs.Counting.{counts_events};
+
+    ghost may = { counts_events };
+
+    fn call(&mut self, _event: Event<u64>, _: &mut (), calls: &mut u64, _: &mut Q) {
         *calls = calls.saturating_add(1);
     }
 }
@@ -68,7 +79,10 @@ impl<I, Q: Asking> Callback<Readiness, NoIoDrop<I>, io::Result<PostAction>, u64,
 pub type Held<P, R> = Sources<
     OneOf<
         Dispatcher<PingSource<R>, Counts>,
-        OneOf<Dispatcher<Timer, Counts>, Dispatcher<Generic<P>, Counts>>,
+        OneOf<
+            Dispatcher<Timer, Counts>,
+            OneOf<Dispatcher<Generic<P>, Counts>, Dispatcher<Channel<u64, R>, Counts>>,
+        >,
     >,
     u64,
 >;
@@ -90,6 +104,7 @@ where
     D: Choice<PingSource<R>, Counts, Here>,
     D: Choice<Timer, Counts, There<Here>>,
     D: Choice<Generic<P>, Counts, There<There<Here>>>,
+    D: Choice<Channel<u64, R>, Counts, There<There<There<Here>>>>,
     P: Measured<C, R>,
     C: Clock,
     R: Wait + time::Clock + Clone + Drop,
@@ -186,6 +201,31 @@ where
             pings.push(ping)?;
         }
         Ok(pings)
+    }
+
+    /// Puts a channel into the loop: its sender.
+    pub fn insert_channel(&mut self) -> Result<Sender<u64, R>>
+        ensures calls { self.new.calls ≡ self.old.calls }
+        ensures nanoseconds { self.new.nanoseconds ≡ self.old.nanoseconds }
+    {
+        let (sender, channel) = make_channel(&self.rt, self.alloc)?;
+        self.insert(Self::hold_channel(channel))?;
+        Ok(sender)
+    }
+
+    /// The same of a channel with a bound.
+    pub fn insert_sync_channel(&mut self, bound: u32) -> Result<SyncSender<u64, R>>
+        ensures calls { self.new.calls ≡ self.old.calls }
+        ensures nanoseconds { self.new.nanoseconds ≡ self.old.nanoseconds }
+    {
+        let (sender, channel) = sync_channel(&self.rt, self.alloc, bound as usize)?;
+        self.insert(Self::hold_channel(channel))?;
+        Ok(sender)
+    }
+
+    fn hold_channel(channel: Channel<u64, R>) -> D {
+        let dispatcher = Dispatcher::new(channel, Counts);
+        <D as Choice<Channel<u64, R>, Counts, There<There<There<Here>>>>>::hold(dispatcher)
     }
 
     /// Puts so many sockets into the loop, each with a byte to be read: their peers.

@@ -28,11 +28,15 @@ pub enum Kind {
     PingsServed,
     /// Dispatches while sockets are readable.
     ReadableSockets,
+    /// Sends messages to a channel, and dispatches until all are handed out.
+    MessagesServed,
+    /// The same of a channel with a bound.
+    BoundedMessagesServed,
 }
 
 impl Kind {
     /// Each of them once, in the order in which they are printed.
-    pub const ALL: [Kind; 8] = [
+    pub const ALL: [Kind; 10] = [
         Kind::RingAndDispatch,
         Kind::TimersFired,
         Kind::TimersCancelled,
@@ -41,6 +45,8 @@ impl Kind {
         Kind::IdleBesidePings,
         Kind::PingsServed,
         Kind::ReadableSockets,
+        Kind::MessagesServed,
+        Kind::BoundedMessagesServed,
     ];
 
     /// Its name among the arguments, and in what is printed.
@@ -56,6 +62,8 @@ impl Kind {
             Kind::IdleBesidePings => "idle_beside_pings",
             Kind::PingsServed => "pings_served",
             Kind::ReadableSockets => "readable_sockets",
+            Kind::MessagesServed => "messages_served",
+            Kind::BoundedMessagesServed => "bounded_messages_served",
         }
     }
 
@@ -77,14 +85,17 @@ pub struct Row {
 }
 
 impl Row {
-    /// In how many steps its time is divided: each timer that fires is one, and each ping that is inserted and served.
+    /// In how many steps its time is divided: each timer that fires is one, each ping that is inserted and served, and each message.
     pub fn operations(&self) -> u64
         ensures value { result ≡ operations_of self.now.kind (non_zero_u32_get self.now.count) (non_zero_u32_get self.now.size) }
         ensures nonzero { 0 < result }
     {
         let count = u64::from(self.count.get());
         match self.kind {
-            Kind::TimersFired | Kind::PingsServed => count * u64::from(self.size.get()),
+            Kind::TimersFired
+            | Kind::PingsServed
+            | Kind::MessagesServed
+            | Kind::BoundedMessagesServed => count * u64::from(self.size.get()),
             _ => count,
         }
     }
@@ -94,7 +105,11 @@ impl Row {
         ensures { result ≡ calls_of self.now.kind (non_zero_u32_get self.now.count) (non_zero_u32_get self.now.size) }
     {
         match self.kind {
-            Kind::RingAndDispatch | Kind::TimersFired | Kind::PingsServed => self.operations(),
+            Kind::RingAndDispatch
+            | Kind::TimersFired
+            | Kind::PingsServed
+            | Kind::MessagesServed
+            | Kind::BoundedMessagesServed => self.operations(),
             Kind::ReadableSockets => {
                 u64::from(self.count.get()) * u64::from(self.size.get()).min(EVENTS_PER_WAIT)
             }

@@ -3,6 +3,7 @@ use crate::bench::{Bench, Counts, Held, SCATTER, scattered};
 use crate::measured::Measured;
 use crate::row::{Kind, Row};
 use anyhow::{Context, Result, ensure};
+use calloop::channel::Channel;
 use calloop::{Choice, Clock, EventDispatcher, Generic, Here, Instant, PingSource, There, Timer};
 use std::alloc::Global;
 use std::sync::Wait;
@@ -34,6 +35,7 @@ where
     D: Choice<PingSource<R>, Counts, Here>,
     D: Choice<Timer, Counts, There<Here>>,
     D: Choice<Generic<P>, Counts, There<There<Here>>>,
+    D: Choice<Channel<u64, R>, Counts, There<There<There<Here>>>>,
     P: Measured<C, R>,
     C: Clock,
     R: Wait + time::Clock + Clone + Drop,
@@ -49,6 +51,8 @@ where
             Kind::IdleBesidePings => self.idle_beside_pings(count, size),
             Kind::PingsServed => self.pings_served(count, size),
             Kind::ReadableSockets => self.readable_sockets(count, size),
+            Kind::MessagesServed => self.messages_served(count, size),
+            Kind::BoundedMessagesServed => self.bounded_messages_served(count, size),
         }
     }
 
@@ -81,12 +85,7 @@ where
         self.come_to(from.after(Duration::from_nanos(SCATTER)));
         let wanted = self.calls.saturating_add(u64::from(size));
         let began = self.start()?;
-        for _ in 0..size {
-            if self.calls >= wanted {
-                break;
-            }
-            self.dispatch()?;
-        }
+        self.dispatch_until(wanted, size)?;
         self.stop(began)
     }
 
@@ -157,12 +156,7 @@ where
         for ping in &pings {
             ping.ping();
         }
-        for _ in 0..size {
-            if self.calls >= wanted {
-                break;
-            }
-            self.dispatch()?;
-        }
+        self.dispatch_until(wanted, size)?;
         self.stop(began)?;
         drop(pings);
         self.dispatch()
@@ -175,5 +169,46 @@ where
             self.dispatch()?;
         }
         self.stop(began)
+    }
+
+    fn messages_served(&mut self, count: u32, size: u32) -> Result<()> {
+        let sender = self.insert_channel()?;
+        for _ in 0..count {
+            let wanted = self.calls.saturating_add(u64::from(size));
+            let began = self.start()?;
+            for message in 0..size {
+                let sent = sender.send(u64::from(message));
+                ensure!(sent.is_ok(), "a message is refused");
+            }
+            self.dispatch_until(wanted, size)?;
+            self.stop(began)?;
+        }
+        Ok(())
+    }
+
+    fn bounded_messages_served(&mut self, count: u32, size: u32) -> Result<()> {
+        let sender = self.insert_sync_channel(size)?;
+        for _ in 0..count {
+            let wanted = self.calls.saturating_add(u64::from(size));
+            let began = self.start()?;
+            for message in 0..size {
+                let sent = sender.try_send(u64::from(message));
+                ensure!(sent.is_ok(), "a message is refused");
+            }
+            self.dispatch_until(wanted, size)?;
+            self.stop(began)?;
+        }
+        Ok(())
+    }
+
+    // Dispatches, at most so often, until so many calls were made in all.
+    fn dispatch_until(&mut self, calls: u64, most: u32) -> Result<()> {
+        for _ in 0..most {
+            if self.calls >= calls {
+                break;
+            }
+            self.dispatch()?;
+        }
+        Ok(())
     }
 }
