@@ -832,7 +832,7 @@ struct Noting {
 }
 
 impl On<Instant, Vec<Instant>, TimeoutAction> for Noting {
-        fn on(&mut self, event: Instant, data: &mut Vec<Instant>) -> TimeoutAction {
+    fn on(&mut self, event: Instant, data: &mut Vec<Instant>) -> TimeoutAction {
         let _ = data.push(event);
         self.action
     }
