@@ -13,6 +13,8 @@ pub mod Running
 pub mod Finding
 pub mod Pinging
 pub mod Receiving
+pub mod Polling
+pub mod Reading
 pub mod Registering
 pub mod Tickets
 pub mod Serving
@@ -20,3 +22,5 @@ pub mod Telling
 pub mod Listing
 pub mod Homes
 pub mod Freshness
+pub mod Registered
+pub mod Blocking

@@ -3,13 +3,17 @@ pub mod CellKeeping
 pub mod Pings
 pub mod Sends
 pub mod Channels
+pub mod Polled
+pub mod Executors
 pub mod Askings
 pub mod Quiet
 pub mod Listening
+pub mod Executing
 pub mod Ledgers
 pub mod Held
 pub mod Rooms
 pub mod Machine
+pub mod Loops
 pub mod Rules
 pub mod Serving
 pub mod Laws
@@ -20,3 +24,8 @@ pub mod ExampleRun
 pub mod Homes
 pub mod Running
 pub mod Freshness
+pub mod EveryRun
+pub mod Handles
+pub mod StreamReads
+pub mod Streams
+pub mod Blocking

@@ -202,3 +202,7 @@ pub record IsNew {D I P : Type 0} (w : World D I P) : Type 0 where
   pub held : w.held ≡ record { lifecycle = []; pending = Continue; asks = no_asks; warnings = []; stops = [] }
   pub handed : w.handed ≡ []
   pub ledger : w.ledger ≡ new_ledger
+
+-- a machine to which nothing has happened agrees with the loop
+abbrev pub BeginsAnew : {D P C R X I S : Type 0} → EventLoop D P C R X I S → Type 0
+BeginsAnew {D} {P} {C} {R} {X} {I} l = (w : World D I P) × IsNew w × (seen w ≡ view_of l)

@@ -1,6 +1,7 @@
 //! A cell with the board of its key, under one lock, and the sections of that lock that every kind of cell has. No other lock
 //! is taken and nobody is called within one: what a section owes to the board is settled after it.
 ghost use Rattle.std.specs.Prelude.{◌≡◌, ◌≢◌, ◌-◌, ◌^◌, None, Some, IfOk, IfErr, IfSome};
+ghost use Rattle.calloop_wake.specs.Cells.{fresh_twin};
 ghost use Rattle.std.specs.Option.{option_map};
 ghost use Rattle.std.specs.Arc.{arc_value};
 ghost use Rattle.calloop_wake.specs.Tokens.{key_of};
@@ -98,7 +99,7 @@ pub fn receiver<K: CellCore, R: Wait>(
     right: ReceivingRight,
 ) -> Twin
     requires { right.name ≡ K.named_by shared.now.slot }
-    ensures { result ≡ record { name = K.named_by shared.now.slot; key = None; turns = 0; number = 0; closes = 0 } }
+    ensures { result ≡ fresh_twin (K.named_by shared.now.slot) }
 {
     let (gate, cell) = shared.lock(rt);
     let twin = cell.core.receiver(right);

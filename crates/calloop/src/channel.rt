@@ -1,5 +1,6 @@
 //! Channels: messages that are sent from any thread, as a source.
 ghost use Rattle.std.specs.Prelude.{◌≡◌, ◌<◌, ◌+◌, None, Some, Err, IfOk, IfErr};
+ghost use Rattle.calloop_wake.specs.Cells.{fresh_twin};
 ghost use Rattle.std.specs.Arc.{arc_value};
 ghost use Rattle.std.proofs.Props.{props};
 ghost use Rattle.calloop_wake.specs.declared.error.Error.TheVariants.{OutOfMemory, NoRendezvous};
@@ -202,7 +203,7 @@ fn ends<T: Drop, R: Wait + Clone + Drop>(
 >
     ensures sender { IfOk result (λ made. made.2.name ≡ (arc_value made.1).slot.name) }
     ensures bound { IfOk result (λ made. (arc_value made.1).slot.bound ≡ bound) }
-    ensures twin { IfOk result (λ made. made.3.twin ≡ record { name = (arc_value made.1).slot.name; key = None; turns = 0; number = 0; closes = 0 }) }
+    ensures twin { IfOk result (λ made. made.3.twin ≡ fresh_twin (arc_value made.1).slot.name) }
     ensures same { IfOk result (λ made. (arc_value made.3.shared).slot ≡ (arc_value made.1).slot) }
     ensures err { IfErr result (λ e. e ≡ OutOfMemory) }
 {
@@ -230,7 +231,7 @@ pub fn make_channel<T: Drop, R: Wait + Clone + Drop>(
     alloc: Global,
 ) -> LoopResult<(Sender<T, R>, Channel<T, R>)>
     ensures ok { IfOk result (λ made.
-        (made.1.twin ≡ record { name = (arc_value made.0.shared).slot.name; key = None; turns = 0; number = 0; closes = 0 })
+        (made.1.twin ≡ fresh_twin (arc_value made.0.shared).slot.name)
         × ((arc_value made.1.shared).slot ≡ (arc_value made.0.shared).slot)) }
     ensures err { IfErr result (λ e. e ≡ OutOfMemory) }
 {
@@ -248,7 +249,7 @@ pub fn sync_channel<T: Drop, R: Wait + Clone + Drop>(
     bound: usize,
 ) -> LoopResult<(SyncSender<T, R>, Channel<T, R>)>
     ensures ok { IfOk result (λ made.
-        (made.1.twin ≡ record { name = (arc_value made.0.shared).slot.name; key = None; turns = 0; number = 0; closes = 0 })
+        (made.1.twin ≡ fresh_twin (arc_value made.0.shared).slot.name)
         × ((arc_value made.1.shared).slot ≡ (arc_value made.0.shared).slot)
         × ((arc_value made.0.shared).slot.bound ≡ Some bound)) }
     ensures none { bound ≡ 0 → result ≡ Err NoRendezvous }

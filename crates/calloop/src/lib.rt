@@ -3,12 +3,17 @@
 
 mod cell;
 pub mod channel;
+pub mod futures;
 pub mod loop_logic;
 pub mod ping;
+pub mod stream;
 
+pub use calloop_core::both::{Both, Part};
 pub use calloop_core::callbacks::{On, QuietCallback, QuietDispatch};
+pub use calloop_core::forwarding::Forward;
 pub use calloop_core::generic::{Generic, NoIoDrop};
 pub use calloop_core::idles::{IdleCallback, QuietIdle};
+pub use calloop_core::movable::Movable;
 pub use calloop_core::sources::{
     Asking, Callback, Choice, Dispatch, Dispatcher, EventSource, Here, Hold, IntoError, OneOf,
     PostAction, There,
@@ -18,13 +23,16 @@ pub use calloop_core::sys::poll::Poll;
 pub use calloop_core::sys::system::{MioIo, MioPoller, SystemClock};
 pub use calloop_core::sys::{Clock, Interest, Mode, Poller, Readiness};
 pub use calloop_core::timer::{TimeoutAction, Timer, TimerError};
-pub use calloop_core::{generic, sys, timer};
+pub use calloop_core::{
+    batch_register, batch_reregister, batch_unregister, generic, sys, timer, transient,
+};
 pub use calloop_wake::error;
 pub use calloop_wake::error::{Error, InsertError, Result};
 pub use calloop_wake::token::{RegistrationToken, Token, TokenFactory};
 pub use calloop_wake::wake::Receipt;
 pub use calloop_wake::wheel::Instant;
 pub use loop_logic::{
-    Answer, EventDispatcher, EventLoop, Idle, LoopHandle, LoopSignal, Requests, Sources, Ticket,
+    Answer, EventDispatcher, EventLoop, Idle, LoopHandle, LoopSignal, Requests, ScriptLoop,
+    Sources, SystemLoop, Ticket,
 };
 pub use ping::{Ping, PingError, PingSource, make_ping};

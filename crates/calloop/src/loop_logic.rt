@@ -18,11 +18,13 @@ use stops::StopNotes;
 use warnings::Warnings;
 
 mod asks;
+mod blocking;
 mod calls;
 mod dispatch;
 mod handle;
 mod laws;
 mod lifecycle;
+mod loops;
 mod registering;
 mod serving;
 mod signal;
@@ -32,6 +34,7 @@ mod warnings;
 
 pub use asks::{Answer, Idle, Requests, Ticket};
 pub use laws::{once, once_where_nothing_is_asked, run_that_there_is, wrong_runs_are_ruled_out};
+pub use loops::{ScriptLoop, SystemLoop};
 pub use signal::LoopSignal;
 
 /// A loop over sources of one type `D` of the caller, a poller and a clock. It owns its sources. `R` is the runtime by

@@ -1,5 +1,6 @@
 //! Pings: a source that is woken by hand, from any thread.
 ghost use Rattle.std.specs.Prelude.{◌≡◌, None, IfOk, IfErr};
+ghost use Rattle.calloop_wake.specs.Cells.{fresh_twin};
 ghost use Rattle.std.specs.Arc.{arc_value};
 ghost use Rattle.calloop_wake.specs.declared.error.Error.TheVariants.{OutOfMemory};
 
@@ -11,11 +12,11 @@ use calloop_wake::wake::{Receipt, Sender, Twin};
 use std::alloc::{AllocError, Global};
 use std::sync::{Arc, Wait};
 
-mod cell;
+pub(crate) mod cell;
 pub(crate) mod source;
 
 pub use calloop_wake::wake::covered;
-pub use source::PingError;
+pub use source::{PingError, is_registered_by_its_calls};
 
 /// Rings its source, from any thread. As many as are cloned ring the same source, and the drop of the last one closes it.
 pub struct Ping<R: Wait + Drop> {
@@ -29,9 +30,9 @@ pub struct Ping<R: Wait + Drop> {
 ///
 /// Its drop, as by the drop of the loop that it is registered with, takes its registration back.
 pub struct PingSource<R: Wait + Drop> {
-    rt: R,
-    shared: SharedCell<PingCore>,
-    twin: Twin,
+    pub(crate) rt: R,
+    pub(crate) shared: SharedCell<PingCore>,
+    pub(crate) twin: Twin,
     ghost tied: { twin.name ≡ (arc_value shared).slot },
 }
 
@@ -43,7 +44,7 @@ pub fn make_ping<R: Wait + Clone + Drop>(
     alloc: Global,
 ) -> LoopResult<(Ping<R>, PingSource<R>)>
     ensures ok { IfOk result (λ made.
-        (made.1.twin ≡ record { name = (arc_value made.0.shared).slot; key = None; turns = 0; number = 0; closes = 0 })
+        (made.1.twin ≡ fresh_twin (arc_value made.0.shared).slot)
         × ((arc_value made.1.shared).slot ≡ (arc_value made.0.shared).slot)) }
     ensures err { IfErr result (λ e. e ≡ OutOfMemory) }
 {

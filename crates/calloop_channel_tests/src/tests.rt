@@ -8,7 +8,11 @@ use desk::{Act, CLOSED, Tried, plays};
 use std::sync::Wait;
 use std::test::Fail;
 
+mod chance;
 mod desk;
+mod machine;
+mod memory;
+mod own_sends;
 mod threads;
 
 #[test]
@@ -82,6 +86,36 @@ fn a_full_channel_hands_its_message_back_and_has_room_after_a_dispatch(rt: HostR
         Act::Try(5, Tried::Sent),
         Act::Try(6, Tried::Full(6)),
         Act::Says(Some(100), &[4, 5]),
+    ];
+    assert_eq!(rt; plays(&rt, rt.alloc(), &acts), None);
+}
+
+#[test]
+fn a_bounded_channel_tells_its_close_behind_what_was_sent_after_it_was_full(rt: HostRuntime) {
+    let acts = [
+        Act::Make(Some(2)),
+        Act::Insert,
+        Act::Send(&[1, 2]),
+        Act::Try(3, Tried::Full(3)),
+        Act::Says(Some(0), &[1, 2]),
+        Act::Send(&[4]),
+        Act::Drop,
+        Act::Says(Some(0), &[4, CLOSED]),
+    ];
+    assert_eq!(rt; plays(&rt, rt.alloc(), &acts), None);
+}
+
+#[test]
+fn a_turn_of_exactly_1024_messages_is_followed_by_one_that_finds_none(rt: HostRuntime) {
+    let acts = [
+        Act::Make(None),
+        Act::Insert,
+        Act::SendAll(0, 1_024),
+        Act::SaysAll(None, 0, 1_024),
+        Act::Says(Some(100), &[]),
+        Act::Says(Some(100), &[]),
+        Act::Asked(&[Some(0), Some(0), Some(100)]),
+        Act::Names(true),
     ];
     assert_eq!(rt; plays(&rt, rt.alloc(), &acts), None);
 }

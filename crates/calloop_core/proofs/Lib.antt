@@ -6,3 +6,5 @@ pub mod Gathering
 pub mod Scripted
 pub mod Stepping
 pub mod Waiting
+pub mod Marked
+pub mod Asked

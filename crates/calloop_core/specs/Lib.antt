@@ -16,6 +16,12 @@ pub mod Quiet
 pub mod Beside
 pub mod Lawful
 pub mod Timers
+pub mod Transients
+pub mod Transience
+pub mod Movables
+pub mod Marks
+pub mod Boths
+pub mod BothKeeping
 pub mod Generics
 pub mod GenericKeeping
 pub mod Keeping

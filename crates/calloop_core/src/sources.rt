@@ -13,8 +13,7 @@ use std::marker::PhantomData;
 use std::ops::{BitOr, BitOrAssign};
 use std::sync::Wait;
 
-/// What a callback writes its requests to the loop into. What is asked for stays asked for: by `reaches` alone does a
-/// call change them.
+/// Where a callback puts its requests to the loop. It can add requests, and never take one back (`reaches`).
 pub trait Asking {
     /// What the requests can become by further ones.
     ghost reaches: { Self → Self → Type 0 };
@@ -111,8 +110,8 @@ pub trait IntoError: Drop {
         ensures { becomes self result };
 }
 
-/// A source of events. Its meaning relates what it is before a call, what the call read of `Poll`, what was done, the
-/// steps that it made there, and what it is after it.
+/// A source of events. `means` says what each call may do: the source before it, `Poll`, the call with its answer, the steps that it
+/// makes on `Poll`, and the source after it.
 pub trait EventSource<P: Poller, C, R: Wait + Drop> {
     ghost use Rattle.std.specs.Prelude.{◌≡◌, List, []};
     ghost use Rattle.calloop_core.specs.Polls.{PollView, poll_view};
@@ -180,8 +179,8 @@ pub trait EventSource<P: Poller, C, R: Wait + Drop> {
     fn before_handle_events(&mut self, events: EventIterator<'_>)
         ensures { (v : PollView P) → means.does self.old v (Noticed (events_left events.entry)) [] self.new };
 
-    /// It leaves the counters of others alone, and calls at most once for each arming of its own. A registration that succeeds
-    /// leaves it with keys of that registration alone, and so does each later call; it arms deadlines under no others.
+    /// Two laws. It touches no timer's counter of another source, and calls at most once for each arming of its own. And it uses
+    /// only keys of its own registration, from a registration that succeeded on.
     ghost keeps: { IsKeeping means };
 }
 
@@ -284,8 +283,8 @@ pub trait Dispatch<P: Poller, C, R: Wait + Drop, X, Q: Asking> {
     fn before_handle_events(&mut self, events: EventIterator<'_>)
         ensures { (v : PollView P) → means.does self.old v (Noticed (events_left events.entry)) [] self.new };
 
-    /// It leaves the counters of others alone, and calls at most once for each arming of its own. A registration that succeeds
-    /// leaves it with keys of that registration alone, and so does each later call; it arms deadlines under no others.
+    /// Two laws. It touches no timer's counter of another source, and calls at most once for each arming of its own. And it uses
+    /// only keys of its own registration, from a registration that succeeded on.
     ghost keeps: { IsKeeping means };
 
     /// What a turn asks for is reached from what was asked for before it.
@@ -446,8 +445,7 @@ pub struct There<N> {
     of: PhantomData<N>,
 }
 
-/// It has a place for a source `S` with a callback `F`, and `N` says which: it is found by the two types, where they have
-/// one place.
+/// A choice that can hold a source `S` with a callback `F`, in the place `N`. The compiler infers `N` where the two types have one place.
 pub trait Choice<S, F, N>: Sized {
     ghost use Rattle.std.specs.Prelude.{◌≡◌};
     ghost use Rattle.calloop_core.specs.declared.sources.Dispatcher.{Dispatcher};

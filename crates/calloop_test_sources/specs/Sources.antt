@@ -9,6 +9,7 @@ use Rattle.calloop_core.specs.Polls.{PollView}
 use Rattle.calloop_core.specs.Deeds.{Deed, Registered, Reregistered, Unregistered, Turned, Slept, Noticed, Heard}
 use Rattle.calloop_test_sources.specs.declared.attendant.Attendant.{Attendant}
 use Rattle.calloop_test_sources.specs.declared.source.Counter.{Counter}
+use Rattle.calloop_test_sources.specs.declared.noting.Noting.{Noting}
 use Rattle.calloop_test_sources.specs.declared.source.Broken.{Broken}
 
 abbrev pub IsOther : Error → Type 0
@@ -34,6 +35,20 @@ Attends s v (Slept answer) t = Unit {0}
 Attends s v (Noticed events) t = t.waits ≡ s.waits
 Attends s v (Turned readiness token turn) t =
     (turn.calls ≡ record { event = s.waits; before = tt; after = tt; answer = tt } ∷ []) × (t.waits ≡ s.waits)
+
+-- a turn hands out its number
+abbrev pub HandsOut : {P : Type 0} → Noting → PollView P → Deed (Heard ℕ (Unit {0}) (Unit {0}) Broken) → Noting → Type 0
+HandsOut s v (Registered f answer g) t = Unit {0}
+HandsOut s v (Reregistered f answer g) t = Unit {0}
+HandsOut s v (Unregistered answer) t = Unit {0}
+HandsOut s v (Slept answer) t = Unit {0}
+HandsOut s v (Noticed events) t = Unit {0}
+HandsOut s v (Turned readiness token turn) t =
+    turn.calls ≡ record { event = s.number; before = tt; after = tt; answer = tt } ∷ []
+
+-- whatever it does
+abbrev pub Anything : {D P T : Type 0} → D → PollView P → Deed T → D → Type 0
+Anything s v deed t = Unit {0}
 
 -- A proof, which the impl cites.
 pub other_is_of_source : (e : Error) → IsOther e → IsOfSource e

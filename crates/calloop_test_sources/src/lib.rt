@@ -2,7 +2,10 @@
 #![tactic(auto)]
 
 pub mod attendant;
+pub mod batch;
 pub mod guarded;
+pub mod noting;
+pub mod numbered;
 pub mod source;
 pub mod trio;
 pub mod visitor;

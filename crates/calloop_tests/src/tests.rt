@@ -15,6 +15,7 @@ mod borrowed;
 mod desk;
 mod exchanges;
 mod guards;
+mod made;
 mod own_pings;
 mod pings;
 mod places;
@@ -24,6 +25,7 @@ mod threads;
 mod timers;
 mod trios;
 mod waits;
+mod wakes;
 
 #[test]
 fn an_empty_loop_waits_as_it_is_asked(rt: HostRuntime) {

@@ -4,9 +4,11 @@ use Rattle.calloop_wake.specs.Cells.{fresh}
 use Rattle.calloop_wake.specs.Wakes.{Kind, WakeStep, start, after_all, IsSchedule, IsCovered}
 use Rattle.calloop_wake.specs.PingKind.{ping_kind}
 use Rattle.calloop_wake.specs.ChannelKind.{channel_kind, unused_channel}
-use Rattle.calloop_wake.specs.Kinds.{First, Second, either_kind, every_kind, Born, APing, AChannel, new_cell}
+use Rattle.calloop_wake.specs.ExecutorKind.{executor_kind, unused_executor}
+use Rattle.calloop_wake.specs.Kinds.{First, Second, either_kind, every_kind, Born, APing, AChannel, AnExecutor, new_cell}
 use Rattle.calloop_wake.proofs.Lawful.{ping_lawful, fresh_is}
 use Rattle.calloop_wake.proofs.ChannelLawful.{channel_lawful, unused_is}
+use Rattle.calloop_wake.proofs.ExecutorLawful.{executor_lawful, unused-executor-is}
 use Rattle.calloop_wake.proofs.Schedules.{IsLawful, IsFresh, covered-schedule}
 
 module _ (K L : Kind) (k_law : IsLawful K) (l_law : IsLawful L) where
@@ -91,13 +93,22 @@ module _ (K L : Kind) (k_law : IsLawful K) (l_law : IsLawful L) where
   unfolding either_lawful
   second_is d f = record { lit = f.lit; quiet = f.quiet; unkeyed = f.unkeyed }
 
+-- channels and executors
+queues_lawful : IsLawful (either_kind channel_kind executor_kind)
+queues_lawful = either_lawful channel_kind executor_kind channel_lawful executor_lawful
+
 pub every_lawful : IsLawful every_kind
-every_lawful = either_lawful ping_kind channel_kind ping_lawful channel_lawful
+every_lawful = either_lawful ping_kind (either_kind channel_kind executor_kind) ping_lawful queues_lawful
 
 born_is : (born : Born) → IsFresh every_kind every_lawful (new_cell born)
-unfolding every_lawful
-born_is APing = first_is ping_kind channel_kind ping_lawful channel_lawful fresh fresh_is
-born_is (AChannel bound) = second_is ping_kind channel_kind ping_lawful channel_lawful (unused_channel bound) (unused_is bound)
+unfolding every_lawful queues_lawful
+born_is APing = first_is ping_kind (either_kind channel_kind executor_kind) ping_lawful queues_lawful fresh fresh_is
+born_is (AChannel bound) =
+    second_is ping_kind (either_kind channel_kind executor_kind) ping_lawful queues_lawful (First (unused_channel bound))
+    (first_is channel_kind executor_kind channel_lawful executor_lawful (unused_channel bound) (unused_is bound))
+born_is AnExecutor =
+    second_is ping_kind (either_kind channel_kind executor_kind) ping_lawful queues_lawful (Second unused_executor)
+    (second_is channel_kind executor_kind channel_lawful executor_lawful unused_executor unused-executor-is)
 
 pub covered-cells : (born : ℕ → Born) (ss : List (WakeStep every_kind.Own)) → IsSchedule every_kind (start (λ n. new_cell (born n))) ss
     → IsCovered every_kind (after_all every_kind (start (λ n. new_cell (born n))) ss)

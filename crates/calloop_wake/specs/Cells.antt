@@ -194,9 +194,13 @@ core_after_open_turn k c =
 abbrev pub tells : ℕ → Cell → ℕ
 tells k c = one (opens k c && (c.closed && not c.told))
 
+-- the receiving end of the cell of this name, which gave it no key yet and counted nothing
+abbrev pub fresh_twin : Book → Twin
+fresh_twin name = record { name = name; key = None; turns = 0; number = 0; closes = 0 }
+
 -- a receiving end that gave its cell no key yet, and opened no turn
 abbrev pub twin_of : CoreView → Twin
-twin_of c = record { name = c.name; key = None; turns = 0; number = 0; closes = 0 }
+twin_of c = fresh_twin c.name
 
 -- the receiving end counts the turns that it opened, the rings that they took, and the closes that they told
 abbrev pub twin_after_open_turn : ℕ → CoreView → Twin → Twin

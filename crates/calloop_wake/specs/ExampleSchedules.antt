@@ -3,6 +3,8 @@ use Rattle.std.specs.Prelude.{ℕ, List, [], ◌∷◌, true, false, Some, None}
 use Rattle.calloop_wake.specs.Cells.{Cell, fresh}
 use Rattle.calloop_wake.specs.Channels.{fresh_channel}
 use Rattle.calloop_wake.specs.ChannelKind as channel
+use Rattle.calloop_wake.specs.Executors.{fresh_executor, with_slot}
+use Rattle.calloop_wake.specs.ExecutorKind as executor
 use Rattle.calloop_wake.specs.PingKind as ping
 use Rattle.calloop_wake.specs.Kinds.{First, Second, every_kind}
 use Rattle.calloop_wake.specs.declared.wake.channel.LastPop.TheVariants.{AnItem, NoItem}
@@ -27,7 +29,7 @@ use Rattle.calloop_wake.specs.Wakes.{
 abbrev pub Schedule : Type 0
 Schedule = List (WakeStep every_kind.Own)
 
--- the steps that pings and channels have of their own, of cell 0
+-- the steps that pings, channels and executors have of their own, of cell 0
 abbrev rings : WakeStep every_kind.Own
 rings = At 0 (First ping.Ring)
 
@@ -38,16 +40,33 @@ abbrev ends : WakeStep every_kind.Own
 ends = At 0 (First ping.EndTurn)
 
 abbrev puts : ℕ → WakeStep every_kind.Own
-puts message = At 0 (Second (channel.Put message))
+puts message = At 0 (Second (First (channel.Put message)))
 
 abbrev pops : WakeStep every_kind.Own
-pops = At 0 (Second channel.Pop)
+pops = At 0 (Second (First channel.Pop))
 
 abbrev hangs_up : WakeStep every_kind.Own
-hangs_up = At 0 (Second channel.Close)
+hangs_up = At 0 (Second (First channel.Close))
 
 abbrev ends_pops : WakeStep every_kind.Own
-ends_pops = At 0 (Second channel.EndTurn)
+ends_pops = At 0 (Second (First channel.EndTurn))
+
+abbrev schedules : WakeStep every_kind.Own
+schedules = At 0 (Second (Second (executor.Put 3 0)))
+
+abbrev wakes : WakeStep every_kind.Own
+wakes = At 0 (Second (Second (executor.Wake (record { slot = 3; number = 0 }))))
+
+-- the task that was popped before is pending
+abbrev pops_task : WakeStep every_kind.Own
+pops_task = At 0 (Second (Second (executor.Pop false)))
+
+-- it gave its result
+abbrev pops_behind_result : WakeStep every_kind.Own
+pops_behind_result = At 0 (Second (Second (executor.Pop true)))
+
+abbrev ends_tasks : WakeStep every_kind.Own
+ends_tasks = At 0 (Second (Second (executor.EndTurn false)))
 
 -- a ring that comes while the loop waits is posted and told of, and the wait returns; then its key is taken, and a turn opened
 abbrev pub ring_in_a_wait : Schedule
@@ -156,6 +175,47 @@ close_behind_a_message =
     ∷ ends_pops
     ∷ []
 
+-- A task is scheduled, polled, and woken in its poll: so it is queued once more, and the same turn polls it again. It is done then;
+-- a wake that comes later changes nothing.
+abbrev pub task_in_a_turn : Schedule
+task_in_a_turn =
+    OpenPlace 7
+    ∷ SetKey 0 7
+    ∷ schedules
+    ∷ Post 7
+    ∷ Unpost 8
+    ∷ OpenTurn 0 7
+    ∷ pops_task
+    ∷ wakes
+    ∷ pops_task
+    ∷ pops_behind_result
+    ∷ wakes
+    ∷ ends_tasks
+    ∷ []
+
+-- a task that is pending is woken while the loop waits, and posted
+abbrev pub wake_in_a_wait : Schedule
+wake_in_a_wait =
+    OpenPlace 7
+    ∷ SetKey 0 7
+    ∷ schedules
+    ∷ Post 7
+    ∷ Unpost 8
+    ∷ OpenTurn 0 7
+    ∷ pops_task
+    ∷ pops_task
+    ∷ ends_tasks
+    ∷ Look
+    ∷ Sleep
+    ∷ wakes
+    ∷ wakes
+    ∷ Post 7
+    ∷ []
+
+-- the executor goes with a task that is queued, which a wake doesn't queue any more
+abbrev pub executor_that_goes : Schedule
+executor_that_goes = OpenPlace 7 ∷ SetKey 0 7 ∷ schedules ∷ Post 7 ∷ ClearKey 0 true ∷ wakes ∷ ClosePlace 7 ∷ []
+
 -- Where these end: the cell that they are of.
 
 abbrev pub of_key_seven : Cell
@@ -179,4 +239,16 @@ after_close_behind_a_message =
       taken = 5 ∷ [];
       given = 5 ∷ [];
       tellings = in_time ∷ [];
+    }
+
+abbrev pub after_task_in_a_turn : executor.ExecutorPast
+after_task_in_a_turn =
+    record {
+      now = record fresh_executor {
+        tasks = with_slot 3 None fresh_executor.tasks;
+        next = 1;
+        results = 1;
+        key = Some 7;
+      };
+      given = 0 ∷ [];
     }

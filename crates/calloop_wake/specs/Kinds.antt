@@ -1,9 +1,10 @@
--- Two kinds of cells as one, so that cells of both share a board. The cells that there are: pings and channels.
+-- Two kinds of cells as one, so that cells of both share a board. The cells that there are: pings, channels and executors.
 use Rattle.std.specs.Prelude.{ℕ, Bool, Option}
 use Rattle.calloop_wake.specs.Cells.{fresh}
 use Rattle.calloop_wake.specs.Wakes.{Kind}
 use Rattle.calloop_wake.specs.PingKind.{ping_kind}
 use Rattle.calloop_wake.specs.ChannelKind.{channel_kind, unused_channel}
+use Rattle.calloop_wake.specs.ExecutorKind.{executor_kind, unused_executor}
 
 -- a value of one of two kinds
 pub data Either (A B : Type 0) : Type 0 where
@@ -70,14 +71,16 @@ module _ (K L : Kind) where
 
 -- all kinds of cells
 abbrev pub every_kind : Kind
-every_kind = either_kind ping_kind channel_kind
+every_kind = either_kind ping_kind (either_kind channel_kind executor_kind)
 
 -- what a cell is made as
 pub data Born : Type 0 where
   APing : Born
   -- with how many messages it holds at most
   AChannel : (bound : Option ℕ) → Born
+  AnExecutor : Born
 
 abbrev pub new_cell : Born → every_kind.Cell
 new_cell APing = First fresh
-new_cell (AChannel bound) = Second (unused_channel bound)
+new_cell (AChannel bound) = Second (First (unused_channel bound))
+new_cell AnExecutor = Second (Second unused_executor)

@@ -4,6 +4,8 @@ pub mod Passes
 pub mod Cells
 pub mod Bells
 pub mod Channels
+pub mod Tasks
+pub mod Executors
 pub mod Boards
 pub mod Posts
 pub mod Deadlines
@@ -11,6 +13,7 @@ pub mod Wheels
 pub mod Wakes
 pub mod PingKind
 pub mod ChannelKind
+pub mod ExecutorKind
 pub mod Kinds
 pub mod Lost
 pub mod ExampleSchedules

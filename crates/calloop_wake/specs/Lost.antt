@@ -1,24 +1,34 @@
 -- Small states in which something is lost, which `covered` rules out.
-use Rattle.std.specs.Prelude.{[], ◌∷◌, true, Some, None}
+use Rattle.std.specs.Prelude.{ℕ, List, [], ◌∷◌, true, Option, Some, None}
 use Rattle.calloop_wake.specs.Cells.{Cell, fresh}
 use Rattle.calloop_wake.specs.Channels.{fresh_channel}
 use Rattle.calloop_wake.specs.ChannelKind.{ChannelPast, Telling, unused_channel}
-use Rattle.calloop_wake.specs.Kinds.{First, Second, APing, AChannel, every_kind, new_cell}
+use Rattle.calloop_wake.specs.declared.wake.tasks.Phase.TheVariants.{Queued}
+use Rattle.calloop_wake.specs.declared.wake.tasks.Task.{Task}
+use Rattle.calloop_wake.specs.Executors.{ExecutorCell, fresh_executor, with_slot}
+use Rattle.calloop_wake.specs.ExecutorKind.{ExecutorPast, unused_executor}
+use Rattle.calloop_wake.specs.Kinds.{First, Second, APing, AChannel, AnExecutor, every_kind, new_cell}
 use Rattle.calloop_wake.specs.Wakes.{WakeWorld, Looked, start}
 
--- nothing has happened, and every cell is a ping's; or a channel's, without a bound
+-- nothing has happened, and every cell is a ping's; or a channel's, without a bound; or an executor's
 abbrev pub of_pings : WakeWorld every_kind.Cell
 of_pings = start (λ _. new_cell APing)
 
 abbrev pub of_channels : WakeWorld every_kind.Cell
 of_channels = start (λ _. new_cell (AChannel None))
 
--- every cell is this ping's, or this channel's
+abbrev pub of_executors : WakeWorld every_kind.Cell
+of_executors = start (λ _. new_cell AnExecutor)
+
+-- every cell is this ping's, or this channel's, or this executor's
 abbrev pub of_this_ping : Cell → WakeWorld every_kind.Cell
 of_this_ping c = record of_pings { cells = λ _. First c }
 
 abbrev pub of_this_channel : ChannelPast → WakeWorld every_kind.Cell
-of_this_channel p = record of_channels { cells = λ _. Second p }
+of_this_channel p = record of_channels { cells = λ _. Second (First p) }
+
+abbrev pub of_this_executor : ExecutorPast → WakeWorld every_kind.Cell
+of_this_executor p = record of_executors { cells = λ _. Second (Second p) }
 
 -- a ring stands, and isn't pinged
 abbrev pub with_a_ring_unseen : WakeWorld every_kind.Cell
@@ -71,3 +81,36 @@ with_a_close_told_early =
       now = record (fresh_channel None) { cell = record fresh { closed = true; told = true } };
       tellings = record { closed = true; left = 1 } ∷ [];
     })
+
+-- the first task, which is queued
+abbrev queued_task : Task
+queued_task = record { number = 0; phase = Queued; home = 0 }
+
+-- an executor with this task alone in slot 3, and this queue
+abbrev with_queue : Option Task → List ℕ → ExecutorCell
+with_queue task queue = record fresh_executor { tasks = with_slot 3 task fresh_executor.tasks; queue = queue; next = 1 }
+
+-- a task is queued, and the executor isn't pinged
+abbrev pub with_a_task_unseen : WakeWorld every_kind.Cell
+with_a_task_unseen = of_this_executor (record unused_executor { now = with_queue (Some queued_task) (3 ∷ []) })
+
+-- a task is queued twice
+abbrev pub with_a_task_queued_twice : WakeWorld every_kind.Cell
+with_a_task_queued_twice =
+    of_this_executor
+    (record unused_executor { now = record (with_queue (Some queued_task) (3 ∷ 3 ∷ [])) { pinged = true } })
+
+-- a finished task stands in the queue
+abbrev pub with_a_finished_task_queued : WakeWorld every_kind.Cell
+with_a_finished_task_queued =
+    of_this_executor (record { now = record (with_queue None (3 ∷ [])) { pinged = true; results = 1 }; given = 0 ∷ [] })
+
+-- the result of a task was handed out twice
+abbrev pub with_a_result_twice : WakeWorld every_kind.Cell
+with_a_result_twice = of_this_executor (record { now = record (with_queue None []) { results = 2 }; given = 0 ∷ 0 ∷ [] })
+
+-- the result of a task was handed out, and it is to be polled again
+abbrev pub with_a_result_of_a_task_that_runs : WakeWorld every_kind.Cell
+with_a_result_of_a_task_that_runs =
+    of_this_executor
+    (record { now = record (with_queue (Some queued_task) (3 ∷ [])) { pinged = true; results = 1 }; given = 0 ∷ [] })

@@ -1,10 +1,11 @@
-//! The wake machine: values that must be spent, the cells that the ends of a ping or of a channel share, and the board of the
-//! posted keys.
+//! The wake machine: values that must be spent, the cells that the ends of a ping, of a channel or of an executor share, and the board
+//! of the posted keys.
 //!
 //! In calloop the kernel does this work, through an eventfd or a pipe for each ping and the poller; a channel has a ping there.
 //! The values of this module have no `Drop`, but for a receipt and the right to a receiving end: who has one has to hand it on or to
 //! spend it.
 ghost use Rattle.std.specs.Prelude.{◌≡◌, ◌&&◌, not, nat_lt, is_some, None};
+ghost use Rattle.calloop_wake.specs.Cells.{fresh_twin};
 ghost use Rattle.calloop_wake.specs.Passes.{given_back};
 
 use ghosts::{Count, Name};
@@ -14,6 +15,7 @@ pub(crate) mod bell;
 pub mod board;
 pub mod cell;
 pub mod channel;
+pub mod executor;
 pub mod ghosts;
 mod laws;
 pub mod locked;
@@ -21,11 +23,12 @@ pub mod notes;
 pub mod ping;
 pub(crate) mod places;
 pub(crate) mod queue;
+pub mod tasks;
 pub mod watch;
 
 pub use laws::{covered, lost_is_not_covered, schedules_that_there_are, steps_are_the_machines};
 
-/// Its key has to be posted on its board.
+/// A key that must be posted on its board. Whoever holds it owes the post.
 #[must_use]
 pub struct Debt {
     key: u64,
@@ -41,7 +44,7 @@ impl Model for Debt {
     ghost view = { λ d. record { key = d.key; board = d.board } };
 }
 
-/// The place of its key was opened on its board, so one cell may now take that key.
+/// A key whose place was opened on its board, so that one cell may take it now.
 #[must_use]
 pub struct OpenedPass {
     key: u64,
@@ -57,7 +60,7 @@ impl Model for OpenedPass {
     ghost view = { λ p. record { key = p.key; board = p.board } };
 }
 
-/// The cell of its key has another key now, so the place on its board may be closed.
+/// A key that its cell gave up, so that the place on its board may be closed.
 #[must_use]
 pub struct LeaveToClose {
     key: u64,
@@ -73,7 +76,7 @@ impl Model for LeaveToClose {
     ghost view = { λ l. record { key = l.key; board = l.board } };
 }
 
-/// Its key was taken from its board. It opens a turn, or goes back there as a debt.
+/// A key that was taken from its board. It opens a turn of its cell, or goes back there as a debt.
 #[must_use]
 pub struct TakenPass {
     key: u64,
@@ -143,7 +146,7 @@ impl ChannelTurn {
     }
 }
 
-/// Somebody rang the cell of this name, or put a message into it: how many had done so before.
+/// A proof that the cell of this name was rung, or that a message or a task was put into it: how many were so before.
 #[derive(Drop)]
 pub struct Receipt {
     pub(crate) name: Name,
@@ -163,7 +166,7 @@ pub struct ReceivingRight {
 }
 
 /// The receiving end of the cell of this name: the key that it gave the cell, how many turns it opened, how often it told the close,
-/// and, in `number`, how many of a ping's turns took a ring, or how many messages of a channel were handed out. It is spent where the
+/// and, in `number`, how many of a ping's turns took a ring, or how many messages of a channel or results of tasks were handed out. It is spent where the
 /// cell is abandoned.
 #[must_use]
 pub struct Twin {
@@ -177,7 +180,7 @@ pub struct Twin {
 impl Twin {
     // A receiving end that gave its cell no key yet and opened no turn.
     fn new(right: ReceivingRight) -> Twin
-        ensures { result ≡ record { name = right.name; key = None; turns = 0; number = 0; closes = 0 } }
+        ensures { result ≡ fresh_twin right.name }
     {
         Twin {
             name: right.name,
@@ -206,13 +209,13 @@ impl Twin {
     }
 }
 
-/// Only the last drop of a lock has it, so what lies under a lock isn't ended before.
+/// The right to end what lies under a lock, which only its last drop has.
 #[must_use]
 pub struct Last {
     pub(crate) of_wake: (),
 }
 
-/// A mark was set anew on the board, so a loop that waits has to be woken.
+/// A loop that must be woken where it waits, since a mark was set anew on its board.
 #[must_use]
 pub struct Nudge {
     of_wake: (),
@@ -232,7 +235,7 @@ impl Nudge {
     }
 }
 
-/// No key was marked on the board, so the loop may wait once.
+/// The leave to wait once, of a loop on whose board no key was marked.
 #[must_use]
 pub struct LeaveToSleep {
     of_wake: (),

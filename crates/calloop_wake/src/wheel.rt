@@ -1,5 +1,5 @@
 //! Moments of the loop's clock, and the deadlines that are armed. From calloop's `TimerWheel` in `timer.rs`.
-ghost use Rattle.std.specs.Prelude.{◌≡◌, ◌↔◌, ◌+◌, ◌-◌, ◌^◌, ◌≤◌, ◌<◌, min, [], ◌∷◌, false, true, length, IfSome, IfNone, IfOk, IfErr, OnOk, OnErr, IsErrOf};
+ghost use Rattle.std.specs.Prelude.{◌≡◌, ◌↔◌, ◌+◌, ◌-◌, ◌*◌, ◌^◌, ◌≤◌, ◌<◌, min, [], ◌∷◌, false, true, length, IfSome, IfNone, IfOk, IfErr, OnOk, OnErr, IsErrOf};
 ghost use Rattle.std.specs.Duration.{as_nanos};
 ghost use Rattle.calloop_wake.specs.Deadlines.{moment_after, inserted, has_counter, without_counter, with_new, with_again, cancelled, is_armed, first_deadline, first_due, after_first_due, with_entries, IsOrdered, IsSorted, CannotArm, CannotArmAgain};
 ghost use Rattle.calloop_wake.specs.Wheels.{entry_at, entries_of, first_key, NameTheSame};
@@ -19,6 +19,22 @@ pub struct Instant {
 }
 
 impl Instant {
+    /// The moment of so many nanoseconds.
+    pub fn from_nanos(nanos: u64) -> Instant
+        ensures { result.nanos ≡ nanos }
+    {
+        Instant { nanos }
+    }
+
+    /// The moment of so many milliseconds, at most 2^64 - 1 nanoseconds.
+    pub fn from_millis(millis: u64) -> Instant
+        ensures { result.nanos ≡ min (millis * 1000000) (2 ^ 64 - 1) }
+    {
+        Instant {
+            nanos: millis.saturating_mul(1_000_000),
+        }
+    }
+
     /// The moment that is so much later, at most 2^64 - 1 nanoseconds.
     pub fn after(self, time: Duration) -> Instant
         ensures { result.nanos ≡ min (self.nanos + as_nanos time) (2 ^ 64 - 1) }

@@ -29,6 +29,7 @@ use std::test::Fail;
 use std::{io, thread};
 
 mod channels;
+mod executors;
 mod plain;
 
 #[test]

@@ -13,6 +13,8 @@ use Rattle.loop_bench.specs.declared.row.Kind.TheVariants.{
   ReadableSockets,
   MessagesServed,
   BoundedMessagesServed,
+  ThreadMessagesServed,
+  BoundedThreadMessagesServed,
 }
 
 abbrev pub name_of : Kind → List ℕ
@@ -26,6 +28,8 @@ name_of PingsServed = codes "pings_served"
 name_of ReadableSockets = codes "readable_sockets"
 name_of MessagesServed = codes "messages_served"
 name_of BoundedMessagesServed = codes "bounded_messages_served"
+name_of ThreadMessagesServed = codes "thread_messages_served"
+name_of BoundedThreadMessagesServed = codes "bounded_thread_messages_served"
 
 abbrev pub is_named : List ℕ → Kind → Bool
 is_named name kind = pointwise nat_eq (name_of kind) name
@@ -43,6 +47,8 @@ operations_of PingsServed count size = count * size
 operations_of ReadableSockets count size = count
 operations_of MessagesServed count size = count * size
 operations_of BoundedMessagesServed count size = count * size
+operations_of ThreadMessagesServed count size = count * size
+operations_of BoundedThreadMessagesServed count size = count * size
 
 -- how many callbacks a row calls: one for each ring, one for each timer that fires, one for each socket that a wait tells of,
 -- and one for each message
@@ -57,3 +63,5 @@ calls_of PingsServed count size = count * size
 calls_of ReadableSockets count size = count * min size 1024
 calls_of MessagesServed count size = count * size
 calls_of BoundedMessagesServed count size = count * size
+calls_of ThreadMessagesServed count size = count * size
+calls_of BoundedThreadMessagesServed count size = count * size

@@ -90,7 +90,7 @@ pub type Held<P, R> = Sources<
 /// A loop, the calls of its callbacks, and the time that was measured, in nanoseconds.
 #[derive(Drop)]
 pub struct Bench<D: EventDispatcher<P, C, R>, P: Poller, C: Clock, R: Wait + Drop> {
-    rt: R,
+    pub rt: R,
     alloc: Global,
     pub event_loop: EventLoop<D, P, C, R>,
     clock: C,
@@ -146,6 +146,15 @@ where
     {
         self.event_loop
             .dispatch(&self.rt, Some(Duration::ZERO), &mut self.calls)?;
+        Ok(())
+    }
+
+    /// A dispatch that waits for ten seconds at most.
+    pub fn wait(&mut self) -> Result<()>
+        ensures { self.new.nanoseconds ≡ self.old.nanoseconds }
+    {
+        self.event_loop
+            .dispatch(&self.rt, Some(Duration::from_secs(10)), &mut self.calls)?;
         Ok(())
     }
 

@@ -13,6 +13,7 @@ use std::num::NonZeroU32;
 use std::process::ExitCode;
 use std::rt::Runtime;
 use std::sync::Wait;
+use std::thread::Threads;
 
 mod bench;
 mod measured;
@@ -27,7 +28,11 @@ fn poller_name<R: Runtime + Wait + Net>() -> &'static str {
     <RowPoller<R> as Measured<SystemClock<R>, R>>::name()
 }
 
-fn measure<R: Runtime + AllocGlobal + Wait + Net>(rt: &R, alloc: Global, row: &Row) -> Result<()> {
+fn measure<R: Runtime + AllocGlobal + Threads + Wait + Net + Send + Sync + 'static>(
+    rt: &R,
+    alloc: Global,
+    row: &Row,
+) -> Result<()> {
     let nanoseconds = rows::run::<RowPoller<R>, SystemClock<R>, R>(rt, alloc, row)?;
     let per_operation = nanoseconds / row.operations();
     println!(rt;
@@ -41,7 +46,10 @@ fn measure<R: Runtime + AllocGlobal + Wait + Net>(rt: &R, alloc: Global, row: &R
 }
 
 // Each row three times over two sources, without its time.
-fn check<R: Runtime + AllocGlobal + Wait + Net>(rt: &R, alloc: Global) -> Result<()> {
+fn check<R: Runtime + AllocGlobal + Threads + Wait + Net + Send + Sync + 'static>(
+    rt: &R,
+    alloc: Global,
+) -> Result<()> {
     for kind in Kind::ALL {
         let row = Row {
             kind,
@@ -61,7 +69,10 @@ fn check<R: Runtime + AllocGlobal + Wait + Net>(rt: &R, alloc: Global) -> Result
     Ok(())
 }
 
-fn run<R: Runtime + AllocGlobal + Wait + Net>(rt: &R, alloc: Global) -> Result<ExitCode> {
+fn run<R: Runtime + AllocGlobal + Threads + Wait + Net + Send + Sync + 'static>(
+    rt: &R,
+    alloc: Global,
+) -> Result<ExitCode> {
     let words: Vec<String> = env::args(rt)?.skip(1).collect(alloc)?;
     match read(&words) {
         Ok(Request::Check) => check(rt, alloc)?,

@@ -32,11 +32,15 @@ pub enum Kind {
     MessagesServed,
     /// The same of a channel with a bound.
     BoundedMessagesServed,
+    /// Dispatches, each with a wait, until all messages of another thread are handed out.
+    ThreadMessagesServed,
+    /// The same of a channel with a bound, whose sender waits for room.
+    BoundedThreadMessagesServed,
 }
 
 impl Kind {
     /// Each of them once, in the order in which they are printed.
-    pub const ALL: [Kind; 10] = [
+    pub const ALL: [Kind; 12] = [
         Kind::RingAndDispatch,
         Kind::TimersFired,
         Kind::TimersCancelled,
@@ -47,6 +51,8 @@ impl Kind {
         Kind::ReadableSockets,
         Kind::MessagesServed,
         Kind::BoundedMessagesServed,
+        Kind::ThreadMessagesServed,
+        Kind::BoundedThreadMessagesServed,
     ];
 
     /// Its name among the arguments, and in what is printed.
@@ -64,6 +70,8 @@ impl Kind {
             Kind::ReadableSockets => "readable_sockets",
             Kind::MessagesServed => "messages_served",
             Kind::BoundedMessagesServed => "bounded_messages_served",
+            Kind::ThreadMessagesServed => "thread_messages_served",
+            Kind::BoundedThreadMessagesServed => "bounded_thread_messages_served",
         }
     }
 
@@ -95,7 +103,9 @@ impl Row {
             Kind::TimersFired
             | Kind::PingsServed
             | Kind::MessagesServed
-            | Kind::BoundedMessagesServed => count * u64::from(self.size.get()),
+            | Kind::BoundedMessagesServed
+            | Kind::ThreadMessagesServed
+            | Kind::BoundedThreadMessagesServed => count * u64::from(self.size.get()),
             _ => count,
         }
     }
@@ -109,7 +119,9 @@ impl Row {
             | Kind::TimersFired
             | Kind::PingsServed
             | Kind::MessagesServed
-            | Kind::BoundedMessagesServed => self.operations(),
+            | Kind::BoundedMessagesServed
+            | Kind::ThreadMessagesServed
+            | Kind::BoundedThreadMessagesServed => self.operations(),
             Kind::ReadableSockets => {
                 u64::from(self.count.get()) * u64::from(self.size.get()).min(EVENTS_PER_WAIT)
             }

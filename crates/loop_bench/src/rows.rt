@@ -3,21 +3,23 @@ use crate::bench::{Bench, Counts, Held, SCATTER, scattered};
 use crate::measured::Measured;
 use crate::row::{Kind, Row};
 use anyhow::{Context, Result, ensure};
-use calloop::channel::Channel;
+use calloop::channel::{Channel, Sender, SyncSender};
 use calloop::{Choice, Clock, EventDispatcher, Generic, Here, Instant, PingSource, There, Timer};
 use std::alloc::Global;
 use std::sync::Wait;
+use std::thread::{Threads, spawn};
 use std::time::{self, Duration};
 
 // In how many seconds the timers are due that don't fire while a row runs.
 const FAR: u64 = 1_000_000;
 
 /// Runs a row, and answers what it took, in nanoseconds. An error says what went wrong, also where not as many callbacks were called as had to be.
-pub fn run<P: Measured<C, R>, C: Clock, R: Wait + time::Clock + Clone + Drop>(
-    rt: &R,
-    alloc: Global,
-    row: &Row,
-) -> Result<u64> {
+pub fn run<P, C, R>(rt: &R, alloc: Global, row: &Row) -> Result<u64>
+where
+    P: Measured<C, R>,
+    C: Clock,
+    R: Threads + Wait + time::Clock + Clone + Drop + Send + Sync + 'static,
+{
     let mut bench: Bench<Held<P, R>, P, C, R> = Bench::new(rt, alloc)?;
     bench.measure(row)?;
     let calls = bench.calls;
@@ -38,7 +40,7 @@ where
     D: Choice<Channel<u64, R>, Counts, There<There<There<Here>>>>,
     P: Measured<C, R>,
     C: Clock,
-    R: Wait + time::Clock + Clone + Drop,
+    R: Threads + Wait + time::Clock + Clone + Drop + Send + Sync + 'static,
 {
     fn measure(&mut self, row: &Row) -> Result<()> {
         let (count, size) = (row.count.get(), row.size.get());
@@ -53,6 +55,8 @@ where
             Kind::ReadableSockets => self.readable_sockets(count, size),
             Kind::MessagesServed => self.messages_served(count, size),
             Kind::BoundedMessagesServed => self.bounded_messages_served(count, size),
+            Kind::ThreadMessagesServed => self.thread_messages_served(count, size),
+            Kind::BoundedThreadMessagesServed => self.bounded_thread_messages_served(count, size),
         }
     }
 
@@ -201,6 +205,44 @@ where
         Ok(())
     }
 
+    // The sender goes to a thread and comes back from it in each round.
+    fn thread_messages_served(&mut self, count: u32, size: u32) -> Result<()> {
+        let mut sender = self.insert_channel()?;
+        for _ in 0..count {
+            let wanted = self.calls.saturating_add(u64::from(size));
+            let began = self.start()?;
+            let child = spawn(&self.rt, move || sends(sender, size))?;
+            self.wait_until(wanted)?;
+            self.stop(began)?;
+            sender = child.join(&self.rt).context("a message is refused")?;
+        }
+        Ok(())
+    }
+
+    fn bounded_thread_messages_served(&mut self, count: u32, size: u32) -> Result<()> {
+        let mut sender = self.insert_sync_channel(size)?;
+        for _ in 0..count {
+            let wanted = self.calls.saturating_add(u64::from(size));
+            let began = self.start()?;
+            let child = spawn(&self.rt, move || sends_waiting(sender, size))?;
+            self.wait_until(wanted)?;
+            self.stop(began)?;
+            sender = child.join(&self.rt).context("a message is refused")?;
+        }
+        Ok(())
+    }
+
+    // Dispatches that wait for ten seconds at most, until so many calls were made in all, or as many dispatches.
+    fn wait_until(&mut self, calls: u64) -> Result<()> {
+        for _ in 0..calls {
+            if self.calls >= calls {
+                break;
+            }
+            self.wait()?;
+        }
+        Ok(())
+    }
+
     // Dispatches, at most so often, until so many calls were made in all.
     fn dispatch_until(&mut self, calls: u64, most: u32) -> Result<()> {
         for _ in 0..most {
@@ -211,4 +253,27 @@ where
         }
         Ok(())
     }
+}
+
+// Sends as many messages: the sender, where none was refused.
+fn sends<R: Wait + Drop>(sender: Sender<u64, R>, size: u32) -> Option<Sender<u64, R>> {
+    for message in 0..size {
+        if sender.send(u64::from(message)).is_err() {
+            return None;
+        }
+    }
+    Some(sender)
+}
+
+// The same of a channel with a bound.
+fn sends_waiting<R: Wait + Drop>(
+    sender: SyncSender<u64, R>,
+    size: u32,
+) -> Option<SyncSender<u64, R>> {
+    for message in 0..size {
+        if sender.send(u64::from(message)).is_err() {
+            return None;
+        }
+    }
+    Some(sender)
 }

@@ -1,13 +1,12 @@
 //! What holds of the timers of every script.
-ghost use Rattle.std.specs.Prelude.{List, ℕ, Some};
+ghost use Rattle.std.specs.Prelude.{List, ℕ, Option, Some};
 ghost use Rattle.calloop_core.specs.declared.sys.script.ScriptPoller.{ScriptPoller};
 ghost use Rattle.calloop_core.specs.ScriptPollers.{script_outside};
-ghost use Rattle.calloop.specs.Machine.{World, Change, IsNew};
-ghost use Rattle.calloop.specs.Rules.{Run};
+ghost use Rattle.calloop.specs.EveryRun.{LoopRun, OverEveryRun, FromTheStart};
 ghost use Rattle.calloop.specs.Laws.{IsKept};
 ghost use Rattle.looptrace.specs.Sources.{Source, source_meaning, no_idles};
 ghost use Rattle.looptrace.specs.Runs.{State, trace_step};
-ghost use Rattle.looptrace.specs.InTime.{ScriptCall, ScriptAnswerOf, AllScripted, Asks};
+ghost use Rattle.looptrace.specs.InTime.{AllScripted, Asks};
 
 use crate::source::Source;
 use calloop::loop_logic::once_where_nothing_is_asked;
@@ -19,9 +18,8 @@ use std::sync::Wait;
 /// hands out the deadline of its arming.
 pub fn timers_are_called_in_time<R: Wait + Clone + Drop>()
     ensures lines { (s t : State R) (line said : List ℕ) → trace_step s line (Some (t, said)) → Asks s.loop t.loop }
-    ensures in_time { (calls : List (ScriptCall R)) (answers : List (ScriptAnswerOf R))
-        (csss : List (List (List (Change (Source R) (Unit {0}) ScriptPoller)))) (w w' : World (Source R) (Unit {0}) ScriptPoller)
-        → IsNew w → AllScripted calls → Run source_meaning no_idles script_outside calls answers csss w w' → IsKept w'.ledger w'.poll }
+    ensures in_time { OverEveryRun source_meaning no_idles script_outside
+        (FromTheStart (λ (r : LoopRun (Source R) (Unit {0}) ScriptPoller (Option (List ℕ))). AllScripted r.calls → IsKept r.ended.ledger r.ended.poll)) }
 {
     once_where_nothing_is_asked::<Source<R>, ScriptPoller, ScriptClock, R>();
 }

@@ -1,8 +1,7 @@
 //! A source of the program's own, whose events carry numbers: its callback adds them to what each dispatch lends.
 #![tactic(auto)]
 
-use calloop::sys::script::ScriptPoller;
-use calloop::{Asking, Callback, Dispatcher, EventLoop, Result, Sources};
+use calloop::{Asking, Callback, Dispatcher, Result, ScriptLoop, Sources};
 use numbers::Numbers;
 use std::alloc::Global;
 use std::process::ExitCode;
@@ -30,9 +29,7 @@ type Held = Sources<Dispatcher<Numbers, Add>, u64>;
 
 // The sums after each of four dispatches.
 fn sums<R: Wait + Clone + Drop>(rt: &R, alloc: Global) -> Result<[u64; 4]> {
-    let poller = ScriptPoller::new(alloc)?;
-    let clock = poller.clock()?;
-    let mut event_loop: EventLoop<Held, _, _, R> = EventLoop::try_new(rt, alloc, poller, clock)?;
+    let mut event_loop: ScriptLoop<Held, R> = ScriptLoop::scripted(rt, alloc)?;
     event_loop.handle().insert_source(Numbers::up_to(3), Add)?;
 
     let mut sum = 0u64;

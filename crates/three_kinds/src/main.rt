@@ -2,13 +2,11 @@
 //! the place of its own.
 #![tactic(auto)]
 
-use calloop::loop_logic::EventLoop;
 use calloop::ping::make_ping;
 use calloop::{
     Asking, Callback, Choice, Dispatcher, Here, IdleCallback, Instant, On, OneOf, PingSource,
-    RegistrationToken, Requests, Result, Sources, There, TimeoutAction, Timer,
+    RegistrationToken, Requests, Result, ScriptLoop, Sources, There, TimeoutAction, Timer,
 };
-use calloop_core::sys::script::ScriptPoller;
 use countdown::Countdown;
 use std::alloc::Global;
 use std::process::ExitCode;
@@ -101,15 +99,13 @@ type Held<R> = Sources<
 
 // Three dispatches of a loop: what the callbacks said.
 fn run<R: Wait + Clone + Drop>(rt: &R, alloc: Global) -> Result<String> {
-    let poller = ScriptPoller::new(alloc)?;
-    let clock = poller.clock()?;
-    let mut event_loop: EventLoop<Held<R>, _, _, R> = EventLoop::try_new(rt, alloc, poller, clock)?;
+    let mut event_loop: ScriptLoop<Held<R>, R> = ScriptLoop::scripted(rt, alloc)?;
     let (ping, source) = make_ping(rt, alloc)?;
     let mut handle = event_loop.handle();
     let token = handle
         .insert_source(source, Replaces)
         .map_err(|refused| refused.error)?;
-    let timer = Timer::from_deadline(Instant { nanos: 5_000_000 });
+    let timer = Timer::from_deadline(Instant::from_millis(5));
     handle
         .insert_source(timer, Alarm)
         .map_err(|refused| refused.error)?;

@@ -2,8 +2,7 @@
 #![tactic(auto)]
 
 use calloop::channel::{Channel, Event, Sender, make_channel};
-use calloop::sys::script::ScriptPoller;
-use calloop::{Dispatcher, Error, EventLoop, On, Result, Sources};
+use calloop::{Dispatcher, Error, On, Result, ScriptLoop, Sources};
 use std::alloc::Global;
 use std::fmt::Write;
 use std::process::ExitCode;
@@ -40,9 +39,7 @@ fn run<R>(rt: &R, alloc: Global) -> Result<String>
 where
     R: Threads + Wait + Clone + Drop + Send + Sync + 'static,
 {
-    let poller = ScriptPoller::new(alloc)?;
-    let clock = poller.clock()?;
-    let mut event_loop: EventLoop<Held<R>, _, _, R> = EventLoop::try_new(rt, alloc, poller, clock)?;
+    let mut event_loop: ScriptLoop<Held<R>, R> = ScriptLoop::scripted(rt, alloc)?;
     let (results, channel) = make_channel(rt, alloc)?;
     event_loop.handle().insert_source(channel, Report)?;
     let worker = spawn(rt, move || works(results)).map_err(|_| Error::OutOfMemory)?;

@@ -4,7 +4,8 @@ ghost use Rattle.calloop_wake.specs.declared.error.Error.TheVariants.{OutOfMemor
 ghost use Rattle.calloop_core.specs.Pollers.{nanos_of};
 ghost use Rattle.calloop.specs.declared.loop_logic.LoopCall.TheVariants.{Dispatch};
 ghost use Rattle.calloop.specs.declared.loop_logic.LoopAnswer.TheVariants.{Dispatched};
-ghost use Rattle.calloop.specs.Machine.{World, IsNew, seen, view_of};
+ghost use Rattle.calloop.specs.Machine.{BeginsAnew, view_of};
+ghost use Rattle.calloop.specs.Loops.{poller_of, clock_of};
 ghost use Rattle.calloop.specs.Rules.{Case, Did, Leads, Goes, Cutting, Ending, Returning, Idling, RunningIdles, Leaving, Outcome, action_of, after_batch, after_idle, after_turn, after_hand_out};
 
 use super::asks::{Answer, Requests};
@@ -29,7 +30,9 @@ impl<D: EventDispatcher<P, C, R>, P: Poller, C: Clock, R: Wait + Drop> EventLoop
     pub fn try_new(rt: &R, alloc: Global, poller: P, clock: C) -> Result<EventLoop<D, P, C, R>>
     where
         R: Clone,
-        ensures ok { IfOk result (λ made. (w : World D D.Idle P) × IsNew w × (w.poll.poller ≡ poller) × (seen w ≡ view_of made)) }
+        ensures new { IfOk result BeginsAnew }
+        ensures poller { IfOk result (λ made. poller_of made ≡ poller) }
+        ensures clock { IfOk result (λ made. clock_of made ≡ clock) }
         ensures err { IfErr result (λ e. e ≡ OutOfMemory) }
     {
         let notifier = poller.notifier()?;

@@ -11,7 +11,8 @@ ghost use Rattle.calloop.specs.Lending.{with_loop_poller, with_loop_source, with
 ghost use Rattle.calloop.specs.declared.loop_logic.LoopCall.TheVariants.{Insert, Enable, Update, Disable, Remove, Exchange, InsertIdle, Cancel, Answer as AnswerOf, Poller as NewPoller};
 ghost use Rattle.calloop.specs.declared.loop_logic.LoopAnswer.TheVariants.{Inserted, Enabled, Updated, Disabled, Removed, Exchanged, IdleInserted, Cancelled, Answered, Poller as OldPoller};
 ghost use Rattle.calloop.specs.Machine.{view_of};
-ghost use Rattle.calloop.specs.Rules.{Case, Did, Leads, held_answer};
+ghost use Rattle.calloop.specs.Handles.{held_by, IsCase, LeadsAsCase};
+ghost use Rattle.calloop.specs.Rules.{Case, Did, held_answer};
 
 use super::asks::{Answer, Idle, Requests, Ticket};
 use super::{EventDispatcher, EventLoop, LoopHandle};
@@ -163,8 +164,10 @@ impl<D: EventDispatcher<P, C, R>, P: Poller, C: Clock, R: Wait + Drop> LoopHandl
         S: EventSource<P, C, R>,
         F: Callback<S::Event, S::Metadata, S::Ret, D::Data, Requests<D, D::Idle>> + Drop,
         ensures same { self.new.inner.ghost_name ≡ self.old.inner.ghost_name }
-        ensures case { Did (Case D.means D.Idle.runs P.outside (Insert (D.held (record { source = source; callback = callback }))) (Inserted (held_answer D.held callback result))) (view_of self.old.inner.now) (view_of self.new.inner.now) }
-        ensures machine { Leads (Case D.means D.Idle.runs P.outside (Insert (D.held (record { source = source; callback = callback }))) (Inserted (held_answer D.held callback result))) (view_of self.old.inner.now) (view_of self.new.inner.now) }
+        ensures case { IsCase D.means D.Idle.runs P.outside
+            (Insert (D.held (record { source = source; callback = callback }))) (Inserted (held_answer D.held callback result)) self.old self.new }
+        ensures machine { LeadsAsCase D.means D.Idle.runs P.outside
+            (Insert (D.held (record { source = source; callback = callback }))) (Inserted (held_answer D.held callback result)) self.old self.new }
     {
         self.inner.insert_source(source, callback)
     }
@@ -176,16 +179,18 @@ impl<D: EventDispatcher<P, C, R>, P: Poller, C: Clock, R: Wait + Drop> LoopHandl
         dispatcher: D,
     ) -> std::result::Result<RegistrationToken, InsertError<D>>
         ensures same { self.new.inner.ghost_name ≡ self.old.inner.ghost_name }
-        ensures case { Did (Case D.means D.Idle.runs P.outside (Insert dispatcher) (Inserted result)) (view_of self.old.inner.now) (view_of self.new.inner.now) }
-        ensures machine { Leads (Case D.means D.Idle.runs P.outside (Insert dispatcher) (Inserted result)) (view_of self.old.inner.now) (view_of self.new.inner.now) }
+        ensures case { IsCase D.means D.Idle.runs P.outside
+            (Insert dispatcher) (Inserted result) self.old self.new }
+        ensures machine { LeadsAsCase D.means D.Idle.runs P.outside
+            (Insert dispatcher) (Inserted result) self.old self.new }
     {
         self.inner.insert(dispatcher)
     }
 
     /// The source that the token names, with its callback. Where it names none the answer is `InvalidToken`.
     pub fn dispatcher(&self, token: &RegistrationToken) -> Result<&D>
-        ensures ok { IfOk result (λ held. named_by (view_of self.now.inner.now).slots token.now ≡ Source held.now) }
-        ensures refuses { IsErr result ↔ (source_of (named_by (view_of self.now.inner.now).slots token.now) ≡ None) }
+        ensures ok { IfOk result (λ held. named_by (held_by self.now).slots token.now ≡ Source held.now) }
+        ensures refuses { IsErr result ↔ (source_of (named_by (held_by self.now).slots token.now) ≡ None) }
         ensures err { IfErr result (λ e. e ≡ InvalidToken) }
     {
         self.inner.sources.get(*token)
@@ -200,10 +205,10 @@ impl<D: EventDispatcher<P, C, R>, P: Poller, C: Clock, R: Wait + Drop> LoopHandl
     /// is promised of loops into which none is put with a counter of a timer, or a key, which the one before didn't have.
     pub fn dispatcher_mut(&mut self, token: &RegistrationToken) -> Result<&mut D>
         ensures* writes_back { sem 𝓛 (LendsIfOk (the_row (record { mir = named 1; lft = [] }) D.row P.row C.row R.row D.Data.row D.Idle.row P.Io.row) D.row self.entry result (λ w. with_handle_source token.now w self.old) self.old) }
-        ensures ok { IfOk result (λ held. named_by (view_of self.old.inner.now).slots token.now ≡ Source held.now) }
+        ensures ok { IfOk result (λ held. named_by (held_by self.old).slots token.now ≡ Source held.now) }
         ensures machine { IfOk result (λ held. (written : D) → Did (Case D.means D.Idle.runs P.outside (Exchange token.now written) (Exchanged (Ok held.now)))
-            (view_of self.old.inner.now) (view_of (with_loop_source token.now written self.old.inner.now))) }
-        ensures refuses { IsErr result ↔ (source_of (named_by (view_of self.old.inner.now).slots token.now) ≡ None) }
+            (held_by self.old) (view_of (with_loop_source token.now written self.old.inner.now))) }
+        ensures refuses { IsErr result ↔ (source_of (named_by (held_by self.old).slots token.now) ≡ None) }
         ensures err { IfErr result (λ e. e ≡ InvalidToken) }
     {
         self.inner.sources.get_mut(*token)
@@ -215,8 +220,10 @@ impl<D: EventDispatcher<P, C, R>, P: Poller, C: Clock, R: Wait + Drop> LoopHandl
     /// source, which stays in its slot as that left it, also after a refusal.
     pub fn enable(&mut self, token: &RegistrationToken) -> Result<()>
         ensures same { self.new.inner.ghost_name ≡ self.old.inner.ghost_name }
-        ensures case { Did (Case D.means D.Idle.runs P.outside (Enable token.now) (Enabled result)) (view_of self.old.inner.now) (view_of self.new.inner.now) }
-        ensures machine { Leads (Case D.means D.Idle.runs P.outside (Enable token.now) (Enabled result)) (view_of self.old.inner.now) (view_of self.new.inner.now) }
+        ensures case { IsCase D.means D.Idle.runs P.outside
+            (Enable token.now) (Enabled result) self.old self.new }
+        ensures machine { LeadsAsCase D.means D.Idle.runs P.outside
+            (Enable token.now) (Enabled result) self.old self.new }
     {
         self.inner.enable(*token)
     }
@@ -225,8 +232,10 @@ impl<D: EventDispatcher<P, C, R>, P: Poller, C: Clock, R: Wait + Drop> LoopHandl
     /// `enable`.
     pub fn update(&mut self, token: &RegistrationToken) -> Result<()>
         ensures same { self.new.inner.ghost_name ≡ self.old.inner.ghost_name }
-        ensures case { Did (Case D.means D.Idle.runs P.outside (Update token.now) (Updated result)) (view_of self.old.inner.now) (view_of self.new.inner.now) }
-        ensures machine { Leads (Case D.means D.Idle.runs P.outside (Update token.now) (Updated result)) (view_of self.old.inner.now) (view_of self.new.inner.now) }
+        ensures case { IsCase D.means D.Idle.runs P.outside
+            (Update token.now) (Updated result) self.old self.new }
+        ensures machine { LeadsAsCase D.means D.Idle.runs P.outside
+            (Update token.now) (Updated result) self.old self.new }
     {
         self.inner.update(*token)
     }
@@ -235,8 +244,10 @@ impl<D: EventDispatcher<P, C, R>, P: Poller, C: Clock, R: Wait + Drop> LoopHandl
     /// again. The answer is as that of `enable`.
     pub fn disable(&mut self, token: &RegistrationToken) -> Result<()>
         ensures same { self.new.inner.ghost_name ≡ self.old.inner.ghost_name }
-        ensures case { Did (Case D.means D.Idle.runs P.outside (Disable token.now) (Disabled result)) (view_of self.old.inner.now) (view_of self.new.inner.now) }
-        ensures machine { Leads (Case D.means D.Idle.runs P.outside (Disable token.now) (Disabled result)) (view_of self.old.inner.now) (view_of self.new.inner.now) }
+        ensures case { IsCase D.means D.Idle.runs P.outside
+            (Disable token.now) (Disabled result) self.old self.new }
+        ensures machine { LeadsAsCase D.means D.Idle.runs P.outside
+            (Disable token.now) (Disabled result) self.old self.new }
     {
         self.inner.disable(*token)
     }
@@ -247,8 +258,10 @@ impl<D: EventDispatcher<P, C, R>, P: Poller, C: Clock, R: Wait + Drop> LoopHandl
     /// Where the token names no source the answer is `None`, and nothing changes.
     pub fn remove(&mut self, token: RegistrationToken) -> Option<D>
         ensures same { self.new.inner.ghost_name ≡ self.old.inner.ghost_name }
-        ensures case { Did (Case D.means D.Idle.runs P.outside (Remove token) (Removed result)) (view_of self.old.inner.now) (view_of self.new.inner.now) }
-        ensures machine { Leads (Case D.means D.Idle.runs P.outside (Remove token) (Removed result)) (view_of self.old.inner.now) (view_of self.new.inner.now) }
+        ensures case { IsCase D.means D.Idle.runs P.outside
+            (Remove token) (Removed result) self.old self.new }
+        ensures machine { LeadsAsCase D.means D.Idle.runs P.outside
+            (Remove token) (Removed result) self.old self.new }
     {
         self.inner.remove(token)
     }
@@ -257,8 +270,10 @@ impl<D: EventDispatcher<P, C, R>, P: Poller, C: Clock, R: Wait + Drop> LoopHandl
     /// where 2^64 - 1 tickets were given.
     pub fn insert_idle(&mut self, idle: D::Idle) -> std::result::Result<Idle, InsertError<D::Idle>>
         ensures same { self.new.inner.ghost_name ≡ self.old.inner.ghost_name }
-        ensures case { Did (Case D.means D.Idle.runs P.outside (InsertIdle idle) (IdleInserted result)) (view_of self.old.inner.now) (view_of self.new.inner.now) }
-        ensures machine { Leads (Case D.means D.Idle.runs P.outside (InsertIdle idle) (IdleInserted result)) (view_of self.old.inner.now) (view_of self.new.inner.now) }
+        ensures case { IsCase D.means D.Idle.runs P.outside
+            (InsertIdle idle) (IdleInserted result) self.old self.new }
+        ensures machine { LeadsAsCase D.means D.Idle.runs P.outside
+            (InsertIdle idle) (IdleInserted result) self.old self.new }
     {
         self.inner.insert_idle(idle)
     }
@@ -266,8 +281,10 @@ impl<D: EventDispatcher<P, C, R>, P: Poller, C: Clock, R: Wait + Drop> LoopHandl
     /// Asks for an idle not to be run. One that has run is not undone. calloop has this as `Idle::cancel`.
     pub fn cancel(&mut self, idle: Idle)
         ensures same { self.new.inner.ghost_name ≡ self.old.inner.ghost_name }
-        ensures case { Did (Case D.means D.Idle.runs P.outside (Cancel idle) Cancelled) (view_of self.old.inner.now) (view_of self.new.inner.now) }
-        ensures machine { Leads (Case D.means D.Idle.runs P.outside (Cancel idle) Cancelled) (view_of self.old.inner.now) (view_of self.new.inner.now) }
+        ensures case { IsCase D.means D.Idle.runs P.outside
+            (Cancel idle) Cancelled self.old self.new }
+        ensures machine { LeadsAsCase D.means D.Idle.runs P.outside
+            (Cancel idle) Cancelled self.old self.new }
     {
         self.inner.requests.take_out_idle(idle.ticket().number());
     }
@@ -275,8 +292,10 @@ impl<D: EventDispatcher<P, C, R>, P: Poller, C: Clock, R: Wait + Drop> LoopHandl
     /// What came of the request of this ticket, where it was carried out in the last dispatch. It is handed out once.
     pub fn answer(&mut self, ticket: Ticket) -> Option<Answer<D>>
         ensures same { self.new.inner.ghost_name ≡ self.old.inner.ghost_name }
-        ensures case { Did (Case D.means D.Idle.runs P.outside (AnswerOf ticket) (Answered result)) (view_of self.old.inner.now) (view_of self.new.inner.now) }
-        ensures machine { Leads (Case D.means D.Idle.runs P.outside (AnswerOf ticket) (Answered result)) (view_of self.old.inner.now) (view_of self.new.inner.now) }
+        ensures case { IsCase D.means D.Idle.runs P.outside
+            (AnswerOf ticket) (Answered result) self.old self.new }
+        ensures machine { LeadsAsCase D.means D.Idle.runs P.outside
+            (AnswerOf ticket) (Answered result) self.old self.new }
     {
         self.inner.requests.answer(ticket)
     }
@@ -284,7 +303,7 @@ impl<D: EventDispatcher<P, C, R>, P: Poller, C: Clock, R: Wait + Drop> LoopHandl
     /// Why sources that left the loop failed to take their registration back, since the last dispatch began: those that were
     /// removed, and those that left it at the end of their turn. Where there was no memory for one, it is missing.
     pub fn warnings(&self) -> &[Error]
-        ensures { result.now ≡ (view_of self.now.inner.now).held.warnings }
+        ensures { result.now ≡ (held_by self.now).held.warnings }
     {
         self.inner.warnings.as_slice()
     }
@@ -295,7 +314,7 @@ impl<D: EventDispatcher<P, C, R>, P: Poller, C: Clock, R: Wait + Drop> LoopHandl
         ensures* writes_back { sem 𝓛 (Lends (the_row (record { mir = named 1; lft = [] }) D.row P.row C.row R.row D.Data.row D.Idle.row P.Io.row) P.row self.entry result (λ w. with_handle_poller w self.old)) }
         ensures value { result.now ≡ self.old.inner.now.poll.poller }
         ensures machine { (written : P) → Did (Case D.means D.Idle.runs P.outside (NewPoller written) (OldPoller result.now))
-            (view_of self.old.inner.now) (view_of (with_loop_poller written self.old.inner.now)) }
+            (held_by self.old) (view_of (with_loop_poller written self.old.inner.now)) }
     {
         self.inner.poll.poller_mut()
     }

@@ -1,11 +1,10 @@
 //! What holds of every run.
 ghost use Rattle.std.specs.Prelude.{◌≡◌, ℕ, List, [], ◌∷◌, Some, None};
-ghost use Rattle.calloop.specs.declared.loop_logic.LoopCall.{LoopCall};
-ghost use Rattle.calloop.specs.declared.loop_logic.LoopAnswer.{LoopAnswer};
-ghost use Rattle.calloop.specs.Machine.{World, Change, IsNew};
+ghost use Rattle.calloop.specs.Machine.{World, IsNew};
 ghost use Rattle.calloop.specs.Rules.{Run};
 ghost use Rattle.calloop.specs.Homes.{AllAtHome};
-ghost use Rattle.calloop.specs.Laws.{IsSound, IsKept, IsTold, IsTicketed, changes_of, GoesRight, NamesLater, StaysGone, OnTime};
+ghost use Rattle.calloop.specs.EveryRun.{OverEveryRun, FromTheStart, EventsReachTheirSource, ArmingsAreKept, SourcesKeepToTheirSlots, WhoIsToldStandsOnce, TicketsAreOfOneAnswer};
+ghost use Rattle.calloop.specs.Laws.{IsKept, IsTold, IsTicketed, GoesRight, NamesLater, StaysGone, OnTime};
 ghost use Rattle.calloop.specs.Freshness.{AsksFresh, RunsFresh, AllFreshCalls, AllKeepKeys};
 ghost use Rattle.calloop_wake.specs.declared.list.Content.TheVariants.{Vacant};
 ghost use Rattle.calloop.specs.ExampleRun.{only, no_idle, quiet_poller, new_world, its_calls, its_answers, its_changes, end_of_it};
@@ -34,11 +33,12 @@ use std::sync::Wait;
 /// And from such a state, each ticket that was given stands over one request or one answer at most, and its answer is handed out
 /// at most once.
 pub fn once<D: EventDispatcher<P, C, R>, P: Poller, C: Clock, R: Wait + Drop>()
-    ensures sound { (calls : List (LoopCall D P D.Data D.Idle)) (answers : List (LoopAnswer D P D.Data D.Idle)) (csss : List (List (List (Change D D.Idle P)))) (w w' : World D D.Idle P) → Run D.means D.Idle.runs P.outside calls answers csss w w' → IsSound w (changes_of csss) }
-    ensures armings { AsksFresh D.means → RunsFresh D.means D.Idle.runs → (calls : List (LoopCall D P D.Data D.Idle)) (answers : List (LoopAnswer D P D.Data D.Idle)) (csss : List (List (List (Change D D.Idle P)))) (w w' : World D D.Idle P) → IsNew w → AllFreshCalls D.means calls answers → Run D.means D.Idle.runs P.outside calls answers csss w w' → IsKept w'.ledger w'.poll }
-    ensures home { (calls : List (LoopCall D P D.Data D.Idle)) (answers : List (LoopAnswer D P D.Data D.Idle)) (csss : List (List (List (Change D D.Idle P)))) (w w' : World D D.Idle P) → IsNew w → AllKeepKeys D.means calls answers → Run D.means D.Idle.runs P.outside calls answers csss w w' → AllAtHome D.means w' }
-    ensures told { (calls : List (LoopCall D P D.Data D.Idle)) (answers : List (LoopAnswer D P D.Data D.Idle)) (csss : List (List (List (Change D D.Idle P)))) (w w' : World D D.Idle P) → IsNew w → Run D.means D.Idle.runs P.outside calls answers csss w w' → IsTold w' }
-    ensures tickets { (calls : List (LoopCall D P D.Data D.Idle)) (answers : List (LoopAnswer D P D.Data D.Idle)) (csss : List (List (List (Change D D.Idle P)))) (w w' : World D D.Idle P) → IsNew w → Run D.means D.Idle.runs P.outside calls answers csss w w' → IsTicketed w' }
+    ensures sound { OverEveryRun D.means D.Idle.runs P.outside EventsReachTheirSource }
+    ensures armings { AsksFresh D.means → RunsFresh D.means D.Idle.runs
+        → OverEveryRun D.means D.Idle.runs P.outside (FromTheStart (ArmingsAreKept D.means)) }
+    ensures home { OverEveryRun D.means D.Idle.runs P.outside (FromTheStart (SourcesKeepToTheirSlots D.means)) }
+    ensures told { OverEveryRun D.means D.Idle.runs P.outside (FromTheStart WhoIsToldStandsOnce) }
+    ensures tickets { OverEveryRun D.means D.Idle.runs P.outside (FromTheStart TicketsAreOfOneAnswer) }
 {}
 
 /// The same of a loop whose callbacks ask for nothing, as each `On`: its own calls are all that has to be looked at. Where each source
@@ -58,8 +58,7 @@ where
         <D as EventDispatcher<P, C, R>>::Data,
         Requests<D, <D as EventDispatcher<P, C, R>>::Idle>,
     >,
-    ensures armings { (calls : List (LoopCall D P D.Data D.Idle)) (answers : List (LoopAnswer D P D.Data D.Idle)) (csss : List (List (List (Change D D.Idle P)))) (w w' : World D D.Idle P)
-        → IsNew w → AllFreshCalls D.means calls answers → Run D.means D.Idle.runs P.outside calls answers csss w w' → IsKept w'.ledger w'.poll }
+    ensures armings { OverEveryRun D.means D.Idle.runs P.outside (FromTheStart (ArmingsAreKept D.means)) }
 {
     once::<D, P, C, R>();
 }

@@ -1,9 +1,10 @@
 //! A ping as a source of the loop.
-ghost use Rattle.std.specs.Prelude.{◌≡◌, Bool, List, Option, Result};
+ghost use Rattle.std.specs.Prelude.{◌≡◌, Bool, List, Option, Result, is_some};
 ghost use Rattle.calloop_wake.specs.declared.token.Token.{Token};
 ghost use Rattle.calloop_core.specs.Polls.{PollStep, poll_view, AllStepped};
 ghost use Rattle.calloop_core.specs.Calls.{CallbackCall, Went};
-ghost use Rattle.calloop.specs.Pings.{calls_of, action_of};
+ghost use Rattle.calloop_core.specs.Marks.{IsRegisteredBy};
+ghost use Rattle.calloop.specs.Pings.{calls_of, action_of, ping_meaning};
 
 use super::{PingSource, cell};
 use crate::cell::source::{is_mine, register, reregister, unregister};
@@ -61,6 +62,12 @@ pub(crate) fn action_of(told: bool) -> PostAction
         PostAction::Continue
     }
 }
+
+/// A ping is registered from a registration that succeeds until one is taken back, as its twin's key shows. So the law
+/// `at_most_one_is_registered` holds of a wrapper of pings.
+pub fn is_registered_by_its_calls<P: Poller, R: Wait + Drop>()
+    ensures { IsRegisteredBy (ping_meaning {P = P} {R = R}) (λ source. is_some source.twin.key) }
+{}
 
 impl<P: Poller, C, R: Wait + Drop> EventSource<P, C, R> for PingSource<R> {
     ghost use Rattle.calloop.specs.Pings.{ping_meaning};

@@ -1,6 +1,6 @@
 //! A loop of channels over a scripted poller, and what a test does at it.
 use calloop::channel::{
-    Channel, Event, Sender, SyncSender, TrySendError, make_channel, sync_channel,
+    Channel, Event, SendError, Sender, SyncSender, TrySendError, make_channel, sync_channel,
 };
 use calloop::loop_logic::EventLoop;
 use calloop::{Choice, Dispatcher, Error, EventDispatcher, Here, On, RegistrationToken, Sources};
@@ -65,9 +65,9 @@ pub enum Act<'a> {
     Names(bool),
 }
 
-// A sender of either kind.
+/// A sender of either kind.
 #[derive(Drop)]
-enum End<R: Wait + Drop> {
+pub enum End<R: Wait + Drop> {
     Unbounded(Sender<u32, R>),
     Bounded(SyncSender<u32, R>),
 }
@@ -80,14 +80,20 @@ impl<R: Wait + Clone + Drop> End<R> {
         }
     }
 
-    fn tries(&self, number: u32) -> Option<Tried> {
+    /// What came of a try to send, which never waits. Want of memory is none.
+    pub fn tries(&self, number: u32) -> Option<Tried> {
         match self {
-            End::Unbounded(_) => None,
+            End::Unbounded(sender) => match sender.send(number) {
+                Ok(_) => Some(Tried::Sent),
+                Err(SendError::Disconnected(number)) => Some(Tried::Disconnected(number)),
+                Err(SendError::OutOfMemory(_)) => None,
+            },
             End::Bounded(sender) => Some(outcome(sender.try_send(number).err())),
         }
     }
 
-    fn again(&self) -> Option<End<R>> {
+    /// One more sender of the same channel.
+    pub fn again(&self) -> Option<End<R>> {
         match self {
             End::Unbounded(sender) => Some(End::Unbounded(sender.clone().ok()?)),
             End::Bounded(sender) => Some(End::Bounded(sender.clone().ok()?)),
@@ -146,8 +152,7 @@ where
 
     fn does(&mut self, act: Act<'_>) -> bool {
         match act {
-            Act::Make(None) => self.make_unbounded().is_some(),
-            Act::Make(Some(bound)) => self.make_bounded(bound).is_some(),
+            Act::Make(bound) => self.make(bound).is_some(),
             Act::Insert => self.insert_made().is_some(),
             Act::Send(numbers) => numbers.iter().all(|number| self.sends(*number)),
             Act::SendAll(first, end) => (first..end).all(|number| self.sends(number)),
@@ -168,16 +173,10 @@ where
         }
     }
 
-    fn make_unbounded(&mut self) -> Option<()> {
-        let (sender, channel) = make_channel(&self.rt, self.alloc).ok()?;
+    fn make(&mut self, bound: Option<usize>) -> Option<()> {
+        let (sender, channel) = both_ends(&self.rt, self.alloc, bound)?;
         self.channel = Some(channel);
-        self.senders.push(End::Unbounded(sender)).ok()
-    }
-
-    fn make_bounded(&mut self, bound: usize) -> Option<()> {
-        let (sender, channel) = sync_channel(&self.rt, self.alloc, bound).ok()?;
-        self.channel = Some(channel);
-        self.senders.push(End::Bounded(sender)).ok()
+        self.senders.push(sender).ok()
     }
 
     fn insert_made(&mut self) -> Option<()> {
@@ -243,6 +242,24 @@ where
     fn enable(&mut self) -> Option<bool> {
         let token = self.token?;
         is_named(&self.event_loop.handle().enable(&token))
+    }
+}
+
+/// A new channel, with a bound or without one, and its first sender.
+pub fn both_ends<R: Wait + Clone + Drop>(
+    rt: &R,
+    alloc: Global,
+    bound: Option<usize>,
+) -> Option<(End<R>, Channel<u32, R>)> {
+    match bound {
+        None => {
+            let (sender, channel) = make_channel(rt, alloc).ok()?;
+            Some((End::Unbounded(sender), channel))
+        }
+        Some(bound) => {
+            let (sender, channel) = sync_channel(rt, alloc, bound).ok()?;
+            Some((End::Bounded(sender), channel))
+        }
     }
 }
 

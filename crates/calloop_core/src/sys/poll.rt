@@ -70,6 +70,7 @@ impl<P: Poller, C: Drop, R: Wait + Drop> Poll<P, C, R> {
     /// Over this poller, with no socket, an empty board, no deadline and an empty batch. Want of memory is `OutOfMemory`.
     pub fn new(rt: R, alloc: Global, poller: P, clock: C) -> Result<Poll<P, C, R>>
         ensures ok { IfOk result (λ made. poll_view made ≡ record { poller = poller; table = []; deadlines = record { entries = []; next = 0 }; batch = []; passes = []; pass = None; places = 0; watch = record { name = (poll_view made).watch.name; notes = [] } }) }
+        ensures clock { IfOk result (λ made. made.clock ≡ clock) }
         ensures err { IfErr result (λ e. e ≡ OutOfMemory) }
     {
         let hub = WatchedHub::new(alloc, poller.notifier()?)?;

@@ -8,7 +8,7 @@ ghost use Rattle.calloop_wake.specs.declared.error.Error.TheVariants.{IoError, O
 ghost use Rattle.calloop_core.specs.Pollers.{asks, faults_of};
 
 use super::faults::FaultCount;
-use super::notifier::Notifier;
+use super::notifier::{LazyWaker, Notifier};
 use super::{Clock, Interest, Poller, Readiness};
 use calloop_wake::error::{Error, Result as LoopResult};
 use calloop_wake::wheel::Instant;
@@ -38,7 +38,7 @@ const OWN_KEY: Token = Token(usize::MAX);
 pub struct MioPoller<C> {
     poll: Poll,
     found: Found,
-    waker: Arc<Waker, Global>,
+    waker: Arc<LazyWaker, Global>,
     clock: C,
     faults: FaultCount,
 }
@@ -55,7 +55,7 @@ impl<C: Drop> MioPoller<C> {
         Ok(MioPoller {
             poll,
             found,
-            waker: Arc::new(alloc, waker)?,
+            waker: Arc::new(alloc, LazyWaker::new(waker))?,
             clock,
             faults: FaultCount::new(),
         })
@@ -63,6 +63,15 @@ impl<C: Drop> MioPoller<C> {
 }
 
 impl<C> MioPoller<C> {
+    // A wait that could sleep doesn't, where somebody notified since the last one.
+    fn time_to_sleep(&self, timeout: Option<Duration>) -> Option<Duration> {
+        if timeout == Some(Duration::ZERO) || self.waker.fall_asleep() {
+            timeout
+        } else {
+            Some(Duration::ZERO)
+        }
+    }
+
     // A refusal is one more fault.
     fn counted(&mut self, answer: io::Result<()>) -> io::Result<()>
         ensures same { result ≡ answer }
@@ -142,12 +151,15 @@ impl<C: Clock> Poller for MioPoller<C> {
         timeout: Option<Duration>,
         events: &mut Vec<(u64, Readiness)>,
     ) -> io::Result<()> {
+        let timeout = self.time_to_sleep(timeout);
         match self.found.wait(&mut self.poll, timeout) {
             Ok(()) => {
+                self.waker.get_up();
                 self.found.append_to(events);
                 Ok(())
             }
             Err(cause) => {
+                self.waker.stir();
                 if cause.kind() != io::ErrorKind::Interrupted {
                     self.faults = FaultCount::after(&self.faults);
                 }

@@ -1,6 +1,6 @@
 //! The bell beside a queue: what a cell has of a ping, for the kinds of cells that hand something out.
 ghost use Rattle.std.specs.Prelude.{◌≡◌, ◌+◌, ◌<◌, ◌^◌, ◌&&◌, ◌||◌, not, true, false, None, Some, IfOk, IfErr, if◌then◌else◌};
-ghost use Rattle.calloop_wake.specs.Cells.{fresh, one, opens, owed, owed_at, owed_by_drop, after_close, after_add_sender, after_drop_sender, after_set_key, after_clear_key};
+ghost use Rattle.calloop_wake.specs.Cells.{fresh_twin, fresh, one, opens, owed, owed_at, owed_by_drop, after_close, after_add_sender, after_drop_sender, after_set_key, after_clear_key};
 ghost use Rattle.calloop_wake.specs.Bells.{bell_with, after_ping, drained, ended, owed_if, telling};
 ghost use Rattle.calloop_wake.specs.Passes.{on};
 
@@ -129,7 +129,7 @@ impl Bell {
     }
 
     pub(super) fn receiver(&self, right: ReceivingRight) -> Twin
-        ensures { result ≡ record { name = right.name; key = None; turns = 0; number = 0; closes = 0 } }
+        ensures { result ≡ fresh_twin right.name }
     {
         Twin::new(right)
     }

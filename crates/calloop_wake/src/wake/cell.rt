@@ -1,5 +1,6 @@
 //! What every kind of cell can do.
 ghost use Rattle.std.specs.Prelude.{◌≡◌, Option, None, Some, IfOk, IfSome};
+ghost use Rattle.calloop_wake.specs.Cells.{fresh_twin};
 ghost use Rattle.logbook.specs.Pages.{Book};
 ghost use Rattle.calloop_wake.specs.Passes.{Keyed};
 
@@ -22,7 +23,7 @@ pub trait CellCore: Core {
     /// The receiving end, which gave the cell no key yet and opened no turn.
     fn receiver(&self, right: ReceivingRight) -> Twin
         requires { right.name ≡ name_of self.now }
-        ensures { result ≡ record { name = name_of self.now; key = None; turns = 0; number = 0; closes = 0 } };
+        ensures { result ≡ fresh_twin (name_of self.now) };
 
     /// One sender more, of which there can be 2^64 - 1.
     fn add_sender(&mut self) -> Result<Sender, AllocError>

@@ -20,10 +20,9 @@ returns g c =
     let none : Held g.row.D.Denot g.row.D-Idle.Denot = record { lifecycle = []; pending = Continue; asks = no_asks; warnings = []; stops = [] } in
     let warnings = c.new-4.result.errors.items in
     record {
-      ok = (
+      new = (
         record { slots = []; poll = new; held = none; handed = []; ledger = new_ledger; signal = signal },
         record { slots = refl; table = refl; deadlines = refl; batch = refl; passes = refl; pass = refl; places = refl; unwatched = refl; held = refl; handed = refl; ledger = refl },
-        refl,
         sym
             (ap (λ (s : List (Slot g.row.D.Denot)). record { slots = s; poll = poll_view c.in_ok-new.field-0; held = record { lifecycle = c.new-3.result.tokens.items; pending = Continue; asks = c.numbered_from.result; warnings = warnings; stops = c.none.result }; signal = signal }) c.new.ensures
             ∙ ap (λ (p : PollView g.row.P.Denot). record { slots = []; poll = p; held = record { lifecycle = c.new-3.result.tokens.items; pending = Continue; asks = c.numbered_from.result; warnings = warnings; stops = c.none.result }; signal = signal }) c.in_ok-new.ensures.ok
@@ -32,5 +31,7 @@ returns g c =
             ∙ ap (λ (es : List Error). record { slots = []; poll = new; held = record { lifecycle = []; pending = Continue; asks = no_asks; warnings = es; stops = c.none.result }; signal = signal }) c.new-4.ensures
             ∙ ap (λ (ns : List StopNote). record { slots = []; poll = new; held = record { lifecycle = []; pending = Continue; asks = no_asks; warnings = []; stops = ns }; signal = signal }) c.none.ensures),
       );
+      poller = ap (λ p. p.poller) c.in_ok-new.ensures.ok;
+      clock = c.in_ok-new.ensures.clock;
       err = tt;
     }

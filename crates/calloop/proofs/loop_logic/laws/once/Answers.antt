@@ -13,17 +13,17 @@ use Rattle.calloop.proofs.loop_logic.laws.once.Goals as goal
 pub returns : goal.returns
 returns g c =
     record {
-      sound = λ calls answers csss w w' run.
+      sound = λ r run.
           record {
-            reaches = run_right g.D.Dispatch.means g.D.Idle.IdleCallback.runs g.P.Poller.outside calls answers csss w w' run;
-            stale = λ before between after is. names_later (all_done w before) between;
-            gone = stay_gone g.P.Poller.outside w (changes_of csss) (run_fits g.D.Dispatch.means g.D.Idle.IdleCallback.runs g.P.Poller.outside calls answers csss w w' run);
+            reaches = run_right g.D.Dispatch.means g.D.Idle.IdleCallback.runs g.P.Poller.outside r.calls r.answers r.changes r.began r.ended run;
+            stale = λ before between after is. names_later (all_done r.began before) between;
+            gone = stay_gone g.P.Poller.outside r.began (changes_of r.changes) (run_fits g.D.Dispatch.means g.D.Idle.IdleCallback.runs g.P.Poller.outside r.calls r.answers r.changes r.began r.ended run);
           };
-      armings = λ turns idles calls answers csss w w' new fresh run.
-          (run_owned g.D.Dispatch.means g.D.Idle.IdleCallback.runs g.P.Poller.outside g.met.D.Dispatch.keeps.counters calls answers csss w w' (new_run_fresh (IsFresh g.D.Dispatch.means) (IsNoMore g.D.Dispatch.means) g.D.Dispatch.means g.D.Idle.IdleCallback.runs g.P.Poller.outside turns idles calls answers csss w w' new fresh run) run (new_owned g.D.Dispatch.means w new)).noted.kept;
-      home = λ calls answers csss w w' new kept run.
-          run_home g.D.Dispatch.means g.D.Idle.IdleCallback.runs g.P.Poller.outside g.met.D.Dispatch.keeps.home calls answers csss w w' new
-          (new_run_fresh Any (HasNoMoreKeys g.D.Dispatch.means) g.D.Dispatch.means g.D.Idle.IdleCallback.runs g.P.Poller.outside (any_asks g.D.Dispatch.means) (any_runs g.D.Idle.IdleCallback.runs) calls answers csss w w' new kept run) run;
-      told = run_told g.D.Dispatch.means g.D.Idle.IdleCallback.runs g.P.Poller.outside;
-      tickets = λ calls answers csss w w' new run. run_ticketed g.D.Dispatch.means g.D.Idle.IdleCallback.runs g.P.Poller.outside calls answers csss w w' run (new_ticketed w new);
+      armings = λ turns idles r run new fresh.
+          (run_owned g.D.Dispatch.means g.D.Idle.IdleCallback.runs g.P.Poller.outside g.met.D.Dispatch.keeps.counters r.calls r.answers r.changes r.began r.ended (new_run_fresh (IsFresh g.D.Dispatch.means) (IsNoMore g.D.Dispatch.means) g.D.Dispatch.means g.D.Idle.IdleCallback.runs g.P.Poller.outside turns idles r.calls r.answers r.changes r.began r.ended new fresh run) run (new_owned g.D.Dispatch.means r.began new)).noted.kept;
+      home = λ r run new kept.
+          run_home g.D.Dispatch.means g.D.Idle.IdleCallback.runs g.P.Poller.outside g.met.D.Dispatch.keeps.home r.calls r.answers r.changes r.began r.ended new
+          (new_run_fresh Any (HasNoMoreKeys g.D.Dispatch.means) g.D.Dispatch.means g.D.Idle.IdleCallback.runs g.P.Poller.outside (any_asks g.D.Dispatch.means) (any_runs g.D.Idle.IdleCallback.runs) r.calls r.answers r.changes r.began r.ended new kept run) run;
+      told = λ r run new. run_told g.D.Dispatch.means g.D.Idle.IdleCallback.runs g.P.Poller.outside r.calls r.answers r.changes r.began r.ended new run;
+      tickets = λ r run new. run_ticketed g.D.Dispatch.means g.D.Idle.IdleCallback.runs g.P.Poller.outside r.calls r.answers r.changes r.began r.ended run (new_ticketed r.began new);
     }

@@ -1,4 +1,5 @@
 use Rattle.std.proofs.Common.{◌≡◌, ◌<◌, ◌≤◌, ℕ, List, [], ◌∷◌, length, inl, inr, Bool, true, false, refl, ap, arith}
+use Rattle.std.proofs.lemmas.Option.{none-some}
 use Rattle.calloop_wake.proofs.wake.laws.lost_is_not_covered.Goals as goal
 
 not_true : ◌≡◌ {A = Bool} false true → ⊥
@@ -38,3 +39,18 @@ returns-clause-twice c = λ h. let e : 2 ≤ 1 = (h.standing 0).once in omega (a
 
 pub returns-clause-early : goal.returns-clause-early
 returns-clause-early c = λ h. let e : ◌≡◌ {A = ℕ} 1 0 = (h.standing 0).of_empty.1 in omega (arith, e)
+
+pub returns-clause-task : goal.returns-clause-task
+returns-clause-task c = λ h. not_true ((h.standing 0).standing.queued refl)
+
+pub returns-clause-queued : goal.returns-clause-queued
+returns-clause-queued c = λ h. (h.standing 0).standing.sorted.queued.once.0 (inl refl)
+
+pub returns-clause-finished : goal.returns-clause-finished
+returns-clause-finished c = λ h. let t = (h.standing 0).standing.sorted.queued.only 3 (inl refl) in none-some t.0 t.1
+
+pub returns-clause-result : goal.returns-clause-result
+returns-clause-result c = λ h. (h.standing 0).once.0 (inl refl)
+
+pub returns-clause-running : goal.returns-clause-running
+returns-clause-running c = λ h. (h.standing 0).finished 3 _ refl (inl refl)

@@ -1,0 +1,91 @@
+-- The polls of an executor's turn, one after the other.
+use Rattle.std.proofs.Common.{◌≡◌, ℕ, ◌+◌, Bool, true, false, Option, Some, None, IfSome, is_some, if◌then◌else◌, Ok, List, [], ◌∷◌, ◌++◌, length, refl, sym, ap, subst, arith, ◌∙◌, append_assoc, append-nil, length-append}
+use Rattle.calloop_wake.specs.declared.wake.Twin.{Twin}
+use Rattle.calloop_wake.specs.declared.token.Token.{Token}
+use Rattle.calloop_wake.specs.Tokens.{key_of}
+use Rattle.calloop_wake.specs.Cells.{one, is_own}
+use Rattle.calloop_wake.specs.Passes.{Taken, Keyed, on}
+use Rattle.calloop_wake.specs.Executors.{ExecutorCell, settled_at, after_settle, taken_of, after_pop, after_end_turn, owed}
+use Rattle.calloop_wake.specs.declared.wake.tasks.TaskKey.{TaskKey}
+use Rattle.logbook.specs.Pages.{Book}
+use Rattle.calloop_core.specs.declared.sources.PostAction.{PostAction}
+use Rattle.calloop_core.specs.declared.sources.PostAction.TheVariants.{Continue}
+use Rattle.calloop_core.specs.Calls.{CallbackCall, Calling, Went}
+use Rattle.calloop_core.proofs.Calling.{went_on}
+use Rattle.calloop_core.specs.Polls.{PollStep, TakePass}
+use Rattle.calloop.specs.Executors.{ResultCalls, call_of, calls_of, results_of, Answered, AnsweredSo, ExecutorTurns}
+
+module _ {O : Type 0} where
+  calls_more : (ps : List (Option O)) (p : Option O) → calls_of (ps ++ p ∷ []) ≡ calls_of ps ++ call_of p
+  calls_more [] p = append-nil (call_of p)
+  calls_more (o ∷ ps) p = ap (λ cs. call_of o ++ cs) (calls_more ps p) ∙ sym (append_assoc (call_of o) (calls_of ps) (call_of p))
+
+  results_more : (ps : List (Option O)) (p : Option O) → results_of (ps ++ p ∷ []) ≡ results_of ps + one (is_some p)
+  results_more [] p = let n = one (is_some p) in let e : results_of (p ∷ []) ≡ n + 0 = refl in omega arith
+  results_more (o ∷ ps) p =
+      let e = results_more ps p in
+      let a : results_of (o ∷ (ps ++ p ∷ [])) ≡ one (is_some o) + results_of (ps ++ p ∷ []) = refl in
+      let b : results_of (o ∷ ps) ≡ one (is_some o) + results_of ps = refl in
+      omega arith
+
+module _ {F O X Q : Type 0} (may : Calling F O (Unit {0}) (Unit {0}) X Q) (reaches : Q → Q → Type 0) (f : F) (x : X) (q : Q) where
+  -- what the polls so far gave: how many there were, how many results, and that the callback was called for just these
+  pub record Polled (polled : List (Option O)) (count results : ℕ) (g : F) (y : X) (r : Q) : Type 0 where
+    pub count_is : count ≡ length polled
+    pub results_is : results ≡ results_of polled
+    pub went : Went may reaches f x q (calls_of polled) g y r
+
+  pub polled_none : Polled [] 0 0 f x q
+  polled_none = record { count_is = refl; results_is = refl; went = (refl, refl, refl) }
+
+  pub polled_more : (ps : List (Option O)) (p : Option O) (count results : ℕ) (g h : F) (y z : X) (r s : Q)
+      → Polled ps count results g y r → Went may reaches g y r (call_of p) h z s → Polled (ps ++ p ∷ []) (count + 1) (results + one (is_some p)) h z s
+  polled_more ps p count results g h y z r s so went = record {
+    count_is = let l = length-append ps (p ∷ []) in let c = so.count_is in omega arith;
+    results_is = ap (λ n. n + one (is_some p)) so.results_is ∙ sym (results_more ps p);
+    went = subst (λ (cs : List (CallbackCall O (Unit {0}) (Unit {0}))). Went may reaches f x q cs h z s) (sym (calls_more ps p)) (went_on may reaches f g h x y z q r s (calls_of ps) (call_of p) so.went went);
+  }
+
+-- an event of another token
+pub turn_of_another : (P O : Type 0) (twin : Twin) (token : Token) (pass : Option Taken) → is_own (key_of token) twin.key ≡ false → ExecutorTurns {P = P} {O = O} twin token pass [] (Ok Continue) [] twin
+turn_of_another P O twin token pass other = rw other (refl, refl, refl, refl)
+
+module _ (P O : Type 0) (twin : Twin) (token : Token) (pass : Option Taken) (own : is_own (key_of token) twin.key ≡ true) where
+  -- an event without a pass
+  pub turn_without : pass ≡ None → ExecutorTurns {P = P} {O = O} twin token pass [] (Ok Continue) (TakePass ∷ []) twin
+  turn_without none = rw (own, none) (refl, refl, refl, refl)
+
+  -- an event with one
+  pub turn_answered : (p : Taken) (answered : Answered O) (calls : ResultCalls O) (action : PostAction) (steps : List (PollStep P)) (after : Twin) → pass ≡ Some p → AnsweredSo answered p twin calls action steps after → ExecutorTurns twin token pass calls (Ok action) steps after
+  turn_answered p answered calls action steps after some h = rw (own, some) (answered, h)
+
+-- The steps of a turn leave the cell its key.
+settled_key : (o : Option TaskKey) (finished : Bool) (c : ExecutorCell) → (settled_at o finished c).key ≡ c.key
+settled_key None finished c = refl
+settled_key (Some key) true c = refl
+settled_key (Some key) false c = refl
+
+taken_key : (queue : List ℕ) (c : ExecutorCell) → (taken_of queue c).key ≡ c.key
+taken_key [] c = refl
+taken_key (slot ∷ rest) c = refl
+
+pub pop_key : (finished : Bool) (c : ExecutorCell) → (after_pop finished c).key ≡ c.key
+pop_key finished c = taken_key (after_settle finished c).queue (after_settle finished c) ∙ settled_key c.progress.polled finished c
+
+pub end_key : (finished : Bool) (c : ExecutorCell) → (after_end_turn finished c).key ≡ c.key
+end_key finished c = settled_key c.progress.polled finished c
+
+some_of : (o : Option Keyed) (P : Keyed → Type 0) → ((place : Keyed) → o ≡ Some place → P place) → IfSome o P
+some_of None P h = tt
+some_of (Some place) P h = h place refl
+
+-- what is owed is of the key that the cell had
+pub owed_place : (board : Book) (c d : ExecutorCell) (P : Keyed → Type 0) → ((place : Keyed) → on board c.key ≡ Some place → P place) → d.key ≡ c.key → IfSome (on board (owed c d)) P
+owed_place board c d P h same =
+    elim c.pinged as (λ b. IfSome (on board (if b then None else if d.pinged then d.key else None)) P) [
+      | true ↦ tt
+      | false ↦ elim d.pinged as (λ b. IfSome (on board (if b then d.key else None)) P) [
+        | true ↦ some_of (on board d.key) P (λ place e. h place (ap (on board) (sym same) ∙ e))
+        | false ↦ tt
+      ]
+    ]

@@ -1,0 +1,24 @@
+-- The calls of a loop's handle as calls of the machine. Calloop's handle reaches its loop through a cell; this one is lent it.
+use Rattle.calloop_core.specs.Deeds.{Lent}
+use Rattle.calloop_core.specs.Meanings.{Meaning}
+use Rattle.calloop_core.specs.Pollers.{Outside}
+use Rattle.calloop.specs.declared.loop_logic.LoopHandle.{LoopHandle}
+use Rattle.calloop.specs.declared.loop_logic.LoopCall.{LoopCall}
+use Rattle.calloop.specs.declared.loop_logic.LoopAnswer.{LoopAnswer}
+use Rattle.calloop.specs.Askings.{Asks, Runs}
+use Rattle.calloop.specs.Machine.{View, view_of}
+use Rattle.calloop.specs.Rules.{Case, Did, Leads}
+
+-- what the loop of a handle holds
+abbrev pub held_by : {D P C R X I S : Type 0} → LoopHandle D P C R X I S → View D I P
+held_by h = view_of h.inner.now
+
+-- what the loop held and what it holds then are as the machine's case of this call, with this answer, says
+abbrev pub IsCase : {D P C R X I S : Type 0} → Meaning D P (Lent X (Asks D I)) → Runs D I X → Outside P
+    → LoopCall D P X I → LoopAnswer D P X I → LoopHandle D P C R X I S → LoopHandle D P C R X I S → Type 0
+IsCase M runs O call answer old new = Did (Case M runs O call answer) (held_by old) (held_by new)
+
+-- and so from every state of the machine that agrees with what the loop held
+abbrev pub LeadsAsCase : {D P C R X I S : Type 0} → Meaning D P (Lent X (Asks D I)) → Runs D I X → Outside P
+    → LoopCall D P X I → LoopAnswer D P X I → LoopHandle D P C R X I S → LoopHandle D P C R X I S → Type 0
+LeadsAsCase M runs O call answer old new = Leads (Case M runs O call answer) (held_by old) (held_by new)

@@ -1,0 +1,83 @@
+//! Futures that run in the loop: an executor is a source, and what a future gives is an event.
+//!
+//! From calloop's `sources/futures.rs`. Its futures are those of the standard library; these are of this module, since a wake is a
+//! step of the executor's own cell.
+ghost use Rattle.std.specs.Prelude.{◌≡◌, None, IfOk, IfErr};
+ghost use Rattle.calloop_wake.specs.Cells.{fresh_twin};
+ghost use Rattle.std.specs.Arc.{arc_value};
+ghost use Rattle.calloop_wake.specs.declared.error.Error.TheVariants.{OutOfMemory};
+
+use crate::cell::{SharedCell, abandon, add_sender, receiver};
+use calloop_core::sys::hub::share;
+use calloop_wake::error::Result as LoopResult;
+use calloop_wake::wake::Twin;
+use calloop_wake::wake::executor::ExecutorCore;
+use homes::Homes;
+use std::alloc::Global;
+use std::sync::{Arc, Wait};
+
+mod cell;
+mod errors;
+mod homes;
+mod scheduler;
+mod source;
+mod task;
+
+pub use calloop_wake::wake::covered;
+pub use errors::{ExecutorDestroyed, ExecutorError, ScheduleError};
+pub use scheduler::Scheduler;
+pub(crate) use task::Blocked;
+pub use task::{Context, Future, Poll, Waker};
+
+/// Runs futures in the loop, as a source. What a future gives is an event.
+///
+/// Its drop, as by the drop of the loop that it is registered with, takes its registration back and drops its futures.
+pub struct Executor<Fut: Drop, R: Wait + Drop> {
+    rt: R,
+    shared: SharedCell<ExecutorCore>,
+    homes: Arc<Homes<Fut, R>, Global>,
+    twin: Twin,
+    ghost tied: { twin.name ≡ (arc_value shared).slot },
+}
+
+/// An executor, which is registered nowhere, and a scheduler that hands it futures. `rt` is the runtime by which they lock what they
+/// share. Calloop has it under the name `executor`.
+///
+/// Want of memory is `OutOfMemory`.
+pub fn make_executor<Fut: Future<R>, R: Wait + Clone + Drop>(
+    rt: &R,
+    alloc: Global,
+) -> LoopResult<(Executor<Fut, R>, Scheduler<Fut, R>)>
+    ensures ok { IfOk result (λ made.
+        (made.0.twin ≡ fresh_twin (arc_value made.1.shared).slot)
+        × ((arc_value made.0.shared).slot ≡ (arc_value made.1.shared).slot)) }
+    ensures err { IfErr result (λ e. e ≡ OutOfMemory) }
+{
+    let of_executor = rt.clone()?;
+    let of_scheduler = rt.clone()?;
+    let homes = Arc::new(alloc, Homes::new(alloc))?;
+    let (locked, right) = cell::locked(alloc)?;
+    let shared = Arc::new(alloc, locked)?;
+    let sender = add_sender(rt, &shared)?;
+    let twin = receiver(rt, &shared, right);
+    let executor = Executor {
+        rt: of_executor,
+        shared: share(rt, &shared),
+        homes: share(rt, &homes),
+        twin,
+    };
+    Ok((executor, Scheduler::of(of_scheduler, shared, homes, sender)))
+}
+
+impl<Fut: Drop, R: Wait + Drop> Drop for Executor<Fut, R> {
+    fn drop(self) {
+        let Executor {
+            rt,
+            shared,
+            homes,
+            twin,
+        } = self;
+        abandon(&rt, &shared, twin);
+        homes.close(&rt);
+    }
+}

@@ -1,0 +1,143 @@
+//! The sections of the lock of an executor's cell that no other kind of cell has.
+ghost use Rattle.std.specs.Prelude.{◌≡◌, ◌+◌, ◌<◌, ◌⊎◌, None, Some, true, false, IsSome, IfOk, IfErr, IfSome, IfNone};
+ghost use Rattle.std.specs.Arc.{arc_value};
+ghost use Rattle.std.specs.Option.{option_map};
+ghost use Rattle.calloop_wake.specs.Passes.{Keyed, on};
+ghost use Rattle.calloop_wake.specs.Cells.{one};
+ghost use Rattle.calloop_wake.specs.Executors.{at_start, most_tasks};
+ghost use Rattle.calloop_wake.specs.declared.error.Error.TheVariants.{OutOfMemory};
+
+use crate::cell::{Cell, settle};
+use calloop_wake::error::Result as LoopResult;
+use calloop_wake::wake::executor::{ExecutorCore, PutRefusal, PutTask, TaskTurn};
+use calloop_wake::wake::locked::Locked;
+use calloop_wake::wake::tasks::TaskKey;
+use calloop_wake::wake::{Receipt, ReceivingRight, TakenPass, Twin};
+use std::alloc::Global;
+use std::sync::{MutexGuard, Wait};
+
+/// What an executor shares with its schedulers and its wakers.
+pub type TaskCell = Cell<ExecutorCore>;
+
+/// A cell without tasks, under its lock, and the right to its receiving end.
+pub fn locked(alloc: Global) -> LoopResult<(Locked<TaskCell>, ReceivingRight)>
+    ensures right { IfOk result (λ made. made.1.name ≡ made.0.slot) }
+    ensures err { IfErr result (λ e. e ≡ OutOfMemory) }
+{
+    let (core, name, right) = ExecutorCore::new(alloc)?;
+    Ok((Cell::locked(core, &name), right))
+}
+
+/// A new task, which is queued, and its receipt.
+pub fn put<R: Wait>(
+    rt: &R,
+    shared: &Locked<TaskCell>,
+    home: usize,
+) -> Result<(TaskKey, Receipt), PutRefusal>
+    ensures { IfOk result (λ put. put.1.name ≡ shared.now.slot) }
+{
+    let (gate, mut cell) = shared.lock(rt);
+    match cell.core.put(home) {
+        Ok(put) => {
+            let PutTask { key, receipt, debt } = put;
+            let owed = cell.owed(rt, debt);
+            shared.unlock(rt, gate, cell);
+            settle(rt, owed);
+            Ok((key, receipt))
+        }
+        Err(refusal) => {
+            shared.unlock(rt, gate, cell);
+            Err(refusal)
+        }
+    }
+}
+
+/// Wakes a task.
+pub fn wake<R: Wait>(rt: &R, shared: &Locked<TaskCell>, key: TaskKey) {
+    let (gate, mut cell) = shared.lock(rt);
+    let debt = cell.core.wake(key);
+    let owed = cell.owed(rt, debt);
+    shared.unlock(rt, gate, cell);
+    settle(rt, owed);
+}
+
+/// Opens a turn of the cell with the pass, which comes back as refused where it opens none.
+pub fn open_turn<R: Wait>(
+    rt: &R,
+    shared: &Locked<TaskCell>,
+    twin: &mut Twin,
+    pass: TakenPass,
+) -> Result<TaskTurn, TakenPass>
+    requires { twin.old.name ≡ shared.now.slot }
+    ensures ok { IfOk result (λ turn. (turn ≡ record { name = shared.now.slot; progress = at_start }) × (twin.new ≡ record twin.old { turns = twin.old.turns + 1 })) }
+    ensures err { IfErr result (λ refused. (refused ≡ record pass { refused = Some twin.old.name }) × (twin.new ≡ twin.old)) }
+{
+    let (gate, mut cell) = shared.lock(rt);
+    let opened = cell.core.open_turn(pass, twin);
+    shared.unlock(rt, gate, cell);
+    opened
+}
+
+// Takes the lock, once the turn is the one that stands open in the cell. It is so at once: who has the turn alone moves it on.
+fn lock_at<'a, R: Wait>(
+    rt: &R,
+    shared: &'a Locked<TaskCell>,
+    turn: &TaskTurn,
+) -> (MutexGuard<'a, ()>, TaskCell)
+    ensures name { result.1.core.name ≡ shared.now.slot }
+    ensures at { (result.1.core.draining ≡ true) × (turn.now.progress ≡ result.1.core.progress) }
+    ensures keyed { (place : Keyed) → on result.1.core.board result.1.core.key ≡ Some place → option_map arc_value result.1.hub ≡ Some place.board }
+{
+    for _ in rt.forever() {
+        let (gate, cell) = shared.lock(rt);
+        if cell.core.is_at(turn) {
+            return (gate, cell);
+        }
+        shared.unlock(rt, gate, cell);
+    }
+    unreachable!()
+}
+
+/// A pop of the turn, which first settles the task that it popped before. Only the turn that stands open in the cell pops there:
+/// another would wait for ever.
+pub fn pop<R: Wait>(
+    rt: &R,
+    shared: &Locked<TaskCell>,
+    twin: &mut Twin,
+    turn: &mut TaskTurn,
+    finished: bool,
+) -> Option<(TaskKey, usize)>
+    requires names { (turn.old.name ≡ shared.now.slot) × (twin.old.name ≡ shared.now.slot) }
+    requires more { (turn.old.progress.dry ≡ false) × (turn.old.progress.pops < most_tasks) }
+    requires finishes { finished ≡ true → IsSome turn.old.progress.polled }
+    ensures name { turn.new.name ≡ turn.old.name }
+    ensures pops { turn.new.progress.pops ≡ turn.old.progress.pops + 1 }
+    ensures some { IfSome result (λ popped. (turn.new.progress.polled ≡ Some popped.0) × (turn.new.progress.dry ≡ false)) }
+    ensures none { IfNone result (turn.new.progress.dry ≡ true) }
+    ensures twin { twin.new ≡ record twin.old { number = twin.old.number + one finished } }
+{
+    let (gate, mut cell) = lock_at(rt, shared, turn);
+    let popped = cell.core.pop(turn, twin, finished);
+    shared.unlock(rt, gate, cell);
+    popped
+}
+
+/// Ends a turn of the cell, whose last pop gave no task or was its 1,024th: it settles the task that was popped last.
+pub fn end_turn<R: Wait>(
+    rt: &R,
+    shared: &Locked<TaskCell>,
+    twin: &mut Twin,
+    turn: TaskTurn,
+    finished: bool,
+)
+    requires names { (turn.name ≡ shared.now.slot) × (twin.old.name ≡ shared.now.slot) }
+    requires over { (turn.progress.dry ≡ true) ⊎ (turn.progress.pops ≡ most_tasks) }
+    requires finishes { finished ≡ true → IsSome turn.progress.polled }
+    ensures twin { twin.new ≡ record twin.old { number = twin.old.number + one finished } }
+{
+    let (gate, mut cell) = lock_at(rt, shared, &turn);
+    let debt = cell.core.end_turn(turn, twin, finished);
+    let owed = cell.owed(rt, debt);
+    shared.unlock(rt, gate, cell);
+    settle(rt, owed);
+}

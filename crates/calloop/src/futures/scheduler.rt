@@ -1,0 +1,122 @@
+//! What hands futures to an executor.
+ghost use Rattle.std.specs.Prelude.{◌≡◌, IfOk, IfErr};
+ghost use Rattle.std.specs.Arc.{arc_value};
+ghost use Rattle.calloop.specs.Polled.{IsRefusalOf, IsDestroyed};
+
+use super::cell;
+use super::errors::{ExecutorDestroyed, ScheduleError};
+use super::homes::Homes;
+use super::task::{Future, Pollable, Waker};
+use crate::cell::{SharedCell, add_sender, drop_sender};
+use calloop_core::sys::hub::share;
+use calloop_wake::wake::executor::{ExecutorCore, PutRefusal};
+use calloop_wake::wake::{Receipt, Sender};
+use std::alloc::{AllocError, Global};
+use std::sync::{Arc, Wait};
+
+/// Hands futures to its executor, from any thread. As many as are cloned hand them to the same one, and the drop of the last closes
+/// nothing.
+pub struct Scheduler<Fut: Drop, R: Wait + Drop> {
+    rt: R,
+    shared: SharedCell<ExecutorCore>,
+    homes: Arc<Homes<Fut, R>, Global>,
+    sender: Sender,
+    ghost tied: { sender.name ≡ (arc_value shared).slot },
+}
+
+// Why a future isn't scheduled.
+fn refused<Fut>(future: Fut, why: PutRefusal) -> ScheduleError<Fut>
+where
+    Fut: Drop,
+    ensures memory { why ≡ PutRefusal.OutOfMemory → result ≡ ScheduleError.OutOfMemory future }
+    ensures gone { why ≡ PutRefusal.Gone → IsDestroyed result }
+    ensures future { IsRefusalOf future result }
+{
+    match why {
+        PutRefusal::OutOfMemory => ScheduleError::OutOfMemory(future),
+        PutRefusal::Gone => ScheduleError::Destroyed(ExecutorDestroyed),
+    }
+}
+
+impl<Fut: Drop, R: Wait + Drop> Scheduler<Fut, R> {
+    pub(crate) fn of(
+        rt: R,
+        shared: SharedCell<ExecutorCore>,
+        homes: Arc<Homes<Fut, R>, Global>,
+        sender: Sender,
+    ) -> Scheduler<Fut, R>
+        requires { sender.name ≡ (arc_value shared).slot }
+        ensures { result.shared ≡ shared }
+    {
+        Scheduler {
+            rt,
+            shared,
+            homes,
+            sender,
+        }
+    }
+}
+
+impl<Fut: Future<R>, R: Wait + Clone + Drop> Scheduler<Fut, R> {
+    /// Hands a future over, which is polled in a later turn of the executor. The receipt is of a task of this very executor.
+    ///
+    /// Where the executor is gone, the answer is `Destroyed`, and the future is dropped. Want of memory hands it back; later wakes
+    /// of the task take none.
+    pub fn schedule(&self, future: Fut) -> Result<Receipt, ScheduleError<Fut>>
+        ensures ok { IfOk result (λ r. r.name ≡ (arc_value self.now.shared).slot) }
+        ensures err { IfErr result (IsRefusalOf future) }
+    {
+        let Ok(own) = self.rt.clone() else {
+            return Err(ScheduleError::OutOfMemory(future));
+        };
+        let home = match self.homes.reserve(&self.rt) {
+            Ok(home) => home,
+            Err(why) => return Err(refused(future, why)),
+        };
+        match cell::put(&self.rt, &self.shared, home) {
+            Ok((key, receipt)) => {
+                let waker = Waker::of_task(own, share(&self.rt, &self.shared), key);
+                if self.homes.fill(&self.rt, home, Pollable { future, waker }) {
+                    cell::wake(&self.rt, &self.shared, key);
+                }
+                Ok(receipt)
+            }
+            Err(why) => {
+                self.homes.free(&self.rt, home);
+                Err(refused(future, why))
+            }
+        }
+    }
+}
+
+impl<Fut: Drop, R: Wait + Clone + Drop> Clone for Scheduler<Fut, R> {
+    ghost use Rattle.std.specs.Prelude.{◌≡◌};
+    ghost use Rattle.std.specs.Arc.{arc_value};
+
+    ghost is_clone = { λ scheduler again. (arc_value again.shared).slot ≡ (arc_value scheduler.shared).slot };
+
+    fn clone(&self) -> Result<Scheduler<Fut, R>, AllocError> {
+        let rt = self.rt.clone()?;
+        let shared = Arc::try_clone(&self.shared)?;
+        let homes = Arc::try_clone(&self.homes)?;
+        let sender = add_sender(&self.rt, &self.shared)?;
+        Ok(Scheduler {
+            rt,
+            shared,
+            homes,
+            sender,
+        })
+    }
+}
+
+impl<Fut: Drop, R: Wait + Drop> Drop for Scheduler<Fut, R> {
+    fn drop(self) {
+        let Scheduler {
+            rt,
+            shared,
+            homes: _,
+            sender,
+        } = self;
+        drop_sender(&rt, &shared, sender);
+    }
+}

@@ -1,0 +1,198 @@
+//! An executor as a source of the loop.
+ghost use Rattle.std.specs.Prelude.{◌≡◌, ◌≤◌, ◌+◌, true, List, Option, is_some, length};
+ghost use Rattle.calloop_wake.specs.Executors.{at_start, most_tasks};
+ghost use Rattle.calloop_core.specs.Calls.{Went};
+ghost use Rattle.calloop.specs.Executors.{call_of, calls_of, results_of};
+
+use super::Executor;
+use super::cell::{self, TaskCell};
+use super::errors::ExecutorError;
+use super::homes::Homes;
+use super::task::Future;
+use crate::cell::source::{is_mine, register, reregister, unregister};
+use calloop_core::sources::{Asking, Callback, EventSource, IntoError, PostAction};
+use calloop_core::sys::events::EventIterator;
+use calloop_core::sys::poll::Poll;
+use calloop_core::sys::{Poller, Readiness};
+use calloop_wake::error::{Error, Result as LoopResult};
+use calloop_wake::token::{Token, TokenFactory};
+use calloop_wake::wake::Twin;
+use calloop_wake::wake::executor::TaskTurn;
+use calloop_wake::wake::locked::Locked;
+use std::sync::Wait;
+
+impl IntoError for ExecutorError {
+    ghost use Rattle.std.specs.Prelude.{◌≡◌};
+    ghost use Rattle.calloop_wake.specs.declared.error.Error.TheVariants.{OutOfMemory};
+    ghost use Rattle.calloop_core.specs.Lawful.{memory_of_source};
+
+    ghost becomes = { λ _ e. e ≡ OutOfMemory };
+
+    ghost of_source = { λ _ e is. memory_of_source e is };
+
+    /// `OutOfMemory`.
+    fn into_error(self) -> Error {
+        Error::OutOfMemory
+    }
+}
+
+// Polls a task outside of every lock, and calls back where it gives its result: whether it did.
+fn poll_task<Fut, R, F, X, Q>(
+    rt: &R,
+    homes: &Homes<Fut, R>,
+    home: usize,
+    callback: &mut F,
+    data: &mut X,
+    requests: &mut Q,
+) -> bool
+where
+    R: Wait + Drop,
+    Fut: Future<R>,
+    Q: Asking,
+    F: Callback<Fut::Output, (), (), X, Q>,
+    ensures { (polled : Option Fut.Output) × (result ≡ is_some polled)
+        × Went F.may Q.reaches callback.old «data».old requests.old (call_of polled) callback.new «data».new requests.new }
+{
+    let Some(held) = homes.take(rt, home) else {
+        return false;
+    };
+    match held.poll() {
+        Ok(output) => {
+            homes.free(rt, home);
+            callback.call(output, &mut (), data, requests);
+            true
+        }
+        Err(held) => {
+            homes.fill(rt, home, held);
+            false
+        }
+    }
+}
+
+// The pops of a turn up to one that finds no task, or 1,024, each with its poll.
+fn run_tasks<Fut, R, F, X, Q>(
+    rt: &R,
+    shared: &Locked<TaskCell>,
+    homes: &Homes<Fut, R>,
+    twin: &mut Twin,
+    turn: TaskTurn,
+    callback: &mut F,
+    data: &mut X,
+    requests: &mut Q,
+)
+where
+    R: Wait + Drop,
+    Fut: Future<R>,
+    Q: Asking,
+    F: Callback<Fut::Output, (), (), X, Q>,
+    requires turn { turn ≡ record { name = shared.now.slot; progress = at_start } }
+    requires twin { twin.old.name ≡ shared.now.slot }
+    ensures { (polled : List (Option Fut.Output)) × (length polled ≤ most_tasks)
+        × (twin.new ≡ record twin.old { number = twin.old.number + results_of polled })
+        × Went F.may Q.reaches callback.old «data».old requests.old (calls_of polled) callback.new «data».new requests.new }
+{
+    let mut turn = turn;
+    let mut finished = false;
+    'pops: while turn.goes_on() {
+        finished = match cell::pop(rt, shared, twin, &mut turn, finished) {
+            Some((_key, home)) => poll_task(rt, homes, home, callback, data, requests),
+            None => false,
+        };
+    }
+    cell::end_turn(rt, shared, twin, turn, finished);
+}
+
+impl<Fut: Future<R>, P: Poller, C, R: Wait + Drop> EventSource<P, C, R> for Executor<Fut, R> {
+    ghost use Rattle.std.specs.Prelude.{◌≡◌};
+    ghost use Rattle.calloop.specs.Executors.{executor_meaning};
+    ghost use Rattle.calloop.specs.Executing.{executor_keeps};
+
+    type Event = Fut::Output;
+
+    type Metadata = ();
+
+    type Ret = ();
+
+    type Error = ExecutorError;
+
+    ghost means = { executor_meaning (λ s. s.twin) (λ s t. t.shared ≡ s.shared) };
+
+    /// Its turn: polls the queued tasks in their order, at most 1,024, each outside of every lock, and calls back with each result.
+    /// After 1,024 it is posted again. A task that is woken in its poll is queued once more, and one that gave its result isn't
+    /// polled any more. An event of another token, or without a posted key behind it, polls nothing.
+    fn process_events<F, X, Q>(
+        &mut self,
+        _readiness: Readiness,
+        token: Token,
+        poll: &mut Poll<P, C, R>,
+        callback: &mut F,
+        data: &mut X,
+        requests: &mut Q,
+    ) -> Result<PostAction, ExecutorError>
+    where
+        Q: Asking,
+        F: Callback<Fut::Output, (), (), X, Q>,
+    {
+        if !is_mine(&self.twin, token) {
+            return Ok(PostAction::Continue);
+        }
+        let Some(pass) = poll.take_pass() else {
+            return Ok(PostAction::Continue);
+        };
+        match cell::open_turn(&self.rt, &self.shared, &mut self.twin, pass) {
+            Ok(turn) => run_tasks(
+                &self.rt,
+                &self.shared,
+                &self.homes,
+                &mut self.twin,
+                turn,
+                callback,
+                data,
+                requests,
+            ),
+            Err(pass) => poll.put_back(pass),
+        }
+        Ok(PostAction::Continue)
+    }
+
+    /// Registers the executor under the factory's next token. One with queued tasks is posted at once.
+    ///
+    /// Where it is registered already the answer is `IoError` of kind `AlreadyExists`; a factory without tokens is
+    /// `TooManyTokens`, and want of memory `OutOfMemory`. A refusal leaves the executor and the board as they were.
+    fn register(&mut self, poll: &mut Poll<P, C, R>, factory: &mut TokenFactory) -> LoopResult<()> {
+        register(&self.rt, &self.shared, &mut self.twin, poll, factory)
+    }
+
+    /// Moves the registration to the factory's next token; under the same key it does nothing. What is queued is posted
+    /// under the new key.
+    ///
+    /// Where the executor isn't registered the answer is `IoError` of kind `NotFound`; a factory without tokens is
+    /// `TooManyTokens`, an open place of the new key `IoError` of kind `AlreadyExists`, and want of memory `OutOfMemory`.
+    /// A refusal leaves the executor and the board as they were.
+    fn reregister(
+        &mut self,
+        poll: &mut Poll<P, C, R>,
+        factory: &mut TokenFactory,
+    ) -> LoopResult<()> {
+        reregister(&self.rt, &self.shared, &mut self.twin, poll, factory)
+    }
+
+    /// Takes the registration back. What is queued is polled after the next registration. Where the executor isn't registered
+    /// the answer is `IoError` of kind `NotFound`, and nothing changes.
+    fn unregister(&mut self, poll: &mut Poll<P, C, R>) -> LoopResult<()> {
+        unregister(&self.rt, &self.shared, &mut self.twin, poll)
+    }
+
+    /// It isn't told of waits.
+    fn needs_extra_lifecycle_events() -> bool {
+        false
+    }
+
+    fn before_sleep(&mut self) -> LoopResult<Option<(Readiness, Token)>> {
+        Ok(None)
+    }
+
+    fn before_handle_events(&mut self, _events: EventIterator<'_>) {}
+
+    ghost keeps = { executor_keeps (λ s. s.twin) (λ s t. t.shared ≡ s.shared) };
+}

@@ -1,0 +1,237 @@
+//! A stream as a source of the loop.
+ghost use Rattle.std.specs.Prelude.{◌≡◌, ◌+◌, List, length, None, Some, IfOk, IfErr};
+ghost use Rattle.calloop_core.specs.Calls.{Went};
+ghost use Rattle.calloop_wake.specs.Cells.{one, is_own};
+ghost use Rattle.calloop_wake.specs.Tokens.{key_of};
+ghost use Rattle.calloop.specs.StreamReads.{ReadsTo, left_by};
+ghost use Rattle.calloop.specs.Streams.{StreamCalls, calls_of, action_of, reading_of, EndsSo, RingsItself, ReadsSo};
+ghost use Rattle.calloop.specs.declared.stream.reading.Readable.{Readable};
+ghost use Rattle.std.specs.Option.{option_map};
+ghost use Rattle.calloop.specs.declared.stream.reading.Ending.{Ending};
+ghost use Rattle.std.specs.Arc.{arc_value};
+
+use super::reading::{Ending, Read, Readable, Stream};
+use super::{StreamError, StreamSource};
+use crate::cell::source::{is_mine, register, reregister, unregister};
+use crate::ping::{Ping, PingSource, cell};
+use calloop_core::sources::{Asking, Callback, EventSource, PostAction};
+use calloop_core::sys::events::EventIterator;
+use calloop_core::sys::poll::Poll;
+use calloop_core::sys::{Poller, Readiness};
+use calloop_wake::error::Result as LoopResult;
+use calloop_wake::token::{Token, TokenFactory};
+use calloop_wake::wake::ping::OpenedTurn;
+use calloop_wake::wake::{PingTurn, Receipt, TakenPass};
+use std::sync::Wait;
+
+// The most items of one turn.
+const MOST_ITEMS: u32 = 1024;
+
+// Polls the stream and calls back with each item, and with its end: the stream, unless it ended, and how this ended.
+fn read<S, R, F, X, Q>(
+    stream: Readable<S, R>,
+    callback: &mut F,
+    data: &mut X,
+    requests: &mut Q,
+) -> (Option<Readable<S, R>>, Ending)
+where
+    R: Wait + Drop,
+    S: Stream<R>,
+    Q: Asking,
+    F: Callback<Option<S::Item>, (), (), X, Q>,
+    ensures { (items : List S.Item) × (left : S) × EndsSo (length items) result.1 × ReadsTo S.polls stream.stream items result.1 left
+        × (option_map (λ (rest : Readable S R S.Item). rest.stream) result.0 ≡ left_by result.1 left)
+        × Went F.may Q.reaches callback.old «data».old requests.old (calls_of items result.1) callback.new «data».new requests.new }
+{
+    let mut stream = stream;
+    let mut items = 0u32;
+    'items: while items < MOST_ITEMS {
+        match stream.next() {
+            Read::Item(item, rest) => {
+                stream = rest;
+                callback.call(Some(item), &mut (), data, requests);
+                items += 1;
+            }
+            Read::End => {
+                callback.call(None, &mut (), data, requests);
+                return (None, Ending::AtEnd);
+            }
+            Read::Pending(rest) => return (Some(rest), Ending::AtPending),
+        }
+    }
+    (Some(stream), Ending::AtLimit)
+}
+
+// The receipt of a ring by which the source asks for another turn, where it stopped at the limit.
+fn ring_at_limit<R: Wait + Drop>(ping: &Ping<R>, ending: Ending) -> Option<Receipt>
+    ensures { RingsItself (arc_value ping.now.shared).slot ending result }
+{
+    match ending {
+        Ending::AtLimit => Some(ping.ping()),
+        Ending::AtPending | Ending::AtEnd => None,
+    }
+}
+
+// The end removes the source.
+fn action_of(ending: Ending) -> PostAction
+    ensures { result ≡ action_of ending }
+{
+    match ending {
+        Ending::AtEnd => PostAction::Remove,
+        Ending::AtPending | Ending::AtLimit => PostAction::Continue,
+    }
+}
+
+impl<S: Stream<R>, R: Wait + Drop> StreamSource<S, R> {
+    // What an opened turn does: one that took a ring reads the stream, unless its end was told before.
+    fn listen<F, X, Q>(
+        &mut self,
+        rung: bool,
+        callback: &mut F,
+        data: &mut X,
+        requests: &mut Q,
+    ) -> PostAction
+    where
+        Q: Asking,
+        F: Callback<Option<S::Item>, (), (), X, Q>,
+        ensures source { self.new.source ≡ self.old.source }
+        ensures reads { (items : List S.Item) × (ending : Ending) × (calls : StreamCalls S.Item)
+            × ReadsSo S.polls self.old.source.twin.name rung (reading_of self.old.stream self.old.own).stream items ending
+            (reading_of self.old.stream self.old.own) calls result (reading_of self.new.stream self.new.own)
+            × Went F.may Q.reaches callback.old «data».old requests.old calls callback.new «data».new requests.new }
+    {
+        if !rung {
+            return PostAction::Continue;
+        }
+        let Some(stream) = self.stream.take() else {
+            return PostAction::Continue;
+        };
+        let (rest, ending) = read(stream, callback, data, requests);
+        self.stream = rest;
+        self.own = ring_at_limit(&self.ping, ending);
+        action_of(ending)
+    }
+}
+
+impl<S: Stream<R>, P: Poller, C, R: Wait + Drop> EventSource<P, C, R> for StreamSource<S, R> {
+    ghost use Rattle.std.specs.Prelude.{◌≡◌};
+    ghost use Rattle.calloop.specs.Streams.{stream_meaning, stream_keeps, reading_of};
+
+    type Event = Option<S::Item>;
+
+    type Metadata = ();
+
+    type Ret = ();
+
+    type Error = StreamError;
+
+    ghost means = { stream_meaning S.polls (λ s. s.source.twin) (λ s. reading_of s.stream s.own) (λ s t. t.source.shared ≡ s.source.shared) };
+
+    /// Its turn: where its ping stands, polls the stream and calls back with each item, until it is pending, or at most 1,024 times; then
+    /// it asks for another turn. The end is called back as `None`, once, and removes the source. An event of another token, or without a
+    /// posted key behind it, polls nothing.
+    fn process_events<F, X, Q>(
+        &mut self,
+        _readiness: Readiness,
+        token: Token,
+        poll: &mut Poll<P, C, R>,
+        callback: &mut F,
+        data: &mut X,
+        requests: &mut Q,
+    ) -> Result<PostAction, StreamError>
+    where
+        Q: Asking,
+        F: Callback<Option<S::Item>, (), (), X, Q>,
+    {
+        if !is_own(&self.source, token) {
+            return Ok(PostAction::Continue);
+        }
+        let Some(pass) = poll.take_pass() else {
+            return Ok(PostAction::Continue);
+        };
+        match open_turn(&mut self.source, pass) {
+            Ok(opened) => {
+                let OpenedTurn {
+                    turn,
+                    rung,
+                    told: _,
+                } = opened;
+                let action = self.listen(rung, callback, data, requests);
+                end_turn(&self.source, turn);
+                Ok(action)
+            }
+            Err(pass) => {
+                poll.put_back(pass);
+                Ok(PostAction::Continue)
+            }
+        }
+    }
+
+    /// Registers the stream under the factory's next token. One that was woken before is posted at once.
+    ///
+    /// The refusals are those of `PingSource::register`; each leaves the stream and the board as they were.
+    fn register(&mut self, poll: &mut Poll<P, C, R>, factory: &mut TokenFactory) -> LoopResult<()> {
+        let source = &mut self.source;
+        register(&source.rt, &source.shared, &mut source.twin, poll, factory)
+    }
+
+    /// Moves the registration to the factory's next token; under the same key it does nothing. What stands is posted
+    /// under the new key.
+    ///
+    /// The refusals are those of `PingSource::reregister`; each leaves the stream and the board as they were.
+    fn reregister(
+        &mut self,
+        poll: &mut Poll<P, C, R>,
+        factory: &mut TokenFactory,
+    ) -> LoopResult<()> {
+        let source = &mut self.source;
+        reregister(&source.rt, &source.shared, &mut source.twin, poll, factory)
+    }
+
+    /// Takes the registration back. A wake that stands is told after the next registration. Where the stream isn't registered
+    /// the answer is `IoError` of kind `NotFound`, and nothing changes.
+    fn unregister(&mut self, poll: &mut Poll<P, C, R>) -> LoopResult<()> {
+        let source = &mut self.source;
+        unregister(&source.rt, &source.shared, &mut source.twin, poll)
+    }
+
+    /// It isn't told of waits.
+    fn needs_extra_lifecycle_events() -> bool {
+        false
+    }
+
+    fn before_sleep(&mut self) -> LoopResult<Option<(Readiness, Token)>> {
+        Ok(None)
+    }
+
+    fn before_handle_events(&mut self, _events: EventIterator<'_>) {}
+
+    ghost keeps = { stream_keeps S.polls (λ s. s.source.twin) (λ s. reading_of s.stream s.own) (λ s t. t.source.shared ≡ s.source.shared) };
+}
+
+// Opens a turn of the ping's cell with the pass, which comes back as refused where it opens none.
+fn open_turn<R: Wait + Drop>(
+    source: &mut PingSource<R>,
+    pass: TakenPass,
+) -> Result<OpenedTurn, TakenPass>
+    ensures shared { source.new.shared ≡ source.old.shared }
+    ensures ok { IfOk result (λ opened. (opened.turn.name ≡ source.old.twin.name)
+        × (source.new.twin ≡ record source.old.twin { turns = source.old.twin.turns + 1; number = source.old.twin.number + one opened.rung; closes = source.old.twin.closes + one opened.told })) }
+    ensures err { IfErr result (λ refused. (refused ≡ record pass { refused = Some source.old.twin.name }) × (source.new.twin ≡ source.old.twin)) }
+{
+    cell::open_turn(&source.rt, &source.shared, &mut source.twin, pass)
+}
+
+// Whether the token is that of the ping.
+fn is_own<R: Wait + Drop>(source: &PingSource<R>, token: Token) -> bool
+    ensures { result ≡ is_own (key_of token) source.now.twin.key }
+{
+    is_mine(&source.twin, token)
+}
+
+// Ends the turn of the ping's cell.
+fn end_turn<R: Wait + Drop>(source: &PingSource<R>, turn: PingTurn)
+    requires { turn.name ≡ source.now.twin.name }
+{
+    cell::end_turn(&source.rt, &source.shared, turn);
+}

@@ -1,0 +1,181 @@
+//! Two sources with their callbacks as one source.
+ghost use Rattle.std.specs.Prelude.{◌≡◌, ◌^◌, ◌<◌, List};
+ghost use Rattle.calloop_core.specs.Polls.{PollStep, poll_view, AllStepped};
+ghost use Rattle.calloop_core.specs.Boths.{UnregistersBoth, RegistersBoth};
+ghost use Rattle.calloop_core.specs.Deeds.{Reregistered};
+
+use crate::batch_unregister;
+use crate::callbacks::QuietDispatch;
+use crate::movable::Movable;
+use crate::sources::{Asking, Dispatch, Dispatcher, PostAction};
+use crate::sys::events::EventIterator;
+use crate::sys::poll::Poll;
+use crate::sys::{Poller, Readiness};
+use calloop_wake::error::{Error, Result as LoopResult};
+use calloop_wake::token::{Token, TokenFactory};
+use std::sync::Wait;
+
+/// A part of a `Both`: it knows whether it is registered, so that it can be taken back and registered again at any time. A
+/// source becomes one by `Movable::from`.
+pub trait Part {}
+
+impl<S, F> Part for Dispatcher<Movable<S>, F> {}
+
+impl<A: Part, B: Part> Part for Both<A, B> {}
+
+/// Two sources, each with its callback, as one source. They are registered together, with tokens of one factory, and each
+/// event is for one of them. More than two are a `Both` of a `Both`. Nothing is to be proved of it.
+///
+/// `Disable` and `Remove` of a part touch that part alone, also where both answer it: the part rests or is gone, and the whole
+/// stays in the loop. calloop has its users write such a source by hand.
+#[derive(Drop)]
+pub struct Both<A, B> {
+    pub first: A,
+    pub second: B,
+}
+
+// Shows that the count of a factory fits 16 bits.
+fn count_fits(factory: &TokenFactory)
+    ensures { factory.now.given < 2 ^ 16 }
+{
+    let _given = factory.given();
+}
+
+// Both are registered anew, up to the first error.
+fn come_again<P: Poller, C, R: Wait + Drop, X, Q: Asking, A, B>(
+    both: &mut Both<A, B>,
+    poll: &mut Poll<P, C, R>,
+    factory: &mut TokenFactory,
+) -> LoopResult<()>
+where
+    A: Dispatch<P, C, R, X, Q>,
+    B: Dispatch<P, C, R, X, Q>,
+    ensures { (steps : List (PollStep P))
+        × RegistersBoth A.means B.means (λ f a g. Reregistered f a g) both.old (poll_view poll.old)
+        factory.old result factory.new steps both.new
+        × AllStepped P.outside (poll_view poll.old) steps (poll_view poll.new) }
+{
+    let registration = factory.registration();
+    match both.first.reregister(poll, factory) {
+        Ok(()) => {
+            if factory.registration() != registration {
+                return Err(Error::InvalidToken);
+            }
+            count_fits(factory);
+            both.second.reregister(poll, factory)
+        }
+        Err(refusal) => Err(refusal),
+    }
+}
+
+// Both are unregistered, up to the first error.
+fn take_back<P: Poller, C, R: Wait + Drop, X, Q: Asking, A, B>(
+    both: &mut Both<A, B>,
+    poll: &mut Poll<P, C, R>,
+) -> LoopResult<()>
+where
+    A: Dispatch<P, C, R, X, Q>,
+    B: Dispatch<P, C, R, X, Q>,
+    ensures { (steps : List (PollStep P))
+        × UnregistersBoth A.means B.means both.old (poll_view poll.old) result steps both.new
+        × AllStepped P.outside (poll_view poll.old) steps (poll_view poll.new) }
+{
+    batch_unregister!(poll, both.first, both.second)
+}
+
+impl<P: Poller, C, R: Wait + Drop, X, Q: Asking, A, B> Dispatch<P, C, R, X, Q> for Both<A, B>
+where
+    A: Dispatch<P, C, R, X, Q> + Part,
+    B: Dispatch<P, C, R, X, Q> + Part,
+{
+    ghost use Rattle.calloop_core.specs.Boths.{both_meaning};
+    ghost use Rattle.calloop_core.specs.BothKeeping.{keeping_both, asking_both, failing_both};
+
+    ghost means = { both_meaning A.Dispatch.means B.Dispatch.means };
+
+    /// Registers the first part, and then the second one. An error of the first one ends it; what was registered until then stays
+    /// so. A first part that leaves a factory of another registration is refused with `InvalidToken`.
+    fn register(&mut self, poll: &mut Poll<P, C, R>, factory: &mut TokenFactory) -> LoopResult<()> {
+        let registration = factory.registration();
+        match self.first.register(poll, factory) {
+            Ok(()) => {
+                if factory.registration() != registration {
+                    return Err(Error::InvalidToken);
+                }
+                count_fits(factory);
+                self.second.register(poll, factory)
+            }
+            Err(refusal) => Err(refusal),
+        }
+    }
+
+    /// Unregisters both parts, and then registers both anew: so neither meets a key that the other still has. The first error
+    /// ends it; what was done until then stays so, and the same call goes on from there.
+    fn reregister(
+        &mut self,
+        poll: &mut Poll<P, C, R>,
+        factory: &mut TokenFactory,
+    ) -> LoopResult<()> {
+        match take_back::<P, C, R, X, Q, A, B>(self, poll) {
+            Ok(()) => come_again::<P, C, R, X, Q, A, B>(self, poll, factory),
+            Err(refusal) => Err(refusal),
+        }
+    }
+
+    /// Unregisters the first part, and then the second one. An error of the first one ends it.
+    fn unregister(&mut self, poll: &mut Poll<P, C, R>) -> LoopResult<()> {
+        take_back::<P, C, R, X, Q, A, B>(self, poll)
+    }
+
+    /// A turn of the first part, and then of the second one; each ignores an event of another token. The whole answers
+    /// `Continue` where both do, and else `Reregister`. An error of the first one ends it.
+    fn process_events(
+        &mut self,
+        readiness: Readiness,
+        token: Token,
+        poll: &mut Poll<P, C, R>,
+        data: &mut X,
+        requests: &mut Q,
+    ) -> LoopResult<PostAction> {
+        match self
+            .first
+            .process_events(readiness, token, poll, data, requests)
+        {
+            Ok(action) => match self
+                .second
+                .process_events(readiness, token, poll, data, requests)
+            {
+                Ok(other) => Ok(action | other),
+                Err(error) => Err(error),
+            },
+            Err(error) => Err(error),
+        }
+    }
+
+    /// It isn't told of waits, as its parts aren't.
+    fn needs_extra_lifecycle_events(&self) -> bool {
+        false
+    }
+
+    fn before_sleep(&mut self) -> LoopResult<Option<(Readiness, Token)>> {
+        Ok(None)
+    }
+
+    fn before_handle_events(&mut self, _events: EventIterator<'_>) {}
+
+    ghost keeps = { keeping_both A.Dispatch.means B.Dispatch.means A.Dispatch.keeps B.Dispatch.keeps };
+
+    ghost asks = { asking_both A.Dispatch.means B.Dispatch.means Q.reaches Q.goes_on A.Dispatch.asks B.Dispatch.asks };
+
+    ghost fails = { failing_both A.Dispatch.means B.Dispatch.means A.Dispatch.fails B.Dispatch.fails };
+}
+
+impl<P: Poller, C, R: Wait + Drop, X, Q: Asking, A, B> QuietDispatch<P, C, R, X, Q> for Both<A, B>
+where
+    A: QuietDispatch<P, C, R, X, Q> + Part,
+    B: QuietDispatch<P, C, R, X, Q> + Part,
+{
+    ghost use Rattle.calloop_core.specs.BothKeeping.{quiet_both};
+
+    ghost quiet = { quiet_both ⟦<A as Dispatch<P, C, R, X, Q>>⟧.means ⟦<B as Dispatch<P, C, R, X, Q>>⟧.means A.quiet B.quiet };
+}

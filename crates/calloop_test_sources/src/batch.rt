@@ -1,0 +1,85 @@
+//! Three sources that are registered in a row by the batch macros.
+use crate::noting::{Notebook, Noting};
+use crate::source::Broken;
+use calloop::{
+    Asking, Callback, EventIterator, EventSource, Poll, Poller, PostAction, Readiness, Result,
+    Token, TokenFactory,
+};
+use calloop_core::{batch_register, batch_reregister, batch_unregister};
+use std::alloc::AllocError;
+use std::sync::Wait;
+
+/// Three sources, whose calls it notes. Its turns do nothing.
+#[derive(Drop)]
+pub struct Batch {
+    first: Noting,
+    second: Noting,
+    third: Noting,
+}
+
+impl Batch {
+    /// Of sources 1, 2 and 3.
+    pub fn new(notebook: &Notebook) -> std::result::Result<Batch, AllocError> {
+        Ok(Batch {
+            first: notebook.source(1)?,
+            second: notebook.source(2)?,
+            third: notebook.source(3)?,
+        })
+    }
+}
+
+impl<P: Poller, C, R: Wait + Drop> EventSource<P, C, R> for Batch {
+    ghost use Rattle.calloop_core.specs.Meanings.{still};
+    ghost use Rattle.calloop_core.specs.Lawful.{keeping_still};
+    ghost use Rattle.calloop_test_sources.specs.Sources.{Anything};
+
+    type Event = u32;
+
+    type Metadata = ();
+
+    type Ret = ();
+
+    type Error = Broken;
+
+    ghost means = { still Anything };
+
+    fn process_events<F, X, Q>(
+        &mut self,
+        _readiness: Readiness,
+        _token: Token,
+        _poll: &mut Poll<P, C, R>,
+        _callback: &mut F,
+        _data: &mut X,
+        _requests: &mut Q,
+    ) -> std::result::Result<PostAction, Broken>
+    where
+        Q: Asking,
+        F: Callback<u32, (), (), X, Q>,
+    {
+        Ok(PostAction::Continue)
+    }
+
+    fn register(&mut self, poll: &mut Poll<P, C, R>, factory: &mut TokenFactory) -> Result<()> {
+        batch_register!(poll, factory, self.first, self.second, self.third)
+    }
+
+    fn reregister(&mut self, poll: &mut Poll<P, C, R>, factory: &mut TokenFactory) -> Result<()> {
+        batch_reregister!(poll, factory, self.first, self.second, self.third)
+    }
+
+    fn unregister(&mut self, poll: &mut Poll<P, C, R>) -> Result<()> {
+        batch_unregister!(poll, self.first, self.second, self.third)
+    }
+
+    fn needs_extra_lifecycle_events() -> bool {
+        false
+    }
+
+    fn before_sleep(&mut self) -> Result<Option<(Readiness, Token)>> {
+        Ok(None)
+    }
+
+    fn before_handle_events(&mut self, _events: EventIterator<'_>) {}
+
+    ghost keeps = { keeping_still Anything };
+}
