@@ -13,6 +13,10 @@ use Rattle.calloop.specs.Rules.{Case, Did, Leads}
 abbrev pub held_by : {D P C R X I S : Type 0} → LoopHandle D P C R X I S → View D I P
 held_by h = view_of h.inner.now
 
+-- its clock
+abbrev pub clock_by : {D P C R X I S : Type 0} → LoopHandle D P C R X I S → C
+clock_by h = h.inner.now.poll.clock
+
 -- what the loop held and what it holds then are as the machine's case of this call, with this answer, says
 abbrev pub IsCase : {D P C R X I S : Type 0} → Meaning D P (Lent X (Asks D I)) → Runs D I X → Outside P
     → LoopCall D P X I → LoopAnswer D P X I → LoopHandle D P C R X I S → LoopHandle D P C R X I S → Type 0

@@ -29,3 +29,4 @@ pub mod Handles
 pub mod StreamReads
 pub mod Streams
 pub mod Blocking
+pub mod Timeouts

@@ -7,6 +7,7 @@ pub mod futures;
 pub mod loop_logic;
 pub mod ping;
 pub mod stream;
+pub mod timeout;
 
 pub use calloop_core::both::{Both, Part};
 pub use calloop_core::callbacks::{On, QuietCallback, QuietDispatch};
@@ -36,3 +37,4 @@ pub use loop_logic::{
     Sources, SystemLoop, Ticket,
 };
 pub use ping::{Ping, PingError, PingSource, make_ping};
+pub use timeout::{TimeoutFuture, WakesTimeout};

@@ -9,6 +9,7 @@ mod desk;
 mod job;
 mod streams;
 mod threads;
+mod timeouts;
 
 #[test]
 fn a_turn_polls_1024_futures_and_the_next_one_the_last(rt: HostRuntime) {

@@ -3,9 +3,10 @@ ghost use Rattle.std.specs.Prelude.{◌≡◌, ◌⊎◌, IfOk, IfErr};
 ghost use Rattle.std.specs.declared.io.Error.{Error as IoCause};
 ghost use Rattle.calloop_wake.specs.declared.error.Error.TheVariants.{IoError, OutOfMemory};
 ghost use Rattle.calloop.specs.Machine.{BeginsAnew};
+ghost use Rattle.calloop.specs.Handles.{clock_by};
 ghost use Rattle.calloop.specs.Loops.{poller_of, clock_of, IsSound, CountFromOneReading, IsUnscripted};
 
-use super::{EventDispatcher, EventLoop};
+use super::{EventDispatcher, EventLoop, LoopHandle};
 use calloop_core::sys::script::{ScriptClock, ScriptPoller};
 use calloop_core::sys::system::{MioPoller, SystemClock};
 use calloop_core::sys::{Clock, Poller};
@@ -27,6 +28,15 @@ impl<D: EventDispatcher<P, C, R>, P: Poller, C: Clock, R: Wait + Drop> EventLoop
         ensures { result.now ≡ clock_of self.now }
     {
         self.poll.clock()
+    }
+}
+
+impl<D: EventDispatcher<P, C, R>, P: Poller, C: Clock, R: Wait + Drop> LoopHandle<'_, D, P, C, R> {
+    /// The loop's clock.
+    pub fn clock(&self) -> &C
+        ensures { result.now ≡ clock_by self.now }
+    {
+        self.inner.clock()
     }
 }
 

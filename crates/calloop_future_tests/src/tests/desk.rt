@@ -284,14 +284,16 @@ fn is_named(answer: &calloop::Result<()>) -> Option<bool> {
     }
 }
 
-fn time(millis: Option<u64>) -> Option<Duration> {
+/// A time in milliseconds.
+pub fn time(millis: Option<u64>) -> Option<Duration> {
     match millis {
         Some(millis) => Some(Duration::from_millis(millis)),
         None => None,
     }
 }
 
-fn are_waits(noted: &[Option<Duration>], waits: &[Option<u64>]) -> bool {
+/// Whether the noted waits are these, in milliseconds.
+pub fn are_waits(noted: &[Option<Duration>], waits: &[Option<u64>]) -> bool {
     noted.len() == waits.len()
         && noted
             .iter()

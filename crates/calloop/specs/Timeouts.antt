@@ -1,0 +1,67 @@
+-- Futures that are ready at a moment. Calloop's, too, is a timer in a slot, whose token nobody else has.
+use Rattle.std.specs.Prelude.{◌≡◌, ◌⊎◌, ℕ, nat_le, Bool, true, false, Option, Some, None, Result, Ok, Err, IfOk, IfErr}
+use Rattle.std.specs.Arc.{arc_value}
+use Rattle.calloop_wake.specs.declared.error.Error.{Error}
+use Rattle.calloop_wake.specs.declared.error.Error.TheVariants.{OutOfMemory}
+use Rattle.calloop_wake.specs.declared.error.InsertError.{InsertError}
+use Rattle.calloop_wake.specs.declared.token.RegistrationToken.{RegistrationToken}
+use Rattle.calloop_wake.specs.declared.wheel.Instant.{Instant}
+use Rattle.calloop_core.specs.declared.sources.Dispatcher.{Dispatcher}
+use Rattle.calloop_core.specs.declared.timer.Timer.{Timer}
+use Rattle.calloop_core.specs.Deeds.{Lent}
+use Rattle.calloop_core.specs.Meanings.{Meaning}
+use Rattle.calloop_core.specs.Pollers.{Outside}
+use Rattle.calloop_core.specs.Timers.{unarmed}
+use Rattle.calloop.specs.declared.futures.task.Poll.{Poll}
+use Rattle.calloop.specs.declared.futures.task.Poll.TheVariants.{Ready, Pending}
+use Rattle.calloop.specs.declared.loop_logic.LoopHandle.{LoopHandle}
+use Rattle.calloop.specs.declared.loop_logic.LoopCall.TheVariants.{Insert}
+use Rattle.calloop.specs.declared.loop_logic.LoopAnswer.TheVariants.{Inserted}
+use Rattle.calloop.specs.declared.timeout.TimeoutFuture.{TimeoutFuture}
+use Rattle.calloop.specs.declared.timeout.WakesTimeout.{WakesTimeout}
+use Rattle.calloop.specs.Askings.{Asks, Runs}
+use Rattle.calloop.specs.Handles.{held_by, IsCase}
+
+-- whether a moment has come, by an answer of a clock; where there is none, it never comes
+abbrev pub HasCome : (shows : ℕ → Type 0) → Option Instant → Bool → Type 0
+HasCome shows None come = come ≡ false
+HasCome shows (Some moment) come = (now : ℕ) × shows now × (come ≡ nat_le moment.nanos now)
+
+abbrev pub is_ready : {T : Type 0} → Poll T → Bool
+is_ready (Ready x) = true
+is_ready Pending = false
+
+-- a timer that isn't armed yet, and what it calls
+abbrev pub timer_at : {R : Type 0} → Instant → WakesTimeout R → Dispatcher Timer (WakesTimeout R)
+timer_at moment wakes = record { source = unarmed (Some moment); callback = wakes }
+
+-- what wakes the future of this timeout
+abbrev pub IsOf : {C R : Type 0} → TimeoutFuture C R → WakesTimeout R → Type 0
+IsOf made wakes = arc_value wakes.parked ≡ arc_value made.parked
+
+-- A timer of this moment was inserted, which wakes the future.
+abbrev pub HasTimer : {D P C R X I S : Type 0} → Meaning D P (Lent X (Asks D I)) → Runs D I X → Outside P
+    → (held : Dispatcher Timer (WakesTimeout R) → D) → Instant → TimeoutFuture C R
+    → LoopHandle D P C R X I S → LoopHandle D P C R X I S → Type 0
+HasTimer {D} {P} {C} {R} M runs O held moment made old new =
+    (token : RegistrationToken) × (wakes : WakesTimeout R) × IsOf made wakes
+    × IsCase M runs O (Insert (held (timer_at moment wakes))) (Inserted (Ok token)) old new
+
+-- Its insertion was refused so, or there was no memory for the future before, and the loop is as it was.
+abbrev pub HasNoTimer : {D P C R X I S : Type 0} → Meaning D P (Lent X (Asks D I)) → Runs D I X → Outside P
+    → (held : Dispatcher Timer (WakesTimeout R) → D) → Instant → Error
+    → LoopHandle D P C R X I S → LoopHandle D P C R X I S → Type 0
+HasNoTimer {D} {P} {C} {R} M runs O held moment e old new =
+    ((e ≡ OutOfMemory) × (held_by new ≡ held_by old))
+    ⊎ ((back : InsertError D) × (back.error ≡ e) × (wakes : WakesTimeout R)
+       × IsCase M runs O (Insert (held (timer_at moment wakes))) (Inserted (Err back)) old new)
+
+-- What comes of making one. Without a moment nothing is inserted, and want of memory alone refuses it.
+abbrev pub IsMade : {D P C R X I S : Type 0} → Meaning D P (Lent X (Asks D I)) → Runs D I X → Outside P
+    → (held : Dispatcher Timer (WakesTimeout R) → D) → Option Instant → Result (TimeoutFuture C R) Error
+    → LoopHandle D P C R X I S → LoopHandle D P C R X I S → Type 0
+IsMade M runs O held None result old new =
+    IfOk result (λ made. made.deadline ≡ None) × IfErr result (λ e. e ≡ OutOfMemory) × (held_by new ≡ held_by old)
+IsMade M runs O held (Some moment) result old new =
+    IfOk result (λ made. (made.deadline ≡ Some moment) × HasTimer M runs O held moment made old new)
+    × IfErr result (λ e. HasNoTimer M runs O held moment e old new)

@@ -1,0 +1,181 @@
+//! A future that is ready once a moment of the loop's clock has come.
+//!
+//! From calloop's `TimeoutFuture` in `sources/timer.rs`. Like there, it is a timer in a slot, whose token nobody else has.
+ghost use Rattle.std.specs.Prelude.{◌≡◌, Some, IfOk, IfErr};
+ghost use Rattle.calloop_wake.specs.declared.error.Error.TheVariants.{OutOfMemory};
+ghost use Rattle.calloop_wake.specs.declared.wheel.Instant.{Instant};
+ghost use Rattle.calloop_wake.specs.Deadlines.{moment_after};
+ghost use Rattle.calloop_core.specs.declared.timer.TimeoutAction.TheVariants.{Drop};
+ghost use Rattle.calloop.specs.Handles.{clock_by};
+ghost use Rattle.calloop.specs.Timeouts.{HasCome, HasTimer, HasNoTimer, IsMade, IsOf, is_ready};
+
+use crate::futures::{Context, Future, Poll, Waker};
+use crate::loop_logic::{EventDispatcher, LoopHandle};
+use calloop_core::callbacks::On;
+use calloop_core::sources::{Choice, Dispatcher};
+use calloop_core::sys::{Clock, Poller};
+use calloop_core::timer::{TimeoutAction, Timer};
+use calloop_wake::error::Result;
+use calloop_wake::wake::ghosts::Name;
+use calloop_wake::wheel::Instant;
+use std::alloc::Global;
+use std::mem;
+use std::sync::{Arc, Mutex, Wait};
+use std::time::Duration;
+
+// Where a pending future leaves its waker, under a name, which contracts alone see.
+#[derive(Drop)]
+struct Parked<R: Wait + Drop> {
+    rt: R,
+    name: Name,
+    waker: Mutex<Option<Waker<R>>>,
+}
+
+impl<R: Wait + Drop> Parked<R> {
+    fn exchange(&self, waker: Option<Waker<R>>) -> Option<Waker<R>> {
+        mem::replace(&mut *self.waker.lock(&self.rt), waker)
+    }
+}
+
+/// Wakes the future of a timeout, once its moment has come: what the timer of a `TimeoutFuture` calls. A loop of timeouts has a place
+/// for `Dispatcher<Timer, WakesTimeout<R>>`.
+#[derive(Drop)]
+pub struct WakesTimeout<R: Wait + Drop> {
+    parked: Arc<Parked<R>, Global>,
+}
+
+impl<R: Wait + Drop, X> On<Instant, X, TimeoutAction> for WakesTimeout<R> {
+    /// Wakes the future, where it waits, and has the timer leave the loop.
+    fn on(&mut self, _deadline: Instant, _data: &mut X) -> TimeoutAction
+        ensures leaves { result ≡ Drop }
+        ensures same { self.new ≡ self.old }
+        ensures data { «_data».new ≡ «_data».old }
+    {
+        if let Some(waker) = self.parked.exchange(None) {
+            waker.wake();
+        }
+        TimeoutAction::Drop
+    }
+}
+
+/// A future that is ready once a moment of the loop's clock has come. It is made outside of a dispatch, and its timer leaves the loop
+/// when that moment has come, or with the loop. Its drop leaves the timer there until then.
+#[derive(Drop)]
+pub struct TimeoutFuture<C: Clock, R: Wait + Drop> {
+    clock: C,
+    // None where the moment can't be told.
+    deadline: Option<Instant>,
+    parked: Arc<Parked<R>, Global>,
+}
+
+impl<C: Clock, R: Wait + Clone + Drop> TimeoutFuture<C, R> {
+    // A future of this moment, and what is to wake it.
+    fn unarmed(
+        clock: &C,
+        rt: &R,
+        alloc: Global,
+        deadline: Option<Instant>,
+    ) -> Result<(TimeoutFuture<C, R>, WakesTimeout<R>)>
+        ensures ok { IfOk result (λ made. (made.0.deadline ≡ deadline) × C.is_clone clock.now made.0.clock × IsOf made.0 made.1) }
+        ensures err { IfErr result (λ e. e ≡ OutOfMemory) }
+    {
+        let parked = Parked {
+            rt: rt.clone()?,
+            name: Name::fresh(),
+            waker: Mutex::new(None),
+        };
+        let parked = Arc::new(alloc, parked)?;
+        let wakes = WakesTimeout {
+            parked: Arc::try_clone(&parked)?,
+        };
+        let future = TimeoutFuture {
+            clock: clock.clone()?,
+            deadline,
+            parked,
+        };
+        Ok((future, wakes))
+    }
+
+    /// Ready at this moment, which may have come already. Its timer takes a slot of the loop.
+    ///
+    /// The refusals are those of an insertion. No timer stays then.
+    pub fn from_deadline<D, P, N>(
+        handle: &mut LoopHandle<'_, D, P, C, R>,
+        rt: &R,
+        alloc: Global,
+        deadline: Instant,
+    ) -> Result<TimeoutFuture<C, R>>
+    where
+        D: EventDispatcher<P, C, R> + Choice<Timer, WakesTimeout<R>, N>,
+        P: Poller,
+        ensures clock { IfOk result (λ made. C.is_clone (clock_by handle.old) made.clock) }
+        ensures ok { IfOk result (λ made. (made.deadline ≡ Some deadline)
+            × HasTimer D.means D.Idle.runs P.outside D.held deadline made handle.old handle.new) }
+        ensures err { IfErr result (λ e. HasNoTimer D.means D.Idle.runs P.outside D.held deadline e handle.old handle.new) }
+    {
+        let (future, wakes) =
+            TimeoutFuture::unarmed(handle.clock(), rt, alloc, Some(deadline))?;
+        let timer = Dispatcher::new(Timer::from_deadline(deadline), wakes);
+        handle.register_dispatcher(D::hold(timer))?;
+        Ok(future)
+    }
+
+    /// Ready so much later than the loop's clock shows. Past 2^64 - 1 nanoseconds it takes no slot, and stays pending.
+    ///
+    /// The refusals are those of an insertion. No timer stays then.
+    pub fn from_duration<D, P, N>(
+        handle: &mut LoopHandle<'_, D, P, C, R>,
+        rt: &R,
+        alloc: Global,
+        duration: Duration,
+    ) -> Result<TimeoutFuture<C, R>>
+    where
+        D: EventDispatcher<P, C, R> + Choice<Timer, WakesTimeout<R>, N>,
+        P: Poller,
+        ensures clock { IfOk result (λ made. C.is_clone (clock_by handle.old) made.clock) }
+        ensures made { (now : Instant) × C.shows (clock_by handle.old) now.nanos
+            × IsMade D.means D.Idle.runs P.outside D.held (moment_after now duration) result handle.old handle.new }
+    {
+        match handle.clock().now().checked_add(duration) {
+            Some(deadline) => TimeoutFuture::from_deadline(handle, rt, alloc, deadline),
+            None => {
+                let (future, _wakes) = TimeoutFuture::unarmed(handle.clock(), rt, alloc, None)?;
+                Ok(future)
+            }
+        }
+    }
+}
+
+impl<C: Clock, R: Wait + Drop> TimeoutFuture<C, R> {
+    // Whether its moment has come.
+    fn has_come(&self) -> bool
+        ensures { HasCome (C.shows self.now.clock) self.now.deadline result }
+    {
+        match self.deadline {
+            Some(deadline) => self.clock.now() >= deadline,
+            None => false,
+        }
+    }
+}
+
+impl<C: Clock, R: Wait + Clone + Drop> Future<R> for TimeoutFuture<C, R> {
+    ghost use Rattle.std.specs.Prelude.{true};
+
+    type Output = ();
+
+    ghost gives = { λ future _. HasCome (C.shows future.clock) future.deadline true };
+
+    /// Ready where the clock shows its moment or a later one. Without memory to keep the waker, it asks for another poll at once.
+    fn poll(&mut self, cx: &mut Context<'_, R>) -> Poll<()>
+        ensures ready { HasCome (C.shows self.old.clock) self.old.deadline (is_ready result) }
+    {
+        if self.has_come() {
+            return Poll::Ready(());
+        }
+        match cx.waker().clone() {
+            Ok(waker) => drop(self.parked.exchange(Some(waker))),
+            Err(_) => cx.waker().wake(),
+        }
+        Poll::Pending
+    }
+}
