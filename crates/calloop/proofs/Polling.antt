@@ -13,7 +13,7 @@ use Rattle.calloop_core.specs.declared.sources.PostAction.TheVariants.{Continue}
 use Rattle.calloop_core.specs.Calls.{CallbackCall, Calling, Went}
 use Rattle.calloop_core.proofs.Calling.{went_on}
 use Rattle.calloop_core.specs.Polls.{PollStep, TakePass}
-use Rattle.calloop.specs.Executors.{ResultCalls, call_of, calls_of, results_of, Answered, AnsweredSo, ExecutorTurns}
+use Rattle.calloop.specs.Executors.{ResultCalls, call_of, calls_of, results_of, AllGiven, Answered, AnsweredSo, ExecutorTurns}
 
 module _ {O : Type 0} where
   calls_more : (ps : List (Option O)) (p : Option O) → calls_of (ps ++ p ∷ []) ≡ calls_of ps ++ call_of p
@@ -28,35 +28,41 @@ module _ {O : Type 0} where
       let b : results_of (o ∷ ps) ≡ one (is_some o) + results_of ps = refl in
       omega arith
 
-module _ {F O X Q : Type 0} (may : Calling F O (Unit {0}) (Unit {0}) X Q) (reaches : Q → Q → Type 0) (f : F) (x : X) (q : Q) where
+  given_more : (given : O → Type 0) (ps : List (Option O)) (p : Option O) → AllGiven given ps → IfSome p given → AllGiven given (ps ++ p ∷ [])
+  given_more given [] p so h = (h, tt)
+  given_more given (o ∷ ps) p so h = (so.0, given_more given ps p so.1 h)
+
+module _ {F O X Q : Type 0} (given : O → Type 0) (may : Calling F O (Unit {0}) (Unit {0}) X Q) (reaches : Q → Q → Type 0) (f : F) (x : X) (q : Q) where
   -- what the polls so far gave: how many there were, how many results, and that the callback was called for just these
   pub record Polled (polled : List (Option O)) (count results : ℕ) (g : F) (y : X) (r : Q) : Type 0 where
     pub count_is : count ≡ length polled
     pub results_is : results ≡ results_of polled
+    pub all_given : AllGiven given polled
     pub went : Went may reaches f x q (calls_of polled) g y r
 
   pub polled_none : Polled [] 0 0 f x q
-  polled_none = record { count_is = refl; results_is = refl; went = (refl, refl, refl) }
+  polled_none = record { count_is = refl; results_is = refl; all_given = tt; went = (refl, refl, refl) }
 
   pub polled_more : (ps : List (Option O)) (p : Option O) (count results : ℕ) (g h : F) (y z : X) (r s : Q)
-      → Polled ps count results g y r → Went may reaches g y r (call_of p) h z s → Polled (ps ++ p ∷ []) (count + 1) (results + one (is_some p)) h z s
-  polled_more ps p count results g h y z r s so went = record {
+      → Polled ps count results g y r → IfSome p given → Went may reaches g y r (call_of p) h z s → Polled (ps ++ p ∷ []) (count + 1) (results + one (is_some p)) h z s
+  polled_more ps p count results g h y z r s so its went = record {
     count_is = let l = length-append ps (p ∷ []) in let c = so.count_is in omega arith;
     results_is = ap (λ n. n + one (is_some p)) so.results_is ∙ sym (results_more ps p);
+    all_given = given_more given ps p so.all_given its;
     went = subst (λ (cs : List (CallbackCall O (Unit {0}) (Unit {0}))). Went may reaches f x q cs h z s) (sym (calls_more ps p)) (went_on may reaches f g h x y z q r s (calls_of ps) (call_of p) so.went went);
   }
 
 -- an event of another token
-pub turn_of_another : (P O : Type 0) (twin : Twin) (token : Token) (pass : Option Taken) → is_own (key_of token) twin.key ≡ false → ExecutorTurns {P = P} {O = O} twin token pass [] (Ok Continue) [] twin
-turn_of_another P O twin token pass other = rw other (refl, refl, refl, refl)
+pub turn_of_another : (P O : Type 0) (given : O → Type 0) (twin : Twin) (token : Token) (pass : Option Taken) → is_own (key_of token) twin.key ≡ false → ExecutorTurns {P = P} given twin token pass [] (Ok Continue) [] twin
+turn_of_another P O given twin token pass other = rw other (refl, refl, refl, refl)
 
-module _ (P O : Type 0) (twin : Twin) (token : Token) (pass : Option Taken) (own : is_own (key_of token) twin.key ≡ true) where
+module _ (P O : Type 0) (given : O → Type 0) (twin : Twin) (token : Token) (pass : Option Taken) (own : is_own (key_of token) twin.key ≡ true) where
   -- an event without a pass
-  pub turn_without : pass ≡ None → ExecutorTurns {P = P} {O = O} twin token pass [] (Ok Continue) (TakePass ∷ []) twin
+  pub turn_without : pass ≡ None → ExecutorTurns {P = P} given twin token pass [] (Ok Continue) (TakePass ∷ []) twin
   turn_without none = rw (own, none) (refl, refl, refl, refl)
 
   -- an event with one
-  pub turn_answered : (p : Taken) (answered : Answered O) (calls : ResultCalls O) (action : PostAction) (steps : List (PollStep P)) (after : Twin) → pass ≡ Some p → AnsweredSo answered p twin calls action steps after → ExecutorTurns twin token pass calls (Ok action) steps after
+  pub turn_answered : (p : Taken) (answered : Answered O) (calls : ResultCalls O) (action : PostAction) (steps : List (PollStep P)) (after : Twin) → pass ≡ Some p → AnsweredSo given answered p twin calls action steps after → ExecutorTurns given twin token pass calls (Ok action) steps after
   turn_answered p answered calls action steps after some h = rw (own, some) (answered, h)
 
 -- The steps of a turn leave the cell its key.

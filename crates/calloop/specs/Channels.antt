@@ -4,6 +4,7 @@ use Rattle.std.specs.Arc.{arc_value}
 use Rattle.calloop_wake.specs.declared.token.Token.{Token}
 use Rattle.calloop_wake.specs.declared.wake.Twin.{Twin}
 use Rattle.calloop_wake.specs.declared.wake.ChannelTurn.{ChannelTurn}
+use Rattle.calloop_wake.specs.declared.wake.channel.Label.{Label}
 use Rattle.calloop_wake.specs.declared.wake.channel.Popped.{Popped}
 use Rattle.calloop_wake.specs.declared.wake.channel.Popped.TheVariants.{Item, Empty, Closed as NoMore}
 use Rattle.calloop_wake.specs.Tokens.{key_of}
@@ -39,6 +40,10 @@ call_of NoMore = calling Closed
 abbrev pub calls_of : {T : Type 0} → List (Popped T) → ChannelCalls T
 calls_of [] = []
 calls_of (p ∷ ps) = call_of p ++ calls_of ps
+
+-- a turn of the channel with this label, which popped nothing yet
+abbrev pub turn_at_start : Label → ChannelTurn
+turn_at_start label = record { name = label.name; left = pops label.bound; done = false }
 
 -- a turn with what its pops gave, in order
 abbrev pub turn_after : {T : Type 0} → List (Popped T) → ChannelTurn → ChannelTurn

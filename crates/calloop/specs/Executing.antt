@@ -13,38 +13,38 @@ use Rattle.calloop.specs.declared.futures.errors.ExecutorError.{ExecutorError}
 use Rattle.calloop.specs.CellKeeping.{IsQuietTurn, TurnsQuietly, cell_keeps}
 use Rattle.calloop.specs.Executors.{ResultCalls, Answered, Opened, Refused, AnsweredSo, ExecutorTurnWith, ExecutorTurnFor, ExecutorTurns, ExecutorTakes, executor_meaning}
 
-answered_quiet : {P O : Type 0} (answered : Answered O) (p : Taken) (before after : Twin) (cs : ResultCalls O)
-    (action : PostAction) (l : List (PollStep P)) → AnsweredSo answered p before cs action l after
+answered_quiet : {P O : Type 0} (given : O → Type 0) (answered : Answered O) (p : Taken) (before after : Twin) (cs : ResultCalls O)
+    (action : PostAction) (l : List (PollStep P)) → AnsweredSo given answered p before cs action l after
     → IsQuietTurn before after l
-answered_quiet (Opened polled) p before after cs action l h =
+answered_quiet given (Opened polled) p before after cs action l h =
     record { key = ap (λ x. x.key) h.4; counters = λ next. rw h.3 (λ counter. tt); own = λ r. rw h.3 (tt, tt) }
-answered_quiet Refused p before after cs action l h =
+answered_quiet given Refused p before after cs action l h =
     record { key = ap (λ x. x.key) h.3; counters = λ next. rw h.2 (λ counter. tt); own = λ r. rw h.2 (tt, (tt, tt)) }
 
-with_quiet : {P O : Type 0} (pass : Option Taken) (before after : Twin) (cs : ResultCalls O) (action : PostAction)
-    (l : List (PollStep P)) → ExecutorTurnWith pass before cs action l after → IsQuietTurn before after l
-with_quiet None before after cs action l h =
+with_quiet : {P O : Type 0} (given : O → Type 0) (pass : Option Taken) (before after : Twin) (cs : ResultCalls O) (action : PostAction)
+    (l : List (PollStep P)) → ExecutorTurnWith given pass before cs action l after → IsQuietTurn before after l
+with_quiet given None before after cs action l h =
     record { key = ap (λ x. x.key) h.3; counters = λ next. rw h.2 (λ counter. tt); own = λ r. rw h.2 (tt, tt) }
-with_quiet (Some p) before after cs action l h = answered_quiet h.0 p before after cs action l h.1
+with_quiet given (Some p) before after cs action l h = answered_quiet given h.0 p before after cs action l h.1
 
-for_quiet : {P O : Type 0} (is_own : Bool) (pass : Option Taken) (before after : Twin) (cs : ResultCalls O)
-    (action : PostAction) (l : List (PollStep P)) → ExecutorTurnFor is_own pass before cs action l after
+for_quiet : {P O : Type 0} (given : O → Type 0) (is_own : Bool) (pass : Option Taken) (before after : Twin) (cs : ResultCalls O)
+    (action : PostAction) (l : List (PollStep P)) → ExecutorTurnFor given is_own pass before cs action l after
     → IsQuietTurn before after l
-for_quiet true pass before after cs action l h = with_quiet pass before after cs action l h
-for_quiet false pass before after cs action l h =
+for_quiet given true pass before after cs action l h = with_quiet given pass before after cs action l h
+for_quiet given false pass before after cs action l h =
     record { key = ap (λ x. x.key) h.3; counters = λ next. rw h.2 (λ counter. tt); own = λ r. rw h.2 tt }
 
-turn_quiet : {P O : Type 0} (k : Token) (pass : Option Taken) (before after : Twin) (cs : ResultCalls O)
-    (a : Result PostAction ExecutorError) (l : List (PollStep P)) → ExecutorTurns before k pass cs a l after
+turn_quiet : {P O : Type 0} (given : O → Type 0) (k : Token) (pass : Option Taken) (before after : Twin) (cs : ResultCalls O)
+    (a : Result PostAction ExecutorError) (l : List (PollStep P)) → ExecutorTurns given before k pass cs a l after
     → IsQuietTurn before after l
-turn_quiet k pass before after cs (Ok action) l h =
-    for_quiet (is_own (key_of k) before.key) pass before after cs action l h
-turn_quiet k pass before after cs (Err e) l h = absurd h
+turn_quiet given k pass before after cs (Ok action) l h =
+    for_quiet given (is_own (key_of k) before.key) pass before after cs action l h
+turn_quiet given k pass before after cs (Err e) l h = absurd h
 
-executor_quiet : {S P O : Type 0} (twin : S → Twin) → TurnsQuietly {P = P} twin (ExecutorTakes {O = O} twin)
-executor_quiet twin s v token turn steps after h =
-    turn_quiet token v.pass (twin s) after turn.calls turn.answer steps h
+executor_quiet : {S P O : Type 0} (given : O → Type 0) (twin : S → Twin) → TurnsQuietly {P = P} twin (ExecutorTakes given twin)
+executor_quiet given twin s v token turn steps after h =
+    turn_quiet given token v.pass (twin s) after turn.calls turn.answer steps h
 
-pub executor_keeps : {S P O : Type 0} (twin : S → Twin) (Same : S → S → Type 0)
-    → IsKeeping (executor_meaning {S = S} {P = P} {O = O} twin Same)
-executor_keeps twin Same = cell_keeps twin Same (ExecutorTakes twin) (executor_quiet twin)
+pub executor_keeps : {S P O : Type 0} (given : O → Type 0) (twin : S → Twin) (Same : S → S → Type 0)
+    → IsKeeping (executor_meaning {S = S} {P = P} given twin Same)
+executor_keeps given twin Same = cell_keeps twin Same (ExecutorTakes given twin) (executor_quiet given twin)

@@ -46,12 +46,17 @@ pub data Served : Type 0 where
   -- no turn: the pass is of another key, or a turn stands open
   Refused : Served
 
+-- the twin of a source, after a turn was opened that took this ring and told this close
+abbrev pub twin_opened : (rung told : Bool) → Twin → Twin
+twin_opened rung told twin =
+    record twin { turns = twin.turns + 1; number = twin.number + one rung; closes = twin.closes + one told }
+
 -- The twin counts the turn that the pass opened; the source is called as often as the twin's number of rings grows
 -- by, and removed where its number of closes does. A pass that the source's own cell refused is put back.
 abbrev pub ServedSo : {P : Type 0} → Served → Taken → Twin → PingCalls → PostAction → List (PollStep P) → Twin → Type 0
 ServedSo (Opened rung told) p twin calls action steps after =
     (calls ≡ calls_of rung) × (action ≡ action_of told) × (steps ≡ TakePass ∷ [])
-    × (after ≡ record twin { turns = twin.turns + 1; number = twin.number + one rung; closes = twin.closes + one told })
+    × (after ≡ twin_opened rung told twin)
 ServedSo Refused p twin calls action steps after =
     (calls ≡ []) × (action ≡ Continue)
     × (steps ≡ TakePass ∷ PutBack (record p { refused = Some twin.name }) ∷ []) × (after ≡ twin)

@@ -1,6 +1,6 @@
 -- What a stream means as a source. Its registrations are those of the ping that its waker rings. calloop's StreamSource polls without a
 -- limit, and may tell the end again.
-use Rattle.std.specs.Prelude.{◌≡◌, ℕ, ◌+◌, ◌<◌, List, [], ◌∷◌, length, Bool, true, false, Option, None, Some, Result, Ok, Err}
+use Rattle.std.specs.Prelude.{◌≡◌, ℕ, ◌<◌, List, [], ◌∷◌, length, Bool, true, false, Option, None, Some, Result, Ok, Err}
 use Rattle.std.proofs.Common.{ap}
 use Rattle.logbook.specs.Pages.{Book}
 use Rattle.calloop_wake.specs.declared.token.Token.{Token}
@@ -8,7 +8,7 @@ use Rattle.calloop_wake.specs.declared.wake.Receipt.{Receipt}
 use Rattle.calloop_wake.specs.declared.wake.Twin.{Twin}
 use Rattle.calloop_wake.specs.Tokens.{key_of}
 use Rattle.calloop_wake.specs.Passes.{Taken}
-use Rattle.calloop_wake.specs.Cells.{one, is_own}
+use Rattle.calloop_wake.specs.Cells.{is_own}
 use Rattle.calloop_core.specs.declared.sources.PostAction.{PostAction}
 use Rattle.calloop_core.specs.declared.sources.PostAction.TheVariants.{Continue, Remove}
 use Rattle.calloop_core.specs.Calls.{CallbackCall}
@@ -16,6 +16,7 @@ use Rattle.calloop_core.specs.Deeds.{Deed, Heard, Registered, Reregistered, Unre
 use Rattle.calloop_core.specs.Holdings.{holds_none}
 use Rattle.calloop_core.specs.Meanings.{Meaning, IsKeeping}
 use Rattle.calloop_core.specs.Polls.{PollView, PollStep, TakePass, PutBack}
+use Rattle.calloop.specs.Pings.{twin_opened}
 use Rattle.calloop.specs.declared.stream.reading.Ending.{Ending}
 use Rattle.calloop.specs.declared.stream.reading.Ending.TheVariants.{AtPending, AtEnd, AtLimit}
 use Rattle.std.specs.Option.{option_map}
@@ -97,7 +98,7 @@ abbrev pub AnsweredSo : {P S I : Type 0} → Polls S I → Answered I → Taken 
     → List (PollStep P) → Twin → Reading S → Type 0
 AnsweredSo polls (Opened rung told items ending) p twin before calls action steps twin' after =
     ReadsSo polls twin.name rung before.stream items ending before calls action after × (steps ≡ TakePass ∷ [])
-    × (twin' ≡ record twin { turns = twin.turns + 1; number = twin.number + one rung; closes = twin.closes + one told })
+    × (twin' ≡ twin_opened rung told twin)
 AnsweredSo polls Refused p twin before calls action steps twin' after =
     (calls ≡ []) × (action ≡ Continue) × (steps ≡ TakePass ∷ PutBack (record p { refused = Some twin.name }) ∷ [])
     × (twin' ≡ twin) × (after ≡ before)

@@ -171,7 +171,8 @@ impl<T: Drop, R: Wait + Drop> Drop for Channel<T, R> {
 impl<T: Drop, R: Wait + Drop> Channel<T, R> {
     /// The first message. It waits while there is none and a sender is there.
     pub fn recv(&mut self) -> Result<T, RecvError>
-        ensures ok { IfOk result (λ _. self.new.twin ≡ record self.old.twin { number = self.old.twin.number + 1 }) }
+        ensures ok { IfOk result
+            (λ _. self.new.twin ≡ record self.old.twin { number = self.old.twin.number + 1 }) }
         ensures err { IfErr result (λ _. self.new.twin ≡ self.old.twin) }
         ensures shared { self.new.shared ≡ self.old.shared }
     {
@@ -180,7 +181,8 @@ impl<T: Drop, R: Wait + Drop> Channel<T, R> {
 
     /// The first message, where there is one.
     pub fn try_recv(&mut self) -> Result<T, TryRecvError>
-        ensures ok { IfOk result (λ _. self.new.twin ≡ record self.old.twin { number = self.old.twin.number + 1 }) }
+        ensures ok { IfOk result
+            (λ _. self.new.twin ≡ record self.old.twin { number = self.old.twin.number + 1 }) }
         ensures err { IfErr result (λ _. self.new.twin ≡ self.old.twin) }
         ensures shared { self.new.shared ≡ self.old.shared }
     {

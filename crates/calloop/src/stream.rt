@@ -41,7 +41,8 @@ impl<S: Stream<R>, R: Wait + Clone + Drop> StreamSource<S, R> {
     ///
     /// Want of memory is `OutOfMemory`, and hands the stream back.
     pub fn new(rt: &R, alloc: Global, stream: S) -> Result<StreamSource<S, R>, InsertError<S>>
-        ensures ok { IfOk result (λ made. (made.source.twin ≡ fresh_twin made.source.twin.name) × (made.own ≡ None)) }
+        ensures ok { IfOk result (λ made. (made.source.twin ≡ fresh_twin made.source.twin.name)
+            × (made.own ≡ None)) }
         ensures err { IfErr result (λ e. (e.inserted ≡ stream) × (e.error ≡ OutOfMemory)) }
     {
         let Ok((ping, source)) = make_ping(rt, alloc) else {

@@ -76,7 +76,8 @@ impl<C: Clock, R: Wait + Clone + Drop> TimeoutFuture<C, R> {
         alloc: Global,
         deadline: Option<Instant>,
     ) -> Result<(TimeoutFuture<C, R>, WakesTimeout<R>)>
-        ensures ok { IfOk result (λ made. (made.0.deadline ≡ deadline) × C.is_clone clock.now made.0.clock × IsOf made.0 made.1) }
+        ensures ok { IfOk result (λ made. (made.0.deadline ≡ deadline)
+            × C.is_clone clock.now made.0.clock × IsOf made.0 made.1) }
         ensures err { IfErr result (λ e. e ≡ OutOfMemory) }
     {
         let parked = Parked {
@@ -111,7 +112,9 @@ impl<C: Clock, R: Wait + Clone + Drop> TimeoutFuture<C, R> {
         ensures clock { IfOk result (λ made. C.is_clone (clock_by handle.old) made.clock) }
         ensures ok { IfOk result (λ made. (made.deadline ≡ Some deadline)
             × HasTimer D.means D.Idle.runs P.outside D.held deadline made handle.old handle.new) }
-        ensures err { IfErr result (λ e. HasNoTimer D.means D.Idle.runs P.outside D.held deadline e handle.old handle.new) }
+        ensures err { IfErr result
+            (λ e. HasNoTimer D.means D.Idle.runs P.outside D.held
+                deadline e handle.old handle.new) }
     {
         let (future, wakes) =
             TimeoutFuture::unarmed(handle.clock(), rt, alloc, Some(deadline))?;
@@ -134,7 +137,8 @@ impl<C: Clock, R: Wait + Clone + Drop> TimeoutFuture<C, R> {
         P: Poller,
         ensures clock { IfOk result (λ made. C.is_clone (clock_by handle.old) made.clock) }
         ensures made { (now : Instant) × C.shows (clock_by handle.old) now.nanos
-            × IsMade D.means D.Idle.runs P.outside D.held (moment_after now duration) result handle.old handle.new }
+            × IsMade D.means D.Idle.runs P.outside D.held (moment_after now duration)
+                result handle.old handle.new }
     {
         match handle.clock().now().checked_add(duration) {
             Some(deadline) => TimeoutFuture::from_deadline(handle, rt, alloc, deadline),

@@ -1,7 +1,8 @@
 //! The sections of the lock of a channel's cell that no other kind of cell has.
 ghost use Rattle.std.specs.Prelude.{◌≡◌, ◌⊎◌, ◌<◌, ◌+◌, true, false, None, Some, IfOk, IfErr};
 ghost use Rattle.calloop_wake.specs.Cells.{one};
-ghost use Rattle.calloop_wake.specs.Channels.{handed_back, FitsBound, pops, turn_after_pop, twin_after_pop};
+ghost use Rattle.calloop_wake.specs.Channels.{handed_back, FitsBound, turn_after_pop, twin_after_pop};
+ghost use Rattle.calloop.specs.Channels.{turn_at_start};
 ghost use Rattle.calloop.specs.Sends.{unsent, IsDisconnected};
 ghost use Rattle.calloop_wake.specs.declared.error.Error.TheVariants.{OutOfMemory};
 
@@ -37,7 +38,8 @@ pub fn put<T: Drop, R: Wait>(
     message: T,
 ) -> Result<Receipt, PutError<T>>
     ensures ok { IfOk result (λ r. r.name ≡ shared.now.slot.name) }
-    ensures err { IfErr result (λ e. (handed_back e ≡ message) × FitsBound shared.now.slot.bound e) }
+    ensures err { IfErr result (λ e. (handed_back e ≡ message)
+        × FitsBound shared.now.slot.bound e) }
 {
     let (gate, mut cell) = shared.lock(rt);
     match cell.core.put(message) {
@@ -152,8 +154,10 @@ pub fn open_turn<T: Drop, R: Wait>(
     pass: TakenPass,
 ) -> Result<ChannelTurn, TakenPass>
     requires { twin.old.name ≡ shared.now.slot.name }
-    ensures ok { IfOk result (λ turn. (turn ≡ record { name = shared.now.slot.name; left = pops shared.now.slot.bound; done = false }) × (twin.new ≡ record twin.old { turns = twin.old.turns + 1 })) }
-    ensures err { IfErr result (λ refused. (refused ≡ record pass { refused = Some twin.old.name }) × (twin.new ≡ twin.old)) }
+    ensures ok { IfOk result (λ turn. (turn ≡ turn_at_start shared.now.slot)
+        × (twin.new ≡ record twin.old { turns = twin.old.turns + 1 })) }
+    ensures err { IfErr result (λ refused. (refused ≡ record pass { refused = Some twin.old.name })
+        × (twin.new ≡ twin.old)) }
 {
     let (gate, mut cell) = shared.lock(rt);
     let opened = cell.core.open_turn(pass, twin);

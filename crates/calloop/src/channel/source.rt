@@ -54,8 +54,10 @@ where
     requires left { 0 < turn.old.left }
     requires turn { turn.old.name ≡ shared.now.slot.name }
     requires twin { twin.old.name ≡ shared.now.slot.name }
-    ensures { (p : Popped T) × (turn.new ≡ turn_after_pop p turn.old) × (twin.new ≡ twin_after_pop p twin.old) × (result ≡ is_close p)
-        × Went F.may Q.reaches callback.old «data».old requests.old (call_of p) callback.new «data».new requests.new }
+    ensures { (p : Popped T) × (turn.new ≡ turn_after_pop p turn.old)
+        × (twin.new ≡ twin_after_pop p twin.old) × (result ≡ is_close p)
+        × Went F.may Q.reaches callback.old «data».old requests.old (call_of p)
+            callback.new «data».new requests.new }
 {
     match cell::pop(rt, shared, twin, turn) {
         Popped::Item(message) => {
@@ -89,7 +91,8 @@ where
     requires twin { twin.old.name ≡ shared.now.slot.name }
     ensures name { twin.new.name ≡ twin.old.name }
     ensures handed { (ps : List (Popped T)) × IsOver (turn_after ps turn)
-        × Handed F.may Q.reaches turn twin.old callback.old «data».old requests.old ps (turn_after ps turn) twin.new result callback.new «data».new requests.new }
+        × Handed F.may Q.reaches turn twin.old callback.old «data».old requests.old ps
+            (turn_after ps turn) twin.new result callback.new «data».new requests.new }
 {
     let mut turn = turn;
     let mut told = false;

@@ -69,8 +69,11 @@ pub fn open_turn<R: Wait>(
     pass: TakenPass,
 ) -> Result<TaskTurn, TakenPass>
     requires { twin.old.name ≡ shared.now.slot }
-    ensures ok { IfOk result (λ turn. (turn ≡ record { name = shared.now.slot; progress = at_start }) × (twin.new ≡ record twin.old { turns = twin.old.turns + 1 })) }
-    ensures err { IfErr result (λ refused. (refused ≡ record pass { refused = Some twin.old.name }) × (twin.new ≡ twin.old)) }
+    ensures ok { IfOk result
+        (λ turn. (turn ≡ record { name = shared.now.slot; progress = at_start })
+        × (twin.new ≡ record twin.old { turns = twin.old.turns + 1 })) }
+    ensures err { IfErr result (λ refused. (refused ≡ record pass { refused = Some twin.old.name })
+        × (twin.new ≡ twin.old)) }
 {
     let (gate, mut cell) = shared.lock(rt);
     let opened = cell.core.open_turn(pass, twin);
@@ -86,7 +89,8 @@ fn lock_at<'a, R: Wait>(
 ) -> (MutexGuard<'a, ()>, TaskCell)
     ensures name { result.1.core.name ≡ shared.now.slot }
     ensures at { (result.1.core.draining ≡ true) × (turn.now.progress ≡ result.1.core.progress) }
-    ensures keyed { (place : Keyed) → on result.1.core.board result.1.core.key ≡ Some place → option_map arc_value result.1.hub ≡ Some place.board }
+    ensures keyed { (place : Keyed) → on result.1.core.board result.1.core.key ≡ Some place
+        → option_map arc_value result.1.hub ≡ Some place.board }
 {
     for _ in rt.forever() {
         let (gate, cell) = shared.lock(rt);
@@ -112,7 +116,8 @@ pub fn pop<R: Wait>(
     requires finishes { finished ≡ true → IsSome turn.old.progress.polled }
     ensures name { turn.new.name ≡ turn.old.name }
     ensures pops { turn.new.progress.pops ≡ turn.old.progress.pops + 1 }
-    ensures some { IfSome result (λ popped. (turn.new.progress.polled ≡ Some popped.0) × (turn.new.progress.dry ≡ false)) }
+    ensures some { IfSome result (λ popped. (turn.new.progress.polled ≡ Some popped.0)
+        × (turn.new.progress.dry ≡ false)) }
     ensures none { IfNone result (turn.new.progress.dry ≡ true) }
     ensures twin { twin.new ≡ record twin.old { number = twin.old.number + one finished } }
 {

@@ -1,8 +1,8 @@
 //! An executor as a source of the loop.
-ghost use Rattle.std.specs.Prelude.{◌≡◌, ◌≤◌, ◌+◌, true, List, Option, is_some, length};
+ghost use Rattle.std.specs.Prelude.{◌≡◌, ◌≤◌, ◌+◌, true, List, Option, IfSome, is_some, length};
 ghost use Rattle.calloop_wake.specs.Executors.{at_start, most_tasks};
 ghost use Rattle.calloop_core.specs.Calls.{Went};
-ghost use Rattle.calloop.specs.Executors.{call_of, calls_of, results_of};
+ghost use Rattle.calloop.specs.Executors.{GivenBy, AllGiven, call_of, calls_of, results_of};
 
 use super::Executor;
 use super::cell::{self, TaskCell};
@@ -51,7 +51,9 @@ where
     Q: Asking,
     F: Callback<Fut::Output, (), (), X, Q>,
     ensures { (polled : Option Fut.Output) × (result ≡ is_some polled)
-        × Went F.may Q.reaches callback.old «data».old requests.old (call_of polled) callback.new «data».new requests.new }
+        × IfSome polled (GivenBy Fut.gives)
+        × Went F.may Q.reaches callback.old «data».old requests.old (call_of polled)
+            callback.new «data».new requests.new }
 {
     let Some(held) = homes.take(rt, home) else {
         return false;
@@ -89,7 +91,9 @@ where
     requires twin { twin.old.name ≡ shared.now.slot }
     ensures { (polled : List (Option Fut.Output)) × (length polled ≤ most_tasks)
         × (twin.new ≡ record twin.old { number = twin.old.number + results_of polled })
-        × Went F.may Q.reaches callback.old «data».old requests.old (calls_of polled) callback.new «data».new requests.new }
+        × AllGiven (GivenBy Fut.gives) polled
+        × Went F.may Q.reaches callback.old «data».old requests.old (calls_of polled)
+            callback.new «data».new requests.new }
 {
     let mut turn = turn;
     let mut finished = false;
@@ -104,7 +108,7 @@ where
 
 impl<Fut: Future<R>, P: Poller, C, R: Wait + Drop> EventSource<P, C, R> for Executor<Fut, R> {
     ghost use Rattle.std.specs.Prelude.{◌≡◌};
-    ghost use Rattle.calloop.specs.Executors.{executor_meaning};
+    ghost use Rattle.calloop.specs.Executors.{GivenBy, executor_meaning};
     ghost use Rattle.calloop.specs.Executing.{executor_keeps};
 
     type Event = Fut::Output;
@@ -115,7 +119,7 @@ impl<Fut: Future<R>, P: Poller, C, R: Wait + Drop> EventSource<P, C, R> for Exec
 
     type Error = ExecutorError;
 
-    ghost means = { executor_meaning (λ s. s.twin) (λ s t. t.shared ≡ s.shared) };
+    ghost means = { executor_meaning (GivenBy Fut.gives) (λ s. s.twin) (λ s t. t.shared ≡ s.shared) };
 
     /// Its turn: polls the queued tasks in their order, at most 1,024, each outside of every lock, and calls back with each result.
     /// After 1,024 it is posted again. A task that is woken in its poll is queued once more, and one that gave its result isn't
@@ -194,5 +198,5 @@ impl<Fut: Future<R>, P: Poller, C, R: Wait + Drop> EventSource<P, C, R> for Exec
 
     fn before_handle_events(&mut self, _events: EventIterator<'_>) {}
 
-    ghost keeps = { executor_keeps (λ s. s.twin) (λ s t. t.shared ≡ s.shared) };
+    ghost keeps = { executor_keeps (GivenBy Fut.gives) (λ s. s.twin) (λ s t. t.shared ≡ s.shared) };
 }

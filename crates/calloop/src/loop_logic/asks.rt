@@ -168,8 +168,11 @@ impl<D, I> Requests<D, I> {
         D: Choice<S, F, N> + Drop,
         I: Drop,
         F: Drop,
-        ensures ok { IfOk result (λ t. IsAsked (Insert (D.held (record { source = source; callback = callback }))) t.number self.old self.new) }
-        ensures err { IfErr result (λ e. (e.inserted ≡ source) × CannotAsk self.old e.error × (self.new ≡ self.old)) }
+        ensures ok { IfOk result
+            (λ t. IsAsked (Insert (D.held (record { source = source; callback = callback })))
+            t.number self.old self.new) }
+        ensures err { IfErr result (λ e. (e.inserted ≡ source) × CannotAsk self.old e.error
+            × (self.new ≡ self.old)) }
         ensures asks { OnlyAsks self.old self.new }
     {
         let number = match next_ticket(
@@ -206,7 +209,8 @@ impl<D, I> Requests<D, I> {
         D: Drop,
         I: Drop,
         ensures ok { IfOk result (λ t. IsAsked (Insert dispatcher) t.number self.old self.new) }
-        ensures err { IfErr result (λ e. (e.inserted ≡ dispatcher) × CannotAsk self.old e.error × (self.new ≡ self.old)) }
+        ensures err { IfErr result (λ e. (e.inserted ≡ dispatcher) × CannotAsk self.old e.error
+            × (self.new ≡ self.old)) }
         ensures asks { OnlyAsks self.old self.new }
     {
         match self.write(Request::Insert(dispatcher)) {
@@ -284,7 +288,8 @@ impl<D, I> Requests<D, I> {
         D: Drop,
         I: Drop,
         ensures ok { IfOk result (λ i. IsAsked (IdleOf idle) i.ticket.number self.old self.new) }
-        ensures err { IfErr result (λ e. (e.inserted ≡ idle) × CannotAsk self.old e.error × (self.new ≡ self.old)) }
+        ensures err { IfErr result (λ e. (e.inserted ≡ idle) × CannotAsk self.old e.error
+            × (self.new ≡ self.old)) }
         ensures asks { OnlyAsks self.old self.new }
     {
         match self.write(Request::Idle(idle)) {
@@ -304,8 +309,10 @@ impl<D, I> Requests<D, I> {
     where
         D: Drop,
         I: Drop,
-        ensures ok { IfOk result (λ t. IsAsked (Cancel idle.ticket.number) t.number self.old self.new) }
-        ensures err { IfErr result (λ e. (e.inserted ≡ idle) × CannotAsk self.old e.error × (self.new ≡ self.old)) }
+        ensures ok { IfOk result
+            (λ t. IsAsked (Cancel idle.ticket.number) t.number self.old self.new) }
+        ensures err { IfErr result (λ e. (e.inserted ≡ idle) × CannotAsk self.old e.error
+            × (self.new ≡ self.old)) }
         ensures asks { OnlyAsks self.old self.new }
     {
         match self.write(Request::Cancel(idle.ticket.number)) {
@@ -335,7 +342,8 @@ impl<D, I> Requests<D, I> {
         D: Drop,
         I: Drop,
         ensures ok { IfOk result (λ t. IsAsked request t.number self.old self.new) }
-        ensures err { IfErr result (λ e. (e.inserted ≡ request) × CannotAsk self.old e.error × (self.new ≡ self.old)) }
+        ensures err { IfErr result (λ e. (e.inserted ≡ request) × CannotAsk self.old e.error
+            × (self.new ≡ self.old)) }
         ensures asks { OnlyAsks self.old self.new }
     {
         let number = match next_ticket(
@@ -434,8 +442,10 @@ impl<D, I> Requests<D, I> {
     pub(super) fn add_idle(&mut self, idle: I) -> std::result::Result<Idle, InsertError<I>>
     where
         I: Drop,
-        ensures ok { IfOk result (λ i. (self.old.next < 2 ^ 64 - 1) × (i.ticket.number ≡ self.old.next) × (self.new ≡ with_new_idle idle self.old)) }
-        ensures err { IfErr result (λ e. (e.inserted ≡ idle) × CannotAsk self.old e.error × (self.new ≡ self.old)) }
+        ensures ok { IfOk result (λ i. (self.old.next < 2 ^ 64 - 1)
+            × (i.ticket.number ≡ self.old.next) × (self.new ≡ with_new_idle idle self.old)) }
+        ensures err { IfErr result (λ e. (e.inserted ≡ idle) × CannotAsk self.old e.error
+            × (self.new ≡ self.old)) }
     {
         let number = match next_ticket(
             self.next,
@@ -498,14 +508,22 @@ fn next_ticket<D, I>(
     running: &mut VecDeque<Idling<I>>,
 ) -> Result<u64>
     ensures ok { IfOk result (λ n. (n ≡ next) × (next < 2 ^ 64 - 1)) }
-    ensures err { IfErr result (λ e. ((next ≡ 2 ^ 64 - 1) × (e ≡ TooManyTickets)) ⊎ ((next < 2 ^ 64 - 1) × (e ≡ OutOfMemory))) }
+    ensures err { IfErr result (λ e. ((next ≡ 2 ^ 64 - 1) × (e ≡ TooManyTickets))
+        ⊎ ((next < 2 ^ 64 - 1) × (e ≡ OutOfMemory))) }
     ensures room { OnOk result ((deque_len written.new + 1 ≤ deque_capacity written.new)
         × (vec_len answers.new + (deque_len written.new + 3) ≤ vec_capacity answers.new)
         × (deque_len idles.new + (deque_len written.new + 3) ≤ deque_capacity idles.new)
-        × (deque_len running.new + (deque_len idles.new + (deque_len written.new + 3)) ≤ deque_capacity running.new)) }
-    ensures items { (written.new.items ≡ written.old.items) × (answers.new.items ≡ answers.old.items) × (idles.new.items ≡ idles.old.items) × (running.new.items ≡ running.old.items) }
-    ensures lens { (deque_len written.new ≡ deque_len written.old) × (vec_len answers.new ≡ vec_len answers.old) × (deque_len idles.new ≡ deque_len idles.old) × (deque_len running.new ≡ deque_len running.old) }
-    ensures capacities { (vec_capacity answers.old ≤ vec_capacity answers.new) × (deque_capacity idles.old ≤ deque_capacity idles.new) × (deque_capacity running.old ≤ deque_capacity running.new) }
+        × (deque_len running.new + (deque_len idles.new + (deque_len written.new + 3))
+            ≤ deque_capacity running.new)) }
+    ensures items { (written.new.items ≡ written.old.items)
+        × (answers.new.items ≡ answers.old.items) × (idles.new.items ≡ idles.old.items)
+        × (running.new.items ≡ running.old.items) }
+    ensures lens { (deque_len written.new ≡ deque_len written.old)
+        × (vec_len answers.new ≡ vec_len answers.old) × (deque_len idles.new ≡ deque_len idles.old)
+        × (deque_len running.new ≡ deque_len running.old) }
+    ensures capacities { (vec_capacity answers.old ≤ vec_capacity answers.new)
+        × (deque_capacity idles.old ≤ deque_capacity idles.new)
+        × (deque_capacity running.old ≤ deque_capacity running.new) }
 {
     if next == u64::MAX {
         return Err(Error::TooManyTickets);
@@ -527,8 +545,10 @@ fn next_ticket<D, I>(
 fn move_all<I>(from: &mut VecDeque<Idling<I>>, to: &mut VecDeque<Idling<I>>)
     requires { deque_len to.old + deque_len from.old ≤ deque_capacity to.old }
     ensures items { (to.new.items ≡ to.old.items ++ from.old.items) × (from.new.items ≡ []) }
-    ensures lens { (deque_len to.new ≡ deque_len to.old + deque_len from.old) × (deque_len from.new ≡ 0) }
-    ensures room { (deque_capacity to.old ≤ deque_capacity to.new) × (deque_capacity from.new ≡ deque_capacity from.old) }
+    ensures lens { (deque_len to.new ≡ deque_len to.old + deque_len from.old)
+        × (deque_len from.new ≡ 0) }
+    ensures room { (deque_capacity to.old ≤ deque_capacity to.new)
+        × (deque_capacity from.new ≡ deque_capacity from.old) }
 {
     let _moved = to.append(from);
 }
@@ -536,7 +556,8 @@ fn move_all<I>(from: &mut VecDeque<Idling<I>>, to: &mut VecDeque<Idling<I>>)
 // Takes out the one of this ticket.
 fn take_out<I: Drop>(idles: &mut VecDeque<Idling<I>>, ticket: u64)
     ensures items { idles.new.items ≡ filter (is_other_idle ticket) idles.old.items }
-    ensures room { (deque_len idles.new ≤ deque_len idles.old) × (deque_capacity idles.new ≡ deque_capacity idles.old) }
+    ensures room { (deque_len idles.new ≤ deque_len idles.old)
+        × (deque_capacity idles.new ≡ deque_capacity idles.old) }
 {
     idles.retain(|other| other.ticket != ticket);
 }
@@ -544,7 +565,8 @@ fn take_out<I: Drop>(idles: &mut VecDeque<Idling<I>>, ticket: u64)
 // Where the answer under this ticket stands.
 fn place_of<D>(answers: &[Answered<D>], ticket: u64) -> Option<usize>
     ensures some { IfSome result (λ place. StandsAt ticket place answers.now) }
-    ensures none { IfNone result ((found ticket answers.now ≡ None) × (without ticket answers.now ≡ answers.now)) }
+    ensures none { IfNone result ((found ticket answers.now ≡ None)
+        × (without ticket answers.now ≡ answers.now)) }
 {
     for (place, answered) in answers.iter().enumerate() {
         if answered.ticket == ticket {
@@ -557,7 +579,8 @@ fn place_of<D>(answers: &[Answered<D>], ticket: u64) -> Option<usize>
 fn take<D>(answers: &mut Vec<Answered<D>>, ticket: u64) -> Option<Answer<D>>
     ensures value { result ≡ found ticket answers.old.items }
     ensures rest { answers.new.items ≡ without ticket answers.old.items }
-    ensures room { (vec_len answers.new ≤ vec_len answers.old) × (vec_capacity answers.new ≡ vec_capacity answers.old) }
+    ensures room { (vec_len answers.new ≤ vec_len answers.old)
+        × (vec_capacity answers.new ≡ vec_capacity answers.old) }
 {
     let place = place_of(answers, ticket)?;
     Some(answers.remove(place).answer)

@@ -22,7 +22,8 @@ where
     R: Wait + Drop,
     Fut: Future<R>,
     ensures gives { IfSome result (Fut.gives future.old) }
-    ensures same { IfNone result ((x : Fut.Output) → Fut.gives future.new x → Fut.gives future.old x) }
+    ensures same { IfNone result ((x : Fut.Output) → Fut.gives future.new x
+        → Fut.gives future.old x) }
 {
     if !blocked.is_woken() {
         return None;
@@ -53,7 +54,8 @@ impl<D: EventDispatcher<P, C, R>, P: Poller, C: Clock, R: Wait + Drop> EventLoop
         callback: F,
     ) -> Result<Option<Fut::Output>>
         requires { F.IsAlwaysCallable callback }
-        ensures { BlocksTo D.means D.Idle.runs P.outside (CalledAtMut F.FnMut) (Fut.gives future) callback «data».old (view_of self.old) result «data».new (view_of self.new) }
+        ensures { BlocksTo D.means D.Idle.runs P.outside (CalledAtMut F.FnMut) (Fut.gives future)
+            callback «data».old (view_of self.old) result «data».new (view_of self.new) }
     {
         let (blocked, waker) = woken;
         let mut future = future;
@@ -87,8 +89,10 @@ impl<D: EventDispatcher<P, C, R>, P: Poller, C: Clock, R: Wait + Drop> EventLoop
         callback: F,
     ) -> Result<Option<Fut::Output>>
         requires { F.IsAlwaysCallable callback }
-        ensures { ((result ≡ Err OutOfMemory) × («data».new ≡ «data».old) × (view_of self.new ≡ view_of self.old))
-            ⊎ BlocksTo D.means D.Idle.runs P.outside (CalledAtMut F.FnMut) (Fut.gives future) callback «data».old (view_of self.old) result «data».new (view_of self.new) }
+        ensures { ((result ≡ Err OutOfMemory) × («data».new ≡ «data».old)
+                × (view_of self.new ≡ view_of self.old))
+            ⊎ BlocksTo D.means D.Idle.runs P.outside (CalledAtMut F.FnMut) (Fut.gives future)
+                callback «data».old (view_of self.old) result «data».new (view_of self.new) }
     {
         let woken = self.blocked(alloc)?;
         self.block_rounds(rt, future, woken, data, callback)

@@ -20,7 +20,8 @@ impl<D: EventDispatcher<P, C, R>, P: Poller, C: Clock, R: Wait + Drop> EventLoop
         rt: &Q,
         call: LoopCall<D, P, D::Data, D::Idle>,
     ) -> LoopAnswer<D, P, D::Data, D::Idle>
-        ensures { Did (Case D.means D.Idle.runs P.outside call result) (view_of self.old) (view_of self.new) }
+        ensures { Did (Case D.means D.Idle.runs P.outside call result) (view_of self.old)
+            (view_of self.new) }
     {
         match call {
             LoopCall::Insert(dispatcher) => LoopAnswer::Inserted(self.insert(dispatcher)),
@@ -55,7 +56,8 @@ impl<D: EventDispatcher<P, C, R>, P: Poller, C: Clock, R: Wait + Drop> EventLoop
 
     // Puts another source in the place of the one that the token names. Where it names none, the other one is handed back.
     fn exchange(&mut self, token: RegistrationToken, dispatcher: D) -> Result<D, D>
-        ensures { Did (Case D.means D.Idle.runs P.outside (Exchange token dispatcher) (Exchanged result)) (view_of self.old) (view_of self.new) }
+        ensures { Did (Case D.means D.Idle.runs P.outside (Exchange token dispatcher)
+            (Exchanged result)) (view_of self.old) (view_of self.new) }
     {
         match self.sources.get_mut(token) {
             Ok(held) => Ok(mem::replace(held, dispatcher)),
@@ -73,7 +75,9 @@ impl<D: EventDispatcher<P, C, R>, P: Poller, C: Clock, R: Wait + Drop> EventLoop
     ) -> Result<Vec<LoopAnswer<D, P, D::Data, D::Idle>>, VecDeque<LoopCall<D, P, D::Data, D::Idle>>>
     where
         D::Data: Drop,
-        ensures run { IfOk result (λ answers. RunLeads D.means D.Idle.runs P.outside calls.items answers.items (view_of self.old) (view_of self.new)) }
+        ensures run { IfOk result
+            (λ answers. RunLeads D.means D.Idle.runs P.outside calls.items answers.items
+            (view_of self.old) (view_of self.new)) }
         ensures err { IfErr result (λ back. (back.items ≡ calls.items) × (self.new ≡ self.old)) }
     {
         let Ok(mut answers) = Vec::with_capacity(alloc, calls.len()) else {

@@ -73,8 +73,10 @@ impl<D: EventDispatcher<P, C, R>, P: Poller, C: Clock, R: Wait + Drop> EventLoop
         timeout: Option<Duration>,
         data: &mut D::Data,
     ) -> Result<()>
-        ensures case { Did (Case D.means D.Idle.runs P.outside (Dispatch timeout «data».old) (Dispatched result «data».new)) (view_of self.old) (view_of self.new) }
-        ensures machine { Leads (Case D.means D.Idle.runs P.outside (Dispatch timeout «data».old) (Dispatched result «data».new)) (view_of self.old) (view_of self.new) }
+        ensures case { Did (Case D.means D.Idle.runs P.outside (Dispatch timeout «data».old)
+            (Dispatched result «data».new)) (view_of self.old) (view_of self.new) }
+        ensures machine { Leads (Case D.means D.Idle.runs P.outside (Dispatch timeout «data».old)
+            (Dispatched result «data».new)) (view_of self.old) (view_of self.new) }
     {
         self.poll.reserve(self.lifecycle.len())?;
         self.requests.clear_answers();
@@ -90,8 +92,10 @@ impl<D: EventDispatcher<P, C, R>, P: Poller, C: Clock, R: Wait + Drop> EventLoop
 
     // Gives the first event of the batch to the source that its token names. False where there is no event.
     fn hand_out(&mut self, data: &mut D::Data) -> Result<bool>
-        ensures machine { Goes D.means D.Idle.runs P.outside (Cutting «data».old) (after_hand_out result «data».new) (view_of self.old) (view_of self.new) }
-        ensures shorter { result ≡ Ok true → length self.new.poll.batch.events < length self.old.poll.batch.events }
+        ensures machine { Goes D.means D.Idle.runs P.outside (Cutting «data».old)
+            (after_hand_out result «data».new) (view_of self.old) (view_of self.new) }
+        ensures shorter { result ≡ Ok true
+            → length self.new.poll.batch.events < length self.old.poll.batch.events }
     {
         let Some(event) = self.poll.next_event() else {
             return Ok(false);
@@ -120,7 +124,9 @@ impl<D: EventDispatcher<P, C, R>, P: Poller, C: Clock, R: Wait + Drop> EventLoop
         source: D,
         answer: Result<PostAction>,
     ) -> Result<bool>
-        ensures machine { (x : D.Data) → Goes D.means D.Idle.runs P.outside (Ending token source answer x) (after_hand_out result x) (view_of self.old) (view_of self.new) }
+        ensures machine { (x : D.Data)
+            → Goes D.means D.Idle.runs P.outside (Ending token source answer x)
+            (after_hand_out result x) (view_of self.old) (view_of self.new) }
         ensures batch { self.new.poll.batch.events ≡ self.old.poll.batch.events }
     {
         let mut source = source;
@@ -135,7 +141,9 @@ impl<D: EventDispatcher<P, C, R>, P: Poller, C: Clock, R: Wait + Drop> EventLoop
     // Puts a source back into its slot. One whose slot isn't in its turn any more is unregistered and dropped; a failure of
     // that is a warning. It is handed back where it asked for its own removal.
     fn give_back(&mut self, token: RegistrationToken, source: D)
-        ensures machine { (told : Outcome) (x : D.Data) → Goes D.means D.Idle.runs P.outside (Returning token source told x) (after_turn told x) (view_of self.old) (view_of self.new) }
+        ensures machine { (told : Outcome) (x : D.Data)
+            → Goes D.means D.Idle.runs P.outside (Returning token source told x) (after_turn told x)
+            (view_of self.old) (view_of self.new) }
         ensures batch { self.new.poll.batch.events ≡ self.old.poll.batch.events }
     {
         let Some(mut left) = self.sources.end_turn(token, source) else {
@@ -153,7 +161,9 @@ impl<D: EventDispatcher<P, C, R>, P: Poller, C: Clock, R: Wait + Drop> EventLoop
         source: &mut D,
         answer: Result<PostAction>,
     ) -> Result<()>
-        ensures machine { (x : D.Data) → Goes D.means D.Idle.runs P.outside (Ending token source.old answer x) (Returning token source.new result x) (view_of self.old) (view_of self.new) }
+        ensures machine { (x : D.Data)
+            → Goes D.means D.Idle.runs P.outside (Ending token source.old answer x)
+            (Returning token source.new result x) (view_of self.old) (view_of self.new) }
         ensures batch { self.new.poll.batch.events ≡ self.old.poll.batch.events }
     {
         let action = action_of(answer, self.pending);
@@ -171,7 +181,8 @@ impl<D: EventDispatcher<P, C, R>, P: Poller, C: Clock, R: Wait + Drop> EventLoop
     }
 
     fn hand_out_all(&mut self, data: &mut D::Data) -> Result<()>
-        ensures { Goes D.means D.Idle.runs P.outside (Cutting «data».old) (after_batch result «data».new) (view_of self.old) (view_of self.new) }
+        ensures { Goes D.means D.Idle.runs P.outside (Cutting «data».old)
+            (after_batch result «data».new) (view_of self.old) (view_of self.new) }
     {
         'batch: while self.hand_out(data)? {}
         Ok(())
@@ -179,8 +190,10 @@ impl<D: EventDispatcher<P, C, R>, P: Poller, C: Clock, R: Wait + Drop> EventLoop
 
     // Runs the first of the idles that were taken, and carries out what it asked for. False where there is none.
     fn run_idle(&mut self, data: &mut D::Data) -> bool
-        ensures machine { Goes D.means D.Idle.runs P.outside (RunningIdles «data».old) (after_idle result «data».new) (view_of self.old) (view_of self.new) }
-        ensures fewer { result ≡ true → length self.new.requests.running < length self.old.requests.running }
+        ensures machine { Goes D.means D.Idle.runs P.outside (RunningIdles «data».old)
+            (after_idle result «data».new) (view_of self.old) (view_of self.new) }
+        ensures fewer { result ≡ true
+            → length self.new.requests.running < length self.old.requests.running }
     {
         let Some(idle) = self.requests.next_idle() else {
             return false;
@@ -191,7 +204,8 @@ impl<D: EventDispatcher<P, C, R>, P: Poller, C: Clock, R: Wait + Drop> EventLoop
     }
 
     fn run_idles(&mut self, data: &mut D::Data)
-        ensures { Goes D.means D.Idle.runs P.outside (Idling «data».old) (Leaving (Ok tt) «data».new) (view_of self.old) (view_of self.new) }
+        ensures { Goes D.means D.Idle.runs P.outside (Idling «data».old)
+            (Leaving (Ok tt) «data».new) (view_of self.old) (view_of self.new) }
     {
         self.requests.take_up_idles();
         'round: while self.run_idle(data) {}

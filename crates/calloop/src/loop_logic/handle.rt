@@ -33,7 +33,10 @@ impl<D: EventDispatcher<P, C, R>, P: Poller, C: Clock, R: Wait + Drop> EventLoop
         D: Hold<S, F, P, C, R, D::Data, Requests<D, D::Idle>, N>,
         S: EventSource<P, C, R>,
         F: Callback<S::Event, S::Metadata, S::Ret, D::Data, Requests<D, D::Idle>> + Drop,
-        ensures { Did (Case D.means D.Idle.runs P.outside (Insert (D.held (record { source = source; callback = callback }))) (Inserted (held_answer D.held callback result))) (view_of self.old) (view_of self.new) }
+        ensures { Did (Case D.means D.Idle.runs P.outside
+                (Insert (D.held (record { source = source; callback = callback })))
+                (Inserted (held_answer D.held callback result)))
+            (view_of self.old) (view_of self.new) }
     {
         let mut source = source;
         let needed = <S as EventSource<P, C, R>>::needs_extra_lifecycle_events();
@@ -69,7 +72,8 @@ impl<D: EventDispatcher<P, C, R>, P: Poller, C: Clock, R: Wait + Drop> EventLoop
         &mut self,
         dispatcher: D,
     ) -> std::result::Result<RegistrationToken, InsertError<D>>
-        ensures { Did (Case D.means D.Idle.runs P.outside (Insert dispatcher) (Inserted result)) (view_of self.old) (view_of self.new) }
+        ensures { Did (Case D.means D.Idle.runs P.outside (Insert dispatcher) (Inserted result))
+            (view_of self.old) (view_of self.new) }
     {
         let mut inserted = dispatcher;
         let needed = inserted.needs_extra_lifecycle_events();
@@ -93,7 +97,8 @@ impl<D: EventDispatcher<P, C, R>, P: Poller, C: Clock, R: Wait + Drop> EventLoop
 
     // Registers the source that the token names.
     pub(super) fn enable(&mut self, token: RegistrationToken) -> Result<()>
-        ensures { Did (Case D.means D.Idle.runs P.outside (Enable token) (Enabled result)) (view_of self.old) (view_of self.new) }
+        ensures { Did (Case D.means D.Idle.runs P.outside (Enable token) (Enabled result))
+            (view_of self.old) (view_of self.new) }
     {
         let Some(mut source) = self.sources.begin_turn(token) else {
             return Err(Error::InvalidToken);
@@ -105,7 +110,8 @@ impl<D: EventDispatcher<P, C, R>, P: Poller, C: Clock, R: Wait + Drop> EventLoop
 
     // Registers the source that the token names anew.
     pub(super) fn update(&mut self, token: RegistrationToken) -> Result<()>
-        ensures { Did (Case D.means D.Idle.runs P.outside (Update token) (Updated result)) (view_of self.old) (view_of self.new) }
+        ensures { Did (Case D.means D.Idle.runs P.outside (Update token) (Updated result))
+            (view_of self.old) (view_of self.new) }
     {
         let Some(mut source) = self.sources.begin_turn(token) else {
             return Err(Error::InvalidToken);
@@ -117,7 +123,8 @@ impl<D: EventDispatcher<P, C, R>, P: Poller, C: Clock, R: Wait + Drop> EventLoop
 
     // Takes back the registration of the source that the token names.
     pub(super) fn disable(&mut self, token: RegistrationToken) -> Result<()>
-        ensures { Did (Case D.means D.Idle.runs P.outside (Disable token) (Disabled result)) (view_of self.old) (view_of self.new) }
+        ensures { Did (Case D.means D.Idle.runs P.outside (Disable token) (Disabled result))
+            (view_of self.old) (view_of self.new) }
     {
         let Some(mut source) = self.sources.begin_turn(token) else {
             return Err(Error::InvalidToken);
@@ -129,7 +136,8 @@ impl<D: EventDispatcher<P, C, R>, P: Poller, C: Clock, R: Wait + Drop> EventLoop
 
     // Takes the source that the token names out of the loop. A failure of the unregistration is a warning.
     pub(super) fn remove(&mut self, token: RegistrationToken) -> Option<D>
-        ensures { Did (Case D.means D.Idle.runs P.outside (Remove token) (Removed result)) (view_of self.old) (view_of self.new) }
+        ensures { Did (Case D.means D.Idle.runs P.outside (Remove token) (Removed result))
+            (view_of self.old) (view_of self.new) }
     {
         let mut source = self.sources.begin_turn(token)?;
         self.sources.vacate(token);
@@ -143,7 +151,8 @@ impl<D: EventDispatcher<P, C, R>, P: Poller, C: Clock, R: Wait + Drop> EventLoop
         &mut self,
         idle: D::Idle,
     ) -> std::result::Result<Idle, InsertError<D::Idle>>
-        ensures { Did (Case D.means D.Idle.runs P.outside (InsertIdle idle) (IdleInserted result)) (view_of self.old) (view_of self.new) }
+        ensures { Did (Case D.means D.Idle.runs P.outside (InsertIdle idle) (IdleInserted result))
+            (view_of self.old) (view_of self.new) }
     {
         self.requests.add_idle(idle)
     }
@@ -165,9 +174,11 @@ impl<D: EventDispatcher<P, C, R>, P: Poller, C: Clock, R: Wait + Drop> LoopHandl
         F: Callback<S::Event, S::Metadata, S::Ret, D::Data, Requests<D, D::Idle>> + Drop,
         ensures same { self.new.inner.ghost_name ≡ self.old.inner.ghost_name }
         ensures case { IsCase D.means D.Idle.runs P.outside
-            (Insert (D.held (record { source = source; callback = callback }))) (Inserted (held_answer D.held callback result)) self.old self.new }
+            (Insert (D.held (record { source = source; callback = callback })))
+            (Inserted (held_answer D.held callback result)) self.old self.new }
         ensures machine { LeadsAsCase D.means D.Idle.runs P.outside
-            (Insert (D.held (record { source = source; callback = callback }))) (Inserted (held_answer D.held callback result)) self.old self.new }
+            (Insert (D.held (record { source = source; callback = callback })))
+            (Inserted (held_answer D.held callback result)) self.old self.new }
     {
         self.inner.insert_source(source, callback)
     }
@@ -189,8 +200,10 @@ impl<D: EventDispatcher<P, C, R>, P: Poller, C: Clock, R: Wait + Drop> LoopHandl
 
     /// The source that the token names, with its callback. Where it names none the answer is `InvalidToken`.
     pub fn dispatcher(&self, token: &RegistrationToken) -> Result<&D>
-        ensures ok { IfOk result (λ held. named_by (held_by self.now).slots token.now ≡ Source held.now) }
-        ensures refuses { IsErr result ↔ (source_of (named_by (held_by self.now).slots token.now) ≡ None) }
+        ensures ok { IfOk result
+            (λ held. named_by (held_by self.now).slots token.now ≡ Source held.now) }
+        ensures refuses { IsErr result
+            ↔ (source_of (named_by (held_by self.now).slots token.now) ≡ None) }
         ensures err { IfErr result (λ e. e ≡ InvalidToken) }
     {
         self.inner.sources.get(*token)
@@ -204,11 +217,18 @@ impl<D: EventDispatcher<P, C, R>, P: Poller, C: Clock, R: Wait + Drop> LoopHandl
     /// before isn't unregistered: that no timer fires twice for one arming, and that a source in a slot has keys of this slot alone,
     /// is promised of loops into which none is put with a counter of a timer, or a key, which the one before didn't have.
     pub fn dispatcher_mut(&mut self, token: &RegistrationToken) -> Result<&mut D>
-        ensures* writes_back { sem 𝓛 (LendsIfOk (the_row (record { mir = named 1; lft = [] }) D.row P.row C.row R.row D.Data.row D.Idle.row P.Io.row) D.row self.entry result (λ w. with_handle_source token.now w self.old) self.old) }
-        ensures ok { IfOk result (λ held. named_by (held_by self.old).slots token.now ≡ Source held.now) }
-        ensures machine { IfOk result (λ held. (written : D) → Did (Case D.means D.Idle.runs P.outside (Exchange token.now written) (Exchanged (Ok held.now)))
+        ensures* writes_back { sem 𝓛 (LendsIfOk
+            (the_row (record { mir = named 1; lft = [] })
+                D.row P.row C.row R.row D.Data.row D.Idle.row P.Io.row)
+            D.row self.entry result (λ w. with_handle_source token.now w self.old) self.old) }
+        ensures ok { IfOk result
+            (λ held. named_by (held_by self.old).slots token.now ≡ Source held.now) }
+        ensures machine { IfOk result (λ held. (written : D)
+            → Did (Case D.means D.Idle.runs P.outside
+                (Exchange token.now written) (Exchanged (Ok held.now)))
             (held_by self.old) (view_of (with_loop_source token.now written self.old.inner.now))) }
-        ensures refuses { IsErr result ↔ (source_of (named_by (held_by self.old).slots token.now) ≡ None) }
+        ensures refuses { IsErr result
+            ↔ (source_of (named_by (held_by self.old).slots token.now) ≡ None) }
         ensures err { IfErr result (λ e. e ≡ InvalidToken) }
     {
         self.inner.sources.get_mut(*token)
@@ -311,9 +331,13 @@ impl<D: EventDispatcher<P, C, R>, P: Poller, C: Clock, R: Wait + Drop> LoopHandl
     /// The poller itself, as to give a scripted one its answers. Pings wake the poller that the loop was made with: another one in
     /// its place hears of them only at its next wait.
     pub fn poller_mut(&mut self) -> &mut P
-        ensures* writes_back { sem 𝓛 (Lends (the_row (record { mir = named 1; lft = [] }) D.row P.row C.row R.row D.Data.row D.Idle.row P.Io.row) P.row self.entry result (λ w. with_handle_poller w self.old)) }
+        ensures* writes_back { sem 𝓛 (Lends
+            (the_row (record { mir = named 1; lft = [] })
+                D.row P.row C.row R.row D.Data.row D.Idle.row P.Io.row)
+            P.row self.entry result (λ w. with_handle_poller w self.old)) }
         ensures value { result.now ≡ self.old.inner.now.poll.poller }
-        ensures machine { (written : P) → Did (Case D.means D.Idle.runs P.outside (NewPoller written) (OldPoller result.now))
+        ensures machine { (written : P)
+            → Did (Case D.means D.Idle.runs P.outside (NewPoller written) (OldPoller result.now))
             (held_by self.old) (view_of (with_loop_poller written self.old.inner.now)) }
     {
         self.inner.poll.poller_mut()

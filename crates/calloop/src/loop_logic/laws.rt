@@ -36,9 +36,11 @@ pub fn once<D: EventDispatcher<P, C, R>, P: Poller, C: Clock, R: Wait + Drop>()
     ensures sound { OverEveryRun D.means D.Idle.runs P.outside EventsReachTheirSource }
     ensures armings { AsksFresh D.means → RunsFresh D.means D.Idle.runs
         → OverEveryRun D.means D.Idle.runs P.outside (FromTheStart (ArmingsAreKept D.means)) }
-    ensures home { OverEveryRun D.means D.Idle.runs P.outside (FromTheStart (SourcesKeepToTheirSlots D.means)) }
+    ensures home { OverEveryRun D.means D.Idle.runs P.outside
+        (FromTheStart (SourcesKeepToTheirSlots D.means)) }
     ensures told { OverEveryRun D.means D.Idle.runs P.outside (FromTheStart WhoIsToldStandsOnce) }
-    ensures tickets { OverEveryRun D.means D.Idle.runs P.outside (FromTheStart TicketsAreOfOneAnswer) }
+    ensures tickets { OverEveryRun D.means D.Idle.runs P.outside
+        (FromTheStart TicketsAreOfOneAnswer) }
 {}
 
 /// The same of a loop whose callbacks ask for nothing, as each `On`: its own calls are all that has to be looked at. Where each source
@@ -58,7 +60,8 @@ where
         <D as EventDispatcher<P, C, R>>::Data,
         Requests<D, <D as EventDispatcher<P, C, R>>::Idle>,
     >,
-    ensures armings { OverEveryRun D.means D.Idle.runs P.outside (FromTheStart (ArmingsAreKept D.means)) }
+    ensures armings { OverEveryRun D.means D.Idle.runs P.outside
+        (FromTheStart (ArmingsAreKept D.means)) }
 {
     once::<D, P, C, R>();
 }
@@ -68,10 +71,14 @@ where
 pub fn run_that_there_is()
     ensures new { (name : Book) → IsNew (new_world name) }
     ensures quiet { AsksFresh only × RunsFresh only no_idle }
-    ensures fresh { AllFreshCalls only its_calls its_answers × AllKeepKeys only its_calls its_answers }
-    ensures run { (name : Book) → Run only no_idle quiet_poller its_calls its_answers (its_changes name) (new_world name) (end_of_it name) }
+    ensures fresh { AllFreshCalls only its_calls its_answers
+        × AllKeepKeys only its_calls its_answers }
+    ensures run { (name : Book)
+        → Run only no_idle quiet_poller its_calls its_answers (its_changes name) (new_world name)
+        (end_of_it name) }
     ensures called { (name : Book) → (end_of_it name).ledger.calls ≡ first_call ∷ [] }
-    ensures over { (name : Book) → (end_of_it name).slots ≡ record { reuse = 0; content = Vacant } ∷ [] }
+    ensures over { (name : Book)
+        → (end_of_it name).slots ≡ record { reuse = 0; content = Vacant } ∷ [] }
 {}
 
 /// Small cases that the laws of `once` rule out: an event that goes to another slot than its token names, to a later
@@ -84,23 +91,32 @@ pub fn wrong_runs_are_ruled_out()
     ensures wrong_slot { ¬ GoesRight (used 0 ∷ used 0 ∷ []) first_token (Some 1) }
     ensures later_registration { ¬ GoesRight (used 1 ∷ []) first_token (Some 0) }
     ensures lost_event { ¬ GoesRight (used 0 ∷ []) first_token None }
-    ensures earlier_registration { (w w' : World (Unit {0}) (Unit {0}) (Unit {0})) → w.slots ≡ used 65536 ∷ [] → w'.slots ≡ used 0 ∷ [] → ¬ NamesLater w w' }
-    ensures there_again { (w w' : World (Unit {0}) (Unit {0}) (Unit {0})) → w.slots ≡ given_up 0 ∷ [] → w'.slots ≡ used 0 ∷ [] → ¬ StaysGone w w' }
+    ensures earlier_registration { (w w' : World (Unit {0}) (Unit {0}) (Unit {0}))
+        → w.slots ≡ used 65536 ∷ [] → w'.slots ≡ used 0 ∷ [] → ¬ NamesLater w w' }
+    ensures there_again { (w w' : World (Unit {0}) (Unit {0}) (Unit {0}))
+        → w.slots ≡ given_up 0 ∷ [] → w'.slots ≡ used 0 ∷ [] → ¬ StaysGone w w' }
     ensures early_event { ¬ OnTime early }
     ensures two_places { (v : PollView (Unit {0})) → ¬ IsKept in_two_places v }
     ensures two_calls { (v : PollView (Unit {0})) → ¬ IsKept called_twice v }
     ensures early_call { (v : PollView (Unit {0})) → ¬ IsKept called_early v }
-    ensures told_twice { (w : World (Unit {0}) (Unit {0}) (Unit {0})) → w.held.lifecycle ≡ first_registration ∷ first_registration ∷ [] → ¬ IsTold w }
-    ensures told_when_gone { (w : World (Unit {0}) (Unit {0}) (Unit {0})) → w.held.lifecycle ≡ first_registration ∷ [] → w.slots ≡ given_up 0 ∷ [] → ¬ IsTold w }
-    ensures old_key { (w : World ℕ (Unit {0}) (Unit {0})) → w.slots ≡ used_with_an_old_key ∷ [] → ¬ AllAtHome unmoved w }
+    ensures told_twice { (w : World (Unit {0}) (Unit {0}) (Unit {0}))
+        → w.held.lifecycle ≡ first_registration ∷ first_registration ∷ [] → ¬ IsTold w }
+    ensures told_when_gone { (w : World (Unit {0}) (Unit {0}) (Unit {0}))
+        → w.held.lifecycle ≡ first_registration ∷ [] → w.slots ≡ given_up 0 ∷ [] → ¬ IsTold w }
+    ensures old_key { (w : World ℕ (Unit {0}) (Unit {0})) → w.slots ≡ used_with_an_old_key ∷ []
+        → ¬ AllAtHome unmoved w }
     ensures kept_key { (v : PollView (Unit {0})) → ¬ IsKeeping unmoved }
     ensures armed_elsewhere { (v : PollView (Unit {0})) → ¬ IsKeeping arms_elsewhere }
-    ensures answered_twice { (w : World (Unit {0}) (Unit {0}) (Unit {0})) → w.held.asks ≡ answered_twice → ¬ IsTicketed w }
-    ensures handed_out_twice { (w : World (Unit {0}) (Unit {0}) (Unit {0})) → w.held.asks ≡ one_ticket → w.handed ≡ 0 ∷ 0 ∷ [] → ¬ IsTicketed w }
+    ensures answered_twice { (w : World (Unit {0}) (Unit {0}) (Unit {0}))
+        → w.held.asks ≡ answered_twice → ¬ IsTicketed w }
+    ensures handed_out_twice { (w : World (Unit {0}) (Unit {0}) (Unit {0}))
+        → w.held.asks ≡ one_ticket → w.handed ≡ 0 ∷ 0 ∷ [] → ¬ IsTicketed w }
     ensures call_from_nowhere { (v : PollView (Unit {0})) → ¬ IsKept called_from_nowhere v }
     ensures other_deadline { (v : PollView (Unit {0})) → ¬ IsKept called_with_another_deadline v }
     ensures no_place { (v : PollView (Unit {0})) → ¬ IsKept in_no_place v }
-    ensures no_deadline { (v : PollView (Unit {0})) → v.deadlines.entries ≡ [] → ¬ IsKept armed_once v }
+    ensures no_deadline { (v : PollView (Unit {0})) → v.deadlines.entries ≡ []
+        → ¬ IsKept armed_once v }
     ensures no_event { (v : PollView (Unit {0})) → v.batch ≡ [] → ¬ IsKept gathered_once v }
-    ensures asked_twice { (w : World (Unit {0}) (Unit {0}) (Unit {0})) → w.held.asks ≡ asked_twice → ¬ IsTicketed w }
+    ensures asked_twice { (w : World (Unit {0}) (Unit {0}) (Unit {0})) → w.held.asks ≡ asked_twice
+        → ¬ IsTicketed w }
 {}

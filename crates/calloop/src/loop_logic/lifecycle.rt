@@ -51,8 +51,10 @@ impl Lifecycle {
 
     // Makes room for this registration, where it is needed and doesn't stand there. Want of memory is `OutOfMemory`.
     pub(super) fn reserve_for(&mut self, needed: bool, token: RegistrationToken) -> Result<()>
-        ensures room { OnOk result (HasRoom (needed && not (is_listed token self.new.tokens.items)) self.new) }
-        ensures err { IfErr result (λ e. (needed ≡ true) × (is_listed token self.old.tokens.items ≡ false) × (e ≡ OutOfMemory)) }
+        ensures room { OnOk result
+            (HasRoom (needed && not (is_listed token self.new.tokens.items)) self.new) }
+        ensures err { IfErr result (λ e. (needed ≡ true)
+            × (is_listed token self.old.tokens.items ≡ false) × (e ≡ OutOfMemory)) }
         ensures same { self.new.tokens.items ≡ self.old.tokens.items }
     {
         let is_new = needed && !self.contains(token);
@@ -62,7 +64,8 @@ impl Lifecycle {
     // Enters a registration at the end, where it is needed and doesn't stand there.
     pub(super) fn enter(&mut self, needed: bool, token: RegistrationToken)
         requires { HasRoom (needed && not (is_listed token self.old.tokens.items)) self.old }
-        ensures { self.new.tokens.items ≡ (if needed then listed token self.old.tokens.items else self.old.tokens.items) }
+        ensures { self.new.tokens.items
+            ≡ (if needed then listed token self.old.tokens.items else self.old.tokens.items) }
     {
         if needed && !self.contains(token) {
             self.tokens.push_reserved(token);

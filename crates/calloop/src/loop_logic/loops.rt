@@ -53,7 +53,8 @@ where
         ensures new { IfOk result BeginsAnew }
         ensures poller { IfOk result (λ made. IsSound (poller_of made)) }
         ensures clock { IfOk result CountFromOneReading }
-        ensures err { IfErr result (λ e. (e ≡ OutOfMemory) ⊎ ((cause : IoCause) × (e ≡ IoError cause))) }
+        ensures err { IfErr result (λ e. (e ≡ OutOfMemory)
+            ⊎ ((cause : IoCause) × (e ≡ IoError cause))) }
     {
         let clock = SystemClock::new(rt)?;
         let poller = MioPoller::new(rt, alloc, clock.clone()?)?;

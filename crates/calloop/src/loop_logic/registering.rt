@@ -17,10 +17,16 @@ use std::sync::Wait;
 impl<D: EventDispatcher<P, C, R>, P: Poller, C: Clock, R: Wait + Drop> EventLoop<D, P, C, R> {
     // Claims a slot, where there is room for the entry that is needed.
     pub(super) fn claim(&mut self, needed: bool) -> Result<RegistrationToken>
-        ensures ok { IfOk result (λ token. (token ≡ next_registration self.old.sources) × (token.slot < 2 ^ 32) × (self.new.sources ≡ claimed self.old.sources)) }
+        ensures ok { IfOk result (λ token. (token ≡ next_registration self.old.sources)
+            × (token.slot < 2 ^ 32) × (self.new.sources ≡ claimed self.old.sources)) }
         ensures room { OnOk result (HasRoom needed self.new.lifecycle) }
-        ensures err { IfErr result (λ e. CannotInsert self.old.sources needed e × (self.new.sources ≡ self.old.sources)) }
-        ensures others { (self.new.poll ≡ self.old.poll) × (self.new.lifecycle.tokens.items ≡ self.old.lifecycle.tokens.items) × (self.new.pending ≡ self.old.pending) × (self.new.requests ≡ self.old.requests) × (self.new.warnings ≡ self.old.warnings) × (self.new.signal ≡ self.old.signal) × (self.new.stops ≡ self.old.stops) }
+        ensures err { IfErr result (λ e. CannotInsert self.old.sources needed e
+            × (self.new.sources ≡ self.old.sources)) }
+        ensures others { (self.new.poll ≡ self.old.poll)
+            × (self.new.lifecycle.tokens.items ≡ self.old.lifecycle.tokens.items)
+            × (self.new.pending ≡ self.old.pending) × (self.new.requests ≡ self.old.requests)
+            × (self.new.warnings ≡ self.old.warnings) × (self.new.signal ≡ self.old.signal)
+            × (self.new.stops ≡ self.old.stops) }
     {
         self.lifecycle.reserve(needed)?;
         self.sources.vacant_entry(&mut Steps::new())
@@ -28,7 +34,11 @@ impl<D: EventDispatcher<P, C, R>, P: Poller, C: Clock, R: Wait + Drop> EventLoop
 
     // Registers a source under this token, and enters it where it is to be told of waits.
     pub(super) fn register(&mut self, token: RegistrationToken, source: &mut D) -> Result<()>
-        ensures { ByOne P.outside (RegisteredBy D.means Registered token (is_listed token (view_of self.old).held.lifecycle) (view_of self.old).poll) (entered D.means token) source.old result source.new (view_of self.old) (view_of self.new) }
+        ensures { ByOne P.outside
+            (RegisteredBy D.means Registered token
+                (is_listed token (view_of self.old).held.lifecycle) (view_of self.old).poll)
+            (entered D.means token)
+            source.old result source.new (view_of self.old) (view_of self.new) }
     {
         let needed = source.needs_extra_lifecycle_events();
         self.lifecycle.reserve_for(needed, token)?;
@@ -40,7 +50,11 @@ impl<D: EventDispatcher<P, C, R>, P: Poller, C: Clock, R: Wait + Drop> EventLoop
 
     // Registers a source anew.
     pub(super) fn reregister(&mut self, token: RegistrationToken, source: &mut D) -> Result<()>
-        ensures { ByOne P.outside (RegisteredBy D.means Reregistered token (is_listed token (view_of self.old).held.lifecycle) (view_of self.old).poll) (entered D.means token) source.old result source.new (view_of self.old) (view_of self.new) }
+        ensures { ByOne P.outside
+            (RegisteredBy D.means Reregistered token
+                (is_listed token (view_of self.old).held.lifecycle) (view_of self.old).poll)
+            (entered D.means token)
+            source.old result source.new (view_of self.old) (view_of self.new) }
     {
         let needed = source.needs_extra_lifecycle_events();
         self.lifecycle.reserve_for(needed, token)?;
@@ -52,7 +66,10 @@ impl<D: EventDispatcher<P, C, R>, P: Poller, C: Clock, R: Wait + Drop> EventLoop
 
     // Takes the registration of a source back, and takes it out, also where that fails.
     pub(super) fn unregister(&mut self, token: RegistrationToken, source: &mut D) -> Result<()>
-        ensures { ByOne P.outside (λ d answer steps e. D.means.does d (view_of self.old).poll (Unregistered answer) steps e) (left token) source.old result source.new (view_of self.old) (view_of self.new) }
+        ensures { ByOne P.outside
+            (λ d answer steps e.
+                D.means.does d (view_of self.old).poll (Unregistered answer) steps e)
+            (left token) source.old result source.new (view_of self.old) (view_of self.new) }
     {
         let answer = source.unregister(&mut self.poll);
         self.lifecycle.leave(token);

@@ -23,7 +23,8 @@ impl<D: EventDispatcher<P, C, R>, P: Poller, C: Clock, R: Wait + Drop> EventLoop
 
     // The first request. False where there is none.
     fn serve_first(&mut self) -> bool
-        ensures { ServesFirst D.means P.outside self.old.requests.written result (view_of self.old) (view_of self.new) }
+        ensures { ServesFirst D.means P.outside self.old.requests.written result (view_of self.old)
+            (view_of self.new) }
     {
         let Some(request) = self.requests.begin() else {
             return false;
@@ -62,7 +63,8 @@ impl<D: EventDispatcher<P, C, R>, P: Poller, C: Clock, R: Wait + Drop> EventLoop
     }
 
     fn serve_enable(&mut self, token: RegistrationToken) -> Result<()>
-        ensures { ServesAs D.means P.outside (Enable token) result (view_of self.old) (view_of self.new) }
+        ensures { ServesAs D.means P.outside (Enable token) result (view_of self.old)
+            (view_of self.new) }
     {
         if self.sources.is_in_turn(token) {
             return Err(Error::OwnTurn);
@@ -71,7 +73,8 @@ impl<D: EventDispatcher<P, C, R>, P: Poller, C: Clock, R: Wait + Drop> EventLoop
     }
 
     fn serve_update(&mut self, token: RegistrationToken) -> Result<()>
-        ensures { ServesAs D.means P.outside (Update token) result (view_of self.old) (view_of self.new) }
+        ensures { ServesAs D.means P.outside (Update token) result (view_of self.old)
+            (view_of self.new) }
     {
         if self.sources.is_in_turn(token) {
             self.pending = PostAction::Reregister;
@@ -81,7 +84,8 @@ impl<D: EventDispatcher<P, C, R>, P: Poller, C: Clock, R: Wait + Drop> EventLoop
     }
 
     fn serve_disable(&mut self, token: RegistrationToken) -> Result<()>
-        ensures { ServesAs D.means P.outside (Disable token) result (view_of self.old) (view_of self.new) }
+        ensures { ServesAs D.means P.outside (Disable token) result (view_of self.old)
+            (view_of self.new) }
     {
         if self.sources.is_in_turn(token) {
             self.pending = PostAction::Disable;

@@ -89,7 +89,8 @@ impl Clone for LoopSignal {
 impl<D: EventDispatcher<P, C, R>, P: Poller, C: Clock, R: Wait + Drop> EventLoop<D, P, C, R> {
     /// A signal of this loop, which stops its runs and ends its waits. At 2^63 of them it is `OutOfMemory`.
     pub fn get_signal(&self) -> Result<LoopSignal>
-        ensures ok { IfOk result (λ signal. arc_value signal.shared ≡ arc_value self.now.signal.shared) }
+        ensures ok { IfOk result
+            (λ signal. arc_value signal.shared ≡ arc_value self.now.signal.shared) }
         ensures err { IfErr result (λ e. e ≡ OutOfMemory) }
     {
         Ok(self.signal.clone()?)
@@ -99,7 +100,8 @@ impl<D: EventDispatcher<P, C, R>, P: Poller, C: Clock, R: Wait + Drop> EventLoop
 impl<D: EventDispatcher<P, C, R>, P: Poller, C: Clock, R: Wait + Drop> EventLoop<D, P, C, R> {
     // Forgets a stop that came before.
     pub(super) fn forget_stop(&mut self)
-        ensures { Did (Case D.means D.Idle.runs P.outside ForgetStop StopForgotten) (view_of self.old) (view_of self.new) }
+        ensures { Did (Case D.means D.Idle.runs P.outside ForgetStop StopForgotten)
+            (view_of self.old) (view_of self.new) }
     {
         self.signal.clear_stop();
         self.stops.note(StopNote::Forgot);
@@ -107,7 +109,8 @@ impl<D: EventDispatcher<P, C, R>, P: Poller, C: Clock, R: Wait + Drop> EventLoop
 
     // Whether a signal has stopped the loop since it last forgot a stop.
     pub(super) fn is_stopped(&mut self) -> bool
-        ensures { Did (Case D.means D.Idle.runs P.outside LookForStop (Stopped result)) (view_of self.old) (view_of self.new) }
+        ensures { Did (Case D.means D.Idle.runs P.outside LookForStop (Stopped result))
+            (view_of self.old) (view_of self.new) }
     {
         let stopped = self.signal.is_stopped();
         self.stops.note(StopNote::Looked(stopped));
@@ -127,7 +130,8 @@ impl<D: EventDispatcher<P, C, R>, P: Poller, C: Clock, R: Wait + Drop> EventLoop
         callback: F,
     ) -> Result<()>
         requires { F.IsAlwaysCallable callback }
-        ensures { RunsTo D.means D.Idle.runs P.outside (CalledAtMut F.FnMut) timeout callback «data».old (view_of self.old) result «data».new (view_of self.new) }
+        ensures { RunsTo D.means D.Idle.runs P.outside (CalledAtMut F.FnMut) timeout callback
+            «data».old (view_of self.old) result «data».new (view_of self.new) }
     {
         let mut callback = callback;
         self.forget_stop();

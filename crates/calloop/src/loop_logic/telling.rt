@@ -15,7 +15,9 @@ impl<D: EventDispatcher<P, C, R>, P: Poller, C: Clock, R: Wait + Drop> EventLoop
     // Tells the source of this registration, and puts the event that it answers into the batch.
     fn tell_one_of_wait(&mut self, token: RegistrationToken) -> Result<()>
         requires { IsReady 1 self.old.poll }
-        ensures machine { (timeout : Option ℕ) (later : List RegistrationToken) (x : D.Data) → Goes D.means D.Idle.runs P.outside (Sleeping timeout (token ∷ later) x) (after_telling timeout later result x) (view_of self.old) (view_of self.new) }
+        ensures machine { (timeout : Option ℕ) (later : List RegistrationToken) (x : D.Data)
+            → Goes D.means D.Idle.runs P.outside (Sleeping timeout (token ∷ later) x)
+            (after_telling timeout later result x) (view_of self.old) (view_of self.new) }
         ensures ready { (more : ℕ) → IsReady (more + 1) self.old.poll → IsReady more self.new.poll }
         ensures entries { self.new.lifecycle ≡ self.old.lifecycle }
     {
@@ -36,7 +38,10 @@ impl<D: EventDispatcher<P, C, R>, P: Poller, C: Clock, R: Wait + Drop> EventLoop
     // In the order of their entry. An error ends it.
     pub(super) fn tell_of_wait(&mut self) -> Result<()>
         requires { IsReady (vec_len self.old.lifecycle.tokens) self.old.poll }
-        ensures machine { (timeout : Option ℕ) (x : D.Data) → Goes D.means D.Idle.runs P.outside (Sleeping timeout self.old.lifecycle.tokens.items x) (after_all_told timeout result x) (view_of self.old) (view_of self.new) }
+        ensures machine { (timeout : Option ℕ) (x : D.Data)
+            → Goes D.means D.Idle.runs P.outside
+            (Sleeping timeout self.old.lifecycle.tokens.items x) (after_all_told timeout result x)
+            (view_of self.old) (view_of self.new) }
         ensures ready { OnOk result (IsReady 0 self.new.poll) }
         ensures entries { self.new.lifecycle ≡ self.old.lifecycle }
     {
@@ -49,7 +54,9 @@ impl<D: EventDispatcher<P, C, R>, P: Poller, C: Clock, R: Wait + Drop> EventLoop
 
     // Tells the source of this registration which events of it were gathered.
     fn tell_one_of_events(&mut self, from: usize, token: RegistrationToken)
-        ensures machine { (later : List RegistrationToken) (x : D.Data) → Goes D.means D.Idle.runs P.outside (Noticing from (token ∷ later) x) (Noticing from later x) (view_of self.old) (view_of self.new) }
+        ensures machine { (later : List RegistrationToken) (x : D.Data)
+            → Goes D.means D.Idle.runs P.outside (Noticing from (token ∷ later) x)
+            (Noticing from later x) (view_of self.old) (view_of self.new) }
         ensures entries { self.new.lifecycle ≡ self.old.lifecycle }
     {
         let Some(mut source) = self.sources.begin_turn(token) else {
@@ -61,7 +68,9 @@ impl<D: EventDispatcher<P, C, R>, P: Poller, C: Clock, R: Wait + Drop> EventLoop
 
     // In the order of their entry.
     pub(super) fn tell_of_events(&mut self, from: usize)
-        ensures machine { (x : D.Data) → Goes D.means D.Idle.runs P.outside (Noticing from self.old.lifecycle.tokens.items x) (Cutting x) (view_of self.old) (view_of self.new) }
+        ensures machine { (x : D.Data)
+            → Goes D.means D.Idle.runs P.outside (Noticing from self.old.lifecycle.tokens.items x)
+            (Cutting x) (view_of self.old) (view_of self.new) }
     {
         for place in 0..self.lifecycle.len() {
             let token = self.lifecycle.at(place);

@@ -1,6 +1,6 @@
 //! The sections of the lock of a ping's cell that no other kind of cell has.
-ghost use Rattle.std.specs.Prelude.{◌≡◌, ◌+◌, None, Some, IfOk, IfErr};
-ghost use Rattle.calloop_wake.specs.Cells.{one};
+ghost use Rattle.std.specs.Prelude.{◌≡◌, None, Some, IfOk, IfErr};
+ghost use Rattle.calloop.specs.Pings.{twin_opened};
 
 use crate::cell::{Cell, settle};
 use calloop_wake::wake::locked::Locked;
@@ -40,8 +40,10 @@ pub fn open_turn<R: Wait>(
 ) -> Result<OpenedTurn, TakenPass>
     requires { twin.old.name ≡ shared.now.slot }
     ensures name { twin.new.name ≡ twin.old.name }
-    ensures ok { IfOk result (λ opened. (opened.turn.name ≡ shared.now.slot) × (twin.new ≡ record twin.old { turns = twin.old.turns + 1; number = twin.old.number + one opened.rung; closes = twin.old.closes + one opened.told })) }
-    ensures err { IfErr result (λ refused. (refused ≡ record pass { refused = Some twin.old.name }) × (twin.new ≡ twin.old)) }
+    ensures ok { IfOk result (λ opened. (opened.turn.name ≡ shared.now.slot)
+        × (twin.new ≡ twin_opened opened.rung opened.told twin.old)) }
+    ensures err { IfErr result (λ refused. (refused ≡ record pass { refused = Some twin.old.name })
+        × (twin.new ≡ twin.old)) }
 {
     let (gate, mut cell) = shared.lock(rt);
     let opened = cell.core.open_turn(pass, twin);

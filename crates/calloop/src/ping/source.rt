@@ -45,7 +45,8 @@ fn call_if<F, X, Q>(rang: bool, callback: &mut F, data: &mut X, requests: &mut Q
 where
     Q: Asking,
     F: Callback<(), (), (), X, Q>,
-    ensures { Went F.may Q.reaches callback.old «data».old requests.old (calls_of rang) callback.new «data».new requests.new }
+    ensures { Went F.may Q.reaches callback.old «data».old requests.old (calls_of rang) callback.new
+        «data».new requests.new }
 {
     if rang {
         callback.call((), &mut (), data, requests);

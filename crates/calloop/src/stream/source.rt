@@ -1,8 +1,9 @@
 //! A stream as a source of the loop.
-ghost use Rattle.std.specs.Prelude.{◌≡◌, ◌+◌, List, length, None, Some, IfOk, IfErr};
+ghost use Rattle.std.specs.Prelude.{◌≡◌, List, length, None, Some, IfOk, IfErr};
 ghost use Rattle.calloop_core.specs.Calls.{Went};
-ghost use Rattle.calloop_wake.specs.Cells.{one, is_own};
+ghost use Rattle.calloop_wake.specs.Cells.{is_own};
 ghost use Rattle.calloop_wake.specs.Tokens.{key_of};
+ghost use Rattle.calloop.specs.Pings.{twin_opened};
 ghost use Rattle.calloop.specs.StreamReads.{ReadsTo, left_by};
 ghost use Rattle.calloop.specs.Streams.{StreamCalls, calls_of, action_of, reading_of, EndsSo, RingsItself, ReadsSo};
 ghost use Rattle.calloop.specs.declared.stream.reading.Readable.{Readable};
@@ -39,9 +40,12 @@ where
     S: Stream<R>,
     Q: Asking,
     F: Callback<Option<S::Item>, (), (), X, Q>,
-    ensures { (items : List S.Item) × (left : S) × EndsSo (length items) result.1 × ReadsTo S.polls stream.stream items result.1 left
-        × (option_map (λ (rest : Readable S R S.Item). rest.stream) result.0 ≡ left_by result.1 left)
-        × Went F.may Q.reaches callback.old «data».old requests.old (calls_of items result.1) callback.new «data».new requests.new }
+    ensures { (items : List S.Item) × (left : S)
+        × EndsSo (length items) result.1 × ReadsTo S.polls stream.stream items result.1 left
+        × (option_map (λ (rest : Readable S R S.Item). rest.stream) result.0
+            ≡ left_by result.1 left)
+        × Went F.may Q.reaches callback.old «data».old requests.old (calls_of items result.1)
+            callback.new «data».new requests.new }
 {
     let mut stream = stream;
     let mut items = 0u32;
@@ -96,9 +100,12 @@ impl<S: Stream<R>, R: Wait + Drop> StreamSource<S, R> {
         F: Callback<Option<S::Item>, (), (), X, Q>,
         ensures source { self.new.source ≡ self.old.source }
         ensures reads { (items : List S.Item) × (ending : Ending) × (calls : StreamCalls S.Item)
-            × ReadsSo S.polls self.old.source.twin.name rung (reading_of self.old.stream self.old.own).stream items ending
-            (reading_of self.old.stream self.old.own) calls result (reading_of self.new.stream self.new.own)
-            × Went F.may Q.reaches callback.old «data».old requests.old calls callback.new «data».new requests.new }
+            × ReadsSo S.polls self.old.source.twin.name rung
+                (reading_of self.old.stream self.old.own).stream items ending
+                (reading_of self.old.stream self.old.own) calls result
+                (reading_of self.new.stream self.new.own)
+            × Went F.may Q.reaches callback.old «data».old requests.old calls
+                callback.new «data».new requests.new }
     {
         if !rung {
             return PostAction::Continue;
@@ -216,8 +223,10 @@ fn open_turn<R: Wait + Drop>(
 ) -> Result<OpenedTurn, TakenPass>
     ensures shared { source.new.shared ≡ source.old.shared }
     ensures ok { IfOk result (λ opened. (opened.turn.name ≡ source.old.twin.name)
-        × (source.new.twin ≡ record source.old.twin { turns = source.old.twin.turns + 1; number = source.old.twin.number + one opened.rung; closes = source.old.twin.closes + one opened.told })) }
-    ensures err { IfErr result (λ refused. (refused ≡ record pass { refused = Some source.old.twin.name }) × (source.new.twin ≡ source.old.twin)) }
+        × (source.new.twin ≡ twin_opened opened.rung opened.told source.old.twin)) }
+    ensures err { IfErr result
+        (λ refused. (refused ≡ record pass { refused = Some source.old.twin.name })
+        × (source.new.twin ≡ source.old.twin)) }
 {
     cell::open_turn(&source.rt, &source.shared, &mut source.twin, pass)
 }

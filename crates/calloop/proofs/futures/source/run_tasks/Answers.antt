@@ -4,6 +4,7 @@ use Rattle.calloop_wake.specs.declared.wake.executor.TaskTurn.{TaskTurn}
 use Rattle.calloop_wake.specs.declared.wake.tasks.TaskKey.{TaskKey}
 use Rattle.calloop_wake.specs.Cells.{one}
 use Rattle.calloop_wake.specs.Executors.{most_tasks}
+use Rattle.calloop.specs.Executors.{GivenBy}
 use Rattle.calloop_wake.proofs.Ending.{goes_more, goes_wet}
 use Rattle.calloop.proofs.Polling.{polled_none, polled_more}
 use Rattle.calloop.proofs.futures.source.run_tasks.Goals as goal
@@ -23,7 +24,7 @@ pops-init g c =
         0,
         omega (arith, pops, dry),
         refl,
-        polled_none g.F.Callback.may g.Q.Asking.reaches c.args.callback.now c.args.data.now c.args.requests.now,
+        polled_none (GivenBy g.Fut.Future.gives) g.F.Callback.may g.Q.Asking.reaches c.args.callback.now c.args.data.now c.args.requests.now,
       ),
     )
 
@@ -54,7 +55,7 @@ pops-preserved-in-Some g c =
         so.2 + one (is_some s.0),
         omega (arith, so_far, wet, still, count),
         omega (arith, numbers, number, done),
-        polled_more g.F.Callback.may g.Q.Asking.reaches c.args.callback.now c.args.data.now c.args.requests.now so.0 s.0 so.1 so.2 _ _ _ _ _ _ so.5 s.2,
+        polled_more (GivenBy g.Fut.Future.gives) g.F.Callback.may g.Q.Asking.reaches c.args.callback.now c.args.data.now c.args.requests.now so.0 s.0 so.1 so.2 _ _ _ _ _ _ so.5 s.2 s.3,
       ),
     )
 
@@ -69,5 +70,6 @@ returns g c =
       omega (arith, bound, so_far, count),
       c.end_turn.ensures.twin ∙ ap (λ (t : Twin). record t { number = c.pops.twin.number + one c.pops.finished }) inv.4
           ∙ ap (λ (n : ℕ). record c.args.twin.now { number = n }) (so.4 ∙ ap (λ n. c.args.twin.now.number + n) so.5.results_is),
+      so.5.all_given,
       so.5.went,
     )

@@ -1,6 +1,7 @@
 use Rattle.std.proofs.Common.{◌≡◌, ◌+◌, ◌-◌, ◌≤◌, ℕ, true, List, Option, IsSome}
 use Rattle.calloop_wake.specs.Cells.{one}
 use Rattle.calloop_wake.specs.Executors.{most_tasks}
+use Rattle.calloop.specs.Executors.{GivenBy}
 use Rattle.calloop.proofs.Polling.{Polled}
 use Rattle.calloop.proofs.futures.source.run_tasks.Given as goal
 
@@ -12,7 +13,7 @@ invariant-pops g l =
     × ((ps : List (Option g.row.Fut-Output.Denot)) × (count : ℕ) × (results : ℕ)
     × (count + one l.turn.progress.dry ≡ l.turn.progress.pops)
     × (l.twin.number + one l.finished ≡ l.fn.twin.number + results)
-    × Polled g.F.Callback.may g.Q.Asking.reaches l.fn.callback l.fn.«data» l.fn.requests ps count results l.callback l.«data» l.requests)
+    × Polled (GivenBy g.Fut.Future.gives) g.F.Callback.may g.Q.Asking.reaches l.fn.callback l.fn.«data» l.fn.requests ps count results l.callback l.«data» l.requests)
 
 abbrev pub decreases-pops : goal.decreases-pops
 decreases-pops g l = most_tasks - l.turn.progress.pops
