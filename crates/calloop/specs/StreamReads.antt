@@ -4,7 +4,6 @@ use Rattle.calloop.specs.declared.futures.task.Poll.{Poll}
 use Rattle.calloop.specs.declared.futures.task.Poll.TheVariants.{Ready, Pending}
 use Rattle.calloop.specs.declared.stream.reading.Ending.{Ending}
 use Rattle.calloop.specs.declared.stream.reading.Ending.TheVariants.{AtPending, AtEnd, AtLimit}
-use Rattle.calloop.specs.declared.stream.reading.Readable.{Readable}
 use Rattle.calloop.specs.declared.stream.reading.Read.{Read}
 use Rattle.calloop.specs.declared.stream.reading.Read.TheVariants.{Item, End, Pending as Waits}
 

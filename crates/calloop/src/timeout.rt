@@ -1,12 +1,13 @@
 //! A future that is ready once a moment of the loop's clock has come.
 //!
 //! From calloop's `TimeoutFuture` in `sources/timer.rs`. Like there, it is a timer in a slot, whose token nobody else has.
-ghost use Rattle.std.specs.Prelude.{◌≡◌, Some, IfOk, IfErr};
+ghost use Rattle.std.specs.Prelude.{◌≡◌, true, Some, IfOk, IfErr};
 ghost use Rattle.calloop_wake.specs.declared.error.Error.TheVariants.{OutOfMemory};
 ghost use Rattle.calloop_wake.specs.declared.wheel.Instant.{Instant};
 ghost use Rattle.calloop_wake.specs.Deadlines.{moment_after};
 ghost use Rattle.calloop_core.specs.declared.timer.TimeoutAction.TheVariants.{Drop};
 ghost use Rattle.calloop.specs.Handles.{clock_by};
+ghost use Rattle.calloop.specs.Polled.{IfReady, OnPending};
 ghost use Rattle.calloop.specs.Timeouts.{HasCome, HasTimer, HasNoTimer, IsMade, IsOf, is_ready};
 
 use crate::futures::{Context, Future, Poll, Waker};
@@ -171,6 +172,11 @@ impl<C: Clock, R: Wait + Clone + Drop> Future<R> for TimeoutFuture<C, R> {
 
     /// Ready where the clock shows its moment or a later one. Without memory to keep the waker, it asks for another poll at once.
     fn poll(&mut self, cx: &mut Context<'_, R>) -> Poll<()>
+        ensures value { IfReady result
+            (λ _. HasCome (C.shows self.old.clock) self.old.deadline true) }
+        ensures same { OnPending result ((x : Unit {0})
+            → HasCome (C.shows self.new.clock) self.new.deadline true
+            → HasCome (C.shows self.old.clock) self.old.deadline true) }
         ensures ready { HasCome (C.shows self.old.clock) self.old.deadline (is_ready result) }
     {
         if self.has_come() {
