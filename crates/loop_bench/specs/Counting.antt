@@ -1,5 +1,5 @@
 -- What the callbacks of the rows do.
-use Rattle.std.specs.Prelude.{◌≡◌, ℕ, ◌+◌, ◌-◌, ◌^◌, min, Result, Ok}
+use Rattle.std.specs.Prelude.{◌≡◌, ℕ, ◌+◌, ◌-◌, ◌^◌, min, Result, Ok, MatchResult}
 use Rattle.calloop_wake.specs.declared.wheel.Instant.{Instant}
 use Rattle.calloop_core.specs.declared.timer.TimeoutAction.{TimeoutAction}
 use Rattle.calloop_core.specs.declared.timer.TimeoutAction.TheVariants.{Drop}
@@ -36,3 +36,9 @@ abbrev pub counts_and_stays : {I Q : Type 0} → Counts → Readiness → NoIoDr
     → Counts → NoIoDrop I → ℕ → Q → Type 0
 counts_and_stays callback readiness io calls asked answer after io' calls' asked' =
     (answer ≡ Ok Continue) × (io' ≡ io) × (calls' ≡ counted calls)
+
+-- each call of a socket whose byte is read, too, which goes on; where it can't be read, nothing is counted
+abbrev pub counts_and_reads : {B I Q : Type 0} → B → Readiness → NoIoDrop I → ℕ → Q → Result PostAction Cause
+    → B → NoIoDrop I → ℕ → Q → Type 0
+counts_and_reads callback readiness io calls asked answer after io' calls' asked' =
+    MatchResult answer (λ action. (action ≡ Continue) × (calls' ≡ counted calls)) (λ _. calls' ≡ calls)

@@ -11,10 +11,14 @@ use Rattle.loop_bench.specs.declared.row.Kind.TheVariants.{
   IdleBesidePings,
   PingsServed,
   ReadableSockets,
+  EdgeSockets,
+  LevelSockets,
   MessagesServed,
   BoundedMessagesServed,
   ThreadMessagesServed,
   BoundedThreadMessagesServed,
+  ReadyFutures,
+  ThreadWoken,
 }
 
 abbrev pub name_of : Kind → List ℕ
@@ -26,16 +30,20 @@ name_of IdleDispatch = codes "idle_dispatch"
 name_of IdleBesidePings = codes "idle_beside_pings"
 name_of PingsServed = codes "pings_served"
 name_of ReadableSockets = codes "readable_sockets"
+name_of EdgeSockets = codes "edge_sockets"
+name_of LevelSockets = codes "level_sockets"
 name_of MessagesServed = codes "messages_served"
 name_of BoundedMessagesServed = codes "bounded_messages_served"
 name_of ThreadMessagesServed = codes "thread_messages_served"
 name_of BoundedThreadMessagesServed = codes "bounded_thread_messages_served"
+name_of ReadyFutures = codes "ready_futures"
+name_of ThreadWoken = codes "thread_woken"
 
 abbrev pub is_named : List ℕ → Kind → Bool
 is_named name kind = pointwise nat_eq (name_of kind) name
 
--- in how many steps the time of a row is divided: each timer that fires is one, each ping that is inserted and served, and
--- each message
+-- in how many steps the time of a row is divided: each timer that fires is one, each ping that is inserted and served, each
+-- socket that is read, each message, each future that is ready, and each wake
 abbrev pub operations_of : Kind → (count size : ℕ) → ℕ
 operations_of RingAndDispatch count size = count
 operations_of TimersFired count size = count * size
@@ -45,13 +53,17 @@ operations_of IdleDispatch count size = count
 operations_of IdleBesidePings count size = count
 operations_of PingsServed count size = count * size
 operations_of ReadableSockets count size = count
+operations_of EdgeSockets count size = count * size
+operations_of LevelSockets count size = count * size
 operations_of MessagesServed count size = count * size
 operations_of BoundedMessagesServed count size = count * size
 operations_of ThreadMessagesServed count size = count * size
 operations_of BoundedThreadMessagesServed count size = count * size
+operations_of ReadyFutures count size = count * size
+operations_of ThreadWoken count size = count * size
 
 -- how many callbacks a row calls: one for each ring, one for each timer that fires, one for each socket that a wait tells of,
--- and one for each message
+-- one for each message, and one for each future
 abbrev pub calls_of : Kind → (count size : ℕ) → ℕ
 calls_of RingAndDispatch count size = count
 calls_of TimersFired count size = count * size
@@ -61,7 +73,11 @@ calls_of IdleDispatch count size = 0
 calls_of IdleBesidePings count size = 0
 calls_of PingsServed count size = count * size
 calls_of ReadableSockets count size = count * min size 1024
+calls_of EdgeSockets count size = count * size
+calls_of LevelSockets count size = count * size
 calls_of MessagesServed count size = count * size
 calls_of BoundedMessagesServed count size = count * size
 calls_of ThreadMessagesServed count size = count * size
 calls_of BoundedThreadMessagesServed count size = count * size
+calls_of ReadyFutures count size = count * size
+calls_of ThreadWoken count size = count

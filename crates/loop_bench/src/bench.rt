@@ -1,9 +1,11 @@
 //! A loop that is measured.
 ghost use Rattle.std.specs.Prelude.{◌≡◌, ◌+◌, ◌*◌, ◌%◌, ◌^◌, ◌-◌, ◌≤◌, min, IfOk, vec_len};
 
-use crate::measured::Measured;
+use crate::measured::{Measured, ReadsByte};
+use crate::tasks::{Meeting, Task};
 use anyhow::{Context, Result};
 use calloop::channel::{Channel, Event, Sender, SyncSender, make_channel, sync_channel};
+use calloop::futures::{Executor, Scheduler, make_executor};
 use calloop::loop_logic::EventLoop;
 use calloop::ping::{Ping, make_ping};
 use calloop::{
@@ -13,7 +15,7 @@ use calloop::{
 };
 use std::alloc::Global;
 use std::io;
-use std::sync::Wait;
+use std::sync::{Arc, Wait};
 use std::time::{self, Duration};
 
 /// Counts its calls in the data that a dispatch lends.
@@ -75,17 +77,61 @@ impl<I, Q: Asking> Callback<Readiness, NoIoDrop<I>, io::Result<PostAction>, u64,
     }
 }
 
+/// Reads a byte of its socket, and counts its calls in the data that a dispatch lends.
+#[derive(Drop)]
+pub struct Reads;
+
+impl<I: ReadsByte, Q: Asking> Callback<Readiness, NoIoDrop<I>, io::Result<PostAction>, u64, Q>
+    for Reads {
+    ghost use Rattle.loop_bench.specs.Counting.{counts_and_reads};
+
+    ghost may = { counts_and_reads };
+
+    fn call(
+        &mut self,
+        _readiness: Readiness,
+        io: &mut NoIoDrop<I>,
+        calls: &mut u64,
+        _: &mut Q,
+    ) -> io::Result<PostAction> {
+        io.get_mut().read_byte()?;
+        *calls = calls.saturating_add(1);
+        Ok(PostAction::Continue)
+    }
+}
+
 /// The sources of the rows, and the count of calls that each dispatch lends. Only what runs a row names them.
 pub type Held<P, R> = Sources<
     OneOf<
         Dispatcher<PingSource<R>, Counts>,
         OneOf<
             Dispatcher<Timer, Counts>,
-            OneOf<Dispatcher<Generic<P>, Counts>, Dispatcher<Channel<u64, R>, Counts>>,
+            OneOf<
+                Dispatcher<Generic<P>, Counts>,
+                OneOf<
+                    Dispatcher<Channel<u64, R>, Counts>,
+                    OneOf<Dispatcher<Generic<P>, Reads>, Dispatcher<Executor<Task<R>, R>, Counts>>,
+                >,
+            >,
         >,
     >,
     u64,
 >;
+
+/// The place of timers in it.
+pub type Second = There<Here>;
+
+/// That of sockets which aren't read.
+pub type Third = There<Second>;
+
+/// That of channels.
+pub type Fourth = There<Third>;
+
+/// That of sockets which are read.
+pub type Fifth = There<Fourth>;
+
+/// That of executors.
+pub type Sixth = There<Fifth>;
 
 /// A loop, the calls of its callbacks, and the time that was measured, in nanoseconds.
 #[derive(Drop)]
@@ -102,9 +148,11 @@ impl<D, P, C, R> Bench<D, P, C, R>
 where
     D: EventDispatcher<P, C, R, Data = u64, Idle = ()>,
     D: Choice<PingSource<R>, Counts, Here>,
-    D: Choice<Timer, Counts, There<Here>>,
-    D: Choice<Generic<P>, Counts, There<There<Here>>>,
-    D: Choice<Channel<u64, R>, Counts, There<There<There<Here>>>>,
+    D: Choice<Timer, Counts, Second>,
+    D: Choice<Generic<P>, Counts, Third>,
+    D: Choice<Channel<u64, R>, Counts, Fourth>,
+    D: Choice<Generic<P>, Reads, Fifth>,
+    D: Choice<Executor<Task<R>, R>, Counts, Sixth>,
     P: Measured<C, R>,
     C: Clock,
     R: Wait + time::Clock + Clone + Drop,
@@ -234,7 +282,7 @@ where
 
     fn hold_channel(channel: Channel<u64, R>) -> D {
         let dispatcher = Dispatcher::new(channel, Counts);
-        <D as Choice<Channel<u64, R>, Counts, There<There<There<Here>>>>>::hold(dispatcher)
+        <D as Choice<Channel<u64, R>, Counts, Fourth>>::hold(dispatcher)
     }
 
     /// Puts so many sockets into the loop, each with a byte to be read: their peers.
@@ -244,13 +292,47 @@ where
     {
         let mut peers = Vec::new(self.alloc);
         for _ in 0..size {
-            let (io, peer) = P::readable(&self.rt)?;
+            let (io, mut peer) = P::pair(&self.rt)?;
+            P::send(&mut peer)?;
             let source: Generic<P> = Generic::new(io, Interest::READ, Mode::Level);
             let dispatcher = Dispatcher::new(source, Counts);
-            self.insert(<D as Choice<Generic<P>, Counts, There<There<Here>>>>::hold(dispatcher))?;
+            self.insert(<D as Choice<Generic<P>, Counts, Third>>::hold(dispatcher))?;
             peers.push(peer)?;
         }
         Ok(peers)
+    }
+
+    /// Puts so many sockets into the loop in this mode, which are read by their callback: their peers, which have sent nothing.
+    pub fn insert_read_sockets(&mut self, size: u32, mode: Mode) -> Result<Vec<P::Peer>>
+        ensures peers { IfOk result (λ peers. vec_len peers ≡ size) }
+        ensures calls { self.new.calls ≡ self.old.calls }
+        ensures nanoseconds { self.new.nanoseconds ≡ self.old.nanoseconds }
+    {
+        let mut peers = Vec::new(self.alloc);
+        for _ in 0..size {
+            let (io, peer) = P::pair(&self.rt)?;
+            let source: Generic<P> = Generic::new(io, Interest::READ, mode);
+            let dispatcher = Dispatcher::new(source, Reads);
+            self.insert(<D as Choice<Generic<P>, Reads, Fifth>>::hold(dispatcher))?;
+            peers.push(peer)?;
+        }
+        Ok(peers)
+    }
+
+    /// Puts an executor into the loop: its scheduler.
+    pub fn insert_executor(&mut self) -> Result<Scheduler<Task<R>, R>>
+        ensures calls { self.new.calls ≡ self.old.calls }
+        ensures nanoseconds { self.new.nanoseconds ≡ self.old.nanoseconds }
+    {
+        let (executor, scheduler) = make_executor(&self.rt, self.alloc)?;
+        let dispatcher = Dispatcher::new(executor, Counts);
+        self.insert(<D as Choice<Executor<Task<R>, R>, Counts, Sixth>>::hold(dispatcher))?;
+        Ok(scheduler)
+    }
+
+    /// Where a future and another thread meet, before either of them came.
+    pub fn make_meeting(&self) -> Result<Arc<Meeting<R>, Global>> {
+        Ok(Arc::new(self.alloc, Meeting::new(self.rt.clone()?))?)
     }
 
     /// Arms a timer for this moment.
@@ -259,7 +341,7 @@ where
         ensures nanoseconds { self.new.nanoseconds ≡ self.old.nanoseconds }
     {
         let timer = Dispatcher::new(Timer::from_deadline(deadline), Counts);
-        self.insert(<D as Choice<Timer, Counts, There<Here>>>::hold(timer))
+        self.insert(<D as Choice<Timer, Counts, Second>>::hold(timer))
     }
 
     /// Arms so many timers, for the scattered moments from this one on.

@@ -20,6 +20,7 @@ mod measured;
 mod request;
 mod row;
 mod rows;
+mod tasks;
 
 // The poller and the clock that the rows run over.
 type RowPoller<R> = MioPoller<SystemClock<R>>;

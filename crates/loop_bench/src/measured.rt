@@ -3,10 +3,26 @@ use calloop::{Clock, Instant, Poller, Result};
 use calloop_core::sys::system::{MioIo, MioPoller, SystemClock};
 use mio::net::UnixStream;
 use std::alloc::Global;
-use std::io::Write;
+use std::io::{self, Read, Write};
 use std::net::Net;
 use std::sync::Wait;
 use std::time::Clock as MachineClock;
+
+/// A socket that a callback can read.
+pub trait ReadsByte {
+    /// Reads a byte. Where none is there the error is of kind `WouldBlock`, and at the end of the stream `UnexpectedEof`.
+    fn read_byte(&mut self) -> io::Result<()>;
+}
+
+impl ReadsByte for MioIo {
+    /// One that is no Unix stream is refused with an error of kind `Unsupported`.
+    fn read_byte(&mut self) -> io::Result<()> {
+        match self {
+            MioIo::UnixStream(stream) => stream.read_exact(&mut [0u8; 1]),
+            _ => Err(io::Error::from(io::ErrorKind::Unsupported)),
+        }
+    }
+}
 
 /// A poller that rows can be measured over, with its clock.
 pub trait Measured<C: Clock, R>: Poller + Sized {
@@ -19,8 +35,11 @@ pub trait Measured<C: Clock, R>: Poller + Sized {
     /// One that nothing is registered with, and its clock.
     fn make(rt: &R, alloc: Global) -> Result<(Self, C)>;
 
-    /// A socket with a byte to be read, and its peer.
-    fn readable(rt: &R) -> Result<(Self::Io, Self::Peer)>;
+    /// A socket and its peer, which has sent nothing.
+    fn pair(rt: &R) -> Result<(Self::Io, Self::Peer)>;
+
+    /// Sends a byte.
+    fn send(peer: &mut Self::Peer) -> Result<()>;
 
     /// Returns once its clock shows this moment or a later one.
     fn come_to(&mut self, rt: &R, moment: Instant);
@@ -43,10 +62,14 @@ where
         Ok((poller, clock))
     }
 
-    fn readable(rt: &R) -> Result<(MioIo, UnixStream)> {
-        let (near, mut far) = UnixStream::pair(rt)?;
-        far.write_all(b"x")?;
+    fn pair(rt: &R) -> Result<(MioIo, UnixStream)> {
+        let (near, far) = UnixStream::pair(rt)?;
         Ok((MioIo::from(near), far))
+    }
+
+    fn send(peer: &mut UnixStream) -> Result<()> {
+        peer.write_all(b"x")?;
+        Ok(())
     }
 
     fn come_to(&mut self, rt: &R, moment: Instant) {

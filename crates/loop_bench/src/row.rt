@@ -28,6 +28,10 @@ pub enum Kind {
     PingsServed,
     /// Dispatches while sockets are readable.
     ReadableSockets,
+    /// Dispatches until a byte that came to each socket was read, where each change is told of once.
+    EdgeSockets,
+    /// The same where a socket is told of as long as it is readable.
+    LevelSockets,
     /// Sends messages to a channel, and dispatches until all are handed out.
     MessagesServed,
     /// The same of a channel with a bound.
@@ -36,11 +40,15 @@ pub enum Kind {
     ThreadMessagesServed,
     /// The same of a channel with a bound, whose sender waits for room.
     BoundedThreadMessagesServed,
+    /// Schedules futures that are ready, and dispatches until the results of all are handed out.
+    ReadyFutures,
+    /// Dispatches, each with a wait, until a future has seen all wakes of another thread.
+    ThreadWoken,
 }
 
 impl Kind {
     /// Each of them once, in the order in which they are printed.
-    pub const ALL: [Kind; 12] = [
+    pub const ALL: [Kind; 16] = [
         Kind::RingAndDispatch,
         Kind::TimersFired,
         Kind::TimersCancelled,
@@ -49,10 +57,14 @@ impl Kind {
         Kind::IdleBesidePings,
         Kind::PingsServed,
         Kind::ReadableSockets,
+        Kind::EdgeSockets,
+        Kind::LevelSockets,
         Kind::MessagesServed,
         Kind::BoundedMessagesServed,
         Kind::ThreadMessagesServed,
         Kind::BoundedThreadMessagesServed,
+        Kind::ReadyFutures,
+        Kind::ThreadWoken,
     ];
 
     /// Its name among the arguments, and in what is printed.
@@ -68,10 +80,14 @@ impl Kind {
             Kind::IdleBesidePings => "idle_beside_pings",
             Kind::PingsServed => "pings_served",
             Kind::ReadableSockets => "readable_sockets",
+            Kind::EdgeSockets => "edge_sockets",
+            Kind::LevelSockets => "level_sockets",
             Kind::MessagesServed => "messages_served",
             Kind::BoundedMessagesServed => "bounded_messages_served",
             Kind::ThreadMessagesServed => "thread_messages_served",
             Kind::BoundedThreadMessagesServed => "bounded_thread_messages_served",
+            Kind::ReadyFutures => "ready_futures",
+            Kind::ThreadWoken => "thread_woken",
         }
     }
 
@@ -93,7 +109,8 @@ pub struct Row {
 }
 
 impl Row {
-    /// In how many steps its time is divided: each timer that fires is one, each ping that is inserted and served, and each message.
+    /// In how many steps its time is divided: each timer that fires is one, each ping that is inserted and served, each socket that is
+    /// read, each message, each future that is ready, and each wake.
     pub fn operations(&self) -> u64
         ensures value { result ≡ operations_of self.now.kind (non_zero_u32_get self.now.count) (non_zero_u32_get self.now.size) }
         ensures nonzero { 0 < result }
@@ -102,10 +119,14 @@ impl Row {
         match self.kind {
             Kind::TimersFired
             | Kind::PingsServed
+            | Kind::EdgeSockets
+            | Kind::LevelSockets
             | Kind::MessagesServed
             | Kind::BoundedMessagesServed
             | Kind::ThreadMessagesServed
-            | Kind::BoundedThreadMessagesServed => count * u64::from(self.size.get()),
+            | Kind::BoundedThreadMessagesServed
+            | Kind::ReadyFutures
+            | Kind::ThreadWoken => count * u64::from(self.size.get()),
             _ => count,
         }
     }
@@ -118,10 +139,14 @@ impl Row {
             Kind::RingAndDispatch
             | Kind::TimersFired
             | Kind::PingsServed
+            | Kind::EdgeSockets
+            | Kind::LevelSockets
             | Kind::MessagesServed
             | Kind::BoundedMessagesServed
             | Kind::ThreadMessagesServed
-            | Kind::BoundedThreadMessagesServed => self.operations(),
+            | Kind::BoundedThreadMessagesServed
+            | Kind::ReadyFutures => self.operations(),
+            Kind::ThreadWoken => u64::from(self.count.get()),
             Kind::ReadableSockets => {
                 u64::from(self.count.get()) * u64::from(self.size.get()).min(EVENTS_PER_WAIT)
             }

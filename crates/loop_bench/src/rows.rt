@@ -1,12 +1,16 @@
 //! Runs the rows. What is set up before isn't measured.
-use crate::bench::{Bench, Counts, Held, SCATTER, scattered};
-use crate::measured::Measured;
+use crate::bench::{
+    Bench, Counts, Fifth, Fourth, Held, Reads, SCATTER, Second, Sixth, Third, scattered,
+};
+use crate::measured::{Measured, ReadsByte};
 use crate::row::{Kind, Row};
+use crate::tasks::{Meeting, Sleeper, Task};
 use anyhow::{Context, Result, ensure};
 use calloop::channel::{Channel, Sender, SyncSender};
-use calloop::{Choice, Clock, EventDispatcher, Generic, Here, Instant, PingSource, There, Timer};
+use calloop::futures::{Executor, Scheduler, Waker};
+use calloop::{Choice, Clock, EventDispatcher, Generic, Here, Instant, Mode, PingSource, Timer};
 use std::alloc::Global;
-use std::sync::Wait;
+use std::sync::{Arc, Wait};
 use std::thread::{Threads, spawn};
 use std::time::{self, Duration};
 
@@ -17,6 +21,7 @@ const FAR: u64 = 1_000_000;
 pub fn run<P, C, R>(rt: &R, alloc: Global, row: &Row) -> Result<u64>
 where
     P: Measured<C, R>,
+    P::Io: ReadsByte,
     C: Clock,
     R: Threads + Wait + time::Clock + Clone + Drop + Send + Sync + 'static,
 {
@@ -35,9 +40,11 @@ impl<D, P, C, R> Bench<D, P, C, R>
 where
     D: EventDispatcher<P, C, R, Data = u64, Idle = ()>,
     D: Choice<PingSource<R>, Counts, Here>,
-    D: Choice<Timer, Counts, There<Here>>,
-    D: Choice<Generic<P>, Counts, There<There<Here>>>,
-    D: Choice<Channel<u64, R>, Counts, There<There<There<Here>>>>,
+    D: Choice<Timer, Counts, Second>,
+    D: Choice<Generic<P>, Counts, Third>,
+    D: Choice<Channel<u64, R>, Counts, Fourth>,
+    D: Choice<Generic<P>, Reads, Fifth>,
+    D: Choice<Executor<Task<R>, R>, Counts, Sixth>,
     P: Measured<C, R>,
     C: Clock,
     R: Threads + Wait + time::Clock + Clone + Drop + Send + Sync + 'static,
@@ -53,10 +60,14 @@ where
             Kind::IdleBesidePings => self.idle_beside_pings(count, size),
             Kind::PingsServed => self.pings_served(count, size),
             Kind::ReadableSockets => self.readable_sockets(count, size),
+            Kind::EdgeSockets => self.sockets_read(count, size, Mode::Edge),
+            Kind::LevelSockets => self.sockets_read(count, size, Mode::Level),
             Kind::MessagesServed => self.messages_served(count, size),
             Kind::BoundedMessagesServed => self.bounded_messages_served(count, size),
             Kind::ThreadMessagesServed => self.thread_messages_served(count, size),
             Kind::BoundedThreadMessagesServed => self.bounded_thread_messages_served(count, size),
+            Kind::ReadyFutures => self.ready_futures(count, size),
+            Kind::ThreadWoken => self.thread_woken(count, size),
         }
     }
 
@@ -175,6 +186,18 @@ where
         self.stop(began)
     }
 
+    fn sockets_read(&mut self, count: u32, size: u32, mode: Mode) -> Result<()> {
+        let mut peers = self.insert_read_sockets(size, mode)?;
+        for _ in 0..count {
+            send_all::<P, C, R>(&mut peers)?;
+            let wanted = self.calls.saturating_add(u64::from(size));
+            let began = self.start()?;
+            self.dispatch_until(wanted, size)?;
+            self.stop(began)?;
+        }
+        Ok(())
+    }
+
     fn messages_served(&mut self, count: u32, size: u32) -> Result<()> {
         let sender = self.insert_channel()?;
         for _ in 0..count {
@@ -212,7 +235,7 @@ where
             let wanted = self.calls.saturating_add(u64::from(size));
             let began = self.start()?;
             let child = spawn(&self.rt, move || sends(sender, size))?;
-            self.wait_until(wanted)?;
+            self.wait_until(wanted, size)?;
             self.stop(began)?;
             sender = child.join(&self.rt).context("a message is refused")?;
         }
@@ -225,16 +248,53 @@ where
             let wanted = self.calls.saturating_add(u64::from(size));
             let began = self.start()?;
             let child = spawn(&self.rt, move || sends_waiting(sender, size))?;
-            self.wait_until(wanted)?;
+            self.wait_until(wanted, size)?;
             self.stop(began)?;
             sender = child.join(&self.rt).context("a message is refused")?;
         }
         Ok(())
     }
 
-    // Dispatches that wait for ten seconds at most, until so many calls were made in all, or as many dispatches.
-    fn wait_until(&mut self, calls: u64) -> Result<()> {
-        for _ in 0..calls {
+    fn ready_futures(&mut self, count: u32, size: u32) -> Result<()> {
+        let scheduler = self.insert_executor()?;
+        for _ in 0..count {
+            let wanted = self.calls.saturating_add(u64::from(size));
+            let began = self.start()?;
+            schedule_ready(&scheduler, size)?;
+            self.dispatch_until(wanted, size)?;
+            self.stop(began)?;
+        }
+        Ok(())
+    }
+
+    fn thread_woken(&mut self, count: u32, size: u32) -> Result<()> {
+        let scheduler = self.insert_executor()?;
+        for _ in 0..count {
+            self.wake_from_thread(&scheduler, size)?;
+        }
+        Ok(())
+    }
+
+    // One round: the future's first poll, in which it hands its waker out, isn't measured.
+    fn wake_from_thread(&mut self, scheduler: &Scheduler<Task<R>, R>, size: u32) -> Result<()> {
+        let meeting = self.make_meeting()?;
+        let sleeper = Sleeper::new(Arc::try_clone(&meeting)?, size);
+        let scheduled = scheduler.schedule(Task::Sleeps(sleeper));
+        ensure!(scheduled.is_ok(), "a future is refused");
+        self.dispatch()?;
+        let waker = meeting.take().context("a future without a waker")?;
+        let wanted = self.calls.saturating_add(1);
+        let began = self.start()?;
+        let child = spawn(&self.rt, move || wakes(&meeting, &waker, size))?;
+        self.wait_until(wanted, size)?;
+        self.stop(began)?;
+        child.join(&self.rt);
+        Ok(())
+    }
+
+    // Dispatches that wait for ten seconds at most, until so many calls were made in all: at most four for each of this size.
+    fn wait_until(&mut self, calls: u64, size: u32) -> Result<()> {
+        for _ in 0..u64::from(size) * 4 {
             if self.calls >= calls {
                 break;
             }
@@ -252,6 +312,34 @@ where
             self.dispatch()?;
         }
         Ok(())
+    }
+}
+
+// Each peer sends a byte.
+fn send_all<P: Measured<C, R>, C: Clock, R>(peers: &mut [P::Peer]) -> Result<()> {
+    for peer in peers {
+        P::send(peer)?;
+    }
+    Ok(())
+}
+
+// Schedules as many futures that are ready.
+fn schedule_ready<R: Wait + Clone + Drop>(
+    scheduler: &Scheduler<Task<R>, R>,
+    size: u32,
+) -> Result<()> {
+    for _ in 0..size {
+        let scheduled = scheduler.schedule(Task::IsReady);
+        ensure!(scheduled.is_ok(), "a future is refused");
+    }
+    Ok(())
+}
+
+// Wakes the future of this waker so often. Each wake is counted before it is made, so that the poll after it finds it.
+fn wakes<R: Wait + Drop>(meeting: &Meeting<R>, waker: &Waker<R>, size: u32) {
+    for _ in 0..size {
+        meeting.count_wake();
+        waker.wake();
     }
 }
 

@@ -1,0 +1,96 @@
+//! The futures of the rows.
+use calloop::futures::{Context, Future, Poll, Waker};
+use std::alloc::Global;
+use std::sync::atomic::{AtomicU32, Ordering};
+use std::sync::{Arc, Mutex, Wait};
+
+/// Where a future and the thread that wakes it meet.
+#[derive(Drop)]
+pub struct Meeting<R: Wait + Drop> {
+    rt: R,
+    waker: Mutex<Option<Waker<R>>>,
+    wakes: AtomicU32,
+}
+
+impl<R: Wait + Drop> Meeting<R> {
+    /// Without a waker. Nobody woke yet.
+    pub fn new(rt: R) -> Meeting<R> {
+        Meeting {
+            rt,
+            waker: Mutex::new(None),
+            wakes: AtomicU32::new(0),
+        }
+    }
+
+    /// Takes the waker that the future left here.
+    pub fn take(&self) -> Option<Waker<R>> {
+        self.waker.lock(&self.rt).take()
+    }
+
+    /// Counts a wake that comes.
+    pub fn count_wake(&self) {
+        self.wakes.fetch_add(1, Ordering::SeqCst);
+    }
+
+    // Leaves a waker for the thread.
+    fn leave(&self, waker: Option<Waker<R>>) {
+        let before = self.take();
+        *self.waker.lock(&self.rt) = waker;
+        drop(before);
+    }
+
+    // How many wakes were counted.
+    fn wakes(&self) -> u32 {
+        self.wakes.load(Ordering::SeqCst)
+    }
+}
+
+/// A future that leaves its waker at its first poll, and is ready once so many wakes were counted.
+#[derive(Drop)]
+pub struct Sleeper<R: Wait + Drop> {
+    meeting: Arc<Meeting<R>, Global>,
+    wanted: u32,
+    is_asleep: bool,
+}
+
+impl<R: Wait + Clone + Drop> Sleeper<R> {
+    /// Not polled yet.
+    pub fn new(meeting: Arc<Meeting<R>, Global>, wanted: u32) -> Sleeper<R> {
+        Sleeper {
+            meeting,
+            wanted,
+            is_asleep: false,
+        }
+    }
+
+    fn poll(&mut self, cx: &mut Context<'_, R>) -> Poll<()> {
+        if self.meeting.wakes() >= self.wanted {
+            return Poll::Ready(());
+        }
+        if !self.is_asleep {
+            self.is_asleep = true;
+            self.meeting.leave(cx.waker().clone().ok());
+        }
+        Poll::Pending
+    }
+}
+
+/// A future of the rows.
+#[derive(Drop)]
+pub enum Task<R: Wait + Drop> {
+    /// It is ready at its first poll.
+    IsReady,
+    /// It waits for wakes.
+    Sleeps(Sleeper<R>),
+}
+
+impl<R: Wait + Clone + Drop> Future<R> for Task<R> {
+    type Output = ();
+
+    fn poll(&mut self, cx: &mut Context<'_, R>) -> Poll<()> {
+        match self {
+            Task::IsReady => Poll::Ready(()),
+            Task::Sleeps(sleeper) => sleeper.poll(cx),
+        }
+    }
+}
