@@ -19,6 +19,7 @@ use Rattle.loop_bench.specs.declared.row.Kind.TheVariants.{
   BoundedThreadMessagesServed,
   ReadyFutures,
   ThreadWoken,
+  TimeoutsReady,
 }
 
 abbrev pub name_of : Kind → List ℕ
@@ -38,6 +39,7 @@ name_of ThreadMessagesServed = codes "thread_messages_served"
 name_of BoundedThreadMessagesServed = codes "bounded_thread_messages_served"
 name_of ReadyFutures = codes "ready_futures"
 name_of ThreadWoken = codes "thread_woken"
+name_of TimeoutsReady = codes "timeouts_ready"
 
 abbrev pub is_named : List ℕ → Kind → Bool
 is_named name kind = pointwise nat_eq (name_of kind) name
@@ -61,6 +63,7 @@ operations_of ThreadMessagesServed count size = count * size
 operations_of BoundedThreadMessagesServed count size = count * size
 operations_of ReadyFutures count size = count * size
 operations_of ThreadWoken count size = count * size
+operations_of TimeoutsReady count size = count * size
 
 -- how many callbacks a row calls: one for each ring, one for each timer that fires, one for each socket that a wait tells of,
 -- one for each message, and one for each future
@@ -81,3 +84,4 @@ calls_of ThreadMessagesServed count size = count * size
 calls_of BoundedThreadMessagesServed count size = count * size
 calls_of ReadyFutures count size = count * size
 calls_of ThreadWoken count size = count
+calls_of TimeoutsReady count size = count * size

@@ -11,7 +11,7 @@ use calloop::ping::{Ping, make_ping};
 use calloop::{
     Asking, Callback, Choice, Clock, Dispatcher, EventDispatcher, Generic, Here, Instant, Interest,
     Mode, NoIoDrop, OneOf, PingSource, Poller, PostAction, Readiness, RegistrationToken, Sources,
-    There, TimeoutAction, Timer,
+    There, TimeoutAction, TimeoutFuture, Timer, WakesTimeout,
 };
 use std::alloc::Global;
 use std::io;
@@ -101,7 +101,7 @@ impl<I: ReadsByte, Q: Asking> Callback<Readiness, NoIoDrop<I>, io::Result<PostAc
 }
 
 /// The sources of the rows, and the count of calls that each dispatch lends. Only what runs a row names them.
-pub type Held<P, R> = Sources<
+pub type Held<P, C, R> = Sources<
     OneOf<
         Dispatcher<PingSource<R>, Counts>,
         OneOf<
@@ -110,7 +110,13 @@ pub type Held<P, R> = Sources<
                 Dispatcher<Generic<P>, Counts>,
                 OneOf<
                     Dispatcher<Channel<u64, R>, Counts>,
-                    OneOf<Dispatcher<Generic<P>, Reads>, Dispatcher<Executor<Task<R>, R>, Counts>>,
+                    OneOf<
+                        Dispatcher<Generic<P>, Reads>,
+                        OneOf<
+                            Dispatcher<Executor<Task<C, R>, R>, Counts>,
+                            Dispatcher<Timer, WakesTimeout<R>>,
+                        >,
+                    >,
                 >,
             >,
         >,
@@ -133,6 +139,9 @@ pub type Fifth = There<Fourth>;
 /// That of executors.
 pub type Sixth = There<Fifth>;
 
+/// That of timeouts.
+pub type Seventh = There<Sixth>;
+
 /// A loop, the calls of its callbacks, and the time that was measured, in nanoseconds.
 #[derive(Drop)]
 pub struct Bench<D: EventDispatcher<P, C, R>, P: Poller, C: Clock, R: Wait + Drop> {
@@ -152,7 +161,8 @@ where
     D: Choice<Generic<P>, Counts, Third>,
     D: Choice<Channel<u64, R>, Counts, Fourth>,
     D: Choice<Generic<P>, Reads, Fifth>,
-    D: Choice<Executor<Task<R>, R>, Counts, Sixth>,
+    D: Choice<Executor<Task<C, R>, R>, Counts, Sixth>,
+    D: Choice<Timer, WakesTimeout<R>, Seventh>,
     P: Measured<C, R>,
     C: Clock,
     R: Wait + time::Clock + Clone + Drop,
@@ -320,14 +330,24 @@ where
     }
 
     /// Puts an executor into the loop: its scheduler.
-    pub fn insert_executor(&mut self) -> Result<Scheduler<Task<R>, R>>
+    pub fn insert_executor(&mut self) -> Result<Scheduler<Task<C, R>, R>>
         ensures calls { self.new.calls ≡ self.old.calls }
         ensures nanoseconds { self.new.nanoseconds ≡ self.old.nanoseconds }
     {
         let (executor, scheduler) = make_executor(&self.rt, self.alloc)?;
         let dispatcher = Dispatcher::new(executor, Counts);
-        self.insert(<D as Choice<Executor<Task<R>, R>, Counts, Sixth>>::hold(dispatcher))?;
+        self.insert(<D as Choice<Executor<Task<C, R>, R>, Counts, Sixth>>::hold(dispatcher))?;
         Ok(scheduler)
+    }
+
+    /// A future that is ready at this moment.
+    pub fn make_timeout(&mut self, deadline: Instant) -> Result<TimeoutFuture<C, R>>
+        ensures calls { self.new.calls ≡ self.old.calls }
+        ensures nanoseconds { self.new.nanoseconds ≡ self.old.nanoseconds }
+    {
+        let mut handle = self.event_loop.handle();
+        let timeout = TimeoutFuture::from_deadline(&mut handle, &self.rt, self.alloc, deadline)?;
+        Ok(timeout)
     }
 
     /// Where a future and another thread meet, before either of them came.

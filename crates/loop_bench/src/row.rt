@@ -44,11 +44,13 @@ pub enum Kind {
     ReadyFutures,
     /// Dispatches, each with a wait, until a future has seen all wakes of another thread.
     ThreadWoken,
+    /// Schedules futures that are ready at a moment, and dispatches until the results of all are handed out.
+    TimeoutsReady,
 }
 
 impl Kind {
     /// Each of them once, in the order in which they are printed.
-    pub const ALL: [Kind; 16] = [
+    pub const ALL: [Kind; 17] = [
         Kind::RingAndDispatch,
         Kind::TimersFired,
         Kind::TimersCancelled,
@@ -65,6 +67,7 @@ impl Kind {
         Kind::BoundedThreadMessagesServed,
         Kind::ReadyFutures,
         Kind::ThreadWoken,
+        Kind::TimeoutsReady,
     ];
 
     /// Its name among the arguments, and in what is printed.
@@ -88,6 +91,7 @@ impl Kind {
             Kind::BoundedThreadMessagesServed => "bounded_thread_messages_served",
             Kind::ReadyFutures => "ready_futures",
             Kind::ThreadWoken => "thread_woken",
+            Kind::TimeoutsReady => "timeouts_ready",
         }
     }
 
@@ -126,7 +130,8 @@ impl Row {
             | Kind::ThreadMessagesServed
             | Kind::BoundedThreadMessagesServed
             | Kind::ReadyFutures
-            | Kind::ThreadWoken => count * u64::from(self.size.get()),
+            | Kind::ThreadWoken
+            | Kind::TimeoutsReady => count * u64::from(self.size.get()),
             _ => count,
         }
     }
@@ -145,7 +150,8 @@ impl Row {
             | Kind::BoundedMessagesServed
             | Kind::ThreadMessagesServed
             | Kind::BoundedThreadMessagesServed
-            | Kind::ReadyFutures => self.operations(),
+            | Kind::ReadyFutures
+            | Kind::TimeoutsReady => self.operations(),
             Kind::ThreadWoken => u64::from(self.count.get()),
             Kind::ReadableSockets => {
                 u64::from(self.count.get()) * u64::from(self.size.get()).min(EVENTS_PER_WAIT)

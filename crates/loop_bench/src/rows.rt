@@ -1,6 +1,6 @@
 //! Runs the rows. What is set up before isn't measured.
 use crate::bench::{
-    Bench, Counts, Fifth, Fourth, Held, Reads, SCATTER, Second, Sixth, Third, scattered,
+    Bench, Counts, Fifth, Fourth, Held, Reads, SCATTER, Second, Seventh, Sixth, Third, scattered,
 };
 use crate::measured::{Measured, ReadsByte};
 use crate::row::{Kind, Row};
@@ -8,7 +8,9 @@ use crate::tasks::{Meeting, Sleeper, Task};
 use anyhow::{Context, Result, ensure};
 use calloop::channel::{Channel, Sender, SyncSender};
 use calloop::futures::{Executor, Scheduler, Waker};
-use calloop::{Choice, Clock, EventDispatcher, Generic, Here, Instant, Mode, PingSource, Timer};
+use calloop::{
+    Choice, Clock, EventDispatcher, Generic, Here, Instant, Mode, PingSource, Timer, WakesTimeout,
+};
 use std::alloc::Global;
 use std::sync::{Arc, Wait};
 use std::thread::{Threads, spawn};
@@ -25,7 +27,7 @@ where
     C: Clock,
     R: Threads + Wait + time::Clock + Clone + Drop + Send + Sync + 'static,
 {
-    let mut bench: Bench<Held<P, R>, P, C, R> = Bench::new(rt, alloc)?;
+    let mut bench: Bench<Held<P, C, R>, P, C, R> = Bench::new(rt, alloc)?;
     bench.measure(row)?;
     let calls = bench.calls;
     ensure!(
@@ -44,7 +46,8 @@ where
     D: Choice<Generic<P>, Counts, Third>,
     D: Choice<Channel<u64, R>, Counts, Fourth>,
     D: Choice<Generic<P>, Reads, Fifth>,
-    D: Choice<Executor<Task<R>, R>, Counts, Sixth>,
+    D: Choice<Executor<Task<C, R>, R>, Counts, Sixth>,
+    D: Choice<Timer, WakesTimeout<R>, Seventh>,
     P: Measured<C, R>,
     C: Clock,
     R: Threads + Wait + time::Clock + Clone + Drop + Send + Sync + 'static,
@@ -68,6 +71,7 @@ where
             Kind::BoundedThreadMessagesServed => self.bounded_thread_messages_served(count, size),
             Kind::ReadyFutures => self.ready_futures(count, size),
             Kind::ThreadWoken => self.thread_woken(count, size),
+            Kind::TimeoutsReady => self.timeouts_ready(count, size),
         }
     }
 
@@ -267,6 +271,46 @@ where
         Ok(())
     }
 
+    fn timeouts_ready(&mut self, count: u32, size: u32) -> Result<()> {
+        let scheduler = self.insert_executor()?;
+        for _ in 0..count {
+            self.wait_for_timeouts(&scheduler, size)?;
+        }
+        Ok(())
+    }
+
+    // One round: the way to the last moment isn't measured.
+    fn wait_for_timeouts(
+        &mut self,
+        scheduler: &Scheduler<Task<C, R>, R>,
+        size: u32,
+    ) -> Result<()> {
+        let from = self.now();
+        let began = self.start()?;
+        self.schedule_timeouts(scheduler, size, from)?;
+        self.stop(began)?;
+        self.come_to(from.after(Duration::from_nanos(SCATTER)));
+        let wanted = self.calls.saturating_add(u64::from(size));
+        let began = self.start()?;
+        self.dispatch_until(wanted, size)?;
+        self.stop(began)
+    }
+
+    // Schedules as many futures that are ready at the scattered moments from this one on.
+    fn schedule_timeouts(
+        &mut self,
+        scheduler: &Scheduler<Task<C, R>, R>,
+        size: u32,
+        from: Instant,
+    ) -> Result<()> {
+        for i in 0..size {
+            let timeout = self.make_timeout(scattered(from, i))?;
+            let scheduled = scheduler.schedule(Task::Lasts(timeout));
+            ensure!(scheduled.is_ok(), "a future is refused");
+        }
+        Ok(())
+    }
+
     fn thread_woken(&mut self, count: u32, size: u32) -> Result<()> {
         let scheduler = self.insert_executor()?;
         for _ in 0..count {
@@ -276,7 +320,11 @@ where
     }
 
     // One round: the future's first poll, in which it hands its waker out, isn't measured.
-    fn wake_from_thread(&mut self, scheduler: &Scheduler<Task<R>, R>, size: u32) -> Result<()> {
+    fn wake_from_thread(
+        &mut self,
+        scheduler: &Scheduler<Task<C, R>, R>,
+        size: u32,
+    ) -> Result<()> {
         let meeting = self.make_meeting()?;
         let sleeper = Sleeper::new(Arc::try_clone(&meeting)?, size);
         let scheduled = scheduler.schedule(Task::Sleeps(sleeper));
@@ -324,8 +372,8 @@ fn send_all<P: Measured<C, R>, C: Clock, R>(peers: &mut [P::Peer]) -> Result<()>
 }
 
 // Schedules as many futures that are ready.
-fn schedule_ready<R: Wait + Clone + Drop>(
-    scheduler: &Scheduler<Task<R>, R>,
+fn schedule_ready<C: Clock, R: Wait + Clone + Drop>(
+    scheduler: &Scheduler<Task<C, R>, R>,
     size: u32,
 ) -> Result<()> {
     for _ in 0..size {

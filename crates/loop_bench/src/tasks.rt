@@ -1,5 +1,6 @@
 //! The futures of the rows.
 use calloop::futures::{Context, Future, Poll, Waker};
+use calloop::{Clock, TimeoutFuture};
 use std::alloc::Global;
 use std::sync::atomic::{AtomicU32, Ordering};
 use std::sync::{Arc, Mutex, Wait};
@@ -77,20 +78,23 @@ impl<R: Wait + Clone + Drop> Sleeper<R> {
 
 /// A future of the rows.
 #[derive(Drop)]
-pub enum Task<R: Wait + Drop> {
+pub enum Task<C: Clock, R: Wait + Drop> {
     /// It is ready at its first poll.
     IsReady,
     /// It waits for wakes.
     Sleeps(Sleeper<R>),
+    /// It waits for a moment.
+    Lasts(TimeoutFuture<C, R>),
 }
 
-impl<R: Wait + Clone + Drop> Future<R> for Task<R> {
+impl<C: Clock, R: Wait + Clone + Drop> Future<R> for Task<C, R> {
     type Output = ();
 
     fn poll(&mut self, cx: &mut Context<'_, R>) -> Poll<()> {
         match self {
             Task::IsReady => Poll::Ready(()),
             Task::Sleeps(sleeper) => sleeper.poll(cx),
+            Task::Lasts(timeout) => timeout.poll(cx),
         }
     }
 }
