@@ -7,6 +7,7 @@ use std::test::Fail;
 mod blocked;
 mod desk;
 mod job;
+mod machine;
 mod streams;
 mod threads;
 
