@@ -8,6 +8,7 @@ mod blocked;
 mod desk;
 mod job;
 mod machine;
+mod memory;
 mod streams;
 mod threads;
 
