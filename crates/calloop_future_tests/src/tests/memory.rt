@@ -3,9 +3,7 @@
 //! The kit's unproved run has each allocation refused in turn: `rt try --test --fail-alloc 1..`.
 use super::desk::{self, are_all};
 use super::job::Job;
-use calloop::futures::{
-    Context, Executor, Poll, ScheduleError, Scheduler, make_executor,
-};
+use calloop::futures::{Context, Executor, Poll, ScheduleError, Scheduler, make_executor};
 use calloop::stream::{Stream, StreamSource};
 use calloop::{
     Choice, Dispatcher, Error, EventDispatcher, Here, InsertError, On, Result as LoopResult,
@@ -46,7 +44,10 @@ where
 {
     let mut event_loop: ScriptLoop<D, R> = loop_of(rt, alloc)?;
     let (executor, scheduler) = executor_of(rt, alloc)?;
-    insert(&mut event_loop, D::hold(Dispatcher::new(executor, desk::Reader)))?;
+    insert(
+        &mut event_loop,
+        D::hold(Dispatcher::new(executor, desk::Reader)),
+    )?;
     let first = schedules_all(&scheduler, 0);
     let again = clone_of(&scheduler)?;
     drop(scheduler);
