@@ -1,6 +1,5 @@
 //! Futures of the kit's crate `futures` beside the loop. Their wakes come over a pair of sockets: the kit's doorbell writes to one
 //! end, and the loop hears of the other.
-ghost use Rattle.std.specs.Prelude.{IfErr};
 
 use calloop::{Asking, Callback, MioIo, NoIoDrop, PostAction, Readiness};
 use futures::Future;

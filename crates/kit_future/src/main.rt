@@ -67,12 +67,12 @@ where
     match Resting::begin(rt, &solo, receiver) {
         Ok(output) => say(&mut said, output)?,
         Err(resting) => {
-            let child = spawn(rt, move || sender.send(42)).map_err(|_| Error::OutOfMemory)?;
             let says = Says {
                 rt: rt.clone()?,
                 solo: &solo,
                 resting: Some(resting),
             };
+            let child = spawn(rt, move || sender.send(42)).map_err(|_| Error::OutOfMemory)?;
             let ran = dispatches(rt, alloc, says, heard, &mut said);
             let _sent = child.join(rt);
             ran?;
