@@ -1,6 +1,6 @@
 //! Futures and streams where memory is wanting: what was refused leaves nothing made, comes back, and goes through at the second try.
 //!
-//! The kit's unproved run has each allocation refused in turn: `rt try --test --fail-alloc 1..`.
+//! The kit's unproved run has one allocation refused: `rt try --test --fail-alloc N`.
 use super::desk::{self, are_all};
 use super::job::Job;
 use calloop::futures::{Context, Executor, Poll, ScheduleError, Scheduler, make_executor};
