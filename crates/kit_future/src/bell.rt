@@ -21,11 +21,38 @@ pub fn belled<R: Net + RandomSource + AllocGlobal>(rt: &R) -> io::Result<(Solo, 
     Ok((solo, heard))
 }
 
+// A future that may be polled.
+#[derive(Drop)]
+struct Pollable<F: Future> {
+    future: F,
+    ghost can_poll: { ∥ F.can_poll future ∥₁ },
+}
+
+impl<F: Future> Pollable<F> {
+    fn into_inner(self) -> F
+        ensures { F.can_poll result }
+    {
+        let Pollable { future } = self;
+        future
+    }
+
+    // One poll: its output, or the future back.
+    fn poll(self, solo: &Solo) -> Result<F::Output, Pollable<F>> {
+        let mut future = self.into_inner();
+        let mut context = solo.begin();
+        let polled = future.poll(&mut context);
+        context.end(&polled);
+        match polled {
+            Poll::Ready(output) => Ok(output),
+            Poll::Pending => Err(Pollable { future }),
+        }
+    }
+}
+
 /// A future that waits for a wake, which rings.
 pub struct Resting<'a, F: Future> {
     asleep: Asleep<'a>,
-    future: F,
-    ghost goes_on: { F.can_poll future },
+    pollable: Pollable<F>,
 }
 
 impl<'a, F: Future> Resting<'a, F> {
@@ -33,33 +60,42 @@ impl<'a, F: Future> Resting<'a, F> {
     pub fn begin<R: Wait>(rt: &R, solo: &'a Solo, future: F) -> Result<F::Output, Resting<'a, F>>
         requires { F.can_poll future }
     {
-        let mut future = future;
-        'polls: for _ in rt.forever() {
-            let mut context = solo.begin();
-            let polled = future.poll(&mut context);
-            context.end(&polled);
-            if let Poll::Ready(output) = polled {
-                return Ok(output);
-            }
-            // None: it was woken meanwhile
-            if let Some(asleep) = solo.sleep() {
-                return Err(Resting { asleep, future });
-            }
-        }
-        unreachable!()
+        poll_on(rt, solo, Pollable { future })
     }
 
     /// The same again, after a ring.
     pub fn go_on<R: Wait>(self, rt: &R, solo: &'a Solo) -> Result<F::Output, Resting<'a, F>> {
-        let Resting { asleep, future } = self;
+        let Resting { asleep, pollable } = self;
         asleep.end();
-        Resting::begin(rt, solo, future)
+        poll_on(rt, solo, pollable)
     }
+}
+
+fn poll_on<'a, F: Future, R: Wait>(
+    rt: &R,
+    solo: &'a Solo,
+    pollable: Pollable<F>,
+) -> Result<F::Output, Resting<'a, F>> {
+    let mut pollable = pollable;
+    for _ in rt.forever() {
+        match pollable.poll(solo) {
+            Ok(output) => return Ok(output),
+            Err(pending) => pollable = pending,
+        }
+        // None: it was woken meanwhile
+        if let Some(asleep) = solo.sleep() {
+            return Err(Resting { asleep, pollable });
+        }
+    }
+    unreachable!()
 }
 
 impl<'a, F: Future> Drop for Resting<'a, F> {
     fn drop(self) {
-        let Resting { asleep, future: _ } = self;
+        let Resting {
+            asleep,
+            pollable: _,
+        } = self;
         asleep.end();
     }
 }
