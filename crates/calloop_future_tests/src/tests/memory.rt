@@ -62,7 +62,7 @@ fn schedules_all<R>(scheduler: &Scheduler<Job<R>, R>, first: u32) -> bool
 where
     R: Wait + Clone + Drop,
 {
-    for number in first..first + COUNT {
+    for number in first..first.saturating_add(COUNT) {
         if !schedules(scheduler, number) {
             return false;
         }
@@ -136,7 +136,6 @@ type Held<R> = Sources<Dispatcher<StreamSource<Numbers, R>, Reader>, Vec<u32>>;
 fn reads_all<D, R>(rt: &R, alloc: Global) -> Option<bool>
 where
     D: EventDispatcher<ScriptPoller, ScriptClock, R, Data = Vec<u32>>,
-    Numbers: Stream<R, Item = u32>,
     D: Choice<StreamSource<Numbers, R>, Reader, Here>,
     R: Wait + Clone + Drop,
 {
