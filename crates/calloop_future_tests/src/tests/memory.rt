@@ -136,23 +136,27 @@ type Held<R> = Sources<Dispatcher<StreamSource<Numbers, R>, Reader>, Vec<u32>>;
 fn reads_all<D, R>(rt: &R, alloc: Global) -> Option<bool>
 where
     D: EventDispatcher<ScriptPoller, ScriptClock, R, Data = Vec<u32>>,
+    Numbers: Stream<R, Item = u32>,
     D: Choice<StreamSource<Numbers, R>, Reader, Here>,
     R: Wait + Clone + Drop,
 {
     let mut event_loop: ScriptLoop<D, R> = loop_of(rt, alloc)?;
-    let source = stream_of(rt, alloc)?;
+    let numbers = Numbers {
+        next: 0,
+        end: COUNT,
+    };
+    let source = stream_of(rt, alloc, numbers)?;
     insert(&mut event_loop, D::hold(Dispatcher::new(source, Reader)))?;
     let mut said = room(alloc)?;
     let went = dispatches(rt, &mut event_loop, &mut said);
     Some(went && are_all(&said, 0..COUNT + 1))
 }
 
-fn stream_of<R: Wait + Clone + Drop>(rt: &R, alloc: Global) -> Option<StreamSource<Numbers, R>> {
-    let numbers = Numbers {
-        next: 0,
-        end: COUNT,
-    };
-    match StreamSource::new(rt, alloc, numbers) {
+fn stream_of<S: Stream<R>, R>(rt: &R, alloc: Global, stream: S) -> Option<StreamSource<S, R>>
+where
+    R: Wait + Clone + Drop,
+{
+    match StreamSource::new(rt, alloc, stream) {
         Ok(source) => Some(source),
         Err(refused) => {
             let back = given_back(refused)?;
