@@ -7,6 +7,8 @@ use std::test::Fail;
 mod blocked;
 mod desk;
 mod job;
+mod machine;
+mod memory;
 mod streams;
 mod threads;
 mod timeouts;

@@ -19,6 +19,7 @@ use std::test::Fail;
 mod bench;
 mod desk;
 mod held;
+mod memory;
 mod pair;
 
 type Rows<'a> = [(Shape, &'a [(u32, Asked)], Shape); 10];

@@ -174,10 +174,13 @@ where
     }
 }
 
-// Plays at a new loop. Of the tests' loops its types alone are known here.
+// Plays at a new loop: the place of the first act that isn't as it is wanted, or one behind the last where no loop can be made.
 fn plays<R: Wait + Clone + Drop>(rt: &R, alloc: Global, acts: &[Act<'_>]) -> Option<usize> {
-    let mut bedroom: Bedroom<Held<R>, R> = Bedroom::new(rt, alloc)?;
-    bedroom.play(acts)
+    let made: Option<Bedroom<Held<R>, R>> = Bedroom::new(rt, alloc);
+    match made {
+        Some(mut bedroom) => bedroom.play(acts),
+        None => Some(acts.len()),
+    }
 }
 
 #[test]

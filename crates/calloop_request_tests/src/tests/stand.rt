@@ -317,10 +317,14 @@ impl<R: Wait + Drop> Counted for Held<R> {
     }
 }
 
-/// Plays at a new stand: the place of the first act that isn't as it is wanted. This alone knows of which types the loop is.
+/// Plays at a new stand: the place of the first act that isn't as it is wanted, or one behind the last where no stand can be made. This alone
+/// knows of which types the loop is.
 pub fn plays<R: Wait + Clone + Drop>(rt: &R, alloc: Global, acts: &[Act<'_>]) -> Option<usize> {
-    let mut stand: Stand<Held<R>, R> = Stand::new(rt, alloc)?;
-    stand.play(acts)
+    let made: Option<Stand<Held<R>, R>> = Stand::new(rt, alloc);
+    match made {
+        Some(mut stand) => stand.play(acts),
+        None => Some(acts.len()),
+    }
 }
 
 fn at(millis: u64) -> Instant {
