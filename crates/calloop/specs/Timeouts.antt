@@ -54,7 +54,7 @@ abbrev pub HasNoTimer : {D P C R X I S : Type 0} → Meaning D P (Lent X (Asks D
 HasNoTimer {D} {P} {C} {R} M runs O held moment e old new =
     ((e ≡ OutOfMemory) × (held_by new ≡ held_by old))
     ⊎ ((back : InsertError D) × (back.error ≡ e) × (wakes : WakesTimeout R)
-       × IsCase M runs O (Insert (held (timer_at moment wakes))) (Inserted (Err back)) old new)
+    × IsCase M runs O (Insert (held (timer_at moment wakes))) (Inserted (Err back)) old new)
 
 -- What comes of making one. Without a moment nothing is inserted, and want of memory alone refuses it.
 abbrev pub IsMade : {D P C R X I S : Type 0} → Meaning D P (Lent X (Asks D I)) → Runs D I X → Outside P

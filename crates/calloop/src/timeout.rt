@@ -110,15 +110,15 @@ impl<C: Clock, R: Wait + Clone + Drop> TimeoutFuture<C, R> {
     where
         D: EventDispatcher<P, C, R> + Choice<Timer, WakesTimeout<R>, N>,
         P: Poller,
+        ensures same { handle.new.inner.ghost_name ≡ handle.old.inner.ghost_name }
         ensures clock { IfOk result (λ made. C.is_clone (clock_by handle.old) made.clock) }
         ensures ok { IfOk result (λ made. (made.deadline ≡ Some deadline)
             × HasTimer D.means D.Idle.runs P.outside D.held deadline made handle.old handle.new) }
         ensures err { IfErr result
             (λ e. HasNoTimer D.means D.Idle.runs P.outside D.held
-                deadline e handle.old handle.new) }
+            deadline e handle.old handle.new) }
     {
-        let (future, wakes) =
-            TimeoutFuture::unarmed(handle.clock(), rt, alloc, Some(deadline))?;
+        let (future, wakes) = TimeoutFuture::unarmed(handle.clock(), rt, alloc, Some(deadline))?;
         let timer = Dispatcher::new(Timer::from_deadline(deadline), wakes);
         handle.register_dispatcher(D::hold(timer))?;
         Ok(future)
@@ -136,10 +136,11 @@ impl<C: Clock, R: Wait + Clone + Drop> TimeoutFuture<C, R> {
     where
         D: EventDispatcher<P, C, R> + Choice<Timer, WakesTimeout<R>, N>,
         P: Poller,
+        ensures same { handle.new.inner.ghost_name ≡ handle.old.inner.ghost_name }
         ensures clock { IfOk result (λ made. C.is_clone (clock_by handle.old) made.clock) }
         ensures made { (now : Instant) × C.shows (clock_by handle.old) now.nanos
             × IsMade D.means D.Idle.runs P.outside D.held (moment_after now duration)
-                result handle.old handle.new }
+            result handle.old handle.new }
     {
         match handle.clock().now().checked_add(duration) {
             Some(deadline) => TimeoutFuture::from_deadline(handle, rt, alloc, deadline),

@@ -280,11 +280,7 @@ where
     }
 
     // One round: the way to the last moment isn't measured.
-    fn wait_for_timeouts(
-        &mut self,
-        scheduler: &Scheduler<Task<C, R>, R>,
-        size: u32,
-    ) -> Result<()> {
+    fn wait_for_timeouts(&mut self, scheduler: &Scheduler<Task<C, R>, R>, size: u32) -> Result<()> {
         let from = self.now();
         let began = self.start()?;
         self.schedule_timeouts(scheduler, size, from)?;
@@ -320,11 +316,7 @@ where
     }
 
     // One round: the future's first poll, in which it hands its waker out, isn't measured.
-    fn wake_from_thread(
-        &mut self,
-        scheduler: &Scheduler<Task<C, R>, R>,
-        size: u32,
-    ) -> Result<()> {
+    fn wake_from_thread(&mut self, scheduler: &Scheduler<Task<C, R>, R>, size: u32) -> Result<()> {
         let meeting = self.make_meeting()?;
         let sleeper = Sleeper::new(Arc::try_clone(&meeting)?, size);
         let scheduled = scheduler.schedule(Task::Sleeps(sleeper));

@@ -57,7 +57,7 @@ where
     ensures { (p : Popped T) × (turn.new ≡ turn_after_pop p turn.old)
         × (twin.new ≡ twin_after_pop p twin.old) × (result ≡ is_close p)
         × Went F.may Q.reaches callback.old «data».old requests.old (call_of p)
-            callback.new «data».new requests.new }
+        callback.new «data».new requests.new }
 {
     match cell::pop(rt, shared, twin, turn) {
         Popped::Item(message) => {
@@ -92,7 +92,7 @@ where
     ensures name { twin.new.name ≡ twin.old.name }
     ensures handed { (ps : List (Popped T)) × IsOver (turn_after ps turn)
         × Handed F.may Q.reaches turn twin.old callback.old «data».old requests.old ps
-            (turn_after ps turn) twin.new result callback.new «data».new requests.new }
+        (turn_after ps turn) twin.new result callback.new «data».new requests.new }
 {
     let mut turn = turn;
     let mut told = false;

@@ -53,7 +53,7 @@ where
     ensures { (polled : Option Fut.Output) × (result ≡ is_some polled)
         × IfSome polled (GivenBy Fut.gives)
         × Went F.may Q.reaches callback.old «data».old requests.old (call_of polled)
-            callback.new «data».new requests.new }
+        callback.new «data».new requests.new }
 {
     let Some(held) = homes.take(rt, home) else {
         return false;
@@ -93,7 +93,7 @@ where
         × (twin.new ≡ record twin.old { number = twin.old.number + results_of polled })
         × AllGiven (GivenBy Fut.gives) polled
         × Went F.may Q.reaches callback.old «data».old requests.old (calls_of polled)
-            callback.new «data».new requests.new }
+        callback.new «data».new requests.new }
 {
     let mut turn = turn;
     let mut finished = false;

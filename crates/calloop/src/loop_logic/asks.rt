@@ -514,7 +514,7 @@ fn next_ticket<D, I>(
         × (vec_len answers.new + (deque_len written.new + 3) ≤ vec_capacity answers.new)
         × (deque_len idles.new + (deque_len written.new + 3) ≤ deque_capacity idles.new)
         × (deque_len running.new + (deque_len idles.new + (deque_len written.new + 3))
-            ≤ deque_capacity running.new)) }
+        ≤ deque_capacity running.new)) }
     ensures items { (written.new.items ≡ written.old.items)
         × (answers.new.items ≡ answers.old.items) × (idles.new.items ≡ idles.old.items)
         × (running.new.items ≡ running.old.items) }

@@ -90,9 +90,9 @@ impl<D: EventDispatcher<P, C, R>, P: Poller, C: Clock, R: Wait + Drop> EventLoop
     ) -> Result<Option<Fut::Output>>
         requires { F.IsAlwaysCallable callback }
         ensures { ((result ≡ Err OutOfMemory) × («data».new ≡ «data».old)
-                × (view_of self.new ≡ view_of self.old))
+            × (view_of self.new ≡ view_of self.old))
             ⊎ BlocksTo D.means D.Idle.runs P.outside (CalledAtMut F.FnMut) (Fut.gives future)
-                callback «data».old (view_of self.old) result «data».new (view_of self.new) }
+            callback «data».old (view_of self.old) result «data».new (view_of self.new) }
     {
         let woken = self.blocked(alloc)?;
         self.block_rounds(rt, future, woken, data, callback)

@@ -34,8 +34,8 @@ impl<D: EventDispatcher<P, C, R>, P: Poller, C: Clock, R: Wait + Drop> EventLoop
         S: EventSource<P, C, R>,
         F: Callback<S::Event, S::Metadata, S::Ret, D::Data, Requests<D, D::Idle>> + Drop,
         ensures { Did (Case D.means D.Idle.runs P.outside
-                (Insert (D.held (record { source = source; callback = callback })))
-                (Inserted (held_answer D.held callback result)))
+            (Insert (D.held (record { source = source; callback = callback })))
+            (Inserted (held_answer D.held callback result)))
             (view_of self.old) (view_of self.new) }
     {
         let mut source = source;
@@ -219,13 +219,13 @@ impl<D: EventDispatcher<P, C, R>, P: Poller, C: Clock, R: Wait + Drop> LoopHandl
     pub fn dispatcher_mut(&mut self, token: &RegistrationToken) -> Result<&mut D>
         ensures* writes_back { sem 𝓛 (LendsIfOk
             (the_row (record { mir = named 1; lft = [] })
-                D.row P.row C.row R.row D.Data.row D.Idle.row P.Io.row)
+            D.row P.row C.row R.row D.Data.row D.Idle.row P.Io.row)
             D.row self.entry result (λ w. with_handle_source token.now w self.old) self.old) }
         ensures ok { IfOk result
             (λ held. named_by (held_by self.old).slots token.now ≡ Source held.now) }
         ensures machine { IfOk result (λ held. (written : D)
             → Did (Case D.means D.Idle.runs P.outside
-                (Exchange token.now written) (Exchanged (Ok held.now)))
+            (Exchange token.now written) (Exchanged (Ok held.now)))
             (held_by self.old) (view_of (with_loop_source token.now written self.old.inner.now))) }
         ensures refuses { IsErr result
             ↔ (source_of (named_by (held_by self.old).slots token.now) ≡ None) }
@@ -333,7 +333,7 @@ impl<D: EventDispatcher<P, C, R>, P: Poller, C: Clock, R: Wait + Drop> LoopHandl
     pub fn poller_mut(&mut self) -> &mut P
         ensures* writes_back { sem 𝓛 (Lends
             (the_row (record { mir = named 1; lft = [] })
-                D.row P.row C.row R.row D.Data.row D.Idle.row P.Io.row)
+            D.row P.row C.row R.row D.Data.row D.Idle.row P.Io.row)
             P.row self.entry result (λ w. with_handle_poller w self.old)) }
         ensures value { result.now ≡ self.old.inner.now.poll.poller }
         ensures machine { (written : P)

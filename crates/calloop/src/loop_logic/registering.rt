@@ -36,7 +36,7 @@ impl<D: EventDispatcher<P, C, R>, P: Poller, C: Clock, R: Wait + Drop> EventLoop
     pub(super) fn register(&mut self, token: RegistrationToken, source: &mut D) -> Result<()>
         ensures { ByOne P.outside
             (RegisteredBy D.means Registered token
-                (is_listed token (view_of self.old).held.lifecycle) (view_of self.old).poll)
+            (is_listed token (view_of self.old).held.lifecycle) (view_of self.old).poll)
             (entered D.means token)
             source.old result source.new (view_of self.old) (view_of self.new) }
     {
@@ -52,7 +52,7 @@ impl<D: EventDispatcher<P, C, R>, P: Poller, C: Clock, R: Wait + Drop> EventLoop
     pub(super) fn reregister(&mut self, token: RegistrationToken, source: &mut D) -> Result<()>
         ensures { ByOne P.outside
             (RegisteredBy D.means Reregistered token
-                (is_listed token (view_of self.old).held.lifecycle) (view_of self.old).poll)
+            (is_listed token (view_of self.old).held.lifecycle) (view_of self.old).poll)
             (entered D.means token)
             source.old result source.new (view_of self.old) (view_of self.new) }
     {
@@ -68,7 +68,7 @@ impl<D: EventDispatcher<P, C, R>, P: Poller, C: Clock, R: Wait + Drop> EventLoop
     pub(super) fn unregister(&mut self, token: RegistrationToken, source: &mut D) -> Result<()>
         ensures { ByOne P.outside
             (λ d answer steps e.
-                D.means.does d (view_of self.old).poll (Unregistered answer) steps e)
+            D.means.does d (view_of self.old).poll (Unregistered answer) steps e)
             (left token) source.old result source.new (view_of self.old) (view_of self.new) }
     {
         let answer = source.unregister(&mut self.poll);

@@ -43,9 +43,9 @@ where
     ensures { (items : List S.Item) × (left : S)
         × EndsSo (length items) result.1 × ReadsTo S.polls stream.stream items result.1 left
         × (option_map (λ (rest : Readable S R S.Item). rest.stream) result.0
-            ≡ left_by result.1 left)
+        ≡ left_by result.1 left)
         × Went F.may Q.reaches callback.old «data».old requests.old (calls_of items result.1)
-            callback.new «data».new requests.new }
+        callback.new «data».new requests.new }
 {
     let mut stream = stream;
     let mut items = 0u32;
@@ -101,11 +101,11 @@ impl<S: Stream<R>, R: Wait + Drop> StreamSource<S, R> {
         ensures source { self.new.source ≡ self.old.source }
         ensures reads { (items : List S.Item) × (ending : Ending) × (calls : StreamCalls S.Item)
             × ReadsSo S.polls self.old.source.twin.name rung
-                (reading_of self.old.stream self.old.own).stream items ending
-                (reading_of self.old.stream self.old.own) calls result
-                (reading_of self.new.stream self.new.own)
+            (reading_of self.old.stream self.old.own).stream items ending
+            (reading_of self.old.stream self.old.own) calls result
+            (reading_of self.new.stream self.new.own)
             × Went F.may Q.reaches callback.old «data».old requests.old calls
-                callback.new «data».new requests.new }
+            callback.new «data».new requests.new }
     {
         if !rung {
             return PostAction::Continue;

@@ -240,9 +240,6 @@ fn the_timer_of_a_dropped_future_leaves_the_loop_at_its_moment(rt: HostRuntime) 
 
 #[test]
 fn a_loop_runs_for_a_future_until_its_moment(rt: HostRuntime) {
-    let acts = [
-        Act::Blocks(5),
-        Act::Asked(&[Some(5)]),
-    ];
+    let acts = [Act::Blocks(5), Act::Asked(&[Some(5)])];
     assert_eq!(rt; plays(&rt, rt.alloc(), &acts), None);
 }
