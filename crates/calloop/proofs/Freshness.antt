@@ -15,9 +15,9 @@ use Rattle.calloop_core.specs.declared.sources.PostAction.TheVariants.{Continue,
 use Rattle.calloop_core.specs.Pollers.{Outside}
 use Rattle.calloop_core.specs.Polls.{PollStep}
 use Rattle.calloop.specs.declared.loop_logic.LoopCall.{LoopCall}
-use Rattle.calloop.specs.declared.loop_logic.LoopCall.TheVariants.{Insert, Enable, Update, Disable, Remove as RemoveCall, Exchange, Dispatch, InsertIdle, Cancel, Answer as AnswerOf, ForgetStop, LookForStop, Poller as NewPoller}
+use Rattle.calloop.specs.declared.loop_logic.LoopCall.TheVariants.{Insert, Enable, Update, Disable, Remove as RemoveCall, Release, Exchange, Dispatch, InsertIdle, Cancel, Answer as AnswerOf, ForgetStop, LookForStop, Poller as NewPoller}
 use Rattle.calloop.specs.declared.loop_logic.LoopAnswer.{LoopAnswer}
-use Rattle.calloop.specs.declared.loop_logic.LoopAnswer.TheVariants.{Inserted, Enabled, Updated, Disabled, Removed, Exchanged, Dispatched, IdleInserted, Cancelled, Answered, StopForgotten, Stopped, Poller as OldPoller}
+use Rattle.calloop.specs.declared.loop_logic.LoopAnswer.TheVariants.{Inserted, Enabled, Updated, Disabled, Removed, Released, Exchanged, Dispatched, IdleInserted, Cancelled, Answered, StopForgotten, Stopped, Poller as OldPoller}
 use Rattle.calloop_core.specs.Deeds.{Lent}
 use Rattle.calloop_core.specs.Meanings.{Meaning}
 use Rattle.calloop.specs.declared.loop_logic.asks.Asked.{Asked}
@@ -26,7 +26,9 @@ use Rattle.calloop.specs.declared.loop_logic.asks.Request.{Request}
 use Rattle.calloop.specs.declared.loop_logic.asks.Request.TheVariants.{Insert as AskInsert, Enable as AskEnable, Update as AskUpdate, Disable as AskDisable, Remove as AskRemove, Idle as AskIdle, Cancel as AskCancel}
 use Rattle.calloop.specs.Askings.{Asks, Runs, begun_from}
 use Rattle.calloop.specs.Machine.{World, View, IsNew, Change, Holds, seen, slot_of, done, all_done}
-use Rattle.calloop.specs.Rules.{Doing, Beginning, Sleeping, Waiting, Gathering, Noticing, Cutting, Serving, Ending, Returning, Idling, RunningIdles, ServingIdle, Leaving, Outcome, Step, Steps, SleptAs, SleptBy, NoticedBy, told_in, CutTo, CutFrom, ActedBy, ReturnedTo, emptied, Case, Run, InsertedBy, AskedIn, RemovedIn, EnabledBy, UpdatedBy, DisabledBy, RemovedBy, ExchangedIn, ExchangedBy, IdleInsertedBy, OwnOr, Served, ServedAs, ServedFrom, RunFrom, action_of, Once, all_traced}
+use Rattle.calloop.proofs.Roles.{left_removed}
+use Rattle.calloop.specs.Roles.{only, is_callers, is_adapter}
+use Rattle.calloop.specs.Rules.{Doing, Beginning, Settling, Sleeping, Waiting, Gathering, Noticing, Cutting, Serving, Ending, Returning, Idling, RunningIdles, ServingIdle, Leaving, Outcome, Step, Steps, SleptAs, SleptBy, NoticedBy, told_in, CutTo, CutFrom, ActedBy, ReturnedTo, emptied, Case, Run, InsertedBy, AskedIn, SettledIn, TakesUp, as_listed, RemovedIn, EnabledBy, UpdatedBy, DisabledBy, RemovedBy, ReleasedBy, ExchangedIn, ExchangedBy, IdleInsertedBy, OwnOr, Served, ServedAs, ServedFrom, RunFrom, action_of, Once, all_traced}
 use Rattle.calloop.specs.Held.{HeldStep, Begun, Pend}
 use Rattle.calloop.specs.Laws.{AllBring, joined, changes_of}
 use Rattle.calloop.specs.Freshness.{AreOnly, IsOnly, AsksOnly, RunsOnly, CallBrings, AllCallsBring}
@@ -119,9 +121,9 @@ module _ {D I P X : Type 0} (C : D → Type 0) (S : D → D → Type 0) (M : Mea
   told_fresh w ds cs step f is h = rw is (on-append w ds (Holds step ∷ []) h (λ k. ((tt, tt), f (all_done w ds) k)))
 
   served_as_fresh : (w : World D I P) (request : Request D I) (answer : Outcome) (cs : List (Change D I P)) → ServedAs M request answer (seen w) cs → Asked' w → Fresh w cs
-  served_as_fresh w (AskEnable token) answer cs h k = own_or (named (map slot_of w.slots) token) (λ g. rw g.1 (tt, k)) (λ g. asked_fresh w _ _ token (named (map slot_of w.slots) token) answer cs (λ d a l. l) g k) h
-  served_as_fresh w (AskUpdate token) answer cs h k = own_or (named (map slot_of w.slots) token) (λ g. rw g.1 ((tt, tt), k)) (λ g. asked_fresh w _ _ token (named (map slot_of w.slots) token) answer cs (λ d a l. l) g k) h
-  served_as_fresh w (AskDisable token) answer cs h k = own_or (named (map slot_of w.slots) token) (λ g. rw g.1 ((tt, tt), k)) (λ g. asked_fresh w _ _ token (named (map slot_of w.slots) token) answer cs (λ d a l. l) g k) h
+  served_as_fresh w (AskEnable token) answer cs h k = own_or (named (map slot_of w.slots) token) (λ g. rw g.1 (tt, k)) (λ g. asked_fresh w _ _ token (only (is_callers M) (named (map slot_of w.slots) token)) answer cs (λ d a l. l) g k) h
+  served_as_fresh w (AskUpdate token) answer cs h k = own_or (named (map slot_of w.slots) token) (λ g. rw g.1 ((tt, tt), k)) (λ g. asked_fresh w _ _ token (only (is_callers M) (named (map slot_of w.slots) token)) answer cs (λ d a l. l) g k) h
+  served_as_fresh w (AskDisable token) answer cs h k = own_or (named (map slot_of w.slots) token) (λ g. rw g.1 ((tt, tt), k)) (λ g. asked_fresh w _ _ token (only (is_callers M) (named (map slot_of w.slots) token)) answer cs (λ d a l. l) g k) h
   served_as_fresh w (AskInsert d) answer cs h k = absurd h
   served_as_fresh w (AskRemove token) answer cs h k = absurd h
   served_as_fresh w (AskIdle idle) answer cs h k = absurd h
@@ -133,7 +135,7 @@ module _ {D I P X : Type 0} (C : D → Type 0) (S : D → D → Type 0) (M : Mea
   served_fresh w (AskUpdate token) cs n h k = told_fresh w h.1 cs _ (λ u l. l) h.3 (served_as_fresh w (AskUpdate token) h.0 h.1 h.2 k)
   served_fresh w (AskDisable token) cs n h k = told_fresh w h.1 cs _ (λ u l. l) h.3 (served_as_fresh w (AskDisable token) h.0 h.1 h.2 k)
   served_fresh w (AskRemove token) cs n h k =
-      own_or (named (map slot_of w.slots) token) (λ g. rw g ((tt, (tt, (tt, tt))), k)) (λ g. told_fresh w g.1 cs _ (λ u l. l) g.3 (removed_fresh w token (named (map slot_of w.slots) token) g.0 g.1 g.2 k)) h
+      own_or (named (map slot_of w.slots) token) (λ g. rw g ((tt, (tt, (tt, tt))), k)) (λ g. told_fresh w g.1 cs _ (λ u l. l) g.3 (removed_fresh w token (only (is_callers M) (named (map slot_of w.slots) token)) g.0 g.1 g.2 k)) h
   served_fresh w (AskIdle idle) cs n h k = rw h ((tt, tt), k)
   served_fresh w (AskCancel ticket) cs n h k = rw h ((tt, (tt, tt)), k)
 
@@ -146,8 +148,20 @@ module _ {D I P X : Type 0} (C : D → Type 0) (S : D → D → Type 0) (M : Mea
   run_from_fresh w [] x cs b h k = rw h.0 (tt, k)
   run_from_fresh w (i ∷ is) x cs b h k = rw h.3 ((tt, (tt, tt)), idles i.idle x h.0 _ _ h.2 k)
 
+  settled_fresh : (w : World D I P) (token : RegistrationToken) (c : Content D) (cs : List (Change D I P)) → SettledIn M token c (seen w) cs → Asked' w → Fresh w cs
+  settled_fresh w token Vacant cs h k = rw h (tt, k)
+  settled_fresh w token InTurn cs h k = rw h (tt, k)
+  settled_fresh w token (Source d) cs (inl h) k = asked_fresh w (TakesUp M token w.poll) (as_listed token) token (Source d) (Ok tt) cs (λ d a l. l) h k
+  settled_fresh w token (Source d) cs (inr h) k = removed_fresh w token (Source d) h.0 cs h.1 k
+
+  released_fresh : (w : World D I P) (token : RegistrationToken) (answer : Outcome) (cs : List (Change D I P)) → ReleasedBy M token answer (seen w) cs → Asked' w → Fresh w cs
+  released_fresh w token (Ok u) cs h k = (let r = left_removed M token (only (is_adapter M) (named (map slot_of w.slots) token)) (seen w) cs h in removed_fresh w token (only (is_adapter M) (named (map slot_of w.slots) token)) r.0 cs r.1 k)
+  released_fresh w token (Err e) cs h k = asked_fresh w _ _ token (only (is_adapter M) (named (map slot_of w.slots) token)) (Err e) cs (λ d a l. l) h k
+
   step_fresh : (w : World D I P) (a b : Doing D X) (cs : List (Change D I P)) → Step M runs O (seen w) a cs b → Asked' w → Fresh w cs
-  step_fresh w (Beginning timeout x) b cs h k = rw h.1 ((tt, (tt, tt)), k)
+  step_fresh w (Beginning timeout x) b cs h k = rw h.3 ((tt, (tt, tt)), k)
+  step_fresh w (Settling timeout [] x) b cs h k = rw h.0 (tt, k)
+  step_fresh w (Settling timeout (t ∷ later) x) b cs h k = settled_fresh w t (only (is_adapter M) (named (map slot_of w.slots) t)) cs h.0 k
   step_fresh w (Sleeping timeout [] x) b cs h k = rw h.0 (tt, k)
   step_fresh w (Sleeping timeout (t ∷ later) x) b cs h k = slept_fresh w timeout t later x cs b (named (map slot_of w.slots) t) h k
   step_fresh w (Waiting timeout x) b cs h k = rw h.5 ((tt, (tt, tt)), k)
@@ -184,11 +198,12 @@ module _ {D I P X : Type 0} (C : D → Type 0) (S : D → D → Type 0) (M : Mea
 
   case_fresh : (w : World D I P) (call : LoopCall D P X I) (answer : LoopAnswer D P X I) (css : List (List (Change D I P))) → CallBrings C S call answer → Case M runs O call answer (seen w) css → Asked' w → Fresh w (joined css)
   case_fresh w (Insert d) (Inserted answer) css n h k = once_fresh w (InsertedBy M d answer) css h (λ cs r. inserted_fresh w d answer cs n r k)
-  case_fresh w (Enable token) (Enabled answer) css n h k = once_fresh w (EnabledBy M token answer) css h (λ cs r. asked_fresh w _ _ token (named (map slot_of w.slots) token) answer cs (λ d a l. l) r k)
-  case_fresh w (Update token) (Updated answer) css n h k = once_fresh w (UpdatedBy M token answer) css h (λ cs r. asked_fresh w _ _ token (named (map slot_of w.slots) token) answer cs (λ d a l. l) r k)
-  case_fresh w (Disable token) (Disabled answer) css n h k = once_fresh w (DisabledBy M token answer) css h (λ cs r. asked_fresh w _ _ token (named (map slot_of w.slots) token) answer cs (λ d a l. l) r k)
-  case_fresh w (RemoveCall token) (Removed answer) css n h k = once_fresh w (RemovedBy M token answer) css h (λ cs r. removed_fresh w token (named (map slot_of w.slots) token) answer cs r k)
-  case_fresh w (Exchange token d) (Exchanged answer) css n h k = once_fresh w (ExchangedBy token d answer) css h (λ cs r. exchanged_fresh w token d (named (map slot_of w.slots) token) answer cs n r k)
+  case_fresh w (Enable token) (Enabled answer) css n h k = once_fresh w (EnabledBy M token answer) css h (λ cs r. asked_fresh w _ _ token (only (is_callers M) (named (map slot_of w.slots) token)) answer cs (λ d a l. l) r k)
+  case_fresh w (Update token) (Updated answer) css n h k = once_fresh w (UpdatedBy M token answer) css h (λ cs r. asked_fresh w _ _ token (only (is_callers M) (named (map slot_of w.slots) token)) answer cs (λ d a l. l) r k)
+  case_fresh w (Disable token) (Disabled answer) css n h k = once_fresh w (DisabledBy M token answer) css h (λ cs r. asked_fresh w _ _ token (only (is_callers M) (named (map slot_of w.slots) token)) answer cs (λ d a l. l) r k)
+  case_fresh w (RemoveCall token) (Removed answer) css n h k = once_fresh w (RemovedBy M token answer) css h (λ cs r. removed_fresh w token (only (is_callers M) (named (map slot_of w.slots) token)) answer cs r k)
+  case_fresh w (Release token) (Released answer) css n h k = once_fresh w (ReleasedBy M token answer) css h (λ cs r. released_fresh w token answer cs r k)
+  case_fresh w (Exchange token d) (Exchanged answer) css n h k = once_fresh w (ExchangedBy M token d answer) css h (λ cs r. exchanged_fresh w token d (only (is_callers M) (named (map slot_of w.slots) token)) answer cs n r k)
   case_fresh w (Dispatch timeout x) (Dispatched answer x') css n h k = elim h [ inl g ↦ rw g.2 (tt, k) | inr g ↦ steps_fresh w _ _ css g k ]
   case_fresh w (InsertIdle idle) (IdleInserted (Ok made)) css n h k = once_fresh w (IdleInsertedBy idle (Ok made)) css h (λ cs r. rw r.2 ((tt, tt), k))
   case_fresh w (InsertIdle idle) (IdleInserted (Err refused)) css n h k = once_fresh w (IdleInsertedBy idle (Err refused)) css h (λ cs r. rw r.2 (tt, k))

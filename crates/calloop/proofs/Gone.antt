@@ -7,12 +7,12 @@ use Rattle.calloop_core.specs.Pollers.{Outside}
 use Rattle.calloop_core.specs.Deeds.{Lent}
 use Rattle.calloop_core.specs.Meanings.{Meaning}
 use Rattle.calloop.specs.declared.loop_logic.LoopCall.{LoopCall}
-use Rattle.calloop.specs.declared.loop_logic.LoopCall.TheVariants.{Insert, Enable, Update, Disable, Remove as RemoveCall, Exchange, Dispatch, InsertIdle, Cancel, Answer as AnswerOf, ForgetStop, LookForStop, Poller as NewPoller}
+use Rattle.calloop.specs.declared.loop_logic.LoopCall.TheVariants.{Insert, Enable, Update, Disable, Remove as RemoveCall, Release, Exchange, Dispatch, InsertIdle, Cancel, Answer as AnswerOf, ForgetStop, LookForStop, Poller as NewPoller}
 use Rattle.calloop.specs.declared.loop_logic.LoopAnswer.{LoopAnswer}
-use Rattle.calloop.specs.declared.loop_logic.LoopAnswer.TheVariants.{Inserted, Enabled, Updated, Disabled, Removed, Exchanged, Dispatched, IdleInserted, Cancelled, Answered, StopForgotten, Stopped, Poller as OldPoller}
+use Rattle.calloop.specs.declared.loop_logic.LoopAnswer.TheVariants.{Inserted, Enabled, Updated, Disabled, Removed, Released, Exchanged, Dispatched, IdleInserted, Cancelled, Answered, StopForgotten, Stopped, Poller as OldPoller}
 use Rattle.calloop.specs.Askings.{Asks, Runs}
 use Rattle.calloop.specs.Machine.{World, View, Registration, Change, Put, Claim, Swapped, Polls, Polling, Watching, Counting, Holds, Appended, Gathered, Cut, Ended, Fits, AllFit, IsFull, holding, reused, is_free, with_claim, slot_of, seen, viewed, all_viewed, done, all_done}
-use Rattle.calloop.specs.Rules.{Doing, Steps, Case, Run, Once, InsertedBy, EnabledBy, UpdatedBy, DisabledBy, RemovedBy, ExchangedBy, IdleInsertedBy, traced, all_traced}
+use Rattle.calloop.specs.Rules.{Doing, Steps, Case, Run, Once, InsertedBy, EnabledBy, UpdatedBy, DisabledBy, RemovedBy, ReleasedBy, ExchangedBy, IdleInsertedBy, traced, all_traced}
 use Rattle.calloop.specs.Laws.{StaysGone, AllStayGone, joined, changes_of}
 use Rattle.calloop.proofs.Seen.{seen-done, seen-all_done, seen-all_traced}
 
@@ -107,7 +107,8 @@ module _ {D I P X : Type 0} (M : Meaning D P (Lent X (Asks D I))) (runs : Runs D
   case_fit v (Update token) (Updated answer) css h = once_fit v (UpdatedBy M token answer) css h
   case_fit v (Disable token) (Disabled answer) css h = once_fit v (DisabledBy M token answer) css h
   case_fit v (RemoveCall token) (Removed answer) css h = once_fit v (RemovedBy M token answer) css h
-  case_fit v (Exchange token d) (Exchanged answer) css h = once_fit v (ExchangedBy token d answer) css h
+  case_fit v (Release token) (Released answer) css h = once_fit v (ReleasedBy M token answer) css h
+  case_fit v (Exchange token d) (Exchanged answer) css h = once_fit v (ExchangedBy M token d answer) css h
   case_fit v (Dispatch timeout x) (Dispatched answer x') css h = elim h [ inl k ↦ rw k.2 tt | inr k ↦ steps_fit v _ _ css k ]
   case_fit v (InsertIdle idle) (IdleInserted answer) css h = once_fit v (IdleInsertedBy idle answer) css h
   case_fit v (Cancel idle) Cancelled css h = rw h (tt, tt)

@@ -26,9 +26,9 @@ use Rattle.calloop_core.specs.Keys.{IsFactoryOf}
 use Rattle.calloop_core.specs.Deeds.{Registered, Reregistered, Unregistered, Turned, Slept, Lent, lent}
 use Rattle.calloop_core.specs.Meanings.{Meaning, IsAtHome, BeginsIn, KeepsHome}
 use Rattle.calloop.specs.declared.loop_logic.LoopCall.{LoopCall}
-use Rattle.calloop.specs.declared.loop_logic.LoopCall.TheVariants.{Insert, Enable, Update, Disable, Remove as RemoveCall, Exchange, Dispatch, InsertIdle, Cancel, Answer as AnswerOf, ForgetStop, LookForStop, Poller as NewPoller}
+use Rattle.calloop.specs.declared.loop_logic.LoopCall.TheVariants.{Insert, Enable, Update, Disable, Remove as RemoveCall, Release, Exchange, Dispatch, InsertIdle, Cancel, Answer as AnswerOf, ForgetStop, LookForStop, Poller as NewPoller}
 use Rattle.calloop.specs.declared.loop_logic.LoopAnswer.{LoopAnswer}
-use Rattle.calloop.specs.declared.loop_logic.LoopAnswer.TheVariants.{Inserted, Enabled, Updated, Disabled, Removed, Exchanged, Dispatched, IdleInserted, Cancelled, Answered, StopForgotten, Stopped, Poller as OldPoller}
+use Rattle.calloop.specs.declared.loop_logic.LoopAnswer.TheVariants.{Inserted, Enabled, Updated, Disabled, Removed, Released, Exchanged, Dispatched, IdleInserted, Cancelled, Answered, StopForgotten, Stopped, Poller as OldPoller}
 use Rattle.calloop.specs.Held.{HeldStep, Begun, Pend}
 use Rattle.calloop.specs.declared.loop_logic.asks.Asked.{Asked}
 use Rattle.calloop.specs.declared.loop_logic.asks.Idling.{Idling as Waiter}
@@ -36,7 +36,9 @@ use Rattle.calloop.specs.declared.loop_logic.asks.Request.{Request}
 use Rattle.calloop.specs.declared.loop_logic.asks.Request.TheVariants.{Insert as AskInsert, Enable as AskEnable, Update as AskUpdate, Disable as AskDisable, Remove as AskRemove, Idle as AskIdle, Cancel as AskCancel}
 use Rattle.calloop.specs.Askings.{Asks, Runs, asks_after}
 use Rattle.calloop.specs.Machine.{World, View, IsNew, Change, Holds, all_viewed, seen, slot_of, viewed}
-use Rattle.calloop.specs.Rules.{Doing, Beginning, Sleeping, Waiting, Gathering, Noticing, Cutting, Serving, Ending, Returning, Idling, RunningIdles, ServingIdle, Leaving, Step, Steps, SleptAs, SleptBy, NoticedBy, told_in, CutTo, CutFrom, ActedBy, ReturnedTo, emptied, after_turn, after_wait, Outcome, RegisteredBy, Case, Once, Run, InsertedBy, AskedIn, EnabledBy, UpdatedBy, DisabledBy, RemovedIn, RemovedBy, ExchangedIn, ExchangedBy, IdleInsertedBy, OwnOr, Served, ServedAs, ServedFrom, RunFrom, action_of, factory_of, traced, all_traced}
+use Rattle.calloop.specs.Roles.{only, is_callers, is_adapter}
+use Rattle.calloop.proofs.Roles.{Shows, only_is, left_removed}
+use Rattle.calloop.specs.Rules.{Doing, Beginning, Settling, Sleeping, Waiting, Gathering, Noticing, Cutting, Serving, Ending, Returning, Idling, RunningIdles, ServingIdle, Leaving, Step, Steps, SleptAs, SleptBy, NoticedBy, told_in, CutTo, CutFrom, ActedBy, ReturnedTo, emptied, after_turn, after_wait, Outcome, RegisteredBy, Case, Once, Run, InsertedBy, AskedIn, SettledIn, TakesUp, as_listed, EnabledBy, UpdatedBy, DisabledBy, RemovedIn, RemovedBy, ReleasedBy, ExchangedIn, ExchangedBy, IdleInsertedBy, OwnOr, Served, ServedAs, ServedFrom, RunFrom, action_of, factory_of, traced, all_traced}
 use Rattle.calloop.specs.Homes.{AllAtHome}
 use Rattle.calloop.specs.Laws.{HasNoMoreKeys, AllBringNoKey, joined, changes_of}
 use Rattle.calloop.proofs.Seen.{seen-all_traced, viewed-append}
@@ -211,10 +213,10 @@ module _ {D I P X : Type 0} (M : Meaning D P (Lent X (Asks D I))) (runs : Runs D
 
   asked_homely : (v : View D I P) (R : D → Outcome → List (PollStep P) → D → Type 0) (noted : D → Outcome → HeldStep D I) (token : RegistrationToken) (answer : Outcome) (cs : List (Change D I P)) (c : Content D)
       → ((d e : D) (l : List (PollStep P)) → R d answer l e → IsAtHome M token d → IsAtHome M token e)
-      → named v.slots token ≡ c → AskedIn R noted token c answer cs → Homely v.slots → Homely (all_viewed v cs).slots
+      → Shows v.slots token c → AskedIn R noted token c answer cs → Homely v.slots → Homely (all_viewed v cs).slots
   asked_homely v R noted token answer cs Vacant f is h k = rw h.1 k
   asked_homely v R noted token answer cs InTurn f is h k = rw h.1 k
-  asked_homely v R noted token answer cs (Source d) f is h k = rw h.3 (homely_again v.slots token d h.0 is (f d h.0 h.1 h.2 (home_named v.slots token d is k)) k)
+  asked_homely v R noted token answer cs (Source d) f is h k = rw h.3 (homely_again v.slots token d h.0 (is d refl) (f d h.0 h.1 h.2 (home_named v.slots token d (is d refl) k)) k)
 
   removed_homely : (v : View D I P) (token : RegistrationToken) (answer : Option D) (cs : List (Change D I P)) (c : Content D) → RemovedIn M token c answer v cs → Homely v.slots → Homely (all_viewed v cs).slots
   removed_homely v token answer cs Vacant h k = rw h.1 k
@@ -231,9 +233,9 @@ module _ {D I P X : Type 0} (M : Meaning D P (Lent X (Asks D I))) (runs : Runs D
   own_or (Source d) f g h = g h
 
   served_as_homely : (v : View D I P) (request : Request D I) (answer : Outcome) (cs : List (Change D I P)) → ServedAs M request answer v cs → Homely v.slots → Homely (all_viewed v cs).slots
-  served_as_homely v (AskEnable token) answer cs h k = own_or (named v.slots token) (λ _ o. rw o.1 k) (λ o. asked_homely v _ _ token answer cs (named v.slots token) (λ d e l u home. first_home token v.poll d e answer l u home) refl o k) h
-  served_as_homely v (AskUpdate token) answer cs h k = own_or (named v.slots token) (λ _ o. rw o.1 k) (λ o. asked_homely v _ _ token answer cs (named v.slots token) (λ d e l u home. anew_home token v.poll d e answer l u home) refl o k) h
-  served_as_homely v (AskDisable token) answer cs h k = own_or (named v.slots token) (λ _ o. rw o.1 k) (λ o. asked_homely v _ _ token answer cs (named v.slots token) (λ d e l u home. (law token d e v.poll (Unregistered answer) l home u).0) refl o k) h
+  served_as_homely v (AskEnable token) answer cs h k = own_or (named v.slots token) (λ _ o. rw o.1 k) (λ o. asked_homely v _ _ token answer cs (only (is_callers M) (named v.slots token)) (λ d e l u home. first_home token v.poll d e answer l u home) (only_is (is_callers M) v.slots token) o k) h
+  served_as_homely v (AskUpdate token) answer cs h k = own_or (named v.slots token) (λ _ o. rw o.1 k) (λ o. asked_homely v _ _ token answer cs (only (is_callers M) (named v.slots token)) (λ d e l u home. anew_home token v.poll d e answer l u home) (only_is (is_callers M) v.slots token) o k) h
+  served_as_homely v (AskDisable token) answer cs h k = own_or (named v.slots token) (λ _ o. rw o.1 k) (λ o. asked_homely v _ _ token answer cs (only (is_callers M) (named v.slots token)) (λ d e l u home. (law token d e v.poll (Unregistered answer) l home u).0) (only_is (is_callers M) v.slots token) o k) h
   served_as_homely v (AskInsert d) answer cs h k = absurd h
   served_as_homely v (AskRemove token) answer cs h k = absurd h
   served_as_homely v (AskIdle idle) answer cs h k = absurd h
@@ -245,7 +247,7 @@ module _ {D I P X : Type 0} (M : Meaning D P (Lent X (Asks D I))) (runs : Runs D
   served_homely v (AskUpdate token) cs h k = told_homely v h.1 cs _ h.3 (served_as_homely v (AskUpdate token) h.0 h.1 h.2 k)
   served_homely v (AskDisable token) cs h k = told_homely v h.1 cs _ h.3 (served_as_homely v (AskDisable token) h.0 h.1 h.2 k)
   served_homely v (AskRemove token) cs h k =
-      own_or (named v.slots token) (λ _ o. rw o (homely_without v.slots token.slot Vacant (λ d e. cc) k)) (λ o. told_homely v o.1 cs _ o.3 (removed_homely v token o.0 o.1 (named v.slots token) o.2 k)) h
+      own_or (named v.slots token) (λ _ o. rw o (homely_without v.slots token.slot Vacant (λ d e. cc) k)) (λ o. told_homely v o.1 cs _ o.3 (removed_homely v token o.0 o.1 (only (is_callers M) (named v.slots token)) o.2 k)) h
   served_homely v (AskIdle idle) cs h k = rw h k
   served_homely v (AskCancel ticket) cs h k = rw h k
 
@@ -257,8 +259,21 @@ module _ {D I P X : Type 0} (M : Meaning D P (Lent X (Asks D I))) (runs : Runs D
   run_from_homely v [] x cs b h k = rw (h.0, h.1) (k, tt)
   run_from_homely v (i ∷ is) x cs b h k = rw (h.3, h.4) (k, tt)
 
+  released_homely : (v : View D I P) (token : RegistrationToken) (answer : Outcome) (cs : List (Change D I P)) → ReleasedBy M token answer v cs → Homely v.slots → Homely (all_viewed v cs).slots
+  released_homely v token (Ok u) cs h k = (let r = left_removed M token (only (is_adapter M) (named v.slots token)) v cs h in removed_homely v token r.0 cs (only (is_adapter M) (named v.slots token)) r.1 k)
+  released_homely v token (Err e) cs h k = asked_homely v _ _ token (Err e) cs (only (is_adapter M) (named v.slots token)) (λ d f l u home. (law token d f v.poll (Unregistered (Err e)) l home u).0) (only_is (is_adapter M) v.slots token) h k
+
+  settled_homely : (v : View D I P) (token : RegistrationToken) (c : Content D) (cs : List (Change D I P)) → Shows v.slots token c → SettledIn M token c v cs → Homely v.slots → Homely (all_viewed v cs).slots
+  settled_homely v token Vacant cs is h k = rw h k
+  settled_homely v token InTurn cs is h k = rw h k
+  settled_homely v token (Source d) cs is (inl h) k =
+      asked_homely v (TakesUp M token v.poll) (as_listed token) token (Ok tt) cs (Source d) (λ d e l u home. (law token d e v.poll (Reregistered (factory_of token) (Ok tt) u.0) l (home, own_factory token) u.1).0) is h k
+  settled_homely v token (Source d) cs is (inr h) k = removed_homely v token h.0 cs (Source d) h.1 k
+
   step_homely : (v : View D I P) (a b : Doing D X) (cs : List (Change D I P)) → Step M runs O v a cs b → Homely v.slots → AsideHomely a → Homely (all_viewed v cs).slots × AsideHomely b
-  step_homely v (Beginning timeout x) b cs h k aside = rw (h.1, h.2) (k, tt)
+  step_homely v (Beginning timeout x) b cs h k aside = rw (h.3, h.4) (k, tt)
+  step_homely v (Settling timeout [] x) b cs h k aside = rw (h.0, h.1) (k, tt)
+  step_homely v (Settling timeout (t ∷ later) x) b cs h k aside = rw h.1 (settled_homely v t (only (is_adapter M) (named v.slots t)) cs (only_is (is_adapter M) v.slots t) h.0 k, tt)
   step_homely v (Sleeping timeout [] x) b cs h k aside = rw (h.0, h.1) (k, tt)
   step_homely v (Sleeping timeout (t ∷ later) x) b cs h k aside = slept_homely v timeout t later x cs b (named v.slots t) refl h k
   step_homely v (Waiting timeout x) b cs h k aside = rw (h.5, h.6) (k, aside_waited h.0 h.1 x)
@@ -280,13 +295,13 @@ module _ {D I P X : Type 0} (M : Meaning D P (Lent X (Asks D I))) (runs : Runs D
       let one = step_homely v a h.0 cs h.1 k aside in
       steps_homely (all_viewed v cs) h.0 b css h.3 one.0 one.1
 
-  exchanged_homely : (v : View D I P) (token : RegistrationToken) (new : D) (c : Content D) (answer : Result D D) (cs : List (Change D I P)) → named v.slots token ≡ c → AllBringNoKey M cs → ExchangedIn token new c answer cs → Homely v.slots → Homely (all_viewed v cs).slots
+  exchanged_homely : (v : View D I P) (token : RegistrationToken) (new : D) (c : Content D) (answer : Result D D) (cs : List (Change D I P)) → Shows v.slots token c → AllBringNoKey M cs → ExchangedIn token new c answer cs → Homely v.slots → Homely (all_viewed v cs).slots
   exchanged_homely v token new Vacant answer cs is fresh h k = rw h.1 k
   exchanged_homely v token new InTurn answer cs is fresh h k = rw h.1 k
   exchanged_homely v token new (Source d) answer cs is fresh h k =
       let fewer : HasNoMoreKeys M d new = (rw h.1 at fresh).0 in
-      let home = home_named v.slots token d is k in
-      rw h.1 (homely_back v.slots token new (named_there v.slots token (Source d) is refl) (λ key held. home key (fewer key held)) k)
+      let home = home_named v.slots token d (is d refl) k in
+      rw h.1 (homely_back v.slots token new (named_there v.slots token (Source d) (is d refl) refl) (λ key held. home key (fewer key held)) k)
 
   fresh_first : (cs ds : List (Change D I P)) → AllBringNoKey M (cs ++ ds) → AllBringNoKey M cs
   fresh_first [] ds h = tt
@@ -309,12 +324,13 @@ module _ {D I P X : Type 0} (M : Meaning D P (Lent X (Asks D I))) (runs : Runs D
 
   case_homely : (v : View D I P) (call : LoopCall D P X I) (answer : LoopAnswer D P X I) (css : List (List (Change D I P))) → AllBringNoKey M (joined css) → Case M runs O call answer v css → Homely v.slots → Homely (traced v css).slots
   case_homely v (Insert d) (Inserted answer) css fresh h k = once_homely v (InsertedBy M d answer) css h (λ cs r. inserted_homely v d answer cs r k)
-  case_homely v (Enable token) (Enabled answer) css fresh h k = once_homely v (EnabledBy M token answer) css h (λ cs r. asked_homely v _ _ token answer cs (named v.slots token) (λ d e l u home. first_home token v.poll d e answer l u home) refl r k)
-  case_homely v (Update token) (Updated answer) css fresh h k = once_homely v (UpdatedBy M token answer) css h (λ cs r. asked_homely v _ _ token answer cs (named v.slots token) (λ d e l u home. anew_home token v.poll d e answer l u home) refl r k)
-  case_homely v (Disable token) (Disabled answer) css fresh h k = once_homely v (DisabledBy M token answer) css h (λ cs r. asked_homely v _ _ token answer cs (named v.slots token) (λ d e l u home. (law token d e v.poll (Unregistered answer) l home u).0) refl r k)
-  case_homely v (RemoveCall token) (Removed answer) css fresh h k = once_homely v (RemovedBy M token answer) css h (λ cs r. removed_homely v token answer cs (named v.slots token) r k)
+  case_homely v (Enable token) (Enabled answer) css fresh h k = once_homely v (EnabledBy M token answer) css h (λ cs r. asked_homely v _ _ token answer cs (only (is_callers M) (named v.slots token)) (λ d e l u home. first_home token v.poll d e answer l u home) (only_is (is_callers M) v.slots token) r k)
+  case_homely v (Update token) (Updated answer) css fresh h k = once_homely v (UpdatedBy M token answer) css h (λ cs r. asked_homely v _ _ token answer cs (only (is_callers M) (named v.slots token)) (λ d e l u home. anew_home token v.poll d e answer l u home) (only_is (is_callers M) v.slots token) r k)
+  case_homely v (Disable token) (Disabled answer) css fresh h k = once_homely v (DisabledBy M token answer) css h (λ cs r. asked_homely v _ _ token answer cs (only (is_callers M) (named v.slots token)) (λ d e l u home. (law token d e v.poll (Unregistered answer) l home u).0) (only_is (is_callers M) v.slots token) r k)
+  case_homely v (RemoveCall token) (Removed answer) css fresh h k = once_homely v (RemovedBy M token answer) css h (λ cs r. removed_homely v token answer cs (only (is_callers M) (named v.slots token)) r k)
+  case_homely v (Release token) (Released answer) css fresh h k = once_homely v (ReleasedBy M token answer) css h (λ cs r. released_homely v token answer cs r k)
   case_homely v (Exchange token d) (Exchanged answer) css fresh h k =
-      once_fresh v (ExchangedBy token d answer) css fresh h (λ cs less r. exchanged_homely v token d (named v.slots token) answer cs refl less r k)
+      once_fresh v (ExchangedBy M token d answer) css fresh h (λ cs less r. exchanged_homely v token d (only (is_callers M) (named v.slots token)) answer cs (only_is (is_callers M) v.slots token) less r k)
   case_homely v (Dispatch timeout x) (Dispatched answer x') css fresh (inl h) k = rw h.2 k
   case_homely v (Dispatch timeout x) (Dispatched answer x') css fresh (inr h) k = steps_homely v (Beginning (nanos_of timeout) x) (Leaving answer x') css h k tt
   case_homely v (InsertIdle idle) (IdleInserted (Ok made)) css fresh h k = once_homely v (IdleInsertedBy idle (Ok made)) css h (λ cs r. rw r.2 k)

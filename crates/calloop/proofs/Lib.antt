@@ -2,6 +2,8 @@ pub mod Seen
 pub mod Counting
 pub mod Going
 mod Gone
+pub mod Roles
+pub mod Settling
 pub mod Noting
 pub mod Owning
 pub mod Inserting
@@ -24,3 +26,4 @@ pub mod Homes
 pub mod Freshness
 pub mod Registered
 pub mod Blocking
+pub mod Adapting

@@ -24,9 +24,9 @@ use Rattle.calloop_core.specs.Polls.{PollStep}
 use Rattle.calloop_core.specs.Deeds.{Lent}
 use Rattle.calloop_core.specs.Meanings.{Meaning}
 use Rattle.calloop.specs.declared.loop_logic.LoopCall.{LoopCall}
-use Rattle.calloop.specs.declared.loop_logic.LoopCall.TheVariants.{Insert, Enable, Update, Disable, Remove as RemoveCall, Exchange, Dispatch, InsertIdle, Cancel, Answer as AnswerOf, ForgetStop, LookForStop, Poller as NewPoller}
+use Rattle.calloop.specs.declared.loop_logic.LoopCall.TheVariants.{Insert, Enable, Update, Disable, Remove as RemoveCall, Release, Exchange, Dispatch, InsertIdle, Cancel, Answer as AnswerOf, ForgetStop, LookForStop, Poller as NewPoller}
 use Rattle.calloop.specs.declared.loop_logic.LoopAnswer.{LoopAnswer}
-use Rattle.calloop.specs.declared.loop_logic.LoopAnswer.TheVariants.{Inserted, Enabled, Updated, Disabled, Removed, Exchanged, Dispatched, IdleInserted, Cancelled, Answered, StopForgotten, Stopped, Poller as OldPoller}
+use Rattle.calloop.specs.declared.loop_logic.LoopAnswer.TheVariants.{Inserted, Enabled, Updated, Disabled, Removed, Released, Exchanged, Dispatched, IdleInserted, Cancelled, Answered, StopForgotten, Stopped, Poller as OldPoller}
 use Rattle.calloop.specs.declared.loop_logic.asks.Answer.{Answer}
 use Rattle.calloop.specs.Held.{Held, HeldStep, Begun, Pend, Told, held_after, listed, is_listed, is_one, is_another}
 use Rattle.calloop.specs.declared.loop_logic.asks.Asked.{Asked}
@@ -35,7 +35,9 @@ use Rattle.calloop.specs.declared.loop_logic.asks.Request.{Request}
 use Rattle.calloop.specs.declared.loop_logic.asks.Request.TheVariants.{Insert as AskInsert, Enable as AskEnable, Update as AskUpdate, Disable as AskDisable, Remove as AskRemove, Idle as AskIdle, Cancel as AskCancel}
 use Rattle.calloop.specs.Askings.{Asks, Runs}
 use Rattle.calloop.specs.Machine.{World, View, Change, Holds, IsNew, seen, viewed, all_viewed}
-use Rattle.calloop.specs.Rules.{Doing, Beginning, Sleeping, Waiting, Gathering, Noticing, Cutting, Serving, Ending, Returning, Idling, RunningIdles, ServingIdle, Leaving, Outcome, Step, Steps, SleptAs, SleptBy, NoticedBy, told_in, CutTo, CutFrom, ActedBy, ReturnedTo, emptied, entered, left, after_turn, after_wait, Case, Once, Run, InsertedBy, AskedIn, EnabledBy, UpdatedBy, DisabledBy, RemovedIn, RemovedBy, ExchangedIn, ExchangedBy, IdleInsertedBy, OwnOr, Served, ServedAs, ServedFrom, RunFrom, action_of, traced, all_traced}
+use Rattle.calloop.specs.Roles.{only, is_callers, is_adapter}
+use Rattle.calloop.proofs.Roles.{Shows, only_is, left_removed}
+use Rattle.calloop.specs.Rules.{Doing, Beginning, Settling, Sleeping, Waiting, Gathering, Noticing, Cutting, Serving, Ending, Returning, Idling, RunningIdles, ServingIdle, Leaving, Outcome, Step, Steps, SleptAs, SleptBy, NoticedBy, told_in, CutTo, CutFrom, ActedBy, ReturnedTo, emptied, entered, left, after_turn, after_wait, Case, Once, Run, InsertedBy, AskedIn, SettledIn, TakesUp, as_listed, EnabledBy, UpdatedBy, DisabledBy, RemovedIn, RemovedBy, ReleasedBy, ExchangedIn, ExchangedBy, IdleInsertedBy, OwnOr, Served, ServedAs, ServedFrom, RunFrom, action_of, traced, all_traced}
 use Rattle.calloop.specs.Laws.{AllOnce, IsTold}
 use Rattle.calloop.proofs.Seen.{seen-all_traced, viewed-append}
 
@@ -297,11 +299,11 @@ module _ {D I P X : Type 0} (M : Meaning D P (Lent X (Asks D I))) (runs : Runs D
 
   asked_kept : (v : View D I P) (R : D → Outcome → List (PollStep P) → D → Type 0) (noted : D → Outcome → HeldStep D I) (token : RegistrationToken) (answer : Outcome) (cs : List (Change D I P)) (c : Content D)
       → ((d : D) (slots : List (Slot D)) (h : Held D I) → Full slots token → Tidy nobody slots h.lifecycle → Tidy nobody slots (held_after h (noted d answer)).lifecycle)
-      → named v.slots token ≡ c → AskedIn R noted token c answer cs → Tidy nobody v.slots v.held.lifecycle → Tidy nobody (all_viewed v cs).slots (all_viewed v cs).held.lifecycle
+      → Shows v.slots token c → AskedIn R noted token c answer cs → Tidy nobody v.slots v.held.lifecycle → Tidy nobody (all_viewed v cs).slots (all_viewed v cs).held.lifecycle
   asked_kept v R noted token answer cs Vacant note is h k = rw h.1 k
   asked_kept v R noted token answer cs InTurn note is h k = rw h.1 k
   asked_kept v R noted token answer cs (Source d) note is h k =
-      let full = source_full v.slots token (Source d) is refl in
+      let full = source_full v.slots token (Source d) (is d refl) refl in
       let out = changed (with_content InTurn) v.slots token.slot in
       rw h.3
       (tidy_put nobody (Source h.0) out token.slot _ refl
@@ -313,12 +315,12 @@ module _ {D I P X : Type 0} (M : Meaning D P (Lent X (Asks D I))) (runs : Runs D
   left_kept : (token : RegistrationToken) (answer : Outcome) (d : D) (slots : List (Slot D)) (h : Held D I) → Full slots token → Tidy nobody slots h.lifecycle → Tidy nobody slots (held_after h (left token d answer)).lifecycle
   left_kept token answer d slots h full k = tidy_out token slots h.lifecycle (tidy_less (is_one token) slots h.lifecycle k)
 
-  removed_kept : (v : View D I P) (token : RegistrationToken) (answer : Option D) (cs : List (Change D I P)) (c : Content D) → named v.slots token ≡ c → RemovedIn M token c answer v cs → Tidy nobody v.slots v.held.lifecycle → Tidy nobody (all_viewed v cs).slots (all_viewed v cs).held.lifecycle
+  removed_kept : (v : View D I P) (token : RegistrationToken) (answer : Option D) (cs : List (Change D I P)) (c : Content D) → Shows v.slots token c → RemovedIn M token c answer v cs → Tidy nobody v.slots v.held.lifecycle → Tidy nobody (all_viewed v cs).slots (all_viewed v cs).held.lifecycle
   removed_kept v token answer cs Vacant is h k = rw h.1 k
   removed_kept v token answer cs InTurn is h k = rw h.1 k
   removed_kept v token answer cs (Source d) is h k =
       let out = changed (with_content Vacant) v.slots token.slot in
-      rw h.6 (tidy_out token out v.held.lifecycle (tidy_vacated v.slots token v.held.lifecycle (source_full v.slots token (Source d) is refl) k))
+      rw h.6 (tidy_out token out v.held.lifecycle (tidy_vacated v.slots token v.held.lifecycle (source_full v.slots token (Source d) (is d refl) refl) k))
 
   told_tidy : (v : View D I P) (ds cs : List (Change D I P)) (answer : Answer D) → cs ≡ ds ++ Holds (Told answer) ∷ [] → Tidy nobody (all_viewed v ds).slots (all_viewed v ds).held.lifecycle → Tidy nobody (all_viewed v cs).slots (all_viewed v cs).held.lifecycle
   told_tidy v ds cs answer is h = rw (is, viewed-append v ds (Holds (Told answer) ∷ [])) h
@@ -329,9 +331,9 @@ module _ {D I P X : Type 0} (M : Meaning D P (Lent X (Asks D I))) (runs : Runs D
   own_or (Source d) f g h = g h
 
   served_as_kept : (v : View D I P) (request : Request D I) (answer : Outcome) (cs : List (Change D I P)) → ServedAs M request answer v cs → Tidy nobody v.slots v.held.lifecycle → Tidy nobody (all_viewed v cs).slots (all_viewed v cs).held.lifecycle
-  served_as_kept v (AskEnable token) answer cs h k = own_or (named v.slots token) (λ _ o. rw o.1 k) (λ o. asked_kept v _ _ token answer cs (named v.slots token) (entered_kept token answer) refl o k) h
-  served_as_kept v (AskUpdate token) answer cs h k = own_or (named v.slots token) (λ _ o. rw o.1 k) (λ o. asked_kept v _ _ token answer cs (named v.slots token) (entered_kept token answer) refl o k) h
-  served_as_kept v (AskDisable token) answer cs h k = own_or (named v.slots token) (λ _ o. rw o.1 k) (λ o. asked_kept v _ _ token answer cs (named v.slots token) (left_kept token answer) refl o k) h
+  served_as_kept v (AskEnable token) answer cs h k = own_or (named v.slots token) (λ _ o. rw o.1 k) (λ o. asked_kept v _ _ token answer cs (only (is_callers M) (named v.slots token)) (entered_kept token answer) (only_is (is_callers M) v.slots token) o k) h
+  served_as_kept v (AskUpdate token) answer cs h k = own_or (named v.slots token) (λ _ o. rw o.1 k) (λ o. asked_kept v _ _ token answer cs (only (is_callers M) (named v.slots token)) (entered_kept token answer) (only_is (is_callers M) v.slots token) o k) h
+  served_as_kept v (AskDisable token) answer cs h k = own_or (named v.slots token) (λ _ o. rw o.1 k) (λ o. asked_kept v _ _ token answer cs (only (is_callers M) (named v.slots token)) (left_kept token answer) (only_is (is_callers M) v.slots token) o k) h
   served_as_kept v (AskInsert d) answer cs h k = absurd h
   served_as_kept v (AskRemove token) answer cs h k = absurd h
   served_as_kept v (AskIdle idle) answer cs h k = absurd h
@@ -345,7 +347,7 @@ module _ {D I P X : Type 0} (M : Meaning D P (Lent X (Asks D I))) (runs : Runs D
   served_kept v (AskRemove token) cs h k =
       own_or (named v.slots token)
       (λ mine o. rw o (tidy_out token (changed (with_content Vacant) v.slots token.slot) v.held.lifecycle (tidy_vacated v.slots token v.held.lifecycle (source_full v.slots token InTurn mine refl) k)))
-      (λ o. told_tidy v o.1 cs _ o.3 (removed_kept v token o.0 o.1 (named v.slots token) refl o.2 k)) h
+      (λ o. told_tidy v o.1 cs _ o.3 (removed_kept v token o.0 o.1 (only (is_callers M) (named v.slots token)) (only_is (is_callers M) v.slots token) o.2 k)) h
   served_kept v (AskIdle idle) cs h k = rw h k
   served_kept v (AskCancel ticket) cs h k = rw h k
 
@@ -358,8 +360,20 @@ module _ {D I P X : Type 0} (M : Meaning D P (Lent X (Asks D I))) (runs : Runs D
   run_from_kept v [] x cs b h k = rw (h.0, h.1) k
   run_from_kept v (i ∷ is) x cs b h k = rw (h.3, h.4) k
 
+  released_kept : (v : View D I P) (token : RegistrationToken) (answer : Outcome) (cs : List (Change D I P)) → ReleasedBy M token answer v cs → Tidy nobody v.slots v.held.lifecycle → Tidy nobody (all_viewed v cs).slots (all_viewed v cs).held.lifecycle
+  released_kept v token (Ok u) cs h k = (let r = left_removed M token (only (is_adapter M) (named v.slots token)) v cs h in removed_kept v token r.0 cs (only (is_adapter M) (named v.slots token)) (only_is (is_adapter M) v.slots token) r.1 k)
+  released_kept v token (Err e) cs h k = asked_kept v _ _ token (Err e) cs (only (is_adapter M) (named v.slots token)) (left_kept token (Err e)) (only_is (is_adapter M) v.slots token) h k
+
+  settled_kept : (v : View D I P) (token : RegistrationToken) (c : Content D) (cs : List (Change D I P)) → Shows v.slots token c → SettledIn M token c v cs → Tidy nobody v.slots v.held.lifecycle → Tidy nobody (all_viewed v cs).slots (all_viewed v cs).held.lifecycle
+  settled_kept v token Vacant cs is h k = rw h k
+  settled_kept v token InTurn cs is h k = rw h k
+  settled_kept v token (Source d) cs is (inl h) k = asked_kept v (TakesUp M token v.poll) (as_listed token) token (Ok tt) cs (Source d) (λ d slots held full tidy. tidy) is h k
+  settled_kept v token (Source d) cs is (inr h) k = removed_kept v token h.0 cs (Source d) is h.1 k
+
   step_kept : (v : View D I P) (a b : Doing D X) (cs : List (Change D I P)) → Step M runs O v a cs b → Kept a v → Kept b (all_viewed v cs)
-  step_kept v (Beginning timeout x) b cs h k = rw (h.1, h.2) k
+  step_kept v (Beginning timeout x) b cs h k = rw (h.3, h.4) k
+  step_kept v (Settling timeout [] x) b cs h k = rw (h.0, h.1) k
+  step_kept v (Settling timeout (t ∷ later) x) b cs h k = rw h.1 (settled_kept v t (only (is_adapter M) (named v.slots t)) cs (only_is (is_adapter M) v.slots t) h.0 k)
   step_kept v (Sleeping timeout [] x) b cs h k = rw (h.0, h.1) k
   step_kept v (Sleeping timeout (t ∷ later) x) b cs h k = slept_kept v timeout t later x cs b (named v.slots t) refl h k
   step_kept v (Waiting timeout x) b cs h k = rw (h.5, h.6) (waited_kept h.0 h.1 x _ k)
@@ -392,11 +406,12 @@ module _ {D I P X : Type 0} (M : Meaning D P (Lent X (Asks D I))) (runs : Runs D
 
   case_kept : (v : View D I P) (call : LoopCall D P X I) (answer : LoopAnswer D P X I) (css : List (List (Change D I P))) → Case M runs O call answer v css → Tidy nobody v.slots v.held.lifecycle → Tidy nobody (traced v css).slots (traced v css).held.lifecycle
   case_kept v (Insert d) (Inserted answer) css h k = once_kept v (InsertedBy M d answer) css h (λ cs r. inserted_kept v d answer cs r k)
-  case_kept v (Enable token) (Enabled answer) css h k = once_kept v (EnabledBy M token answer) css h (λ cs r. asked_kept v _ _ token answer cs (named v.slots token) (entered_kept token answer) refl r k)
-  case_kept v (Update token) (Updated answer) css h k = once_kept v (UpdatedBy M token answer) css h (λ cs r. asked_kept v _ _ token answer cs (named v.slots token) (entered_kept token answer) refl r k)
-  case_kept v (Disable token) (Disabled answer) css h k = once_kept v (DisabledBy M token answer) css h (λ cs r. asked_kept v _ _ token answer cs (named v.slots token) (left_kept token answer) refl r k)
-  case_kept v (RemoveCall token) (Removed answer) css h k = once_kept v (RemovedBy M token answer) css h (λ cs r. removed_kept v token answer cs (named v.slots token) refl r k)
-  case_kept v (Exchange token d) (Exchanged answer) css h k = once_kept v (ExchangedBy token d answer) css h (λ cs r. exchanged_kept v token d (named v.slots token) answer cs r k)
+  case_kept v (Enable token) (Enabled answer) css h k = once_kept v (EnabledBy M token answer) css h (λ cs r. asked_kept v _ _ token answer cs (only (is_callers M) (named v.slots token)) (entered_kept token answer) (only_is (is_callers M) v.slots token) r k)
+  case_kept v (Update token) (Updated answer) css h k = once_kept v (UpdatedBy M token answer) css h (λ cs r. asked_kept v _ _ token answer cs (only (is_callers M) (named v.slots token)) (entered_kept token answer) (only_is (is_callers M) v.slots token) r k)
+  case_kept v (Disable token) (Disabled answer) css h k = once_kept v (DisabledBy M token answer) css h (λ cs r. asked_kept v _ _ token answer cs (only (is_callers M) (named v.slots token)) (left_kept token answer) (only_is (is_callers M) v.slots token) r k)
+  case_kept v (RemoveCall token) (Removed answer) css h k = once_kept v (RemovedBy M token answer) css h (λ cs r. removed_kept v token answer cs (only (is_callers M) (named v.slots token)) (only_is (is_callers M) v.slots token) r k)
+  case_kept v (Release token) (Released answer) css h k = once_kept v (ReleasedBy M token answer) css h (λ cs r. released_kept v token answer cs r k)
+  case_kept v (Exchange token d) (Exchanged answer) css h k = once_kept v (ExchangedBy M token d answer) css h (λ cs r. exchanged_kept v token d (only (is_callers M) (named v.slots token)) answer cs r k)
   case_kept v (Dispatch timeout x) (Dispatched answer x') css (inl h) k = rw h.2 k
   case_kept v (Dispatch timeout x) (Dispatched answer x') css (inr h) k = steps_kept v (Beginning (nanos_of timeout) x) (Leaving answer x') css h k
   case_kept v (InsertIdle idle) (IdleInserted (Ok made)) css h k = once_kept v (IdleInsertedBy idle (Ok made)) css h (λ cs r. rw r.2 k)

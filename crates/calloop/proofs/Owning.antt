@@ -29,14 +29,16 @@ use Rattle.calloop.specs.declared.loop_logic.asks.Request.TheVariants.{Insert as
 use Rattle.calloop.specs.Askings.{Asks, Runs, Take, asks_after}
 use Rattle.calloop.specs.Machine.{World, View, IsNew, Registration, Change, Put, Claim, Swapped, Polls, Polling, Watching, Counting, Holds, Appended, Gathered, Cut, Ended, holding, reused, with_claim, done, all_done, seen, slot_of, viewed, AllFit}
 use Rattle.calloop.specs.declared.loop_logic.LoopCall.{LoopCall}
-use Rattle.calloop.specs.declared.loop_logic.LoopCall.TheVariants.{Insert, Enable, Update, Disable, Remove as RemoveCall, Exchange, Dispatch, InsertIdle, Cancel, Answer as AnswerOf, ForgetStop, LookForStop, Poller as NewPoller}
+use Rattle.calloop.specs.declared.loop_logic.LoopCall.TheVariants.{Insert, Enable, Update, Disable, Remove as RemoveCall, Release, Exchange, Dispatch, InsertIdle, Cancel, Answer as AnswerOf, ForgetStop, LookForStop, Poller as NewPoller}
 use Rattle.calloop.specs.declared.loop_logic.LoopAnswer.{LoopAnswer}
-use Rattle.calloop.specs.declared.loop_logic.LoopAnswer.TheVariants.{Inserted, Enabled, Updated, Disabled, Removed, Exchanged, Dispatched, IdleInserted, Cancelled, Answered, StopForgotten, Stopped, Poller as OldPoller}
+use Rattle.calloop.specs.declared.loop_logic.LoopAnswer.TheVariants.{Inserted, Enabled, Updated, Disabled, Removed, Released, Exchanged, Dispatched, IdleInserted, Cancelled, Answered, StopForgotten, Stopped, Poller as OldPoller}
 use Rattle.calloop.specs.declared.loop_logic.asks.Answer.{Answer}
 use Rattle.calloop.specs.declared.loop_logic.asks.Answer.TheVariants.{Done, Removed as RemovedAnswer}
 use Rattle.calloop.specs.declared.loop_logic.stops.StopNote.TheVariants.{Forgot, Looked}
 use Rattle.calloop.specs.Held.{HeldStep, Listed, Unlisted, Pend, Asking, Begun, Told, Owe, Paid, Cleared, Warned, StopNoted, IdleIn, IdleNew, IdleOut, IdlesTaken, IdleBegun}
-use Rattle.calloop.specs.Rules.{Doing, Beginning, Sleeping, Waiting, Gathering, Noticing, Cutting, Serving, Ending, Returning, Idling, RunningIdles, ServingIdle, Leaving, Step, Steps, SleptAs, SleptBy, NoticedBy, told_in, CutTo, CutFrom, ActedBy, ReturnedTo, emptied, entered, after_turn, after_wait, Outcome, RegisteredBy, Case, Once, Run, InsertedBy, AskedIn, EnabledBy, UpdatedBy, DisabledBy, RemovedIn, RemovedBy, ExchangedIn, ExchangedBy, IdleInsertedBy, OwnOr, Served, ServedAs, ServedFrom, RunFrom, action_of, factory_of, all_traced}
+use Rattle.calloop.specs.Roles.{only, is_callers, is_adapter}
+use Rattle.calloop.proofs.Roles.{Shows, only_is, left_removed}
+use Rattle.calloop.specs.Rules.{Doing, Beginning, Settling, Sleeping, Waiting, Gathering, Noticing, Cutting, Serving, Ending, Returning, Idling, RunningIdles, ServingIdle, Leaving, Step, Steps, SleptAs, SleptBy, NoticedBy, told_in, CutTo, CutFrom, ActedBy, ReturnedTo, emptied, entered, after_turn, after_wait, Outcome, RegisteredBy, Case, Once, Run, InsertedBy, AskedIn, SettledIn, TakesUp, as_listed, EnabledBy, UpdatedBy, DisabledBy, RemovedIn, RemovedBy, ReleasedBy, ExchangedIn, ExchangedBy, IdleInsertedBy, OwnOr, Served, ServedAs, ServedFrom, RunFrom, action_of, factory_of, all_traced}
 use Rattle.calloop.specs.Ledgers.{Ledger}
 use Rattle.calloop.specs.Laws.{HoldsNone, HoldsNoMore, AllFresh, joined, changes_of}
 use Rattle.calloop.proofs.Seen.{seen-all_done, done-append}
@@ -270,6 +272,7 @@ at_named slots token d is =
 
 abbrev pub aside_of : {D X : Type 0} → Doing D X → List D
 aside_of (Beginning timeout x) = []
+aside_of (Settling timeout later x) = []
 aside_of (Sleeping timeout later x) = []
 aside_of (Waiting timeout x) = []
 aside_of (Gathering now given x) = []
@@ -404,7 +407,7 @@ module _ {D I P X : Type 0} (M : Meaning D P (Lent X (Asks D I))) (runs : Runs D
 
   asked_owned : (w : World D I P) (rest : List D) (R : D → Result (Unit {0}) Error → List (PollStep P) → D → Type 0) (noted : D → Outcome → HeldStep D I) (token : RegistrationToken) (answer : Result (Unit {0}) Error) (cs : List (Change D I P)) (c : Content D)
       → ((d e : D) (l : List (PollStep P)) → R d answer l e → M.fits d → IsBelow w.poll.deadlines.next (M.holds d) → M.fits e × Keeps (M.holds d) w.poll.deadlines.next l (M.holds e))
-      → named (map slot_of w.slots) token ≡ c → AskedIn R noted token c answer cs → AllFit O (seen w) cs → IsOwned M w rest → IsOwned M (all_done w cs) rest
+      → Shows (map slot_of w.slots) token c → AskedIn R noted token c answer cs → AllFit O (seen w) cs → IsOwned M w rest → IsOwned M (all_done w cs) rest
   asked_owned w rest R noted token answer cs Vacant keeps is h fit k = rw h.1 k
   asked_owned w rest R noted token answer cs InTurn keeps is h fit k = rw h.1 k
   asked_owned w rest R noted token answer cs (Source d) keeps is h fit k =
@@ -413,9 +416,9 @@ module _ {D I P X : Type 0} (M : Meaning D P (Lent X (Asks D I))) (runs : Runs D
       rw h.3
       (owned_back M O law (done (done out (Polls h.1)) (Holds (noted d answer))) rest token.slot h.0
       (owned_listed M O law (done out (Polls h.1)) (noted d answer) (h.0 ∷ rest)
-      (owned_polls M O law out rest d h.0 h.1 allowed (keeps d h.0 h.1 h.2) (owned_out M O law w rest token.slot d (at_named w.slots token d is) k))))
+      (owned_polls M O law out rest d h.0 h.1 allowed (keeps d h.0 h.1 h.2) (owned_out M O law w rest token.slot d (at_named w.slots token d (is d refl)) k))))
 
-  removed_owned : (w : World D I P) (rest : List D) (token : RegistrationToken) (answer : Option D) (cs : List (Change D I P)) (c : Content D) → named (map slot_of w.slots) token ≡ c → RemovedIn M token c answer (seen w) cs → AllFit O (seen w) cs → IsOwned M w rest → IsOwned M (all_done w cs) rest
+  removed_owned : (w : World D I P) (rest : List D) (token : RegistrationToken) (answer : Option D) (cs : List (Change D I P)) (c : Content D) → Shows (map slot_of w.slots) token c → RemovedIn M token c answer (seen w) cs → AllFit O (seen w) cs → IsOwned M w rest → IsOwned M (all_done w cs) rest
   removed_owned w rest token answer cs Vacant is h fit k = rw h.1 k
   removed_owned w rest token answer cs InTurn is h fit k = rw h.1 k
   removed_owned w rest token answer cs (Source d) is h fit k =
@@ -425,7 +428,7 @@ module _ {D I P X : Type 0} (M : Meaning D P (Lent X (Asks D I))) (runs : Runs D
       (owned_listed M O law (done (done out (Polls h.3)) (Holds (Unlisted token))) (Warned h.2 h.1) rest
       (owned_listed M O law (done out (Polls h.3)) (Unlisted token) rest
       (owned_dropped M O law (done out (Polls h.3)) rest h.0
-      (owned_polls M O law out rest d h.0 h.3 allowed (λ fits below. law d h.0 w.poll (Unregistered h.1) h.3 fits below h.4) (owned_without M O law w rest token.slot Vacant d (λ e is. cc) (at_named w.slots token d is) k)))))
+      (owned_polls M O law out rest d h.0 h.3 allowed (λ fits below. law d h.0 w.poll (Unregistered h.1) h.3 fits below h.4) (owned_without M O law w rest token.slot Vacant d (λ e is. cc) (at_named w.slots token d (is d refl)) k)))))
 
   fresh_first : (cs ds : List (Change D I P)) → AllFresh M (cs ++ ds) → AllFresh M cs
   fresh_first [] ds h = tt
@@ -452,13 +455,13 @@ module _ {D I P X : Type 0} (M : Meaning D P (Lent X (Asks D I))) (runs : Runs D
   served_as_owned : (w : World D I P) (rest : List D) (request : Request D I) (answer : Outcome) (cs : List (Change D I P)) → ServedAs M request answer (seen w) cs → AllFit O (seen w) cs → IsOwned M w rest → IsOwned M (all_done w cs) rest
   served_as_owned w rest (AskEnable token) answer cs h fit k =
       own_or (named (map slot_of w.slots) token) (λ _ o. rw o.1 k)
-      (λ o. asked_owned w rest _ _ token answer cs (named (map slot_of w.slots) token) (λ d e l u. registered_keeps Registered token w.poll d e answer l u) refl o fit k) h
+      (λ o. asked_owned w rest _ _ token answer cs (only (is_callers M) (named (map slot_of w.slots) token)) (λ d e l u. registered_keeps Registered token w.poll d e answer l u) (only_is (is_callers M) (map slot_of w.slots) token) o fit k) h
   served_as_owned w rest (AskUpdate token) answer cs h fit k =
       own_or (named (map slot_of w.slots) token) (λ _ o. rw o.1 (owned_listed M O law w (Pend Reregister) rest k))
-      (λ o. asked_owned w rest _ _ token answer cs (named (map slot_of w.slots) token) (λ d e l u. registered_keeps Reregistered token w.poll d e answer l u) refl o fit k) h
+      (λ o. asked_owned w rest _ _ token answer cs (only (is_callers M) (named (map slot_of w.slots) token)) (λ d e l u. registered_keeps Reregistered token w.poll d e answer l u) (only_is (is_callers M) (map slot_of w.slots) token) o fit k) h
   served_as_owned w rest (AskDisable token) answer cs h fit k =
       own_or (named (map slot_of w.slots) token) (λ _ o. rw o.1 (owned_listed M O law w (Pend DisableIt) rest k))
-      (λ o. asked_owned w rest _ _ token answer cs (named (map slot_of w.slots) token) (λ d e l u fits below. law d e w.poll (Unregistered answer) l fits below u) refl o fit k) h
+      (λ o. asked_owned w rest _ _ token answer cs (only (is_callers M) (named (map slot_of w.slots) token)) (λ d e l u fits below. law d e w.poll (Unregistered answer) l fits below u) (only_is (is_callers M) (map slot_of w.slots) token) o fit k) h
   served_as_owned w rest (AskInsert d) answer cs h fit k = absurd h
   served_as_owned w rest (AskRemove token) answer cs h fit k = absurd h
   served_as_owned w rest (AskIdle idle) answer cs h fit k = absurd h
@@ -473,7 +476,7 @@ module _ {D I P X : Type 0} (M : Meaning D P (Lent X (Asks D I))) (runs : Runs D
       let out : World D I P = done w (Put token.slot Vacant) in
       own_or (named (map slot_of w.slots) token)
       (λ _ o. rw o (owned_listed M O law (done out (Holds (Unlisted token))) Owe rest (owned_listed M O law out (Unlisted token) rest (owned_emptied M O law w rest token.slot Vacant (λ e is. cc) k))))
-      (λ o. told_owned_by w rest o.1 cs _ o.3 fresh fit (λ some fits. removed_owned w rest token o.0 o.1 (named (map slot_of w.slots) token) refl o.2 fits k)) h
+      (λ o. told_owned_by w rest o.1 cs _ o.3 fresh fit (λ some fits. removed_owned w rest token o.0 o.1 (only (is_callers M) (named (map slot_of w.slots) token)) (only_is (is_callers M) (map slot_of w.slots) token) o.2 fits k)) h
   served_owned w rest (AskIdle idle) cs fresh h fit k = rw h (owned_listed M O law w (IdleIn idle) rest k)
   served_owned w rest (AskCancel ticket) cs fresh h fit k = rw h (owned_listed M O law (done w (Holds (IdleOut ticket))) (Told Done) rest (owned_listed M O law w (IdleOut ticket) rest k))
 
@@ -489,8 +492,21 @@ module _ {D I P X : Type 0} (M : Meaning D P (Lent X (Asks D I))) (runs : Runs D
   run_from_owned w [] x cs b h k = rw (h.0, h.1) k
   run_from_owned w (i ∷ is) x cs b h k = rw (h.3, h.4) (owned_listed M O law (done w (Holds IdleBegun)) (Asking h.1) [] (owned_listed M O law w IdleBegun [] k))
 
+  released_owned : (w : World D I P) (token : RegistrationToken) (answer : Outcome) (cs : List (Change D I P)) → ReleasedBy M token answer (seen w) cs → AllFit O (seen w) cs → IsOwned M w [] → IsOwned M (all_done w cs) []
+  released_owned w token (Ok u) cs h fit k = (let r = left_removed M token (only (is_adapter M) (named (map slot_of w.slots) token)) (seen w) cs h in removed_owned w [] token r.0 cs (only (is_adapter M) (named (map slot_of w.slots) token)) (only_is (is_adapter M) (map slot_of w.slots) token) r.1 fit k)
+  released_owned w token (Err e) cs h fit k = asked_owned w [] _ _ token (Err e) cs (only (is_adapter M) (named (map slot_of w.slots) token)) (λ d f l u fits below. law d f w.poll (Unregistered (Err e)) l fits below u) (only_is (is_adapter M) (map slot_of w.slots) token) h fit k
+
+  settled_owned : (w : World D I P) (token : RegistrationToken) (c : Content D) (cs : List (Change D I P)) → Shows (map slot_of w.slots) token c → SettledIn M token c (seen w) cs → AllFit O (seen w) cs → IsOwned M w [] → IsOwned M (all_done w cs) []
+  settled_owned w token Vacant cs is h fit k = rw h k
+  settled_owned w token InTurn cs is h fit k = rw h k
+  settled_owned w token (Source d) cs is (inl h) fit k =
+      asked_owned w [] (TakesUp M token w.poll) (as_listed token) token (Ok tt) cs (Source d) (λ d e l u fits below. law d e w.poll (Reregistered (factory_of token) (Ok tt) u.0) l fits below u.1) is h fit k
+  settled_owned w token (Source d) cs is (inr h) fit k = removed_owned w [] token h.0 cs (Source d) is h.1 fit k
+
   step_owned : (w : World D I P) (a b : Doing D X) (cs : List (Change D I P)) → AllFresh M cs → Step M runs O (seen w) a cs b → AllFit O (seen w) cs → IsOwned M w (aside_of a) → IsOwned M (all_done w cs) (aside_of b)
-  step_owned w (Beginning timeout x) b cs fresh h fit k = rw (h.1, h.2) (owned_listed M O law (done w (Counting h.0)) Cleared [] (owned_same M O law w (done w (Counting h.0)) [] refl refl refl refl k))
+  step_owned w (Settling timeout [] x) b cs fresh h fit k = rw (h.0, h.1) k
+  step_owned w (Settling timeout (t ∷ later) x) b cs fresh h fit k = rw h.1 (settled_owned w t (only (is_adapter M) (named (map slot_of w.slots) t)) cs (only_is (is_adapter M) (map slot_of w.slots) t) h.0 fit k)
+  step_owned w (Beginning timeout x) b cs fresh h fit k = rw (h.3, h.4) (owned_listed M O law (done w (Counting h.0)) Cleared [] (owned_same M O law w (done w (Counting h.0)) [] refl refl refl refl k))
   step_owned w (Sleeping timeout [] x) b cs fresh h fit k = rw (h.0, h.1) k
   step_owned w (Sleeping timeout (t ∷ later) x) b cs fresh h fit k = slept_owned w timeout t later x cs b (named (map slot_of w.slots) t) refl h k
   step_owned w (Waiting timeout x) b cs fresh h fit k = rw (h.5, h.6, aside_wait h.0 h.1 x) (owned_same M O law w (done (done w (Polling h.2)) (Watching h.3)) [] refl refl refl refl k)
@@ -519,12 +535,12 @@ module _ {D I P X : Type 0} (M : Meaning D P (Lent X (Asks D I))) (runs : Runs D
       subst (λ (slots : List (Registration D)). IsOwned M (record w { slots = slots }) []) same
       (owned_back M O law out [] k new (owned_polls M O law out [] old new [] tt (λ fits below. (less.1, less.0)) (owned_out M O law w [] k old here h)))
 
-  exchanged_owned : (w : World D I P) (token : RegistrationToken) (new : D) (answer : Result D D) (cs : List (Change D I P)) (c : Content D) → named (map slot_of w.slots) token ≡ c → AllFresh M cs → ExchangedIn token new c answer cs → IsOwned M w [] → IsOwned M (all_done w cs) []
+  exchanged_owned : (w : World D I P) (token : RegistrationToken) (new : D) (answer : Result D D) (cs : List (Change D I P)) (c : Content D) → Shows (map slot_of w.slots) token c → AllFresh M cs → ExchangedIn token new c answer cs → IsOwned M w [] → IsOwned M (all_done w cs) []
   exchanged_owned w token new answer cs Vacant is fresh h k = rw h.1 k
   exchanged_owned w token new answer cs InTurn is fresh h k = rw h.1 k
   exchanged_owned w token new answer cs (Source d) is fresh h k =
       let less : HoldsNoMore M d new × M.fits new = (rw h.1 at fresh).0 in
-      rw h.1 (owned_swapped w token.slot d new (at_named w.slots token d is) less k)
+      rw h.1 (owned_swapped w token.slot d new (at_named w.slots token d (is d refl)) less k)
 
   once_owned : (w : World D I P) (R : View D I P → List (Change D I P) → Type 0) (css : List (List (Change D I P))) → AllFresh M (joined css) → Once O R (seen w) css → ((cs : List (Change D I P)) → AllFresh M cs → R (seen w) cs → AllFit O (seen w) cs → IsOwned M (all_done w cs) []) → IsOwned M (all_traced w css) []
   once_owned w R [] fresh h f = absurd h
@@ -535,16 +551,17 @@ module _ {D I P X : Type 0} (M : Meaning D P (Lent X (Asks D I))) (runs : Runs D
   case_owned w (Insert d) (Inserted answer) css free h k = once_owned w (InsertedBy M d answer) css free h (λ cs fresh r fit. inserted_owned w [] d answer cs fresh r fit k)
   case_owned w (Enable token) (Enabled answer) css free h k =
       once_owned w (EnabledBy M token answer) css free h
-      (λ cs fresh r fit. asked_owned w [] _ _ token answer cs (named (map slot_of w.slots) token) (λ d e l u. registered_keeps Registered token w.poll d e answer l u) refl r fit k)
+      (λ cs fresh r fit. asked_owned w [] _ _ token answer cs (only (is_callers M) (named (map slot_of w.slots) token)) (λ d e l u. registered_keeps Registered token w.poll d e answer l u) (only_is (is_callers M) (map slot_of w.slots) token) r fit k)
   case_owned w (Update token) (Updated answer) css free h k =
       once_owned w (UpdatedBy M token answer) css free h
-      (λ cs fresh r fit. asked_owned w [] _ _ token answer cs (named (map slot_of w.slots) token) (λ d e l u. registered_keeps Reregistered token w.poll d e answer l u) refl r fit k)
+      (λ cs fresh r fit. asked_owned w [] _ _ token answer cs (only (is_callers M) (named (map slot_of w.slots) token)) (λ d e l u. registered_keeps Reregistered token w.poll d e answer l u) (only_is (is_callers M) (map slot_of w.slots) token) r fit k)
   case_owned w (Disable token) (Disabled answer) css free h k =
       once_owned w (DisabledBy M token answer) css free h
-      (λ cs fresh r fit. asked_owned w [] _ _ token answer cs (named (map slot_of w.slots) token) (λ d e l u fits below. law d e w.poll (Unregistered answer) l fits below u) refl r fit k)
-  case_owned w (RemoveCall token) (Removed answer) css free h k = once_owned w (RemovedBy M token answer) css free h (λ cs fresh r fit. removed_owned w [] token answer cs (named (map slot_of w.slots) token) refl r fit k)
+      (λ cs fresh r fit. asked_owned w [] _ _ token answer cs (only (is_callers M) (named (map slot_of w.slots) token)) (λ d e l u fits below. law d e w.poll (Unregistered answer) l fits below u) (only_is (is_callers M) (map slot_of w.slots) token) r fit k)
+  case_owned w (RemoveCall token) (Removed answer) css free h k = once_owned w (RemovedBy M token answer) css free h (λ cs fresh r fit. removed_owned w [] token answer cs (only (is_callers M) (named (map slot_of w.slots) token)) (only_is (is_callers M) (map slot_of w.slots) token) r fit k)
+  case_owned w (Release token) (Released answer) css free h k = once_owned w (ReleasedBy M token answer) css free h (λ cs fresh r fit. released_owned w token answer cs r fit k)
   case_owned w (Exchange token d) (Exchanged answer) css free h k =
-      once_owned w (ExchangedBy token d answer) css free h (λ cs fresh r fit. exchanged_owned w token d answer cs (named (map slot_of w.slots) token) refl fresh r k)
+      once_owned w (ExchangedBy M token d answer) css free h (λ cs fresh r fit. exchanged_owned w token d answer cs (only (is_callers M) (named (map slot_of w.slots) token)) (only_is (is_callers M) (map slot_of w.slots) token) fresh r k)
   case_owned w (Dispatch timeout x) (Dispatched answer x') css free (inl h) k = rw h.2 k
   case_owned w (Dispatch timeout x) (Dispatched answer x') css free (inr h) k = steps_owned w (Beginning (nanos_of timeout) x) (Leaving answer x') css free h k
   case_owned w (InsertIdle idle) (IdleInserted (Ok made)) css free h k = once_owned w (IdleInsertedBy idle (Ok made)) css free h (λ cs fresh r fit. rw r.2 (owned_listed M O law w (IdleNew idle) [] k))

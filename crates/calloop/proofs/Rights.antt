@@ -18,9 +18,9 @@ use Rattle.calloop_core.specs.declared.sources.PostAction.TheVariants.{Continue,
 use Rattle.calloop_core.specs.Pollers.{Outside}
 use Rattle.calloop_core.specs.Polls.{PollStep}
 use Rattle.calloop.specs.declared.loop_logic.LoopCall.{LoopCall}
-use Rattle.calloop.specs.declared.loop_logic.LoopCall.TheVariants.{Insert, Enable, Update, Disable, Remove as RemoveCall, Exchange, Dispatch, InsertIdle, Cancel, Answer as AnswerOf, ForgetStop, LookForStop, Poller as NewPoller}
+use Rattle.calloop.specs.declared.loop_logic.LoopCall.TheVariants.{Insert, Enable, Update, Disable, Remove as RemoveCall, Release, Exchange, Dispatch, InsertIdle, Cancel, Answer as AnswerOf, ForgetStop, LookForStop, Poller as NewPoller}
 use Rattle.calloop.specs.declared.loop_logic.LoopAnswer.{LoopAnswer}
-use Rattle.calloop.specs.declared.loop_logic.LoopAnswer.TheVariants.{Inserted, Enabled, Updated, Disabled, Removed, Exchanged, Dispatched, IdleInserted, Cancelled, Answered, StopForgotten, Stopped, Poller as OldPoller}
+use Rattle.calloop.specs.declared.loop_logic.LoopAnswer.TheVariants.{Inserted, Enabled, Updated, Disabled, Removed, Released, Exchanged, Dispatched, IdleInserted, Cancelled, Answered, StopForgotten, Stopped, Poller as OldPoller}
 use Rattle.calloop_core.specs.Deeds.{Lent}
 use Rattle.calloop_core.specs.Meanings.{Meaning}
 use Rattle.calloop.specs.declared.loop_logic.asks.Asked.{Asked}
@@ -29,7 +29,9 @@ use Rattle.calloop.specs.declared.loop_logic.asks.Request.{Request}
 use Rattle.calloop.specs.declared.loop_logic.asks.Request.TheVariants.{Insert as AskInsert, Enable as AskEnable, Update as AskUpdate, Disable as AskDisable, Remove as AskRemove, Idle as AskIdle, Cancel as AskCancel}
 use Rattle.calloop.specs.Askings.{Asks, Runs}
 use Rattle.calloop.specs.Machine.{World, View, Registration, Change, Holds, seen, slot_of, done, all_done}
-use Rattle.calloop.specs.Rules.{Doing, Beginning, Sleeping, Waiting, Gathering, Noticing, Cutting, Serving, Ending, Returning, Idling, RunningIdles, ServingIdle, Leaving, Outcome, Step, Steps, SleptAs, SleptBy, NoticedBy, told_in, CutTo, CutFrom, ActedBy, ReturnedTo, emptied, Case, Run, InsertedBy, AskedIn, RemovedIn, EnabledBy, UpdatedBy, DisabledBy, RemovedBy, ExchangedIn, ExchangedBy, IdleInsertedBy, OwnOr, Served, ServedAs, ServedFrom, RunFrom, action_of, Once, all_traced}
+use Rattle.calloop.specs.Roles.{only, is_callers, is_adapter}
+use Rattle.calloop.proofs.Roles.{left_removed}
+use Rattle.calloop.specs.Rules.{Doing, Beginning, Settling, Sleeping, Waiting, Gathering, Noticing, Cutting, Serving, Ending, Returning, Idling, RunningIdles, ServingIdle, Leaving, Outcome, Step, Steps, SleptAs, SleptBy, NoticedBy, told_in, CutTo, CutFrom, ActedBy, ReturnedTo, emptied, Case, Run, InsertedBy, AskedIn, SettledIn, TakesUp, as_listed, RemovedIn, EnabledBy, UpdatedBy, DisabledBy, RemovedBy, ReleasedBy, ExchangedIn, ExchangedBy, IdleInsertedBy, OwnOr, Served, ServedAs, ServedFrom, RunFrom, action_of, Once, all_traced}
 use Rattle.calloop.specs.Held.{HeldStep, Begun, Pend}
 use Rattle.calloop.specs.Laws.{IsSource, AllRight, joined, changes_of}
 use Rattle.calloop.proofs.Seen.{seen-all_done, done-append}
@@ -122,9 +124,9 @@ module _ {D I P X : Type 0} (M : Meaning D P (Lent X (Asks D I))) (runs : Runs D
   told_right w ds cs step is h = rw is (right-append w ds (Holds step ∷ []) h (tt, tt))
 
   served_as_right : (w : World D I P) (request : Request D I) (answer : Outcome) (cs : List (Change D I P)) → ServedAs M request answer (seen w) cs → AllRight w cs
-  served_as_right w (AskEnable token) answer cs h = own_or (named (map slot_of w.slots) token) (λ k. rw k.1 tt) (λ k. asked_right w _ _ token (named (map slot_of w.slots) token) answer cs k) h
-  served_as_right w (AskUpdate token) answer cs h = own_or (named (map slot_of w.slots) token) (λ k. rw k.1 (tt, tt)) (λ k. asked_right w _ _ token (named (map slot_of w.slots) token) answer cs k) h
-  served_as_right w (AskDisable token) answer cs h = own_or (named (map slot_of w.slots) token) (λ k. rw k.1 (tt, tt)) (λ k. asked_right w _ _ token (named (map slot_of w.slots) token) answer cs k) h
+  served_as_right w (AskEnable token) answer cs h = own_or (named (map slot_of w.slots) token) (λ k. rw k.1 tt) (λ k. asked_right w _ _ token (only (is_callers M) (named (map slot_of w.slots) token)) answer cs k) h
+  served_as_right w (AskUpdate token) answer cs h = own_or (named (map slot_of w.slots) token) (λ k. rw k.1 (tt, tt)) (λ k. asked_right w _ _ token (only (is_callers M) (named (map slot_of w.slots) token)) answer cs k) h
+  served_as_right w (AskDisable token) answer cs h = own_or (named (map slot_of w.slots) token) (λ k. rw k.1 (tt, tt)) (λ k. asked_right w _ _ token (only (is_callers M) (named (map slot_of w.slots) token)) answer cs k) h
   served_as_right w (AskInsert d) answer cs h = absurd h
   served_as_right w (AskRemove token) answer cs h = absurd h
   served_as_right w (AskIdle idle) answer cs h = absurd h
@@ -136,7 +138,7 @@ module _ {D I P X : Type 0} (M : Meaning D P (Lent X (Asks D I))) (runs : Runs D
   served_right w (AskUpdate token) cs h = told_right w h.1 cs _ h.3 (served_as_right w (AskUpdate token) h.0 h.1 h.2)
   served_right w (AskDisable token) cs h = told_right w h.1 cs _ h.3 (served_as_right w (AskDisable token) h.0 h.1 h.2)
   served_right w (AskRemove token) cs h =
-      own_or (named (map slot_of w.slots) token) (λ k. rw k (tt, (tt, (tt, tt)))) (λ k. told_right w k.1 cs _ k.3 (removed_right w token (named (map slot_of w.slots) token) k.0 k.1 k.2)) h
+      own_or (named (map slot_of w.slots) token) (λ k. rw k (tt, (tt, (tt, tt)))) (λ k. told_right w k.1 cs _ k.3 (removed_right w token (only (is_callers M) (named (map slot_of w.slots) token)) k.0 k.1 k.2)) h
   served_right w (AskIdle idle) cs h = rw h (tt, tt)
   served_right w (AskCancel ticket) cs h = rw h (tt, (tt, tt))
 
@@ -148,8 +150,20 @@ module _ {D I P X : Type 0} (M : Meaning D P (Lent X (Asks D I))) (runs : Runs D
   run_from_right w [] x cs b h = rw h.0 tt
   run_from_right w (i ∷ is) x cs b h = rw h.3 (tt, (tt, tt))
 
+  released_right : (w : World D I P) (token : RegistrationToken) (answer : Outcome) (cs : List (Change D I P)) → ReleasedBy M token answer (seen w) cs → AllRight w cs
+  released_right w token (Ok u) cs h = (let r = left_removed M token (only (is_adapter M) (named (map slot_of w.slots) token)) (seen w) cs h in removed_right w token (only (is_adapter M) (named (map slot_of w.slots) token)) r.0 cs r.1)
+  released_right w token (Err e) cs h = asked_right w _ _ token (only (is_adapter M) (named (map slot_of w.slots) token)) (Err e) cs h
+
+  settled_right : (w : World D I P) (token : RegistrationToken) (c : Content D) (cs : List (Change D I P)) → SettledIn M token c (seen w) cs → AllRight w cs
+  settled_right w token Vacant cs h = rw h tt
+  settled_right w token InTurn cs h = rw h tt
+  settled_right w token (Source d) cs (inl h) = asked_right w (TakesUp M token w.poll) (as_listed token) token (Source d) (Ok tt) cs h
+  settled_right w token (Source d) cs (inr h) = removed_right w token (Source d) h.0 cs h.1
+
   step_right : (w : World D I P) (a b : Doing D X) (cs : List (Change D I P)) → Step M runs O (seen w) a cs b → AllRight w cs
-  step_right w (Beginning timeout x) b cs h = rw h.1 (tt, (tt, tt))
+  step_right w (Beginning timeout x) b cs h = rw h.3 (tt, (tt, tt))
+  step_right w (Settling timeout [] x) b cs h = rw h.0 tt
+  step_right w (Settling timeout (t ∷ later) x) b cs h = settled_right w t (only (is_adapter M) (named (map slot_of w.slots) t)) cs h.0
   step_right w (Sleeping timeout [] x) b cs h = rw h.0 tt
   step_right w (Sleeping timeout (t ∷ later) x) b cs h = slept_right w timeout t later x cs b (named (map slot_of w.slots) t) h
   step_right w (Waiting timeout x) b cs h = rw h.5 (tt, (tt, tt))
@@ -187,11 +201,12 @@ module _ {D I P X : Type 0} (M : Meaning D P (Lent X (Asks D I))) (runs : Runs D
   case_right w (Insert d) (Inserted answer) (cs ∷ []) h = right-one w cs (inserted_right w d answer cs h.0)
   case_right w (Insert d) (Inserted answer) [] h = absurd h
   case_right w (Insert d) (Inserted answer) (cs ∷ ds ∷ css) h = absurd h
-  case_right w (Enable token) (Enabled answer) css h = once_right w (EnabledBy M token answer) css h (λ cs r. asked_right w _ _ token (named (map slot_of w.slots) token) answer cs r)
-  case_right w (Update token) (Updated answer) css h = once_right w (UpdatedBy M token answer) css h (λ cs r. asked_right w _ _ token (named (map slot_of w.slots) token) answer cs r)
-  case_right w (Disable token) (Disabled answer) css h = once_right w (DisabledBy M token answer) css h (λ cs r. asked_right w _ _ token (named (map slot_of w.slots) token) answer cs r)
-  case_right w (RemoveCall token) (Removed answer) css h = once_right w (RemovedBy M token answer) css h (λ cs r. removed_right w token (named (map slot_of w.slots) token) answer cs r)
-  case_right w (Exchange token d) (Exchanged answer) css h = once_right w (ExchangedBy token d answer) css h (λ cs r. exchanged_right w token d (named (map slot_of w.slots) token) answer cs r)
+  case_right w (Enable token) (Enabled answer) css h = once_right w (EnabledBy M token answer) css h (λ cs r. asked_right w _ _ token (only (is_callers M) (named (map slot_of w.slots) token)) answer cs r)
+  case_right w (Update token) (Updated answer) css h = once_right w (UpdatedBy M token answer) css h (λ cs r. asked_right w _ _ token (only (is_callers M) (named (map slot_of w.slots) token)) answer cs r)
+  case_right w (Disable token) (Disabled answer) css h = once_right w (DisabledBy M token answer) css h (λ cs r. asked_right w _ _ token (only (is_callers M) (named (map slot_of w.slots) token)) answer cs r)
+  case_right w (RemoveCall token) (Removed answer) css h = once_right w (RemovedBy M token answer) css h (λ cs r. removed_right w token (only (is_callers M) (named (map slot_of w.slots) token)) answer cs r)
+  case_right w (Release token) (Released answer) css h = once_right w (ReleasedBy M token answer) css h (λ cs r. released_right w token answer cs r)
+  case_right w (Exchange token d) (Exchanged answer) css h = once_right w (ExchangedBy M token d answer) css h (λ cs r. exchanged_right w token d (only (is_callers M) (named (map slot_of w.slots) token)) answer cs r)
   case_right w (Dispatch timeout x) (Dispatched answer x') css h = elim h [ inl k ↦ rw k.2 tt | inr k ↦ steps_right w _ _ css k ]
   case_right w (InsertIdle idle) (IdleInserted (Ok made)) css h = once_right w (IdleInsertedBy idle (Ok made)) css h (λ cs r. rw r.2 (tt, tt))
   case_right w (InsertIdle idle) (IdleInserted (Err refused)) css h = once_right w (IdleInsertedBy idle (Err refused)) css h (λ cs r. rw r.2 tt)

@@ -17,6 +17,7 @@ use Rattle.calloop.specs.declared.loop_logic.asks.Request.TheVariants.{Insert as
 use Rattle.calloop.specs.Askings.{Asks, AskStep, Write, Take, Reaches, ask_after, asks_after, all_but_first, begun_from, idle_begun, is_other_idle, request_of, running_of}
 use Rattle.calloop.specs.Held.{HeldStep, Begun, Told, held_after}
 use Rattle.calloop.specs.Machine.{View, Change, Holds, AllFit, viewed, all_viewed}
+use Rattle.calloop.specs.Roles.{only, is_callers}
 use Rattle.calloop.specs.Rules.{Did, Once, OwnOr, Served, ServedAs, InsertedBy, AskedIn, RemovedIn, Outcome, traced}
 use Rattle.calloop.specs.Serving.{Serves, ServesFirst, FirstServed, AllServed}
 use Rattle.calloop.proofs.Going.{batch-stepped}
@@ -102,9 +103,9 @@ module _ {D I P X : Type 0} (M : Meaning D P (Lent X (Asks D I))) (O : Outside P
   told_steady v ds cs answer is h = rw (is, viewed-append v ds (Holds (Told answer) ∷ [])) (record { batch = h.batch; written = h.written; running = h.running })
 
   served_as_steady : (v : View D I P) (request : Request D I) (answer : Outcome) (cs : List (Change D I P)) → ServedAs M request answer v cs → Steady v (all_viewed v cs)
-  served_as_steady v (AskEnable token) answer cs h = own_or (named v.slots token) (λ o. rw o.1 (still_steady v v refl refl)) (λ o. asked_steady v _ _ token answer cs (named v.slots token) (λ d. refl) o) h
-  served_as_steady v (AskUpdate token) answer cs h = own_or (named v.slots token) (λ o. rw o.1 (still_steady v _ refl refl)) (λ o. asked_steady v _ _ token answer cs (named v.slots token) (λ d. refl) o) h
-  served_as_steady v (AskDisable token) answer cs h = own_or (named v.slots token) (λ o. rw o.1 (still_steady v _ refl refl)) (λ o. asked_steady v _ _ token answer cs (named v.slots token) (λ d. refl) o) h
+  served_as_steady v (AskEnable token) answer cs h = own_or (named v.slots token) (λ o. rw o.1 (still_steady v v refl refl)) (λ o. asked_steady v _ _ token answer cs (only (is_callers M) (named v.slots token)) (λ d. refl) o) h
+  served_as_steady v (AskUpdate token) answer cs h = own_or (named v.slots token) (λ o. rw o.1 (still_steady v _ refl refl)) (λ o. asked_steady v _ _ token answer cs (only (is_callers M) (named v.slots token)) (λ d. refl) o) h
+  served_as_steady v (AskDisable token) answer cs h = own_or (named v.slots token) (λ o. rw o.1 (still_steady v _ refl refl)) (λ o. asked_steady v _ _ token answer cs (only (is_callers M) (named v.slots token)) (λ d. refl) o) h
   served_as_steady v (AskInsert d) answer cs h = absurd h
   served_as_steady v (AskRemove token) answer cs h = absurd h
   served_as_steady v (AskIdle idle) answer cs h = absurd h
@@ -116,7 +117,7 @@ module _ {D I P X : Type 0} (M : Meaning D P (Lent X (Asks D I))) (O : Outside P
   served_steady v (AskUpdate token) cs h = told_steady v h.1 cs _ h.3 (served_as_steady v (AskUpdate token) h.0 h.1 h.2)
   served_steady v (AskDisable token) cs h = told_steady v h.1 cs _ h.3 (served_as_steady v (AskDisable token) h.0 h.1 h.2)
   served_steady v (AskRemove token) cs h =
-      own_or (named v.slots token) (λ o. rw o (record { batch = refl; written = refl; running = omega arith })) (λ o. told_steady v o.1 cs _ o.3 (removed_steady v token o.0 o.1 (named v.slots token) o.2)) h
+      own_or (named v.slots token) (λ o. rw o (record { batch = refl; written = refl; running = omega arith })) (λ o. told_steady v o.1 cs _ o.3 (removed_steady v token o.0 o.1 (only (is_callers M) (named v.slots token)) o.2)) h
   served_steady v (AskIdle idle) cs h = rw h (record { batch = refl; written = refl; running = omega arith })
   served_steady v (AskCancel ticket) cs h = rw h (record { batch = refl; written = refl; running = shorter ticket v.held.asks.running })
 

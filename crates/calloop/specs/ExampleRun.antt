@@ -113,6 +113,7 @@ abbrev pub of_the_dispatch : Book → List (List Its)
 of_the_dispatch name =
     (Counting 0 ∷ Holds Cleared ∷ [])
     ∷ []
+    ∷ []
     ∷ (Polling tt ∷ Watching (noted (Looked false) (record { name = name; notes = Counted 0 ∷ [] })) ∷ [])
     ∷ (Gathered [] [] 5 ∷ [])
     ∷ []

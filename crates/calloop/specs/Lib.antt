@@ -14,6 +14,7 @@ pub mod Held
 pub mod Rooms
 pub mod Machine
 pub mod Loops
+pub mod Roles
 pub mod Rules
 pub mod Serving
 pub mod Laws
@@ -30,3 +31,8 @@ pub mod StreamReads
 pub mod Streams
 pub mod Blocking
 pub mod Timeouts
+pub mod Refusals
+pub mod AdapterStates
+pub mod Adapters
+pub mod AdapterKeeping
+pub mod Adapted

@@ -53,6 +53,7 @@ use Rattle.calloop_core.specs.Pollers.{Outside, nanos_of}
 use Rattle.calloop_core.specs.Events.{events_of}
 use Rattle.calloop_core.specs.Polls.{PollView, PollStep, AllAllowed, own_event, cut}
 use Rattle.calloop_core.specs.Waits.{Waited}
+use Rattle.calloop_core.specs.SlotOrder.{IsInSlotOrder}
 use Rattle.calloop.specs.declared.loop_logic.LoopCall.{LoopCall}
 use Rattle.calloop.specs.declared.loop_logic.LoopCall.TheVariants.{
   Insert,
@@ -60,6 +61,7 @@ use Rattle.calloop.specs.declared.loop_logic.LoopCall.TheVariants.{
   Update,
   Disable,
   Remove as RemoveCall,
+  Release,
   Exchange,
   Dispatch,
   InsertIdle,
@@ -76,6 +78,7 @@ use Rattle.calloop.specs.declared.loop_logic.LoopAnswer.TheVariants.{
   Updated,
   Disabled,
   Removed,
+  Released,
   Exchanged,
   Dispatched,
   IdleInserted,
@@ -108,6 +111,7 @@ use Rattle.calloop.specs.declared.loop_logic.asks.Request.TheVariants.{
 }
 use Rattle.calloop.specs.declared.loop_logic.stops.StopNote.TheVariants.{Forgot, Looked}
 use Rattle.calloop.specs.Askings.{Asks, AskStep, Take, Runs, CannotAsk, asks_after, found, idle_begun}
+use Rattle.calloop.specs.Roles.{only, is_callers, is_adapter}
 use Rattle.calloop.specs.Held.{
   HeldStep,
   is_listed,
@@ -221,19 +225,22 @@ AskedIn {D} {I} {P} R noted token (Source d) answer cs =
 abbrev pub EnabledBy : {D I P X : Type 0} → Meaning D P (Lent X (Asks D I)) → RegistrationToken
     → Result (Unit {0}) Error → View D I P → List (Change D I P) → Type 0
 EnabledBy M token answer v cs =
-    AskedIn (RegisteredBy M Registered token (is_listed token v.held.lifecycle) v.poll) (entered M token) token (named v.slots token) answer cs
+    AskedIn (RegisteredBy M Registered token (is_listed token v.held.lifecycle) v.poll) (entered M token) token
+    (only (is_callers M) (named v.slots token)) answer cs
 
 -- it is registered anew
 abbrev pub UpdatedBy : {D I P X : Type 0} → Meaning D P (Lent X (Asks D I)) → RegistrationToken
     → Result (Unit {0}) Error → View D I P → List (Change D I P) → Type 0
 UpdatedBy M token answer v cs =
-    AskedIn (RegisteredBy M Reregistered token (is_listed token v.held.lifecycle) v.poll) (entered M token) token (named v.slots token) answer cs
+    AskedIn (RegisteredBy M Reregistered token (is_listed token v.held.lifecycle) v.poll) (entered M token) token
+    (only (is_callers M) (named v.slots token)) answer cs
 
 -- its registration is taken back
 abbrev pub DisabledBy : {D I P X : Type 0} → Meaning D P (Lent X (Asks D I)) → RegistrationToken
     → Result (Unit {0}) Error → View D I P → List (Change D I P) → Type 0
 DisabledBy M token answer v cs =
-    AskedIn (λ d a steps e. M.does d v.poll (Unregistered a) steps e) (left token) token (named v.slots token) answer cs
+    AskedIn (λ d a steps e. M.does d v.poll (Unregistered a) steps e) (left token) token
+    (only (is_callers M) (named v.slots token)) answer cs
 
 -- it leaves its slot vacant, is unregistered, of which a failure is a warning where there is memory for one, and is
 -- handed back
@@ -248,7 +255,7 @@ RemovedIn {D} {I} {P} M token (Source d) answer v cs =
 
 abbrev pub RemovedBy : {D I P X : Type 0} → Meaning D P (Lent X (Asks D I)) → RegistrationToken → Option D → View D I P
     → List (Change D I P) → Type 0
-RemovedBy M token answer v cs = RemovedIn M token (named v.slots token) answer v cs
+RemovedBy M token answer v cs = RemovedIn M token (only (is_callers M) (named v.slots token)) answer v cs
 
 -- another source takes the place of the one that a token names, which is answered: so does who changes it where it
 -- stands. Where the token names none, the other one is handed back.
@@ -258,9 +265,9 @@ ExchangedIn token new Vacant answer cs = (answer ≡ Err new) × (cs ≡ [])
 ExchangedIn token new InTurn answer cs = (answer ≡ Err new) × (cs ≡ [])
 ExchangedIn token new (Source d) answer cs = (answer ≡ Ok d) × (cs ≡ Swapped token.slot d new ∷ [])
 
-abbrev pub ExchangedBy : {D I P : Type 0} → RegistrationToken → D → Result D D → View D I P → List (Change D I P)
-    → Type 0
-ExchangedBy token new answer v cs = ExchangedIn token new (named v.slots token) answer cs
+abbrev pub ExchangedBy : {D I P X : Type 0} → Meaning D P (Lent X (Asks D I)) → RegistrationToken → D → Result D D
+    → View D I P → List (Change D I P) → Type 0
+ExchangedBy M token new answer v cs = ExchangedIn token new (only (is_callers M) (named v.slots token)) answer cs
 
 -- an idle is put at the end, under the next ticket, or handed back
 abbrev pub IdleInsertedBy : {D I P : Type 0} → I → Result Idle (InsertError I) → View D I P → List (Change D I P)
@@ -269,9 +276,46 @@ IdleInsertedBy idle (Ok made) v cs =
     (v.held.asks.next < 2 ^ 64 - 1) × (made.ticket.number ≡ v.held.asks.next) × (cs ≡ Holds (IdleNew idle) ∷ [])
 IdleInsertedBy idle (Err refused) v cs = (refused.inserted ≡ idle) × CannotAsk v.held.asks refused.error × (cs ≡ [])
 
+-- what the loop takes up of an adapter in a slot: its interest is registered anew, of which a refusal is kept by the adapter
+-- itself, or it was dropped, and leaves its slot; what is marked and isn't an adapter is left alone
+abbrev pub TakesUp : {D I P X : Type 0} → Meaning D P (Lent X (Asks D I)) → RegistrationToken → PollView P → D → Outcome
+    → List (PollStep P) → D → Type 0
+TakesUp M token v d answer steps e =
+    (f : TokenFactory) × M.does d v (Reregistered (factory_of token) answer f) steps e
+
+abbrev pub as_listed : {D I : Type 0} → RegistrationToken → D → Outcome → HeldStep D I
+as_listed token d answer = Listed false token
+
+abbrev pub SettledIn : {D I P X : Type 0} → Meaning D P (Lent X (Asks D I)) → RegistrationToken → Content D → View D I P
+    → List (Change D I P) → Type 0
+SettledIn M token Vacant v cs = cs ≡ []
+SettledIn M token InTurn v cs = cs ≡ []
+SettledIn {D} {I} {P} M token (Source d) v cs =
+    AskedIn (TakesUp M token v.poll) (as_listed token) token (Source d) (Ok tt) cs
+    ⊎ ((answer : Option D) × RemovedIn M token (Source d) answer v cs)
+
+-- an adapter is given back: its registration is taken back, and it leaves its slot; where that is refused, it stays as
+-- that left it
+abbrev pub LeftIn : {D I P X : Type 0} → Meaning D P (Lent X (Asks D I)) → RegistrationToken → Content D → View D I P
+    → List (Change D I P) → Type 0
+LeftIn M token Vacant v cs = ⊥
+LeftIn M token InTurn v cs = ⊥
+LeftIn {D} {I} {P} M token (Source d) v cs =
+    (e : D) × (steps : List (PollStep P)) × M.does d v.poll (Unregistered (Ok tt)) steps e
+    × (cs ≡ Put token.slot Vacant ∷ Polls steps ∷ Holds (Unlisted token) ∷ Holds (Warned false (Ok tt)) ∷ [])
+
+abbrev pub ReleasedBy : {D I P X : Type 0} → Meaning D P (Lent X (Asks D I)) → RegistrationToken → Outcome → View D I P
+    → List (Change D I P) → Type 0
+ReleasedBy M token (Ok u) v cs = LeftIn M token (only (is_adapter M) (named v.slots token)) v cs
+ReleasedBy M token (Err e) v cs =
+    AskedIn (λ d a steps f. M.does d v.poll (Unregistered a) steps f) (left token) token
+    (only (is_adapter M) (named v.slots token)) (Err e) cs
+
 -- what the loop is doing within a dispatch; X is the data that the caller lends
 pub data Doing (D X : Type 0) : Type 0 where
   Beginning : (timeout : Option ℕ) (x : X) → Doing D X
+  -- these adapters were marked, and are still to be settled
+  Settling : (timeout : Option ℕ) (later : List RegistrationToken) (x : X) → Doing D X
   -- these are still to be told of the wait
   Sleeping : (timeout : Option ℕ) (later : List RegistrationToken) (x : X) → Doing D X
   Waiting : (timeout : Option ℕ) (x : X) → Doing D X
@@ -459,7 +503,11 @@ RunFrom {D} {I} {P} {X} runs (i ∷ is) v x cs b =
 abbrev pub Step : {D I P X : Type 0} → Meaning D P (Lent X (Asks D I)) → Runs D I X → Outside P → View D I P → Doing D X
     → List (Change D I P) → Doing D X → Type 0
 Step M runs O v (Beginning timeout x) cs b =
-    (places : ℕ) × (cs ≡ Counting places ∷ Holds Cleared ∷ []) × (b ≡ Sleeping timeout v.held.lifecycle x)
+    (places : ℕ) × (marked : List RegistrationToken) × IsInSlotOrder marked × (cs ≡ Counting places ∷ Holds Cleared ∷ [])
+    × (b ≡ Settling timeout marked x)
+Step M runs O v (Settling timeout [] x) cs b = (cs ≡ []) × (b ≡ Sleeping timeout v.held.lifecycle x)
+Step M runs O v (Settling timeout (t ∷ later) x) cs b =
+    SettledIn M t (only (is_adapter M) (named v.slots t)) v cs × (b ≡ Settling timeout later x)
 Step M runs O v (Sleeping timeout [] x) cs b = (cs ≡ []) × (b ≡ Waiting timeout x)
 Step M runs O v (Sleeping timeout (t ∷ later) x) cs b = SleptBy M timeout t later (named v.slots t) v x cs b
 Step {D} {I} {P} M runs O v (Waiting timeout x) cs b =
@@ -519,7 +567,8 @@ Case M runs O (Enable token) (Enabled answer) v css = Once O (EnabledBy M token 
 Case M runs O (Update token) (Updated answer) v css = Once O (UpdatedBy M token answer) v css
 Case M runs O (Disable token) (Disabled answer) v css = Once O (DisabledBy M token answer) v css
 Case M runs O (RemoveCall token) (Removed answer) v css = Once O (RemovedBy M token answer) v css
-Case M runs O (Exchange token d) (Exchanged answer) v css = Once O (ExchangedBy token d answer) v css
+Case M runs O (Release token) (Released answer) v css = Once O (ReleasedBy M token answer) v css
+Case M runs O (Exchange token d) (Exchanged answer) v css = Once O (ExchangedBy M token d answer) v css
 Case M runs O (Dispatch timeout x) (Dispatched answer x') v css =
     DispatchedBy M runs O (nanos_of timeout) x answer x' v css
 Case M runs O (InsertIdle idle) (IdleInserted answer) v css = Once O (IdleInsertedBy idle answer) v css

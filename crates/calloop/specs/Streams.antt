@@ -14,6 +14,7 @@ use Rattle.calloop_core.specs.declared.sources.PostAction.TheVariants.{Continue,
 use Rattle.calloop_core.specs.Calls.{CallbackCall}
 use Rattle.calloop_core.specs.Deeds.{Deed, Heard, Registered, Reregistered, Unregistered, Turned, Slept, Noticed}
 use Rattle.calloop_core.specs.Holdings.{holds_none}
+use Rattle.calloop_core.specs.declared.sources.Role.TheVariants.{Caller}
 use Rattle.calloop_core.specs.Meanings.{Meaning, IsKeeping}
 use Rattle.calloop_core.specs.Polls.{PollView, PollStep, TakePass, PutBack}
 use Rattle.calloop.specs.Pings.{twin_opened}
@@ -146,6 +147,7 @@ module _ {S P A I : Type 0} (polls : Polls A I) (twin : S → Twin) (reading : S
         keys = cell_keys twin;
         fits = λ s. Unit {0};
         needs = λ s. false;
+        role = λ s. Caller;
         does = IsStream;
       }
 

@@ -4,6 +4,7 @@
 mod cell;
 pub mod channel;
 pub mod futures;
+pub mod io;
 pub mod loop_logic;
 pub mod ping;
 pub mod stream;
@@ -16,8 +17,8 @@ pub use calloop_core::generic::{Generic, NoIoDrop};
 pub use calloop_core::idles::{IdleCallback, QuietIdle};
 pub use calloop_core::movable::Movable;
 pub use calloop_core::sources::{
-    Asking, Callback, Choice, Dispatch, Dispatcher, EventSource, Here, Hold, IntoError, OneOf,
-    PostAction, There,
+    Asking, Callback, Choice, Dispatch, Dispatcher, EventSource, Here, Hold, IntoError, Keep,
+    OneOf, Place, PostAction, Role, There,
 };
 pub use calloop_core::sys::events::EventIterator;
 pub use calloop_core::sys::poll::Poll;
@@ -32,6 +33,7 @@ pub use calloop_wake::error::{Error, InsertError, Result};
 pub use calloop_wake::token::{RegistrationToken, Token, TokenFactory};
 pub use calloop_wake::wake::Receipt;
 pub use calloop_wake::wheel::Instant;
+pub use io::{Adapter, Async, Readable, Writable};
 pub use loop_logic::{
     Answer, EventDispatcher, EventLoop, Idle, LoopHandle, LoopSignal, Requests, ScriptLoop,
     Sources, SystemLoop, Ticket,

@@ -2,7 +2,8 @@
 use calloop_core::callbacks::QuietDispatch;
 use calloop_core::idles::IdleCallback;
 use calloop_core::sources::{
-    Asking, Callback, Choice, Dispatch, Dispatcher, EventSource, Hold, PostAction,
+    Asking, Callback, Choice, Dispatch, Dispatcher, EventSource, Hold, Keep, Place, PostAction,
+    Role,
 };
 use calloop_core::sys::events::EventIterator;
 use calloop_core::sys::poll::Poll;
@@ -17,6 +18,7 @@ use std::time::Duration;
 use stops::StopNotes;
 use warnings::Warnings;
 
+mod adapting;
 mod asks;
 mod blocking;
 mod calls;
@@ -27,6 +29,7 @@ mod lifecycle;
 mod loops;
 mod registering;
 mod serving;
+mod settling;
 mod signal;
 mod stops;
 mod telling;
@@ -58,7 +61,8 @@ pub struct LoopHandle<'l, D: EventDispatcher<P, C, R>, P: Poller, C: Clock, R: W
     inner: &'l mut EventLoop<D, P, C, R>,
 }
 
-/// A call on a loop, as a value. A run of the loop is made of `ForgetStop`, `LookForStop` and dispatches.
+/// A call on a loop, as a value. `Release` gives an adapter back, as `LoopHandle::into_inner` does. A run of the loop is made of
+/// `ForgetStop`, `LookForStop` and dispatches.
 #[derive(Drop)]
 pub enum LoopCall<D, P, X, I = ()> {
     Insert(D),
@@ -66,6 +70,7 @@ pub enum LoopCall<D, P, X, I = ()> {
     Update(RegistrationToken),
     Disable(RegistrationToken),
     Remove(RegistrationToken),
+    Release(RegistrationToken),
     Exchange(RegistrationToken, D),
     Dispatch(Option<Duration>, X),
     InsertIdle(I),
@@ -85,6 +90,7 @@ pub enum LoopAnswer<D, P, X, I = ()> {
     Updated(Result<()>),
     Disabled(Result<()>),
     Removed(Option<D>),
+    Released(Result<()>),
     Exchanged(std::result::Result<D, D>),
     Dispatched(Result<()>, X),
     IdleInserted(std::result::Result<Idle, InsertError<I>>),
@@ -179,6 +185,14 @@ where
         self.held.needs_extra_lifecycle_events()
     }
 
+    fn role(&self) -> Role {
+        self.held.role()
+    }
+
+    fn settle(&mut self, token: RegistrationToken, poll: &mut Poll<P, C, R>) -> bool {
+        self.held.settle(token, poll)
+    }
+
     fn before_sleep(&mut self) -> Result<Option<(Readiness, Token)>> {
         self.held.before_sleep()
     }
@@ -251,4 +265,41 @@ where
         ⟦<Dispatcher<S, F> as Dispatch<P, C, R, X, Requests<Sources<A, X, I>, I>>>⟧.means
         ⟦<A as Dispatch<P, C, R, X, Requests<Sources<A, X, I>, I>>>⟧.means
         A.held_means };
+}
+
+impl<T, A, X, I, N> Place<T, N> for Sources<A, X, I>
+where
+    A: Place<T, N>,
+{
+    ghost use Rattle.std.specs.Prelude.{◌≡◌};
+    ghost use Rattle.calloop.specs.Choices.{with_data};
+
+    ghost placed = { λ thing. with_data (A.placed thing) };
+
+    fn place(thing: T) -> Sources<A, X, I>
+        ensures { result ≡ with_data (A.placed thing) }
+    {
+        Sources::new(A::place(thing))
+    }
+}
+
+impl<T, P: Poller, C, R: Wait + Drop, A, X, I, N> Keep<
+    T,
+    P,
+    C,
+    R,
+    X,
+    Requests<Sources<A, X, I>, I>,
+    N,
+> for Sources<A, X, I>
+where
+    T: Dispatch<P, C, R, X, Requests<Sources<A, X, I>, I>>,
+    A: Keep<T, P, C, R, X, Requests<Sources<A, X, I>, I>, N>,
+{
+    ghost use Rattle.calloop.specs.Choices.{held_with_data};
+
+    ghost placed_means = { held_with_data ⟦<A as Place<T, N>>⟧.placed
+        ⟦<T as Dispatch<P, C, R, X, Requests<Sources<A, X, I>, I>>>⟧.means
+        ⟦<A as Dispatch<P, C, R, X, Requests<Sources<A, X, I>, I>>>⟧.means
+        A.placed_means };
 }

@@ -12,6 +12,7 @@ use Rattle.calloop_core.specs.Actions.{either}
 use Rattle.calloop_core.specs.Polls.{PollView, PollStep, polls_after}
 use Rattle.calloop_core.specs.Deeds.{Deed, Registered, Reregistered, Unregistered, Turned, Slept, Noticed, Lent, lent}
 use Rattle.calloop_core.specs.Holdings.{Holding}
+use Rattle.calloop_core.specs.declared.sources.Role.TheVariants.{Caller}
 use Rattle.calloop_core.specs.Meanings.{Meaning}
 use Rattle.calloop_core.specs.Beside.{IsApart, beside}
 
@@ -113,5 +114,6 @@ module _ {A B P X Q : Type 0} (m : Meaning A P (Lent X Q)) (n : Meaning B P (Len
         keys = λ s key. m.keys s.first key ⊎ n.keys s.second key;
         fits = both_fits;
         needs = λ s. false;
+        role = λ s. Caller;
         does = IsBoth;
       }

@@ -56,7 +56,7 @@ module _ {P I : Type 0} (sockets : Sockets P I) (v : PollView P) (edit : Edit) (
   unless_still next (Some kind) a l h = rw h.3 (λ counter. tt)
   unless_still next None a l h = tried_still next a l h
 
-  edits_still : (next : ℕ) (a : Result (Unit {0}) Error) (l : List (PollStep P)) → Edits sockets v edit io a l io'
+  pub edits_still : (next : ℕ) (a : Result (Unit {0}) Error) (l : List (PollStep P)) → Edits sockets v edit io a l io'
       → IsStill next l
   edits_still next a l h = unless_still next (cannot edit v.table) a l h
 
@@ -71,7 +71,7 @@ module _ {P I : Type 0} (sockets : Sockets P I) (v : PollView P) (edit : Edit) (
   unless_for r (Some kind) a l of h = rw h.3 tt
   unless_for r None a l of h = tried_for r a l of h
 
-  edits_for : (r : RegistrationToken) (a : Result (Unit {0}) Error) (l : List (PollStep P)) → EditsFor r edit
+  pub edits_for : (r : RegistrationToken) (a : Result (Unit {0}) Error) (l : List (PollStep P)) → EditsFor r edit
       → Edits sockets v edit io a l io' → AllActFor r l
   edits_for r a l of h = unless_for r (cannot edit v.table) a l of h
 

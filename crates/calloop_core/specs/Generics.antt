@@ -26,6 +26,7 @@ use Rattle.calloop_core.specs.Calls.{CallbackCall}
 use Rattle.calloop_core.specs.Deeds.{Deed, Registered, Reregistered, Unregistered, Turned, Slept, Noticed, Heard}
 use Rattle.calloop_core.specs.Holdings.{holds_none}
 use Rattle.calloop_core.specs.Keys.{no_key}
+use Rattle.calloop_core.specs.declared.sources.Role.TheVariants.{Caller}
 use Rattle.calloop_core.specs.Meanings.{Meaning}
 
 abbrev pub socket : {I : Type 0} → I → NoIoDrop I
@@ -160,5 +161,6 @@ module _ {P I E : Type 0} (sockets : Sockets P I) where
           keys = λ s. under_token s.token;
           fits = λ s. Unit {0};
           needs = λ s. false;
+          role = λ s. Caller;
           does = IsGeneric;
         }

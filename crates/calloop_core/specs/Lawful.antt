@@ -240,6 +240,7 @@ held_itself m =
       keys = λ s key. (λ h. h, λ h. h);
       fits = λ s. (λ h. h, λ h. h);
       needs = λ s. refl;
+      role = λ s. refl;
       does = λ s v deed steps t. (λ h. (t, refl, h), λ u. rw u.1 u.2);
     }
 
@@ -250,6 +251,7 @@ held_first m n =
       keys = λ s key. (λ h. h, λ h. h);
       fits = λ s. (λ h. h, λ h. h);
       needs = λ s. refl;
+      role = λ s. refl;
       does = λ s v deed steps. first_step (λ a b. m.does a v deed steps b) (λ a b. n.does a v deed steps b) s;
     }
 
@@ -260,6 +262,7 @@ held_other m n =
       keys = λ s key. (λ h. h, λ h. h);
       fits = λ s. (λ h. h, λ h. h);
       needs = λ s. refl;
+      role = λ s. refl;
       does = λ s v deed steps. other_step (λ a b. m.does a v deed steps b) (λ a b. n.does a v deed steps b) s;
     }
 
@@ -274,6 +277,7 @@ held_through f g m n o h k =
           (λ x. (h.keys s key).0 ((k.keys (f s) key).0 x), λ x. (k.keys (f s) key).1 ((h.keys s key).1 x));
       fits = λ s. (λ x. (h.fits s).0 ((k.fits (f s)).0 x), λ x. (k.fits (f s)).1 ((h.fits s).1 x));
       needs = λ s. k.needs (f s) ∙ h.needs s;
+      role = λ s. k.role (f s) ∙ h.role s;
       does = λ s v deed steps t. (
         λ w.
             let u = (k.does (f s) v deed steps t).0 w in

@@ -11,6 +11,7 @@ pub mod Registering
 pub mod Hubs
 pub mod Keys
 pub mod WrongSteps
+pub mod SlotOrder
 pub mod Meanings
 pub mod Quiet
 pub mod Beside
@@ -33,3 +34,4 @@ pub mod ScriptPollers
 pub mod Clocks
 pub mod SystemEvents
 pub mod SystemPollers
+pub mod SystemSockets

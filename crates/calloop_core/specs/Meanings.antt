@@ -1,13 +1,16 @@
 -- What a source or a dispatcher means: a relation between what it is before a call, what the call read of `Poll`,
 -- what was done, the steps that it made there, and what it is after it. calloop's `EventSource` and
 -- `EventDispatcher`, seen from outside; calloop promises nothing of them.
-use Rattle.std.specs.Prelude.{◌≡◌, ◌↔◌, ℕ, List, [], Bool, true, false, Ok, Err}
+use Rattle.std.specs.Prelude.{◌≡◌, ◌↔◌, ℕ, List, [], Bool, true, false, Result, Ok, Err}
 use Rattle.calloop_wake.specs.declared.error.Error.{Error}
 use Rattle.calloop_wake.specs.declared.token.Token.{Token}
 use Rattle.calloop_wake.specs.declared.token.RegistrationToken.{RegistrationToken}
+use Rattle.calloop_wake.specs.declared.token.TokenFactory.{TokenFactory}
 use Rattle.calloop_core.specs.declared.sys.Readiness.{Readiness}
 use Rattle.calloop_core.specs.declared.sources.Dispatcher.{Dispatcher}
 use Rattle.calloop_core.specs.declared.sources.OneOf.{OneOf}
+use Rattle.calloop_core.specs.declared.sources.Role.{Role}
+use Rattle.calloop_core.specs.declared.sources.Role.TheVariants.{Caller, Adapter}
 use Rattle.calloop_core.specs.declared.sources.OneOf.TheVariants.{First, Other}
 use Rattle.calloop_core.specs.Pollers.{Outside}
 use Rattle.calloop_core.specs.Polls.{PollView, PollStep, AllStepped}
@@ -27,12 +30,32 @@ pub record Meaning (D P T : Type 0) : Type 1 where
   pub fits : D → Type 0
   -- whether it is told of waits: before each, and after each
   pub needs : D → Bool
+  -- whose it is: the caller's, or the loop's own
+  pub role : D → Role
   pub does : D → PollView P → Deed T → List (PollStep P) → D → Type 0
 
 -- it did this, by steps that can be made
 abbrev pub Does : {D P T : Type 0} → Outside P → Meaning D P T → D → PollView P → Deed T → D → PollView P → Type 0
 Does {D} {P} {T} outside m s v deed t w =
     (steps : List (PollStep P)) × m.does s v deed steps t × AllStepped outside v steps w
+
+-- a factory that has given no token
+abbrev pub fresh_factory : RegistrationToken → TokenFactory
+fresh_factory t = record { registration = t; given = 0 }
+
+-- what the loop takes up of an adapter: its interest is registered anew, of which a refusal is kept by the adapter itself; or
+-- it was dropped, and its registration is taken back
+abbrev pub SettledAs : {D P T : Type 0} → Outside P → Meaning D P T → RegistrationToken → (left : Bool) → D → PollView P → D
+    → PollView P → Type 0
+SettledAs outside m token false s v t w =
+    (f : TokenFactory) × Does outside m s v (Reregistered (fresh_factory token) (Ok tt) f) t w
+SettledAs outside m token true s v t w = (answer : Result (Unit {0}) Error) × Does outside m s v (Unregistered answer) t w
+
+-- all others do nothing
+abbrev pub Settles : {D P T : Type 0} → Role → Outside P → Meaning D P T → RegistrationToken → (left : Bool) → D
+    → PollView P → D → PollView P → Type 0
+Settles Caller outside m token left s v t w = (left ≡ false) × (t ≡ s) × (w ≡ v)
+Settles Adapter outside m token left s v t w = SettledAs outside m token left s v t w
 
 -- it leaves the counters of others alone, and calls at most once for each arming of its own
 abbrev pub KeepsCounters : {D P T : Type 0} → Meaning D P T → Type 0
@@ -121,6 +144,7 @@ with_callback m may reaches becomes =
       keys = λ s. m.keys s.source;
       fits = λ s. m.fits s.source;
       needs = λ s. m.needs s.source;
+      role = λ s. Caller;
       does = dispatched m may reaches becomes;
     }
 
@@ -144,6 +168,7 @@ one_of m n =
       keys = of_either m.keys n.keys;
       fits = of_either m.fits n.fits;
       needs = of_either m.needs n.needs;
+      role = of_either m.role n.role;
       does = λ s v deed steps t. on_both (λ a b. m.does a v deed steps b) (λ a b. n.does a v deed steps b) s t;
     }
 
@@ -155,6 +180,7 @@ seen_as see m =
       keys = λ s. m.keys (see s);
       fits = λ s. m.fits (see s);
       needs = λ s. m.needs (see s);
+      role = λ s. m.role (see s);
       does = λ s v deed steps t. m.does (see s) v deed steps (see t);
     }
 
@@ -166,6 +192,7 @@ still does =
       keys = λ s. no_key;
       fits = λ s. Unit {0};
       needs = λ s. false;
+      role = λ s. Caller;
       does = λ s v deed steps t. (steps ≡ []) × does s v deed t;
     }
 
@@ -179,5 +206,6 @@ pub record IsHeld {A D P T : Type 0} (held : A → D) (m : Meaning A P T) (n : M
   pub keys : (s : A) (key : ℕ) → n.keys (held s) key ↔ m.keys s key
   pub fits : (s : A) → n.fits (held s) ↔ m.fits s
   pub needs : (s : A) → n.needs (held s) ≡ m.needs s
+  pub role : (s : A) → n.role (held s) ≡ m.role s
   pub does : (s : A) (v : PollView P) (deed : Deed T) (steps : List (PollStep P)) (t : D)
       → n.does (held s) v deed steps t ↔ ((b : A) × (t ≡ held b) × m.does s v deed steps b)

@@ -11,6 +11,7 @@ use Rattle.calloop_core.specs.declared.transient.State.TheVariants.{Keep, Regist
 use Rattle.calloop_core.specs.declared.movable.Movable.{Movable}
 use Rattle.calloop_core.specs.Polls.{PollView, PollStep}
 use Rattle.calloop_core.specs.Deeds.{Deed, Registered, Reregistered, Unregistered, Turned, Slept, Noticed, Heard}
+use Rattle.calloop_core.specs.declared.sources.Role.TheVariants.{Caller}
 use Rattle.calloop_core.specs.Meanings.{Meaning, IsKeeping, KeepsCounters, KeepsHome, seen_as}
 use Rattle.calloop_core.specs.Lawful.{keeping_seen}
 use Rattle.calloop_core.specs.Transients.{Moves, RegisteredAs, ReregisteredAs, coming, state_holds, state_keys, state_fits, state_meaning}
@@ -43,7 +44,7 @@ module _ {S P E M T Cause : Type 0} (m : Meaning S P (Heard E M T Cause)) where
 
   abbrev pub again_meaning : Meaning (State S) P (Heard E M T Cause)
   again_meaning =
-      record { holds = state_holds m; keys = state_keys m; fits = state_fits m; needs = λ state. false; does = MovesAgain }
+      record { holds = state_holds m; keys = state_keys m; fits = state_fits m; needs = λ state. false; role = λ state. Caller; does = MovesAgain }
 
   abbrev pub movable_meaning : Meaning (Movable S) P (Heard E M T Cause)
   movable_meaning = seen_as (λ s. s.source.state) again_meaning

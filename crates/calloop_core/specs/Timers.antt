@@ -10,6 +10,7 @@ use Rattle.calloop_wake.specs.declared.wheel.Instant.{Instant}
 use Rattle.calloop_wake.specs.Deadlines.{is_armed, moment_after, CannotArm}
 use Rattle.calloop_wake.specs.Tokens.{key_of, next_token, after_token, most_tokens}
 use Rattle.calloop_core.specs.declared.sources.PostAction.{PostAction}
+use Rattle.calloop_core.specs.declared.sources.Role.TheVariants.{Caller}
 use Rattle.calloop_core.specs.declared.sources.PostAction.TheVariants.{Continue, Remove}
 use Rattle.calloop_core.specs.declared.timer.TimeoutAction.{TimeoutAction}
 use Rattle.calloop_core.specs.declared.timer.TimeoutAction.TheVariants.{Drop, ToInstant, ToDuration}
@@ -152,4 +153,4 @@ IsTimer s v (Turned readiness token turn) steps t = IsTimerTurn s token v turn.c
 
 abbrev pub timer_meaning : {P : Type 0} → Meaning Timer P (Heard Instant (Unit {0}) TimeoutAction TimerError)
 timer_meaning =
-    record { holds = timer_holds; keys = timer_keys; fits = λ s. Unit {0}; needs = λ s. false; does = IsTimer }
+    record { holds = timer_holds; keys = timer_keys; fits = λ s. Unit {0}; needs = λ s. false; role = λ s. Caller; does = IsTimer }

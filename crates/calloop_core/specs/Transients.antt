@@ -20,6 +20,7 @@ use Rattle.calloop_core.specs.Deeds.{Deed, Registered, Reregistered, Unregistere
 use Rattle.calloop_core.specs.Holdings.{Holding, holds_none}
 use Rattle.calloop_core.specs.Keys.{no_key}
 use Rattle.calloop_core.specs.Beside.{IsApart, beside}
+use Rattle.calloop_core.specs.declared.sources.Role.TheVariants.{Caller}
 use Rattle.calloop_core.specs.Meanings.{Meaning, seen_as}
 
 -- the one where a call succeeded, the other where it was refused
@@ -167,7 +168,7 @@ module _ {S P E M T Cause : Type 0} (m : Meaning S P (Heard E M T Cause)) where
 
   abbrev pub state_meaning : Meaning (State S) P (Heard E M T Cause)
   state_meaning =
-      record { holds = state_holds; keys = state_keys; fits = state_fits; needs = λ state. false; does = Moves }
+      record { holds = state_holds; keys = state_keys; fits = state_fits; needs = λ state. false; role = λ state. Caller; does = Moves }
 
   abbrev pub transient_meaning : Meaning (TransientSource S) P (Heard E M T Cause)
   transient_meaning = seen_as (λ s. s.state) state_meaning

@@ -7,12 +7,12 @@ ghost use Rattle.calloop_core.specs.Deeds.{Reregistered};
 use crate::batch_unregister;
 use crate::callbacks::QuietDispatch;
 use crate::movable::Movable;
-use crate::sources::{Asking, Dispatch, Dispatcher, PostAction};
+use crate::sources::{Asking, Dispatch, Dispatcher, PostAction, Role};
 use crate::sys::events::EventIterator;
 use crate::sys::poll::Poll;
 use crate::sys::{Poller, Readiness};
 use calloop_wake::error::{Error, Result as LoopResult};
-use calloop_wake::token::{Token, TokenFactory};
+use calloop_wake::token::{RegistrationToken, Token, TokenFactory};
 use std::sync::Wait;
 
 /// A part of a `Both`: it knows whether it is registered, so that it can be taken back and registered again at any time. A
@@ -154,6 +154,14 @@ where
 
     /// It isn't told of waits, as its parts aren't.
     fn needs_extra_lifecycle_events(&self) -> bool {
+        false
+    }
+
+    fn role(&self) -> Role {
+        Role::Caller
+    }
+
+    fn settle(&mut self, _token: RegistrationToken, _poll: &mut Poll<P, C, R>) -> bool {
         false
     }
 

@@ -8,7 +8,7 @@ use crate::sys::events::EventIterator;
 use crate::sys::poll::Poll;
 use crate::sys::{Poller, Readiness};
 use calloop_wake::error::{Error, Result as LoopResult};
-use calloop_wake::token::{Token, TokenFactory};
+use calloop_wake::token::{RegistrationToken, Token, TokenFactory};
 use std::marker::PhantomData;
 use std::ops::{BitOr, BitOrAssign};
 use std::sync::Wait;
@@ -94,6 +94,15 @@ pub fn joining_has_no_order()
     ensures repetition { (a : PostAction) → either a a ≡ a }
     ensures absorbed { (a : PostAction) → either a Reregister ≡ Reregister }
 {}
+
+/// Whose a thing in a slot is: the caller's, or the loop's own. The calls of a handle name the caller's alone.
+#[derive(Clone, Copy, Debug, PartialEq, Eq)]
+pub enum Role {
+    /// A source of the caller's, with its callback.
+    Caller,
+    /// The socket behind an `Async`.
+    Adapter,
+}
 
 /// The error of a source, as an error of the loop.
 pub trait IntoError: Drop {
@@ -236,11 +245,11 @@ impl<S, F> Dispatcher<S, F> {
 /// What a loop calls: a source with its callback, or a choice of such. `X` is the data that a dispatch lends, and `Q` takes
 /// the requests of callbacks.
 pub trait Dispatch<P: Poller, C, R: Wait + Drop, X, Q: Asking> {
-    ghost use Rattle.std.specs.Prelude.{◌≡◌, []};
-    ghost use Rattle.calloop_core.specs.Polls.{PollView, poll_view};
+    ghost use Rattle.std.specs.Prelude.{◌≡◌, ℕ, []};
+    ghost use Rattle.calloop_core.specs.Polls.{PollView, IsReady, poll_view};
     ghost use Rattle.calloop_core.specs.Events.{events_left};
     ghost use Rattle.calloop_core.specs.Deeds.{Registered, Reregistered, Unregistered, Turned, Slept, Noticed, Lent, lent};
-    ghost use Rattle.calloop_core.specs.Meanings.{Meaning, Does, IsKeeping, IsAsking, FailsAsSource};
+    ghost use Rattle.calloop_core.specs.Meanings.{Meaning, Does, Settles, IsKeeping, IsAsking, FailsAsSource};
 
     ghost means: { Meaning Self P (Lent X Q) };
 
@@ -274,6 +283,16 @@ pub trait Dispatch<P: Poller, C, R: Wait + Drop, X, Q: Asking> {
     /// Whether the source is told of waits.
     fn needs_extra_lifecycle_events(&self) -> bool
         ensures { result ≡ means.needs self.now };
+
+    /// Whose it is.
+    fn role(&self) -> Role
+        ensures { result ≡ means.role self.now };
+
+    /// The loop takes up what was asked of an adapter since, which is registered under this token; true where it was dropped. All
+    /// others do nothing. The room that was reserved for a wait stays.
+    fn settle(&mut self, token: RegistrationToken, poll: &mut Poll<P, C, R>) -> bool
+        ensures settles { Settles (means.role self.old) P.outside means token result self.old (poll_view poll.old) self.new (poll_view poll.new) }
+        ensures ready { (more : ℕ) → IsReady more poll.old → IsReady more poll.new };
 
     /// The source is told of the wait that comes.
     fn before_sleep(&mut self) -> LoopResult<Option<(Readiness, Token)>>
@@ -335,6 +354,14 @@ where
 
     fn needs_extra_lifecycle_events(&self) -> bool {
         <S as EventSource<P, C, R>>::needs_extra_lifecycle_events()
+    }
+
+    fn role(&self) -> Role {
+        Role::Caller
+    }
+
+    fn settle(&mut self, _token: RegistrationToken, _poll: &mut Poll<P, C, R>) -> bool {
+        false
     }
 
     fn before_sleep(&mut self) -> LoopResult<Option<(Readiness, Token)>> {
@@ -413,6 +440,20 @@ where
         match self {
             OneOf::First(held) => held.needs_extra_lifecycle_events(),
             OneOf::Other(held) => held.needs_extra_lifecycle_events(),
+        }
+    }
+
+    fn role(&self) -> Role {
+        match self {
+            OneOf::First(held) => held.role(),
+            OneOf::Other(held) => held.role(),
+        }
+    }
+
+    fn settle(&mut self, token: RegistrationToken, poll: &mut Poll<P, C, R>) -> bool {
+        match self {
+            OneOf::First(held) => held.settle(token, poll),
+            OneOf::Other(held) => held.settle(token, poll),
         }
     }
 
@@ -551,5 +592,85 @@ where
         ⟦<B as Dispatch<P, C, R, X, Q>>⟧.means
         (one_of A.means ⟦<B as Dispatch<P, C, R, X, Q>>⟧.means)
         B.held_means
+        (held_other A.means ⟦<B as Dispatch<P, C, R, X, Q>>⟧.means) };
+}
+
+/// A choice that can hold a `T`, which is no source with a callback, in the place `N`: an adapter is such a thing. The compiler infers `N`
+/// where the two types have one place.
+pub trait Place<T, N>: Sized {
+    ghost use Rattle.std.specs.Prelude.{◌≡◌};
+
+    ghost placed: { T → Self };
+
+    fn place(thing: T) -> Self
+        ensures { result ≡ placed thing };
+}
+
+impl<T, B> Place<T, Here> for OneOf<T, B> {
+    ghost use Rattle.std.specs.Prelude.{◌≡◌};
+    ghost use Rattle.calloop_core.specs.declared.sources.OneOf.TheVariants.{First};
+
+    ghost placed = { λ thing. First thing };
+
+    fn place(thing: T) -> OneOf<T, B>
+        ensures { result ≡ First thing }
+    {
+        OneOf::First(thing)
+    }
+}
+
+impl<T, A, B, N> Place<T, There<N>> for OneOf<A, B>
+where
+    B: Place<T, N>,
+{
+    ghost use Rattle.std.specs.Prelude.{◌≡◌};
+    ghost use Rattle.calloop_core.specs.declared.sources.OneOf.TheVariants.{Other};
+
+    ghost placed = { λ thing. Other (B.placed thing) };
+
+    fn place(thing: T) -> OneOf<A, B>
+        ensures { result ≡ Other (B.placed thing) }
+    {
+        OneOf::Other(B::place(thing))
+    }
+}
+
+/// It has a place for a `T`, and what is placed there means just what that means.
+pub trait Keep<T, P: Poller, C, R: Wait + Drop, X, Q, N>: Dispatch<P, C, R, X, Q> + Place<T, N>
+where
+    Q: Asking,
+    T: Dispatch<P, C, R, X, Q>,
+{
+    ghost use Rattle.calloop_core.specs.Meanings.{IsHeld};
+
+    ghost placed_means: { IsHeld ⟦<Self as Place<T, N>>⟧.placed ⟦<T as Dispatch<P, C, R, X, Q>>⟧.means Self.means };
+}
+
+impl<T, P: Poller, C, R: Wait + Drop, X, Q: Asking, B> Keep<T, P, C, R, X, Q, Here> for OneOf<T, B>
+where
+    T: Dispatch<P, C, R, X, Q>,
+    B: Dispatch<P, C, R, X, Q>,
+{
+    ghost use Rattle.calloop_core.specs.Lawful.{held_first};
+
+    ghost placed_means = { held_first ⟦<T as Dispatch<P, C, R, X, Q>>⟧.means B.means };
+}
+
+impl<T, P: Poller, C, R: Wait + Drop, X, Q: Asking, A, B, N> Keep<T, P, C, R, X, Q, There<N>>
+    for OneOf<A, B>
+where
+    T: Dispatch<P, C, R, X, Q>,
+    A: Dispatch<P, C, R, X, Q>,
+    B: Keep<T, P, C, R, X, Q, N>,
+{
+    ghost use Rattle.calloop_core.specs.declared.sources.OneOf.TheVariants.{Other};
+    ghost use Rattle.calloop_core.specs.Meanings.{one_of};
+    ghost use Rattle.calloop_core.specs.Lawful.{held_other, held_through};
+
+    ghost placed_means = { held_through ⟦<B as Place<T, N>>⟧.placed (λ b. Other b)
+        ⟦<T as Dispatch<P, C, R, X, Q>>⟧.means
+        ⟦<B as Dispatch<P, C, R, X, Q>>⟧.means
+        (one_of A.means ⟦<B as Dispatch<P, C, R, X, Q>>⟧.means)
+        B.placed_means
         (held_other A.means ⟦<B as Dispatch<P, C, R, X, Q>>⟧.means) };
 }

@@ -12,6 +12,7 @@ use std::time::Duration;
 pub mod events;
 pub mod faults;
 pub mod hub;
+pub mod marks;
 pub mod notifier;
 pub mod poll;
 pub mod script;

@@ -27,6 +27,7 @@ use std::{io, mem};
 
 mod callbacks;
 mod conversions;
+mod streams;
 mod system;
 
 #[test]

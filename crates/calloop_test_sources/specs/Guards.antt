@@ -5,6 +5,7 @@ use Rattle.calloop_core.specs.declared.sources.PostAction.{PostAction}
 use Rattle.calloop_core.specs.Polls.{PollView, PollStep}
 use Rattle.calloop_core.specs.Deeds.{Deed, Registered, Reregistered, Unregistered, Turned, Slept, Noticed, Heard, heard}
 use Rattle.calloop_core.specs.Holdings.{holds_none}
+use Rattle.calloop_core.specs.declared.sources.Role.TheVariants.{Caller}
 use Rattle.calloop_core.specs.Meanings.{Meaning, IsKeeping, KeepsCounters, KeepsHome}
 use Rattle.calloop.specs.declared.ping.source.PingError.{PingError}
 use Rattle.calloop.specs.Pings.{IsPing, ping_keys}
@@ -34,6 +35,7 @@ guarded_meaning =
       keys = λ s. ping_keys s.ping;
       fits = λ s. Unit {0};
       needs = λ s. false;
+      role = λ s. Caller;
       does = Guards;
     }
 

@@ -4,6 +4,7 @@ use Rattle.std.specs.Prelude.{◌≡◌, ℕ, [], ◌∷◌, List, Bool, true, f
 use Rattle.calloop_core.specs.Polls.{PollView, PollStep}
 use Rattle.calloop_core.specs.Calls.{CallbackCall}
 use Rattle.calloop_core.specs.Deeds.{Deed, Registered, Reregistered, Unregistered, Turned, Slept, Noticed, Heard}
+use Rattle.calloop_core.specs.declared.sources.Role.TheVariants.{Caller}
 use Rattle.calloop_core.specs.Meanings.{Meaning, IsKeeping, KeepsCounters, KeepsHome}
 use Rattle.calloop_core.specs.Beside.{within_itself}
 
@@ -29,6 +30,7 @@ module _ {D S P E M T Cause E' M' T' Cause' : Type 0} (see : D → S) (m : Meani
         keys = λ s. m.keys (see s);
         fits = λ s. m.fits (see s);
         needs = λ s. false;
+        role = λ s. Caller;
         does = Passes;
       }
 

@@ -13,6 +13,7 @@ use Rattle.calloop_core.specs.Holdings.{Holding, holds_none, IsBelow, Keeps}
 use Rattle.calloop_wake.specs.declared.token.TokenFactory.{TokenFactory}
 use Rattle.calloop_wake.specs.declared.token.RegistrationToken.{RegistrationToken}
 use Rattle.calloop_core.specs.Keys.{AllActFor}
+use Rattle.calloop_core.specs.declared.sources.Role.TheVariants.{Caller}
 use Rattle.calloop_core.specs.Meanings.{Meaning, IsKeeping, KeepsCounters, KeepsHome, IsAtHome, BeginsIn}
 use Rattle.calloop_core.specs.Timers.{timer_holds, timer_keys, timer_meaning}
 use Rattle.calloop_core.specs.Keeping.{timer_keeps}
@@ -138,6 +139,7 @@ trio_meaning =
       keys = trio_keys;
       fits = λ s. IsApart (timer_holds s.first) (timer_holds s.second);
       needs = λ s. false;
+      role = λ s. Caller;
       does = IsTrio;
     }
 

@@ -233,12 +233,11 @@ none-above ws h e zero = e
 none-above ws h e (suc i) = ap (λ x. not (nat_eq x 0)) (get_or_past ws (suc i) 0 (omega arith))
 
 pub none_vacant : (vacant : ℕ → Bool) (ls : List (List ℕ)) → AreSix ls → said vacant ls 0 ≡ false → AreLevels vacant ls → (i : ℕ) → vacant i ≡ false
-none_vacant vacant [] six h are = absurd six
-none_vacant vacant (ws ∷ below) six h are = none-below vacant (ws ∷ below) are (none-above ws six.0 h)
+none_vacant vacant [] six h are = absurd (omega (arith, six.0))
+none_vacant vacant (ws ∷ below) six h are = none-below vacant (ws ∷ below) are (none-above ws six.1.0 h)
 
 some-levels : (ls : List (List ℕ)) → AreSix ls → 0 < length ls
-some-levels [] six = absurd six
-some-levels (ws ∷ below) six = omega arith
+some-levels ls six = omega (arith, six.0)
 
 pub takes-first : (vacant : ℕ → Bool) (t : Taken) (ls ls' : List (List ℕ)) → AreSix ls → Takes vacant 0 t ls ls' → IsFirst vacant t.slot
 takes-first vacant t ls ls' six T = record { found = T.found (T.there (some-levels ls six)); least = T.least (λ q lt. absurd (omega arith)) }
@@ -251,7 +250,7 @@ takes-levels vacant t ls ls' six T = T.levels (T.there (some-levels ls six))
 pow-step : (n : ℕ) → 2 ^ (6 * n) * 64 ≡ 2 ^ (6 * suc n)
 pow-step n = let six : 6 * n + 6 ≡ 6 * suc n = omega arith in sym (pow-add 2 (6 * n) 6) ∙ ap (λ k. 2 ^ k) six
 
-place-step : (n slot : ℕ) → slot / 2 ^ (6 * n) / 64 ≡ slot / 2 ^ (6 * suc n)
+pub place-step : (n slot : ℕ) → slot / 2 ^ (6 * n) / 64 ≡ slot / 2 ^ (6 * suc n)
 place-step n slot = div-div-eq-div-mul slot (2 ^ (6 * n)) 64 ∙ ap (λ k. slot / k) (pow-step n)
 
 pub place-small : (n slot : ℕ) → slot < 2 ^ 32 → slot / 2 ^ (6 * (n + 1)) < 2 ^ 26
@@ -261,7 +260,7 @@ place-small n slot h =
     let is : slot / 2 ^ (6 * n) / 64 ≡ slot / 2 ^ (6 * (n + 1)) = place-step n slot ∙ ap (λ k. slot / 2 ^ (6 * k)) one in
     omega arith
 
-same-count : (ls ls' : List (List ℕ)) → map length ls' ≡ map length ls → length ls' ≡ length ls
+pub same-count : (ls ls' : List (List ℕ)) → map length ls' ≡ map length ls → length ls' ≡ length ls
 same-count ls ls' e = sym (length-map ls' length) ∙ ap length e ∙ length-map ls length
 
 -- levels of the same words have the bits of the same slots

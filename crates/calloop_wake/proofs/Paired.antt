@@ -7,7 +7,7 @@ use Rattle.std.specs.Ordering.{nat_cmp, is_eq, match_ordering, ordering_then}
 use Rattle.std.specs.BTreeMap.{insert_entry, is_at}
 use Rattle.std.specs.Map.{lookup, remove_entry}
 use Rattle.calloop_wake.specs.Deadlines.{is_before, inserted, has_counter, without_counter, IsAhead, IsSorted}
-use Rattle.calloop_wake.specs.Wheels.{entry_at, entries_of, deadline_of, NameTheSame}
+use Rattle.calloop_wake.specs.Wheels.{entry_at, entries_of, deadline_of, NameTheSame, HaveTheSame}
 use Rattle.calloop_wake.specs.declared.token.Token.{Token}
 use Rattle.calloop_wake.specs.declared.wheel.Due.{Due}
 use Rattle.calloop_wake.specs.declared.wheel.Entry.{Entry}
@@ -87,20 +87,21 @@ deadline_of-without q c (x ∷ xs) = let h = deadline_of-without q c xs in grind
 -- The second map, as a function of counters.
 
 abbrev at : (q : ℕ) → List (ℕ × Instant) → Option Instant
-at q m = lookup (is_at (nat_cmp q)) m
-
-eq_of_cmp : (c q : ℕ) → is_at (nat_cmp c) q ≡ nat_eq c q
-eq_of_cmp c q = grind (arith, nat_tests)
+at q m = lookup (nat_eq q) m
 
 pub same-entered : (m n : List (ℕ × Instant)) (e : Entry) (xs : List Entry) → has_counter e.counter xs ≡ false → NameTheSame xs m
-    → ((q : ℕ) → at q n ≡ cond (is_at (nat_cmp e.counter) q) (Some e.deadline) (at q m)) → NameTheSame (inserted e xs) n
+    → ((q : ℕ) → at q n ≡ cond (nat_eq e.counter q) (Some e.deadline) (at q m)) → NameTheSame (inserted e xs) n
 same-entered m n e xs free same updates q =
-    updates q ∙ ap (λ b. cond b (Some e.deadline) (at q m)) (eq_of_cmp e.counter q) ∙ ap (λ o. if nat_eq e.counter q then Some e.deadline else o) (same q) ∙ sym (deadline_of-inserted q e xs free)
+    updates q ∙ ap (λ o. if nat_eq e.counter q then Some e.deadline else o) (same q) ∙ sym (deadline_of-inserted q e xs free)
 
 pub same-left : (m n : List (ℕ × Instant)) (c : ℕ) (xs : List Entry) → NameTheSame xs m
-    → ((q : ℕ) → at q n ≡ cond (is_at (nat_cmp c) q) None (at q m)) → NameTheSame (without_counter c xs) n
+    → ((q : ℕ) → at q n ≡ cond (nat_eq c q) None (at q m)) → NameTheSame (without_counter c xs) n
 same-left m n c xs same updates q =
-    updates q ∙ ap (λ b. cond b None (at q m)) (eq_of_cmp c q) ∙ ap (λ o. if nat_eq c q then None else o) (same q) ∙ sym (deadline_of-without q c xs)
+    updates q ∙ ap (λ o. if nat_eq c q then None else o) (same q) ∙ sym (deadline_of-without q c xs)
+
+-- a table that has the same deadlines
+pub same-trimmed : (xs : List Entry) (m n : List (ℕ × Instant)) → HaveTheSame m n → NameTheSame xs m → NameTheSame xs n
+same-trimmed xs m n trimmed same q = trimmed q ∙ same q
 
 free_inserted : (e : Entry) (xs : List Entry) → has_counter e.counter xs ≡ false → without_counter e.counter (inserted e xs) ≡ xs
 free_inserted e [] free = let r : nat_eq e.counter e.counter ≡ true = grind arith in ap (λ b. cond (not b) (e ∷ []) []) r
@@ -118,8 +119,8 @@ free_inserted e (x ∷ xs) free =
 
 -- what was entered leaves again
 pub same-back : (m n o : List (ℕ × Instant)) (e : Entry) (xs : List Entry) → has_counter e.counter xs ≡ false → NameTheSame xs m
-    → ((q : ℕ) → at q n ≡ cond (is_at (nat_cmp e.counter) q) (Some e.deadline) (at q m))
-    → ((q : ℕ) → at q o ≡ cond (is_at (nat_cmp e.counter) q) None (at q n)) → NameTheSame xs o
+    → ((q : ℕ) → at q n ≡ cond (nat_eq e.counter q) (Some e.deadline) (at q m))
+    → ((q : ℕ) → at q o ≡ cond (nat_eq e.counter q) None (at q n)) → NameTheSame xs o
 same-back m n o e xs free same entered left q =
     same-left n o e.counter (inserted e xs) (same-entered m n e xs free same entered) left q ∙ ap (λ l. deadline_of q l) (free_inserted e xs free)
 
@@ -156,7 +157,7 @@ removed_none c ps none = sym (without_none c (entries_of ps) (sym (is_some-deadl
 
 -- the first pair leaves both maps
 pub same-popped : (m n : List (ℕ × Instant)) (p : Due × Token) (ps qs : List (Due × Token)) → ps ≡ p ∷ qs → IsSorted (entries_of ps) → NameTheSame (entries_of ps) m
-    → ((q : ℕ) → at q n ≡ cond (is_at (nat_cmp p.0.counter) q) None (at q m)) → NameTheSame (entries_of qs) n
+    → ((q : ℕ) → at q n ≡ cond (nat_eq p.0.counter q) None (at q m)) → NameTheSame (entries_of qs) n
 same-popped m n p ps qs is sorted same left =
     let order : IsSorted (entries_of (p ∷ qs)) = subst (λ (l : List (Due × Token)). IsSorted (entries_of l)) is sorted in
     let names : NameTheSame (entries_of (p ∷ qs)) m = subst (λ (l : List (Due × Token)). NameTheSame (entries_of l) m) is same in

@@ -107,7 +107,7 @@ levels-grown f n [] are = tt
 levels-grown f n (ws ∷ below) are =
     (λ i. is_set-extended (place (ws ∷ below) n) ws i ∙ are.0 i ∙ sym (said-grown f n below i), levels-grown f n below are.1)
 
-length-grown : (n : ℕ) (ls : List (List ℕ)) → length (grown n ls) ≡ length ls
+pub length-grown : (n : ℕ) (ls : List (List ℕ)) → length (grown n ls) ≡ length ls
 length-grown n [] = refl
 length-grown n (ws ∷ below) = ap suc (length-grown n below)
 

@@ -89,10 +89,15 @@ pub record IsFirst (vacant : ℕ → Bool) (slot : ℕ) : Type 0 where
   pub found : vacant slot ≡ true
   pub least : (j : ℕ) → j < slot → vacant j ≡ false
 
--- six levels, of which the highest has one word or none: enough for 2^36 slots
+-- the highest level has at most so many words, and each other at most one for each bit of the level above it
+abbrev pub IsCovered : (most : ℕ) → List (List ℕ) → Type 0
+IsCovered most [] = Unit {0}
+IsCovered most (words ∷ below) = (length words ≤ most) × IsCovered (64 * length words) below
+
+-- six levels, of which the highest has one word or none, and each other has no word without a bit above it: enough for
+-- 2^36 slots
 abbrev pub AreSix : List (List ℕ) → Type 0
-AreSix [] = ⊥
-AreSix (words ∷ below) = (length words ≤ 1) × (length below ≡ 5)
+AreSix levels = (length levels ≡ 6) × IsCovered 1 levels
 
 -- whether a slot of the list is there and vacant
 abbrev pub is_vacant_in : {S : Type 0} → List (Slot S) → ℕ → Bool

@@ -1,8 +1,6 @@
--- How a wheel holds the armed deadlines: in a map from deadline and counter to the token, and in one from the counter
+-- How a wheel holds the armed deadlines: in a tree from deadline and counter to the token, and in a table from the counter
 -- to the deadline. calloop has a heap alone, and walks it to cancel.
-use Rattle.std.specs.Prelude.{◌≡◌, ℕ, ◌∷◌, [], List, map, if◌then◌else◌, Option, None, Some}
-use Rattle.std.specs.Ordering.{nat_cmp}
-use Rattle.std.specs.BTreeMap.{is_at}
+use Rattle.std.specs.Prelude.{◌≡◌, ℕ, nat_eq, ◌∷◌, [], List, map, if◌then◌else◌, Option, None, Some}
 use Rattle.std.specs.Map.{lookup}
 use Rattle.calloop_wake.specs.declared.token.Token.{Token}
 use Rattle.calloop_wake.specs.declared.wheel.Due.{Due}
@@ -28,7 +26,11 @@ deadline_of counter (e ∷ es) = if is_of counter e then Some e.deadline else de
 -- the second map has for each counter the deadline of its entry
 abbrev pub NameTheSame : List Entry → (by_counter : List (ℕ × Instant)) → Type 0
 NameTheSame entries by_counter =
-    (counter : ℕ) → lookup (is_at (nat_cmp counter)) by_counter ≡ deadline_of counter entries
+    (counter : ℕ) → lookup (nat_eq counter) by_counter ≡ deadline_of counter entries
+
+-- both tables have the same deadline for each counter
+abbrev pub HaveTheSame : (old new : List (ℕ × Instant)) → Type 0
+HaveTheSame old new = (counter : ℕ) → lookup (nat_eq counter) new ≡ lookup (nat_eq counter) old
 
 pub record IsWheel (by_due : List (Due × Token)) (by_counter : List (ℕ × Instant)) (next : ℕ) : Type 0 where
   pub ordered : IsOrdered (record { entries = entries_of by_due; next = next })

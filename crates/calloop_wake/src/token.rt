@@ -51,8 +51,8 @@ impl Token {
     }
 }
 
-/// Which use of which slot: it names one source, and nothing once that source is gone.
-#[derive(Clone, Copy, Debug, PartialEq, Eq)]
+/// Which use of which slot: it names one source, and nothing once that source is gone. In order by slot, then by version.
+#[derive(Clone, Copy, Debug, PartialEq, Eq, PartialOrd, Ord)]
 pub struct RegistrationToken {
     slot: u32,
     version: u16,

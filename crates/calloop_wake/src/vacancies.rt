@@ -1,12 +1,10 @@
 //! The set of the vacant slots. Its least one is found without a walk.
-ghost use Rattle.std.specs.Prelude.{ℕ, Bool, ◌≡◌, ◌+◌, ◌-◌, ◌*◌, ◌/◌, ◌%◌, ◌^◌, ◌<◌, ◌≤◌, List, [], ◌∷◌, ◌++◌, map, length, not, true, false, nat_lt, None, OnOk, IfOk, IfErr, IfSome, IfNone};
+ghost use Rattle.std.specs.Prelude.{ℕ, Bool, ◌≡◌, ◌+◌, ◌-◌, ◌*◌, ◌/◌, ◌%◌, ◌^◌, ◌<◌, ◌≤◌, List, [], ◌∷◌, ◌++◌, map, length, not, true, false, nat_lt, None, OnOk, OnErr, IfOk, IfSome, IfNone};
 ghost use Rattle.calloop_wake.specs.Vacancies.{word_at, is_set, is_filled, said, place, AreLevels, HasBits, Takes, with_slot, extended, grown, IsFirst, AreSix};
 ghost use Rattle.std.proofs.Math.ListN.{set};
-ghost use Rattle.calloop_wake.specs.declared.error.Error.TheVariants.{OutOfMemory};
 
-use crate::error::Result;
 use crate::steps::Steps;
-use std::alloc::Global;
+use std::alloc::{AllocError, Global};
 use std::marker::Model;
 
 /// Words of 64 bits, at most 2^26: those with the bits of 2^32 slots. The one call that tells of a word ticks.
@@ -48,6 +46,13 @@ impl Words {
         }
     }
 
+    // Whether there is a word at this place.
+    fn has(&self, place: usize) -> bool
+        ensures { result ≡ nat_lt place (length self.now) }
+    {
+        place < self.words.len()
+    }
+
     // Writes a word.
     fn write(&mut self, place: usize, word: u64)
         requires { place < length self.old }
@@ -57,10 +62,10 @@ impl Words {
     }
 
     // Appends a word, which is 0, where the words end at this place or before. Whether it did.
-    fn extend(&mut self, place: usize) -> Result<bool>
+    fn extend(&mut self, place: usize) -> Result<bool, AllocError>
         requires { place < 2 ^ 26 }
         ensures ok { IfOk result (λ b. (b ≡ not (nat_lt place (length self.old))) × (self.new ≡ extended place self.old)) }
-        ensures err { IfErr result (λ e. (e ≡ OutOfMemory) × (self.new ≡ self.old)) }
+        ensures err { OnErr result (self.new ≡ self.old) }
     {
         if place < self.words.len() {
             return Ok(false);
@@ -143,11 +148,11 @@ fn mark(levels: &mut [Words], slot: usize)
 }
 
 // Gives each level the word over a slot, where it has none yet. With no memory for one, all are as they were.
-fn grow(levels: &mut [Words], slot: usize) -> Result<()>
+fn grow(levels: &mut [Words], slot: usize) -> Result<(), AllocError>
     requires few { length levels.old ≤ 6 }
     requires small { slot < 2 ^ 32 }
     ensures ok { OnOk result (levels.new ≡ grown slot levels.old) }
-    ensures err { IfErr result (λ e. (e ≡ OutOfMemory) × (levels.new ≡ levels.old)) }
+    ensures err { OnErr result (levels.new ≡ levels.old) }
 {
     let Some((level, below)) = levels.split_first_mut() else {
         return Ok(());
@@ -219,12 +224,16 @@ impl Vacancies {
         mark(&mut self.levels, slot);
     }
 
-    /// Gives a slot its bits, by which it isn't vacant. It refuses with `OutOfMemory`, and the set is then as it was.
-    pub(crate) fn grow(&mut self, slot: usize) -> Result<()>
+    /// Gives a slot its bits, by which it isn't vacant. With no memory for them, the set is as it was.
+    pub(crate) fn grow(&mut self, slot: usize) -> Result<(), AllocError>
         requires { slot < 2 ^ 32 }
         ensures ok { OnOk result (self.new ≡ grown slot self.old) }
-        ensures err { IfErr result (λ e. (e ≡ OutOfMemory) × (self.new ≡ self.old)) }
+        ensures err { OnErr result (self.new ≡ self.old) }
     {
+        // Where the lowest level has the word over the slot, each does.
+        if self.levels[5].has(slot / 64) {
+            return Ok(());
+        }
         grow(&mut self.levels, slot)
     }
 }

@@ -2,13 +2,13 @@
 ghost use Rattle.std.specs.Prelude.{◌≡◌, ◌↔◌, ◌+◌, ◌-◌, ◌*◌, ◌^◌, ◌≤◌, ◌<◌, min, [], ◌∷◌, false, true, length, IfSome, IfNone, IfOk, IfErr, OnOk, OnErr, IsErrOf};
 ghost use Rattle.std.specs.Duration.{as_nanos};
 ghost use Rattle.calloop_wake.specs.Deadlines.{moment_after, inserted, has_counter, without_counter, with_new, with_again, cancelled, is_armed, first_deadline, first_due, after_first_due, with_entries, IsOrdered, IsSorted, CannotArm, CannotArmAgain};
-ghost use Rattle.calloop_wake.specs.Wheels.{entry_at, entries_of, first_key, NameTheSame};
-ghost use Rattle.calloop_wake.specs.declared.error.Error.TheVariants.{OutOfMemory, TooManyTimers};
+ghost use Rattle.calloop_wake.specs.Wheels.{entry_at, entries_of, first_key, NameTheSame, HaveTheSame};
+ghost use Rattle.calloop_wake.specs.declared.error.Error.TheVariants.{TooManyTimers};
 
 use crate::error::{Error, Result};
 use crate::token::Token;
-use std::alloc::Global;
-use std::collections::BTreeMap;
+use std::alloc::{AllocError, Global};
+use std::collections::{BTreeMap, HashMap};
 use std::marker::Model;
 use std::time::Duration;
 
@@ -82,7 +82,7 @@ struct Due {
 pub struct TimerWheel {
     by_due: BTreeMap<Due, Token>,
     // The deadline of each counter that has one.
-    by_counter: BTreeMap<u64, Instant>,
+    by_counter: HashMap<u64, Instant>,
     counter: u64,
 }
 
@@ -100,14 +100,14 @@ impl Model for TimerWheel {
 // Enters a deadline in both maps, or in none where there is no memory.
 fn enter(
     by_due: &mut BTreeMap<Due, Token>,
-    by_counter: &mut BTreeMap<u64, Instant>,
+    by_counter: &mut HashMap<u64, Instant>,
     due: Due,
     token: Token,
-) -> Result<()>
+) -> std::result::Result<(), AllocError>
     requires free { has_counter due.counter (entries_of by_due.old.entries) ≡ false }
     requires same { NameTheSame (entries_of by_due.old.entries) by_counter.old.entries }
     ensures ok { OnOk result (entries_of by_due.new.entries ≡ inserted (entry_at (due, token)) (entries_of by_due.old.entries)) }
-    ensures err { IfErr result (λ e. (e ≡ OutOfMemory) × (by_due.new.entries ≡ by_due.old.entries)) }
+    ensures err { OnErr result (by_due.new.entries ≡ by_due.old.entries) }
     ensures same { NameTheSame (entries_of by_due.new.entries) by_counter.new.entries }
 {
     by_counter.insert(due.counter, due.deadline)?;
@@ -115,13 +115,23 @@ fn enter(
         Ok(_) => Ok(()),
         Err(_) => {
             by_counter.remove(&due.counter);
-            Err(Error::OutOfMemory)
+            Err(AllocError)
         }
     }
 }
 
+// Gives memory back where the table holds few deadlines for its size.
+fn trim(by_counter: &mut HashMap<u64, Instant>)
+    ensures { HaveTheSame by_counter.old.entries by_counter.new.entries }
+{
+    let len = by_counter.len();
+    if len + 16 < by_counter.capacity() / 16 {
+        by_counter.shrink_to(2 * len);
+    }
+}
+
 // Takes the deadline of this counter out of both maps.
-fn leave(by_due: &mut BTreeMap<Due, Token>, by_counter: &mut BTreeMap<u64, Instant>, counter: u64)
+fn leave(by_due: &mut BTreeMap<Due, Token>, by_counter: &mut HashMap<u64, Instant>, counter: u64)
     requires sorted { IsSorted (entries_of by_due.old.entries) }
     requires same { NameTheSame (entries_of by_due.old.entries) by_counter.old.entries }
     ensures entries { entries_of by_due.new.entries ≡ without_counter counter (entries_of by_due.old.entries) }
@@ -129,6 +139,7 @@ fn leave(by_due: &mut BTreeMap<Due, Token>, by_counter: &mut BTreeMap<u64, Insta
 {
     if let Some(deadline) = by_counter.remove(&counter) {
         by_due.remove(&Due { deadline, counter });
+        trim(by_counter);
     }
 }
 
@@ -143,7 +154,7 @@ fn next_due(by_due: &BTreeMap<Due, Token>) -> Option<Due>
 // Takes the first deadline out of both maps.
 fn take_first(
     by_due: &mut BTreeMap<Due, Token>,
-    by_counter: &mut BTreeMap<u64, Instant>,
+    by_counter: &mut HashMap<u64, Instant>,
 ) -> Option<Entry>
     requires sorted { IsSorted (entries_of by_due.old.entries) }
     requires same { NameTheSame (entries_of by_due.old.entries) by_counter.old.entries }
@@ -153,6 +164,7 @@ fn take_first(
 {
     let (due, token) = by_due.pop_first()?;
     by_counter.remove(&due.counter);
+    trim(by_counter);
     Some(Entry {
         deadline: due.deadline,
         counter: due.counter,
@@ -167,7 +179,7 @@ impl TimerWheel {
     {
         TimerWheel {
             by_due: BTreeMap::new(alloc),
-            by_counter: BTreeMap::new(alloc),
+            by_counter: HashMap::new(alloc),
             counter: 0,
         }
     }

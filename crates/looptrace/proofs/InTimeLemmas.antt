@@ -10,7 +10,7 @@ use Rattle.calloop_core.specs.declared.sources.OneOf.TheVariants.{First, Other}
 use Rattle.calloop_core.specs.declared.timer.Timer.{Timer as TimerSource}
 use Rattle.calloop_core.specs.ScriptPollers.{script_outside}
 use Rattle.calloop.specs.declared.ping.PingSource.{PingSource}
-use Rattle.calloop.specs.declared.loop_logic.LoopCall.TheVariants.{Insert, Enable, Update, Disable, Remove as RemoveCall, Exchange, Dispatch as DispatchCall, InsertIdle, Cancel, Answer as AnswerOf, ForgetStop, LookForStop, Poller as NewPoller}
+use Rattle.calloop.specs.declared.loop_logic.LoopCall.TheVariants.{Insert, Enable, Update, Disable, Remove as RemoveCall, Release, Exchange, Dispatch as DispatchCall, InsertIdle, Cancel, Answer as AnswerOf, ForgetStop, LookForStop, Poller as NewPoller}
 use Rattle.calloop.specs.declared.loop_logic.LoopAnswer.{LoopAnswer}
 use Rattle.calloop.specs.declared.loop_logic.LoopAnswer.TheVariants.{Inserted, Removed, Dispatched, Poller as OldPoller}
 use Rattle.calloop.specs.Machine.{View}
@@ -43,6 +43,7 @@ fresh_calls (Enable token ∷ calls) (answer ∷ answers) h = (tt, fresh_calls c
 fresh_calls (Update token ∷ calls) (answer ∷ answers) h = (tt, fresh_calls calls answers h.1)
 fresh_calls (Disable token ∷ calls) (answer ∷ answers) h = (tt, fresh_calls calls answers h.1)
 fresh_calls (RemoveCall token ∷ calls) (answer ∷ answers) h = (tt, fresh_calls calls answers h.1)
+fresh_calls (Release token ∷ calls) (answer ∷ answers) h = (tt, fresh_calls calls answers h.1)
 fresh_calls (Exchange token s ∷ calls) (answer ∷ answers) h = absurd h.0
 fresh_calls (DispatchCall timeout x ∷ calls) (answer ∷ answers) h = (tt, fresh_calls calls answers h.1)
 fresh_calls (InsertIdle idle ∷ calls) (answer ∷ answers) h = (tt, fresh_calls calls answers h.1)

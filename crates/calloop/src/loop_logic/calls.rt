@@ -29,6 +29,7 @@ impl<D: EventDispatcher<P, C, R>, P: Poller, C: Clock, R: Wait + Drop> EventLoop
             LoopCall::Update(token) => LoopAnswer::Updated(self.update(token)),
             LoopCall::Disable(token) => LoopAnswer::Disabled(self.disable(token)),
             LoopCall::Remove(token) => LoopAnswer::Removed(self.remove(token)),
+            LoopCall::Release(token) => LoopAnswer::Released(self.release(token)),
             LoopCall::Exchange(token, dispatcher) => {
                 LoopAnswer::Exchanged(self.exchange(token, dispatcher))
             }
@@ -59,6 +60,9 @@ impl<D: EventDispatcher<P, C, R>, P: Poller, C: Clock, R: Wait + Drop> EventLoop
         ensures { Did (Case D.means D.Idle.runs P.outside (Exchange token dispatcher)
             (Exchanged result)) (view_of self.old) (view_of self.new) }
     {
+        if !Self::is_callers(&self.sources, token) {
+            return Err(dispatcher);
+        }
         match self.sources.get_mut(token) {
             Ok(held) => Ok(mem::replace(held, dispatcher)),
             Err(_) => Err(dispatcher),

@@ -81,6 +81,7 @@ impl<D: EventDispatcher<P, C, R>, P: Poller, C: Clock, R: Wait + Drop> EventLoop
         self.poll.reserve(self.lifecycle.len())?;
         self.requests.clear_answers();
         self.warnings.clear();
+        self.settle_marked();
         self.tell_of_wait()?;
         let from = self.poll.waiting();
         self.poll.poll(rt, timeout)?;

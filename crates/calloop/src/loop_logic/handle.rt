@@ -2,7 +2,10 @@
 ghost use Rattle.std.specs.Prelude.{◌≡◌, ◌↔◌, None, Ok, Err, IfOk, IfErr, IsErr};
 ghost use Rattle.calloop_wake.specs.declared.error.Error.TheVariants.{InvalidToken};
 ghost use Rattle.calloop_wake.specs.declared.list.Content.TheVariants.{Source};
-ghost use Rattle.calloop_wake.specs.Slots.{named as named_by, source_of};
+ghost use Rattle.calloop_wake.specs.declared.list.Content.TheVariants.{InTurn};
+ghost use Rattle.calloop_wake.specs.Slots.{named as named_by, source_of, changed, with_content};
+ghost use Rattle.std.specs.Prelude.{is_some, if◌then◌else◌};
+ghost use Rattle.calloop.specs.Roles.{only, is_callers};
 ghost use Rattle.std.specs.Borrow.{Lends, LendsIfOk, sem};
 ghost use Rattle.std.specs.Prelude.{[]};
 ghost use mir.Syntax.{named};
@@ -16,13 +19,38 @@ ghost use Rattle.calloop.specs.Rules.{Case, Did, held_answer};
 
 use super::asks::{Answer, Idle, Requests, Ticket};
 use super::{EventDispatcher, EventLoop, LoopHandle};
-use calloop_core::sources::{Callback, Dispatcher, EventSource, Hold};
+use calloop_core::sources::{Callback, Dispatcher, EventSource, Hold, Role};
 use calloop_core::sys::{Clock, Poller};
 use calloop_wake::error::{Error, InsertError, Result};
+use calloop_wake::list::SourceList;
 use calloop_wake::token::{RegistrationToken, TokenFactory};
 use std::sync::Wait;
 
 impl<D: EventDispatcher<P, C, R>, P: Poller, C: Clock, R: Wait + Drop> EventLoop<D, P, C, R> {
+    // Whether the token names a source of the caller's.
+    pub(super) fn is_callers(sources: &SourceList<D>, token: RegistrationToken) -> bool
+        ensures { result
+            ≡ is_some (source_of (only (is_callers D.means) (named_by sources.now token))) }
+    {
+        match sources.get(token) {
+            Ok(source) => source.role() == Role::Caller,
+            Err(_) => false,
+        }
+    }
+
+    // Takes out the source of the caller's that the token names, and leaves its slot in its turn.
+    pub(super) fn take_out(sources: &mut SourceList<D>, token: RegistrationToken) -> Option<D>
+        ensures value { result
+            ≡ source_of (only (is_callers D.means) (named_by sources.old token)) }
+        ensures list { sources.new ≡ (if is_some result
+            then changed (with_content InTurn) sources.old token.slot else sources.old) }
+    {
+        if !Self::is_callers(sources, token) {
+            return None;
+        }
+        sources.begin_turn(token)
+    }
+
     // Registers a source in the first vacant slot.
     fn insert_source<S, F, N>(
         &mut self,
@@ -100,7 +128,7 @@ impl<D: EventDispatcher<P, C, R>, P: Poller, C: Clock, R: Wait + Drop> EventLoop
         ensures { Did (Case D.means D.Idle.runs P.outside (Enable token) (Enabled result))
             (view_of self.old) (view_of self.new) }
     {
-        let Some(mut source) = self.sources.begin_turn(token) else {
+        let Some(mut source) = Self::take_out(&mut self.sources, token) else {
             return Err(Error::InvalidToken);
         };
         let answer = self.register(token, &mut source);
@@ -113,7 +141,7 @@ impl<D: EventDispatcher<P, C, R>, P: Poller, C: Clock, R: Wait + Drop> EventLoop
         ensures { Did (Case D.means D.Idle.runs P.outside (Update token) (Updated result))
             (view_of self.old) (view_of self.new) }
     {
-        let Some(mut source) = self.sources.begin_turn(token) else {
+        let Some(mut source) = Self::take_out(&mut self.sources, token) else {
             return Err(Error::InvalidToken);
         };
         let answer = self.reregister(token, &mut source);
@@ -126,7 +154,7 @@ impl<D: EventDispatcher<P, C, R>, P: Poller, C: Clock, R: Wait + Drop> EventLoop
         ensures { Did (Case D.means D.Idle.runs P.outside (Disable token) (Disabled result))
             (view_of self.old) (view_of self.new) }
     {
-        let Some(mut source) = self.sources.begin_turn(token) else {
+        let Some(mut source) = Self::take_out(&mut self.sources, token) else {
             return Err(Error::InvalidToken);
         };
         let answer = self.unregister(token, &mut source);
@@ -139,7 +167,7 @@ impl<D: EventDispatcher<P, C, R>, P: Poller, C: Clock, R: Wait + Drop> EventLoop
         ensures { Did (Case D.means D.Idle.runs P.outside (Remove token) (Removed result))
             (view_of self.old) (view_of self.new) }
     {
-        let mut source = self.sources.begin_turn(token)?;
+        let mut source = Self::take_out(&mut self.sources, token)?;
         self.sources.vacate(token);
         let told = self.unregister(token, &mut source);
         self.warnings.note(told);
@@ -203,9 +231,13 @@ impl<D: EventDispatcher<P, C, R>, P: Poller, C: Clock, R: Wait + Drop> LoopHandl
         ensures ok { IfOk result
             (λ held. named_by (held_by self.now).slots token.now ≡ Source held.now) }
         ensures refuses { IsErr result
-            ↔ (source_of (named_by (held_by self.now).slots token.now) ≡ None) }
+            ↔ (source_of (only (is_callers D.means)
+            (named_by (held_by self.now).slots token.now)) ≡ None) }
         ensures err { IfErr result (λ e. e ≡ InvalidToken) }
     {
+        if !EventLoop::<D, P, C, R>::is_callers(&self.inner.sources, *token) {
+            return Err(Error::InvalidToken);
+        }
         self.inner.sources.get(*token)
     }
 
@@ -228,9 +260,13 @@ impl<D: EventDispatcher<P, C, R>, P: Poller, C: Clock, R: Wait + Drop> LoopHandl
             (Exchange token.now written) (Exchanged (Ok held.now)))
             (held_by self.old) (view_of (with_loop_source token.now written self.old.inner.now))) }
         ensures refuses { IsErr result
-            ↔ (source_of (named_by (held_by self.old).slots token.now) ≡ None) }
+            ↔ (source_of (only (is_callers D.means)
+            (named_by (held_by self.old).slots token.now)) ≡ None) }
         ensures err { IfErr result (λ e. e ≡ InvalidToken) }
     {
+        if !EventLoop::<D, P, C, R>::is_callers(&self.inner.sources, *token) {
+            return Err(Error::InvalidToken);
+        }
         self.inner.sources.get_mut(*token)
     }
 

@@ -6,12 +6,14 @@ ghost use Rattle.calloop_core.specs.Batches.{ArePosted};
 ghost use Rattle.calloop_core.specs.Pollers.{events_per_wait};
 ghost use Rattle.calloop_core.specs.Polls.{PollView, PollStep, TakePass, PutBack, poll_view, poll_after, with_pass, IsPassOf, IsReady, cut, head_of, gathered, counted, appended, own_event};
 ghost use Rattle.calloop_core.specs.Events.{events_left, events_of};
+ghost use Rattle.calloop_core.specs.SlotOrder.{IsInSlotOrder};
 ghost use Rattle.std.specs.Arc.{arc_value};
 ghost use Rattle.calloop_core.specs.Lending.{with_poller};
 ghost use Rattle.calloop_core.specs.contracts.sys.poll.Poll.{the_row};
 
 use super::events::EventIterator;
 use super::hub::{SharedHub, WatchedHub};
+use super::marks::{Marks, SharedMarks};
 use super::{EVENTS_PER_WAIT, Poller, Readiness, Watched};
 use batch::Batch;
 use calloop_wake::error::{Error, Result};
@@ -20,7 +22,7 @@ use calloop_wake::wake::TakenPass;
 use calloop_wake::wheel::{Instant, TimerWheel};
 use std::alloc::Global;
 use std::collections::BTreeMap;
-use std::sync::Wait;
+use std::sync::{Arc, Wait};
 
 mod batch;
 pub mod table;
@@ -48,6 +50,7 @@ pub struct Poll<P, C, R: Wait + Drop> {
     // How many keys had places when they were counted last, to reserve room for what they give.
     places: usize,
     events: Vec<(u64, Readiness)>,
+    marks: SharedMarks,
 }
 
 impl<P: Drop, C: Drop, R: Wait + Drop> Drop for Poll<P, C, R> {
@@ -61,6 +64,7 @@ impl<P: Drop, C: Drop, R: Wait + Drop> Drop for Poll<P, C, R> {
             wheel: _,
             places: _,
             events: _,
+            marks: _,
         } = self;
         batch.give_back(&rt);
     }
@@ -74,6 +78,7 @@ impl<P: Poller, C: Drop, R: Wait + Drop> Poll<P, C, R> {
         ensures err { IfErr result (λ e. e ≡ OutOfMemory) }
     {
         let hub = WatchedHub::new(alloc, poller.notifier()?)?;
+        let marks = Arc::new(alloc, Marks::new(alloc, poller.notifier()?))?;
         Ok(Poll {
             rt,
             poller,
@@ -83,6 +88,7 @@ impl<P: Poller, C: Drop, R: Wait + Drop> Poll<P, C, R> {
             wheel: TimerWheel::new(alloc),
             places: 0,
             events: Vec::new(alloc),
+            marks,
         })
     }
 }
@@ -109,6 +115,25 @@ impl<P: Poller, C, R: Wait + Drop> Poll<P, C, R> {
         ensures { arc_value result.now ≡ (poll_view self.now).watch.name }
     {
         self.batch.hub()
+    }
+
+    /// The marks of adapters that are to be settled, to share.
+    pub fn marks(&self) -> &SharedMarks
+        ensures { result.now ≡ self.now.marks }
+    {
+        &self.marks
+    }
+
+    /// Takes the marks, in the order of their slots.
+    pub fn take_marks(&self) -> Option<Vec<RegistrationToken>>
+        ensures { IfSome result (λ marked. IsInSlotOrder marked.items) }
+    {
+        self.marks.take(&self.rt)
+    }
+
+    /// Takes a list of marks back once it was settled, for the room that it has.
+    pub fn give_marks_back(&self, settled: Vec<RegistrationToken>) {
+        self.marks.give_back(&self.rt, settled);
     }
 
     /// Takes the pass of the event whose turn it is, where one lies behind it and wasn't taken yet.

@@ -475,6 +475,7 @@ fn told<D>(answer: &Answer<D>) -> (&'static str, bool) {
         LoopAnswer::Updated(answer) => told_as("updated", answer),
         LoopAnswer::Disabled(answer) => told_as("disabled", answer),
         LoopAnswer::Removed(source) => ("removed", source.is_some()),
+        LoopAnswer::Released(answer) => told_as("released", answer),
         LoopAnswer::Exchanged(answer) => ("exchanged", answer.is_ok()),
         LoopAnswer::Dispatched(answer, said) => ("dispatched", answer.is_ok() && said.is_empty()),
         LoopAnswer::IdleInserted(answer) => ("idle inserted", answer.is_ok()),

@@ -2,7 +2,7 @@
 ghost use Rattle.std.specs.Prelude.{◌≡◌, ◌+◌, true, false, nat_eq, ℕ, List, [], Some};
 ghost use Rattle.calloop_wake.specs.Tokens.{key_of};
 ghost use Rattle.calloop_core.specs.Tables.{Called, CalledFor, call_for, is_known, watched_at, is_in, Enter, Change, Leave};
-ghost use Rattle.calloop_core.specs.Polls.{poll_view};
+ghost use Rattle.calloop_core.specs.Polls.{poll_view, IsReady};
 ghost use Rattle.calloop_core.specs.Registering.{DidEdit};
 ghost use Rattle.calloop_wake.specs.declared.token.RegistrationToken.{RegistrationToken};
 ghost use Rattle.calloop_core.specs.Polls.{PollView, PollStep, polls_after};
@@ -51,7 +51,8 @@ impl<P: Poller, C, R: Wait + Drop> Poll<P, C, R> {
         mode: Mode,
         token: Token,
     ) -> Result<()>
-        ensures { DidEdit P.outside P.sockets (Enter token (record { interest = interest; mode = mode })) (poll_view self.old) io.old result (poll_view self.new) io.new }
+        ensures edit { DidEdit P.outside P.sockets (Enter token (record { interest = interest; mode = mode })) (poll_view self.old) io.old result (poll_view self.new) io.new }
+        ensures ready { (more : ℕ) → IsReady more self.old → IsReady more self.new }
     {
         let key = token.key();
         if self.table.contains_key(&key) {
@@ -79,7 +80,8 @@ impl<P: Poller, C, R: Wait + Drop> Poll<P, C, R> {
         requires same { key_of before ≡ key_of token }
         requires there { is_in (key_of before) (poll_view self.old).table ≡ true }
         requires known { is_known (watched_at (key_of before) (poll_view self.old).table) ≡ known }
-        ensures { DidEdit P.outside P.sockets (Change before token watched) (poll_view self.old) io.old result (poll_view self.new) io.new }
+        ensures edit { DidEdit P.outside P.sockets (Change before token watched) (poll_view self.old) io.old result (poll_view self.new) io.new }
+        ensures ready { (more : ℕ) → IsReady more self.old → IsReady more self.new }
     {
         let same = token.key();
         match tell(&mut self.poller, io, known, same, watched.interest) {
@@ -105,7 +107,8 @@ impl<P: Poller, C, R: Wait + Drop> Poll<P, C, R> {
         requires there { is_in (key_of before) (poll_view self.old).table ≡ true }
         requires free { is_in (key_of token) (poll_view self.old).table ≡ false }
         requires known { is_known (watched_at (key_of before) (poll_view self.old).table) ≡ known }
-        ensures { DidEdit P.outside P.sockets (Change before token watched) (poll_view self.old) io.old result (poll_view self.new) io.new }
+        ensures edit { DidEdit P.outside P.sockets (Change before token watched) (poll_view self.old) io.old result (poll_view self.new) io.new }
+        ensures ready { (more : ℕ) → IsReady more self.old → IsReady more self.new }
     {
         let key = token.key();
         self.table.insert(key, watched)?;
@@ -133,7 +136,8 @@ impl<P: Poller, C, R: Wait + Drop> Poll<P, C, R> {
         mode: Mode,
         token: Token,
     ) -> Result<()>
-        ensures { DidEdit P.outside P.sockets (Change before token (record { interest = interest; mode = mode })) (poll_view self.old) io.old result (poll_view self.new) io.new }
+        ensures edit { DidEdit P.outside P.sockets (Change before token (record { interest = interest; mode = mode })) (poll_view self.old) io.old result (poll_view self.new) io.new }
+        ensures ready { (more : ℕ) → IsReady more self.old → IsReady more self.new }
     {
         let key = token.key();
         let old = before.key();
@@ -154,7 +158,8 @@ impl<P: Poller, C, R: Wait + Drop> Poll<P, C, R> {
     /// Takes a socket out, and from the poller, unless its interest is empty. A token whose key isn't in the table is refused
     /// with `IoError` of kind `NotFound`, and a fault of the poller is one; each leaves the table as it was.
     pub fn unregister(&mut self, io: &mut P::Io, token: Token) -> Result<()>
-        ensures { DidEdit P.outside P.sockets (Leave token) (poll_view self.old) io.old result (poll_view self.new) io.new }
+        ensures edit { DidEdit P.outside P.sockets (Leave token) (poll_view self.old) io.old result (poll_view self.new) io.new }
+        ensures ready { (more : ℕ) → IsReady more self.old → IsReady more self.new }
     {
         let key = token.key();
         let known = match self.table.get(&key) {

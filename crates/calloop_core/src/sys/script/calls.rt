@@ -1,5 +1,9 @@
 //! The calls of a scripted poller for sockets.
-ghost use Rattle.std.specs.Prelude.{◌≡◌, ◌+◌, true, false, Err};
+ghost use Rattle.std.specs.Prelude.{◌≡◌, ◌+◌, true, false, [], Some, Err, IsErrAnd, IsOk};
+ghost use Rattle.std.specs.Io.{ReadsAtMost, WritesAtMost};
+ghost use Rattle.std.specs.Io.KnownBytes.{ReadConsumes, WriteAppends, Keeps};
+ghost use Rattle.std.specs.IoError.{error_kind};
+ghost use Rattle.std.specs.declared.io.ErrorKind.TheVariants.{WouldBlock};
 ghost use Rattle.calloop_core.specs.Pollers.{faults_of};
 ghost use Rattle.calloop_core.specs.ScriptCalls.{kind_of, is_to_fail, with_failing};
 ghost use Rattle.calloop_core.specs.ScriptPollers.{ScriptCalled};
@@ -8,11 +12,51 @@ use super::ScriptPoller;
 use crate::sys::Interest;
 use crate::sys::faults::FaultCount;
 use std::io;
+use std::io::{Read, Write};
 
 /// A socket that isn't there: a number.
 #[derive(Debug, Drop)]
 pub struct ScriptIo {
     pub number: u32,
+}
+
+impl Read for ScriptIo {
+    ghost remaining = { λ _. Some [] };
+
+    /// Nothing comes: an error of kind `WouldBlock`, with the buffer and the socket as they were.
+    fn read(&mut self, buf: &mut [u8]) -> io::Result<usize>
+        ensures bound { ReadsAtMost result buf.new }
+        ensures bytes { ReadConsumes (Some []) (Some []) result buf.new }
+        ensures blocks { IsErrAnd result (λ cause. error_kind cause ≡ WouldBlock) }
+        ensures unread { buf.new ≡ buf.old }
+        ensures same { self.new ≡ self.old }
+    {
+        Err(io::Error::new(io::ErrorKind::WouldBlock, "nothing comes"))
+    }
+}
+
+impl Write for ScriptIo {
+    ghost contents = { λ _. Some [] };
+
+    /// There is no room: an error of kind `WouldBlock`, with nothing written and the socket as it was.
+    fn write(&mut self, buf: &[u8]) -> io::Result<usize>
+        ensures bound { WritesAtMost result buf.now }
+        ensures bytes { WriteAppends (Some []) (Some []) result buf.now }
+        ensures blocks { IsErrAnd result (λ cause. error_kind cause ≡ WouldBlock) }
+        ensures same { self.new ≡ self.old }
+    {
+        Err(io::Error::new(io::ErrorKind::WouldBlock, "no room"))
+    }
+
+    /// It succeeds, and the socket is as it was.
+    fn flush(&mut self) -> io::Result<()>
+        ensures bytes { Keeps (Some []) (Some []) }
+        ensures ok { IsOk result }
+        ensures same { self.new ≡ self.old }
+    {
+        // Nothing was written.
+        Ok(())
+    }
 }
 
 /// A call for a socket: its number, and the key and the interest that it was given.

@@ -1,8 +1,15 @@
 //! The sockets of the machine that its poller waits on.
+ghost use Rattle.std.specs.Prelude.{◌≡◌, false, IsErrAnd};
+ghost use Rattle.std.specs.Io.{ReadsAtMost, WritesAtMost};
+ghost use Rattle.std.specs.Io.KnownBytes.{ReadConsumes, WriteAppends, Keeps};
+ghost use Rattle.std.specs.IoError.{error_kind};
+ghost use Rattle.std.specs.declared.io.ErrorKind.TheVariants.{Unsupported};
+
 use mio::event::Source;
 use mio::net::{TcpListener, TcpStream, UdpSocket, UnixListener, UnixStream};
 use mio::{Interest, Registry, Token};
 use std::io;
+use std::io::{Read, Write};
 
 /// A socket of the machine. It is non-blocking.
 #[derive(Drop)]
@@ -56,6 +63,78 @@ impl Source for MioIo {
             MioIo::UdpSocket(socket) => socket.deregister(registry),
             MioIo::UnixListener(listener) => listener.deregister(registry),
             MioIo::UnixStream(stream) => stream.deregister(registry),
+        }
+    }
+}
+
+fn not_a_stream() -> io::Error
+    ensures { error_kind result ≡ Unsupported }
+{
+    io::Error::new(io::ErrorKind::Unsupported, "not a stream")
+}
+
+impl Read for MioIo {
+    ghost use Rattle.calloop_core.specs.SystemSockets.{is_stream, known_bytes};
+
+    ghost remaining = { known_bytes };
+
+    /// Reads from a stream, and answers as that does: with an error of kind `WouldBlock` where nothing has come. A listener and a UDP socket
+    /// refuse with an error of kind `Unsupported`, and leave the buffer as it was. The socket is the same after each answer.
+    fn read(&mut self, buf: &mut [u8]) -> io::Result<usize>
+        ensures bound { ReadsAtMost result buf.new }
+        ensures bytes { ReadConsumes (known_bytes self.old) (known_bytes self.new) result buf.new }
+        ensures same { self.new ≡ self.old }
+        ensures refused { is_stream self.old ≡ false →
+            IsErrAnd result (λ cause. error_kind cause ≡ Unsupported) }
+        ensures unread { is_stream self.old ≡ false → buf.new ≡ buf.old }
+    {
+        match self {
+            MioIo::TcpStream(stream) => stream.read(buf),
+            MioIo::UnixStream(stream) => stream.read(buf),
+            MioIo::TcpListener(_) | MioIo::UdpSocket(_) | MioIo::UnixListener(_) => {
+                Err(not_a_stream())
+            }
+        }
+    }
+}
+
+impl Write for MioIo {
+    ghost use Rattle.calloop_core.specs.SystemSockets.{is_stream, known_bytes};
+
+    ghost contents = { known_bytes };
+
+    /// Writes to a stream, and answers as that does: with an error of kind `WouldBlock` where it has no room. A listener and a UDP socket refuse
+    /// with an error of kind `Unsupported`, and nothing is written. The socket is the same after each answer.
+    fn write(&mut self, buf: &[u8]) -> io::Result<usize>
+        ensures bound { WritesAtMost result buf.now }
+        ensures bytes { WriteAppends (known_bytes self.old) (known_bytes self.new) result buf.now }
+        ensures same { self.new ≡ self.old }
+        ensures refused { is_stream self.old ≡ false →
+            IsErrAnd result (λ cause. error_kind cause ≡ Unsupported) }
+    {
+        match self {
+            MioIo::TcpStream(stream) => stream.write(buf),
+            MioIo::UnixStream(stream) => stream.write(buf),
+            MioIo::TcpListener(_) | MioIo::UdpSocket(_) | MioIo::UnixListener(_) => {
+                Err(not_a_stream())
+            }
+        }
+    }
+
+    /// Flushes a stream, and answers as that does. A listener and a UDP socket refuse with an error of kind `Unsupported`. The socket is the
+    /// same after each answer.
+    fn flush(&mut self) -> io::Result<()>
+        ensures bytes { Keeps (known_bytes self.old) (known_bytes self.new) }
+        ensures same { self.new ≡ self.old }
+        ensures refused { is_stream self.old ≡ false →
+            IsErrAnd result (λ cause. error_kind cause ≡ Unsupported) }
+    {
+        match self {
+            MioIo::TcpStream(stream) => stream.flush(),
+            MioIo::UnixStream(stream) => stream.flush(),
+            MioIo::TcpListener(_) | MioIo::UdpSocket(_) | MioIo::UnixListener(_) => {
+                Err(not_a_stream())
+            }
         }
     }
 }

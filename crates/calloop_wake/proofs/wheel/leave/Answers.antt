@@ -1,6 +1,6 @@
 use Rattle.std.proofs.Common.{◌∙◌, sym}
 use Rattle.calloop_wake.specs.Wheels.{entries_of}
-use Rattle.calloop_wake.proofs.Paired.{entries_of-remove, removed_none, same-left}
+use Rattle.calloop_wake.proofs.Paired.{entries_of-remove, removed_none, same-left, same-trimmed}
 use Rattle.calloop_wake.proofs.wheel.leave.Goals as goal
 
 pub returns-in-Some-clause-entries : goal.returns-in-Some-clause-entries
@@ -10,7 +10,9 @@ returns-in-Some-clause-entries c =
 
 pub returns-in-Some-clause-same : goal.returns-in-Some-clause-same
 returns-in-Some-clause-same c =
-    rw (returns-in-Some-clause-entries c) (same-left c.args.by_counter.now.entries c.remove.new.self.entries c.args.counter (entries_of c.args.by_due.now.entries) c.requires.same c.remove.ensures.updates.0)
+    rw (returns-in-Some-clause-entries c)
+    (same-trimmed _ c.remove.new.self.entries c.trim.new.by_counter.entries c.trim.ensures
+    (same-left c.args.by_counter.now.entries c.remove.new.self.entries c.args.counter (entries_of c.args.by_due.now.entries) c.requires.same c.remove.ensures.updates.0))
 
 pub returns-in_default-clause-entries : goal.returns-in_default-clause-entries
 returns-in_default-clause-entries c =

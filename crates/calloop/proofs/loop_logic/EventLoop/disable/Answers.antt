@@ -3,6 +3,7 @@ use Rattle.calloop_wake.specs.declared.list.Content.TheVariants.{Source}
 use Rattle.calloop_wake.specs.Slots.{named}
 use Rattle.calloop_wake.proofs.Named.{source_is}
 use Rattle.calloop.specs.Machine.{view_of}
+use Rattle.calloop.specs.Roles.{only, is_callers}
 use Rattle.calloop.proofs.Inserting.{not_disabled, disabled}
 use Rattle.calloop.proofs.loop_logic.EventLoop.disable.Goals as goal
 
@@ -11,6 +12,6 @@ returns-in_default g c = rw c.in_default.ensures.list (not_disabled g.D.Dispatch
 
 pub returns : goal.returns
 returns g c =
-    let is : named c.args.self.now.sources c.args.token ≡ Source c.in-Some.source = source_is (named c.args.self.now.sources c.args.token) c.in-Some.source (sym c.in-Some.ensures.value) in
+    let is : only (is_callers g.D.Dispatch.means) (named c.args.self.now.sources c.args.token) ≡ Source c.in-Some.source = source_is (only (is_callers g.D.Dispatch.means) (named c.args.self.now.sources c.args.token)) c.in-Some.source (sym c.in-Some.ensures.value) in
     rw c.end_turn-none.ensures.list
     (disabled g.D.Dispatch.means g.D.Idle.IdleCallback.runs g.P.Poller.outside (view_of c.args.self.now) c.args.token c.in-Some.source c.unregister-answer.new.source c.unregister-answer.result (view_of c.unregister-answer.new.self) is (rw c.in-Some.ensures.list at c.unregister-answer.ensures))

@@ -1,16 +1,22 @@
-use Rattle.std.proofs.Common.{rules}
+use Rattle.std.proofs.Common.{rules, sym, ◌∙◌, IsErr}
+use Rattle.calloop_wake.specs.Slots.{named}
 use Rattle.calloop.specs.Machine.{view_of}
+use Rattle.calloop.specs.Roles.{is_callers}
+use Rattle.calloop.proofs.Roles.{lent_there, refused_there}
 use Rattle.calloop.proofs.Inserting.{written_back}
 use Rattle.calloop.proofs.loop_logic.LoopHandle.dispatcher_mut.Goals as goal
 
 pub returns : goal.returns
-returns g c = (
-  search rules,
-  record {
-    writes_back = tt;
-    ok = c.get_mut.ensures.ok;
-    machine = written_back g.D.Dispatch.means g.D.Idle.IdleCallback.runs g.P.Poller.outside (view_of c.args.self.now.inner.now) c.args.token.now c.get_mut.result (λ held. held.now) c.get_mut.ensures.ok;
-    refuses = c.get_mut.ensures.refuses;
-    err = c.get_mut.ensures.err;
-  },
-)
+returns g c =
+    let p = is_callers g.D.Dispatch.means in
+    let there = named c.args.self.now.inner.now.sources c.args.token.now in
+    let seen = sym c.if-not-is_callers.false ∙ c.is_callers.ensures in (
+      search rules,
+      record {
+        writes_back = tt;
+        ok = c.get_mut.ensures.ok;
+        machine = written_back g.D.Dispatch.means g.D.Idle.IdleCallback.runs g.P.Poller.outside (view_of c.args.self.now.inner.now) c.args.token.now c.get_mut.result (λ held. held.now) (lent_there p there c.get_mut.result (λ held. held.now) seen c.get_mut.ensures.ok);
+        refuses = refused_there p there (IsErr c.get_mut.result) seen c.get_mut.ensures.refuses;
+        err = c.get_mut.ensures.err;
+      },
+    )

@@ -7,7 +7,7 @@ use Rattle.calloop_core.specs.declared.sources.PostAction.TheVariants.{Remove}
 use Rattle.calloop_core.specs.declared.timer.TimeoutAction.TheVariants.{Drop}
 use Rattle.calloop_core.specs.Polls.{Arm, Cancel, Call}
 use Rattle.calloop.specs.Askings.{asks_nothing, no_asks}
-use Rattle.calloop.specs.Rules.{factory_of, Sleeping, Waiting, Gathering, Noticing, Cutting, Serving, Ending, Returning, Idling, RunningIdles, Leaving}
+use Rattle.calloop.specs.Rules.{factory_of, Settling, Sleeping, Waiting, Gathering, Noticing, Cutting, Serving, Ending, Returning, Idling, RunningIdles, Leaving}
 use Rattle.calloop.specs.Wrong.{first_token, first_registration}
 use Rattle.calloop.specs.ExampleRun.{five, first_arm, as_armed, as_called, as_removed}
 use Rattle.calloop.proofs.loop_logic.laws.run_that_there_is.Goals as goal
@@ -20,68 +20,73 @@ returns-clause-run c = λ name. (
   ),
   (
     inr (
-      Sleeping None [] tt,
-      (0, refl, refl),
+      Settling None [] tt,
+      (0, [], λ place t u first second. cc, refl, refl),
       (tt, (tt, tt)),
       (
-        Waiting None tt,
+        Sleeping None [] tt,
         (refl, refl),
         tt,
         (
-          Gathering 5 [] tt,
-          (Ok 5, [], tt, noted (Looked false) (record { name = name; notes = Counted 0 ∷ [] }), (0, tt, tt, false, [], (tt, (refl, refl), tt), refl, refl), refl, refl),
-          (tt, (tt, tt)),
+          Waiting None tt,
+          (refl, refl),
+          tt,
           (
-            Noticing 0 [] tt,
-            ([], refl, refl),
-            ((tt, omega arith), tt),
+            Gathering 5 [] tt,
+            (Ok 5, [], tt, noted (Looked false) (record { name = name; notes = Counted 0 ∷ [] }), (0, tt, tt, false, [], (tt, (refl, refl), tt), refl, refl), refl, refl),
+            (tt, (tt, tt)),
             (
-              Cutting tt,
-              (refl, refl),
-              tt,
+              Noticing 0 [] tt,
+              ([], refl, refl),
+              ((tt, omega arith), tt),
               (
-                Serving first_registration as_called (Ok Remove) tt,
+                Cutting tt,
+                (refl, refl),
+                tt,
                 (
-                  as_called,
-                  Ok Remove,
-                  Call 0 five ∷ [],
-                  tt,
-                  [],
-                  record {
-                    inner = record { calls = record { event = five; before = tt; after = tt; answer = Drop } ∷ []; answer = Ok Remove };
-                    turned = inl (first_arm, record { registered = refl; named = refl; unspent = refl; unarmed = refl; action = Drop; called = refl; more = []; steps_are = refl; answered = (refl, refl, refl) });
-                    went = (tt, tt, no_asks, (refl, refl), asks_nothing no_asks, (refl, refl, refl));
-                    told = refl;
-                  },
-                  refl,
-                  refl,
-                ),
-                (tt, ((record { version = 0; content = Source as_armed }, refl, refl), (search rules, (tt, (tt, tt))))),
-                (
-                  Ending first_registration as_called (Ok Remove) tt,
-                  (refl, refl),
-                  tt,
+                  Serving first_registration as_called (Ok Remove) tt,
                   (
-                    Returning first_registration as_called (Ok tt) tt,
-                    (as_called, Ok tt, (refl, refl, refl), refl),
-                    (tt, ((record { version = 0; content = InTurn }, refl, refl), tt)),
+                    as_called,
+                    Ok Remove,
+                    Call 0 five ∷ [],
+                    tt,
+                    [],
+                    record {
+                      inner = record { calls = record { event = five; before = tt; after = tt; answer = Drop } ∷ []; answer = Ok Remove };
+                      turned = inl (first_arm, record { registered = refl; named = refl; unspent = refl; unarmed = refl; action = Drop; called = refl; more = []; steps_are = refl; answered = (refl, refl, refl) });
+                      went = (tt, tt, no_asks, (refl, refl), asks_nothing no_asks, (refl, refl, refl));
+                      told = refl;
+                    },
+                    refl,
+                    refl,
+                  ),
+                  (tt, ((record { version = 0; content = Source as_armed }, refl, refl), (search rules, (tt, (tt, tt))))),
+                  (
+                    Ending first_registration as_called (Ok Remove) tt,
+                    (refl, refl),
+                    tt,
                     (
-                      Cutting tt,
-                      ((as_removed, Ok tt, true, Cancel 0 ∷ [], ((refl, refl, refl), refl), refl), refl),
-                      (search rules, (tt, (tt, (tt, tt)))),
+                      Returning first_registration as_called (Ok tt) tt,
+                      (as_called, Ok tt, (refl, refl, refl), refl),
+                      (tt, ((record { version = 0; content = InTurn }, refl, refl), tt)),
                       (
-                        Idling tt,
-                        (refl, refl),
-                        tt,
+                        Cutting tt,
+                        ((as_removed, Ok tt, true, Cancel 0 ∷ [], ((refl, refl, refl), refl), refl), refl),
+                        (search rules, (tt, (tt, (tt, tt)))),
                         (
-                          RunningIdles tt,
+                          Idling tt,
                           (refl, refl),
-                          (tt, tt),
+                          tt,
                           (
-                            Leaving (Ok tt) tt,
+                            RunningIdles tt,
                             (refl, refl),
-                            tt,
-                            refl,
+                            (tt, tt),
+                            (
+                              Leaving (Ok tt) tt,
+                              (refl, refl),
+                              tt,
+                              refl,
+                            ),
                           ),
                         ),
                       ),

@@ -32,16 +32,16 @@ returns-then-ne g c =
 
 pub returns-in-Ok : goal.returns-in-Ok
 returns-in-Ok g c = (
-  c.in-Ok.ensures.0,
+  c.in-Ok.ensures.edit.0,
   armed g.P.Poller.sockets g.E.From.from_gives _ c.args.token c.args.self.now _ (poll_view c.args.poll.now) c.args.action _ _ c.if-ne.ensures
-      (Ok tt, c.reregister.new.io, c.in-Ok.ensures.1, refl, refl),
-  c.in-Ok.ensures.2,
+      (Ok tt, c.reregister.new.io, c.in-Ok.ensures.edit.1, refl, refl),
+  c.in-Ok.ensures.edit.2,
 )
 
 pub returns-in-Err : goal.returns-in-Err
 returns-in-Err g c = (
-  c.in-Err.ensures.0,
+  c.in-Err.ensures.edit.0,
   armed g.P.Poller.sockets g.E.From.from_gives _ c.args.token c.args.self.now _ (poll_view c.args.poll.now) c.args.action _ _ c.if-ne.ensures
-      (Err c.in-Err.refusal, c.reregister.new.io, c.in-Err.ensures.1, refl, (c.from.result, c.from-in-Err.result, c.from.ensures, c.from-in-Err.ensures, refl)),
-  c.in-Err.ensures.2,
+      (Err c.in-Err.refusal, c.reregister.new.io, c.in-Err.ensures.edit.1, refl, (c.from.result, c.from-in-Err.result, c.from.ensures, c.from-in-Err.ensures, refl)),
+  c.in-Err.ensures.edit.2,
 )

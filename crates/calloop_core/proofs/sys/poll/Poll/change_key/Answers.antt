@@ -5,13 +5,13 @@ use Rattle.calloop_core.specs.Polls.{poll_view}
 use Rattle.calloop_core.proofs.Editing.{faulted, made, left_again, can_change}
 use Rattle.calloop_core.proofs.sys.poll.Poll.change_key.Goals as goal
 
-pub returns-in-Ok : goal.returns-in-Ok
-returns-in-Ok g c =
+pub returns-in-Ok-clause-edit : goal.returns-in-Ok-clause-edit
+returns-in-Ok-clause-edit g c =
     let can : cannot (Change c.args.before c.args.token c.args.watched) (poll_view c.args.self.now).table ≡ None = can_change _ _ c.requires.there (search rules) in
     made g.P.Poller.outside g.P.Poller.sockets (poll_view c.args.self.now) (Change c.args.before c.args.token c.args.watched) c.args.io.now c.tell.new.poller c.tell.new.io _ can (search rules) (search rules) (search rules)
 
-pub returns-in-Err : goal.returns-in-Err
-returns-in-Err g c =
+pub returns-in-Err-clause-edit : goal.returns-in-Err-clause-edit
+returns-in-Err-clause-edit g c =
     let can : cannot (Change c.args.before c.args.token c.args.watched) (poll_view c.args.self.now).table ≡ None = can_change _ _ c.requires.there (search rules) in
     let absent : watched_at (key_of c.args.token) (poll_view c.args.self.now).table ≡ None = search rules in
     let same : c.remove-in-Err.new.self.entries ≡ (poll_view c.args.self.now).table = search (rules, left_again (key_of c.args.token) c.args.watched (poll_view c.args.self.now).table absent) in

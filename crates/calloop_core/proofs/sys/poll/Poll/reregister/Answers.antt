@@ -6,8 +6,8 @@ use Rattle.calloop_core.specs.Polls.{poll_view}
 use Rattle.calloop_core.proofs.Editing.{refused}
 use Rattle.calloop_core.proofs.sys.poll.Poll.reregister.Goals as goal
 
-pub returns-then-contains_key : goal.returns-then-contains_key
-returns-then-contains_key g c =
+pub returns-then-contains_key-clause-edit : goal.returns-then-contains_key-clause-edit
+returns-then-contains_key-clause-edit g c =
     let there : is_in (key_of c.args.before) (poll_view c.args.self.now).table ≡ true = search rules in
     let taken : (not (nat_eq (key_of c.args.before) (key_of c.args.token)) && is_in (key_of c.args.token) (poll_view c.args.self.now).table) ≡ true = search rules in
     refused g.P.Poller.outside g.P.Poller.sockets (poll_view c.args.self.now) (Change c.args.before c.args.token (record { interest = c.args.interest; mode = c.args.mode })) c.args.io.now AlreadyExists _ (ap (λ b. if b then unless_in (not (nat_eq (key_of c.args.before) (key_of c.args.token)) && is_in (key_of c.args.token) (poll_view c.args.self.now).table) else Some NotFound) there ∙ ap (λ b. unless_in b) taken) (c.from-then-contains_key.result, refl, c.from-then-contains_key.ensures)

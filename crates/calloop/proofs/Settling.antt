@@ -1,0 +1,99 @@
+-- The adapters that were marked are settled, one after the other.
+use Rattle.std.proofs.Common.{◌≡◌, ℕ, ◌≤◌, List, [], ◌∷◌, refl, ap, sym, ◌∙◌, None, Some, Option, Result, Ok, Err, inl, inr, Bool, true, false, length, filter, suc, arith, if◌then◌else◌}
+use Rattle.calloop_wake.specs.declared.error.Error.{Error}
+use Rattle.calloop_wake.specs.declared.list.Content.{Content}
+use Rattle.calloop_wake.specs.declared.list.Content.TheVariants.{Vacant, Source, InTurn}
+use Rattle.calloop_wake.specs.declared.list.Slot.{Slot}
+use Rattle.calloop_wake.specs.declared.token.RegistrationToken.{RegistrationToken}
+use Rattle.calloop_wake.specs.declared.token.TokenFactory.{TokenFactory}
+use Rattle.calloop_wake.specs.Slots.{changed, with_content, named, source_of, is_empty, after_turn}
+use Rattle.calloop_wake.proofs.Named.{turn_ended, named_changed}
+use Rattle.calloop_core.specs.Pollers.{Outside}
+use Rattle.calloop_core.specs.declared.sys.poll.Poll.{Poll}
+use Rattle.calloop_core.specs.Polls.{PollView, PollStep, polls_after, IsReady}
+use Rattle.calloop_core.specs.Deeds.{Reregistered, Unregistered, Lent}
+use Rattle.calloop_core.specs.Meanings.{Meaning, Does, fresh_factory, Settles, SettledAs}
+use Rattle.calloop_core.specs.declared.sources.Role.{Role}
+use Rattle.calloop_core.specs.declared.sources.Role.TheVariants.{Caller, Adapter}
+use Rattle.calloop.specs.Held.{Unlisted, Warned, Listed, held_after, warned}
+use Rattle.calloop.specs.Askings.{Asks, Runs}
+use Rattle.calloop.specs.Machine.{View, Change, Put, Polls, Holds}
+use Rattle.calloop.specs.Roles.{only, is_adapter, of_adapter}
+use Rattle.calloop.specs.Rules.{Goes, Doing, Settling, Sleeping, SettledIn}
+use Rattle.calloop.proofs.Roles.{only_source, only_passes}
+use Rattle.calloop.proofs.Going.{goes_by, full_named}
+use Rattle.calloop.proofs.Inserting.{changed_twice}
+
+none_warned : (told : Result (Unit {0}) Error) (es : List Error) → es ≡ warned false told es
+none_warned (Ok u) es = refl
+none_warned (Err e) es = refl
+
+pub fewer_passed : {A : Type 0} (p : A → Bool) (xs : List A) → length (filter p xs) ≤ length xs
+fewer_passed p [] = omega arith
+fewer_passed p (x ∷ xs) =
+    elim (p x) as (λ b. length (if b then x ∷ filter p xs else filter p xs) ≤ suc (length xs))
+    [ true ↦ (let h = fewer_passed p xs in omega (arith, h)) | false ↦ (let h = fewer_passed p xs in omega (arith, h)) ]
+
+-- room for more is room for fewer
+pub ready_less : {P C R : Type 0} (p : Poll P C R) (n m : ℕ) → m ≤ n → IsReady n p → IsReady m p
+ready_less p n m less h = record { batch = omega (arith, less, h.batch); passes = h.passes; events = h.events; room = h.room }
+
+module _ {D I P X : Type 0} (M : Meaning D P (Lent X (Asks D I))) (runs : Runs D I X) (O : Outside P) where
+  none_settled : (token : RegistrationToken) (c : Content D) (v : View D I P) → None ≡ source_of c → SettledIn M token c v []
+  none_settled token Vacant v h = refl
+  none_settled token InTurn v h = refl
+  none_settled token (Source d) v h = cc
+
+  pub not_settled : (timeout : Option ℕ) (token : RegistrationToken) (later : List RegistrationToken) (v : View D I P) (x : X) → None ≡ source_of (only (is_adapter M) (named v.slots token))
+      → Goes M runs O (Settling timeout (token ∷ later) x) (Settling timeout later x) v v
+  not_settled timeout token later v x none =
+      goes_by M runs O (Settling timeout (token ∷ later) x) (Settling timeout later x) [] v v (none_settled token (only (is_adapter M) (named v.slots token)) v none, refl) tt refl
+
+  -- its interest was taken up
+  pub settled : (timeout : Option ℕ) (token : RegistrationToken) (later : List RegistrationToken) (v : View D I P) (x : X) (d e : D) (f : TokenFactory) (p' : PollView P) → only (is_adapter M) (named v.slots token) ≡ Source d
+      → Does O M d v.poll (Reregistered (fresh_factory token) (Ok tt) f) e p'
+      → Goes M runs O (Settling timeout (token ∷ later) x) (Settling timeout later x) v (record v { slots = after_turn (Source e) token (changed (with_content InTurn) v.slots token.slot); poll = p' })
+  settled timeout token later v x d e f p' is r =
+      let full : is_empty (named v.slots token) ≡ false = ap is_empty (only_source (is_adapter M) (named v.slots token) d is) in
+      let out = changed (with_content InTurn) v.slots token.slot in
+      goes_by M runs O (Settling timeout (token ∷ later) x) (Settling timeout later x) (Put token.slot InTurn ∷ Polls r.0 ∷ Holds (Listed false token) ∷ Put token.slot (Source e) ∷ []) v
+      (record v { slots = after_turn (Source e) token out; poll = p' })
+      (rw is (inl (e, r.0, (f, r.1), refl)), refl)
+      (full_named v.slots token full, (r.2.0, (tt, (full_named out token (ap is_empty (named_changed v.slots token InTurn full)), tt))))
+      (ap (λ (ss : List (Slot D)). record v { slots = ss; poll = p' }) (turn_ended v.slots token (Source e) full)
+      ∙ ap (λ (q : PollView P). record v { slots = changed (with_content (Source e)) out token.slot; poll = q }) r.2.1)
+
+  -- it was dropped
+  pub settled_left : (timeout : Option ℕ) (token : RegistrationToken) (later : List RegistrationToken) (v : View D I P) (x : X) (d e : D) (told : Result (Unit {0}) Error) (p' : PollView P) → only (is_adapter M) (named v.slots token) ≡ Source d
+      → Does O M d v.poll (Unregistered told) e p'
+      → Goes M runs O (Settling timeout (token ∷ later) x) (Settling timeout later x) v (record v { slots = after_turn Vacant token (changed (with_content InTurn) v.slots token.slot); poll = p'; held = held_after v.held (Unlisted token) })
+  settled_left timeout token later v x d e told p' is r =
+      let full : is_empty (named v.slots token) ≡ false = ap is_empty (only_source (is_adapter M) (named v.slots token) d is) in
+      goes_by M runs O (Settling timeout (token ∷ later) x) (Settling timeout later x) (Put token.slot Vacant ∷ Polls r.0 ∷ Holds (Unlisted token) ∷ Holds (Warned false told) ∷ []) v
+      (record v { slots = after_turn Vacant token (changed (with_content InTurn) v.slots token.slot); poll = p'; held = held_after v.held (Unlisted token) })
+      (rw is (inr (Some e, (e, told, false, r.0, r.1, refl, refl))), refl)
+      (full_named v.slots token full, (r.2.0, (tt, (tt, tt))))
+      (ap (λ (ss : List (Slot D)). record v { slots = ss; poll = p'; held = held_after v.held (Unlisted token) }) (turn_ended v.slots token Vacant full ∙ changed_twice Vacant InTurn v.slots token.slot)
+      ∙ ap (λ (q : PollView P). record v { slots = changed (with_content Vacant) v.slots token.slot; poll = q; held = held_after v.held (Unlisted token) }) r.2.1
+      ∙ ap (λ (l : List Error). record v { slots = changed (with_content Vacant) v.slots token.slot; poll = polls_after v.poll r.0; held = record (held_after v.held (Unlisted token)) { warnings = l } }) (none_warned told v.held.warnings))
+
+  adapter_settles : (r : Role) (token : RegistrationToken) (gone : Bool) (d e : D) (p p' : PollView P) → of_adapter r ≡ true → Settles r O M token gone d p e p' → SettledAs O M token gone d p e p'
+  adapter_settles Caller token gone d e p p' is h = cc
+  adapter_settles Adapter token gone d e p p' is h = h
+
+  pub kept : (timeout : Option ℕ) (token : RegistrationToken) (later : List RegistrationToken) (v : View D I P) (x : X) (d e : D) (p' : PollView P) → only (is_adapter M) (named v.slots token) ≡ Source d
+      → Settles (M.role d) O M token false d v.poll e p'
+      → Goes M runs O (Settling timeout (token ∷ later) x) (Settling timeout later x) v (record v { slots = after_turn (Source e) token (changed (with_content InTurn) v.slots token.slot); poll = p' })
+  kept timeout token later v x d e p' is h =
+      let r = adapter_settles (M.role d) token false d e v.poll p' (only_passes (is_adapter M) (named v.slots token) d is) h in
+      settled timeout token later v x d e r.0 p' is r.1
+
+  pub gone : (timeout : Option ℕ) (token : RegistrationToken) (later : List RegistrationToken) (v : View D I P) (x : X) (d e : D) (p' : PollView P) → only (is_adapter M) (named v.slots token) ≡ Source d
+      → Settles (M.role d) O M token true d v.poll e p'
+      → Goes M runs O (Settling timeout (token ∷ later) x) (Settling timeout later x) v (record v { slots = after_turn Vacant token (changed (with_content InTurn) v.slots token.slot); poll = p'; held = held_after v.held (Unlisted token) })
+  gone timeout token later v x d e p' is h =
+      let r = adapter_settles (M.role d) token true d e v.poll p' (only_passes (is_adapter M) (named v.slots token) d is) h in
+      settled_left timeout token later v x d e r.0 p' is r.1
+
+  pub all_settled : (timeout : Option ℕ) (v : View D I P) (x : X) → Goes M runs O (Settling timeout [] x) (Sleeping timeout v.held.lifecycle x) v v
+  all_settled timeout v x = goes_by M runs O (Settling timeout [] x) (Sleeping timeout v.held.lifecycle x) [] v v (refl, refl) tt refl

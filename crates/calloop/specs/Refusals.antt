@@ -1,0 +1,28 @@
+-- The refusal of a registration that an adapter keeps for its next poll. calloop's adapters drop it.
+use Rattle.std.specs.Prelude.{Bool, true, false}
+use Rattle.calloop_wake.specs.declared.error.Error.{Error}
+use Rattle.calloop_wake.specs.declared.error.Error.TheVariants.{
+  InvalidToken,
+  IoError,
+  OtherError,
+  OutOfMemory,
+  TooManySources,
+  TooManyTokens,
+  TooManyTimers,
+  TooManyTickets,
+  OwnTurn,
+  NoRendezvous,
+}
+
+-- what the registration of a socket can be refused with: a fault of the poller, or a refusal of the table, or want of memory
+abbrev pub of_registration : Error → Bool
+of_registration (IoError cause) = true
+of_registration OutOfMemory = true
+of_registration InvalidToken = false
+of_registration (OtherError cause) = false
+of_registration TooManySources = false
+of_registration TooManyTokens = false
+of_registration TooManyTimers = false
+of_registration TooManyTickets = false
+of_registration OwnTurn = false
+of_registration NoRendezvous = false

@@ -1,0 +1,90 @@
+//! Adapters come into a loop, and are given back. From calloop's `LoopHandle::adapt_io` and `Async::into_inner`.
+ghost use Rattle.std.specs.Prelude.{◌≡◌, IfOk, IfErr};
+ghost use Rattle.calloop.specs.Adapted.{IsAdapted, IsNotAdapted, IsGivenBack, IsKept};
+
+use super::asks::Requests;
+use super::{EventDispatcher, LoopHandle};
+use crate::io::{Adapter, Async, make_ends};
+use calloop_core::sources::Keep;
+use calloop_core::sys::{Clock, Poller};
+use calloop_wake::error::{Error, InsertError};
+use std::alloc::Global;
+use std::sync::Wait;
+
+impl<D: EventDispatcher<P, C, R>, P: Poller, C: Clock, R: Wait + Drop> LoopHandle<'_, D, P, C, R> {
+    /// Adapts a socket: its `Async` polls it as a future, and the loop tells that what it finds. The adapter takes a slot, which no call of a
+    /// handle names; no poller is called until a poll waits.
+    ///
+    /// The refusals are those of an insertion. Each hands the socket back, and leaves the loop as it does.
+    pub fn adapt_io<N>(
+        &mut self,
+        rt: &R,
+        alloc: Global,
+        io: P::Io,
+    ) -> Result<Async<P, R>, InsertError<P::Io>>
+    where
+        D: Keep<Adapter<P, R>, P, C, R, D::Data, Requests<D, D::Idle>, N>,
+        R: Clone,
+        ensures same { self.new.inner.ghost_name ≡ self.old.inner.ghost_name }
+        ensures ok { IfOk result (λ made. IsAdapted D.means D.Idle.runs P.outside D.placed made
+            self.old self.new) }
+        ensures err { IfErr result (λ refused. (refused.inserted ≡ io)
+            × IsNotAdapted D.means D.Idle.runs P.outside D.placed refused.error
+            self.old self.new) }
+    {
+        let (adapter, other) = match make_ends(rt, alloc) {
+            Ok(ends) => ends,
+            Err(error) => {
+                return Err(InsertError {
+                    inserted: io,
+                    error,
+                });
+            }
+        };
+        match self.register_dispatcher(D::place(adapter)) {
+            Ok(_token) => {
+                other.put(io);
+                Ok(other)
+            }
+            Err(refused) => Err(InsertError {
+                inserted: io,
+                error: refused.error,
+            }),
+        }
+    }
+
+    /// Takes an adapter out of this loop, and its socket out of the poller, and hands the socket back.
+    ///
+    /// A fault of the poller is `IoError`, and the adapter stays as it was. One of another loop, or of none, is refused with `InvalidToken`,
+    /// and so is one whose socket was taken out by `get_mut`. Each hands the `Async` back.
+    pub fn into_inner(&mut self, io: Async<P, R>) -> Result<P::Io, InsertError<Async<P, R>>>
+        ensures same { self.new.inner.ghost_name ≡ self.old.inner.ghost_name }
+        ensures ok { IfOk result (λ socket. IsGivenBack D.means D.Idle.runs P.outside
+            self.old self.new) }
+        ensures err { IfErr result (λ refused. (refused.inserted ≡ io)
+            × IsKept D.means D.Idle.runs P.outside refused.error self.old self.new) }
+    {
+        let Some(token) = io.begin_leaving() else {
+            return Err(InsertError {
+                inserted: io,
+                error: Error::InvalidToken,
+            });
+        };
+        match self.inner.release(token) {
+            Ok(()) => match io.take() {
+                Some(socket) => Ok(socket),
+                None => Err(InsertError {
+                    inserted: io,
+                    error: Error::InvalidToken,
+                }),
+            },
+            Err(error) => {
+                io.stay();
+                Err(InsertError {
+                    inserted: io,
+                    error,
+                })
+            }
+        }
+    }
+}

@@ -1,0 +1,5 @@
+//! Tests of sockets as futures.
+#![tactic(auto)]
+
+#[cfg(test)]
+mod tests;

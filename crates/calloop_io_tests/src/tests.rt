@@ -1,0 +1,160 @@
+//! Adapters over a scripted poller, and over sockets of the machine.
+mod desk;
+mod peers;
+
+use calloop_core::sys::Interest;
+use calloop_core::sys::script::ScriptCall;
+use desk::{Act, plays};
+
+const ADDED: ScriptCall = ScriptCall::Add(1, 0, Interest::READ);
+
+const MODIFIED: ScriptCall = ScriptCall::Modify(1, 0, Interest::READ);
+
+const DELETED: ScriptCall = ScriptCall::Delete(1);
+
+#[test]
+fn an_adapter_calls_no_poller_until_a_poll_waits(rt: HostRuntime) {
+    let acts = [
+        Act::Adapt,
+        Act::Calls(&[]),
+        Act::IsNamedByNoCall,
+        Act::Dispatch(&[]),
+        Act::Calls(&[]),
+    ];
+    assert_eq!(rt; plays(&rt, rt.alloc(), &acts), Some(None));
+}
+
+#[test]
+fn a_poll_that_waits_is_registered_before_the_wait(rt: HostRuntime) {
+    let acts = [
+        Act::Adapt,
+        Act::Look(1),
+        Act::Dispatch(&[]),
+        Act::Calls(&[]),
+        Act::Answer(true),
+        Act::Dispatch(&[]),
+        Act::Calls(&[ADDED]),
+        Act::Dispatch(&["ready"]),
+        Act::Calls(&[ADDED]),
+    ];
+    assert_eq!(rt; plays(&rt, rt.alloc(), &acts), Some(None));
+}
+
+#[test]
+fn a_second_wait_is_registered_anew(rt: HostRuntime) {
+    let acts = [
+        Act::Adapt,
+        Act::Look(2),
+        Act::Dispatch(&[]),
+        Act::Answer(true),
+        Act::Dispatch(&[]),
+        Act::Dispatch(&[]),
+        Act::Answer(true),
+        Act::Dispatch(&[]),
+        Act::Calls(&[ADDED, MODIFIED]),
+        Act::Dispatch(&["ready", "ready"]),
+    ];
+    assert_eq!(rt; plays(&rt, rt.alloc(), &acts), Some(None));
+}
+
+#[test]
+fn what_an_event_found_is_taken_once(rt: HostRuntime) {
+    let acts = [
+        Act::Adapt,
+        Act::Answer(true),
+        Act::Dispatch(&[]),
+        Act::Look(2),
+        Act::Dispatch(&[]),
+        Act::Dispatch(&[]),
+        Act::Calls(&[ADDED]),
+        Act::Answer(true),
+        Act::Dispatch(&[]),
+        Act::Dispatch(&["ready", "ready"]),
+    ];
+    assert_eq!(rt; plays(&rt, rt.alloc(), &acts), Some(None));
+}
+
+#[test]
+fn what_was_found_to_write_is_none_to_read(rt: HostRuntime) {
+    let acts = [
+        Act::Adapt,
+        Act::Answer(false),
+        Act::Dispatch(&[]),
+        Act::Look(1),
+        Act::Dispatch(&[]),
+        Act::Dispatch(&[]),
+        Act::Calls(&[ADDED]),
+    ];
+    assert_eq!(rt; plays(&rt, rt.alloc(), &acts), Some(None));
+}
+
+#[test]
+fn a_refused_registration_is_answered_once(rt: HostRuntime) {
+    let acts = [
+        Act::Adapt,
+        Act::Look(2),
+        Act::Dispatch(&[]),
+        Act::FailAdd,
+        // The future is woken before the wait, and waits again.
+        Act::Dispatch(&[]),
+        Act::Calls(&[ADDED]),
+        Act::Answer(true),
+        Act::Dispatch(&[]),
+        Act::Calls(&[ADDED, ADDED]),
+        Act::Dispatch(&["refused", "ready"]),
+    ];
+    assert_eq!(rt; plays(&rt, rt.alloc(), &acts), Some(None));
+}
+
+#[test]
+fn a_dropped_adapter_leaves_with_the_next_dispatch(rt: HostRuntime) {
+    let acts = [
+        Act::Adapt,
+        Act::Look(1),
+        Act::Dispatch(&[]),
+        Act::Answer(true),
+        Act::Dispatch(&[]),
+        Act::Dispatch(&["ready"]),
+        Act::Drop,
+        Act::Calls(&[ADDED]),
+        Act::Dispatch(&[]),
+        Act::Calls(&[ADDED, DELETED]),
+        Act::NextSlot(0),
+    ];
+    assert_eq!(rt; plays(&rt, rt.alloc(), &acts), Some(None));
+}
+
+#[test]
+fn an_adapter_that_is_given_back_hands_its_socket_back(rt: HostRuntime) {
+    let acts = [
+        Act::Adapt,
+        Act::Look(1),
+        Act::Dispatch(&[]),
+        Act::Answer(true),
+        Act::Dispatch(&[]),
+        Act::Dispatch(&["ready"]),
+        Act::IntoInner,
+        Act::Calls(&[ADDED, DELETED]),
+        Act::NextSlot(0),
+        Act::Dispatch(&[]),
+    ];
+    assert_eq!(rt; plays(&rt, rt.alloc(), &acts), Some(None));
+}
+
+#[test]
+fn an_adapter_that_the_poller_keeps_stays(rt: HostRuntime) {
+    let acts = [
+        Act::Adapt,
+        Act::Look(1),
+        Act::Dispatch(&[]),
+        Act::Answer(true),
+        Act::Dispatch(&[]),
+        Act::Dispatch(&["ready"]),
+        Act::KeptByFault,
+        Act::Calls(&[ADDED, DELETED]),
+        Act::IntoInner,
+        Act::Calls(&[ADDED, DELETED, DELETED]),
+        Act::NextSlot(0),
+    ];
+    assert_eq!(rt; plays(&rt, rt.alloc(), &acts), Some(None));
+}

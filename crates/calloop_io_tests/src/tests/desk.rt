@@ -1,0 +1,289 @@
+//! A scripted loop with one adapter, and an executor whose futures look at its socket.
+use calloop::futures::{Context, Executor, Future, Poll, Scheduler, make_executor};
+use calloop::{
+    Adapter, Async, Choice, Dispatcher, Error, EventDispatcher, Here, Instant, Keep, On, OneOf,
+    Readiness, RegistrationToken, Requests, ScriptLoop, Sources, There, TimeoutAction, Timer,
+};
+use calloop_core::sys::script::{
+    ScriptAnswer, ScriptCall, ScriptClock, ScriptEnd, ScriptEvents, ScriptIo, ScriptKind,
+    ScriptPoller,
+};
+use std::alloc::Global;
+use std::sync::Wait;
+use std::time::Duration;
+
+/// What a test does, or looks for.
+#[derive(Clone, Copy)]
+pub enum Act<'a> {
+    /// Socket 1 is adapted.
+    Adapt,
+    /// A future is scheduled that waits so often until the socket can be read. Its answers are said, and the adapter comes back.
+    Look(usize),
+    /// The next wait answers key 0: readable, or else writable.
+    Answer(bool),
+    FailAdd,
+    /// A dispatch succeeds in which this is said.
+    Dispatch(&'a [&'static str]),
+    /// The poller has had these calls.
+    Calls(&'a [ScriptCall]),
+    /// `enable` and the like refuse the first slot.
+    IsNamedByNoCall,
+    Drop,
+    /// The socket is handed back.
+    IntoInner,
+    /// The poller fails to delete it, and the adapter is handed back.
+    KeptByFault,
+    /// A timer that is inserted takes this slot.
+    NextSlot(u32),
+}
+
+/// Waits so often until the socket can be read.
+#[derive(Drop)]
+pub struct Looker<R: Wait + Drop> {
+    io: Option<Async<ScriptPoller, R>>,
+    left: usize,
+    said: Vec<&'static str>,
+}
+
+impl<R: Wait + Clone + Drop> Future<R> for Looker<R> {
+    type Output = (Vec<&'static str>, Option<Async<ScriptPoller, R>>);
+
+    fn poll(
+        &mut self,
+        cx: &mut Context<'_, R>,
+    ) -> Poll<(Vec<&'static str>, Option<Async<ScriptPoller, R>>)> {
+        while self.left > 0 {
+            let Some(io) = &mut self.io else {
+                break;
+            };
+            let word = match io.readable().poll(cx) {
+                Poll::Ready(Ok(())) => "ready",
+                Poll::Ready(Err(_)) => "refused",
+                Poll::Pending => return Poll::Pending,
+            };
+            let _failed = self.said.push(word);
+            self.left -= 1;
+        }
+        let alloc = *self.said.allocator();
+        let said = std::mem::replace(&mut self.said, Vec::new(alloc));
+        Poll::Ready((said, self.io.take()))
+    }
+}
+
+/// What a dispatch lends: what was said, and the adapter that came back.
+#[derive(Drop)]
+pub struct Told<R: Wait + Drop> {
+    said: Vec<&'static str>,
+    io: Option<Async<ScriptPoller, R>>,
+}
+
+/// Keeps what a future gives.
+#[derive(Drop)]
+pub struct Keeps;
+
+impl<R: Wait + Drop> On<(Vec<&'static str>, Option<Async<ScriptPoller, R>>), Told<R>, ()>
+    for Keeps {
+    fn on(
+        &mut self,
+        given: (Vec<&'static str>, Option<Async<ScriptPoller, R>>),
+        told: &mut Told<R>,
+    ) {
+        let (said, io) = given;
+        told.said = said;
+        told.io = io;
+    }
+}
+
+/// Says nothing.
+#[derive(Drop)]
+pub struct Silent;
+
+impl<X> On<Instant, X, TimeoutAction> for Silent {
+    fn on(&mut self, _deadline: Instant, _data: &mut X) -> TimeoutAction {
+        TimeoutAction::Drop
+    }
+}
+
+/// What a loop of these tests holds.
+type Held<R> = Sources<
+    OneOf<
+        Adapter<ScriptPoller, R>,
+        OneOf<Dispatcher<Executor<Looker<R>, R>, Keeps>, Dispatcher<Timer, Silent>>,
+    >,
+    Told<R>,
+>;
+
+#[derive(Drop)]
+struct Desk<D, R>
+where
+    D: EventDispatcher<ScriptPoller, ScriptClock, R>,
+    R: Wait + Drop,
+{
+    rt: R,
+    alloc: Global,
+    event_loop: ScriptLoop<D, R>,
+    scheduler: Scheduler<Looker<R>, R>,
+    told: Told<R>,
+}
+
+impl<D, R> Desk<D, R>
+where
+    D: EventDispatcher<ScriptPoller, ScriptClock, R, Data = Told<R>>,
+    D: Choice<Executor<Looker<R>, R>, Keeps, There<Here>>,
+    D: Choice<Timer, Silent, There<There<Here>>>,
+    D: Keep<
+        Adapter<ScriptPoller, R>,
+        ScriptPoller,
+        ScriptClock,
+        R,
+        Told<R>,
+        Requests<D, <D as EventDispatcher<ScriptPoller, ScriptClock, R>>::Idle>,
+        Here,
+    >,
+    R: Wait + Clone + Drop,
+{
+    fn new(rt: &R, alloc: Global) -> Option<Desk<D, R>> {
+        let event_loop: ScriptLoop<D, R> = ScriptLoop::scripted(rt, alloc).ok()?;
+        let (executor, scheduler) = make_executor(rt, alloc).ok()?;
+        let mut desk = Desk {
+            rt: rt.clone().ok()?,
+            alloc,
+            event_loop,
+            scheduler,
+            told: Told {
+                said: Vec::new(alloc),
+                io: None,
+            },
+        };
+        // The adapter comes first, so that it has the first slot.
+        desk.adapt()?;
+        let held = D::hold(Dispatcher::new(executor, Keeps));
+        desk.event_loop.handle().register_dispatcher(held).ok()?;
+        Some(desk)
+    }
+
+    fn adapt(&mut self) -> Option<()> {
+        let socket = ScriptIo { number: 1 };
+        let made = self
+            .event_loop
+            .handle()
+            .adapt_io(&self.rt, self.alloc, socket)
+            .ok()?;
+        self.told.io = Some(made);
+        Some(())
+    }
+
+    /// The place of the first act that isn't as it is wanted.
+    fn play(&mut self, acts: &[Act<'_>]) -> Option<usize> {
+        acts.iter().position(|act| self.does(*act).is_none())
+    }
+
+    fn does(&mut self, act: Act<'_>) -> Option<()> {
+        match act {
+            Act::Adapt => self.told.io.as_ref().map(|_| ()),
+            Act::Look(times) => self.look(times),
+            Act::Answer(readable) => self.answer(readable),
+            Act::FailAdd => {
+                self.event_loop.handle().poller_mut().fail(ScriptKind::Add);
+                Some(())
+            }
+            Act::Dispatch(said) => self.dispatch(said),
+            Act::Calls(calls) => { so(self.event_loop.handle().poller_mut().calls() == calls) }
+            Act::IsNamedByNoCall => self.is_named_by_no_call(),
+            Act::Drop => self.told.io.take().map(drop),
+            Act::IntoInner => self.into_inner(),
+            Act::KeptByFault => self.kept_by_fault(),
+            Act::NextSlot(slot) => self.next_slot(slot),
+        }
+    }
+
+    fn look(&mut self, times: usize) -> Option<()> {
+        let looker = Looker {
+            io: self.told.io.take(),
+            left: times,
+            said: Vec::new(self.alloc),
+        };
+        self.scheduler.schedule(looker).ok().map(|_receipt| ())
+    }
+
+    fn answer(&mut self, readable: bool) -> Option<()> {
+        let found = Readiness {
+            readable,
+            writable: !readable,
+            error: false,
+        };
+        let mut events = ScriptEvents::new(self.alloc);
+        events.push(0, found).ok()?;
+        let answer = ScriptAnswer {
+            moment: Instant::from_millis(1),
+            end: ScriptEnd::Events(events),
+        };
+        self.event_loop.handle().poller_mut().script(answer).ok()
+    }
+
+    fn dispatch(&mut self, wanted: &[&'static str]) -> Option<()> {
+        self.told.said.clear();
+        let answer = self
+            .event_loop
+            .dispatch(&self.rt, Some(Duration::from_millis(100)), &mut self.told);
+        so(answer.is_ok() && self.told.said.as_slice() == wanted)
+    }
+
+    fn is_named_by_no_call(&mut self) -> Option<()> {
+        let token = RegistrationToken::new(0, 0);
+        let mut handle = self.event_loop.handle();
+        so(is_invalid(handle.enable(&token)))?;
+        so(is_invalid(handle.update(&token)))?;
+        so(is_invalid(handle.disable(&token)))?;
+        so(handle.remove(token).is_none())?;
+        so(handle.dispatcher(&token).is_err())
+    }
+
+    fn into_inner(&mut self) -> Option<()> {
+        let io = self.told.io.take()?;
+        match self.event_loop.handle().into_inner(io) {
+            Ok(socket) => so(socket.number == 1),
+            Err(_) => None,
+        }
+    }
+
+    fn kept_by_fault(&mut self) -> Option<()> {
+        let io = self.told.io.take()?;
+        self.event_loop
+            .handle()
+            .poller_mut()
+            .fail(ScriptKind::Delete);
+        match self.event_loop.handle().into_inner(io) {
+            Ok(_) => None,
+            Err(refused) => {
+                self.told.io = Some(refused.inserted);
+                so(matches!(refused.error, Error::IoError(_)))
+            }
+        }
+    }
+
+    fn next_slot(&mut self, slot: u32) -> Option<()> {
+        let timer = Timer::from_deadline(Instant::from_millis(1_000_000));
+        let held = D::hold(Dispatcher::new(timer, Silent));
+        let token = self.event_loop.handle().register_dispatcher(held).ok()?;
+        so(token.slot() == slot)
+    }
+}
+
+fn is_invalid(answer: calloop::Result<()>) -> bool {
+    matches!(answer, Err(Error::InvalidToken))
+}
+
+fn so(is: bool) -> Option<()> {
+    if is { Some(()) } else { None }
+}
+
+/// The place of the first act that isn't as it is wanted; none where no loop could be made.
+pub fn plays<R: Wait + Clone + Drop>(
+    rt: &R,
+    alloc: Global,
+    acts: &[Act<'_>],
+) -> Option<Option<usize>> {
+    let mut desk: Desk<Held<R>, R> = Desk::new(rt, alloc)?;
+    Some(desk.play(acts))
+}
