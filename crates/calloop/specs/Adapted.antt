@@ -1,6 +1,6 @@
 -- What comes of adapting a socket, and of taking it back. Calloop's adapter is registered at once and hears of no refusal; here it is
 -- inserted as a source is, and leaves by a case of the machine of its own.
-use Rattle.std.specs.Prelude.{◌≡◌, ◌⊎◌, None, false, Ok, Err}
+use Rattle.std.specs.Prelude.{◌≡◌, ◌⊎◌, ℕ, None, false, Ok, Err}
 use Rattle.std.specs.Arc.{arc_value}
 use Rattle.calloop_wake.specs.declared.error.Error.{Error}
 use Rattle.calloop_wake.specs.declared.error.Error.TheVariants.{InvalidToken, OutOfMemory}
@@ -14,13 +14,21 @@ use Rattle.calloop.specs.declared.loop_logic.LoopCall.TheVariants.{Insert, Relea
 use Rattle.calloop.specs.declared.loop_logic.LoopAnswer.TheVariants.{Inserted, Released}
 use Rattle.calloop.specs.declared.io.Async.{Async}
 use Rattle.calloop.specs.declared.io.adapter.Adapter.{Adapter}
-use Rattle.calloop.specs.Askings.{Asks, Runs}
+use Rattle.calloop.specs.declared.loop_logic.asks.Request.TheVariants.{Insert as AskInsert}
+use Rattle.calloop.specs.Askings.{Asks, Runs, IsAsked}
 use Rattle.calloop.specs.Handles.{held_by, IsCase}
 
 -- an adapter that is in no loop yet
 pub record IsNew {P R I : Type 0} (adapter : Adapter P R I) : Type 0 where
   pub token : adapter.token ≡ None
   pub entered : adapter.entered ≡ false
+
+-- the other end of this one is asked to be inserted, under this ticket
+abbrev pub IsAskedToAdapt : {D P R I S : Type 0} → (placed : Adapter P R S → D) → Async P R S → (ticket : ℕ)
+    → Asks D I → Asks D I → Type 0
+IsAskedToAdapt {D} {P} {R} {I} {S} placed made ticket old new =
+    (adapter : Adapter P R S) × IsNew adapter × (arc_value adapter.shared ≡ arc_value made.shared)
+    × IsAsked (AskInsert (placed adapter)) ticket old new
 
 module _ {D P C R X I S : Type 0} (M : Meaning D P (Lent X (Asks D I))) (runs : Runs D I X) (O : Outside P) where
   -- the other end of this one was inserted

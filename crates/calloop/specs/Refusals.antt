@@ -1,5 +1,5 @@
 -- The refusal of a registration that an adapter keeps for its next poll. calloop's adapters drop it.
-use Rattle.std.specs.Prelude.{Bool, true, false}
+use Rattle.std.specs.Prelude.{◌≡◌, Bool, true, false, Result, IfErr}
 use Rattle.calloop_wake.specs.declared.error.Error.{Error}
 use Rattle.calloop_wake.specs.declared.error.Error.TheVariants.{
   InvalidToken,
@@ -26,3 +26,7 @@ of_registration TooManyTimers = false
 of_registration TooManyTickets = false
 of_registration OwnTurn = false
 of_registration NoRendezvous = false
+
+-- what a wait for a socket is answered: it is ready, or its registration was refused so
+abbrev pub IsAnswer : Result (Unit {0}) Error → Type 0
+IsAnswer answer = IfErr answer (λ e. of_registration e ≡ true)

@@ -2,11 +2,12 @@
 //!
 //! An adapter has two ends. The loop's stands in a slot; an `Async` is the other one, which polls the socket. What a poll waits for is
 //! registered by the loop, at the beginning of its next dispatch; calloop registers it at once.
-ghost use Rattle.std.specs.Prelude.{◌≡◌, None, false, IfOk, IfErr};
+ghost use Rattle.std.specs.Prelude.{◌≡◌, None, false, Ok, IfOk, IfErr};
 ghost use Rattle.std.specs.Arc.{arc_value};
 ghost use Rattle.std.specs.Io.{ReadsAtMost, WritesAtMost};
 ghost use Rattle.calloop_wake.specs.declared.error.Error.TheVariants.{OutOfMemory};
 ghost use Rattle.calloop.specs.Polled.{IfReady};
+ghost use Rattle.calloop.specs.Refusals.{IsAnswer};
 
 use crate::futures::{Context, Poll, Waker};
 use calloop_core::sys::{Interest, Poller};
@@ -110,11 +111,9 @@ impl<P: Poller, R: Wait + Clone + Drop> Async<P, R> {
     }
 
     // A poll for this readiness.
-    pub(crate) fn poll_for(
-        &self,
-        cx: &mut Context<'_, R>,
-        wanted: Interest,
-    ) -> Poll<LoopResult<()>> {
+    pub(crate) fn poll_for(&self, cx: &mut Context<'_, R>, wanted: Interest) -> Poll<LoopResult<()>>
+        ensures { IfReady result IsAnswer }
+    {
         let waker = match cx.waker().clone() {
             Ok(waker) => waker,
             Err(failed) => return Poll::Ready(Err(failed.into())),
@@ -138,7 +137,9 @@ impl<P: Poller, R: Wait + Clone + Drop> Async<P, R> {
         cx: &mut Context<'_, R>,
         wanted: Interest,
         answer: io::Result<T>,
-    ) -> Poll<io::Result<T>> {
+    ) -> Poll<io::Result<T>>
+        ensures { IfReady result (λ given. IfOk given (λ value. answer ≡ Ok value)) }
+    {
         match answer {
             Err(cause) if cause.kind() == io::ErrorKind::WouldBlock => {
                 match self.wait(cx.waker(), wanted) {
@@ -161,6 +162,7 @@ impl<P: Poller, R: Wait + Clone + Drop> Async<P, R> {
     pub fn poll_read(&mut self, cx: &mut Context<'_, R>, buf: &mut [u8]) -> Poll<io::Result<usize>>
     where
         P::Io: Read,
+        ensures bound { IfReady result (λ read. ReadsAtMost read buf.new) }
     {
         if let Some(refusal) = self.refusal() {
             return Poll::Ready(Err(refusal));
@@ -176,6 +178,7 @@ impl<P: Poller, R: Wait + Clone + Drop> Async<P, R> {
     pub fn poll_write(&mut self, cx: &mut Context<'_, R>, buf: &[u8]) -> Poll<io::Result<usize>>
     where
         P::Io: Write,
+        ensures bound { IfReady result (λ written. WritesAtMost written buf.now) }
     {
         if let Some(refusal) = self.refusal() {
             return Poll::Ready(Err(refusal));

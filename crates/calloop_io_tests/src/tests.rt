@@ -1,5 +1,8 @@
 //! Adapters over a scripted poller, and over sockets of the machine.
+mod asked;
 mod desk;
+mod ends;
+mod memory;
 mod peers;
 
 use calloop_core::sys::Interest;

@@ -1,4 +1,6 @@
-//! Futures of what a socket is ready for.
+//! Futures of what a socket is ready for. Each gives that it is ready, or a refusal of its registration.
+ghost use Rattle.calloop.specs.Refusals.{IsAnswer};
+
 use super::Async;
 use crate::futures::{Context, Future, Poll};
 use calloop_core::sys::{Interest, Poller};
@@ -20,6 +22,8 @@ impl<'a, P: Poller, R: Wait + Drop> Readable<'a, P, R> {
 impl<'a, P: Poller, R: Wait + Clone + Drop> Future<R> for Readable<'a, P, R> {
     type Output = LoopResult<()>;
 
+    ghost gives = { λ _ answer. IsAnswer answer };
+
     /// Takes the readiness that an event left. Where that isn't one to read, it waits; without memory for that it is ready with `OutOfMemory`.
     fn poll(&mut self, cx: &mut Context<'_, R>) -> Poll<LoopResult<()>> {
         self.io.poll_for(cx, Interest::READ)
@@ -40,6 +44,8 @@ impl<'a, P: Poller, R: Wait + Drop> Writable<'a, P, R> {
 
 impl<'a, P: Poller, R: Wait + Clone + Drop> Future<R> for Writable<'a, P, R> {
     type Output = LoopResult<()>;
+
+    ghost gives = { λ _ answer. IsAnswer answer };
 
     /// Takes the readiness that an event left. Where that isn't one to write, it waits; without memory for that it is ready with
     /// `OutOfMemory`.

@@ -1,5 +1,8 @@
 //! What the two ends of an adapter share: its state and its socket, each under a lock of its own, of which none is taken within
 //! the other.
+ghost use Rattle.std.specs.Prelude.{IfOk, IfSome};
+ghost use Rattle.calloop.specs.Refusals.{IsAnswer};
+
 use super::refusal::Refusal;
 use super::state::{Home, Settled, State};
 use crate::futures::Waker;
@@ -62,7 +65,9 @@ impl<P: Poller, R: Wait + Drop> Shared<P, R> {
         rt: &R,
         wanted: Interest,
         waker: Waker<R>,
-    ) -> Result<Option<LoopResult<()>>, AllocError> {
+    ) -> Result<Option<LoopResult<()>>, AllocError>
+        ensures { IfOk result (λ answer. IfSome answer IsAnswer) }
+    {
         let mut state = self.state.lock(rt);
         if let Some(answer) = state.answer(wanted) {
             return Ok(Some(answer));

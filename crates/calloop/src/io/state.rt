@@ -1,6 +1,7 @@
 //! What the two ends of an adapter know of it, beside its socket.
-ghost use Rattle.std.specs.Prelude.{◌≡◌, None, Some, true, false, is_some, not, ◌&&◌, ◌||◌};
+ghost use Rattle.std.specs.Prelude.{◌≡◌, None, Some, true, false, is_some, not, ◌&&◌, ◌||◌, IfSome};
 ghost use Rattle.calloop.specs.AdapterStates.{suits, nothing_found, answer_of, after_answer, settled_by};
+ghost use Rattle.calloop.specs.Refusals.{IsAnswer};
 
 use super::refusal::Refusal;
 use crate::futures::Waker;
@@ -85,6 +86,7 @@ impl<R: Wait + Drop> State<R> {
     // What a poll that waits for this is answered, once: a kept refusal first, and then what was found.
     pub(crate) fn answer(&mut self, wanted: Interest) -> Option<LoopResult<()>>
         ensures answer { result ≡ answer_of self.old.refusal wanted self.old.readiness }
+        ensures refused { IfSome result IsAnswer }
         ensures state { self.new ≡ after_answer self.old }
     {
         if let Some(refusal) = self.refusal.take() {

@@ -1,11 +1,13 @@
 //! Adapters come into a loop, and are given back. From calloop's `LoopHandle::adapt_io` and `Async::into_inner`.
-ghost use Rattle.std.specs.Prelude.{◌≡◌, IfOk, IfErr};
-ghost use Rattle.calloop.specs.Adapted.{IsAdapted, IsNotAdapted, IsGivenBack, IsKept};
+ghost use Rattle.std.specs.Prelude.{◌≡◌, ◌⊎◌, IfOk, IfErr};
+ghost use Rattle.calloop_wake.specs.declared.error.Error.TheVariants.{OutOfMemory};
+ghost use Rattle.calloop.specs.Adapted.{IsAdapted, IsNotAdapted, IsAskedToAdapt, IsGivenBack, IsKept};
+ghost use Rattle.calloop.specs.Askings.{CannotAsk, OnlyAsks};
 
-use super::asks::Requests;
+use super::asks::{Requests, Ticket};
 use super::{EventDispatcher, LoopHandle};
 use crate::io::{Adapter, Async, make_ends};
-use calloop_core::sources::Keep;
+use calloop_core::sources::{Keep, Place};
 use calloop_core::sys::{Clock, Poller};
 use calloop_wake::error::{Error, InsertError};
 use std::alloc::Global;
@@ -85,6 +87,49 @@ impl<D: EventDispatcher<P, C, R>, P: Poller, C: Clock, R: Wait + Drop> LoopHandl
                     error,
                 })
             }
+        }
+    }
+}
+
+impl<D, I> Requests<D, I> {
+    /// Asks for a socket to be adapted. Its `Async` is there at once, as calloop's is; what it waits for is registered when its adapter is in
+    /// the loop. The answer is `Inserted`, or `NotInserted`: then the socket stays with the `Async`, whose `get_mut` has it.
+    ///
+    /// A refusal of this call hands the socket back, and nothing is asked for.
+    pub fn adapt<P: Poller, R: Wait + Clone + Drop, N>(
+        &mut self,
+        rt: &R,
+        alloc: Global,
+        io: P::Io,
+    ) -> Result<(Ticket, Async<P, R>), InsertError<P::Io>>
+    where
+        D: Place<Adapter<P, R>, N> + Drop,
+        I: Drop,
+        ensures ok { IfOk result
+            (λ made. IsAskedToAdapt D.placed made.1 made.0.number self.old self.new) }
+        ensures err { IfErr result (λ refused. (refused.inserted ≡ io)
+            × ((refused.error ≡ OutOfMemory) ⊎ CannotAsk self.old refused.error)
+            × (self.new ≡ self.old)) }
+        ensures asks { OnlyAsks self.old self.new }
+    {
+        let (adapter, other) = match make_ends(rt, alloc) {
+            Ok(ends) => ends,
+            Err(error) => {
+                return Err(InsertError {
+                    inserted: io,
+                    error,
+                });
+            }
+        };
+        match self.register_dispatcher(D::place(adapter)) {
+            Ok(ticket) => {
+                other.put(io);
+                Ok((ticket, other))
+            }
+            Err(refused) => Err(InsertError {
+                inserted: io,
+                error: refused.error,
+            }),
         }
     }
 }
