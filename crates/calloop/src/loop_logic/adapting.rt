@@ -112,7 +112,7 @@ impl<D, I> Requests<D, I> {
             × (self.new ≡ self.old)) }
         ensures asks { OnlyAsks self.old self.new }
     {
-        let (adapter, other) = match make_ends(rt, alloc) {
+        let (adapter, made) = match make_ends(rt, alloc) {
             Ok(ends) => ends,
             Err(error) => {
                 return Err(InsertError {
@@ -123,8 +123,8 @@ impl<D, I> Requests<D, I> {
         };
         match self.register_dispatcher(D::place(adapter)) {
             Ok(ticket) => {
-                other.put(io);
-                Ok((ticket, other))
+                made.put(io);
+                Ok((ticket, made))
             }
             Err(refused) => Err(InsertError {
                 inserted: io,
