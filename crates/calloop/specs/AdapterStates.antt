@@ -1,6 +1,6 @@
 -- What the two ends of an adapter know of it. From calloop's `IoDispatcher`, which calls the poller at once: here what a
 -- poll waits for, and its drop, are marked, and the loop takes them up before its next wait.
-use Rattle.std.specs.Prelude.{◌≡◌, Bool, true, false, ◌&&◌, ◌||◌, if◌then◌else◌, Option, Some, None, Result, Ok, Err}
+use Rattle.std.specs.Prelude.{Bool, true, false, ◌&&◌, ◌||◌, if◌then◌else◌, Option, Some, None, Result, Ok, Err}
 use Rattle.calloop_wake.specs.declared.error.Error.{Error}
 use Rattle.calloop_core.specs.declared.sys.Interest.{Interest}
 use Rattle.calloop_core.specs.declared.sys.Readiness.{Readiness}

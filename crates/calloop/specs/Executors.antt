@@ -50,8 +50,8 @@ pub data Answered (O : Type 0) : Type 0 where
   -- no turn: the pass is of another key, or a turn stands open
   Refused : Answered O
 
--- At most 1,024 tasks are polled, in queue order, and the callback is called with each result, which a future gave; the twin counts just
--- these. The source always goes on. calloop's process_events is this loop over its runnables.
+-- At most 1,024 tasks are polled, in queue order, and the callback is called with each result, one that some future of the executor's type
+-- may give; the twin counts just these. The source always goes on. calloop's process_events is this loop over its runnables.
 abbrev pub AnsweredSo : {P O : Type 0} → (given : O → Type 0) → Answered O → Taken → Twin → ResultCalls O → PostAction
     → List (PollStep P) → Twin → Type 0
 AnsweredSo given (Opened polled) p twin calls action steps after =
