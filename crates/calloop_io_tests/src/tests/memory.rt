@@ -4,7 +4,7 @@
 use calloop::futures::{Context, Executor, Future, Poll, ScheduleError, Scheduler, make_executor};
 use calloop::{
     Adapter, Async, Choice, Dispatcher, Error, EventDispatcher, Here, InsertError, Instant, Keep,
-    On, OneOf, Readiness, Requests, ScriptLoop, Sources, There,
+    On, OneOf, Readiness, RegistrationToken, Requests, ScriptLoop, Sources, There, TokenFactory,
 };
 use calloop_core::sys::script::{
     ScriptAnswer, ScriptClock, ScriptEnd, ScriptEvents, ScriptIo, ScriptPoller,
@@ -33,7 +33,7 @@ impl<R: Wait + Clone + Drop> Future<R> for Waits<R> {
             return Poll::Ready(None);
         };
         let answer = match io.readable().poll(cx) {
-            Poll::Ready(Err(Error::OutOfMemory)) => io.readable().poll(cx),
+            Poll::Ready(Err(_)) => io.readable().poll(cx),
             answer => answer,
         };
         match answer {
@@ -153,22 +153,16 @@ fn schedule<R: Wait + Clone + Drop>(
     }
 }
 
-// The next wait finds the socket readable.
+// The next wait finds the socket readable, under its first registration, or under its second one where the first was refused.
 fn answer<D, R>(event_loop: &mut ScriptLoop<D, R>, alloc: Global) -> Option<()>
 where
     D: EventDispatcher<ScriptPoller, ScriptClock, R, Data = Back<R>>,
     R: Wait + Clone + Drop,
 {
-    let found = Readiness {
-        readable: true,
-        writable: false,
-        error: false,
-    };
     for _ in 0..2u32 {
-        let mut events = ScriptEvents::new(alloc);
-        if events.push(0, found).is_err() {
+        let Some(events) = both_events(alloc) else {
             continue;
-        }
+        };
         let answer = ScriptAnswer {
             moment: Instant::from_millis(1),
             end: ScriptEnd::Events(events),
@@ -178,6 +172,22 @@ where
         }
     }
     None
+}
+
+fn both_events(alloc: Global) -> Option<ScriptEvents> {
+    let found = Readiness {
+        readable: true,
+        writable: false,
+        error: false,
+    };
+    let mut events = ScriptEvents::new(alloc);
+    for version in 0..2u16 {
+        let token = TokenFactory::new(RegistrationToken::new(0, version))
+            .token()
+            .ok()?;
+        events.push(token.key(), found).ok()?;
+    }
+    Some(events)
 }
 
 fn dispatch<D, R>(rt: &R, event_loop: &mut ScriptLoop<D, R>, back: &mut Back<R>) -> Option<()>
