@@ -2,7 +2,7 @@
 //! runs for a bounded time.
 #![tactic(auto)]
 
-use calloop::futures::{Executor, make_executor};
+use calloop::futures::{Executor, Scheduler, make_executor};
 use calloop::{
     Adapter, Dispatcher, Error, MioIo, MioPoller, On, OneOf, Result, Sources, SystemClock,
     SystemLoop,
@@ -46,6 +46,16 @@ type Held<R> = Sources<
     Session,
 >;
 
+fn schedule<R>(scheduler: &Scheduler<End<R>, R>, end: End<R>) -> Result<()>
+where
+    R: Wait + Clock + Clone + Drop,
+{
+    match scheduler.schedule(end) {
+        Ok(_receipt) => Ok(()),
+        Err(_) => Err(Error::OutOfMemory),
+    }
+}
+
 // What the client heard, where both futures end within ten seconds. The client's end is closed by its drop, which ends the server.
 fn talk<R: Wait + Net + Clock + Clone + Drop>(rt: &R, alloc: Global) -> Result<Option<Vec<u8>>> {
     let mut event_loop: SystemLoop<Held<R>, R> = SystemLoop::system(rt, alloc)?;
@@ -54,11 +64,8 @@ fn talk<R: Wait + Net + Clock + Clone + Drop>(rt: &R, alloc: Global) -> Result<O
     let far = event_loop.handle().adapt_io(rt, alloc, MioIo::from(far))?;
     let (executor, scheduler) = make_executor(rt, alloc)?;
     event_loop.handle().insert_source(executor, Keeps)?;
-    let server = End::server(near, alloc);
-    let client = End::client(far, alloc)?;
-    for end in [server, client] {
-        scheduler.schedule(end).map_err(|_| Error::OutOfMemory)?;
-    }
+    schedule(&scheduler, End::server(near, alloc))?;
+    schedule(&scheduler, End::client(far, alloc)?)?;
     let mut session = Session {
         heard: None,
         is_served: false,
