@@ -18,12 +18,12 @@ struct Given<R: Wait + Drop> {
 
 /// Asks for socket 1 to be adapted.
 #[derive(Drop)]
-struct Adapts<R: Wait + Drop> {
+struct Asker<R: Wait + Drop> {
     rt: R,
     alloc: Global,
 }
 
-impl<D, R> Callback<(), (), (), Given<R>, Requests<D, ()>> for Adapts<R>
+impl<D, R> Callback<(), (), (), Given<R>, Requests<D, ()>> for Asker<R>
 where
     D: Place<Adapter<ScriptPoller, R>, There<Here>> + Drop,
     R: Wait + Clone + Drop,
@@ -46,24 +46,24 @@ where
 }
 
 type Held<R> = Sources<
-    OneOf<Dispatcher<PingSource<R>, Adapts<R>>, Adapter<ScriptPoller, R>>,
+    OneOf<Dispatcher<PingSource<R>, Asker<R>>, Adapter<ScriptPoller, R>>,
     Given<R>,
 >;
 
 // Which slot the adapter has whose socket is asked to be adapted in a turn of the first slot, and the socket's number.
-fn adapts<D, R>(rt: &R, alloc: Global) -> Option<(u32, u32)>
+fn asks_in_a_turn<D, R>(rt: &R, alloc: Global) -> Option<(u32, u32)>
 where
     D: EventDispatcher<ScriptPoller, ScriptClock, R, Data = Given<R>>,
-    D: Choice<PingSource<R>, Adapts<R>, Here>,
+    D: Choice<PingSource<R>, Asker<R>, Here>,
     R: Wait + Clone + Drop,
 {
     let mut event_loop: ScriptLoop<D, R> = ScriptLoop::scripted(rt, alloc).ok()?;
     let (ping, source) = make_ping(rt, alloc).ok()?;
-    let adapts = Adapts {
+    let asker = Asker {
         rt: rt.clone().ok()?,
         alloc,
     };
-    let held = D::hold(Dispatcher::new(source, adapts));
+    let held = D::hold(Dispatcher::new(source, asker));
     event_loop.handle().register_dispatcher(held).ok()?;
     ping.ping();
     let mut given = Given {
@@ -82,7 +82,7 @@ where
 
 #[test]
 fn an_adapter_that_is_asked_for_takes_the_next_slot(rt: HostRuntime) {
-    let given = adapts::<Held<HostRuntime>, HostRuntime>(&rt, rt.alloc());
+    let given = asks_in_a_turn::<Held<HostRuntime>, HostRuntime>(&rt, rt.alloc());
     assert_eq!(rt; given, Some((1, 1)));
 }
 
