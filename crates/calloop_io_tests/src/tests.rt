@@ -7,7 +7,7 @@ mod peers;
 
 use calloop_core::sys::Interest;
 use calloop_core::sys::script::ScriptCall;
-use desk::{Act, plays};
+use desk::{Act, Word, plays};
 
 const ADDED: ScriptCall = ScriptCall::Add(1, 0, Interest::READ);
 
@@ -24,7 +24,7 @@ fn an_adapter_calls_no_poller_until_a_poll_waits(rt: HostRuntime) {
         Act::Dispatch(&[]),
         Act::Calls(&[]),
     ];
-    assert_eq!(rt; plays(&rt, rt.alloc(), &acts), Some(None));
+    assert_eq!(rt; plays(&rt, rt.alloc(), &acts), None);
 }
 
 #[test]
@@ -37,10 +37,10 @@ fn a_poll_that_waits_is_registered_before_the_wait(rt: HostRuntime) {
         Act::Answer(true),
         Act::Dispatch(&[]),
         Act::Calls(&[ADDED]),
-        Act::Dispatch(&["ready"]),
+        Act::Dispatch(&[Word::Ready]),
         Act::Calls(&[ADDED]),
     ];
-    assert_eq!(rt; plays(&rt, rt.alloc(), &acts), Some(None));
+    assert_eq!(rt; plays(&rt, rt.alloc(), &acts), None);
 }
 
 #[test]
@@ -55,9 +55,9 @@ fn a_second_wait_is_registered_anew(rt: HostRuntime) {
         Act::Answer(true),
         Act::Dispatch(&[]),
         Act::Calls(&[ADDED, MODIFIED]),
-        Act::Dispatch(&["ready", "ready"]),
+        Act::Dispatch(&[Word::Ready, Word::Ready]),
     ];
-    assert_eq!(rt; plays(&rt, rt.alloc(), &acts), Some(None));
+    assert_eq!(rt; plays(&rt, rt.alloc(), &acts), None);
 }
 
 #[test]
@@ -72,9 +72,9 @@ fn what_an_event_found_is_taken_once(rt: HostRuntime) {
         Act::Calls(&[ADDED]),
         Act::Answer(true),
         Act::Dispatch(&[]),
-        Act::Dispatch(&["ready", "ready"]),
+        Act::Dispatch(&[Word::Ready, Word::Ready]),
     ];
-    assert_eq!(rt; plays(&rt, rt.alloc(), &acts), Some(None));
+    assert_eq!(rt; plays(&rt, rt.alloc(), &acts), None);
 }
 
 #[test]
@@ -88,7 +88,7 @@ fn what_was_found_to_write_is_none_to_read(rt: HostRuntime) {
         Act::Dispatch(&[]),
         Act::Calls(&[ADDED]),
     ];
-    assert_eq!(rt; plays(&rt, rt.alloc(), &acts), Some(None));
+    assert_eq!(rt; plays(&rt, rt.alloc(), &acts), None);
 }
 
 #[test]
@@ -104,9 +104,9 @@ fn a_refused_registration_is_answered_once(rt: HostRuntime) {
         Act::Answer(true),
         Act::Dispatch(&[]),
         Act::Calls(&[ADDED, ADDED]),
-        Act::Dispatch(&["refused", "ready"]),
+        Act::Dispatch(&[Word::Refused, Word::Ready]),
     ];
-    assert_eq!(rt; plays(&rt, rt.alloc(), &acts), Some(None));
+    assert_eq!(rt; plays(&rt, rt.alloc(), &acts), None);
 }
 
 #[test]
@@ -117,14 +117,14 @@ fn a_dropped_adapter_leaves_with_the_next_dispatch(rt: HostRuntime) {
         Act::Dispatch(&[]),
         Act::Answer(true),
         Act::Dispatch(&[]),
-        Act::Dispatch(&["ready"]),
+        Act::Dispatch(&[Word::Ready]),
         Act::Drop,
         Act::Calls(&[ADDED]),
         Act::Dispatch(&[]),
         Act::Calls(&[ADDED, DELETED]),
         Act::NextSlot(0),
     ];
-    assert_eq!(rt; plays(&rt, rt.alloc(), &acts), Some(None));
+    assert_eq!(rt; plays(&rt, rt.alloc(), &acts), None);
 }
 
 #[test]
@@ -135,13 +135,13 @@ fn an_adapter_that_is_given_back_hands_its_socket_back(rt: HostRuntime) {
         Act::Dispatch(&[]),
         Act::Answer(true),
         Act::Dispatch(&[]),
-        Act::Dispatch(&["ready"]),
+        Act::Dispatch(&[Word::Ready]),
         Act::IntoInner,
         Act::Calls(&[ADDED, DELETED]),
         Act::NextSlot(0),
         Act::Dispatch(&[]),
     ];
-    assert_eq!(rt; plays(&rt, rt.alloc(), &acts), Some(None));
+    assert_eq!(rt; plays(&rt, rt.alloc(), &acts), None);
 }
 
 #[test]
@@ -152,12 +152,12 @@ fn an_adapter_that_the_poller_keeps_stays(rt: HostRuntime) {
         Act::Dispatch(&[]),
         Act::Answer(true),
         Act::Dispatch(&[]),
-        Act::Dispatch(&["ready"]),
+        Act::Dispatch(&[Word::Ready]),
         Act::KeptByFault,
         Act::Calls(&[ADDED, DELETED]),
         Act::IntoInner,
         Act::Calls(&[ADDED, DELETED, DELETED]),
         Act::NextSlot(0),
     ];
-    assert_eq!(rt; plays(&rt, rt.alloc(), &acts), Some(None));
+    assert_eq!(rt; plays(&rt, rt.alloc(), &acts), None);
 }

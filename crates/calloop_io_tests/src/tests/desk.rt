@@ -9,6 +9,7 @@ use calloop_core::sys::script::{
     ScriptPoller,
 };
 use std::alloc::Global;
+use std::mem;
 use std::sync::Wait;
 use std::time::Duration;
 
@@ -23,7 +24,7 @@ pub enum Act<'a> {
     Answer(bool),
     FailAdd,
     /// A dispatch succeeds in which this is said.
-    Dispatch(&'a [&'static str]),
+    Dispatch(&'a [Word]),
     /// The poller has had these calls.
     Calls(&'a [ScriptCall]),
     /// `enable` and the like refuse the first slot.
@@ -37,60 +38,57 @@ pub enum Act<'a> {
     NextSlot(u32),
 }
 
+/// What a wait is answered.
+#[derive(Clone, Copy, Debug, PartialEq, Eq)]
+pub enum Word {
+    Ready,
+    Refused,
+}
+
+/// What was said, and the adapter that came back.
+#[derive(Drop)]
+pub struct Told<R: Wait + Drop> {
+    said: Vec<Word>,
+    io: Option<Async<ScriptPoller, R>>,
+}
+
 /// Waits so often until the socket can be read.
 #[derive(Drop)]
 pub struct Looker<R: Wait + Drop> {
-    io: Option<Async<ScriptPoller, R>>,
-    left: usize,
-    said: Vec<&'static str>,
+    told: Told<R>,
+    times: usize,
 }
 
 impl<R: Wait + Clone + Drop> Future<R> for Looker<R> {
-    type Output = (Vec<&'static str>, Option<Async<ScriptPoller, R>>);
+    type Output = Told<R>;
 
-    fn poll(
-        &mut self,
-        cx: &mut Context<'_, R>,
-    ) -> Poll<(Vec<&'static str>, Option<Async<ScriptPoller, R>>)> {
-        while self.left > 0 {
-            let Some(io) = &mut self.io else {
+    fn poll(&mut self, cx: &mut Context<'_, R>) -> Poll<Told<R>> {
+        for _ in self.told.said.len()..self.times {
+            let Some(io) = &mut self.told.io else {
                 break;
             };
             let word = match io.readable().poll(cx) {
-                Poll::Ready(Ok(())) => "ready",
-                Poll::Ready(Err(_)) => "refused",
+                Poll::Ready(Ok(())) => Word::Ready,
+                Poll::Ready(Err(_)) => Word::Refused,
                 Poll::Pending => return Poll::Pending,
             };
-            let _failed = self.said.push(word);
-            self.left -= 1;
+            let _failed = self.told.said.push(word);
         }
-        let alloc = *self.said.allocator();
-        let said = std::mem::replace(&mut self.said, Vec::new(alloc));
-        Poll::Ready((said, self.io.take()))
+        let alloc = *self.told.said.allocator();
+        Poll::Ready(Told {
+            said: mem::replace(&mut self.told.said, Vec::new(alloc)),
+            io: self.told.io.take(),
+        })
     }
-}
-
-/// What a dispatch lends: what was said, and the adapter that came back.
-#[derive(Drop)]
-pub struct Told<R: Wait + Drop> {
-    said: Vec<&'static str>,
-    io: Option<Async<ScriptPoller, R>>,
 }
 
 /// Keeps what a future gives.
 #[derive(Drop)]
 pub struct Keeps;
 
-impl<R: Wait + Drop> On<(Vec<&'static str>, Option<Async<ScriptPoller, R>>), Told<R>, ()>
-    for Keeps {
-    fn on(
-        &mut self,
-        given: (Vec<&'static str>, Option<Async<ScriptPoller, R>>),
-        told: &mut Told<R>,
-    ) {
-        let (said, io) = given;
-        told.said = said;
-        told.io = io;
+impl<R: Wait + Drop> On<Told<R>, Told<R>, ()> for Keeps {
+    fn on(&mut self, given: Told<R>, told: &mut Told<R>) {
+        *told = given;
     }
 }
 
@@ -175,12 +173,17 @@ where
 
     /// The place of the first act that isn't as it is wanted.
     fn play(&mut self, acts: &[Act<'_>]) -> Option<usize> {
-        acts.iter().position(|act| self.does(*act).is_none())
+        for (place, act) in acts.iter().enumerate() {
+            if self.does(*act).is_none() {
+                return Some(place);
+            }
+        }
+        None
     }
 
     fn does(&mut self, act: Act<'_>) -> Option<()> {
         match act {
-            Act::Adapt => self.told.io.as_ref().map(|_| ()),
+            Act::Adapt => so(self.told.io.is_some()),
             Act::Look(times) => self.look(times),
             Act::Answer(readable) => self.answer(readable),
             Act::FailAdd => {
@@ -190,7 +193,7 @@ where
             Act::Dispatch(said) => self.dispatch(said),
             Act::Calls(calls) => { so(self.event_loop.handle().poller_mut().calls() == calls) }
             Act::IsNamedByNoCall => self.is_named_by_no_call(),
-            Act::Drop => self.told.io.take().map(drop),
+            Act::Drop => so(self.told.io.take().is_some()),
             Act::IntoInner => self.into_inner(),
             Act::KeptByFault => self.kept_by_fault(),
             Act::NextSlot(slot) => self.next_slot(slot),
@@ -198,12 +201,13 @@ where
     }
 
     fn look(&mut self, times: usize) -> Option<()> {
-        let looker = Looker {
-            io: self.told.io.take(),
-            left: times,
+        let told = Told {
             said: Vec::new(self.alloc),
+            io: self.told.io.take(),
         };
-        self.scheduler.schedule(looker).ok().map(|_receipt| ())
+        let looker = Looker { told, times };
+        self.scheduler.schedule(looker).ok()?;
+        Some(())
     }
 
     fn answer(&mut self, readable: bool) -> Option<()> {
@@ -221,7 +225,7 @@ where
         self.event_loop.handle().poller_mut().script(answer).ok()
     }
 
-    fn dispatch(&mut self, wanted: &[&'static str]) -> Option<()> {
+    fn dispatch(&mut self, wanted: &[Word]) -> Option<()> {
         self.told.said.clear();
         let answer = self
             .event_loop
@@ -278,12 +282,11 @@ fn so(is: bool) -> Option<()> {
     if is { Some(()) } else { None }
 }
 
-/// The place of the first act that isn't as it is wanted; none where no loop could be made.
-pub fn plays<R: Wait + Clone + Drop>(
-    rt: &R,
-    alloc: Global,
-    acts: &[Act<'_>],
-) -> Option<Option<usize>> {
-    let mut desk: Desk<Held<R>, R> = Desk::new(rt, alloc)?;
-    Some(desk.play(acts))
+/// Plays at a new desk: the place of the first act that isn't as it is wanted, or one behind the last where no desk can be made.
+pub fn plays<R: Wait + Clone + Drop>(rt: &R, alloc: Global, acts: &[Act<'_>]) -> Option<usize> {
+    let made: Option<Desk<Held<R>, R>> = Desk::new(rt, alloc);
+    match made {
+        Some(mut desk) => desk.play(acts),
+        None => Some(acts.len()),
+    }
 }

@@ -6,60 +6,78 @@ use calloop::{
 };
 use mio::net::UnixStream;
 use std::alloc::Global;
+use std::io;
 use std::net::Net;
 use std::sync::Wait;
 use std::time::{Clock as RuntimeClock, Duration};
 
-const GREETING: &[u8; 12] = b"Hello World!";
+const GREETING: &[u8] = b"Hello World!";
 
-/// Reads twelve bytes, or writes them, and answers how many it moved.
+type Socket<R> = Async<MioPoller<SystemClock<R>>, R>;
+
+/// Writes what is left, and then reads as many bytes as it wants.
 #[derive(Drop)]
-enum Mover<R: Wait + RuntimeClock + Clone + Drop> {
-    Reads(Async<MioPoller<SystemClock<R>>, R>, [u8; 12], usize),
-    Writes(Async<MioPoller<SystemClock<R>>, R>, usize),
+struct Mover<R: Wait + RuntimeClock + Clone + Drop> {
+    io: Socket<R>,
+    left: Vec<u8>,
+    heard: Vec<u8>,
+    wanted: usize,
+}
+
+impl<R: Wait + RuntimeClock + Clone + Drop> Mover<R> {
+    fn step(&mut self, cx: &mut Context<'_, R>) -> Poll<io::Result<usize>> {
+        if self.left.is_empty() {
+            read(&mut self.io, cx, &mut self.heard)
+        } else {
+            write(&mut self.io, cx, &mut self.left)
+        }
+    }
 }
 
 impl<R: Wait + RuntimeClock + Clone + Drop> Future<R> for Mover<R> {
     type Output = bool;
 
-    /// Whether all were moved, and are those that were written.
+    /// Whether all was written, or what was read is the greeting.
     fn poll(&mut self, cx: &mut Context<'_, R>) -> Poll<bool> {
-        match self {
-            Mover::Reads(io, buffer, count) => reads(io, cx, buffer, count),
-            Mover::Writes(io, count) => writes(io, cx, count),
+        for _ in 0..24u32 {
+            if self.left.is_empty() && self.heard.len() >= self.wanted {
+                return Poll::Ready(self.wanted == 0 || self.heard.as_slice() == GREETING);
+            }
+            match self.step(cx) {
+                Poll::Ready(Ok(0)) | Poll::Ready(Err(_)) => return Poll::Ready(false),
+                Poll::Ready(Ok(_)) => {}
+                Poll::Pending => return Poll::Pending,
+            }
         }
+        Poll::Ready(false)
     }
 }
 
-fn reads<R: Wait + RuntimeClock + Clone + Drop>(
-    io: &mut Async<MioPoller<SystemClock<R>>, R>,
+fn read<R: Wait + RuntimeClock + Clone + Drop>(
+    io: &mut Socket<R>,
     cx: &mut Context<'_, R>,
-    buffer: &mut [u8; 12],
-    count: &mut usize,
-) -> Poll<bool> {
-    while *count < 12 {
-        match io.poll_read(cx, &mut buffer[*count..]) {
-            Poll::Ready(Ok(0)) | Poll::Ready(Err(_)) => return Poll::Ready(false),
-            Poll::Ready(Ok(read)) => *count = count.saturating_add(read).min(12),
-            Poll::Pending => return Poll::Pending,
+    to: &mut Vec<u8>,
+) -> Poll<io::Result<usize>> {
+    let mut bytes = [0u8; 5];
+    let read = io.poll_read(cx, &mut bytes);
+    if let Poll::Ready(Ok(count)) = read {
+        if to.extend_from_slice(&bytes[..count]).is_err() {
+            return Poll::Ready(Err(io::Error::from(io::ErrorKind::OutOfMemory)));
         }
     }
-    Poll::Ready(&*buffer == GREETING)
+    read
 }
 
-fn writes<R: Wait + RuntimeClock + Clone + Drop>(
-    io: &mut Async<MioPoller<SystemClock<R>>, R>,
+fn write<R: Wait + RuntimeClock + Clone + Drop>(
+    io: &mut Socket<R>,
     cx: &mut Context<'_, R>,
-    count: &mut usize,
-) -> Poll<bool> {
-    while *count < 12 {
-        match io.poll_write(cx, &GREETING[*count..]) {
-            Poll::Ready(Ok(0)) | Poll::Ready(Err(_)) => return Poll::Ready(false),
-            Poll::Ready(Ok(written)) => *count = count.saturating_add(written).min(12),
-            Poll::Pending => return Poll::Pending,
-        }
+    from: &mut Vec<u8>,
+) -> Poll<io::Result<usize>> {
+    let written = io.poll_write(cx, from);
+    if let Poll::Ready(Ok(count)) = written {
+        drop(from.drain(..count));
     }
-    Poll::Ready(true)
+    written
 }
 
 /// Counts the futures that moved all.
@@ -77,19 +95,36 @@ type Held<R> = Sources<
     u32,
 >;
 
+fn greeting(alloc: Global) -> Result<Vec<u8>> {
+    let mut left = Vec::new(alloc);
+    left.extend_from_slice(GREETING)?;
+    Ok(left)
+}
+
+// How many futures moved all before something was written, and after it.
 fn greet<R: Wait + Net + RuntimeClock + Clone + Drop>(rt: &R, alloc: Global) -> Result<(u32, u32)> {
     let mut event_loop: SystemLoop<Held<R>, R> = SystemLoop::system(rt, alloc)?;
     let (near, far) = UnixStream::pair(rt)?;
-    let reader = event_loop.handle().adapt_io(rt, alloc, MioIo::from(near))?;
-    let writer = event_loop.handle().adapt_io(rt, alloc, MioIo::from(far))?;
+    let reader = Mover {
+        io: event_loop.handle().adapt_io(rt, alloc, MioIo::from(near))?,
+        left: Vec::new(alloc),
+        heard: Vec::new(alloc),
+        wanted: GREETING.len(),
+    };
+    let writer = Mover {
+        io: event_loop.handle().adapt_io(rt, alloc, MioIo::from(far))?,
+        left: greeting(alloc)?,
+        heard: Vec::new(alloc),
+        wanted: 0,
+    };
     let (executor, scheduler) = make_executor(rt, alloc)?;
     event_loop.handle().insert_source(executor, Counts)?;
     let mut moved = 0;
-    let _receipt = scheduler.schedule(Mover::Reads(reader, [0; 12], 0));
+    let _receipt = scheduler.schedule(reader);
     event_loop.dispatch(rt, Some(Duration::from_millis(10)), &mut moved)?;
     event_loop.dispatch(rt, Some(Duration::from_millis(10)), &mut moved)?;
     let early = moved;
-    let _receipt = scheduler.schedule(Mover::Writes(writer, 0));
+    let _receipt = scheduler.schedule(writer);
     for _ in 0..1000u32 {
         if moved == 2 {
             break;
