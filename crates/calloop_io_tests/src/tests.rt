@@ -11,6 +11,8 @@ use desk::{Act, Word, plays};
 
 const ADDED: ScriptCall = ScriptCall::Add(1, 0, Interest::READ);
 
+const WRITES: ScriptCall = ScriptCall::Add(1, 0, Interest::WRITE);
+
 const MODIFIED: ScriptCall = ScriptCall::Modify(1, 0, Interest::READ);
 
 const DELETED: ScriptCall = ScriptCall::Delete(1);
@@ -39,6 +41,20 @@ fn a_poll_that_waits_is_registered_before_the_wait(rt: HostRuntime) {
         Act::Calls(&[ADDED]),
         Act::Dispatch(&[Word::Ready]),
         Act::Calls(&[ADDED]),
+    ];
+    assert_eq!(rt; plays(&rt, rt.alloc(), &acts), None);
+}
+
+#[test]
+fn a_wait_to_write_is_registered_and_answered(rt: HostRuntime) {
+    let acts = [
+        Act::Adapt,
+        Act::LookToWrite(1),
+        Act::Dispatch(&[]),
+        Act::Answer(false),
+        Act::Dispatch(&[]),
+        Act::Calls(&[WRITES]),
+        Act::Dispatch(&[Word::Ready]),
     ];
     assert_eq!(rt; plays(&rt, rt.alloc(), &acts), None);
 }
@@ -159,5 +175,11 @@ fn an_adapter_that_the_poller_keeps_stays(rt: HostRuntime) {
         Act::Calls(&[ADDED, DELETED, DELETED]),
         Act::NextSlot(0),
     ];
+    assert_eq!(rt; plays(&rt, rt.alloc(), &acts), None);
+}
+
+#[test]
+fn an_adapter_without_its_socket_leaves_and_hands_none_back(rt: HostRuntime) {
+    let acts = [Act::Adapt, Act::TakenOut, Act::Calls(&[]), Act::NextSlot(0)];
     assert_eq!(rt; plays(&rt, rt.alloc(), &acts), None);
 }

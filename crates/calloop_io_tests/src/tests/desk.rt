@@ -20,6 +20,8 @@ pub enum Act<'a> {
     Adapt,
     /// A future is scheduled that waits so often until the socket can be read. Its answers are said, and the adapter comes back.
     Look(usize),
+    /// One that waits until it can be written.
+    LookToWrite(usize),
     /// The next wait answers key 0: readable, or else writable.
     Answer(bool),
     FailAdd,
@@ -34,6 +36,8 @@ pub enum Act<'a> {
     IntoInner,
     /// The poller fails to delete it, and the adapter is handed back.
     KeptByFault,
+    /// The socket is taken out first, so that none can be handed back. The adapter leaves.
+    TakenOut,
     /// A timer that is inserted takes this slot.
     NextSlot(u32),
 }
@@ -52,11 +56,12 @@ pub struct Told<R: Wait + Drop> {
     io: Option<Async<ScriptPoller, R>>,
 }
 
-/// Waits so often until the socket can be read.
+/// Waits so often until the socket can be read, or else written.
 #[derive(Drop)]
 pub struct Looker<R: Wait + Drop> {
     told: Told<R>,
     times: usize,
+    reads: bool,
 }
 
 impl<R: Wait + Clone + Drop> Future<R> for Looker<R> {
@@ -67,7 +72,12 @@ impl<R: Wait + Clone + Drop> Future<R> for Looker<R> {
             let Some(io) = &mut self.told.io else {
                 break;
             };
-            let word = match io.readable().poll(cx) {
+            let answer = if self.reads {
+                io.readable().poll(cx)
+            } else {
+                io.writable().poll(cx)
+            };
+            let word = match answer {
                 Poll::Ready(Ok(())) => Word::Ready,
                 Poll::Ready(Err(_)) => Word::Refused,
                 Poll::Pending => return Poll::Pending,
@@ -184,7 +194,8 @@ where
     fn does(&mut self, act: Act<'_>) -> Option<()> {
         match act {
             Act::Adapt => so(self.told.io.is_some()),
-            Act::Look(times) => self.look(times),
+            Act::Look(times) => self.look(times, true),
+            Act::LookToWrite(times) => self.look(times, false),
             Act::Answer(readable) => self.answer(readable),
             Act::FailAdd => {
                 self.event_loop.handle().poller_mut().fail(ScriptKind::Add);
@@ -196,16 +207,17 @@ where
             Act::Drop => so(self.told.io.take().is_some()),
             Act::IntoInner => self.into_inner(),
             Act::KeptByFault => self.kept_by_fault(),
+            Act::TakenOut => self.taken_out(),
             Act::NextSlot(slot) => self.next_slot(slot),
         }
     }
 
-    fn look(&mut self, times: usize) -> Option<()> {
+    fn look(&mut self, times: usize, reads: bool) -> Option<()> {
         let told = Told {
             said: Vec::new(self.alloc),
             io: self.told.io.take(),
         };
-        let looker = Looker { told, times };
+        let looker = Looker { told, times, reads };
         self.scheduler.schedule(looker).ok()?;
         Some(())
     }
@@ -263,6 +275,16 @@ where
                 self.told.io = Some(refused.inserted);
                 so(matches!(refused.error, Error::IoError(_)))
             }
+        }
+    }
+
+    fn taken_out(&mut self) -> Option<()> {
+        let mut io = self.told.io.take()?;
+        let socket = io.get_mut().take()?;
+        so(socket.number == 1)?;
+        match self.event_loop.handle().into_inner(io) {
+            Ok(_) => None,
+            Err(refused) => so(matches!(refused.error, Error::InvalidToken)),
         }
     }
 

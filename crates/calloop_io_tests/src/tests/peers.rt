@@ -25,6 +25,22 @@ struct Mover<R: Wait + RuntimeClock + Clone + Drop> {
 }
 
 impl<R: Wait + RuntimeClock + Clone + Drop> Mover<R> {
+    // A writer closes, and a reader flushes what it didn't write.
+    fn end(&mut self, cx: &mut Context<'_, R>) -> Poll<bool> {
+        if self.wanted == 0 {
+            return match self.io.poll_close(cx) {
+                Poll::Ready(closed) => Poll::Ready(closed.is_ok()),
+                Poll::Pending => Poll::Pending,
+            };
+        }
+        match self.io.poll_flush(cx) {
+            Poll::Ready(flushed) => {
+                Poll::Ready(flushed.is_ok() && self.heard.as_slice() == GREETING)
+            }
+            Poll::Pending => Poll::Pending,
+        }
+    }
+
     fn step(&mut self, cx: &mut Context<'_, R>) -> Poll<io::Result<usize>> {
         if self.left.is_empty() {
             read(&mut self.io, cx, &mut self.heard)
@@ -41,7 +57,7 @@ impl<R: Wait + RuntimeClock + Clone + Drop> Future<R> for Mover<R> {
     fn poll(&mut self, cx: &mut Context<'_, R>) -> Poll<bool> {
         for _ in 0..24u32 {
             if self.left.is_empty() && self.heard.len() >= self.wanted {
-                return Poll::Ready(self.wanted == 0 || self.heard.as_slice() == GREETING);
+                return self.end(cx);
             }
             match self.step(cx) {
                 Poll::Ready(Ok(0)) | Poll::Ready(Err(_)) => return Poll::Ready(false),
