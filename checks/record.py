@@ -19,7 +19,7 @@ class Record:
 
     def __init__(self, path, sums):
         self.path, self.sums = path, {body: sum[:DIGITS] for body, sum in sums.items()}
-        self.lines, self.faults = {}, []
+        self.lines, self.faults, self.tried = {}, [], set()
         for number, line in enumerate(self.read(), 1):
             found = LINE.fullmatch(line)
             body = found and (found[1], found[2])
@@ -51,12 +51,19 @@ class Record:
 
     def put(self, *body, why):
         """Has the record say why this body was refused, or nothing of it where it wasn't."""
+        self.tried.add(body)
         self.lines.pop(body, None)
         if why:
             self.lines[body] = Line(self.sums[body], " ".join(why.split()))
 
     def write(self):
-        """Writes the lines that hold, in order; no other run meets half of them, and what a run that was cut off wrote stays whole."""
+        """Writes the lines that hold, in order; no other run meets half of them, and what a run that was cut off wrote stays whole.
+
+        What another run wrote meanwhile stays, but for what this one came to.
+        """
+        others = {body: line for body, line in Record(self.path, self.sums).lines.items() if body not in self.tried}
+        mine = {body: line for body, line in self.lines.items() if body in self.tried}
+        self.lines = {**others, **mine}
         text = "".join(f"{' '.join(it)} {self.sums[it]} {why}\n" for it in sorted(self.lines) if (why := self.why(*it)))
         with tempfile.NamedTemporaryFile("w", dir=os.path.dirname(self.path), prefix="refused-", delete=False, encoding="utf-8", newline="\n") as it:
             it.write(text)
