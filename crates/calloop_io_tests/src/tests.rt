@@ -6,7 +6,7 @@ mod memory;
 mod peers;
 
 use calloop_core::sys::Interest;
-use calloop_core::sys::script::ScriptCall;
+use calloop_core::sys::script::{ScriptCall, ScriptKind};
 use desk::{Act, Word, plays};
 
 const ADDED: ScriptCall = ScriptCall::Add(1, 0, Interest::READ);
@@ -113,7 +113,7 @@ fn a_refused_registration_is_answered_once(rt: HostRuntime) {
         Act::Adapt,
         Act::Look(2),
         Act::Dispatch(&[]),
-        Act::FailAdd,
+        Act::Fail(ScriptKind::Add),
         // The future is woken before the wait, and waits again.
         Act::Dispatch(&[]),
         Act::Calls(&[ADDED]),
@@ -121,6 +121,22 @@ fn a_refused_registration_is_answered_once(rt: HostRuntime) {
         Act::Dispatch(&[]),
         Act::Calls(&[ADDED, ADDED]),
         Act::Dispatch(&[Word::Refused, Word::Ready]),
+    ];
+    assert_eq!(rt; plays(&rt, rt.alloc(), &acts), None);
+}
+
+#[test]
+fn a_refused_registration_anew_is_answered_once(rt: HostRuntime) {
+    let acts = [
+        Act::Adapt,
+        Act::Look(2),
+        Act::Dispatch(&[]),
+        Act::Answer(true),
+        Act::Dispatch(&[]),
+        Act::Dispatch(&[]),
+        Act::Fail(ScriptKind::Modify),
+        Act::Dispatch(&[Word::Ready, Word::Refused]),
+        Act::Calls(&[ADDED, MODIFIED]),
     ];
     assert_eq!(rt; plays(&rt, rt.alloc(), &acts), None);
 }

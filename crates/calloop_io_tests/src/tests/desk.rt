@@ -24,7 +24,8 @@ pub enum Act<'a> {
     LookToWrite(usize),
     /// The next wait answers key 0: readable, or else writable.
     Answer(bool),
-    FailAdd,
+    /// The poller's next call of this kind fails.
+    Fail(ScriptKind),
     /// A dispatch succeeds in which this is said.
     Dispatch(&'a [Word]),
     /// The poller has had these calls.
@@ -197,8 +198,8 @@ where
             Act::Look(times) => self.look(times, true),
             Act::LookToWrite(times) => self.look(times, false),
             Act::Answer(readable) => self.answer(readable),
-            Act::FailAdd => {
-                self.event_loop.handle().poller_mut().fail(ScriptKind::Add);
+            Act::Fail(kind) => {
+                self.event_loop.handle().poller_mut().fail(kind);
                 Some(())
             }
             Act::Dispatch(said) => self.dispatch(said),
