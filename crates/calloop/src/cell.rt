@@ -101,9 +101,9 @@ pub fn receiver<K: CellCore, R: Wait>(
     requires { right.name ≡ K.named_by shared.now.slot }
     ensures { result ≡ fresh_twin (K.named_by shared.now.slot) }
 {
-    let (gate, cell) = shared.lock(rt);
+    let cell = shared.lock(rt);
     let twin = cell.core.receiver(right);
-    shared.unlock(rt, gate, cell);
+    shared.unlock(rt, cell);
     twin
 }
 
@@ -114,9 +114,9 @@ pub fn add_sender<K: CellCore, R: Wait>(
 ) -> Result<Sender, AllocError>
     ensures { IfOk result (λ sender. sender.name ≡ K.named_by shared.now.slot) }
 {
-    let (gate, mut cell) = shared.lock(rt);
+    let mut cell = shared.lock(rt);
     let added = cell.core.add_sender();
-    shared.unlock(rt, gate, cell);
+    shared.unlock(rt, cell);
     added
 }
 
@@ -124,10 +124,10 @@ pub fn add_sender<K: CellCore, R: Wait>(
 pub fn drop_sender<K: CellCore, R: Wait>(rt: &R, shared: &Locked<Cell<K>>, sender: Sender)
     requires { sender.name ≡ K.named_by shared.now.slot }
 {
-    let (gate, mut cell) = shared.lock(rt);
+    let mut cell = shared.lock(rt);
     let debt = cell.core.drop_sender(sender);
     let owed = cell.owed(rt, debt);
-    shared.unlock(rt, gate, cell);
+    shared.unlock(rt, cell);
     settle(rt, owed);
 }
 
@@ -146,11 +146,11 @@ pub fn attach<K: CellCore, R: Wait>(
 {
     let pass = hub.open_place(rt, token)?;
     let mine = share(rt, hub);
-    let (gate, mut cell) = shared.lock(rt);
+    let mut cell = shared.lock(rt);
     let old = cell.hub.replace(mine);
     let (debt, leave) = cell.core.set_key(pass, twin);
     let owed = cell.owed(rt, debt);
-    shared.unlock(rt, gate, cell);
+    shared.unlock(rt, cell);
     close_place(rt, &old, leave);
     settle(rt, owed);
     Ok(())
@@ -161,10 +161,10 @@ pub fn detach<K: CellCore, R: Wait>(rt: &R, shared: &Locked<Cell<K>>, twin: &mut
     requires { twin.old.name ≡ K.named_by shared.now.slot }
     ensures { twin.new ≡ record twin.old { key = None } }
 {
-    let (gate, mut cell) = shared.lock(rt);
+    let mut cell = shared.lock(rt);
     let leave = cell.core.clear_key(twin);
     let hub = cell.hub.take();
-    shared.unlock(rt, gate, cell);
+    shared.unlock(rt, cell);
     close_place(rt, &hub, leave);
 }
 
@@ -172,9 +172,9 @@ pub fn detach<K: CellCore, R: Wait>(rt: &R, shared: &Locked<Cell<K>>, twin: &mut
 pub fn abandon<K: CellCore, R: Wait>(rt: &R, shared: &Locked<Cell<K>>, twin: Twin)
     requires { twin.name ≡ K.named_by shared.now.slot }
 {
-    let (gate, mut cell) = shared.lock(rt);
+    let mut cell = shared.lock(rt);
     let leave = cell.core.abandon(twin);
     let hub = cell.hub.take();
-    shared.unlock(rt, gate, cell);
+    shared.unlock(rt, cell);
     close_place(rt, &hub, leave);
 }

@@ -593,10 +593,10 @@ impl<R: Wait + Drop> Drop for Bell<R> {
 fn abandon<Q: Wait>(rt: &Q, lock: &Locked<BellCell>, twin: Twin)
     requires { twin.name ≡ lock.now.slot }
 {
-    let (gate, mut cell) = lock.lock(rt);
+    let mut cell = lock.lock(rt);
     let leave = cell.core.abandon(twin);
     let hub = share(rt, &cell.hub);
-    lock.unlock(rt, gate, cell);
+    lock.unlock(rt, cell);
     if let Some(leave) = leave {
         hub.close_place(rt, leave);
     }
@@ -642,10 +642,10 @@ fn set_key<Q: Wait>(
     ensures { twin.new.name ≡ lock.now.slot }
 {
     let mine = share(rt, hub);
-    let (gate, mut cell) = lock.lock(rt);
+    let mut cell = lock.lock(rt);
     let old = mem::replace(&mut cell.hub, mine);
     let (debt, leave) = cell.core.set_key(pass, twin);
-    lock.unlock(rt, gate, cell);
+    lock.unlock(rt, cell);
     settle(rt, hub, debt);
     if let Some(leave) = leave {
         old.close_place(rt, leave);
@@ -663,10 +663,10 @@ fn register<Q: Wait, R: Wait + Drop>(rt: &Q, bell: &mut Bell<R>, token: Token) -
 
 // Rings the cell, and posts its key where that is owed.
 fn ring<Q: Wait, R: Wait + Drop>(rt: &Q, bell: &Bell<R>) {
-    let (gate, mut cell) = bell.lock.lock(rt);
+    let mut cell = bell.lock.lock(rt);
     let (_receipt, debt) = cell.core.ring();
     let hub = share(rt, &cell.hub);
-    bell.lock.unlock(rt, gate, cell);
+    bell.lock.unlock(rt, cell);
     settle(rt, &hub, debt);
 }
 
@@ -681,9 +681,9 @@ fn open_turn<Q: Wait>(
     ensures turn { IfOk result (λ o. o.turn.name ≡ lock.now.slot) }
     ensures refused { IfErr result (λ refused. refused.board ≡ pass.board) }
 {
-    let (gate, mut cell) = lock.lock(rt);
+    let mut cell = lock.lock(rt);
     let opened = cell.core.open_turn(pass, twin);
-    lock.unlock(rt, gate, cell);
+    lock.unlock(rt, cell);
     opened
 }
 
@@ -692,9 +692,9 @@ fn end_turn<Q: Wait>(rt: &Q, lock: &Locked<BellCell>, turn: PingTurn) -> Option<
     requires { turn.name ≡ lock.now.slot }
     ensures { result ≡ None }
 {
-    let (gate, mut cell) = lock.lock(rt);
+    let mut cell = lock.lock(rt);
     let debt = cell.core.end_turn(turn);
-    lock.unlock(rt, gate, cell);
+    lock.unlock(rt, cell);
     debt
 }
 

@@ -45,6 +45,13 @@ pub none_marked : (j : ℕ) (ps : List Place) → any_marked ps ≡ false → is
 none_marked j [] h = refl
 none_marked j (p ∷ ps) h = let ih = none_marked j ps in grind arith
 
+none_below : (below : ℕ) (ps : List Place) → any_marked ps ≡ false → taken_keys below ps ≡ []
+none_below below [] h = refl
+none_below below (p ∷ ps) h = let ih = none_below below ps in grind arith
+
+pub none_taken : (room : ℕ) (ps : List Place) → any_marked ps ≡ false → keys_within room ps ≡ []
+none_taken room ps h = none_below (bound room ps) ps h
+
 -- The order of the keys.
 
 pub AllAbove-less : (j k : ℕ) (ps : List Place) → j ≤ k → AllAbove k ps → AllAbove j ps

@@ -33,6 +33,12 @@ use Rattle.std.specs.declared.time.Duration.{Duration}
 use Rattle.calloop_wake.specs.declared.error.Error.{Error}
 use Rattle.calloop_wake.specs.declared.error.Error.TheVariants.{InvalidToken, OutOfMemory, TooManyTimers}
 use Rattle.calloop_wake.specs.declared.token.Token.{Token}
+use Rattle.calloop_wake.specs.declared.wheel.ArmRefusal.{ArmRefusal}
+use Rattle.calloop_wake.specs.declared.wheel.ArmRefusal.TheVariants.{
+  TooManyTimers as TooMany,
+  UnknownCounter as Unknown,
+  OutOfMemory as NoMemory,
+}
 use Rattle.calloop_wake.specs.declared.wheel.Entry.{Entry}
 use Rattle.calloop_wake.specs.declared.wheel.Instant.{Instant}
 
@@ -144,6 +150,12 @@ AllBelow n (x ∷ xs) = (x.counter < n) × AllBelow n xs
 pub record IsOrdered (d : Deadlines) : Type 0 where
   pub sorted : IsSorted d.entries
   pub below : AllBelow d.next d.entries
+
+-- a refusal of an arming, as an error of the loop
+abbrev pub arm_error : ArmRefusal → Error
+arm_error TooMany = TooManyTimers
+arm_error Unknown = InvalidToken
+arm_error NoMemory = OutOfMemory
 
 -- why no deadline can be armed: no counter is left, or there is no memory
 abbrev pub CannotArm : (next : ℕ) → Error → Type 0

@@ -37,6 +37,8 @@ use Rattle.calloop_wake.specs.declared.error.Error.TheVariants.{
   NoRendezvous,
 }
 use Rattle.calloop_wake.specs.declared.token.RegistrationToken.{RegistrationToken}
+use Rattle.calloop_wake.specs.declared.list.ClaimRefusal.{ClaimRefusal}
+use Rattle.calloop_wake.specs.declared.list.ClaimRefusal.TheVariants.{TooManySources as TooMany, OutOfMemory as NoMemory}
 use Rattle.calloop_wake.specs.declared.list.Content.{Content}
 use Rattle.calloop_wake.specs.declared.list.Content.TheVariants.{Vacant, Source, InTurn}
 use Rattle.calloop_wake.specs.declared.list.Slot.{Slot}
@@ -113,6 +115,11 @@ after_turn content token ss = if is_in_turn (named ss token) then changed (with_
 -- the name of the slot that is claimed next: in calloop the token that vacant_entry leaves in the entry
 abbrev pub next_registration : {S : Type 0} → List (Slot S) → RegistrationToken
 next_registration ss = record { slot = first_vacant ss; version = next_version ss }
+
+-- a refusal of a claim, as an error of the loop
+abbrev pub claim_error : ClaimRefusal → Error
+claim_error TooMany = TooManySources
+claim_error NoMemory = OutOfMemory
 
 -- why no slot can be claimed; calloop panics at too many, and aborts with no memory for a new slot
 abbrev pub CannotClaim : {S : Type 0} → List (Slot S) → Error → Type 0

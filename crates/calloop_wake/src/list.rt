@@ -1,10 +1,11 @@
 //! The slots of the loop's sources, told apart by their versions. From calloop's `list.rs`.
 ghost use Rattle.std.specs.Prelude.{◌≡◌, ◌↔◌, ◌+◌, ◌^◌, ◌<◌, ◌≤◌, List, [], length, slice_get, is_some, if◌then◌else◌, Some, None, IfOk, IfErr, IsErr, IsErrOf, OnSome};
-ghost use Rattle.calloop_wake.specs.Slots.{named, changed, with_content, source_of, is_in_turn, first_vacant, next_registration, claimed, after_turn, CannotClaim};
+ghost use Rattle.calloop_wake.specs.Slots.{named, changed, with_content, source_of, is_in_turn, first_vacant, next_registration, claimed, after_turn, claim_error, CannotClaim};
 ghost use Rattle.calloop_wake.specs.Vacancies.{TellVacant};
 ghost use Rattle.std.specs.Borrow.{sem};
 ghost use Rattle.calloop_wake.specs.Lendings.{LendsSource, LendsNamed};
-ghost use Rattle.calloop_wake.specs.declared.error.Error.TheVariants.{InvalidToken, TooManySources};
+ghost use Rattle.calloop_wake.specs.declared.error.Error.TheVariants.{InvalidToken};
+ghost use Rattle.calloop_wake.specs.declared.list.ClaimRefusal.TheVariants.{TooManySources};
 ghost use Rattle.calloop_wake.specs.declared.list.Content.TheVariants.{Vacant, Source, InTurn};
 ghost use Rattle.calloop_wake.specs.declared.list.Slot.{Slot};
 
@@ -12,7 +13,7 @@ use crate::error::{Error, Result};
 use crate::steps::Steps;
 use crate::token::RegistrationToken;
 use crate::vacancies::Vacancies;
-use std::alloc::Global;
+use std::alloc::{AllocError, Global};
 use std::marker::Model;
 use std::mem;
 
@@ -34,6 +35,42 @@ pub struct Slot<S> {
     pub version: u16,
     /// What stands in it.
     pub content: Content<S>,
+}
+
+/// Why no slot could be claimed.
+#[derive(Clone, Copy, Debug, PartialEq, Eq)]
+pub enum ClaimRefusal {
+    /// A slot's number would not fit 32 bits.
+    TooManySources,
+    /// No memory was left for a new slot.
+    OutOfMemory,
+}
+
+impl From<AllocError> for ClaimRefusal {
+    ghost use Rattle.std.specs.Prelude.{◌≡◌};
+    ghost use Rattle.calloop_wake.specs.declared.list.ClaimRefusal.TheVariants.{OutOfMemory};
+
+    ghost from_gives = { λ _ made. made ≡ OutOfMemory };
+
+    /// Always `OutOfMemory`.
+    fn from(_cause: AllocError) -> ClaimRefusal {
+        ClaimRefusal::OutOfMemory
+    }
+}
+
+impl From<ClaimRefusal> for Error {
+    ghost use Rattle.std.specs.Prelude.{◌≡◌};
+    ghost use Rattle.calloop_wake.specs.Slots.{claim_error};
+
+    ghost from_gives = { λ refusal made. made ≡ claim_error refusal };
+
+    /// The error of the same name.
+    fn from(refusal: ClaimRefusal) -> Error {
+        match refusal {
+            ClaimRefusal::TooManySources => Error::TooManySources,
+            ClaimRefusal::OutOfMemory => Error::OutOfMemory,
+        }
+    }
 }
 
 /// The slots of the loop's sources. It never shrinks, as in calloop.
@@ -91,18 +128,21 @@ fn take_up<S: Drop>(slots: &mut Vec<Slot<S>>, place: usize) -> RegistrationToken
 }
 
 // Adds a slot, where none is vacant. All memory that it takes comes first.
-fn add<S: Drop>(slots: &mut Vec<Slot<S>>, vacancies: &mut Vacancies) -> Result<RegistrationToken>
+fn add<S: Drop>(
+    slots: &mut Vec<Slot<S>>,
+    vacancies: &mut Vacancies,
+) -> std::result::Result<RegistrationToken, ClaimRefusal>
     requires full { first_vacant slots.old.items ≡ length slots.old.items }
     requires told { TellVacant slots.old.items vacancies.old }
     ensures ok { IfOk result (λ t. (t ≡ next_registration slots.old.items) × (slots.new.items ≡ claimed slots.old.items)) }
     ensures within { IfOk result (λ t. (t.slot < length slots.new.items) × (t.slot < 2 ^ 32)) }
     ensures full { IsErrOf result TooManySources ↔ (2 ^ 32 ≤ first_vacant slots.old.items) }
-    ensures err { IfErr result (λ e. (slots.new.items ≡ slots.old.items) × (vacancies.new ≡ vacancies.old) × CannotClaim slots.old.items e) }
+    ensures err { IfErr result (λ e. (slots.new.items ≡ slots.old.items) × (vacancies.new ≡ vacancies.old) × CannotClaim slots.old.items (claim_error e)) }
     ensures told { TellVacant slots.new.items vacancies.new }
 {
     let place = slots.len();
     if place > 0xffff_ffff {
-        return Err(Error::TooManySources);
+        return Err(ClaimRefusal::TooManySources);
     }
     slots.reserve(1)?;
     vacancies.grow(place)?;
@@ -121,13 +161,13 @@ fn claim<S: Drop>(
     slots: &mut Vec<Slot<S>>,
     vacancies: &mut Vacancies,
     steps: &mut Steps,
-) -> Result<RegistrationToken>
+) -> std::result::Result<RegistrationToken, ClaimRefusal>
     requires fresh { steps.old ≡ 0 }
     requires told { TellVacant slots.old.items vacancies.old }
     ensures ok { IfOk result (λ t. (t ≡ next_registration slots.old.items) × (slots.new.items ≡ claimed slots.old.items)) }
     ensures within { IfOk result (λ t. (t.slot < length slots.new.items) × (t.slot < 2 ^ 32)) }
     ensures full { IsErrOf result TooManySources ↔ (2 ^ 32 ≤ first_vacant slots.old.items) }
-    ensures err { IfErr result (λ e. (slots.new.items ≡ slots.old.items) × (vacancies.new ≡ vacancies.old) × CannotClaim slots.old.items e) }
+    ensures err { IfErr result (λ e. (slots.new.items ≡ slots.old.items) × (vacancies.new ≡ vacancies.old) × CannotClaim slots.old.items (claim_error e)) }
     ensures told { TellVacant slots.new.items vacancies.new }
     ensures steps { steps.new ≤ steps.old + 6 }
 {
@@ -221,12 +261,15 @@ impl<S: Drop> SourceList<S> {
     /// only where a new slot is to be added. After a refusal the list is as it was. Calloop panics or aborts there.
     ///
     /// It reads at most six words to find the slot, however many there are. Calloop walks its slots.
-    pub fn vacant_entry(&mut self, steps: &mut Steps) -> Result<RegistrationToken>
+    pub fn vacant_entry(
+        &mut self,
+        steps: &mut Steps,
+    ) -> std::result::Result<RegistrationToken, ClaimRefusal>
         requires { steps.old ≡ 0 }
         ensures ok { IfOk result (λ t. (t ≡ next_registration self.old) × (self.new ≡ claimed self.old)) }
         ensures within { IfOk result (λ t. (t.slot < length self.new) × (t.slot < 2 ^ 32)) }
         ensures full { IsErrOf result TooManySources ↔ (2 ^ 32 ≤ first_vacant self.old) }
-        ensures err { IfErr result (λ e. (self.new ≡ self.old) × CannotClaim self.old e) }
+        ensures err { IfErr result (λ e. (self.new ≡ self.old) × CannotClaim self.old (claim_error e)) }
         ensures steps { steps.new ≤ steps.old + 6 }
     {
         claim(&mut self.slots, &mut self.vacancies, steps)

@@ -23,6 +23,7 @@ pub mod notes;
 pub mod ping;
 pub(crate) mod places;
 pub(crate) mod queue;
+pub(crate) mod sleepers;
 pub mod tasks;
 pub mod watch;
 

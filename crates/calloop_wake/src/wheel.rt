@@ -1,11 +1,11 @@
 //! Moments of the loop's clock, and the deadlines that are armed. From calloop's `TimerWheel` in `timer.rs`.
 ghost use Rattle.std.specs.Prelude.{◌≡◌, ◌↔◌, ◌+◌, ◌-◌, ◌*◌, ◌^◌, ◌≤◌, ◌<◌, min, [], ◌∷◌, false, true, length, IfSome, IfNone, IfOk, IfErr, OnOk, OnErr, IsErrOf};
 ghost use Rattle.std.specs.Duration.{as_nanos};
-ghost use Rattle.calloop_wake.specs.Deadlines.{moment_after, inserted, has_counter, without_counter, with_new, with_again, cancelled, is_armed, first_deadline, first_due, after_first_due, with_entries, IsOrdered, IsSorted, CannotArm, CannotArmAgain};
+ghost use Rattle.calloop_wake.specs.Deadlines.{moment_after, inserted, has_counter, without_counter, with_new, with_again, cancelled, is_armed, first_deadline, first_due, after_first_due, with_entries, IsOrdered, IsSorted, arm_error, CannotArm, CannotArmAgain};
 ghost use Rattle.calloop_wake.specs.Wheels.{entry_at, entries_of, first_key, NameTheSame, HaveTheSame};
-ghost use Rattle.calloop_wake.specs.declared.error.Error.TheVariants.{TooManyTimers};
+ghost use Rattle.calloop_wake.specs.declared.wheel.ArmRefusal.TheVariants.{TooManyTimers};
 
-use crate::error::{Error, Result};
+use crate::error::Error;
 use crate::token::Token;
 use std::alloc::{AllocError, Global};
 use std::collections::{BTreeMap, HashMap};
@@ -68,6 +68,45 @@ pub struct Entry {
     pub token: Token,
 }
 
+/// Why a deadline could not be armed.
+#[derive(Clone, Copy, Debug, PartialEq, Eq)]
+pub enum ArmRefusal {
+    /// All 2^64 - 1 counters were given.
+    TooManyTimers,
+    /// The counter that was to be armed again was never given.
+    UnknownCounter,
+    /// No memory was left for an entry.
+    OutOfMemory,
+}
+
+impl From<AllocError> for ArmRefusal {
+    ghost use Rattle.std.specs.Prelude.{◌≡◌};
+    ghost use Rattle.calloop_wake.specs.declared.wheel.ArmRefusal.TheVariants.{OutOfMemory};
+
+    ghost from_gives = { λ _ made. made ≡ OutOfMemory };
+
+    /// Always `OutOfMemory`.
+    fn from(_cause: AllocError) -> ArmRefusal {
+        ArmRefusal::OutOfMemory
+    }
+}
+
+impl From<ArmRefusal> for Error {
+    ghost use Rattle.std.specs.Prelude.{◌≡◌};
+    ghost use Rattle.calloop_wake.specs.Deadlines.{arm_error};
+
+    ghost from_gives = { λ refusal made. made ≡ arm_error refusal };
+
+    /// The error of the same name; `InvalidToken` for a counter that was never given.
+    fn from(refusal: ArmRefusal) -> Error {
+        match refusal {
+            ArmRefusal::TooManyTimers => Error::TooManyTimers,
+            ArmRefusal::UnknownCounter => Error::InvalidToken,
+            ArmRefusal::OutOfMemory => Error::OutOfMemory,
+        }
+    }
+}
+
 /// When a deadline comes due: by deadline, then by counter.
 #[derive(Clone, Copy, Debug, PartialEq, Eq, PartialOrd, Ord)]
 struct Due {
@@ -103,7 +142,7 @@ fn enter(
     by_counter: &mut HashMap<u64, Instant>,
     due: Due,
     token: Token,
-) -> std::result::Result<(), AllocError>
+) -> Result<(), AllocError>
     requires free { has_counter due.counter (entries_of by_due.old.entries) ≡ false }
     requires same { NameTheSame (entries_of by_due.old.entries) by_counter.old.entries }
     ensures ok { OnOk result (entries_of by_due.new.entries ≡ inserted (entry_at (due, token)) (entries_of by_due.old.entries)) }
@@ -202,14 +241,14 @@ impl TimerWheel {
     ///
     /// It refuses with `TooManyTimers` exactly where the counter would be 2^64 - 1, and else with `OutOfMemory` where
     /// there is no memory for an entry. After a refusal the wheel is as it was.
-    pub fn insert(&mut self, deadline: Instant, token: Token) -> Result<u64>
+    pub fn insert(&mut self, deadline: Instant, token: Token) -> Result<u64, ArmRefusal>
         ensures ok { IfOk result (λ c. (c ≡ self.old.next) × (self.new ≡ with_new deadline token self.old)) }
         ensures full { IsErrOf result TooManyTimers ↔ (self.old.next ≡ 2 ^ 64 - 1) }
-        ensures err { IfErr result (λ e. CannotArm self.old.next e × (self.new ≡ self.old)) }
+        ensures err { IfErr result (λ e. CannotArm self.old.next (arm_error e) × (self.new ≡ self.old)) }
     {
         let counter = self.counter;
         if counter == u64::MAX {
-            return Err(Error::TooManyTimers);
+            return Err(ArmRefusal::TooManyTimers);
         }
         let due = Due { deadline, counter };
         enter(&mut self.by_due, &mut self.by_counter, due, token)?;
@@ -219,15 +258,20 @@ impl TimerWheel {
 
     /// Arms a deadline under a counter that has none now.
     ///
-    /// It refuses with `InvalidToken` exactly where this wheel never gave that counter, and else with `OutOfMemory`
+    /// It refuses with `UnknownCounter` exactly where this wheel never gave that counter, and else with `OutOfMemory`
     /// where there is no memory for an entry. After a refusal the wheel is as it was.
-    pub fn insert_reuse(&mut self, counter: u64, deadline: Instant, token: Token) -> Result<()>
+    pub fn insert_reuse(
+        &mut self,
+        counter: u64,
+        deadline: Instant,
+        token: Token,
+    ) -> Result<(), ArmRefusal>
         requires { is_armed counter self.old ≡ false }
         ensures ok { OnOk result ((counter < self.old.next) × (self.new ≡ with_again counter deadline token self.old)) }
-        ensures err { IfErr result (λ e. CannotArmAgain counter self.old e × (self.new ≡ self.old)) }
+        ensures err { IfErr result (λ e. CannotArmAgain counter self.old (arm_error e) × (self.new ≡ self.old)) }
     {
         if counter >= self.counter {
-            return Err(Error::InvalidToken);
+            return Err(ArmRefusal::UnknownCounter);
         }
         let due = Due { deadline, counter };
         enter(&mut self.by_due, &mut self.by_counter, due, token)?;

@@ -564,17 +564,17 @@ impl Desk {
     }
 
     fn places<R: Wait>(&self, rt: &R) -> usize {
-        let (gate, board) = self.board.lock(rt);
+        let board = self.board.lock(rt);
         let places = board.places();
-        self.board.unlock(rt, gate, board);
+        self.board.unlock(rt, board);
         places.number()
     }
 
     // Whether the loop may sleep.
     fn is_quiet<R: Wait>(&mut self, rt: &R) -> bool {
-        let (gate, board) = self.board.lock(rt);
+        let board = self.board.lock(rt);
         let leave = board.look(&mut self.watch);
-        self.board.unlock(rt, gate, board);
+        self.board.unlock(rt, board);
         match leave {
             Some(leave) => {
                 leave.spend();
@@ -597,9 +597,9 @@ impl Desk {
     {
         let places = self.places(rt);
         let mut passes = VecDeque::with_capacity(alloc, places)?;
-        let (gate, mut board) = self.board.lock(rt);
+        let mut board = self.board.lock(rt);
         board.unpost(places, &mut self.watch, &mut passes, steps);
-        self.board.unlock(rt, gate, board);
+        self.board.unlock(rt, board);
         Ok(passes)
     }
 }
@@ -613,9 +613,9 @@ impl Ends {
             board: desk.name.again(),
         };
         let lock = Arc::new(alloc, Locked::new(OneBoard { core }, &names)).expect(rt, "a cell");
-        let (gate, cell) = lock.lock(rt);
+        let cell = lock.lock(rt);
         let twin = cell.core.receiver(right);
-        lock.unlock(rt, gate, cell);
+        lock.unlock(rt, cell);
         Ends { lock, twin, board }
     }
 
@@ -628,9 +628,9 @@ impl Ends {
     }
 
     fn stands<R: Wait>(&self, rt: &R) {
-        let (gate, cell) = self.lock.lock(rt);
+        let cell = self.lock.lock(rt);
         cell.core.stands();
-        self.lock.unlock(rt, gate, cell);
+        self.lock.unlock(rt, cell);
     }
 
     // Rings, and posts what is owed: whether that set a mark anew.
@@ -641,9 +641,9 @@ impl Ends {
     fn add_sender<R: Wait>(&self, rt: &R) -> Result<Sender, AllocError>
         ensures { IfOk result (λ sender. sender.name ≡ (arc_value self.now.lock).slot.cell) }
     {
-        let (gate, mut cell) = self.lock.lock(rt);
+        let mut cell = self.lock.lock(rt);
         let added = cell.core.add_sender();
-        self.lock.unlock(rt, gate, cell);
+        self.lock.unlock(rt, cell);
         added
     }
 
@@ -658,9 +658,9 @@ impl Ends {
         requires { key < 2 ^ 64 - 1 }
         ensures { self.new.lock ≡ self.old.lock }
     {
-        let (gate, mut board) = self.board.lock(rt);
+        let mut board = self.board.lock(rt);
         let opened = board.open_place(key);
-        self.board.unlock(rt, gate, board);
+        self.board.unlock(rt, board);
         let pass = opened?;
         let (debt, leave) = set_key(rt, &self.lock, &mut self.twin, pass);
         post(rt, &self.board, debt);
@@ -742,9 +742,9 @@ fn is_all(turns: Result<Vec<Turn>, AllocError>, wanted: &[Turn]) -> bool {
 fn ring<R: Wait>(rt: &R, lock: &Locked<OneBoard>) -> Option<Debt>
     ensures { IfSome result (λ debt. debt.board ≡ lock.now.slot.board) }
 {
-    let (gate, mut cell) = lock.lock(rt);
+    let mut cell = lock.lock(rt);
     let (_receipt, debt) = cell.core.ring();
-    lock.unlock(rt, gate, cell);
+    lock.unlock(rt, cell);
     debt
 }
 
@@ -752,9 +752,9 @@ fn drop_sender<R: Wait>(rt: &R, lock: &Locked<OneBoard>, sender: Sender) -> Opti
     requires { sender.name ≡ lock.now.slot.cell }
     ensures { IfSome result (λ debt. debt.board ≡ lock.now.slot.board) }
 {
-    let (gate, mut cell) = lock.lock(rt);
+    let mut cell = lock.lock(rt);
     let debt = cell.core.drop_sender(sender);
-    lock.unlock(rt, gate, cell);
+    lock.unlock(rt, cell);
     debt
 }
 
@@ -770,9 +770,9 @@ fn set_key<R: Wait>(
     ensures debt { IfSome result.0 (λ debt. debt.board ≡ lock.now.slot.board) }
     ensures leave { IfSome result.1 (λ leave. leave.board ≡ lock.now.slot.board) }
 {
-    let (gate, mut cell) = lock.lock(rt);
+    let mut cell = lock.lock(rt);
     let (debt, leave) = cell.core.set_key(pass, twin);
-    lock.unlock(rt, gate, cell);
+    lock.unlock(rt, cell);
     (debt, leave)
 }
 
@@ -781,9 +781,9 @@ fn clear_key<R: Wait>(rt: &R, lock: &Locked<OneBoard>, twin: &mut Twin) -> Optio
     ensures twin { twin.new.name ≡ lock.now.slot.cell }
     ensures leave { IfSome result (λ leave. leave.board ≡ lock.now.slot.board) }
 {
-    let (gate, mut cell) = lock.lock(rt);
+    let mut cell = lock.lock(rt);
     let leave = cell.core.clear_key(twin);
-    lock.unlock(rt, gate, cell);
+    lock.unlock(rt, cell);
     leave
 }
 
@@ -791,9 +791,9 @@ fn abandon<R: Wait>(rt: &R, lock: &Locked<OneBoard>, twin: Twin) -> Option<Leave
     requires { twin.name ≡ lock.now.slot.cell }
     ensures { IfSome result (λ leave. leave.board ≡ lock.now.slot.board) }
 {
-    let (gate, mut cell) = lock.lock(rt);
+    let mut cell = lock.lock(rt);
     let leave = cell.core.abandon(twin);
-    lock.unlock(rt, gate, cell);
+    lock.unlock(rt, cell);
     leave
 }
 
@@ -804,9 +804,9 @@ fn close<R: Wait>(rt: &R, board: &Locked<WatchedBoard>, leave: Option<LeaveToClo
     let Some(leave) = leave else {
         return false;
     };
-    let (gate, mut at) = board.lock(rt);
+    let mut at = board.lock(rt);
     at.close_place(leave);
-    board.unlock(rt, gate, at);
+    board.unlock(rt, at);
     true
 }
 
@@ -832,9 +832,9 @@ fn post<R: Wait>(rt: &R, board: &Locked<WatchedBoard>, debt: Option<Debt>) -> bo
     let signal = Signal {
         raised: AtomicBool::new(false),
     };
-    let (gate, mut at) = board.lock(rt);
+    let mut at = board.lock(rt);
     let nudge = at.post(debt);
-    board.unlock(rt, gate, at);
+    board.unlock(rt, at);
     if let Some(nudge) = nudge {
         nudge.spend(&signal);
     }
@@ -852,9 +852,9 @@ fn open<R: Wait>(
     ensures turn { IfOk result (λ o. o.turn.name ≡ lock.now.slot.cell) }
     ensures refused { IfErr result (λ refused. refused.board ≡ pass.board) }
 {
-    let (gate, mut cell) = lock.lock(rt);
+    let mut cell = lock.lock(rt);
     let opened = cell.core.open_turn(pass, twin);
-    lock.unlock(rt, gate, cell);
+    lock.unlock(rt, cell);
     opened
 }
 
@@ -863,9 +863,9 @@ fn end<R: Wait>(rt: &R, lock: &Locked<OneBoard>, turn: PingTurn) -> Option<Debt>
     requires { turn.name ≡ lock.now.slot.cell }
     ensures { result ≡ None }
 {
-    let (gate, mut cell) = lock.lock(rt);
+    let mut cell = lock.lock(rt);
     let debt = cell.core.end_turn(turn);
-    lock.unlock(rt, gate, cell);
+    lock.unlock(rt, cell);
     debt
 }
 

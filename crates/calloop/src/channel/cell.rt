@@ -41,11 +41,11 @@ pub fn put<T: Drop, R: Wait>(
     ensures err { IfErr result (λ e. (handed_back e ≡ message)
         × FitsBound shared.now.slot.bound e) }
 {
-    let (gate, mut cell) = shared.lock(rt);
+    let mut cell = shared.lock(rt);
     match cell.core.put(message) {
         Ok((receipt, debt)) => {
             let owed = cell.owed(rt, debt);
-            shared.unlock(rt, gate, cell);
+            shared.unlock(rt, cell);
             shared.tell();
             settle(rt, owed);
             Ok(receipt)
@@ -53,12 +53,12 @@ pub fn put<T: Drop, R: Wait>(
         Err(PutError::Full(message)) => {
             let debt = cell.core.ring();
             let owed = cell.owed(rt, debt);
-            shared.unlock(rt, gate, cell);
+            shared.unlock(rt, cell);
             settle(rt, owed);
             Err(PutError::Full(message))
         }
         Err(refused) => {
-            shared.unlock(rt, gate, cell);
+            shared.unlock(rt, cell);
             Err(refused)
         }
     }
@@ -75,25 +75,25 @@ pub fn put_waiting<T: Drop, R: Wait>(
     ensures ok { IfOk result (λ r. r.name ≡ shared.now.slot.name) }
     ensures err { IfErr result (λ e. (unsent e ≡ message) × IsDisconnected e) }
 {
-    let (mut gate, mut cell) = shared.lock(rt);
+    let mut cell = shared.lock(rt);
     let mut message = message;
     for _ in rt.forever() {
         match cell.core.put(message) {
             Ok((receipt, debt)) => {
                 let owed = cell.owed(rt, debt);
-                shared.unlock(rt, gate, cell);
+                shared.unlock(rt, cell);
                 shared.tell();
                 settle(rt, owed);
                 return Ok(receipt);
             }
             Err(PutError::Gone(refused)) => {
-                shared.unlock(rt, gate, cell);
+                shared.unlock(rt, cell);
                 return Err(SendError::Disconnected(refused));
             }
             Err(PutError::Full(refused)) => message = refused,
             Err(PutError::OutOfMemory(_)) => unreachable!(),
         }
-        (gate, cell) = shared.wait(rt, gate, cell);
+        cell = shared.wait(rt, cell);
     }
     unreachable!()
 }
@@ -108,10 +108,10 @@ pub fn take<T: Drop, R: Wait>(
     ensures ok { IfOk result (λ _. twin.new ≡ record twin.old { number = twin.old.number + 1 }) }
     ensures err { IfErr result (λ _. twin.new ≡ twin.old) }
 {
-    let (gate, mut cell) = shared.lock(rt);
+    let mut cell = shared.lock(rt);
     let message = cell.core.take(twin);
     let closed = cell.core.is_closed();
-    shared.unlock(rt, gate, cell);
+    shared.unlock(rt, cell);
     shared.tell();
     match message {
         Some(message) => Ok(message),
@@ -130,18 +130,18 @@ pub fn take_waiting<T: Drop, R: Wait>(
     ensures ok { IfOk result (λ _. twin.new ≡ record twin.old { number = twin.old.number + 1 }) }
     ensures err { IfErr result (λ _. twin.new ≡ twin.old) }
 {
-    let (mut gate, mut cell) = shared.lock(rt);
+    let mut cell = shared.lock(rt);
     for _ in rt.forever() {
         if let Some(message) = cell.core.take(twin) {
-            shared.unlock(rt, gate, cell);
+            shared.unlock(rt, cell);
             shared.tell();
             return Ok(message);
         }
         if cell.core.is_closed() {
-            shared.unlock(rt, gate, cell);
+            shared.unlock(rt, cell);
             return Err(RecvError);
         }
-        (gate, cell) = shared.wait(rt, gate, cell);
+        cell = shared.wait(rt, cell);
     }
     unreachable!()
 }
@@ -159,9 +159,9 @@ pub fn open_turn<T: Drop, R: Wait>(
     ensures err { IfErr result (λ refused. (refused ≡ record pass { refused = Some twin.old.name })
         × (twin.new ≡ twin.old)) }
 {
-    let (gate, mut cell) = shared.lock(rt);
+    let mut cell = shared.lock(rt);
     let opened = cell.core.open_turn(pass, twin);
-    shared.unlock(rt, gate, cell);
+    shared.unlock(rt, cell);
     opened
 }
 
@@ -178,9 +178,9 @@ pub fn pop<T: Drop, R: Wait>(
     ensures turn { turn.new ≡ turn_after_pop result turn.old }
     ensures twin { twin.new ≡ twin_after_pop result twin.old }
 {
-    let (gate, mut cell) = shared.lock(rt);
+    let mut cell = shared.lock(rt);
     let popped = cell.core.pop(turn, twin);
-    shared.unlock(rt, gate, cell);
+    shared.unlock(rt, cell);
     shared.tell();
     popped
 }
@@ -190,9 +190,9 @@ pub fn end_turn<T: Drop, R: Wait>(rt: &R, shared: &Locked<ChannelCell<T>>, turn:
     requires name { turn.name ≡ shared.now.slot.name }
     requires over { (turn.left ≡ 0) ⊎ (turn.done ≡ true) }
 {
-    let (gate, mut cell) = shared.lock(rt);
+    let mut cell = shared.lock(rt);
     let debt = cell.core.end_turn(turn);
     let owed = cell.owed(rt, debt);
-    shared.unlock(rt, gate, cell);
+    shared.unlock(rt, cell);
     settle(rt, owed);
 }

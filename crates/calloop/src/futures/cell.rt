@@ -14,7 +14,7 @@ use calloop_wake::wake::locked::Locked;
 use calloop_wake::wake::tasks::TaskKey;
 use calloop_wake::wake::{Receipt, ReceivingRight, TakenPass, Twin};
 use std::alloc::Global;
-use std::sync::{MutexGuard, Wait};
+use std::sync::Wait;
 
 /// What an executor shares with its schedulers and its wakers.
 pub type TaskCell = Cell<ExecutorCore>;
@@ -36,17 +36,17 @@ pub fn put<R: Wait>(
 ) -> Result<(TaskKey, Receipt), PutRefusal>
     ensures { IfOk result (λ put. put.1.name ≡ shared.now.slot) }
 {
-    let (gate, mut cell) = shared.lock(rt);
+    let mut cell = shared.lock(rt);
     match cell.core.put(home) {
         Ok(put) => {
             let PutTask { key, receipt, debt } = put;
             let owed = cell.owed(rt, debt);
-            shared.unlock(rt, gate, cell);
+            shared.unlock(rt, cell);
             settle(rt, owed);
             Ok((key, receipt))
         }
         Err(refusal) => {
-            shared.unlock(rt, gate, cell);
+            shared.unlock(rt, cell);
             Err(refusal)
         }
     }
@@ -54,10 +54,10 @@ pub fn put<R: Wait>(
 
 /// Wakes a task.
 pub fn wake<R: Wait>(rt: &R, shared: &Locked<TaskCell>, key: TaskKey) {
-    let (gate, mut cell) = shared.lock(rt);
+    let mut cell = shared.lock(rt);
     let debt = cell.core.wake(key);
     let owed = cell.owed(rt, debt);
-    shared.unlock(rt, gate, cell);
+    shared.unlock(rt, cell);
     settle(rt, owed);
 }
 
@@ -75,29 +75,25 @@ pub fn open_turn<R: Wait>(
     ensures err { IfErr result (λ refused. (refused ≡ record pass { refused = Some twin.old.name })
         × (twin.new ≡ twin.old)) }
 {
-    let (gate, mut cell) = shared.lock(rt);
+    let mut cell = shared.lock(rt);
     let opened = cell.core.open_turn(pass, twin);
-    shared.unlock(rt, gate, cell);
+    shared.unlock(rt, cell);
     opened
 }
 
 // Takes the lock, once the turn is the one that stands open in the cell. It is so at once: who has the turn alone moves it on.
-fn lock_at<'a, R: Wait>(
-    rt: &R,
-    shared: &'a Locked<TaskCell>,
-    turn: &TaskTurn,
-) -> (MutexGuard<'a, ()>, TaskCell)
-    ensures name { result.1.core.name ≡ shared.now.slot }
-    ensures at { (result.1.core.draining ≡ true) × (turn.now.progress ≡ result.1.core.progress) }
-    ensures keyed { (place : Keyed) → on result.1.core.board result.1.core.key ≡ Some place
-        → option_map arc_value result.1.hub ≡ Some place.board }
+fn lock_at<R: Wait>(rt: &R, shared: &Locked<TaskCell>, turn: &TaskTurn) -> TaskCell
+    ensures name { result.core.name ≡ shared.now.slot }
+    ensures at { (result.core.draining ≡ true) × (turn.now.progress ≡ result.core.progress) }
+    ensures keyed { (place : Keyed) → on result.core.board result.core.key ≡ Some place
+        → option_map arc_value result.hub ≡ Some place.board }
 {
     for _ in rt.forever() {
-        let (gate, cell) = shared.lock(rt);
+        let cell = shared.lock(rt);
         if cell.core.is_at(turn) {
-            return (gate, cell);
+            return cell;
         }
-        shared.unlock(rt, gate, cell);
+        shared.unlock(rt, cell);
     }
     unreachable!()
 }
@@ -121,9 +117,9 @@ pub fn pop<R: Wait>(
     ensures none { IfNone result (turn.new.progress.dry ≡ true) }
     ensures twin { twin.new ≡ record twin.old { number = twin.old.number + one finished } }
 {
-    let (gate, mut cell) = lock_at(rt, shared, turn);
+    let mut cell = lock_at(rt, shared, turn);
     let popped = cell.core.pop(turn, twin, finished);
-    shared.unlock(rt, gate, cell);
+    shared.unlock(rt, cell);
     popped
 }
 
@@ -140,9 +136,9 @@ pub fn end_turn<R: Wait>(
     requires finishes { finished ≡ true → IsSome turn.progress.polled }
     ensures twin { twin.new ≡ record twin.old { number = twin.old.number + one finished } }
 {
-    let (gate, mut cell) = lock_at(rt, shared, &turn);
+    let mut cell = lock_at(rt, shared, &turn);
     let debt = cell.core.end_turn(turn, twin, finished);
     let owed = cell.owed(rt, debt);
-    shared.unlock(rt, gate, cell);
+    shared.unlock(rt, cell);
     settle(rt, owed);
 }

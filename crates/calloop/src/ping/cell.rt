@@ -23,10 +23,10 @@ pub fn locked() -> (Locked<PingCell>, ReceivingRight)
 pub fn ring<R: Wait>(rt: &R, shared: &Locked<PingCell>) -> Receipt
     ensures { result.name ≡ shared.now.slot }
 {
-    let (gate, mut cell) = shared.lock(rt);
+    let mut cell = shared.lock(rt);
     let (receipt, debt) = cell.core.ring();
     let owed = cell.owed(rt, debt);
-    shared.unlock(rt, gate, cell);
+    shared.unlock(rt, cell);
     settle(rt, owed);
     receipt
 }
@@ -45,9 +45,9 @@ pub fn open_turn<R: Wait>(
     ensures err { IfErr result (λ refused. (refused ≡ record pass { refused = Some twin.old.name })
         × (twin.new ≡ twin.old)) }
 {
-    let (gate, mut cell) = shared.lock(rt);
+    let mut cell = shared.lock(rt);
     let opened = cell.core.open_turn(pass, twin);
-    shared.unlock(rt, gate, cell);
+    shared.unlock(rt, cell);
     opened
 }
 
@@ -55,9 +55,9 @@ pub fn open_turn<R: Wait>(
 pub fn end_turn<R: Wait>(rt: &R, shared: &Locked<PingCell>, turn: PingTurn)
     requires { turn.name ≡ shared.now.slot }
 {
-    let (gate, mut cell) = shared.lock(rt);
+    let mut cell = shared.lock(rt);
     let debt = cell.core.end_turn(turn);
     let owed = cell.owed(rt, debt);
-    shared.unlock(rt, gate, cell);
+    shared.unlock(rt, cell);
     settle(rt, owed);
 }

@@ -1,10 +1,10 @@
 //! The board of posted keys under its lock, with what wakes the poller that looks at it.
-ghost use Rattle.std.specs.Prelude.{◌≡◌, ◌≢◌, ◌+◌, ◌-◌, ◌^◌, ◌≤◌, [], IfOk, IfErr, is_none};
+ghost use Rattle.std.specs.Prelude.{◌≡◌, ◌≢◌, ◌+◌, ◌-◌, ◌^◌, ◌≤◌, [], IfOk, IfErr, is_none, if◌then◌else◌};
 ghost use Rattle.std.specs.Arc.{arc_value};
 ghost use Rattle.std.specs.VecDeque.{deque_len, deque_capacity};
 ghost use Rattle.calloop_wake.specs.Tokens.{key_of};
 ghost use Rattle.calloop_wake.specs.Watches.{noted};
-ghost use Rattle.calloop_wake.specs.declared.wake.notes.Note.TheVariants.{Counted, Looked};
+ghost use Rattle.calloop_wake.specs.declared.wake.notes.Note.TheVariants.{Counted, Looked, Unposted};
 ghost use Rattle.calloop_wake.specs.declared.error.Error.TheVariants.{OutOfMemory as MemoryError};
 ghost use Rattle.calloop_core.specs.Hubs.{HasUnposted};
 ghost use Rattle.calloop_core.specs.Polls.{CannotOpen};
@@ -76,9 +76,9 @@ impl Hub {
         ensures ok { IfOk result (λ pass. pass ≡ record { key = key_of token; board = self.now }) }
         ensures err { IfErr result CannotOpen }
     {
-        let (gate, mut board) = self.board.lock(rt);
+        let mut board = self.board.lock(rt);
         let opened = board.open_place(token.key());
-        self.board.unlock(rt, gate, board);
+        self.board.unlock(rt, board);
         match opened {
             Ok(pass) => Ok(pass),
             Err(OpenRefusal::AlreadyExists) => Err(Error::IoError(io::Error::from(
@@ -92,18 +92,18 @@ impl Hub {
     pub fn close_place<R: Wait>(&self, rt: &R, leave: LeaveToClose)
         requires { leave.board ≡ self.now }
     {
-        let (gate, mut board) = self.board.lock(rt);
+        let mut board = self.board.lock(rt);
         board.close_place(leave);
-        self.board.unlock(rt, gate, board);
+        self.board.unlock(rt, board);
     }
 
     /// Posts the key of a debt to this board, and spends the nudge that this gives, outside the lock. It takes no memory.
     pub fn settle<R: Wait>(&self, rt: &R, debt: Debt)
         requires { debt.board ≡ self.now }
     {
-        let (gate, mut board) = self.board.lock(rt);
+        let mut board = self.board.lock(rt);
         let nudge = board.post(debt);
-        self.board.unlock(rt, gate, board);
+        self.board.unlock(rt, board);
         if let Some(nudge) = nudge {
             nudge.spend(&self.notifier);
         }
@@ -114,9 +114,9 @@ impl Hub {
         requires { watch.old.name ≡ self.now }
         ensures { watch.new ≡ noted (Looked (is_none result)) watch.old }
     {
-        let (gate, board) = self.board.lock(rt);
-        let leave = board.look(watch);
-        self.board.unlock(rt, gate, board);
+        let reading = self.board.read(rt);
+        let leave = reading.core().look(watch);
+        reading.end();
         leave
     }
 
@@ -124,10 +124,21 @@ impl Hub {
     pub fn places<R: Wait>(&self, rt: &R) -> OpenPlaces
         ensures { result.name ≡ self.now }
     {
-        let (gate, board) = self.board.lock(rt);
-        let places = board.places();
-        self.board.unlock(rt, gate, board);
+        let reading = self.board.read(rt);
+        let places = reading.core().places();
+        reading.end();
         places
+    }
+
+    /// Where no key is posted, has the watch note that none was taken, with room for so many. Else nothing changes.
+    pub fn unpost_none<R: Wait>(&self, rt: &R, room: usize, watch: &mut Watch) -> bool
+        requires { watch.old.name ≡ self.now }
+        ensures { watch.new ≡ (if result then noted (Unposted room []) watch.old else watch.old) }
+    {
+        let reading = self.board.read(rt);
+        let none = reading.core().unpost_none(room, watch);
+        reading.end();
+        none
     }
 
     /// Takes the posted keys, ascending, as many as there is room for, and appends a pass for each.
@@ -143,9 +154,9 @@ impl Hub {
         ensures keys { HasUnposted room watch.old watch.new passes.old.items passes.new.items (deque_len passes.old) (deque_len passes.new) }
         ensures capacity { deque_capacity passes.new ≡ deque_capacity passes.old }
     {
-        let (gate, mut board) = self.board.lock(rt);
+        let mut board = self.board.lock(rt);
         board.unpost(room, watch, passes, &mut Steps::new());
-        self.board.unlock(rt, gate, board);
+        self.board.unlock(rt, board);
     }
 }
 
@@ -154,6 +165,8 @@ impl Hub {
 pub struct WatchedHub {
     hub: SharedHub,
     watch: Watch,
+    // The last look found a posted key.
+    found: bool,
 }
 
 impl Model for WatchedHub {
@@ -176,7 +189,11 @@ impl WatchedHub {
     {
         let (hub, watch) = Hub::new(alloc, notifier);
         let hub = Arc::new(alloc, hub)?;
-        Ok(WatchedHub { hub, watch })
+        Ok(WatchedHub {
+            hub,
+            watch,
+            found: false,
+        })
     }
 
     /// The hub, to share.
@@ -190,7 +207,9 @@ impl WatchedHub {
     pub fn look<R: Wait>(&mut self, rt: &R) -> Option<LeaveToSleep>
         ensures { self.new ≡ noted (Looked (is_none result)) self.old }
     {
-        self.hub.look(rt, &mut self.watch)
+        let leave = self.hub.look(rt, &mut self.watch);
+        self.found = leave.is_none();
+        leave
     }
 
     /// How many places are open now.
@@ -214,6 +233,8 @@ impl WatchedHub {
         ensures keys { HasUnposted room self.old self.new passes.old.items passes.new.items (deque_len passes.old) (deque_len passes.new) }
         ensures capacity { deque_capacity passes.new ≡ deque_capacity passes.old }
     {
-        self.hub.unpost(rt, room, &mut self.watch, passes);
+        if self.found || !self.hub.unpost_none(rt, room, &mut self.watch) {
+            self.hub.unpost(rt, room, &mut self.watch, passes);
+        }
     }
 }

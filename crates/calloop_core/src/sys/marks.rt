@@ -78,9 +78,10 @@ impl Marks {
     pub fn take<R: Wait>(&self, rt: &R) -> Option<Vec<RegistrationToken>>
         ensures { IfSome result (λ marked. IsInSlotOrder marked.items) }
     {
-        if !self.any.swap(false, Ordering::SeqCst) {
+        if !self.any.load(Ordering::SeqCst) {
             return None;
         }
+        self.any.store(false, Ordering::SeqCst);
         let mut marked = self.exchange(rt);
         marked.sort_unstable();
         Some(marked)

@@ -45,7 +45,9 @@ impl LazyWaker {
 
     /// A wait has ended, which answers all notifications until now.
     pub fn get_up(&self) {
-        self.state.store(AWAKE, Ordering::SeqCst);
+        if self.state.load(Ordering::SeqCst) != AWAKE {
+            self.state.store(AWAKE, Ordering::SeqCst);
+        }
     }
 
     /// A wait failed: a notification stays for the next one.

@@ -197,14 +197,21 @@ impl Board {
         }
     }
 
+    /// Whether some key is marked.
+    pub(crate) fn any_marked(&self) -> bool
+        ensures { result ≡ any_marked self.now }
+    {
+        !self.posted.is_empty()
+    }
+
     /// Gives the leave to sleep where no key is marked.
     pub(crate) fn look(&self) -> Option<LeaveToSleep>
         ensures { is_some result ≡ not (any_marked self.now) }
     {
-        if self.posted.is_empty() {
-            Some(LeaveToSleep { of_wake: () })
-        } else {
+        if self.any_marked() {
             None
+        } else {
+            Some(LeaveToSleep { of_wake: () })
         }
     }
 

@@ -1,9 +1,12 @@
 //! A lock whose content keeps to one tag for good.
-ghost use Rattle.std.specs.Prelude.{◌≡◌};
+ghost use Rattle.std.specs.Prelude.{◌≡◌, ◌<◌, IfSome};
 
 use super::Last;
-use counted_slot::{Claim, Counted, FREE, Fits, TAKEN};
-use std::sync::{Condvar, Mutex, MutexGuard, Wait};
+use super::sleepers::Sleepers;
+use counted_slot::{Claim, Counted, FREE, Fits, MARKED, ONE_READER, PRESENT, TAKEN};
+use std::hint::spin_loop;
+use std::marker::Model;
+use std::sync::Wait;
 
 /// What lies under a lock. It has no `Drop`: who takes it out has to put it back.
 pub trait Core: Fits {
@@ -41,14 +44,26 @@ impl<X: Core> Drop for Kept<X> {
     }
 }
 
+// The words of a slot: its core lies in it, or somebody has the core. A new slot is `FREE`, and its core lies in it too; it is
+// `TAKEN` while its content is exchanged.
+const OPEN: u64 = PRESENT;
+
+const HELD: u64 = MARKED;
+
+const READ: u64 = PRESENT + ONE_READER;
+
+// How often who finds the lock held looks again before it sleeps.
+const LOOKS: u32 = 100;
+
 /// A lock, under the tag of its content. In a clause `slot` is the tag.
 ///
 /// Calloop's ends share an eventfd or a pipe, and the kernel keeps its state.
 #[derive(Drop)]
 pub struct Locked<X: Core> {
-    gate: Mutex<()>,
-    moved: Condvar,
     slot: Counted<Kept<X>>,
+    // Those that wait for the lock, and those that wait until the core was changed.
+    entering: Sleepers,
+    watching: Sleepers,
 }
 
 impl<X: Core> Locked<X> {
@@ -58,81 +73,177 @@ impl<X: Core> Locked<X> {
         ensures { result.slot ≡ tag.now }
     {
         Locked {
-            gate: Mutex::new(()),
-            moved: Condvar::new(),
             slot: Counted::new(Kept { core: Some(core) }, tag),
+            entering: Sleepers::none(),
+            watching: Sleepers::none(),
         }
+    }
+
+    // The right to write the slot, where its word is this one.
+    fn claim(&self, word: u64) -> Option<Claim<'_, Kept<X>>>
+        requires { word < 3 }
+        ensures { IfSome result (λ claim. (claim.right ≡ 2) × (claim.tag ≡ self.now.slot)) }
+    {
+        let (found, claim) = self.slot.turn(word, TAKEN);
+        if found == word {
+            Some(claim)
+        } else {
+            claim.done();
+            None
+        }
+    }
+
+    // Takes what lies under the lock, where its word is this one.
+    fn take(&self, word: u64) -> Option<X>
+        requires { word < 3 }
+        ensures { IfSome result (X.fits self.now.slot) }
+    {
+        self.claim(word)?.put(Kept { core: None }, HELD).into_core()
+    }
+
+    // Looks for a while whether the lock is free.
+    fn take_soon(&self) -> Option<X>
+        ensures { IfSome result (X.fits self.now.slot) }
+    {
+        for _ in 0..LOOKS {
+            let word = self.slot.load();
+            if word == OPEN || word == FREE {
+                if let Some(core) = self.take(word) {
+                    return Some(core);
+                }
+            }
+            spin_loop();
+        }
+        None
+    }
+
+    // Sleeps until the lock is free.
+    fn take_late<R: Wait>(&self, rt: &R) -> X
+        ensures { X.fits self.now.slot result }
+    {
+        self.entering.join();
+        for _ in rt.forever() {
+            let told = self.entering.told();
+            if let Some(core) = self.take_soon() {
+                self.entering.leave();
+                return core;
+            }
+            self.entering.sleep(rt, told);
+        }
+        unreachable!()
     }
 
     /// Takes the lock, and what lies under it. It waits while another has it.
-    pub fn lock<R: Wait>(&self, rt: &R) -> (MutexGuard<'_, ()>, X)
-        ensures { X.fits self.now.slot result.1 }
-    {
-        let gate = self.gate.lock(rt);
-        let core = self.take(rt);
-        (gate, core)
-    }
-
-    // The right to write the slot. Whoever has the gate finds it free.
-    fn claim<R: Wait>(&self, rt: &R) -> Claim<'_, Kept<X>>
-        ensures right { result.right ≡ 2 }
-        ensures tag { result.tag ≡ self.now.slot }
-    {
-        for _ in rt.forever() {
-            let (found, claim) = self.slot.turn(FREE, TAKEN);
-            if found == FREE {
-                return claim;
-            }
-            claim.done();
-        }
-        unreachable!()
-    }
-
-    fn take<R: Wait>(&self, rt: &R) -> X
+    pub fn lock<R: Wait>(&self, rt: &R) -> X
         ensures { X.fits self.now.slot result }
     {
-        for _ in rt.forever() {
-            let kept = self.claim(rt).put(Kept { core: None }, FREE);
-            if let Some(core) = kept.into_core() {
-                return core;
-            }
+        if let Some(core) = self.take(OPEN) {
+            return core;
         }
-        unreachable!()
-    }
-
-    fn give<R: Wait>(&self, rt: &R, core: X)
-        requires { X.fits self.now.slot core }
-    {
-        drop(self.claim(rt).put(Kept { core: Some(core) }, FREE));
+        match self.take_soon() {
+            Some(core) => core,
+            None => self.take_late(rt),
+        }
     }
 
     /// Puts the core back, and gives the lock up.
-    pub fn unlock<R: Wait>(&self, rt: &R, gate: MutexGuard<'_, ()>, core: X)
+    pub fn unlock<R: Wait>(&self, rt: &R, core: X)
         requires { X.fits self.now.slot core }
     {
-        self.give(rt, core);
-        drop(gate);
+        for _ in rt.forever() {
+            if let Some(claim) = self.claim(HELD) {
+                drop(claim.put(Kept { core: Some(core) }, OPEN));
+                self.entering.tell_one();
+                return;
+            }
+        }
+        unreachable!()
     }
 
-    /// Puts the core back, gives the lock up, and waits until somebody tells that the core was changed. Then it has the lock and
-    /// what lies under it again.
-    pub fn wait<'a, R: Wait>(
-        &'a self,
-        rt: &R,
-        gate: MutexGuard<'a, ()>,
-        core: X,
-    ) -> (MutexGuard<'a, ()>, X)
-        requires { X.fits self.now.slot core }
-        ensures { X.fits self.now.slot result.1 }
+    // The right to read what lies under the lock, where it is free and nobody reads.
+    fn try_read(&self) -> Option<Reading<'_, X>>
+        ensures { IfSome result (λ reading. reading ≡ self.now.slot) }
     {
-        self.give(rt, core);
-        let gate = self.moved.wait(rt, gate);
-        let core = self.take(rt);
-        (gate, core)
+        let (found, claim) = self.slot.turn(OPEN, READ);
+        if found != OPEN {
+            claim.done();
+            return None;
+        }
+        if claim.get().core.is_none() {
+            claim.leave();
+            return None;
+        }
+        Some(Reading {
+            claim,
+            entering: &self.entering,
+        })
     }
 
-    /// Tells all that wait that the core was changed.
+    /// Reads what lies under the lock. It waits while another has it, or reads.
+    pub fn read<R: Wait>(&self, rt: &R) -> Reading<'_, X>
+        ensures { result ≡ self.now.slot }
+    {
+        for _ in rt.forever() {
+            if let Some(reading) = self.try_read() {
+                return reading;
+            }
+            let core = self.lock(rt);
+            self.unlock(rt, core);
+        }
+        unreachable!()
+    }
+
+    /// Puts the core back, gives the lock up, and waits until somebody tells that the core was changed, or for less. Then it has the
+    /// lock and what lies under it again.
+    pub fn wait<R: Wait>(&self, rt: &R, core: X) -> X
+        requires { X.fits self.now.slot core }
+        ensures { X.fits self.now.slot result }
+    {
+        self.watching.join();
+        let told = self.watching.told();
+        self.unlock(rt, core);
+        self.watching.sleep(rt, told);
+        self.watching.leave();
+        self.lock(rt)
+    }
+
+    /// Tells all that wait that the core was changed. Who changed it has given the lock up before.
     pub fn tell(&self) {
-        self.moved.notify_all();
+        self.watching.tell_all();
+    }
+}
+
+/// What lies under a lock while it is read. It stays there, so a reading costs less than the lock. In a clause it is the tag.
+pub struct Reading<'a, X: Core> {
+    claim: Claim<'a, Kept<X>>,
+    entering: &'a Sleepers,
+}
+
+impl<'a, X: Core> Model for Reading<'a, X> {
+    ghost use Rattle.std.specs.Prelude.{◌≡◌, IfSome, IsSome};
+
+    ghost Value = { X.Tag };
+
+    ghost view = { λ r. r.claim.tag };
+
+    ghost invariant = { λ r. (r.claim.right ≡ 1) × IfSome r.claim.value (λ kept. IsSome kept.core) };
+}
+
+impl<'a, X: Core> Reading<'a, X> {
+    /// What is read.
+    pub fn core(&self) -> &X
+        ensures { X.fits self.now result.now }
+    {
+        match &self.claim.get().core {
+            Some(core) => core,
+            None => unreachable!(),
+        }
+    }
+
+    /// Ends the reading.
+    pub fn end(self) {
+        let Reading { claim, entering } = self;
+        claim.leave();
+        entering.tell_one();
     }
 }

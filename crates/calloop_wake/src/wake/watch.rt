@@ -156,6 +156,19 @@ impl WatchedBoard {
         self.board.look()
     }
 
+    /// Where no key is marked, has the watch note that none was taken, with room for so many. Else nothing changes.
+    pub fn unpost_none(&self, room: usize, watch: &mut Watch) -> bool
+        requires { watch.old.name ≡ self.now.name }
+        ensures gives { result ≡ not (any_marked self.now.places) }
+        ensures watch { watch.new ≡ (if result then noted (Unposted room []) watch.old else watch.old) }
+    {
+        let none = !self.board.any_marked();
+        if none {
+            watch.notes = watch.notes.and_unposted(&self.board, room);
+        }
+        none
+    }
+
     /// Takes the marked keys, ascending, as many as there is room for, appends a pass for each, and has the watch note them. It looks
     /// up as many places as there were marked keys.
     pub fn unpost(

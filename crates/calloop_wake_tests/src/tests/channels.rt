@@ -264,9 +264,9 @@ impl Mail {
     fn registers<R: Wait>(&mut self, rt: &R, key: u64) -> bool
         requires { key < 2 ^ 64 - 1 }
     {
-        let (gate, mut board) = self.board.lock(rt);
+        let mut board = self.board.lock(rt);
         let opened = board.open_place(key);
-        self.board.unlock(rt, gate, board);
+        self.board.unlock(rt, board);
         match opened {
             Ok(pass) => {
                 let (debt, leave) = self.core.set_key(pass, &mut self.twin);
@@ -568,9 +568,9 @@ impl Inbox {
 
     fn leave<R: Wait>(self, rt: &R) {
         let Inbox { lock, twin, board } = self;
-        let (gate, mut cell) = lock.lock(rt);
+        let mut cell = lock.lock(rt);
         let leave = cell.core.abandon(twin);
-        lock.unlock(rt, gate, cell);
+        lock.unlock(rt, cell);
         close(rt, &board, leave);
     }
 }
@@ -580,16 +580,16 @@ fn receive<R: Wait>(rt: &R, lock: &Locked<Keyless>, twin: &mut Twin) -> u64
     requires { twin.old.name ≡ lock.now.slot.name }
     ensures { twin.new.name ≡ lock.now.slot.name }
 {
-    let (mut gate, mut cell) = lock.lock(rt);
+    let mut cell = lock.lock(rt);
     for _ in rt.forever() {
         if let Some(message) = cell.core.take(twin) {
-            lock.unlock(rt, gate, cell);
+            lock.unlock(rt, cell);
             lock.tell();
             return message;
         }
-        (gate, cell) = lock.wait(rt, gate, cell);
+        cell = lock.wait(rt, cell);
     }
-    lock.unlock(rt, gate, cell);
+    lock.unlock(rt, cell);
     unreachable!()
 }
 
@@ -597,16 +597,16 @@ fn receive<R: Wait>(rt: &R, lock: &Locked<Keyless>, twin: &mut Twin) -> u64
 fn put_message<R: Wait>(rt: &R, lock: &Locked<Keyless>, message: u64) -> Option<Debt>
     ensures { result ≡ None }
 {
-    let (mut gate, mut cell) = lock.lock(rt);
+    let mut cell = lock.lock(rt);
     for _ in rt.forever() {
         if let Ok((_receipt, debt)) = cell.core.put(message) {
-            lock.unlock(rt, gate, cell);
+            lock.unlock(rt, cell);
             lock.tell();
             return debt;
         }
-        (gate, cell) = lock.wait(rt, gate, cell);
+        cell = lock.wait(rt, cell);
     }
-    lock.unlock(rt, gate, cell);
+    lock.unlock(rt, cell);
     unreachable!()
 }
 

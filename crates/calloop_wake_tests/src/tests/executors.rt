@@ -218,9 +218,9 @@ impl Crew {
     fn registers<R: Wait>(&mut self, rt: &R, key: u64) -> bool
         requires { key < 2 ^ 64 - 1 }
     {
-        let (gate, mut board) = self.board.lock(rt);
+        let mut board = self.board.lock(rt);
         let opened = board.open_place(key);
-        self.board.unlock(rt, gate, board);
+        self.board.unlock(rt, board);
         match opened {
             Ok(pass) => {
                 let (debt, leave) = self.core.set_key(pass, &mut self.twin);
