@@ -27,8 +27,6 @@ use Rattle.std.specs.Prelude.{
 use Rattle.std.specs.declared.io.Error.{Error as Cause}
 use Rattle.std.specs.declared.io.ErrorKind.TheVariants.{Interrupted}
 use Rattle.std.specs.IoError.{error_kind}
-use Rattle.calloop_wake.specs.declared.error.Error.{Error}
-use Rattle.calloop_wake.specs.declared.error.Error.TheVariants.{IoError}
 use Rattle.calloop_wake.specs.declared.wheel.Entry.{Entry}
 use Rattle.calloop_core.specs.Batches.{ArePosted}
 use Rattle.calloop_wake.specs.Watches.{noted}
@@ -105,12 +103,11 @@ Waited {P} O v timeout answer given q w =
     × (w ≡ looked interruptions (noted (Looked posted) v.watch)) × (O.faults q ≡ O.faults v.poller + faults_of answer)
 
 -- a wait and, where it had no fault, the gathering, of the keys that the board then gives, ascending
-abbrev pub Polled : {P : Type 0} → Outside P → (timeout : Option ℕ) → Result (Unit {0}) Error → PollView P → PollView P
+abbrev pub Polled : {P : Type 0} → Outside P → (timeout : Option ℕ) → Result (Unit {0}) Cause → PollView P → PollView P
     → Type 0
 Polled {P} O timeout (Ok u) v v' =
     (now : ℕ) × (given : List (ℕ × Readiness)) × (p : P) × (w : Watch) × Waited O v timeout (Ok now) given p w
     × (posted : List ℕ) × ArePosted v.places posted × (v' ≡ gathered posted given now (watching w (polling p v)))
-Polled {P} O timeout (Err e) v v' =
-    (given : List (ℕ × Readiness)) × (p : P) × (w : Watch) × (cause : Cause) × (e ≡ IoError cause)
-    × Waited O v timeout (Err cause) given p w
+Polled {P} O timeout (Err cause) v v' =
+    (given : List (ℕ × Readiness)) × (p : P) × (w : Watch) × Waited O v timeout (Err cause) given p w
     × (v' ≡ watching w (polling p v))

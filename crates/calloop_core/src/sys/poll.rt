@@ -1,5 +1,5 @@
 //! What sources register with: the poller, the hub of pings, the deadlines of timers, and the batch of events.
-ghost use Rattle.std.specs.Prelude.{drop, ◌≡◌, ℕ, ◌+◌, ◌≤◌, [], List, None, length, vec_len, vec_capacity, OnOk, IfOk, IfErr, IfSome};
+ghost use Rattle.std.specs.Prelude.{drop, ◌≡◌, ℕ, ◌+◌, ◌≤◌, [], List, None, length, vec_len, vec_capacity, OnOk, OnErr, IfOk, IfErr, IfSome};
 ghost use Rattle.std.specs.Borrow.{Lends, sem};
 ghost use Rattle.calloop_wake.specs.declared.error.Error.TheVariants.{OutOfMemory};
 ghost use Rattle.calloop_core.specs.Batches.{ArePosted};
@@ -16,11 +16,11 @@ use super::hub::{SharedHub, WatchedHub};
 use super::marks::{Marks, SharedMarks};
 use super::{EVENTS_PER_WAIT, Poller, Readiness, Watched};
 use batch::Batch;
-use calloop_wake::error::{Error, Result};
+use calloop_wake::error::Result;
 use calloop_wake::token::{RegistrationToken, Token};
 use calloop_wake::wake::TakenPass;
 use calloop_wake::wheel::{Instant, TimerWheel};
-use std::alloc::Global;
+use std::alloc::{AllocError, Global};
 use std::collections::BTreeMap;
 use std::sync::{Arc, Wait};
 
@@ -163,17 +163,17 @@ impl<P: Poller, C, R: Wait + Drop> Poll<P, C, R> {
             .checked_add(more)
     }
 
-    /// Counts the places on the board, and reserves what one `poll` can gather, and `more` events besides. Want of memory is
-    /// `OutOfMemory`, and changes nothing.
-    pub fn reserve(&mut self, more: usize) -> Result<()>
+    /// Counts the places on the board, and reserves what one `poll` can gather, and `more` events besides. Want of memory changes
+    /// nothing.
+    pub fn reserve(&mut self, more: usize) -> std::result::Result<(), AllocError>
         ensures ok { OnOk result ((places : ℕ) × (poll_view self.new ≡ counted places (poll_view self.old))) }
         ensures ready { OnOk result (IsReady more self.new) }
-        ensures err { IfErr result (λ e. (e ≡ OutOfMemory) × (poll_view self.new ≡ poll_view self.old)) }
+        ensures err { OnErr result (poll_view self.new ≡ poll_view self.old) }
     {
         let places = self.batch.places(&self.rt);
         let number = places.number();
         let Some(room) = self.room(number, more) else {
-            return Err(Error::OutOfMemory);
+            return Err(AllocError);
         };
         self.events.clear();
         self.batch.reserve(room, number)?;

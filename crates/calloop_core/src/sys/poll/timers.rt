@@ -1,21 +1,20 @@
 //! The deadlines of timers.
 ghost use Rattle.std.specs.Prelude.{◌≡◌, false, IfOk, IfErr, OnOk};
-ghost use Rattle.calloop_wake.specs.Deadlines.{is_armed, CannotArm, CannotArmAgain};
+ghost use Rattle.calloop_wake.specs.Deadlines.{is_armed, arm_error, CannotArm, CannotArmAgain};
 ghost use Rattle.calloop_core.specs.Polls.{poll_view, poll_after, Allowed, Arm, ArmAgain, Cancel, ReadClock};
 
 use super::Poll;
 use crate::sys::Poller;
-use calloop_wake::error::Result;
 use calloop_wake::token::Token;
-use calloop_wake::wheel::Instant;
+use calloop_wake::wheel::{ArmRefusal, Instant};
 use std::sync::Wait;
 
 impl<P: Poller, C, R: Wait + Drop> Poll<P, C, R> {
     /// Arms a deadline under the next counter, which it gives. The refusals are those of `TimerWheel::insert`, and change
     /// nothing.
-    pub fn insert_timer(&mut self, deadline: Instant, token: Token) -> Result<u64>
+    pub fn insert_timer(&mut self, deadline: Instant, token: Token) -> Result<u64, ArmRefusal>
         ensures ok { IfOk result (λ counter. (counter ≡ (poll_view self.old).deadlines.next) × (poll_view self.new ≡ poll_after (poll_view self.old) (Arm deadline token))) }
-        ensures err { IfErr result (λ e. CannotArm (poll_view self.old).deadlines.next e × (poll_view self.new ≡ poll_view self.old)) }
+        ensures err { IfErr result (λ e. CannotArm (poll_view self.old).deadlines.next (arm_error e) × (poll_view self.new ≡ poll_view self.old)) }
     {
         self.wheel.insert(deadline, token)
     }
@@ -27,10 +26,10 @@ impl<P: Poller, C, R: Wait + Drop> Poll<P, C, R> {
         counter: u64,
         deadline: Instant,
         token: Token,
-    ) -> Result<()>
+    ) -> Result<(), ArmRefusal>
         requires { is_armed counter (poll_view self.old).deadlines ≡ false }
         ensures ok { OnOk result (Allowed P.outside (poll_view self.old) (ArmAgain counter deadline token) × (poll_view self.new ≡ poll_after (poll_view self.old) (ArmAgain counter deadline token))) }
-        ensures err { IfErr result (λ e. CannotArmAgain counter (poll_view self.old).deadlines e × (poll_view self.new ≡ poll_view self.old)) }
+        ensures err { IfErr result (λ e. CannotArmAgain counter (poll_view self.old).deadlines (arm_error e) × (poll_view self.new ≡ poll_view self.old)) }
     {
         self.wheel.insert_reuse(counter, deadline, token)
     }

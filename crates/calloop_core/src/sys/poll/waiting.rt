@@ -7,7 +7,6 @@ ghost use Rattle.calloop_core.specs.Waits.{IsInterruption, asked_for, is_zero, l
 
 use super::Poll;
 use crate::sys::Poller;
-use calloop_wake::error::Result;
 use calloop_wake::wake::LeaveToSleep;
 use calloop_wake::wheel::Instant;
 use std::io;
@@ -115,9 +114,9 @@ impl<P: Poller, C, R: Wait + Drop> Poll<P, C, R> {
     /// over or a posted key stands. Then it puts the batch together: what was left over, the posted keys in ascending
     /// order, what the poller gave in its order, and the timers that are due, by deadline and counter.
     ///
-    /// An interruption asks anew, for what is left of the timeout since the start. A fault of the wait is `IoError`; then
+    /// An interruption asks anew, for what is left of the timeout since the start. A fault of the wait is its error; then
     /// the batch, the posted keys and the deadlines are as they were.
-    pub fn poll<Q: Wait>(&mut self, rt: &Q, timeout: Option<Duration>) -> Result<()>
+    pub fn poll<Q: Wait>(&mut self, rt: &Q, timeout: Option<Duration>) -> io::Result<()>
         requires { IsReady 0 self.old }
         ensures { Polled P.outside (nanos_of timeout) result (poll_view self.old) (poll_view self.new) }
     {
