@@ -1,7 +1,8 @@
 -- Steps of a dispatch, one after the other.
 use Rattle.std.proofs.Common.{◌≡◌, ℕ, ◌+◌, length, drop, arith, List, [], ◌∷◌, ◌++◌, refl, ap, sym, ◌∙◌, subst, Some, None, Option, Result, Ok, Err, inl, inr, Bool, true, false, if◌then◌else◌}
+use Rattle.std.specs.declared.io.Error.{Error as Cause}
 use Rattle.calloop_wake.specs.declared.error.Error.{Error}
-use Rattle.calloop_wake.specs.declared.error.Error.TheVariants.{OutOfMemory}
+use Rattle.calloop_wake.specs.declared.error.Error.TheVariants.{IoError, OutOfMemory}
 use Rattle.calloop_wake.specs.declared.list.Content.{Content}
 use Rattle.calloop_wake.specs.declared.list.Content.TheVariants.{Vacant, Source, InTurn}
 use Rattle.calloop_wake.specs.declared.list.Slot.{Slot}
@@ -154,10 +155,10 @@ module _ {D I P X : Type 0} (M : Meaning D P (Lent X (Asks D I))) (runs : Runs D
       (goes_by (Gathering now given x) told (Gathered h.5 given now ∷ []) u (record v { poll = p' }) (h.5, refl, refl) (h.6, tt)
       (ap (λ (q : PollView P). record v { poll = q }) h.7))
 
-  pub not_polled : (v : View D I P) (p' : PollView P) (timeout : Option ℕ) (x : X) (e : Error) → Polled O timeout (Err e) v.poll p' → Goes M runs O (Waiting timeout x) (Leaving (Err e) x) v (record v { poll = p' })
-  not_polled v p' timeout x e h =
-      goes_by (Waiting timeout x) (Leaving (Err e) x) (Polling h.1 ∷ Watching h.2 ∷ []) v (record v { poll = p' }) (Err h.3, h.0, h.1, h.2, h.5, refl, ap (λ (r : Error). Leaving (Err r) x) h.4) (tt, (tt, tt))
-      (ap (λ (q : PollView P). record v { poll = q }) h.6)
+  pub not_polled : (v : View D I P) (p' : PollView P) (timeout : Option ℕ) (x : X) (cause : Cause) → Polled O timeout (Err cause) v.poll p' → Goes M runs O (Waiting timeout x) (Leaving (Err (IoError cause)) x) v (record v { poll = p' })
+  not_polled v p' timeout x cause h =
+      goes_by (Waiting timeout x) (Leaving (Err (IoError cause)) x) (Polling h.1 ∷ Watching h.2 ∷ []) v (record v { poll = p' }) (Err cause, h.0, h.1, h.2, h.3, refl, refl) (tt, (tt, tt))
+      (ap (λ (q : PollView P). record v { poll = q }) h.4)
 
   -- a batch without events
   pub no_event : (v : View D I P) (x : X) → None ≡ head_of v.poll.batch → Goes M runs O (Cutting x) (Idling x) v (record v { poll = cut v.poll })

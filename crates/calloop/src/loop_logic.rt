@@ -8,7 +8,7 @@ use calloop_core::sources::{
 use calloop_core::sys::events::EventIterator;
 use calloop_core::sys::poll::Poll;
 use calloop_core::sys::{Clock, Poller, Readiness};
-use calloop_wake::error::{InsertError, Result};
+use calloop_wake::error::{Error, Failed, InsertError, Result};
 use calloop_wake::list::SourceList;
 use calloop_wake::token::{RegistrationToken, Token, TokenFactory};
 use lifecycle::Lifecycle;
@@ -157,16 +157,30 @@ where
 
     ghost means = { seen_as (λ s. s.held) A.means };
 
-    fn register(&mut self, poll: &mut Poll<P, C, R>, factory: &mut TokenFactory) -> Result<()> {
-        self.held.register(poll, factory)
+    fn register(
+        &mut self,
+        poll: &mut Poll<P, C, R>,
+        factory: &mut TokenFactory,
+        failure: &mut Error,
+    ) -> std::result::Result<(), Failed> {
+        self.held.register(poll, factory, failure)
     }
 
-    fn reregister(&mut self, poll: &mut Poll<P, C, R>, factory: &mut TokenFactory) -> Result<()> {
-        self.held.reregister(poll, factory)
+    fn reregister(
+        &mut self,
+        poll: &mut Poll<P, C, R>,
+        factory: &mut TokenFactory,
+        failure: &mut Error,
+    ) -> std::result::Result<(), Failed> {
+        self.held.reregister(poll, factory, failure)
     }
 
-    fn unregister(&mut self, poll: &mut Poll<P, C, R>) -> Result<()> {
-        self.held.unregister(poll)
+    fn unregister(
+        &mut self,
+        poll: &mut Poll<P, C, R>,
+        failure: &mut Error,
+    ) -> std::result::Result<(), Failed> {
+        self.held.unregister(poll, failure)
     }
 
     fn process_events(
@@ -176,9 +190,10 @@ where
         poll: &mut Poll<P, C, R>,
         data: &mut X,
         requests: &mut Requests<Sources<A, X, I>, I>,
-    ) -> Result<PostAction> {
+        failure: &mut Error,
+    ) -> std::result::Result<PostAction, Failed> {
         self.held
-            .process_events(readiness, token, poll, data, requests)
+            .process_events(readiness, token, poll, data, requests, failure)
     }
 
     fn needs_extra_lifecycle_events(&self) -> bool {

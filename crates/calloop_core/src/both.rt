@@ -3,15 +3,15 @@ ghost use Rattle.std.specs.Prelude.{◌≡◌, ◌^◌, ◌<◌, List};
 ghost use Rattle.calloop_core.specs.Polls.{PollStep, poll_view, AllStepped};
 ghost use Rattle.calloop_core.specs.Boths.{UnregistersBoth, RegistersBoth};
 ghost use Rattle.calloop_core.specs.Deeds.{Reregistered};
+ghost use Rattle.calloop_wake.specs.Failures.{with_error};
 
-use crate::batch_unregister;
 use crate::callbacks::QuietDispatch;
 use crate::movable::Movable;
 use crate::sources::{Asking, Dispatch, Dispatcher, PostAction, Role};
 use crate::sys::events::EventIterator;
 use crate::sys::poll::Poll;
 use crate::sys::{Poller, Readiness};
-use calloop_wake::error::{Error, Result as LoopResult};
+use calloop_wake::error::{Error, Failed, Result as LoopResult};
 use calloop_wake::token::{RegistrationToken, Token, TokenFactory};
 use std::sync::Wait;
 
@@ -46,25 +46,27 @@ fn come_again<P: Poller, C, R: Wait + Drop, X, Q: Asking, A, B>(
     both: &mut Both<A, B>,
     poll: &mut Poll<P, C, R>,
     factory: &mut TokenFactory,
-) -> LoopResult<()>
+    failure: &mut Error,
+) -> Result<(), Failed>
 where
     A: Dispatch<P, C, R, X, Q>,
     B: Dispatch<P, C, R, X, Q>,
     ensures { (steps : List (PollStep P))
         × RegistersBoth A.means B.means (λ f a g. Reregistered f a g) both.old (poll_view poll.old)
-        factory.old result factory.new steps both.new
+        factory.old (with_error result failure.new) factory.new steps both.new
         × AllStepped P.outside (poll_view poll.old) steps (poll_view poll.new) }
 {
     let registration = factory.registration();
-    match both.first.reregister(poll, factory) {
+    match both.first.reregister(poll, factory, failure) {
         Ok(()) => {
             if factory.registration() != registration {
-                return Err(Error::InvalidToken);
+                *failure = Error::InvalidToken;
+                return Err(Failed);
             }
             count_fits(factory);
-            both.second.reregister(poll, factory)
+            both.second.reregister(poll, factory, failure)
         }
-        Err(refusal) => Err(refusal),
+        Err(failed) => Err(failed),
     }
 }
 
@@ -72,15 +74,19 @@ where
 fn take_back<P: Poller, C, R: Wait + Drop, X, Q: Asking, A, B>(
     both: &mut Both<A, B>,
     poll: &mut Poll<P, C, R>,
-) -> LoopResult<()>
+    failure: &mut Error,
+) -> Result<(), Failed>
 where
     A: Dispatch<P, C, R, X, Q>,
     B: Dispatch<P, C, R, X, Q>,
     ensures { (steps : List (PollStep P))
-        × UnregistersBoth A.means B.means both.old (poll_view poll.old) result steps both.new
+        × UnregistersBoth A.means B.means both.old (poll_view poll.old) (with_error result failure.new) steps both.new
         × AllStepped P.outside (poll_view poll.old) steps (poll_view poll.new) }
 {
-    batch_unregister!(poll, both.first, both.second)
+    match both.first.unregister(poll, failure) {
+        Ok(()) => both.second.unregister(poll, failure),
+        Err(failed) => Err(failed),
+    }
 }
 
 impl<P: Poller, C, R: Wait + Drop, X, Q: Asking, A, B> Dispatch<P, C, R, X, Q> for Both<A, B>
@@ -95,17 +101,23 @@ where
 
     /// Registers the first part, and then the second one. An error of the first one ends it; what was registered until then stays
     /// so. A first part that leaves a factory of another registration is refused with `InvalidToken`.
-    fn register(&mut self, poll: &mut Poll<P, C, R>, factory: &mut TokenFactory) -> LoopResult<()> {
+    fn register(
+        &mut self,
+        poll: &mut Poll<P, C, R>,
+        factory: &mut TokenFactory,
+        failure: &mut Error,
+    ) -> Result<(), Failed> {
         let registration = factory.registration();
-        match self.first.register(poll, factory) {
+        match self.first.register(poll, factory, failure) {
             Ok(()) => {
                 if factory.registration() != registration {
-                    return Err(Error::InvalidToken);
+                    *failure = Error::InvalidToken;
+                    return Err(Failed);
                 }
                 count_fits(factory);
-                self.second.register(poll, factory)
+                self.second.register(poll, factory, failure)
             }
-            Err(refusal) => Err(refusal),
+            Err(failed) => Err(failed),
         }
     }
 
@@ -115,16 +127,17 @@ where
         &mut self,
         poll: &mut Poll<P, C, R>,
         factory: &mut TokenFactory,
-    ) -> LoopResult<()> {
-        match take_back::<P, C, R, X, Q, A, B>(self, poll) {
-            Ok(()) => come_again::<P, C, R, X, Q, A, B>(self, poll, factory),
-            Err(refusal) => Err(refusal),
+        failure: &mut Error,
+    ) -> Result<(), Failed> {
+        match take_back::<P, C, R, X, Q, A, B>(self, poll, failure) {
+            Ok(()) => come_again::<P, C, R, X, Q, A, B>(self, poll, factory, failure),
+            Err(failed) => Err(failed),
         }
     }
 
     /// Unregisters the first part, and then the second one. An error of the first one ends it.
-    fn unregister(&mut self, poll: &mut Poll<P, C, R>) -> LoopResult<()> {
-        take_back::<P, C, R, X, Q, A, B>(self, poll)
+    fn unregister(&mut self, poll: &mut Poll<P, C, R>, failure: &mut Error) -> Result<(), Failed> {
+        take_back::<P, C, R, X, Q, A, B>(self, poll, failure)
     }
 
     /// A turn of the first part, and then of the second one; each ignores an event of another token. The whole answers
@@ -136,19 +149,20 @@ where
         poll: &mut Poll<P, C, R>,
         data: &mut X,
         requests: &mut Q,
-    ) -> LoopResult<PostAction> {
+        failure: &mut Error,
+    ) -> Result<PostAction, Failed> {
         match self
             .first
-            .process_events(readiness, token, poll, data, requests)
+            .process_events(readiness, token, poll, data, requests, failure)
         {
             Ok(action) => match self
                 .second
-                .process_events(readiness, token, poll, data, requests)
+                .process_events(readiness, token, poll, data, requests, failure)
             {
                 Ok(other) => Ok(action | other),
-                Err(error) => Err(error),
+                Err(failed) => Err(failed),
             },
-            Err(error) => Err(error),
+            Err(failed) => Err(failed),
         }
     }
 

@@ -7,7 +7,7 @@ ghost use Rattle.calloop_core.specs.declared.sources.PostAction.TheVariants.{Rer
 use crate::sys::events::EventIterator;
 use crate::sys::poll::Poll;
 use crate::sys::{Poller, Readiness};
-use calloop_wake::error::{Error, Result as LoopResult};
+use calloop_wake::error::{Error, Failed, Result as LoopResult, leave};
 use calloop_wake::token::{RegistrationToken, Token, TokenFactory};
 use std::marker::PhantomData;
 use std::ops::{BitOr, BitOrAssign};
@@ -243,29 +243,40 @@ impl<S, F> Dispatcher<S, F> {
 }
 
 /// What a loop calls: a source with its callback, or a choice of such. `X` is the data that a dispatch lends, and `Q` takes
-/// the requests of callbacks.
+/// the requests of callbacks. The error of a call that answers `Failed` stands in `failure`.
 pub trait Dispatch<P: Poller, C, R: Wait + Drop, X, Q: Asking> {
     ghost use Rattle.std.specs.Prelude.{◌≡◌, ℕ, []};
     ghost use Rattle.calloop_core.specs.Polls.{PollView, IsReady, poll_view};
     ghost use Rattle.calloop_core.specs.Events.{events_left};
     ghost use Rattle.calloop_core.specs.Deeds.{Registered, Reregistered, Unregistered, Turned, Slept, Noticed, Lent, lent};
     ghost use Rattle.calloop_core.specs.Meanings.{Meaning, Does, Settles, IsKeeping, IsAsking, FailsAsSource};
+    ghost use Rattle.calloop_wake.specs.Failures.{with_error};
 
     ghost means: { Meaning Self P (Lent X Q) };
 
     /// Registers the source with tokens of the factory.
-    fn register(&mut self, poll: &mut Poll<P, C, R>, factory: &mut TokenFactory) -> LoopResult<()>
+    fn register(
+        &mut self,
+        poll: &mut Poll<P, C, R>,
+        factory: &mut TokenFactory,
+        failure: &mut Error,
+    ) -> Result<(), Failed>
         ensures { Does P.outside means self.old (poll_view poll.old)
-            (Registered factory.old result factory.new) self.new (poll_view poll.new) };
+            (Registered factory.old (with_error result failure.new) factory.new) self.new (poll_view poll.new) };
 
     /// Registers the source anew with tokens of the factory.
-    fn reregister(&mut self, poll: &mut Poll<P, C, R>, factory: &mut TokenFactory) -> LoopResult<()>
+    fn reregister(
+        &mut self,
+        poll: &mut Poll<P, C, R>,
+        factory: &mut TokenFactory,
+        failure: &mut Error,
+    ) -> Result<(), Failed>
         ensures { Does P.outside means self.old (poll_view poll.old)
-            (Reregistered factory.old result factory.new) self.new (poll_view poll.new) };
+            (Reregistered factory.old (with_error result failure.new) factory.new) self.new (poll_view poll.new) };
 
     /// Takes its registration back.
-    fn unregister(&mut self, poll: &mut Poll<P, C, R>) -> LoopResult<()>
-        ensures { Does P.outside means self.old (poll_view poll.old) (Unregistered result) self.new (poll_view poll.new) };
+    fn unregister(&mut self, poll: &mut Poll<P, C, R>, failure: &mut Error) -> Result<(), Failed>
+        ensures { Does P.outside means self.old (poll_view poll.old) (Unregistered (with_error result failure.new)) self.new (poll_view poll.new) };
 
     /// A turn of the source, for an event of this token.
     fn process_events(
@@ -275,9 +286,10 @@ pub trait Dispatch<P: Poller, C, R: Wait + Drop, X, Q: Asking> {
         poll: &mut Poll<P, C, R>,
         data: &mut X,
         requests: &mut Q,
-    ) -> LoopResult<PostAction>
+        failure: &mut Error,
+    ) -> Result<PostAction, Failed>
         ensures { Does P.outside means self.old (poll_view poll.old)
-            (Turned readiness token (lent «data».old requests.old result «data».new requests.new))
+            (Turned readiness token (lent «data».old requests.old (with_error result failure.new) «data».new requests.new))
             self.new (poll_view poll.new) };
 
     /// Whether the source is told of waits.
@@ -323,20 +335,26 @@ where
 
     ghost means = { with_callback S.means F.may Q.reaches S.Error.becomes };
 
-    fn register(&mut self, poll: &mut Poll<P, C, R>, factory: &mut TokenFactory) -> LoopResult<()> {
-        self.source.register(poll, factory)
+    fn register(
+        &mut self,
+        poll: &mut Poll<P, C, R>,
+        factory: &mut TokenFactory,
+        failure: &mut Error,
+    ) -> Result<(), Failed> {
+        leave(self.source.register(poll, factory), failure)
     }
 
     fn reregister(
         &mut self,
         poll: &mut Poll<P, C, R>,
         factory: &mut TokenFactory,
-    ) -> LoopResult<()> {
-        self.source.reregister(poll, factory)
+        failure: &mut Error,
+    ) -> Result<(), Failed> {
+        leave(self.source.reregister(poll, factory), failure)
     }
 
-    fn unregister(&mut self, poll: &mut Poll<P, C, R>) -> LoopResult<()> {
-        self.source.unregister(poll)
+    fn unregister(&mut self, poll: &mut Poll<P, C, R>, failure: &mut Error) -> Result<(), Failed> {
+        leave(self.source.unregister(poll), failure)
     }
 
     fn process_events(
@@ -346,10 +364,18 @@ where
         poll: &mut Poll<P, C, R>,
         data: &mut X,
         requests: &mut Q,
-    ) -> LoopResult<PostAction> {
-        self.source
+        failure: &mut Error,
+    ) -> Result<PostAction, Failed> {
+        match self
+            .source
             .process_events(readiness, token, poll, &mut self.callback, data, requests)
-            .map_err(|cause| cause.into_error())
+        {
+            Ok(action) => Ok(action),
+            Err(cause) => {
+                *failure = cause.into_error();
+                Err(Failed)
+            }
+        }
     }
 
     fn needs_extra_lifecycle_events(&self) -> bool {
@@ -397,10 +423,15 @@ where
 
     ghost means = { one_of A.means B.means };
 
-    fn register(&mut self, poll: &mut Poll<P, C, R>, factory: &mut TokenFactory) -> LoopResult<()> {
+    fn register(
+        &mut self,
+        poll: &mut Poll<P, C, R>,
+        factory: &mut TokenFactory,
+        failure: &mut Error,
+    ) -> Result<(), Failed> {
         match self {
-            OneOf::First(held) => held.register(poll, factory),
-            OneOf::Other(held) => held.register(poll, factory),
+            OneOf::First(held) => held.register(poll, factory, failure),
+            OneOf::Other(held) => held.register(poll, factory, failure),
         }
     }
 
@@ -408,17 +439,18 @@ where
         &mut self,
         poll: &mut Poll<P, C, R>,
         factory: &mut TokenFactory,
-    ) -> LoopResult<()> {
+        failure: &mut Error,
+    ) -> Result<(), Failed> {
         match self {
-            OneOf::First(held) => held.reregister(poll, factory),
-            OneOf::Other(held) => held.reregister(poll, factory),
+            OneOf::First(held) => held.reregister(poll, factory, failure),
+            OneOf::Other(held) => held.reregister(poll, factory, failure),
         }
     }
 
-    fn unregister(&mut self, poll: &mut Poll<P, C, R>) -> LoopResult<()> {
+    fn unregister(&mut self, poll: &mut Poll<P, C, R>, failure: &mut Error) -> Result<(), Failed> {
         match self {
-            OneOf::First(held) => held.unregister(poll),
-            OneOf::Other(held) => held.unregister(poll),
+            OneOf::First(held) => held.unregister(poll, failure),
+            OneOf::Other(held) => held.unregister(poll, failure),
         }
     }
 
@@ -429,10 +461,15 @@ where
         poll: &mut Poll<P, C, R>,
         data: &mut X,
         requests: &mut Q,
-    ) -> LoopResult<PostAction> {
+        failure: &mut Error,
+    ) -> Result<PostAction, Failed> {
         match self {
-            OneOf::First(held) => held.process_events(readiness, token, poll, data, requests),
-            OneOf::Other(held) => held.process_events(readiness, token, poll, data, requests),
+            OneOf::First(held) => held.process_events(
+                readiness, token, poll, data, requests, failure,
+            ),
+            OneOf::Other(held) => held.process_events(
+                readiness, token, poll, data, requests, failure,
+            ),
         }
     }
 

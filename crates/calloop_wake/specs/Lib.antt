@@ -1,4 +1,5 @@
 pub mod Errors
+pub mod Failures
 pub mod Tokens
 pub mod Passes
 pub mod Cells

@@ -1,5 +1,6 @@
 //! Why a call refused. From calloop's `error.rs`.
-ghost use Rattle.std.specs.Prelude.{◌≡◌};
+ghost use Rattle.std.specs.Prelude.{◌≡◌, OnOk};
+ghost use Rattle.calloop_wake.specs.Failures.{with_error};
 ghost use Rattle.calloop_wake.specs.declared.error.Error.TheVariants.{IoError, OtherError, OutOfMemory};
 
 use std::alloc::{AllocError, AllocFailed};
@@ -106,6 +107,44 @@ impl From<Error> for io::Error {
             Error::OwnTurn => io::Error::other("the source is in its turn"),
             Error::NoRendezvous => io::Error::other("a channel of bound 0 is not supported"),
         }
+    }
+}
+
+/// A call failed, and its error stands in the place that its caller lent for it. An `Error` has room for the texts of its causes, so
+/// a `Result` with one costs more to hand on than most calls of the loop.
+#[derive(Clone, Copy, Debug)]
+pub struct Failed;
+
+impl From<AllocError> for Failed {
+    ghost from_gives = { λ _ _. Unit {0} };
+
+    /// For a place that holds `OutOfMemory`.
+    fn from(_cause: AllocError) -> Failed {
+        Failed
+    }
+}
+
+/// Leaves the error of an answer in this place, which stays as it is where there is none.
+pub fn leave<T>(answer: Result<T>, failure: &mut Error) -> std::result::Result<T, Failed>
+    ensures answer { with_error result failure.new ≡ answer }
+    ensures same { OnOk result (failure.new ≡ failure.old) }
+{
+    match answer {
+        Ok(done) => Ok(done),
+        Err(error) => {
+            *failure = error;
+            Err(Failed)
+        }
+    }
+}
+
+/// The answer of a call that left its error in a place, with that error.
+pub fn with_error<T>(answer: std::result::Result<T, Failed>, failure: Error) -> Result<T>
+    ensures { result ≡ with_error answer failure }
+{
+    match answer {
+        Ok(done) => Ok(done),
+        Err(Failed) => Err(failure),
     }
 }
 

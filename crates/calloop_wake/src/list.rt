@@ -1,5 +1,5 @@
 //! The slots of the loop's sources, told apart by their versions. From calloop's `list.rs`.
-ghost use Rattle.std.specs.Prelude.{◌≡◌, ◌↔◌, ◌+◌, ◌^◌, ◌<◌, ◌≤◌, List, [], length, slice_get, is_some, if◌then◌else◌, Some, None, IfOk, IfErr, IsErr, IsErrOf, OnSome};
+ghost use Rattle.std.specs.Prelude.{◌≡◌, ◌↔◌, ◌+◌, ◌^◌, ◌<◌, ◌≤◌, List, [], length, slice_get, is_some, if◌then◌else◌, Some, None, IfOk, IfErr, IsErr, IsErrOf, IsNone, IfSome, OnSome};
 ghost use Rattle.calloop_wake.specs.Slots.{named, changed, with_content, source_of, is_in_turn, first_vacant, next_registration, claimed, after_turn, claim_error, CannotClaim};
 ghost use Rattle.calloop_wake.specs.Vacancies.{TellVacant};
 ghost use Rattle.std.specs.Borrow.{sem};
@@ -188,14 +188,13 @@ fn put<S>(slots: &mut Vec<Slot<S>>, place: usize, content: Content<S>) -> Conten
 }
 
 // The source of a slot's content.
-fn source<S>(content: &Content<S>) -> Result<&S>
-    ensures ok { IfOk result (λ s. content.now ≡ Source s.now) }
-    ensures refuses { IsErr result ↔ (source_of content.now ≡ None) }
-    ensures err { IfErr result (λ e. e ≡ InvalidToken) }
+fn source<S>(content: &Content<S>) -> Option<&S>
+    ensures some { IfSome result (λ s. content.now ≡ Source s.now) }
+    ensures none { IsNone result ↔ (source_of content.now ≡ None) }
 {
     match content {
-        Content::Source(s) => Ok(s),
-        _ => Err(Error::InvalidToken),
+        Content::Source(s) => Some(s),
+        _ => None,
     }
 }
 
@@ -223,24 +222,20 @@ impl<S: Drop> SourceList<S> {
         }
     }
 
-    /// The source that the token names.
-    ///
-    /// It refuses with `InvalidToken` exactly where the token names none, as after the source was removed, or where
-    /// the source is in its turn.
-    pub fn get(&self, token: RegistrationToken) -> Result<&S>
-        ensures ok { IfOk result (λ s. named self.now token ≡ Source s.now) }
-        ensures refuses { IsErr result ↔ (source_of (named self.now token) ≡ None) }
-        ensures err { IfErr result (λ e. e ≡ InvalidToken) }
+    /// The source that the token names: none, as after it was removed, or while it is in its turn.
+    pub fn get(&self, token: RegistrationToken) -> Option<&S>
+        ensures some { IfSome result (λ s. named self.now token ≡ Source s.now) }
+        ensures none { IsNone result ↔ (source_of (named self.now token) ≡ None) }
     {
         match self.slots.get(token.slot() as usize) {
             Some(slot) if slot.version == token.version() => source(&slot.content),
-            _ => Err(Error::InvalidToken),
+            _ => None,
         }
     }
 
     /// The source that the token names, to be changed.
     ///
-    /// It refuses as `get` does, and the list is then as it was.
+    /// It refuses with `InvalidToken` exactly where `get` gives none, and the list is then as it was.
     pub fn get_mut(&mut self, token: RegistrationToken) -> Result<&mut S>
         ensures* writes_back { sem 𝓛 (LendsNamed S.row self.entry token result) }
         ensures ok { IfOk result (λ s. named self.old token ≡ Source s.now) }

@@ -13,7 +13,7 @@ use calloop_core::sources::{Asking, Dispatch, Here, Place, PostAction, Role};
 use calloop_core::sys::events::EventIterator;
 use calloop_core::sys::poll::Poll;
 use calloop_core::sys::{Interest, Mode, Poller, Readiness};
-use calloop_wake::error::{Error, Result as LoopResult};
+use calloop_wake::error::{Error, Failed, Result as LoopResult, leave};
 use calloop_wake::token::{RegistrationToken, Token, TokenFactory};
 use std::alloc::Global;
 use std::io;
@@ -131,11 +131,20 @@ impl<P: Poller, C, R: Wait + Drop, X, Q: Asking> Dispatch<P, C, R, X, Q> for Ada
     ///
     /// Where it is in a loop already the answer is `IoError` of kind `AlreadyExists`; a factory without tokens is `TooManyTokens`,
     /// and want of memory `OutOfMemory`. A refusal leaves all as it was.
-    fn register(&mut self, poll: &mut Poll<P, C, R>, factory: &mut TokenFactory) -> LoopResult<()> {
+    fn register(
+        &mut self,
+        poll: &mut Poll<P, C, R>,
+        factory: &mut TokenFactory,
+        failure: &mut Error,
+    ) -> Result<(), Failed> {
         if let Some(_) = self.token {
-            return Err(Error::IoError(io::Error::from(io::ErrorKind::AlreadyExists)));
+            *failure = Error::IoError(io::Error::from(io::ErrorKind::AlreadyExists));
+            return Err(Failed);
         }
-        poll.marks().open(&self.rt)?;
+        if let Err(_) = poll.marks().open(&self.rt) {
+            *failure = Error::OutOfMemory;
+            return Err(Failed);
+        }
         match factory.token() {
             Ok(token) => {
                 self.token = Some(token);
@@ -145,7 +154,8 @@ impl<P: Poller, C, R: Wait + Drop, X, Q: Asking> Dispatch<P, C, R, X, Q> for Ada
             }
             Err(refusal) => {
                 poll.marks().close(&self.rt);
-                Err(refusal)
+                *failure = refusal;
+                Err(Failed)
             }
         }
     }
@@ -155,7 +165,8 @@ impl<P: Poller, C, R: Wait + Drop, X, Q: Asking> Dispatch<P, C, R, X, Q> for Ada
         &mut self,
         poll: &mut Poll<P, C, R>,
         _factory: &mut TokenFactory,
-    ) -> LoopResult<()> {
+        _failure: &mut Error,
+    ) -> Result<(), Failed> {
         if let Settled::Registers(interest) = self.shared.settle(&self.rt) {
             self.take_up(interest, poll);
         }
@@ -164,8 +175,8 @@ impl<P: Poller, C, R: Wait + Drop, X, Q: Asking> Dispatch<P, C, R, X, Q> for Ada
 
     /// Takes its socket out, where it is being given back or was dropped. Any other refuses with `InvalidToken`, and one that is in no
     /// loop with `IoError` of kind `NotFound`. A fault of the poller is `IoError`, and leaves it registered as it was.
-    fn unregister(&mut self, poll: &mut Poll<P, C, R>) -> LoopResult<()> {
-        self.leave(poll)
+    fn unregister(&mut self, poll: &mut Poll<P, C, R>, failure: &mut Error) -> Result<(), Failed> {
+        leave(self.leave(poll), failure)
     }
 
     /// Keeps what was found, where the token is its own, and wakes who waits for it. No poller is called.
@@ -176,7 +187,8 @@ impl<P: Poller, C, R: Wait + Drop, X, Q: Asking> Dispatch<P, C, R, X, Q> for Ada
         _poll: &mut Poll<P, C, R>,
         _data: &mut X,
         _requests: &mut Q,
-    ) -> LoopResult<PostAction> {
+        _failure: &mut Error,
+    ) -> Result<PostAction, Failed> {
         if self.token == Some(token) {
             self.shared.hear(&self.rt, readiness);
         }

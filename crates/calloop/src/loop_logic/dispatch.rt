@@ -6,7 +6,9 @@ ghost use Rattle.calloop.specs.declared.loop_logic.LoopCall.TheVariants.{Dispatc
 ghost use Rattle.calloop.specs.declared.loop_logic.LoopAnswer.TheVariants.{Dispatched};
 ghost use Rattle.calloop.specs.Machine.{BeginsAnew, view_of};
 ghost use Rattle.calloop.specs.Loops.{poller_of, clock_of};
-ghost use Rattle.calloop.specs.Rules.{Case, Did, Leads, Goes, Cutting, Ending, Returning, Idling, RunningIdles, Leaving, Outcome, action_of, after_batch, after_idle, after_turn, after_hand_out};
+ghost use Rattle.calloop_wake.specs.declared.error.Error.{Error};
+ghost use Rattle.calloop_wake.specs.Failures.{with_error};
+ghost use Rattle.calloop.specs.Rules.{Case, DispatchedBy, Did, Leads, Goes, Cutting, Ending, Returning, Idling, RunningIdles, Leaving, Outcome, action_of, after_batch, after_idle, after_turn, after_hand_out};
 
 use super::asks::{Answer, Requests};
 use super::lifecycle::Lifecycle;
@@ -18,7 +20,7 @@ use calloop_core::idles::IdleCallback;
 use calloop_core::sources::PostAction;
 use calloop_core::sys::poll::Poll;
 use calloop_core::sys::{Clock, Poller};
-use calloop_wake::error::Result;
+use calloop_wake::error::{Error, Failed, Result as LoopResult, with_error};
 use calloop_wake::list::SourceList;
 use calloop_wake::token::RegistrationToken;
 use std::alloc::Global;
@@ -27,7 +29,7 @@ use std::time::Duration;
 
 impl<D: EventDispatcher<P, C, R>, P: Poller, C: Clock, R: Wait + Drop> EventLoop<D, P, C, R> {
     /// A loop over this poller and this clock, without sources. Want of memory is `OutOfMemory`.
-    pub fn try_new(rt: &R, alloc: Global, poller: P, clock: C) -> Result<EventLoop<D, P, C, R>>
+    pub fn try_new(rt: &R, alloc: Global, poller: P, clock: C) -> LoopResult<EventLoop<D, P, C, R>>
     where
         R: Clone,
         ensures new { IfOk result BeginsAnew }
@@ -72,29 +74,50 @@ impl<D: EventDispatcher<P, C, R>, P: Poller, C: Clock, R: Wait + Drop> EventLoop
         rt: &Q,
         timeout: Option<Duration>,
         data: &mut D::Data,
-    ) -> Result<()>
+    ) -> LoopResult<()>
         ensures case { Did (Case D.means D.Idle.runs P.outside (Dispatch timeout «data».old)
             (Dispatched result «data».new)) (view_of self.old) (view_of self.new) }
         ensures machine { Leads (Case D.means D.Idle.runs P.outside (Dispatch timeout «data».old)
             (Dispatched result «data».new)) (view_of self.old) (view_of self.new) }
     {
+        let mut failure = Error::OutOfMemory;
+        let answer = self.go(rt, timeout, data, &mut failure);
+        with_error(answer, failure)
+    }
+
+    // A dispatch. `failure` is `OutOfMemory` before it.
+    fn go<Q: Wait>(
+        &mut self,
+        rt: &Q,
+        timeout: Option<Duration>,
+        data: &mut D::Data,
+        failure: &mut Error,
+    ) -> Result<(), Failed>
+        requires { failure.old ≡ OutOfMemory }
+        ensures { Did (DispatchedBy D.means D.Idle.runs P.outside (nanos_of timeout) «data».old
+            (with_error result failure.new) «data».new) (view_of self.old) (view_of self.new) }
+    {
         self.poll.reserve(self.lifecycle.len())?;
         self.requests.clear_answers();
         self.warnings.clear();
         self.settle_marked();
-        self.tell_of_wait()?;
+        self.tell_of_wait(failure)?;
         let from = self.poll.waiting();
-        self.poll.poll(rt, timeout)?;
+        if let Err(cause) = self.poll.poll(rt, timeout) {
+            *failure = Error::IoError(cause);
+            return Err(Failed);
+        }
         self.tell_of_events(from);
-        self.hand_out_all(data)?;
+        self.hand_out_all(data, failure)?;
         self.run_idles(data);
         Ok(())
     }
 
     // Gives the first event of the batch to the source that its token names. False where there is no event.
-    fn hand_out(&mut self, data: &mut D::Data) -> Result<bool>
+    fn hand_out(&mut self, data: &mut D::Data, failure: &mut Error) -> Result<bool, Failed>
         ensures machine { Goes D.means D.Idle.runs P.outside (Cutting «data».old)
-            (after_hand_out result «data».new) (view_of self.old) (view_of self.new) }
+            (after_hand_out (with_error result failure.new) «data».new)
+            (view_of self.old) (view_of self.new) }
         ensures shorter { result ≡ Ok true
             → length self.new.poll.batch.events < length self.old.poll.batch.events }
     {
@@ -112,10 +135,11 @@ impl<D: EventDispatcher<P, C, R>, P: Poller, C: Clock, R: Wait + Drop> EventLoop
             &mut self.poll,
             data,
             &mut self.requests,
+            failure,
         );
         self.poll.end_event();
         self.serve_all();
-        self.end_turn(token, source, answer)
+        self.end_turn(token, source, answer, failure)
     }
 
     // The turn of a source is over: its post action is taken, and it goes back to its slot, where that is still in its turn.
@@ -123,19 +147,21 @@ impl<D: EventDispatcher<P, C, R>, P: Poller, C: Clock, R: Wait + Drop> EventLoop
         &mut self,
         token: RegistrationToken,
         source: D,
-        answer: Result<PostAction>,
-    ) -> Result<bool>
-        ensures machine { (x : D.Data)
-            → Goes D.means D.Idle.runs P.outside (Ending token source answer x)
-            (after_hand_out result x) (view_of self.old) (view_of self.new) }
+        answer: Result<PostAction, Failed>,
+        failure: &mut Error,
+    ) -> Result<bool, Failed>
+        ensures machine { (x : D.Data) → Goes D.means D.Idle.runs P.outside
+            (Ending token source (with_error answer failure.old) x)
+            (after_hand_out (with_error result failure.new) x)
+            (view_of self.old) (view_of self.new) }
         ensures batch { self.new.poll.batch.events ≡ self.old.poll.batch.events }
     {
         let mut source = source;
-        let told = self.act(token, &mut source, answer);
+        let told = self.act(token, &mut source, answer, failure);
         self.give_back(token, source);
         match told {
             Ok(()) => Ok(true),
-            Err(error) => Err(error),
+            Err(failed) => Err(failed),
         }
     }
 
@@ -150,8 +176,9 @@ impl<D: EventDispatcher<P, C, R>, P: Poller, C: Clock, R: Wait + Drop> EventLoop
         let Some(mut left) = self.sources.end_turn(token, source) else {
             return;
         };
-        let told = self.unregister(token, &mut left);
-        self.warnings.note(told);
+        let mut failure = Error::OutOfMemory;
+        let told = self.unregister(token, &mut left, &mut failure);
+        self.warnings.note(told, failure);
         self.requests.pay(Answer::Removed(Some(left)));
     }
 
@@ -160,32 +187,35 @@ impl<D: EventDispatcher<P, C, R>, P: Poller, C: Clock, R: Wait + Drop> EventLoop
         &mut self,
         token: RegistrationToken,
         source: &mut D,
-        answer: Result<PostAction>,
-    ) -> Result<()>
-        ensures machine { (x : D.Data)
-            → Goes D.means D.Idle.runs P.outside (Ending token source.old answer x)
-            (Returning token source.new result x) (view_of self.old) (view_of self.new) }
+        answer: Result<PostAction, Failed>,
+        failure: &mut Error,
+    ) -> Result<(), Failed>
+        ensures machine { (x : D.Data) → Goes D.means D.Idle.runs P.outside
+            (Ending token source.old (with_error answer failure.old) x)
+            (Returning token source.new (with_error result failure.new) x)
+            (view_of self.old) (view_of self.new) }
         ensures batch { self.new.poll.batch.events ≡ self.old.poll.batch.events }
     {
         let action = action_of(answer, self.pending);
         self.pending = PostAction::Continue;
         match action {
             Ok(PostAction::Continue) => Ok(()),
-            Ok(PostAction::Reregister) => self.reregister(token, source),
-            Ok(PostAction::Disable) => self.unregister(token, source),
+            Ok(PostAction::Reregister) => self.reregister(token, source, failure),
+            Ok(PostAction::Disable) => self.unregister(token, source, failure),
             Ok(PostAction::Remove) => {
                 self.sources.vacate(token);
                 Ok(())
             }
-            Err(cause) => Err(cause),
+            Err(failed) => Err(failed),
         }
     }
 
-    fn hand_out_all(&mut self, data: &mut D::Data) -> Result<()>
+    fn hand_out_all(&mut self, data: &mut D::Data, failure: &mut Error) -> Result<(), Failed>
         ensures { Goes D.means D.Idle.runs P.outside (Cutting «data».old)
-            (after_batch result «data».new) (view_of self.old) (view_of self.new) }
+            (after_batch (with_error result failure.new) «data».new)
+            (view_of self.old) (view_of self.new) }
     {
-        'batch: while self.hand_out(data)? {}
+        'batch: while self.hand_out(data, failure)? {}
         Ok(())
     }
 
@@ -214,8 +244,9 @@ impl<D: EventDispatcher<P, C, R>, P: Poller, C: Clock, R: Wait + Drop> EventLoop
 }
 
 // What is done at the end of a turn: what a source asked for itself counts only beside `Continue`.
-fn action_of(answer: Result<PostAction>, pending: PostAction) -> Result<PostAction>
-    ensures { result ≡ action_of answer pending }
+fn action_of(answer: Result<PostAction, Failed>, pending: PostAction) -> Result<PostAction, Failed>
+    ensures { (failure : Error)
+        → with_error result failure ≡ action_of (with_error answer failure) pending }
 {
     match answer {
         Ok(PostAction::Continue) => Ok(pending),

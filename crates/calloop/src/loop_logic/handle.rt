@@ -21,7 +21,7 @@ use super::asks::{Answer, Idle, Requests, Ticket};
 use super::{EventDispatcher, EventLoop, LoopHandle};
 use calloop_core::sources::{Callback, Dispatcher, EventSource, Hold, Role};
 use calloop_core::sys::{Clock, Poller};
-use calloop_wake::error::{Error, InsertError, Result};
+use calloop_wake::error::{Error, Failed, InsertError, Result, with_error};
 use calloop_wake::list::SourceList;
 use calloop_wake::token::{RegistrationToken, TokenFactory};
 use std::sync::Wait;
@@ -33,8 +33,8 @@ impl<D: EventDispatcher<P, C, R>, P: Poller, C: Clock, R: Wait + Drop> EventLoop
             ≡ is_some (source_of (only (is_callers D.means) (named_by sources.now token))) }
     {
         match sources.get(token) {
-            Ok(source) => source.role() == Role::Caller,
-            Err(_) => false,
+            Some(source) => source.role() == Role::Caller,
+            None => false,
         }
     }
 
@@ -70,10 +70,10 @@ impl<D: EventDispatcher<P, C, R>, P: Poller, C: Clock, R: Wait + Drop> EventLoop
         let needed = <S as EventSource<P, C, R>>::needs_extra_lifecycle_events();
         let token = match self.claim(needed) {
             Ok(token) => token,
-            Err(error) => {
+            Err(refusal) => {
                 return Err(InsertError {
                     inserted: source,
-                    error,
+                    error: Error::from(refusal),
                 });
             }
         };
@@ -107,18 +107,27 @@ impl<D: EventDispatcher<P, C, R>, P: Poller, C: Clock, R: Wait + Drop> EventLoop
         let needed = inserted.needs_extra_lifecycle_events();
         let token = match self.claim(needed) {
             Ok(token) => token,
-            Err(error) => return Err(InsertError { inserted, error }),
+            Err(refusal) => {
+                return Err(InsertError {
+                    inserted,
+                    error: Error::from(refusal),
+                });
+            }
         };
         let mut factory = TokenFactory::new(token);
-        match inserted.register(&mut self.poll, &mut factory) {
+        let mut failure = Error::OutOfMemory;
+        match inserted.register(&mut self.poll, &mut factory, &mut failure) {
             Ok(()) => {
                 self.lifecycle.enter(needed, token);
                 let _none = self.sources.end_turn(token, inserted);
                 Ok(token)
             }
-            Err(error) => {
+            Err(Failed) => {
                 self.sources.vacate(token);
-                Err(InsertError { inserted, error })
+                Err(InsertError {
+                    inserted,
+                    error: failure,
+                })
             }
         }
     }
@@ -131,9 +140,10 @@ impl<D: EventDispatcher<P, C, R>, P: Poller, C: Clock, R: Wait + Drop> EventLoop
         let Some(mut source) = Self::take_out(&mut self.sources, token) else {
             return Err(Error::InvalidToken);
         };
-        let answer = self.register(token, &mut source);
+        let mut failure = Error::OutOfMemory;
+        let answer = self.register(token, &mut source, &mut failure);
         let _none = self.sources.end_turn(token, source);
-        answer
+        with_error(answer, failure)
     }
 
     // Registers the source that the token names anew.
@@ -144,9 +154,10 @@ impl<D: EventDispatcher<P, C, R>, P: Poller, C: Clock, R: Wait + Drop> EventLoop
         let Some(mut source) = Self::take_out(&mut self.sources, token) else {
             return Err(Error::InvalidToken);
         };
-        let answer = self.reregister(token, &mut source);
+        let mut failure = Error::OutOfMemory;
+        let answer = self.reregister(token, &mut source, &mut failure);
         let _none = self.sources.end_turn(token, source);
-        answer
+        with_error(answer, failure)
     }
 
     // Takes back the registration of the source that the token names.
@@ -157,9 +168,10 @@ impl<D: EventDispatcher<P, C, R>, P: Poller, C: Clock, R: Wait + Drop> EventLoop
         let Some(mut source) = Self::take_out(&mut self.sources, token) else {
             return Err(Error::InvalidToken);
         };
-        let answer = self.unregister(token, &mut source);
+        let mut failure = Error::OutOfMemory;
+        let answer = self.unregister(token, &mut source, &mut failure);
         let _none = self.sources.end_turn(token, source);
-        answer
+        with_error(answer, failure)
     }
 
     // Takes the source that the token names out of the loop. A failure of the unregistration is a warning.
@@ -169,8 +181,9 @@ impl<D: EventDispatcher<P, C, R>, P: Poller, C: Clock, R: Wait + Drop> EventLoop
     {
         let mut source = Self::take_out(&mut self.sources, token)?;
         self.sources.vacate(token);
-        let told = self.unregister(token, &mut source);
-        self.warnings.note(told);
+        let mut failure = Error::OutOfMemory;
+        let told = self.unregister(token, &mut source, &mut failure);
+        self.warnings.note(told, failure);
         Some(source)
     }
 
@@ -238,7 +251,7 @@ impl<D: EventDispatcher<P, C, R>, P: Poller, C: Clock, R: Wait + Drop> LoopHandl
         if !EventLoop::<D, P, C, R>::is_callers(&self.inner.sources, *token) {
             return Err(Error::InvalidToken);
         }
-        self.inner.sources.get(*token)
+        self.inner.sources.get(*token).ok_or(Error::InvalidToken)
     }
 
     /// The source that the token names, with its callback, to be changed in its slot. Where it names none the answer is

@@ -1,12 +1,10 @@
 //! The registrations whose sources are told of waits.
-ghost use Rattle.std.specs.Prelude.{◌≡◌, ◌<◌, ◌&&◌, not, [], true, false, Some, IfErr, OnOk, filter, slice_get, vec_len, if◌then◌else◌};
-ghost use Rattle.calloop_wake.specs.declared.error.Error.TheVariants.{OutOfMemory};
+ghost use Rattle.std.specs.Prelude.{◌≡◌, ◌<◌, ◌&&◌, not, [], true, false, Some, OnErr, OnOk, filter, slice_get, vec_len, if◌then◌else◌};
 ghost use Rattle.calloop.specs.Held.{is_another, is_listed, listed};
 ghost use Rattle.calloop.specs.Rooms.{HasRoom};
 
-use calloop_wake::error::Result;
 use calloop_wake::token::RegistrationToken;
-use std::alloc::Global;
+use std::alloc::{AllocError, Global};
 
 /// In the order of their entry, each once.
 #[derive(Drop)]
@@ -37,10 +35,10 @@ impl Lifecycle {
         self.tokens[place]
     }
 
-    // Makes room for one more, where it is needed. Want of memory is `OutOfMemory`.
-    pub(super) fn reserve(&mut self, needed: bool) -> Result<()>
+    // Makes room for one more, where it is needed.
+    pub(super) fn reserve(&mut self, needed: bool) -> Result<(), AllocError>
         ensures room { OnOk result (HasRoom needed self.new) }
-        ensures err { IfErr result (λ e. (needed ≡ true) × (e ≡ OutOfMemory)) }
+        ensures err { OnErr result (needed ≡ true) }
         ensures same { self.new.tokens.items ≡ self.old.tokens.items }
     {
         if needed {
@@ -49,12 +47,16 @@ impl Lifecycle {
         Ok(())
     }
 
-    // Makes room for this registration, where it is needed and doesn't stand there. Want of memory is `OutOfMemory`.
-    pub(super) fn reserve_for(&mut self, needed: bool, token: RegistrationToken) -> Result<()>
+    // Makes room for this registration, where it is needed and doesn't stand there.
+    pub(super) fn reserve_for(
+        &mut self,
+        needed: bool,
+        token: RegistrationToken,
+    ) -> Result<(), AllocError>
         ensures room { OnOk result
             (HasRoom (needed && not (is_listed token self.new.tokens.items)) self.new) }
-        ensures err { IfErr result (λ e. (needed ≡ true)
-            × (is_listed token self.old.tokens.items ≡ false) × (e ≡ OutOfMemory)) }
+        ensures err { OnErr result ((needed ≡ true)
+            × (is_listed token self.old.tokens.items ≡ false)) }
         ensures same { self.new.tokens.items ≡ self.old.tokens.items }
     {
         let is_new = needed && !self.contains(token);

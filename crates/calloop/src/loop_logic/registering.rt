@@ -1,6 +1,7 @@
 //! The registration of a source that is out of its slot, with its entry among those that are told of waits.
 ghost use Rattle.std.specs.Prelude.{◌≡◌, ◌<◌, ◌^◌, OnOk, IfOk, IfErr};
-ghost use Rattle.calloop_wake.specs.Slots.{claimed, next_registration};
+ghost use Rattle.calloop_wake.specs.Failures.{with_error};
+ghost use Rattle.calloop_wake.specs.Slots.{claimed, next_registration, claim_error};
 ghost use Rattle.calloop_core.specs.Deeds.{Registered, Reregistered, Unregistered};
 ghost use Rattle.calloop.specs.Machine.{view_of};
 ghost use Rattle.calloop.specs.Held.{is_listed};
@@ -9,18 +10,19 @@ ghost use Rattle.calloop.specs.Rules.{CannotInsert, ByOne, RegisteredBy, entered
 
 use super::{EventDispatcher, EventLoop};
 use calloop_core::sys::{Clock, Poller};
-use calloop_wake::error::Result;
+use calloop_wake::error::{Error, Failed};
+use calloop_wake::list::ClaimRefusal;
 use calloop_wake::steps::Steps;
 use calloop_wake::token::{RegistrationToken, TokenFactory};
 use std::sync::Wait;
 
 impl<D: EventDispatcher<P, C, R>, P: Poller, C: Clock, R: Wait + Drop> EventLoop<D, P, C, R> {
     // Claims a slot, where there is room for the entry that is needed.
-    pub(super) fn claim(&mut self, needed: bool) -> Result<RegistrationToken>
+    pub(super) fn claim(&mut self, needed: bool) -> Result<RegistrationToken, ClaimRefusal>
         ensures ok { IfOk result (λ token. (token ≡ next_registration self.old.sources)
             × (token.slot < 2 ^ 32) × (self.new.sources ≡ claimed self.old.sources)) }
         ensures room { OnOk result (HasRoom needed self.new.lifecycle) }
-        ensures err { IfErr result (λ e. CannotInsert self.old.sources needed e
+        ensures err { IfErr result (λ e. CannotInsert self.old.sources needed (claim_error e)
             × (self.new.sources ≡ self.old.sources)) }
         ensures others { (self.new.poll ≡ self.old.poll)
             × (self.new.lifecycle.tokens.items ≡ self.old.lifecycle.tokens.items)
@@ -33,45 +35,67 @@ impl<D: EventDispatcher<P, C, R>, P: Poller, C: Clock, R: Wait + Drop> EventLoop
     }
 
     // Registers a source under this token, and enters it where it is to be told of waits.
-    pub(super) fn register(&mut self, token: RegistrationToken, source: &mut D) -> Result<()>
+    pub(super) fn register(
+        &mut self,
+        token: RegistrationToken,
+        source: &mut D,
+        failure: &mut Error,
+    ) -> Result<(), Failed>
         ensures { ByOne P.outside
             (RegisteredBy D.means Registered token
             (is_listed token (view_of self.old).held.lifecycle) (view_of self.old).poll)
             (entered D.means token)
-            source.old result source.new (view_of self.old) (view_of self.new) }
+            source.old (with_error result failure.new) source.new (view_of self.old) (view_of self.new) }
     {
         let needed = source.needs_extra_lifecycle_events();
-        self.lifecycle.reserve_for(needed, token)?;
+        if let Err(_) = self.lifecycle.reserve_for(needed, token) {
+            *failure = Error::OutOfMemory;
+            return Err(Failed);
+        }
         let mut factory = TokenFactory::new(token);
-        source.register(&mut self.poll, &mut factory)?;
+        source.register(&mut self.poll, &mut factory, failure)?;
         self.lifecycle.enter(needed, token);
         Ok(())
     }
 
     // Registers a source anew.
-    pub(super) fn reregister(&mut self, token: RegistrationToken, source: &mut D) -> Result<()>
+    pub(super) fn reregister(
+        &mut self,
+        token: RegistrationToken,
+        source: &mut D,
+        failure: &mut Error,
+    ) -> Result<(), Failed>
         ensures { ByOne P.outside
             (RegisteredBy D.means Reregistered token
             (is_listed token (view_of self.old).held.lifecycle) (view_of self.old).poll)
             (entered D.means token)
-            source.old result source.new (view_of self.old) (view_of self.new) }
+            source.old (with_error result failure.new) source.new (view_of self.old) (view_of self.new) }
     {
         let needed = source.needs_extra_lifecycle_events();
-        self.lifecycle.reserve_for(needed, token)?;
+        if let Err(_) = self.lifecycle.reserve_for(needed, token) {
+            *failure = Error::OutOfMemory;
+            return Err(Failed);
+        }
         let mut factory = TokenFactory::new(token);
-        source.reregister(&mut self.poll, &mut factory)?;
+        source.reregister(&mut self.poll, &mut factory, failure)?;
         self.lifecycle.enter(needed, token);
         Ok(())
     }
 
     // Takes the registration of a source back, and takes it out, also where that fails.
-    pub(super) fn unregister(&mut self, token: RegistrationToken, source: &mut D) -> Result<()>
+    pub(super) fn unregister(
+        &mut self,
+        token: RegistrationToken,
+        source: &mut D,
+        failure: &mut Error,
+    ) -> Result<(), Failed>
         ensures { ByOne P.outside
             (λ d answer steps e.
             D.means.does d (view_of self.old).poll (Unregistered answer) steps e)
-            (left token) source.old result source.new (view_of self.old) (view_of self.new) }
+            (left token) source.old (with_error result failure.new) source.new
+            (view_of self.old) (view_of self.new) }
     {
-        let answer = source.unregister(&mut self.poll);
+        let answer = source.unregister(&mut self.poll, failure);
         self.lifecycle.leave(token);
         answer
     }

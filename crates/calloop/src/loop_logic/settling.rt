@@ -14,7 +14,7 @@ ghost use Rattle.calloop.specs.Rules.{Case, Did, Goes, Settling, Sleeping};
 use super::{EventDispatcher, EventLoop};
 use calloop_core::sources::Role;
 use calloop_core::sys::{Clock, Poller};
-use calloop_wake::error::{Error, Result};
+use calloop_wake::error::{Error, Failed, Result};
 use calloop_wake::list::SourceList;
 use calloop_wake::token::RegistrationToken;
 use std::sync::Wait;
@@ -34,8 +34,8 @@ impl<D: EventDispatcher<P, C, R>, P: Poller, C: Clock, R: Wait + Drop> EventLoop
             ≡ is_some (source_of (only (is_adapter D.means) (named_by sources.now token))) }
     {
         match sources.get(token) {
-            Ok(source) => source.role() == Role::Adapter,
-            Err(_) => false,
+            Some(source) => source.role() == Role::Adapter,
+            None => false,
         }
     }
 
@@ -110,14 +110,15 @@ impl<D: EventDispatcher<P, C, R>, P: Poller, C: Clock, R: Wait + Drop> EventLoop
         let Some(mut source) = Self::take_out_adapter(&mut self.sources, token) else {
             return Err(Error::InvalidToken);
         };
-        match self.unregister(token, &mut source) {
+        let mut failure = Error::OutOfMemory;
+        match self.unregister(token, &mut source, &mut failure) {
             Ok(()) => {
                 self.sources.vacate(token);
                 Ok(())
             }
-            Err(refusal) => {
+            Err(Failed) => {
                 let _none = self.sources.end_turn(token, source);
-                Err(refusal)
+                Err(failure)
             }
         }
     }

@@ -1,8 +1,10 @@
-use Rattle.std.proofs.Common.{◌≡◌, ◌∙◌, sym, ap, refl, Ok, Err}
+use Rattle.std.proofs.Common.{◌≡◌, ◌∙◌, sym, ap, refl, Result, Ok, Err}
 use Rattle.calloop_core.specs.declared.sources.PostAction.{PostAction}
 use Rattle.calloop_core.specs.declared.sources.PostAction.TheVariants.{Continue, Reregister, Disable, Remove}
 use Rattle.calloop_core.specs.Deeds.{Reregistered, Unregistered}
 use Rattle.calloop_core.specs.Polls.{poll_view}
+use Rattle.calloop_wake.specs.declared.error.Failed.{Failed}
+use Rattle.calloop_wake.specs.Failures.{with_error}
 use Rattle.calloop.specs.Machine.{View, view_of}
 use Rattle.calloop.specs.Held.{is_listed}
 use Rattle.calloop.specs.Rules.{RegisteredBy, action_of, entered, left}
@@ -13,8 +15,8 @@ pub returns-in-Ok-Continue-clause-machine : goal.returns-in-Ok-Continue-clause-m
 returns-in-Ok-Continue-clause-machine g c x =
     let v : View g.row.D.Denot g.row.D-Idle.Denot g.row.P.Denot = view_of c.args.self.now in
     let action : c.in-Ok-Continue.field-0 ≡ Continue = rw c.in-Ok-Continue.is at c.in-Ok-Continue.field-0-is in
-    let is : action_of c.args.answer c.args.self.now.pending ≡ Ok Continue = sym c.action_of-action.ensures ∙ c.in-Ok-Continue.is ∙ ap (λ (a : PostAction). Ok a) action in
-    acted g.D.Dispatch.means g.D.Idle.IdleCallback.runs g.P.Poller.outside c.args.token v c.args.source.now c.args.answer (Ok tt) x (rw is (refl, refl, refl))
+    let is : action_of (with_error c.args.answer c.args.failure.now) c.args.self.now.pending ≡ Ok Continue = sym (c.action_of-action.ensures c.args.failure.now) ∙ ap (λ (r : Result PostAction Failed). with_error r c.args.failure.now) c.in-Ok-Continue.is ∙ ap (λ (a : PostAction). Ok a) action in
+    acted g.D.Dispatch.means g.D.Idle.IdleCallback.runs g.P.Poller.outside c.args.token v c.args.source.now (with_error c.args.answer c.args.failure.now) (Ok tt) x (rw is (refl, refl, refl))
 
 pub returns-in-Ok-Reregister-clause-machine : goal.returns-in-Ok-Reregister-clause-machine
 returns-in-Ok-Reregister-clause-machine g c x =
@@ -22,8 +24,8 @@ returns-in-Ok-Reregister-clause-machine g c x =
     let v : View g.row.D.Denot g.row.D-Idle.Denot g.row.P.Denot = view_of c.args.self.now in
     let t = c.args.token in
     let action : c.in-Ok-Reregister.field-0 ≡ Reregister = rw c.in-Ok-Reregister.is at c.in-Ok-Reregister.field-0-is in
-    let is : action_of c.args.answer c.args.self.now.pending ≡ Ok Reregister = sym c.action_of-action.ensures ∙ c.in-Ok-Reregister.is ∙ ap (λ (a : PostAction). Ok a) action in
-    acted_with M g.D.Idle.IdleCallback.runs g.P.Poller.outside (RegisteredBy M Reregistered t (is_listed t v.held.lifecycle) v.poll) (entered M t) t v (view_of c.reregister.new.self) c.args.source.now c.reregister.new.source c.args.answer c.reregister.result x
+    let is : action_of (with_error c.args.answer c.args.failure.now) c.args.self.now.pending ≡ Ok Reregister = sym (c.action_of-action.ensures c.args.failure.now) ∙ ap (λ (r : Result PostAction Failed). with_error r c.args.failure.now) c.in-Ok-Reregister.is ∙ ap (λ (a : PostAction). Ok a) action in
+    acted_with M g.D.Idle.IdleCallback.runs g.P.Poller.outside (RegisteredBy M Reregistered t (is_listed t v.held.lifecycle) v.poll) (entered M t) t v (view_of c.reregister.new.self) c.args.source.now c.reregister.new.source (with_error c.args.answer c.args.failure.now) (with_error c.reregister.result c.reregister.new.failure) x
     (λ steps h. rw is (steps, h, refl)) c.reregister.ensures
 
 pub returns-in-Ok-Reregister-clause-batch : goal.returns-in-Ok-Reregister-clause-batch
@@ -36,8 +38,8 @@ returns-in-Ok-Disable-clause-machine g c x =
     let v : View g.row.D.Denot g.row.D-Idle.Denot g.row.P.Denot = view_of c.args.self.now in
     let t = c.args.token in
     let action : c.in-Ok-Disable.field-0 ≡ Disable = rw c.in-Ok-Disable.is at c.in-Ok-Disable.field-0-is in
-    let is : action_of c.args.answer c.args.self.now.pending ≡ Ok Disable = sym c.action_of-action.ensures ∙ c.in-Ok-Disable.is ∙ ap (λ (a : PostAction). Ok a) action in
-    acted_with M g.D.Idle.IdleCallback.runs g.P.Poller.outside (λ f a steps e. M.does f v.poll (Unregistered a) steps e) (left t) t v (view_of c.unregister.new.self) c.args.source.now c.unregister.new.source c.args.answer c.unregister.result x
+    let is : action_of (with_error c.args.answer c.args.failure.now) c.args.self.now.pending ≡ Ok Disable = sym (c.action_of-action.ensures c.args.failure.now) ∙ ap (λ (r : Result PostAction Failed). with_error r c.args.failure.now) c.in-Ok-Disable.is ∙ ap (λ (a : PostAction). Ok a) action in
+    acted_with M g.D.Idle.IdleCallback.runs g.P.Poller.outside (λ f a steps e. M.does f v.poll (Unregistered a) steps e) (left t) t v (view_of c.unregister.new.self) c.args.source.now c.unregister.new.source (with_error c.args.answer c.args.failure.now) (with_error c.unregister.result c.unregister.new.failure) x
     (λ steps h. rw is (steps, h, refl)) c.unregister.ensures
 
 pub returns-in-Ok-Disable-clause-batch : goal.returns-in-Ok-Disable-clause-batch
@@ -48,12 +50,12 @@ pub returns-in-Ok-Remove-clause-machine : goal.returns-in-Ok-Remove-clause-machi
 returns-in-Ok-Remove-clause-machine g c x =
     let v : View g.row.D.Denot g.row.D-Idle.Denot g.row.P.Denot = view_of c.args.self.now in
     let action : c.in-Ok-Remove.field-0 ≡ Remove = rw c.in-Ok-Remove.is at c.in-Ok-Remove.field-0-is in
-    let is : action_of c.args.answer c.args.self.now.pending ≡ Ok Remove = sym c.action_of-action.ensures ∙ c.in-Ok-Remove.is ∙ ap (λ (a : PostAction). Ok a) action in
-    rw c.vacate.ensures (acted_leaving g.D.Dispatch.means g.D.Idle.IdleCallback.runs g.P.Poller.outside c.args.token v c.args.source.now c.args.answer x is)
+    let is : action_of (with_error c.args.answer c.args.failure.now) c.args.self.now.pending ≡ Ok Remove = sym (c.action_of-action.ensures c.args.failure.now) ∙ ap (λ (r : Result PostAction Failed). with_error r c.args.failure.now) c.in-Ok-Remove.is ∙ ap (λ (a : PostAction). Ok a) action in
+    rw c.vacate.ensures (acted_leaving g.D.Dispatch.means g.D.Idle.IdleCallback.runs g.P.Poller.outside c.args.token v c.args.source.now (with_error c.args.answer c.args.failure.now) x is)
 
 pub returns-in-Err-clause-machine : goal.returns-in-Err-clause-machine
 returns-in-Err-clause-machine g c x =
     let v : View g.row.D.Denot g.row.D-Idle.Denot g.row.P.Denot = view_of c.args.self.now in
-    let e = c.in-Err.cause in
-    let is : action_of c.args.answer c.args.self.now.pending ≡ Err e = sym c.action_of-action.ensures ∙ c.in-Err.is in
-    acted g.D.Dispatch.means g.D.Idle.IdleCallback.runs g.P.Poller.outside c.args.token v c.args.source.now c.args.answer (Err e) x (rw is (refl, refl, refl))
+    let e = c.args.failure.now in
+    let is : action_of (with_error c.args.answer c.args.failure.now) c.args.self.now.pending ≡ Err e = sym (c.action_of-action.ensures e) ∙ ap (λ (r : Result PostAction Failed). with_error r e) c.in-Err.is in
+    acted g.D.Dispatch.means g.D.Idle.IdleCallback.runs g.P.Poller.outside c.args.token v c.args.source.now (with_error c.args.answer c.args.failure.now) (Err e) x (rw is (refl, refl, refl))

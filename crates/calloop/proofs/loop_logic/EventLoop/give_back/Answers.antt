@@ -1,5 +1,6 @@
 use Rattle.std.proofs.Common.{◌≡◌, ap, ◌∙◌}
 use Rattle.calloop_wake.specs.Slots.{named, is_in_turn}
+use Rattle.calloop_wake.specs.Failures.{with_error}
 use Rattle.calloop_core.specs.Polls.{poll_view}
 use Rattle.calloop.specs.Machine.{View, view_of}
 use Rattle.calloop.proofs.Going.{returned, gone, batch-stepped, was_in_turn, not_in_turn}
@@ -17,7 +18,7 @@ returns-clause-machine g c told x =
     let there = not_in_turn (is_in_turn (named ss c.args.token)) c.args.source c.in-Some.left c.in-Some.ensures.value in
     let ss' : c.end_turn.new.self ≡ ss = rw there.0 at c.in-Some.ensures.list in
     rw c.pay.ensures
-    (gone g.D.Dispatch.means g.D.Idle.IdleCallback.runs g.P.Poller.outside c.args.token (view_of c.args.self.now) (view_of c.unregister-told.new.self) c.args.source c.unregister-told.new.source told c.unregister-told.result c.note.ensures.0
+    (gone g.D.Dispatch.means g.D.Idle.IdleCallback.runs g.P.Poller.outside c.args.token (view_of c.args.self.now) (view_of c.unregister-told.new.self) c.args.source c.unregister-told.new.source told (with_error c.unregister-told.result c.unregister-told.new.failure) c.note.ensures.0
     c.note.new.self.errors.items x there.0 (rw (there.1, ss') at c.unregister-told.ensures) c.note.ensures.1)
 
 pub returns-clause-batch : goal.returns-clause-batch

@@ -5,6 +5,7 @@ use Rattle.calloop_wake.specs.declared.list.Slot.{Slot}
 use Rattle.calloop_wake.specs.Slots.{changed, with_content, named, source_of}
 use Rattle.calloop_wake.specs.Tokens.{registration_of}
 use Rattle.calloop_core.specs.Polls.{PollView, poll_view, cut, with_pass}
+use Rattle.calloop_wake.specs.Failures.{with_error}
 use Rattle.calloop.specs.Machine.{View, view_of}
 use Rattle.calloop.specs.Rules.{Goes, Cutting, Serving, Ending, Idling, after_hand_out}
 use Rattle.calloop_core.specs.Deeds.{lent}
@@ -38,7 +39,7 @@ returns-clause-machine g c =
     let v : View g.row.D.Denot g.row.D-Idle.Denot g.row.P.Denot = view_of c.args.self.now in
     let e = c.in-Some.event in
     let d = c.process_events-answer.new.self in
-    let answer = c.process_events-answer.result in
+    let answer = with_error c.process_events-answer.result c.process_events-answer.new.failure in
     let polls : PollView g.row.P.Denot = poll_view c.end_event-2.new.self in
     let asked : Asks g.row.D.Denot g.row.D-Idle.Denot = c.process_events-answer.new.requests in
     let x = c.args.«data».now in
@@ -48,7 +49,7 @@ returns-clause-machine g c =
     let slots : c.begin_turn.new.self ≡ changed (with_content InTurn) v.slots e.token.slot = c.in-Some-begin_turn.ensures.list ∙ ap (λ n. changed (with_content InTurn) v.slots n) own in
     let held : View g.row.D.Denot g.row.D-Idle.Denot g.row.P.Denot = record v { slots = c.begin_turn.new.self; poll = polls; held = record v.held { asks = asked } } in
     let served = view_of c.serve_all.new.self in
-    let after = after_hand_out c.end_turn.result y in
+    let after = after_hand_out (with_error c.end_turn.result c.end_turn.new.failure) y in
     let asks = g.met.D.Dispatch.asks c.in-Some-begin_turn.source d (poll_view c.next_event.new.self) e.readiness e.token (lent x v.held.asks answer y asked) c.process_events-answer.ensures.0 c.process_events-answer.ensures.1 in
     goes_on M R O (Cutting x) (Serving (registration_of e.token) d answer y) after v held (view_of c.end_turn.new.self)
     (rw (slots, c.end_event-2.ensures) (turned M R O e v c.in-Some-begin_turn.source d answer (poll_view c.next_event.new.self) (poll_view c.process_events-answer.new.poll) x y asked c.in-Some.ensures.event found c.next_event.ensures.view c.process_events-answer.ensures asks))

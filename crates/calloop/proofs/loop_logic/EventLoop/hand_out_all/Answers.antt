@@ -11,8 +11,8 @@ batch-init g c = goes_nowhere g.D.Dispatch.means g.D.Idle.IdleCallback.runs g.P.
 pub returns-in_err-hand_out : goal.returns-in_err-hand_out
 returns-in_err-hand_out g c =
     let p = err_from_is_err_and c.from_residual.result c.from_residual.ensures.1 in
-    rw (p.1, p.2)
-    (goes_on g.D.Dispatch.means g.D.Idle.IdleCallback.runs g.P.Poller.outside (Cutting c.args.«data».now) (Cutting c.batch.«data») (Leaving (Err c.in_err-hand_out.field-0.0) c.hand_out.new.«data») (view_of c.args.self.now) (view_of c.batch.self) (view_of c.hand_out.new.self)
+    rw p.1
+    (goes_on g.D.Dispatch.means g.D.Idle.IdleCallback.runs g.P.Poller.outside (Cutting c.args.«data».now) (Cutting c.batch.«data») (Leaving (Err c.hand_out.new.failure) c.hand_out.new.«data») (view_of c.args.self.now) (view_of c.batch.self) (view_of c.hand_out.new.self)
     c.batch.invariant c.in_err-hand_out.ensures.machine)
 
 pub batch-preserved : goal.batch-preserved

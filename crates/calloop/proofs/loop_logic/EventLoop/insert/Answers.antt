@@ -1,5 +1,6 @@
 use Rattle.std.proofs.Common.{◌≡◌, refl, ap}
 use Rattle.std.specs.Arc.{arc_value}
+use Rattle.calloop_wake.specs.Slots.{claim_error}
 use Rattle.calloop_core.specs.Polls.{poll_view}
 use Rattle.calloop.specs.declared.loop_logic.signal.LoopSignal.{LoopSignal}
 use Rattle.calloop.specs.declared.loop_logic.warnings.Warnings.{Warnings}
@@ -11,7 +12,7 @@ pub returns-in-Err : goal.returns-in-Err
 returns-in-Err g c =
     let others = c.in-Err.ensures.others in
     let same : view_of c.claim.new.self ≡ view_of c.args.self.now = rw (c.in-Err.ensures.err.1, others.0, others.1, others.2, others.3, others.4, others.5, others.6) refl in
-    not_claimed g.D.Dispatch.means g.D.Idle.IdleCallback.runs g.P.Poller.outside (view_of c.args.self.now) c.args.dispatcher c.in-Err.error (view_of c.claim.new.self) (rw c.needs_extra_lifecycle_events-needed.ensures at c.in-Err.ensures.err.0) same
+    rw c.from.ensures (not_claimed g.D.Dispatch.means g.D.Idle.IdleCallback.runs g.P.Poller.outside (view_of c.args.self.now) c.args.dispatcher (claim_error c.in-Err.refusal) (view_of c.claim.new.self) (rw c.needs_extra_lifecycle_events-needed.ensures at c.in-Err.ensures.err.0) same)
 
 pub returns-in-Ok-register : goal.returns-in-Ok-register
 returns-in-Ok-register g c =
@@ -24,5 +25,5 @@ pub returns-in-Err-register : goal.returns-in-Err-register
 returns-in-Err-register g c =
     let others = c.in-Ok.ensures.others in
     rw (c.vacate.ensures, c.in-Ok.ensures.ok.2, others.1, others.2, others.3, others.4, others.5, others.6)
-    (not_registered g.D.Dispatch.means g.D.Idle.IdleCallback.runs g.P.Poller.outside (view_of c.args.self.now) c.args.dispatcher c.register.new.self c.in-Err-register.error c.in-Ok.token c.register.new.factory (poll_view c.register.new.poll)
+    (not_registered g.D.Dispatch.means g.D.Idle.IdleCallback.runs g.P.Poller.outside (view_of c.args.self.now) c.args.dispatcher c.register.new.self c.register.new.failure c.in-Ok.token c.register.new.factory (poll_view c.register.new.poll)
     c.in-Ok.ensures.ok.0 c.in-Ok.ensures.ok.1 (rw (c.new-factory.ensures, c.in-Err-register.is, others.0) at c.register.ensures))

@@ -1,7 +1,7 @@
 use Rattle.std.proofs.Common.{◌≡◌, List, refl, ap, sym, ◌∙◌}
 use Rattle.calloop_wake.specs.declared.list.Content.TheVariants.{Source}
 use Rattle.calloop_wake.specs.declared.list.Slot.{Slot}
-use Rattle.calloop_wake.specs.Slots.{after_turn, claimed}
+use Rattle.calloop_wake.specs.Slots.{after_turn, claimed, claim_error}
 use Rattle.std.specs.Arc.{arc_value}
 use Rattle.calloop_core.specs.Polls.{poll_view}
 use Rattle.calloop.specs.declared.loop_logic.signal.LoopSignal.{LoopSignal}
@@ -15,8 +15,8 @@ pub returns-in-Err : goal.returns-in-Err
 returns-in-Err g c =
     let others = c.in-Err.ensures.others in
     let same : view_of c.claim.new.self ≡ view_of c.args.self.now = rw (c.in-Err.ensures.err.1, others.0, others.1, others.2, others.3, others.4, others.5, others.6) refl in
-    not_claimed g.D.Dispatch.means g.D.Idle.IdleCallback.runs g.P.Poller.outside (view_of c.args.self.now) (g.D.Choice.held (record { source = c.args.source; callback = c.args.callback })) c.in-Err.error (view_of c.claim.new.self)
-    (rw (sym (g.met.D.Hold.held_means.needs (record { source = c.args.source; callback = c.args.callback }) ∙ c.needs_extra_lifecycle_events-needed.ensures c.args.source)) at c.in-Err.ensures.err.0) same
+    rw c.from.ensures (not_claimed g.D.Dispatch.means g.D.Idle.IdleCallback.runs g.P.Poller.outside (view_of c.args.self.now) (g.D.Choice.held (record { source = c.args.source; callback = c.args.callback })) (claim_error c.in-Err.refusal) (view_of c.claim.new.self)
+    (rw (sym (g.met.D.Hold.held_means.needs (record { source = c.args.source; callback = c.args.callback }) ∙ c.needs_extra_lifecycle_events-needed.ensures c.args.source)) at c.in-Err.ensures.err.0) same)
 
 pub returns-in-Ok-register : goal.returns-in-Ok-register
 returns-in-Ok-register g c =

@@ -1,6 +1,7 @@
 use Rattle.std.proofs.Common.{◌≡◌, sym}
 use Rattle.calloop_wake.specs.declared.list.Content.TheVariants.{Source}
 use Rattle.calloop_wake.specs.Slots.{named}
+use Rattle.calloop_wake.specs.Failures.{with_error}
 use Rattle.calloop_wake.proofs.Named.{source_is}
 use Rattle.calloop.specs.Machine.{view_of}
 use Rattle.calloop.specs.Roles.{only, is_callers}
@@ -13,6 +14,6 @@ returns-in_err-source g c = rw (c.from_residual.ensures, c.in_err-source.ensures
 pub returns : goal.returns
 returns g c =
     let is : only (is_callers g.D.Dispatch.means) (named c.args.self.now.sources c.args.token) ≡ Source c.in_ok-source.source = source_is (only (is_callers g.D.Dispatch.means) (named c.args.self.now.sources c.args.token)) c.in_ok-source.source (sym c.in_ok-source.ensures.value) in
-    removed g.D.Dispatch.means g.D.Idle.IdleCallback.runs g.P.Poller.outside (view_of c.args.self.now) c.args.token c.in_ok-source.source c.unregister-told.new.source c.unregister-told.result (view_of c.unregister-told.new.self) c.note.ensures.0
+    removed g.D.Dispatch.means g.D.Idle.IdleCallback.runs g.P.Poller.outside (view_of c.args.self.now) c.args.token c.in_ok-source.source c.unregister-told.new.source (with_error c.unregister-told.result c.unregister-told.new.failure) (view_of c.unregister-told.new.self) c.note.ensures.0
     c.note.new.self.errors.items c.note.ensures.1 is
     (rw (c.vacate.ensures, c.in_ok-source.ensures.list) at c.unregister-told.ensures)

@@ -1,7 +1,6 @@
 use Rattle.std.proofs.lemmas.Result.{err_from_is_err_and}
 use Rattle.calloop_core.specs.Polls.{polls_after}
-use Rattle.std.proofs.Common.{◌&&◌, List, [], true, Err, inl, inr, refl, ap, ◌∙◌}
-use Rattle.calloop_wake.specs.declared.error.Error.{Error}
+use Rattle.std.proofs.Common.{◌&&◌, List, [], true, inl, inr, refl, ap, ◌∙◌}
 use Rattle.calloop_wake.specs.declared.token.RegistrationToken.{RegistrationToken}
 use Rattle.calloop_core.specs.Polls.{PollView, poll_view}
 use Rattle.calloop.specs.Held.{Held, Listed, held_after}
@@ -14,7 +13,7 @@ returns g c =
     let v : View g.row.D.Denot g.row.D-Idle.Denot g.row.P.Denot = view_of c.args.self.now in
     let needs = g.D.Dispatch.means.needs c.args.source.now in
     let r = rw c.new-factory.ensures at c.in_ok-reregister.ensures in
-    let entry = entered_done needs c.args.token v.held c.enter.new.self.tokens.items (rw (c.needs_extra_lifecycle_events-needed.ensures, c.in_ok-reserve_for.ensures.same) at c.enter.ensures) in (
+    let entry = entered_done needs c.args.token v.held c.enter.new.self.tokens.items (rw (c.needs_extra_lifecycle_events-needed.ensures, c.reserve_for.ensures.same) at c.enter.ensures) in (
       r.0,
       inr (c.reregister.new.factory, r.1),
       r.2.0,
@@ -25,27 +24,26 @@ returns g c =
 pub returns-in_err-reregister : goal.returns-in_err-reregister
 returns-in_err-reregister g c =
     let v : View g.row.D.Denot g.row.D-Idle.Denot g.row.P.Denot = view_of c.args.self.now in
-    let p = err_from_is_err_and c.from_residual-in_err-reregister.result c.from_residual-in_err-reregister.ensures.1 in
+    let p = err_from_is_err_and c.from_residual.result c.from_residual.ensures.1 in
     let r = rw c.new-factory.ensures at c.in_err-reregister.ensures in
     let entry = entered_not (g.D.Dispatch.means.needs c.args.source.now) c.args.token v.held in
-    rw (p.1, p.2) (
+    rw p.1 (
       r.0,
       inr (c.reregister.new.factory, r.1),
       r.2.0,
-      ap (λ (l : List RegistrationToken). record v { slots = v.slots; poll = poll_view c.reregister.new.poll; held = record v.held { lifecycle = l } }) c.in_ok-reserve_for.ensures.same
+      ap (λ (l : List RegistrationToken). record v { slots = v.slots; poll = poll_view c.reregister.new.poll; held = record v.held { lifecycle = l } }) c.reserve_for.ensures.same
           ∙ ap (λ (q : PollView g.row.P.Denot). record v { poll = q }) r.2.1
           ∙ ap (λ (h : Held g.row.D.Denot g.row.D-Idle.Denot). record v { slots = v.slots; poll = polls_after v.poll r.0; held = h }) entry,
     )
 
-pub returns-in_err-reserve_for : goal.returns-in_err-reserve_for
-returns-in_err-reserve_for g c =
+pub returns-in-Err : goal.returns-in-Err
+returns-in-Err g c =
     let v : View g.row.D.Denot g.row.D-Idle.Denot g.row.P.Denot = view_of c.args.self.now in
-    let p = err_from_is_err_and c.from_residual.result c.from_residual.ensures.1 in
-    let err = rw c.needs_extra_lifecycle_events-needed.ensures at c.in_err-reserve_for.ensures.err in
+    let err = rw c.needs_extra_lifecycle_events-needed.ensures at c.in-Err.ensures.err in
     let entry = entered_not (g.D.Dispatch.means.needs c.args.source.now) c.args.token v.held in
-    rw (p.1, p.2) (
+    (
       [],
-      inl (err.0, ap (λ (e : Error). Err e) err.2, refl, refl, err.1),
+      inl (err.0, refl, refl, refl, err.1),
       tt,
-      ap (λ (l : List RegistrationToken). record v { held = record v.held { lifecycle = l } }) c.in_err-reserve_for.ensures.same ∙ ap (λ (h : Held g.row.D.Denot g.row.D-Idle.Denot). record v { held = h }) entry,
+      ap (λ (l : List RegistrationToken). record v { held = record v.held { lifecycle = l } }) c.in-Err.ensures.same ∙ ap (λ (h : Held g.row.D.Denot g.row.D-Idle.Denot). record v { held = h }) entry,
     )

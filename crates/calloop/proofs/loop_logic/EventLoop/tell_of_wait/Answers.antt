@@ -14,8 +14,8 @@ returns-in_err-tell_one_of_wait-clause-machine g c timeout x =
     let later = drop (c.loop-place.place + 1) tokens in
     let rest : drop c.loop-place.place tokens ≡ c.at-token.result ∷ later = rest_from tokens c.loop-place.place c.at-token.result (rw c.loop-place.invariant.entries at c.at-token.ensures) in
     let p = err_from_is_err_and c.from_residual.result c.from_residual.ensures.1 in
-    let e = c.in_err-tell_one_of_wait.field-0.0 in
-    rw (p.1, p.2)
+    let e = c.tell_one_of_wait.new.failure in
+    rw p.1
     (goes_on g.D.Dispatch.means g.D.Idle.IdleCallback.runs g.P.Poller.outside (Sleeping timeout tokens x) (Sleeping timeout (c.at-token.result ∷ later) x) (Leaving (Err e) x) (view_of c.args.self.now) (view_of c.loop-place.self) (view_of c.tell_one_of_wait.new.self)
     (rw rest at (c.loop-place.invariant.machine timeout x)) (c.in_err-tell_one_of_wait.ensures.machine timeout later x))
 

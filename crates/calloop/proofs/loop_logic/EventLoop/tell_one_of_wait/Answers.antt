@@ -19,10 +19,10 @@ pub returns-in_err-readiness-clause-machine : goal.returns-in_err-readiness-clau
 returns-in_err-readiness-clause-machine g c timeout later x =
     let is : named c.args.self.now.sources c.args.token ≡ Source c.in-Some.source = source_is (named c.args.self.now.sources c.args.token) c.in-Some.source (sym c.in-Some.ensures.value) in
     let p = err_from_is_err_and c.from_residual.result c.from_residual.ensures.1 in
-    let e = c.in_err-readiness.field-0.0 in
-    rw (p.1, p.2, c.end_turn-none.ensures.list, c.in-Some.ensures.list)
+    let e = c.leave.new.failure in
+    rw (p.1, c.end_turn-none.ensures.list, c.in-Some.ensures.list)
     (slept g.D.Dispatch.means g.D.Idle.IdleCallback.runs g.P.Poller.outside timeout c.args.token later (view_of c.args.self.now) x c.in-Some.source c.before_sleep-answer.new.self (Err e) [] (Leaving (Err e) x) is
-    (c.in_err-readiness.ensures (poll_view c.args.self.now.poll)) (refl, refl) (λ u. tt))
+    (rw c.in_err-readiness.ensures.answer (c.before_sleep-answer.ensures (poll_view c.args.self.now.poll))) (refl, refl) (λ u. tt))
 
 pub returns-in-Some-2-clause-machine : goal.returns-in-Some-2-clause-machine
 returns-in-Some-2-clause-machine g c timeout later x =
@@ -30,11 +30,11 @@ returns-in-Some-2-clause-machine g c timeout later x =
     let given : Readiness × Token = (c.in-Some-2.readiness, c.in-Some-2.token) in
     rw (c.append.ensures.view, c.end_turn-none.ensures.list, c.in-Some.ensures.list)
     (slept g.D.Dispatch.means g.D.Idle.IdleCallback.runs g.P.Poller.outside timeout c.args.token later (view_of c.args.self.now) x c.in-Some.source c.before_sleep-answer.new.self (Ok (Some given)) (Appended (own_event given) ∷ []) (Sleeping timeout later x) is
-    (rw c.in-Some-2.is at (c.in_ok-readiness.ensures (poll_view c.args.self.now.poll))) (refl, refl) (λ u. (refl, tt)))
+    (rw (sym c.in-Some-2.is, c.in_ok-readiness.ensures.answer) (c.before_sleep-answer.ensures (poll_view c.args.self.now.poll))) (refl, refl) (λ u. (refl, tt)))
 
 pub returns-clause-machine : goal.returns-clause-machine
 returns-clause-machine g c timeout later x =
     let is : named c.args.self.now.sources c.args.token ≡ Source c.in-Some.source = source_is (named c.args.self.now.sources c.args.token) c.in-Some.source (sym c.in-Some.ensures.value) in
     rw (c.end_turn-none.ensures.list, c.in-Some.ensures.list)
     (slept g.D.Dispatch.means g.D.Idle.IdleCallback.runs g.P.Poller.outside timeout c.args.token later (view_of c.args.self.now) x c.in-Some.source c.before_sleep-answer.new.self (Ok None) [] (Sleeping timeout later x) is
-    (rw c.in-None.is at (c.in_ok-readiness.ensures (poll_view c.args.self.now.poll))) (refl, refl) (λ u. tt))
+    (rw (sym c.in-None.is, c.in_ok-readiness.ensures.answer) (c.before_sleep-answer.ensures (poll_view c.args.self.now.poll))) (refl, refl) (λ u. tt))

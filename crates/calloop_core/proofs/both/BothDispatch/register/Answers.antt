@@ -1,4 +1,5 @@
 use Rattle.std.proofs.Common.{◌≡◌, rules, refl, inr, Some}
+use Rattle.calloop_wake.specs.Failures.{with_error}
 use Rattle.calloop_core.specs.Polls.{poll_view}
 use Rattle.calloop_core.specs.Deeds.{Registered}
 use Rattle.calloop_core.proofs.Asked.{both_asked}
@@ -10,14 +11,14 @@ returns-else-ne g c =
     let other = c.register-in-Ok in
     let same : one.new.factory.registration ≡ c.args.factory.now.registration = search rules in
     let x = both_asked g.P.Poller.outside g.A.Dispatch.means g.B.Dispatch.means
-    (Registered c.args.factory.now one.result one.new.factory) (Registered one.new.factory other.result other.new.factory)
+    (Registered c.args.factory.now (with_error one.result one.new.failure) one.new.factory) (Registered one.new.factory (with_error other.result other.new.failure) other.new.factory)
     c.args.self.now (record { first = one.new.self; second = other.new.self }) (poll_view c.args.poll.now)
     (poll_view one.new.poll) (poll_view other.new.poll) one.ensures other.ensures in (
       x.0,
       (
-        one.result,
+        with_error one.result one.new.failure,
         one.new.factory,
-        Some (Registered one.new.factory other.result other.new.factory),
+        Some (Registered one.new.factory (with_error other.result other.new.failure) other.new.factory),
         rw c.in-Ok.is (inr (same, c.count_fits.ensures, refl)),
         x.1,
       ),

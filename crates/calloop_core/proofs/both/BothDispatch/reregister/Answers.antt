@@ -1,4 +1,5 @@
 use Rattle.std.proofs.Common.{refl, ◌++◌, []}
+use Rattle.calloop_wake.specs.Failures.{with_error}
 use Rattle.calloop_core.specs.Polls.{poll_view}
 use Rattle.calloop_core.proofs.Stepping.{stepped-append}
 use Rattle.calloop_core.proofs.both.BothDispatch.reregister.Goals as goal
@@ -9,7 +10,7 @@ returns-in-Ok g c =
     let came = c.come_again.ensures in (
       left.0 ++ came.0,
       record {
-        told = c.take_back.result;
+        told = with_error c.take_back.result c.take_back.new.failure;
         between = c.take_back.new.both;
         one = left.0;
         more = came.0;
@@ -26,7 +27,7 @@ returns-in-Err g c =
     let left = c.take_back.ensures in (
       left.0 ++ [],
       record {
-        told = c.take_back.result;
+        told = with_error c.take_back.result c.take_back.new.failure;
         between = c.take_back.new.both;
         one = left.0;
         more = [];
