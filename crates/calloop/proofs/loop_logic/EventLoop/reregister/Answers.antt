@@ -40,8 +40,7 @@ pub returns-in-Err : goal.returns-in-Err
 returns-in-Err g c =
     let v : View g.row.D.Denot g.row.D-Idle.Denot g.row.P.Denot = view_of c.args.self.now in
     let err = rw c.needs_extra_lifecycle_events-needed.ensures at c.in-Err.ensures.err in
-    let entry = entered_not (g.D.Dispatch.means.needs c.args.source.now) c.args.token v.held in
-    (
+    let entry = entered_not (g.D.Dispatch.means.needs c.args.source.now) c.args.token v.held in (
       [],
       inl (err.0, refl, refl, refl, err.1),
       tt,
