@@ -1,5 +1,5 @@
 -- Where an adapter leaves.
-use Rattle.std.proofs.Common.{◌≡◌, refl, [], List, Bool, true, false, Option, Some, None, Result, Ok, Err, inl, inr}
+use Rattle.std.proofs.Common.{◌≡◌, refl, [], List, Option, Some, None, Result, Err, inl, inr}
 use Rattle.std.specs.declared.io.ErrorKind.TheVariants.{NotFound}
 use Rattle.calloop_wake.specs.declared.error.Error.{Error}
 use Rattle.calloop_wake.specs.declared.error.Error.TheVariants.{InvalidToken}
@@ -7,7 +7,7 @@ use Rattle.calloop_wake.specs.declared.token.Token.{Token}
 use Rattle.calloop_core.specs.Pollers.{Outside, Sockets}
 use Rattle.calloop_core.specs.Polls.{PollView, PollStep, IsOfKind, AllStepped}
 use Rattle.calloop.specs.declared.io.adapter.Adapter.{Adapter}
-use Rattle.calloop.specs.Adapters.{TakenOut, Leaves, left_so, IsRefusedSo}
+use Rattle.calloop.specs.Adapters.{TakenOut, Leaves, left_so}
 
 module _ {P R I : Type 0} (sockets : Sockets P I) (O : Outside P) where
   abbrev Left : Option Token → Adapter P R I → PollView P → Result (Unit {0}) Error → Adapter P R I → PollView P → Type 0

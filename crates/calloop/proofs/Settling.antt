@@ -1,5 +1,5 @@
 -- The adapters that were marked are settled, one after the other.
-use Rattle.std.proofs.Common.{◌≡◌, ℕ, ◌≤◌, List, [], ◌∷◌, refl, ap, sym, ◌∙◌, None, Some, Option, Result, Ok, Err, inl, inr, Bool, true, false, length, filter, suc, arith, if◌then◌else◌}
+use Rattle.std.proofs.Common.{◌≡◌, ℕ, ◌≤◌, List, [], ◌∷◌, refl, ap, ◌∙◌, None, Some, Option, Result, Ok, Err, inl, inr, Bool, true, false, length, filter, suc, arith, if◌then◌else◌}
 use Rattle.calloop_wake.specs.declared.error.Error.{Error}
 use Rattle.calloop_wake.specs.declared.list.Content.{Content}
 use Rattle.calloop_wake.specs.declared.list.Content.TheVariants.{Vacant, Source, InTurn}
@@ -10,16 +10,16 @@ use Rattle.calloop_wake.specs.Slots.{changed, with_content, named, source_of, is
 use Rattle.calloop_wake.proofs.Named.{turn_ended, named_changed}
 use Rattle.calloop_core.specs.Pollers.{Outside}
 use Rattle.calloop_core.specs.declared.sys.poll.Poll.{Poll}
-use Rattle.calloop_core.specs.Polls.{PollView, PollStep, polls_after, IsReady}
+use Rattle.calloop_core.specs.Polls.{PollView, polls_after, IsReady}
 use Rattle.calloop_core.specs.Deeds.{Reregistered, Unregistered, Lent}
 use Rattle.calloop_core.specs.Meanings.{Meaning, Does, fresh_factory, Settles, SettledAs}
 use Rattle.calloop_core.specs.declared.sources.Role.{Role}
 use Rattle.calloop_core.specs.declared.sources.Role.TheVariants.{Caller, Adapter}
 use Rattle.calloop.specs.Held.{Unlisted, Warned, Listed, held_after, warned}
 use Rattle.calloop.specs.Askings.{Asks, Runs}
-use Rattle.calloop.specs.Machine.{View, Change, Put, Polls, Holds}
+use Rattle.calloop.specs.Machine.{View, Put, Polls, Holds}
 use Rattle.calloop.specs.Roles.{only, is_adapter, of_adapter}
-use Rattle.calloop.specs.Rules.{Goes, Doing, Settling, Sleeping, SettledIn}
+use Rattle.calloop.specs.Rules.{Goes, Settling, Sleeping, SettledIn}
 use Rattle.calloop.proofs.Roles.{only_source, only_passes}
 use Rattle.calloop.proofs.Going.{goes_by, full_named}
 use Rattle.calloop.proofs.Inserting.{changed_twice}

@@ -1,6 +1,6 @@
 -- An adapter acts under keys of its own registration alone, on no counter, asks the loop for nothing, and its turn never fails.
 -- The impls cite these proofs, so they stand here.
-use Rattle.std.proofs.Common.{◌≡◌, ◌||◌, inl, inr, List, Bool, true, false, is_ok, Option, None, Some, Result, Ok, Err, refl, subst, sym, ℕ}
+use Rattle.std.proofs.Common.{inl, inr, List, Bool, true, false, Option, None, Some, Result, Ok, Err, refl, ℕ}
 use Rattle.calloop_wake.specs.declared.error.Error.{Error}
 use Rattle.calloop_wake.specs.declared.token.Token.{Token}
 use Rattle.calloop_wake.specs.declared.token.RegistrationToken.{RegistrationToken}
@@ -8,9 +8,9 @@ use Rattle.calloop_wake.specs.declared.token.TokenFactory.{TokenFactory}
 use Rattle.calloop_wake.specs.Tokens.{next_token, key_of}
 use Rattle.calloop_core.specs.declared.sys.Interest.{Interest}
 use Rattle.calloop_core.specs.Pollers.{Sockets}
-use Rattle.calloop_core.specs.Tables.{Edit, Enter, Change, Leave}
+use Rattle.calloop_core.specs.Tables.{Leave}
 use Rattle.calloop_core.specs.Polls.{PollView, PollStep}
-use Rattle.calloop_core.specs.Deeds.{Registered, Reregistered, Unregistered, Turned, Slept, Noticed, Lent}
+use Rattle.calloop_core.specs.Deeds.{Registered, Reregistered, Unregistered, Turned, Slept, Noticed}
 use Rattle.calloop_core.specs.Holdings.{Keeps, holds_none}
 use Rattle.calloop_core.specs.Generics.{under_token}
 use Rattle.calloop_core.specs.GenericKeeping.{edits_still, edits_for}

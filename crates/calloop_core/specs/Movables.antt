@@ -1,11 +1,8 @@
 -- A source whose registration can be taken back and made again by a registration anew. Calloop has none: there the parts of a source are
 -- registered anew one by one, each beside what the others still have.
-use Rattle.std.specs.Prelude.{◌≡◌, ℕ, true, false, List, Result, Ok, Err}
+use Rattle.std.specs.Prelude.{true, false, List, Result, Ok, Err}
 use Rattle.calloop_wake.specs.declared.error.Error.{Error}
-use Rattle.calloop_wake.specs.declared.token.Token.{Token}
 use Rattle.calloop_wake.specs.declared.token.TokenFactory.{TokenFactory}
-use Rattle.calloop_wake.specs.declared.token.RegistrationToken.{RegistrationToken}
-use Rattle.calloop_core.specs.declared.sys.Readiness.{Readiness}
 use Rattle.calloop_core.specs.declared.transient.State.{State}
 use Rattle.calloop_core.specs.declared.transient.State.TheVariants.{Keep, Register, Disable, Remove, Replace, Empty}
 use Rattle.calloop_core.specs.declared.movable.Movable.{Movable}
@@ -14,7 +11,7 @@ use Rattle.calloop_core.specs.Deeds.{Deed, Registered, Reregistered, Unregistere
 use Rattle.calloop_core.specs.declared.sources.Role.TheVariants.{Caller}
 use Rattle.calloop_core.specs.Meanings.{Meaning, IsKeeping, KeepsCounters, KeepsHome, seen_as}
 use Rattle.calloop_core.specs.Lawful.{keeping_seen}
-use Rattle.calloop_core.specs.Transients.{Moves, RegisteredAs, ReregisteredAs, coming, state_holds, state_keys, state_fits, state_meaning}
+use Rattle.calloop_core.specs.Transients.{Moves, RegisteredAs, ReregisteredAs, coming, state_holds, state_keys, state_fits}
 use Rattle.calloop_core.specs.Transience.{state_keeps, by_registering}
 
 -- one that comes with the first registration

@@ -1,5 +1,5 @@
 -- Whether a turn of an executor goes on, and that it ends where it doesn't.
-use Rattle.std.proofs.Common.{◌≡◌, ℕ, nat_lt, ◌<◌, ◌≤◌, Bool, true, false, ◌&&◌, not, ◌⊎◌, inl, inr, refl, sym, ◌∙◌, arith, ltb-true}
+use Rattle.std.proofs.Common.{◌≡◌, ℕ, nat_lt, ◌<◌, ◌≤◌, Bool, true, false, ◌&&◌, not, ◌⊎◌, inl, inr, refl, arith, ltb-true}
 use Rattle.std.proofs.lemmas.Bool.Decides.{nat_tests}
 
 both_right : (a b : Bool) → (a && b) ≡ true → b ≡ true

@@ -4,7 +4,7 @@ use Rattle.calloop_wake.specs.declared.error.Error.TheVariants.{IoError}
 use Rattle.calloop_core.specs.Pollers.{nanos_of}
 use Rattle.calloop_core.specs.Polls.{poll_view}
 use Rattle.calloop.specs.Machine.{View, view_of}
-use Rattle.calloop.specs.Rules.{Goes, Settling, Sleeping, Waiting, Noticing, Cutting, Idling, Leaving, DispatchedBy}
+use Rattle.calloop.specs.Rules.{Goes, Settling, Sleeping, Waiting, Noticing, Cutting, Idling, Leaving}
 use Rattle.calloop.proofs.Going.{dispatched, begun_then, polled, not_polled, goes_on}
 use Rattle.calloop.proofs.Settling.{ready_less}
 use Rattle.calloop.proofs.loop_logic.EventLoop.go.Goals as goal

@@ -1,4 +1,4 @@
-use Rattle.std.proofs.Common.{◌≡◌, ℕ, ◌≤◌, Option, drop, vec_len}
+use Rattle.std.proofs.Common.{ℕ, ◌≤◌, Option, drop, vec_len}
 use Rattle.calloop_core.specs.Polls.{IsReady}
 use Rattle.calloop.specs.Machine.{view_of}
 use Rattle.calloop.specs.Rules.{Goes, Settling}

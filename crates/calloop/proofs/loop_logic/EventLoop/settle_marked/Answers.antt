@@ -1,5 +1,4 @@
-use Rattle.std.proofs.Common.{◌≡◌, ℕ, [], List, Some, slice_get}
-use Rattle.calloop_wake.specs.declared.token.RegistrationToken.{RegistrationToken}
+use Rattle.std.proofs.Common.{[]}
 use Rattle.calloop.specs.Machine.{view_of}
 use Rattle.calloop.proofs.Settling.{all_settled}
 use Rattle.calloop.proofs.loop_logic.EventLoop.settle_marked.Goals as goal

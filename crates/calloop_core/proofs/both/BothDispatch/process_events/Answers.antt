@@ -1,4 +1,4 @@
-use Rattle.std.proofs.Common.{refl, ap, sym, Some, None, Ok}
+use Rattle.std.proofs.Common.{refl, ap, Some, None, Ok}
 use Rattle.calloop_wake.specs.Failures.{with_error}
 use Rattle.calloop_core.specs.Polls.{poll_view}
 use Rattle.calloop_core.specs.Deeds.{Turned, lent}
