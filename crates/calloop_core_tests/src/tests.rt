@@ -704,7 +704,8 @@ fn poll_once<Q: Wait, P: Poller, C, R: Wait + Drop>(
     timeout: Option<Duration>,
 ) -> Result<(), Error> {
     poll.reserve(0)?;
-    poll.poll(rt, timeout)
+    poll.poll(rt, timeout)?;
+    Ok(())
 }
 
 fn polls<Q: Wait, P: Poller, C, R: Wait + Drop>(
@@ -855,6 +856,7 @@ fn arms<R: Wait + Drop>(poll: &mut Scripted<R>, alarm: &mut Alarm) -> bool {
         alarm,
         poll,
         &mut factory,
+        &mut Error::OutOfMemory,
     ).is_ok()
 }
 
@@ -865,7 +867,14 @@ fn serve<R: Wait + Drop>(
     moments: &mut Vec<Instant>,
 ) -> Option<PostAction> {
     let event = poll.next_event()?;
-    let answer = alarm.process_events(event.readiness, event.token, poll, moments, &mut ());
+    let answer = alarm.process_events(
+        event.readiness,
+        event.token,
+        poll,
+        moments,
+        &mut (),
+        &mut Error::OutOfMemory,
+    );
     poll.end_event();
     answer.ok()
 }

@@ -17,7 +17,7 @@ use calloop_wake::wake::{
     Debt, Last, LeaveToClose, Notify, OpenedPass, PingTurn, Sender, TakenPass, Twin, covered,
     lost_is_not_covered, schedules_that_there_are, steps_are_the_machines,
 };
-use calloop_wake::wheel::{Instant, TimerWheel};
+use calloop_wake::wheel::{ArmRefusal, Instant, TimerWheel};
 use counted_slot::Fits;
 use std::alloc::{AllocError, Global};
 use std::collections::VecDeque;
@@ -30,6 +30,7 @@ use std::{io, thread};
 
 mod channels;
 mod executors;
+mod locks;
 mod plain;
 
 #[test]
@@ -440,7 +441,12 @@ fn a_cancelled_counter_can_be_armed_again(rt: HostRuntime) {
 #[test]
 fn a_counter_that_was_never_given_is_refused(rt: HostRuntime) {
     let mut wheel = wheel_of(&rt, rt.alloc(), &[20, 20, 30]);
-    assert!(rt; matches!(arm_again(&mut wheel, 3, 10), Err(Error::InvalidToken)));
+    assert!(rt;
+        matches!(
+            arm_again(&mut wheel, 3, 10),
+            Err(ArmRefusal::UnknownCounter)
+        )
+    );
     assert_eq!(rt; wheel.len(), 3);
     assert_eq!(rt; wheel.insert(at(40), Token::from_key(0)).ok(), Some(3));
 }
@@ -981,7 +987,7 @@ fn has_due(wheel: &mut TimerWheel, now: u64, wanted: &[(u64, u64)]) -> bool {
 }
 
 // Arms the counter again, where it isn't armed.
-fn arm_again(wheel: &mut TimerWheel, counter: u64, deadline: u64) -> Result<(), Error> {
+fn arm_again(wheel: &mut TimerWheel, counter: u64, deadline: u64) -> Result<(), ArmRefusal> {
     if wheel.is_armed(counter) {
         return Ok(());
     }

@@ -5,6 +5,7 @@ use calloop_core::idles::QuietIdle;
 use calloop_core::sources::{Asking, Callback, Dispatch, Dispatcher, OneOf, PostAction};
 use calloop_core::sys::script::{ScriptClock, ScriptPoller};
 use calloop_core::timer::{TimeoutAction, Timer};
+use calloop_wake::error::Error;
 use calloop_wake::token::{RegistrationToken, TokenFactory};
 use calloop_wake::wheel::Instant;
 use std::alloc::Global;
@@ -105,13 +106,22 @@ where
     let mut poll = new_poll(rt, alloc);
     let mut choice = choice;
     let mut factory = TokenFactory::new(RegistrationToken::new(0, 0));
-    if choice.register(&mut poll, &mut factory).is_err() || !polls(rt, &mut poll, None) {
+    let mut failure = Error::OutOfMemory;
+    let registered = choice.register(&mut poll, &mut factory, &mut failure);
+    if registered.is_err() || !polls(rt, &mut poll, None) {
         return false;
     }
     let Some(event) = poll.next_event() else {
         return false;
     };
-    let answer = choice.process_events(event.readiness, event.token, &mut poll, moments, &mut ());
+    let answer = choice.process_events(
+        event.readiness,
+        event.token,
+        &mut poll,
+        moments,
+        &mut (),
+        &mut failure,
+    );
     poll.end_event();
     matches!(answer, Ok(PostAction::Remove))
 }

@@ -1,0 +1,86 @@
+//! The lock that the ends of a cell share, taken and read by several threads.
+use calloop_wake::wake::Last;
+use calloop_wake::wake::ghosts::Name;
+use calloop_wake::wake::locked::{Core, Locked};
+use calloop_wake::wake::ping::PingCore;
+use counted_slot::Fits;
+use std::alloc::Global;
+use std::process::Abort;
+use std::sync::{Arc, Wait};
+use std::thread;
+
+#[test]
+fn a_lock_lets_one_thread_in_at_a_time(rt: HostRuntime) {
+    let its_rt = rt.clone().expect(&rt, "a runtime");
+    let lock = new_tally(&rt, rt.alloc());
+    let theirs = Arc::try_clone(&lock).expect(&rt, "a lock");
+    let child = thread::spawn(&rt, move || add(&its_rt, &theirs, 50_000)).expect(&rt, "a thread");
+    add(&rt, &lock, 50_000);
+    child.join(&rt);
+    assert_eq!(rt; count(&rt, &lock), 100_000);
+}
+
+#[test]
+fn a_lock_is_read_while_another_thread_takes_it(rt: HostRuntime) {
+    let its_rt = rt.clone().expect(&rt, "a runtime");
+    let lock = new_tally(&rt, rt.alloc());
+    let theirs = Arc::try_clone(&lock).expect(&rt, "a lock");
+    let child = thread::spawn(&rt, move || add(&its_rt, &theirs, 50_000)).expect(&rt, "a thread");
+    assert!(rt; only_grows(&rt, &lock, 50_000));
+    child.join(&rt);
+    assert_eq!(rt; count(&rt, &lock), 50_000);
+}
+
+// How often somebody had the lock, beside a cell, which alone can end what lies under one.
+struct Tally {
+    core: PingCore,
+    count: u64,
+}
+
+impl Fits for Tally {
+    ghost use Rattle.std.specs.Prelude.{◌≡◌};
+
+    type Tag = Name;
+
+    ghost fits = { λ tag tally. tally.core.name ≡ tag };
+}
+
+impl Core for Tally {
+    fn dissolve(self, last: Last) {
+        let Tally { core, count: _ } = self;
+        core.dissolve(last);
+    }
+}
+
+fn new_tally<R: Abort>(rt: &R, alloc: Global) -> Arc<Locked<Tally>, Global> {
+    let (core, name, _right) = PingCore::new();
+    Arc::new(alloc, Locked::new(Tally { core, count: 0 }, &name)).expect(rt, "a lock")
+}
+
+// Takes the lock so often, and counts each time.
+fn add<R: Wait>(rt: &R, lock: &Locked<Tally>, times: u64) {
+    for _ in 0..times {
+        let mut tally = lock.lock(rt);
+        tally.count = tally.count.wrapping_add(1);
+        lock.unlock(rt, tally);
+    }
+}
+
+fn count<R: Wait>(rt: &R, lock: &Locked<Tally>) -> u64 {
+    let reading = lock.read(rt);
+    let count = reading.core().count;
+    reading.end();
+    count
+}
+
+// Reads the count so often: whether it never went back.
+fn only_grows<R: Wait>(rt: &R, lock: &Locked<Tally>, times: u64) -> bool {
+    let mut last = 0;
+    let mut grows = true;
+    for _ in 0..times {
+        let now = count(rt, lock);
+        grows = grows && last <= now;
+        last = now;
+    }
+    grows
+}
