@@ -1,7 +1,7 @@
 //! Two noting sources as one, without a loop.
 use super::bench::Silent;
 use calloop::{
-    Both, Dispatch, Dispatcher, Movable, Poll, PostAction, Readiness, RegistrationToken,
+    Both, Dispatch, Dispatcher, Error, Movable, Poll, PostAction, Readiness, RegistrationToken,
     TokenFactory,
 };
 use calloop_core::sys::script::{ScriptClock, ScriptPoller};
@@ -60,14 +60,22 @@ where
     R: Wait + Drop,
 {
     let mut factory = TokenFactory::new(RegistrationToken::new(0, 0));
+    let mut failure = Error::OutOfMemory;
     let answer = match call {
-        Asked::Register => both.register(poll, &mut factory),
-        Asked::Reregister => both.reregister(poll, &mut factory),
-        Asked::Unregister => both.unregister(poll),
+        Asked::Register => both.register(poll, &mut factory, &mut failure),
+        Asked::Reregister => both.reregister(poll, &mut factory, &mut failure),
+        Asked::Unregister => both.unregister(poll, &mut failure),
         Asked::Turn => {
             let token = factory.token().ok()?;
             return both
-                .process_events(Readiness::EMPTY, token, poll, &mut (), &mut ())
+                .process_events(
+                    Readiness::EMPTY,
+                    token,
+                    poll,
+                    &mut (),
+                    &mut (),
+                    &mut failure,
+                )
                 .ok();
         }
     };
