@@ -80,7 +80,8 @@ where
     A: Dispatch<P, C, R, X, Q>,
     B: Dispatch<P, C, R, X, Q>,
     ensures { (steps : List (PollStep P))
-        × UnregistersBoth A.means B.means both.old (poll_view poll.old) (with_error result failure.new) steps both.new
+        × UnregistersBoth A.means B.means both.old (poll_view poll.old)
+        (with_error result failure.new) steps both.new
         × AllStepped P.outside (poll_view poll.old) steps (poll_view poll.new) }
 {
     match both.first.unregister(poll, failure) {

@@ -262,7 +262,8 @@ pub trait Dispatch<P: Poller, C, R: Wait + Drop, X, Q: Asking> {
         failure: &mut Error,
     ) -> Result<(), Failed>
         ensures { Does P.outside means self.old (poll_view poll.old)
-            (Registered factory.old (with_error result failure.new) factory.new) self.new (poll_view poll.new) };
+            (Registered factory.old (with_error result failure.new) factory.new)
+            self.new (poll_view poll.new) };
 
     /// Registers the source anew with tokens of the factory.
     fn reregister(
@@ -272,11 +273,13 @@ pub trait Dispatch<P: Poller, C, R: Wait + Drop, X, Q: Asking> {
         failure: &mut Error,
     ) -> Result<(), Failed>
         ensures { Does P.outside means self.old (poll_view poll.old)
-            (Reregistered factory.old (with_error result failure.new) factory.new) self.new (poll_view poll.new) };
+            (Reregistered factory.old (with_error result failure.new) factory.new)
+            self.new (poll_view poll.new) };
 
     /// Takes its registration back.
     fn unregister(&mut self, poll: &mut Poll<P, C, R>, failure: &mut Error) -> Result<(), Failed>
-        ensures { Does P.outside means self.old (poll_view poll.old) (Unregistered (with_error result failure.new)) self.new (poll_view poll.new) };
+        ensures { Does P.outside means self.old (poll_view poll.old)
+            (Unregistered (with_error result failure.new)) self.new (poll_view poll.new) };
 
     /// A turn of the source, for an event of this token.
     fn process_events(
@@ -289,7 +292,8 @@ pub trait Dispatch<P: Poller, C, R: Wait + Drop, X, Q: Asking> {
         failure: &mut Error,
     ) -> Result<PostAction, Failed>
         ensures { Does P.outside means self.old (poll_view poll.old)
-            (Turned readiness token (lent «data».old requests.old (with_error result failure.new) «data».new requests.new))
+            (Turned readiness token
+            (lent «data».old requests.old (with_error result failure.new) «data».new requests.new))
             self.new (poll_view poll.new) };
 
     /// Whether the source is told of waits.

@@ -81,12 +81,12 @@ impl<D: EventDispatcher<P, C, R>, P: Poller, C: Clock, R: Wait + Drop> EventLoop
             (Dispatched result «data».new)) (view_of self.old) (view_of self.new) }
     {
         let mut failure = Error::OutOfMemory;
-        let answer = self.go(rt, timeout, data, &mut failure);
+        let answer = self.dispatch_with(rt, timeout, data, &mut failure);
         with_error(answer, failure)
     }
 
-    // A dispatch. `failure` is `OutOfMemory` before it.
-    fn go<Q: Wait>(
+    // The dispatch, whose error stands in `failure`. That is `OutOfMemory` before it.
+    fn dispatch_with<Q: Wait>(
         &mut self,
         rt: &Q,
         timeout: Option<Duration>,

@@ -45,7 +45,8 @@ impl<D: EventDispatcher<P, C, R>, P: Poller, C: Clock, R: Wait + Drop> EventLoop
             (RegisteredBy D.means Registered token
             (is_listed token (view_of self.old).held.lifecycle) (view_of self.old).poll)
             (entered D.means token)
-            source.old (with_error result failure.new) source.new (view_of self.old) (view_of self.new) }
+            source.old (with_error result failure.new) source.new
+            (view_of self.old) (view_of self.new) }
     {
         let needed = source.needs_extra_lifecycle_events();
         if let Err(_) = self.lifecycle.reserve_for(needed, token) {
@@ -69,7 +70,8 @@ impl<D: EventDispatcher<P, C, R>, P: Poller, C: Clock, R: Wait + Drop> EventLoop
             (RegisteredBy D.means Reregistered token
             (is_listed token (view_of self.old).held.lifecycle) (view_of self.old).poll)
             (entered D.means token)
-            source.old (with_error result failure.new) source.new (view_of self.old) (view_of self.new) }
+            source.old (with_error result failure.new) source.new
+            (view_of self.old) (view_of self.new) }
     {
         let needed = source.needs_extra_lifecycle_events();
         if let Err(_) = self.lifecycle.reserve_for(needed, token) {

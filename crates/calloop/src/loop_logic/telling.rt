@@ -22,7 +22,8 @@ impl<D: EventDispatcher<P, C, R>, P: Poller, C: Clock, R: Wait + Drop> EventLoop
         requires { IsReady 1 self.old.poll }
         ensures machine { (timeout : Option ℕ) (later : List RegistrationToken) (x : D.Data)
             → Goes D.means D.Idle.runs P.outside (Sleeping timeout (token ∷ later) x)
-            (after_telling timeout later (with_error result failure.new) x) (view_of self.old) (view_of self.new) }
+            (after_telling timeout later (with_error result failure.new) x)
+            (view_of self.old) (view_of self.new) }
         ensures ready { (more : ℕ) → IsReady (more + 1) self.old.poll → IsReady more self.new.poll }
         ensures entries { self.new.lifecycle ≡ self.old.lifecycle }
     {

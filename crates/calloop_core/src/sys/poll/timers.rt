@@ -14,7 +14,8 @@ impl<P: Poller, C, R: Wait + Drop> Poll<P, C, R> {
     /// nothing.
     pub fn insert_timer(&mut self, deadline: Instant, token: Token) -> Result<u64, ArmRefusal>
         ensures ok { IfOk result (λ counter. (counter ≡ (poll_view self.old).deadlines.next) × (poll_view self.new ≡ poll_after (poll_view self.old) (Arm deadline token))) }
-        ensures err { IfErr result (λ e. CannotArm (poll_view self.old).deadlines.next (arm_error e) × (poll_view self.new ≡ poll_view self.old)) }
+        ensures err { IfErr result (λ e. CannotArm (poll_view self.old).deadlines.next (arm_error e)
+            × (poll_view self.new ≡ poll_view self.old)) }
     {
         self.wheel.insert(deadline, token)
     }
@@ -29,7 +30,9 @@ impl<P: Poller, C, R: Wait + Drop> Poll<P, C, R> {
     ) -> Result<(), ArmRefusal>
         requires { is_armed counter (poll_view self.old).deadlines ≡ false }
         ensures ok { OnOk result (Allowed P.outside (poll_view self.old) (ArmAgain counter deadline token) × (poll_view self.new ≡ poll_after (poll_view self.old) (ArmAgain counter deadline token))) }
-        ensures err { IfErr result (λ e. CannotArmAgain counter (poll_view self.old).deadlines (arm_error e) × (poll_view self.new ≡ poll_view self.old)) }
+        ensures err { IfErr result (λ e.
+            CannotArmAgain counter (poll_view self.old).deadlines (arm_error e)
+            × (poll_view self.new ≡ poll_view self.old)) }
     {
         self.wheel.insert_reuse(counter, deadline, token)
     }

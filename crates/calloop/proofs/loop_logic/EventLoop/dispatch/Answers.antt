@@ -7,8 +7,8 @@ use Rattle.calloop.proofs.loop_logic.EventLoop.dispatch.Goals as goal
 
 pub returns : goal.returns
 returns g c =
-    let answer = with_error c.go-answer.result c.go-answer.new.failure in
+    let answer = with_error c.dispatch_with-answer.result c.dispatch_with-answer.new.failure in
     rw c.with_error.ensures (record {
-      case = c.go-answer.ensures;
-      machine = did_leads (DispatchedBy g.D.Dispatch.means g.D.Idle.IdleCallback.runs g.P.Poller.outside (nanos_of c.args.timeout) c.args.«data».now answer c.go-answer.new.«data») (view_of c.args.self.now) (view_of c.go-answer.new.self) c.go-answer.ensures;
+      case = c.dispatch_with-answer.ensures;
+      machine = did_leads (DispatchedBy g.D.Dispatch.means g.D.Idle.IdleCallback.runs g.P.Poller.outside (nanos_of c.args.timeout) c.args.«data».now answer c.dispatch_with-answer.new.«data») (view_of c.args.self.now) (view_of c.dispatch_with-answer.new.self) c.dispatch_with-answer.ensures;
     })

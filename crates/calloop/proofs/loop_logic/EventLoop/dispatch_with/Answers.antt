@@ -7,7 +7,7 @@ use Rattle.calloop.specs.Machine.{View, view_of}
 use Rattle.calloop.specs.Rules.{Goes, Settling, Sleeping, Waiting, Noticing, Cutting, Idling, Leaving}
 use Rattle.calloop.proofs.Going.{dispatched, begun_then, polled, not_polled, goes_on}
 use Rattle.calloop.proofs.Settling.{ready_less}
-use Rattle.calloop.proofs.loop_logic.EventLoop.go.Goals as goal
+use Rattle.calloop.proofs.loop_logic.EventLoop.dispatch_with.Goals as goal
 
 pub returns-in_err-tell_of_wait : goal.returns-in_err-tell_of_wait
 returns-in_err-tell_of_wait g c =
