@@ -5,6 +5,9 @@ use Rattle.std.specs.declared.io.ErrorKind.{ErrorKind}
 use Rattle.std.specs.declared.io.ErrorKind.TheVariants.{NotFound}
 use Rattle.std.specs.declared.cmp.Ordering.TheVariants.{Less, Equal, Greater}
 use Rattle.std.specs.Ordering.{nat_cmp, is_eq, match_ordering}
+use Rattle.std.specs.Map.{keys_of}
+use Rattle.std.specs.List.{AllByRecursion}
+use Rattle.std.specs.List.Sorted.{IsStrictlySortedBy}
 use Rattle.calloop_wake.specs.declared.error.Error.{Error}
 use Rattle.calloop_wake.specs.declared.error.Error.TheVariants.{IoError, OutOfMemory}
 use Rattle.calloop_core.specs.declared.sys.Watched.{Watched}
@@ -52,3 +55,23 @@ left_again k w (e ∷ es) none =
       | Equal ↦ λ n is. cc
       | Greater ↦ λ n is. ap (λ o. if is_eq o then with_key k w es else e ∷ without_key k (with_key k w es)) is ∙ ap (λ l. e ∷ l) (left_again k w es n)
     ] none refl
+
+-- nothing stands under a key that is less than all keys
+below_all : (k j : ℕ) (t : Table) → nat_cmp k j ≡ Less → AllByRecursion (λ y. nat_cmp j y ≡ Less) (keys_of t) → watched_at k t ≡ None
+below_all k j [] lt above = refl
+below_all k j (e ∷ es) lt above =
+    let this = above.0 in
+    let rest = below_all k j es lt above.1 in
+    let less : nat_cmp k e.0 ≡ Less = grind arith in
+    ap (λ o. if is_eq o then Some e.1 else watched_at k es) less ∙ rest
+
+-- what stands under a key changes nothing as it is entered again
+pub entered_again : (k : ℕ) (w : Watched) (t : Table) → IsStrictlySortedBy nat_cmp (keys_of t) → watched_at k t ≡ Some w → with_key k w t ≡ t
+unfolding IsStrictlySortedBy
+entered_again k w [] sorted is = cc
+entered_again k w (e ∷ es) sorted is =
+    elim (nat_cmp k e.0) as (λ o. (if is_eq o then Some e.1 else watched_at k es) ≡ Some w → nat_cmp k e.0 ≡ o → match_ordering o ((k, w) ∷ e ∷ es) ((e.0, w) ∷ es) (e ∷ with_key k w es) ≡ e ∷ es) [
+      | Less ↦ λ n is. (let none = below_all k e.0 es is sorted.0 in cc)
+      | Equal ↦ λ n is. (let same : e.1 ≡ w = cc in ap (λ x. (e.0, x) ∷ es) (sym same))
+      | Greater ↦ λ n is. ap (λ l. e ∷ l) (entered_again k w es sorted.1 n)
+    ] is refl

@@ -1,5 +1,8 @@
 //! The table of sockets.
 ghost use Rattle.std.specs.Prelude.{◌≡◌, ◌+◌, true, false, nat_eq, ℕ, List, [], Some};
+ghost use Rattle.std.specs.Map.{keys_of};
+ghost use Rattle.std.specs.Ordering.{nat_cmp};
+ghost use Rattle.std.specs.List.Sorted.{IsStrictlySortedBy};
 ghost use Rattle.calloop_wake.specs.Tokens.{key_of};
 ghost use Rattle.calloop_core.specs.Tables.{Called, CalledFor, call_for, is_known, watched_at, is_in, Enter, Change, Leave};
 ghost use Rattle.calloop_core.specs.Polls.{poll_view, IsReady};
@@ -13,6 +16,7 @@ use super::Poll;
 use crate::sys::{Interest, Mode, Poller, Watched};
 use calloop_wake::error::{Error, Result};
 use calloop_wake::token::Token;
+use std::collections::BTreeMap;
 use std::io;
 use std::sync::Wait;
 
@@ -38,6 +42,15 @@ fn tell<P: Poller>(
     } else {
         Ok(())
     }
+}
+
+// What is waited for under a key. The keys of a table ascend.
+fn watched_at(table: &BTreeMap<u64, Watched>, key: u64) -> Option<Watched>
+    ensures value { result ≡ watched_at key table.now.entries }
+    ensures ordered { IsStrictlySortedBy nat_cmp (keys_of table.now.entries) }
+{
+    let _ = table.len();
+    table.get(&key).copied()
 }
 
 impl<P: Poller, C, R: Wait + Drop> Poll<P, C, R> {
@@ -68,26 +81,29 @@ impl<P: Poller, C, R: Wait + Drop> Poll<P, C, R> {
         }
     }
 
-    // Under the key that it has.
+    // Under the key that it has, with which this stands there. What isn't another isn't entered again.
     fn change(
         &mut self,
         io: &mut P::Io,
-        known: bool,
+        stood: Watched,
         before: Token,
         token: Token,
         watched: Watched,
     ) -> Result<()>
         requires same { key_of before ≡ key_of token }
-        requires there { is_in (key_of before) (poll_view self.old).table ≡ true }
-        requires known { is_known (watched_at (key_of before) (poll_view self.old).table) ≡ known }
+        requires there { watched_at (key_of before) (poll_view self.old).table ≡ Some stood }
+        requires ordered { IsStrictlySortedBy nat_cmp (keys_of (poll_view self.old).table) }
         ensures edit { DidEdit P.outside P.sockets (Change before token watched) (poll_view self.old) io.old result (poll_view self.new) io.new }
         ensures ready { (more : ℕ) → IsReady more self.old → IsReady more self.new }
     {
         let same = token.key();
+        let known = stood.interest.asks();
         match tell(&mut self.poller, io, known, same, watched.interest) {
             Ok(()) => {
-                // The key is there, so it takes no memory.
-                self.table.insert(same, watched)?;
+                if watched != stood {
+                    // The key is there, so it takes no memory.
+                    self.table.insert(same, watched)?;
+                }
                 Ok(())
             }
             Err(fault) => Err(Error::IoError(fault)),
@@ -141,18 +157,17 @@ impl<P: Poller, C, R: Wait + Drop> Poll<P, C, R> {
     {
         let key = token.key();
         let old = before.key();
-        let known = match self.table.get(&old) {
-            Some(watched) => watched.interest.asks(),
-            None => return Err(Error::IoError(io::Error::from(io::ErrorKind::NotFound))),
+        let Some(stood) = watched_at(&self.table, old) else {
+            return Err(Error::IoError(io::Error::from(io::ErrorKind::NotFound)));
         };
         let watched = Watched { interest, mode };
         if old == key {
-            return self.change(io, known, before, token, watched);
+            return self.change(io, stood, before, token, watched);
         }
         if self.table.contains_key(&key) {
             return Err(Error::IoError(io::Error::from(io::ErrorKind::AlreadyExists)));
         }
-        self.change_key(io, known, before, token, watched)
+        self.change_key(io, stood.interest.asks(), before, token, watched)
     }
 
     /// Takes a socket out, and from the poller, unless its interest is empty. A token whose key isn't in the table is refused
