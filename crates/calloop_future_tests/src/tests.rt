@@ -13,161 +13,152 @@ mod streams;
 mod threads;
 mod timeouts;
 
-#[test]
-fn a_turn_polls_1024_futures_and_the_next_one_the_last(rt: HostRuntime) {
-    let acts = [
-        Act::Make,
-        Act::Insert,
-        Act::ScheduleAll(0, 1_025),
-        Act::SaysAll(None, 0, 1_024),
-        Act::Says(None, &[1_024]),
-        Act::Says(Some(100), &[]),
-        Act::Asked(&[Some(0), Some(0), Some(100)]),
-        Act::Names(true),
-    ];
-    assert_eq!(rt; plays(&rt, rt.alloc(), &acts), None);
-}
+// What a test does at a new desk, and what is to come of it.
+const CASES: &[(&str, &[Act<'static>])] = &[
+    (
+        "a_turn_polls_1024_futures_and_the_next_one_the_last",
+        &[
+            Act::Make,
+            Act::Insert,
+            Act::ScheduleAll(0, 1_025),
+            Act::SaysAll(None, 0, 1_024),
+            Act::Says(None, &[1_024]),
+            Act::Says(Some(100), &[]),
+            Act::Asked(&[Some(0), Some(0), Some(100)]),
+            Act::Names(true),
+        ],
+    ),
+    (
+        "after_exactly_1024_futures_the_next_dispatch_does_not_wait",
+        &[
+            Act::Make,
+            Act::Insert,
+            Act::ScheduleAll(0, 1_024),
+            Act::SaysAll(Some(0), 0, 1_024),
+            Act::Says(Some(100), &[]),
+            Act::Asked(&[Some(0), Some(0)]),
+        ],
+    ),
+    (
+        "a_future_that_is_scheduled_after_a_dispatch_comes_in_the_next_one",
+        &[
+            Act::Make,
+            Act::Insert,
+            Act::Says(Some(0), &[]),
+            Act::Schedule(&[42]),
+            Act::Says(Some(100), &[42]),
+            Act::Says(Some(100), &[]),
+            Act::Asked(&[Some(0), Some(0), Some(100)]),
+        ],
+    ),
+    (
+        "results_come_in_the_order_in_which_futures_were_scheduled",
+        &[
+            Act::Make,
+            Act::Schedule(&[3, 1]),
+            Act::Clone,
+            Act::Schedule(&[2]),
+            Act::Insert,
+            Act::Says(Some(100), &[3, 1, 2]),
+            Act::Asked(&[Some(0)]),
+        ],
+    ),
+    (
+        "a_future_that_wakes_itself_is_polled_once_more_behind_the_others",
+        &[
+            Act::Make,
+            Act::Insert,
+            Act::Yield(2, 5),
+            Act::Schedule(&[6]),
+            Act::Says(Some(100), &[6, 5]),
+            Act::Says(Some(100), &[]),
+            Act::Asked(&[Some(0), Some(100)]),
+        ],
+    ),
+    (
+        "a_future_that_is_woken_twice_is_polled_once_more",
+        &[
+            Act::Make,
+            Act::Insert,
+            Act::Wait(7),
+            Act::Says(Some(0), &[]),
+            Act::Polled(1),
+            Act::Wake(2),
+            Act::Says(Some(100), &[7]),
+            Act::Polled(2),
+            Act::Wake(1),
+            Act::Says(Some(100), &[]),
+            Act::Polled(2),
+            Act::Asked(&[Some(0), Some(0), Some(100)]),
+        ],
+    ),
+    (
+        "what_is_woken_while_its_executor_is_disabled_is_polled_once_that_is_enabled",
+        &[
+            Act::Make,
+            Act::Insert,
+            Act::Wait(7),
+            Act::Says(Some(0), &[]),
+            Act::Disable,
+            Act::Wake(1),
+            Act::Schedule(&[8]),
+            Act::Says(Some(100), &[]),
+            Act::Enable,
+            Act::Says(Some(100), &[7, 8]),
+            Act::Asked(&[Some(0), Some(100), Some(0)]),
+        ],
+    ),
+    (
+        "an_executor_without_schedulers_goes_on",
+        &[
+            Act::Make,
+            Act::Insert,
+            Act::Wait(7),
+            Act::Says(Some(0), &[]),
+            Act::Drop,
+            Act::Says(Some(100), &[]),
+            Act::Wake(1),
+            Act::Says(Some(100), &[7]),
+            Act::Asked(&[Some(0), Some(100), Some(0)]),
+            Act::Names(true),
+        ],
+    ),
+    (
+        "an_executor_that_is_removed_drops_its_futures_and_takes_no_more",
+        &[
+            Act::Make,
+            Act::Insert,
+            Act::Fall,
+            Act::Wait(7),
+            Act::Says(Some(0), &[]),
+            Act::Fallen(0),
+            Act::Fall,
+            Act::Remove,
+            Act::Fallen(2),
+            Act::Refused,
+            Act::Wake(1),
+            Act::Says(Some(100), &[]),
+            Act::Asked(&[Some(0), Some(100)]),
+        ],
+    ),
+    (
+        "an_executor_that_never_was_in_a_loop_drops_its_futures",
+        &[
+            Act::Make,
+            Act::Fall,
+            Act::Fallen(0),
+            Act::Leave,
+            Act::Fallen(1),
+            Act::Refused,
+        ],
+    ),
+];
 
 #[test]
-fn after_exactly_1024_futures_the_next_dispatch_does_not_wait(rt: HostRuntime) {
-    let acts = [
-        Act::Make,
-        Act::Insert,
-        Act::ScheduleAll(0, 1_024),
-        Act::SaysAll(Some(0), 0, 1_024),
-        Act::Says(Some(100), &[]),
-        Act::Asked(&[Some(0), Some(0)]),
-    ];
-    assert_eq!(rt; plays(&rt, rt.alloc(), &acts), None);
-}
-
-#[test]
-fn a_future_that_is_scheduled_after_a_dispatch_comes_in_the_next_one(rt: HostRuntime) {
-    let acts = [
-        Act::Make,
-        Act::Insert,
-        Act::Says(Some(0), &[]),
-        Act::Schedule(&[42]),
-        Act::Says(Some(100), &[42]),
-        Act::Says(Some(100), &[]),
-        Act::Asked(&[Some(0), Some(0), Some(100)]),
-    ];
-    assert_eq!(rt; plays(&rt, rt.alloc(), &acts), None);
-}
-
-#[test]
-fn results_come_in_the_order_in_which_futures_were_scheduled(rt: HostRuntime) {
-    let acts = [
-        Act::Make,
-        Act::Schedule(&[3, 1]),
-        Act::Clone,
-        Act::Schedule(&[2]),
-        Act::Insert,
-        Act::Says(Some(100), &[3, 1, 2]),
-        Act::Asked(&[Some(0)]),
-    ];
-    assert_eq!(rt; plays(&rt, rt.alloc(), &acts), None);
-}
-
-#[test]
-fn a_future_that_wakes_itself_is_polled_once_more_behind_the_others(rt: HostRuntime) {
-    let acts = [
-        Act::Make,
-        Act::Insert,
-        Act::Yield(2, 5),
-        Act::Schedule(&[6]),
-        Act::Says(Some(100), &[6, 5]),
-        Act::Says(Some(100), &[]),
-        Act::Asked(&[Some(0), Some(100)]),
-    ];
-    assert_eq!(rt; plays(&rt, rt.alloc(), &acts), None);
-}
-
-#[test]
-fn a_future_that_is_woken_twice_is_polled_once_more(rt: HostRuntime) {
-    let acts = [
-        Act::Make,
-        Act::Insert,
-        Act::Wait(7),
-        Act::Says(Some(0), &[]),
-        Act::Polled(1),
-        Act::Wake(2),
-        Act::Says(Some(100), &[7]),
-        Act::Polled(2),
-        Act::Wake(1),
-        Act::Says(Some(100), &[]),
-        Act::Polled(2),
-        Act::Asked(&[Some(0), Some(0), Some(100)]),
-    ];
-    assert_eq!(rt; plays(&rt, rt.alloc(), &acts), None);
-}
-
-#[test]
-fn what_is_woken_while_its_executor_is_disabled_is_polled_once_that_is_enabled(rt: HostRuntime) {
-    let acts = [
-        Act::Make,
-        Act::Insert,
-        Act::Wait(7),
-        Act::Says(Some(0), &[]),
-        Act::Disable,
-        Act::Wake(1),
-        Act::Schedule(&[8]),
-        Act::Says(Some(100), &[]),
-        Act::Enable,
-        Act::Says(Some(100), &[7, 8]),
-        Act::Asked(&[Some(0), Some(100), Some(0)]),
-    ];
-    assert_eq!(rt; plays(&rt, rt.alloc(), &acts), None);
-}
-
-#[test]
-fn an_executor_without_schedulers_goes_on(rt: HostRuntime) {
-    let acts = [
-        Act::Make,
-        Act::Insert,
-        Act::Wait(7),
-        Act::Says(Some(0), &[]),
-        Act::Drop,
-        Act::Says(Some(100), &[]),
-        Act::Wake(1),
-        Act::Says(Some(100), &[7]),
-        Act::Asked(&[Some(0), Some(100), Some(0)]),
-        Act::Names(true),
-    ];
-    assert_eq!(rt; plays(&rt, rt.alloc(), &acts), None);
-}
-
-#[test]
-fn an_executor_that_is_removed_drops_its_futures_and_takes_no_more(rt: HostRuntime) {
-    let acts = [
-        Act::Make,
-        Act::Insert,
-        Act::Fall,
-        Act::Wait(7),
-        Act::Says(Some(0), &[]),
-        Act::Fallen(0),
-        Act::Fall,
-        Act::Remove,
-        Act::Fallen(2),
-        Act::Refused,
-        Act::Wake(1),
-        Act::Says(Some(100), &[]),
-        Act::Asked(&[Some(0), Some(100)]),
-    ];
-    assert_eq!(rt; plays(&rt, rt.alloc(), &acts), None);
-}
-
-#[test]
-fn an_executor_that_never_was_in_a_loop_drops_its_futures(rt: HostRuntime) {
-    let acts = [
-        Act::Make,
-        Act::Fall,
-        Act::Fallen(0),
-        Act::Leave,
-        Act::Fallen(1),
-        Act::Refused,
-    ];
-    assert_eq!(rt; plays(&rt, rt.alloc(), &acts), None);
+fn each_case_goes_as_it_is_to(rt: HostRuntime) {
+    for (name, acts) in CASES {
+        assert_eq!(rt; plays(&rt, rt.alloc(), acts), None, "{name}");
+    }
 }
 
 #[test]

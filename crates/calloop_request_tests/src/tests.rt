@@ -5,241 +5,235 @@ use stand::{Act, plays};
 mod asker;
 mod stand;
 
-#[test]
-fn requests_with_a_dead_token_are_refused_and_the_rest_is_carried_out(rt: HostRuntime) {
-    let dead = named(1, 0);
-    let wishes = [
-        Wish::Enable(dead),
-        Wish::Remove(dead),
-        Wish::Insert(1, PostAction::Continue),
-    ];
-    let acts = [
-        Act::Ping(7, &wishes),
-        Act::Timer(9, 8, &[]),
-        Act::Remove(dead),
-        Act::Ring(0),
-        Act::Says(Some(0), &[7]),
-        Act::Told(
-            0,
-            &[
-                ("invalid token", None),
-                ("none", None),
-                ("inserted", Some((1, 1))),
-            ],
-        ),
-        Act::Untold(0),
-        Act::Untold(2),
-    ];
-    assert_eq!(rt; plays(&rt, rt.alloc(), &acts), None);
-}
+// What a test does at a new stand, and what is to come of it.
+const CASES: &[(&str, &[Act<'static>])] = &[
+    (
+        "requests_with_a_dead_token_are_refused_and_the_rest_is_carried_out",
+        &[
+            Act::Ping(
+                7,
+                &[
+                    Wish::Enable((1, 0)),
+                    Wish::Remove((1, 0)),
+                    Wish::Insert(1, PostAction::Continue),
+                ],
+            ),
+            Act::Timer(9, 8, &[]),
+            Act::Remove((1, 0)),
+            Act::Ring(0),
+            Act::Says(Some(0), &[7]),
+            Act::Told(
+                0,
+                &[
+                    ("invalid token", None),
+                    ("none", None),
+                    ("inserted", Some((1, 1))),
+                ],
+            ),
+            Act::Untold(0),
+            Act::Untold(2),
+        ],
+    ),
+    (
+        "a_source_that_a_callback_removes_is_not_called_behind_it",
+        &[
+            Act::Ping(1, &[Wish::Remove((1, 0))]),
+            Act::Ping(2, &[]),
+            Act::Ring(0),
+            Act::Ring(1),
+            Act::Says(Some(100), &[1]),
+            Act::Told(0, &[("removed", None)]),
+            Act::Says(Some(100), &[]),
+            Act::Asked(&[Some(0), Some(100)]),
+        ],
+    ),
+    (
+        "a_timer_that_is_updated_in_the_batch_is_called_in_the_next_one",
+        &[
+            Act::Timer(0, 1, &[Wish::Update((1, 0))]),
+            Act::Timer(0, 2, &[]),
+            Act::Says(Some(100), &[1]),
+            Act::Says(Some(100), &[2]),
+            Act::Says(Some(100), &[]),
+            Act::Asked(&[Some(0), Some(0), Some(100)]),
+        ],
+    ),
+    (
+        "a_callback_that_replaces_its_source_gets_the_next_version_of_the_slot",
+        &[
+            Act::Counter(
+                Some(PostAction::Continue),
+                1,
+                &[Wish::Remove((0, 0)), Wish::Insert(1, PostAction::Continue)],
+            ),
+            Act::Script(0, &[0, 65536, 0]),
+            Act::Says(Some(0), &[1, 9]),
+            Act::Told(0, &[("removed", None), ("inserted", Some((0, 1)))]),
+            Act::Names((0, 0), false),
+            Act::Names((0, 1), true),
+        ],
+    ),
+    (
+        "a_pending_update_does_not_count_beside_disable",
+        &[
+            Act::Counter(
+                Some(PostAction::Disable),
+                1,
+                &[Wish::Update((0, 0)), Wish::Enable((0, 0))],
+            ),
+            Act::Script(0, &[0]),
+            Act::Says(Some(0), &[1]),
+            Act::Told(0, &[("done", None), ("own turn", None)]),
+            Act::Counts((0, 0), 1, 1),
+        ],
+    ),
+    (
+        "the_last_of_two_pending_actions_counts_beside_continue",
+        &[
+            Act::Counter(
+                Some(PostAction::Continue),
+                1,
+                &[Wish::Update((0, 0)), Wish::Disable((0, 0))],
+            ),
+            Act::Script(0, &[0]),
+            Act::Says(Some(0), &[1]),
+            Act::Counts((0, 0), 1, 1),
+        ],
+    ),
+    (
+        "the_last_of_two_pending_actions_counts_beside_continue_and_the_other_way_round",
+        &[
+            Act::Counter(
+                Some(PostAction::Continue),
+                2,
+                &[Wish::Disable((0, 0)), Wish::Update((0, 0))],
+            ),
+            Act::Script(0, &[0]),
+            Act::Says(Some(0), &[2]),
+            Act::Counts((0, 0), 2, 0),
+        ],
+    ),
+    (
+        "two_requests_that_change_one_slot_are_carried_out_in_order",
+        &[
+            Act::Ping(
+                7,
+                &[
+                    Wish::Disable((1, 0)),
+                    Wish::Enable((1, 0)),
+                    Wish::Remove((1, 0)),
+                    Wish::Register(0),
+                    Wish::Register(1),
+                ],
+            ),
+            Act::Counter(Some(PostAction::Continue), 1, &[]),
+            Act::Ring(0),
+            Act::Says(Some(0), &[7]),
+            Act::Told(
+                0,
+                &[
+                    ("done", None),
+                    ("done", None),
+                    ("removed", None),
+                    ("not inserted", None),
+                    ("inserted", Some((1, 2))),
+                ],
+            ),
+        ],
+    ),
+    (
+        "a_ping_whose_callback_registers_a_dispatcher_is_called",
+        &[
+            Act::Ping(7, &[Wish::Register(1)]),
+            Act::Ring(0),
+            Act::Says(Some(0), &[7]),
+            Act::Told(0, &[("inserted", Some((1, 0)))]),
+        ],
+    ),
+    (
+        "an_idle_cancels_another_and_the_idle_that_it_asks_for_waits",
+        &[
+            Act::Idle(1, Some(1)),
+            Act::Idle(2, None),
+            Act::Says(Some(0), &[1]),
+            Act::Told(0, &[("done", None), ("done", None)]),
+            Act::Says(Some(0), &[101]),
+            Act::Says(Some(0), &[]),
+        ],
+    ),
+    (
+        "idles_run_once_in_their_order_behind_the_batch",
+        &[
+            Act::Ping(
+                1,
+                &[Wish::Idle(5, None), Wish::Idle(6, None), Wish::Cancel(1)],
+            ),
+            Act::Idle(4, None),
+            Act::Idle(3, None),
+            Act::Cancel(1),
+            Act::Ring(0),
+            Act::Says(Some(0), &[1, 4, 6]),
+            Act::Says(Some(0), &[]),
+        ],
+    ),
+    (
+        "a_cancel_of_an_idle_that_ran_does_nothing",
+        &[
+            Act::Idle(1, None),
+            Act::Idle(2, None),
+            Act::Says(Some(0), &[1, 2]),
+            Act::Cancel(0),
+            Act::Cancel(0),
+            Act::Says(Some(0), &[]),
+        ],
+    ),
+    (
+        "no_idle_runs_behind_an_error",
+        &[
+            Act::Counter(None, 1, &[Wish::Idle(5, None)]),
+            Act::Script(0, &[0]),
+            Act::Fails(&[1]),
+            Act::Says(Some(0), &[5]),
+        ],
+    ),
+    (
+        "answers_are_gone_when_the_next_dispatch_has_begun",
+        &[
+            Act::Ping(7, &[Wish::Register(1)]),
+            Act::Ring(0),
+            Act::Says(Some(0), &[7]),
+            Act::Says(Some(0), &[]),
+            Act::Untold(0),
+            Act::Ring(0),
+            Act::Says(Some(0), &[7]),
+            Act::Untold(0),
+            Act::Told(1, &[("inserted", Some((2, 0)))]),
+        ],
+    ),
+    (
+        "calls_as_values_queue_and_cancel_idles_and_hand_out_answers_once",
+        &[
+            Act::Ping(7, &[Wish::Register(1)]),
+            Act::Queues(3, false),
+            Act::Queues(4, true),
+            Act::Ring(0),
+            Act::Says(Some(0), &[7, 3]),
+            Act::Answers(0, ("inserted", Some((1, 0)))),
+            Act::Untold(0),
+        ],
+    ),
+];
 
 #[test]
-fn a_source_that_a_callback_removes_is_not_called_behind_it(rt: HostRuntime) {
-    let acts = [
-        Act::Ping(1, &[Wish::Remove(named(1, 0))]),
-        Act::Ping(2, &[]),
-        Act::Ring(0),
-        Act::Ring(1),
-        Act::Says(Some(100), &[1]),
-        Act::Told(0, &[("removed", None)]),
-        Act::Says(Some(100), &[]),
-        Act::Asked(&[Some(0), Some(100)]),
-    ];
-    assert_eq!(rt; plays(&rt, rt.alloc(), &acts), None);
-}
-
-#[test]
-fn a_timer_that_is_updated_in_the_batch_is_called_in_the_next_one(rt: HostRuntime) {
-    let acts = [
-        Act::Timer(0, 1, &[Wish::Update(named(1, 0))]),
-        Act::Timer(0, 2, &[]),
-        Act::Says(Some(100), &[1]),
-        Act::Says(Some(100), &[2]),
-        Act::Says(Some(100), &[]),
-        Act::Asked(&[Some(0), Some(0), Some(100)]),
-    ];
-    assert_eq!(rt; plays(&rt, rt.alloc(), &acts), None);
-}
-
-#[test]
-fn a_callback_that_replaces_its_source_gets_the_next_version_of_the_slot(rt: HostRuntime) {
-    let own = named(0, 0);
-    let next = named(0, 1);
-    let wishes = [Wish::Remove(own), Wish::Insert(1, PostAction::Continue)];
-    let acts = [
-        Act::Counter(Some(PostAction::Continue), 1, &wishes),
-        Act::Script(0, &[0, 65536, 0]),
-        Act::Says(Some(0), &[1, 9]),
-        Act::Told(0, &[("removed", None), ("inserted", Some((0, 1)))]),
-        Act::Names(own, false),
-        Act::Names(next, true),
-    ];
-    assert_eq!(rt; plays(&rt, rt.alloc(), &acts), None);
-}
-
-#[test]
-fn a_pending_update_does_not_count_beside_disable(rt: HostRuntime) {
-    let own = named(0, 0);
-    let acts = [
-        Act::Counter(
-            Some(PostAction::Disable),
-            1,
-            &[Wish::Update(own), Wish::Enable(own)],
-        ),
-        Act::Script(0, &[0]),
-        Act::Says(Some(0), &[1]),
-        Act::Told(0, &[("done", None), ("own turn", None)]),
-        Act::Counts(own, 1, 1),
-    ];
-    assert_eq!(rt; plays(&rt, rt.alloc(), &acts), None);
-}
-
-#[test]
-fn the_last_of_two_pending_actions_counts_beside_continue(rt: HostRuntime) {
-    let own = named(0, 0);
-    let disables = [Wish::Update(own), Wish::Disable(own)];
-    let acts = [
-        Act::Counter(Some(PostAction::Continue), 1, &disables),
-        Act::Script(0, &[0]),
-        Act::Says(Some(0), &[1]),
-        Act::Counts(own, 1, 1),
-    ];
-    assert_eq!(rt; plays(&rt, rt.alloc(), &acts), None);
-    let updates = [Wish::Disable(own), Wish::Update(own)];
-    let acts = [
-        Act::Counter(Some(PostAction::Continue), 2, &updates),
-        Act::Script(0, &[0]),
-        Act::Says(Some(0), &[2]),
-        Act::Counts(own, 2, 0),
-    ];
-    assert_eq!(rt; plays(&rt, rt.alloc(), &acts), None);
-}
-
-#[test]
-fn two_requests_that_change_one_slot_are_carried_out_in_order(rt: HostRuntime) {
-    let other = named(1, 0);
-    let wishes = [
-        Wish::Disable(other),
-        Wish::Enable(other),
-        Wish::Remove(other),
-        Wish::Register(0),
-        Wish::Register(1),
-    ];
-    let acts = [
-        Act::Ping(7, &wishes),
-        Act::Counter(Some(PostAction::Continue), 1, &[]),
-        Act::Ring(0),
-        Act::Says(Some(0), &[7]),
-        Act::Told(
-            0,
-            &[
-                ("done", None),
-                ("done", None),
-                ("removed", None),
-                ("not inserted", None),
-                ("inserted", Some((1, 2))),
-            ],
-        ),
-    ];
-    assert_eq!(rt; plays(&rt, rt.alloc(), &acts), None);
-}
-
-#[test]
-fn a_ping_whose_callback_registers_a_dispatcher_is_called(rt: HostRuntime) {
-    let acts = [
-        Act::Ping(7, &[Wish::Register(1)]),
-        Act::Ring(0),
-        Act::Says(Some(0), &[7]),
-        Act::Told(0, &[("inserted", Some((1, 0)))]),
-    ];
-    assert_eq!(rt; plays(&rt, rt.alloc(), &acts), None);
-}
-
-#[test]
-fn an_idle_cancels_another_and_the_idle_that_it_asks_for_waits(rt: HostRuntime) {
-    let acts = [
-        Act::Idle(1, Some(1)),
-        Act::Idle(2, None),
-        Act::Says(Some(0), &[1]),
-        Act::Told(0, &[("done", None), ("done", None)]),
-        Act::Says(Some(0), &[101]),
-        Act::Says(Some(0), &[]),
-    ];
-    assert_eq!(rt; plays(&rt, rt.alloc(), &acts), None);
-}
-
-#[test]
-fn idles_run_once_in_their_order_behind_the_batch(rt: HostRuntime) {
-    let wishes = [Wish::Idle(5, None), Wish::Idle(6, None), Wish::Cancel(1)];
-    let acts = [
-        Act::Ping(1, &wishes),
-        Act::Idle(4, None),
-        Act::Idle(3, None),
-        Act::Cancel(1),
-        Act::Ring(0),
-        Act::Says(Some(0), &[1, 4, 6]),
-        Act::Says(Some(0), &[]),
-    ];
-    assert_eq!(rt; plays(&rt, rt.alloc(), &acts), None);
-}
-
-#[test]
-fn a_cancel_of_an_idle_that_ran_does_nothing(rt: HostRuntime) {
-    let acts = [
-        Act::Idle(1, None),
-        Act::Idle(2, None),
-        Act::Says(Some(0), &[1, 2]),
-        Act::Cancel(0),
-        Act::Cancel(0),
-        Act::Says(Some(0), &[]),
-    ];
-    assert_eq!(rt; plays(&rt, rt.alloc(), &acts), None);
-}
-
-#[test]
-fn no_idle_runs_behind_an_error(rt: HostRuntime) {
-    let acts = [
-        Act::Counter(None, 1, &[Wish::Idle(5, None)]),
-        Act::Script(0, &[0]),
-        Act::Fails(&[1]),
-        Act::Says(Some(0), &[5]),
-    ];
-    assert_eq!(rt; plays(&rt, rt.alloc(), &acts), None);
-}
-
-#[test]
-fn answers_are_gone_when_the_next_dispatch_has_begun(rt: HostRuntime) {
-    let acts = [
-        Act::Ping(7, &[Wish::Register(1)]),
-        Act::Ring(0),
-        Act::Says(Some(0), &[7]),
-        Act::Says(Some(0), &[]),
-        Act::Untold(0),
-        Act::Ring(0),
-        Act::Says(Some(0), &[7]),
-        Act::Untold(0),
-        Act::Told(1, &[("inserted", Some((2, 0)))]),
-    ];
-    assert_eq!(rt; plays(&rt, rt.alloc(), &acts), None);
-}
-
-#[test]
-fn calls_as_values_queue_and_cancel_idles_and_hand_out_answers_once(rt: HostRuntime) {
-    let acts = [
-        Act::Ping(7, &[Wish::Register(1)]),
-        Act::Queues(3, false),
-        Act::Queues(4, true),
-        Act::Ring(0),
-        Act::Says(Some(0), &[7, 3]),
-        Act::Answers(0, ("inserted", Some((1, 0)))),
-        Act::Untold(0),
-    ];
-    assert_eq!(rt; plays(&rt, rt.alloc(), &acts), None);
+fn each_case_goes_as_it_is_to(rt: HostRuntime) {
+    for (name, acts) in CASES {
+        assert_eq!(rt; plays(&rt, rt.alloc(), acts), None, "{name}");
+    }
 }
 
 #[test]
 fn the_last_ticket_is_given_and_none_behind_it(rt: HostRuntime) {
-    let token = named(0, 0);
+    let token = RegistrationToken::new(0, 0);
     let mut requests: Requests<(), ()> = Requests::numbered_from(u64::MAX - 1, rt.alloc());
     assert!(rt; requests.update(&token).is_ok());
     assert!(rt; matches!(requests.disable(&token), Err(Error::TooManyTickets)));
@@ -247,8 +241,4 @@ fn the_last_ticket_is_given_and_none_behind_it(rt: HostRuntime) {
         Ok(_) => assert!(rt; false),
         Err(refused) => assert!(rt; matches!(refused.error, Error::TooManyTickets)),
     }
-}
-
-fn named(slot: u32, version: u16) -> RegistrationToken {
-    RegistrationToken::new(slot, version)
 }

@@ -26,7 +26,7 @@ type Rows<'a> = [(Shape, &'a [(u32, Asked)], Shape); 10];
 
 #[test]
 fn a_registration_goes_by_the_table(rt: HostRuntime) {
-    let rows: Rows<'_> = [
+    const ROWS: Rows<'static> = [
         (
             Shape::Kept(true),
             &[(1, Asked::Register)],
@@ -66,12 +66,12 @@ fn a_registration_goes_by_the_table(rt: HostRuntime) {
         ),
         (Shape::Empty, &[], Shape::Empty),
     ];
-    assert_eq!(rt; differs(&rt, rt.alloc(), Call::Register, &rows), None);
+    assert_eq!(rt; differs(&rt, rt.alloc(), Call::Register, &ROWS), None);
 }
 
 #[test]
 fn a_registration_anew_goes_by_the_table(rt: HostRuntime) {
-    let rows: Rows<'_> = [
+    const ROWS: Rows<'static> = [
         (
             Shape::Kept(true),
             &[(1, Asked::Reregister)],
@@ -107,12 +107,12 @@ fn a_registration_anew_goes_by_the_table(rt: HostRuntime) {
         ),
         (Shape::Empty, &[], Shape::Empty),
     ];
-    assert_eq!(rt; differs(&rt, rt.alloc(), Call::Reregister, &rows), None);
+    assert_eq!(rt; differs(&rt, rt.alloc(), Call::Reregister, &ROWS), None);
 }
 
 #[test]
 fn an_unregistration_goes_by_the_table(rt: HostRuntime) {
-    let rows: Rows<'_> = [
+    const ROWS: Rows<'static> = [
         (
             Shape::Kept(true),
             &[(1, Asked::Unregister)],
@@ -140,12 +140,12 @@ fn an_unregistration_goes_by_the_table(rt: HostRuntime) {
         (Shape::GivingWay(false), &[], Shape::Coming),
         (Shape::Empty, &[], Shape::Empty),
     ];
-    assert_eq!(rt; differs(&rt, rt.alloc(), Call::Unregister, &rows), None);
+    assert_eq!(rt; differs(&rt, rt.alloc(), Call::Unregister, &ROWS), None);
 }
 
 #[test]
 fn a_removal_goes_by_the_table(rt: HostRuntime) {
-    let rows: Rows<'_> = [
+    const ROWS: Rows<'static> = [
         (Shape::Kept(true), &[], Shape::Leaving(true)),
         (Shape::Kept(false), &[], Shape::Leaving(false)),
         (Shape::Coming, &[], Shape::Leaving(false)),
@@ -157,12 +157,12 @@ fn a_removal_goes_by_the_table(rt: HostRuntime) {
         (Shape::GivingWay(false), &[], Shape::Leaving(false)),
         (Shape::Empty, &[], Shape::Empty),
     ];
-    assert_eq!(rt; differs(&rt, rt.alloc(), Call::Remove, &rows), None);
+    assert_eq!(rt; differs(&rt, rt.alloc(), Call::Remove, &ROWS), None);
 }
 
 #[test]
 fn a_replacement_goes_by_the_table(rt: HostRuntime) {
-    let rows: [(Shape, &[(u32, Asked)], Shape); 9] = [
+    const ROWS: [(Shape, &[(u32, Asked)], Shape); 9] = [
         (Shape::Kept(true), &[], Shape::GivingWay(true)),
         (Shape::Kept(false), &[], Shape::GivingWay(false)),
         (Shape::Coming, &[], Shape::GivingWay(false)),
@@ -174,10 +174,10 @@ fn a_replacement_goes_by_the_table(rt: HostRuntime) {
         (Shape::GivingWay(false), &[], Shape::GivingWay(false)),
     ];
     let call = Call::Replace(2, None);
-    assert_eq!(rt; differs(&rt, rt.alloc(), call, &rows), None);
-    let handed_back: [(Shape, &[(u32, Asked)], Shape); 1] = [(Shape::Empty, &[], Shape::Empty)];
+    assert_eq!(rt; differs(&rt, rt.alloc(), call, &ROWS), None);
+    const HANDED_BACK: [(Shape, &[(u32, Asked)], Shape); 1] = [(Shape::Empty, &[], Shape::Empty)];
     let call = Call::Replace(2, Some(2));
-    assert_eq!(rt; differs(&rt, rt.alloc(), call, &handed_back), None);
+    assert_eq!(rt; differs(&rt, rt.alloc(), call, &HANDED_BACK), None);
 }
 
 #[test]
@@ -195,7 +195,7 @@ fn a_map_reaches_the_source_that_stays_or_comes(rt: HostRuntime) {
 
 #[test]
 fn a_turn_of_a_kept_source_goes_by_the_table(rt: HostRuntime) {
-    let table = [
+    const TABLE: [(PostAction, PostAction, Shape); 4] = [
         (
             PostAction::Continue,
             PostAction::Continue,
@@ -217,7 +217,7 @@ fn a_turn_of_a_kept_source_goes_by_the_table(rt: HostRuntime) {
             Shape::Leaving(true),
         ),
     ];
-    for (end, answer, after) in table {
+    for (end, answer, after) in TABLE {
         let rows: [(Shape, &[(u32, Asked)], Shape); 1] = [(
             Shape::Kept(true),
             &[(1, Asked::Turn)],
@@ -242,7 +242,7 @@ fn no_other_source_has_a_turn(rt: HostRuntime) {
 
 #[test]
 fn what_is_refused_stands_as_far_as_it_came(rt: HostRuntime) {
-    let table: [(Shape, (u32, Asked), Call, Shape); 8] = [
+    const TABLE: [(Shape, (u32, Asked), Call, Shape); 8] = [
         (
             Shape::Kept(true),
             (1, Asked::Register),
@@ -292,7 +292,7 @@ fn what_is_refused_stands_as_far_as_it_came(rt: HostRuntime) {
             Shape::GivingWay(false),
         ),
     ];
-    for (before, (number, asked), call, after) in table {
+    for (before, (number, asked), call, after) in TABLE {
         let refused = refused(&rt, rt.alloc(), before, (number, asked), call);
         assert_eq!(rt; refused, Some(after));
     }
@@ -370,19 +370,19 @@ fn sources_within_each_other_are_as_a_ping(rt: HostRuntime) {
 #[test]
 fn a_wrapped_ping_that_is_closed_is_gone_and_its_wrapper_stays(rt: HostRuntime) {
     assert_eq!(rt; wrapped_ping(&rt, rt.alloc(), &AS_A_PING), Some((13, true)));
-    let acts = [
+    const ACTS: &[Act<'static>] = &[
         Act::Ring,
         Act::Drop,
         Act::Says(0, &[1]),
         Act::Says(0, &[]),
         Act::Names(true),
     ];
-    assert_eq!(rt; wrapped_ping(&rt, rt.alloc(), &acts), Some((5, true)));
+    assert_eq!(rt; wrapped_ping(&rt, rt.alloc(), ACTS), Some((5, true)));
 }
 
 #[test]
 fn a_source_that_disables_itself_rests_until_it_is_enabled(rt: HostRuntime) {
-    let acts = [
+    const ACTS: &[Act<'static>] = &[
         Act::Ring,
         Act::Says(0, &[1]),
         Act::Ring,
@@ -391,13 +391,13 @@ fn a_source_that_disables_itself_rests_until_it_is_enabled(rt: HostRuntime) {
         Act::Ring,
         Act::Says(0, &[3]),
     ];
-    let played = numbered_ping(&rt, rt.alloc(), Ending::Disable, &acts);
+    let played = numbered_ping(&rt, rt.alloc(), Ending::Disable, ACTS);
     assert_eq!(rt; played, Some((7, Some(4))));
 }
 
 #[test]
 fn a_source_that_removes_itself_is_gone(rt: HostRuntime) {
-    let acts = [
+    const ACTS: &[Act<'static>] = &[
         Act::Ring,
         Act::Says(0, &[1]),
         Act::Ring,
@@ -407,24 +407,24 @@ fn a_source_that_removes_itself_is_gone(rt: HostRuntime) {
         Act::Ring,
         Act::Says(0, &[]),
     ];
-    let played = numbered_ping(&rt, rt.alloc(), Ending::RemoveAbove(2), &acts);
+    let played = numbered_ping(&rt, rt.alloc(), Ending::RemoveAbove(2), ACTS);
     assert_eq!(rt; played, Some((8, None)));
 }
 
 #[test]
 fn a_wrapped_channel_hands_all_out_in_one_dispatch(rt: HostRuntime) {
-    let acts = [
+    const ACTS: &[Act<'static>] = &[
         Act::Says(0, &[0, 1, 2, 3, CLOSED]),
         Act::Says(0, &[]),
         Act::Names(true),
     ];
-    let played = closed_channel(&rt, rt.alloc(), &[0, 1, 2, 3], &acts);
+    let played = closed_channel(&rt, rt.alloc(), &[0, 1, 2, 3], ACTS);
     assert_eq!(rt; played, Some((3, true)));
 }
 
 #[test]
 fn three_pings_are_one_source(rt: HostRuntime) {
-    let acts = [
+    const ACTS: &[Act<'static>] = &[
         Act::Ring,
         Act::Says(0, &[1, 2, 3]),
         Act::Update,
@@ -439,12 +439,12 @@ fn three_pings_are_one_source(rt: HostRuntime) {
         Act::Says(0, &[]),
         Act::Names(true),
     ];
-    assert_eq!(rt; three_pings(&rt, rt.alloc(), &acts), Some(13));
+    assert_eq!(rt; three_pings(&rt, rt.alloc(), ACTS), Some(13));
 }
 
 #[test]
 fn a_ping_and_a_timer_are_one_source(rt: HostRuntime) {
-    let acts = [
+    const ACTS: &[Act<'static>] = &[
         Act::Ring,
         Act::Says(5, &[1]),
         Act::Update,
@@ -455,10 +455,10 @@ fn a_ping_and_a_timer_are_one_source(rt: HostRuntime) {
         Act::Says(20, &[]),
         Act::Names(true),
     ];
-    let leaves = ping_and_timer(&rt, rt.alloc(), TimeoutAction::Drop, &acts);
+    let leaves = ping_and_timer(&rt, rt.alloc(), TimeoutAction::Drop, ACTS);
     assert_eq!(rt; leaves, Some(9));
     let later = TimeoutAction::ToInstant(Instant { nanos: 30_000_000 });
-    let acts = [
+    const AGAIN: &[Act<'static>] = &[
         Act::Says(10, &[5]),
         Act::Ring,
         Act::Says(10, &[1]),
@@ -467,13 +467,13 @@ fn a_ping_and_a_timer_are_one_source(rt: HostRuntime) {
         Act::Enable,
         Act::Says(10, &[5]),
     ];
-    assert_eq!(rt; ping_and_timer(&rt, rt.alloc(), later, &acts), Some(7));
+    assert_eq!(rt; ping_and_timer(&rt, rt.alloc(), later, AGAIN), Some(7));
 }
 
 #[test]
 fn a_boxed_timer_stands_beside_two_pings_as_one(rt: HostRuntime) {
-    let acts = [Act::Says(5, &[]), Act::Says(5, &[5]), Act::Names(false)];
-    assert_eq!(rt; boxed_timer(&rt, rt.alloc(), &acts), Some(3));
+    const ACTS: &[Act<'static>] = &[Act::Says(5, &[]), Act::Says(5, &[5]), Act::Names(false)];
+    assert_eq!(rt; boxed_timer(&rt, rt.alloc(), ACTS), Some(3));
 }
 
 #[test]

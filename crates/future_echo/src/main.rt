@@ -4,8 +4,8 @@
 
 use calloop::futures::{Executor, Scheduler, make_executor};
 use calloop::{
-    Adapter, Dispatcher, Error, MioIo, MioPoller, On, OneOf, Result, Sources, SystemClock,
-    SystemLoop,
+    Adapter, Choice, Dispatcher, Error, EventDispatcher, Here, Keep, MioIo, MioPoller, On, OneOf,
+    Requests, Result, Sources, SystemClock, SystemLoop, There,
 };
 use ends::{Done, End};
 use mio::net::UnixStream;
@@ -41,8 +41,10 @@ impl On<Done, Session, ()> for Keeps {
     }
 }
 
+type Machine<R> = MioPoller<SystemClock<R>>;
+
 type Held<R> = Sources<
-    OneOf<Adapter<MioPoller<SystemClock<R>>, R>, Dispatcher<Executor<End<R>, R>, Keeps>>,
+    OneOf<Adapter<Machine<R>, R>, Dispatcher<Executor<End<R>, R>, Keeps>>,
     Session,
 >;
 
@@ -56,14 +58,22 @@ where
     }
 }
 
-// What the client heard, where both futures end within ten seconds. The client's end is closed by its drop, which ends the server.
-fn talk<R: Wait + Net + Clock + Clone + Drop>(rt: &R, alloc: Global) -> Result<Option<Vec<u8>>> {
-    let mut event_loop: SystemLoop<Held<R>, R> = SystemLoop::system(rt, alloc)?;
+// What the client heard, where both futures end within ten seconds. The client's end is closed by its drop, which ends the server. The loop is over any
+// choice of sources that holds those of the session: what a call does to a loop whose types are written out costs the prover far more.
+fn talk<D, R>(rt: &R, alloc: Global) -> Result<Option<Vec<u8>>>
+where
+    D: EventDispatcher<Machine<R>, SystemClock<R>, R, Data = Session, Idle = ()>,
+    D: Keep<Adapter<Machine<R>, R>, Machine<R>, SystemClock<R>, R, Session, Requests<D>, Here>,
+    D: Choice<Executor<End<R>, R>, Keeps, There<Here>>,
+    R: Wait + Net + Clock + Clone + Drop,
+{
+    let mut event_loop: SystemLoop<D, R> = SystemLoop::system(rt, alloc)?;
     let (near, far) = UnixStream::pair(rt)?;
     let near = event_loop.handle().adapt_io(rt, alloc, MioIo::from(near))?;
     let far = event_loop.handle().adapt_io(rt, alloc, MioIo::from(far))?;
     let (executor, scheduler) = make_executor(rt, alloc)?;
-    event_loop.handle().insert_source(executor, Keeps)?;
+    let held = D::hold(Dispatcher::new(executor, Keeps));
+    event_loop.handle().register_dispatcher(held)?;
     schedule(&scheduler, End::server(near, alloc))?;
     schedule(&scheduler, End::client(far, alloc)?)?;
     let mut session = Session {
@@ -80,7 +90,7 @@ fn talk<R: Wait + Net + Clock + Clone + Drop>(rt: &R, alloc: Global) -> Result<O
 }
 
 fn main(rt: HostRuntime) -> ExitCode {
-    let Ok(Some(heard)) = talk(&rt, rt.alloc()) else {
+    let Ok(Some(heard)) = talk::<Held<HostRuntime>, HostRuntime>(&rt, rt.alloc()) else {
         return ExitCode::FAILURE;
     };
     match rt.stdout().write_all(&heard) {

@@ -27,7 +27,26 @@ where
     C: Clock,
     R: Threads + Wait + time::Clock + Clone + Drop + Send + Sync + 'static,
 {
-    let mut bench: Bench<Held<P, C, R>, P, C, R> = Bench::new(rt, alloc)?;
+    // This alone knows of which types the loop is, and calls nothing else: each such call costs the prover as much as a row.
+    run_over::<Held<P, C, R>, P, C, R>(rt, alloc, row)
+}
+
+fn run_over<D, P, C, R>(rt: &R, alloc: Global, row: &Row) -> Result<u64>
+where
+    D: EventDispatcher<P, C, R, Data = u64, Idle = ()>,
+    D: Choice<PingSource<R>, Counts, Here>,
+    D: Choice<Timer, Counts, Second>,
+    D: Choice<Generic<P>, Counts, Third>,
+    D: Choice<Channel<u64, R>, Counts, Fourth>,
+    D: Choice<Generic<P>, Reads, Fifth>,
+    D: Choice<Executor<Task<C, R>, R>, Counts, Sixth>,
+    D: Choice<Timer, WakesTimeout<R>, Seventh>,
+    P: Measured<C, R>,
+    P::Io: ReadsByte,
+    C: Clock,
+    R: Threads + Wait + time::Clock + Clone + Drop + Send + Sync + 'static,
+{
+    let mut bench: Bench<D, P, C, R> = Bench::new(rt, alloc)?;
     bench.measure(row)?;
     let calls = bench.calls;
     ensure!(

@@ -266,10 +266,19 @@ pub fn both_ends<R: Wait + Clone + Drop>(
 /// What a loop of channels holds.
 pub type Held<R> = Sources<Dispatcher<Channel<u32, R>, Reader>, Vec<u32>>;
 
-/// Plays at a new desk: the place of the first act that isn't as it is wanted, or one behind the last where no desk can be made. Of the tests'
-/// loops its types alone are known here.
+/// Plays at a new desk: the place of the first act that isn't as it is wanted, or one behind the last where no desk can be made. What names the types
+/// of a loop makes one call and owns none: a call on a loop whose types are written out costs the prover as much as a whole test.
 pub fn plays<R: Wait + Clone + Drop>(rt: &R, alloc: Global, acts: &[Act<'_>]) -> Option<usize> {
-    let made: Option<Desk<Held<R>, R>> = Desk::new(rt, alloc);
+    plays_over::<Held<R>, R>(rt, alloc, acts)
+}
+
+fn plays_over<D, R>(rt: &R, alloc: Global, acts: &[Act<'_>]) -> Option<usize>
+where
+    D: EventDispatcher<ScriptPoller, ScriptClock, R, Data = Vec<u32>>,
+    D: Choice<Channel<u32, R>, Reader, Here>,
+    R: Wait + Clone + Drop,
+{
+    let made: Option<Desk<D, R>> = Desk::new(rt, alloc);
     match made {
         Some(mut desk) => desk.play(acts),
         None => Some(acts.len()),

@@ -21,7 +21,7 @@ const EACH: u32 = 1_000;
 fn a_bounded_channel_of_one_is_served_while_its_sender_waits(rt: HostRuntime) -> Result<(), Fail> {
     let (sender, channel) = sync_channel(&rt, rt.alloc(), 1)?;
     let child = spawn(&rt, move || sends_three(sender))?;
-    let said = hears::<Held<HostRuntime>, HostRuntime>(&rt, rt.alloc(), channel);
+    let said = hears(&rt, rt.alloc(), channel);
     assert!(rt; child.join(&rt));
     assert_eq!(rt; said.as_deref(), Some([1, 2, 3, CLOSED].as_slice()));
     Ok(())
@@ -37,7 +37,7 @@ fn numbers_of_three_threads_come_each_in_order_and_then_one_close(
     let one = spawn(&rt, move || sends_from(first, 0))?;
     let two = spawn(&rt, move || sends_from(second, APART))?;
     let three = spawn(&rt, move || sends_from(third, 2 * APART))?;
-    let said = hears::<Held<HostRuntime>, HostRuntime>(&rt, rt.alloc(), channel);
+    let said = hears(&rt, rt.alloc(), channel);
     assert!(rt; one.join(&rt) && two.join(&rt) && three.join(&rt));
     assert_eq!(rt;
         said.map(|said| are_of_three(rt.alloc(), &said)),
@@ -46,8 +46,16 @@ fn numbers_of_three_threads_come_each_in_order_and_then_one_close(
     Ok(())
 }
 
-// What a loop hears of a channel up to its close, in at most 100,000 dispatches of ten milliseconds.
-fn hears<D, R>(rt: &R, alloc: Global, channel: Channel<u32, R>) -> Option<Vec<u32>>
+// What a loop hears of a channel up to its close. This alone knows of which types the loop is.
+fn hears<R>(rt: &R, alloc: Global, channel: Channel<u32, R>) -> Option<Vec<u32>>
+where
+    R: Net + MachineClock + Wait + Clone + Drop,
+{
+    hears_over::<Held<R>, R>(rt, alloc, channel)
+}
+
+// The same, in at most 100,000 dispatches of ten milliseconds.
+fn hears_over<D, R>(rt: &R, alloc: Global, channel: Channel<u32, R>) -> Option<Vec<u32>>
 where
     D: EventDispatcher<MioPoller<SystemClock<R>>, SystemClock<R>, R, Data = Vec<u32>>,
     D: Choice<Channel<u32, R>, Reader, Here>,

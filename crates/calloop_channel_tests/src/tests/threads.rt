@@ -10,14 +10,12 @@ use std::thread::{Threads, spawn};
 
 #[test]
 fn numbers_of_another_thread_come_in_order(rt: HostRuntime) {
-    let heard = hears_a_thread::<Held<HostRuntime>, HostRuntime>(&rt, rt.alloc());
-    assert_eq!(rt; heard, Some(true));
+    assert_eq!(rt; goes(&rt, rt.alloc(), Trial::Numbers), Some(true));
 }
 
 #[test]
 fn a_thread_waits_for_room_while_the_loop_takes_messages(rt: HostRuntime) {
-    let heard = makes_room::<Held<HostRuntime>, HostRuntime>(&rt, rt.alloc());
-    assert_eq!(rt; heard, Some(true));
+    assert_eq!(rt; goes(&rt, rt.alloc(), Trial::Room), Some(true));
 }
 
 #[test]
@@ -30,6 +28,35 @@ fn a_receiver_waits_for_the_messages_of_another_thread(rt: HostRuntime) -> Resul
     assert_eq!(rt; channel.recv(), Err(RecvError));
     assert!(rt; child.join(&rt));
     Ok(())
+}
+
+/// What a test does with a loop of channels, beside a thread.
+#[derive(Clone, Copy)]
+enum Trial {
+    /// The thread sends numbers.
+    Numbers,
+    /// It waits for room.
+    Room,
+}
+
+// Whether it goes as it is to. None where memory is short. This alone knows of which types the loop is.
+fn goes<R>(rt: &R, alloc: Global, trial: Trial) -> Option<bool>
+where
+    R: Threads + Wait + Clone + Drop + Send + Sync + 'static,
+{
+    tries::<Held<R>, R>(rt, alloc, trial)
+}
+
+fn tries<D, R>(rt: &R, alloc: Global, trial: Trial) -> Option<bool>
+where
+    D: EventDispatcher<ScriptPoller, ScriptClock, R, Data = Vec<u32>>,
+    D: Choice<Channel<u32, R>, Reader, Here>,
+    R: Threads + Wait + Clone + Drop + Send + Sync + 'static,
+{
+    match trial {
+        Trial::Numbers => hears_a_thread::<D, R>(rt, alloc),
+        Trial::Room => makes_room::<D, R>(rt, alloc),
+    }
 }
 
 // Whether a loop that runs beside a thread which sends hears all of it, in order.

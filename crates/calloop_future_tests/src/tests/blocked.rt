@@ -1,46 +1,59 @@
 //! Loops that run until a future is done.
-use super::desk::{Held, Reader};
+use super::desk::{Trial, goes};
 use super::job::{Job, Outbox};
-use calloop::futures::Executor;
-use calloop::{Choice, EventDispatcher, Here, LoopSignal, ScriptLoop};
+use calloop::{EventDispatcher, LoopSignal, ScriptLoop};
 use calloop_core::sys::script::{ScriptClock, ScriptPoller};
 use std::alloc::Global;
 use std::sync::{Arc, Wait};
 
 #[test]
 fn a_ready_future_is_the_answer_without_a_wait(rt: HostRuntime) {
-    let ended = ends::<Held<HostRuntime>, HostRuntime>(&rt, rt.alloc(), Job::Gives(7), u32::MAX);
-    assert_eq!(rt; ended, Some((Some(7), 0)));
+    assert_eq!(rt; goes(&rt, rt.alloc(), Trial::RunsForReady), Some(true));
 }
 
 #[test]
 fn a_future_that_wakes_itself_is_polled_again_after_one_wait(rt: HostRuntime) {
-    let ended = ends::<Held<HostRuntime>, HostRuntime>(
-        &rt,
-        rt.alloc(),
-        Job::Yields(1, 7),
-        u32::MAX,
-    );
-    assert_eq!(rt; ended, Some((Some(7), 1)));
+    assert_eq!(rt; goes(&rt, rt.alloc(), Trial::RunsForYielding), Some(true));
 }
 
 #[test]
 fn a_loop_that_is_stopped_gives_nothing(rt: HostRuntime) {
-    let ended = ends::<Held<HostRuntime>, HostRuntime>(&rt, rt.alloc(), Job::Yields(1, 7), 1);
-    assert_eq!(rt; ended, Some((None, 1)));
+    assert_eq!(rt; goes(&rt, rt.alloc(), Trial::RunsUntilStopped), Some(true));
 }
 
 #[test]
 fn a_future_that_nobody_wakes_is_polled_once(rt: HostRuntime) {
-    let polls = polled_until_stopped::<Held<HostRuntime>, HostRuntime>(&rt, rt.alloc());
-    assert_eq!(rt; polls, Some(1));
+    assert_eq!(rt; goes(&rt, rt.alloc(), Trial::RunsForWaiting), Some(true));
+}
+
+pub fn runs_for_ready<D, R>(rt: &R, alloc: Global) -> Option<bool>
+where
+    D: EventDispatcher<ScriptPoller, ScriptClock, R, Data = Vec<u32>>,
+    R: Wait + Clone + Drop,
+{
+    Some(ends::<D, R>(rt, alloc, Job::Gives(7), u32::MAX)? == (Some(7), 0))
+}
+
+pub fn runs_for_yielding<D, R>(rt: &R, alloc: Global) -> Option<bool>
+where
+    D: EventDispatcher<ScriptPoller, ScriptClock, R, Data = Vec<u32>>,
+    R: Wait + Clone + Drop,
+{
+    Some(ends::<D, R>(rt, alloc, Job::Yields(1, 7), u32::MAX)? == (Some(7), 1))
+}
+
+pub fn runs_until_stopped<D, R>(rt: &R, alloc: Global) -> Option<bool>
+where
+    D: EventDispatcher<ScriptPoller, ScriptClock, R, Data = Vec<u32>>,
+    R: Wait + Clone + Drop,
+{
+    Some(ends::<D, R>(rt, alloc, Job::Yields(1, 7), 1)? == (None, 1))
 }
 
 // What a loop that runs for a future answers, which is stopped at this call, and how many waits were asked, each without limit.
 fn ends<D, R>(rt: &R, alloc: Global, job: Job<R>, stops_at: u32) -> Option<(Option<u32>, usize)>
 where
     D: EventDispatcher<ScriptPoller, ScriptClock, R, Data = Vec<u32>>,
-    D: Choice<Executor<Job<R>, R>, Reader, Here>,
     R: Wait + Clone + Drop,
 {
     let mut event_loop: ScriptLoop<D, R> = ScriptLoop::scripted(rt, alloc).ok()?;
@@ -62,20 +75,16 @@ where
     Some((answer.ok()?, waits.len()))
 }
 
-// How often a future was polled that nobody wakes, in a run that is stopped at its third call.
-fn polled_until_stopped<D, R>(rt: &R, alloc: Global) -> Option<u32>
+// Whether a future is polled once that nobody wakes, in a run that is stopped at its third call.
+pub fn polls_once<D, R>(rt: &R, alloc: Global) -> Option<bool>
 where
     D: EventDispatcher<ScriptPoller, ScriptClock, R, Data = Vec<u32>>,
-    D: Choice<Executor<Job<R>, R>, Reader, Here>,
     R: Wait + Clone + Drop,
 {
     let outbox = Arc::new(alloc, Outbox::new(rt.clone().ok()?)).ok()?;
     let job = Job::Waits(Arc::try_clone(&outbox).ok()?, 7);
-    let (answer, waits) = ends::<D, R>(rt, alloc, job, 3)?;
-    if answer.is_some() || waits != 3 {
-        return None;
-    }
-    Some(outbox.polls())
+    let ended = ends::<D, R>(rt, alloc, job, 3)?;
+    Some(ended == (None, 3) && outbox.polls() == 1)
 }
 
 fn stops_where(signal: &LoopSignal, stops: bool) {

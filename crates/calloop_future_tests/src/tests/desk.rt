@@ -1,5 +1,6 @@
 //! A loop of executors over a scripted poller, and what a test does at it.
 use super::job::{Faller, Job, Outbox};
+use super::{blocked, memory, threads};
 use calloop::futures::{Executor, ExecutorDestroyed, ScheduleError, Scheduler, make_executor};
 use calloop::loop_logic::EventLoop;
 use calloop::{Choice, Dispatcher, Error, EventDispatcher, Here, On, RegistrationToken, Sources};
@@ -8,6 +9,7 @@ use std::alloc::Global;
 use std::ops::Range;
 use std::sync::atomic::{AtomicU32, Ordering};
 use std::sync::{Arc, Wait};
+use std::thread::Threads;
 use std::time::Duration;
 
 /// Says each result.
@@ -257,15 +259,65 @@ where
 }
 
 /// What a loop of executors holds.
-pub type Held<R> = Sources<Dispatcher<Executor<Job<R>, R>, Reader>, Vec<u32>>;
+type Held<R> = Sources<Dispatcher<Executor<Job<R>, R>, Reader>, Vec<u32>>;
 
-/// Plays at a new desk: the place of the first act that isn't as it is wanted, or one behind the last where no desk can be made. Of the tests'
-/// loops its types alone are known here.
+/// Plays at a new desk: the place of the first act that isn't as it is wanted, or one behind the last where no desk can be made. This and `goes` alone
+/// know of which types it is, and call nothing else: a call on a loop whose types are written out costs the prover as much as a whole test.
 pub fn plays<R: Wait + Clone + Drop>(rt: &R, alloc: Global, acts: &[Act<'_>]) -> Option<usize> {
-    let made: Option<Desk<Held<R>, R>> = Desk::new(rt, alloc);
+    plays_over::<Held<R>, R>(rt, alloc, acts)
+}
+
+fn plays_over<D, R>(rt: &R, alloc: Global, acts: &[Act<'_>]) -> Option<usize>
+where
+    D: EventDispatcher<ScriptPoller, ScriptClock, R, Data = Vec<u32>>,
+    D: Choice<Executor<Job<R>, R>, Reader, Here>,
+    R: Wait + Clone + Drop,
+{
+    let made: Option<Desk<D, R>> = Desk::new(rt, alloc);
     match made {
         Some(mut desk) => desk.play(acts),
         None => Some(acts.len()),
+    }
+}
+
+/// What a test does with such a loop, beside acts.
+#[derive(Clone, Copy)]
+pub enum Trial {
+    /// It runs for a future that is ready at once, and for one that wakes itself, which is stopped at a call or isn't.
+    RunsForReady,
+    RunsForYielding,
+    RunsUntilStopped,
+    /// It runs for one that nobody wakes.
+    RunsForWaiting,
+    /// A thread wakes one.
+    Thread,
+    /// Memory is wanting for futures, and for one that it runs for.
+    FuturesWithoutMemory,
+    RunWithoutMemory,
+}
+
+/// Whether it goes as it is to. None where memory is short.
+pub fn goes<R>(rt: &R, alloc: Global, trial: Trial) -> Option<bool>
+where
+    R: Threads + Wait + Clone + Drop + Send + Sync + 'static,
+{
+    tries::<Held<R>, R>(rt, alloc, trial)
+}
+
+fn tries<D, R>(rt: &R, alloc: Global, trial: Trial) -> Option<bool>
+where
+    D: EventDispatcher<ScriptPoller, ScriptClock, R, Data = Vec<u32>>,
+    D: Choice<Executor<Job<R>, R>, Reader, Here>,
+    R: Threads + Wait + Clone + Drop + Send + Sync + 'static,
+{
+    match trial {
+        Trial::RunsForReady => blocked::runs_for_ready::<D, R>(rt, alloc),
+        Trial::RunsForYielding => blocked::runs_for_yielding::<D, R>(rt, alloc),
+        Trial::RunsUntilStopped => blocked::runs_until_stopped::<D, R>(rt, alloc),
+        Trial::RunsForWaiting => blocked::polls_once::<D, R>(rt, alloc),
+        Trial::Thread => threads::is_woken_by_a_thread::<D, R>(rt, alloc),
+        Trial::FuturesWithoutMemory => memory::runs_all::<D, R>(rt, alloc),
+        Trial::RunWithoutMemory => memory::gives_in_block_on::<D, R>(rt, alloc),
     }
 }
 

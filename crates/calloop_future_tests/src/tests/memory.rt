@@ -1,7 +1,7 @@
 //! Futures and streams where memory is wanting: what was refused leaves nothing made, comes back, and goes through at the second try.
 //!
 //! The kit's unproved run has one allocation refused: `rt try --test --fail-alloc N`.
-use super::desk::{self, are_all};
+use super::desk::{self, Trial, are_all, goes};
 use super::job::Job;
 use calloop::futures::{Context, Executor, Poll, ScheduleError, Scheduler, make_executor};
 use calloop::stream::{Stream, StreamSource};
@@ -19,8 +19,10 @@ const COUNT: u32 = 40;
 
 #[test]
 fn want_of_memory_loses_and_doubles_no_future(rt: HostRuntime) {
-    let run = runs_all::<desk::Held<HostRuntime>, HostRuntime>(&rt, rt.alloc());
-    assert_eq!(rt; run, Some(true));
+    assert_eq!(rt;
+        goes(&rt, rt.alloc(), Trial::FuturesWithoutMemory),
+        Some(true)
+    );
 }
 
 #[test]
@@ -31,12 +33,11 @@ fn want_of_memory_loses_no_item_of_a_stream(rt: HostRuntime) {
 
 #[test]
 fn a_loop_without_memory_for_a_future_runs_for_the_next_one(rt: HostRuntime) {
-    let given = gives_in_block_on::<desk::Held<HostRuntime>, HostRuntime>(&rt, rt.alloc());
-    assert_eq!(rt; given, Some(7));
+    assert_eq!(rt; goes(&rt, rt.alloc(), Trial::RunWithoutMemory), Some(true));
 }
 
 // Whether all futures give their numbers, in order and once each, to two schedulers and a loop that had two tries for each call.
-fn runs_all<D, R>(rt: &R, alloc: Global) -> Option<bool>
+pub fn runs_all<D, R>(rt: &R, alloc: Global) -> Option<bool>
 where
     D: EventDispatcher<ScriptPoller, ScriptClock, R, Data = Vec<u32>>,
     D: Choice<Executor<Job<R>, R>, desk::Reader, Here>,
@@ -165,8 +166,8 @@ where
     }
 }
 
-// What a loop gives that runs for a future, or for a second one where there was no memory.
-fn gives_in_block_on<D, R>(rt: &R, alloc: Global) -> Option<u32>
+// Whether a loop that runs for a future, or for a second one where there was no memory, gives what it gives.
+pub fn gives_in_block_on<D, R>(rt: &R, alloc: Global) -> Option<bool>
 where
     D: EventDispatcher<ScriptPoller, ScriptClock, R, Data = Vec<u32>>,
     R: Wait + Clone + Drop,
@@ -174,12 +175,13 @@ where
     let mut event_loop: ScriptLoop<D, R> = loop_of(rt, alloc)?;
     let mut said = Vec::new(alloc);
     let first = event_loop.block_on(rt, alloc, Job::Yields(1, 7), &mut said, |_said| {});
-    match first {
-        Err(Error::OutOfMemory) => event_loop
-            .block_on(rt, alloc, Job::Yields(1, 7), &mut said, |_said| {})
-            .ok()?,
-        given => given.ok()?,
-    }
+    let given = match first {
+        Err(Error::OutOfMemory) => {
+            event_loop.block_on(rt, alloc, Job::Yields(1, 7), &mut said, |_said| {})
+        }
+        given => given,
+    };
+    Some(given.ok()? == Some(7))
 }
 
 fn loop_of<D, R>(rt: &R, alloc: Global) -> Option<ScriptLoop<D, R>>

@@ -16,20 +16,44 @@ const ENDED: u32 = u32::MAX;
 
 #[test]
 fn a_turn_reads_1024_items_and_the_next_one_the_rest_and_the_end(rt: HostRuntime) {
-    let read = is_read_in_two_turns::<Held<HostRuntime>, HostRuntime>(&rt, rt.alloc(), 1_025);
-    assert_eq!(rt; read, Some(true));
+    assert_eq!(rt; goes(&rt, rt.alloc(), Trial::TwoTurns(1_025)), Some(true));
 }
 
 #[test]
 fn the_end_behind_1024_items_is_told_in_the_next_turn(rt: HostRuntime) {
-    let read = is_read_in_two_turns::<Held<HostRuntime>, HostRuntime>(&rt, rt.alloc(), 1_024);
-    assert_eq!(rt; read, Some(true));
+    assert_eq!(rt; goes(&rt, rt.alloc(), Trial::TwoTurns(1_024)), Some(true));
 }
 
 #[test]
 fn a_pending_stream_is_read_on_once_it_is_woken(rt: HostRuntime) {
-    let read = is_woken::<Held<HostRuntime>, HostRuntime>(&rt, rt.alloc());
-    assert_eq!(rt; read, Some(true));
+    assert_eq!(rt; goes(&rt, rt.alloc(), Trial::Woken), Some(true));
+}
+
+/// What a test does with a loop of a stream.
+#[derive(Clone, Copy)]
+enum Trial {
+    /// A stream of so many items is read in two turns.
+    TwoTurns(u32),
+    /// One is woken.
+    Woken,
+}
+
+// Whether it is read as it is to. None where memory is short. This alone knows of which types the loop is.
+fn goes<R: Wait + Clone + Drop>(rt: &R, alloc: Global, trial: Trial) -> Option<bool> {
+    tries::<Held<R>, R>(rt, alloc, trial)
+}
+
+fn tries<D, R>(rt: &R, alloc: Global, trial: Trial) -> Option<bool>
+where
+    R: Wait + Clone + Drop,
+    D: EventDispatcher<ScriptPoller, ScriptClock, R, Data = Vec<u32>>,
+    Numbers<R>: Stream<R, Item = u32>,
+    D: Choice<StreamSource<Numbers<R>, R>, Reader, Here>,
+{
+    match trial {
+        Trial::TwoTurns(end) => is_read_in_two_turns::<D, R>(rt, alloc, end),
+        Trial::Woken => is_woken::<D, R>(rt, alloc),
+    }
 }
 
 /// Says each item, and the end.

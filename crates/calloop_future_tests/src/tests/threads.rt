@@ -1,5 +1,5 @@
 //! Futures that are woken by another thread.
-use super::desk::{Act, Desk, Held, Reader};
+use super::desk::{Act, Desk, Reader, Trial, goes};
 use super::job::Job;
 use calloop::futures::{Executor, Waker};
 use calloop::{Choice, EventDispatcher, Here};
@@ -10,12 +10,11 @@ use std::thread::{Threads, spawn};
 
 #[test]
 fn a_future_that_a_thread_wakes_twice_is_polled_once_more(rt: HostRuntime) {
-    let finishes = is_woken_by_a_thread::<Held<HostRuntime>, HostRuntime>(&rt, rt.alloc());
-    assert_eq!(rt; finishes, Some(true));
+    assert_eq!(rt; goes(&rt, rt.alloc(), Trial::Thread), Some(true));
 }
 
 // Whether a future that hands its waker to a thread, which wakes it twice and is joined, is polled once more, and finishes.
-fn is_woken_by_a_thread<D, R>(rt: &R, alloc: Global) -> Option<bool>
+pub fn is_woken_by_a_thread<D, R>(rt: &R, alloc: Global) -> Option<bool>
 where
     D: EventDispatcher<ScriptPoller, ScriptClock, R, Data = Vec<u32>>,
     D: Choice<Executor<Job<R>, R>, Reader, Here>,

@@ -174,72 +174,82 @@ where
     }
 }
 
-// Plays at a new loop: the place of the first act that isn't as it is wanted, or one behind the last where no loop can be made.
+// Plays at a new loop: the place of the first act that isn't as it is wanted, or one behind the last where no loop can be made. This alone knows of
+// which types the loop is.
 fn plays<R: Wait + Clone + Drop>(rt: &R, alloc: Global, acts: &[Act<'_>]) -> Option<usize> {
-    let made: Option<Bedroom<Held<R>, R>> = Bedroom::new(rt, alloc);
+    plays_over::<Held<R>, R>(rt, alloc, acts)
+}
+
+fn plays_over<D, R>(rt: &R, alloc: Global, acts: &[Act<'_>]) -> Option<usize>
+where
+    D: EventDispatcher<ScriptPoller, ScriptClock, R, Data = Vec<u32>>,
+    D: Choice<Executor<Sleeper<ScriptClock, R>, R>, Reader, Here>,
+    D: Choice<Timer, WakesTimeout<R>, There<Here>>,
+    R: Wait + Clone + Drop,
+{
+    let made: Option<Bedroom<D, R>> = Bedroom::new(rt, alloc);
     match made {
         Some(mut bedroom) => bedroom.play(acts),
         None => Some(acts.len()),
     }
 }
 
-#[test]
-fn a_future_is_ready_in_the_dispatch_behind_its_moment(rt: HostRuntime) {
-    let acts = [
-        Act::Until(5, 7),
-        Act::Says(Some(0), &[]),
-        Act::Says(Some(10), &[]),
-        Act::Says(Some(0), &[7]),
-        Act::Asked(&[Some(0), Some(5), Some(0)]),
-    ];
-    assert_eq!(rt; plays(&rt, rt.alloc(), &acts), None);
-}
+// What a test does at a new loop, and what is to come of it.
+const CASES: &[(&str, &[Act<'static>])] = &[
+    (
+        "a_future_is_ready_in_the_dispatch_behind_its_moment",
+        &[
+            Act::Until(5, 7),
+            Act::Says(Some(0), &[]),
+            Act::Says(Some(10), &[]),
+            Act::Says(Some(0), &[7]),
+            Act::Asked(&[Some(0), Some(5), Some(0)]),
+        ],
+    ),
+    (
+        "a_moment_that_has_come_is_ready_at_the_first_poll",
+        &[Act::For(0, 7), Act::Says(Some(10), &[7])],
+    ),
+    (
+        "two_futures_are_ready_in_the_order_of_their_moments",
+        &[
+            Act::Until(9, 9),
+            Act::For(4, 4),
+            Act::Says(Some(0), &[]),
+            Act::Says(None, &[]),
+            Act::Says(None, &[4]),
+            Act::Says(None, &[]),
+            Act::Says(None, &[9]),
+            Act::Asked(&[Some(0), Some(4), Some(0), Some(5), Some(0)]),
+        ],
+    ),
+    (
+        "a_moment_that_cannot_be_told_never_comes",
+        &[
+            Act::Never(7),
+            Act::Says(Some(0), &[]),
+            Act::Says(Some(1_000), &[]),
+            Act::Asked(&[Some(0), Some(1_000)]),
+        ],
+    ),
+    (
+        "the_timer_of_a_dropped_future_leaves_the_loop_at_its_moment",
+        &[
+            Act::Leave(5),
+            Act::Says(Some(10), &[]),
+            Act::Says(Some(10), &[]),
+            Act::Asked(&[Some(5), Some(10)]),
+        ],
+    ),
+    (
+        "a_loop_runs_for_a_future_until_its_moment",
+        &[Act::Blocks(5), Act::Asked(&[Some(5)])],
+    ),
+];
 
 #[test]
-fn a_moment_that_has_come_is_ready_at_the_first_poll(rt: HostRuntime) {
-    let acts = [Act::For(0, 7), Act::Says(Some(10), &[7])];
-    assert_eq!(rt; plays(&rt, rt.alloc(), &acts), None);
-}
-
-#[test]
-fn two_futures_are_ready_in_the_order_of_their_moments(rt: HostRuntime) {
-    let acts = [
-        Act::Until(9, 9),
-        Act::For(4, 4),
-        Act::Says(Some(0), &[]),
-        Act::Says(None, &[]),
-        Act::Says(None, &[4]),
-        Act::Says(None, &[]),
-        Act::Says(None, &[9]),
-        Act::Asked(&[Some(0), Some(4), Some(0), Some(5), Some(0)]),
-    ];
-    assert_eq!(rt; plays(&rt, rt.alloc(), &acts), None);
-}
-
-#[test]
-fn a_moment_that_cannot_be_told_never_comes(rt: HostRuntime) {
-    let acts = [
-        Act::Never(7),
-        Act::Says(Some(0), &[]),
-        Act::Says(Some(1_000), &[]),
-        Act::Asked(&[Some(0), Some(1_000)]),
-    ];
-    assert_eq!(rt; plays(&rt, rt.alloc(), &acts), None);
-}
-
-#[test]
-fn the_timer_of_a_dropped_future_leaves_the_loop_at_its_moment(rt: HostRuntime) {
-    let acts = [
-        Act::Leave(5),
-        Act::Says(Some(10), &[]),
-        Act::Says(Some(10), &[]),
-        Act::Asked(&[Some(5), Some(10)]),
-    ];
-    assert_eq!(rt; plays(&rt, rt.alloc(), &acts), None);
-}
-
-#[test]
-fn a_loop_runs_for_a_future_until_its_moment(rt: HostRuntime) {
-    let acts = [Act::Blocks(5), Act::Asked(&[Some(5)])];
-    assert_eq!(rt; plays(&rt, rt.alloc(), &acts), None);
+fn each_case_of_timeouts_goes_as_it_is_to(rt: HostRuntime) {
+    for (name, acts) in CASES {
+        assert_eq!(rt; plays(&rt, rt.alloc(), acts), None, "{name}");
+    }
 }

@@ -58,21 +58,44 @@ where
     R: Wait + Clone + Drop,
 {
     let mut event_loop: ScriptLoop<D, R> = ScriptLoop::scripted(rt, alloc).ok()?;
-    let (ping, source) = make_ping(rt, alloc).ok()?;
-    let asker = Asker {
-        rt: rt.clone().ok()?,
-        alloc,
-    };
-    let held = D::hold(Dispatcher::new(source, asker));
-    event_loop.handle().register_dispatcher(held).ok()?;
-    ping.ping();
     let mut given = Given {
         ticket: None,
         io: None,
     };
-    event_loop
-        .dispatch(rt, Some(Duration::ZERO), &mut given)
-        .ok()?;
+    let rung = rings(rt, alloc, &mut event_loop);
+    let timeout = Some(Duration::ZERO);
+    let is_done = rung && event_loop.dispatch(rt, timeout, &mut given).is_ok();
+    if is_done {
+        slot_of(&mut event_loop, &mut given)
+    } else {
+        None
+    }
+}
+
+// Whether a ping that asks comes into the loop. It is rung, and goes.
+fn rings<D, R>(rt: &R, alloc: Global, event_loop: &mut ScriptLoop<D, R>) -> bool
+where
+    D: EventDispatcher<ScriptPoller, ScriptClock, R, Data = Given<R>>,
+    D: Choice<PingSource<R>, Asker<R>, Here>,
+    R: Wait + Clone + Drop,
+{
+    let Some(own) = rt.clone().ok() else {
+        return false;
+    };
+    let Ok((ping, source)) = make_ping(rt, alloc) else {
+        return false;
+    };
+    let held = D::hold(Dispatcher::new(source, Asker { rt: own, alloc }));
+    ping.ping();
+    event_loop.handle().register_dispatcher(held).is_ok()
+}
+
+// The slot that was given, and the number of the socket that comes back.
+fn slot_of<D, R>(event_loop: &mut ScriptLoop<D, R>, given: &mut Given<R>) -> Option<(u32, u32)>
+where
+    D: EventDispatcher<ScriptPoller, ScriptClock, R, Data = Given<R>>,
+    R: Wait + Clone + Drop,
+{
     let Answer::Inserted(token) = event_loop.handle().answer(given.ticket?)? else {
         return None;
     };

@@ -305,9 +305,29 @@ fn so(is: bool) -> Option<()> {
     if is { Some(()) } else { None }
 }
 
-/// Plays at a new desk: the place of the first act that isn't as it is wanted, or one behind the last where no desk can be made.
+/// Plays at a new desk: the place of the first act that isn't as it is wanted, or one behind the last where no desk can be made. This alone knows of
+/// which types it is, and calls nothing else: a call on a loop whose types are written out costs the prover as much as a whole test.
 pub fn plays<R: Wait + Clone + Drop>(rt: &R, alloc: Global, acts: &[Act<'_>]) -> Option<usize> {
-    let made: Option<Desk<Held<R>, R>> = Desk::new(rt, alloc);
+    plays_over::<Held<R>, R>(rt, alloc, acts)
+}
+
+fn plays_over<D, R>(rt: &R, alloc: Global, acts: &[Act<'_>]) -> Option<usize>
+where
+    D: EventDispatcher<ScriptPoller, ScriptClock, R, Data = Told<R>>,
+    D: Choice<Executor<Looker<R>, R>, Keeps, There<Here>>,
+    D: Choice<Timer, Silent, There<There<Here>>>,
+    D: Keep<
+        Adapter<ScriptPoller, R>,
+        ScriptPoller,
+        ScriptClock,
+        R,
+        Told<R>,
+        Requests<D, <D as EventDispatcher<ScriptPoller, ScriptClock, R>>::Idle>,
+        Here,
+    >,
+    R: Wait + Clone + Drop,
+{
+    let made: Option<Desk<D, R>> = Desk::new(rt, alloc);
     match made {
         Some(mut desk) => desk.play(acts),
         None => Some(acts.len()),

@@ -10,16 +10,24 @@ use calloop_test_sources::source::Counter;
 /// The place of counters in the choice.
 pub type Third = There<There<Here>>;
 
+/// The slot and the version of a registration.
+pub type Named = (u32, u16);
+
+/// The token of a registration.
+pub fn token_of(named: Named) -> RegistrationToken {
+    RegistrationToken::new(named.0, named.1)
+}
+
 /// A request that is to be written.
 #[derive(Clone, Copy)]
 pub enum Wish {
     /// For a counter that can be registered so often, whose turns end so.
     Insert(u32, PostAction),
     Register(u32),
-    Enable(RegistrationToken),
-    Update(RegistrationToken),
-    Disable(RegistrationToken),
-    Remove(RegistrationToken),
+    Enable(Named),
+    Update(Named),
+    Disable(Named),
+    Remove(Named),
     /// For one of this number, which asks for nothing, or for the idle of this place to be cancelled and another idle.
     Idle(u32, Option<usize>),
     /// Of the idle in this place of those that were asked for.
@@ -158,10 +166,10 @@ fn write<D: Choice<Counter, Asker, Third> + Drop>(
             return insert(Counter::new(limit, Some(ends)), said, requests);
         }
         Wish::Register(limit) => return register(limit, said, requests),
-        Wish::Enable(token) => requests.enable(&token).ok(),
-        Wish::Update(token) => requests.update(&token).ok(),
-        Wish::Disable(token) => requests.disable(&token).ok(),
-        Wish::Remove(token) => requests.remove(token).ok(),
+        Wish::Enable(token) => requests.enable(&token_of(token)).ok(),
+        Wish::Update(token) => requests.update(&token_of(token)).ok(),
+        Wish::Disable(token) => requests.disable(&token_of(token)).ok(),
+        Wish::Remove(token) => requests.remove(token_of(token)).ok(),
         Wish::Idle(number, cancels) => {
             said.idle(requests.insert_idle(Note { number, cancels }).ok());
             return;

@@ -1,5 +1,5 @@
 //! A loop of askers over a scripted poller, and what a test does at it.
-use super::asker::{Asker, Note, Said, Third, Wish};
+use super::asker::{Asker, Named, Note, Said, Third, Wish, token_of};
 use calloop::loop_logic::{EventLoop, LoopAnswer, LoopCall};
 use calloop::ping::{Ping, make_ping};
 use calloop::{
@@ -41,7 +41,7 @@ pub enum Act<'a> {
     /// The ping in this place of those that came in is rung.
     Ring(usize),
     /// The source that this names leaves the loop.
-    Remove(RegistrationToken),
+    Remove(Named),
     /// A wait is scripted that gives events of these keys at this moment.
     Script(u64, &'a [u64]),
     /// A dispatch succeeds in which these numbers are said.
@@ -55,9 +55,9 @@ pub enum Act<'a> {
     /// The request in this place has no answer that wasn't handed out.
     Untold(usize),
     /// The counter was registered, and unregistered, so often.
-    Counts(RegistrationToken, u32, u32),
+    Counts(Named, u32, u32),
     /// The token names a source, or none.
-    Names(RegistrationToken, bool),
+    Names(Named, bool),
 }
 
 /// What tests look for in a source with its callback.
@@ -129,16 +129,20 @@ where
             Act::Queues(number, is_cancelled) => self.queues(number, is_cancelled).is_some(),
             Act::Answers(place, told) => self.answers(place, told) == Some(true),
             Act::Ring(place) => self.ring(place),
-            Act::Remove(token) => self.event_loop.handle().remove(token).is_some(),
+            Act::Remove(named) => self.event_loop.handle().remove(token_of(named)).is_some(),
             Act::Script(millis, keys) => self.script(millis, keys),
             Act::Says(timeout, numbers) => self.dispatch(timeout, numbers) == Some(true),
             Act::Fails(numbers) => self.dispatch(None, numbers) == Some(false),
             Act::Asked(waits) => self.asked(waits),
             Act::Told(place, answers) => self.all_told(place, answers),
             Act::Untold(place) => self.told(place).is_none(),
-            Act::Counts(token, registered, left) => self.counts(token) == Some((registered, left)),
-            Act::Names(token, names) => self.event_loop.handle().dispatcher(&token).is_ok()
-                == names,
+            Act::Counts(named, registered, left) => {
+                self.counts(token_of(named)) == Some((registered, left))
+            },
+            Act::Names(named, names) => {
+                let token = token_of(named);
+                self.event_loop.handle().dispatcher(&token).is_ok() == names
+            }
         }
     }
 
@@ -320,7 +324,19 @@ impl<R: Wait + Drop> Counted for Held<R> {
 /// Plays at a new stand: the place of the first act that isn't as it is wanted, or one behind the last where no stand can be made. This alone
 /// knows of which types the loop is.
 pub fn plays<R: Wait + Clone + Drop>(rt: &R, alloc: Global, acts: &[Act<'_>]) -> Option<usize> {
-    let made: Option<Stand<Held<R>, R>> = Stand::new(rt, alloc);
+    plays_over::<Held<R>, R>(rt, alloc, acts)
+}
+
+fn plays_over<D, R>(rt: &R, alloc: Global, acts: &[Act<'_>]) -> Option<usize>
+where
+    D: EventDispatcher<ScriptPoller, ScriptClock, R, Data = Said, Idle = Note>,
+    D: Choice<PingSource<R>, Asker, Here>,
+    D: Choice<Timer, Asker, There<Here>>,
+    D: Choice<Counter, Asker, Third>,
+    D: Counted,
+    R: Wait + Clone + Drop,
+{
+    let made: Option<Stand<D, R>> = Stand::new(rt, alloc);
     match made {
         Some(mut stand) => stand.play(acts),
         None => Some(acts.len()),
@@ -348,9 +364,8 @@ fn are_waits(noted: &[Option<Duration>], waits: &[Option<u64>]) -> bool {
             .all(|(one, other)| *one == time(*other))
 }
 
-fn named(given: Option<(u32, u16)>) -> Option<RegistrationToken> {
-    let (slot, version) = given?;
-    Some(RegistrationToken::new(slot, version))
+fn named(given: Option<Named>) -> Option<RegistrationToken> {
+    Some(token_of(given?))
 }
 
 fn told<D>(answer: &Answer<D>) -> (&'static str, Option<RegistrationToken>) {

@@ -1,11 +1,13 @@
+//! A loop over pings, sockets that aren't there, and timers, over a scripted poller, and what a test does at it.
+use super::is_refused;
 use super::table::Table;
 use calloop::generic::Generic;
 use calloop::loop_logic::EventLoop;
 use calloop::ping::{Ping, make_ping};
 use calloop::{
-    Asking, Dispatcher, Error, EventDispatcher, Here, Hold, IdleCallback, InsertError, Instant,
-    Interest, Mode, OneOf, PingSource, PostAction, Readiness, RegistrationToken, Requests, Sources,
-    There, TimeoutAction, Timer,
+    Asking, Choice, Dispatcher, Error, EventDispatcher, Here, Hold, IdleCallback, InsertError,
+    Instant, Interest, Mode, OneOf, PingSource, PostAction, Readiness, RegistrationToken, Requests,
+    Sources, There, TimeoutAction, Timer,
 };
 use calloop_core::sys::script::{
     ScriptAnswer, ScriptCall, ScriptClock, ScriptEnd, ScriptEvents, ScriptIo, ScriptKind,
@@ -14,7 +16,7 @@ use calloop_core::sys::script::{
 use calloop_test_sources::source::{Teller, Waker};
 use calloop_test_sources::visitor::Visitor;
 use std::alloc::Global;
-use std::process::Abort;
+use std::io::ErrorKind;
 use std::sync::Wait;
 use std::time::Duration;
 
@@ -25,95 +27,53 @@ pub const KEY: u64 = 0;
 
 pub const SECOND: u64 = 1 << 32;
 
-// A loop over pings, sockets that aren't there, and timers, over a scripted poller.
-pub trait Desk<R>: Sized {
-    // One end of a ping.
-    type Bell: Bell + Drop;
-
-    // Its poller keeps eight waits.
-    fn new(rt: &R, alloc: Global) -> Self;
-
-    // Inserts socket number 1.
-    fn insert(
-        &mut self,
-        interest: Interest,
-        mode: Mode,
-        ends: Option<PostAction>,
-    ) -> Result<RegistrationToken, InsertError<Generic<ScriptPoller>>>;
-
-    // The same, which has to succeed.
-    fn socket(
-        &mut self,
-        interest: Interest,
-        mode: Mode,
-        ends: Option<PostAction>,
-    ) -> RegistrationToken;
-
-    // A ping that says its number.
-    fn ping(&mut self, number: u32) -> Self::Bell;
-
-    // A timer for the first moment, which says its number.
-    fn alarm(&mut self, number: u32);
-
-    // An idle that says 9.
-    fn idle(&mut self);
-
-    // Whether the poller was asked for these waits, in milliseconds.
-    fn asked(&mut self, waits: &[u64]) -> bool;
-
-    // Scripts a wait that gives an event of this key.
-    fn script(&mut self, key: u64);
-
-    // What a dispatch of 100 milliseconds answers, and what the callbacks say.
-    fn dispatch(&mut self) -> (calloop::Result<()>, Vec<u32>);
-
-    // Whether such a dispatch succeeds, in which the callbacks say these numbers.
-    fn says(&mut self, numbers: &[u32]) -> bool;
-
-    // Whether it fails with another error, after the callbacks said these numbers.
-    fn breaks(&mut self, numbers: &[u32]) -> bool;
-
-    // Whether an event of this key lets the callbacks say these numbers.
-    fn hears(&mut self, key: u64, numbers: &[u32]) -> bool;
-
-    // Whether the poller was called so for sockets.
-    fn called(&mut self, calls: &[ScriptCall]) -> bool;
-
-    // The next call of this kind fails.
-    fn fail(&mut self, kind: ScriptKind);
-
-    fn enable(&mut self, token: RegistrationToken) -> calloop::Result<()>;
-
-    fn update(&mut self, token: RegistrationToken) -> calloop::Result<()>;
-
-    fn disable(&mut self, token: RegistrationToken) -> calloop::Result<()>;
-
-    // Whether the token names a source.
-    fn holds(&mut self, token: RegistrationToken) -> bool;
-
-    // Whether it named one, which is dropped.
-    fn removes(&mut self, token: RegistrationToken) -> bool;
-
-    // Gives a socket another interest, from its next registration on. False where the token names none.
-    fn interests(&mut self, token: RegistrationToken, interest: Interest) -> bool;
-
-    // Whether a removed socket that the poller didn't give up hands itself back where it is unwrapped.
-    fn keeps_its_socket(&mut self, token: RegistrationToken) -> bool;
+/// What a test does at a desk, or looks for. A socket goes by its place among those that came into the loop, and a ping by its place among the pings.
+#[derive(Clone, Copy)]
+pub enum Act<'a> {
+    /// Socket number 1 comes into the loop, whose callback says 1 and ends so.
+    Socket(Interest, Mode, Option<PostAction>),
+    /// It is refused by the system, and handed back.
+    NoSocket(Interest, Mode),
+    /// A ping that says its number.
+    Ping(u32),
+    Ring(usize),
+    /// A timer for the first moment, which says its number.
+    Alarm(u32),
+    /// An idle that says 9.
+    Idle,
+    /// The next wait gives an event of this key.
+    Script(u64),
+    /// A dispatch of 100 milliseconds succeeds in which these numbers are said.
+    Says(&'a [u32]),
+    /// It fails with another error, after these numbers.
+    Breaks(&'a [u32]),
+    /// An event of this key lets the callbacks say these numbers.
+    Hears(u64, &'a [u32]),
+    /// The poller was called so for sockets.
+    Called(&'a [ScriptCall]),
+    /// It was asked for these waits, in milliseconds.
+    Asked(&'a [u64]),
+    /// Its next call of this kind fails.
+    Fail(ScriptKind),
+    Enable(usize),
+    Update(usize),
+    Disable(usize),
+    /// A call is refused by the system in this way.
+    NotEnabled(usize, ErrorKind),
+    NotUpdated(usize, ErrorKind),
+    NotDisabled(usize, ErrorKind),
+    /// It came under this slot and version.
+    IsAt(usize, u32, u16),
+    Holds(usize),
+    Remove(usize),
+    /// It has another interest from its next registration on.
+    SetInterest(usize, Interest),
+    /// It is removed while the poller doesn't give it up, and hands itself back where it is unwrapped.
+    KeepsItsSocket(usize),
 }
 
-// One end of a ping.
-pub trait Bell {
-    fn ring(&self);
-}
-
-impl<R: Wait + Drop> Bell for Ping<R> {
-    fn ring(&self) {
-        let _receipt = self.ping();
-    }
-}
-
-// What tests look for in a source with its callback.
-pub trait Choice {
+/// What tests look for in a source with its callback.
+pub trait Seen {
     // Sets the interest of a socket. False of anything else.
     fn interests(&mut self, interest: Interest) -> bool;
 
@@ -121,14 +81,292 @@ pub trait Choice {
     fn keeps_its_socket(self) -> bool;
 }
 
-// What a test does at a desk.
-pub trait Scene {
-    fn play<R: Abort, D: Desk<R> + Drop>(rt: &R, alloc: Global);
+// A loop, and what came into it.
+#[derive(Drop)]
+struct Desk<D: EventDispatcher<ScriptPoller, ScriptClock, R>, R: Wait + Drop> {
+    table: Table<D, ScriptPoller, ScriptClock, R>,
+    tokens: Vec<RegistrationToken>,
+    pings: Vec<Ping<R>>,
 }
 
-// This alone knows of which types the desk is.
-pub fn plays<S: Scene, R: Wait + Clone + Drop + Abort>(rt: &R, alloc: Global) {
-    S::play::<R, Table<Held<R>, ScriptPoller, ScriptClock, R>>(rt, alloc);
+type Second = There<Here>;
+
+type Third = There<There<Here>>;
+
+impl<D, R> Desk<D, R>
+where
+    D: EventDispatcher<ScriptPoller, ScriptClock, R, Data = Vec<u32>, Idle = Note> + Seen,
+    D: Choice<PingSource<R>, Teller, Here>,
+    D: Hold<
+        Generic<ScriptPoller>,
+        Visitor,
+        ScriptPoller,
+        ScriptClock,
+        R,
+        Vec<u32>,
+        Requests<D, Note>,
+        Second,
+    >,
+    D: Choice<Timer, Waker, Third>,
+    R: Wait + Clone + Drop,
+{
+    fn does(&mut self, act: Act<'_>) -> bool {
+        match act {
+            Act::Socket(interest, mode, ends) => self.socket(interest, mode, ends),
+            Act::NoSocket(interest, mode) => self.is_handed_back(interest, mode),
+            Act::Ping(number) => self.ping(number),
+            Act::Ring(place) => self.rings(place),
+            Act::Alarm(number) => self.alarm(number),
+            Act::Idle => self.table.event_loop.handle().insert_idle(Note).is_ok(),
+            Act::Script(key) => self.scripts(key),
+            Act::Says(numbers) => self.says(numbers),
+            Act::Breaks(numbers) => self.breaks(numbers),
+            Act::Hears(key, numbers) => self.scripts(key) && self.says(numbers),
+            _ => self.looks_for(act) == Some(true),
+        }
+    }
+
+    fn looks_for(&mut self, act: Act<'_>) -> Option<bool> {
+        match act {
+            Act::Called(calls) => Some(self.called(calls)),
+            Act::Asked(waits) => Some(self.asked(waits)),
+            Act::Fail(kind) => {
+                self.table.event_loop.handle().poller_mut().fail(kind);
+                Some(true)
+            }
+            Act::IsAt(place, slot, version) => {
+                Some(self.token(place)? == RegistrationToken::new(slot, version))
+            }
+            Act::Holds(place) => self.holds(place),
+            Act::Remove(place) => self.removes(place),
+            Act::SetInterest(place, interest) => self.interests(place, interest),
+            Act::KeepsItsSocket(place) => self.keeps_its_socket(place),
+            _ => self.calls(act),
+        }
+    }
+
+    fn calls(&mut self, act: Act<'_>) -> Option<bool> {
+        match act {
+            Act::Enable(place) => Some(self.enable(place)?.is_ok()),
+            Act::Update(place) => Some(self.update(place)?.is_ok()),
+            Act::Disable(place) => Some(self.disable(place)?.is_ok()),
+            Act::NotEnabled(place, kind) => { Some(is_refused(&self.enable(place)?, kind)) }
+            Act::NotUpdated(place, kind) => { Some(is_refused(&self.update(place)?, kind)) }
+            Act::NotDisabled(place, kind) => { Some(is_refused(&self.disable(place)?, kind)) }
+            _ => None,
+        }
+    }
+
+    fn token(&self, place: usize) -> Option<RegistrationToken> {
+        self.tokens.get(place).copied()
+    }
+
+    fn insert(
+        &mut self,
+        interest: Interest,
+        mode: Mode,
+        ends: Option<PostAction>,
+    ) -> Result<RegistrationToken, InsertError<Generic<ScriptPoller>>> {
+        let source = Generic::new(ScriptIo { number: 1 }, interest, mode);
+        let visitor = Visitor { number: 1, ends };
+        self.table
+            .event_loop
+            .handle()
+            .insert_source(source, visitor)
+    }
+
+    fn socket(&mut self, interest: Interest, mode: Mode, ends: Option<PostAction>) -> bool {
+        match self.insert(interest, mode, ends) {
+            Ok(token) => self.tokens.push(token).is_ok(),
+            Err(_) => false,
+        }
+    }
+
+    fn is_handed_back(&mut self, interest: Interest, mode: Mode) -> bool {
+        match self.insert(interest, mode, GOES_ON) {
+            Ok(_) => false,
+            Err(InsertError { inserted, error }) => {
+                is_refused::<()>(&Err(error), ErrorKind::Other) && inserted.unwrap().is_ok()
+            }
+        }
+    }
+
+    fn ping(&mut self, number: u32) -> bool {
+        let Ok((ping, source)) = make_ping(&self.table.rt, self.table.alloc) else {
+            return false;
+        };
+        let held = D::hold(Dispatcher::new(source, Teller { number }));
+        let registered = self.table.event_loop.handle().register_dispatcher(held);
+        registered.is_ok() && self.pings.push(ping).is_ok()
+    }
+
+    fn rings(&self, place: usize) -> bool {
+        match self.pings.get(place) {
+            Some(ping) => {
+                let _receipt = ping.ping();
+                true
+            }
+            None => false,
+        }
+    }
+
+    fn alarm(&mut self, number: u32) -> bool {
+        let timer = Timer::from_deadline(Instant { nanos: 0 });
+        let waker = Waker {
+            number,
+            action: TimeoutAction::Drop,
+        };
+        let held = D::hold(Dispatcher::new(timer, waker));
+        let mut handle = self.table.event_loop.handle();
+        handle.register_dispatcher(held).is_ok()
+    }
+
+    fn scripts(&mut self, key: u64) -> bool {
+        let mut events = ScriptEvents::new(self.table.alloc);
+        let readable = Readiness {
+            readable: true,
+            writable: false,
+            error: false,
+        };
+        if events.push(key, readable).is_err() {
+            return false;
+        }
+        let answer = ScriptAnswer {
+            moment: Instant { nanos: 0 },
+            end: ScriptEnd::Events(events),
+        };
+        let mut handle = self.table.event_loop.handle();
+        handle.poller_mut().script(answer).is_ok()
+    }
+
+    fn dispatch(&mut self) -> (calloop::Result<()>, Vec<u32>) {
+        let mut said = Vec::new(self.table.alloc);
+        let timeout = Some(Duration::from_millis(100));
+        let answer = self
+            .table
+            .event_loop
+            .dispatch(&self.table.rt, timeout, &mut said);
+        (answer, said)
+    }
+
+    fn says(&mut self, numbers: &[u32]) -> bool {
+        let (answer, said) = self.dispatch();
+        answer.is_ok() && said.as_slice() == numbers
+    }
+
+    fn breaks(&mut self, numbers: &[u32]) -> bool {
+        let (answer, said) = self.dispatch();
+        matches!(answer, Err(Error::OtherError(_))) && said.as_slice() == numbers
+    }
+
+    fn called(&mut self, calls: &[ScriptCall]) -> bool {
+        self.table.event_loop.handle().poller_mut().calls() == calls
+    }
+
+    fn asked(&mut self, waits: &[u64]) -> bool {
+        are_waits(self.table.event_loop.handle().poller_mut().waits(), waits)
+    }
+
+    fn enable(&mut self, place: usize) -> Option<calloop::Result<()>> {
+        let token = self.token(place)?;
+        Some(self.table.event_loop.handle().enable(&token))
+    }
+
+    fn update(&mut self, place: usize) -> Option<calloop::Result<()>> {
+        let token = self.token(place)?;
+        Some(self.table.event_loop.handle().update(&token))
+    }
+
+    fn disable(&mut self, place: usize) -> Option<calloop::Result<()>> {
+        let token = self.token(place)?;
+        Some(self.table.event_loop.handle().disable(&token))
+    }
+
+    fn holds(&mut self, place: usize) -> Option<bool> {
+        let token = self.token(place)?;
+        Some(self.table.event_loop.handle().dispatcher(&token).is_ok())
+    }
+
+    fn removes(&mut self, place: usize) -> Option<bool> {
+        let token = self.token(place)?;
+        Some(self.table.event_loop.handle().remove(token).is_some())
+    }
+
+    fn interests(&mut self, place: usize, interest: Interest) -> Option<bool> {
+        let token = self.token(place)?;
+        match self.table.event_loop.handle().dispatcher_mut(&token) {
+            Ok(held) => Some(held.interests(interest)),
+            Err(_) => Some(false),
+        }
+    }
+
+    fn keeps_its_socket(&mut self, place: usize) -> Option<bool> {
+        let token = self.token(place)?;
+        let held = self.table.event_loop.handle().remove(token)?;
+        Some(held.keeps_its_socket())
+    }
+
+    // The place of the first act that isn't as it is wanted.
+    fn play(&mut self, acts: &[Act<'_>]) -> Option<usize> {
+        for (place, act) in acts.iter().enumerate() {
+            if !self.does(*act) {
+                return Some(place);
+            }
+        }
+        None
+    }
+}
+
+/// Plays at a new desk: the place of the first act that isn't as it is wanted, or one behind the last where no desk can be made. This alone knows of
+/// which types it is, and calls nothing else: a call on a loop whose types are written out costs the prover as much as a whole test.
+pub fn plays<R: Wait + Clone + Drop>(rt: &R, alloc: Global, acts: &[Act<'_>]) -> Option<usize> {
+    plays_over::<Held<R>, R>(rt, alloc, acts)
+}
+
+fn plays_over<D, R>(rt: &R, alloc: Global, acts: &[Act<'_>]) -> Option<usize>
+where
+    D: EventDispatcher<ScriptPoller, ScriptClock, R, Data = Vec<u32>, Idle = Note> + Seen,
+    D: Choice<PingSource<R>, Teller, Here>,
+    D: Hold<
+        Generic<ScriptPoller>,
+        Visitor,
+        ScriptPoller,
+        ScriptClock,
+        R,
+        Vec<u32>,
+        Requests<D, Note>,
+        Second,
+    >,
+    D: Choice<Timer, Waker, Third>,
+    R: Wait + Clone + Drop,
+{
+    let made: Option<Table<D, ScriptPoller, ScriptClock, R>> = table(rt, alloc);
+    let Some(table) = made else {
+        return Some(acts.len());
+    };
+    let mut desk = Desk {
+        table,
+        tokens: Vec::new(alloc),
+        pings: Vec::new(alloc),
+    };
+    desk.play(acts)
+}
+
+// Its poller keeps eight waits.
+fn table<D, R>(rt: &R, alloc: Global) -> Option<Table<D, ScriptPoller, ScriptClock, R>>
+where
+    D: EventDispatcher<ScriptPoller, ScriptClock, R>,
+    R: Wait + Clone + Drop,
+{
+    let mut poller = ScriptPoller::new(alloc).ok()?;
+    poller.keep_waits(8).ok()?;
+    let clock = poller.clock().ok()?;
+    let own = rt.clone().ok()?;
+    Some(Table {
+        rt: own,
+        alloc,
+        event_loop: EventLoop::try_new(rt, alloc, poller, clock).ok()?,
+    })
 }
 
 type Held<R> = Sources<
@@ -154,170 +392,7 @@ impl<Q: Asking> IdleCallback<Vec<u32>, Q> for Note {
     }
 }
 
-type Second = There<Here>;
-
-type Third = There<There<Here>>;
-
-impl<D, R> Desk<R> for Table<D, ScriptPoller, ScriptClock, R>
-where
-    D: EventDispatcher<ScriptPoller, ScriptClock, R, Data = Vec<u32>, Idle = Note> + Choice,
-    D: Hold<PingSource<R>, Teller, ScriptPoller, ScriptClock, R, Vec<u32>, Requests<D, Note>, Here>,
-    D: Hold<
-        Generic<ScriptPoller>,
-        Visitor,
-        ScriptPoller,
-        ScriptClock,
-        R,
-        Vec<u32>,
-        Requests<D, Note>,
-        Second,
-    >,
-    D: Hold<Timer, Waker, ScriptPoller, ScriptClock, R, Vec<u32>, Requests<D, Note>, Third>,
-    R: Wait + Clone + Drop + Abort,
-{
-    type Bell = Ping<R>;
-
-    fn new(rt: &R, alloc: Global) -> Table<D, ScriptPoller, ScriptClock, R> {
-        let mut poller = ScriptPoller::new(alloc).expect(rt, "a poller");
-        assert!(rt; poller.keep_waits(8).is_ok());
-        let clock = poller.clock().expect(rt, "a clock");
-        Table {
-            rt: rt.clone().expect(rt, "a runtime"),
-            alloc,
-            event_loop: EventLoop::try_new(rt, alloc, poller, clock).expect(rt, "a loop"),
-        }
-    }
-
-    fn insert(
-        &mut self,
-        interest: Interest,
-        mode: Mode,
-        ends: Option<PostAction>,
-    ) -> Result<RegistrationToken, InsertError<Generic<ScriptPoller>>> {
-        let source = Generic::new(ScriptIo { number: 1 }, interest, mode);
-        let visitor = Visitor { number: 1, ends };
-        self.event_loop.handle().insert_source(source, visitor)
-    }
-
-    fn socket(
-        &mut self,
-        interest: Interest,
-        mode: Mode,
-        ends: Option<PostAction>,
-    ) -> RegistrationToken {
-        let inserted = self.insert(interest, mode, ends).ok();
-        inserted.expect(&self.rt, "a registration")
-    }
-
-    fn ping(&mut self, number: u32) -> Ping<R> {
-        let (bell, source) = make_ping(&self.rt, self.alloc).expect(&self.rt, "a ping");
-        let teller = Teller { number };
-        let inserted = self.event_loop.handle().insert_source(source, teller);
-        assert!(self.rt; inserted.is_ok());
-        bell
-    }
-
-    fn alarm(&mut self, number: u32) {
-        let timer = Timer::from_deadline(Instant { nanos: 0 });
-        let waker = Waker {
-            number,
-            action: TimeoutAction::Drop,
-        };
-        let inserted = self.event_loop.handle().insert_source(timer, waker);
-        assert!(self.rt; inserted.is_ok());
-    }
-
-    fn idle(&mut self) {
-        let inserted = self.event_loop.handle().insert_idle(Note);
-        assert!(self.rt; inserted.is_ok());
-    }
-
-    fn asked(&mut self, waits: &[u64]) -> bool {
-        are_waits(self.event_loop.handle().poller_mut().waits(), waits)
-    }
-
-    fn script(&mut self, key: u64) {
-        let mut events = ScriptEvents::new(self.alloc);
-        let readable = Readiness {
-            readable: true,
-            writable: false,
-            error: false,
-        };
-        assert!(self.rt; events.push(key, readable).is_ok());
-        let answer = ScriptAnswer {
-            moment: Instant { nanos: 0 },
-            end: ScriptEnd::Events(events),
-        };
-        let scripted = self.event_loop.handle().poller_mut().script(answer);
-        assert!(self.rt; scripted.is_ok());
-    }
-
-    fn dispatch(&mut self) -> (calloop::Result<()>, Vec<u32>) {
-        let mut said = Vec::new(self.alloc);
-        let timeout = Some(Duration::from_millis(100));
-        let answer = self.event_loop.dispatch(&self.rt, timeout, &mut said);
-        (answer, said)
-    }
-
-    fn says(&mut self, numbers: &[u32]) -> bool {
-        let (answer, said) = self.dispatch();
-        answer.is_ok() && said.as_slice() == numbers
-    }
-
-    fn breaks(&mut self, numbers: &[u32]) -> bool {
-        let (answer, said) = self.dispatch();
-        matches!(answer, Err(Error::OtherError(_))) && said.as_slice() == numbers
-    }
-
-    fn hears(&mut self, key: u64, numbers: &[u32]) -> bool {
-        self.script(key);
-        self.says(numbers)
-    }
-
-    fn called(&mut self, calls: &[ScriptCall]) -> bool {
-        self.event_loop.handle().poller_mut().calls() == calls
-    }
-
-    fn fail(&mut self, kind: ScriptKind) {
-        self.event_loop.handle().poller_mut().fail(kind);
-    }
-
-    fn enable(&mut self, token: RegistrationToken) -> calloop::Result<()> {
-        self.event_loop.handle().enable(&token)
-    }
-
-    fn update(&mut self, token: RegistrationToken) -> calloop::Result<()> {
-        self.event_loop.handle().update(&token)
-    }
-
-    fn disable(&mut self, token: RegistrationToken) -> calloop::Result<()> {
-        self.event_loop.handle().disable(&token)
-    }
-
-    fn holds(&mut self, token: RegistrationToken) -> bool {
-        self.event_loop.handle().dispatcher(&token).is_ok()
-    }
-
-    fn removes(&mut self, token: RegistrationToken) -> bool {
-        self.event_loop.handle().remove(token).is_some()
-    }
-
-    fn interests(&mut self, token: RegistrationToken, interest: Interest) -> bool {
-        match self.event_loop.handle().dispatcher_mut(&token) {
-            Ok(held) => held.interests(interest),
-            Err(_) => false,
-        }
-    }
-
-    fn keeps_its_socket(&mut self, token: RegistrationToken) -> bool {
-        match self.event_loop.handle().remove(token) {
-            Some(held) => held.keeps_its_socket(),
-            None => false,
-        }
-    }
-}
-
-impl<R: Wait + Drop> Choice for Held<R> {
+impl<R: Wait + Drop> Seen for Held<R> {
     fn interests(&mut self, interest: Interest) -> bool {
         match &mut self.held {
             OneOf::Other(OneOf::First(socket)) => {

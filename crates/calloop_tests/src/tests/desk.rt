@@ -1,10 +1,11 @@
+//! A loop over the sources of the tests, and what a test does at it.
 use super::at;
-use super::stage::{Stage, Table, are_waits};
-use calloop::loop_logic::{EventLoop, LoopAnswer, LoopCall};
+use super::stage::{Table, are_waits, time};
+use calloop::loop_logic::{LoopAnswer, LoopCall};
 use calloop::ping::{Ping, make_ping};
 use calloop::{
-    Dispatcher, Error, EventDispatcher, Here, Hold, InsertError, Instant, OneOf, PingSource,
-    PostAction, RegistrationToken, Requests, Sources, There, TimeoutAction, Timer,
+    Choice, Dispatcher, Error, EventDispatcher, Here, Hold, InsertError, Instant, OneOf,
+    PingSource, PostAction, RegistrationToken, Requests, Sources, There, TimeoutAction, Timer,
 };
 use calloop_core::sys::script::{ScriptClock, ScriptPoller};
 use calloop_test_sources::attendant::Attendant;
@@ -14,88 +15,120 @@ use calloop_test_sources::trio::{Announcer, Trio};
 use std::alloc::Global;
 use std::collections::VecDeque;
 use std::io::ErrorKind;
-use std::process::Abort;
 use std::sync::Wait;
 use std::time::Duration;
 
-// A loop over the sources of the tests.
-pub trait Desk: Stage {
-    // One end of a ping.
-    type Bell: Bell + Drop;
+/// What a test does, or looks for. A source goes by its place among those that came into the loop, and a ping by its place among the pings. Times
+/// are in milliseconds, where nothing else is said.
+#[derive(Clone, Copy)]
+pub enum Act<'a> {
+    /// A ping's source, whose callback says this number.
+    Ping(u32),
+    /// As many, of which each says its place.
+    Pings(u32),
+    /// One as a dispatcher.
+    PingsDispatcher(u32),
+    /// One whose ping is dropped before.
+    ClosedPing,
+    /// A timer of this moment, which says 5 and leaves.
+    Alarm(u64),
+    /// One that is armed anew for the second moment.
+    AlarmAgain(u64, u64),
+    /// One that is armed anew each time for so much later.
+    AlarmEach(u64, u64),
+    /// One that is due so much later than the loop's clock shows, at once, or past the last moment.
+    AlarmIn(u64),
+    AlarmNow,
+    AlarmNever,
+    /// A counter with this limit, whose turns end so.
+    Counter(u32, Option<PostAction>),
+    /// An attendant that asks for so many events.
+    Attendant(u32),
+    /// One that asks for two, and leaves with its first turn.
+    LeavingAttendant,
+    /// One that fails before its first wait.
+    FailingAttendant,
+    /// The dispatcher of one that asks for nothing.
+    AttendantsDispatcher,
+    /// A ping behind a guard, which says 1: so many turns fail, and it may never be unregistered.
+    Guarded(u32, bool),
+    /// A ping that says 1, and timers of 20 and of 10 milliseconds that say 2 and 3, as one source.
+    Trio,
+    /// A counter that refuses to be registered is handed back as it was.
+    HandsCounterBack,
+    /// An attendant that refuses it.
+    HandsAttendantBack,
 
-    // A source with its callback.
-    type Held: Choice + Drop;
+    /// The ping rings.
+    Ring(usize),
+    /// It is cloned.
+    Clone(usize),
+    /// It is dropped.
+    Drop(usize),
 
-    // Inserts a ping that says this number.
-    fn ping(&mut self, number: u32) -> (RegistrationToken, Self::Bell);
+    /// The next wait ends at this moment with events of these keys.
+    Script(u64, &'a [u64]),
+    /// A dispatch succeeds in which these numbers are said.
+    Says(Option<u64>, &'a [u32]),
+    /// The same, with a timeout in microseconds.
+    SaysInMicros(u64, &'a [u32]),
+    /// One fails after these numbers, by an error of the system of this kind, or else by one of the source's own.
+    Fails(Option<u64>, &'a [u32], Option<ErrorKind>),
+    /// The poller was asked for these waits since this was asked before.
+    Asked(&'a [Option<u64>]),
+    /// The same, in microseconds.
+    AskedMicros(&'a [u64]),
+    /// The warnings are of these kinds.
+    Warns(&'a [ErrorKind]),
 
-    // Inserts as many pings, each of which says its place.
-    fn pings(&mut self, count: u32) -> Vec<Self::Bell>;
-
-    // Registers the dispatcher of a ping that says this number.
-    fn registered_ping(&mut self, number: u32) -> (RegistrationToken, Self::Bell);
-
-    // Inserts the source of a ping that is dropped before.
-    fn closed_ping(&mut self) -> RegistrationToken;
-
-    // Inserts a timer that says 5.
-    fn alarm(&mut self, millis: u64, action: TimeoutAction) -> RegistrationToken;
-
-    // Inserts one that is due so much later than the loop's clock shows, says 5 and leaves.
-    fn alarm_in(&mut self, duration: Duration) -> RegistrationToken;
-
-    // Inserts one that is due at once.
-    fn immediate_alarm(&mut self) -> RegistrationToken;
-
-    // Inserts a counter whose turns end so.
-    fn count(&mut self, limit: u32, ends: Option<PostAction>) -> RegistrationToken;
-
-    // Whether a counter that refuses to be registered is handed back as it was.
-    fn hands_back(&mut self) -> bool;
-
-    fn attend(&mut self, attendant: Attendant) -> RegistrationToken;
-
-    // Registers the dispatcher of an attendant that asks for nothing.
-    fn registered_attendant(&mut self) -> RegistrationToken;
-
-    // Whether an attendant that refuses to be registered is handed back as it was.
-    fn hands_back_attendant(&mut self) -> bool;
-
-    // Inserts a guarded ping that says 1.
-    fn guarded(&mut self, failures: u32, is_stuck: bool) -> (RegistrationToken, Self::Bell);
-
-    // Inserts a ping, and timers of 20 and of 10 milliseconds, as one source.
-    fn trio(&mut self) -> (RegistrationToken, Self::Bell);
-
-    fn remove(&mut self, token: RegistrationToken) -> Option<Self::Held>;
-
-    // Takes a counter out of the loop: how often it was registered and unregistered, the last time for that.
-    fn removed_counter(&mut self, token: RegistrationToken) -> Option<(u32, u32)>;
-
-    // Takes a ping out of the loop: the number that it says.
-    fn removed_ping(&mut self, token: RegistrationToken) -> Option<u32>;
-
-    // Takes an attendant out of the loop: how many events it was told of.
-    fn told(&mut self, token: RegistrationToken) -> Option<u32>;
-
-    // Sets a timer's deadline, without an update. False where the token names no timer.
-    fn postpones(&mut self, token: RegistrationToken, millis: u64) -> bool;
-
-    // How many waits an attendant was told of.
-    fn waits_of(&mut self, token: RegistrationToken) -> Option<u32>;
-
-    // Whether these calls, as values, are carried out with these answers.
-    fn answers(&mut self, acts: &[Act], wanted: &[(&str, bool)]) -> bool;
+    Enable(usize),
+    Update(usize),
+    Disable(usize),
+    /// A call is refused by the system in this way.
+    NotEnabled(usize, ErrorKind),
+    NotUpdated(usize, ErrorKind),
+    NotDisabled(usize, ErrorKind),
+    /// It came under this slot and version.
+    IsAt(usize, u32, u16),
+    /// Its token names nothing any more.
+    IsGone(usize),
+    /// It lends neither a source nor one that can be changed.
+    LendsNone(usize),
+    /// A timer's deadline is set, without an update.
+    Postpone(usize, u64),
+    /// An attendant was told of so many waits.
+    WaitsOf(usize, u32),
+    /// It is taken out of the loop, and kept.
+    Remove(usize),
+    /// There is nothing to be taken out.
+    RemovesNone(usize),
+    /// What was taken out was a ping's that says this number.
+    TookPing(u32),
+    /// It was a counter, which was registered and unregistered so often.
+    TookCounter(u32, u32),
+    /// It was an attendant that was told of so many events.
+    TookAttendant(u32),
+    /// It is dropped.
+    LetGo,
+    /// These calls, as values, are carried out with these answers.
+    Answers(&'a [Call], &'a [(&'a str, bool)]),
 }
 
-pub trait Bell: Sized {
-    fn ring(&self);
-
-    fn again(&self) -> Option<Self>;
+/// A call on a loop, as a value, with the slot of its source in its first use. A counter that it brings has this limit.
+#[derive(Clone, Copy)]
+pub enum Call {
+    Insert(u32),
+    Exchange(u32, u32),
+    Enable(u32),
+    Update(u32),
+    Disable(u32),
+    Remove(u32),
+    Dispatch,
+    Poller,
 }
 
-// What tests look for in a source with its callback.
-pub trait Choice {
+/// What tests look for in a source with its callback.
+pub trait Seen {
     // How often a counter was registered and unregistered.
     fn counted(&self) -> Option<(u32, u32)>;
 
@@ -109,41 +142,399 @@ pub trait Choice {
     fn postpones(&mut self, deadline: Instant) -> bool;
 }
 
-// What the loop holds for a counter, for a guarded ping that says 1, and for a ping with two timers.
-trait Made<R: Wait + Drop> {
-    fn counter(source: Counter) -> Self;
-
-    fn guarded(source: Guarded<R>) -> Self;
-
-    fn trio(source: Trio<R>) -> Self;
+/// A loop, what came into it, and its pings.
+#[derive(Drop)]
+struct Desk<D: EventDispatcher<ScriptPoller, ScriptClock, R>, R: Wait + Drop> {
+    table: Table<D, R>,
+    tokens: Vec<RegistrationToken>,
+    pings: Vec<Option<Ping<R>>>,
+    taken: Option<D>,
 }
 
-// A call on a loop, as a value. A counter that it brings has this limit.
-#[derive(Clone, Copy)]
-pub enum Act {
-    Insert(u32),
-    Exchange(RegistrationToken, u32),
-    Enable(RegistrationToken),
-    Update(RegistrationToken),
-    Disable(RegistrationToken),
-    Remove(RegistrationToken),
-    Dispatch,
-    Poller,
-}
+type Third = There<There<Here>>;
 
-// What a test does at a desk.
-pub trait Scene {
-    fn play<R: Abort, D: Desk + Drop>(rt: &R, desk: D);
-}
+type Fourth = There<Third>;
 
-// Plays it at a new desk. This alone knows of which types the desk is.
-pub fn plays<S, R>(rt: &R, alloc: Global)
+type Fifth = There<Fourth>;
+
+type Sixth = There<Fifth>;
+
+impl<D, R> Desk<D, R>
 where
-    S: Scene,
-    R: Wait + Clone + Drop + Abort,
+    D: EventDispatcher<ScriptPoller, ScriptClock, R, Data = Vec<u32>, Idle = ()> + Seen,
+    D: Hold<PingSource<R>, Teller, ScriptPoller, ScriptClock, R, Vec<u32>, Requests<D>, Here>,
+    D: Choice<Timer, Waker, There<Here>>,
+    D: Hold<Attendant, Listener, ScriptPoller, ScriptClock, R, Vec<u32>, Requests<D>, Third>,
+    D: Choice<Counter, Listener, Fourth>,
+    D: Choice<Guarded<R>, Teller, Fifth>,
+    D: Choice<Trio<R>, Announcer, Sixth>,
+    R: Wait + Clone + Drop,
 {
-    let desk: Table<Held<R>, R> = Table::new(rt, alloc);
-    S::play(rt, desk);
+    fn does(&mut self, act: Act<'_>) -> bool {
+        match act {
+            Act::Ping(number) => self.ping(number),
+            Act::Pings(count) => (0..count).all(|number| self.ping(number)),
+            Act::PingsDispatcher(number) => self.pings_dispatcher(number),
+            Act::ClosedPing => self.closed_ping(),
+            Act::Alarm(millis) => self.alarm(at(millis), TimeoutAction::Drop),
+            Act::AlarmAgain(millis, again) => {
+                self.alarm(at(millis), TimeoutAction::ToInstant(at(again)))
+            }
+            Act::AlarmEach(millis, later) => {
+                let later = Duration::from_millis(later);
+                self.alarm(at(millis), TimeoutAction::ToDuration(later))
+            }
+            Act::AlarmIn(millis) => self.alarm_in(Duration::from_millis(millis)),
+            Act::AlarmNever => self.alarm_in(Duration::MAX),
+            Act::AlarmNow => self.alarm_now(),
+            Act::Counter(limit, ends) => self.counter(limit, ends),
+            Act::Guarded(failures, is_stuck) => self.guarded(failures, is_stuck),
+            Act::Trio => self.trio(),
+            _ => self.attends(act),
+        }
+    }
+
+    fn attends(&mut self, act: Act<'_>) -> bool {
+        match act {
+            Act::Attendant(asks) => self.attendant(Attendant::new(asks)),
+            Act::LeavingAttendant => self.attendant(leaving()),
+            Act::FailingAttendant => self.attendant(failing()),
+            Act::AttendantsDispatcher => self.attendants_dispatcher(),
+            Act::HandsCounterBack => self.hands_counter_back(),
+            Act::HandsAttendantBack => self.hands_attendant_back(),
+            Act::Ring(place) => self.rings(place),
+            Act::Clone(place) => self.clones(place),
+            Act::Drop(place) => self.drops(place),
+            _ => self.dispatches(act),
+        }
+    }
+
+    fn dispatches(&mut self, act: Act<'_>) -> bool {
+        match act {
+            Act::Script(millis, keys) => self.table.scripts(millis, keys),
+            Act::Says(timeout, numbers) => self.table.says(time(timeout), numbers),
+            Act::SaysInMicros(micros, numbers) => {
+                self.table
+                    .says(Some(Duration::from_micros(micros)), numbers)
+            }
+            Act::Fails(timeout, numbers, kind) => self.table.fails(time(timeout), numbers, kind),
+            Act::Asked(waits) => self.table.asked(waits),
+            Act::AskedMicros(waits) => self.table.asked_micros(waits),
+            Act::Warns(kinds) => self.table.warns_of(kinds),
+            Act::Answers(calls, wanted) => self.answers(calls, wanted),
+            Act::TookPing(number) => self.took_ping(number),
+            Act::TookCounter(one, other) => self.took_counter((one, other)),
+            Act::TookAttendant(told) => self.took_attendant(told),
+            Act::LetGo => self.taken.take().is_some(),
+            _ => self.calls(act) == Some(true),
+        }
+    }
+
+    fn calls(&mut self, act: Act<'_>) -> Option<bool> {
+        match act {
+            Act::Enable(place) => Some(self.enable(place)?.is_ok()),
+            Act::Update(place) => Some(self.update(place)?.is_ok()),
+            Act::Disable(place) => Some(self.disable(place)?.is_ok()),
+            Act::NotEnabled(place, kind) => Some(is_refused_as(&self.enable(place)?, kind)),
+            Act::NotUpdated(place, kind) => Some(is_refused_as(&self.update(place)?, kind)),
+            Act::NotDisabled(place, kind) => Some(is_refused_as(&self.disable(place)?, kind)),
+            Act::IsAt(place, slot, version) => {
+                Some(self.token(place)? == RegistrationToken::new(slot, version))
+            }
+            Act::RemovesNone(place) => Some(!self.removes(place)?),
+            _ => self.looks_for(act),
+        }
+    }
+
+    fn looks_for(&mut self, act: Act<'_>) -> Option<bool> {
+        match act {
+            Act::IsGone(place) => self.is_gone(place),
+            Act::LendsNone(place) => self.lends_none(place),
+            Act::Postpone(place, millis) => self.postpones(place, millis),
+            Act::WaitsOf(place, waits) => Some(self.waits_of(place)? == waits),
+            Act::Remove(place) => self.removes(place),
+            _ => None,
+        }
+    }
+
+    fn enable(&mut self, place: usize) -> Option<calloop::Result<()>> {
+        let token = self.token(place)?;
+        Some(self.table.event_loop.handle().enable(&token))
+    }
+
+    fn update(&mut self, place: usize) -> Option<calloop::Result<()>> {
+        let token = self.token(place)?;
+        Some(self.table.event_loop.handle().update(&token))
+    }
+
+    fn disable(&mut self, place: usize) -> Option<calloop::Result<()>> {
+        let token = self.token(place)?;
+        Some(self.table.event_loop.handle().disable(&token))
+    }
+
+    fn is_gone(&mut self, place: usize) -> Option<bool> {
+        let token = self.token(place)?;
+        Some(self.table.is_gone(token))
+    }
+
+    fn lends_none(&mut self, place: usize) -> Option<bool> {
+        let token = self.token(place)?;
+        Some(self.table.lends_none(token))
+    }
+
+    fn token(&self, place: usize) -> Option<RegistrationToken> {
+        self.tokens.get(place).copied()
+    }
+
+    // Keeps the token of what came into the loop: whether it did.
+    fn keeps<S: Drop>(&mut self, inserted: Result<RegistrationToken, InsertError<S>>) -> bool {
+        match inserted {
+            Ok(token) => self.tokens.push(token).is_ok(),
+            Err(_) => false,
+        }
+    }
+
+    fn registers(&mut self, held: D) -> bool {
+        let registered = self.table.event_loop.handle().register_dispatcher(held);
+        self.keeps(registered)
+    }
+
+    // A ping, which is kept, and its source.
+    fn makes(&mut self) -> Option<PingSource<R>> {
+        let (ping, source) = make_ping(&self.table.rt, self.table.alloc).ok()?;
+        self.pings.push(Some(ping)).ok()?;
+        Some(source)
+    }
+
+    fn ping(&mut self, number: u32) -> bool {
+        let Some(source) = self.makes() else {
+            return false;
+        };
+        let teller = Teller { number };
+        let inserted = self.table.event_loop.handle().insert_source(source, teller);
+        self.keeps(inserted)
+    }
+
+    fn pings_dispatcher(&mut self, number: u32) -> bool {
+        match self.makes() {
+            Some(source) => self.registers(D::hold(Dispatcher::new(source, Teller { number }))),
+            None => false,
+        }
+    }
+
+    fn closed_ping(&mut self) -> bool {
+        let Some(source) = self.makes() else {
+            return false;
+        };
+        drop(self.pings.pop());
+        self.registers(D::hold(Dispatcher::new(source, Teller { number: 1 })))
+    }
+
+    fn alarm(&mut self, deadline: Instant, action: TimeoutAction) -> bool {
+        let timer = Timer::from_deadline(deadline);
+        self.registers(D::hold(Dispatcher::new(timer, Waker { number: 5, action })))
+    }
+
+    fn alarm_in(&mut self, duration: Duration) -> bool {
+        let timer = Timer::from_duration(self.table.event_loop.clock(), duration);
+        self.registers(D::hold(Dispatcher::new(timer, says_5())))
+    }
+
+    fn alarm_now(&mut self) -> bool {
+        let timer = Timer::immediate(self.table.event_loop.clock());
+        self.registers(D::hold(Dispatcher::new(timer, says_5())))
+    }
+
+    fn counter(&mut self, limit: u32, ends: Option<PostAction>) -> bool {
+        let counter = Counter::new(limit, ends);
+        self.registers(D::hold(Dispatcher::new(counter, Listener)))
+    }
+
+    fn hands_counter_back(&mut self) -> bool {
+        let counter = Counter::new(0, None);
+        let call = LoopCall::Insert(D::hold(Dispatcher::new(counter, Listener)));
+        is_handed_back(&self.table.event_loop.carry_out(&self.table.rt, call))
+    }
+
+    fn attendant(&mut self, attendant: Attendant) -> bool {
+        let inserted = self
+            .table
+            .event_loop
+            .handle()
+            .insert_source(attendant, Listener);
+        self.keeps(inserted)
+    }
+
+    fn attendants_dispatcher(&mut self) -> bool {
+        self.registers(D::hold(Dispatcher::new(Attendant::new(0), Listener)))
+    }
+
+    fn hands_attendant_back(&mut self) -> bool {
+        let refused = Attendant {
+            is_refused: true,
+            ..Attendant::new(0)
+        };
+        match self
+            .table
+            .event_loop
+            .handle()
+            .insert_source(refused, Listener)
+        {
+            Ok(_) => false,
+            Err(refused) => refused.inserted.is_refused && refused.inserted.waits == 0,
+        }
+    }
+
+    fn guarded(&mut self, failures: u32, is_stuck: bool) -> bool {
+        let Some(ping) = self.makes() else {
+            return false;
+        };
+        let guarded = Guarded {
+            ping,
+            failures,
+            is_stuck,
+        };
+        self.registers(D::hold(Dispatcher::new(guarded, Teller { number: 1 })))
+    }
+
+    fn trio(&mut self) -> bool {
+        let Some(bell) = self.makes() else {
+            return false;
+        };
+        let trio = Trio {
+            bell,
+            first: Timer::from_deadline(at(20)),
+            second: Timer::from_deadline(at(10)),
+        };
+        self.registers(D::hold(Dispatcher::new(trio, Announcer)))
+    }
+
+    fn rings(&self, place: usize) -> bool {
+        match self.pings.get(place) {
+            Some(Some(ping)) => {
+                let _receipt = ping.ping();
+                true
+            }
+            _ => false,
+        }
+    }
+
+    fn clones(&mut self, place: usize) -> bool {
+        let Some(Some(ping)) = self.pings.get(place) else {
+            return false;
+        };
+        match ping.clone() {
+            Ok(again) => self.pings.push(Some(again)).is_ok(),
+            Err(_) => false,
+        }
+    }
+
+    fn drops(&mut self, place: usize) -> bool {
+        match self.pings.get_mut(place) {
+            Some(ping) => ping.take().is_some(),
+            None => false,
+        }
+    }
+
+    fn removes(&mut self, place: usize) -> Option<bool> {
+        let token = self.token(place)?;
+        self.taken = self.table.event_loop.handle().remove(token);
+        Some(self.taken.is_some())
+    }
+
+    fn postpones(&mut self, place: usize, millis: u64) -> Option<bool> {
+        let token = self.token(place)?;
+        match self.table.event_loop.handle().dispatcher_mut(&token) {
+            Ok(held) => Some(held.postpones(at(millis))),
+            Err(_) => Some(false),
+        }
+    }
+
+    fn waits_of(&mut self, place: usize) -> Option<u32> {
+        let token = self.token(place)?;
+        let handle = self.table.event_loop.handle();
+        Some(handle.dispatcher(&token).ok()?.attended()?.0)
+    }
+
+    fn took_ping(&self, number: u32) -> bool {
+        match &self.taken {
+            Some(held) => held.number() == Some(number),
+            None => false,
+        }
+    }
+
+    fn took_counter(&self, counted: (u32, u32)) -> bool {
+        match &self.taken {
+            Some(held) => held.counted() == Some(counted),
+            None => false,
+        }
+    }
+
+    fn took_attendant(&self, told: u32) -> bool {
+        match &self.taken {
+            Some(held) => held.attended().is_some_and(|found| found.1 == told),
+            None => false,
+        }
+    }
+
+    fn answers(&mut self, calls: &[Call], wanted: &[(&str, bool)]) -> bool {
+        let alloc = self.table.alloc;
+        let mut made = VecDeque::new(alloc);
+        for call in calls {
+            let Some(call) = loop_call(alloc, *call) else {
+                return false;
+            };
+            if made.push_back(call).is_err() {
+                return false;
+            }
+        }
+        let answers = self
+            .table
+            .event_loop
+            .carry_out_all(&self.table.rt, alloc, made);
+        answers.is_ok_and(|answers| are_answers(&answers, wanted))
+    }
+
+    // The place of the first act that isn't as it is wanted.
+    fn play(&mut self, acts: &[Act<'_>]) -> Option<usize> {
+        for (place, act) in acts.iter().enumerate() {
+            if !self.does(*act) {
+                return Some(place);
+            }
+        }
+        None
+    }
+}
+
+// Plays at a new desk over this choice: the place of the first act that isn't as it is wanted, or one behind the last where no desk can be made.
+fn plays_over<D, R>(rt: &R, alloc: Global, acts: &[Act<'_>]) -> Option<usize>
+where
+    D: EventDispatcher<ScriptPoller, ScriptClock, R, Data = Vec<u32>, Idle = ()> + Seen,
+    D: Hold<PingSource<R>, Teller, ScriptPoller, ScriptClock, R, Vec<u32>, Requests<D>, Here>,
+    D: Choice<Timer, Waker, There<Here>>,
+    D: Hold<Attendant, Listener, ScriptPoller, ScriptClock, R, Vec<u32>, Requests<D>, Third>,
+    D: Choice<Counter, Listener, Fourth>,
+    D: Choice<Guarded<R>, Teller, Fifth>,
+    D: Choice<Trio<R>, Announcer, Sixth>,
+    R: Wait + Clone + Drop,
+{
+    let made: Option<Table<D, R>> = Table::new(rt, alloc);
+    let Some(table) = made else {
+        return Some(acts.len());
+    };
+    let mut desk = Desk {
+        table,
+        tokens: Vec::new(alloc),
+        pings: Vec::new(alloc),
+        taken: None,
+    };
+    desk.play(acts)
+}
+
+/// Plays at a new desk. This alone knows of which types it is, and calls nothing else, since each call on a loop whose types are written out costs
+/// the prover as much as a whole test.
+pub fn plays<R: Wait + Clone + Drop>(rt: &R, alloc: Global, acts: &[Act<'_>]) -> Option<usize> {
+    plays_over::<Held<R>, R>(rt, alloc, acts)
 }
 
 type Held<R> = Sources<
@@ -163,201 +554,7 @@ type Held<R> = Sources<
     Vec<u32>,
 >;
 
-type Third = There<There<Here>>;
-
-impl<D, R> Desk for Table<D, R>
-where
-    D: EventDispatcher<ScriptPoller, ScriptClock, R, Data = Vec<u32>, Idle = ()> + Choice,
-    D: Hold<PingSource<R>, Teller, ScriptPoller, ScriptClock, R, Vec<u32>, Requests<D>, Here>,
-    D: Hold<Timer, Waker, ScriptPoller, ScriptClock, R, Vec<u32>, Requests<D>, There<Here>>,
-    D: Hold<Attendant, Listener, ScriptPoller, ScriptClock, R, Vec<u32>, Requests<D>, Third>,
-    D: Made<R>,
-    R: Wait + Clone + Drop + Abort,
-{
-    type Bell = Ping<R>;
-
-    type Held = D;
-
-    fn ping(&mut self, number: u32) -> (RegistrationToken, Ping<R>) {
-        let (ping, source) = make_ping(&self.rt, self.alloc).expect(&self.rt, "a ping");
-        let teller = Teller { number };
-        let inserted = self.event_loop.handle().insert_source(source, teller);
-        (token_of(&self.rt, inserted), ping)
-    }
-
-    fn pings(&mut self, count: u32) -> Vec<Self::Bell> {
-        let mut bells = Vec::new(self.alloc);
-        for number in 0..count {
-            let (_, bell) = self.ping(number);
-            let pushed = bells.push(bell);
-            assert!(self.rt; pushed.is_ok());
-        }
-        bells
-    }
-
-    fn registered_ping(&mut self, number: u32) -> (RegistrationToken, Ping<R>) {
-        let (ping, source) = make_ping(&self.rt, self.alloc).expect(&self.rt, "a ping");
-        let callback = Teller { number };
-        let held = D::hold(Dispatcher { source, callback });
-        let registered = self.event_loop.handle().register_dispatcher(held);
-        (token_of(&self.rt, registered), ping)
-    }
-
-    fn closed_ping(&mut self) -> RegistrationToken {
-        let (ping, source) = make_ping(&self.rt, self.alloc).expect(&self.rt, "a ping");
-        drop(ping);
-        let teller = Teller { number: 1 };
-        let inserted = self.event_loop.handle().insert_source(source, teller);
-        token_of(&self.rt, inserted)
-    }
-
-    fn alarm(&mut self, millis: u64, action: TimeoutAction) -> RegistrationToken {
-        let waker = Waker { number: 5, action };
-        let timer = Timer::from_deadline(at(millis));
-        let inserted = self.event_loop.handle().insert_source(timer, waker);
-        token_of(&self.rt, inserted)
-    }
-
-    fn alarm_in(&mut self, duration: Duration) -> RegistrationToken {
-        let timer = Timer::from_duration(&clock(&self.rt, &mut self.event_loop), duration);
-        let inserted = self.event_loop.handle().insert_source(timer, leaving());
-        token_of(&self.rt, inserted)
-    }
-
-    fn immediate_alarm(&mut self) -> RegistrationToken {
-        let timer = Timer::immediate(&clock(&self.rt, &mut self.event_loop));
-        let inserted = self.event_loop.handle().insert_source(timer, leaving());
-        token_of(&self.rt, inserted)
-    }
-
-    fn count(&mut self, limit: u32, ends: Option<PostAction>) -> RegistrationToken {
-        let held = D::counter(Counter::new(limit, ends));
-        let registered = self.event_loop.handle().register_dispatcher(held);
-        token_of(&self.rt, registered)
-    }
-
-    fn hands_back(&mut self) -> bool {
-        let call = LoopCall::Insert(D::counter(Counter::new(0, None)));
-        is_handed_back(&self.event_loop.carry_out(&self.rt, call))
-    }
-
-    fn attend(&mut self, attendant: Attendant) -> RegistrationToken {
-        let inserted = self.event_loop.handle().insert_source(attendant, Listener);
-        token_of(&self.rt, inserted)
-    }
-
-    fn registered_attendant(&mut self) -> RegistrationToken {
-        let held = D::hold(Dispatcher {
-            source: Attendant::new(0),
-            callback: Listener,
-        });
-        let registered = self.event_loop.handle().register_dispatcher(held);
-        token_of(&self.rt, registered)
-    }
-
-    fn hands_back_attendant(&mut self) -> bool {
-        let refused = Attendant {
-            is_refused: true,
-            ..Attendant::new(0)
-        };
-        match self.event_loop.handle().insert_source(refused, Listener) {
-            Ok(_) => false,
-            Err(refused) => refused.inserted.is_refused && refused.inserted.waits == 0,
-        }
-    }
-
-    fn guarded(&mut self, failures: u32, is_stuck: bool) -> (RegistrationToken, Ping<R>) {
-        let (bell, ping) = make_ping(&self.rt, self.alloc).expect(&self.rt, "a ping");
-        let held = D::guarded(Guarded {
-            ping,
-            failures,
-            is_stuck,
-        });
-        let registered = self.event_loop.handle().register_dispatcher(held);
-        (token_of(&self.rt, registered), bell)
-    }
-
-    fn trio(&mut self) -> (RegistrationToken, Ping<R>) {
-        let (ping, bell) = make_ping(&self.rt, self.alloc).expect(&self.rt, "a ping");
-        let held = D::trio(Trio {
-            bell,
-            first: Timer::from_deadline(at(20)),
-            second: Timer::from_deadline(at(10)),
-        });
-        let registered = self.event_loop.handle().register_dispatcher(held);
-        (token_of(&self.rt, registered), ping)
-    }
-
-    fn remove(&mut self, token: RegistrationToken) -> Option<D> {
-        self.event_loop.handle().remove(token)
-    }
-
-    fn removed_counter(&mut self, token: RegistrationToken) -> Option<(u32, u32)> {
-        self.remove(token)?.counted()
-    }
-
-    fn removed_ping(&mut self, token: RegistrationToken) -> Option<u32> {
-        self.remove(token)?.number()
-    }
-
-    fn told(&mut self, token: RegistrationToken) -> Option<u32> {
-        Some(self.remove(token)?.attended()?.1)
-    }
-
-    fn postpones(&mut self, token: RegistrationToken, millis: u64) -> bool {
-        match self.event_loop.handle().dispatcher_mut(&token) {
-            Ok(held) => held.postpones(at(millis)),
-            Err(_) => false,
-        }
-    }
-
-    fn waits_of(&mut self, token: RegistrationToken) -> Option<u32> {
-        let handle = self.event_loop.handle();
-        Some(handle.dispatcher(&token).ok()?.attended()?.0)
-    }
-
-    fn answers(&mut self, acts: &[Act], wanted: &[(&str, bool)]) -> bool {
-        let mut calls = VecDeque::new(self.alloc);
-        for act in acts {
-            let added = calls.push_back(call(&self.rt, self.alloc, *act));
-            assert!(self.rt; added.is_ok());
-        }
-        let answers = self.event_loop.carry_out_all(&self.rt, self.alloc, calls);
-        answers.is_ok_and(|answers| are_answers(&answers, wanted))
-    }
-}
-
-impl<R: Wait + Clone + Drop> Bell for Ping<R> {
-    fn ring(&self) {
-        let _receipt = self.ping();
-    }
-
-    fn again(&self) -> Option<Ping<R>> {
-        self.clone().ok()
-    }
-}
-
-impl<R: Wait + Drop> Made<R> for Held<R> {
-    fn counter(source: Counter) -> Held<R> {
-        let callback = Listener;
-        let held = OneOf::First(Dispatcher { source, callback });
-        Sources::new(OneOf::Other(OneOf::Other(OneOf::Other(held))))
-    }
-
-    fn guarded(source: Guarded<R>) -> Held<R> {
-        let callback = Teller { number: 1 };
-        let held = OneOf::First(Dispatcher { source, callback });
-        Sources::new(OneOf::Other(OneOf::Other(OneOf::Other(OneOf::Other(held)))))
-    }
-
-    fn trio(source: Trio<R>) -> Held<R> {
-        let callback = Announcer;
-        let held = OneOf::Other(Dispatcher { source, callback });
-        Sources::new(OneOf::Other(OneOf::Other(OneOf::Other(OneOf::Other(held)))))
-    }
-}
-
-impl<R: Wait + Drop> Choice for Held<R> {
+impl<R: Wait + Drop> Seen for Held<R> {
     fn counted(&self) -> Option<(u32, u32)> {
         match &self.held {
             OneOf::Other(OneOf::Other(OneOf::Other(OneOf::First(held)))) => {
@@ -394,56 +591,57 @@ impl<R: Wait + Drop> Choice for Held<R> {
     }
 }
 
-fn token_of<S: Drop, R: Abort>(
-    rt: &R,
-    inserted: Result<RegistrationToken, InsertError<S>>,
-) -> RegistrationToken {
-    let token = inserted.ok();
-    token.expect(rt, "a registration")
-}
-
 // Says 5 and leaves.
-fn leaving() -> Waker {
+fn says_5() -> Waker {
     Waker {
         number: 5,
         action: TimeoutAction::Drop,
     }
 }
 
-// A clock that follows the loop's poller.
-fn clock<D, R>(rt: &R, event_loop: &mut EventLoop<D, ScriptPoller, ScriptClock, R>) -> ScriptClock
-where
-    D: EventDispatcher<ScriptPoller, ScriptClock, R>,
-    R: Wait + Drop + Abort,
-{
-    let clock = event_loop.handle().poller_mut().clock();
-    clock.expect(rt, "a clock")
+fn leaving() -> Attendant {
+    Attendant {
+        ends: PostAction::Remove,
+        ..Attendant::new(2)
+    }
 }
 
-fn call<D: Made<R>, R: Wait + Drop + Abort>(
-    rt: &R,
-    alloc: Global,
-    act: Act,
-) -> LoopCall<D, ScriptPoller, Vec<u32>> {
-    match act {
-        Act::Insert(limit) => LoopCall::Insert(D::counter(Counter::new(limit, None))),
-        Act::Exchange(token, limit) => LoopCall::Exchange(
-            token,
-            D::counter(Counter::new(limit, None)),
-        ),
-        Act::Enable(token) => LoopCall::Enable(token),
-        Act::Update(token) => LoopCall::Update(token),
-        Act::Disable(token) => LoopCall::Disable(token),
-        Act::Remove(token) => LoopCall::Remove(token),
-        Act::Dispatch => LoopCall::Dispatch(Some(Duration::ZERO), Vec::new(alloc)),
-        Act::Poller => LoopCall::Poller(ScriptPoller::new(alloc).expect(rt, "a poller")),
+fn failing() -> Attendant {
+    Attendant {
+        fails_at: 1,
+        ..Attendant::new(0)
     }
+}
+
+fn first_use(slot: u32) -> RegistrationToken {
+    RegistrationToken::new(slot, 0)
+}
+
+fn loop_call<D>(alloc: Global, call: Call) -> Option<LoopCall<D, ScriptPoller, Vec<u32>>>
+where
+    D: Choice<Counter, Listener, Fourth>,
+{
+    let made = match call {
+        Call::Insert(limit) => LoopCall::Insert(counter(limit)),
+        Call::Exchange(slot, limit) => LoopCall::Exchange(first_use(slot), counter(limit)),
+        Call::Enable(slot) => LoopCall::Enable(first_use(slot)),
+        Call::Update(slot) => LoopCall::Update(first_use(slot)),
+        Call::Disable(slot) => LoopCall::Disable(first_use(slot)),
+        Call::Remove(slot) => LoopCall::Remove(first_use(slot)),
+        Call::Dispatch => LoopCall::Dispatch(Some(Duration::ZERO), Vec::new(alloc)),
+        Call::Poller => LoopCall::Poller(ScriptPoller::new(alloc).ok()?),
+    };
+    Some(made)
+}
+
+fn counter<D: Choice<Counter, Listener, Fourth>>(limit: u32) -> D {
+    D::hold(Dispatcher::new(Counter::new(limit, None), Listener))
 }
 
 type Answer<D> = LoopAnswer<D, ScriptPoller, Vec<u32>>;
 
 // Whether a counter is handed back that isn't registered.
-fn is_handed_back<D: Choice>(answer: &Answer<D>) -> bool {
+fn is_handed_back<D: Seen>(answer: &Answer<D>) -> bool {
     match answer {
         LoopAnswer::Inserted(
             Err(
@@ -453,6 +651,14 @@ fn is_handed_back<D: Choice>(answer: &Answer<D>) -> bool {
                 },
             ),
         ) => inserted.counted() == Some((0, 0)) && cause.kind() == ErrorKind::NotFound,
+        _ => false,
+    }
+}
+
+// Whether it is a refusal by the system of this kind.
+fn is_refused_as(answer: &calloop::Result<()>, kind: ErrorKind) -> bool {
+    match answer {
+        Err(Error::IoError(cause)) => cause.kind() == kind,
         _ => false,
     }
 }

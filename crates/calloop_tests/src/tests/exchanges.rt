@@ -1,90 +1,78 @@
 //! Sources that are changed or exchanged within the loop, and warnings.
 use super::at;
-use super::desk::{Act, Desk, Scene, plays};
-use super::stage::{Stage, Table};
-use calloop::{Dispatcher, Instant, On, RegistrationToken, Sources, TimeoutAction, Timer};
+use super::desk::{Act, Call, plays};
+use super::stage::{Table, time};
+use calloop::{
+    Choice, Dispatcher, EventDispatcher, Here, Instant, On, Sources, TimeoutAction, Timer,
+};
+use calloop_core::sys::script::{ScriptClock, ScriptPoller};
+use std::alloc::Global;
 use std::io::ErrorKind;
-use std::process::Abort;
 use std::sync::Wait;
 
+// What a test does at a new desk, and what is to come of it.
+const CASES: &[(&str, &[Act<'static>])] = &[
+    (
+        "a_deadline_that_is_set_counts_from_the_next_update",
+        &[
+            Act::Alarm(100),
+            Act::Alarm(400),
+            Act::Postpone(0, 300),
+            Act::Postpone(1, 600),
+            Act::Update(1),
+            Act::Says(Some(200), &[5]),
+            Act::Says(Some(900), &[5]),
+            Act::Asked(&[Some(100), Some(500)]),
+        ],
+    ),
+    (
+        "a_dead_token_lends_no_source",
+        &[
+            Act::Alarm(100),
+            Act::Remove(0),
+            Act::LetGo,
+            Act::LendsNone(0),
+        ],
+    ),
+    (
+        "a_source_is_exchanged_for_the_one_before",
+        &[
+            Act::Counter(1, None),
+            Act::Answers(
+                &[Call::Exchange(0, 9), Call::Exchange(1, 9)],
+                &[("exchanged", true), ("exchanged", false)],
+            ),
+            Act::Remove(0),
+            Act::TookCounter(0, 1),
+        ],
+    ),
+    (
+        "a_source_that_fails_as_it_leaves_is_a_warning_until_the_next_dispatch",
+        &[
+            Act::Ping(7),
+            Act::Disable(0),
+            Act::Warns(&[]),
+            Act::Remove(0),
+            Act::TookPing(7),
+            Act::LetGo,
+            Act::Warns(&[ErrorKind::NotFound]),
+            Act::Says(Some(0), &[]),
+            Act::Warns(&[]),
+        ],
+    ),
+];
+
 #[test]
-fn a_deadline_that_is_set_counts_from_the_next_update(rt: HostRuntime) {
-    plays::<ADeadlineThatIsSetCountsFromTheNextUpdate, _>(&rt, rt.alloc());
-}
-
-struct ADeadlineThatIsSetCountsFromTheNextUpdate;
-
-impl Scene for ADeadlineThatIsSetCountsFromTheNextUpdate {
-    fn play<R: Abort, D: Desk + Drop>(rt: &R, mut desk: D) {
-        let first = desk.alarm(100, TimeoutAction::Drop);
-        let second = desk.alarm(400, TimeoutAction::Drop);
-        assert!(rt; desk.postpones(first, 300) && desk.postpones(second, 600));
-        assert!(rt; desk.update(second).is_ok());
-        assert!(rt; desk.says(Some(200), &[5]));
-        assert!(rt; desk.says(Some(900), &[5]));
-        assert!(rt; desk.asked(&[Some(100), Some(500)]));
+fn each_case_of_exchanges_goes_as_it_is_to(rt: HostRuntime) {
+    for (name, acts) in CASES {
+        assert_eq!(rt; plays(&rt, rt.alloc(), acts), None, "{name}");
     }
 }
 
 #[test]
 fn a_deadline_that_is_set_without_an_update_is_not_handed_out(rt: HostRuntime) {
-    let mut table: Table<Sources<Dispatcher<Timer, Herald>, Vec<u32>>, _> = Table::new(
-        &rt,
-        rt.alloc(),
-    );
-    assert!(rt; sets_without_an_update(&mut table));
-    assert!(rt; table.says(Some(200), &[100]));
-    assert!(rt; table.asked(&[Some(100)]));
-}
-
-#[test]
-fn a_dead_token_lends_no_source(rt: HostRuntime) {
-    plays::<ADeadTokenLendsNoSource, _>(&rt, rt.alloc());
-}
-
-struct ADeadTokenLendsNoSource;
-
-impl Scene for ADeadTokenLendsNoSource {
-    fn play<R: Abort, D: Desk + Drop>(rt: &R, mut desk: D) {
-        let token = desk.alarm(100, TimeoutAction::Drop);
-        assert!(rt; desk.remove(token).is_some());
-        assert!(rt; desk.lends_none(token));
-    }
-}
-
-#[test]
-fn a_source_is_exchanged_for_the_one_before(rt: HostRuntime) {
-    plays::<ASourceIsExchangedForTheOneBefore, _>(&rt, rt.alloc());
-}
-
-struct ASourceIsExchangedForTheOneBefore;
-
-impl Scene for ASourceIsExchangedForTheOneBefore {
-    fn play<R: Abort, D: Desk + Drop>(rt: &R, mut desk: D) {
-        let token = desk.count(1, None);
-        let acts = [token, RegistrationToken::new(1, 0)].map(|named| Act::Exchange(named, 9));
-        assert!(rt; desk.answers(&acts, &[("exchanged", true), ("exchanged", false)]));
-        assert_eq!(rt; desk.removed_counter(token), Some((0, 1)));
-    }
-}
-
-#[test]
-fn a_source_that_fails_as_it_leaves_is_a_warning_until_the_next_dispatch(rt: HostRuntime) {
-    plays::<ASourceThatFailsAsItLeavesIsAWarningUntilTheNextDispatch, _>(&rt, rt.alloc());
-}
-
-struct ASourceThatFailsAsItLeavesIsAWarningUntilTheNextDispatch;
-
-impl Scene for ASourceThatFailsAsItLeavesIsAWarningUntilTheNextDispatch {
-    fn play<R: Abort, D: Desk + Drop>(rt: &R, mut desk: D) {
-        let (token, _bell) = desk.ping(7);
-        assert!(rt; desk.disable(token).is_ok());
-        assert!(rt; desk.warns_of(&[]));
-        assert_eq!(rt; desk.removed_ping(token), Some(7));
-        assert!(rt; desk.warns_of(&[ErrorKind::NotFound]));
-        assert!(rt; desk.says(Some(0), &[]));
-        assert!(rt; desk.warns_of(&[]));
-    }
+    let said = says_the_first::<Held, HostRuntime>(&rt, rt.alloc());
+    assert_eq!(rt; said, Some(true));
 }
 
 // Says the deadline in milliseconds, and leaves.
@@ -100,20 +88,32 @@ impl On<Instant, Vec<u32>, TimeoutAction> for Herald {
     }
 }
 
-// Inserts a timer of 100 milliseconds, and sets its deadline to 300.
-fn sets_without_an_update<R: Wait + Clone + Drop + Abort>(
-    table: &mut Table<Sources<Dispatcher<Timer, Herald>, Vec<u32>>, R>,
-) -> bool {
-    let mut handle = table.event_loop.handle();
-    let timer = Timer::from_deadline(at(100));
-    let Ok(token) = handle.insert_source(timer, Herald) else {
-        return false;
-    };
-    match handle.dispatcher_mut(&token) {
-        Ok(held) => {
-            held.held.as_source_mut().set_deadline(at(300));
-            true
-        }
-        Err(_) => false,
+type Held = Sources<Dispatcher<Timer, Herald>, Vec<u32>>;
+
+// Whether a timer of 100 milliseconds whose deadline is set to 300, without an update, is called after 100, and told that.
+fn says_the_first<D, R>(rt: &R, alloc: Global) -> Option<bool>
+where
+    D: EventDispatcher<ScriptPoller, ScriptClock, R, Data = Vec<u32>> + Postpones,
+    D: Choice<Timer, Herald, Here>,
+    R: Wait + Clone + Drop,
+{
+    let mut table: Table<D, R> = Table::new(rt, alloc)?;
+    let held = D::hold(Dispatcher::new(Timer::from_deadline(at(100)), Herald));
+    let token = table.event_loop.handle().register_dispatcher(held).ok()?;
+    match table.event_loop.handle().dispatcher_mut(&token) {
+        Ok(held) => held.postpones(),
+        Err(_) => return None,
+    }
+    Some(table.says(time(Some(200)), &[100]) && table.asked(&[Some(100)]))
+}
+
+// A timer whose deadline is set to 300 milliseconds.
+trait Postpones {
+    fn postpones(&mut self);
+}
+
+impl Postpones for Held {
+    fn postpones(&mut self) {
+        self.held.as_source_mut().set_deadline(at(300));
     }
 }

@@ -1,6 +1,6 @@
 //! Callbacks and pings: one that rings, clones and drops its own ping, since no lock of its cell is held while it is called; and one
 //! that has another ping's dispatcher registered.
-use super::stage::{Stage, Table};
+use super::stage::{Table, time};
 use calloop::ping::{Ping, make_ping};
 use calloop::{
     Callback, Choice, Dispatcher, EventDispatcher, Here, Hold, On, OneOf, PingSource,
@@ -9,14 +9,12 @@ use calloop::{
 use calloop_core::sys::script::{ScriptClock, ScriptPoller};
 use calloop_test_sources::source::Teller;
 use std::alloc::Global;
-use std::process::Abort;
 use std::sync::Wait;
 
 #[test]
 fn a_callback_rings_clones_and_drops_its_own_ping(rt: HostRuntime) {
-    let mut table: Table<Held<HostRuntime>, HostRuntime> = Table::new(&rt, rt.alloc());
-    let token = insert(&mut table, &rt, rt.alloc());
-    assert!(rt; plays(&mut table, token));
+    let called = calls_its_own::<Held<HostRuntime>, HostRuntime>(&rt, rt.alloc());
+    assert_eq!(rt; called, Some(true));
 }
 
 type Held<R> = Sources<Dispatcher<PingSource<R>, Own<R>>, Vec<u32>>;
@@ -44,40 +42,33 @@ impl<R: Wait + Clone + Drop> On<(), Vec<u32>, ()> for Own<R> {
     }
 }
 
-fn insert<D, R>(table: &mut Table<D, R>, rt: &R, alloc: Global) -> RegistrationToken
+// Whether it is called twice, and leaves with the next turn, since the second call drops the last ping.
+fn calls_its_own<D, R>(rt: &R, alloc: Global) -> Option<bool>
 where
-    D: EventDispatcher<ScriptPoller, ScriptClock, R, Data = Vec<u32>, Idle = ()>,
-    D: Hold<PingSource<R>, Own<R>, ScriptPoller, ScriptClock, R, Vec<u32>, Requests<D>, Here>,
-    R: Wait + Clone + Drop + Abort,
+    D: EventDispatcher<ScriptPoller, ScriptClock, R, Data = Vec<u32>>,
+    D: Choice<PingSource<R>, Own<R>, Here>,
+    R: Wait + Clone + Drop,
 {
-    let (ping, source) = make_ping(rt, alloc).expect(rt, "a ping");
+    let mut table: Table<D, R> = Table::new(rt, alloc)?;
+    let (ping, source) = make_ping(rt, alloc).ok()?;
     ping.ping();
     let own = Own {
         ping: Some(ping),
         calls: 0,
     };
-    let inserted = table.event_loop.handle().insert_source(source, own).ok();
-    inserted.expect(rt, "a registration")
-}
-
-// The second call drops the last ping, so that the source leaves with the next turn.
-fn plays<S: Stage>(stage: &mut S, token: RegistrationToken) -> bool {
-    stage.says(Some(100), &[1])
-        && stage.says(Some(100), &[2])
-        && stage.says(Some(100), &[])
-        && stage.is_gone(token)
-        && stage.asked(&[Some(0), Some(0), Some(0)])
+    let held = D::hold(Dispatcher::new(source, own));
+    let token = table.event_loop.handle().register_dispatcher(held).ok()?;
+    let timeout = time(Some(100));
+    let said = [[1].as_slice(), &[2], &[]]
+        .into_iter()
+        .all(|numbers| table.says(timeout, numbers));
+    Some(said && table.is_gone(token) && table.asked(&[Some(0), Some(0), Some(0)]))
 }
 
 #[test]
 fn a_callback_has_the_dispatcher_of_another_ping_registered(rt: HostRuntime) {
-    let mut table: Table<Two<HostRuntime>, HostRuntime> = Table::new(&rt, rt.alloc());
-    let (first, second) = insert_bringer(&mut table, &rt, rt.alloc());
-    second.ping();
-    first.ping();
-    assert!(rt; table.says(Some(100), &[1]));
-    assert!(rt; table.says(Some(100), &[2]));
-    assert!(rt; table.asked(&[Some(0), Some(0)]));
+    let called = brings_another::<Two<HostRuntime>, HostRuntime>(&rt, rt.alloc());
+    assert_eq!(rt; called, Some(true));
 }
 
 type Two<R> = Sources<
@@ -105,20 +96,25 @@ where
     }
 }
 
-// Both pings; the second one's source is with the first one's callback.
-fn insert_bringer<D, R>(table: &mut Table<D, R>, rt: &R, alloc: Global) -> (Ping<R>, Ping<R>)
+// Whether both pings are called, of which the second one's source is with the first one's callback.
+fn brings_another<D, R>(rt: &R, alloc: Global) -> Option<bool>
 where
     D: EventDispatcher<ScriptPoller, ScriptClock, R, Data = Vec<u32>, Idle = ()>,
     D: Hold<PingSource<R>, Brings<R>, ScriptPoller, ScriptClock, R, Vec<u32>, Requests<D>, Here>,
     D: Choice<PingSource<R>, Teller, There<Here>>,
-    R: Wait + Clone + Drop + Abort,
+    R: Wait + Clone + Drop,
 {
-    let (first, source) = make_ping(rt, alloc).expect(rt, "a ping");
-    let (second, brought) = make_ping(rt, alloc).expect(rt, "a ping");
+    let mut table: Table<D, R> = Table::new(rt, alloc)?;
+    let (first, source) = make_ping(rt, alloc).ok()?;
+    let (second, brought) = make_ping(rt, alloc).ok()?;
     let brings = Brings {
         source: Some(brought),
     };
-    let inserted = table.event_loop.handle().insert_source(source, brings);
-    assert!(rt; inserted.is_ok());
-    (first, second)
+    let mut handle = table.event_loop.handle();
+    handle.insert_source(source, brings).ok()?;
+    second.ping();
+    first.ping();
+    let timeout = time(Some(100));
+    let said = table.says(timeout, &[1]) && table.says(timeout, &[2]);
+    Some(said && table.asked(&[Some(0), Some(0)]))
 }

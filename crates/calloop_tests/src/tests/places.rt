@@ -1,18 +1,18 @@
 //! Two places of one choice for the same source and callback.
-use super::stage::{Stage, Table};
+use super::stage::{Table, time};
 use calloop::{
     Dispatcher, EventDispatcher, Here, Hold, OneOf, PingSource, RegistrationToken, Requests,
     Sources, There, make_ping,
 };
 use calloop_core::sys::script::{ScriptClock, ScriptPoller};
 use calloop_test_sources::source::Teller;
-use std::process::Abort;
+use std::alloc::Global;
 use std::sync::Wait;
 
 #[test]
 fn each_place_of_one_kind_of_source_is_called_for_its_own_event(rt: HostRuntime) {
-    let table: Table<Twice<HostRuntime>, _> = Table::new(&rt, rt.alloc());
-    assert!(rt; is_each_called(table) == Some(true));
+    let called = is_each_called::<Twice<HostRuntime>, HostRuntime>(&rt, rt.alloc());
+    assert_eq!(rt; called, Some(true));
 }
 
 // Pings that say their numbers, in two places.
@@ -37,7 +37,7 @@ impl<R: Wait + Drop> Placed for Twice<R> {
 }
 
 // Whether a ping in each place is called for its own ring. None where memory is short.
-fn is_each_called<D, R>(table: Table<D, R>) -> Option<bool>
+fn is_each_called<D, R>(rt: &R, alloc: Global) -> Option<bool>
 where
     D: EventDispatcher<ScriptPoller, ScriptClock, R, Data = Vec<u32>, Idle = ()> + Placed,
     D: Hold<PingSource<R>, Teller, ScriptPoller, ScriptClock, R, Vec<u32>, Requests<D>, Here>,
@@ -51,11 +51,11 @@ where
         Requests<D>,
         There<Here>,
     >,
-    R: Wait + Clone + Drop + Abort,
+    R: Wait + Clone + Drop,
 {
-    let mut table = table;
-    let (first, first_source) = make_ping(&table.rt, table.alloc).ok()?;
-    let (second, second_source) = make_ping(&table.rt, table.alloc).ok()?;
+    let mut table: Table<D, R> = Table::new(rt, alloc)?;
+    let (first, first_source) = make_ping(rt, alloc).ok()?;
+    let (second, second_source) = make_ping(rt, alloc).ok()?;
     let mut handle = table.event_loop.handle();
     let one = handle
         .insert_source::<_, _, Here>(first_source, Teller { number: 1 })
@@ -64,9 +64,9 @@ where
         .insert_source::<_, _, There<Here>>(second_source, Teller { number: 2 })
         .ok()?;
     second.ping();
-    let is_second_called = table.says(Some(0), &[2]);
+    let is_second_called = table.says(time(Some(0)), &[2]);
     first.ping();
-    let is_first_called = table.says(Some(0), &[1]);
+    let is_first_called = table.says(time(Some(0)), &[1]);
     let places = [place_of(&mut table, one), place_of(&mut table, other)];
     Some(is_second_called && is_first_called && places == [Some((0, 1)), Some((1, 2))])
 }
@@ -74,7 +74,7 @@ where
 fn place_of<D, R>(table: &mut Table<D, R>, token: RegistrationToken) -> Option<(u32, u32)>
 where
     D: EventDispatcher<ScriptPoller, ScriptClock, R> + Placed,
-    R: Wait + Clone + Drop + Abort,
+    R: Wait + Clone + Drop,
 {
     let handle = table.event_loop.handle();
     Some(handle.dispatcher(&token).ok()?.place())

@@ -1,93 +1,65 @@
 //! Timers that count from what the loop's clock shows.
-use super::desk::{Desk, Scene, plays};
-use super::stage::Stage;
-use std::process::Abort;
-use std::sync::Wait;
-use std::time::Duration;
+use super::desk::{Act, plays};
+
+// What a test does at a new desk, and what is to come of it.
+const CASES: &[(&str, &[Act<'static>])] = &[
+    (
+        "a_timer_is_called_once_its_time_has_come",
+        &[
+            Act::AlarmIn(100),
+            Act::Says(Some(0), &[]),
+            Act::Says(Some(150), &[5]),
+            Act::AlarmIn(100),
+            Act::Says(Some(150), &[5]),
+            Act::Asked(&[Some(0), Some(100), Some(100)]),
+        ],
+    ),
+    (
+        "a_timer_that_is_due_at_once_is_called_without_a_wait",
+        &[
+            Act::Says(Some(7), &[]),
+            Act::AlarmNow,
+            Act::Says(Some(0), &[5]),
+            Act::Asked(&[Some(7), Some(0)]),
+        ],
+    ),
+    (
+        "a_timer_waits_for_parts_of_a_millisecond",
+        &[
+            Act::AlarmIn(100),
+            Act::SaysInMicros(0, &[]),
+            Act::SaysInMicros(10_200, &[]),
+            Act::SaysInMicros(100_000, &[5]),
+            Act::AskedMicros(&[0, 10_200, 89_800]),
+        ],
+    ),
+    (
+        "a_timer_that_is_removed_is_not_called",
+        &[
+            Act::AlarmIn(100),
+            Act::Says(Some(0), &[]),
+            Act::Remove(0),
+            Act::LetGo,
+            Act::Says(Some(150), &[]),
+            Act::Asked(&[Some(0), Some(150)]),
+        ],
+    ),
+    (
+        "a_timer_past_the_last_moment_is_never_called",
+        &[
+            Act::AlarmIn(500),
+            Act::AlarmNever,
+            Act::Says(Some(250), &[]),
+            Act::Says(Some(510), &[5]),
+            Act::Says(Some(510), &[]),
+            Act::Asked(&[Some(250), Some(250), Some(510)]),
+        ],
+    ),
+];
 
 #[test]
-fn a_timer_is_called_once_its_time_has_come(rt: HostRuntime) {
-    plays::<ATimerIsCalledOnceItsTimeHasCome, _>(&rt, rt.alloc());
-}
-
-struct ATimerIsCalledOnceItsTimeHasCome;
-
-impl Scene for ATimerIsCalledOnceItsTimeHasCome {
-    fn play<R: Abort, D: Desk + Drop>(rt: &R, mut desk: D) {
-        desk.alarm_in(Duration::from_millis(100));
-        assert!(rt; desk.says(Some(0), &[]));
-        assert!(rt; desk.says(Some(150), &[5]));
-        desk.alarm_in(Duration::from_millis(100));
-        assert!(rt; desk.says(Some(150), &[5]));
-        assert!(rt; desk.asked(&[Some(0), Some(100), Some(100)]));
-    }
-}
-
-#[test]
-fn a_timer_that_is_due_at_once_is_called_without_a_wait(rt: HostRuntime) {
-    plays::<ATimerThatIsDueAtOnceIsCalledWithoutAWait, _>(&rt, rt.alloc());
-}
-
-struct ATimerThatIsDueAtOnceIsCalledWithoutAWait;
-
-impl Scene for ATimerThatIsDueAtOnceIsCalledWithoutAWait {
-    fn play<R: Abort, D: Desk + Drop>(rt: &R, mut desk: D) {
-        assert!(rt; desk.says(Some(7), &[]));
-        desk.immediate_alarm();
-        assert!(rt; desk.says(Some(0), &[5]));
-        assert!(rt; desk.asked(&[Some(7), Some(0)]));
-    }
-}
-
-#[test]
-fn a_timer_waits_for_parts_of_a_millisecond(rt: HostRuntime) {
-    plays::<ATimerWaitsForPartsOfAMillisecond, _>(&rt, rt.alloc());
-}
-
-struct ATimerWaitsForPartsOfAMillisecond;
-
-impl Scene for ATimerWaitsForPartsOfAMillisecond {
-    fn play<R: Abort, D: Desk + Drop>(rt: &R, mut desk: D) {
-        desk.alarm_in(Duration::from_millis(100));
-        for (micros, numbers) in [(0, [].as_slice()), (10_200, &[]), (100_000, &[5])] {
-            assert!(rt; desk.says_within(Some(Duration::from_micros(micros)), numbers));
-        }
-        let wanted = [0, 10_200, 89_800].map(|micros| Some(Duration::from_micros(micros)));
-        assert!(rt; desk.asked_just(&wanted));
-    }
-}
-
-#[test]
-fn a_timer_that_is_removed_is_not_called(rt: HostRuntime) {
-    plays::<ATimerThatIsRemovedIsNotCalled, _>(&rt, rt.alloc());
-}
-
-struct ATimerThatIsRemovedIsNotCalled;
-
-impl Scene for ATimerThatIsRemovedIsNotCalled {
-    fn play<R: Abort, D: Desk + Drop>(rt: &R, mut desk: D) {
-        let token = desk.alarm_in(Duration::from_millis(100));
-        assert!(rt; desk.says(Some(0), &[]));
-        assert!(rt; desk.remove(token).is_some());
-        assert!(rt; desk.says(Some(150), &[]));
-        assert!(rt; desk.asked(&[Some(0), Some(150)]));
-    }
-}
-
-#[test]
-fn a_timer_past_the_last_moment_is_never_called(rt: HostRuntime) {
-    plays::<ATimerPastTheLastMomentIsNeverCalled, _>(&rt, rt.alloc());
-}
-
-struct ATimerPastTheLastMomentIsNeverCalled;
-
-impl Scene for ATimerPastTheLastMomentIsNeverCalled {
-    fn play<R: Abort, D: Desk + Drop>(rt: &R, mut desk: D) {
-        desk.alarm_in(Duration::from_millis(500));
-        desk.alarm_in(Duration::MAX);
-        assert!(rt; desk.says(Some(250), &[]));
-        assert!(rt; desk.says(Some(510), &[5]));
-        assert!(rt; desk.says(Some(510), &[]));
-        assert!(rt; desk.asked(&[Some(250), Some(250), Some(510)]));
+fn each_case_of_timers_goes_as_it_is_to(rt: HostRuntime) {
+    for (name, acts) in CASES {
+        assert_eq!(rt; plays(&rt, rt.alloc(), acts), None, "{name}");
     }
 }
