@@ -4,6 +4,7 @@ use Rattle.std.proofs.lemmas.Bool.Decides.{nat_tests}
 use Rattle.std.proofs.lemmas.Option.{slice_get-map}
 use Rattle.std.specs.Option.{option_map}
 use Rattle.std.specs.declared.io.Error.{Error as Cause}
+use Rattle.calloop_wake.specs.Widths.{versions}
 use Rattle.calloop_wake.specs.declared.error.Error.{Error}
 use Rattle.calloop_wake.specs.declared.error.InsertError.{InsertError}
 use Rattle.calloop_wake.specs.declared.token.RegistrationToken.{RegistrationToken}
@@ -352,4 +353,4 @@ module _ {D I P X : Type 0} (M : Meaning D P (Lent X (Asks D I))) (runs : Runs D
   pub run_home : (calls : List (LoopCall D P X I)) (answers : List (LoopAnswer D P X I)) (csss : List (List (List (Change D I P)))) (w w' : World D I P) → IsNew w → AllBringNoKey M (changes_of csss) → Run M runs O calls answers csss w w' → AllAtHome M w'
   run_home calls answers csss w w' new fresh run i r d here is =
       let none : Homely (seen w).slots = λ j v e at. absurd (none_there (seen w).slots (ap (λ rs. map slot_of rs) new.slots) j v e at) in
-      run_homely calls answers csss w w' fresh run none i (r.reuse % 65536) d (slot_of r, slice_get-map slot_of w'.slots i ∙ ap (λ o. option_map slot_of o) here, refl, is)
+      run_homely calls answers csss w w' fresh run none i (r.reuse % versions) d (slot_of r, slice_get-map slot_of w'.slots i ∙ ap (λ o. option_map slot_of o) here, refl, is)

@@ -1,6 +1,7 @@
 -- Insertions, and what else is asked of one source.
 use Rattle.std.proofs.Common.{Bool, ◌≡◌, ◌<◌, ◌^◌, ◌-◌, IfOk, IfErr, Result, ℕ, zero, suc, List, [], ◌∷◌, refl, ap, sym, ◌∙◌, subst, false, None, Some, Ok, Err, inl, inr}
 use Rattle.logbook.specs.Pages.{Book}
+use Rattle.calloop_wake.specs.Widths.{most_slots}
 use Rattle.calloop.specs.declared.loop_logic.asks.Idle.{Idle}
 use Rattle.calloop_wake.specs.declared.error.InsertError.{InsertError}
 use Rattle.calloop_wake.specs.declared.error.Error.{Error}
@@ -45,7 +46,7 @@ module _ {D I P X : Type 0} (M : Meaning D P (Lent X (Asks D I))) (runs : Runs D
   claim_full : IsFull (claimed v.slots) (first_vacant v.slots)
   claim_full = (record { version = next_version v.slots; content = InTurn }, slice_get-claimed_at v.slots, refl)
 
-  pub not_registered : (d e : D) (error : Error) (token : RegistrationToken) (f : TokenFactory) (p' : PollView P) → token ≡ next_registration v.slots → token.slot < 2 ^ 32
+  pub not_registered : (d e : D) (error : Error) (token : RegistrationToken) (f : TokenFactory) (p' : PollView P) → token ≡ next_registration v.slots → token.slot < most_slots
       → Does O M d v.poll (Registered (factory_of token) (Err error) f) e p'
       → Did (Case M runs O (Insert d) (Inserted (Err (record { inserted = e; error = error })))) v (record v { slots = after_turn Vacant token (claimed v.slots); poll = p' })
   not_registered d e error token f p' is few r =
@@ -53,18 +54,18 @@ module _ {D I P X : Type 0} (M : Meaning D P (Lent X (Asks D I))) (runs : Runs D
       let ended : after_turn Vacant token (claimed v.slots) ≡ changed (with_content Vacant) (claimed v.slots) (first_vacant v.slots) =
       ap (λ (t : RegistrationToken). after_turn Vacant t (claimed v.slots)) is ∙ claim_ended v.slots Vacant in
       one_step (InsertedBy M d (Err (record { inserted = e; error = error }))) (Claim d ∷ Polls r.0 ∷ Put (first_vacant v.slots) Vacant ∷ []) u
-      (inr (subst (λ (t : RegistrationToken). t.slot < 2 ^ 32) is few, f, r.0, subst (λ (t : RegistrationToken). M.does d v.poll (Registered (factory_of t) (Err error) f) r.0 e) is r.1, refl))
+      (inr (subst (λ (t : RegistrationToken). t.slot < most_slots) is few, f, r.0, subst (λ (t : RegistrationToken). M.does d v.poll (Registered (factory_of t) (Err error) f) r.0 e) is r.1, refl))
       (tt, (r.2.0, (claim_full, tt)))
       (ap (λ (ss : List (Slot D)). record v { slots = ss; poll = p' }) ended ∙ ap (λ (q : PollView P). record v { slots = changed (with_content Vacant) (claimed v.slots) (first_vacant v.slots); poll = q }) r.2.1)
 
-  pub registered : (d e : D) (token : RegistrationToken) (f : TokenFactory) (p' : PollView P) (signal : Book) (es : List Error) (ns : List StopNote) → signal ≡ v.signal → es ≡ v.held.warnings → ns ≡ v.held.stops → token ≡ next_registration v.slots → token.slot < 2 ^ 32
+  pub registered : (d e : D) (token : RegistrationToken) (f : TokenFactory) (p' : PollView P) (signal : Book) (es : List Error) (ns : List StopNote) → signal ≡ v.signal → es ≡ v.held.warnings → ns ≡ v.held.stops → token ≡ next_registration v.slots → token.slot < most_slots
       → Does O M d v.poll (Registered (factory_of token) (Ok tt) f) e p'
       → Did (Case M runs O (Insert d) (Inserted (Ok token))) v (record { slots = after_turn (Source e) token (claimed v.slots); poll = p'; held = record (held_after v.held (Listed (M.needs d) token)) { warnings = es; stops = ns }; signal = signal })
   registered d e token f p' signal es ns same now noted is few r =
       let ended : after_turn (Source e) token (claimed v.slots) ≡ changed (with_content (Source e)) (claimed v.slots) token.slot =
       ap (λ (t : RegistrationToken). after_turn (Source e) t (claimed v.slots)) is ∙ claim_ended v.slots (Source e) ∙ ap (λ (t : RegistrationToken). changed (with_content (Source e)) (claimed v.slots) t.slot) (sym is) in
       one_step (InsertedBy M d (Ok token)) (Claim d ∷ Polls r.0 ∷ Holds (Listed (M.needs d) token) ∷ Put token.slot (Source e) ∷ []) (record { slots = after_turn (Source e) token (claimed v.slots); poll = p'; held = record (held_after v.held (Listed (M.needs d) token)) { warnings = es; stops = ns }; signal = signal })
-      (subst (λ (t : RegistrationToken). t.slot < 2 ^ 32) is few, is, e, f, r.0, r.1, refl)
+      (subst (λ (t : RegistrationToken). t.slot < most_slots) is few, is, e, f, r.0, r.1, refl)
       (tt, (r.2.0, (tt, (subst (λ (t : RegistrationToken). IsFull (claimed v.slots) t.slot) (sym is) claim_full, tt))))
       (ap (λ (l : List Error). record { slots = after_turn (Source e) token (claimed v.slots); poll = p'; held = record (held_after v.held (Listed (M.needs d) token)) { warnings = l; stops = ns }; signal = signal }) now
       ∙ ap (λ (l : List StopNote). record { slots = after_turn (Source e) token (claimed v.slots); poll = p'; held = record (held_after v.held (Listed (M.needs d) token)) { stops = l }; signal = signal }) noted

@@ -1,6 +1,7 @@
 -- Over every run, each counter is held by one source at most, and what the ledger says is kept.
 use Rattle.std.proofs.Common.{Bool, ◌≡◌, ◌≢◌, ◌⊎◌, inl, inr, ℕ, zero, suc, ◌%◌, List, [], ◌∷◌, ◌++◌, map, refl, ap, sym, ◌∙◌, subst, arith, Some, None, Option, Result, Ok, Err, true, false, if◌then◌else◌, nat_eq, nat_lt, slice_get}
 use Rattle.std.proofs.lemmas.Bool.Decides.{nat_tests}
+use Rattle.calloop_wake.specs.Widths.{versions}
 use Rattle.calloop_wake.specs.declared.error.Error.{Error}
 use Rattle.calloop_wake.specs.declared.error.InsertError.{InsertError}
 use Rattle.calloop_wake.specs.declared.list.Content.{Content}
@@ -262,7 +263,7 @@ put_twice c e (r ∷ rs) (suc i) = ap (λ ss. r ∷ ss) (put_twice c e rs i)
 
 at_under : {D : Type 0} (v : ℕ) (o : Option (Registration D)) (d : D) → content_under v (option_map slot_of o) ≡ Source d → (r : Registration D) × (o ≡ Some r) × (r.content ≡ Source d)
 at_under v None d e = cc
-at_under {D} v (Some r) d e = elim (nat_eq (r.reuse % 65536) v) as (λ b. (if b then r.content else Vacant) ≡ Source d → (r' : Registration D) × (◌≡◌ {A = Option (Registration D)} (Some r) (Some r')) × (r'.content ≡ Source d)) [ true ↦ λ full. (r, refl, full) | false ↦ λ none. cc ] e
+at_under {D} v (Some r) d e = elim (nat_eq (r.reuse % versions) v) as (λ b. (if b then r.content else Vacant) ≡ Source d → (r' : Registration D) × (◌≡◌ {A = Option (Registration D)} (Some r) (Some r')) × (r'.content ≡ Source d)) [ true ↦ λ full. (r, refl, full) | false ↦ λ none. cc ] e
 
 -- the source that a token names stands in its slot
 at_named : {D : Type 0} (slots : List (Registration D)) (token : RegistrationToken) (d : D) → named (map slot_of slots) token ≡ Source d → At slots token.slot d

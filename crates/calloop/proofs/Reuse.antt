@@ -1,6 +1,7 @@
--- Reuse counts only grow, and are seen modulo 65,536.
+-- Reuse counts only grow, and are seen modulo the versions that there are.
 use Rattle.std.proofs.Common.{◌≡◌, ℕ, suc, zero, ◌+◌, ◌-◌, ◌*◌, ◌/◌, ◌%◌, ◌≤◌, ◌<◌, ◌⊎◌, List, [], ◌∷◌, refl, ap, sym, ◌∙◌, arith, inl, inr, Some, true, false, if◌then◌else◌, slice_get}
 use Rattle.std.proofs.Math.Nat.{mod-add-div}
+use Rattle.calloop_wake.specs.Widths.{versions}
 use Rattle.calloop_wake.specs.declared.list.Content.{Content}
 use Rattle.calloop_wake.specs.declared.list.Content.TheVariants.{Source}
 use Rattle.calloop_wake.specs.Slots.{changed, is_empty}
@@ -44,10 +45,10 @@ older_all w [] i r h = h
 older_all w (c ∷ cs) i r h = older_all (done w c) cs i r (older_done w c i r h)
 
 -- the same version at a count that is no smaller
-wraps : (n m : ℕ) → n ≤ m → m % 65536 ≡ n % 65536 → (m ≡ n) ⊎ ((k : ℕ) × (0 < k) × (m ≡ n + 65536 * k))
+wraps : (n m : ℕ) → n ≤ m → m % versions ≡ n % versions → (m ≡ n) ⊎ ((k : ℕ) × (0 < k) × (m ≡ n + versions * k))
 wraps n m h e =
-    elim (m / 65536 - n / 65536) as (λ k. m / 65536 - n / 65536 ≡ k → (m ≡ n) ⊎ ((k : ℕ) × (0 < k) × (m ≡ n + 65536 * k)))
-    [ zero ↦ λ is. inl (omega (arith, mod-add-div n 65536, mod-add-div m 65536)) | suc k ↦ λ is. inr (m / 65536 - n / 65536, omega (arith, is), omega (arith, mod-add-div n 65536, mod-add-div m 65536)) ] refl
+    elim (m / versions - n / versions) as (λ k. m / versions - n / versions ≡ k → (m ≡ n) ⊎ ((k : ℕ) × (0 < k) × (m ≡ n + versions * k)))
+    [ zero ↦ λ is. inl (omega (arith, mod-add-div n versions, mod-add-div m versions)) | suc k ↦ λ is. inr (m / versions - n / versions, omega (arith, is), omega (arith, mod-add-div n versions, mod-add-div m versions)) ] refl
 
 pub names_later : {D I P : Type 0} (w : World D I P) (cs : List (Change D I P)) → NamesLater w (all_done w cs)
 names_later {D} {I} {P} w cs token r r' here there =

@@ -3,6 +3,7 @@ use Rattle.std.proofs.Common.{◌≡◌, ℕ, ◌%◌, List, [], ◌∷◌, ◌+
 use Rattle.std.specs.Option.{option_map}
 use Rattle.std.proofs.lemmas.Bool.Decides.{nat_tests}
 use Rattle.std.proofs.lemmas.Option.{slice_get-map}
+use Rattle.calloop_wake.specs.Widths.{versions}
 use Rattle.calloop_wake.specs.declared.error.Error.{Error}
 use Rattle.calloop_wake.specs.declared.error.InsertError.{InsertError}
 use Rattle.calloop_wake.specs.declared.token.Token.{Token}
@@ -36,15 +37,15 @@ use Rattle.calloop.specs.Held.{HeldStep, Begun, Pend}
 use Rattle.calloop.specs.Laws.{IsSource, AllRight, joined, changes_of}
 use Rattle.calloop.proofs.Seen.{seen-all_done, done-append}
 
-source_under : {D : Type 0} (v : ℕ) (o : Option (Registration D)) (d : D) → content_under v (option_map slot_of o) ≡ Source d → (r : Registration D) × (o ≡ Some r) × (r.reuse % 65536 ≡ v) × IsSource r.content
+source_under : {D : Type 0} (v : ℕ) (o : Option (Registration D)) (d : D) → content_under v (option_map slot_of o) ≡ Source d → (r : Registration D) × (o ≡ Some r) × (r.reuse % versions ≡ v) × IsSource r.content
 source_under v None d e = cc
 source_under {D} v (Some r) d e =
-    elim (nat_eq (r.reuse % 65536) v) as (λ b. nat_eq (r.reuse % 65536) v ≡ b → (if b then r.content else Vacant) ≡ Source d → (r' : Registration D) × (◌≡◌ {A = Option (Registration D)} (Some r) (Some r')) × (r'.reuse % 65536 ≡ v) × IsSource r'.content)
+    elim (nat_eq (r.reuse % versions) v) as (λ b. nat_eq (r.reuse % versions) v ≡ b → (if b then r.content else Vacant) ≡ Source d → (r' : Registration D) × (◌≡◌ {A = Option (Registration D)} (Some r) (Some r')) × (r'.reuse % versions ≡ v) × IsSource r'.content)
     [ true ↦ λ same full. (r, refl, grind (arith, nat_tests), (d, full)) | false ↦ λ _ none. cc ] refl e
 
-named_is : {D : Type 0} (v : ℕ) (o : Option (Registration D)) (r : Registration D) → o ≡ Some r → r.reuse % 65536 ≡ v → content_under v (option_map slot_of o) ≡ r.content
+named_is : {D : Type 0} (v : ℕ) (o : Option (Registration D)) (r : Registration D) → o ≡ Some r → r.reuse % versions ≡ v → content_under v (option_map slot_of o) ≡ r.content
 named_is {D} v o r e same =
-    let yes : nat_eq (r.reuse % 65536) v ≡ true = grind (arith, nat_tests) in
+    let yes : nat_eq (r.reuse % versions) v ≡ true = grind (arith, nat_tests) in
     rw (e, yes) refl
 
 module _ {D I P X : Type 0} (M : Meaning D P (Lent X (Asks D I))) (runs : Runs D I X) (O : Outside P) where

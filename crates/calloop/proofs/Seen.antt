@@ -1,6 +1,7 @@
 -- A change of the machine is seen as the change of what the loop holds.
 use Rattle.std.proofs.Common.{◌≡◌, ℕ, ◌+◌, ◌*◌, ◌/◌, ◌%◌, List, [], ◌∷◌, ◌++◌, map, refl, ap, sym, ◌∙◌, arith, subst, true, false, if◌then◌else◌}
 use Rattle.std.proofs.Math.Nat.{mod-add-div, add-mul-mod_self_left}
+use Rattle.calloop_wake.specs.Widths.{versions}
 use Rattle.calloop_wake.specs.declared.list.Content.TheVariants.{Source, InTurn}
 use Rattle.calloop_wake.specs.Slots.{claimed, taken_up, is_empty, with_content}
 use Rattle.calloop_wake.proofs.Indexed.{map-changed}
@@ -8,11 +9,11 @@ use Rattle.calloop.specs.Machine.{World, View, Registration, Change, Put, Claim,
 use Rattle.calloop.specs.Rules.{traced, all_traced, Did, Leads}
 
 -- counted on or wrapped, a reuse count has the same version
-again : (n : ℕ) → (n + 1) % 65536 ≡ (n % 65536 + 1) % 65536
+again : (n : ℕ) → (n + 1) % versions ≡ (n % versions + 1) % versions
 again n =
-    let split : n ≡ n % 65536 + 65536 * (n / 65536) = sym (mod-add-div n 65536) in
-    let sum : n + 1 ≡ n % 65536 + 1 + 65536 * (n / 65536) = omega (arith, split) in
-    ap (λ k. k % 65536) sum ∙ add-mul-mod_self_left (n % 65536 + 1) 65536 (n / 65536)
+    let split : n ≡ n % versions + versions * (n / versions) = sym (mod-add-div n versions) in
+    let sum : n + 1 ≡ n % versions + 1 + versions * (n / versions) = omega (arith, split) in
+    ap (λ k. k % versions) sum ∙ add-mul-mod_self_left (n % versions + 1) versions (n / versions)
 
 slot_of-reused : {D : Type 0} (r : Registration D) → slot_of (reused r) ≡ taken_up (slot_of r)
 slot_of-reused r = ap (λ v. record { version = v; content = InTurn }) (again r.reuse)

@@ -31,7 +31,7 @@ abbrev pub FromTheStart : {D I P X : Type 0} → (LoopRun D I P X → Type 0) �
 FromTheStart Holds r = IsNew r.began → Holds r
 
 -- each event goes to the source that its token names in its turn, or to none; a token that named a registration names a later one only
--- after a multiple of 65,536 uses; and what was given up stays so
+-- after a multiple of as many uses as there are versions; and what was given up stays so
 abbrev pub EventsReachTheirSource : {D I P X : Type 0} → LoopRun D I P X → Type 0
 EventsReachTheirSource r = IsSound r.began (changes_of r.changes)
 

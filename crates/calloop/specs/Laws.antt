@@ -26,6 +26,7 @@ use Rattle.std.specs.Prelude.{
   None,
   slice_get,
 }
+use Rattle.calloop_wake.specs.Widths.{versions}
 use Rattle.calloop_wake.specs.declared.token.Token.{Token}
 use Rattle.calloop_wake.specs.declared.list.Content.{Content}
 use Rattle.calloop_wake.specs.declared.list.Content.TheVariants.{Source}
@@ -47,13 +48,13 @@ use Rattle.calloop.specs.Machine.{World, Registration, Change, Claim, Swapped, C
 abbrev pub IsSource : {D : Type 0} → Content D → Type 0
 IsSource {D} c = (d : D) × (c ≡ Source d)
 
--- an event goes to the source of the slot that its token names, reuse counts taken modulo 65,536, or to none where
+-- an event goes to the source of the slot that its token names, reuse counts taken modulo the versions that there are, or to none where
 -- the token names no source
 abbrev pub GoesRight : {D : Type 0} → List (Registration D) → Token → Option ℕ → Type 0
 GoesRight {D} slots token None =
-    (r : Registration D) → slice_get slots token.slot ≡ Some r → r.reuse % 65536 ≡ token.version → ¬ IsSource r.content
+    (r : Registration D) → slice_get slots token.slot ≡ Some r → r.reuse % versions ≡ token.version → ¬ IsSource r.content
 GoesRight {D} slots token (Some i) =
-    (i ≡ token.slot) × (r : Registration D) × (slice_get slots i ≡ Some r) × (r.reuse % 65536 ≡ token.version)
+    (i ≡ token.slot) × (r : Registration D) × (slice_get slots i ≡ Some r) × (r.reuse % versions ≡ token.version)
     × IsSource r.content
 
 -- the first event of the batch goes right
@@ -81,14 +82,14 @@ changes_of (css ∷ csss) = joined css ++ changes_of csss
 
 -- the token names this registration
 abbrev pub Names : {D I P : Type 0} → World D I P → Token → Registration D → Type 0
-Names w token r = (slice_get w.slots token.slot ≡ Some r) × (r.reuse % 65536 ≡ token.version)
+Names w token r = (slice_get w.slots token.slot ≡ Some r) × (r.reuse % versions ≡ token.version)
 
 -- a token that named a registration names it still, or a later one whose reuse count is greater by a positive
--- multiple of 65,536
+-- multiple of the versions that there are
 abbrev pub NamesLater : {D I P : Type 0} → World D I P → World D I P → Type 0
 NamesLater {D} {I} {P} w w' =
     (token : Token) (r r' : Registration D) → Names w token r → Names w' token r'
-    → (r'.reuse ≡ r.reuse) ⊎ ((k : ℕ) × (0 < k) × (r'.reuse ≡ r.reuse + 65536 * k))
+    → (r'.reuse ≡ r.reuse) ⊎ ((k : ℕ) × (0 < k) × (r'.reuse ≡ r.reuse + versions * k))
 
 -- between any two moments of these changes
 abbrev pub AllNamesLater : {D I P : Type 0} → World D I P → List (Change D I P) → Type 0

@@ -3,6 +3,7 @@
 use Rattle.std.specs.Prelude.{◌≡◌, ℕ, ◌+◌, ◌%◌, List, [], ◌∷◌, ◌++◌, map, Bool, false, Option, Some, None, slice_get}
 use Rattle.std.specs.Arc.{arc_value}
 use Rattle.logbook.specs.Pages.{Book}
+use Rattle.calloop_wake.specs.Widths.{versions}
 use Rattle.calloop_wake.specs.declared.list.Content.{Content}
 use Rattle.calloop_wake.specs.declared.list.Content.TheVariants.{Source, InTurn}
 use Rattle.calloop_wake.specs.declared.list.Slot.{Slot}
@@ -57,9 +58,9 @@ pub record View (D I P : Type 0) : Type 0 where
   pub signal : Book
 
 abbrev pub slot_of : {D : Type 0} → Registration D → Slot D
-slot_of r = record { version = r.reuse % 65536; content = r.content }
+slot_of r = record { version = r.reuse % versions; content = r.content }
 
--- reuse counts are known modulo 65,536, and the ledger isn't
+-- reuse counts are known modulo the versions that there are, and the ledger isn't
 abbrev pub seen : {D I P : Type 0} → World D I P → View D I P
 seen w = record { slots = map slot_of w.slots; poll = w.poll; held = w.held; signal = w.signal }
 

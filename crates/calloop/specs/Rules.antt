@@ -25,6 +25,7 @@ use Rattle.std.specs.Prelude.{
   Err,
 }
 use Rattle.std.specs.declared.io.Error.{Error as Cause}
+use Rattle.calloop_wake.specs.Widths.{most_slots}
 use Rattle.calloop_wake.specs.declared.error.Error.{Error}
 use Rattle.calloop_wake.specs.declared.error.Error.TheVariants.{InvalidToken, IoError, OutOfMemory, OwnTurn}
 use Rattle.calloop_wake.specs.declared.error.InsertError.{InsertError}
@@ -201,13 +202,13 @@ CannotInsert slots needed error = CannotClaim slots error ⊎ ((needed ≡ true)
 abbrev pub InsertedBy : {D I P X : Type 0} → Meaning D P (Lent X (Asks D I)) → D
     → Result RegistrationToken (InsertError D) → View D I P → List (Change D I P) → Type 0
 InsertedBy {D} {I} {P} M d (Ok token) v cs =
-    (first_vacant v.slots < 2 ^ 32) × (token ≡ next_registration v.slots)
+    (first_vacant v.slots < most_slots) × (token ≡ next_registration v.slots)
     × (e : D) × (f : TokenFactory) × (steps : List (PollStep P))
     × M.does d v.poll (Registered (factory_of token) (Ok tt) f) steps e
     × (cs ≡ Claim d ∷ Polls steps ∷ Holds (Listed (M.needs d) token) ∷ Put token.slot (Source e) ∷ [])
 InsertedBy {D} {I} {P} M d (Err refused) v cs =
     ((refused.inserted ≡ d) × CannotInsert v.slots (M.needs d) refused.error × (cs ≡ []))
-    ⊎ ((first_vacant v.slots < 2 ^ 32) × (f : TokenFactory) × (steps : List (PollStep P))
+    ⊎ ((first_vacant v.slots < most_slots) × (f : TokenFactory) × (steps : List (PollStep P))
     × M.does d v.poll (Registered (factory_of (next_registration v.slots)) (Err refused.error) f) steps refused.inserted
     × (cs ≡ Claim d ∷ Polls steps ∷ Put (first_vacant v.slots) Vacant ∷ []))
 

@@ -33,6 +33,7 @@ pub use calloop_wake::error::{Error, InsertError, Result};
 pub use calloop_wake::token::{RegistrationToken, Token, TokenFactory};
 pub use calloop_wake::wake::Receipt;
 pub use calloop_wake::wheel::Instant;
+pub use calloop_wake::widths::{MOST_SLOTS, VERSIONS};
 pub use io::{Adapter, Async, Readable, Writable};
 pub use loop_logic::{
     Answer, EventDispatcher, EventLoop, Idle, LoopHandle, LoopSignal, Requests, ScriptLoop,

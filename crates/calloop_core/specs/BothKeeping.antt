@@ -1,6 +1,7 @@
 -- Two sources with their callbacks as one keep to the laws where both do. The impl cites these proofs, so they stand here.
-use Rattle.std.specs.Prelude.{◌≡◌, ◌^◌, ◌<◌, ◌++◌, [], ◌∷◌, List, Option, None, Some, Result, Ok, Err}
+use Rattle.std.specs.Prelude.{◌≡◌, ◌<◌, ◌++◌, [], ◌∷◌, List, Option, None, Some, Result, Ok, Err}
 use Rattle.std.proofs.Common.{inl, inr, refl, sym, ap, ◌∙◌}
+use Rattle.calloop_wake.specs.Widths.{parts}
 use Rattle.calloop_wake.specs.declared.error.Error.{Error}
 use Rattle.calloop_wake.specs.declared.token.Token.{Token}
 use Rattle.calloop_wake.specs.declared.token.TokenFactory.{TokenFactory}
@@ -176,7 +177,7 @@ module _ {A B P X Q : Type 0} (m : Meaning A P (Lent X Q)) (n : Meaning B P (Len
     told_first deed f h g (Ok u) a second by is = refl
     told_first deed f h g (Err e) a second by is = (let other = by.1 in let no : Ok tt ≡ Err e = sym is ∙ other in cc)
 
-    passed : (f h : TokenFactory) → h.registration ≡ f.registration → h.given < 2 ^ 16 → IsFactoryOf r f → IsFactoryOf r h
+    passed : (f h : TokenFactory) → h.registration ≡ f.registration → h.given < parts → IsFactoryOf r f → IsFactoryOf r h
     passed f h same fits is = (same ∙ is.0, fits)
 
     begins_part : (whole part : Type 0) (f g : TokenFactory) (a : Result (Unit {0}) Error) → (whole → part)

@@ -1,6 +1,7 @@
 -- Two sources with their callbacks as one: what the parts do, one after the other. calloop has its users write such a source by
 -- hand, and there a part can meet a key that the other still has, as the whole is registered anew.
-use Rattle.std.specs.Prelude.{◌≡◌, ◌≢◌, ◌⊎◌, ℕ, ◌^◌, ◌<◌, ◌++◌, [], List, Option, None, Some, Result, Ok, Err, false}
+use Rattle.std.specs.Prelude.{◌≡◌, ◌≢◌, ◌⊎◌, ℕ, ◌<◌, ◌++◌, [], List, Option, None, Some, Result, Ok, Err, false}
+use Rattle.calloop_wake.specs.Widths.{parts}
 use Rattle.calloop_wake.specs.declared.error.Error.{Error}
 use Rattle.calloop_wake.specs.declared.error.Error.TheVariants.{InvalidToken}
 use Rattle.calloop_wake.specs.declared.token.Token.{Token}
@@ -42,7 +43,7 @@ abbrev pub FollowedBy : {T : Type 0} → (TokenFactory → Result (Unit {0}) Err
     → Type 0
 FollowedBy deed f (Ok u) h answer g second =
     ((h.registration ≢ f.registration) × (second ≡ None) × (answer ≡ Err InvalidToken) × (g ≡ h))
-    ⊎ ((h.registration ≡ f.registration) × (h.given < 2 ^ 16) × (second ≡ Some (deed h answer g)))
+    ⊎ ((h.registration ≡ f.registration) × (h.given < parts) × (second ≡ Some (deed h answer g)))
 FollowedBy deed f (Err e) h answer g second = (second ≡ None) × (answer ≡ Err e) × (g ≡ h)
 
 -- both had their turn: what both ask for, else they are registered anew; an error of the second one is the whole's

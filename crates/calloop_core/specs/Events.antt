@@ -18,4 +18,4 @@ events_of registration batch = map event_given (filter (is_event_of registration
 
 -- what an iterator still gives
 abbrev pub events_left : EventIterator → List (Readiness × Token)
-events_left i = events_of i.registration (drop i.at i.batch.now.items)
+events_left i = events_of (record { slot = i.slot; version = i.version }) (drop i.at i.batch.now.items)

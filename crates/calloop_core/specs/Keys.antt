@@ -1,6 +1,7 @@
 -- Which keys are of which registration. calloop's sources keep tokens of theirs, and nothing says there of which
 -- registration these are.
-use Rattle.std.specs.Prelude.{◌≡◌, ℕ, ◌^◌, ◌<◌, List, [], ◌∷◌}
+use Rattle.std.specs.Prelude.{◌≡◌, ℕ, ◌<◌, List, [], ◌∷◌}
+use Rattle.calloop_wake.specs.Widths.{parts}
 use Rattle.calloop_wake.specs.declared.token.RegistrationToken.{RegistrationToken}
 use Rattle.calloop_wake.specs.declared.token.TokenFactory.{TokenFactory}
 use Rattle.calloop_wake.specs.Tokens.{key_of}
@@ -10,11 +11,11 @@ use Rattle.calloop_core.specs.Polls.{PollStep, Arm, ArmAgain, Socket}
 -- the key of one of its tokens, whichever part that is of
 abbrev pub IsKeyOf : RegistrationToken → (key : ℕ) → Type 0
 IsKeyOf r key =
-    (part : ℕ) × (part < 2 ^ 16) × (key ≡ key_of (record { slot = r.slot; version = r.version; sub_id = part }))
+    (part : ℕ) × (part < parts) × (key ≡ key_of (record { slot = r.slot; version = r.version; sub_id = part }))
 
--- it gives tokens of this registration, by a count that fits its 16 bits
+-- it gives tokens of this registration, by a count that fits its width
 abbrev pub IsFactoryOf : RegistrationToken → TokenFactory → Type 0
-IsFactoryOf r f = (f.registration ≡ r) × (f.given < 2 ^ 16)
+IsFactoryOf r f = (f.registration ≡ r) × (f.given < parts)
 
 abbrev pub EditsFor : RegistrationToken → Edit → Type 0
 EditsFor r (Enter token watched) = IsKeyOf r (key_of token)

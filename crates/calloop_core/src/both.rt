@@ -1,5 +1,6 @@
 //! Two sources with their callbacks as one source.
-ghost use Rattle.std.specs.Prelude.{◌≡◌, ◌^◌, ◌<◌, List};
+ghost use Rattle.std.specs.Prelude.{◌≡◌, ◌<◌, List};
+ghost use Rattle.calloop_wake.specs.Widths.{parts};
 ghost use Rattle.calloop_core.specs.Polls.{PollStep, poll_view, AllStepped};
 ghost use Rattle.calloop_core.specs.Boths.{UnregistersBoth, RegistersBoth};
 ghost use Rattle.calloop_core.specs.Deeds.{Reregistered};
@@ -34,9 +35,9 @@ pub struct Both<A, B> {
     pub second: B,
 }
 
-// Shows that the count of a factory fits 16 bits.
+// Shows that the count of a factory fits its width.
 fn count_fits(factory: &TokenFactory)
-    ensures { factory.now.given < 2 ^ 16 }
+    ensures { factory.now.given < parts }
 {
     let _given = factory.given();
 }

@@ -1,6 +1,7 @@
 -- What a source of a ping and two timers means: its parts are asked one after the other, the ping first.
-use Rattle.std.specs.Prelude.{◌≡◌, ◌⊎◌, ℕ, ◌^◌, ◌<◌, ◌++◌, List, [], ◌∷◌, Option, None, Some, Result, Ok, Err, false}
+use Rattle.std.specs.Prelude.{◌≡◌, ◌⊎◌, ℕ, ◌<◌, ◌++◌, List, [], ◌∷◌, Option, None, Some, Result, Ok, Err, false}
 use Rattle.std.proofs.Common.{inl, inr, refl, ◌∙◌}
+use Rattle.calloop_wake.specs.Widths.{parts}
 use Rattle.calloop_wake.specs.declared.wheel.Instant.{Instant}
 use Rattle.calloop_core.specs.declared.sources.PostAction.{PostAction}
 use Rattle.calloop_core.specs.declared.sources.PostAction.TheVariants.{Continue}
@@ -36,9 +37,9 @@ use Rattle.calloop_test_sources.specs.declared.trio.Part.{Part}
 use Rattle.calloop_test_sources.specs.declared.trio.Part.TheVariants.{Bell, First, Second}
 use Rattle.calloop_test_sources.specs.declared.trio.Trio.{Trio}
 
--- a factory of the same registration as this one, by a count that fits its 16 bits
+-- a factory of the same registration as this one, by a count that fits its width
 abbrev pub IsFrom : TokenFactory → TokenFactory → Type 0
-IsFrom f f' = (f'.registration ≡ f.registration) × (f'.given < 2 ^ 16)
+IsFrom f f' = (f'.registration ≡ f.registration) × (f'.given < parts)
 
 -- the same call of two sources: a registration, with a factory of the same one, which succeeds where the whole does; a
 -- turn, for the same event

@@ -1,5 +1,6 @@
 //! A source of the tests' own that is made of a ping and two timers.
-ghost use Rattle.std.specs.Prelude.{◌≡◌, ◌<◌, ◌^◌};
+ghost use Rattle.std.specs.Prelude.{◌≡◌, ◌<◌};
+ghost use Rattle.calloop_wake.specs.Widths.{parts};
 ghost use Rattle.calloop_core.specs.Calls.{Went};
 ghost use Rattle.calloop_test_sources.specs.Trios.{calls_of, part_heard};
 
@@ -76,9 +77,9 @@ fn part_of(bell: Noted<()>, first: Noted<Instant>, second: Noted<Instant>) -> Op
     }
 }
 
-// Shows that the count of a factory fits 16 bits.
+// Shows that the count of a factory fits its width.
 fn count_fits(factory: &TokenFactory)
-    ensures { factory.now.given < 2 ^ 16 }
+    ensures { factory.now.given < parts }
 {
     let _given = factory.given();
 }

@@ -1,7 +1,8 @@
 -- Levels in which each word has a bit of the level above over it.
-use Rattle.std.proofs.Common.{◌≡◌, ℕ, zero, suc, ◌+◌, ◌*◌, ◌/◌, ◌^◌, ◌<◌, ◌≤◌, true, false, if◌then◌else◌, nat_lt, List, [], ◌∷◌, ◌++◌, length, map, get_or, refl, sym, ◌∙◌, ap, subst, arith, length-append, Result, Ok, Err, OnOk, OnErr}
+use Rattle.std.proofs.Common.{◌≡◌, ℕ, zero, suc, ◌+◌, ◌-◌, ◌*◌, ◌/◌, ◌^◌, ◌<◌, ◌≤◌, true, false, if◌then◌else◌, nat_lt, List, [], ◌∷◌, ◌++◌, length, map, get_or, refl, sym, ◌∙◌, ap, subst, arith, length-append, Result, Ok, Err, OnOk, OnErr}
 use Rattle.std.proofs.lemmas.Bool.Decides.{nat_tests}
-use Rattle.calloop_wake.specs.Vacancies.{place, AreSix, IsCovered, grown}
+use Rattle.calloop_wake.specs.Widths.{most_slots, level_count}
+use Rattle.calloop_wake.specs.Vacancies.{place, AreEnough, IsCovered, grown}
 use Rattle.calloop_wake.proofs.Levels.{place-step, same-count}
 use Rattle.calloop_wake.proofs.Told.{length-grown}
 
@@ -15,8 +16,8 @@ covered-same most (ws ∷ below) (ws' ∷ below') e h =
     let rest : map length below' ≡ map length below = cc in
     (omega (arith, h.0), subst (λ n. IsCovered (64 * n) below') (sym long) (covered-same (64 * length ws) below below' rest h.1))
 
-pub six-same : (ls ls' : List (List ℕ)) → map length ls' ≡ map length ls → AreSix ls → AreSix ls'
-six-same ls ls' e six = (same-count ls ls' e ∙ six.0, covered-same 1 ls ls' e six.1)
+pub enough-same : (ls ls' : List (List ℕ)) → map length ls' ≡ map length ls → AreEnough ls → AreEnough ls'
+enough-same ls ls' e enough = (same-count ls ls' e ∙ enough.0, covered-same 1 ls ls' e enough.1)
 
 -- Levels that grow.
 
@@ -43,16 +44,16 @@ covered-grown slot most most' (ws ∷ below) le more h =
           (fits', covered-grown slot (64 * length ws) (64 * length (ws ++ 0 ∷ [])) below (omega arith) (λ _. omega arith) h.1))
     ] refl
 
-pub six-grown : (slot : ℕ) (ls : List (List ℕ)) → slot < 2 ^ 32 → AreSix ls → AreSix (grown slot ls)
-six-grown slot ls small six =
-    let within : place ls slot < 1 = subst (λ n. slot / 2 ^ (6 * n) < 1) (sym six.0) (omega arith) in
-    (length-grown slot ls ∙ six.0, covered-grown slot 1 1 ls (omega arith) (λ far. absurd (omega arith)) six.1)
+pub enough-grown : (slot : ℕ) (ls : List (List ℕ)) → slot < most_slots → AreEnough ls → AreEnough (grown slot ls)
+enough-grown slot ls small enough =
+    let within : place ls slot < 1 = subst (λ n. slot / 2 ^ (6 * n) < 1) (sym enough.0) (omega arith) in
+    (length-grown slot ls ∙ enough.0, covered-grown slot 1 1 ls (omega arith) (λ far. absurd (omega arith)) enough.1)
 
 -- they grew, or stayed where there was no memory
-pub six-after : {T E : Type 0} (r : Result T E) (slot : ℕ) (ls ls' : List (List ℕ)) → slot < 2 ^ 32 → AreSix ls
-    → OnOk r (ls' ≡ grown slot ls) → OnErr r (ls' ≡ ls) → AreSix ls'
-six-after (Ok x) slot ls ls' small six ok err = subst (λ (l : List (List ℕ)). AreSix l) (sym ok) (six-grown slot ls small six)
-six-after (Err e) slot ls ls' small six ok err = subst (λ (l : List (List ℕ)). AreSix l) (sym err) six
+pub enough-after : {T E : Type 0} (r : Result T E) (slot : ℕ) (ls ls' : List (List ℕ)) → slot < most_slots → AreEnough ls
+    → OnOk r (ls' ≡ grown slot ls) → OnErr r (ls' ≡ ls) → AreEnough ls'
+enough-after (Ok x) slot ls ls' small enough ok err = subst (λ (l : List (List ℕ)). AreEnough l) (sym ok) (enough-grown slot ls small enough)
+enough-after (Err e) slot ls ls' small enough ok err = subst (λ (l : List (List ℕ)). AreEnough l) (sym err) enough
 
 -- Where the lowest level has the word over a slot, nothing grows.
 
@@ -69,7 +70,7 @@ nothing-grows (suc n) slot most d (ws ∷ below) long h has =
     let e : nat_lt (place (ws ∷ below) slot) (length ws) ≡ true = grind (arith, nat_tests) in
     (ap (λ b. (if b then ws else ws ++ 0 ∷ []) ∷ grown slot below) e ∙ ap (λ l. ws ∷ l) rest.0, omega (arith, h.0))
 
-pub six-enough : (slot : ℕ) (d : List ℕ) (ls : List (List ℕ)) → AreSix ls → nat_lt (slot / 64) (length (get_or ls 5 d)) ≡ true → grown slot ls ≡ ls
-six-enough slot d ls six has =
-    let lt : slot / 64 < length (get_or ls 5 d) = grind (arith, nat_tests) in
-    (nothing-grows 5 slot 1 d ls six.0 six.1 lt).0
+pub enough-stay : (slot : ℕ) (d : List ℕ) (ls : List (List ℕ)) → AreEnough ls → nat_lt (slot / 64) (length (get_or ls (level_count - 1) d)) ≡ true → grown slot ls ≡ ls
+enough-stay slot d ls enough has =
+    let lt : slot / 64 < length (get_or ls (level_count - 1) d) = grind (arith, nat_tests) in
+    (nothing-grows (level_count - 1) slot 1 d ls enough.0 enough.1 lt).0

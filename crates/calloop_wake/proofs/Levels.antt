@@ -9,7 +9,8 @@ use Rattle.std.proofs.lemmas.Grind.{get_or-set_at, get_or_default_zero}
 use Rattle.std.proofs.lemmas.Nat.Bits.{bit_at-zero, bit_at-trailing_zeros, bit_at_set_same, bit_at_set_other, bit_at_clear_same, bit_at_clear_other}
 use Rattle.std.specs.Int.{w64, bit_at, bit_not, trailing_zeros}
 use Rattle.std.specs.Int.Bits.{bit_and, bit_or}
-use Rattle.calloop_wake.specs.Vacancies.{word_at, is_set, is_filled, said, place, AreLevels, HasBits, Takes, IsFirst, AreSix, with_slot}
+use Rattle.calloop_wake.specs.Widths.{most_slots, most_words}
+use Rattle.calloop_wake.specs.Vacancies.{word_at, is_set, is_filled, said, place, AreLevels, HasBits, Takes, IsFirst, AreEnough, with_slot}
 use Rattle.calloop_wake.specs.declared.vacancies.Taken.{Taken}
 
 -- A word that is written.
@@ -232,18 +233,18 @@ none-above : (ws : List ℕ) → length ws ≤ 1 → is_filled ws 0 ≡ false �
 none-above ws h e zero = e
 none-above ws h e (suc i) = ap (λ x. not (nat_eq x 0)) (get_or_past ws (suc i) 0 (omega arith))
 
-pub none_vacant : (vacant : ℕ → Bool) (ls : List (List ℕ)) → AreSix ls → said vacant ls 0 ≡ false → AreLevels vacant ls → (i : ℕ) → vacant i ≡ false
-none_vacant vacant [] six h are = absurd (omega (arith, six.0))
-none_vacant vacant (ws ∷ below) six h are = none-below vacant (ws ∷ below) are (none-above ws six.1.0 h)
+pub none_vacant : (vacant : ℕ → Bool) (ls : List (List ℕ)) → AreEnough ls → said vacant ls 0 ≡ false → AreLevels vacant ls → (i : ℕ) → vacant i ≡ false
+none_vacant vacant [] enough h are = absurd (omega (arith, enough.0))
+none_vacant vacant (ws ∷ below) enough h are = none-below vacant (ws ∷ below) are (none-above ws enough.1.0 h)
 
-some-levels : (ls : List (List ℕ)) → AreSix ls → 0 < length ls
-some-levels ls six = omega (arith, six.0)
+some-levels : (ls : List (List ℕ)) → AreEnough ls → 0 < length ls
+some-levels ls enough = omega (arith, enough.0)
 
-pub takes-first : (vacant : ℕ → Bool) (t : Taken) (ls ls' : List (List ℕ)) → AreSix ls → Takes vacant 0 t ls ls' → IsFirst vacant t.slot
-takes-first vacant t ls ls' six T = record { found = T.found (T.there (some-levels ls six)); least = T.least (λ q lt. absurd (omega arith)) }
+pub takes-first : (vacant : ℕ → Bool) (t : Taken) (ls ls' : List (List ℕ)) → AreEnough ls → Takes vacant 0 t ls ls' → IsFirst vacant t.slot
+takes-first vacant t ls ls' enough T = record { found = T.found (T.there (some-levels ls enough)); least = T.least (λ q lt. absurd (omega arith)) }
 
-pub takes-levels : (vacant : ℕ → Bool) (t : Taken) (ls ls' : List (List ℕ)) → AreSix ls → Takes vacant 0 t ls ls' → AreLevels (with_slot t.slot false vacant) ls'
-takes-levels vacant t ls ls' six T = T.levels (T.there (some-levels ls six))
+pub takes-levels : (vacant : ℕ → Bool) (t : Taken) (ls ls' : List (List ℕ)) → AreEnough ls → Takes vacant 0 t ls ls' → AreLevels (with_slot t.slot false vacant) ls'
+takes-levels vacant t ls ls' enough T = T.levels (T.there (some-levels ls enough))
 
 -- Where the bits of a slot stand.
 
@@ -253,7 +254,7 @@ pow-step n = let six : 6 * n + 6 ≡ 6 * suc n = omega arith in sym (pow-add 2 (
 pub place-step : (n slot : ℕ) → slot / 2 ^ (6 * n) / 64 ≡ slot / 2 ^ (6 * suc n)
 place-step n slot = div-div-eq-div-mul slot (2 ^ (6 * n)) 64 ∙ ap (λ k. slot / k) (pow-step n)
 
-pub place-small : (n slot : ℕ) → slot < 2 ^ 32 → slot / 2 ^ (6 * (n + 1)) < 2 ^ 26
+pub place-small : (n slot : ℕ) → slot < most_slots → slot / 2 ^ (6 * (n + 1)) < most_words
 place-small n slot h =
     let le : slot / 2 ^ (6 * n) ≤ slot = div-le_self slot (2 ^ (6 * n)) in
     let one : suc n ≡ n + 1 = omega arith in

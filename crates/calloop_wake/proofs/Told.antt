@@ -8,12 +8,13 @@ use Rattle.std.proofs.Math.ListN.{get_or-append}
 use Rattle.std.proofs.Math.Seq.{get_or-append_right}
 use Rattle.std.proofs.Math.Nat.{zero-div, lt-div-mul-add, div-lt_iff_lt-mul}
 use Rattle.std.specs.Int.{bit_at}
+use Rattle.calloop_wake.specs.Widths.{most_slots, level_count}
 use Rattle.calloop_wake.specs.declared.list.Content.{Content}
 use Rattle.calloop_wake.specs.declared.list.Content.TheVariants.{Vacant, InTurn}
 use Rattle.calloop_wake.specs.declared.list.Slot.{Slot}
 use Rattle.calloop_wake.specs.declared.token.RegistrationToken.{RegistrationToken}
 use Rattle.calloop_wake.specs.Slots.{changed, with_content, named, is_empty, is_vacant, first_vacant, claimed, taken_up}
-use Rattle.calloop_wake.specs.Vacancies.{word_at, is_set, said, place, AreLevels, HasBits, IsFirst, with_slot, extended, grown, is_vacant_in, TellVacant}
+use Rattle.calloop_wake.specs.Vacancies.{word_at, is_set, said, place, AreLevels, HasBits, IsFirst, with_slot, extended, grown, is_vacant_in, no_words, TellVacant}
 use Rattle.calloop_wake.proofs.Indexed.{length-changed}
 use Rattle.calloop_wake.proofs.Named.{named_slot, named_within}
 use Rattle.calloop_wake.proofs.Vacancy.{claimed_within}
@@ -157,14 +158,20 @@ added-bits ss ls T i false e le =
 
 -- What each call of the list does.
 
-pub told-none : {S : Type 0} → TellVacant {S = S} [] ([] ∷ [] ∷ [] ∷ [] ∷ [] ∷ [] ∷ [])
-told-none {S} =
-    let none : (i : ℕ) → is_set [] i ≡ false = λ i. ap (λ x. nat_eq x 1) (bit_at-zero (i % 64)) in
-    record { few = omega arith; bits = λ i lt. absurd (omega arith); told = (none, (none, (none, (none, (none, (none, tt)))))) }
+none-said : (S : Type 0) (n i : ℕ) → said (is_vacant_in {S = S} []) (no_words n) i ≡ false
+none-said S zero i = refl
+none-said S (suc n) i = refl
+
+none-told : (S : Type 0) (n : ℕ) → AreLevels (is_vacant_in {S = S} []) (no_words n)
+none-told S zero = tt
+none-told S (suc n) = (λ i. ap (λ x. nat_eq x 1) (bit_at-zero (i % 64)) ∙ sym (none-said S n i), none-told S n)
+
+pub told-none : {S : Type 0} → TellVacant {S = S} [] (no_words level_count)
+told-none {S} = record { few = omega arith; bits = λ i lt. absurd (omega arith); told = none-told S level_count }
 
 told-by : {S : Type 0} (ss ss' : List (Slot S)) (ls ls' : List (List ℕ)) → TellVacant ss ls → length ss' ≡ length ss → ((i : ℕ) → HasBits ls i → HasBits ls' i) → AreLevels (is_vacant_in ss') ls' → TellVacant ss' ls'
 told-by ss ss' ls ls' T long bits told =
-    let few : length ss ≤ 2 ^ 32 = T.few in
+    let few : length ss ≤ most_slots = T.few in
     record { few = omega arith; bits = λ i lt. bits i (T.bits i (omega arith)); told = told }
 
 pub claimed-long : {S : Type 0} (ss : List (Slot S)) (i : ℕ) → IsFirst (is_vacant_in ss) i → length (claimed ss) ≡ length ss
@@ -184,7 +191,7 @@ told-taken_up ss ls ls' i T first bits are =
     (levels-same (with_slot i false (is_vacant_in ss)) (is_vacant_in (claimed ss)) ls' (λ j. sym (ap (λ l. is_vacant_in l j) is ∙ vacant-changed taken_up false ss i (λ s. refl) within j)) are)
 
 -- a slot is added
-pub told-added : {S : Type 0} (ss : List (Slot S)) (ls : List (List ℕ)) → TellVacant ss ls → length ss < 2 ^ 32 → TellVacant (ss ++ record { version = 0; content = InTurn } ∷ []) (grown (length ss) ls)
+pub told-added : {S : Type 0} (ss : List (Slot S)) (ls : List (List ℕ)) → TellVacant ss ls → length ss < most_slots → TellVacant (ss ++ record { version = 0; content = InTurn } ∷ []) (grown (length ss) ls)
 told-added {S} ss ls T h =
     let s : Slot S = record { version = 0; content = InTurn } in
     let long : length (ss ++ s ∷ []) ≡ length ss + 1 = length-append ss (s ∷ []) in

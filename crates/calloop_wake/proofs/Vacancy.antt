@@ -1,5 +1,6 @@
 use Rattle.std.proofs.Common.{◌≡◌, ◌≢◌, ℕ, suc, zero, ◌+◌, ◌%◌, ◌<◌, List, [], ◌∷◌, ◌++◌, length, get_or, refl, ap, sym, ◌∙◌, arith, true, false, if◌then◌else◌, slice_get, Option, Some}
 use Rattle.std.proofs.Math.ListN.{set}
+use Rattle.calloop_wake.specs.Widths.{versions}
 use Rattle.calloop_wake.specs.declared.token.RegistrationToken.{RegistrationToken}
 use Rattle.calloop_wake.proofs.Indexed.{changed-set}
 use Rattle.calloop_wake.specs.declared.list.Content.TheVariants.{InTurn}
@@ -13,10 +14,10 @@ claimed_within {S} (s ∷ ss) h =
     elim (is_vacant s) as (λ b. (if b then 0 else suc (first_vacant ss)) < suc (length ss) → (if b then taken_up s ∷ ss else s ∷ claimed ss) ≡ changed taken_up (s ∷ ss) (if b then 0 else suc (first_vacant ss))) [ true ↦ λ _. refl | false ↦ λ h'. ap (λ r. s ∷ r) (claimed_within ss (omega arith)) ] h
 
 -- its version
-pub version_within : {S : Type 0} (ss : List (Slot S)) (d : Slot S) → first_vacant ss < length ss → next_version ss ≡ ((get_or ss (first_vacant ss) d).version + 1) % 65536
+pub version_within : {S : Type 0} (ss : List (Slot S)) (d : Slot S) → first_vacant ss < length ss → next_version ss ≡ ((get_or ss (first_vacant ss) d).version + 1) % versions
 version_within [] d h = absurd (omega arith)
 version_within {S} (s ∷ ss) d h =
-    elim (is_vacant s) as (λ b. (if b then 0 else suc (first_vacant ss)) < suc (length ss) → (if b then (s.version + 1) % 65536 else next_version ss) ≡ ((get_or (s ∷ ss) (if b then 0 else suc (first_vacant ss)) d).version + 1) % 65536) [ true ↦ λ _. refl | false ↦ λ h'. version_within ss d (omega arith) ] h
+    elim (is_vacant s) as (λ b. (if b then 0 else suc (first_vacant ss)) < suc (length ss) → (if b then (s.version + 1) % versions else next_version ss) ≡ ((get_or (s ∷ ss) (if b then 0 else suc (first_vacant ss)) d).version + 1) % versions) [ true ↦ λ _. refl | false ↦ λ h'. version_within ss d (omega arith) ] h
 
 -- with none a new one is added
 pub claimed_past : {S : Type 0} (ss : List (Slot S)) → first_vacant ss ≡ length ss → claimed ss ≡ ss ++ record { version = 0; content = InTurn } ∷ []
@@ -27,14 +28,14 @@ claimed_past {S} (s ∷ ss) h =
 pub version_past : {S : Type 0} (ss : List (Slot S)) → first_vacant ss ≡ length ss → next_version ss ≡ 0
 version_past [] h = refl
 version_past {S} (s ∷ ss) h =
-    elim (is_vacant s) as (λ b. (if b then 0 else suc (first_vacant ss)) ≡ suc (length ss) → (if b then (s.version + 1) % 65536 else next_version ss) ≡ 0) [ true ↦ λ h'. absurd (omega arith) | false ↦ λ h'. version_past ss (omega arith) ] h
+    elim (is_vacant s) as (λ b. (if b then 0 else suc (first_vacant ss)) ≡ suc (length ss) → (if b then (s.version + 1) % versions else next_version ss) ≡ 0) [ true ↦ λ h'. absurd (omega arith) | false ↦ λ h'. version_past ss (omega arith) ] h
 
 pub reused : {S : Type 0} (xs : List (Slot S)) (place : ℕ) (s : Slot S) → place ≡ first_vacant xs → place < length xs → s ≡ get_or xs place s
-    → (◌≡◌ {A = RegistrationToken} (record { slot = place; version = (s.version + 1) % 65536 }) (next_registration xs)) × (set xs place (taken_up s) ≡ claimed xs)
+    → (◌≡◌ {A = RegistrationToken} (record { slot = place; version = (s.version + 1) % versions }) (next_registration xs)) × (set xs place (taken_up s) ≡ claimed xs)
 reused {S} xs place s e h is =
     let h' : first_vacant xs < length xs = omega arith in
     let is' : s ≡ get_or xs (first_vacant xs) s = rw e at is in
-    let v : (s.version + 1) % 65536 ≡ next_version xs = ap (λ (t : Slot S). (t.version + 1) % 65536) is' ∙ sym (version_within xs s h') in
+    let v : (s.version + 1) % versions ≡ next_version xs = ap (λ (t : Slot S). (t.version + 1) % versions) is' ∙ sym (version_within xs s h') in
     rw e (ap (λ v. record { slot = first_vacant xs; version = v }) v, changed-set taken_up xs (first_vacant xs) s is' h' ∙ sym (claimed_within xs h'))
 
 pub added : {S : Type 0} (xs : List (Slot S)) (place : ℕ) → place ≡ first_vacant xs → place ≡ length xs
@@ -47,7 +48,7 @@ added {S} xs place e h =
 pub slice_get-claimed_at : {S : Type 0} (ss : List (Slot S)) → slice_get (claimed ss) (first_vacant ss) ≡ Some (record { version = next_version ss; content = InTurn })
 slice_get-claimed_at [] = refl
 slice_get-claimed_at {S} (s ∷ ss) =
-    elim (is_vacant s) as (λ b. is_vacant s ≡ b → ◌≡◌ {A = Option (Slot S)} (slice_get (if b then taken_up s ∷ ss else s ∷ claimed ss) (if b then 0 else suc (first_vacant ss))) (Some (record { version = if b then (s.version + 1) % 65536 else next_version ss; content = InTurn }))) [ true ↦ λ e. refl | false ↦ λ _. slice_get-claimed_at ss ] refl
+    elim (is_vacant s) as (λ b. is_vacant s ≡ b → ◌≡◌ {A = Option (Slot S)} (slice_get (if b then taken_up s ∷ ss else s ∷ claimed ss) (if b then 0 else suc (first_vacant ss))) (Some (record { version = if b then (s.version + 1) % versions else next_version ss; content = InTurn }))) [ true ↦ λ e. refl | false ↦ λ _. slice_get-claimed_at ss ] refl
 
 -- the others stay
 pub slice_get-claimed_other : {S : Type 0} (ss : List (Slot S)) (i : ℕ) → i ≢ first_vacant ss → slice_get (claimed ss) i ≡ slice_get ss i

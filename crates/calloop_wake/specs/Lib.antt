@@ -1,5 +1,7 @@
 pub mod Errors
 pub mod Failures
+pub mod Widths
+pub mod TokenViews
 pub mod Tokens
 pub mod Passes
 pub mod Cells

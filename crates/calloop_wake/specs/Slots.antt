@@ -6,7 +6,6 @@ use Rattle.std.specs.Prelude.{
   zero,
   ◌+◌,
   ◌%◌,
-  ◌^◌,
   ◌<◌,
   ◌≤◌,
   List,
@@ -23,6 +22,7 @@ use Rattle.std.specs.Prelude.{
   None,
   slice_get,
 }
+use Rattle.calloop_wake.specs.Widths.{most_slots, versions}
 use Rattle.calloop_wake.specs.declared.error.Error.{Error}
 use Rattle.calloop_wake.specs.declared.error.Error.TheVariants.{
   InvalidToken,
@@ -92,16 +92,16 @@ first_vacant (s ∷ ss) = if is_vacant s then 0 else suc (first_vacant ss)
 -- the version under which the first vacant slot is used next
 abbrev pub next_version : {S : Type 0} → List (Slot S) → ℕ
 next_version [] = 0
-next_version (s ∷ ss) = if is_vacant s then (s.version + 1) % 65536 else next_version ss
+next_version (s ∷ ss) = if is_vacant s then (s.version + 1) % versions else next_version ss
 
 -- the list with f of the first element that is free in its place, or with a new one behind all
 abbrev pub first_changed : {A : Type 0} → (free : A → Bool) → (f : A → A) → (new : A) → List A → List A
 first_changed free f new [] = new ∷ []
 first_changed free f new (x ∷ xs) = if free x then f x ∷ xs else x ∷ first_changed free f new xs
 
--- the slot used once more: calloop's increment_version, which wraps at 16 bits too
+-- the slot used once more: calloop's increment_version, which wraps at 16 bits
 abbrev pub taken_up : {S : Type 0} → Slot S → Slot S
-taken_up s = record { version = (s.version + 1) % 65536; content = InTurn }
+taken_up s = record { version = (s.version + 1) % versions; content = InTurn }
 
 -- the list after calloop's vacant_entry: the first vacant slot is used again, or a new one is added, for a source that
 -- is registered meanwhile; calloop puts the source there first
@@ -123,8 +123,8 @@ claim_error NoMemory = OutOfMemory
 
 -- why no slot can be claimed; calloop panics at too many, and aborts with no memory for a new slot
 abbrev pub CannotClaim : {S : Type 0} → List (Slot S) → Error → Type 0
-CannotClaim ss OutOfMemory = (first_vacant ss ≡ length ss) × (first_vacant ss < 2 ^ 32)
-CannotClaim ss TooManySources = 2 ^ 32 ≤ first_vacant ss
+CannotClaim ss OutOfMemory = (first_vacant ss ≡ length ss) × (first_vacant ss < most_slots)
+CannotClaim ss TooManySources = most_slots ≤ first_vacant ss
 CannotClaim ss InvalidToken = ⊥
 CannotClaim ss (IoError cause) = ⊥
 CannotClaim ss (OtherError cause) = ⊥

@@ -1,22 +1,23 @@
 -- Tokens and their keys.
-use Rattle.std.specs.Prelude.{ℕ, ◌+◌, ◌*◌, ◌/◌, ◌%◌, ◌^◌, ◌<◌}
+use Rattle.std.specs.Prelude.{ℕ, ◌+◌, ◌-◌, ◌*◌, ◌/◌, ◌%◌, ◌<◌}
+use Rattle.calloop_wake.specs.Widths.{most_slots, versions, parts}
 use Rattle.calloop_wake.specs.declared.token.Token.{Token}
 use Rattle.calloop_wake.specs.declared.token.RegistrationToken.{RegistrationToken}
 use Rattle.calloop_wake.specs.declared.token.TokenFactory.{TokenFactory}
 
--- the token as one word: calloop's token.rs packs the three into a usize, on 64 bits in these widths
+-- the token as one word: calloop's token.rs packs the three into a usize likewise
 abbrev pub key_of : Token → ℕ
-key_of t = t.slot * 2 ^ 32 + t.version * 2 ^ 16 + t.sub_id
+key_of t = t.slot * (versions * parts) + t.version * parts + t.sub_id
 
 -- the token of a word
 abbrev pub token_of : ℕ → Token
-token_of key = record { slot = key / 2 ^ 32; version = key / 2 ^ 16 % 2 ^ 16; sub_id = key % 2 ^ 16 }
+token_of key = record { slot = key / (versions * parts); version = key / parts % versions; sub_id = key % parts }
 
 -- its numbers fit their widths; the types of calloop's TokenInner say so
 pub record IsToken (t : Token) : Type 0 where
-  pub slot : t.slot < 2 ^ 32
-  pub version : t.version < 2 ^ 16
-  pub sub_id : t.sub_id < 2 ^ 16
+  pub slot : t.slot < most_slots
+  pub version : t.version < versions
+  pub sub_id : t.sub_id < parts
 
 -- the token without its part: calloop's forget_sub_id sets the part to 0, here it is left out
 abbrev pub registration_of : Token → RegistrationToken
@@ -24,7 +25,7 @@ registration_of t = record { slot = t.slot; version = t.version }
 
 -- how many tokens a factory can give; calloop panics at the next one, too
 abbrev pub most_tokens : ℕ
-most_tokens = 65535
+most_tokens = parts - 1
 
 -- what a factory gives next: the count is the sub-id, as in calloop's TokenFactory
 abbrev pub next_token : TokenFactory → Token

@@ -26,6 +26,7 @@ use Rattle.std.specs.Prelude.{
   get_or,
 }
 use Rattle.std.specs.Int.{bit_at}
+use Rattle.calloop_wake.specs.Widths.{most_slots, level_count}
 use Rattle.calloop_wake.specs.declared.list.Slot.{Slot}
 use Rattle.calloop_wake.specs.declared.vacancies.Taken.{Taken}
 use Rattle.calloop_wake.specs.Slots.{is_vacant}
@@ -94,10 +95,15 @@ abbrev pub IsCovered : (most : ℕ) → List (List ℕ) → Type 0
 IsCovered most [] = Unit {0}
 IsCovered most (words ∷ below) = (length words ≤ most) × IsCovered (64 * length words) below
 
--- six levels, of which the highest has one word or none, and each other has no word without a bit above it: enough for
--- 2^36 slots
-abbrev pub AreSix : List (List ℕ) → Type 0
-AreSix levels = (length levels ≡ 6) × IsCovered 1 levels
+-- as many levels as all slots need, of which the highest has one word or none, and each other has no word without a bit
+-- above it
+abbrev pub AreEnough : List (List ℕ) → Type 0
+AreEnough levels = (length levels ≡ level_count) × IsCovered 1 levels
+
+-- so many levels with no word
+abbrev pub no_words : (count : ℕ) → List (List ℕ)
+no_words zero = []
+no_words (suc n) = [] ∷ no_words n
 
 -- whether a slot of the list is there and vacant
 abbrev pub is_vacant_in : {S : Type 0} → List (Slot S) → ℕ → Bool
@@ -107,6 +113,6 @@ is_vacant_in (s ∷ ss) (suc i) = is_vacant_in ss i
 
 -- the levels have the bits of each slot of the list, and say which of them are vacant
 pub record TellVacant {S : Type 0} (slots : List (Slot S)) (levels : List (List ℕ)) : Type 0 where
-  pub few : length slots ≤ 2 ^ 32
+  pub few : length slots ≤ most_slots
   pub bits : (i : ℕ) → i < length slots → HasBits levels i
   pub told : AreLevels (is_vacant_in slots) levels

@@ -26,7 +26,7 @@ pub enum Error {
     /// No memory was left.
     #[error("out of memory")]
     OutOfMemory,
-    /// A slot's number would not fit 32 bits.
+    /// All slots that there can be are full.
     #[error("too many event sources")]
     TooManySources,
     /// A factory has given out all 65,535 tokens of its registration.

@@ -8,5 +8,6 @@ pub mod token;
 mod vacancies;
 pub mod wake;
 pub mod wheel;
+pub mod widths;
 
 pub use error::{Error, InsertError, Result};

@@ -1,7 +1,8 @@
 //! The slots of the loop's sources, told apart by their versions. From calloop's `list.rs`.
-ghost use Rattle.std.specs.Prelude.{◌≡◌, ◌↔◌, ◌+◌, ◌^◌, ◌<◌, ◌≤◌, List, [], length, slice_get, is_some, if◌then◌else◌, Some, None, IfOk, IfErr, IsErr, IsErrOf, IsNone, IfSome, OnSome};
+ghost use Rattle.std.specs.Prelude.{◌≡◌, ◌↔◌, ◌+◌, ◌<◌, ◌≤◌, List, [], length, slice_get, is_some, if◌then◌else◌, Some, None, IfOk, IfErr, IsErr, IsErrOf, IsNone, IfSome, OnSome};
 ghost use Rattle.calloop_wake.specs.Slots.{named, changed, with_content, source_of, is_in_turn, first_vacant, next_registration, claimed, after_turn, claim_error, CannotClaim};
 ghost use Rattle.calloop_wake.specs.Vacancies.{TellVacant};
+ghost use Rattle.calloop_wake.specs.Widths.{most_slots, level_count};
 ghost use Rattle.std.specs.Borrow.{sem};
 ghost use Rattle.calloop_wake.specs.Lendings.{LendsSource, LendsNamed};
 ghost use Rattle.calloop_wake.specs.declared.error.Error.TheVariants.{InvalidToken};
@@ -13,6 +14,7 @@ use crate::error::{Error, Result};
 use crate::steps::Steps;
 use crate::token::RegistrationToken;
 use crate::vacancies::Vacancies;
+use crate::widths::{MOST_SLOTS, VERSIONS};
 use std::alloc::{AllocError, Global};
 use std::marker::Model;
 use std::mem;
@@ -31,7 +33,7 @@ pub enum Content<S> {
 /// A slot of the list.
 #[derive(Drop)]
 pub struct Slot<S> {
-    /// How often the slot was used again, modulo 65,536.
+    /// How often the slot was used again, modulo `VERSIONS`.
     pub version: u16,
     /// What stands in it.
     pub content: Content<S>,
@@ -40,7 +42,7 @@ pub struct Slot<S> {
 /// Why no slot could be claimed.
 #[derive(Clone, Copy, Debug, PartialEq, Eq)]
 pub enum ClaimRefusal {
-    /// A slot's number would not fit 32 bits.
+    /// There are `MOST_SLOTS` slots, and all are full.
     TooManySources,
     /// No memory was left for a new slot.
     OutOfMemory,
@@ -117,12 +119,12 @@ fn is_in_turn<S>(slots: &[Slot<S>], token: RegistrationToken) -> bool
 // Takes up the first vacant slot, which is at this place.
 fn take_up<S: Drop>(slots: &mut Vec<Slot<S>>, place: usize) -> RegistrationToken
     requires first { place ≡ first_vacant slots.old.items }
-    requires within { (place < length slots.old.items) × (place < 2 ^ 32) }
+    requires within { (place < length slots.old.items) × (place < most_slots) }
     ensures value { result ≡ next_registration slots.old.items }
     ensures slots { slots.new.items ≡ claimed slots.old.items }
 {
     let slot = &mut slots[place];
-    slot.version = slot.version.wrapping_add(1);
+    slot.version = ((slot.version as u64 + 1) % VERSIONS) as u16;
     slot.content = Content::InTurn;
     RegistrationToken::new(place as u32, slot.version)
 }
@@ -135,13 +137,13 @@ fn add<S: Drop>(
     requires full { first_vacant slots.old.items ≡ length slots.old.items }
     requires told { TellVacant slots.old.items vacancies.old }
     ensures ok { IfOk result (λ t. (t ≡ next_registration slots.old.items) × (slots.new.items ≡ claimed slots.old.items)) }
-    ensures within { IfOk result (λ t. (t.slot < length slots.new.items) × (t.slot < 2 ^ 32)) }
-    ensures full { IsErrOf result TooManySources ↔ (2 ^ 32 ≤ first_vacant slots.old.items) }
+    ensures within { IfOk result (λ t. (t.slot < length slots.new.items) × (t.slot < most_slots)) }
+    ensures full { IsErrOf result TooManySources ↔ (most_slots ≤ first_vacant slots.old.items) }
     ensures err { IfErr result (λ e. (slots.new.items ≡ slots.old.items) × (vacancies.new ≡ vacancies.old) × CannotClaim slots.old.items (claim_error e)) }
     ensures told { TellVacant slots.new.items vacancies.new }
 {
     let place = slots.len();
-    if place > 0xffff_ffff {
+    if place as u64 >= MOST_SLOTS {
         return Err(ClaimRefusal::TooManySources);
     }
     slots.reserve(1)?;
@@ -165,11 +167,11 @@ fn claim<S: Drop>(
     requires fresh { steps.old ≡ 0 }
     requires told { TellVacant slots.old.items vacancies.old }
     ensures ok { IfOk result (λ t. (t ≡ next_registration slots.old.items) × (slots.new.items ≡ claimed slots.old.items)) }
-    ensures within { IfOk result (λ t. (t.slot < length slots.new.items) × (t.slot < 2 ^ 32)) }
-    ensures full { IsErrOf result TooManySources ↔ (2 ^ 32 ≤ first_vacant slots.old.items) }
+    ensures within { IfOk result (λ t. (t.slot < length slots.new.items) × (t.slot < most_slots)) }
+    ensures full { IsErrOf result TooManySources ↔ (most_slots ≤ first_vacant slots.old.items) }
     ensures err { IfErr result (λ e. (slots.new.items ≡ slots.old.items) × (vacancies.new ≡ vacancies.old) × CannotClaim slots.old.items (claim_error e)) }
     ensures told { TellVacant slots.new.items vacancies.new }
-    ensures steps { steps.new ≤ steps.old + 6 }
+    ensures steps { steps.new ≤ steps.old + level_count }
 {
     match vacancies.take_first(steps) {
         Some(place) => Ok(take_up(slots, place)),
@@ -252,20 +254,20 @@ impl<S: Drop> SourceList<S> {
     /// Claims the first vacant slot, or a new one, under its next version, and gives its name. It counts as full, as while
     /// its source has a turn, until `end_turn` puts the source there, or `vacate` gives it up.
     ///
-    /// It refuses with `TooManySources` exactly where the slot's number would not fit 32 bits, and with `OutOfMemory`
+    /// It refuses with `TooManySources` exactly where `MOST_SLOTS` slots are there, and all are full, and with `OutOfMemory`
     /// only where a new slot is to be added. After a refusal the list is as it was. Calloop panics or aborts there.
     ///
-    /// It reads at most six words to find the slot, however many there are. Calloop walks its slots.
+    /// It reads at most one word of each level to find the slot, however many there are. Calloop walks its slots.
     pub fn vacant_entry(
         &mut self,
         steps: &mut Steps,
     ) -> std::result::Result<RegistrationToken, ClaimRefusal>
         requires { steps.old ≡ 0 }
         ensures ok { IfOk result (λ t. (t ≡ next_registration self.old) × (self.new ≡ claimed self.old)) }
-        ensures within { IfOk result (λ t. (t.slot < length self.new) × (t.slot < 2 ^ 32)) }
-        ensures full { IsErrOf result TooManySources ↔ (2 ^ 32 ≤ first_vacant self.old) }
+        ensures within { IfOk result (λ t. (t.slot < length self.new) × (t.slot < most_slots)) }
+        ensures full { IsErrOf result TooManySources ↔ (most_slots ≤ first_vacant self.old) }
         ensures err { IfErr result (λ e. (self.new ≡ self.old) × CannotClaim self.old (claim_error e)) }
-        ensures steps { steps.new ≤ steps.old + 6 }
+        ensures steps { steps.new ≤ steps.old + level_count }
     {
         claim(&mut self.slots, &mut self.vacancies, steps)
     }

@@ -1,14 +1,20 @@
 //! The names of registrations and of their parts. From calloop's `token.rs`, and its `TokenFactory`.
 ghost use Rattle.std.specs.Prelude.{◌≡◌, ◌≢◌, ◌↔◌, ℕ, ◌-◌, ◌^◌, ◌<◌, IfOk, IfErr, IsErr};
+ghost use Rattle.calloop_wake.specs.Widths.{most_slots, versions};
 ghost use Rattle.calloop_wake.specs.Tokens.{IsToken, key_of, token_of, registration_of, next_token, after_token, most_tokens};
 ghost use Rattle.calloop_wake.specs.declared.error.Error.TheVariants.{TooManyTokens};
 ghost use Rattle.calloop_wake.specs.declared.token.Token.{Token};
 ghost use Rattle.calloop_wake.specs.declared.token.TokenFactory.{TokenFactory};
 
 use crate::error::{Error, Result};
+use crate::widths::{PARTS, VERSIONS};
+use std::marker::Model;
 
-// One less than the sub-ids of 16 bits, so that no token has the poller's own key.
-const MOST_TOKENS: u16 = 65_535;
+// One less than there are sub-ids, so that no token has the poller's own key.
+const MOST_TOKENS: u16 = (PARTS - 1) as u16;
+
+// What one slot counts in a key.
+const PER_SLOT: u64 = VERSIONS * PARTS;
 
 /// Which registration an event is for, and which part of its source.
 #[derive(Clone, Copy, Debug, PartialEq, Eq)]
@@ -18,12 +24,26 @@ pub struct Token {
     sub_id: u16,
 }
 
+impl Model for Token {
+    ghost use Rattle.std.specs.Prelude.{◌<◌};
+    ghost use Rattle.calloop_wake.specs.Widths.{most_slots, versions};
+    ghost use Rattle.calloop_wake.specs.TokenViews.{TokenView};
+
+    ghost Value = { TokenView };
+
+    ghost view = { λ t. record { slot = t.slot; version = t.version; sub_id = t.sub_id } };
+
+    ghost inverse = { λ t. record { slot = t.slot; version = t.version; sub_id = t.sub_id } };
+
+    ghost invariant = { λ t. (t.slot < most_slots) × (t.version < versions) };
+}
+
 impl Token {
-    /// The token as one word, by which the poller names it: 32 bits of slot, 16 of version and 16 of sub-id.
+    /// The token as one word, by which the poller names it: the bits of the slot, of the version and of the sub-id.
     pub fn key(self) -> u64
         ensures { result ≡ key_of self }
     {
-        self.slot as u64 * 0x1_0000_0000 + self.version as u64 * 0x1_0000 + self.sub_id as u64
+        self.slot as u64 * PER_SLOT + self.version as u64 * PARTS + self.sub_id as u64
     }
 
     /// The token of a word. The greatest word is the poller's own key, and no token's.
@@ -34,9 +54,9 @@ impl Token {
         ensures key { key_of result ≡ key }
     {
         Token {
-            slot: (key / 0x1_0000_0000) as u32,
-            version: (key / 0x1_0000 % 0x1_0000) as u16,
-            sub_id: (key % 0x1_0000) as u16,
+            slot: (key / PER_SLOT) as u32,
+            version: (key / PARTS % VERSIONS) as u16,
+            sub_id: (key % PARTS) as u16,
         }
     }
 
@@ -58,9 +78,25 @@ pub struct RegistrationToken {
     version: u16,
 }
 
+impl Model for RegistrationToken {
+    ghost use Rattle.std.specs.Prelude.{◌<◌};
+    ghost use Rattle.calloop_wake.specs.Widths.{most_slots, versions};
+    ghost use Rattle.calloop_wake.specs.TokenViews.{RegistrationView};
+
+    ghost Value = { RegistrationView };
+
+    ghost view = { λ t. record { slot = t.slot; version = t.version } };
+
+    ghost inverse = { λ t. record { slot = t.slot; version = t.version } };
+
+    ghost invariant = { λ t. (t.slot < most_slots) × (t.version < versions) };
+}
+
 impl RegistrationToken {
-    /// The registration of this slot under this version.
+    /// The registration of this slot under this version. These are less than `MOST_SLOTS` and `VERSIONS`.
     pub fn new(slot: u32, version: u16) -> RegistrationToken
+        requires slot { slot < most_slots }
+        requires version { version < versions }
         ensures { result ≡ record { slot = slot; version = version } }
     {
         RegistrationToken { slot, version }
@@ -73,7 +109,7 @@ impl RegistrationToken {
         self.slot
     }
 
-    /// How often the slot was used again, modulo 65,536.
+    /// How often the slot was used again, modulo `VERSIONS`.
     pub fn version(self) -> u16
         ensures { result ≡ self.version }
     {

@@ -1,26 +1,29 @@
 //! The set of the vacant slots. Its least one is found without a walk.
 ghost use Rattle.std.specs.Prelude.{ℕ, Bool, ◌≡◌, ◌+◌, ◌-◌, ◌*◌, ◌/◌, ◌%◌, ◌^◌, ◌<◌, ◌≤◌, List, [], ◌∷◌, ◌++◌, map, length, not, true, false, nat_lt, None, OnOk, OnErr, IfOk, IfSome, IfNone};
-ghost use Rattle.calloop_wake.specs.Vacancies.{word_at, is_set, is_filled, said, place, AreLevels, HasBits, Takes, with_slot, extended, grown, IsFirst, AreSix};
+ghost use Rattle.calloop_wake.specs.Vacancies.{word_at, is_set, is_filled, said, place, AreLevels, HasBits, Takes, with_slot, extended, grown, IsFirst, AreEnough, no_words};
+ghost use Rattle.calloop_wake.specs.Widths.{most_slots, most_words, level_count};
 ghost use Rattle.std.proofs.Math.ListN.{set};
 
 use crate::steps::Steps;
+use crate::widths::LEVEL_COUNT;
 use std::alloc::{AllocError, Global};
 use std::marker::Model;
 
-/// Words of 64 bits, at most 2^26: those with the bits of 2^32 slots. The one call that tells of a word ticks.
+/// Words of 64 bits, at most those with the bits of all slots. The one call that tells of a word ticks.
 #[derive(Drop)]
 struct Words {
     words: Vec<u64>,
 }
 
 impl Model for Words {
-    ghost use Rattle.std.specs.Prelude.{ℕ, List, length, ◌≤◌, ◌^◌};
+    ghost use Rattle.std.specs.Prelude.{ℕ, List, length, ◌≤◌};
+    ghost use Rattle.calloop_wake.specs.Widths.{most_words};
 
     ghost Value = { List ℕ };
 
     ghost view = { λ w. w.words.items };
 
-    ghost invariant = { λ w. length w.words.items ≤ 2 ^ 26 };
+    ghost invariant = { λ w. length w.words.items ≤ most_words };
 }
 
 impl Words {
@@ -36,7 +39,7 @@ impl Words {
     fn read(&self, place: usize, steps: &mut Steps) -> u64
         requires { steps.old < 2 ^ 64 - 1 }
         ensures value { result ≡ word_at self.now place }
-        ensures within { 0 < result → (place < length self.now) × (place < 2 ^ 26) }
+        ensures within { 0 < result → (place < length self.now) × (place < most_words) }
         ensures steps { steps.new ≡ steps.old + 1 }
     {
         steps.tick();
@@ -63,7 +66,7 @@ impl Words {
 
     // Appends a word, which is 0, where the words end at this place or before. Whether it did.
     fn extend(&mut self, place: usize) -> Result<bool, AllocError>
-        requires { place < 2 ^ 26 }
+        requires { place < most_words }
         ensures ok { IfOk result (λ b. (b ≡ not (nat_lt place (length self.old))) × (self.new ≡ extended place self.old)) }
         ensures err { OnErr result (self.new ≡ self.old) }
     {
@@ -135,7 +138,7 @@ fn take(levels: &mut [Words], place: usize, steps: &mut Steps) -> Option<Taken>
 
 // Sets the bits over a slot on all levels.
 fn mark(levels: &mut [Words], slot: usize)
-    requires few { length levels.old ≤ 6 }
+    requires few { length levels.old ≤ level_count }
     requires bits { HasBits levels.old slot }
     ensures levels { (vacant : ℕ → Bool) → AreLevels vacant levels.old → AreLevels (with_slot slot true vacant) levels.new }
     ensures above { (vacant : ℕ → Bool) (q : ℕ) → said (with_slot slot true vacant) levels.new q ≡ with_slot (place levels.old slot) true (said vacant levels.old) q }
@@ -149,8 +152,8 @@ fn mark(levels: &mut [Words], slot: usize)
 
 // Gives each level the word over a slot, where it has none yet. With no memory for one, all are as they were.
 fn grow(levels: &mut [Words], slot: usize) -> Result<(), AllocError>
-    requires few { length levels.old ≤ 6 }
-    requires small { slot < 2 ^ 32 }
+    requires few { length levels.old ≤ level_count }
+    requires small { slot < most_slots }
     ensures ok { OnOk result (levels.new ≡ grown slot levels.old) }
     ensures err { OnErr result (levels.new ≡ levels.old) }
 {
@@ -165,28 +168,28 @@ fn grow(levels: &mut [Words], slot: usize) -> Result<(), AllocError>
     grew
 }
 
-/// Which slots are vacant: six levels of words, the highest first. Bit i of the lowest is set where slot i is vacant,
-/// and bit i of another where word i of the level below isn't 0. Six levels have bits of 2^36 slots.
+/// Which slots are vacant: levels of words, the highest first, as many as all slots need. Bit i of the lowest is set where slot i is vacant,
+/// and bit i of another where word i of the level below isn't 0.
 #[derive(Drop)]
 pub(crate) struct Vacancies {
-    levels: [Words; 6],
+    levels: [Words; LEVEL_COUNT],
 }
 
 impl Model for Vacancies {
     ghost use Rattle.std.specs.Prelude.{ℕ, List};
-    ghost use Rattle.calloop_wake.specs.Vacancies.{AreSix};
+    ghost use Rattle.calloop_wake.specs.Vacancies.{AreEnough};
 
     ghost Value = { List (List ℕ) };
 
     ghost view = { λ v. v.levels };
 
-    ghost invariant = { λ v. AreSix v.levels };
+    ghost invariant = { λ v. AreEnough v.levels };
 }
 
 impl Vacancies {
     /// No vacant slot, and bits of none. It allocates nothing yet.
     pub(crate) fn new(alloc: Global) -> Vacancies
-        ensures { result ≡ [] ∷ [] ∷ [] ∷ [] ∷ [] ∷ [] ∷ [] }
+        ensures { result ≡ no_words level_count }
     {
         Vacancies {
             levels: [
@@ -207,7 +210,7 @@ impl Vacancies {
         ensures first { IfSome result (λ slot. (vacant : ℕ → Bool) → AreLevels vacant self.old → IsFirst vacant slot) }
         ensures levels { IfSome result (λ slot. (vacant : ℕ → Bool) → AreLevels vacant self.old → AreLevels (with_slot slot false vacant) self.new) }
         ensures bits { (i : ℕ) → HasBits self.old i → HasBits self.new i }
-        ensures steps { steps.new ≤ steps.old + 6 }
+        ensures steps { steps.new ≤ steps.old + level_count }
     {
         let Some(taken) = take(&mut self.levels, 0, steps) else {
             return None;
@@ -226,12 +229,12 @@ impl Vacancies {
 
     /// Gives a slot its bits, by which it isn't vacant. With no memory for them, the set is as it was.
     pub(crate) fn grow(&mut self, slot: usize) -> Result<(), AllocError>
-        requires { slot < 2 ^ 32 }
+        requires { slot < most_slots }
         ensures ok { OnOk result (self.new ≡ grown slot self.old) }
         ensures err { OnErr result (self.new ≡ self.old) }
     {
         // Where the lowest level has the word over the slot, each does.
-        if self.levels[5].has(slot / 64) {
+        if self.levels[LEVEL_COUNT - 1].has(slot / 64) {
             return Ok(());
         }
         grow(&mut self.levels, slot)

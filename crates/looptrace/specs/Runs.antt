@@ -6,6 +6,7 @@ use Rattle.std.specs.Prelude.{Option, Some, None, IsSome, Result, Ok, Err}
 use Rattle.std.specs.Option.{option_map}
 use Rattle.std.specs.Duration.{as_nanos}
 use Rattle.std.specs.declared.time.Duration.{Duration}
+use Rattle.calloop_wake.specs.Widths.{most_slots, versions}
 use Rattle.calloop_wake.specs.declared.error.Error.{Error}
 use Rattle.calloop_wake.specs.declared.error.Error.TheVariants.{InvalidToken, IoError, OtherError, OutOfMemory}
 use Rattle.calloop_wake.specs.declared.error.Error.TheVariants.{
@@ -175,7 +176,7 @@ CloseLine s name (Some (t, said)) =
 -- the token of these numbers, where a token can hold them
 abbrev pub token_with : (slot version : ℕ) → Option RegistrationToken
 token_with slot version =
-    if nat_lt slot (2 ^ 32) && nat_lt version (2 ^ 16) then Some (record { slot = slot; version = version }) else None
+    if nat_lt slot most_slots && nat_lt version versions then Some (record { slot = slot; version = version }) else None
 
 abbrev pub removed_text : {R : Type 0} → Option (Source R) → List ℕ
 removed_text None = refused_text (word_of InvalidToken)

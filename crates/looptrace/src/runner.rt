@@ -20,6 +20,7 @@ use calloop::loop_logic::EventLoop;
 use calloop::ping::{Ping, make_ping};
 use calloop::{Error, InsertError, Instant, Readiness, RegistrationToken, Timer};
 use calloop_core::sys::script::{ScriptAnswer, ScriptClock, ScriptEnd, ScriptEvents, ScriptPoller};
+use calloop_wake::widths::{MOST_SLOTS, VERSIONS};
 use log::Log;
 use std::alloc::{AllocError, Global};
 use std::io;
@@ -49,7 +50,7 @@ pub struct ScriptLoop<R: Wait + Drop> {
 fn token_with(slot: u64, version: u64) -> Option<RegistrationToken>
     ensures { result ≡ token_with slot version }
 {
-    if slot > 0xffff_ffff || version > 0xffff {
+    if slot >= MOST_SLOTS || version >= VERSIONS {
         return None;
     }
     Some(RegistrationToken::new(slot as u32, version as u16))

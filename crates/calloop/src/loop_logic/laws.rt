@@ -1,5 +1,6 @@
 //! What holds of every run.
 ghost use Rattle.std.specs.Prelude.{◌≡◌, ℕ, List, [], ◌∷◌, Some, None};
+ghost use Rattle.calloop_wake.specs.Widths.{versions};
 ghost use Rattle.calloop.specs.Machine.{World, IsNew};
 ghost use Rattle.calloop.specs.Rules.{Run};
 ghost use Rattle.calloop.specs.Homes.{AllAtHome};
@@ -21,7 +22,7 @@ use std::sync::Wait;
 
 /// Over every run of the machine, from any state: each event that is cut goes to just the source that its token names
 /// at that moment, or to none; a token that named a registration names a later one of its slot only where the
-/// reuse count is greater by a positive multiple of 65,536; and a registration that was given up stays so.
+/// reuse count is greater by a positive multiple of `VERSIONS`; and a registration that was given up stays so.
 ///
 /// And from a state in which nothing has happened, where no source holds a counter of a timer of this loop when it is
 /// inserted: each arming of a timer is in just one place, also across errors and re-arming; each call of a timer belongs to
@@ -92,7 +93,7 @@ pub fn wrong_runs_are_ruled_out()
     ensures later_registration { ¬ GoesRight (used 1 ∷ []) first_token (Some 0) }
     ensures lost_event { ¬ GoesRight (used 0 ∷ []) first_token None }
     ensures earlier_registration { (w w' : World (Unit {0}) (Unit {0}) (Unit {0}))
-        → w.slots ≡ used 65536 ∷ [] → w'.slots ≡ used 0 ∷ [] → ¬ NamesLater w w' }
+        → w.slots ≡ used versions ∷ [] → w'.slots ≡ used 0 ∷ [] → ¬ NamesLater w w' }
     ensures there_again { (w w' : World (Unit {0}) (Unit {0}) (Unit {0}))
         → w.slots ≡ given_up 0 ∷ [] → w'.slots ≡ used 0 ∷ [] → ¬ StaysGone w w' }
     ensures early_event { ¬ OnTime early }

@@ -1,5 +1,6 @@
 //! The registration of a source that is out of its slot, with its entry among those that are told of waits.
-ghost use Rattle.std.specs.Prelude.{◌≡◌, ◌<◌, ◌^◌, OnOk, IfOk, IfErr};
+ghost use Rattle.std.specs.Prelude.{◌≡◌, ◌<◌, OnOk, IfOk, IfErr};
+ghost use Rattle.calloop_wake.specs.Widths.{most_slots};
 ghost use Rattle.calloop_wake.specs.Failures.{with_error};
 ghost use Rattle.calloop_wake.specs.Slots.{claimed, next_registration, claim_error};
 ghost use Rattle.calloop_core.specs.Deeds.{Registered, Reregistered, Unregistered};
@@ -20,7 +21,7 @@ impl<D: EventDispatcher<P, C, R>, P: Poller, C: Clock, R: Wait + Drop> EventLoop
     // Claims a slot, where there is room for the entry that is needed.
     pub(super) fn claim(&mut self, needed: bool) -> Result<RegistrationToken, ClaimRefusal>
         ensures ok { IfOk result (λ token. (token ≡ next_registration self.old.sources)
-            × (token.slot < 2 ^ 32) × (self.new.sources ≡ claimed self.old.sources)) }
+            × (token.slot < most_slots) × (self.new.sources ≡ claimed self.old.sources)) }
         ensures room { OnOk result (HasRoom needed self.new.lifecycle) }
         ensures err { IfErr result (λ e. CannotInsert self.old.sources needed (claim_error e)
             × (self.new.sources ≡ self.old.sources)) }

@@ -13,7 +13,9 @@ use std::collections::VecDeque;
 pub struct EventIterator<'a> {
     batch: &'a VecDeque<Pending>,
     at: usize,
-    registration: RegistrationToken,
+    // The registration by its numbers: what holds a token isn't copied where it is handed on.
+    slot: u32,
+    version: u16,
 }
 
 impl<'a> EventIterator<'a> {
@@ -28,7 +30,8 @@ impl<'a> EventIterator<'a> {
         EventIterator {
             batch,
             at: from,
-            registration,
+            slot: registration.slot(),
+            version: registration.version(),
         }
     }
 }
@@ -47,7 +50,8 @@ impl Iterator for EventIterator<'_> {
         while self.at < self.batch.len() {
             let event = self.batch[self.at];
             self.at += 1;
-            if event.token.registration() == self.registration {
+            let named = event.token.registration();
+            if named.slot() == self.slot && named.version() == self.version {
                 return Some((event.readiness, event.token));
             }
         }

@@ -1,4 +1,5 @@
-use Rattle.std.proofs.Common.{◌≡◌, length, ◌++◌, ◌∷◌, [], arith, ◌∙◌, ap, sym, subst, refl, ◌≤◌, ◌^◌}
+use Rattle.std.proofs.Common.{◌≡◌, length, ◌++◌, ◌∷◌, [], arith, ◌∙◌, ap, sym, subst, refl, ◌≤◌}
+use Rattle.calloop_wake.specs.Widths.{most_slots}
 use Rattle.calloop_wake.specs.Slots.{first_vacant}
 use Rattle.calloop_wake.specs.Vacancies.{grown}
 use Rattle.calloop_wake.specs.declared.list.Content.TheVariants.{InTurn}
@@ -20,9 +21,9 @@ returns-clause-told g c =
     rw (c.in-Ok.ensures.items ∙ ap (λ l. l ++ record { version = 0; content = InTurn } ∷ []) c.reserve.ensures.items)
     (rw (c.in_ok-grow.ensures.ok ∙ ap (λ n. grown n c.args.vacancies.now) long) (told-added xs c.args.vacancies.now c.requires.told (omega arith)))
 
-pub returns-then-place-gt4294967295-clause-full : goal.returns-then-place-gt4294967295-clause-full
-returns-then-place-gt4294967295-clause-full g c =
+pub returns-then-place-ge-MOST_SLOTS-clause-full : goal.returns-then-place-ge-MOST_SLOTS-clause-full
+returns-then-place-ge-MOST_SLOTS-clause-full g c =
     let long : c.len-place.result ≡ length c.args.slots.now.items = omega arith in
-    let many : 2 ^ 32 ≤ first_vacant c.args.slots.now.items =
-    subst (λ n. 2 ^ 32 ≤ n) (long ∙ sym c.requires.full) c.if-place-gt4294967295.true in
+    let many : most_slots ≤ first_vacant c.args.slots.now.items =
+    subst (λ n. most_slots ≤ n) (long ∙ sym c.requires.full) c.if-place-ge-MOST_SLOTS.true in
     (λ _. many, λ _. refl)

@@ -1,4 +1,5 @@
-use Rattle.std.proofs.Common.{◌≡◌, ◌<◌, ◌≤◌, ◌^◌, length, arith, ap, ◌∙◌}
+use Rattle.std.proofs.Common.{◌≡◌, ◌<◌, ◌≤◌, length, arith, ap, ◌∙◌}
+use Rattle.calloop_wake.specs.Widths.{most_slots}
 use Rattle.calloop_wake.specs.Slots.{first_vacant}
 use Rattle.calloop_wake.specs.Vacancies.{is_vacant_in}
 use Rattle.calloop_wake.specs.declared.token.RegistrationToken.{RegistrationToken}
@@ -13,7 +14,7 @@ pub take_up-requires-clause-within : goal.take_up-requires-clause-within
 take_up-requires-clause-within g c =
     let xs = c.args.slots.now.items in
     let within : c.in-Some.place < length xs = first-within xs c.in-Some.place (c.in-Some.ensures.first (is_vacant_in xs) c.requires.told.told) in
-    let few : length xs ≤ 2 ^ 32 = c.requires.told.few in
+    let few : length xs ≤ most_slots = c.requires.told.few in
     (within, omega arith)
 
 pub add-requires-clause-full : goal.add-requires-clause-full
@@ -26,7 +27,7 @@ returns-in-Some-clause-within g c =
     let first = c.in-Some.ensures.first (is_vacant_in xs) c.requires.told.told in
     let is : c.in-Some.place ≡ first_vacant xs = first-is xs c.in-Some.place first in
     let within : c.in-Some.place < length xs = first-within xs c.in-Some.place first in
-    let few : length xs ≤ 2 ^ 32 = c.requires.told.few in
+    let few : length xs ≤ most_slots = c.requires.told.few in
     let at : c.take_up.result.slot ≡ first_vacant xs = ap (λ (t : RegistrationToken). t.slot) c.take_up.ensures.value in
     let long : length c.take_up.new.slots.items ≡ length xs = ap (λ l. length l) c.take_up.ensures.slots ∙ claimed-long xs c.in-Some.place first in
     (omega arith, omega arith)

@@ -1,4 +1,5 @@
 use Rattle.std.proofs.Common.{◌≡◌, inl, inr, ℕ, Bool, true, false, List, [], ◌∷◌, Ok, refl, sym, ap, ◌∙◌, ◌%◌, ◌+◌, ◌≤◌, nat_lt, if◌then◌else◌, arith, slice_get, length}
+use Rattle.calloop_wake.specs.Widths.{versions}
 use Rattle.calloop.specs.Laws.{standing, counted, is_number}
 use Rattle.calloop.specs.Machine.{Registration}
 use Rattle.calloop_wake.specs.declared.token.RegistrationToken.{RegistrationToken}
@@ -32,14 +33,14 @@ pub returns-clause-later_registration : goal.returns-clause-later_registration
 returns-clause-later_registration c = λ h.
     let e : used 1 ≡ h.1 = (let f = h.2 in cc) in
     let one : h.1.reuse ≡ 1 = sym (ap (λ (r : Registration (Unit {0})). r.reuse) e) in
-    one_zero (sym (ap (λ n. n % 65536) one) ∙ h.3)
+    one_zero (sym (ap (λ n. n % versions) one) ∙ h.3)
 
 pub returns-clause-lost_event : goal.returns-clause-lost_event
 returns-clause-lost_event c = λ h. h (used 0) refl refl (tt, refl)
 
 pub returns-clause-earlier_registration : goal.returns-clause-earlier_registration
 returns-clause-earlier_registration c = λ w w' s s' h.
-    elim (h first_token (used 65536) (used 0) (ap (λ (l : List (Registration (Unit {0}))). slice_get l 0) s, refl) (ap (λ (l : List (Registration (Unit {0}))). slice_get l 0) s', refl)) [
+    elim (h first_token (used versions) (used 0) (ap (λ (l : List (Registration (Unit {0}))). slice_get l 0) s, refl) (ap (λ (l : List (Registration (Unit {0}))). slice_get l 0) s', refl)) [
       | inl e ↦ absurd (omega arith)
       | inr k ↦ absurd (omega (arith, k.1, k.2))
     ]

@@ -1,9 +1,9 @@
 use Rattle.calloop_wake.proofs.Levels.{HasBits-same}
-use Rattle.calloop_wake.proofs.Covered.{six-same}
+use Rattle.calloop_wake.proofs.Covered.{enough-same}
 use Rattle.calloop_wake.proofs.vacancies.Vacancies.insert.Goals as goal
 
 pub invariant_of-self : goal.invariant_of-self
-invariant_of-self c = six-same c.self.inside.levels c.mark.new.levels c.mark.ensures.len c.self.invariant
+invariant_of-self c = enough-same c.self.inside.levels c.mark.new.levels c.mark.ensures.len c.self.invariant
 
 pub returns-clause-levels : goal.returns-clause-levels
 returns-clause-levels c = rw (← c.self.view_is) c.mark.ensures.levels

@@ -1,10 +1,10 @@
 use Rattle.std.proofs.Common.{◌∙◌}
 use Rattle.calloop_wake.proofs.Levels.{HasBits-same, takes-first, takes-levels, none_vacant}
-use Rattle.calloop_wake.proofs.Covered.{six-same}
+use Rattle.calloop_wake.proofs.Covered.{enough-same}
 use Rattle.calloop_wake.proofs.vacancies.Vacancies.take_first.Goals as goal
 
 pub invariant_of-self-2 : goal.invariant_of-self-2
-invariant_of-self-2 c = six-same c.self.inside.levels c.take.new.levels c.take.ensures.len c.self.invariant
+invariant_of-self-2 c = enough-same c.self.inside.levels c.take.new.levels c.take.ensures.len c.self.invariant
 
 pub returns-clause-bits : goal.returns-clause-bits
 returns-clause-bits c = rw (← c.self.view_is) (HasBits-same c.self.inside.levels c.take.new.levels c.take.ensures.len)

@@ -1,0 +1,13 @@
+-- What contracts see of tokens: their numbers. These can be any; those of a token that there is fit their widths.
+use Rattle.std.specs.Prelude.{ℕ}
+
+-- a token: calloop's TokenInner
+pub record TokenView : Type 0 where
+  pub slot : ℕ
+  pub version : ℕ
+  pub sub_id : ℕ
+
+-- a registration: a TokenInner whose sub-id is 0
+pub record RegistrationView : Type 0 where
+  pub slot : ℕ
+  pub version : ℕ

@@ -1,0 +1,33 @@
+-- How many bits the numbers of a token have, and what follows from that. All definitions and proofs go by these names, and
+-- the code by the constants of src/widths.rt: another width is another number here and there.
+use Rattle.std.specs.Prelude.{ℕ, ◌+◌, ◌/◌, ◌^◌}
+
+-- the bits of a slot's number, of a version and of a sub-id: calloop's TokenInner has these types. A key has 64
+abbrev pub slot_bits : ℕ
+slot_bits = 32
+
+abbrev pub version_bits : ℕ
+version_bits = 16
+
+abbrev pub part_bits : ℕ
+part_bits = 16
+
+-- how many slots a list has at most
+abbrev pub most_slots : ℕ
+most_slots = 2 ^ slot_bits
+
+-- after so many further uses a slot has the same version again
+abbrev pub versions : ℕ
+versions = 2 ^ version_bits
+
+-- how many sub-ids there are
+abbrev pub parts : ℕ
+parts = 2 ^ part_bits
+
+-- how many words of 64 bits have a bit for each of the slots
+abbrev pub most_words : ℕ
+most_words = most_slots / 64
+
+-- how many levels of such words lead from one word to the bits of all slots, 6 bits of a slot's number on each
+abbrev pub level_count : ℕ
+level_count = (slot_bits + 5) / 6
