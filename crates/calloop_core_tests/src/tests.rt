@@ -17,6 +17,7 @@ use calloop_wake::wake::locked::{Core, Locked};
 use calloop_wake::wake::ping::{OpenedTurn, PingCore};
 use calloop_wake::wake::{Debt, Last, OpenedPass, PingTurn, TakenPass, Twin};
 use calloop_wake::wheel::Instant;
+use calloop_wake::widths::MOST_SLOTS;
 use counted_slot::Fits;
 use std::alloc::{AllocError, Global};
 use std::process::Abort;
@@ -391,9 +392,9 @@ const WRITABLE: Readiness = Readiness {
 // The keys of the slots 0, 2 and 3.
 const FREE: u64 = 0;
 
-const CELL: u64 = 0x2_0000_0000;
+const CELL: u64 = 0x200_0000_0000;
 
-const OTHER: u64 = 0x3_0000_0000;
+const OTHER: u64 = 0x300_0000_0000;
 
 // What is seen of an event: its key, whether it is ready to be read, and whether it was posted.
 type Seen = (u64, bool, bool);
@@ -426,11 +427,11 @@ fn at(millis: u64) -> Instant {
     }
 }
 
-// The key of the slot is 4,294,967,296 times the slot.
+// The key of the slot is 1,099,511,627,776 times the slot.
 fn token(slot: u32) -> Token
     ensures { key_of result ≢ 2 ^ 64 - 1 }
 {
-    match TokenFactory::new(RegistrationToken::new(slot, 0)).token() {
+    match TokenFactory::new(RegistrationToken::new(slot % MOST_SLOTS as u32, 0)).token() {
         Ok(token) => token,
         Err(_) => unreachable!(),
     }

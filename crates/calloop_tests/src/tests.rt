@@ -397,7 +397,7 @@ fn the_law_of_all_runs_rules_wrong_runs_out(_rt: HostRuntime) {
 
 const OWN_KEY: u64 = u64::MAX;
 
-const FIRST_OF_SLOT_1: u64 = 4294967296;
+const FIRST_OF_SLOT_1: u64 = 1099511627776;
 
 fn at(millis: u64) -> Instant {
     Instant {

@@ -2,12 +2,12 @@
 -- the code by the constants of src/widths.rt: another width is another number here and there.
 use Rattle.std.specs.Prelude.{ℕ, ◌+◌, ◌/◌, ◌^◌}
 
--- the bits of a slot's number, of a version and of a sub-id: calloop's TokenInner has these types. A key has 64
+-- the bits of a slot's number, of a version and of a sub-id: calloop's TokenInner has 32, 16 and 16. A key has 64
 abbrev pub slot_bits : ℕ
-slot_bits = 32
+slot_bits = 24
 
 abbrev pub version_bits : ℕ
-version_bits = 16
+version_bits = 24
 
 abbrev pub part_bits : ℕ
 part_bits = 16

@@ -34,7 +34,7 @@ pub enum Content<S> {
 #[derive(Drop)]
 pub struct Slot<S> {
     /// How often the slot was used again, modulo `VERSIONS`.
-    pub version: u16,
+    pub version: u32,
     /// What stands in it.
     pub content: Content<S>,
 }
@@ -124,7 +124,7 @@ fn take_up<S: Drop>(slots: &mut Vec<Slot<S>>, place: usize) -> RegistrationToken
     ensures slots { slots.new.items ≡ claimed slots.old.items }
 {
     let slot = &mut slots[place];
-    slot.version = ((slot.version as u64 + 1) % VERSIONS) as u16;
+    slot.version = ((slot.version as u64 + 1) % VERSIONS) as u32;
     slot.content = Content::InTurn;
     RegistrationToken::new(place as u32, slot.version)
 }

@@ -20,7 +20,7 @@ const PER_SLOT: u64 = VERSIONS * PARTS;
 #[derive(Clone, Copy, Debug, PartialEq, Eq)]
 pub struct Token {
     slot: u32,
-    version: u16,
+    version: u32,
     sub_id: u16,
 }
 
@@ -55,7 +55,7 @@ impl Token {
     {
         Token {
             slot: (key / PER_SLOT) as u32,
-            version: (key / PARTS % VERSIONS) as u16,
+            version: (key / PARTS % VERSIONS) as u32,
             sub_id: (key % PARTS) as u16,
         }
     }
@@ -75,7 +75,7 @@ impl Token {
 #[derive(Clone, Copy, Debug, PartialEq, Eq, PartialOrd, Ord)]
 pub struct RegistrationToken {
     slot: u32,
-    version: u16,
+    version: u32,
 }
 
 impl Model for RegistrationToken {
@@ -94,7 +94,7 @@ impl Model for RegistrationToken {
 
 impl RegistrationToken {
     /// The registration of this slot under this version. These are less than `MOST_SLOTS` and `VERSIONS`.
-    pub fn new(slot: u32, version: u16) -> RegistrationToken
+    pub fn new(slot: u32, version: u32) -> RegistrationToken
         requires slot { slot < most_slots }
         requires version { version < versions }
         ensures { result ≡ record { slot = slot; version = version } }
@@ -110,7 +110,7 @@ impl RegistrationToken {
     }
 
     /// How often the slot was used again, modulo `VERSIONS`.
-    pub fn version(self) -> u16
+    pub fn version(self) -> u32
         ensures { result ≡ self.version }
     {
         self.version

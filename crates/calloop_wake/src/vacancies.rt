@@ -197,8 +197,6 @@ impl Vacancies {
                 Words::new(alloc),
                 Words::new(alloc),
                 Words::new(alloc),
-                Words::new(alloc),
-                Words::new(alloc),
             ],
         }
     }

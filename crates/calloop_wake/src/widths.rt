@@ -3,10 +3,10 @@ ghost use Rattle.std.specs.Prelude.{◌≡◌};
 ghost use Rattle.calloop_wake.specs.Widths.{most_slots, versions, parts, level_count};
 
 /// The bits of a slot's number.
-pub const SLOT_BITS: u32 = 32;
+pub const SLOT_BITS: u32 = 24;
 
 /// The bits of a version.
-pub const VERSION_BITS: u32 = 16;
+pub const VERSION_BITS: u32 = 24;
 
 /// The bits of a sub-id.
 pub const PART_BITS: u32 = 16;

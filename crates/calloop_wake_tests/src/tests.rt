@@ -18,6 +18,7 @@ use calloop_wake::wake::{
     lost_is_not_covered, schedules_that_there_are, steps_are_the_machines,
 };
 use calloop_wake::wheel::{ArmRefusal, Instant, TimerWheel};
+use calloop_wake::widths::{MOST_SLOTS, VERSIONS};
 use counted_slot::Fits;
 use std::alloc::{AllocError, Global};
 use std::collections::VecDeque;
@@ -109,14 +110,33 @@ fn a_refused_insertion_is_debugged_as_its_refusal(rt: HostRuntime) -> Result<(),
 #[test]
 fn a_key_holds_slot_version_and_sub_id(rt: HostRuntime) {
     let table = [
-        (4_295_098_371, 1, 2),
+        (1_099_511_758_851, 1, 2),
         (65_536, 0, 1),
-        (18_446_744_073_709_551_614, 4_294_967_295, 65_535),
+        (18_446_744_073_709_551_614, 16_777_215, 16_777_215),
+        (4_295_098_371, 0, 65_538),
     ];
     for (key, slot, version) in table {
         let token = Token::from_key(key);
         assert_eq!(rt; token.key(), key);
-        assert_eq!(rt; token.registration(), RegistrationToken::new(slot, version));
+        assert_eq!(rt; token.registration(), registration(slot, version));
+    }
+}
+
+#[test]
+fn the_last_token_of_a_factory_has_its_key(rt: HostRuntime) {
+    let table = [
+        (1, 2, 4, 1_099_511_758_851),
+        (0, 1, 1, 65_536),
+        (16_777_215, 16_777_215, 65_535, 18_446_744_073_709_551_614),
+        (0, 65_538, 4, 4_295_098_371),
+    ];
+    for (slot, version, count, key) in table {
+        let mut factory = TokenFactory::new(registration(slot, version));
+        let mut last = None;
+        for _ in 0..count {
+            last = factory.token().ok();
+        }
+        assert_eq!(rt; last.map(|token: Token| token.key()), Some(key));
     }
 }
 
@@ -128,7 +148,7 @@ fn a_factory_that_gave_65535_tokens_refuses(rt: HostRuntime) {
         last = factory.token().ok();
         assert!(rt; last.is_some());
     }
-    assert_eq!(rt; last, Some(Token::from_key(4_295_163_902)));
+    assert_eq!(rt; last, Some(Token::from_key(1_099_511_824_382)));
     for _ in 0..2 {
         assert!(rt; matches!(factory.token(), Err(Error::TooManyTokens)));
     }
@@ -144,17 +164,17 @@ fn two_tokens_of_a_factory_differ(rt: HostRuntime) {
     let second = factory.token().expect(&rt, "another token");
     assert_eq!(rt; factory.given(), 2);
     assert!(rt; first != second);
-    assert_eq!(rt; (first.key(), second.key()), (4_295_098_368, 4_295_098_369));
+    assert_eq!(rt;
+        (first.key(), second.key()),
+        (1_099_511_758_848, 1_099_511_758_849)
+    );
 }
 
 #[test]
 fn claimed_slots_count_up(rt: HostRuntime) {
     let mut list = SourceList::<u8>::new(rt.alloc());
     for slot in 0..3 {
-        assert!(rt;
-            claims(&mut list, RegistrationToken::new(slot, 0)),
-            "{slot}"
-        );
+        assert!(rt; claims(&mut list, registration(slot, 0)), "{slot}");
     }
 }
 
@@ -193,32 +213,31 @@ fn a_vacated_slot_hands_its_source_back(rt: HostRuntime) {
 fn vacated_slots_are_claimed_from_the_front(rt: HostRuntime) {
     let mut list = SourceList::new(rt.alloc());
     for slot in 0..70 {
-        assert!(rt;
-            claims(&mut list, RegistrationToken::new(slot, 0)),
-            "{slot}"
-        );
+        assert!(rt; claims(&mut list, registration(slot, 0)), "{slot}");
     }
     for slot in [65, 3, 69] {
-        list.vacate(RegistrationToken::new(slot, 0));
+        list.vacate(registration(slot, 0));
     }
     for (slot, version) in [(3, 1), (65, 1), (69, 1), (70, 0)] {
-        let token = RegistrationToken::new(slot, version);
+        let token = registration(slot, version);
         assert!(rt; claims(&mut list, token), "{slot}");
     }
 }
 
 #[test]
-fn a_slot_that_is_used_65536_times_again_has_its_first_token(rt: HostRuntime) {
+fn a_slot_that_is_used_65536_times_again_has_no_source_for_its_first_token(rt: HostRuntime) {
+    let first = RegistrationToken::new(0, 0);
     let mut list = SourceList::new(rt.alloc());
-    for version in 0..=u16::MAX {
-        let token = RegistrationToken::new(0, version);
-        assert!(rt; claims(&mut list, token), "{version}");
+    let mut token = list.vacant_entry(&mut Steps::new()).expect(&rt, "a slot");
+    assert_eq!(rt; token, first);
+    for version in 1..65_537 {
         list.vacate(token);
+        token = registration(0, version);
+        assert!(rt; claims(&mut list, token), "{version}");
     }
-    let again = list.vacant_entry(&mut Steps::new()).expect(&rt, "the slot");
-    assert_eq!(rt; again, RegistrationToken::new(0, 0));
-    assert_eq!(rt; list.end_turn(again, 7u8), None);
-    assert!(rt; matches!(list.get(again), Some(7)));
+    assert_eq!(rt; list.end_turn(token, 7u8), None);
+    assert!(rt; is_no_token(&list, first));
+    assert!(rt; matches!(list.get(token), Some(7)));
 }
 
 #[test]
@@ -469,11 +488,16 @@ fn gone() -> Error {
     Error::from(io::Error::new(io::ErrorKind::NotFound, "gone"))
 }
 
-// Whether the next claim gives this token, and reads six words at most.
+// The registration of these numbers, modulo how many there are.
+fn registration(slot: u32, version: u32) -> RegistrationToken {
+    RegistrationToken::new(slot % MOST_SLOTS as u32, version % VERSIONS as u32)
+}
+
+// Whether the next claim gives this token, and reads four words at most.
 fn claims(list: &mut SourceList<u8>, token: RegistrationToken) -> bool {
     let mut steps = Steps::new();
     let claimed = list.vacant_entry(&mut steps);
-    matches!(claimed, Ok(given) if given == token) && steps.count() <= 6
+    matches!(claimed, Ok(given) if given == token) && steps.count() <= 4
 }
 
 fn is_no_token(list: &SourceList<u8>, token: RegistrationToken) -> bool {

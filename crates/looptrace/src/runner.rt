@@ -53,7 +53,7 @@ fn token_with(slot: u64, version: u64) -> Option<RegistrationToken>
     if slot >= MOST_SLOTS || version >= VERSIONS {
         return None;
     }
-    Some(RegistrationToken::new(slot as u32, version as u16))
+    Some(RegistrationToken::new(slot as u32, version as u32))
 }
 
 // The name of the refusal.

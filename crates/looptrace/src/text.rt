@@ -17,7 +17,7 @@ pub fn append_insert(
     out: &mut Vec<u8>,
     name: &[u8],
     slot: u32,
-    version: u16,
+    version: u32,
 ) -> Result<(), AllocError>
     ensures ok { OnOk result (out.new.items ≡ out.old.items ++ insert_text name.now slot version) }
     ensures err { OnErr result (BeginsWith out.new.items out.old.items) }

@@ -147,7 +147,7 @@ fn each_thing_that_a_run_says_has_its_text(rt: HostRuntime) {
     assert!(rt; said_all(&mut out).is_ok());
     assert_eq!(rt;
         out.as_slice(),
-        b"insert a0 0 0\ninsert b 4294967295 65535\nwait -\nwait 18446744073709551615\ncall a0\ncall t 18446744073709551615\nrefused InvalidToken\n".as_slice()
+        b"insert a0 0 0\ninsert b 16777215 16777215\nwait -\nwait 18446744073709551615\ncall a0\ncall t 18446744073709551615\nrefused InvalidToken\n".as_slice()
     );
 }
 
@@ -265,7 +265,7 @@ fn a_second_line_that_cannot_be_carried_out_ends_the_run(rt: HostRuntime) {
 
 #[test]
 fn what_is_removed_is_not_called(rt: HostRuntime) {
-    let table: [(&[u8], u8, &[u8], &[u8]); 4] = [
+    let table: [(&[u8], u8, &[u8], &[u8]); 5] = [
         (
             b"ping a\nremove 0 0\nping b\nring a\nring b\ndispatch 7\nremove 0 0\n",
             0,
@@ -285,9 +285,15 @@ fn what_is_removed_is_not_called(rt: HostRuntime) {
             b"error line 4\n",
         ),
         (
-            b"remove 4294967296 0\nremove 0 65536\n",
+            b"remove 16777216 0\nremove 0 65536\nremove 4294967296 0\n",
             0,
-            b"refused InvalidToken\nrefused InvalidToken\n",
+            b"refused InvalidToken\nrefused InvalidToken\nrefused InvalidToken\n",
+            b"",
+        ),
+        (
+            b"ping a\nremove 0 16777216\nremove 0 0\nping b\n",
+            0,
+            b"insert a 0 0\nrefused InvalidToken\ninsert b 0 1\n",
             b"",
         ),
     ];
@@ -338,7 +344,7 @@ fn an_answer_gives_its_events_in_its_order(rt: HostRuntime) {
             b"insert a 0 0\ninsert b 0 1\nwait 0\ncall b\n",
         ),
         (
-            b"timer a 5\ntimer b 5\nclock 10\nanswer 4294967296 r\ndispatch 0\n",
+            b"timer a 5\ntimer b 5\nclock 10\nanswer 1099511627776 r\ndispatch 0\n",
             b"insert a 0 0\ninsert b 1 0\nwait 0\ncall b 5\ncall a 5\n",
         ),
         (
@@ -458,7 +464,7 @@ fn timeout_of(alloc: Global, line: &[u8]) -> Option<Option<u64>> {
 // Appends one of each thing that a run can say, with the least and the greatest numbers.
 fn said_all(out: &mut Vec<u8>) -> Result<(), AllocError> {
     append_insert(out, b"a0", 0, 0)?;
-    append_insert(out, b"b", u32::MAX, u16::MAX)?;
+    append_insert(out, b"b", 16_777_215, 16_777_215)?;
     append_wait(out, None)?;
     append_wait(out, Some(u64::MAX))?;
     append_call(out, b"a0")?;

@@ -15,7 +15,7 @@ pub struct EventIterator<'a> {
     at: usize,
     // The registration by its numbers: what holds a token isn't copied where it is handed on.
     slot: u32,
-    version: u16,
+    version: u32,
 }
 
 impl<'a> EventIterator<'a> {

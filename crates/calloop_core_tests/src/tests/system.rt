@@ -109,7 +109,7 @@ fn a_clock_of_the_machine_counts_from_its_making(rt: HostRuntime) {
     assert!(rt; first.saturating_add(20_000_000) <= then && then <= later && later < MINUTE);
 }
 
-const KEY: u64 = 4294967296;
+const KEY: u64 = 1099511627776;
 
 const OTHER_KEY: u64 = 65536;
 

@@ -181,10 +181,8 @@ fn both_events(alloc: Global) -> Option<ScriptEvents> {
         error: false,
     };
     let mut events = ScriptEvents::new(alloc);
-    for version in 0..2u16 {
-        let token = TokenFactory::new(RegistrationToken::new(0, version))
-            .token()
-            .ok()?;
+    for named in [RegistrationToken::new(0, 0), RegistrationToken::new(0, 1)] {
+        let token = TokenFactory::new(named).token().ok()?;
         events.push(token.key(), found).ok()?;
     }
     Some(events)

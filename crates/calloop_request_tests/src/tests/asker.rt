@@ -6,16 +6,17 @@ use calloop::{
     Requests, There, Ticket, TimeoutAction,
 };
 use calloop_test_sources::source::Counter;
+use calloop_wake::widths::{MOST_SLOTS, VERSIONS};
 
 /// The place of counters in the choice.
 pub type Third = There<There<Here>>;
 
 /// The slot and the version of a registration.
-pub type Named = (u32, u16);
+pub type Named = (u32, u32);
 
-/// The token of a registration.
+/// The token of a registration of these numbers, modulo how many there are.
 pub fn token_of(named: Named) -> RegistrationToken {
-    RegistrationToken::new(named.0, named.1)
+    RegistrationToken::new(named.0 % MOST_SLOTS as u32, named.1 % VERSIONS as u32)
 }
 
 /// A request that is to be written.

@@ -19,7 +19,7 @@ const READABLE: Readiness = Readiness {
 };
 
 /// What a request was answered with: a word, and the slot and version that were given.
-pub type Told = (&'static str, Option<(u32, u16)>);
+pub type Told = (&'static str, Option<Named>);
 
 /// What a test does, or looks for.
 #[derive(Clone, Copy)]

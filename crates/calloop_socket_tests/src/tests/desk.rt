@@ -15,6 +15,7 @@ use calloop_core::sys::script::{
 };
 use calloop_test_sources::source::{Teller, Waker};
 use calloop_test_sources::visitor::Visitor;
+use calloop_wake::widths::{MOST_SLOTS, VERSIONS};
 use std::alloc::Global;
 use std::io::ErrorKind;
 use std::sync::Wait;
@@ -25,7 +26,7 @@ pub const GOES_ON: Option<PostAction> = Some(PostAction::Continue);
 // The one key of the socket in the first slot, and in the second.
 pub const KEY: u64 = 0;
 
-pub const SECOND: u64 = 1 << 32;
+pub const SECOND: u64 = 1 << 40;
 
 /// What a test does at a desk, or looks for. A socket goes by its place among those that came into the loop, and a ping by its place among the pings.
 #[derive(Clone, Copy)]
@@ -63,9 +64,11 @@ pub enum Act<'a> {
     NotUpdated(usize, ErrorKind),
     NotDisabled(usize, ErrorKind),
     /// It came under this slot and version.
-    IsAt(usize, u32, u16),
+    IsAt(usize, u32, u32),
     Holds(usize),
     Remove(usize),
+    /// It is removed and another one comes in, which reads by level and goes on, so often. The last one goes by its place.
+    ComesAgain(usize, u32),
     /// It has another interest from its next registration on.
     SetInterest(usize, Interest),
     /// It is removed while the poller doesn't give it up, and hands itself back where it is unwrapped.
@@ -135,10 +138,11 @@ where
                 Some(true)
             }
             Act::IsAt(place, slot, version) => {
-                Some(self.token(place)? == RegistrationToken::new(slot, version))
+                Some(self.token(place)? == registration(slot, version))
             }
             Act::Holds(place) => self.holds(place),
             Act::Remove(place) => self.removes(place),
+            Act::ComesAgain(place, times) => self.comes_again(place, times),
             Act::SetInterest(place, interest) => self.interests(place, interest),
             Act::KeepsItsSocket(place) => self.keeps_its_socket(place),
             _ => self.calls(act),
@@ -292,6 +296,20 @@ where
         Some(self.table.event_loop.handle().remove(token).is_some())
     }
 
+    fn comes_again(&mut self, place: usize, times: u32) -> Option<bool> {
+        for _ in 0..times {
+            let is_removed = self.removes(place)?;
+            let Ok(token) = self.insert(Interest::READ, Mode::Level, GOES_ON) else {
+                return Some(false);
+            };
+            *self.tokens.get_mut(place)? = token;
+            if !is_removed {
+                return Some(false);
+            }
+        }
+        Some(true)
+    }
+
     fn interests(&mut self, place: usize, interest: Interest) -> Option<bool> {
         let token = self.token(place)?;
         match self.table.event_loop.handle().dispatcher_mut(&token) {
@@ -412,6 +430,11 @@ impl<R: Wait + Drop> Seen for Held<R> {
             _ => false,
         }
     }
+}
+
+// The registration of these numbers, modulo how many there are.
+fn registration(slot: u32, version: u32) -> RegistrationToken {
+    RegistrationToken::new(slot % MOST_SLOTS as u32, version % VERSIONS as u32)
 }
 
 fn are_waits(noted: &[Option<Duration>], waits: &[u64]) -> bool {

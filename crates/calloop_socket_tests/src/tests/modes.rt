@@ -93,6 +93,17 @@ const CASES: &[(&str, &[Act<'static>])] = &[
         ],
     ),
     (
+        "a_socket_that_came_65536_times_again_hears_nothing_of_its_first_key",
+        &[
+            Act::Socket(Interest::READ, Mode::Level, GOES_ON),
+            Act::ComesAgain(0, 65_535),
+            Act::Hears(KEY, &[]),
+            Act::ComesAgain(0, 1),
+            Act::Hears(KEY, &[]),
+            Act::IsAt(0, 0, 65_536),
+        ],
+    ),
+    (
         "an_event_of_another_token_calls_nothing",
         &[
             Act::Socket(Interest::READ, Mode::Level, GOES_ON),

@@ -12,6 +12,7 @@ use calloop_test_sources::attendant::Attendant;
 use calloop_test_sources::guarded::Guarded;
 use calloop_test_sources::source::{Counter, Listener, Teller, Waker};
 use calloop_test_sources::trio::{Announcer, Trio};
+use calloop_wake::widths::{MOST_SLOTS, VERSIONS};
 use std::alloc::Global;
 use std::collections::VecDeque;
 use std::io::ErrorKind;
@@ -89,7 +90,7 @@ pub enum Act<'a> {
     NotUpdated(usize, ErrorKind),
     NotDisabled(usize, ErrorKind),
     /// It came under this slot and version.
-    IsAt(usize, u32, u16),
+    IsAt(usize, u32, u32),
     /// Its token names nothing any more.
     IsGone(usize),
     /// It lends neither a source nor one that can be changed.
@@ -239,7 +240,7 @@ where
             Act::NotUpdated(place, kind) => Some(is_refused_as(&self.update(place)?, kind)),
             Act::NotDisabled(place, kind) => Some(is_refused_as(&self.disable(place)?, kind)),
             Act::IsAt(place, slot, version) => {
-                Some(self.token(place)? == RegistrationToken::new(slot, version))
+                Some(self.token(place)? == registration(slot, version))
             }
             Act::RemovesNone(place) => Some(!self.removes(place)?),
             _ => self.looks_for(act),
@@ -614,7 +615,12 @@ fn failing() -> Attendant {
 }
 
 fn first_use(slot: u32) -> RegistrationToken {
-    RegistrationToken::new(slot, 0)
+    registration(slot, 0)
+}
+
+// The registration of these numbers, modulo how many there are.
+fn registration(slot: u32, version: u32) -> RegistrationToken {
+    RegistrationToken::new(slot % MOST_SLOTS as u32, version % VERSIONS as u32)
 }
 
 fn loop_call<D>(alloc: Global, call: Call) -> Option<LoopCall<D, ScriptPoller, Vec<u32>>>

@@ -1,10 +1,10 @@
 //! Random calls, and plain lists that say what is to come of them.
 ghost use Rattle.std.specs.Prelude.{◌<◌};
 
-use super::{Desk, Ends, arm_again, at, claims, post};
+use super::{Desk, Ends, arm_again, at, claims, post, registration};
 use calloop_wake::list::SourceList;
 use calloop_wake::steps::Steps;
-use calloop_wake::token::{RegistrationToken, Token};
+use calloop_wake::token::Token;
 use calloop_wake::wheel::{Entry, TimerWheel};
 use std::alloc::{AllocError, Global};
 use std::process::Abort;
@@ -244,7 +244,7 @@ fn gives_the_first(wheel: &mut TimerWheel, armed: &mut Vec<(u64, u64)>, now: u64
 // A slot of the list that is searched.
 #[derive(Clone, Copy, Drop)]
 struct PlainSlot {
-    version: u16,
+    version: u32,
     vacant: bool,
 }
 
@@ -263,7 +263,7 @@ fn claims_the_first(list: &mut SourceList<u8>, slots: &mut Vec<PlainSlot>) -> bo
         }
     }
     match u32::try_from(place) {
-        Ok(place) => claims(list, RegistrationToken::new(place, version)),
+        Ok(place) => claims(list, registration(place, version)),
         Err(_) => false,
     }
 }
@@ -282,6 +282,6 @@ fn claims_or_vacates(
         return false;
     };
     slot.vacant = true;
-    list.vacate(RegistrationToken::new(place as u32, slot.version));
+    list.vacate(registration(place as u32, slot.version));
     true
 }
