@@ -13,7 +13,7 @@ use Rattle.calloop_core.specs.declared.sys.poll.Pending.{Pending}
 use Rattle.calloop_core.specs.declared.sources.PostAction.{PostAction}
 use Rattle.calloop_core.specs.declared.sources.PostAction.TheVariants.{Continue, Reregister, Disable as DisableIt, Remove}
 use Rattle.calloop_core.specs.Pollers.{Outside}
-use Rattle.calloop_core.specs.Polls.{PollStep}
+use Rattle.calloop_core.specs.Polls.{PollStep, own_event}
 use Rattle.calloop.specs.declared.loop_logic.LoopCall.{LoopCall}
 use Rattle.calloop.specs.declared.loop_logic.LoopCall.TheVariants.{Insert, Enable, Update, Disable, Remove as RemoveCall, Release, Exchange, Dispatch, InsertIdle, Cancel, Answer as AnswerOf, ForgetStop, LookForStop, Poller as NewPoller}
 use Rattle.calloop.specs.declared.loop_logic.LoopAnswer.{LoopAnswer}
@@ -25,10 +25,10 @@ use Rattle.calloop.specs.declared.loop_logic.asks.Idling.{Idling as Waiter}
 use Rattle.calloop.specs.declared.loop_logic.asks.Request.{Request}
 use Rattle.calloop.specs.declared.loop_logic.asks.Request.TheVariants.{Insert as AskInsert, Enable as AskEnable, Update as AskUpdate, Disable as AskDisable, Remove as AskRemove, Idle as AskIdle, Cancel as AskCancel}
 use Rattle.calloop.specs.Askings.{Asks, Runs, begun_from}
-use Rattle.calloop.specs.Machine.{World, View, IsNew, Change, Holds, seen, slot_of, done, all_done}
+use Rattle.calloop.specs.Machine.{World, View, IsNew, Change, Holds, seen, slot_of, done, all_done, Appended}
 use Rattle.calloop.proofs.Roles.{left_removed}
 use Rattle.calloop.specs.Roles.{only, is_callers, is_adapter}
-use Rattle.calloop.specs.Rules.{Doing, Beginning, Settling, Sleeping, Waiting, Gathering, Noticing, Cutting, Serving, Ending, Returning, Idling, RunningIdles, ServingIdle, Leaving, Outcome, Step, Steps, SleptAs, SleptBy, NoticedBy, told_in, CutTo, CutFrom, ActedBy, ReturnedTo, emptied, Case, Run, InsertedBy, AskedIn, SettledIn, TakesUp, as_listed, RemovedIn, EnabledBy, UpdatedBy, DisabledBy, RemovedBy, ReleasedBy, ExchangedIn, ExchangedBy, IdleInsertedBy, OwnOr, Served, ServedAs, ServedFrom, RunFrom, action_of, Once, all_traced}
+use Rattle.calloop.specs.Rules.{Doing, Beginning, Settling, Sleeping, Waiting, Gathering, Noticing, Cutting, Serving, Ending, Returning, Idling, RunningIdles, ServingIdle, Leaving, Outcome, Step, Steps, SleptAs, SleptBy, NoticedBy, told_in, CutTo, CutFrom, ActedBy, ReturnedTo, emptied, Case, Run, InsertedBy, AskedIn, SettledIn, TakesUp, as_listed, RemovedIn, EnabledBy, UpdatedBy, DisabledBy, RemovedBy, ReleasedBy, ExchangedIn, ExchangedBy, IdleInsertedBy, OwnOr, Served, ServedAs, ServedFrom, RunFrom, action_of, Once, all_traced, appends}
 use Rattle.calloop.specs.Held.{HeldStep, Begun, Pend}
 use Rattle.calloop.specs.Laws.{AllBring, joined, changes_of}
 use Rattle.calloop.specs.Freshness.{AreOnly, IsOnly, AsksOnly, RunsOnly, CallBrings, AllCallsBring}
@@ -86,15 +86,18 @@ module _ {D I P X : Type 0} (C : D → Type 0) (S : D → D → Type 0) (M : Mea
   returned_fresh w token d Vacant cs h k = rw h.5 ((tt, (tt, (tt, (tt, tt)))), k)
   returned_fresh w token d (Source f) cs h k = rw h.5 ((tt, (tt, (tt, (tt, tt)))), k)
 
-  slept_as : (w : World D I P) (timeout : Option ℕ) (later : List RegistrationToken) (answer : Result (Option (Readiness × Token)) Error) (x : X) (cs : List (Change D I P)) (b : Doing D X) → SleptAs timeout later answer x cs b → Asked' w → Fresh w cs
-  slept_as w timeout later (Ok None) x cs b h k = rw h.0 (tt, k)
-  slept_as w timeout later (Ok (Some given)) x cs b h k = rw h.0 ((tt, tt), k)
-  slept_as w timeout later (Err e) x cs b h k = rw h.0 (tt, k)
+  appends_fresh : (given : List (Readiness × Token)) (w : World D I P) → Asked' w → Fresh w (appends given)
+  appends_fresh [] w k = (tt, k)
+  appends_fresh (e ∷ es) w k = (let r = appends_fresh es (done w (Appended (own_event e))) k in ((tt, r.0), r.1))
+
+  slept_as : (w : World D I P) (timeout : Option ℕ) (later : List RegistrationToken) (given : List (Readiness × Token)) (answer : Result (Unit {0}) Error) (x : X) (cs : List (Change D I P)) (b : Doing D X) → SleptAs timeout later given answer x cs b → Asked' w → Fresh w cs
+  slept_as w timeout later given (Ok u) x cs b h k = rw h.0 (appends_fresh given w k)
+  slept_as w timeout later given (Err e) x cs b h k = rw h.0 (tt, k)
 
   slept_fresh : (w : World D I P) (timeout : Option ℕ) (token : RegistrationToken) (later : List RegistrationToken) (x : X) (cs : List (Change D I P)) (b : Doing D X) (c : Content D) → SleptBy M timeout token later c (seen w) x cs b → Asked' w → Fresh w cs
   slept_fresh w timeout token later x cs b Vacant h k = rw h.0 (tt, k)
   slept_fresh w timeout token later x cs b InTurn h k = rw h.0 (tt, k)
-  slept_fresh w timeout token later x cs b (Source d) h k = rw h.5 (let g = slept_as (all_done w (told_in token h.0)) timeout later h.1 x h.2 b h.4 k in ((tt, (tt, (tt, g.0))), g.1))
+  slept_fresh w timeout token later x cs b (Source d) h k = rw h.6 (let g = slept_as (all_done w (told_in token h.0)) timeout later h.1 h.2 x h.3 b h.5 k in ((tt, (tt, (tt, g.0))), g.1))
 
   noticed_fresh : (w : World D I P) (from : ℕ) (token : RegistrationToken) (later : List RegistrationToken) (x : X) (cs : List (Change D I P)) (b : Doing D X) (c : Content D) → NoticedBy M from token later c (seen w) x cs b → Asked' w → Fresh w cs
   noticed_fresh w from token later x cs b Vacant h k = rw h.0 (tt, k)

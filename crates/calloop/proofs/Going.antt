@@ -1,5 +1,5 @@
 -- Steps of a dispatch, one after the other.
-use Rattle.std.proofs.Common.{◌≡◌, ℕ, ◌+◌, length, drop, arith, List, [], ◌∷◌, ◌++◌, refl, ap, sym, ◌∙◌, subst, Some, None, Option, Result, Ok, Err, inl, inr, Bool, true, false, if◌then◌else◌}
+use Rattle.std.proofs.Common.{◌≡◌, ℕ, ◌+◌, length, drop, arith, List, [], ◌∷◌, ◌++◌, refl, ap, sym, ◌∙◌, subst, Some, None, Option, Result, Ok, Err, inl, inr, Bool, true, false, if◌then◌else◌, append_assoc, append-nil}
 use Rattle.std.specs.declared.io.Error.{Error as Cause}
 use Rattle.calloop_wake.specs.declared.error.Error.{Error}
 use Rattle.calloop_wake.specs.declared.error.Error.TheVariants.{IoError, OutOfMemory}
@@ -18,7 +18,7 @@ use Rattle.calloop_core.specs.declared.sys.Readiness.{Readiness}
 use Rattle.calloop_core.specs.Pollers.{Outside}
 use Rattle.calloop_core.specs.Waits.{Polled}
 use Rattle.calloop_core.specs.Events.{events_of}
-use Rattle.calloop_core.specs.Polls.{PollView, PollStep, polling, watching, counted, with_pass, cut, cut_from, begun, tail_of, head_of, poll_after, polls_after, TakePass, PutBack, Arm, ArmAgain, Cancel, Call, ReadClock, Socket, Fault}
+use Rattle.calloop_core.specs.Polls.{PollView, PollStep, polling, watching, counted, with_pass, cut, cut_from, begun, tail_of, head_of, poll_after, polls_after, TakePass, PutBack, Arm, ArmAgain, Cancel, Call, ReadClock, Socket, Fault, own_event, own_events, joining}
 use Rattle.calloop_core.specs.Deeds.{Turned, Unregistered, Slept, Noticed, Lent, lent}
 use Rattle.calloop_core.specs.Meanings.{Meaning, Does}
 use Rattle.calloop.specs.declared.loop_logic.asks.Answer.TheVariants.{Removed as RemovedAnswer}
@@ -26,9 +26,9 @@ use Rattle.calloop.specs.declared.loop_logic.asks.Asked.{Asked}
 use Rattle.calloop.specs.declared.loop_logic.asks.Idling.{Idling as Waiter}
 use Rattle.calloop.specs.Held.{HeldStep, Unlisted, Pend, Asking, Paid, Cleared, Warned, warned, IdlesTaken, IdleBegun, held_after}
 use Rattle.calloop.specs.Askings.{Asks, AskStep, Runs, Reaches, asks_after, cleared, idle_begun, running_of}
-use Rattle.calloop.specs.Machine.{View, Change, Put, Polls, Polling, Watching, Counting, Holds, Gathered, Cut, Ended, all_viewed, AllFit, IsFull}
+use Rattle.calloop.specs.Machine.{View, Change, Put, Polls, Polling, Watching, Counting, Holds, Gathered, Cut, Ended, all_viewed, AllFit, IsFull, Appended, viewed}
 use Rattle.calloop_core.specs.SlotOrder.{IsInSlotOrder}
-use Rattle.calloop.specs.Rules.{Goes, Steps, Step, Doing, Beginning, Settling, Sleeping, Waiting, Gathering, Noticing, Cutting, Serving, Ending, Returning, Idling, RunningIdles, ServingIdle, Leaving, Outcome, ByOne, left, traced, told_in, SleptAs, SleptBy, NoticedBy, ActedBy, ReturnedTo, emptied, after_turn as after, CutTo, CutFrom, ServedFrom, RunFrom, action_of, DispatchedBy, Did}
+use Rattle.calloop.specs.Rules.{Goes, Steps, Step, Doing, Beginning, Settling, Sleeping, Waiting, Gathering, Noticing, Cutting, Serving, Ending, Returning, Idling, RunningIdles, ServingIdle, Leaving, Outcome, ByOne, left, traced, told_in, SleptAs, SleptBy, NoticedBy, ActedBy, ReturnedTo, emptied, after_turn as after, CutTo, CutFrom, ServedFrom, RunFrom, action_of, DispatchedBy, Did, appends}
 use Rattle.calloop.specs.Serving.{FirstServed, AllServed}
 
 traced-append : {D I P : Type 0} (v : View D I P) (css dss : List (List (Change D I P))) → traced v (css ++ dss) ≡ traced (traced v css) dss
@@ -307,11 +307,35 @@ module _ {D I P X : Type 0} (M : Meaning D P (Lent X (Asks D I))) (runs : Runs D
   not_slept timeout token later v x none =
       goes_by (Sleeping timeout (token ∷ later) x) (Sleeping timeout later x) [] v v (none_slept timeout token later (named v.slots token) v x none) tt refl
 
-  pub slept : (timeout : Option ℕ) (token : RegistrationToken) (later : List RegistrationToken) (v : View D I P) (x : X) (d e : D) (answer : Result (Option (Readiness × Token)) Error) (joined : List (Change D I P)) (b : Doing D X)
-      → named v.slots token ≡ Source d → M.does d v.poll (Slept answer) [] e → SleptAs timeout later answer x joined b → ((u : View D I P) → AllFit O u joined)
+  slept : (timeout : Option ℕ) (token : RegistrationToken) (later : List RegistrationToken) (v : View D I P) (x : X) (d e : D) (given : List (Readiness × Token)) (answer : Result (Unit {0}) Error) (joined : List (Change D I P)) (b : Doing D X)
+      → named v.slots token ≡ Source d → M.does d v.poll (Slept given answer) [] e → SleptAs timeout later given answer x joined b → ((u : View D I P) → AllFit O u joined)
       → Goes M runs O (Sleeping timeout (token ∷ later) x) b v (all_viewed (told token e v) joined)
-  slept timeout token later v x d e answer joined b is does joins fit =
-      told_by (Sleeping timeout (token ∷ later) x) b token v d e joined is (rw is (e, answer, joined, does, joins, refl)) fit
+  slept timeout token later v x d e given answer joined b is does joins fit =
+      told_by (Sleeping timeout (token ∷ later) x) b token v d e joined is (rw is (e, given, answer, joined, does, joins, refl)) fit
+
+  -- what it asks for joins the batch
+  appends_fit : (given : List (Readiness × Token)) (u : View D I P) → AllFit O u (appends given)
+  appends_fit [] u = tt
+  appends_fit (e ∷ es) u = (refl, appends_fit es (viewed u (Appended (own_event e))))
+
+  appends_viewed : (given : List (Readiness × Token)) (u : View D I P) → record u { poll = joining given u.poll } ≡ all_viewed u (appends given)
+  appends_viewed [] u = ap (λ (es : List Pending). record u { poll = record u.poll { batch = es } }) (append-nil u.poll.batch)
+  appends_viewed (e ∷ es) u =
+      ap (λ (all : List Pending). record u { poll = record u.poll { batch = all } }) (sym (append_assoc u.poll.batch (own_event e ∷ []) (own_events es)))
+      ∙ appends_viewed es (viewed u (Appended (own_event e)))
+
+  pub slept_well : (timeout : Option ℕ) (token : RegistrationToken) (later : List RegistrationToken) (v : View D I P) (x : X) (d e : D) (given : List (Readiness × Token))
+      → named v.slots token ≡ Source d → M.does d v.poll (Slept given (Ok tt)) [] e
+      → Goes M runs O (Sleeping timeout (token ∷ later) x) (Sleeping timeout later x) v (record (told token e v) { poll = joining given v.poll })
+  slept_well timeout token later v x d e given is does =
+      subst (λ (u : View D I P). Goes M runs O (Sleeping timeout (token ∷ later) x) (Sleeping timeout later x) v u) (sym (appends_viewed given (told token e v)))
+      (slept timeout token later v x d e given (Ok tt) (appends given) (Sleeping timeout later x) is does (refl, refl) (appends_fit given))
+
+  pub slept_badly : (timeout : Option ℕ) (token : RegistrationToken) (later : List RegistrationToken) (v : View D I P) (x : X) (d e : D) (given : List (Readiness × Token)) (error : Error)
+      → named v.slots token ≡ Source d → M.does d v.poll (Slept given (Err error)) [] e
+      → Goes M runs O (Sleeping timeout (token ∷ later) x) (Leaving (Err error) x) v (told token e v)
+  slept_badly timeout token later v x d e given error is does =
+      slept timeout token later v x d e given (Err error) [] (Leaving (Err error) x) is does (refl, refl) (λ u. tt)
 
   none_noticed : (from : ℕ) (token : RegistrationToken) (later : List RegistrationToken) (c : Content D) (v : View D I P) (x : X) → None ≡ source_of c → NoticedBy M from token later c v x [] (Noticing from later x)
   none_noticed from token later Vacant v x h = (refl, refl)

@@ -22,7 +22,7 @@ use Rattle.calloop_core.specs.declared.sys.poll.Pending.{Pending}
 use Rattle.calloop_core.specs.declared.sources.PostAction.{PostAction}
 use Rattle.calloop_core.specs.declared.sources.PostAction.TheVariants.{Continue, Reregister, Disable as DisableIt, Remove}
 use Rattle.calloop_core.specs.Pollers.{Outside, nanos_of}
-use Rattle.calloop_core.specs.Polls.{PollView, PollStep, cut}
+use Rattle.calloop_core.specs.Polls.{PollView, PollStep, cut, own_event}
 use Rattle.calloop_core.specs.Keys.{IsFactoryOf}
 use Rattle.calloop_core.specs.Deeds.{Registered, Reregistered, Unregistered, Turned, Slept, Lent, lent}
 use Rattle.calloop_core.specs.Meanings.{Meaning, IsAtHome, BeginsIn, KeepsHome}
@@ -36,10 +36,10 @@ use Rattle.calloop.specs.declared.loop_logic.asks.Idling.{Idling as Waiter}
 use Rattle.calloop.specs.declared.loop_logic.asks.Request.{Request}
 use Rattle.calloop.specs.declared.loop_logic.asks.Request.TheVariants.{Insert as AskInsert, Enable as AskEnable, Update as AskUpdate, Disable as AskDisable, Remove as AskRemove, Idle as AskIdle, Cancel as AskCancel}
 use Rattle.calloop.specs.Askings.{Asks, Runs, asks_after}
-use Rattle.calloop.specs.Machine.{World, View, IsNew, Change, Holds, all_viewed, seen, slot_of, viewed}
+use Rattle.calloop.specs.Machine.{World, View, IsNew, Change, Holds, all_viewed, seen, slot_of, viewed, Appended}
 use Rattle.calloop.specs.Roles.{only, is_callers, is_adapter}
 use Rattle.calloop.proofs.Roles.{Shows, only_is, left_removed}
-use Rattle.calloop.specs.Rules.{Doing, Beginning, Settling, Sleeping, Waiting, Gathering, Noticing, Cutting, Serving, Ending, Returning, Idling, RunningIdles, ServingIdle, Leaving, Step, Steps, SleptAs, SleptBy, NoticedBy, told_in, CutTo, CutFrom, ActedBy, ReturnedTo, emptied, after_turn, after_wait, Outcome, RegisteredBy, Case, Once, Run, InsertedBy, AskedIn, SettledIn, TakesUp, as_listed, EnabledBy, UpdatedBy, DisabledBy, RemovedIn, RemovedBy, ReleasedBy, ExchangedIn, ExchangedBy, IdleInsertedBy, OwnOr, Served, ServedAs, ServedFrom, RunFrom, action_of, factory_of, traced, all_traced}
+use Rattle.calloop.specs.Rules.{Doing, Beginning, Settling, Sleeping, Waiting, Gathering, Noticing, Cutting, Serving, Ending, Returning, Idling, RunningIdles, ServingIdle, Leaving, Step, Steps, SleptAs, SleptBy, NoticedBy, told_in, CutTo, CutFrom, ActedBy, ReturnedTo, emptied, after_turn, after_wait, Outcome, RegisteredBy, Case, Once, Run, InsertedBy, AskedIn, SettledIn, TakesUp, as_listed, EnabledBy, UpdatedBy, DisabledBy, RemovedIn, RemovedBy, ReleasedBy, ExchangedIn, ExchangedBy, IdleInsertedBy, OwnOr, Served, ServedAs, ServedFrom, RunFrom, action_of, factory_of, traced, all_traced, appends}
 use Rattle.calloop.specs.Homes.{AllAtHome}
 use Rattle.calloop.specs.Laws.{HasNoMoreKeys, AllBringNoKey, joined, changes_of}
 use Rattle.calloop.proofs.Seen.{seen-all_traced, viewed-append}
@@ -148,17 +148,20 @@ module _ {D I P X : Type 0} (M : Meaning D P (Lent X (Asks D I))) (runs : Runs D
   anew_home token v d e answer l (inl h) home = rw h.3 home
   anew_home token v d e answer l (inr h) home = (law token d e v (Reregistered (factory_of token) answer h.0) l (home, own_factory token) h.1).0
 
-  slept_as : (v : View D I P) (timeout : Option ℕ) (later : List RegistrationToken) (answer : Result (Option (Readiness × Token)) Error) (x : X) (cs : List (Change D I P)) (b : Doing D X) → SleptAs timeout later answer x cs b → Homely v.slots → Homely (all_viewed v cs).slots × AsideHomely b
-  slept_as v timeout later (Ok None) x cs b h k = rw (h.0, h.1) (k, tt)
-  slept_as v timeout later (Ok (Some given)) x cs b h k = rw (h.0, h.1) (k, tt)
-  slept_as v timeout later (Err e) x cs b h k = rw (h.0, h.1) (k, tt)
+  appends_homely : (given : List (Readiness × Token)) (v : View D I P) → Homely v.slots → Homely (all_viewed v (appends given)).slots
+  appends_homely [] v k = k
+  appends_homely (e ∷ es) v k = appends_homely es (viewed v (Appended (own_event e))) k
+
+  slept_as : (v : View D I P) (timeout : Option ℕ) (later : List RegistrationToken) (given : List (Readiness × Token)) (answer : Result (Unit {0}) Error) (x : X) (cs : List (Change D I P)) (b : Doing D X) → SleptAs timeout later given answer x cs b → Homely v.slots → Homely (all_viewed v cs).slots × AsideHomely b
+  slept_as v timeout later given (Ok u) x cs b h k = rw (h.0, h.1) (appends_homely given v k, tt)
+  slept_as v timeout later given (Err e) x cs b h k = rw (h.0, h.1) (k, tt)
 
   slept_homely : (v : View D I P) (timeout : Option ℕ) (token : RegistrationToken) (later : List RegistrationToken) (x : X) (cs : List (Change D I P)) (b : Doing D X) (c : Content D) → named v.slots token ≡ c → SleptBy M timeout token later c v x cs b → Homely v.slots → Homely (all_viewed v cs).slots × AsideHomely b
   slept_homely v timeout token later x cs b Vacant is h k = rw (h.0, h.1) (k, tt)
   slept_homely v timeout token later x cs b InTurn is h k = rw (h.0, h.1) (k, tt)
   slept_homely v timeout token later x cs b (Source d) is h k =
-      let home = (law token d h.0 v.poll (Slept h.1) [] (home_named v.slots token d is k) h.3).0 in
-      rw h.5 (slept_as (all_viewed v (told_in token h.0)) timeout later h.1 x h.2 b h.4 (homely_again v.slots token d h.0 is home k))
+      let home = (law token d h.0 v.poll (Slept h.1 h.2) [] (home_named v.slots token d is k) h.4).0 in
+      rw h.6 (slept_as (all_viewed v (told_in token h.0)) timeout later h.1 h.2 x h.3 b h.5 (homely_again v.slots token d h.0 is home k))
 
   noticed_homely : (v : View D I P) (from : ℕ) (token : RegistrationToken) (later : List RegistrationToken) (x : X) (cs : List (Change D I P)) (b : Doing D X) (c : Content D) → named v.slots token ≡ c → NoticedBy M from token later c v x cs b → Homely v.slots → Homely (all_viewed v cs).slots × AsideHomely b
   noticed_homely v from token later x cs b Vacant is h k = rw (h.0, h.1) (k, tt)

@@ -27,3 +27,4 @@ pub mod Freshness
 pub mod Registered
 pub mod Blocking
 pub mod Adapting
+pub mod Limits

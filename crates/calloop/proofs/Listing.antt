@@ -20,7 +20,7 @@ use Rattle.calloop_core.specs.declared.sys.poll.Pending.{Pending}
 use Rattle.calloop_core.specs.declared.sources.PostAction.{PostAction}
 use Rattle.calloop_core.specs.declared.sources.PostAction.TheVariants.{Continue, Reregister, Disable as DisableIt, Remove}
 use Rattle.calloop_core.specs.Pollers.{Outside, nanos_of}
-use Rattle.calloop_core.specs.Polls.{PollStep}
+use Rattle.calloop_core.specs.Polls.{PollStep, own_event}
 use Rattle.calloop_core.specs.Deeds.{Lent}
 use Rattle.calloop_core.specs.Meanings.{Meaning}
 use Rattle.calloop.specs.declared.loop_logic.LoopCall.{LoopCall}
@@ -34,10 +34,10 @@ use Rattle.calloop.specs.declared.loop_logic.asks.Idling.{Idling as Waiter}
 use Rattle.calloop.specs.declared.loop_logic.asks.Request.{Request}
 use Rattle.calloop.specs.declared.loop_logic.asks.Request.TheVariants.{Insert as AskInsert, Enable as AskEnable, Update as AskUpdate, Disable as AskDisable, Remove as AskRemove, Idle as AskIdle, Cancel as AskCancel}
 use Rattle.calloop.specs.Askings.{Asks, Runs}
-use Rattle.calloop.specs.Machine.{World, View, Change, Holds, IsNew, seen, viewed, all_viewed}
+use Rattle.calloop.specs.Machine.{World, View, Change, Holds, IsNew, seen, viewed, all_viewed, Appended}
 use Rattle.calloop.specs.Roles.{only, is_callers, is_adapter}
 use Rattle.calloop.proofs.Roles.{Shows, only_is, left_removed}
-use Rattle.calloop.specs.Rules.{Doing, Beginning, Settling, Sleeping, Waiting, Gathering, Noticing, Cutting, Serving, Ending, Returning, Idling, RunningIdles, ServingIdle, Leaving, Outcome, Step, Steps, SleptAs, SleptBy, NoticedBy, told_in, CutTo, CutFrom, ActedBy, ReturnedTo, emptied, entered, left, after_turn, after_wait, Case, Once, Run, InsertedBy, AskedIn, SettledIn, TakesUp, as_listed, EnabledBy, UpdatedBy, DisabledBy, RemovedIn, RemovedBy, ReleasedBy, ExchangedIn, ExchangedBy, IdleInsertedBy, OwnOr, Served, ServedAs, ServedFrom, RunFrom, action_of, traced, all_traced}
+use Rattle.calloop.specs.Rules.{Doing, Beginning, Settling, Sleeping, Waiting, Gathering, Noticing, Cutting, Serving, Ending, Returning, Idling, RunningIdles, ServingIdle, Leaving, Outcome, Step, Steps, SleptAs, SleptBy, NoticedBy, told_in, CutTo, CutFrom, ActedBy, ReturnedTo, emptied, entered, left, after_turn, after_wait, Case, Once, Run, InsertedBy, AskedIn, SettledIn, TakesUp, as_listed, EnabledBy, UpdatedBy, DisabledBy, RemovedIn, RemovedBy, ReleasedBy, ExchangedIn, ExchangedBy, IdleInsertedBy, OwnOr, Served, ServedAs, ServedFrom, RunFrom, action_of, traced, all_traced, appends}
 use Rattle.calloop.specs.Laws.{AllOnce, IsTold}
 use Rattle.calloop.proofs.Seen.{seen-all_traced, viewed-append}
 
@@ -238,15 +238,18 @@ module _ {D I P X : Type 0} (M : Meaning D P (Lent X (Asks D I))) (runs : Runs D
       → Tidy nobody (all_viewed v (told_in token e)).slots v.held.lifecycle
   told_kept v token d e is k = tidy_put nobody (Source e) (changed (with_content InTurn) v.slots token.slot) token.slot v.held.lifecycle refl (tidy_put nobody InTurn v.slots token.slot v.held.lifecycle refl k)
 
-  slept_as : (v : View D I P) (timeout : Option ℕ) (later : List RegistrationToken) (answer : Result (Option (Readiness × Token)) Error) (x : X) (cs : List (Change D I P)) (b : Doing D X) → SleptAs timeout later answer x cs b → Tidy nobody v.slots v.held.lifecycle → Kept b (all_viewed v cs)
-  slept_as v timeout later (Ok None) x cs b h k = rw (h.0, h.1) k
-  slept_as v timeout later (Ok (Some given)) x cs b h k = rw (h.0, h.1) k
-  slept_as v timeout later (Err e) x cs b h k = rw (h.0, h.1) k
+  appends_kept : (given : List (Readiness × Token)) (v : View D I P) → Tidy nobody v.slots v.held.lifecycle → Tidy nobody (all_viewed v (appends given)).slots (all_viewed v (appends given)).held.lifecycle
+  appends_kept [] v k = k
+  appends_kept (e ∷ es) v k = appends_kept es (viewed v (Appended (own_event e))) k
+
+  slept_as : (v : View D I P) (timeout : Option ℕ) (later : List RegistrationToken) (given : List (Readiness × Token)) (answer : Result (Unit {0}) Error) (x : X) (cs : List (Change D I P)) (b : Doing D X) → SleptAs timeout later given answer x cs b → Tidy nobody v.slots v.held.lifecycle → Kept b (all_viewed v cs)
+  slept_as v timeout later given (Ok u) x cs b h k = rw (h.0, h.1) (appends_kept given v k)
+  slept_as v timeout later given (Err e) x cs b h k = rw (h.0, h.1) k
 
   slept_kept : (v : View D I P) (timeout : Option ℕ) (token : RegistrationToken) (later : List RegistrationToken) (x : X) (cs : List (Change D I P)) (b : Doing D X) (c : Content D) → named v.slots token ≡ c → SleptBy M timeout token later c v x cs b → Tidy nobody v.slots v.held.lifecycle → Kept b (all_viewed v cs)
   slept_kept v timeout token later x cs b Vacant is h k = rw (h.0, h.1) k
   slept_kept v timeout token later x cs b InTurn is h k = rw (h.0, h.1) k
-  slept_kept v timeout token later x cs b (Source d) is h k = rw h.5 (slept_as (all_viewed v (told_in token h.0)) timeout later h.1 x h.2 b h.4 (told_kept v token d h.0 is k))
+  slept_kept v timeout token later x cs b (Source d) is h k = rw h.6 (slept_as (all_viewed v (told_in token h.0)) timeout later h.1 h.2 x h.3 b h.5 (told_kept v token d h.0 is k))
 
   noticed_kept : (v : View D I P) (from : ℕ) (token : RegistrationToken) (later : List RegistrationToken) (x : X) (cs : List (Change D I P)) (b : Doing D X) (c : Content D) → named v.slots token ≡ c → NoticedBy M from token later c v x cs b → Tidy nobody v.slots v.held.lifecycle → Kept b (all_viewed v cs)
   noticed_kept v from token later x cs b Vacant is h k = rw (h.0, h.1) k

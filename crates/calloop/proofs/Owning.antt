@@ -19,7 +19,7 @@ use Rattle.calloop_core.specs.declared.sys.poll.Pending.{Pending}
 use Rattle.calloop_core.specs.declared.sources.PostAction.{PostAction}
 use Rattle.calloop_core.specs.declared.sources.PostAction.TheVariants.{Continue, Reregister, Disable as DisableIt, Remove}
 use Rattle.calloop_core.specs.Pollers.{Outside, nanos_of}
-use Rattle.calloop_core.specs.Polls.{PollView, PollStep, AllAllowed, cut}
+use Rattle.calloop_core.specs.Polls.{PollView, PollStep, AllAllowed, cut, own_event}
 use Rattle.calloop_core.specs.Holdings.{Holding, Free, Spent, Standing, Keeps, IsBelow, IsWithin}
 use Rattle.calloop_core.specs.Deeds.{Deed, Registered, Reregistered, Unregistered, Turned, Slept, Noticed, Lent, lent}
 use Rattle.calloop_core.specs.Meanings.{Meaning, KeepsCounters}
@@ -39,7 +39,7 @@ use Rattle.calloop.specs.declared.loop_logic.stops.StopNote.TheVariants.{Forgot,
 use Rattle.calloop.specs.Held.{HeldStep, Listed, Unlisted, Pend, Asking, Begun, Told, Owe, Paid, Cleared, Warned, StopNoted, IdleIn, IdleNew, IdleOut, IdlesTaken, IdleBegun}
 use Rattle.calloop.specs.Roles.{only, is_callers, is_adapter}
 use Rattle.calloop.proofs.Roles.{Shows, only_is, left_removed}
-use Rattle.calloop.specs.Rules.{Doing, Beginning, Settling, Sleeping, Waiting, Gathering, Noticing, Cutting, Serving, Ending, Returning, Idling, RunningIdles, ServingIdle, Leaving, Step, Steps, SleptAs, SleptBy, NoticedBy, told_in, CutTo, CutFrom, ActedBy, ReturnedTo, emptied, entered, after_turn, after_wait, Outcome, RegisteredBy, Case, Once, Run, InsertedBy, AskedIn, SettledIn, TakesUp, as_listed, EnabledBy, UpdatedBy, DisabledBy, RemovedIn, RemovedBy, ReleasedBy, ExchangedIn, ExchangedBy, IdleInsertedBy, OwnOr, Served, ServedAs, ServedFrom, RunFrom, action_of, factory_of, all_traced}
+use Rattle.calloop.specs.Rules.{Doing, Beginning, Settling, Sleeping, Waiting, Gathering, Noticing, Cutting, Serving, Ending, Returning, Idling, RunningIdles, ServingIdle, Leaving, Step, Steps, SleptAs, SleptBy, NoticedBy, told_in, CutTo, CutFrom, ActedBy, ReturnedTo, emptied, entered, after_turn, after_wait, Outcome, RegisteredBy, Case, Once, Run, InsertedBy, AskedIn, SettledIn, TakesUp, as_listed, EnabledBy, UpdatedBy, DisabledBy, RemovedIn, RemovedBy, ReleasedBy, ExchangedIn, ExchangedBy, IdleInsertedBy, OwnOr, Served, ServedAs, ServedFrom, RunFrom, action_of, factory_of, all_traced, appends}
 use Rattle.calloop.specs.Ledgers.{Ledger}
 use Rattle.calloop.specs.Laws.{HoldsNone, HoldsNoMore, AllFresh, joined, changes_of}
 use Rattle.calloop.proofs.Seen.{seen-all_done, done-append}
@@ -314,16 +314,19 @@ module _ {D I P X : Type 0} (M : Meaning D P (Lent X (Asks D I))) (runs : Runs D
       owned_back M O law (done out (Polls [])) [] token.slot e
       (owned_polls M O law out [] d e [] tt (λ fits below. law d e w.poll deed [] fits below does) (owned_out M O law w [] token.slot d (at_named w.slots token d is) k))
 
-  slept_as : (w : World D I P) (timeout : Option ℕ) (later : List RegistrationToken) (answer : Result (Option (Readiness × Token)) Error) (x : X) (cs : List (Change D I P)) (b : Doing D X) → SleptAs timeout later answer x cs b → IsOwned M w [] → IsOwned M (all_done w cs) (aside_of b)
-  slept_as w timeout later (Ok None) x cs b h k = rw (h.0, h.1) k
-  slept_as w timeout later (Ok (Some given)) x cs b h k = rw (h.0, h.1) (owned_appended M O law w [] _ k)
-  slept_as w timeout later (Err e) x cs b h k = rw (h.0, h.1) k
+  appends_owned : (given : List (Readiness × Token)) (w : World D I P) → IsOwned M w [] → IsOwned M (all_done w (appends given)) []
+  appends_owned [] w k = k
+  appends_owned (e ∷ es) w k = appends_owned es (done w (Appended (own_event e))) (owned_appended M O law w [] (own_event e) k)
+
+  slept_as : (w : World D I P) (timeout : Option ℕ) (later : List RegistrationToken) (given : List (Readiness × Token)) (answer : Result (Unit {0}) Error) (x : X) (cs : List (Change D I P)) (b : Doing D X) → SleptAs timeout later given answer x cs b → IsOwned M w [] → IsOwned M (all_done w cs) (aside_of b)
+  slept_as w timeout later given (Ok u) x cs b h k = rw (h.0, h.1) (appends_owned given w k)
+  slept_as w timeout later given (Err e) x cs b h k = rw (h.0, h.1) k
 
   slept_owned : (w : World D I P) (timeout : Option ℕ) (token : RegistrationToken) (later : List RegistrationToken) (x : X) (cs : List (Change D I P)) (b : Doing D X) (c : Content D) → named (map slot_of w.slots) token ≡ c → SleptBy M timeout token later c (seen w) x cs b → IsOwned M w [] → IsOwned M (all_done w cs) (aside_of b)
   slept_owned w timeout token later x cs b Vacant is h k = rw (h.0, h.1) k
   slept_owned w timeout token later x cs b InTurn is h k = rw (h.0, h.1) k
   slept_owned w timeout token later x cs b (Source d) is h k =
-      rw h.5 (slept_as (all_done w (told_in token h.0)) timeout later h.1 x h.2 b h.4 (told_owned w token d h.0 (Slept h.1) is h.3 k))
+      rw h.6 (slept_as (all_done w (told_in token h.0)) timeout later h.1 h.2 x h.3 b h.5 (told_owned w token d h.0 (Slept h.1 h.2) is h.4 k))
 
   noticed_owned : (w : World D I P) (from : ℕ) (token : RegistrationToken) (later : List RegistrationToken) (x : X) (cs : List (Change D I P)) (b : Doing D X) (c : Content D) → named (map slot_of w.slots) token ≡ c → NoticedBy M from token later c (seen w) x cs b → IsOwned M w [] → IsOwned M (all_done w cs) (aside_of b)
   noticed_owned w from token later x cs b Vacant is h k = rw (h.0, h.1) k

@@ -16,6 +16,6 @@ module _ {S P E M T Cause : Type 0} (twin : S → Twin) (Same : S → S → Type
   cell_is_registered s t v (Reregistered f (Err e) g) l ok h = (let no = ok in cc)
   cell_is_registered s t v (Unregistered (Ok u)) l ok h = ap (λ x. is_some x.key) h.0.2
   cell_is_registered s t v (Unregistered (Err e)) l ok h = (let no = ok in cc)
-  cell_is_registered s t v (Slept a) l ok h = ap (λ (x : S). is_some (twin x).key) h.2
+  cell_is_registered s t v (Slept gs a) l ok h = ap (λ (x : S). is_some (twin x).key) h.2
   cell_is_registered s t v (Noticed es) l ok h = ap (λ (x : S). is_some (twin x).key) h.1
   cell_is_registered s t v (Turned r k turn) l ok h = ap (λ x. is_some x) (quiet s v k turn l (twin t) h.0).key

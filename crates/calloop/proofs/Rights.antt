@@ -17,7 +17,7 @@ use Rattle.calloop_core.specs.declared.sys.poll.Pending.{Pending}
 use Rattle.calloop_core.specs.declared.sources.PostAction.{PostAction}
 use Rattle.calloop_core.specs.declared.sources.PostAction.TheVariants.{Continue, Reregister, Disable as DisableIt, Remove}
 use Rattle.calloop_core.specs.Pollers.{Outside}
-use Rattle.calloop_core.specs.Polls.{PollStep}
+use Rattle.calloop_core.specs.Polls.{PollStep, own_event}
 use Rattle.calloop.specs.declared.loop_logic.LoopCall.{LoopCall}
 use Rattle.calloop.specs.declared.loop_logic.LoopCall.TheVariants.{Insert, Enable, Update, Disable, Remove as RemoveCall, Release, Exchange, Dispatch, InsertIdle, Cancel, Answer as AnswerOf, ForgetStop, LookForStop, Poller as NewPoller}
 use Rattle.calloop.specs.declared.loop_logic.LoopAnswer.{LoopAnswer}
@@ -29,10 +29,10 @@ use Rattle.calloop.specs.declared.loop_logic.asks.Idling.{Idling as Waiter}
 use Rattle.calloop.specs.declared.loop_logic.asks.Request.{Request}
 use Rattle.calloop.specs.declared.loop_logic.asks.Request.TheVariants.{Insert as AskInsert, Enable as AskEnable, Update as AskUpdate, Disable as AskDisable, Remove as AskRemove, Idle as AskIdle, Cancel as AskCancel}
 use Rattle.calloop.specs.Askings.{Asks, Runs}
-use Rattle.calloop.specs.Machine.{World, View, Registration, Change, Holds, seen, slot_of, done, all_done}
+use Rattle.calloop.specs.Machine.{World, View, Registration, Change, Holds, seen, slot_of, done, all_done, Appended}
 use Rattle.calloop.specs.Roles.{only, is_callers, is_adapter}
 use Rattle.calloop.proofs.Roles.{left_removed}
-use Rattle.calloop.specs.Rules.{Doing, Beginning, Settling, Sleeping, Waiting, Gathering, Noticing, Cutting, Serving, Ending, Returning, Idling, RunningIdles, ServingIdle, Leaving, Outcome, Step, Steps, SleptAs, SleptBy, NoticedBy, told_in, CutTo, CutFrom, ActedBy, ReturnedTo, emptied, Case, Run, InsertedBy, AskedIn, SettledIn, TakesUp, as_listed, RemovedIn, EnabledBy, UpdatedBy, DisabledBy, RemovedBy, ReleasedBy, ExchangedIn, ExchangedBy, IdleInsertedBy, OwnOr, Served, ServedAs, ServedFrom, RunFrom, action_of, Once, all_traced}
+use Rattle.calloop.specs.Rules.{Doing, Beginning, Settling, Sleeping, Waiting, Gathering, Noticing, Cutting, Serving, Ending, Returning, Idling, RunningIdles, ServingIdle, Leaving, Outcome, Step, Steps, SleptAs, SleptBy, NoticedBy, told_in, CutTo, CutFrom, ActedBy, ReturnedTo, emptied, Case, Run, InsertedBy, AskedIn, SettledIn, TakesUp, as_listed, RemovedIn, EnabledBy, UpdatedBy, DisabledBy, RemovedBy, ReleasedBy, ExchangedIn, ExchangedBy, IdleInsertedBy, OwnOr, Served, ServedAs, ServedFrom, RunFrom, action_of, Once, all_traced, appends}
 use Rattle.calloop.specs.Held.{HeldStep, Begun, Pend}
 use Rattle.calloop.specs.Laws.{IsSource, AllRight, joined, changes_of}
 use Rattle.calloop.proofs.Seen.{seen-all_done, done-append}
@@ -78,15 +78,18 @@ module _ {D I P X : Type 0} (M : Meaning D P (Lent X (Asks D I))) (runs : Runs D
   returned_right w token d Vacant cs h = rw h.5 (tt, (tt, (tt, (tt, tt))))
   returned_right w token d (Source f) cs h = rw h.5 (tt, (tt, (tt, (tt, tt))))
 
-  slept_as : (w : World D I P) (timeout : Option ℕ) (later : List RegistrationToken) (answer : Result (Option (Readiness × Token)) Error) (x : X) (cs : List (Change D I P)) (b : Doing D X) → SleptAs timeout later answer x cs b → AllRight w cs
-  slept_as w timeout later (Ok None) x cs b h = rw h.0 tt
-  slept_as w timeout later (Ok (Some given)) x cs b h = rw h.0 (tt, tt)
-  slept_as w timeout later (Err e) x cs b h = rw h.0 tt
+  appends_right : (given : List (Readiness × Token)) (w : World D I P) → AllRight w (appends given)
+  appends_right [] w = tt
+  appends_right (e ∷ es) w = (tt, appends_right es (done w (Appended (own_event e))))
+
+  slept_as : (w : World D I P) (timeout : Option ℕ) (later : List RegistrationToken) (given : List (Readiness × Token)) (answer : Result (Unit {0}) Error) (x : X) (cs : List (Change D I P)) (b : Doing D X) → SleptAs timeout later given answer x cs b → AllRight w cs
+  slept_as w timeout later given (Ok u) x cs b h = rw h.0 (appends_right given w)
+  slept_as w timeout later given (Err e) x cs b h = rw h.0 tt
 
   slept_right : (w : World D I P) (timeout : Option ℕ) (token : RegistrationToken) (later : List RegistrationToken) (x : X) (cs : List (Change D I P)) (b : Doing D X) (c : Content D) → SleptBy M timeout token later c (seen w) x cs b → AllRight w cs
   slept_right w timeout token later x cs b Vacant h = rw h.0 tt
   slept_right w timeout token later x cs b InTurn h = rw h.0 tt
-  slept_right w timeout token later x cs b (Source d) h = rw h.5 (tt, (tt, (tt, slept_as (all_done w (told_in token h.0)) timeout later h.1 x h.2 b h.4)))
+  slept_right w timeout token later x cs b (Source d) h = rw h.6 (tt, (tt, (tt, slept_as (all_done w (told_in token h.0)) timeout later h.1 h.2 x h.3 b h.5)))
 
   noticed_right : (w : World D I P) (from : ℕ) (token : RegistrationToken) (later : List RegistrationToken) (x : X) (cs : List (Change D I P)) (b : Doing D X) (c : Content D) → NoticedBy M from token later c (seen w) x cs b → AllRight w cs
   noticed_right w from token later x cs b Vacant h = rw h.0 tt

@@ -15,7 +15,7 @@ use Rattle.calloop_core.specs.Holdings.{Keeps, holds_none}
 use Rattle.calloop_core.specs.Generics.{under_token}
 use Rattle.calloop_core.specs.GenericKeeping.{edits_still, edits_for}
 use Rattle.calloop_core.specs.Keys.{IsKeyOf, IsFactoryOf, EditsFor, AllActFor}
-use Rattle.calloop_core.specs.Lawful.{next_is_own, StaysHome, stays_home}
+use Rattle.calloop_core.specs.Lawful.{next_is_own, StaysHome, stays_home, silent}
 use Rattle.calloop_core.specs.Meanings.{IsKeeping, KeepsCounters, IsAsking, FailsAsSource}
 use Rattle.calloop_core.specs.Quiet.{IsQuiet}
 use Rattle.calloop.specs.declared.io.adapter.Adapter.{Adapter}
@@ -122,7 +122,7 @@ module _ {P R I X Q : Type 0} (sockets : Sockets P I) where
   adapter_counts s t v (Registered f a g) l fits below h = (tt, in_still v.deadlines.next s.token s t f g a l h)
   adapter_counts s t v (Reregistered f a g) l fits below h = (tt, up_still sockets v.deadlines.next s t v l h.2)
   adapter_counts s t v (Unregistered a) l fits below h = (tt, left_still sockets v.deadlines.next s.token s t v a l h)
-  adapter_counts s t v (Slept a) l fits below h = (tt, rw h.1 (λ counter. tt))
+  adapter_counts s t v (Slept gs a) l fits below h = (tt, rw h.1 (λ counter. tt))
   adapter_counts s t v (Noticed es) l fits below h = (tt, rw h.0 (λ counter. tt))
   adapter_counts s t v (Turned i token turn) l fits below h = (tt, rw h.3 (λ counter. tt))
 
@@ -132,7 +132,7 @@ module _ {P R I X Q : Type 0} (sockets : Sockets P I) where
       in_home r s.token s t f g (Err e) l begins.1 begins.0 h
   adapter_stays r s t v (Reregistered f a g) l begins h = up_home sockets r s t v l begins.0 h.2
   adapter_stays r s t v (Unregistered a) l home h = left_home sockets r s.token s t v a l home home h
-  adapter_stays r s t v (Slept a) l home h = rw (h.1, h.2) (home, tt)
+  adapter_stays r s t v (Slept gs a) l home h = rw (h.1, h.2) (home, tt)
   adapter_stays r s t v (Noticed es) l home h = rw (h.0, h.1) (home, tt)
   adapter_stays r s t v (Turned i token turn) l home h = rw (h.3, h.4) (home, tt)
 
@@ -141,6 +141,9 @@ module _ {P R I X Q : Type 0} (sockets : Sockets P I) where
       record {
         counters = adapter_counts;
         home = stays_home (adapter_meaning {P = P} {R = R} {I = I} sockets {X = X} {Q = Q}) adapter_stays;
+        limit =
+            silent (adapter_meaning {P = P} {R = R} {I = I} sockets {X = X} {Q = Q}) (λ s. refl)
+            (λ s t v given answer steps h. h.0.0);
       }
 
   pub adapter_asks : (reaches : Q → Q → Type 0) → ((q : Q) → reaches q q)

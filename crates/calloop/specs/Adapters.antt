@@ -18,7 +18,7 @@ use Rattle.calloop_core.specs.Polls.{PollView, PollStep, IsOfKind}
 use Rattle.calloop_core.specs.Registering.{Edits}
 use Rattle.calloop_core.specs.Generics.{under_token}
 use Rattle.calloop_core.specs.Holdings.{holds_none}
-use Rattle.calloop_core.specs.Deeds.{Deed, Registered, Reregistered, Unregistered, Turned, Slept, Noticed, Lent}
+use Rattle.calloop_core.specs.Deeds.{Deed, Registered, Reregistered, Unregistered, Turned, SaysNothing, Slept, Noticed, Lent}
 use Rattle.calloop_core.specs.Meanings.{Meaning}
 use Rattle.calloop.specs.declared.io.adapter.Adapter.{Adapter}
 
@@ -88,7 +88,7 @@ module _ {P R I : Type 0} (sockets : Sockets P I) where
     IsAdapter s v (Registered f answer g) steps t = ComesIn s.token s f answer steps t g
     IsAdapter s v (Reregistered f answer g) steps t = (answer ≡ Ok tt) × (g ≡ f) × TakesUp s v steps t
     IsAdapter s v (Unregistered answer) steps t = Leaves s.token s v answer steps t
-    IsAdapter s v (Slept answer) steps t = (answer ≡ Ok None) × (steps ≡ []) × (t ≡ s)
+    IsAdapter s v (Slept given answer) steps t = SaysNothing given answer × (steps ≡ []) × (t ≡ s)
     IsAdapter s v (Noticed events) steps t = (steps ≡ []) × (t ≡ s)
     IsAdapter s v (Turned readiness token turn) steps t =
         (turn.answer ≡ Ok Continue) × (turn.after ≡ turn.before) × (turn.asked_after ≡ turn.asked_before)
@@ -101,6 +101,7 @@ module _ {P R I : Type 0} (sockets : Sockets P I) where
           keys = λ s. under_token s.token;
           fits = λ s. Unit {0};
           needs = λ s. false;
+          limit = λ s. 0;
           role = λ s. AsAdapter;
           does = IsAdapter;
         }

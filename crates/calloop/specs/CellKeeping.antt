@@ -1,5 +1,6 @@
 -- The receiving end of a cell holds no counter of a timer, makes no step of one, and stays at home, where its turns do. The impls
 -- cite these proofs, so they stand here.
+use Rattle.std.proofs.Common.{refl}
 use Rattle.std.specs.Prelude.{◌≡◌, ℕ, List, Some, None, Result, Ok, Err}
 use Rattle.std.proofs.Common.{ap, sym, ◌∙◌}
 use Rattle.calloop_wake.specs.declared.error.Error.{Error}
@@ -10,7 +11,7 @@ use Rattle.calloop_wake.specs.declared.wake.Twin.{Twin}
 use Rattle.calloop_wake.specs.Tokens.{key_of, next_token}
 use Rattle.calloop_core.specs.Deeds.{Registered, Reregistered, Unregistered, Turned, Slept, Noticed}
 use Rattle.calloop_core.specs.Keys.{IsKeyOf, IsFactoryOf, AllActFor}
-use Rattle.calloop_core.specs.Lawful.{next_is_own, StaysHome, stays_home}
+use Rattle.calloop_core.specs.Lawful.{next_is_own, StaysHome, stays_home, silent}
 use Rattle.calloop_core.specs.Meanings.{IsKeeping, KeepsCounters}
 use Rattle.calloop_core.specs.Polls.{PollView, PollStep}
 use Rattle.calloop_core.specs.Holdings.{Keeps, holds_none}
@@ -47,7 +48,7 @@ module _ {S P T : Type 0} (twin : S → Twin) (Same : S → S → Type 0) (Turns
   cell_counts s t v (Registered f a g) l fits below h = (tt, reg_keeps (twin s) (twin t) v.deadlines.next f g a l h.0)
   cell_counts s t v (Reregistered f a g) l fits below h = (tt, rereg_keeps (twin s) (twin t) v.deadlines.next f g a l h.0)
   cell_counts s t v (Unregistered a) l fits below h = (tt, unreg_keeps (twin s) (twin t) v.deadlines.next a l h.0)
-  cell_counts s t v (Slept a) l fits below h = (tt, rw h.1 (λ counter. tt))
+  cell_counts s t v (Slept gs a) l fits below h = (tt, rw h.1 (λ counter. tt))
   cell_counts s t v (Noticed es) l fits below h = (tt, rw h.0 (λ counter. tt))
   cell_counts s t v (Turned r k turn) l fits below h =
       (tt, (quiet s v k turn l (twin t) h.0).counters v.deadlines.next)
@@ -78,10 +79,15 @@ module _ {S P T : Type 0} (twin : S → Twin) (Same : S → S → Type 0) (Turns
   cell_stays r s t v (Unregistered (Ok u)) l home h = (home_none r t (ap (λ x. x.key) h.0.2), rw h.0.1 tt)
   cell_stays r s t v (Unregistered (Err e)) l home h =
       (home_same r s t home (ap (λ x. x.key) h.0.3), rw h.0.2 tt)
-  cell_stays r s t v (Slept a) l home h = (home_same r s t home (ap (λ (x : S). (twin x).key) h.2), rw h.1 tt)
+  cell_stays r s t v (Slept gs a) l home h = (home_same r s t home (ap (λ (x : S). (twin x).key) h.2), rw h.1 tt)
   cell_stays r s t v (Noticed es) l home h = (home_same r s t home (ap (λ (x : S). (twin x).key) h.1), rw h.0 tt)
   cell_stays r s t v (Turned readiness k turn) l home h =
       let x = quiet s v k turn l (twin t) h.0 in (home_same r s t home x.key, x.own r)
 
   pub cell_keeps : IsKeeping (cell_meaning twin Same Turns)
-  cell_keeps = record { counters = cell_counts; home = stays_home (cell_meaning twin Same Turns) cell_stays }
+  cell_keeps =
+      record {
+        counters = cell_counts;
+        home = stays_home (cell_meaning twin Same Turns) cell_stays;
+        limit = silent (cell_meaning twin Same Turns) (λ s. refl) (λ s t v given answer steps h. h.0.0);
+      }

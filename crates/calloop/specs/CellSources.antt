@@ -10,7 +10,7 @@ use Rattle.calloop_wake.specs.declared.token.TokenFactory.{TokenFactory}
 use Rattle.calloop_wake.specs.declared.wake.Twin.{Twin}
 use Rattle.calloop_wake.specs.Tokens.{key_of, next_token, after_token, most_tokens}
 use Rattle.calloop_wake.specs.Cells.{is_own}
-use Rattle.calloop_core.specs.Deeds.{Deed, Registered, Reregistered, Unregistered, Turned, Slept, Noticed}
+use Rattle.calloop_core.specs.Deeds.{Deed, Registered, Reregistered, Unregistered, Turned, SaysNothing, Slept, Noticed}
 use Rattle.calloop_core.specs.Holdings.{holds_none}
 use Rattle.calloop_core.specs.declared.sources.Role.TheVariants.{Caller}
 use Rattle.calloop_core.specs.Meanings.{Meaning}
@@ -65,7 +65,7 @@ IsCell twin Same Turns s v (Registered f answer g) steps t = Registers (twin s) 
 IsCell twin Same Turns s v (Reregistered f answer g) steps t =
     RegistersAnew (twin s) f answer steps (twin t) g × Same s t
 IsCell twin Same Turns s v (Unregistered answer) steps t = Unregisters (twin s) answer steps (twin t) × Same s t
-IsCell twin Same Turns s v (Slept answer) steps t = (answer ≡ Ok None) × (steps ≡ []) × (t ≡ s)
+IsCell twin Same Turns s v (Slept given answer) steps t = SaysNothing given answer × (steps ≡ []) × (t ≡ s)
 IsCell twin Same Turns s v (Noticed events) steps t = (steps ≡ []) × (t ≡ s)
 IsCell twin Same Turns s v (Turned readiness token turn) steps t = Turns s v token turn steps (twin t) × Same s t
 
@@ -80,6 +80,7 @@ cell_meaning twin Same Turns =
       keys = cell_keys twin;
       fits = λ s. Unit {0};
       needs = λ s. false;
+      limit = λ s. 0;
       role = λ s. Caller;
       does = IsCell twin Same Turns;
     }

@@ -16,6 +16,7 @@ held_with_data held m n h =
       keys = λ s key. h.keys s key;
       fits = λ s. h.fits s;
       needs = λ s. h.needs s;
+      limit = λ s. h.limit s;
       role = λ s. h.role s;
       does = λ s v deed l t. (
         λ w. let u = (h.does s v deed l t.held).0 w in (u.0, ap (λ a. with_data a) u.1, u.2),

@@ -342,21 +342,25 @@ after_wait (Err cause) given x = Leaving (Err (IoError cause)) x
 abbrev pub told_in : {D I P : Type 0} → RegistrationToken → D → List (Change D I P)
 told_in token e = Put token.slot InTurn ∷ Polls [] ∷ Put token.slot (Source e) ∷ []
 
--- before it: the event that it answers joins the batch, and its error ends the dispatch
+-- events for which a source asks before a wait join the batch, each in its place
+abbrev pub appends : {D I P : Type 0} → List (Readiness × Token) → List (Change D I P)
+appends [] = []
+appends (e ∷ es) = Appended (own_event e) ∷ appends es
+
+-- before it: the events for which it asks join the batch in their order; its error ends the dispatch, and then none of them does
 abbrev pub SleptAs : {D I P X : Type 0} → (timeout : Option ℕ) → (later : List RegistrationToken)
-    → Result (Option (Readiness × Token)) Error → X → List (Change D I P) → Doing D X → Type 0
-SleptAs timeout later (Ok None) x cs b = (cs ≡ []) × (b ≡ Sleeping timeout later x)
-SleptAs timeout later (Ok (Some given)) x cs b = (cs ≡ Appended (own_event given) ∷ []) × (b ≡ Sleeping timeout later x)
-SleptAs timeout later (Err e) x cs b = (cs ≡ []) × (b ≡ Leaving (Err e) x)
+    → List (Readiness × Token) → Outcome → X → List (Change D I P) → Doing D X → Type 0
+SleptAs timeout later given (Ok u) x cs b = (cs ≡ appends given) × (b ≡ Sleeping timeout later x)
+SleptAs timeout later given (Err e) x cs b = (cs ≡ []) × (b ≡ Leaving (Err e) x)
 
 abbrev pub SleptBy : {D I P X : Type 0} → Meaning D P (Lent X (Asks D I)) → Option ℕ → RegistrationToken
     → List RegistrationToken → Content D → View D I P → X → List (Change D I P) → Doing D X → Type 0
 SleptBy M timeout token later Vacant v x cs b = (cs ≡ []) × (b ≡ Sleeping timeout later x)
 SleptBy M timeout token later InTurn v x cs b = (cs ≡ []) × (b ≡ Sleeping timeout later x)
 SleptBy {D} {I} {P} {X} M timeout token later (Source d) v x cs b =
-    (e : D) × (answer : Result (Option (Readiness × Token)) Error) × (joined : List (Change D I P))
-    × M.does d v.poll (Slept answer) [] e
-    × SleptAs timeout later answer x joined b × (cs ≡ told_in token e ++ joined)
+    (e : D) × (given : List (Readiness × Token)) × (answer : Outcome) × (joined : List (Change D I P))
+    × M.does d v.poll (Slept given answer) [] e
+    × SleptAs timeout later given answer x joined b × (cs ≡ told_in token e ++ joined)
 
 -- after it: it is told of the events of its registration that were gathered
 abbrev pub NoticedBy : {D I P X : Type 0} → Meaning D P (Lent X (Asks D I)) → (from : ℕ) → RegistrationToken

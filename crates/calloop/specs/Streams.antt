@@ -1,5 +1,6 @@
 -- What a stream means as a source. Its registrations are those of the ping that its waker rings. calloop's StreamSource polls without a
 -- limit, and may tell the end again.
+use Rattle.std.proofs.Common.{refl}
 use Rattle.std.specs.Prelude.{◌≡◌, ℕ, ◌<◌, List, [], ◌∷◌, length, Bool, true, false, Option, None, Some, Result, Ok, Err}
 use Rattle.std.proofs.Common.{ap}
 use Rattle.logbook.specs.Pages.{Book}
@@ -12,7 +13,8 @@ use Rattle.calloop_wake.specs.Cells.{is_own}
 use Rattle.calloop_core.specs.declared.sources.PostAction.{PostAction}
 use Rattle.calloop_core.specs.declared.sources.PostAction.TheVariants.{Continue, Remove}
 use Rattle.calloop_core.specs.Calls.{CallbackCall}
-use Rattle.calloop_core.specs.Deeds.{Deed, Heard, Registered, Reregistered, Unregistered, Turned, Slept, Noticed}
+use Rattle.calloop_core.specs.Lawful.{silent}
+use Rattle.calloop_core.specs.Deeds.{Deed, Heard, Registered, Reregistered, Unregistered, Turned, SaysNothing, Slept, Noticed}
 use Rattle.calloop_core.specs.Holdings.{holds_none}
 use Rattle.calloop_core.specs.declared.sources.Role.TheVariants.{Caller}
 use Rattle.calloop_core.specs.Meanings.{Meaning, IsKeeping}
@@ -135,7 +137,7 @@ module _ {S P A I : Type 0} (polls : Polls A I) (twin : S → Twin) (reading : S
       RegistersAnew (twin s) f answer steps (twin t) g × Same s t × (reading t ≡ reading s)
   IsStream s v (Unregistered answer) steps t =
       Unregisters (twin s) answer steps (twin t) × Same s t × (reading t ≡ reading s)
-  IsStream s v (Slept answer) steps t = (answer ≡ Ok None) × (steps ≡ []) × (t ≡ s)
+  IsStream s v (Slept given answer) steps t = SaysNothing given answer × (steps ≡ []) × (t ≡ s)
   IsStream s v (Noticed events) steps t = (steps ≡ []) × (t ≡ s)
   IsStream s v (Turned readiness token turn) steps t =
       StreamTurns polls (twin s) (reading s) token v.pass turn.calls turn.answer steps (twin t) (reading t) × Same s t
@@ -147,6 +149,7 @@ module _ {S P A I : Type 0} (polls : Polls A I) (twin : S → Twin) (reading : S
         keys = cell_keys twin;
         fits = λ s. Unit {0};
         needs = λ s. false;
+        limit = λ s. 0;
         role = λ s. Caller;
         does = IsStream;
       }
@@ -194,7 +197,7 @@ module _ {S P A I : Type 0} (polls : Polls A I) (twin : S → Twin) (reading : S
   as_cell s t v (Registered f a g) l h = (h.0, h.1)
   as_cell s t v (Reregistered f a g) l h = (h.0, h.1)
   as_cell s t v (Unregistered a) l h = (h.0, h.1)
-  as_cell s t v (Slept a) l h = h
+  as_cell s t v (Slept gs a) l h = h
   as_cell s t v (Noticed es) l h = h
   as_cell s t v (Turned readiness token turn) l h =
       (turn_quiet polls token v.pass (twin s) (twin t) (reading s) (reading t) turn.calls turn.answer l h.0, h.1)
@@ -206,4 +209,5 @@ module _ {S P A I : Type 0} (polls : Polls A I) (twin : S → Twin) (reading : S
   stream_keeps = record {
     counters = λ s t v deed l fits below h. quiet_keeps.counters s t v deed l fits below (as_cell s t v deed l h);
     home = λ r s t v deed l begins h. quiet_keeps.home r s t v deed l begins (as_cell s t v deed l h);
+    limit = silent (stream_meaning polls twin reading Same) (λ s. refl) (λ s t v given answer steps h. h.0.0);
   }

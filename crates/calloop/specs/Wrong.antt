@@ -1,5 +1,5 @@
 -- Small cases that the laws over all runs rule out.
-use Rattle.std.specs.Prelude.{◌≡◌, ℕ, [], ◌∷◌, Some}
+use Rattle.std.specs.Prelude.{◌≡◌, ℕ, [], ◌∷◌, Some, None, Ok, Err}
 use Rattle.calloop_wake.specs.declared.token.Token.{Token}
 use Rattle.calloop_wake.specs.declared.token.RegistrationToken.{RegistrationToken}
 use Rattle.calloop_wake.specs.declared.list.Content.TheVariants.{Vacant, Source}
@@ -7,12 +7,16 @@ use Rattle.calloop_wake.specs.Deadlines.{entry_of}
 use Rattle.calloop_wake.specs.Tokens.{key_of}
 use Rattle.calloop_core.specs.Deeds.{Lent}
 use Rattle.calloop_core.specs.Meanings.{Meaning, still}
-use Rattle.calloop_core.specs.Polls.{timer_event, Arm}
+use Rattle.calloop_wake.specs.declared.error.Error.{Error}
+use Rattle.calloop_core.specs.declared.sys.Readiness.{Readiness}
+use Rattle.calloop_core.specs.Pollers.{Outside}
+use Rattle.calloop_core.specs.Polls.{timer_event, ready_to_read, own_event, Arm}
 use Rattle.calloop.specs.declared.loop_logic.asks.Answer.TheVariants.{Done}
 use Rattle.calloop.specs.declared.loop_logic.asks.Request.TheVariants.{Remove}
 use Rattle.calloop.specs.Askings.{Asks, no_asks}
 use Rattle.calloop.specs.Ledgers.{Ledger, Arming, Origin, Due, Waiting, TimerCall, new_ledger}
-use Rattle.calloop.specs.Machine.{Registration}
+use Rattle.calloop.specs.Machine.{Registration, View, Appended}
+use Rattle.calloop.specs.Rules.{SleptAs, Step, Settling, Sleeping, Leaving}
 
 -- a token of slot 0 under version 0
 abbrev pub first_token : Token
@@ -21,6 +25,49 @@ first_token = record { slot = 0; version = 0; sub_id = 0 }
 -- the registration that it is of
 abbrev pub first_registration : RegistrationToken
 first_registration = record { slot = 0; version = 0 }
+
+-- two events for which a source asks before a wait
+abbrev pub asked_first : Readiness × Token
+asked_first = (ready_to_read, first_token)
+
+abbrev pub asked_later : Readiness × Token
+asked_later = (ready_to_read, record first_token { sub_id = 1 })
+
+-- of both only the later one joins the batch
+abbrev pub KeepsTheLastAlone : Type 0
+KeepsTheLastAlone =
+    SleptAs {D = Unit {0}} {I = Unit {0}} {P = Unit {0}} {X = Unit {0}} None [] (asked_first ∷ asked_later ∷ []) (Ok tt) tt
+    (Appended (own_event asked_later) ∷ []) (Sleeping None [] tt)
+
+-- one joins it though the source failed
+abbrev pub KeepsOfAFailure : Error → Type 0
+KeepsOfAFailure e =
+    SleptAs {D = Unit {0}} {I = Unit {0}} {P = Unit {0}} {X = Unit {0}} None [] (asked_first ∷ []) (Err e) tt
+    (Appended (own_event asked_first) ∷ []) (Leaving (Err e) tt)
+
+-- a registration of slot 1
+abbrev pub second_registration : RegistrationToken
+second_registration = record { slot = 1; version = 0 }
+
+-- one that does nothing
+abbrev pub silent : Meaning (Unit {0}) (Unit {0}) (Lent (Unit {0}) (Asks (Unit {0}) (Unit {0})))
+silent = still (λ s v deed t. t ≡ s)
+
+-- a poller that answers anything
+abbrev pub any_poller : Outside (Unit {0})
+any_poller =
+    record {
+      reads = λ p now q. Unit {0};
+      waits = λ p asked answer given q. Unit {0};
+      calls = λ p call answer q. Unit {0};
+      faults = λ p. 0;
+    }
+
+-- that one is told of a wait after the one of slot 0
+abbrev pub TellsInTheOrderOfSlots : View (Unit {0}) (Unit {0}) (Unit {0}) → Type 0
+TellsInTheOrderOfSlots v =
+    Step silent (λ i x q y r. Unit {0}) any_poller v (Settling None [] tt) []
+    (Sleeping None (first_registration ∷ second_registration ∷ []) tt)
 
 -- a slot that is used for the first time, or once more, with a source that is one of all alike
 abbrev pub used : (reuse : ℕ) → Registration (Unit {0})

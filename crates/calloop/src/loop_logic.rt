@@ -7,6 +7,7 @@ use calloop_core::sources::{
 };
 use calloop_core::sys::events::EventIterator;
 use calloop_core::sys::poll::Poll;
+use calloop_core::sys::synthetic::Synthetic;
 use calloop_core::sys::{Clock, Poller, Readiness};
 use calloop_wake::error::{Error, Failed, InsertError, Result};
 use calloop_wake::list::SourceList;
@@ -47,6 +48,8 @@ pub struct EventLoop<D: EventDispatcher<P, C, R>, P: Poller, C: Clock, R: Wait +
     sources: SourceList<D>,
     poll: Poll<P, C, R>,
     lifecycle: Lifecycle,
+    // What is lent to each source that is told of a wait.
+    synthetic: Synthetic,
     // What the source in its turn asked for itself.
     pending: PostAction,
     requests: Requests<D, D::Idle>,
@@ -200,6 +203,10 @@ where
         self.held.needs_extra_lifecycle_events()
     }
 
+    fn synthetic_limit(&self) -> u16 {
+        self.held.synthetic_limit()
+    }
+
     fn role(&self) -> Role {
         self.held.role()
     }
@@ -208,8 +215,8 @@ where
         self.held.settle(token, poll)
     }
 
-    fn before_sleep(&mut self) -> Result<Option<(Readiness, Token)>> {
-        self.held.before_sleep()
+    fn before_sleep(&mut self, out: &mut Synthetic) -> Result<()> {
+        self.held.before_sleep(out)
     }
 
     fn before_handle_events(&mut self, events: EventIterator<'_>) {

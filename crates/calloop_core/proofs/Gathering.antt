@@ -1,5 +1,5 @@
 -- The keys of the passes that an unpost gave, and of the events that a gathering appends.
-use Rattle.std.proofs.Common.{◌≡◌, ℕ, zero, suc, ◌<◌, ◌-◌, ◌^◌, get_or, arith, List, [], ◌∷◌, ◌++◌, length, map, filter, drop, refl, ap, append-nil, ◌∙◌}
+use Rattle.std.proofs.Common.{◌≡◌, ℕ, zero, suc, ◌<◌, ◌-◌, ◌^◌, get_or, arith, List, [], ◌∷◌, ◌++◌, length, map, filter, drop, refl, ap, sym, append-nil, ◌∙◌}
 use Rattle.std.proofs.lemmas.List.{map-append}
 use Rattle.std.proofs.lemmas.List.Elements.{filter-append}
 use Rattle.std.proofs.Math.Seq.{drop-append_seam}
@@ -8,10 +8,11 @@ use Rattle.logbook.specs.Pages.{Book}
 use Rattle.calloop_wake.specs.Passes.{Taken}
 use Rattle.calloop_wake.specs.Tokens.{key_of, token_of}
 use Rattle.calloop_wake.specs.declared.wheel.Entry.{Entry}
+use Rattle.calloop_wake.specs.declared.token.Token.{Token}
 use Rattle.calloop_core.specs.declared.sys.Readiness.{Readiness}
 use Rattle.calloop_core.specs.declared.sys.poll.Pending.{Pending}
 use Rattle.calloop_core.specs.Batches.{key_of_pass, posted_keys, IsInStep}
-use Rattle.calloop_core.specs.Polls.{posted_events, polled_event, polled_events, timer_events, is_for_a_token}
+use Rattle.calloop_core.specs.Polls.{posted_events, own_events, polled_event, polled_events, timer_events, is_for_a_token}
 
 keys-taken : (board : Book) (keys : List ℕ) → map key_of_pass (map (taken board) keys) ≡ keys
 keys-taken board [] = refl
@@ -77,3 +78,13 @@ pub events-gathered : (board : Book) (e₀ e₁ e₂ e₃ : List Pending) (befor
 events-gathered board e₀ e₁ e₂ e₃ before after keys n given entries first is one two three =
     let posted = keys-new board before after keys n first is in
     rw (three, two, one, posted) refl
+
+-- no event for which a source asks is posted
+own_posts_none : (given : List (Readiness × Token)) → posted_keys (own_events given) ≡ []
+own_posts_none [] = refl
+own_posts_none (e ∷ es) = own_posts_none es
+
+-- so the batch stays in step where they join it
+pub joined_in_step : (events : List Pending) (passes : List Taken) (given : List (Readiness × Token)) → IsInStep events passes → IsInStep (events ++ own_events given) passes
+joined_in_step events passes given h =
+    h ∙ sym (posted_keys-append events (own_events given) ∙ ap (λ l. posted_keys events ++ l) (own_posts_none given) ∙ append-nil (posted_keys events))

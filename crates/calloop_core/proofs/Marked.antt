@@ -174,7 +174,7 @@ module _ {S P E M T Cause : Type 0} (m : Meaning S P (Heard E M T Cause)) (regis
   always_marked s t v (Unregistered a) l is ok h = unregistered_marked s t v a l is ok h
   always_marked s t v (Turned readiness token turn) l is ok h =
       turned_marked s t v readiness token turn l ok.0 is ok.1 h
-  always_marked s t v (Slept a) l is ok h = rw h.2 is
+  always_marked s t v (Slept gs a) l is ok h = rw h.2 is
   always_marked s t v (Noticed es) l is ok h = rw h.1 is
 
 module _ {S : Type 0} (registered : S → Bool) where

@@ -13,6 +13,7 @@ use Rattle.calloop_core.specs.Actions.{either}
 use Rattle.calloop_core.specs.Polls.{PollView, PollStep, polls_after}
 use Rattle.calloop_core.specs.Calls.{IsOfSource}
 use Rattle.calloop_core.specs.Deeds.{Deed, Registered, Reregistered, Unregistered, Turned, Slept, Noticed, Lent, lent}
+use Rattle.calloop_core.specs.Lawful.{silent}
 use Rattle.calloop_core.specs.Holdings.{IsBelow, Keeps}
 use Rattle.calloop_core.specs.Keys.{IsFactoryOf, AllActFor}
 use Rattle.calloop_core.specs.Meanings.{Meaning, IsKeeping, KeepsCounters, KeepsHome, IsAtHome, BeginsIn, IsAsking}
@@ -131,7 +132,7 @@ module _ {A B P X Q : Type 0} (m : Meaning A P (Lent X Q)) (n : Meaning B P (Len
       rw h.steps_are (then_row s h.between t v h.one h.more x y)
   both_row s t v (Turned readiness token turn) l fits below h =
       asks_row (Turned readiness token h.0) h.1 s t v l fits below h.3
-  both_row s t v (Slept a) l fits below h = rw (h.1, h.2) (rest_row s v fits below)
+  both_row s t v (Slept gs a) l fits below h = rw (h.1, h.2) (rest_row s v fits below)
   both_row s t v (Noticed es) l fits below h = rw (h.0, h.1) (rest_row s v fits below)
 
   both_counts : KeepsCounters (both_meaning m n)
@@ -262,11 +263,16 @@ module _ {A B P X Q : Type 0} (m : Meaning A P (Lent X Q)) (n : Meaning B P (Len
       whole r s t l (
       asks_home r (Turned readiness token h.0) h.1 s t v l home.0
       (begins_turning r (IsAtHome n r s.second) readiness token h.0 turn h.0.answer h.1 h.2 home.1) h.3)
-  both_stays r s t v (Slept a) l begins h = rw (h.1, h.2) (begins, λ home. tt)
+  both_stays r s t v (Slept gs a) l begins h = rw (h.1, h.2) (begins, λ home. tt)
   both_stays r s t v (Noticed es) l begins h = rw (h.0, h.1) (begins, λ home. tt)
 
   pub keeping_both : IsKeeping (both_meaning m n)
-  keeping_both = record { counters = both_counts; home = both_stays }
+  keeping_both =
+      record {
+        counters = both_counts;
+        home = both_stays;
+        limit = silent (both_meaning m n) (λ s. refl) (λ s t v given answer steps h. h.0.0);
+      }
 
 joined_fails : (action : PostAction) (other answer : Result PostAction Error) (e : Error) → JoinedAs action other answer
     → answer ≡ Err e → other ≡ Err e

@@ -11,7 +11,7 @@ use Rattle.calloop_core.specs.declared.sources.PostAction.{PostAction}
 use Rattle.calloop_core.specs.declared.both.Both.{Both}
 use Rattle.calloop_core.specs.Actions.{either}
 use Rattle.calloop_core.specs.Polls.{PollView, PollStep, polls_after}
-use Rattle.calloop_core.specs.Deeds.{Deed, Registered, Reregistered, Unregistered, Turned, Slept, Noticed, Lent, lent}
+use Rattle.calloop_core.specs.Deeds.{Deed, Registered, Reregistered, Unregistered, Turned, SaysNothing, Slept, Noticed, Lent, lent}
 use Rattle.calloop_core.specs.Holdings.{Holding}
 use Rattle.calloop_core.specs.declared.sources.Role.TheVariants.{Caller}
 use Rattle.calloop_core.specs.Meanings.{Meaning}
@@ -97,7 +97,7 @@ module _ {A B P X Q : Type 0} (m : Meaning A P (Lent X Q)) (n : Meaning B P (Len
       (one : Lent X Q) × (second : Option (Deed (Lent X Q)))
       × TurnedBy readiness token one one.answer turn second
       × AsksBoth m n (Turned readiness token one) second s v steps t
-  IsBoth s v (Slept answer) steps t = (answer ≡ Ok None) × (steps ≡ []) × (t ≡ s)
+  IsBoth s v (Slept given answer) steps t = SaysNothing given answer × (steps ≡ []) × (t ≡ s)
   IsBoth s v (Noticed events) steps t = (steps ≡ []) × (t ≡ s)
 
   abbrev pub both_holds : Both A B → ℕ → Holding
@@ -115,6 +115,7 @@ module _ {A B P X Q : Type 0} (m : Meaning A P (Lent X Q)) (n : Meaning B P (Len
         keys = λ s key. m.keys s.first key ⊎ n.keys s.second key;
         fits = both_fits;
         needs = λ s. false;
+        limit = λ s. 0;
         role = λ s. Caller;
         does = IsBoth;
       }

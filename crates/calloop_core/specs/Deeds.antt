@@ -1,6 +1,6 @@
 -- What a source or a dispatcher did in one call, with all that the call took and gave beside `Poll`. calloop's
 -- `EventSource` and `EventDispatcher` have the same calls; here a call with its answer is one value.
-use Rattle.std.specs.Prelude.{List, Option, Result}
+use Rattle.std.specs.Prelude.{◌≡◌, List, [], Result, Ok}
 use Rattle.calloop_wake.specs.declared.error.Error.{Error}
 use Rattle.calloop_wake.specs.declared.token.Token.{Token}
 use Rattle.calloop_wake.specs.declared.token.TokenFactory.{TokenFactory}
@@ -15,10 +15,14 @@ pub data Deed (T : Type 0) : Type 0 where
   Reregistered : (before : TokenFactory) (answer : Result (Unit {0}) Error) (after : TokenFactory) → Deed T
   Unregistered : (answer : Result (Unit {0}) Error) → Deed T
   Turned : (readiness : Readiness) (token : Token) (turn : T) → Deed T
-  -- before a wait: it may answer an event for one of its tokens
-  Slept : (answer : Result (Option (Readiness × Token)) Error) → Deed T
+  -- before a wait: it may ask for events, as a rule for its tokens, which are handed out in this order
+  Slept : (given : List (Readiness × Token)) (answer : Result (Unit {0}) Error) → Deed T
   -- after a wait: these events of its registration were gathered
   Noticed : (events : List (Readiness × Token)) → Deed T
+
+-- before a wait it asks for no event, and doesn't fail
+abbrev pub SaysNothing : List (Readiness × Token) → Result (Unit {0}) Error → Type 0
+SaysNothing given answer = (given ≡ []) × (answer ≡ Ok tt)
 
 -- the turn of a source: the calls of its callback, and its answer
 pub record Heard (E M T Cause : Type 0) : Type 0 where

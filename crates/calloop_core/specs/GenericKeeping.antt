@@ -19,7 +19,7 @@ use Rattle.calloop_core.specs.Registering.{Edits, Tried, TriedUnless}
 use Rattle.calloop_core.specs.Deeds.{Registered, Reregistered, Unregistered, Turned, Slept, Noticed}
 use Rattle.calloop_core.specs.Holdings.{Keeps, holds_none}
 use Rattle.calloop_core.specs.Keys.{IsKeyOf, IsFactoryOf, EditsFor, AllActFor}
-use Rattle.calloop_core.specs.Lawful.{next_is_own, StaysHome, stays_home}
+use Rattle.calloop_core.specs.Lawful.{next_is_own, StaysHome, stays_home, silent}
 use Rattle.calloop_core.specs.Meanings.{IsKeeping, KeepsCounters}
 use Rattle.calloop_core.specs.Generics.{
   TakesToken,
@@ -123,7 +123,7 @@ module _ {P I E : Type 0} (sockets : Sockets P I) (gives : Cause → E → Type 
   generic_counts s t v (Reregistered f a g) l fits below h =
       (tt, reregistered_still v.deadlines.next s.token s t v f g a l h)
   generic_counts s t v (Unregistered a) l fits below h = (tt, unregistered_still v.deadlines.next s.token s t v a l h)
-  generic_counts s t v (Slept a) l fits below h = (tt, rw h.1 (λ counter. tt))
+  generic_counts s t v (Slept gs a) l fits below h = (tt, rw h.1 (λ counter. tt))
   generic_counts s t v (Noticed es) l fits below h = (tt, rw h.0 (λ counter. tt))
   generic_counts s t v (Turned i token turn) l fits below (inl h) =
       (tt, answered_still v.deadlines.next h.told token (after_call h.io s) t v turn.answer l h.answered)
@@ -213,7 +213,7 @@ module _ {P I E : Type 0} (sockets : Sockets P I) (gives : Cause → E → Type 
   generic_stays r s t v (Reregistered f a g) l begins h =
       reregistered_home r s.token s t v f g a l begins.1 begins.0 begins.0 h
   generic_stays r s t v (Unregistered a) l home h = unregistered_home r s.token s t v a l home home h
-  generic_stays r s t v (Slept a) l home h = rw (h.1, h.2) (home, tt)
+  generic_stays r s t v (Slept gs a) l home h = rw (h.1, h.2) (home, tt)
   generic_stays r s t v (Noticed es) l home h = rw (h.0, h.1) (home, tt)
   generic_stays r s t v (Turned i token turn) l home (inl h) =
       let mine : IsKeyOf r (key_of token) = home (key_of token) (rw h.heard.0 refl) in
@@ -222,4 +222,8 @@ module _ {P I E : Type 0} (sockets : Sockets P I) (gives : Cause → E → Type 
 
   pub generic_keeps : IsKeeping (generic_meaning sockets gives)
   generic_keeps =
-      record { counters = generic_counts; home = stays_home (generic_meaning sockets gives) generic_stays }
+      record {
+        counters = generic_counts;
+        home = stays_home (generic_meaning sockets gives) generic_stays;
+        limit = silent (generic_meaning sockets gives) (λ s. refl) (λ s t v given answer steps h. h.0.0);
+      }

@@ -23,7 +23,7 @@ use Rattle.calloop_core.specs.Tables.{Edit, Enter, Change, Leave}
 use Rattle.calloop_core.specs.Polls.{PollView, PollStep, IsOfKind}
 use Rattle.calloop_core.specs.Registering.{Edits}
 use Rattle.calloop_core.specs.Calls.{CallbackCall}
-use Rattle.calloop_core.specs.Deeds.{Deed, Registered, Reregistered, Unregistered, Turned, Slept, Noticed, Heard}
+use Rattle.calloop_core.specs.Deeds.{Deed, Registered, Reregistered, Unregistered, Turned, SaysNothing, Slept, Noticed, Heard}
 use Rattle.calloop_core.specs.Holdings.{holds_none}
 use Rattle.calloop_core.specs.Keys.{no_key}
 use Rattle.calloop_core.specs.declared.sources.Role.TheVariants.{Caller}
@@ -149,7 +149,7 @@ module _ {P I E : Type 0} (sockets : Sockets P I) where
     IsGeneric s v (Registered f answer g) steps t = RegisteredFrom s.token s v f answer steps t g
     IsGeneric s v (Reregistered f answer g) steps t = ReregisteredFrom s.token s v f answer steps t g
     IsGeneric s v (Unregistered answer) steps t = UnregisteredFrom s.token s v answer steps t
-    IsGeneric s v (Slept answer) steps t = (answer ≡ Ok None) × (steps ≡ []) × (t ≡ s)
+    IsGeneric s v (Slept given answer) steps t = SaysNothing given answer × (steps ≡ []) × (t ≡ s)
     IsGeneric s v (Noticed events) steps t = (steps ≡ []) × (t ≡ s)
     IsGeneric s v (Turned readiness token turn) steps t =
         IsCalled s v readiness token turn.calls turn.answer steps t ⊎ IsIgnored s token turn.calls turn.answer steps t
@@ -161,6 +161,7 @@ module _ {P I E : Type 0} (sockets : Sockets P I) where
           keys = λ s. under_token s.token;
           fits = λ s. Unit {0};
           needs = λ s. false;
+          limit = λ s. 0;
           role = λ s. Caller;
           does = IsGeneric;
         }

@@ -18,7 +18,7 @@ use Rattle.calloop_core.specs.declared.timer.Timer.{Timer}
 use Rattle.calloop_core.specs.declared.timer.Registration.{Registration}
 use Rattle.calloop_core.specs.Deeds.{Registered, Reregistered, Unregistered, Turned, Slept, Noticed}
 use Rattle.calloop_core.specs.Keys.{IsKeyOf, IsFactoryOf, AllActFor}
-use Rattle.calloop_core.specs.Lawful.{next_is_own, StaysHome, stays_home}
+use Rattle.calloop_core.specs.Lawful.{next_is_own, StaysHome, stays_home, silent}
 use Rattle.calloop_core.specs.Meanings.{IsKeeping, KeepsCounters}
 use Rattle.calloop_core.specs.Polls.{PollView, PollStep}
 use Rattle.calloop_core.specs.Holdings.{Holding, Free, Spent, Standing, IsWithin, Keeps, with_hold}
@@ -119,7 +119,7 @@ timer_counts : {P : Type 0} → KeepsCounters (timer_meaning {P = P})
 timer_counts s t v (Registered f a g) l fits below h = (tt, timer_reg_keeps s t v f g a l h)
 timer_counts s t v (Reregistered f a g) l fits below h = (tt, timer_reg_keeps s t v f g a l h)
 timer_counts s t v (Unregistered a) l fits below h = (tt, timer_unreg_keeps s t v a l h)
-timer_counts s t v (Slept a) l fits below h = (tt, rw (h.1, h.2) (λ counter. within_same (timer_holds s counter)))
+timer_counts s t v (Slept gs a) l fits below h = (tt, rw (h.1, h.2) (λ counter. within_same (timer_holds s counter)))
 timer_counts s t v (Noticed es) l fits below h = (tt, rw (h.0, h.1) (λ counter. within_same (timer_holds s counter)))
 timer_counts s t v (Turned r k turn) l fits below h = (tt, timer_turn_keeps s t k v turn.calls turn.answer l h)
 
@@ -187,9 +187,14 @@ timer_stays r s t v (Registered f (Ok u) g) l begins h = home_registered r s t v
 timer_stays r s t v (Registered f (Err e) g) l begins h = home_registered r s t v f g (Err e) l begins.1 h
 timer_stays r s t v (Reregistered f a g) l begins h = home_registered r s t v f g a l begins.1 h
 timer_stays r s t v (Unregistered a) l home h = rw (h.1, h.2) (λ key none. absurd none, arms_none _ r s.registration)
-timer_stays r s t v (Slept a) l home h = rw (h.1, h.2) (home, tt)
+timer_stays r s t v (Slept gs a) l home h = rw (h.1, h.2) (home, tt)
 timer_stays r s t v (Noticed es) l home h = rw (h.0, h.1) (home, tt)
 timer_stays r s t v (Turned readiness k turn) l home h = home_turn r s t k v turn.calls turn.answer l home h
 
 pub timer_keeps : {P : Type 0} → IsKeeping (timer_meaning {P = P})
-timer_keeps = record { counters = timer_counts; home = stays_home timer_meaning timer_stays }
+timer_keeps =
+    record {
+      counters = timer_counts;
+      home = stays_home timer_meaning timer_stays;
+      limit = silent timer_meaning (λ s. refl) (λ s t v given answer steps h. h.0.0);
+    }

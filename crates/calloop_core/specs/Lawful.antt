@@ -1,7 +1,7 @@
 -- Proofs that the dispatchers of the library meet the laws of `Meanings`. They define nothing; impls cite them, so
 -- they stand here.
-use Rattle.std.specs.Prelude.{◌≡◌, ◌↔◌, ℕ, List, [], ◌∷◌, Result, Ok, Err}
-use Rattle.std.proofs.Common.{refl, sym, ap, subst, ◌∙◌, inl, inr}
+use Rattle.std.specs.Prelude.{◌≡◌, ◌↔◌, ◌≤◌, ℕ, List, [], ◌∷◌, length, true, false, Result, Ok, Err}
+use Rattle.std.proofs.Common.{refl, sym, ap, subst, ◌∙◌, inl, inr, arith}
 use Rattle.anyhow.specs.declared.error.Error.{Error as Cause}
 use Rattle.calloop_wake.specs.declared.error.Error.{Error}
 use Rattle.calloop_wake.specs.declared.error.Error.TheVariants.{
@@ -18,7 +18,10 @@ use Rattle.calloop_wake.specs.declared.error.Error.TheVariants.{
 }
 use Rattle.calloop_wake.specs.declared.token.RegistrationToken.{RegistrationToken}
 use Rattle.calloop_wake.specs.declared.token.TokenFactory.{TokenFactory}
+use Rattle.calloop_wake.specs.declared.token.Token.{Token}
 use Rattle.calloop_wake.specs.Tokens.{key_of, next_token}
+use Rattle.calloop_core.specs.declared.sys.Readiness.{Readiness}
+use Rattle.calloop_core.specs.declared.sources.Dispatcher.{Dispatcher}
 use Rattle.calloop_core.specs.declared.sources.OneOf.{OneOf}
 use Rattle.calloop_core.specs.declared.sources.OneOf.TheVariants.{First, Other}
 use Rattle.calloop_core.specs.Polls.{PollView, PollStep}
@@ -30,9 +33,9 @@ use Rattle.std.specs.declared.io.ErrorKind.TheVariants.{OutOfMemory as NoMemory}
 use Rattle.calloop_core.specs.Deeds.{Deed, Registered, Reregistered, Unregistered, Turned, Slept, Noticed}
 use Rattle.calloop_core.specs.Deeds.{Heard, Lent}
 use Rattle.calloop_core.specs.Keys.{IsKeyOf, IsFactoryOf, AllActFor}
-use Rattle.calloop_core.specs.Meanings.{Meaning, IsKeeping, KeepsCounters, KeepsHome, IsAsking, FailsAsSource, IsHeld}
+use Rattle.calloop_core.specs.Meanings.{Meaning, IsKeeping, KeepsCounters, KeepsHome, KeepsLimit, IsAsking, FailsAsSource, IsHeld}
 use Rattle.calloop_core.specs.Meanings.{IsAtHome, BeginsIn}
-use Rattle.calloop_core.specs.Meanings.{with_callback, on_both, one_of, seen_as, still, attentive}
+use Rattle.calloop_core.specs.Meanings.{with_callback, dispatched, on_both, one_of, seen_as, still, attentive, attentive_to}
 
 -- Of an error of a source.
 
@@ -86,11 +89,43 @@ keeping_still does =
     record {
       counters = λ s t v deed steps fits below h. (tt, rw h.0 (λ counter. tt));
       home = λ registration s t v deed steps begins h. (λ key held. absurd held, λ home. rw h.0 tt);
+      limit =
+          record {
+            same = λ s t v deed steps h. refl;
+            within = λ s t v given answer steps h. h.2;
+            untold = λ s none. refl;
+          };
+    }
+
+pub keeping_attentive_to : {D P T : Type 0} (limit : ℕ) (does : D → PollView P → Deed T → D → Type 0)
+    → IsKeeping (attentive_to limit does)
+keeping_attentive_to limit does =
+    record {
+      counters = λ s t v deed steps fits below h. (tt, rw h.0 (λ counter. tt));
+      home = λ registration s t v deed steps begins h. (λ key held. absurd held, λ home. rw h.0 tt);
+      limit =
+          record {
+            same = λ s t v deed steps h. refl;
+            within = λ s t v given answer steps h. h.2;
+            untold = λ s none. (let no : true ≡ false = none in cc);
+          };
     }
 
 pub keeping_attentive : {D P T : Type 0} (does : D → PollView P → Deed T → D → Type 0) → IsKeeping (attentive does)
-keeping_attentive does =
-    let still = keeping_still does in record { counters = still.counters; home = still.home }
+keeping_attentive does = keeping_attentive_to 1 does
+
+-- Of what asks for no event before a wait.
+
+pub silent : {D P T : Type 0} (m : Meaning D P T) → ((s : D) → m.limit s ≡ 0)
+    → ((s t : D) (v : PollView P) (given : List (Readiness × Token)) (answer : Result (Unit {0}) Error)
+    (steps : List (PollStep P)) → m.does s v (Slept given answer) steps t → given ≡ [])
+    → KeepsLimit m
+silent m none says =
+    record {
+      same = λ s t v deed steps h. none t ∙ sym (none s);
+      within = λ s t v given answer steps h. rw (says s t v given answer steps h) (omega arith);
+      untold = λ s untold. none s;
+    }
 
 -- Of a source with its callback.
 
@@ -103,8 +138,8 @@ counters_with_callback m may reaches becomes k s t v (Reregistered f a g) steps 
     k s.source t.source v (Reregistered f a g) steps fits below h.0
 counters_with_callback m may reaches becomes k s t v (Unregistered a) steps fits below h =
     k s.source t.source v (Unregistered a) steps fits below h.0
-counters_with_callback m may reaches becomes k s t v (Slept a) steps fits below h =
-    k s.source t.source v (Slept a) steps fits below h.0
+counters_with_callback m may reaches becomes k s t v (Slept gs a) steps fits below h =
+    k s.source t.source v (Slept gs a) steps fits below h.0
 counters_with_callback m may reaches becomes k s t v (Noticed es) steps fits below h =
     k s.source t.source v (Noticed es) steps fits below h.0
 counters_with_callback m may reaches becomes k s t v (Turned r j turn) steps fits below h =
@@ -121,12 +156,29 @@ home_with_callback m may reaches becomes k registration s t v (Reregistered f a 
     k registration s.source t.source v (Reregistered f a g) steps begins h.0
 home_with_callback m may reaches becomes k registration s t v (Unregistered a) steps begins h =
     k registration s.source t.source v (Unregistered a) steps begins h.0
-home_with_callback m may reaches becomes k registration s t v (Slept a) steps begins h =
-    k registration s.source t.source v (Slept a) steps begins h.0
+home_with_callback m may reaches becomes k registration s t v (Slept gs a) steps begins h =
+    k registration s.source t.source v (Slept gs a) steps begins h.0
 home_with_callback m may reaches becomes k registration s t v (Noticed es) steps begins h =
     k registration s.source t.source v (Noticed es) steps begins h.0
 home_with_callback m may reaches becomes k registration s t v (Turned r j turn) steps begins h =
     k registration s.source t.source v (Turned r j h.inner) steps begins h.turned
+
+limit_with_callback : {S F P E M T Cause X Q : Type 0} (m : Meaning S P (Heard E M T Cause))
+    (may : Calling F E M T X Q) (reaches : Q → Q → Type 0) (becomes : Cause → Error → Type 0) → KeepsLimit m
+    → (s t : Dispatcher S F) (v : PollView P) (deed : Deed (Lent X Q)) (steps : List (PollStep P))
+    → dispatched m may reaches becomes s v deed steps t → m.limit t.source ≡ m.limit s.source
+limit_with_callback m may reaches becomes k s t v (Registered f a g) steps h =
+    k.same s.source t.source v (Registered f a g) steps h.0
+limit_with_callback m may reaches becomes k s t v (Reregistered f a g) steps h =
+    k.same s.source t.source v (Reregistered f a g) steps h.0
+limit_with_callback m may reaches becomes k s t v (Unregistered a) steps h =
+    k.same s.source t.source v (Unregistered a) steps h.0
+limit_with_callback m may reaches becomes k s t v (Slept gs a) steps h =
+    k.same s.source t.source v (Slept gs a) steps h.0
+limit_with_callback m may reaches becomes k s t v (Noticed es) steps h =
+    k.same s.source t.source v (Noticed es) steps h.0
+limit_with_callback m may reaches becomes k s t v (Turned r j turn) steps h =
+    k.same s.source t.source v (Turned r j h.inner) steps h.turned
 
 pub keeping_with_callback : {S F P E M T Cause X Q : Type 0} (m : Meaning S P (Heard E M T Cause))
     (may : Calling F E M T X Q) (reaches : Q → Q → Type 0) (becomes : Cause → Error → Type 0)
@@ -135,6 +187,12 @@ keeping_with_callback m may reaches becomes k =
     record {
       counters = counters_with_callback m may reaches becomes k.counters;
       home = home_with_callback m may reaches becomes k.home;
+      limit =
+          record {
+            same = limit_with_callback m may reaches becomes k.limit;
+            within = λ s t v given answer steps h. k.limit.within s.source t.source v given answer steps h.0;
+            untold = λ s none. k.limit.untold s.source none;
+          };
     }
 
 -- what many calls ask for is reached too
@@ -184,10 +242,41 @@ home_one_of m n h k registration (Other a) (Other b) v deed steps begins d = k r
 home_one_of m n h k registration (First a) (Other b) v deed steps begins d = absurd d
 home_one_of m n h k registration (Other a) (First b) v deed steps begins d = absurd d
 
+limit_one_of : {A B P T : Type 0} (m : Meaning A P T) (n : Meaning B P T)
+    → KeepsLimit m → KeepsLimit n → (s t : OneOf A B) (v : PollView P) (deed : Deed T) (steps : List (PollStep P))
+    → (one_of m n).does s v deed steps t → (one_of m n).limit t ≡ (one_of m n).limit s
+limit_one_of m n h k (First a) (First b) v deed steps d = h.same a b v deed steps d
+limit_one_of m n h k (Other a) (Other b) v deed steps d = k.same a b v deed steps d
+limit_one_of m n h k (First a) (Other b) v deed steps d = absurd d
+limit_one_of m n h k (Other a) (First b) v deed steps d = absurd d
+
+within_one_of : {A B P T : Type 0} (m : Meaning A P T) (n : Meaning B P T)
+    → KeepsLimit m → KeepsLimit n → (s t : OneOf A B) (v : PollView P) (given : List (Readiness × Token))
+    (answer : Result (Unit {0}) Error) (steps : List (PollStep P))
+    → (one_of m n).does s v (Slept given answer) steps t → length given ≤ (one_of m n).limit s
+within_one_of m n h k (First a) (First b) v given answer steps d = h.within a b v given answer steps d
+within_one_of m n h k (Other a) (Other b) v given answer steps d = k.within a b v given answer steps d
+within_one_of m n h k (First a) (Other b) v given answer steps d = absurd d
+within_one_of m n h k (Other a) (First b) v given answer steps d = absurd d
+
+untold_one_of : {A B P T : Type 0} (m : Meaning A P T) (n : Meaning B P T) → KeepsLimit m → KeepsLimit n
+    → (s : OneOf A B) → (one_of m n).needs s ≡ false → (one_of m n).limit s ≡ 0
+untold_one_of m n h k (First a) none = h.untold a none
+untold_one_of m n h k (Other b) none = k.untold b none
+
 pub keeping_one_of : {A B P T : Type 0} (m : Meaning A P T) (n : Meaning B P T)
     → IsKeeping m → IsKeeping n → IsKeeping (one_of m n)
 keeping_one_of m n h k =
-    record { counters = counters_one_of m n h.counters k.counters; home = home_one_of m n h.home k.home }
+    record {
+      counters = counters_one_of m n h.counters k.counters;
+      home = home_one_of m n h.home k.home;
+      limit =
+          record {
+            same = limit_one_of m n h.limit k.limit;
+            within = within_one_of m n h.limit k.limit;
+            untold = untold_one_of m n h.limit k.limit;
+          };
+    }
 
 pub asking_one_of : {A B P X Q : Type 0} (reaches : Q → Q → Type 0)
     (m : Meaning A P (Lent X Q)) (n : Meaning B P (Lent X Q))
@@ -211,6 +300,12 @@ keeping_seen see m h =
     record {
       counters = λ s t. h.counters (see s) (see t);
       home = λ registration s t. h.home registration (see s) (see t);
+      limit =
+          record {
+            same = λ s t. h.limit.same (see s) (see t);
+            within = λ s t. h.limit.within (see s) (see t);
+            untold = λ s. h.limit.untold (see s);
+          };
     }
 
 pub asking_seen : {D A P X Q : Type 0} (see : D → A) (reaches : Q → Q → Type 0) (m : Meaning A P (Lent X Q))
@@ -240,6 +335,7 @@ held_itself m =
       keys = λ s key. (λ h. h, λ h. h);
       fits = λ s. (λ h. h, λ h. h);
       needs = λ s. refl;
+      limit = λ s. refl;
       role = λ s. refl;
       does = λ s v deed steps t. (λ h. (t, refl, h), λ u. rw u.1 u.2);
     }
@@ -251,6 +347,7 @@ held_first m n =
       keys = λ s key. (λ h. h, λ h. h);
       fits = λ s. (λ h. h, λ h. h);
       needs = λ s. refl;
+      limit = λ s. refl;
       role = λ s. refl;
       does = λ s v deed steps. first_step (λ a b. m.does a v deed steps b) (λ a b. n.does a v deed steps b) s;
     }
@@ -262,6 +359,7 @@ held_other m n =
       keys = λ s key. (λ h. h, λ h. h);
       fits = λ s. (λ h. h, λ h. h);
       needs = λ s. refl;
+      limit = λ s. refl;
       role = λ s. refl;
       does = λ s v deed steps. other_step (λ a b. m.does a v deed steps b) (λ a b. n.does a v deed steps b) s;
     }
@@ -277,6 +375,7 @@ held_through f g m n o h k =
           (λ x. (h.keys s key).0 ((k.keys (f s) key).0 x), λ x. (k.keys (f s) key).1 ((h.keys s key).1 x));
       fits = λ s. (λ x. (h.fits s).0 ((k.fits (f s)).0 x), λ x. (k.fits (f s)).1 ((h.fits s).1 x));
       needs = λ s. k.needs (f s) ∙ h.needs s;
+      limit = λ s. k.limit (f s) ∙ h.limit s;
       role = λ s. k.role (f s) ∙ h.role s;
       does = λ s v deed steps t. (
         λ w.

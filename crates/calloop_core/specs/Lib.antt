@@ -27,6 +27,7 @@ pub mod Generics
 pub mod GenericKeeping
 pub mod Keeping
 pub mod Waits
+pub mod Synthetics
 pub mod Scripts
 pub mod Lending
 pub mod ScriptCalls

@@ -13,7 +13,7 @@ registered_after before (Registered f answer g) = true
 registered_after before (Reregistered f answer g) = true
 registered_after before (Unregistered answer) = false
 registered_after before (Turned readiness token turn) = before
-registered_after before (Slept answer) = before
+registered_after before (Slept given answer) = before
 registered_after before (Noticed events) = before
 
 abbrev pub Succeeds : {E M T Cause : Type 0} → Deed (Heard E M T Cause) → Type 0
@@ -21,7 +21,7 @@ Succeeds (Registered f answer g) = answer ≡ Ok tt
 Succeeds (Reregistered f answer g) = answer ≡ Ok tt
 Succeeds (Unregistered answer) = answer ≡ Ok tt
 Succeeds {E} {M} {T} {Cause} (Turned readiness token turn) = (action : PostAction) × (turn.answer ≡ Ok action)
-Succeeds (Slept answer) = Unit {0}
+Succeeds (Slept given answer) = Unit {0}
 Succeeds (Noticed events) = Unit {0}
 
 module _ {S P E M T Cause : Type 0} (m : Meaning S P (Heard E M T Cause)) where

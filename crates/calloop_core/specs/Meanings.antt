@@ -1,7 +1,7 @@
 -- What a source or a dispatcher means: a relation between what it is before a call, what the call read of `Poll`,
 -- what was done, the steps that it made there, and what it is after it. calloop's `EventSource` and
 -- `EventDispatcher`, seen from outside; calloop promises nothing of them.
-use Rattle.std.specs.Prelude.{◌≡◌, ◌↔◌, ℕ, List, [], Bool, true, false, Result, Ok, Err}
+use Rattle.std.specs.Prelude.{◌≡◌, ◌↔◌, ◌≤◌, ℕ, List, [], length, Bool, true, false, Result, Ok, Err}
 use Rattle.calloop_wake.specs.declared.error.Error.{Error}
 use Rattle.calloop_wake.specs.declared.token.Token.{Token}
 use Rattle.calloop_wake.specs.declared.token.RegistrationToken.{RegistrationToken}
@@ -30,6 +30,8 @@ pub record Meaning (D P T : Type 0) : Type 1 where
   pub fits : D → Type 0
   -- whether it is told of waits: before each, and after each
   pub needs : D → Bool
+  -- for how many events it may ask before one wait
+  pub limit : D → ℕ
   -- whose it is: the caller's, or the loop's own
   pub role : D → Role
   pub does : D → PollView P → Deed T → List (PollStep P) → D → Type 0
@@ -76,7 +78,7 @@ BeginsIn at_home registration (Registered f (Err e) g) = at_home × IsFactoryOf 
 BeginsIn at_home registration (Reregistered f answer g) = at_home × IsFactoryOf registration f
 BeginsIn at_home registration (Unregistered answer) = at_home
 BeginsIn at_home registration (Turned readiness token turn) = at_home
-BeginsIn at_home registration (Slept answer) = at_home
+BeginsIn at_home registration (Slept given answer) = at_home
 BeginsIn at_home registration (Noticed events) = at_home
 
 -- each deed that begins in a registration leaves it at home there, and where it was at home it acts under keys of that
@@ -87,10 +89,20 @@ KeepsHome {D} {P} {T} m =
     → BeginsIn (IsAtHome m registration s) registration deed → m.does s v deed steps t
     → IsAtHome m registration t × (IsAtHome m registration s → AllActFor registration steps)
 
+-- Its limit is its own for good, whatever it does; before a wait it asks for no more events than that; and what isn't told of
+-- waits may ask for none. calloop's sources answer one at most.
+pub record KeepsLimit {D P T : Type 0} (m : Meaning D P T) : Type 0 where
+  pub same : (s t : D) (v : PollView P) (deed : Deed T) (steps : List (PollStep P))
+      → m.does s v deed steps t → m.limit t ≡ m.limit s
+  pub within : (s t : D) (v : PollView P) (given : List (Readiness × Token)) (answer : Result (Unit {0}) Error)
+      (steps : List (PollStep P)) → m.does s v (Slept given answer) steps t → length given ≤ m.limit s
+  pub untold : (s : D) → m.needs s ≡ false → m.limit s ≡ 0
+
 -- what is promised of every source
 pub record IsKeeping {D P T : Type 0} (m : Meaning D P T) : Type 0 where
   pub counters : KeepsCounters m
   pub home : KeepsHome m
+  pub limit : KeepsLimit m
 
 -- what a turn asks for is reached from what was asked before it
 abbrev pub IsAsking : {D P X Q : Type 0} → (Q → Q → Type 0) → Meaning D P (Lent X Q) → Type 0
@@ -127,8 +139,8 @@ dispatched m may reaches becomes s v (Reregistered f answer g) steps t =
     m.does s.source v (Reregistered f answer g) steps t.source × (t.callback ≡ s.callback)
 dispatched m may reaches becomes s v (Unregistered answer) steps t =
     m.does s.source v (Unregistered answer) steps t.source × (t.callback ≡ s.callback)
-dispatched m may reaches becomes s v (Slept answer) steps t =
-    m.does s.source v (Slept answer) steps t.source × (t.callback ≡ s.callback)
+dispatched m may reaches becomes s v (Slept given answer) steps t =
+    m.does s.source v (Slept given answer) steps t.source × (t.callback ≡ s.callback)
 dispatched m may reaches becomes s v (Noticed events) steps t =
     m.does s.source v (Noticed events) steps t.source × (t.callback ≡ s.callback)
 dispatched m may reaches becomes s v (Turned readiness token turn) steps t =
@@ -144,6 +156,7 @@ with_callback m may reaches becomes =
       keys = λ s. m.keys s.source;
       fits = λ s. m.fits s.source;
       needs = λ s. m.needs s.source;
+      limit = λ s. m.limit s.source;
       role = λ s. Caller;
       does = dispatched m may reaches becomes;
     }
@@ -168,6 +181,7 @@ one_of m n =
       keys = of_either m.keys n.keys;
       fits = of_either m.fits n.fits;
       needs = of_either m.needs n.needs;
+      limit = of_either m.limit n.limit;
       role = of_either m.role n.role;
       does = λ s v deed steps t. on_both (λ a b. m.does a v deed steps b) (λ a b. n.does a v deed steps b) s t;
     }
@@ -180,9 +194,19 @@ seen_as see m =
       keys = λ s. m.keys (see s);
       fits = λ s. m.fits (see s);
       needs = λ s. m.needs (see s);
+      limit = λ s. m.limit (see s);
       role = λ s. m.role (see s);
       does = λ s v deed steps t. m.does (see s) v deed steps (see t);
     }
+
+-- what is asked for before a wait is no more than so much
+abbrev pub IsWithin : {T : Type 0} → (limit : ℕ) → Deed T → Type 0
+IsWithin limit (Registered f answer g) = Unit {0}
+IsWithin limit (Reregistered f answer g) = Unit {0}
+IsWithin limit (Unregistered answer) = Unit {0}
+IsWithin limit (Turned readiness token turn) = Unit {0}
+IsWithin limit (Slept given answer) = length given ≤ limit
+IsWithin limit (Noticed events) = Unit {0}
 
 -- what holds no counter and no key, does nothing to `Poll`, and isn't told of waits
 abbrev pub still : {D P T : Type 0} → (D → PollView P → Deed T → D → Type 0) → Meaning D P T
@@ -192,13 +216,23 @@ still does =
       keys = λ s. no_key;
       fits = λ s. Unit {0};
       needs = λ s. false;
+      limit = λ s. 0;
       role = λ s. Caller;
-      does = λ s v deed steps t. (steps ≡ []) × does s v deed t;
+      does = λ s v deed steps t. (steps ≡ []) × does s v deed t × IsWithin 0 deed;
     }
 
--- the same, but told of waits
+-- the same, but told of waits, before which it may ask for so many events
+abbrev pub attentive_to : {D P T : Type 0} → (limit : ℕ) → (D → PollView P → Deed T → D → Type 0) → Meaning D P T
+attentive_to limit does =
+    record (still does) {
+      needs = λ s. true;
+      limit = λ s. limit;
+      does = λ s v deed steps t. (steps ≡ []) × does s v deed t × IsWithin limit deed;
+    }
+
+-- the same with one event
 abbrev pub attentive : {D P T : Type 0} → (D → PollView P → Deed T → D → Type 0) → Meaning D P T
-attentive does = record (still does) { needs = λ s. true }
+attentive does = attentive_to 1 does
 
 -- what is held means what the part means: it goes just where the part goes, and is held again
 pub record IsHeld {A D P T : Type 0} (held : A → D) (m : Meaning A P T) (n : Meaning D P T) : Type 0 where
@@ -206,6 +240,7 @@ pub record IsHeld {A D P T : Type 0} (held : A → D) (m : Meaning A P T) (n : M
   pub keys : (s : A) (key : ℕ) → n.keys (held s) key ↔ m.keys s key
   pub fits : (s : A) → n.fits (held s) ↔ m.fits s
   pub needs : (s : A) → n.needs (held s) ≡ m.needs s
+  pub limit : (s : A) → n.limit (held s) ≡ m.limit s
   pub role : (s : A) → n.role (held s) ≡ m.role s
   pub does : (s : A) (v : PollView P) (deed : Deed T) (steps : List (PollStep P)) (t : D)
       → n.does (held s) v deed steps t ↔ ((b : A) × (t ≡ held b) × m.does s v deed steps b)

@@ -1,5 +1,6 @@
 -- A source whose registration can be taken back and made again by a registration anew. Calloop has none: there the parts of a source are
 -- registered anew one by one, each beside what the others still have.
+use Rattle.std.proofs.Common.{refl}
 use Rattle.std.specs.Prelude.{true, false, List, Result, Ok, Err}
 use Rattle.calloop_wake.specs.declared.error.Error.{Error}
 use Rattle.calloop_wake.specs.declared.token.TokenFactory.{TokenFactory}
@@ -10,7 +11,7 @@ use Rattle.calloop_core.specs.Polls.{PollView, PollStep}
 use Rattle.calloop_core.specs.Deeds.{Deed, Registered, Reregistered, Unregistered, Turned, Slept, Noticed, Heard}
 use Rattle.calloop_core.specs.declared.sources.Role.TheVariants.{Caller}
 use Rattle.calloop_core.specs.Meanings.{Meaning, IsKeeping, KeepsCounters, KeepsHome, seen_as}
-use Rattle.calloop_core.specs.Lawful.{keeping_seen}
+use Rattle.calloop_core.specs.Lawful.{keeping_seen, silent}
 use Rattle.calloop_core.specs.Transients.{Moves, RegisteredAs, ReregisteredAs, coming, state_holds, state_keys, state_fits}
 use Rattle.calloop_core.specs.Transience.{state_keeps, by_registering}
 
@@ -36,12 +37,12 @@ module _ {S P E M T Cause : Type 0} (m : Meaning S P (Heard E M T Cause)) where
   MovesAgain state v (Registered f answer g) steps t = Moves m state v (Registered f answer g) steps t
   MovesAgain state v (Unregistered answer) steps t = Moves m state v (Unregistered answer) steps t
   MovesAgain state v (Turned readiness token turn) steps t = Moves m state v (Turned readiness token turn) steps t
-  MovesAgain state v (Slept answer) steps t = Moves m state v (Slept answer) steps t
+  MovesAgain state v (Slept given answer) steps t = Moves m state v (Slept given answer) steps t
   MovesAgain state v (Noticed events) steps t = Moves m state v (Noticed events) steps t
 
   abbrev pub again_meaning : Meaning (State S) P (Heard E M T Cause)
   again_meaning =
-      record { holds = state_holds m; keys = state_keys m; fits = state_fits m; needs = λ state. false; role = λ state. Caller; does = MovesAgain }
+      record { holds = state_holds m; keys = state_keys m; fits = state_fits m; needs = λ state. false; limit = λ state. 0; role = λ state. Caller; does = MovesAgain }
 
   abbrev pub movable_meaning : Meaning (Movable S) P (Heard E M T Cause)
   movable_meaning = seen_as (λ s. s.source.state) again_meaning
@@ -70,7 +71,7 @@ module _ {S P E M T Cause : Type 0} (m : Meaning S P (Heard E M T Cause)) (k : I
       (state_keeps m k).counters s t v (Unregistered a) l fits below h
   again_counts s t v (Turned readiness token turn) l fits below h =
       (state_keeps m k).counters s t v (Turned readiness token turn) l fits below h
-  again_counts s t v (Slept a) l fits below h = (state_keeps m k).counters s t v (Slept a) l fits below h
+  again_counts s t v (Slept gs a) l fits below h = (state_keeps m k).counters s t v (Slept gs a) l fits below h
   again_counts s t v (Noticed es) l fits below h = (state_keeps m k).counters s t v (Noticed es) l fits below h
 
   again_stays : KeepsHome (again_meaning m)
@@ -95,11 +96,16 @@ module _ {S P E M T Cause : Type 0} (m : Meaning S P (Heard E M T Cause)) (k : I
   again_stays r s t v (Unregistered a) l begins h = (state_keeps m k).home r s t v (Unregistered a) l begins h
   again_stays r s t v (Turned readiness token turn) l begins h =
       (state_keeps m k).home r s t v (Turned readiness token turn) l begins h
-  again_stays r s t v (Slept a) l begins h = (state_keeps m k).home r s t v (Slept a) l begins h
+  again_stays r s t v (Slept gs a) l begins h = (state_keeps m k).home r s t v (Slept gs a) l begins h
   again_stays r s t v (Noticed es) l begins h = (state_keeps m k).home r s t v (Noticed es) l begins h
 
   again_keeps : IsKeeping (again_meaning m)
-  again_keeps = record { counters = again_counts; home = again_stays }
+  again_keeps =
+      record {
+        counters = again_counts;
+        home = again_stays;
+        limit = silent (again_meaning m) (λ s. refl) (λ s t v given answer steps h. h.0.0);
+      }
 
   pub movable_keeps : IsKeeping (movable_meaning m)
   movable_keeps = keeping_seen (λ s. s.source.state) (again_meaning m) again_keeps

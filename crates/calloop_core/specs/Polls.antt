@@ -191,13 +191,20 @@ timer_event entry = record { readiness = ready_to_read; token = entry.token; pos
 abbrev pub timer_events : List Entry → List Pending
 timer_events entries = map timer_event entries
 
--- this event waits for its turn after those that wait
-abbrev pub appended : {P : Type 0} → Pending → PollView P → PollView P
-appended e v = record v { batch = v.batch ++ e ∷ [] }
-
 -- an event that a source asks for before a wait
 abbrev pub own_event : Readiness × Token → Pending
 own_event given = record { readiness = given.0; token = given.1; posted = false }
+
+abbrev pub own_events : List (Readiness × Token) → List Pending
+own_events given = map own_event given
+
+-- these events, for which a source asks before a wait, wait for their turn after those that wait, each in its place
+abbrev pub joining : {P : Type 0} → List (Readiness × Token) → PollView P → PollView P
+joining given v = record v { batch = v.batch ++ own_events given }
+
+-- this event waits for its turn after those that wait
+abbrev pub appended : {P : Type 0} → Pending → PollView P → PollView P
+appended e v = record v { batch = v.batch ++ e ∷ [] }
 
 -- the posted keys, as far as there is room, and the deadlines that are due are taken, and the batch is what was left
 -- over, then the posted keys, then what the poller gave, then the timers

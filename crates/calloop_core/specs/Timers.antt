@@ -20,7 +20,7 @@ use Rattle.calloop_core.specs.declared.timer.Registration.{Registration}
 use Rattle.calloop_core.specs.Calls.{CallbackCall}
 use Rattle.calloop_core.specs.Holdings.{Holding, Free, Spent, Standing}
 use Rattle.calloop_core.specs.Keys.{no_key}
-use Rattle.calloop_core.specs.Deeds.{Deed, Registered, Reregistered, Unregistered, Turned, Slept, Noticed, Heard}
+use Rattle.calloop_core.specs.Deeds.{Deed, Registered, Reregistered, Unregistered, Turned, SaysNothing, Slept, Noticed, Heard}
 use Rattle.calloop_core.specs.Meanings.{Meaning}
 use Rattle.calloop_core.specs.Polls.{PollView, PollStep, Arm, ArmAgain, Cancel, Call, ReadClock}
 
@@ -147,10 +147,10 @@ abbrev pub IsTimer : {P : Type 0} → Timer → PollView P → Deed (Heard Insta
 IsTimer s v (Registered f answer g) steps t = IsTimerReg s v f answer steps t g
 IsTimer s v (Reregistered f answer g) steps t = IsTimerReg s v f answer steps t g
 IsTimer s v (Unregistered answer) steps t = IsTimerUnreg s answer steps t
-IsTimer s v (Slept answer) steps t = (answer ≡ Ok None) × (steps ≡ []) × (t ≡ s)
+IsTimer s v (Slept given answer) steps t = SaysNothing given answer × (steps ≡ []) × (t ≡ s)
 IsTimer s v (Noticed events) steps t = (steps ≡ []) × (t ≡ s)
 IsTimer s v (Turned readiness token turn) steps t = IsTimerTurn s token v turn.calls turn.answer steps t
 
 abbrev pub timer_meaning : {P : Type 0} → Meaning Timer P (Heard Instant (Unit {0}) TimeoutAction TimerError)
 timer_meaning =
-    record { holds = timer_holds; keys = timer_keys; fits = λ s. Unit {0}; needs = λ s. false; role = λ s. Caller; does = IsTimer }
+    record { holds = timer_holds; keys = timer_keys; fits = λ s. Unit {0}; needs = λ s. false; limit = λ s. 0; role = λ s. Caller; does = IsTimer }

@@ -1,5 +1,6 @@
 -- A source that comes and goes keeps to the laws where the source within does. The impl cites these proofs, so they stand
 -- here.
+use Rattle.std.proofs.Common.{refl}
 use Rattle.std.proofs.Common.{◌≡◌, inl, inr, ℕ, ◌++◌, [], List, Bool, true, false, Result, Ok, Err}
 use Rattle.calloop_wake.specs.declared.error.Error.{Error}
 use Rattle.calloop_wake.specs.declared.token.Token.{Token}
@@ -20,7 +21,7 @@ use Rattle.calloop_core.specs.Deeds.{Deed, Registered, Reregistered, Unregistere
 use Rattle.calloop_core.specs.Holdings.{Holding, holds_none, IsBelow, Keeps}
 use Rattle.calloop_core.specs.Keys.{IsKeyOf, IsFactoryOf, AllActFor}
 use Rattle.calloop_core.specs.Meanings.{Meaning, IsKeeping, KeepsCounters, KeepsHome, IsAtHome, BeginsIn}
-use Rattle.calloop_core.specs.Lawful.{keeping_seen}
+use Rattle.calloop_core.specs.Lawful.{keeping_seen, silent}
 use Rattle.calloop_core.specs.Beside.{
   IsApart,
   beside,
@@ -262,7 +263,7 @@ module _ {S P E M T Cause : Type 0} (m : Meaning S P (Heard E M T Cause)) (k : I
   state_counts s t v (Unregistered a) l fits below h = unregistered_counted s t v a l fits below h
   state_counts s t v (Turned readiness token turn) l fits below h =
       turned_counted s t v readiness token turn l fits below h
-  state_counts s t v (Slept a) l fits below h = rw (h.1, h.2) (fits, λ c. within_itself (state_holds m s c))
+  state_counts s t v (Slept gs a) l fits below h = rw (h.1, h.2) (fits, λ c. within_itself (state_holds m s c))
   state_counts s t v (Noticed es) l fits below h = rw (h.0, h.1) (fits, λ c. within_itself (state_holds m s c))
 
   -- Of keys.
@@ -459,11 +460,16 @@ module _ {S P E M T Cause : Type 0} (m : Meaning S P (Heard E M T Cause)) (k : I
       let x = unregistered_home r s t v a l begins h in (x.0, λ home. x.1)
   state_stays r s t v (Turned readiness token turn) l begins h =
       let x = turned_home r s t v readiness token turn l begins h in (x.0, λ home. x.1)
-  state_stays r s t v (Slept a) l begins h = rw (h.1, h.2) (begins, λ home. tt)
+  state_stays r s t v (Slept gs a) l begins h = rw (h.1, h.2) (begins, λ home. tt)
   state_stays r s t v (Noticed es) l begins h = rw (h.0, h.1) (begins, λ home. tt)
 
   pub state_keeps : IsKeeping (state_meaning m)
-  state_keeps = record { counters = state_counts; home = state_stays }
+  state_keeps =
+      record {
+        counters = state_counts;
+        home = state_stays;
+        limit = silent (state_meaning m) (λ s. refl) (λ s t v given answer steps h. h.0.0);
+      }
 
   pub transient_keeps : IsKeeping (transient_meaning m)
   transient_keeps = keeping_seen (λ s. s.state) (state_meaning m) state_keeps

@@ -16,7 +16,7 @@ use Rattle.calloop_core.specs.declared.transient.State.{State}
 use Rattle.calloop_core.specs.declared.transient.State.TheVariants.{Keep, Register, Disable, Remove, Replace, Empty}
 use Rattle.calloop_core.specs.declared.transient.TransientSource.{TransientSource}
 use Rattle.calloop_core.specs.Polls.{PollView, PollStep, polls_after}
-use Rattle.calloop_core.specs.Deeds.{Deed, Registered, Reregistered, Unregistered, Turned, Slept, Noticed, Heard, heard}
+use Rattle.calloop_core.specs.Deeds.{Deed, Registered, Reregistered, Unregistered, Turned, SaysNothing, Slept, Noticed, Heard, heard}
 use Rattle.calloop_core.specs.Holdings.{Holding, holds_none}
 use Rattle.calloop_core.specs.Keys.{no_key}
 use Rattle.calloop_core.specs.Beside.{IsApart, beside}
@@ -138,7 +138,7 @@ module _ {S P E M T Cause : Type 0} (m : Meaning S P (Heard E M T Cause)) where
   Moves state v (Unregistered answer) steps t = UnregisteredAs state v answer steps t
   Moves state v (Turned readiness token turn) steps t = TurnedAs state v readiness token turn steps t
   -- it isn't told of waits
-  Moves state v (Slept answer) steps t = (answer ≡ Ok None) × (steps ≡ []) × (t ≡ state)
+  Moves state v (Slept given answer) steps t = SaysNothing given answer × (steps ≡ []) × (t ≡ state)
   Moves state v (Noticed events) steps t = (steps ≡ []) × (t ≡ state)
 
   -- both where one replaces the other
@@ -168,7 +168,7 @@ module _ {S P E M T Cause : Type 0} (m : Meaning S P (Heard E M T Cause)) where
 
   abbrev pub state_meaning : Meaning (State S) P (Heard E M T Cause)
   state_meaning =
-      record { holds = state_holds; keys = state_keys; fits = state_fits; needs = λ state. false; role = λ state. Caller; does = Moves }
+      record { holds = state_holds; keys = state_keys; fits = state_fits; needs = λ state. false; limit = λ state. 0; role = λ state. Caller; does = Moves }
 
   abbrev pub transient_meaning : Meaning (TransientSource S) P (Heard E M T Cause)
   transient_meaning = seen_as (λ s. s.state) state_meaning

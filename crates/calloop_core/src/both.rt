@@ -11,6 +11,7 @@ use crate::movable::Movable;
 use crate::sources::{Asking, Dispatch, Dispatcher, PostAction, Role};
 use crate::sys::events::EventIterator;
 use crate::sys::poll::Poll;
+use crate::sys::synthetic::Synthetic;
 use crate::sys::{Poller, Readiness};
 use calloop_wake::error::{Error, Failed, Result as LoopResult};
 use calloop_wake::token::{RegistrationToken, Token, TokenFactory};
@@ -173,6 +174,10 @@ where
         false
     }
 
+    fn synthetic_limit(&self) -> u16 {
+        0
+    }
+
     fn role(&self) -> Role {
         Role::Caller
     }
@@ -181,8 +186,8 @@ where
         false
     }
 
-    fn before_sleep(&mut self) -> LoopResult<Option<(Readiness, Token)>> {
-        Ok(None)
+    fn before_sleep(&mut self, _out: &mut Synthetic) -> LoopResult<()> {
+        Ok(())
     }
 
     fn before_handle_events(&mut self, _events: EventIterator<'_>) {}

@@ -3,6 +3,7 @@
 use crate::sources::{Asking, Callback, EventSource, PostAction};
 use crate::sys::events::EventIterator;
 use crate::sys::poll::Poll;
+use crate::sys::synthetic::Synthetic;
 use crate::sys::{Poller, Readiness};
 use calloop_wake::error::Result as LoopResult;
 use calloop_wake::token::{Token, TokenFactory};
@@ -58,8 +59,12 @@ impl<P: Poller, C, R: Wait + Drop, T: EventSource<P, C, R>> EventSource<P, C, R>
         <T as EventSource<P, C, R>>::needs_extra_lifecycle_events()
     }
 
-    fn before_sleep(&mut self) -> LoopResult<Option<(Readiness, Token)>> {
-        (**self).before_sleep()
+    fn max_synthetic() -> u16 {
+        <T as EventSource<P, C, R>>::max_synthetic()
+    }
+
+    fn before_sleep(&mut self, out: &mut Synthetic) -> LoopResult<()> {
+        (**self).before_sleep(out)
     }
 
     fn before_handle_events(&mut self, events: EventIterator<'_>) {
@@ -127,8 +132,12 @@ impl<'a, P: Poller, C, R: Wait + Drop, T: EventSource<P, C, R>> EventSource<P, C
         <T as EventSource<P, C, R>>::needs_extra_lifecycle_events()
     }
 
-    fn before_sleep(&mut self) -> LoopResult<Option<(Readiness, Token)>> {
-        self.source.before_sleep()
+    fn max_synthetic() -> u16 {
+        <T as EventSource<P, C, R>>::max_synthetic()
+    }
+
+    fn before_sleep(&mut self, out: &mut Synthetic) -> LoopResult<()> {
+        self.source.before_sleep(out)
     }
 
     fn before_handle_events(&mut self, events: EventIterator<'_>) {

@@ -10,6 +10,7 @@ ghost use Rattle.calloop_core.specs.contracts.generic.Generic.{the_row};
 use crate::sources::{Asking, Callback, EventSource, IntoError, PostAction};
 use crate::sys::events::EventIterator;
 use crate::sys::poll::Poll;
+use crate::sys::synthetic::Synthetic;
 use crate::sys::{Interest, Mode, Poller, Readiness};
 use calloop_wake::error::{Error, Result as LoopResult};
 use calloop_wake::token::{Token, TokenFactory};
@@ -272,8 +273,12 @@ where
         false
     }
 
-    fn before_sleep(&mut self) -> LoopResult<Option<(Readiness, Token)>> {
-        Ok(None)
+    fn max_synthetic() -> u16 {
+        0
+    }
+
+    fn before_sleep(&mut self, _out: &mut Synthetic) -> LoopResult<()> {
+        Ok(())
     }
 
     fn before_handle_events(&mut self, _events: EventIterator<'_>) {}

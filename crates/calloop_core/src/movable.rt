@@ -2,6 +2,7 @@
 use crate::sources::{Asking, Callback, EventSource, PostAction};
 use crate::sys::events::EventIterator;
 use crate::sys::poll::Poll;
+use crate::sys::synthetic::Synthetic;
 use crate::sys::{Poller, Readiness};
 use crate::transient::TransientSource;
 use calloop_wake::error::Result as LoopResult;
@@ -89,8 +90,12 @@ where
         false
     }
 
-    fn before_sleep(&mut self) -> LoopResult<Option<(Readiness, Token)>> {
-        Ok(None)
+    fn max_synthetic() -> u16 {
+        0
+    }
+
+    fn before_sleep(&mut self, _out: &mut Synthetic) -> LoopResult<()> {
+        Ok(())
     }
 
     fn before_handle_events(&mut self, _events: EventIterator<'_>) {}

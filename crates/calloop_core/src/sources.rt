@@ -6,6 +6,7 @@ ghost use Rattle.calloop_core.specs.declared.sources.PostAction.TheVariants.{Rer
 
 use crate::sys::events::EventIterator;
 use crate::sys::poll::Poll;
+use crate::sys::synthetic::Synthetic;
 use crate::sys::{Poller, Readiness};
 use calloop_wake::error::{Error, Failed, Result as LoopResult, leave};
 use calloop_wake::token::{RegistrationToken, Token, TokenFactory};
@@ -126,6 +127,7 @@ pub trait EventSource<P: Poller, C, R: Wait + Drop> {
     ghost use Rattle.calloop_core.specs.Polls.{PollView, poll_view};
     ghost use Rattle.calloop_core.specs.Events.{events_left};
     ghost use Rattle.calloop_core.specs.Calls.{CallbackCall, Went};
+    ghost use Rattle.calloop_core.specs.Synthetics.{IsLent};
     ghost use Rattle.calloop_core.specs.Deeds.{Registered, Reregistered, Unregistered, Turned, Slept, Noticed, Heard, heard};
     ghost use Rattle.calloop_core.specs.Meanings.{Meaning, Does, IsKeeping};
 
@@ -179,10 +181,16 @@ pub trait EventSource<P: Poller, C, R: Wait + Drop> {
     fn needs_extra_lifecycle_events() -> bool
         ensures { (source : Self) → means.needs source ≡ result };
 
-    /// Called before each wait. An event that it answers joins the batch, and then the wait asks for no time. Its error ends the
-    /// dispatch, and what joined the batch stays in it.
-    fn before_sleep(&mut self) -> LoopResult<Option<(Readiness, Token)>>
-        ensures { (v : PollView P) → means.does self.old v (Slept result) [] self.new };
+    /// For how many events it may ask before one wait; 0 where it isn't told of waits.
+    fn max_synthetic() -> u16
+        ensures { (source : Self) → means.limit source ≡ result };
+
+    /// Called before each wait. The events that it asks for join the batch in their order, and then the wait asks for no time. Its
+    /// error ends the dispatch; then none of this call's events joins, and what joined the batch before stays in it.
+    fn before_sleep(&mut self, out: &mut Synthetic) -> LoopResult<()>
+        ensures lent { out.new ≡ record out.old { given = out.new.given } }
+        ensures slept { (v : PollView P) → IsLent (means.limit self.old) out.old
+            → means.does self.old v (Slept out.new.given result) [] self.new };
 
     /// Called after each wait, before any turn, with the events that it brought for this source's registration.
     fn before_handle_events(&mut self, events: EventIterator<'_>)
@@ -248,6 +256,7 @@ pub trait Dispatch<P: Poller, C, R: Wait + Drop, X, Q: Asking> {
     ghost use Rattle.std.specs.Prelude.{◌≡◌, ℕ, []};
     ghost use Rattle.calloop_core.specs.Polls.{PollView, IsReady, poll_view};
     ghost use Rattle.calloop_core.specs.Events.{events_left};
+    ghost use Rattle.calloop_core.specs.Synthetics.{IsLent};
     ghost use Rattle.calloop_core.specs.Deeds.{Registered, Reregistered, Unregistered, Turned, Slept, Noticed, Lent, lent};
     ghost use Rattle.calloop_core.specs.Meanings.{Meaning, Does, Settles, IsKeeping, IsAsking, FailsAsSource};
     ghost use Rattle.calloop_wake.specs.Failures.{with_error};
@@ -300,6 +309,10 @@ pub trait Dispatch<P: Poller, C, R: Wait + Drop, X, Q: Asking> {
     fn needs_extra_lifecycle_events(&self) -> bool
         ensures { result ≡ means.needs self.now };
 
+    /// For how many events the source may ask before one wait.
+    fn synthetic_limit(&self) -> u16
+        ensures { result ≡ means.limit self.now };
+
     /// Whose it is.
     fn role(&self) -> Role
         ensures { result ≡ means.role self.now };
@@ -310,9 +323,11 @@ pub trait Dispatch<P: Poller, C, R: Wait + Drop, X, Q: Asking> {
         ensures settles { Settles (means.role self.old) P.outside means token result self.old (poll_view poll.old) self.new (poll_view poll.new) }
         ensures ready { (more : ℕ) → IsReady more poll.old → IsReady more poll.new };
 
-    /// The source is told of the wait that comes.
-    fn before_sleep(&mut self) -> LoopResult<Option<(Readiness, Token)>>
-        ensures { (v : PollView P) → means.does self.old v (Slept result) [] self.new };
+    /// The source is told of the wait that comes, and may ask for events.
+    fn before_sleep(&mut self, out: &mut Synthetic) -> LoopResult<()>
+        ensures lent { out.new ≡ record out.old { given = out.new.given } }
+        ensures slept { (v : PollView P) → IsLent (means.limit self.old) out.old
+            → means.does self.old v (Slept out.new.given result) [] self.new };
 
     /// The source is told of the events that a wait brought for its registration.
     fn before_handle_events(&mut self, events: EventIterator<'_>)
@@ -386,6 +401,10 @@ where
         <S as EventSource<P, C, R>>::needs_extra_lifecycle_events()
     }
 
+    fn synthetic_limit(&self) -> u16 {
+        <S as EventSource<P, C, R>>::max_synthetic()
+    }
+
     fn role(&self) -> Role {
         Role::Caller
     }
@@ -394,8 +413,8 @@ where
         false
     }
 
-    fn before_sleep(&mut self) -> LoopResult<Option<(Readiness, Token)>> {
-        self.source.before_sleep()
+    fn before_sleep(&mut self, out: &mut Synthetic) -> LoopResult<()> {
+        self.source.before_sleep(out)
     }
 
     fn before_handle_events(&mut self, events: EventIterator<'_>) {
@@ -484,6 +503,13 @@ where
         }
     }
 
+    fn synthetic_limit(&self) -> u16 {
+        match self {
+            OneOf::First(held) => held.synthetic_limit(),
+            OneOf::Other(held) => held.synthetic_limit(),
+        }
+    }
+
     fn role(&self) -> Role {
         match self {
             OneOf::First(held) => held.role(),
@@ -498,10 +524,10 @@ where
         }
     }
 
-    fn before_sleep(&mut self) -> LoopResult<Option<(Readiness, Token)>> {
+    fn before_sleep(&mut self, out: &mut Synthetic) -> LoopResult<()> {
         match self {
-            OneOf::First(held) => held.before_sleep(),
-            OneOf::Other(held) => held.before_sleep(),
+            OneOf::First(held) => held.before_sleep(out),
+            OneOf::Other(held) => held.before_sleep(out),
         }
     }
 

@@ -16,6 +16,7 @@ pub mod marks;
 pub mod notifier;
 pub mod poll;
 pub mod script;
+pub mod synthetic;
 pub mod system;
 
 /// The most events that one wait gives.

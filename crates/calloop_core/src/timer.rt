@@ -11,6 +11,7 @@ ghost use Rattle.calloop_core.specs.Timers.{unarmed, releases, Armed, ArmedAgain
 use crate::sources::{Asking, Callback, EventSource, IntoError, PostAction};
 use crate::sys::events::EventIterator;
 use crate::sys::poll::Poll;
+use crate::sys::synthetic::Synthetic;
 use crate::sys::{Clock, Poller, Readiness};
 use calloop_wake::error::{Error, Result as LoopResult};
 use calloop_wake::token::{Token, TokenFactory};
@@ -293,8 +294,12 @@ impl<P: Poller, C, R: Wait + Drop> EventSource<P, C, R> for Timer {
         false
     }
 
-    fn before_sleep(&mut self) -> LoopResult<Option<(Readiness, Token)>> {
-        Ok(None)
+    fn max_synthetic() -> u16 {
+        0
+    }
+
+    fn before_sleep(&mut self, _out: &mut Synthetic) -> LoopResult<()> {
+        Ok(())
     }
 
     fn before_handle_events(&mut self, _events: EventIterator<'_>) {}

@@ -17,6 +17,7 @@ ghost use Rattle.calloop_core.specs.Marks.{IsMarked, registered_within, IsRegist
 use crate::sources::{Asking, Callback, EventSource, PostAction};
 use crate::sys::events::EventIterator;
 use crate::sys::poll::Poll;
+use crate::sys::synthetic::Synthetic;
 use crate::sys::{Poller, Readiness};
 use calloop_wake::error::Result as LoopResult;
 use calloop_wake::token::{Token, TokenFactory};
@@ -547,8 +548,12 @@ where
         false
     }
 
-    fn before_sleep(&mut self) -> LoopResult<Option<(Readiness, Token)>> {
-        Ok(None)
+    fn max_synthetic() -> u16 {
+        0
+    }
+
+    fn before_sleep(&mut self, _out: &mut Synthetic) -> LoopResult<()> {
+        Ok(())
     }
 
     fn before_handle_events(&mut self, _events: EventIterator<'_>) {}

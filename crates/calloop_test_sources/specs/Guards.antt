@@ -1,9 +1,11 @@
 -- What the ping behind a guard means: what the ping does, where it is reached, and else nothing.
+use Rattle.std.proofs.Common.{refl}
 use Rattle.std.specs.Prelude.{◌≡◌, ◌⊎◌, [], List, Result, Ok, Err, IsErr, None, false}
 use Rattle.std.proofs.Common.{inl, inr}
 use Rattle.calloop_core.specs.declared.sources.PostAction.{PostAction}
 use Rattle.calloop_core.specs.Polls.{PollView, PollStep}
-use Rattle.calloop_core.specs.Deeds.{Deed, Registered, Reregistered, Unregistered, Turned, Slept, Noticed, Heard, heard}
+use Rattle.calloop_core.specs.Lawful.{silent}
+use Rattle.calloop_core.specs.Deeds.{Deed, Registered, Reregistered, Unregistered, Turned, SaysNothing, Slept, Noticed, Heard, heard}
 use Rattle.calloop_core.specs.Holdings.{holds_none}
 use Rattle.calloop_core.specs.declared.sources.Role.TheVariants.{Caller}
 use Rattle.calloop_core.specs.Meanings.{Meaning, IsKeeping, KeepsCounters, KeepsHome}
@@ -20,7 +22,7 @@ Guards s v (Registered f answer g) steps t = IsPing s.ping v (Registered f answe
 Guards s v (Reregistered f answer g) steps t = IsPing s.ping v (Reregistered f answer g) steps t.ping
 Guards s v (Unregistered answer) steps t =
     IsPing s.ping v (Unregistered answer) steps t.ping ⊎ ((steps ≡ []) × (t ≡ s))
-Guards s v (Slept answer) steps t = (answer ≡ Ok None) × (steps ≡ []) × (t ≡ s)
+Guards s v (Slept given answer) steps t = SaysNothing given answer × (steps ≡ []) × (t ≡ s)
 Guards s v (Noticed events) steps t = (steps ≡ []) × (t ≡ s)
 Guards s v (Turned readiness token turn) steps t =
     ((answer : Result PostAction PingError)
@@ -35,6 +37,7 @@ guarded_meaning =
       keys = λ s. ping_keys s.ping;
       fits = λ s. Unit {0};
       needs = λ s. false;
+      limit = λ s. 0;
       role = λ s. Caller;
       does = Guards;
     }
@@ -49,7 +52,7 @@ guarded_counts s t v (Reregistered f a g) l fits below h =
 guarded_counts s t v (Unregistered a) l fits below (inl h) =
     ping_keeps.counters s.ping t.ping v (Unregistered a) l fits below h
 guarded_counts s t v (Unregistered a) l fits below (inr h) = (tt, rw h.0 (λ counter. tt))
-guarded_counts s t v (Slept a) l fits below h = (tt, rw h.1 (λ counter. tt))
+guarded_counts s t v (Slept gs a) l fits below h = (tt, rw h.1 (λ counter. tt))
 guarded_counts s t v (Noticed es) l fits below h = (tt, rw h.0 (λ counter. tt))
 guarded_counts s t v (Turned r k turn) l fits below (inl h) =
     ping_keeps.counters s.ping t.ping v (Turned r k (heard turn.calls h.0)) l fits below h.1
@@ -64,11 +67,16 @@ guarded_stays r s t v (Reregistered f a g) l begins h =
     ping_keeps.home r s.ping t.ping v (Reregistered f a g) l begins h
 guarded_stays r s t v (Unregistered a) l home (inl h) = ping_keeps.home r s.ping t.ping v (Unregistered a) l home h
 guarded_stays r s t v (Unregistered a) l home (inr h) = rw (h.0, h.1) (home, λ at. tt)
-guarded_stays r s t v (Slept a) l home h = rw (h.1, h.2) (home, λ at. tt)
+guarded_stays r s t v (Slept gs a) l home h = rw (h.1, h.2) (home, λ at. tt)
 guarded_stays r s t v (Noticed es) l home h = rw (h.0, h.1) (home, λ at. tt)
 guarded_stays r s t v (Turned readiness k turn) l home (inl h) =
     ping_keeps.home r s.ping t.ping v (Turned readiness k (heard turn.calls h.0)) l home h.1
 guarded_stays r s t v (Turned readiness k turn) l home (inr h) = rw (h.2, h.3) (home, λ at. tt)
 
 pub guarded_keeps : {P R : Type 0} → IsKeeping (guarded_meaning {P = P} {R = R})
-guarded_keeps = record { counters = guarded_counts; home = guarded_stays }
+guarded_keeps =
+    record {
+      counters = guarded_counts;
+      home = guarded_stays;
+      limit = silent guarded_meaning (λ s. refl) (λ s t v given answer steps h. h.0.0);
+    }

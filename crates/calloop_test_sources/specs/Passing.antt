@@ -1,9 +1,11 @@
 -- What a source of the tests' own with one source in it means: that one is asked each time, and is all that has counters and
 -- keys; what a turn hands out, and how it ends, is the source's own.
+use Rattle.std.proofs.Common.{refl}
 use Rattle.std.specs.Prelude.{◌≡◌, ℕ, [], ◌∷◌, List, Bool, true, false, Ok, Err, None}
 use Rattle.calloop_core.specs.Polls.{PollView, PollStep}
 use Rattle.calloop_core.specs.Calls.{CallbackCall}
-use Rattle.calloop_core.specs.Deeds.{Deed, Registered, Reregistered, Unregistered, Turned, Slept, Noticed, Heard}
+use Rattle.calloop_core.specs.Lawful.{silent}
+use Rattle.calloop_core.specs.Deeds.{Deed, Registered, Reregistered, Unregistered, Turned, SaysNothing, Slept, Noticed, Heard}
 use Rattle.calloop_core.specs.declared.sources.Role.TheVariants.{Caller}
 use Rattle.calloop_core.specs.Meanings.{Meaning, IsKeeping, KeepsCounters, KeepsHome}
 use Rattle.calloop_core.specs.Beside.{within_itself}
@@ -20,7 +22,7 @@ module _ {D S P E M T Cause E' M' T' Cause' : Type 0} (see : D → S) (m : Meani
   Passes s v (Unregistered answer) steps t = m.does (see s) v (Unregistered answer) steps (see t)
   Passes s v (Turned readiness token turn) steps t =
       (inner : Heard E' M' T' Cause') × m.does (see s) v (Turned readiness token inner) steps (see t)
-  Passes s v (Slept answer) steps t = (answer ≡ Ok None) × (steps ≡ []) × (t ≡ s)
+  Passes s v (Slept given answer) steps t = SaysNothing given answer × (steps ≡ []) × (t ≡ s)
   Passes s v (Noticed events) steps t = (steps ≡ []) × (t ≡ s)
 
   abbrev pub passing : Meaning D P (Heard E M T Cause)
@@ -30,6 +32,7 @@ module _ {D S P E M T Cause E' M' T' Cause' : Type 0} (see : D → S) (m : Meani
         keys = λ s. m.keys (see s);
         fits = λ s. m.fits (see s);
         needs = λ s. false;
+        limit = λ s. 0;
         role = λ s. Caller;
         does = Passes;
       }
@@ -45,7 +48,7 @@ module _ {D S P E M T Cause E' M' T' Cause' : Type 0} (see : D → S) (m : Meani
       k.counters (see s) (see t) v (Unregistered a) l fits below h
   passing_counts k s t v (Turned r token turn) l fits below h =
       k.counters (see s) (see t) v (Turned r token h.0) l fits below h.1
-  passing_counts k s t v (Slept a) l fits below h =
+  passing_counts k s t v (Slept gs a) l fits below h =
       rw (h.1, h.2) (fits, λ c. within_itself (m.holds (see s) c))
   passing_counts k s t v (Noticed es) l fits below h =
       rw (h.0, h.1) (fits, λ c. within_itself (m.holds (see s) c))
@@ -61,8 +64,13 @@ module _ {D S P E M T Cause E' M' T' Cause' : Type 0} (see : D → S) (m : Meani
       k.home r (see s) (see t) v (Unregistered a) l begins h
   passing_stays k r s t v (Turned readiness token turn) l begins h =
       k.home r (see s) (see t) v (Turned readiness token h.0) l begins h.1
-  passing_stays k r s t v (Slept a) l begins h = rw (h.1, h.2) (begins, λ home. tt)
+  passing_stays k r s t v (Slept gs a) l begins h = rw (h.1, h.2) (begins, λ home. tt)
   passing_stays k r s t v (Noticed es) l begins h = rw (h.0, h.1) (begins, λ home. tt)
 
   pub keeping_passing : IsKeeping m → IsKeeping passing
-  keeping_passing k = record { counters = passing_counts k; home = passing_stays k }
+  keeping_passing k =
+      record {
+        counters = passing_counts k;
+        home = passing_stays k;
+        limit = silent passing (λ s. refl) (λ s t v given answer steps h. h.0.0);
+      }

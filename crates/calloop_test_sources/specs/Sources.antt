@@ -1,12 +1,12 @@
 -- What the counting source of the tests means.
-use Rattle.std.specs.Prelude.{◌≡◌, ℕ, [], ◌∷◌, None, Ok}
+use Rattle.std.specs.Prelude.{◌≡◌, ℕ, [], ◌∷◌, Ok}
 use Rattle.anyhow.specs.declared.error.Error.{Error as Cause}
 use Rattle.calloop_wake.specs.declared.error.Error.{Error}
 use Rattle.calloop_wake.specs.declared.error.Error.TheVariants.{OtherError}
 use Rattle.calloop_core.specs.Calls.{IsOfSource}
 use Rattle.calloop_core.specs.Lawful.{other_of_source}
 use Rattle.calloop_core.specs.Polls.{PollView}
-use Rattle.calloop_core.specs.Deeds.{Deed, Registered, Reregistered, Unregistered, Turned, Slept, Noticed, Heard}
+use Rattle.calloop_core.specs.Deeds.{Deed, Registered, Reregistered, Unregistered, Turned, SaysNothing, Slept, Noticed, Heard}
 use Rattle.calloop_test_sources.specs.declared.attendant.Attendant.{Attendant}
 use Rattle.calloop_test_sources.specs.declared.source.Counter.{Counter}
 use Rattle.calloop_test_sources.specs.declared.noting.Noting.{Noting}
@@ -20,7 +20,7 @@ abbrev pub Counts : {P : Type 0} → Counter → PollView P → Deed (Heard ℕ 
 Counts s v (Registered f answer g) t = t.turns ≡ s.turns
 Counts s v (Reregistered f answer g) t = t.turns ≡ s.turns
 Counts s v (Unregistered answer) t = (answer ≡ Ok tt) × (t.turns ≡ s.turns)
-Counts s v (Slept answer) t = (answer ≡ Ok None) × (t ≡ s)
+Counts s v (Slept given answer) t = SaysNothing given answer × (t ≡ s)
 Counts s v (Noticed events) t = t ≡ s
 Counts s v (Turned readiness token turn) t =
     turn.calls ≡ record { event = t.turns; before = tt; after = tt; answer = tt } ∷ []
@@ -31,7 +31,7 @@ abbrev pub Attends : {P : Type 0} → Attendant → PollView P → Deed (Heard �
 Attends s v (Registered f answer g) t = t.waits ≡ s.waits
 Attends s v (Reregistered f answer g) t = t.waits ≡ s.waits
 Attends s v (Unregistered answer) t = (answer ≡ Ok tt) × (t.waits ≡ s.waits)
-Attends s v (Slept answer) t = Unit {0}
+Attends s v (Slept given answer) t = Unit {0}
 Attends s v (Noticed events) t = t.waits ≡ s.waits
 Attends s v (Turned readiness token turn) t =
     (turn.calls ≡ record { event = s.waits; before = tt; after = tt; answer = tt } ∷ []) × (t.waits ≡ s.waits)
@@ -41,7 +41,7 @@ abbrev pub HandsOut : {P : Type 0} → Noting → PollView P → Deed (Heard ℕ
 HandsOut s v (Registered f answer g) t = Unit {0}
 HandsOut s v (Reregistered f answer g) t = Unit {0}
 HandsOut s v (Unregistered answer) t = Unit {0}
-HandsOut s v (Slept answer) t = Unit {0}
+HandsOut s v (Slept given answer) t = Unit {0}
 HandsOut s v (Noticed events) t = Unit {0}
 HandsOut s v (Turned readiness token turn) t =
     turn.calls ≡ record { event = s.number; before = tt; after = tt; answer = tt } ∷ []

@@ -9,7 +9,8 @@ use Rattle.calloop_core.specs.declared.timer.TimeoutAction.{TimeoutAction}
 use Rattle.calloop_core.specs.declared.timer.TimerError.{TimerError}
 use Rattle.calloop_core.specs.Calls.{CallbackCall}
 use Rattle.calloop_core.specs.Polls.{PollView, PollStep, polls_after}
-use Rattle.calloop_core.specs.Deeds.{Deed, Registered, Reregistered, Unregistered, Turned, Slept, Noticed, Heard}
+use Rattle.calloop_core.specs.Lawful.{silent}
+use Rattle.calloop_core.specs.Deeds.{Deed, Registered, Reregistered, Unregistered, Turned, SaysNothing, Slept, Noticed, Heard}
 use Rattle.calloop_core.specs.Holdings.{Holding, holds_none, IsBelow, Keeps}
 use Rattle.calloop_wake.specs.declared.token.TokenFactory.{TokenFactory}
 use Rattle.calloop_wake.specs.declared.token.RegistrationToken.{RegistrationToken}
@@ -119,7 +120,7 @@ abbrev pub IsTrio : {P R : Type 0} → Trio R → PollView P → Deed OfTrio
 IsTrio s v (Registered f answer g) steps t = AsksParts s v (Registered f answer g) steps t
 IsTrio s v (Reregistered f answer g) steps t = AsksParts s v (Reregistered f answer g) steps t
 IsTrio s v (Unregistered answer) steps t = AsksParts s v (Unregistered answer) steps t
-IsTrio s v (Slept answer) steps t = (answer ≡ Ok None) × (steps ≡ []) × (t ≡ s)
+IsTrio s v (Slept given answer) steps t = SaysNothing given answer × (steps ≡ []) × (t ≡ s)
 IsTrio s v (Noticed events) steps t = (steps ≡ []) × (t ≡ s)
 IsTrio s v (Turned readiness token turn) steps t =
     (did : AsksParts s v (Turned readiness token turn) steps t)
@@ -140,6 +141,7 @@ trio_meaning =
       keys = trio_keys;
       fits = λ s. IsApart (timer_holds s.first) (timer_holds s.second);
       needs = λ s. false;
+      limit = λ s. 0;
       role = λ s. Caller;
       does = IsTrio;
     }
@@ -207,7 +209,7 @@ trio_counts : {P R : Type 0} → KeepsCounters (trio_meaning {P = P} {R = R})
 trio_counts s t v (Registered f a g) l fits below h = parts_keep s t v (Registered f a g) l fits below h
 trio_counts s t v (Reregistered f a g) l fits below h = parts_keep s t v (Reregistered f a g) l fits below h
 trio_counts s t v (Unregistered a) l fits below h = parts_keep s t v (Unregistered a) l fits below h
-trio_counts s t v (Slept a) l fits below h = rw (h.1, h.2) (fits, λ c. within_itself (trio_holds s c))
+trio_counts s t v (Slept gs a) l fits below h = rw (h.1, h.2) (fits, λ c. within_itself (trio_holds s c))
 trio_counts s t v (Noticed es) l fits below h = rw (h.0, h.1) (fits, λ c. within_itself (trio_holds s c))
 trio_counts s t v (Turned r k turn) l fits below h = parts_keep s t v (Turned r k turn) l fits below h.0
 
@@ -224,7 +226,7 @@ begins_part whole part r (Registered f (Ok u) g) home begins = begins
 begins_part whole part r (Registered f (Err e) g) home begins = (home begins.0, begins.1)
 begins_part whole part r (Reregistered f a g) home begins = (home begins.0, begins.1)
 begins_part whole part r (Unregistered a) home begins = home begins
-begins_part whole part r (Slept a) home begins = home begins
+begins_part whole part r (Slept gs a) home begins = home begins
 begins_part whole part r (Noticed es) home begins = home begins
 begins_part whole part r (Turned readiness k turn) home begins = home begins
 
@@ -234,7 +236,7 @@ stops_at_home home r (Registered f (Ok u) g) may begins = absurd may
 stops_at_home home r (Registered f (Err e) g) may begins = begins.0
 stops_at_home home r (Reregistered f a g) may begins = begins.0
 stops_at_home home r (Unregistered a) may begins = begins
-stops_at_home home r (Slept a) may begins = begins
+stops_at_home home r (Slept gs a) may begins = begins
 stops_at_home home r (Noticed es) may begins = begins
 stops_at_home home r (Turned readiness k turn) may begins = begins
 
@@ -290,9 +292,14 @@ trio_stays : {P R : Type 0} → KeepsHome (trio_meaning {P = P} {R = R})
 trio_stays r s t v (Registered f a g) l begins h = parts_stay r s t v (Registered f a g) l begins h
 trio_stays r s t v (Reregistered f a g) l begins h = parts_stay r s t v (Reregistered f a g) l begins h
 trio_stays r s t v (Unregistered a) l home h = parts_stay r s t v (Unregistered a) l home h
-trio_stays r s t v (Slept a) l home h = rw (h.1, h.2) (home, λ at. tt)
+trio_stays r s t v (Slept gs a) l home h = rw (h.1, h.2) (home, λ at. tt)
 trio_stays r s t v (Noticed es) l home h = rw (h.0, h.1) (home, λ at. tt)
 trio_stays r s t v (Turned readiness k turn) l home h = parts_stay r s t v (Turned readiness k turn) l home h.0
 
 pub trio_keeps : {P R : Type 0} → IsKeeping (trio_meaning {P = P} {R = R})
-trio_keeps = record { counters = trio_counts; home = trio_stays }
+trio_keeps =
+    record {
+      counters = trio_counts;
+      home = trio_stays;
+      limit = silent trio_meaning (λ s. refl) (λ s t v given answer steps h. h.0.0);
+    }

@@ -4,7 +4,7 @@ ghost use Rattle.std.specs.Prelude.{◌≡◌};
 use crate::source::{Broken, Listener, Teller};
 use calloop::{
     Asking, Callback, Dispatcher, Error, EventIterator, EventSource, OneOf, PingSource, Poll,
-    Poller, PostAction, Readiness, Result, Sources, Token, TokenFactory,
+    Poller, PostAction, Readiness, Result, Sources, Synthetic, Token, TokenFactory,
 };
 use std::io;
 use std::sync::Wait;
@@ -96,19 +96,23 @@ impl<P: Poller, C, R: Wait + Drop> EventSource<P, C, R> for Attendant {
         true
     }
 
-    fn before_sleep(&mut self) -> Result<Option<(Readiness, Token)>> {
+    fn max_synthetic() -> u16 {
+        1
+    }
+
+    fn before_sleep(&mut self, out: &mut Synthetic) -> Result<()> {
         self.waits = self.waits.saturating_add(1);
         if self.waits == self.fails_at {
             return Err(Error::OtherError(anyhow::Error::msg("no wait")));
         }
         if self.asks == 0 {
-            return Ok(None);
+            return Ok(());
         }
         self.asks -= 1;
-        match self.token {
-            Some(token) => Ok(Some((Readiness::EMPTY, token))),
-            None => Ok(None),
+        if let Some(token) = self.token {
+            let _full = out.push(Readiness::EMPTY, token);
         }
+        Ok(())
     }
 
     fn before_handle_events(&mut self, events: EventIterator<'_>) {

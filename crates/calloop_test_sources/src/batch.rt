@@ -3,7 +3,7 @@ use crate::noting::{Notebook, Noting};
 use crate::source::Broken;
 use calloop::{
     Asking, Callback, EventIterator, EventSource, Poll, Poller, PostAction, Readiness, Result,
-    Token, TokenFactory,
+    Synthetic, Token, TokenFactory,
 };
 use calloop_core::{batch_register, batch_reregister, batch_unregister};
 use std::alloc::AllocError;
@@ -75,8 +75,12 @@ impl<P: Poller, C, R: Wait + Drop> EventSource<P, C, R> for Batch {
         false
     }
 
-    fn before_sleep(&mut self) -> Result<Option<(Readiness, Token)>> {
-        Ok(None)
+    fn max_synthetic() -> u16 {
+        0
+    }
+
+    fn before_sleep(&mut self, _out: &mut Synthetic) -> Result<()> {
+        Ok(())
     }
 
     fn before_handle_events(&mut self, _events: EventIterator<'_>) {}

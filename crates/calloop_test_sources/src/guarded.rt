@@ -2,7 +2,7 @@
 use crate::source::{Broken, Teller};
 use calloop::{
     Asking, Callback, Dispatcher, Error, EventIterator, EventSource, OneOf, PingSource, Poll,
-    Poller, PostAction, Readiness, Result, Token, TokenFactory,
+    Poller, PostAction, Readiness, Result, Synthetic, Token, TokenFactory,
 };
 use std::io;
 use std::sync::Wait;
@@ -74,8 +74,12 @@ impl<P: Poller, C, R: Wait + Drop> EventSource<P, C, R> for Guarded<R> {
         false
     }
 
-    fn before_sleep(&mut self) -> Result<Option<(Readiness, Token)>> {
-        Ok(None)
+    fn max_synthetic() -> u16 {
+        0
+    }
+
+    fn before_sleep(&mut self, _out: &mut Synthetic) -> Result<()> {
+        Ok(())
     }
 
     fn before_handle_events(&mut self, _events: EventIterator<'_>) {}

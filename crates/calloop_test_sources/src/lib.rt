@@ -6,6 +6,7 @@ pub mod batch;
 pub mod guarded;
 pub mod noting;
 pub mod numbered;
+pub mod several;
 pub mod source;
 pub mod trio;
 pub mod visitor;

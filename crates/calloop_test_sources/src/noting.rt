@@ -2,7 +2,7 @@
 use crate::source::Broken;
 use calloop::{
     Asking, Callback, Error, EventIterator, EventSource, Poll, Poller, PostAction, Readiness,
-    Result, Token, TokenFactory,
+    Result, Synthetic, Token, TokenFactory,
 };
 use std::alloc::{AllocError, Global};
 use std::cell::{Cell, RefCell};
@@ -163,8 +163,12 @@ impl<P: Poller, C, R: Wait + Drop> EventSource<P, C, R> for Noting {
         false
     }
 
-    fn before_sleep(&mut self) -> Result<Option<(Readiness, Token)>> {
-        Ok(None)
+    fn max_synthetic() -> u16 {
+        0
+    }
+
+    fn before_sleep(&mut self, _out: &mut Synthetic) -> Result<()> {
+        Ok(())
     }
 
     fn before_handle_events(&mut self, _events: EventIterator<'_>) {}

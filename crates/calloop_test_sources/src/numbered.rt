@@ -5,7 +5,7 @@ ghost use Rattle.calloop_test_sources.specs.Passing.{numbered_calls};
 use crate::source::Broken;
 use calloop::{
     Asking, Callback, EventIterator, EventSource, PingSource, Poll, Poller, PostAction, Readiness,
-    Result, Token, TokenFactory,
+    Result, Synthetic, Token, TokenFactory,
 };
 use std::sync::Wait;
 
@@ -130,8 +130,12 @@ impl<P: Poller, C, R: Wait + Drop> EventSource<P, C, R> for Numbered<R> {
         false
     }
 
-    fn before_sleep(&mut self) -> Result<Option<(Readiness, Token)>> {
-        Ok(None)
+    fn max_synthetic() -> u16 {
+        0
+    }
+
+    fn before_sleep(&mut self, _out: &mut Synthetic) -> Result<()> {
+        Ok(())
     }
 
     fn before_handle_events(&mut self, _events: EventIterator<'_>) {}

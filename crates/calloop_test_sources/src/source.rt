@@ -3,8 +3,8 @@ ghost use Rattle.std.specs.Prelude.{◌≡◌};
 
 use calloop::{
     Asking, Callback, Dispatcher, Error, EventIterator, EventSource, Instant, IntoError, On, OneOf,
-    PingSource, Poll, Poller, PostAction, Readiness, Result, Sources, TimeoutAction, Timer, Token,
-    TokenFactory,
+    PingSource, Poll, Poller, PostAction, Readiness, Result, Sources, Synthetic, TimeoutAction,
+    Timer, Token, TokenFactory,
 };
 use std::io;
 use std::sync::Wait;
@@ -148,8 +148,12 @@ impl<P: Poller, C, R: Wait + Drop> EventSource<P, C, R> for Counter {
         false
     }
 
-    fn before_sleep(&mut self) -> Result<Option<(Readiness, Token)>> {
-        Ok(None)
+    fn max_synthetic() -> u16 {
+        0
+    }
+
+    fn before_sleep(&mut self, _out: &mut Synthetic) -> Result<()> {
+        Ok(())
     }
 
     fn before_handle_events(&mut self, _events: EventIterator<'_>) {}

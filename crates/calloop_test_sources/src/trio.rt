@@ -7,7 +7,7 @@ ghost use Rattle.calloop_test_sources.specs.Trios.{calls_of, part_heard};
 use crate::source::Broken;
 use calloop::{
     Asking, Callback, Dispatcher, EventIterator, EventSource, Instant, On, PingSource, Poll,
-    Poller, PostAction, Readiness, Result, TimeoutAction, Timer, Token, TokenFactory,
+    Poller, PostAction, Readiness, Result, Synthetic, TimeoutAction, Timer, Token, TokenFactory,
 };
 use std::sync::Wait;
 
@@ -175,8 +175,12 @@ impl<P: Poller, C, R: Wait + Drop> EventSource<P, C, R> for Trio<R> {
         false
     }
 
-    fn before_sleep(&mut self) -> Result<Option<(Readiness, Token)>> {
-        Ok(None)
+    fn max_synthetic() -> u16 {
+        0
+    }
+
+    fn before_sleep(&mut self, _out: &mut Synthetic) -> Result<()> {
+        Ok(())
     }
 
     fn before_handle_events(&mut self, _events: EventIterator<'_>) {}

@@ -17,6 +17,7 @@ mod own_pings;
 mod pings;
 mod places;
 mod scripted;
+mod several;
 mod stage;
 mod timers;
 mod trios;

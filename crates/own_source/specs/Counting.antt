@@ -11,7 +11,7 @@ abbrev pub HandsOut : {P : Type 0}
 HandsOut s v (Registered f answer g) t = t.number ≡ s.number
 HandsOut s v (Reregistered f answer g) t = t.number ≡ s.number
 HandsOut s v (Unregistered answer) t = t.number ≡ s.number
-HandsOut s v (Slept answer) t = t.number ≡ min (s.number + 1) (2 ^ 64 - 1)
+HandsOut s v (Slept given answer) t = t.number ≡ min (s.number + 1) (2 ^ 64 - 1)
 HandsOut s v (Noticed events) t = t.number ≡ s.number
 HandsOut s v (Turned readiness token turn) t =
     (turn.calls ≡ record { event = s.number; before = tt; after = tt; answer = tt } ∷ []) × (t.number ≡ s.number)

@@ -1,7 +1,7 @@
 //! A source of numbers, one at each of the loop's first waits.
 use calloop::{
     Asking, Callback, Error, EventIterator, EventSource, IntoError, Poll, Poller, PostAction,
-    Readiness, Result, Token, TokenFactory,
+    Readiness, Result, Synthetic, Token, TokenFactory,
 };
 use std::sync::Wait;
 
@@ -97,9 +97,16 @@ impl<P: Poller, C, R: Wait + Drop> EventSource<P, C, R> for Numbers {
         true
     }
 
-    fn before_sleep(&mut self) -> Result<Option<(Readiness, Token)>> {
+    fn max_synthetic() -> u16 {
+        1
+    }
+
+    fn before_sleep(&mut self, out: &mut Synthetic) -> Result<()> {
         self.number = self.number.saturating_add(1);
-        Ok(self.token.map(|token| (Readiness::EMPTY, token)))
+        if let Some(token) = self.token {
+            let _full = out.push(Readiness::EMPTY, token);
+        }
+        Ok(())
     }
 
     fn before_handle_events(&mut self, _events: EventIterator<'_>) {}

@@ -10,7 +10,7 @@ abbrev pub CallsOnce : {P : Type 0} → Countdown → PollView P
 CallsOnce s v (Registered f answer g) t = Unit {0}
 CallsOnce s v (Reregistered f answer g) t = Unit {0}
 CallsOnce s v (Unregistered answer) t = Unit {0}
-CallsOnce s v (Slept answer) t = Unit {0}
+CallsOnce s v (Slept given answer) t = Unit {0}
 CallsOnce s v (Noticed events) t = Unit {0}
 CallsOnce s v (Turned readiness token turn) t =
     turn.calls ≡ record { event = tt; before = tt; after = tt; answer = tt } ∷ []

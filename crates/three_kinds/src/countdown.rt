@@ -1,7 +1,7 @@
 //! A source of the program's own, which calls back at each of the loop's first waits.
 use calloop::{
     Asking, Callback, Error, EventIterator, EventSource, IntoError, Poll, Poller, PostAction,
-    Readiness, Result, Token, TokenFactory,
+    Readiness, Result, Synthetic, Token, TokenFactory,
 };
 use std::sync::Wait;
 
@@ -95,12 +95,19 @@ impl<P: Poller, C, R: Wait + Drop> EventSource<P, C, R> for Countdown {
         true
     }
 
-    fn before_sleep(&mut self) -> Result<Option<(Readiness, Token)>> {
+    fn max_synthetic() -> u16 {
+        1
+    }
+
+    fn before_sleep(&mut self, out: &mut Synthetic) -> Result<()> {
         let Some(left) = self.left.checked_sub(1) else {
-            return Ok(None);
+            return Ok(());
         };
         self.left = left;
-        Ok(self.token.map(|token| (Readiness::EMPTY, token)))
+        if let Some(token) = self.token {
+            let _full = out.push(Readiness::EMPTY, token);
+        }
+        Ok(())
     }
 
     fn before_handle_events(&mut self, _events: EventIterator<'_>) {}

@@ -12,6 +12,7 @@ use calloop_core::callbacks::QuietDispatch;
 use calloop_core::sources::{Asking, Dispatch, Here, Place, PostAction, Role};
 use calloop_core::sys::events::EventIterator;
 use calloop_core::sys::poll::Poll;
+use calloop_core::sys::synthetic::Synthetic;
 use calloop_core::sys::{Interest, Mode, Poller, Readiness};
 use calloop_wake::error::{Error, Failed, Result as LoopResult, leave};
 use calloop_wake::token::{RegistrationToken, Token, TokenFactory};
@@ -199,6 +200,10 @@ impl<P: Poller, C, R: Wait + Drop, X, Q: Asking> Dispatch<P, C, R, X, Q> for Ada
         false
     }
 
+    fn synthetic_limit(&self) -> u16 {
+        0
+    }
+
     fn role(&self) -> Role {
         Role::Adapter
     }
@@ -218,8 +223,8 @@ impl<P: Poller, C, R: Wait + Drop, X, Q: Asking> Dispatch<P, C, R, X, Q> for Ada
         }
     }
 
-    fn before_sleep(&mut self) -> LoopResult<Option<(Readiness, Token)>> {
-        Ok(None)
+    fn before_sleep(&mut self, _out: &mut Synthetic) -> LoopResult<()> {
+        Ok(())
     }
 
     fn before_handle_events(&mut self, _events: EventIterator<'_>) {}

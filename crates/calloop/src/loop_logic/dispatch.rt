@@ -19,6 +19,7 @@ use super::{EventDispatcher, EventLoop, LoopHandle};
 use calloop_core::idles::IdleCallback;
 use calloop_core::sources::PostAction;
 use calloop_core::sys::poll::Poll;
+use calloop_core::sys::synthetic::Synthetic;
 use calloop_core::sys::{Clock, Poller};
 use calloop_wake::error::{Error, Failed, Result as LoopResult, with_error};
 use calloop_wake::list::SourceList;
@@ -42,6 +43,7 @@ impl<D: EventDispatcher<P, C, R>, P: Poller, C: Clock, R: Wait + Drop> EventLoop
             sources: SourceList::new(alloc),
             poll: Poll::new(rt.clone()?, alloc, poller, clock)?,
             lifecycle: Lifecycle::new(alloc),
+            synthetic: Synthetic::new(alloc),
             pending: PostAction::Continue,
             requests: Requests::numbered_from(0, alloc),
             warnings: Warnings::new(alloc),
@@ -97,7 +99,11 @@ impl<D: EventDispatcher<P, C, R>, P: Poller, C: Clock, R: Wait + Drop> EventLoop
         ensures { Did (DispatchedBy D.means D.Idle.runs P.outside (nanos_of timeout) «data».old
             (with_error result failure.new) «data».new) (view_of self.old) (view_of self.new) }
     {
-        self.poll.reserve(self.lifecycle.len())?;
+        let Some(events) = self.limits() else {
+            return Err(Failed);
+        };
+        self.synthetic.reserve(events)?;
+        self.poll.reserve(events)?;
         self.requests.clear_answers();
         self.warnings.clear();
         self.settle_marked();

@@ -1,7 +1,8 @@
 //! What holds of every run.
 ghost use Rattle.std.specs.Prelude.{◌≡◌, ℕ, List, [], ◌∷◌, Some, None};
 ghost use Rattle.calloop_wake.specs.Widths.{versions};
-ghost use Rattle.calloop.specs.Machine.{World, IsNew};
+ghost use Rattle.calloop_wake.specs.declared.error.Error.{Error};
+ghost use Rattle.calloop.specs.Machine.{World, View, IsNew};
 ghost use Rattle.calloop.specs.Rules.{Run};
 ghost use Rattle.calloop.specs.Homes.{AllAtHome};
 ghost use Rattle.calloop.specs.EveryRun.{OverEveryRun, FromTheStart, EventsReachTheirSource, ArmingsAreKept, SourcesKeepToTheirSlots, WhoIsToldStandsOnce, TicketsAreOfOneAnswer};
@@ -12,7 +13,7 @@ ghost use Rattle.calloop.specs.ExampleRun.{only, no_idle, quiet_poller, new_worl
 ghost use Rattle.calloop_core.specs.Polls.{PollView};
 ghost use Rattle.logbook.specs.Pages.{Book};
 ghost use Rattle.calloop_core.specs.Meanings.{IsKeeping};
-ghost use Rattle.calloop.specs.Wrong.{first_token, first_registration, used, given_up, early, in_two_places, called_twice, called_early, called_from_nowhere, called_with_another_deadline, in_no_place, armed_once, gathered_once, asked_twice, first_call, unmoved, arms_elsewhere, used_with_an_old_key, answered_twice, one_ticket};
+ghost use Rattle.calloop.specs.Wrong.{KeepsTheLastAlone, KeepsOfAFailure, TellsInTheOrderOfSlots, second_registration, first_token, first_registration, used, given_up, early, in_two_places, called_twice, called_early, called_from_nowhere, called_with_another_deadline, in_no_place, armed_once, gathered_once, asked_twice, first_call, unmoved, arms_elsewhere, used_with_an_old_key, answered_twice, one_ticket};
 
 use super::{EventDispatcher, Requests};
 use calloop_core::callbacks::QuietDispatch;
@@ -120,4 +121,9 @@ pub fn wrong_runs_are_ruled_out()
     ensures no_event { (v : PollView (Unit {0})) → v.batch ≡ [] → ¬ IsKept gathered_once v }
     ensures asked_twice { (w : World (Unit {0}) (Unit {0}) (Unit {0})) → w.held.asks ≡ asked_twice
         → ¬ IsTicketed w }
+    ensures last_event_alone { ¬ KeepsTheLastAlone }
+    ensures events_of_a_failure { (e : Error) → ¬ KeepsOfAFailure e }
+    ensures order_of_slots { (v : View (Unit {0}) (Unit {0}) (Unit {0}))
+        → v.held.lifecycle ≡ second_registration ∷ first_registration ∷ []
+        → ¬ TellsInTheOrderOfSlots v }
 {}

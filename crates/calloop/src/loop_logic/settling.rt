@@ -4,6 +4,7 @@ ghost use Rattle.calloop_wake.specs.declared.token.RegistrationToken.{Registrati
 ghost use Rattle.calloop_wake.specs.declared.list.Content.TheVariants.{InTurn};
 ghost use Rattle.calloop_wake.specs.Slots.{named as named_by, source_of, changed, with_content};
 ghost use Rattle.calloop_core.specs.Polls.{IsReady};
+ghost use Rattle.calloop.specs.Limits.{all_limits};
 ghost use Rattle.calloop.specs.Machine.{view_of};
 ghost use Rattle.calloop.specs.Roles.{only, is_adapter};
 ghost use Rattle.calloop_core.specs.SlotOrder.{IsInSlotOrder};
@@ -58,7 +59,9 @@ impl<D: EventDispatcher<P, C, R>, P: Poller, C: Clock, R: Wait + Drop> EventLoop
             → Goes D.means D.Idle.runs P.outside (Settling timeout (token ∷ later) x)
             (Settling timeout later x) (view_of self.old) (view_of self.new) }
         ensures ready { (more : ℕ) → IsReady more self.old.poll → IsReady more self.new.poll }
-        ensures fewer { vec_len self.new.lifecycle.tokens ≤ vec_len self.old.lifecycle.tokens }
+        ensures limits { all_limits D.means self.new.sources self.new.lifecycle.tokens.items
+            ≤ all_limits D.means self.old.sources self.old.lifecycle.tokens.items }
+        ensures room { self.new.synthetic ≡ self.old.synthetic }
     {
         let Some(mut source) = Self::take_out_adapter(&mut self.sources, token) else {
             return;
@@ -78,7 +81,9 @@ impl<D: EventDispatcher<P, C, R>, P: Poller, C: Clock, R: Wait + Drop> EventLoop
             (Sleeping timeout self.new.lifecycle.tokens.items x)
             (view_of self.old) (view_of self.new) }
         ensures ready { (more : ℕ) → IsReady more self.old.poll → IsReady more self.new.poll }
-        ensures fewer { vec_len self.new.lifecycle.tokens ≤ vec_len self.old.lifecycle.tokens }
+        ensures limits { all_limits D.means self.new.sources self.new.lifecycle.tokens.items
+            ≤ all_limits D.means self.old.sources self.old.lifecycle.tokens.items }
+        ensures room { self.new.synthetic ≡ self.old.synthetic }
     {
         for place in 0..marked.len() {
             let token = marked_at(marked, place);
@@ -93,7 +98,9 @@ impl<D: EventDispatcher<P, C, R>, P: Poller, C: Clock, R: Wait + Drop> EventLoop
             (Settling timeout marked x) (Sleeping timeout self.new.lifecycle.tokens.items x)
             (view_of self.old) (view_of self.new)) }
         ensures ready { (more : ℕ) → IsReady more self.old.poll → IsReady more self.new.poll }
-        ensures fewer { vec_len self.new.lifecycle.tokens ≤ vec_len self.old.lifecycle.tokens }
+        ensures limits { all_limits D.means self.new.sources self.new.lifecycle.tokens.items
+            ≤ all_limits D.means self.old.sources self.old.lifecycle.tokens.items }
+        ensures room { self.new.synthetic ≡ self.old.synthetic }
     {
         let Some(marked) = self.poll.take_marks() else {
             return;

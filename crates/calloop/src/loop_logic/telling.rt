@@ -1,8 +1,10 @@
 //! Sources that need it are told of each wait: before it, and with what it brought.
-ghost use Rattle.std.specs.Prelude.{◌≡◌, ℕ, ◌+◌, ◌≤◌, [], ◌∷◌, List, Option, OnOk, length, vec_len};
+ghost use Rattle.std.specs.Prelude.{◌≡◌, ℕ, ◌+◌, ◌≤◌, ◌^◌, [], ◌∷◌, List, Option, OnOk, IfSome, None, length, vec_len};
 ghost use Rattle.calloop_wake.specs.declared.token.RegistrationToken.{RegistrationToken};
 ghost use Rattle.calloop_core.specs.Polls.{IsReady};
 ghost use Rattle.calloop_wake.specs.Failures.{with_error};
+ghost use Rattle.calloop_wake.specs.Slots.{named};
+ghost use Rattle.calloop.specs.Limits.{limit_in, all_limits};
 ghost use Rattle.calloop.specs.Machine.{view_of};
 ghost use Rattle.calloop.specs.Rules.{Goes, Sleeping, Noticing, Cutting, after_telling, after_all_told};
 
@@ -13,37 +15,73 @@ use calloop_wake::token::RegistrationToken;
 use std::sync::Wait;
 
 impl<D: EventDispatcher<P, C, R>, P: Poller, C: Clock, R: Wait + Drop> EventLoop<D, P, C, R> {
-    // Tells the source of this registration, and puts the event that it answers into the batch.
+    // For how many events the source of this registration may ask.
+    fn limit_of(&self, token: RegistrationToken) -> u16
+        ensures { result ≡ limit_in D.means (named self.now.sources token) }
+    {
+        match self.sources.get(token) {
+            Some(source) => source.synthetic_limit(),
+            None => 0,
+        }
+    }
+
+    // For how many events those that are told may ask together, where that number fits.
+    pub(super) fn limits(&self) -> Option<usize>
+        ensures sum { IfSome result (λ sum. sum
+            ≡ all_limits D.means self.now.sources self.now.lifecycle.tokens.items) }
+        ensures none { result ≡ None
+            → 2 ^ 64 ≤ all_limits D.means self.now.sources self.now.lifecycle.tokens.items }
+    {
+        let mut sum = 0usize;
+        for place in 0..self.lifecycle.len() {
+            let token = self.lifecycle.at(place);
+            let limit = usize::from(self.limit_of(token));
+            let Some(more) = sum.checked_add(limit) else {
+                return None;
+            };
+            sum = more;
+        }
+        Some(sum)
+    }
+
+    // Tells the source of this registration, and puts the events that it asks for into the batch.
     fn tell_one_of_wait(
         &mut self,
         token: RegistrationToken,
         failure: &mut Error,
     ) -> Result<(), Failed>
-        requires { IsReady 1 self.old.poll }
+        requires ready { IsReady (limit_in D.means (named self.old.sources token)) self.old.poll }
+        requires room { limit_in D.means (named self.old.sources token) ≤ self.old.synthetic.room }
         ensures machine { (timeout : Option ℕ) (later : List RegistrationToken) (x : D.Data)
             → Goes D.means D.Idle.runs P.outside (Sleeping timeout (token ∷ later) x)
             (after_telling timeout later (with_error result failure.new) x)
             (view_of self.old) (view_of self.new) }
-        ensures ready { (more : ℕ) → IsReady (more + 1) self.old.poll → IsReady more self.new.poll }
+        ensures ready { (more : ℕ)
+            → IsReady (limit_in D.means (named self.old.sources token) + more) self.old.poll
+            → IsReady more self.new.poll }
+        ensures limits { (tokens : List RegistrationToken)
+            → all_limits D.means self.new.sources tokens
+            ≤ all_limits D.means self.old.sources tokens }
+        ensures room { self.new.synthetic.room ≡ self.old.synthetic.room }
         ensures entries { self.new.lifecycle ≡ self.old.lifecycle }
     {
         let Some(mut source) = self.sources.begin_turn(token) else {
             return Ok(());
         };
-        let answer = source.before_sleep();
+        self.synthetic.lend(source.synthetic_limit());
+        let answer = source.before_sleep(&mut self.synthetic);
         let _none = self.sources.end_turn(token, source);
-        match leave(answer, failure)? {
-            Some((readiness, token)) => {
-                self.poll.append(readiness, token);
-                Ok(())
-            }
-            None => Ok(()),
-        }
+        leave(answer, failure)?;
+        self.poll.join(self.synthetic.events());
+        Ok(())
     }
 
     // In the order of their entry. An error ends it.
     pub(super) fn tell_of_wait(&mut self, failure: &mut Error) -> Result<(), Failed>
-        requires { IsReady (vec_len self.old.lifecycle.tokens) self.old.poll }
+        requires ready { IsReady
+            (all_limits D.means self.old.sources self.old.lifecycle.tokens.items) self.old.poll }
+        requires room { all_limits D.means self.old.sources self.old.lifecycle.tokens.items
+            ≤ self.old.synthetic.room }
         ensures machine { (timeout : Option ℕ) (x : D.Data)
             → Goes D.means D.Idle.runs P.outside
             (Sleeping timeout self.old.lifecycle.tokens.items x)

@@ -18,6 +18,7 @@ use crate::ping::{Ping, PingSource, cell};
 use calloop_core::sources::{Asking, Callback, EventSource, PostAction};
 use calloop_core::sys::events::EventIterator;
 use calloop_core::sys::poll::Poll;
+use calloop_core::sys::synthetic::Synthetic;
 use calloop_core::sys::{Poller, Readiness};
 use calloop_wake::error::Result as LoopResult;
 use calloop_wake::token::{Token, TokenFactory};
@@ -207,8 +208,12 @@ impl<S: Stream<R>, P: Poller, C, R: Wait + Drop> EventSource<P, C, R> for Stream
         false
     }
 
-    fn before_sleep(&mut self) -> LoopResult<Option<(Readiness, Token)>> {
-        Ok(None)
+    fn max_synthetic() -> u16 {
+        0
+    }
+
+    fn before_sleep(&mut self, _out: &mut Synthetic) -> LoopResult<()> {
+        Ok(())
     }
 
     fn before_handle_events(&mut self, _events: EventIterator<'_>) {}

@@ -4,7 +4,7 @@ ghost use Rattle.std.specs.Borrow.{Lends, sem};
 ghost use Rattle.calloop_wake.specs.declared.error.Error.TheVariants.{OutOfMemory};
 ghost use Rattle.calloop_core.specs.Batches.{ArePosted};
 ghost use Rattle.calloop_core.specs.Pollers.{events_per_wait};
-ghost use Rattle.calloop_core.specs.Polls.{PollView, PollStep, TakePass, PutBack, poll_view, poll_after, with_pass, IsPassOf, IsReady, cut, head_of, gathered, counted, appended, own_event};
+ghost use Rattle.calloop_core.specs.Polls.{PollView, PollStep, TakePass, PutBack, poll_view, poll_after, with_pass, IsPassOf, IsReady, cut, head_of, gathered, counted, joining};
 ghost use Rattle.calloop_core.specs.Events.{events_left, events_of};
 ghost use Rattle.calloop_core.specs.SlotOrder.{IsInSlotOrder};
 ghost use Rattle.std.specs.Arc.{arc_value};
@@ -183,13 +183,13 @@ impl<P: Poller, C, R: Wait + Drop> Poll<P, C, R> {
         Ok(())
     }
 
-    /// An event that a source asks for before a wait joins the batch, in the room that was reserved besides.
-    pub fn append(&mut self, readiness: Readiness, token: Token)
-        requires { IsReady 1 self.old }
-        ensures view { poll_view self.new ≡ appended (own_event (readiness, token)) (poll_view self.old) }
-        ensures ready { (more : ℕ) → IsReady (more + 1) self.old → IsReady more self.new }
+    /// The events that a source asks for before a wait join the batch in their order, in the room that was reserved besides.
+    pub fn join(&mut self, given: &[(Readiness, Token)])
+        requires { IsReady (length given.now) self.old }
+        ensures view { poll_view self.new ≡ joining given.now (poll_view self.old) }
+        ensures ready { (more : ℕ) → IsReady (length given.now + more) self.old → IsReady more self.new }
     {
-        self.batch.append(readiness, token);
+        self.batch.join(given);
     }
 
     /// How many events wait for their turn.

@@ -9,7 +9,7 @@ ghost use Rattle.calloop_wake.specs.Watches.{noted};
 ghost use Rattle.calloop_wake.specs.declared.wake.notes.Note.TheVariants.{Counted, Looked, Unposted};
 ghost use Rattle.calloop_core.specs.Batches.{key_of_pass, ArePosted};
 ghost use Rattle.calloop_core.specs.Events.{events_left, events_of};
-ghost use Rattle.calloop_core.specs.Polls.{posted_event, posted_events, polled_event, polled_events, timer_event, timer_events, own_event, IsPassOf, head_of, tail_of, is_filled, own_key};
+ghost use Rattle.calloop_core.specs.Polls.{posted_event, posted_events, polled_event, polled_events, timer_event, timer_events, own_events, IsPassOf, head_of, tail_of, is_filled, own_key};
 
 use super::Pending;
 use crate::sys::Readiness;
@@ -112,6 +112,23 @@ fn append_posted(batch: &mut VecDeque<Pending>, passes: &VecDeque<TakenPass>, fi
     }
 }
 
+// The events that a source asks for before a wait.
+fn append_own(batch: &mut VecDeque<Pending>, given: &[(Readiness, Token)])
+    requires { deque_len batch.old + length given.now ≤ deque_capacity batch.old }
+    ensures items { batch.new.items ≡ batch.old.items ++ own_events given.now }
+    ensures len { deque_len batch.new ≡ deque_len batch.old + length given.now }
+    ensures capacity { deque_capacity batch.new ≡ deque_capacity batch.old }
+{
+    for event in given {
+        let (readiness, token) = *event;
+        batch.push_back_reserved(Pending {
+            readiness,
+            token,
+            posted: false,
+        });
+    }
+}
+
 // The events that the poller gave.
 fn append_polled(batch: &mut VecDeque<Pending>, events: &[(u64, Readiness)])
     requires { deque_len batch.old + length events.now ≤ deque_capacity batch.old }
@@ -186,17 +203,13 @@ impl Batch {
         EventIterator::new(&self.events, from, registration)
     }
 
-    /// An event that isn't posted comes after those that wait.
-    pub fn append(&mut self, readiness: Readiness, token: Token)
-        requires { 1 ≤ self.old.room }
-        ensures others { self.new ≡ record self.old { events = self.old.events ++ own_event (readiness, token) ∷ []; room = self.new.room } }
-        ensures room { self.old.room ≤ self.new.room + 1 }
+    /// Events that aren't posted come after those that wait, in their order.
+    pub fn join(&mut self, given: &[(Readiness, Token)])
+        requires { length given.now ≤ self.old.room }
+        ensures others { self.new ≡ record self.old { events = self.old.events ++ own_events given.now; room = self.new.room } }
+        ensures room { self.old.room ≤ self.new.room + length given.now }
     {
-        self.events.push_back_reserved(Pending {
-            readiness,
-            token,
-            posted: false,
-        });
+        append_own(&mut self.events, given);
     }
 
     /// Whether no event waits.

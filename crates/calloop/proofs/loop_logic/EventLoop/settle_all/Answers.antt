@@ -1,4 +1,4 @@
-use Rattle.std.proofs.Common.{◌≡◌, ◌+◌, [], ◌∷◌, drop, arith}
+use Rattle.std.proofs.Common.{◌≡◌, ◌+◌, [], ◌∷◌, drop, arith, ◌∙◌}
 use Rattle.std.proofs.lemmas.List.{drop_all}
 use Rattle.calloop.specs.Machine.{view_of}
 use Rattle.calloop.specs.Rules.{Settling, Sleeping}
@@ -16,7 +16,8 @@ loop-place-preserved g c =
       machine = λ timeout x.
           goes_on g.D.Dispatch.means g.D.Idle.IdleCallback.runs g.P.Poller.outside (Settling timeout tokens x) (Settling timeout (c.marked_at-token.result ∷ later) x) (Settling timeout later x) (view_of c.args.self.now) (view_of c.loop-place.self) (view_of c.settle_one.new.self)
           (rw rest at (c.loop-place.invariant.machine timeout x)) (c.settle_one.ensures.machine timeout later x);
-      fewer = omega (arith, c.settle_one.ensures.fewer, c.loop-place.invariant.fewer);
+      limits = omega (arith, c.settle_one.ensures.limits, c.loop-place.invariant.limits);
+      room = c.settle_one.ensures.room ∙ c.loop-place.invariant.room;
       ready = λ more h. c.settle_one.ensures.ready more (c.loop-place.invariant.ready more h);
     }
 

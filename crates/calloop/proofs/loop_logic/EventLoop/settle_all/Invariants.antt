@@ -1,5 +1,6 @@
-use Rattle.std.proofs.Common.{ℕ, ◌≤◌, Option, drop, vec_len}
+use Rattle.std.proofs.Common.{◌≡◌, ℕ, ◌≤◌, Option, drop}
 use Rattle.calloop_core.specs.Polls.{IsReady}
+use Rattle.calloop.specs.Limits.{all_limits}
 use Rattle.calloop.specs.Machine.{view_of}
 use Rattle.calloop.specs.Rules.{Goes, Settling}
 use Rattle.calloop.proofs.loop_logic.EventLoop.settle_all.Given as goal
@@ -7,6 +8,7 @@ use Rattle.calloop.proofs.loop_logic.EventLoop.settle_all.Given as goal
 abbrev pub invariant-loop-place : goal.invariant-loop-place
 invariant-loop-place g l = record {
   machine : (timeout : Option ℕ) (x : g.row.D-Data.Denot) → Goes g.D.Dispatch.means g.D.Idle.IdleCallback.runs g.P.Poller.outside (Settling timeout l.initial.marked x) (Settling timeout (drop l.place l.initial.marked) x) (view_of l.initial.self) (view_of l.self);
-  fewer : vec_len l.self.lifecycle.tokens ≤ vec_len l.initial.self.lifecycle.tokens;
+  limits : all_limits g.D.Dispatch.means l.self.sources l.self.lifecycle.tokens.items ≤ all_limits g.D.Dispatch.means l.initial.self.sources l.initial.self.lifecycle.tokens.items;
+  room : l.self.synthetic ≡ l.initial.self.synthetic;
   ready : (more : ℕ) → IsReady more l.initial.self.poll → IsReady more l.self.poll;
 }

@@ -1,14 +1,14 @@
-use Rattle.std.proofs.Common.{◌≡◌, sym, ap, arith, length}
-use Rattle.calloop_wake.specs.declared.list.Content.TheVariants.{Source}
+use Rattle.std.proofs.Common.{◌≡◌, sym, arith, filter}
+use Rattle.calloop_wake.specs.declared.list.Content.TheVariants.{Source, Vacant}
 use Rattle.calloop_wake.specs.Slots.{named}
 use Rattle.calloop_wake.proofs.Named.{source_is}
 use Rattle.calloop_core.specs.Polls.{poll_view}
 use Rattle.calloop.specs.Machine.{view_of}
 use Rattle.calloop.specs.Roles.{only, is_adapter}
-use Rattle.calloop_wake.specs.declared.token.RegistrationToken.{RegistrationToken}
-use Rattle.std.specs.Prelude.{List}
 use Rattle.calloop.specs.Held.{is_another}
-use Rattle.calloop.proofs.Settling.{not_settled, kept, gone, fewer_passed}
+use Rattle.calloop.proofs.Settling.{not_settled, kept, gone}
+use Rattle.calloop.proofs.Roles.{only_source}
+use Rattle.calloop.proofs.Limits.{ended_limits, filtered_limits, settled_limit}
 use Rattle.calloop.proofs.loop_logic.EventLoop.settle_one.Goals as goal
 
 pub returns-in_default-clause-machine : goal.returns-in_default-clause-machine
@@ -29,6 +29,30 @@ returns-else-settle-clause-machine g c timeout later x =
     rw (c.end_turn-none.ensures.list, c.in-Some.ensures.list)
     (kept g.D.Dispatch.means g.D.Idle.IdleCallback.runs g.P.Poller.outside timeout c.args.token later (view_of c.args.self.now) x c.in-Some.source c.settle.new.self (poll_view c.settle.new.poll) is (rw c.if-settle.false at c.settle.ensures.settles))
 
-pub returns-then-settle-clause-fewer : goal.returns-then-settle-clause-fewer
-returns-then-settle-clause-fewer g c =
-    omega (arith, ap (λ (l : List RegistrationToken). length l) c.leave.ensures, fewer_passed (is_another c.args.token) c.args.self.now.lifecycle.tokens.items, c.leave.new.self.tokens.ok.0, c.args.self.now.lifecycle.tokens.ok.0)
+pub returns-in_default-clause-limits : goal.returns-in_default-clause-limits
+returns-in_default-clause-limits g c = rw c.in_default.ensures.list (omega arith)
+
+pub returns-then-settle-clause-limits : goal.returns-then-settle-clause-limits
+returns-then-settle-clause-limits g c =
+    let M = g.D.Dispatch.means in
+    let d = c.in-Some.source in
+    let old = c.args.self.now.sources in
+    let tokens = c.args.self.now.lifecycle.tokens.items in
+    let ss = only (is_adapter M) (named old c.args.token) in
+    let is : named old c.args.token ≡ Source d = only_source (is_adapter M) (named old c.args.token) d (source_is ss d (sym c.in-Some.ensures.value)) in
+    let gone = ended_limits M old c.args.token d Vacant is (omega arith) (filter (is_another c.args.token) tokens) in
+    rw (c.vacate.ensures, c.leave.ensures, c.in-Some.ensures.list)
+    (omega (arith, gone, filtered_limits M (is_another c.args.token) old tokens))
+
+pub returns-else-settle-clause-limits : goal.returns-else-settle-clause-limits
+returns-else-settle-clause-limits g c =
+    let M = g.D.Dispatch.means in
+    let d = c.in-Some.source in
+    let e = c.settle.new.self in
+    let old = c.args.self.now.sources in
+    let tokens = c.args.self.now.lifecycle.tokens.items in
+    let ss = only (is_adapter M) (named old c.args.token) in
+    let is : named old c.args.token ≡ Source d = only_source (is_adapter M) (named old c.args.token) d (source_is ss d (sym c.in-Some.ensures.value)) in
+    let same = settled_limit M g.P.Poller.outside g.met.D.Dispatch.keeps.limit (M.role d) c.args.token d e (poll_view c.args.self.now.poll) (poll_view c.settle.new.poll) (rw c.if-settle.false at c.settle.ensures.settles) in
+    rw (c.end_turn-none.ensures.list, c.in-Some.ensures.list)
+    (ended_limits M old c.args.token d (Source e) is (omega (arith, same)) tokens)

@@ -1,11 +1,13 @@
-use Rattle.std.proofs.Common.{◌≡◌, ◌+◌, ◌-◌, [], ◌∷◌, Err, drop, vec_len, ◌∙◌, subst, arith}
+use Rattle.std.proofs.Common.{◌≡◌, ◌+◌, ◌≤◌, [], ◌∷◌, Err, drop, ◌∙◌, arith}
 use Rattle.std.proofs.lemmas.List.{drop_all}
 use Rattle.std.proofs.lemmas.Result.{err_from_is_err_and}
-use Rattle.calloop_core.specs.Polls.{IsReady}
+use Rattle.calloop_wake.specs.Slots.{named}
+use Rattle.calloop.specs.Limits.{limit_in, all_limits}
 use Rattle.calloop.specs.Machine.{view_of}
 use Rattle.calloop.specs.Rules.{Sleeping, Waiting, Leaving}
 use Rattle.calloop.proofs.Going.{goes_on, all_slept}
 use Rattle.calloop.proofs.Telling.{rest_from}
+use Rattle.calloop.proofs.Settling.{ready_less}
 use Rattle.calloop.proofs.loop_logic.EventLoop.tell_of_wait.Goals as goal
 
 pub returns-in_err-tell_one_of_wait-clause-machine : goal.returns-in_err-tell_one_of_wait-clause-machine
@@ -24,13 +26,17 @@ loop-place-preserved g c =
     let tokens = c.args.self.now.lifecycle.tokens.items in
     let later = drop (c.loop-place.place + 1) tokens in
     let rest : drop c.loop-place.place tokens ≡ c.at-token.result ∷ later = rest_from tokens c.loop-place.place c.at-token.result (rw c.loop-place.invariant.entries at c.at-token.ensures) in
-    let n = vec_len c.args.self.now.lifecycle.tokens in
-    let less : n - c.loop-place.place ≡ n - (c.loop-place.place + 1) + 1 = omega (arith, c.loop-place-test.true, c.len-place-end.ensures) in
+    let M = g.D.Dispatch.means in
+    let before = all_limits M c.loop-place.self.sources later in
+    let after = all_limits M c.tell_one_of_wait.new.self.sources later in
+    let fewer : after ≤ before = c.in_ok-tell_one_of_wait.ensures.limits later in
+    let room : limit_in M (named c.loop-place.self.sources c.at-token.result) + before ≤ c.loop-place.self.synthetic.room = rw rest at c.loop-place.invariant.room in
     record {
       machine = λ timeout x.
           goes_on g.D.Dispatch.means g.D.Idle.IdleCallback.runs g.P.Poller.outside (Sleeping timeout tokens x) (Sleeping timeout (c.at-token.result ∷ later) x) (Sleeping timeout later x) (view_of c.args.self.now) (view_of c.loop-place.self) (view_of c.tell_one_of_wait.new.self)
           (rw rest at (c.loop-place.invariant.machine timeout x)) (c.in_ok-tell_one_of_wait.ensures.machine timeout later x);
-      ready = c.in_ok-tell_one_of_wait.ensures.ready (n - (c.loop-place.place + 1)) (subst (λ k. IsReady k c.loop-place.self.poll) less c.loop-place.invariant.ready);
+      ready = ready_less c.tell_one_of_wait.new.self.poll before after fewer (c.in_ok-tell_one_of_wait.ensures.ready before (rw rest at c.loop-place.invariant.ready));
+      room = omega (arith, fewer, c.in_ok-tell_one_of_wait.ensures.room, room);
       entries = c.in_ok-tell_one_of_wait.ensures.entries ∙ c.loop-place.invariant.entries;
     }
 
@@ -40,3 +46,21 @@ returns-clause-machine g c timeout x =
     let none : drop c.loop-place.place tokens ≡ [] = drop_all c.loop-place.place tokens (omega (arith, c.loop-place-test.false, c.len-place-end.ensures, c.args.self.now.lifecycle.tokens.ok.0)) in
     goes_on g.D.Dispatch.means g.D.Idle.IdleCallback.runs g.P.Poller.outside (Sleeping timeout tokens x) (Sleeping timeout [] x) (Waiting timeout x) (view_of c.args.self.now) (view_of c.loop-place.self) (view_of c.loop-place.self)
     (rw none at (c.loop-place.invariant.machine timeout x)) (all_slept g.D.Dispatch.means g.D.Idle.IdleCallback.runs g.P.Poller.outside timeout (view_of c.loop-place.self) x)
+
+pub tell_one_of_wait-requires-clause-ready : goal.tell_one_of_wait-requires-clause-ready
+tell_one_of_wait-requires-clause-ready g c =
+    let M = g.D.Dispatch.means in
+    let tokens = c.args.self.now.lifecycle.tokens.items in
+    let later = drop (c.loop-place.place + 1) tokens in
+    let rest : drop c.loop-place.place tokens ≡ c.at-token.result ∷ later = rest_from tokens c.loop-place.place c.at-token.result (rw c.loop-place.invariant.entries at c.at-token.ensures) in
+    let here = limit_in M (named c.loop-place.self.sources c.at-token.result) in
+    ready_less c.loop-place.self.poll (here + all_limits M c.loop-place.self.sources later) here (omega arith) (rw rest at c.loop-place.invariant.ready)
+
+pub tell_one_of_wait-requires-clause-room : goal.tell_one_of_wait-requires-clause-room
+tell_one_of_wait-requires-clause-room g c =
+    let M = g.D.Dispatch.means in
+    let tokens = c.args.self.now.lifecycle.tokens.items in
+    let later = drop (c.loop-place.place + 1) tokens in
+    let rest : drop c.loop-place.place tokens ≡ c.at-token.result ∷ later = rest_from tokens c.loop-place.place c.at-token.result (rw c.loop-place.invariant.entries at c.at-token.ensures) in
+    let room : limit_in M (named c.loop-place.self.sources c.at-token.result) + all_limits M c.loop-place.self.sources later ≤ c.loop-place.self.synthetic.room = rw rest at c.loop-place.invariant.room in
+    omega (arith, room)

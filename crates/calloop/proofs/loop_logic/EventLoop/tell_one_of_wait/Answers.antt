@@ -1,40 +1,101 @@
-use Rattle.std.proofs.Common.{◌≡◌, [], ◌∷◌, refl, sym, Some, None, Ok, Err}
+use Rattle.std.proofs.Common.{◌≡◌, ◌+◌, ◌≤◌, ℕ, [], ◌∷◌, sym, ap, arith, length, Ok, Err, ◌∙◌}
 use Rattle.std.proofs.lemmas.Result.{err_from_is_err_and}
-use Rattle.calloop_wake.specs.declared.token.Token.{Token}
-use Rattle.calloop_core.specs.declared.sys.Readiness.{Readiness}
 use Rattle.calloop_wake.specs.declared.list.Content.TheVariants.{Source}
 use Rattle.calloop_wake.specs.Slots.{named}
 use Rattle.calloop_wake.proofs.Named.{source_is}
-use Rattle.calloop_core.specs.Polls.{own_event, poll_view}
-use Rattle.calloop.specs.Machine.{Appended, view_of}
-use Rattle.calloop.specs.Rules.{Sleeping, Leaving}
-use Rattle.calloop.proofs.Going.{not_slept, slept}
+use Rattle.calloop_core.specs.Polls.{poll_view}
+use Rattle.calloop_core.specs.Synthetics.{IsLent}
+use Rattle.calloop.specs.Limits.{limit_in}
+use Rattle.calloop.specs.Machine.{view_of}
+use Rattle.calloop.proofs.Going.{not_slept, slept_well, slept_badly}
+use Rattle.calloop.proofs.Limits.{ended_limits}
+use Rattle.calloop.proofs.Settling.{ready_less}
 use Rattle.calloop.proofs.loop_logic.EventLoop.tell_one_of_wait.Goals as goal
 
 pub returns-in_default-clause-machine : goal.returns-in_default-clause-machine
 returns-in_default-clause-machine g c timeout later x =
     rw c.in_default.ensures.list (not_slept g.D.Dispatch.means g.D.Idle.IdleCallback.runs g.P.Poller.outside timeout c.args.token later (view_of c.args.self.now) x c.in_default.ensures.value)
 
-pub returns-in_err-readiness-clause-machine : goal.returns-in_err-readiness-clause-machine
-returns-in_err-readiness-clause-machine g c timeout later x =
-    let is : named c.args.self.now.sources c.args.token ≡ Source c.in-Some.source = source_is (named c.args.self.now.sources c.args.token) c.in-Some.source (sym c.in-Some.ensures.value) in
-    let p = err_from_is_err_and c.from_residual.result c.from_residual.ensures.1 in
-    let e = c.leave.new.failure in
-    rw (p.1, c.end_turn-none.ensures.list, c.in-Some.ensures.list)
-    (slept g.D.Dispatch.means g.D.Idle.IdleCallback.runs g.P.Poller.outside timeout c.args.token later (view_of c.args.self.now) x c.in-Some.source c.before_sleep-answer.new.self (Err e) [] (Leaving (Err e) x) is
-    (rw c.in_err-readiness.ensures.answer (c.before_sleep-answer.ensures (poll_view c.args.self.now.poll))) (refl, refl) (λ u. tt))
+pub returns-in_default-clause-ready : goal.returns-in_default-clause-ready
+returns-in_default-clause-ready g c more h =
+    ready_less c.args.self.now.poll (limit_in g.D.Dispatch.means (named c.args.self.now.sources c.args.token) + more) more (omega arith) h
 
-pub returns-in-Some-2-clause-machine : goal.returns-in-Some-2-clause-machine
-returns-in-Some-2-clause-machine g c timeout later x =
+pub returns-in_default-clause-limits : goal.returns-in_default-clause-limits
+returns-in_default-clause-limits g c tokens = rw c.in_default.ensures.list (omega arith)
+
+pub lend-requires : goal.lend-requires
+lend-requires g c =
+    let M = g.D.Dispatch.means in
     let is : named c.args.self.now.sources c.args.token ≡ Source c.in-Some.source = source_is (named c.args.self.now.sources c.args.token) c.in-Some.source (sym c.in-Some.ensures.value) in
-    let given : Readiness × Token = (c.in-Some-2.readiness, c.in-Some-2.token) in
-    rw (c.append.ensures.view, c.end_turn-none.ensures.list, c.in-Some.ensures.list)
-    (slept g.D.Dispatch.means g.D.Idle.IdleCallback.runs g.P.Poller.outside timeout c.args.token later (view_of c.args.self.now) x c.in-Some.source c.before_sleep-answer.new.self (Ok (Some given)) (Appended (own_event given) ∷ []) (Sleeping timeout later x) is
-    (rw (sym c.in-Some-2.is, c.in_ok-readiness.ensures.answer) (c.before_sleep-answer.ensures (poll_view c.args.self.now.poll))) (refl, refl) (λ u. (refl, tt)))
+    omega (arith, c.requires.room, ap (limit_in M) is, c.synthetic_limit.ensures)
+
+pub returns-in_err-leave-clause-machine : goal.returns-in_err-leave-clause-machine
+returns-in_err-leave-clause-machine g c timeout later x =
+    let M = g.D.Dispatch.means in
+    let d = c.in-Some.source in
+    let e = c.before_sleep-answer.new.self in
+    let given = c.before_sleep-answer.new.out.given in
+    let error = c.leave.new.failure in
+    let is : named c.args.self.now.sources c.args.token ≡ Source d = source_is (named c.args.self.now.sources c.args.token) d (sym c.in-Some.ensures.value) in
+    let lent : IsLent (M.limit d) c.lend.new.self = record { limit_is = ap (λ s. s.limit) c.lend.ensures ∙ c.synthetic_limit.ensures; empty = ap (λ s. s.given) c.lend.ensures } in
+    let p = err_from_is_err_and c.from_residual.result c.from_residual.ensures.1 in
+    rw (p.1, c.end_turn-none.ensures.list, c.in-Some.ensures.list)
+    (slept_badly M g.D.Idle.IdleCallback.runs g.P.Poller.outside timeout c.args.token later (view_of c.args.self.now) x d e given error is
+    (rw c.in_err-leave.ensures.answer (c.before_sleep-answer.ensures.slept (poll_view c.args.self.now.poll) lent)))
+
+pub returns-in_err-leave-clause-ready : goal.returns-in_err-leave-clause-ready
+returns-in_err-leave-clause-ready g c more h =
+    ready_less c.args.self.now.poll (limit_in g.D.Dispatch.means (named c.args.self.now.sources c.args.token) + more) more (omega arith) h
+
+pub returns-in_err-leave-clause-limits : goal.returns-in_err-leave-clause-limits
+returns-in_err-leave-clause-limits g c tokens =
+    let M = g.D.Dispatch.means in
+    let d = c.in-Some.source in
+    let e = c.before_sleep-answer.new.self in
+    let given = c.before_sleep-answer.new.out.given in
+    let is : named c.args.self.now.sources c.args.token ≡ Source d = source_is (named c.args.self.now.sources c.args.token) d (sym c.in-Some.ensures.value) in
+    let lent : IsLent (M.limit d) c.lend.new.self = record { limit_is = ap (λ s. s.limit) c.lend.ensures ∙ c.synthetic_limit.ensures; empty = ap (λ s. s.given) c.lend.ensures } in
+    let same = g.met.D.Dispatch.keeps.limit.same d e _ _ [] (c.before_sleep-answer.ensures.slept (poll_view c.args.self.now.poll) lent) in
+    rw (c.end_turn-none.ensures.list, c.in-Some.ensures.list)
+    (ended_limits M c.args.self.now.sources c.args.token d (Source e) is (omega (arith, same)) tokens)
+
+pub join-requires : goal.join-requires
+join-requires g c =
+    let M = g.D.Dispatch.means in
+    let d = c.in-Some.source in
+    let is : named c.args.self.now.sources c.args.token ≡ Source d = source_is (named c.args.self.now.sources c.args.token) d (sym c.in-Some.ensures.value) in
+    let lent : IsLent (M.limit d) c.lend.new.self = record { limit_is = ap (λ s. s.limit) c.lend.ensures ∙ c.synthetic_limit.ensures; empty = ap (λ s. s.given) c.lend.ensures } in
+    let within = g.met.D.Dispatch.keeps.limit.within d c.before_sleep-answer.new.self _ _ _ [] (c.before_sleep-answer.ensures.slept (poll_view c.args.self.now.poll) lent) in
+    ready_less c.args.self.now.poll (limit_in M (named c.args.self.now.sources c.args.token)) (length c.events.result.now) (omega (arith, within, ap (λ l. length l) c.events.ensures, ap (limit_in M) is)) c.requires.ready
 
 pub returns-clause-machine : goal.returns-clause-machine
 returns-clause-machine g c timeout later x =
-    let is : named c.args.self.now.sources c.args.token ≡ Source c.in-Some.source = source_is (named c.args.self.now.sources c.args.token) c.in-Some.source (sym c.in-Some.ensures.value) in
+    let M = g.D.Dispatch.means in
+    let d = c.in-Some.source in
+    let e = c.before_sleep-answer.new.self in
+    let given = c.before_sleep-answer.new.out.given in
+    let is : named c.args.self.now.sources c.args.token ≡ Source d = source_is (named c.args.self.now.sources c.args.token) d (sym c.in-Some.ensures.value) in
+    let lent : IsLent (M.limit d) c.lend.new.self = record { limit_is = ap (λ s. s.limit) c.lend.ensures ∙ c.synthetic_limit.ensures; empty = ap (λ s. s.given) c.lend.ensures } in
+    rw (c.join.ensures.view, c.events.ensures, c.end_turn-none.ensures.list, c.in-Some.ensures.list)
+    (slept_well M g.D.Idle.IdleCallback.runs g.P.Poller.outside timeout c.args.token later (view_of c.args.self.now) x d e given is
+    (rw c.in_ok-leave.ensures.answer (c.before_sleep-answer.ensures.slept (poll_view c.args.self.now.poll) lent)))
+
+pub returns-clause-ready : goal.returns-clause-ready
+returns-clause-ready g c more h =
+    let M = g.D.Dispatch.means in
+    let d = c.in-Some.source in
+    let is : named c.args.self.now.sources c.args.token ≡ Source d = source_is (named c.args.self.now.sources c.args.token) d (sym c.in-Some.ensures.value) in
+    let lent : IsLent (M.limit d) c.lend.new.self = record { limit_is = ap (λ s. s.limit) c.lend.ensures ∙ c.synthetic_limit.ensures; empty = ap (λ s. s.given) c.lend.ensures } in
+    let within = g.met.D.Dispatch.keeps.limit.within d c.before_sleep-answer.new.self _ _ _ [] (c.before_sleep-answer.ensures.slept (poll_view c.args.self.now.poll) lent) in
+    c.join.ensures.ready more (ready_less c.args.self.now.poll (limit_in M (named c.args.self.now.sources c.args.token) + more) (length c.events.result.now + more) (omega (arith, within, ap (λ l. length l) c.events.ensures, ap (limit_in M) is)) h)
+
+pub returns-clause-limits : goal.returns-clause-limits
+returns-clause-limits g c tokens =
+    let M = g.D.Dispatch.means in
+    let d = c.in-Some.source in
+    let e = c.before_sleep-answer.new.self in
+    let is : named c.args.self.now.sources c.args.token ≡ Source d = source_is (named c.args.self.now.sources c.args.token) d (sym c.in-Some.ensures.value) in
+    let lent : IsLent (M.limit d) c.lend.new.self = record { limit_is = ap (λ s. s.limit) c.lend.ensures ∙ c.synthetic_limit.ensures; empty = ap (λ s. s.given) c.lend.ensures } in
+    let same = g.met.D.Dispatch.keeps.limit.same d e _ _ [] (c.before_sleep-answer.ensures.slept (poll_view c.args.self.now.poll) lent) in
     rw (c.end_turn-none.ensures.list, c.in-Some.ensures.list)
-    (slept g.D.Dispatch.means g.D.Idle.IdleCallback.runs g.P.Poller.outside timeout c.args.token later (view_of c.args.self.now) x c.in-Some.source c.before_sleep-answer.new.self (Ok None) [] (Sleeping timeout later x) is
-    (rw (sym c.in-None.is, c.in_ok-readiness.ensures.answer) (c.before_sleep-answer.ensures (poll_view c.args.self.now.poll))) (refl, refl) (λ u. tt))
+    (ended_limits M c.args.self.now.sources c.args.token d (Source e) is (omega (arith, same)) tokens)

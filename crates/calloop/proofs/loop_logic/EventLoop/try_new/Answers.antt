@@ -18,7 +18,7 @@ returns g c =
     let new : PollView g.row.P.Denot =
     record { poller = c.args.poller; table = []; deadlines = record { entries = []; next = 0 }; batch = []; passes = []; pass = None; places = 0; watch = record { name = watch.name; notes = [] } } in
     let none : Held g.row.D.Denot g.row.D-Idle.Denot = record { lifecycle = []; pending = Continue; asks = no_asks; warnings = []; stops = [] } in
-    let warnings = c.new-4.result.errors.items in
+    let warnings = c.new-5.result.errors.items in
     record {
       new = (
         record { slots = []; poll = new; held = none; handed = []; ledger = new_ledger; signal = signal },
@@ -28,7 +28,7 @@ returns g c =
             ∙ ap (λ (p : PollView g.row.P.Denot). record { slots = []; poll = p; held = record { lifecycle = c.new-3.result.tokens.items; pending = Continue; asks = c.numbered_from.result; warnings = warnings; stops = c.none.result }; signal = signal }) c.in_ok-new.ensures.ok
             ∙ ap (λ (l : List RegistrationToken). record { slots = []; poll = new; held = record { lifecycle = l; pending = Continue; asks = c.numbered_from.result; warnings = warnings; stops = c.none.result }; signal = signal }) c.new-3.ensures
             ∙ ap (λ (q : Asks g.row.D.Denot g.row.D-Idle.Denot). record { slots = []; poll = new; held = record { lifecycle = []; pending = Continue; asks = q; warnings = warnings; stops = c.none.result }; signal = signal }) c.numbered_from.ensures
-            ∙ ap (λ (es : List Error). record { slots = []; poll = new; held = record { lifecycle = []; pending = Continue; asks = no_asks; warnings = es; stops = c.none.result }; signal = signal }) c.new-4.ensures
+            ∙ ap (λ (es : List Error). record { slots = []; poll = new; held = record { lifecycle = []; pending = Continue; asks = no_asks; warnings = es; stops = c.none.result }; signal = signal }) c.new-5.ensures
             ∙ ap (λ (ns : List StopNote). record { slots = []; poll = new; held = record { lifecycle = []; pending = Continue; asks = no_asks; warnings = []; stops = ns }; signal = signal }) c.none.ensures),
       );
       poller = ap (λ p. p.poller) c.in_ok-new.ensures.ok;

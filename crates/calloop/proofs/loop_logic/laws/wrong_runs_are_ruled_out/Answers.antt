@@ -6,7 +6,7 @@ use Rattle.calloop_wake.specs.declared.token.RegistrationToken.{RegistrationToke
 use Rattle.calloop_wake.specs.Tokens.{key_of}
 use Rattle.calloop_core.specs.Deeds.{Registered, Unregistered}
 use Rattle.calloop_core.specs.Polls.{Arm}
-use Rattle.calloop.specs.Rules.{factory_of}
+use Rattle.calloop.specs.Rules.{Doing, Sleeping, factory_of}
 use Rattle.calloop_wake.specs.declared.wheel.Entry.{Entry}
 use Rattle.calloop_wake.specs.declared.wheel.Instant.{Instant}
 use Rattle.calloop_core.specs.declared.sys.poll.Pending.{Pending}
@@ -25,6 +25,14 @@ two_one e = omega arith
 
 false_true : ◌≡◌ {A = Bool} false true → ⊥
 false_true e = cc
+
+abbrev first_slot : List RegistrationToken → ℕ
+first_slot [] = 0
+first_slot (r ∷ rs) = r.slot
+
+abbrev told_first : Doing (Unit {0}) (Unit {0}) → ℕ
+told_first (Sleeping timeout later x) = first_slot later
+told_first b = 0
 
 pub returns-clause-wrong_slot : goal.returns-clause-wrong_slot
 returns-clause-wrong_slot c = λ h. one_zero h.0
@@ -79,7 +87,7 @@ returns-clause-old_key c = λ w slots h.
 pub returns-clause-kept_key : goal.returns-clause-kept_key
 returns-clause-kept_key c = λ v h.
     let second : RegistrationToken = record { slot = 0; version = 1 } in
-    let own = (h.home second 0 0 v (Registered (factory_of second) (Ok tt) (factory_of second)) [] (refl, omega arith) (refl, refl)).0 0 refl in
+    let own = (h.home second 0 0 v (Registered (factory_of second) (Ok tt) (factory_of second)) [] (refl, omega arith) (refl, refl, tt)).0 0 refl in
     absurd (omega (arith, own.2))
 
 pub returns-clause-armed_elsewhere : goal.returns-clause-armed_elsewhere
@@ -112,3 +120,12 @@ returns-clause-no_deadline c = λ v none h. one_zero (ap (λ (l : List Entry). l
 
 pub returns-clause-no_event : goal.returns-clause-no_event
 returns-clause-no_event c = λ v none h. one_zero (ap (λ (l : List Pending). length l) (h.events ∙ none))
+
+pub returns-clause-last_event_alone : goal.returns-clause-last_event_alone
+returns-clause-last_event_alone c = λ h. (let alone = h.0 in cc)
+
+pub returns-clause-events_of_a_failure : goal.returns-clause-events_of_a_failure
+returns-clause-events_of_a_failure c = λ e h. (let none = h.0 in cc)
+
+pub returns-clause-order_of_slots : goal.returns-clause-order_of_slots
+returns-clause-order_of_slots c = λ v entries h. zero_one (ap told_first h.1 ∙ ap first_slot entries)
