@@ -14,6 +14,7 @@ mod machine;
 mod memory;
 mod own_sends;
 mod threads;
+mod waits;
 
 // What a test does at a new desk, and what is to come of it.
 const CASES: &[(&str, &[Act<'static>])] = &[

@@ -28,6 +28,7 @@ use std::{io, mem};
 
 mod callbacks;
 mod conversions;
+mod marks;
 mod streams;
 mod system;
 

@@ -9,6 +9,8 @@ mod desk;
 mod job;
 mod machine;
 mod memory;
+mod moved;
+mod places;
 mod streams;
 mod threads;
 mod timeouts;

@@ -1,9 +1,14 @@
 //! Adapters over a scripted poller, and over sockets of the machine.
 mod asked;
 mod desk;
+mod early;
 mod ends;
+mod left;
 mod memory;
+mod pair;
 mod peers;
+mod polls;
+mod strangers;
 
 use calloop_core::sys::Interest;
 use calloop_core::sys::script::{ScriptCall, ScriptKind};

@@ -35,6 +35,32 @@ const CASES: &[(&str, &[Act<'static>])] = &[
         ],
     ),
     (
+        "an_idle_finds_the_answer_that_it_waits_for",
+        &[
+            Act::Ping(
+                1,
+                &[Wish::Insert(1, PostAction::Continue), Wish::Reads(50, 0)],
+            ),
+            Act::Ring(0),
+            Act::Says(Some(100), &[1, 50, 1]),
+            Act::Untold(0),
+        ],
+    ),
+    (
+        "a_timer_that_an_earlier_callback_disables_is_called_once_it_is_enabled",
+        &[
+            Act::Ping(1, &[Wish::Disable((1, 0))]),
+            Act::Timer(0, 2, &[]),
+            Act::Ring(0),
+            Act::Says(Some(100), &[1]),
+            Act::Says(Some(100), &[]),
+            Act::Enable((1, 0)),
+            Act::Says(Some(100), &[2]),
+            Act::Says(Some(100), &[]),
+            Act::Asked(&[Some(0), Some(100), Some(0), Some(100)]),
+        ],
+    ),
+    (
         "a_source_that_a_callback_removes_is_not_called_behind_it",
         &[
             Act::Ping(1, &[Wish::Remove((1, 0))]),
@@ -230,6 +256,23 @@ fn each_case_goes_as_it_is_to(rt: HostRuntime) {
         assert_eq!(rt; plays(&rt, rt.alloc(), acts), None, "{name}");
     }
 }
+
+#[test]
+fn an_idle_finds_the_answer_that_it_waits_for_though_another_turn_fails_before_it(rt: HostRuntime) {
+    assert_eq!(rt; plays(&rt, rt.alloc(), ANOTHER_TURN_FAILS), None);
+}
+
+const ANOTHER_TURN_FAILS: &[Act<'static>] = &[
+    Act::Ping(
+        1,
+        &[Wish::Insert(1, PostAction::Continue), Wish::Reads(50, 0)],
+    ),
+    Act::Counter(None, 2, &[]),
+    Act::Ring(0),
+    Act::Script(1, &[1 << 40]),
+    Act::Fails(&[1, 2]),
+    Act::Says(Some(0), &[50, 1]),
+];
 
 #[test]
 fn the_last_ticket_is_given_and_none_behind_it(rt: HostRuntime) {

@@ -19,6 +19,8 @@ use std::io::{BufRead, Read, Write};
 use std::sync::Wait;
 use std::test::Fail;
 
+mod memory;
+
 #[test]
 fn a_line_that_is_no_command_is_not_read(rt: HostRuntime) {
     let lines: [&[u8]; 75] = [

@@ -26,6 +26,14 @@ fn a_future_that_nobody_wakes_is_polled_once(rt: HostRuntime) {
     assert_eq!(rt; goes(&rt, rt.alloc(), Trial::RunsForWaiting), Some(true));
 }
 
+#[test]
+fn a_future_that_is_woken_in_the_call_that_stops_the_loop_is_not_polled_again(rt: HostRuntime) {
+    assert_eq!(rt;
+        goes(&rt, rt.alloc(), Trial::RunIsStoppedBehindAWake),
+        Some(true)
+    );
+}
+
 pub fn runs_for_ready<D, R>(rt: &R, alloc: Global) -> Option<bool>
 where
     D: EventDispatcher<ScriptPoller, ScriptClock, R, Data = Vec<u32>>,
@@ -85,6 +93,25 @@ where
     let job = Job::Waits(Arc::try_clone(&outbox).ok()?, 7);
     let ended = ends::<D, R>(rt, alloc, job, 3)?;
     Some(ended == (None, 3) && outbox.polls() == 1)
+}
+
+// Whether a loop that runs for a future, which is woken and then stopped at its first call, gives nothing and polled it once.
+pub fn is_stopped_behind_a_wake<D, R>(rt: &R, alloc: Global) -> Option<bool>
+where
+    D: EventDispatcher<ScriptPoller, ScriptClock, R, Data = Vec<u32>>,
+    R: Wait + Clone + Drop,
+{
+    let mut event_loop: ScriptLoop<D, R> = ScriptLoop::scripted(rt, alloc).ok()?;
+    let signal = event_loop.get_signal().ok()?;
+    let outbox = Arc::new(alloc, Outbox::new(rt.clone().ok()?)).ok()?;
+    let job = Job::Waits(Arc::try_clone(&outbox).ok()?, 7);
+    let mut said = Vec::new(alloc);
+    let mut is_woken = true;
+    let answer = event_loop.block_on(rt, alloc, job, &mut said, |_said| {
+        is_woken = outbox.wakes(1) && is_woken;
+        signal.stop();
+    });
+    Some(answer.ok()?.is_none() && is_woken && outbox.polls() == 1)
 }
 
 fn stops_where(signal: &LoopSignal, stops: bool) {

@@ -289,6 +289,8 @@ pub enum Trial {
     RunsUntilStopped,
     /// It runs for one that nobody wakes.
     RunsForWaiting,
+    /// It runs for one that is woken in the call that stops it.
+    RunIsStoppedBehindAWake,
     /// A thread wakes one.
     Thread,
     /// Memory is wanting for futures, and for one that it runs for.
@@ -315,6 +317,7 @@ where
         Trial::RunsForYielding => blocked::runs_for_yielding::<D, R>(rt, alloc),
         Trial::RunsUntilStopped => blocked::runs_until_stopped::<D, R>(rt, alloc),
         Trial::RunsForWaiting => blocked::polls_once::<D, R>(rt, alloc),
+        Trial::RunIsStoppedBehindAWake => blocked::is_stopped_behind_a_wake::<D, R>(rt, alloc),
         Trial::Thread => threads::is_woken_by_a_thread::<D, R>(rt, alloc),
         Trial::FuturesWithoutMemory => memory::runs_all::<D, R>(rt, alloc),
         Trial::RunWithoutMemory => memory::gives_in_block_on::<D, R>(rt, alloc),

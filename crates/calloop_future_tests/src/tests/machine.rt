@@ -40,13 +40,19 @@ fn a_loop_that_runs_for_a_future_sees_the_last_wake(rt: HostRuntime) {
     assert_eq!(rt; goes(&rt, rt.alloc(), Trial::Runs), Some(true));
 }
 
+#[test]
+fn a_loop_that_runs_for_a_future_sees_each_wake(rt: HostRuntime) {
+    assert_eq!(rt; goes(&rt, rt.alloc(), Trial::RunsInStep), Some(true));
+}
+
 /// How a loop comes to see the wakes of a thread.
 #[derive(Clone, Copy)]
 enum Trial {
     /// It dispatches.
     Dispatches(Pace),
-    /// It runs for the future.
+    /// It runs for the future, and the thread wakes it again at once, or once it was polled.
     Runs,
+    RunsInStep,
 }
 
 // Whether the wakes are seen. None where memory is short. This alone knows of which types the loop is.
@@ -66,6 +72,7 @@ where
     match trial {
         Trial::Dispatches(pace) => is_woken::<D, R>(rt, alloc, pace),
         Trial::Runs => Some(gives_in_block_on::<D, R>(rt, alloc)? == Some(WAKES)),
+        Trial::RunsInStep => sees_each_in_block_on::<D, R>(rt, alloc),
     }
 }
 
@@ -112,6 +119,27 @@ impl<R: Wait + Drop> Tally<R> {
             }
         }
         true
+    }
+
+    // Wakes once more: whether the future is polled then, in the time that a test has.
+    fn wakes_one(&self, rt: &R, waker: &Waker<R>, number: u32) -> bool
+    where
+        R: MachineClock,
+    {
+        self.announced.store(number, Ordering::SeqCst);
+        waker.wake();
+        for look in 0..LONG * 1_000 {
+            for _ in 0..1_000u32 {
+                if self.seen.load(Ordering::SeqCst) == number {
+                    return true;
+                }
+                yield_now();
+            }
+            if look > 0 {
+                sleep(rt, Duration::from_millis(1));
+            }
+        }
+        false
     }
 
     // Waits until the future has found this many wakes: whether it has before the loop ends.
@@ -214,6 +242,40 @@ where
     let answer = event_loop.block_on(rt, alloc, Counts { tally }, &mut said, |_said| {});
     child.join(rt);
     answer.ok()
+}
+
+// Whether a loop that runs for a future polls it after each wake of a thread, which wakes it again only then.
+fn sees_each_in_block_on<D, R>(rt: &R, alloc: Global) -> Option<bool>
+where
+    D: EventDispatcher<MioPoller<SystemClock<R>>, SystemClock<R>, R, Data = Vec<u32>>,
+    R: Net + MachineClock + Threads + Wait + Clone + Drop + Send + Sync + 'static,
+{
+    let mut event_loop: SystemLoop<D, R> = SystemLoop::system(rt, alloc).ok()?;
+    let signal = event_loop.get_signal().ok()?;
+    let tally = Tally::new(rt, alloc)?;
+    let of_thread = Arc::try_clone(&tally).ok()?;
+    let own = rt.clone().ok()?;
+    let child = spawn(rt, move || wakes_in_step(&own, &of_thread, &signal)).ok()?;
+    let mut said = Vec::new(alloc);
+    let answer = event_loop.block_on(rt, alloc, Counts { tally }, &mut said, |_said| {});
+    let went = child.join(rt);
+    Some(went && answer.ok()? == Some(WAKES))
+}
+
+// Wakes the future that a loop runs for, each time once it was polled after the wake before. The loop is stopped where it isn't.
+fn wakes_in_step<R>(rt: &R, tally: &Tally<R>, signal: &LoopSignal) -> bool
+where
+    R: MachineClock + Wait + Drop,
+{
+    let went = match handed_out(rt, tally) {
+        Some(waker) => (1..=WAKES).all(|number| tally.wakes_one(rt, &waker, number)),
+        None => false,
+    };
+    if !went {
+        signal.stop();
+        signal.wakeup();
+    }
+    went
 }
 
 // Wakes the future that a loop runs for, once that has handed its waker out. The loop is stopped where the last wake isn't seen.

@@ -9,9 +9,9 @@ use calloop_core::sys::script::{
     ScriptPoller,
 };
 use std::alloc::Global;
-use std::mem;
 use std::sync::Wait;
 use std::time::Duration;
+use std::{io, mem};
 
 /// What a test does, or looks for.
 #[derive(Clone, Copy)]
@@ -22,8 +22,14 @@ pub enum Act<'a> {
     Look(usize),
     /// One that waits until it can be written.
     LookToWrite(usize),
+    /// One that polls it in this way, and waits for so many answers.
+    Poll(How, usize),
+    /// One that polls it in the first way, in the second one once it had to wait, and waits for one answer.
+    PollThen(How, How),
     /// The next wait answers key 0: readable, or else writable.
     Answer(bool),
+    /// It answers this key: readable.
+    AnswerKey(u64),
     /// The poller's next call of this kind fails.
     Fail(ScriptKind),
     /// A dispatch succeeds in which this is said.
@@ -33,6 +39,8 @@ pub enum Act<'a> {
     /// `enable` and the like refuse the first slot.
     IsNamedByNoCall,
     Drop,
+    /// The socket goes out of its adapter, which stays.
+    Empty,
     /// The socket is handed back.
     IntoInner,
     /// The poller fails to delete it, and the adapter is handed back.
@@ -43,11 +51,26 @@ pub enum Act<'a> {
     NextSlot(u32),
 }
 
+/// How a future polls the socket.
+#[derive(Clone, Copy, Debug, PartialEq, Eq)]
+pub enum How {
+    Readable,
+    Writable,
+    Read,
+    Write,
+    Flush,
+}
+
 /// What a wait is answered.
 #[derive(Clone, Copy, Debug, PartialEq, Eq)]
 pub enum Word {
     Ready,
+    /// The registration was refused, by the poller's fault.
     Refused,
+    /// No socket is there.
+    Missing,
+    /// Anything else.
+    Other,
 }
 
 /// What was said, and the adapter that came back.
@@ -57,12 +80,61 @@ pub struct Told<R: Wait + Drop> {
     io: Option<Async<ScriptPoller, R>>,
 }
 
-/// Waits so often until the socket can be read, or else written.
+/// Polls the socket in this way until it has so many answers.
 #[derive(Drop)]
 pub struct Looker<R: Wait + Drop> {
     told: Told<R>,
     times: usize,
-    reads: bool,
+    how: How,
+    then: How,
+}
+
+// One poll of the socket.
+fn polled<R: Wait + Clone + Drop>(
+    how: How,
+    io: &mut Async<ScriptPoller, R>,
+    cx: &mut Context<'_, R>,
+) -> Poll<Word> {
+    match how {
+        How::Readable => of_wait(io.readable().poll(cx)),
+        How::Writable => of_wait(io.writable().poll(cx)),
+        How::Read => of_bytes(io.poll_read(cx, &mut [0u8; 4])),
+        How::Write => of_bytes(io.poll_write(cx, b"four")),
+        How::Flush => of_flush(io.poll_flush(cx)),
+    }
+}
+
+fn of_wait(answer: Poll<calloop::Result<()>>) -> Poll<Word> {
+    match answer {
+        Poll::Ready(Ok(())) => Poll::Ready(Word::Ready),
+        Poll::Ready(Err(Error::IoError(_))) => Poll::Ready(Word::Refused),
+        Poll::Ready(Err(_)) => Poll::Ready(Word::Other),
+        Poll::Pending => Poll::Pending,
+    }
+}
+
+fn of_bytes(answer: Poll<io::Result<usize>>) -> Poll<Word> {
+    match answer {
+        Poll::Ready(Ok(_)) => Poll::Ready(Word::Ready),
+        Poll::Ready(Err(cause)) => Poll::Ready(of_cause(&cause)),
+        Poll::Pending => Poll::Pending,
+    }
+}
+
+fn of_flush(answer: Poll<io::Result<()>>) -> Poll<Word> {
+    match answer {
+        Poll::Ready(Ok(())) => Poll::Ready(Word::Ready),
+        Poll::Ready(Err(cause)) => Poll::Ready(of_cause(&cause)),
+        Poll::Pending => Poll::Pending,
+    }
+}
+
+fn of_cause(cause: &io::Error) -> Word {
+    match cause.kind() {
+        io::ErrorKind::Other => Word::Refused,
+        io::ErrorKind::NotFound => Word::Missing,
+        _ => Word::Other,
+    }
 }
 
 impl<R: Wait + Clone + Drop> Future<R> for Looker<R> {
@@ -73,15 +145,12 @@ impl<R: Wait + Clone + Drop> Future<R> for Looker<R> {
             let Some(io) = &mut self.told.io else {
                 break;
             };
-            let answer = if self.reads {
-                io.readable().poll(cx)
-            } else {
-                io.writable().poll(cx)
-            };
-            let word = match answer {
-                Poll::Ready(Ok(())) => Word::Ready,
-                Poll::Ready(Err(_)) => Word::Refused,
-                Poll::Pending => return Poll::Pending,
+            let word = match polled(self.how, io, cx) {
+                Poll::Ready(word) => word,
+                Poll::Pending => {
+                    self.how = self.then;
+                    return Poll::Pending;
+                }
             };
             let _failed = self.told.said.push(word);
         }
@@ -195,9 +264,12 @@ where
     fn does(&mut self, act: Act<'_>) -> Option<()> {
         match act {
             Act::Adapt => so(self.told.io.is_some()),
-            Act::Look(times) => self.look(times, true),
-            Act::LookToWrite(times) => self.look(times, false),
-            Act::Answer(readable) => self.answer(readable),
+            Act::Look(times) => self.look(times, How::Readable, How::Readable),
+            Act::LookToWrite(times) => self.look(times, How::Writable, How::Writable),
+            Act::Poll(how, times) => self.look(times, how, how),
+            Act::PollThen(how, then) => self.look(1, how, then),
+            Act::Answer(readable) => self.answer(0, readable),
+            Act::AnswerKey(key) => self.answer(key, true),
             Act::Fail(kind) => {
                 self.event_loop.handle().poller_mut().fail(kind);
                 Some(())
@@ -206,6 +278,7 @@ where
             Act::Calls(calls) => { so(self.event_loop.handle().poller_mut().calls() == calls) }
             Act::IsNamedByNoCall => self.is_named_by_no_call(),
             Act::Drop => so(self.told.io.take().is_some()),
+            Act::Empty => self.empty(),
             Act::IntoInner => self.into_inner(),
             Act::KeptByFault => self.kept_by_fault(),
             Act::TakenOut => self.taken_out(),
@@ -213,24 +286,29 @@ where
         }
     }
 
-    fn look(&mut self, times: usize, reads: bool) -> Option<()> {
+    fn look(&mut self, times: usize, how: How, then: How) -> Option<()> {
         let told = Told {
             said: Vec::new(self.alloc),
             io: self.told.io.take(),
         };
-        let looker = Looker { told, times, reads };
+        let looker = Looker {
+            told,
+            times,
+            how,
+            then,
+        };
         self.scheduler.schedule(looker).ok()?;
         Some(())
     }
 
-    fn answer(&mut self, readable: bool) -> Option<()> {
+    fn answer(&mut self, key: u64, readable: bool) -> Option<()> {
         let found = Readiness {
             readable,
             writable: !readable,
             error: false,
         };
         let mut events = ScriptEvents::new(self.alloc);
-        events.push(0, found).ok()?;
+        events.push(key, found).ok()?;
         let answer = ScriptAnswer {
             moment: Instant::from_millis(1),
             end: ScriptEnd::Events(events),
@@ -279,10 +357,15 @@ where
         }
     }
 
-    fn taken_out(&mut self) -> Option<()> {
-        let mut io = self.told.io.take()?;
+    fn empty(&mut self) -> Option<()> {
+        let io = self.told.io.as_mut()?;
         let socket = io.get_mut().take()?;
-        so(socket.number == 1)?;
+        so(socket.number == 1)
+    }
+
+    fn taken_out(&mut self) -> Option<()> {
+        self.empty()?;
+        let io = self.told.io.take()?;
         match self.event_loop.handle().into_inner(io) {
             Ok(_) => None,
             Err(refused) => so(matches!(refused.error, Error::InvalidToken)),

@@ -33,6 +33,8 @@ pub enum Wish {
     Idle(u32, Option<usize>),
     /// Of the idle in this place of those that were asked for.
     Cancel(usize),
+    /// For an idle of this number, which says besides whether the ticket in this place has its answer: 1 or 0.
+    Reads(u32, usize),
 }
 
 /// What was said, and the tickets and idles that were given.
@@ -132,11 +134,12 @@ impl<D: Choice<Counter, Asker, Third> + Drop> Callback<
     }
 }
 
-/// An idle that says its number, and may cancel another one and ask for one more.
+/// An idle that says its number, and may cancel another one and ask for one more, or take the answer of a ticket.
 #[derive(Drop)]
 pub struct Note {
     pub number: u32,
     pub cancels: Option<usize>,
+    pub reads: Option<usize>,
 }
 
 impl<D: Choice<Counter, Asker, Third> + Drop> IdleCallback<Said, Requests<D, Note>> for Note {
@@ -144,6 +147,9 @@ impl<D: Choice<Counter, Asker, Third> + Drop> IdleCallback<Said, Requests<D, Not
 
     fn run(self, said: &mut Said, requests: &mut Requests<D, Note>) {
         said.number(self.number);
+        if let Some(place) = self.reads {
+            said.number(is_answered(place, said, requests));
+        }
         if let Some(place) = self.cancels {
             write(Wish::Cancel(place), said, requests);
             write(
@@ -152,6 +158,20 @@ impl<D: Choice<Counter, Asker, Third> + Drop> IdleCallback<Said, Requests<D, Not
                 requests,
             );
         }
+    }
+}
+
+// Whether the ticket in this place has its answer, which is taken.
+fn is_answered<D: Choice<Counter, Asker, Third> + Drop>(
+    place: usize,
+    said: &Said,
+    requests: &mut Requests<D, Note>,
+) -> u32
+    ensures { OnlyAsks requests.old requests.new }
+{
+    match said.tickets.get(place) {
+        Some(ticket) => requests.answer(*ticket).is_some() as u32,
+        None => 0,
     }
 }
 
@@ -172,7 +192,23 @@ fn write<D: Choice<Counter, Asker, Third> + Drop>(
         Wish::Disable(token) => requests.disable(&token_of(token)).ok(),
         Wish::Remove(token) => requests.remove(token_of(token)).ok(),
         Wish::Idle(number, cancels) => {
-            said.idle(requests.insert_idle(Note { number, cancels }).ok());
+            let reads = None;
+            let note = Note {
+                number,
+                cancels,
+                reads,
+            };
+            said.idle(requests.insert_idle(note).ok());
+            return;
+        }
+        Wish::Reads(number, place) => {
+            let reads = Some(place);
+            let note = Note {
+                number,
+                cancels: None,
+                reads,
+            };
+            said.idle(requests.insert_idle(note).ok());
             return;
         }
         Wish::Cancel(place) => match said.take_idle(place) {

@@ -42,6 +42,8 @@ pub enum Act<'a> {
     Ring(usize),
     /// The source that this names leaves the loop.
     Remove(Named),
+    /// The source that this names is registered again.
+    Enable(Named),
     /// A wait is scripted that gives events of these keys at this moment.
     Script(u64, &'a [u64]),
     /// A dispatch succeeds in which these numbers are said.
@@ -130,6 +132,7 @@ where
             Act::Answers(place, told) => self.answers(place, told) == Some(true),
             Act::Ring(place) => self.ring(place),
             Act::Remove(named) => self.event_loop.handle().remove(token_of(named)).is_some(),
+            Act::Enable(named) => self.event_loop.handle().enable(&token_of(named)).is_ok(),
             Act::Script(millis, keys) => self.script(millis, keys),
             Act::Says(timeout, numbers) => self.dispatch(timeout, numbers) == Some(true),
             Act::Fails(numbers) => self.dispatch(None, numbers) == Some(false),
@@ -189,7 +192,11 @@ where
     }
 
     fn idle(&mut self, number: u32, cancels: Option<usize>) -> bool {
-        let note = Note { number, cancels };
+        let note = Note {
+            number,
+            cancels,
+            reads: None,
+        };
         match self.event_loop.handle().insert_idle(note) {
             Ok(idle) => self.said.idles.push(idle).is_ok(),
             Err(_) => false,
@@ -208,6 +215,7 @@ where
         let note = Note {
             number,
             cancels: None,
+            reads: None,
         };
         let call = LoopCall::InsertIdle(note);
         let LoopAnswer::IdleInserted(Ok(idle)) = self.event_loop.carry_out(&self.rt, call) else {

@@ -1,0 +1,139 @@
+//! Which adapters are to be settled, and what wakes the machine's poller.
+use calloop_core::sys::marks::Marks;
+use calloop_core::sys::notifier::{LazyWaker, Notifier};
+use calloop_wake::token::RegistrationToken;
+use calloop_wake::widths::MOST_SLOTS;
+use mio::{Poll, Token, Waker};
+use std::alloc::{AllocGlobal, Global};
+use std::net::Net;
+use std::process::Abort;
+use std::sync::atomic::{AtomicBool, Ordering};
+use std::sync::{Arc, Wait};
+
+#[test]
+fn both_of_two_marks_are_taken_once_and_in_the_order_of_their_slots(rt: HostRuntime) {
+    let desk = Desk::new(&rt);
+    assert!(rt; desk.takes_none());
+    assert!(rt; desk.marks_as(2) && desk.marks_as(1));
+    assert!(rt; desk.takes(&[1, 2]));
+    assert!(rt; desk.takes_none());
+}
+
+#[test]
+fn what_was_settled_does_not_come_again(rt: HostRuntime) {
+    let desk = Desk::new(&rt);
+    assert!(rt; desk.marks_as(1) && desk.marks_as(2));
+    assert!(rt; desk.takes(&[1, 2]));
+    assert!(rt; desk.marks_as(3));
+    assert!(rt; desk.takes(&[3]));
+    assert!(rt; desk.marks_as(4));
+    assert!(rt; desk.takes(&[4]));
+    assert!(rt; desk.takes_none());
+}
+
+#[test]
+fn each_mark_nudges_the_loop(rt: HostRuntime) {
+    let desk = Desk::new(&rt);
+    assert!(rt; !desk.is_nudged());
+    assert!(rt; desk.marks_as(1) && desk.is_nudged());
+    assert!(rt; desk.marks_as(2) && desk.is_nudged());
+    assert!(rt; desk.takes(&[1, 2]) && !desk.is_nudged());
+    assert!(rt; desk.marks_as(1) && desk.is_nudged());
+}
+
+#[test]
+fn who_was_notified_does_not_sleep_before_its_wait_has_ended(rt: HostRuntime) {
+    let (_poll, waker) = lazy(&rt);
+    assert!(rt; waker.fall_asleep());
+    waker.get_up();
+    waker.wake();
+    assert!(rt; !waker.fall_asleep());
+    assert!(rt; !waker.fall_asleep());
+    waker.get_up();
+    assert!(rt; waker.fall_asleep());
+}
+
+#[test]
+fn a_wait_that_failed_keeps_a_notification(rt: HostRuntime) {
+    let (_poll, waker) = lazy(&rt);
+    assert!(rt; waker.fall_asleep());
+    waker.wake();
+    waker.stir();
+    assert!(rt; !waker.fall_asleep());
+    waker.stir();
+    assert!(rt; !waker.fall_asleep());
+}
+
+#[test]
+fn a_wait_that_failed_lets_the_next_one_sleep(rt: HostRuntime) {
+    let (_poll, waker) = lazy(&rt);
+    assert!(rt; waker.fall_asleep());
+    waker.stir();
+    assert!(rt; waker.fall_asleep());
+    waker.stir();
+    assert!(rt; waker.fall_asleep());
+}
+
+// Marks with room for four, of a loop whose nudges are noted.
+#[derive(Drop)]
+struct Desk<R: Wait + Drop> {
+    rt: R,
+    marks: Marks,
+    nudged: Arc<AtomicBool, Global>,
+}
+
+impl<R: AllocGlobal + Wait + Clone + Drop + Abort> Desk<R> {
+    fn new(rt: &R) -> Desk<R> {
+        let nudged = Arc::new(rt.alloc(), AtomicBool::new(false)).expect(rt, "a signal");
+        let again = Arc::try_clone(&nudged).expect(rt, "a signal");
+        let marks = Marks::new(rt.alloc(), Notifier::Script(again));
+        for _ in 0..4u32 {
+            marks.open(rt).expect(rt, "room");
+        }
+        Desk {
+            rt: rt.clone().expect(rt, "a runtime"),
+            marks,
+            nudged,
+        }
+    }
+}
+
+impl<R: Wait + Drop> Desk<R> {
+    // Marks the adapter of this slot.
+    fn marks_as(&self, slot: u32) -> bool {
+        let token = RegistrationToken::new(slot % MOST_SLOTS as u32, 0);
+        self.marks.mark(&self.rt, token).is_ok()
+    }
+
+    // Whether those of these slots are marked. They are settled then.
+    fn takes(&self, slots: &[u32]) -> bool {
+        let Some(marked) = self.marks.take(&self.rt) else {
+            return false;
+        };
+        let are_these = are_of(&marked, slots);
+        self.marks.give_back(&self.rt, marked);
+        are_these
+    }
+
+    fn takes_none(&self) -> bool {
+        self.marks.take(&self.rt).is_none()
+    }
+
+    // Whether the loop was nudged since this was asked before.
+    fn is_nudged(&self) -> bool {
+        self.nudged.swap(false, Ordering::SeqCst)
+    }
+}
+
+fn are_of(marked: &[RegistrationToken], slots: &[u32]) -> bool {
+    marked.len() == slots.len()
+        && marked.iter().zip(slots).all(|(token, slot)| *token
+            == RegistrationToken::new(*slot % MOST_SLOTS as u32, 0))
+}
+
+// The waker of a poller of the machine that is awake.
+fn lazy<R: Net + Abort>(rt: &R) -> (Poll, LazyWaker) {
+    let poll = Poll::new(rt).expect(rt, "a poller");
+    let waker = Waker::new(poll.registry(), Token(usize::MAX)).expect(rt, "a waker");
+    (poll, LazyWaker::new(waker))
+}

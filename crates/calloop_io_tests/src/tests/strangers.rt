@@ -1,0 +1,190 @@
+//! Two loops, and adapters of the one that are given back to the other.
+use super::desk::Silent;
+use calloop::futures::{Context, Future, Poll};
+use calloop::{
+    Adapter, Async, Dispatcher, Error, EventDispatcher, Here, Instant, Keep, OneOf, Readiness,
+    Requests, ScriptLoop, Sources, Timer,
+};
+use calloop_core::sys::script::{
+    ScriptAnswer, ScriptClock, ScriptEnd, ScriptEvents, ScriptIo, ScriptKind, ScriptPoller,
+};
+use std::alloc::Global;
+use std::sync::Wait;
+use std::time::Duration;
+
+#[test]
+fn an_adapter_of_another_loop_is_refused_and_handed_back(rt: HostRuntime) {
+    let refused = refuses_a_stranger::<Held<HostRuntime>, HostRuntime>(&rt, rt.alloc(), Own::Stays);
+    assert_eq!(rt; refused, Some(true));
+}
+
+#[test]
+fn an_adapter_of_another_loop_is_refused_where_the_own_one_was_kept_by_a_fault(rt: HostRuntime) {
+    let refused = refuses_a_stranger::<Held<HostRuntime>, HostRuntime>(
+        &rt,
+        rt.alloc(),
+        Own::IsKept,
+    );
+    assert_eq!(rt; refused, Some(true));
+}
+
+#[test]
+fn an_adapter_of_another_loop_is_refused_where_the_own_one_was_dropped(rt: HostRuntime) {
+    let refused = refuses_a_stranger::<Held<HostRuntime>, HostRuntime>(
+        &rt,
+        rt.alloc(),
+        Own::IsDropped,
+    );
+    assert_eq!(rt; refused, Some(true));
+}
+
+/// What becomes of the adapter that a loop has under the same token.
+#[derive(Clone, Copy, PartialEq, Eq)]
+enum Own {
+    /// It stays.
+    Stays,
+    /// It was to be given back, and stays by a fault of the poller.
+    IsKept,
+    /// Its other end was dropped, and no dispatch came since.
+    IsDropped,
+}
+
+/// What a loop of these tests holds.
+type Held<R> = Sources<OneOf<Adapter<ScriptPoller, R>, Dispatcher<Timer, Silent>>, ()>;
+
+type Adapted<D, R> = (ScriptLoop<D, R>, Async<ScriptPoller, R>);
+
+// Whether a loop refuses to give back an adapter of another loop, which stands under the token of an own one, and which that loop then gives
+// back.
+fn refuses_a_stranger<D, R>(rt: &R, alloc: Global, own: Own) -> Option<bool>
+where
+    D: EventDispatcher<ScriptPoller, ScriptClock, R, Data = ()>,
+    D: Keep<
+        Adapter<ScriptPoller, R>,
+        ScriptPoller,
+        ScriptClock,
+        R,
+        (),
+        Requests<D, <D as EventDispatcher<ScriptPoller, ScriptClock, R>>::Idle>,
+        Here,
+    >,
+    R: Wait + Clone + Drop,
+{
+    let (mut here, first): Adapted<D, R> = adapted(rt, alloc, 1)?;
+    let (mut there, second): Adapted<D, R> = adapted(rt, alloc, 2)?;
+    let kept = after(rt, &mut here, alloc, first, own)?;
+    let Err(refused) = here.handle().into_inner(second) else {
+        return Some(false);
+    };
+    let is_invalid = matches!(refused.error, Error::InvalidToken);
+    let socket = there.handle().into_inner(refused.inserted).ok()?;
+    let is_own = match kept {
+        Some(io) => here.handle().into_inner(io).ok()?.number == 1,
+        None => here.dispatch(rt, Some(Duration::ZERO), &mut ()).is_ok(),
+    };
+    Some(is_invalid && socket.number == 2 && is_own)
+}
+
+// A loop with one adapter, in its first slot.
+fn adapted<D, R>(rt: &R, alloc: Global, number: u32) -> Option<Adapted<D, R>>
+where
+    D: EventDispatcher<ScriptPoller, ScriptClock, R, Data = ()>,
+    D: Keep<
+        Adapter<ScriptPoller, R>,
+        ScriptPoller,
+        ScriptClock,
+        R,
+        (),
+        Requests<D, <D as EventDispatcher<ScriptPoller, ScriptClock, R>>::Idle>,
+        Here,
+    >,
+    R: Wait + Clone + Drop,
+{
+    let mut event_loop: ScriptLoop<D, R> = ScriptLoop::scripted(rt, alloc).ok()?;
+    let io = event_loop.handle().adapt_io(rt, alloc, ScriptIo { number });
+    Some((event_loop, io.ok()?))
+}
+
+// What is left of an adapter's other end, after this.
+fn after<D, R>(
+    rt: &R,
+    event_loop: &mut ScriptLoop<D, R>,
+    alloc: Global,
+    io: Async<ScriptPoller, R>,
+    own: Own,
+) -> Option<Option<Async<ScriptPoller, R>>>
+where
+    D: EventDispatcher<ScriptPoller, ScriptClock, R, Data = ()>,
+    R: Wait + Clone + Drop,
+{
+    match own {
+        Own::Stays => Some(Some(io)),
+        Own::IsKept => Some(Some(kept(rt, event_loop, alloc, io)?)),
+        Own::IsDropped => {
+            drop(io);
+            Some(None)
+        }
+    }
+}
+
+// An adapter whose socket is registered, and that the poller fails to give back.
+fn kept<D, R>(
+    rt: &R,
+    event_loop: &mut ScriptLoop<D, R>,
+    alloc: Global,
+    io: Async<ScriptPoller, R>,
+) -> Option<Async<ScriptPoller, R>>
+where
+    D: EventDispatcher<ScriptPoller, ScriptClock, R, Data = ()>,
+    R: Wait + Clone + Drop,
+{
+    answers(event_loop, alloc)?;
+    let looks = Looks { io: Some(io) };
+    let looked = event_loop.block_on(rt, alloc, looks, &mut (), |_data| {});
+    let io = looked.ok()??;
+    event_loop.handle().poller_mut().fail(ScriptKind::Delete);
+    match event_loop.handle().into_inner(io?) {
+        Ok(_) => None,
+        Err(refused) => Some(refused.inserted),
+    }
+}
+
+// The next wait finds the socket in the first slot readable.
+fn answers<D, R>(event_loop: &mut ScriptLoop<D, R>, alloc: Global) -> Option<()>
+where
+    D: EventDispatcher<ScriptPoller, ScriptClock, R, Data = ()>,
+    R: Wait + Clone + Drop,
+{
+    let found = Readiness {
+        readable: true,
+        writable: false,
+        error: false,
+    };
+    let mut events = ScriptEvents::new(alloc);
+    events.push(0, found).ok()?;
+    let answer = ScriptAnswer {
+        moment: Instant::from_millis(1),
+        end: ScriptEnd::Events(events),
+    };
+    event_loop.handle().poller_mut().script(answer).ok()
+}
+
+/// Waits until its socket can be read, and gives it back.
+#[derive(Drop)]
+struct Looks<R: Wait + Drop> {
+    io: Option<Async<ScriptPoller, R>>,
+}
+
+impl<R: Wait + Clone + Drop> Future<R> for Looks<R> {
+    type Output = Option<Async<ScriptPoller, R>>;
+
+    fn poll(&mut self, cx: &mut Context<'_, R>) -> Poll<Option<Async<ScriptPoller, R>>> {
+        let Some(io) = &mut self.io else {
+            return Poll::Ready(None);
+        };
+        match io.readable().poll(cx) {
+            Poll::Ready(_) => Poll::Ready(self.io.take()),
+            Poll::Pending => Poll::Pending,
+        }
+    }
+}
