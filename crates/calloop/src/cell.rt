@@ -49,12 +49,12 @@ pub type SharedCell<K> = Arc<Locked<Cell<K>>, Global>;
 
 impl<K: CellCore> Cell<K> {
     /// A cell without a key, under its lock.
-    pub fn locked(core: K, tag: &K::Tag) -> Locked<Cell<K>>
+    pub fn locked(alloc: Global, core: K, tag: &K::Tag) -> Result<Locked<Cell<K>>, AllocError>
         requires fits { K.fits tag.now core }
         requires place { K.place_of core ≡ None }
-        ensures { result.slot ≡ tag.now }
+        ensures { IfOk result (λ made. made.slot ≡ tag.now) }
     {
-        Locked::new(Cell { core, hub: None }, tag)
+        Locked::new(alloc, Cell { core, hub: None }, tag)
     }
 
     /// The debt with the board on which it is settled, outside the lock.
@@ -101,9 +101,9 @@ pub fn receiver<K: CellCore, R: Wait>(
     requires { right.name ≡ K.named_by shared.now.slot }
     ensures { result ≡ fresh_twin (K.named_by shared.now.slot) }
 {
-    let cell = shared.lock(rt);
-    let twin = cell.core.receiver(right);
-    shared.unlock(rt, cell);
+    let mut held = shared.lock(rt);
+    let twin = held.core().core.receiver(right);
+    held.unlock();
     twin
 }
 
@@ -114,9 +114,10 @@ pub fn add_sender<K: CellCore, R: Wait>(
 ) -> Result<Sender, AllocError>
     ensures { IfOk result (λ sender. sender.name ≡ K.named_by shared.now.slot) }
 {
-    let mut cell = shared.lock(rt);
+    let mut held = shared.lock(rt);
+    let cell = held.core();
     let added = cell.core.add_sender();
-    shared.unlock(rt, cell);
+    held.unlock();
     added
 }
 
@@ -124,10 +125,11 @@ pub fn add_sender<K: CellCore, R: Wait>(
 pub fn drop_sender<K: CellCore, R: Wait>(rt: &R, shared: &Locked<Cell<K>>, sender: Sender)
     requires { sender.name ≡ K.named_by shared.now.slot }
 {
-    let mut cell = shared.lock(rt);
+    let mut held = shared.lock(rt);
+    let cell = held.core();
     let debt = cell.core.drop_sender(sender);
     let owed = cell.owed(rt, debt);
-    shared.unlock(rt, cell);
+    held.unlock();
     settle(rt, owed);
 }
 
@@ -146,11 +148,12 @@ pub fn attach<K: CellCore, R: Wait>(
 {
     let pass = hub.open_place(rt, token)?;
     let mine = share(rt, hub);
-    let mut cell = shared.lock(rt);
+    let mut held = shared.lock(rt);
+    let cell = held.core();
     let old = cell.hub.replace(mine);
     let (debt, leave) = cell.core.set_key(pass, twin);
     let owed = cell.owed(rt, debt);
-    shared.unlock(rt, cell);
+    held.unlock();
     close_place(rt, &old, leave);
     settle(rt, owed);
     Ok(())
@@ -161,10 +164,11 @@ pub fn detach<K: CellCore, R: Wait>(rt: &R, shared: &Locked<Cell<K>>, twin: &mut
     requires { twin.old.name ≡ K.named_by shared.now.slot }
     ensures { twin.new ≡ record twin.old { key = None } }
 {
-    let mut cell = shared.lock(rt);
+    let mut held = shared.lock(rt);
+    let cell = held.core();
     let leave = cell.core.clear_key(twin);
     let hub = cell.hub.take();
-    shared.unlock(rt, cell);
+    held.unlock();
     close_place(rt, &hub, leave);
 }
 
@@ -172,9 +176,10 @@ pub fn detach<K: CellCore, R: Wait>(rt: &R, shared: &Locked<Cell<K>>, twin: &mut
 pub fn abandon<K: CellCore, R: Wait>(rt: &R, shared: &Locked<Cell<K>>, twin: Twin)
     requires { twin.name ≡ K.named_by shared.now.slot }
 {
-    let mut cell = shared.lock(rt);
+    let mut held = shared.lock(rt);
+    let cell = held.core();
     let leave = cell.core.abandon(twin);
     let hub = cell.hub.take();
-    shared.unlock(rt, cell);
+    held.unlock();
     close_place(rt, &hub, leave);
 }

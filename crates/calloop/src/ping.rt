@@ -50,7 +50,7 @@ pub fn make_ping<R: Wait + Clone + Drop>(
 {
     let of_ping = rt.clone()?;
     let of_source = rt.clone()?;
-    let (locked, right) = cell::locked();
+    let (locked, right) = cell::locked(alloc)?;
     let shared = Arc::new(alloc, locked)?;
     let again = share(rt, &shared);
     let sender = add_sender(rt, &shared)?;

@@ -15,7 +15,7 @@ use calloop_wake::token::{RegistrationToken, Token, TokenFactory};
 use calloop_wake::wake::ghosts::Name;
 use calloop_wake::wake::locked::{Core, Locked};
 use calloop_wake::wake::ping::{OpenedTurn, PingCore};
-use calloop_wake::wake::{Debt, Last, OpenedPass, PingTurn, TakenPass, Twin};
+use calloop_wake::wake::{Debt, Last, OpenedPass, PingTurn, ReceivingRight, TakenPass, Twin};
 use calloop_wake::wheel::Instant;
 use calloop_wake::widths::MOST_SLOTS;
 use counted_slot::Fits;
@@ -252,7 +252,7 @@ fn a_poll_that_fails_gathers_nothing(rt: HostRuntime) {
     let signal = Arc::new(rt.alloc(), AtomicBool::new(false)).expect(&rt, "a signal");
     let poller = FailsFirst { waits: 0, signal };
     let mut poll = Poll::new(clone_of(&rt), rt.alloc(), poller, ()).expect(&rt, "a poll");
-    let mut cell = Bell::new(&rt, &poll).expect(&rt, "a cell");
+    let mut cell = Bell::new(&rt, rt.alloc(), &poll).expect(&rt, "a cell");
     assert!(rt; register(&rt, &mut cell, token(2)).is_ok());
     ring(&rt, &cell);
     let refused = poll_once(&rt, &mut poll, None);
@@ -562,19 +562,24 @@ struct Bell<R: Wait + Drop> {
 }
 
 impl<R: Wait + Clone + Drop> Bell<R> {
-    fn new<P: Poller, C>(rt: &R, poll: &Poll<P, C, R>) -> Result<Bell<R>, AllocError> {
+    fn new<P: Poller, C>(
+        rt: &R,
+        alloc: Global,
+        poll: &Poll<P, C, R>,
+    ) -> Result<Bell<R>, AllocError> {
         let its_rt = rt.clone()?;
         let (core, name, right) = PingCore::new();
-        let twin = core.receiver(right);
         let hub = share(rt, poll.hub());
         let cell = BellCell {
             core,
             hub: share(rt, &hub),
         };
+        let lock = Locked::new(alloc, cell, &name)?;
+        let twin = receiver(rt, &lock, right);
         Ok(Bell {
             rt: its_rt,
             hub,
-            lock: Locked::new(cell, &name),
+            lock,
             twin,
         })
     }
@@ -592,13 +597,24 @@ impl<R: Wait + Drop> Drop for Bell<R> {
     }
 }
 
+fn receiver<Q: Wait>(rt: &Q, lock: &Locked<BellCell>, right: ReceivingRight) -> Twin
+    requires { right.name ≡ lock.now.slot }
+    ensures { result.name ≡ lock.now.slot }
+{
+    let mut held = lock.lock(rt);
+    let twin = held.core().core.receiver(right);
+    held.unlock();
+    twin
+}
+
 fn abandon<Q: Wait>(rt: &Q, lock: &Locked<BellCell>, twin: Twin)
     requires { twin.name ≡ lock.now.slot }
 {
-    let mut cell = lock.lock(rt);
+    let mut held = lock.lock(rt);
+    let cell = held.core();
     let leave = cell.core.abandon(twin);
     let hub = share(rt, &cell.hub);
-    lock.unlock(rt, cell);
+    held.unlock();
     if let Some(leave) = leave {
         hub.close_place(rt, leave);
     }
@@ -615,9 +631,9 @@ struct Desk<R: Wait + Drop> {
 impl<R: Wait + Clone + Drop + Abort> Desk<R> {
     fn new(rt: &R, alloc: Global) -> Desk<R> {
         let poll = new_poll(rt, alloc);
-        let mut cell = Bell::new(rt, &poll).expect(rt, "a cell");
+        let mut cell = Bell::new(rt, alloc, &poll).expect(rt, "a cell");
         assert!(rt; register(rt, &mut cell, token(2)).is_ok());
-        let mut other = Bell::new(rt, &poll).expect(rt, "a cell");
+        let mut other = Bell::new(rt, alloc, &poll).expect(rt, "a cell");
         assert!(rt; register(rt, &mut other, token(3)).is_ok());
         Desk { poll, cell, other }
     }
@@ -644,10 +660,11 @@ fn set_key<Q: Wait>(
     ensures { twin.new.name ≡ lock.now.slot }
 {
     let mine = share(rt, hub);
-    let mut cell = lock.lock(rt);
+    let mut held = lock.lock(rt);
+    let cell = held.core();
     let old = mem::replace(&mut cell.hub, mine);
     let (debt, leave) = cell.core.set_key(pass, twin);
-    lock.unlock(rt, cell);
+    held.unlock();
     settle(rt, hub, debt);
     if let Some(leave) = leave {
         old.close_place(rt, leave);
@@ -665,10 +682,11 @@ fn register<Q: Wait, R: Wait + Drop>(rt: &Q, bell: &mut Bell<R>, token: Token) -
 
 // Rings the cell, and posts its key where that is owed.
 fn ring<Q: Wait, R: Wait + Drop>(rt: &Q, bell: &Bell<R>) {
-    let mut cell = bell.lock.lock(rt);
+    let mut held = bell.lock.lock(rt);
+    let cell = held.core();
     let (_receipt, debt) = cell.core.ring();
     let hub = share(rt, &cell.hub);
-    bell.lock.unlock(rt, cell);
+    held.unlock();
     settle(rt, &hub, debt);
 }
 
@@ -683,9 +701,10 @@ fn open_turn<Q: Wait>(
     ensures turn { IfOk result (λ o. o.turn.name ≡ lock.now.slot) }
     ensures refused { IfErr result (λ refused. refused.board ≡ pass.board) }
 {
-    let mut cell = lock.lock(rt);
+    let mut held = lock.lock(rt);
+    let cell = held.core();
     let opened = cell.core.open_turn(pass, twin);
-    lock.unlock(rt, cell);
+    held.unlock();
     opened
 }
 
@@ -694,9 +713,10 @@ fn end_turn<Q: Wait>(rt: &Q, lock: &Locked<BellCell>, turn: PingTurn) -> Option<
     requires { turn.name ≡ lock.now.slot }
     ensures { result ≡ None }
 {
-    let mut cell = lock.lock(rt);
+    let mut held = lock.lock(rt);
+    let cell = held.core();
     let debt = cell.core.end_turn(turn);
-    lock.unlock(rt, cell);
+    held.unlock();
     debt
 }
 

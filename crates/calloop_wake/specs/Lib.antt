@@ -25,3 +25,5 @@ pub mod Watches
 pub mod Slots
 pub mod Vacancies
 pub mod Lendings
+pub mod Locks
+pub mod LockLendings

@@ -589,22 +589,26 @@ const REFUSED: Turn = Turn::Refused { marked: true };
 impl Desk {
     fn new<R: Abort>(rt: &R, alloc: Global) -> Desk {
         let (board, watch, name) = WatchedBoard::new(alloc);
-        let board = Arc::new(alloc, Locked::new(board, &name)).expect(rt, "a board");
+        let board = Arc::new(alloc, Locked::new(alloc, board, &name).expect(rt, "a lock")).expect(
+            rt, "a board",
+        );
         Desk { board, name, watch }
     }
 
     fn places<R: Wait>(&self, rt: &R) -> usize {
-        let board = self.board.lock(rt);
+        let mut held = self.board.lock(rt);
+        let board = held.core();
         let places = board.places();
-        self.board.unlock(rt, board);
+        held.unlock();
         places.number()
     }
 
     // Whether the loop may sleep.
     fn is_quiet<R: Wait>(&mut self, rt: &R) -> bool {
-        let board = self.board.lock(rt);
+        let mut held = self.board.lock(rt);
+        let board = held.core();
         let leave = board.look(&mut self.watch);
-        self.board.unlock(rt, board);
+        held.unlock();
         match leave {
             Some(leave) => {
                 leave.spend();
@@ -627,9 +631,10 @@ impl Desk {
     {
         let places = self.places(rt);
         let mut passes = VecDeque::with_capacity(alloc, places)?;
-        let mut board = self.board.lock(rt);
+        let mut held = self.board.lock(rt);
+        let board = held.core();
         board.unpost(places, &mut self.watch, &mut passes, steps);
-        self.board.unlock(rt, board);
+        held.unlock();
         Ok(passes)
     }
 }
@@ -642,10 +647,15 @@ impl Ends {
             cell: name,
             board: desk.name.again(),
         };
-        let lock = Arc::new(alloc, Locked::new(OneBoard { core }, &names)).expect(rt, "a cell");
-        let cell = lock.lock(rt);
+        let lock = Arc::new(
+            alloc,
+            Locked::new(alloc, OneBoard { core }, &names).expect(rt, "a lock"),
+        )
+        .expect(rt, "a cell");
+        let mut held = lock.lock(rt);
+        let cell = held.core();
         let twin = cell.core.receiver(right);
-        lock.unlock(rt, cell);
+        held.unlock();
         Ends { lock, twin, board }
     }
 
@@ -658,9 +668,10 @@ impl Ends {
     }
 
     fn stands<R: Wait>(&self, rt: &R) {
-        let cell = self.lock.lock(rt);
+        let mut held = self.lock.lock(rt);
+        let cell = held.core();
         cell.core.stands();
-        self.lock.unlock(rt, cell);
+        held.unlock();
     }
 
     // Rings, and posts what is owed: whether that set a mark anew.
@@ -671,9 +682,10 @@ impl Ends {
     fn add_sender<R: Wait>(&self, rt: &R) -> Result<Sender, AllocError>
         ensures { IfOk result (λ sender. sender.name ≡ (arc_value self.now.lock).slot.cell) }
     {
-        let mut cell = self.lock.lock(rt);
+        let mut held = self.lock.lock(rt);
+        let cell = held.core();
         let added = cell.core.add_sender();
-        self.lock.unlock(rt, cell);
+        held.unlock();
         added
     }
 
@@ -688,9 +700,10 @@ impl Ends {
         requires { key < 2 ^ 64 - 1 }
         ensures { self.new.lock ≡ self.old.lock }
     {
-        let mut board = self.board.lock(rt);
+        let mut held = self.board.lock(rt);
+        let board = held.core();
         let opened = board.open_place(key);
-        self.board.unlock(rt, board);
+        held.unlock();
         let pass = opened?;
         let (debt, leave) = set_key(rt, &self.lock, &mut self.twin, pass);
         post(rt, &self.board, debt);
@@ -772,9 +785,10 @@ fn is_all(turns: Result<Vec<Turn>, AllocError>, wanted: &[Turn]) -> bool {
 fn ring<R: Wait>(rt: &R, lock: &Locked<OneBoard>) -> Option<Debt>
     ensures { IfSome result (λ debt. debt.board ≡ lock.now.slot.board) }
 {
-    let mut cell = lock.lock(rt);
+    let mut held = lock.lock(rt);
+    let cell = held.core();
     let (_receipt, debt) = cell.core.ring();
-    lock.unlock(rt, cell);
+    held.unlock();
     debt
 }
 
@@ -782,9 +796,10 @@ fn drop_sender<R: Wait>(rt: &R, lock: &Locked<OneBoard>, sender: Sender) -> Opti
     requires { sender.name ≡ lock.now.slot.cell }
     ensures { IfSome result (λ debt. debt.board ≡ lock.now.slot.board) }
 {
-    let mut cell = lock.lock(rt);
+    let mut held = lock.lock(rt);
+    let cell = held.core();
     let debt = cell.core.drop_sender(sender);
-    lock.unlock(rt, cell);
+    held.unlock();
     debt
 }
 
@@ -800,9 +815,10 @@ fn set_key<R: Wait>(
     ensures debt { IfSome result.0 (λ debt. debt.board ≡ lock.now.slot.board) }
     ensures leave { IfSome result.1 (λ leave. leave.board ≡ lock.now.slot.board) }
 {
-    let mut cell = lock.lock(rt);
+    let mut held = lock.lock(rt);
+    let cell = held.core();
     let (debt, leave) = cell.core.set_key(pass, twin);
-    lock.unlock(rt, cell);
+    held.unlock();
     (debt, leave)
 }
 
@@ -811,9 +827,10 @@ fn clear_key<R: Wait>(rt: &R, lock: &Locked<OneBoard>, twin: &mut Twin) -> Optio
     ensures twin { twin.new.name ≡ lock.now.slot.cell }
     ensures leave { IfSome result (λ leave. leave.board ≡ lock.now.slot.board) }
 {
-    let mut cell = lock.lock(rt);
+    let mut held = lock.lock(rt);
+    let cell = held.core();
     let leave = cell.core.clear_key(twin);
-    lock.unlock(rt, cell);
+    held.unlock();
     leave
 }
 
@@ -821,9 +838,10 @@ fn abandon<R: Wait>(rt: &R, lock: &Locked<OneBoard>, twin: Twin) -> Option<Leave
     requires { twin.name ≡ lock.now.slot.cell }
     ensures { IfSome result (λ leave. leave.board ≡ lock.now.slot.board) }
 {
-    let mut cell = lock.lock(rt);
+    let mut held = lock.lock(rt);
+    let cell = held.core();
     let leave = cell.core.abandon(twin);
-    lock.unlock(rt, cell);
+    held.unlock();
     leave
 }
 
@@ -834,9 +852,10 @@ fn close<R: Wait>(rt: &R, board: &Locked<WatchedBoard>, leave: Option<LeaveToClo
     let Some(leave) = leave else {
         return false;
     };
-    let mut at = board.lock(rt);
+    let mut held = board.lock(rt);
+    let at = held.core();
     at.close_place(leave);
-    board.unlock(rt, at);
+    held.unlock();
     true
 }
 
@@ -862,9 +881,10 @@ fn post<R: Wait>(rt: &R, board: &Locked<WatchedBoard>, debt: Option<Debt>) -> bo
     let signal = Signal {
         raised: AtomicBool::new(false),
     };
-    let mut at = board.lock(rt);
+    let mut held = board.lock(rt);
+    let at = held.core();
     let nudge = at.post(debt);
-    board.unlock(rt, at);
+    held.unlock();
     if let Some(nudge) = nudge {
         nudge.spend(&signal);
     }
@@ -882,9 +902,10 @@ fn open<R: Wait>(
     ensures turn { IfOk result (λ o. o.turn.name ≡ lock.now.slot.cell) }
     ensures refused { IfErr result (λ refused. refused.board ≡ pass.board) }
 {
-    let mut cell = lock.lock(rt);
+    let mut held = lock.lock(rt);
+    let cell = held.core();
     let opened = cell.core.open_turn(pass, twin);
-    lock.unlock(rt, cell);
+    held.unlock();
     opened
 }
 
@@ -893,9 +914,10 @@ fn end<R: Wait>(rt: &R, lock: &Locked<OneBoard>, turn: PingTurn) -> Option<Debt>
     requires { turn.name ≡ lock.now.slot.cell }
     ensures { result ≡ None }
 {
-    let mut cell = lock.lock(rt);
+    let mut held = lock.lock(rt);
+    let cell = held.core();
     let debt = cell.core.end_turn(turn);
-    lock.unlock(rt, cell);
+    held.unlock();
     debt
 }
 

@@ -28,7 +28,7 @@ pub fn locked<T: Drop>(
     ensures err { IfErr result (λ e. e ≡ OutOfMemory) }
 {
     let (core, label, right) = ChannelCore::new(alloc, bound)?;
-    Ok((Cell::locked(core, &label), right))
+    Ok((Cell::locked(alloc, core, &label)?, right))
 }
 
 /// Appends a message. Where there is no room, the channel is pinged.
@@ -41,11 +41,12 @@ pub fn put<T: Drop, R: Wait>(
     ensures err { IfErr result (λ e. (handed_back e ≡ message)
         × FitsBound shared.now.slot.bound e) }
 {
-    let mut cell = shared.lock(rt);
+    let mut held = shared.lock(rt);
+    let cell = held.core();
     match cell.core.put(message) {
         Ok((receipt, debt)) => {
             let owed = cell.owed(rt, debt);
-            shared.unlock(rt, cell);
+            held.unlock();
             shared.tell();
             settle(rt, owed);
             Ok(receipt)
@@ -53,12 +54,12 @@ pub fn put<T: Drop, R: Wait>(
         Err(PutError::Full(message)) => {
             let debt = cell.core.ring();
             let owed = cell.owed(rt, debt);
-            shared.unlock(rt, cell);
+            held.unlock();
             settle(rt, owed);
             Err(PutError::Full(message))
         }
         Err(refused) => {
-            shared.unlock(rt, cell);
+            held.unlock();
             Err(refused)
         }
     }
@@ -75,25 +76,26 @@ pub fn put_waiting<T: Drop, R: Wait>(
     ensures ok { IfOk result (λ r. r.name ≡ shared.now.slot.name) }
     ensures err { IfErr result (λ e. (unsent e ≡ message) × IsDisconnected e) }
 {
-    let mut cell = shared.lock(rt);
+    let mut held = shared.lock(rt);
     let mut message = message;
     for _ in rt.forever() {
+        let cell = held.core();
         match cell.core.put(message) {
             Ok((receipt, debt)) => {
                 let owed = cell.owed(rt, debt);
-                shared.unlock(rt, cell);
+                held.unlock();
                 shared.tell();
                 settle(rt, owed);
                 return Ok(receipt);
             }
             Err(PutError::Gone(refused)) => {
-                shared.unlock(rt, cell);
+                held.unlock();
                 return Err(SendError::Disconnected(refused));
             }
             Err(PutError::Full(refused)) => message = refused,
             Err(PutError::OutOfMemory(_)) => unreachable!(),
         }
-        cell = shared.wait(rt, cell);
+        held = held.wait(rt);
     }
     unreachable!()
 }
@@ -108,10 +110,11 @@ pub fn take<T: Drop, R: Wait>(
     ensures ok { IfOk result (λ _. twin.new ≡ record twin.old { number = twin.old.number + 1 }) }
     ensures err { IfErr result (λ _. twin.new ≡ twin.old) }
 {
-    let mut cell = shared.lock(rt);
+    let mut held = shared.lock(rt);
+    let cell = held.core();
     let message = cell.core.take(twin);
     let closed = cell.core.is_closed();
-    shared.unlock(rt, cell);
+    held.unlock();
     shared.tell();
     match message {
         Some(message) => Ok(message),
@@ -130,18 +133,19 @@ pub fn take_waiting<T: Drop, R: Wait>(
     ensures ok { IfOk result (λ _. twin.new ≡ record twin.old { number = twin.old.number + 1 }) }
     ensures err { IfErr result (λ _. twin.new ≡ twin.old) }
 {
-    let mut cell = shared.lock(rt);
+    let mut held = shared.lock(rt);
     for _ in rt.forever() {
+        let cell = held.core();
         if let Some(message) = cell.core.take(twin) {
-            shared.unlock(rt, cell);
+            held.unlock();
             shared.tell();
             return Ok(message);
         }
         if cell.core.is_closed() {
-            shared.unlock(rt, cell);
+            held.unlock();
             return Err(RecvError);
         }
-        cell = shared.wait(rt, cell);
+        held = held.wait(rt);
     }
     unreachable!()
 }
@@ -159,9 +163,10 @@ pub fn open_turn<T: Drop, R: Wait>(
     ensures err { IfErr result (λ refused. (refused ≡ record pass { refused = Some twin.old.name })
         × (twin.new ≡ twin.old)) }
 {
-    let mut cell = shared.lock(rt);
+    let mut held = shared.lock(rt);
+    let cell = held.core();
     let opened = cell.core.open_turn(pass, twin);
-    shared.unlock(rt, cell);
+    held.unlock();
     opened
 }
 
@@ -178,9 +183,10 @@ pub fn pop<T: Drop, R: Wait>(
     ensures turn { turn.new ≡ turn_after_pop result turn.old }
     ensures twin { twin.new ≡ twin_after_pop result twin.old }
 {
-    let mut cell = shared.lock(rt);
+    let mut held = shared.lock(rt);
+    let cell = held.core();
     let popped = cell.core.pop(turn, twin);
-    shared.unlock(rt, cell);
+    held.unlock();
     shared.tell();
     popped
 }
@@ -190,9 +196,10 @@ pub fn end_turn<T: Drop, R: Wait>(rt: &R, shared: &Locked<ChannelCell<T>>, turn:
     requires name { turn.name ≡ shared.now.slot.name }
     requires over { (turn.left ≡ 0) ⊎ (turn.done ≡ true) }
 {
-    let mut cell = shared.lock(rt);
+    let mut held = shared.lock(rt);
+    let cell = held.core();
     let debt = cell.core.end_turn(turn);
     let owed = cell.owed(rt, debt);
-    shared.unlock(rt, cell);
+    held.unlock();
     settle(rt, owed);
 }

@@ -2,6 +2,7 @@
 ghost use Rattle.std.specs.Prelude.{◌≡◌, ◌+◌, ◌<◌, ◌⊎◌, None, Some, true, false, IsSome, IfOk, IfErr, IfSome, IfNone};
 ghost use Rattle.std.specs.Arc.{arc_value};
 ghost use Rattle.std.specs.Option.{option_map};
+ghost use Rattle.calloop_wake.specs.Locks.{HasOneSlot, IsTaken};
 ghost use Rattle.calloop_wake.specs.Passes.{Keyed, on};
 ghost use Rattle.calloop_wake.specs.Cells.{one};
 ghost use Rattle.calloop_wake.specs.Executors.{at_start, most_tasks};
@@ -10,7 +11,7 @@ ghost use Rattle.calloop_wake.specs.declared.error.Error.TheVariants.{OutOfMemor
 use crate::cell::{Cell, settle};
 use calloop_wake::error::Result as LoopResult;
 use calloop_wake::wake::executor::{ExecutorCore, PutRefusal, PutTask, TaskTurn};
-use calloop_wake::wake::locked::Locked;
+use calloop_wake::wake::locked::{Held, Locked};
 use calloop_wake::wake::tasks::TaskKey;
 use calloop_wake::wake::{Receipt, ReceivingRight, TakenPass, Twin};
 use std::alloc::Global;
@@ -25,7 +26,7 @@ pub fn locked(alloc: Global) -> LoopResult<(Locked<TaskCell>, ReceivingRight)>
     ensures err { IfErr result (λ e. e ≡ OutOfMemory) }
 {
     let (core, name, right) = ExecutorCore::new(alloc)?;
-    Ok((Cell::locked(core, &name), right))
+    Ok((Cell::locked(alloc, core, &name)?, right))
 }
 
 /// A new task, which is queued, and its receipt.
@@ -36,17 +37,18 @@ pub fn put<R: Wait>(
 ) -> Result<(TaskKey, Receipt), PutRefusal>
     ensures { IfOk result (λ put. put.1.name ≡ shared.now.slot) }
 {
-    let mut cell = shared.lock(rt);
+    let mut held = shared.lock(rt);
+    let cell = held.core();
     match cell.core.put(home) {
         Ok(put) => {
             let PutTask { key, receipt, debt } = put;
             let owed = cell.owed(rt, debt);
-            shared.unlock(rt, cell);
+            held.unlock();
             settle(rt, owed);
             Ok((key, receipt))
         }
         Err(refusal) => {
-            shared.unlock(rt, cell);
+            held.unlock();
             Err(refusal)
         }
     }
@@ -54,10 +56,11 @@ pub fn put<R: Wait>(
 
 /// Wakes a task.
 pub fn wake<R: Wait>(rt: &R, shared: &Locked<TaskCell>, key: TaskKey) {
-    let mut cell = shared.lock(rt);
+    let mut held = shared.lock(rt);
+    let cell = held.core();
     let debt = cell.core.wake(key);
     let owed = cell.owed(rt, debt);
-    shared.unlock(rt, cell);
+    held.unlock();
     settle(rt, owed);
 }
 
@@ -75,25 +78,30 @@ pub fn open_turn<R: Wait>(
     ensures err { IfErr result (λ refused. (refused ≡ record pass { refused = Some twin.old.name })
         × (twin.new ≡ twin.old)) }
 {
-    let mut cell = shared.lock(rt);
+    let mut held = shared.lock(rt);
+    let cell = held.core();
     let opened = cell.core.open_turn(pass, twin);
-    shared.unlock(rt, cell);
+    held.unlock();
     opened
 }
 
 // Takes the lock, once the turn is the one that stands open in the cell. It is so at once: who has the turn alone moves it on.
-fn lock_at<R: Wait>(rt: &R, shared: &Locked<TaskCell>, turn: &TaskTurn) -> TaskCell
-    ensures name { result.core.name ≡ shared.now.slot }
-    ensures at { (result.core.draining ≡ true) × (turn.now.progress ≡ result.core.progress) }
-    ensures keyed { (place : Keyed) → on result.core.board result.core.key ≡ Some place
-        → option_map arc_value result.hub ≡ Some place.board }
+fn lock_at<'a, R: Wait>(rt: &R, shared: &'a Locked<TaskCell>, turn: &TaskTurn) -> Held<'a, TaskCell>
+    ensures lock { (result.shared.now.key ≡ shared.now.slot)
+        × (result.seat.table_id ≡ result.shared.now.table_id)
+        × HasOneSlot result.shared.now.table_id }
+    ensures taken { IsTaken (λ cell. (cell.core.name ≡ shared.now.slot)
+        × ((cell.core.draining ≡ true) × (turn.now.progress ≡ cell.core.progress))
+        × ((place : Keyed) → on cell.core.board cell.core.key ≡ Some place
+        → option_map arc_value cell.hub ≡ Some place.board))
+        result.seat.me.1 }
 {
     for _ in rt.forever() {
-        let cell = shared.lock(rt);
-        if cell.core.is_at(turn) {
-            return cell;
+        let mut held = shared.lock(rt);
+        if held.core().core.is_at(turn) {
+            return held;
         }
-        shared.unlock(rt, cell);
+        held.unlock();
     }
     unreachable!()
 }
@@ -117,9 +125,10 @@ pub fn pop<R: Wait>(
     ensures none { IfNone result (turn.new.progress.dry ≡ true) }
     ensures twin { twin.new ≡ record twin.old { number = twin.old.number + one finished } }
 {
-    let mut cell = lock_at(rt, shared, turn);
+    let mut held = lock_at(rt, shared, turn);
+    let cell = held.core();
     let popped = cell.core.pop(turn, twin, finished);
-    shared.unlock(rt, cell);
+    held.unlock();
     popped
 }
 
@@ -136,9 +145,10 @@ pub fn end_turn<R: Wait>(
     requires finishes { finished ≡ true → IsSome turn.progress.polled }
     ensures twin { twin.new ≡ record twin.old { number = twin.old.number + one finished } }
 {
-    let mut cell = lock_at(rt, shared, &turn);
+    let mut held = lock_at(rt, shared, &turn);
+    let cell = held.core();
     let debt = cell.core.end_turn(turn, twin, finished);
     let owed = cell.owed(rt, debt);
-    shared.unlock(rt, cell);
+    held.unlock();
     settle(rt, owed);
 }

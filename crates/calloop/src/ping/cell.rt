@@ -1,32 +1,37 @@
 //! The sections of the lock of a ping's cell that no other kind of cell has.
 ghost use Rattle.std.specs.Prelude.{◌≡◌, None, Some, IfOk, IfErr};
+ghost use Rattle.calloop_wake.specs.declared.error.Error.TheVariants.{OutOfMemory};
 ghost use Rattle.calloop.specs.Pings.{twin_opened};
 
 use crate::cell::{Cell, settle};
+use calloop_wake::error::Result as LoopResult;
 use calloop_wake::wake::locked::Locked;
 use calloop_wake::wake::ping::{OpenedTurn, PingCore};
 use calloop_wake::wake::{PingTurn, Receipt, ReceivingRight, TakenPass, Twin};
+use std::alloc::Global;
 use std::sync::Wait;
 
 /// What the ends of a ping share.
 pub type PingCell = Cell<PingCore>;
 
 /// A cell to which nothing has happened yet, under its lock, and the right to its receiving end.
-pub fn locked() -> (Locked<PingCell>, ReceivingRight)
-    ensures { result.1.name ≡ result.0.slot }
+pub fn locked(alloc: Global) -> LoopResult<(Locked<PingCell>, ReceivingRight)>
+    ensures right { IfOk result (λ made. made.1.name ≡ made.0.slot) }
+    ensures err { IfErr result (λ e. e ≡ OutOfMemory) }
 {
     let (core, name, right) = PingCore::new();
-    (Cell::locked(core, &name), right)
+    Ok((Cell::locked(alloc, core, &name)?, right))
 }
 
 /// Rings the cell.
 pub fn ring<R: Wait>(rt: &R, shared: &Locked<PingCell>) -> Receipt
     ensures { result.name ≡ shared.now.slot }
 {
-    let mut cell = shared.lock(rt);
+    let mut held = shared.lock(rt);
+    let cell = held.core();
     let (receipt, debt) = cell.core.ring();
     let owed = cell.owed(rt, debt);
-    shared.unlock(rt, cell);
+    held.unlock();
     settle(rt, owed);
     receipt
 }
@@ -45,9 +50,10 @@ pub fn open_turn<R: Wait>(
     ensures err { IfErr result (λ refused. (refused ≡ record pass { refused = Some twin.old.name })
         × (twin.new ≡ twin.old)) }
 {
-    let mut cell = shared.lock(rt);
+    let mut held = shared.lock(rt);
+    let cell = held.core();
     let opened = cell.core.open_turn(pass, twin);
-    shared.unlock(rt, cell);
+    held.unlock();
     opened
 }
 
@@ -55,9 +61,10 @@ pub fn open_turn<R: Wait>(
 pub fn end_turn<R: Wait>(rt: &R, shared: &Locked<PingCell>, turn: PingTurn)
     requires { turn.name ≡ shared.now.slot }
 {
-    let mut cell = shared.lock(rt);
+    let mut held = shared.lock(rt);
+    let cell = held.core();
     let debt = cell.core.end_turn(turn);
     let owed = cell.owed(rt, debt);
-    shared.unlock(rt, cell);
+    held.unlock();
     settle(rt, owed);
 }

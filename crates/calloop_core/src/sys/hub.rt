@@ -17,7 +17,7 @@ use calloop_wake::wake::board::OpenRefusal;
 use calloop_wake::wake::locked::Locked;
 use calloop_wake::wake::watch::{OpenPlaces, Watch, WatchedBoard};
 use calloop_wake::wake::{Debt, LeaveToClose, LeaveToSleep, OpenedPass, TakenPass};
-use std::alloc::Global;
+use std::alloc::{AllocError, Global};
 use std::collections::VecDeque;
 use std::io;
 use std::marker::Model;
@@ -57,16 +57,16 @@ pub fn share<R: Wait, T: Drop>(rt: &R, owner: &Arc<T, Global>) -> Arc<T, Global>
 }
 
 impl Hub {
-    /// With an empty board, and the watch of that. It allocates nothing yet.
-    pub fn new(alloc: Global, notifier: Notifier) -> (Hub, Watch)
-        ensures { result.1 ≡ record { name = result.0; notes = [] } }
+    /// With an empty board, and the watch of that.
+    pub fn new(alloc: Global, notifier: Notifier) -> std::result::Result<(Hub, Watch), AllocError>
+        ensures { IfOk result (λ made. made.1 ≡ record { name = made.0; notes = [] }) }
     {
         let (board, watch, name) = WatchedBoard::new(alloc);
         let hub = Hub {
-            board: Locked::new(board, &name),
+            board: Locked::new(alloc, board, &name)?,
             notifier,
         };
-        (hub, watch)
+        Ok((hub, watch))
     }
 
     /// Opens the place of a token's key. An open one is `IoError` of kind `AlreadyExists`, and want of memory is
@@ -76,9 +76,10 @@ impl Hub {
         ensures ok { IfOk result (λ pass. pass ≡ record { key = key_of token; board = self.now }) }
         ensures err { IfErr result CannotOpen }
     {
-        let mut board = self.board.lock(rt);
+        let mut held = self.board.lock(rt);
+        let board = held.core();
         let opened = board.open_place(token.key());
-        self.board.unlock(rt, board);
+        held.unlock();
         match opened {
             Ok(pass) => Ok(pass),
             Err(OpenRefusal::AlreadyExists) => Err(Error::IoError(io::Error::from(
@@ -92,18 +93,20 @@ impl Hub {
     pub fn close_place<R: Wait>(&self, rt: &R, leave: LeaveToClose)
         requires { leave.board ≡ self.now }
     {
-        let mut board = self.board.lock(rt);
+        let mut held = self.board.lock(rt);
+        let board = held.core();
         board.close_place(leave);
-        self.board.unlock(rt, board);
+        held.unlock();
     }
 
     /// Posts the key of a debt to this board, and spends the nudge that this gives, outside the lock. It takes no memory.
     pub fn settle<R: Wait>(&self, rt: &R, debt: Debt)
         requires { debt.board ≡ self.now }
     {
-        let mut board = self.board.lock(rt);
+        let mut held = self.board.lock(rt);
+        let board = held.core();
         let nudge = board.post(debt);
-        self.board.unlock(rt, board);
+        held.unlock();
         if let Some(nudge) = nudge {
             nudge.spend(&self.notifier);
         }
@@ -114,9 +117,9 @@ impl Hub {
         requires { watch.old.name ≡ self.now }
         ensures { watch.new ≡ noted (Looked (is_none result)) watch.old }
     {
-        let reading = self.board.read(rt);
-        let leave = reading.core().look(watch);
-        reading.end();
+        let mut held = self.board.lock(rt);
+        let leave = held.core().look(watch);
+        held.unlock();
         leave
     }
 
@@ -124,9 +127,9 @@ impl Hub {
     pub fn places<R: Wait>(&self, rt: &R) -> OpenPlaces
         ensures { result.name ≡ self.now }
     {
-        let reading = self.board.read(rt);
-        let places = reading.core().places();
-        reading.end();
+        let mut held = self.board.lock(rt);
+        let places = held.core().places();
+        held.unlock();
         places
     }
 
@@ -135,9 +138,9 @@ impl Hub {
         requires { watch.old.name ≡ self.now }
         ensures { watch.new ≡ (if result then noted (Unposted room []) watch.old else watch.old) }
     {
-        let reading = self.board.read(rt);
-        let none = reading.core().unpost_none(room, watch);
-        reading.end();
+        let mut held = self.board.lock(rt);
+        let none = held.core().unpost_none(room, watch);
+        held.unlock();
         none
     }
 
@@ -154,9 +157,10 @@ impl Hub {
         ensures keys { HasUnposted room watch.old watch.new passes.old.items passes.new.items (deque_len passes.old) (deque_len passes.new) }
         ensures capacity { deque_capacity passes.new ≡ deque_capacity passes.old }
     {
-        let mut board = self.board.lock(rt);
+        let mut held = self.board.lock(rt);
+        let board = held.core();
         board.unpost(room, watch, passes, &mut Steps::new());
-        self.board.unlock(rt, board);
+        held.unlock();
     }
 }
 
@@ -187,7 +191,7 @@ impl WatchedHub {
         ensures ok { IfOk result (λ made. made.notes ≡ []) }
         ensures err { IfErr result (λ e. e ≡ MemoryError) }
     {
-        let (hub, watch) = Hub::new(alloc, notifier);
+        let (hub, watch) = Hub::new(alloc, notifier)?;
         let hub = Arc::new(alloc, hub)?;
         Ok(WatchedHub {
             hub,

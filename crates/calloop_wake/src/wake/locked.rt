@@ -1,249 +1,284 @@
-//! A lock whose content keeps to one tag for good.
-ghost use Rattle.std.specs.Prelude.{◌≡◌, ◌<◌, IfSome};
+//! A lock whose content keeps to one tag for good, and is changed where it lies.
+ghost use Rattle.std.specs.Prelude.{◌≡◌, ◌<◌, ◌∷◌, [], IfSome, IfOk};
+ghost use Rattle.calloop_wake.specs.Locks.{HasOneSlot, IsTaken};
 
 use super::Last;
 use super::sleepers::Sleepers;
-use counted_slot::{Claim, Counted, FREE, Fits, MARKED, ONE_READER, PRESENT, TAKEN};
+use atomic_table::{Play, Refused, Seat, Shared, Table, TableRule};
+use counted_slot::Fits;
+use std::alloc::{AllocError, Global};
 use std::hint::spin_loop;
-use std::marker::Model;
+use std::marker::{Model, PhantomData};
 use std::sync::Wait;
 
-/// What lies under a lock. It has no `Drop`: who takes it out has to put it back.
+mod lends;
+
+/// What lies under a lock. It has no `Drop`: it ends where the lock ends.
 pub trait Core: Fits {
     /// Ends it, once nobody has the lock any more.
     fn dissolve(self, last: Last);
 }
 
-struct Kept<X: Core> {
-    core: Option<X>,
-}
+// The words of a lock: its content is at home, or somebody has it.
+const FREE: u64 = 0;
 
-impl<X: Core> Fits for Kept<X> {
-    ghost use Rattle.std.specs.Prelude.{IfSome};
-
-    type Tag = X::Tag;
-
-    ghost fits = { λ tag kept. IfSome kept.core (X.fits tag) };
-}
-
-impl<X: Core> Kept<X> {
-    fn into_core(self) -> Option<X>
-        ensures { result ≡ self.core }
-    {
-        let Kept { core } = self;
-        core
-    }
-}
-
-impl<X: Core> Drop for Kept<X> {
-    fn drop(self) {
-        let Kept { core } = self;
-        if let Some(core) = core {
-            core.dissolve(Last { of_wake: () });
-        }
-    }
-}
-
-// The words of a slot: its core lies in it, or somebody has the core. A new slot is `FREE`, and its core lies in it too; it is
-// `TAKEN` while its content is exchanged.
-const OPEN: u64 = PRESENT;
-
-const HELD: u64 = MARKED;
-
-const READ: u64 = PRESENT + ONE_READER;
+const HELD: u64 = 1;
 
 // How often who finds the lock held looks again before it sleeps.
 const LOOKS: u32 = 100;
+
+/// What holds of a lock between any two steps: where it is free, its content is at home and fits its tag.
+pub struct Keeps<X> {
+    marker: PhantomData<X>,
+}
+
+impl<X: Fits> TableRule<X, X::Tag, X::Tag> for Keeps<X> {
+    ghost use Rattle.calloop_wake.specs.Locks.{IsLock};
+
+    ghost holds = { λ tag. IsLock (X.fits tag) };
+
+    ghost first = { λ tag. tag };
+}
+
+// An exchange: who finds the lock free has its content.
+struct Takes<X> {
+    marker: PhantomData<X>,
+}
+
+impl<X: Fits> Play<X, X::Tag> for Takes<X> {
+    ghost use Rattle.std.specs.Prelude.{◌≡◌};
+    ghost use Rattle.calloop_wake.specs.Locks.{IsTaken};
+
+    ghost then = { λ _ me found new. found ≡ 0 → IsTaken (X.fits me.0) new.1 };
+}
+
+// A store: who has the content gives it back.
+struct GivesBack;
+
+impl<S, V> Play<S, V> for GivesBack {
+    ghost then = { λ _ _ _ _. Unit {0} };
+}
+
+/// The content with its word. In a clause it is the tag.
+struct Slot<X: Core> {
+    table: Table<X, X::Tag, X::Tag, Keeps<X>, Global>,
+}
+
+impl<X: Core> Model for Slot<X> {
+    ghost use Rattle.calloop_wake.specs.Locks.{HasOneSlot};
+
+    ghost Value = { X.Tag };
+
+    ghost view = { λ slot. slot.table.shared.key };
+
+    ghost invariant = { λ slot. HasOneSlot slot.table.shared.table_id };
+}
+
+impl<X: Core> Slot<X> {
+    fn new(alloc: Global, core: X, tag: &X::Tag) -> Result<Slot<X>, AllocError>
+        requires { X.fits tag.now core }
+        ensures { IfOk result (λ slot. slot ≡ tag.now) }
+    {
+        let mut slots = match Vec::with_capacity(alloc, 1) {
+            Ok(slots) => slots,
+            Err(refused) => {
+                core.dissolve(Last { of_wake: () });
+                return Err(refused);
+            }
+        };
+        slots.push_reserved(core);
+        match Table::new(alloc, &[FREE], slots, tag) {
+            Ok((table, _seat)) => Ok(Slot { table }),
+            Err(Refused { mut slots }) => {
+                if let Some(core) = slots.pop() {
+                    core.dissolve(Last { of_wake: () });
+                }
+                slots.destroy_empty();
+                Err(AllocError)
+            }
+        }
+    }
+
+    fn shared(&self) -> &Shared<X, X::Tag, X::Tag, Keeps<X>>
+        ensures { (result.now.key ≡ self.now) × HasOneSlot result.now.table_id }
+    {
+        &self.table.shared
+    }
+}
+
+impl<X: Core> Drop for Slot<X> {
+    fn drop(self) {
+        let Self { table } = self;
+        let mut closed = table.close();
+        let core = closed.take(0);
+        closed.free();
+        core.dissolve(Last { of_wake: () });
+    }
+}
+
+// Those that wait for a lock, and those that wait until its content was changed.
+#[derive(Drop)]
+struct Queues {
+    entering: Sleepers,
+    watching: Sleepers,
+}
 
 /// A lock, under the tag of its content. In a clause `slot` is the tag.
 ///
 /// Calloop's ends share an eventfd or a pipe, and the kernel keeps its state.
 #[derive(Drop)]
 pub struct Locked<X: Core> {
-    slot: Counted<Kept<X>>,
-    // Those that wait for the lock, and those that wait until the core was changed.
-    entering: Sleepers,
-    watching: Sleepers,
+    slot: Slot<X>,
+    queues: Queues,
 }
 
 impl<X: Core> Locked<X> {
-    /// A lock that is free.
-    pub fn new(core: X, tag: &X::Tag) -> Locked<X>
+    /// A lock that is free. Where there is no memory for it, its content is ended.
+    pub fn new(alloc: Global, core: X, tag: &X::Tag) -> Result<Locked<X>, AllocError>
         requires { X.fits tag.now core }
-        ensures { result.slot ≡ tag.now }
+        ensures { IfOk result (λ lock. lock.slot ≡ tag.now) }
     {
-        Locked {
-            slot: Counted::new(Kept { core: Some(core) }, tag),
-            entering: Sleepers::none(),
-            watching: Sleepers::none(),
-        }
-    }
-
-    // The right to write the slot, where its word is this one.
-    fn claim(&self, word: u64) -> Option<Claim<'_, Kept<X>>>
-        requires { word < 3 }
-        ensures { IfSome result (λ claim. (claim.right ≡ 2) × (claim.tag ≡ self.now.slot)) }
-    {
-        let (found, claim) = self.slot.turn(word, TAKEN);
-        if found == word {
-            Some(claim)
-        } else {
-            claim.done();
-            None
-        }
-    }
-
-    // Takes what lies under the lock, where its word is this one.
-    fn take(&self, word: u64) -> Option<X>
-        requires { word < 3 }
-        ensures { IfSome result (X.fits self.now.slot) }
-    {
-        self.claim(word)?.put(Kept { core: None }, HELD).into_core()
-    }
-
-    // Looks for a while whether the lock is free.
-    fn take_soon(&self) -> Option<X>
-        ensures { IfSome result (X.fits self.now.slot) }
-    {
-        for _ in 0..LOOKS {
-            let word = self.slot.load();
-            if word == OPEN || word == FREE {
-                if let Some(core) = self.take(word) {
-                    return Some(core);
-                }
-            }
-            spin_loop();
-        }
-        None
-    }
-
-    // Sleeps until the lock is free.
-    fn take_late<R: Wait>(&self, rt: &R) -> X
-        ensures { X.fits self.now.slot result }
-    {
-        self.entering.join();
-        for _ in rt.forever() {
-            let told = self.entering.told();
-            if let Some(core) = self.take_soon() {
-                self.entering.leave();
-                return core;
-            }
-            self.entering.sleep(rt, told);
-        }
-        unreachable!()
-    }
-
-    /// Takes the lock, and what lies under it. It waits while another has it.
-    pub fn lock<R: Wait>(&self, rt: &R) -> X
-        ensures { X.fits self.now.slot result }
-    {
-        if let Some(core) = self.take(OPEN) {
-            return core;
-        }
-        match self.take_soon() {
-            Some(core) => core,
-            None => self.take_late(rt),
-        }
-    }
-
-    /// Puts the core back, and gives the lock up.
-    pub fn unlock<R: Wait>(&self, rt: &R, core: X)
-        requires { X.fits self.now.slot core }
-    {
-        for _ in rt.forever() {
-            if let Some(claim) = self.claim(HELD) {
-                drop(claim.put(Kept { core: Some(core) }, OPEN));
-                self.entering.tell_one();
-                return;
-            }
-        }
-        unreachable!()
-    }
-
-    // The right to read what lies under the lock, where it is free and nobody reads.
-    fn try_read(&self) -> Option<Reading<'_, X>>
-        ensures { IfSome result (λ reading. reading ≡ self.now.slot) }
-    {
-        let (found, claim) = self.slot.turn(OPEN, READ);
-        if found != OPEN {
-            claim.done();
-            return None;
-        }
-        if claim.get().core.is_none() {
-            claim.leave();
-            return None;
-        }
-        Some(Reading {
-            claim,
-            entering: &self.entering,
+        Ok(Locked {
+            slot: Slot::new(alloc, core, tag)?,
+            queues: Queues {
+                entering: Sleepers::none(),
+                watching: Sleepers::none(),
+            },
         })
     }
 
-    /// Reads what lies under the lock. It waits while another has it, or reads.
-    pub fn read<R: Wait>(&self, rt: &R) -> Reading<'_, X>
-        ensures { result ≡ self.now.slot }
+    /// Takes the lock, and what lies under it. It waits while another has it.
+    pub fn lock<R: Wait>(&self, rt: &R) -> Held<'_, X>
+        ensures { (result.shared.now.key ≡ self.now.slot) × (result.seat.table_id ≡ result.shared.now.table_id)
+            × HasOneSlot result.shared.now.table_id × IsTaken (X.fits result.shared.now.key) result.seat.me.1 }
     {
-        for _ in rt.forever() {
-            if let Some(reading) = self.try_read() {
-                return reading;
-            }
-            let core = self.lock(rt);
-            self.unlock(rt, core);
-        }
-        unreachable!()
-    }
-
-    /// Puts the core back, gives the lock up, and waits until somebody tells that the core was changed, or for less. Then it has the
-    /// lock and what lies under it again.
-    pub fn wait<R: Wait>(&self, rt: &R, core: X) -> X
-        requires { X.fits self.now.slot core }
-        ensures { X.fits self.now.slot result }
-    {
-        self.watching.join();
-        let told = self.watching.told();
-        self.unlock(rt, core);
-        self.watching.sleep(rt, told);
-        self.watching.leave();
-        self.lock(rt)
+        lock(rt, self.slot.shared(), &self.queues)
     }
 
     /// Tells all that wait that the core was changed. Who changed it has given the lock up before.
     pub fn tell(&self) {
-        self.watching.tell_all();
+        self.queues.watching.tell_all();
     }
 }
 
-/// What lies under a lock while it is read. It stays there, so a reading costs less than the lock. In a clause it is the tag.
-pub struct Reading<'a, X: Core> {
-    claim: Claim<'a, Kept<X>>,
-    entering: &'a Sleepers,
+/// What lies under a lock, for who has taken it.
+pub struct Held<'a, X: Fits> {
+    seat: Seat<X, X::Tag>,
+    shared: &'a Shared<X, X::Tag, X::Tag, Keeps<X>>,
+    queues: &'a Queues,
 }
 
-impl<'a, X: Core> Model for Reading<'a, X> {
-    ghost use Rattle.std.specs.Prelude.{◌≡◌, IfSome, IsSome};
-
-    ghost Value = { X.Tag };
-
-    ghost view = { λ r. r.claim.tag };
-
-    ghost invariant = { λ r. (r.claim.right ≡ 1) × IfSome r.claim.value (λ kept. IsSome kept.core) };
+// Takes the lock, where it is free.
+fn take<'a, X: Fits>(
+    shared: &'a Shared<X, X::Tag, X::Tag, Keeps<X>>,
+    queues: &'a Queues,
+) -> Option<Held<'a, X>>
+    requires { HasOneSlot shared.now.table_id }
+    ensures { IfSome result (λ held. (held.shared.now.key ≡ shared.now.key) × (held.seat.table_id ≡ held.shared.now.table_id)
+        × HasOneSlot held.shared.now.table_id × IsTaken (X.fits held.shared.now.key) held.seat.me.1) }
+{
+    let (found, seat) = shared.swap_new_seat::<Takes<X>>(0, HELD);
+    if found == FREE {
+        Some(Held {
+            seat,
+            shared,
+            queues,
+        })
+    } else {
+        None
+    }
 }
 
-impl<'a, X: Core> Reading<'a, X> {
-    /// What is read.
-    pub fn core(&self) -> &X
-        ensures { X.fits self.now result.now }
-    {
-        match &self.claim.get().core {
-            Some(core) => core,
-            None => unreachable!(),
+// Looks for a while whether the lock is free.
+fn take_soon<'a, X: Fits>(
+    shared: &'a Shared<X, X::Tag, X::Tag, Keeps<X>>,
+    queues: &'a Queues,
+) -> Option<Held<'a, X>>
+    requires { HasOneSlot shared.now.table_id }
+    ensures { IfSome result (λ held. (held.shared.now.key ≡ shared.now.key) × (held.seat.table_id ≡ held.shared.now.table_id)
+        × HasOneSlot held.shared.now.table_id × IsTaken (X.fits held.shared.now.key) held.seat.me.1) }
+{
+    for _ in 0..LOOKS {
+        if shared.peek(0) == FREE {
+            if let Some(held) = take(shared, queues) {
+                return Some(held);
+            }
         }
+        spin_loop();
+    }
+    None
+}
+
+// Sleeps until the lock is free.
+fn take_late<'a, X: Fits, R: Wait>(
+    rt: &R,
+    shared: &'a Shared<X, X::Tag, X::Tag, Keeps<X>>,
+    queues: &'a Queues,
+) -> Held<'a, X>
+    requires { HasOneSlot shared.now.table_id }
+    ensures { (result.shared.now.key ≡ shared.now.key) × (result.seat.table_id ≡ result.shared.now.table_id)
+        × HasOneSlot result.shared.now.table_id × IsTaken (X.fits result.shared.now.key) result.seat.me.1 }
+{
+    queues.entering.join();
+    for _ in rt.forever() {
+        let told = queues.entering.told();
+        if let Some(held) = take_soon(shared, queues) {
+            queues.entering.leave();
+            return held;
+        }
+        queues.entering.sleep(rt, told);
+    }
+    unreachable!()
+}
+
+// Takes the lock. It waits while another has it.
+fn lock<'a, X: Fits, R: Wait>(
+    rt: &R,
+    shared: &'a Shared<X, X::Tag, X::Tag, Keeps<X>>,
+    queues: &'a Queues,
+) -> Held<'a, X>
+    requires { HasOneSlot shared.now.table_id }
+    ensures { (result.shared.now.key ≡ shared.now.key) × (result.seat.table_id ≡ result.shared.now.table_id)
+        × HasOneSlot result.shared.now.table_id × IsTaken (X.fits result.shared.now.key) result.seat.me.1 }
+{
+    if let Some(held) = take(shared, queues) {
+        return held;
+    }
+    match take_soon(shared, queues) {
+        Some(held) => held,
+        None => take_late(rt, shared, queues),
+    }
+}
+
+impl<'a, X: Fits> Held<'a, X> {
+    /// Gives the lock up, once what lies under it fits its tag again.
+    pub fn unlock(self)
+        requires { (self.seat.table_id ≡ self.shared.now.table_id) × HasOneSlot self.shared.now.table_id
+            × IsTaken (X.fits self.shared.now.key) self.seat.me.1 }
+    {
+        let Held {
+            mut seat,
+            shared,
+            queues,
+        } = self;
+        shared.store::<GivesBack>(&mut seat, 0, FREE);
+        queues.entering.tell_one();
     }
 
-    /// Ends the reading.
-    pub fn end(self) {
-        let Reading { claim, entering } = self;
-        claim.leave();
-        entering.tell_one();
+    /// Gives the lock up, and waits until somebody tells that the core was changed, or for less. Then it has the lock again.
+    pub fn wait<R: Wait>(self, rt: &R) -> Held<'a, X>
+        requires { (self.seat.table_id ≡ self.shared.now.table_id) × HasOneSlot self.shared.now.table_id
+            × IsTaken (X.fits self.shared.now.key) self.seat.me.1 }
+        ensures { (result.shared.now.key ≡ self.entry.shared.now.key) × (result.seat.table_id ≡ result.shared.now.table_id)
+            × HasOneSlot result.shared.now.table_id × IsTaken (X.fits result.shared.now.key) result.seat.me.1 }
+    {
+        let shared = self.shared;
+        let queues = self.queues;
+        queues.watching.join();
+        let told = queues.watching.told();
+        self.unlock();
+        queues.watching.sleep(rt, told);
+        queues.watching.leave();
+        lock(rt, shared, queues)
     }
 }

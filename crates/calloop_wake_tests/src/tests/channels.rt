@@ -212,6 +212,7 @@ struct Mail {
     twin: Twin,
     label: Label,
     board: SharedBoard,
+    alloc: Global,
     ghost tied: { twin.name ≡ core.name },
     ghost named: { core.name ≡ label.name },
     ghost bounded: { core.state.bound ≡ label.bound },
@@ -228,6 +229,7 @@ impl Mail {
             twin,
             label,
             board,
+            alloc,
         }
     }
 
@@ -264,9 +266,10 @@ impl Mail {
     fn registers<R: Wait>(&mut self, rt: &R, key: u64) -> bool
         requires { key < 2 ^ 64 - 1 }
     {
-        let mut board = self.board.lock(rt);
+        let mut held = self.board.lock(rt);
+        let board = held.core();
         let opened = board.open_place(key);
-        self.board.unlock(rt, board);
+        held.unlock();
         match opened {
             Ok(pass) => {
                 let (debt, leave) = self.core.set_key(pass, &mut self.twin);
@@ -456,6 +459,7 @@ impl Mail {
             twin,
             label,
             board,
+            alloc,
         } = self;
         close(rt, &board, core.abandon(twin));
         let put = match core.put(message) {
@@ -465,7 +469,7 @@ impl Mail {
             }
             Err(refused) => refusal(refused),
         };
-        drop(Locked::new(core, &label));
+        drop(Locked::new(alloc, core, &label));
         put
     }
 
@@ -475,9 +479,10 @@ impl Mail {
             twin,
             label,
             board,
+            alloc,
         } = self;
         close(rt, &board, core.abandon(twin));
-        drop(Locked::new(core, &label));
+        drop(Locked::new(alloc, core, &label));
     }
 }
 
@@ -507,7 +512,7 @@ fn hand_on<R: Wait + Abort>(rt: &R, alloc: Global, desk: &Desk, text: String) ->
     }
     let taken = core.take(&mut twin);
     close(rt, &desk.board, core.abandon(twin));
-    drop(Locked::new(core, &label));
+    drop(Locked::new(alloc, core, &label));
     taken
 }
 
@@ -552,7 +557,11 @@ impl Inbox {
     fn new<R: Abort>(rt: &R, alloc: Global, desk: &Desk) -> (Inbox, Slit) {
         let (core, label, right) = ChannelCore::<u64>::new(alloc, Some(2)).expect(rt, "a cell");
         let twin = core.receiver(right);
-        let lock = Arc::new(alloc, Locked::new(Keyless { core }, &label)).expect(rt, "a lock");
+        let lock = Arc::new(
+            alloc,
+            Locked::new(alloc, Keyless { core }, &label).expect(rt, "a lock"),
+        )
+        .expect(rt, "a lock");
         let slit = Slit {
             lock: Arc::try_clone(&lock).expect(rt, "a lock"),
             board: Arc::try_clone(&desk.board).expect(rt, "a board"),
@@ -568,9 +577,10 @@ impl Inbox {
 
     fn leave<R: Wait>(self, rt: &R) {
         let Inbox { lock, twin, board } = self;
-        let mut cell = lock.lock(rt);
+        let mut held = lock.lock(rt);
+        let cell = held.core();
         let leave = cell.core.abandon(twin);
-        lock.unlock(rt, cell);
+        held.unlock();
         close(rt, &board, leave);
     }
 }
@@ -580,16 +590,16 @@ fn receive<R: Wait>(rt: &R, lock: &Locked<Keyless>, twin: &mut Twin) -> u64
     requires { twin.old.name ≡ lock.now.slot.name }
     ensures { twin.new.name ≡ lock.now.slot.name }
 {
-    let mut cell = lock.lock(rt);
+    let mut held = lock.lock(rt);
     for _ in rt.forever() {
-        if let Some(message) = cell.core.take(twin) {
-            lock.unlock(rt, cell);
+        if let Some(message) = held.core().core.take(twin) {
+            held.unlock();
             lock.tell();
             return message;
         }
-        cell = lock.wait(rt, cell);
+        held = held.wait(rt);
     }
-    lock.unlock(rt, cell);
+    held.unlock();
     unreachable!()
 }
 
@@ -597,16 +607,16 @@ fn receive<R: Wait>(rt: &R, lock: &Locked<Keyless>, twin: &mut Twin) -> u64
 fn put_message<R: Wait>(rt: &R, lock: &Locked<Keyless>, message: u64) -> Option<Debt>
     ensures { result ≡ None }
 {
-    let mut cell = lock.lock(rt);
+    let mut held = lock.lock(rt);
     for _ in rt.forever() {
-        if let Ok((_receipt, debt)) = cell.core.put(message) {
-            lock.unlock(rt, cell);
+        if let Ok((_receipt, debt)) = held.core().core.put(message) {
+            held.unlock();
             lock.tell();
             return debt;
         }
-        cell = lock.wait(rt, cell);
+        held = held.wait(rt);
     }
-    lock.unlock(rt, cell);
+    held.unlock();
     unreachable!()
 }
 

@@ -158,6 +158,7 @@ struct Crew {
     twin: Twin,
     name: Name,
     board: SharedBoard,
+    alloc: Global,
     ghost tied: { twin.name ≡ core.name },
     ghost named: { core.name ≡ name },
     ghost own: { is_some core.key ≡ true → core.board ≡ (arc_value board).slot },
@@ -173,6 +174,7 @@ impl Crew {
             twin,
             name,
             board,
+            alloc,
         }
     }
 
@@ -218,9 +220,9 @@ impl Crew {
     fn registers<R: Wait>(&mut self, rt: &R, key: u64) -> bool
         requires { key < 2 ^ 64 - 1 }
     {
-        let mut board = self.board.lock(rt);
-        let opened = board.open_place(key);
-        self.board.unlock(rt, board);
+        let mut held = self.board.lock(rt);
+        let opened = held.core().open_place(key);
+        held.unlock();
         match opened {
             Ok(pass) => {
                 let (debt, leave) = self.core.set_key(pass, &mut self.twin);
@@ -356,6 +358,7 @@ impl Crew {
             twin,
             name,
             board,
+            alloc,
         } = self;
         close(rt, &board, core.abandon(twin));
         let woken = core.wake(key);
@@ -372,7 +375,7 @@ impl Crew {
             }
             Err(refusal) => refusal == PutRefusal::Gone,
         };
-        drop(Locked::new(core, &name));
+        drop(Locked::new(alloc, core, &name));
         refused && !marked
     }
 
@@ -382,8 +385,9 @@ impl Crew {
             twin,
             name,
             board,
+            alloc,
         } = self;
         close(rt, &board, core.abandon(twin));
-        drop(Locked::new(core, &name));
+        drop(Locked::new(alloc, core, &name));
     }
 }

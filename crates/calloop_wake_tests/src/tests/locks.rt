@@ -31,6 +31,17 @@ fn a_lock_is_read_while_another_thread_takes_it(rt: HostRuntime) {
     assert_eq!(rt; count(&rt, &lock), 50_000);
 }
 
+#[test]
+fn a_wait_loses_no_wake(rt: HostRuntime) {
+    let its_rt = rt.clone().expect(&rt, "a runtime");
+    let lock = new_tally(&rt, rt.alloc());
+    let theirs = Arc::try_clone(&lock).expect(&rt, "a lock");
+    let child = thread::spawn(&rt, move || take_turns(&its_rt, &theirs, 1)).expect(&rt, "a thread");
+    take_turns(&rt, &lock, 0);
+    child.join(&rt);
+    assert_eq!(rt; count(&rt, &lock), 40_000);
+}
+
 // How often somebody had the lock, beside a cell, which alone can end what lies under one.
 struct Tally {
     core: PingCore,
@@ -54,22 +65,50 @@ impl Core for Tally {
 
 fn new_tally<R: Abort>(rt: &R, alloc: Global) -> Arc<Locked<Tally>, Global> {
     let (core, name, _right) = PingCore::new();
-    Arc::new(alloc, Locked::new(Tally { core, count: 0 }, &name)).expect(rt, "a lock")
+    Arc::new(
+        alloc,
+        Locked::new(alloc, Tally { core, count: 0 }, &name).expect(rt, "a lock"),
+    )
+    .expect(rt, "a lock")
 }
 
 // Takes the lock so often, and counts each time.
 fn add<R: Wait>(rt: &R, lock: &Locked<Tally>, times: u64) {
     for _ in 0..times {
-        let mut tally = lock.lock(rt);
+        let mut held = lock.lock(rt);
+        let tally = held.core();
         tally.count = tally.count.wrapping_add(1);
-        lock.unlock(rt, tally);
+        held.unlock();
+    }
+}
+
+// Waits until the count is odd, or even, and counts once.
+fn take_turn<R: Wait>(rt: &R, lock: &Locked<Tally>, odd: u64) {
+    let mut held = lock.lock(rt);
+    for _ in rt.forever() {
+        let tally = held.core();
+        if tally.count % 2 == odd {
+            tally.count = tally.count.wrapping_add(1);
+            held.unlock();
+            lock.tell();
+            return;
+        }
+        held = held.wait(rt);
+    }
+    held.unlock();
+    unreachable!()
+}
+
+fn take_turns<R: Wait>(rt: &R, lock: &Locked<Tally>, odd: u64) {
+    for _ in 0..20_000 {
+        take_turn(rt, lock, odd);
     }
 }
 
 fn count<R: Wait>(rt: &R, lock: &Locked<Tally>) -> u64 {
-    let reading = lock.read(rt);
-    let count = reading.core().count;
-    reading.end();
+    let mut held = lock.lock(rt);
+    let count = held.core().count;
+    held.unlock();
     count
 }
 
