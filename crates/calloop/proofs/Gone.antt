@@ -13,7 +13,7 @@ use Rattle.calloop.specs.declared.loop_logic.LoopAnswer.TheVariants.{Inserted, E
 use Rattle.calloop.specs.Askings.{Asks, Runs}
 use Rattle.calloop.specs.Machine.{World, View, Registration, Change, Put, Claim, Swapped, Polls, Polling, Watching, Counting, Holds, Appended, Gathered, Cut, Ended, Fits, AllFit, IsFull, holding, reused, is_free, with_claim, slot_of, seen, viewed, all_viewed, done, all_done}
 use Rattle.calloop.specs.Rules.{Doing, Steps, Case, Run, Once, InsertedBy, EnabledBy, UpdatedBy, DisabledBy, RemovedBy, ReleasedBy, ExchangedBy, IdleInsertedBy, traced, all_traced}
-use Rattle.calloop.specs.Laws.{StaysGone, AllStayGone, joined, changes_of}
+use Rattle.calloop.specs.Laws.{StaysGone, joined, changes_of}
 use Rattle.calloop.proofs.Seen.{seen-done, seen-all_done, seen-all_traced}
 
 -- the slot was given up under this count, or is used again since
@@ -77,7 +77,8 @@ module _ {D I P : Type 0} (O : Outside P) where
   fit_rest v [] ds h = h
   fit_rest v (c ∷ cs) ds h = fit_rest (viewed v c) cs ds h.1
 
-  pub stay_gone : (w : World D I P) (cs : List (Change D I P)) → AllFit O (seen w) cs → AllStayGone w cs
+  pub stay_gone : (w : World D I P) (cs : List (Change D I P)) → AllFit O (seen w) cs → (before between after : List (Change D I P)) → cs ≡ before ++ (between ++ after)
+      → StaysGone (all_done w before) (all_done (all_done w before) between)
   stay_gone w cs fit before between after is =
       let all = subst (λ (l : List (Change D I P)). AllFit O (seen w) l) is fit in
       let rest = fit_first (all_viewed (seen w) before) between after (fit_rest (seen w) before (between ++ after) all) in

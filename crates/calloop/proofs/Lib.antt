@@ -2,6 +2,7 @@ pub mod Seen
 pub mod Counting
 pub mod Going
 mod Gone
+mod Moments
 pub mod Roles
 pub mod Settling
 pub mod Noting

@@ -1,4 +1,5 @@
--- A run that there is: a timer for moment 5 is inserted into a new loop, and a dispatch whose wait ends then calls it once.
+-- A run that there is: a timer for moment 5 is inserted into a new loop, is told of moment 6 instead where it stands, and a dispatch
+-- whose wait ends at 5 calls it once, with the deadline that it was armed for.
 use Rattle.std.specs.Prelude.{◌≡◌, false, true, List, [], ◌∷◌, Some, None, Ok}
 use Rattle.logbook.specs.Pages.{Book}
 use Rattle.calloop_wake.specs.declared.error.Error.TheVariants.{OutOfMemory}
@@ -18,14 +19,16 @@ use Rattle.calloop_core.specs.Deeds.{Lent}
 use Rattle.calloop_core.specs.Meanings.{Meaning, with_callback}
 use Rattle.calloop_core.specs.Timers.{timer_meaning, unarmed, registered_as, spent}
 use Rattle.calloop.specs.declared.loop_logic.LoopCall.{LoopCall}
-use Rattle.calloop.specs.declared.loop_logic.LoopCall.TheVariants.{Insert, Dispatch}
+use Rattle.calloop.specs.declared.loop_logic.LoopCall.TheVariants.{Insert, Exchange, Dispatch}
 use Rattle.calloop.specs.declared.loop_logic.LoopAnswer.{LoopAnswer}
-use Rattle.calloop.specs.declared.loop_logic.LoopAnswer.TheVariants.{Inserted, Dispatched}
+use Rattle.calloop.specs.declared.loop_logic.LoopAnswer.TheVariants.{Inserted, Exchanged, Dispatched}
 use Rattle.calloop.specs.declared.loop_logic.asks.Answer.TheVariants.{Removed}
 use Rattle.calloop.specs.Askings.{Asks, Reaches, Runs, no_asks}
+use Rattle.calloop.specs.EveryRun.{LoopRun}
+use Rattle.calloop.specs.Laws.{moments_of, changes_of}
 use Rattle.calloop.specs.Held.{Listed, Unlisted, Pend, Asking, Cleared, Warned, Paid, IdlesTaken}
 use Rattle.calloop.specs.Ledgers.{new_ledger}
-use Rattle.calloop.specs.Machine.{World, Change, Claim, Put, Polls, Polling, Watching, Counting, Holds, Gathered, Cut, Ended}
+use Rattle.calloop.specs.Machine.{World, Change, Claim, Put, Swapped, Polls, Polling, Watching, Counting, Holds, Gathered, Cut, Ended}
 use Rattle.calloop.specs.Rules.{all_traced}
 use Rattle.calloop.specs.Wrong.{first_token, first_registration}
 
@@ -56,7 +59,10 @@ quiet_poller =
 abbrev pub five : Instant
 five = record { nanos = 5 }
 
--- the timer before it is registered, armed, and after its call
+abbrev pub six : Instant
+six = record { nanos = 6 }
+
+-- the timer before it is registered, armed, with another deadline to come, and after its call
 abbrev pub as_made : Only
 as_made = record { source = unarmed (Some five); callback = tt }
 
@@ -66,11 +72,14 @@ first_arm = record { token = first_token; counter = 0; armed = five; spent = fal
 abbrev pub as_armed : Only
 as_armed = record { source = registered_as first_arm (Some five); callback = tt }
 
+abbrev pub as_changed : Only
+as_changed = record { source = registered_as first_arm (Some six); callback = tt }
+
 abbrev pub as_called : Only
-as_called = record { source = registered_as (spent first_arm) (Some five); callback = tt }
+as_called = record { source = registered_as (spent first_arm) (Some six); callback = tt }
 
 abbrev pub as_removed : Only
-as_removed = record { source = unarmed (Some five); callback = tt }
+as_removed = record { source = unarmed (Some six); callback = tt }
 
 -- nothing has happened to a loop over a board of this name
 abbrev pub new_world : Book → World Only (Unit {0}) (Unit {0})
@@ -95,10 +104,10 @@ new_world name =
     }
 
 abbrev pub its_calls : List (LoopCall Only (Unit {0}) (Unit {0}) (Unit {0}))
-its_calls = Insert as_made ∷ Dispatch None tt ∷ []
+its_calls = Insert as_made ∷ Exchange first_registration as_changed ∷ Dispatch None tt ∷ []
 
 abbrev pub its_answers : List (LoopAnswer Only (Unit {0}) (Unit {0}) (Unit {0}))
-its_answers = Inserted (Ok first_registration) ∷ Dispatched (Ok tt) tt ∷ []
+its_answers = Inserted (Ok first_registration) ∷ Exchanged (Ok as_armed) ∷ Dispatched (Ok tt) tt ∷ []
 
 abbrev pub Its : Type 0
 Its = Change Only (Unit {0}) (Unit {0})
@@ -107,6 +116,9 @@ abbrev pub of_the_insertion : List (List Its)
 of_the_insertion =
     (Claim as_made ∷ Polls (Arm five first_token ∷ []) ∷ Holds (Listed false first_registration) ∷ Put 0 (Source as_armed) ∷ [])
     ∷ []
+
+abbrev pub of_the_exchange : List (List Its)
+of_the_exchange = (Swapped 0 as_armed as_changed ∷ []) ∷ []
 
 -- a step of the dispatch a list
 abbrev pub of_the_dispatch : Book → List (List Its)
@@ -131,7 +143,19 @@ of_the_dispatch name =
     ∷ []
 
 abbrev pub its_changes : Book → List (List (List Its))
-its_changes name = of_the_insertion ∷ of_the_dispatch name ∷ []
+its_changes name = of_the_insertion ∷ of_the_exchange ∷ of_the_dispatch name ∷ []
 
 abbrev pub end_of_it : Book → World Only (Unit {0}) (Unit {0})
-end_of_it name = all_traced (all_traced (new_world name) of_the_insertion) (of_the_dispatch name)
+end_of_it name =
+    all_traced (all_traced (all_traced (new_world name) of_the_insertion) of_the_exchange) (of_the_dispatch name)
+
+abbrev pub its_run : Book → LoopRun Only (Unit {0}) (Unit {0}) (Unit {0})
+its_run name =
+    record {
+      calls = its_calls;
+      answers = its_answers;
+      changes = its_changes name;
+      moments = moments_of (new_world name) (changes_of (its_changes name));
+      began = new_world name;
+      ended = end_of_it name;
+    }

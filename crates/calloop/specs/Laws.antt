@@ -91,11 +91,23 @@ NamesLater {D} {I} {P} w w' =
     (token : Token) (r r' : Registration D) → Names w token r → Names w' token r'
     → (r'.reuse ≡ r.reuse) ⊎ ((k : ℕ) × (0 < k) × (r'.reuse ≡ r.reuse + versions * k))
 
--- between any two moments of these changes
-abbrev pub AllNamesLater : {D I P : Type 0} → World D I P → List (Change D I P) → Type 0
-AllNamesLater {D} {I} {P} w cs =
-    (before between after : List (Change D I P)) → cs ≡ before ++ (between ++ after)
-    → NamesLater (all_done w before) (all_done (all_done w before) between)
+-- the state before these changes, and after each of them
+abbrev pub moments_of : {D I P : Type 0} → World D I P → List (Change D I P) → List (World D I P)
+moments_of w [] = w ∷ []
+moments_of w (c ∷ cs) = w ∷ moments_of (done w c) cs
+
+-- between this moment and each of these
+abbrev pub AllBehind : {W : Type 0} → (W → W → Type 0) → W → List W → Type 0
+AllBehind R w [] = Unit {0}
+AllBehind R w (u ∷ us) = R w u × AllBehind R w us
+
+-- between any two of these moments, the earlier one and the later
+abbrev pub AnyTwo : {W : Type 0} → (W → W → Type 0) → List W → Type 0
+AnyTwo R [] = Unit {0}
+AnyTwo R (w ∷ ws) = AllBehind R w ws × AnyTwo R ws
+
+abbrev pub AllNamesLater : {D I P : Type 0} → List (World D I P) → Type 0
+AllNamesLater ws = AnyTwo NamesLater ws
 
 -- a registration that was given up stays so: under this reuse count nothing stands in its slot any more
 abbrev pub StaysGone : {D I P : Type 0} → World D I P → World D I P → Type 0
@@ -103,11 +115,8 @@ StaysGone {D} {I} {P} w w' =
     (i : ℕ) (r r' : Registration D) → slice_get w.slots i ≡ Some r → slice_get w'.slots i ≡ Some r' → r'.reuse ≡ r.reuse
     → is_free r ≡ true → is_free r' ≡ true
 
--- between any two moments of these changes
-abbrev pub AllStayGone : {D I P : Type 0} → World D I P → List (Change D I P) → Type 0
-AllStayGone {D} {I} {P} w cs =
-    (before between after : List (Change D I P)) → cs ≡ before ++ (between ++ after)
-    → StaysGone (all_done w before) (all_done (all_done w before) between)
+abbrev pub AllStayGone : {D I P : Type 0} → List (World D I P) → Type 0
+AllStayGone ws = AnyTwo StaysGone ws
 
 -- The armings of timers.
 
@@ -270,7 +279,8 @@ abbrev pub IsTicketed : {D I P : Type 0} → World D I P → Type 0
 IsTicketed w =
     (n : ℕ) → standing n w.held.asks + counted (is_number n) w.handed ≤ (if nat_lt n w.held.asks.next then 1 else 0)
 
-pub record IsSound {D I P : Type 0} (w : World D I P) (cs : List (Change D I P)) : Type 0 where
+-- of these changes, and of the states between them
+pub record IsSound {D I P : Type 0} (w : World D I P) (cs : List (Change D I P)) (moments : List (World D I P)) : Type 0 where
   pub reaches : AllRight w cs
-  pub stale : AllNamesLater w cs
-  pub gone : AllStayGone w cs
+  pub stale : AllNamesLater moments
+  pub gone : AllStayGone moments

@@ -27,6 +27,9 @@ pub mod Homes
 pub mod Running
 pub mod Freshness
 pub mod EveryRun
+pub mod WrongRuns
+pub mod BusyRun
+pub mod RearmedRun
 pub mod Handles
 pub mod StreamReads
 pub mod Streams

@@ -5,14 +5,23 @@ ghost use Rattle.calloop_wake.specs.declared.error.Error.{Error};
 ghost use Rattle.calloop.specs.Machine.{World, View, IsNew};
 ghost use Rattle.calloop.specs.Rules.{Run};
 ghost use Rattle.calloop.specs.Homes.{AllAtHome};
-ghost use Rattle.calloop.specs.EveryRun.{OverEveryRun, FromTheStart, EventsReachTheirSource, ArmingsAreKept, SourcesKeepToTheirSlots, WhoIsToldStandsOnce, TicketsAreOfOneAnswer};
-ghost use Rattle.calloop.specs.Laws.{IsKept, IsTold, IsTicketed, GoesRight, NamesLater, StaysGone, OnTime};
+ghost use Rattle.calloop.specs.EveryRun.{OverEveryRun, FromTheStart, EventsReachTheirSource, ArmingsAreKept, ArmingsAreKeptOfFresh, SourcesKeepToTheirSlots, WhoIsToldStandsOnce, TicketsAreOfOneAnswer};
+ghost use Rattle.calloop.specs.Laws.{IsKept, IsSound, AllFresh, changes_of, IsTold, IsTicketed, GoesRight, NamesLater, StaysGone, OnTime};
 ghost use Rattle.calloop.specs.Freshness.{AsksFresh, RunsFresh, AllFreshCalls, AllKeepKeys};
 ghost use Rattle.calloop_wake.specs.declared.list.Content.TheVariants.{Vacant};
-ghost use Rattle.calloop.specs.ExampleRun.{only, no_idle, quiet_poller, new_world, its_calls, its_answers, its_changes, end_of_it};
+ghost use Rattle.calloop.specs.ExampleRun.{only, no_idle, quiet_poller, new_world, its_calls, its_answers, its_changes, its_run, end_of_it};
 ghost use Rattle.calloop_core.specs.Polls.{PollView};
 ghost use Rattle.logbook.specs.Pages.{Book};
 ghost use Rattle.calloop_core.specs.Meanings.{IsKeeping};
+ghost use Rattle.calloop.specs.Rules.{all_traced};
+ghost use Rattle.calloop.specs.WrongRuns.{IsOutOfTime, second_event_goes_wrong, second_event_is_lost, ends_under_an_earlier_use, goes_back_to_an_earlier_use, ends_with_what_was_given_up, goes_back_to_what_was_given_up, that_ends, that_notes, second_waits_early, second_is_cut_early, second_call_differs, second_is_called_twice, second_is_twice, second_is_nowhere, with_one_deadline, with_one_event, keys_alone, second_is_elsewhere, second_is_told_twice, second_is_told_when_gone, second_is_answered_twice, second_is_asked_twice, second_is_handed_out_twice, adapters, with_two_adapters, of_a_settling, one_dispatch, one_answer, idle_never};
+ghost use Rattle.calloop.specs.WrongRuns.{untouched};
+ghost use Rattle.calloop.specs.BusyRun.{anything, giving_poller, for_reading, busy_calls, busy_answers, busy_changes, behind_the_failure, two_found_but_one, busy_end};
+ghost use Rattle.calloop.specs.RearmedRun.{again, rearmed_calls, rearmed_answers, rearmed_changes, rearmed_end, call_at_ten};
+ghost use Rattle.calloop.specs.declared.loop_logic.asks.Answer.TheVariants.{Done};
+ghost use Rattle.calloop_core.specs.Polls.{polled_events};
+ghost use Rattle.calloop_core.specs.Tables.{watched_at};
+ghost use Rattle.calloop_wake.specs.Tokens.{key_of};
 ghost use Rattle.calloop.specs.Wrong.{KeepsTheLastAlone, KeepsOfAFailure, TellsInTheOrderOfSlots, second_registration, first_token, first_registration, used, given_up, early, in_two_places, called_twice, called_early, called_from_nowhere, called_with_another_deadline, in_no_place, armed_once, gathered_once, asked_twice, first_call, unmoved, arms_elsewhere, used_with_an_old_key, answered_twice, one_ticket};
 
 use super::{EventDispatcher, Requests};
@@ -25,9 +34,11 @@ use std::sync::Wait;
 /// at that moment, or to none; a token that named a registration names a later one of its slot only where the
 /// reuse count is greater by a positive multiple of `VERSIONS`; and a registration that was given up stays so.
 ///
-/// And from a state in which nothing has happened, where no source holds a counter of a timer of this loop when it is
-/// inserted: each arming of a timer is in just one place, also across errors and re-arming; each call of a timer belongs to
-/// an arming of its own, which was gathered when its deadline had come, and hands out its deadline.
+/// And from a state in which nothing has happened, where no source held a counter of a timer of this loop when it came in: each
+/// arming of a timer is in just one place, also across errors and re-arming; each call of a timer belongs to an arming of its own,
+/// which was gathered when its deadline had come, and hands out its deadline. That premise is on the run (`brought`): whatever the
+/// relations of callbacks and idles allow, what counts is what came in. It follows from premises on calls and relations (`armings`),
+/// where turns and idles ask for no other insertions than of sources that hold none.
 ///
 /// And from such a state, each registration that is told of waits stands once in their list, and names a slot that isn't vacant;
 /// and each source that stands in a slot is registered under keys of that slot alone, of the version under which it stands there.
@@ -36,6 +47,8 @@ use std::sync::Wait;
 /// at most once.
 pub fn once<D: EventDispatcher<P, C, R>, P: Poller, C: Clock, R: Wait + Drop>()
     ensures sound { OverEveryRun D.means D.Idle.runs P.outside EventsReachTheirSource }
+    ensures brought { OverEveryRun D.means D.Idle.runs P.outside
+        (FromTheStart (ArmingsAreKeptOfFresh D.means)) }
     ensures armings { AsksFresh D.means → RunsFresh D.means D.Idle.runs
         → OverEveryRun D.means D.Idle.runs P.outside (FromTheStart (ArmingsAreKept D.means)) }
     ensures home { OverEveryRun D.means D.Idle.runs P.outside
@@ -68,16 +81,29 @@ where
     once::<D, P, C, R>();
 }
 
-/// A run that there is, of which the premises of `once` are proved: a timer for moment 5 is inserted into a new loop, and a dispatch
-/// whose wait ends then calls it once, with that deadline.
+/// A run that there is, of which the premises of `once` are proved, so that its laws are of this run: a timer for moment 5 is inserted into
+/// a new loop, is told of moment 6 instead where it stands, by an exchange, and a dispatch whose wait ends at 5 calls it once, with
+/// the deadline that it was armed for.
 pub fn run_that_there_is()
     ensures new { (name : Book) → IsNew (new_world name) }
     ensures quiet { AsksFresh only × RunsFresh only no_idle }
     ensures fresh { AllFreshCalls only its_calls its_answers
         × AllKeepKeys only its_calls its_answers }
+    ensures brought { (name : Book) → AllFresh only (changes_of (its_changes name)) }
     ensures run { (name : Book)
         → Run only no_idle quiet_poller its_calls its_answers (its_changes name) (new_world name)
         (end_of_it name) }
+    ensures armings { (name : Book)
+        → OverEveryRun only no_idle quiet_poller (FromTheStart (ArmingsAreKept only))
+        → IsKept (end_of_it name).ledger (end_of_it name).poll }
+    ensures armings_of_fresh { (name : Book)
+        → OverEveryRun only no_idle quiet_poller (FromTheStart (ArmingsAreKeptOfFresh only))
+        → IsKept (end_of_it name).ledger (end_of_it name).poll }
+    ensures home { (name : Book)
+        → OverEveryRun only no_idle quiet_poller (FromTheStart (SourcesKeepToTheirSlots only))
+        → AllAtHome only (end_of_it name) }
+    ensures moments { (name : Book) → OverEveryRun only no_idle quiet_poller EventsReachTheirSource
+        → IsSound (new_world name) (changes_of (its_changes name)) (its_run name).moments }
     ensures called { (name : Book) → (end_of_it name).ledger.calls ≡ first_call ∷ [] }
     ensures over { (name : Book)
         → (end_of_it name).slots ≡ record { reuse = 0; content = Vacant } ∷ [] }
@@ -126,4 +152,77 @@ pub fn wrong_runs_are_ruled_out()
     ensures order_of_slots { (v : View (Unit {0}) (Unit {0}) (Unit {0}))
         → v.held.lifecycle ≡ second_registration ∷ first_registration ∷ []
         → ¬ TellsInTheOrderOfSlots v }
+{}
+
+/// Further runs that there are. A socket enters the table as its source is inserted; a dispatch gathers two events of it, of which the first one's turn asks
+/// for its registration anew, which is carried out and answered, and fails: the second event is left over, and the next dispatch cuts it
+/// first. And a dispatch that settles two adapters, the one in the first slot first. And a timer that is armed again by its callback, and called
+/// once for each of its armings, of which the premises of the law of armings are proved.
+pub fn busy_runs_that_there_are()
+    ensures run { (name : Book) → Run anything idle_never giving_poller busy_calls busy_answers
+        (busy_changes name) (untouched name) (busy_end name) }
+    ensures rest { (name : Book)
+        → (behind_the_failure name).poll.batch ≡ polled_events two_found_but_one }
+    ensures answered { (name : Book) → (behind_the_failure name).held.asks.answers
+        ≡ record { ticket = 0; answer = Done } ∷ [] }
+    ensures socket { (name : Book) → watched_at (key_of first_token) (busy_end name).poll.table
+        ≡ Some for_reading }
+    ensures over { (name : Book) → (busy_end name).poll.batch ≡ [] }
+    ensures settled { (name : Book)
+        → Run adapters idle_never quiet_poller one_dispatch one_answer
+        (of_a_settling name 0 1 ∷ [])
+        (with_two_adapters name) (all_traced (with_two_adapters name) (of_a_settling name 0 1)) }
+    ensures rearmed { (name : Book) → Run again no_idle quiet_poller rearmed_calls rearmed_answers
+        (rearmed_changes name) (new_world name) (rearmed_end name) }
+    ensures called_twice { (name : Book)
+        → (rearmed_end name).ledger.calls ≡ first_call ∷ call_at_ten ∷ [] }
+    ensures in_time { (name : Book)
+        → OverEveryRun again no_idle quiet_poller (FromTheStart (ArmingsAreKept again))
+        → IsKept (rearmed_end name).ledger (rearmed_end name).poll }
+{}
+
+/// Small runs that the laws of `once` rule out as they stand there, each of which is wrong at its end alone, or in its second element
+/// alone: so no law speaks of a run's beginning, or of the first of some elements, alone. The second event goes wrong, or is lost; a token
+/// of the first or of the second moment names an earlier registration in the last one; what was given up in them is there again. From
+/// where nothing has happened: the second arming was gathered early, and waits in the batch or was cut from it; the second call
+/// hands out another deadline, or is one for the same arming; the second arming is in two places, in none, or isn't in `Poll`; the second
+/// slot has a source under a key of the first; the second registration is told of waits twice, or when its slot was given up; there
+/// are two answers or two requests under the second ticket, or its answer was handed out twice. And the rules rule out a dispatch
+/// that settles the adapter of the second slot before that of the first.
+pub fn runs_that_go_wrong_late()
+    ensures wrong_slot { (name : Book) → ¬ EventsReachTheirSource (second_event_goes_wrong name) }
+    ensures lost_event { (name : Book) → ¬ EventsReachTheirSource (second_event_is_lost name) }
+    ensures earlier_at_the_end { (name : Book)
+        → ¬ EventsReachTheirSource (ends_under_an_earlier_use name) }
+    ensures earlier_later { (name : Book)
+        → ¬ EventsReachTheirSource (goes_back_to_an_earlier_use name) }
+    ensures there_at_the_end { (name : Book)
+        → ¬ EventsReachTheirSource (ends_with_what_was_given_up name) }
+    ensures there_later { (name : Book)
+        → ¬ EventsReachTheirSource (goes_back_to_what_was_given_up name) }
+    ensures waits_early { (name : Book) → IsOutOfTime (that_notes name second_waits_early) }
+    ensures cut_early { (name : Book) → IsOutOfTime (that_notes name second_is_cut_early) }
+    ensures other_deadline { (name : Book) → IsOutOfTime (that_notes name second_call_differs) }
+    ensures called_twice { (name : Book) → IsOutOfTime (that_notes name second_is_called_twice) }
+    ensures two_places { (name : Book) → IsOutOfTime (that_notes name second_is_twice) }
+    ensures no_place { (name : Book) → IsOutOfTime (that_notes name second_is_nowhere) }
+    ensures no_deadline { (name : Book) → IsOutOfTime (that_ends name (with_one_deadline name)) }
+    ensures no_event { (name : Book) → IsOutOfTime (that_ends name (with_one_event name)) }
+    ensures elsewhere { (name : Book)
+        → ¬ FromTheStart (SourcesKeepToTheirSlots keys_alone)
+        (that_ends name (second_is_elsewhere name)) }
+    ensures told_twice { (name : Book)
+        → ¬ FromTheStart WhoIsToldStandsOnce (that_ends name (second_is_told_twice name)) }
+    ensures told_when_gone { (name : Book)
+        → ¬ FromTheStart WhoIsToldStandsOnce (that_ends name (second_is_told_when_gone name)) }
+    ensures answered_twice { (name : Book)
+        → ¬ FromTheStart TicketsAreOfOneAnswer (that_ends name (second_is_answered_twice name)) }
+    ensures asked_twice { (name : Book)
+        → ¬ FromTheStart TicketsAreOfOneAnswer (that_ends name (second_is_asked_twice name)) }
+    ensures handed_out_twice { (name : Book)
+        → ¬ FromTheStart TicketsAreOfOneAnswer (that_ends name (second_is_handed_out_twice name)) }
+    ensures settled_backwards { (name : Book)
+        → ¬ Run adapters idle_never quiet_poller one_dispatch one_answer
+        (of_a_settling name 1 0 ∷ [])
+        (with_two_adapters name) (all_traced (with_two_adapters name) (of_a_settling name 1 0)) }
 {}

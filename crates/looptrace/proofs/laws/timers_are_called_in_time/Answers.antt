@@ -6,6 +6,6 @@ pub returns : goal.returns
 returns g c =
     record {
       lines = λ s t line said h. line_asks s t said (command_of line) h;
-      in_time = λ r run new scripted.
-          c.once_where_nothing_is_asked.ensures.armings r run new (fresh_calls r.calls r.answers scripted);
+      in_time = λ r run at new scripted.
+          c.once_where_nothing_is_asked.ensures.armings r run at new (fresh_calls r.calls r.answers scripted);
     }

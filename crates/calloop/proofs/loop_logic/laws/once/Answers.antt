@@ -1,8 +1,10 @@
-use Rattle.calloop.specs.Machine.{all_done}
+use Rattle.std.proofs.Common.{List, subst, sym}
+use Rattle.calloop.specs.Machine.{World, all_done}
 use Rattle.calloop.proofs.Rights.{run_right}
 use Rattle.calloop.proofs.Reuse.{names_later}
-use Rattle.calloop.specs.Laws.{changes_of, IsFresh, IsNoMore, Any, HasNoMoreKeys}
+use Rattle.calloop.specs.Laws.{NamesLater, StaysGone, AllNamesLater, AllStayGone, moments_of, changes_of, IsFresh, IsNoMore, Any, HasNoMoreKeys}
 use Rattle.calloop.proofs.Gone.{stay_gone, run_fits}
+use Rattle.calloop.proofs.Moments.{any_two}
 use Rattle.calloop.proofs.Listing.{run_told}
 use Rattle.calloop.proofs.Homes.{run_home}
 use Rattle.calloop.proofs.Tickets.{run_ticketed, new_ticketed}
@@ -13,17 +15,19 @@ use Rattle.calloop.proofs.loop_logic.laws.once.Goals as goal
 pub returns : goal.returns
 returns g c =
     record {
-      sound = λ r run.
+      sound = λ r run at.
           record {
             reaches = run_right g.D.Dispatch.means g.D.Idle.IdleCallback.runs g.P.Poller.outside r.calls r.answers r.changes r.began r.ended run;
-            stale = λ before between after is. names_later (all_done r.began before) between;
-            gone = stay_gone g.P.Poller.outside r.began (changes_of r.changes) (run_fits g.D.Dispatch.means g.D.Idle.IdleCallback.runs g.P.Poller.outside r.calls r.answers r.changes r.began r.ended run);
+            stale = rw at (any_two NamesLater r.began (changes_of r.changes) (λ before between after is. names_later (all_done r.began before) between));
+            gone = rw at (any_two StaysGone r.began (changes_of r.changes) (stay_gone g.P.Poller.outside r.began (changes_of r.changes) (run_fits g.D.Dispatch.means g.D.Idle.IdleCallback.runs g.P.Poller.outside r.calls r.answers r.changes r.began r.ended run)));
           };
-      armings = λ turns idles r run new fresh.
+      brought = λ r run at new fresh.
+          (run_owned g.D.Dispatch.means g.D.Idle.IdleCallback.runs g.P.Poller.outside g.met.D.Dispatch.keeps.counters r.calls r.answers r.changes r.began r.ended fresh run (new_owned g.D.Dispatch.means r.began new)).noted.kept;
+      armings = λ turns idles r run at new fresh.
           (run_owned g.D.Dispatch.means g.D.Idle.IdleCallback.runs g.P.Poller.outside g.met.D.Dispatch.keeps.counters r.calls r.answers r.changes r.began r.ended (new_run_fresh (IsFresh g.D.Dispatch.means) (IsNoMore g.D.Dispatch.means) g.D.Dispatch.means g.D.Idle.IdleCallback.runs g.P.Poller.outside turns idles r.calls r.answers r.changes r.began r.ended new fresh run) run (new_owned g.D.Dispatch.means r.began new)).noted.kept;
-      home = λ r run new kept.
+      home = λ r run at new kept.
           run_home g.D.Dispatch.means g.D.Idle.IdleCallback.runs g.P.Poller.outside g.met.D.Dispatch.keeps.home r.calls r.answers r.changes r.began r.ended new
           (new_run_fresh Any (HasNoMoreKeys g.D.Dispatch.means) g.D.Dispatch.means g.D.Idle.IdleCallback.runs g.P.Poller.outside (any_asks g.D.Dispatch.means) (any_runs g.D.Idle.IdleCallback.runs) r.calls r.answers r.changes r.began r.ended new kept run) run;
-      told = λ r run new. run_told g.D.Dispatch.means g.D.Idle.IdleCallback.runs g.P.Poller.outside r.calls r.answers r.changes r.began r.ended new run;
-      tickets = λ r run new. run_ticketed g.D.Dispatch.means g.D.Idle.IdleCallback.runs g.P.Poller.outside r.calls r.answers r.changes r.began r.ended run (new_ticketed r.began new);
+      told = λ r run at new. run_told g.D.Dispatch.means g.D.Idle.IdleCallback.runs g.P.Poller.outside r.calls r.answers r.changes r.began r.ended new run;
+      tickets = λ r run at new. run_ticketed g.D.Dispatch.means g.D.Idle.IdleCallback.runs g.P.Poller.outside r.calls r.answers r.changes r.began r.ended run (new_ticketed r.began new);
     }

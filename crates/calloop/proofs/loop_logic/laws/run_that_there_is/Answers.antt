@@ -9,8 +9,27 @@ use Rattle.calloop_core.specs.Polls.{Arm, Cancel, Call}
 use Rattle.calloop.specs.Askings.{asks_nothing, no_asks}
 use Rattle.calloop.specs.Rules.{factory_of, Settling, Sleeping, Waiting, Gathering, Noticing, Cutting, Serving, Ending, Returning, Idling, RunningIdles, Leaving}
 use Rattle.calloop.specs.Wrong.{first_token, first_registration}
-use Rattle.calloop.specs.ExampleRun.{five, first_arm, as_armed, as_called, as_removed}
+use Rattle.calloop.specs.ExampleRun.{five, first_arm, as_armed, as_changed, as_called, as_removed, only, its_calls, its_answers, its_changes, its_run}
+use Rattle.std.proofs.Common.{ℕ, nat_eq, if◌then◌else◌}
+use Rattle.logbook.specs.Pages.{Book}
+use Rattle.calloop_core.specs.Holdings.{Free, Standing, IsWithin}
+use Rattle.calloop.specs.Machine.{IsNew}
+use Rattle.calloop.specs.ExampleRun.{new_world}
 use Rattle.calloop.proofs.loop_logic.laws.run_that_there_is.Goals as goal
+
+is_new : (name : Book) → IsNew (new_world name)
+is_new name =
+    record { slots = refl; table = refl; deadlines = refl; batch = refl; passes = refl; pass = refl; places = refl; unwatched = refl; held = refl; handed = refl; ledger = refl }
+
+-- the timer holds no more than before its exchange
+same_hold : (counter : ℕ) → IsWithin (only.holds as_changed counter) (only.holds as_armed counter)
+same_hold counter = elim (nat_eq counter 0) as (λ b. IsWithin (if b then Standing five else Free) (if b then Standing five else Free)) [ true ↦ refl | false ↦ tt ]
+
+pub returns-clause-fresh : goal.returns-clause-fresh
+returns-clause-fresh c = (((λ counter. refl, tt), ((same_hold, tt), (tt, tt))), (tt, ((λ key has. has), (tt, tt))))
+
+pub returns-clause-brought : goal.returns-clause-brought
+returns-clause-brought c = λ name. ((λ counter. refl, tt), (tt, (tt, (tt, ((same_hold, tt), search rules)))))
 
 pub returns-clause-run : goal.returns-clause-run
 returns-clause-run c = λ name. (
@@ -19,73 +38,76 @@ returns-clause-run c = λ name. (
     (tt, (search rules, (tt, ((record { version = 0; content = InTurn }, refl, refl), tt)))),
   ),
   (
-    inr (
-      Settling None [] tt,
-      (0, [], λ place t u first second. cc, refl, refl),
-      (tt, (tt, tt)),
-      (
-        Sleeping None [] tt,
-        (refl, refl),
-        tt,
+    ((refl, refl), ((record { version = 0; content = Source as_armed }, refl, refl), tt)),
+    (
+      inr (
+        Settling None [] tt,
+        (0, [], λ place t u first second. cc, refl, refl),
+        (tt, (tt, tt)),
         (
-          Waiting None tt,
+          Sleeping None [] tt,
           (refl, refl),
           tt,
           (
-            Gathering 5 [] tt,
-            (Ok 5, [], tt, noted (Looked false) (record { name = name; notes = Counted 0 ∷ [] }), (0, tt, tt, false, [], (tt, (refl, refl), tt), refl, refl), refl, refl),
-            (tt, (tt, tt)),
+            Waiting None tt,
+            (refl, refl),
+            tt,
             (
-              Noticing 0 [] tt,
-              ([], refl, refl),
-              ((tt, omega arith), tt),
+              Gathering 5 [] tt,
+              (Ok 5, [], tt, noted (Looked false) (record { name = name; notes = Counted 0 ∷ [] }), (0, tt, tt, false, [], (tt, (refl, refl), tt), refl, refl), refl, refl),
+              (tt, (tt, tt)),
               (
-                Cutting tt,
-                (refl, refl),
-                tt,
+                Noticing 0 [] tt,
+                ([], refl, refl),
+                ((tt, omega arith), tt),
                 (
-                  Serving first_registration as_called (Ok Remove) tt,
+                  Cutting tt,
+                  (refl, refl),
+                  tt,
                   (
-                    as_called,
-                    Ok Remove,
-                    Call 0 five ∷ [],
-                    tt,
-                    [],
-                    record {
-                      inner = record { calls = record { event = five; before = tt; after = tt; answer = Drop } ∷ []; answer = Ok Remove };
-                      turned = inl (first_arm, record { registered = refl; named = refl; unspent = refl; unarmed = refl; action = Drop; called = refl; more = []; steps_are = refl; answered = (refl, refl, refl) });
-                      went = (tt, tt, no_asks, (refl, refl), asks_nothing no_asks, (refl, refl, refl));
-                      told = refl;
-                    },
-                    refl,
-                    refl,
-                  ),
-                  (tt, ((record { version = 0; content = Source as_armed }, refl, refl), (search rules, (tt, (tt, tt))))),
-                  (
-                    Ending first_registration as_called (Ok Remove) tt,
-                    (refl, refl),
-                    tt,
+                    Serving first_registration as_called (Ok Remove) tt,
                     (
-                      Returning first_registration as_called (Ok tt) tt,
-                      (as_called, Ok tt, (refl, refl, refl), refl),
-                      (tt, ((record { version = 0; content = InTurn }, refl, refl), tt)),
+                      as_called,
+                      Ok Remove,
+                      Call 0 five ∷ [],
+                      tt,
+                      [],
+                      record {
+                        inner = record { calls = record { event = five; before = tt; after = tt; answer = Drop } ∷ []; answer = Ok Remove };
+                        turned = inl (first_arm, record { registered = refl; named = refl; unspent = refl; unarmed = refl; action = Drop; called = refl; more = []; steps_are = refl; answered = (refl, refl, refl) });
+                        went = (tt, tt, no_asks, (refl, refl), asks_nothing no_asks, (refl, refl, refl));
+                        told = refl;
+                      },
+                      refl,
+                      refl,
+                    ),
+                    (tt, ((record { version = 0; content = Source as_changed }, refl, refl), (search rules, (tt, (tt, tt))))),
+                    (
+                      Ending first_registration as_called (Ok Remove) tt,
+                      (refl, refl),
+                      tt,
                       (
-                        Cutting tt,
-                        ((as_removed, Ok tt, true, Cancel 0 ∷ [], ((refl, refl, refl), refl), refl), refl),
-                        (search rules, (tt, (tt, (tt, tt)))),
+                        Returning first_registration as_called (Ok tt) tt,
+                        (as_called, Ok tt, (refl, refl, refl), refl),
+                        (tt, ((record { version = 0; content = InTurn }, refl, refl), tt)),
                         (
-                          Idling tt,
-                          (refl, refl),
-                          tt,
+                          Cutting tt,
+                          ((as_removed, Ok tt, true, Cancel 0 ∷ [], ((refl, refl, refl), refl), refl), refl),
+                          (search rules, (tt, (tt, (tt, tt)))),
                           (
-                            RunningIdles tt,
+                            Idling tt,
                             (refl, refl),
-                            (tt, tt),
+                            tt,
                             (
-                              Leaving (Ok tt) tt,
+                              RunningIdles tt,
                               (refl, refl),
-                              tt,
-                              refl,
+                              (tt, tt),
+                              (
+                                Leaving (Ok tt) tt,
+                                (refl, refl),
+                                tt,
+                                refl,
+                              ),
                             ),
                           ),
                         ),
@@ -98,7 +120,19 @@ returns-clause-run c = λ name. (
           ),
         ),
       ),
+      refl,
     ),
-    refl,
   ),
 )
+
+pub returns-clause-armings : goal.returns-clause-armings
+returns-clause-armings c = λ name law. law (its_run name) (returns-clause-run c name) refl (is_new name) (returns-clause-fresh c).0
+
+pub returns-clause-armings_of_fresh : goal.returns-clause-armings_of_fresh
+returns-clause-armings_of_fresh c = λ name law. law (its_run name) (returns-clause-run c name) refl (is_new name) (returns-clause-brought c name)
+
+pub returns-clause-home : goal.returns-clause-home
+returns-clause-home c = λ name law. law (its_run name) (returns-clause-run c name) refl (is_new name) (returns-clause-fresh c).1
+
+pub returns-clause-moments : goal.returns-clause-moments
+returns-clause-moments c = λ name law. law (its_run name) (returns-clause-run c name) refl
