@@ -85,6 +85,14 @@ module _ (K L : Kind) (k_law : IsLawful K) (l_law : IsLawful L) where
     standing = standing;
   }
 
+  pub first_lit : (c : K.Cell) → either_lawful.IsLit (First c) → k_law.IsLit c
+  unfolding either_lawful
+  first_lit c l = l
+
+  pub second_lit : (d : L.Cell) → either_lawful.IsLit (Second d) → l_law.IsLit d
+  unfolding either_lawful
+  second_lit d l = l
+
   pub first_is : (c : K.Cell) → IsFresh K k_law c → IsFresh (either_kind K L) either_lawful (First c)
   unfolding either_lawful
   first_is c f = record { lit = f.lit; quiet = f.quiet; unkeyed = f.unkeyed }
@@ -94,14 +102,13 @@ module _ (K L : Kind) (k_law : IsLawful K) (l_law : IsLawful L) where
   second_is d f = record { lit = f.lit; quiet = f.quiet; unkeyed = f.unkeyed }
 
 -- channels and executors
-queues_lawful : IsLawful (either_kind channel_kind executor_kind)
+abbrev pub queues_lawful : IsLawful (either_kind channel_kind executor_kind)
 queues_lawful = either_lawful channel_kind executor_kind channel_lawful executor_lawful
 
-pub every_lawful : IsLawful every_kind
+abbrev pub every_lawful : IsLawful every_kind
 every_lawful = either_lawful ping_kind (either_kind channel_kind executor_kind) ping_lawful queues_lawful
 
-born_is : (born : Born) → IsFresh every_kind every_lawful (new_cell born)
-unfolding every_lawful queues_lawful
+pub born_is : (born : Born) → IsFresh every_kind every_lawful (new_cell born)
 born_is APing = first_is ping_kind (either_kind channel_kind executor_kind) ping_lawful queues_lawful fresh fresh_is
 born_is (AChannel bound) =
     second_is ping_kind (either_kind channel_kind executor_kind) ping_lawful queues_lawful (First (unused_channel bound))

@@ -4,8 +4,8 @@ use Rattle.std.proofs.Common.{◌≡◌, ℕ, ◌+◌, ◌<◌, ◌≤◌, Bool,
 use Rattle.std.proofs.Math.Bool.{or-true}
 use Rattle.calloop_wake.specs.Cells.{Cell, one, is_own, after_close, after_set_key, after_clear_key}
 use Rattle.calloop_wake.specs.Bells.{after_ping, ended}
-use Rattle.calloop_wake.specs.Channels.{ChannelCell, fresh_channel, with_bell, is_below, after_put, after_pop_of, popped_of, tells, is_close, is_early, after_end_turn, IsQuiet, IsLitChannel, IsSoundChannel, IsStandingChannel}
-use Rattle.calloop_wake.specs.ChannelKind.{Telling, ChannelPast, unused_channel, ChannelStep, Ring, Close, Pop, EndTurn, Put, channel_kind, item_of, told_by, AllOfEmpty, IsStandingPast}
+use Rattle.calloop_wake.specs.Channels.{ChannelCell, fresh_channel, with_bell, is_below, pops, after_put, after_pop_of, after_take_of, popped_of, tells, is_close, is_early, after_end_turn, IsQuiet, IsLitChannel, IsSoundChannel, IsStandingChannel}
+use Rattle.calloop_wake.specs.ChannelKind.{Telling, ChannelPast, unused_channel, ChannelStep, Ring, Close, Pop, Take, EndTurn, Put, Progress, behind_pop, at_start, channel_kind, item_of, told_by, AllOfEmpty, IsStandingPast}
 use Rattle.calloop_wake.proofs.Lawful.{own-is, and-left}
 use Rattle.calloop_wake.proofs.Schedules.{IsLawful, IsFresh}
 
@@ -16,6 +16,7 @@ pub record IsLitPast (p : ChannelPast) : Type 0 where
   pub in_order : p.taken ≡ p.given ++ p.now.queue
   pub counted : length p.tellings ≡ one p.now.cell.told
   pub of_empty : AllOfEmpty p.tellings
+  pub bounded : p.turn.left ≤ pops p.now.bound
 
 quiet-pinged : (c : ChannelCell ℕ) → c.cell.pinged ≡ true → IsQuiet c
 quiet-pinged c h = record { queue = λ _. h; close = λ _. h }
@@ -31,6 +32,7 @@ lit-bell b p lit told same l = record {
   in_order = l.in_order;
   counted = l.counted ∙ ap one (sym same);
   of_empty = l.of_empty;
+  bounded = l.bounded;
 }
 
 -- a bell that differs in key and in who is there
@@ -56,6 +58,7 @@ lit-ended p l =
       in_order = l.in_order;
       counted = l.counted;
       of_empty = l.of_empty;
+      bounded = l.bounded;
     }
 
 room-more : (x : ℕ) (queue : List ℕ) (bound : Option ℕ) → is_below (length queue) bound ≡ true → IfSome bound (λ b. length (queue ++ x ∷ []) ≤ b)
@@ -69,6 +72,7 @@ lit-put x p room l = record {
   in_order = ap (λ xs. xs ++ x ∷ []) l.in_order ∙ append_assoc p.given p.now.queue (x ∷ []);
   counted = l.counted;
   of_empty = l.of_empty;
+  bounded = l.bounded;
 }
 
 room-none : (bound : Option ℕ) → IfSome bound (λ b. length {A = ℕ} [] ≤ b)
@@ -95,6 +99,7 @@ of-empty-more (s ∷ ts) t all closed left = (all.0, all.1, of-empty-more ts t a
 abbrev popped_from : List ℕ → (tells : Bool) → ChannelPast → ChannelPast
 popped_from queue told p = record {
   now = after_pop_of queue p.now;
+  turn = behind_pop (popped_of queue told) p.turn;
   taken = p.taken;
   given = p.given ++ item_of (popped_of queue told);
   tellings = p.tellings ++ told_by (is_close (popped_of queue told)) p.now;
@@ -123,6 +128,7 @@ lit-found p x xs told is l = record {
   in_order = l.in_order ∙ (ap (λ q. p.given ++ q) is ∙ sym (append_assoc p.given (x ∷ []) xs));
   counted = ap length (append-nil p.tellings) ∙ l.counted;
   of_empty = subst AllOfEmpty (sym (append-nil p.tellings)) l.of_empty;
+  bounded = let b = l.bounded in omega arith;
 }
 
 lit-empty : (p : ChannelPast) (is : Bool) → p.now.queue ≡ [] → tells p.now.cell ≡ is → IsLitPast p → IsLitPast (popped_from [] is p)
@@ -136,6 +142,7 @@ lit-empty p true none is l = record {
       let o = ap one is in
       omega arith;
   of_empty = of-empty-more p.tellings (record { closed = p.now.cell.closed; left = length p.now.queue }) l.of_empty (and-left p.now.cell.closed (not p.now.cell.told) is) (ap length none);
+  bounded = let b = l.bounded in omega arith;
 }
 lit-empty p false none is l = record {
   lit = record { at_rest = λ _. quiet-empty p.now; in_turn = λ _. quiet-empty p.now };
@@ -147,11 +154,23 @@ lit-empty p false none is l = record {
       let o = ap one is in
       omega arith;
   of_empty = subst AllOfEmpty (sym (append-nil p.tellings)) l.of_empty;
+  bounded = let b = l.bounded in omega arith;
 }
 
 lit-popped : (p : ChannelPast) (queue : List ℕ) (is : Bool) → p.now.queue ≡ queue → tells p.now.cell ≡ is → IsLitPast p → IsLitPast (popped_from queue is p)
 lit-popped p [] is none told l = lit-empty p is none told l
 lit-popped p (x ∷ xs) is some told l = lit-found p x xs is some l
+
+-- a call receives, where there is a message
+lit-taken : (p : ChannelPast) (queue : List ℕ) (is : Bool) → p.now.queue ≡ queue → 0 < length queue → IsLitPast p → IsLitPast (record p { now = after_take_of queue p.now; given = p.given ++ item_of (popped_of queue is) })
+lit-taken p [] is none some l = absurd (omega arith)
+lit-taken p (x ∷ xs) is found some l =
+    let k = lit-found p x xs is found l in
+    record { lit = record { at_rest = k.lit.at_rest; in_turn = λ h. absurd (cc) }; sound = k.sound; in_order = k.in_order; counted = l.counted; of_empty = l.of_empty; bounded = l.bounded }
+
+take-key : (c : ChannelCell ℕ) (queue : List ℕ) → ((after_take_of queue c).cell.key ≡ c.cell.key)
+take-key c [] = refl
+take-key c (x ∷ xs) = refl
 
 pop-key : (c : ChannelCell ℕ) (queue : List ℕ) → ((after_pop_of queue c).cell.key ≡ c.cell.key)
 pop-key c [] = refl
@@ -161,6 +180,7 @@ own_key : (s : ChannelStep) (p : ChannelPast) → channel_kind.key (channel_kind
 own_key Ring p = refl
 own_key Close p = refl
 own_key Pop p = pop-key p.now p.now.queue
+own_key Take p = take-key p.now p.now.queue
 own_key EndTurn p = refl
 own_key (Put x) p = refl
 
@@ -168,6 +188,7 @@ own_lit : (s : ChannelStep) (p : ChannelPast) → channel_kind.Needs s p → IsL
 own_lit Ring p need l = lit-bell (after_ping p.now.cell) p (lit-pinged (with_bell (after_ping p.now.cell) p.now) refl) l.sound.told refl l
 own_lit Close p need l = lit-bell (after_close p.now.cell) p (lit-pinged (with_bell (after_close p.now.cell) p.now) refl) (λ _. refl) refl l
 own_lit Pop p need l = lit-popped p p.now.queue (tells p.now.cell) refl refl l
+own_lit Take p need l = lit-taken p p.now.queue (tells p.now.cell) refl need l
 own_lit EndTurn p need l = lit-ended p l
 own_lit (Put x) p need l = lit-put x p need.1 l
 
@@ -178,6 +199,7 @@ lit-opened p l = record {
   in_order = l.in_order;
   counted = l.counted;
   of_empty = l.of_empty;
+  bounded = omega arith;
 }
 
 standing-quiet : (c : ChannelCell ℕ) (draining : Bool) → c.cell.draining ≡ draining → IsLitChannel c → IsStandingChannel c
@@ -197,6 +219,7 @@ standing-lit p l = record {
   in_order = l.in_order;
   once = let e = l.counted in let m = one-most p.now.cell.told in omega arith;
   of_empty = l.of_empty;
+  bounded = l.bounded;
 }
 
 pub channel_lawful : IsLawful channel_kind
@@ -216,6 +239,10 @@ channel_lawful = record {
   standing = standing-lit;
 }
 
+pub channel_lit : (p : ChannelPast) → channel_lawful.IsLit p → IsLitPast p
+unfolding channel_lawful
+channel_lit p l = l
+
 pub unused_is : (bound : Option ℕ) → IsFresh channel_kind channel_lawful (unused_channel bound)
 unfolding channel_lawful
 unused_is bound =
@@ -227,6 +254,7 @@ unused_is bound =
         in_order = refl;
         counted = refl;
         of_empty = tt;
+        bounded = omega arith;
       };
       quiet = refl;
       unkeyed = refl;

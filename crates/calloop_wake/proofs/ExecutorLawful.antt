@@ -1,5 +1,5 @@
 -- The cells of executors are a lawful kind: each step keeps what the cell keeps, and the results handed out of tasks that are no more.
-use Rattle.std.proofs.Common.{◌≡◌, ℕ, ◌+◌, ◌<◌, ◌++◌, Bool, true, false, not, if◌then◌else◌, inl, inr, List, [], ◌∷◌, Option, Some, None, refl, sym, ◌∙◌, ap, subst, arith, append-nil}
+use Rattle.std.proofs.Common.{◌≡◌, ℕ, ◌+◌, ◌<◌, ◌≤◌, ◌++◌, Bool, true, false, not, if◌then◌else◌, inl, inr, List, [], ◌∷◌, Option, Some, None, refl, sym, ◌∙◌, ap, subst, arith, append-nil}
 use Rattle.std.proofs.lemmas.Bool.Decides.{eqb_tells}
 use Rattle.std.proofs.lemmas.Option.{none-some, same_Some}
 use Rattle.futures.specs.LinkedLists.{IsIn, IsApart}
@@ -8,7 +8,7 @@ use Rattle.calloop_wake.specs.declared.wake.tasks.Task.{Task}
 use Rattle.calloop_wake.specs.declared.wake.tasks.TaskKey.{TaskKey}
 use Rattle.calloop_wake.specs.Cells.{is_own}
 use Rattle.calloop_wake.specs.Tasks.{phase_at, stepped, in_poll, woken_phase, settled_phase}
-use Rattle.calloop_wake.specs.Executors.{ExecutorCell, with_slot, after_settle, settled_at, taken_of, after_clear_key, polling, AreNumbered, IsKeeping}
+use Rattle.calloop_wake.specs.Executors.{ExecutorCell, with_slot, after_settle, after_pop, settled_at, taken_of, after_clear_key, polling, AreNumbered, IsKeeping}
 use Rattle.calloop_wake.specs.ExecutorKind.{ExecutorPast, unused_executor, ExecutorStep, Put, Wake, Pop, EndTurn, executor_needs, executor_after, given_of, given_by, past_after, IsStandingPast, executor_kind}
 use Rattle.calloop_wake.proofs.Schedules.{IsLawful, IsFresh}
 use Rattle.calloop_wake.proofs.Lawful.{own-is, and-left}
@@ -115,15 +115,36 @@ own-given (EndTurn finished) given c k g = given-settled c.progress.polled finis
 pub record IsLitPast (p : ExecutorPast) : Type 0 where
   pub keeps : IsKeeping p.now
   pub given : AreGiven p.given p.now.tasks p.now.next
+  -- a turn pops no more often than it may
+  pub few : p.now.progress.pops ≤ 1024
+
+pub settled-pops : (o : Option TaskKey) (finished : Bool) (c : ExecutorCell) → (settled_at o finished c).progress.pops ≡ c.progress.pops
+settled-pops None finished c = refl
+settled-pops (Some key) true c = refl
+settled-pops (Some key) false c = refl
+
+pub taken-pops : (q : List ℕ) (c : ExecutorCell) → (taken_of q c).progress.pops ≡ c.progress.pops + 1
+taken-pops [] c = refl
+taken-pops (slot ∷ rest) c = refl
+
+pub pop-pops : (finished : Bool) (c : ExecutorCell) → (after_pop finished c).progress.pops ≡ c.progress.pops + 1
+pop-pops finished c = taken-pops (after_settle finished c).queue (after_settle finished c) ∙ ap (λ n. n + 1) (settled-pops c.progress.polled finished c)
+
+own_few : (s : ExecutorStep) (c : ExecutorCell) → executor_needs s c → c.progress.pops ≤ 1024 → (executor_after s c).progress.pops ≤ 1024
+own_few (Put slot home) c need h = h
+own_few (Wake key) c need h = h
+own_few (Pop finished) c need h = (let e = pop-pops finished c in let lt : c.progress.pops < 1024 = need.2 in omega (arith, e, lt))
+own_few (EndTurn finished) c need h = omega arith
 
 own_lit : (s : ExecutorStep) (p : ExecutorPast) → executor_needs s p.now → IsLitPast p → IsLitPast (past_after s p)
-own_lit s p need l = record { keeps = own-keeps s p.now need l.keeps; given = own-given s p.given p.now l.keeps l.given }
+own_lit s p need l = record { keeps = own-keeps s p.now need l.keeps; given = own-given s p.given p.now l.keeps l.given; few = own_few s p.now need l.few }
 
 unkeyed_lit : (by_drop : Bool) (p : ExecutorPast) → IsLitPast p → IsLitPast (executor_kind.unkeyed by_drop p)
-unkeyed_lit false p l = record { keeps = unkeyed-keeps false p.now l.keeps; given = l.given }
+unkeyed_lit false p l = record { keeps = unkeyed-keeps false p.now l.keeps; given = l.given; few = l.few }
 unkeyed_lit true p l = record {
   keeps = unkeyed-keeps true p.now l.keeps;
   given = record { once = l.given.once; below = l.given.below; finished = λ slot task e i. none-some task e };
+  few = l.few;
 }
 
 settled-key : (o : Option TaskKey) (finished : Bool) (c : ExecutorCell) → (settled_at o finished c).key ≡ c.key
@@ -155,15 +176,19 @@ executor_lawful = record {
   own_lit = own_lit;
   keyed_key = λ k p. refl;
   keyed_pinged = λ k p. refl;
-  keyed_lit = λ k p l. record { keeps = key-keeps (Some k) p.now l.keeps; given = l.given };
+  keyed_lit = λ k p l. record { keeps = key-keeps (Some k) p.now l.keeps; given = l.given; few = l.few };
   unkeyed_key = λ d p. unkeyed-key d p.now;
   unkeyed_lit = unkeyed_lit;
   opens_own = λ k p h. own-is k p.now.key (and-left (is_own k p.now.key) (not p.now.draining) h);
   opened_key = λ p. refl;
   opened_pinged = λ p. refl;
-  opened_lit = λ k p o l. record { keeps = in_turn-keeps k p.now o l.keeps; given = l.given };
+  opened_lit = λ k p o l. record { keeps = in_turn-keeps k p.now o l.keeps; given = l.given; few = omega arith };
   standing = standing-lit;
 }
+
+pub executor_lit : (p : ExecutorPast) → executor_lawful.IsLit p → IsLitPast p
+unfolding executor_lawful
+executor_lit p l = l
 
 pub unused-executor-is : IsFresh executor_kind executor_lawful unused_executor
 unfolding executor_lawful
@@ -171,6 +196,7 @@ unused-executor-is = record {
   lit = record {
     keeps = fresh-keeps;
     given = record { once = tt; below = λ n i. absurd i; finished = λ slot task e i. none-some task e };
+    few = omega arith;
   };
   quiet = refl;
   unkeyed = refl;

@@ -80,6 +80,12 @@ pub record IsStandingPast (p : ExecutorPast) : Type 0 where
   pub once : IsApart p.given
   pub finished : (slot : ℕ) (task : Task) → p.now.tasks slot ≡ Some task → ¬ IsIn task.number p.given
 
+abbrev pub is_of_turn : ExecutorStep → Type 0
+is_of_turn (Put slot home) = ⊥
+is_of_turn (Wake key) = ⊥
+is_of_turn (Pop finished) = Unit {0}
+is_of_turn (EndTurn finished) = Unit {0}
+
 abbrev pub executor_kind : Kind
 executor_kind =
     record {
@@ -93,5 +99,7 @@ executor_kind =
       unkeyed = λ by_drop p. past_with (after_clear_key by_drop p.now) p;
       opens = λ k p. opens k p.now;
       opened = λ p. past_with (in_turn p.now) p;
+      draining = λ p. p.now.draining;
+      OfTurn = is_of_turn;
       IsStanding = IsStandingPast;
     }

@@ -49,6 +49,14 @@ module _ (K L : Kind) where
   either_opened (First c) = First (K.opened c)
   either_opened (Second d) = Second (L.opened d)
 
+  abbrev pub either_draining : Either K.Cell L.Cell → Bool
+  either_draining (First c) = K.draining c
+  either_draining (Second d) = L.draining d
+
+  abbrev pub either_of_turn : Either K.Own L.Own → Type 0
+  either_of_turn (First s) = K.OfTurn s
+  either_of_turn (Second s) = L.OfTurn s
+
   abbrev pub either_standing : Either K.Cell L.Cell → Type 0
   either_standing (First c) = K.IsStanding c
   either_standing (Second d) = L.IsStanding d
@@ -66,6 +74,8 @@ module _ (K L : Kind) where
         unkeyed = either_unkeyed;
         opens = either_opens;
         opened = either_opened;
+        draining = either_draining;
+        OfTurn = either_of_turn;
         IsStanding = either_standing;
       }
 

@@ -20,6 +20,7 @@ pub mod ExecutorKind
 pub mod Kinds
 pub mod Lost
 pub mod ExampleSchedules
+pub mod Delivery
 pub mod StepsOfCores
 pub mod Watches
 pub mod Slots

@@ -1,14 +1,15 @@
 -- Small states in which something is lost, which `covered` rules out.
-use Rattle.std.specs.Prelude.{ℕ, List, [], ◌∷◌, true, Option, Some, None}
+use Rattle.std.specs.Prelude.{ℕ, List, [], ◌∷◌, Bool, true, false, if◌then◌else◌, Option, Some, None}
 use Rattle.calloop_wake.specs.Cells.{Cell, fresh}
 use Rattle.calloop_wake.specs.Channels.{fresh_channel}
 use Rattle.calloop_wake.specs.ChannelKind.{ChannelPast, Telling, unused_channel}
-use Rattle.calloop_wake.specs.declared.wake.tasks.Phase.TheVariants.{Queued}
+use Rattle.calloop_wake.specs.declared.wake.tasks.Phase.TheVariants.{Queued, Polling, Woken}
 use Rattle.calloop_wake.specs.declared.wake.tasks.Task.{Task}
+use Rattle.calloop_wake.specs.declared.wake.tasks.TaskKey.{TaskKey}
 use Rattle.calloop_wake.specs.Executors.{ExecutorCell, fresh_executor, with_slot}
 use Rattle.calloop_wake.specs.ExecutorKind.{ExecutorPast, unused_executor}
 use Rattle.calloop_wake.specs.Kinds.{First, Second, APing, AChannel, AnExecutor, every_kind, new_cell}
-use Rattle.calloop_wake.specs.Wakes.{WakeWorld, Looked, start}
+use Rattle.calloop_wake.specs.Wakes.{WakeWorld, Looked, Asleep, start}
 
 -- nothing has happened, and every cell is a ping's; or a channel's, without a bound; or an executor's
 abbrev pub of_pings : WakeWorld every_kind.Cell
@@ -46,6 +47,19 @@ with_a_key_forgotten = of_this_ping (record fresh { rung = true; pinged = true; 
 abbrev pub with_nobody_told : WakeWorld every_kind.Cell
 with_nobody_told = record of_pings { board = record { key = 7; marked = true } ∷ []; loop = Looked }
 
+-- the same of a loop in its wait
+abbrev pub with_nobody_told_in_a_wait : WakeWorld every_kind.Cell
+with_nobody_told_in_a_wait = record of_pings { board = record { key = 7; marked = true } ∷ []; loop = Asleep }
+
+-- a cell of key 7 is pinged, and its key is posted; but the loop sleeps, and nobody tells it
+abbrev pub with_a_sleeper_left_alone : WakeWorld every_kind.Cell
+with_a_sleeper_left_alone =
+    record of_pings {
+      cells = λ _. First (record fresh { rung = true; pinged = true; key = Some 7 });
+      board = record { key = 7; marked = true } ∷ [];
+      loop = Asleep;
+    }
+
 -- message 5 was sent, and the channel isn't pinged
 abbrev pub with_a_message_unseen : WakeWorld every_kind.Cell
 with_a_message_unseen =
@@ -82,6 +96,29 @@ with_a_close_told_early =
       tellings = record { closed = true; left = 1 } ∷ [];
     })
 
+-- it was told of a channel whose last sender is there
+abbrev pub with_a_close_told_of_an_open_channel : WakeWorld every_kind.Cell
+with_a_close_told_of_an_open_channel =
+    of_this_channel
+    (record (unused_channel None) {
+      now = record (fresh_channel None) { cell = record fresh { told = true } };
+      tellings = record { closed = false; left = 0 } ∷ [];
+    })
+
+-- two messages are in a channel that holds one
+abbrev pub with_a_message_too_many : WakeWorld every_kind.Cell
+with_a_message_too_many =
+    of_this_channel
+    (record (unused_channel (Some 1)) {
+      now = record (fresh_channel (Some 1)) { cell = record fresh { pinged = true }; queue = 5 ∷ 6 ∷ [] };
+      taken = 5 ∷ 6 ∷ [];
+    })
+
+-- a turn may make more pops than the messages of a full channel, and one
+abbrev pub with_too_long_a_turn : WakeWorld every_kind.Cell
+with_too_long_a_turn =
+    of_this_channel (record (unused_channel (Some 1)) { turn = record { left = 3; done = false } })
+
 -- the first task, which is queued
 abbrev queued_task : Task
 queued_task = record { number = 0; phase = Queued; home = 0 }
@@ -114,3 +151,40 @@ abbrev pub with_a_result_of_a_task_that_runs : WakeWorld every_kind.Cell
 with_a_result_of_a_task_that_runs =
     of_this_executor
     (record { now = record (with_queue (Some queued_task) (3 ∷ [])) { pinged = true; results = 1 }; given = 0 ∷ [] })
+
+-- the first task, which is polled, or was woken in its poll
+abbrev in_its_poll : (woken : Bool) → Task
+in_its_poll woken = record { number = 0; phase = if woken then Woken else Polling; home = 0 }
+
+-- an executor that popped it in a turn, which isn't open any more
+abbrev having_popped : Task → Option TaskKey → ExecutorCell
+having_popped task polled =
+    record (with_queue (Some task) []) { progress = record { pops = 1; dry = false; polled = polled } }
+
+-- a task was woken in its poll, and the executor isn't pinged
+abbrev pub with_a_woken_task_unseen : WakeWorld every_kind.Cell
+with_a_woken_task_unseen =
+    of_this_executor
+    (record unused_executor { now = having_popped (in_its_poll true) (Some (record { slot = 3; number = 0 })) })
+
+-- a task is in its poll, and no turn popped it
+abbrev pub with_a_task_polled_by_nobody : WakeWorld every_kind.Cell
+with_a_task_polled_by_nobody = of_this_executor (record unused_executor { now = having_popped (in_its_poll false) None })
+
+-- two tasks have one number
+abbrev pub with_a_number_twice : WakeWorld every_kind.Cell
+with_a_number_twice =
+    of_this_executor
+    (record unused_executor {
+      now = record fresh_executor {
+        tasks = with_slot 4 (Some queued_task) (with_slot 3 (Some queued_task) fresh_executor.tasks);
+        queue = 3 ∷ 4 ∷ [];
+        next = 1;
+        pinged = true;
+      };
+    })
+
+-- a task has the number of the next one
+abbrev pub with_the_next_number : WakeWorld every_kind.Cell
+with_the_next_number =
+    of_this_executor (record unused_executor { now = record (with_queue (Some queued_task) (3 ∷ [])) { pinged = true; next = 0 } })

@@ -28,6 +28,11 @@ ping_after Ring c = after_ring c
 ping_after Close c = after_close c
 ping_after EndTurn c = after_end_turn c
 
+abbrev pub is_of_turn : PingStep → Type 0
+is_of_turn Ring = ⊥
+is_of_turn Close = ⊥
+is_of_turn EndTurn = Unit {0}
+
 abbrev pub ping_kind : Kind
 ping_kind =
     record {
@@ -41,5 +46,7 @@ ping_kind =
       unkeyed = after_clear_key;
       opens = opens;
       opened = in_turn;
+      draining = λ c. c.draining;
+      OfTurn = is_of_turn;
       IsStanding = IsStanding;
     }

@@ -51,6 +51,9 @@ pub record Kind : Type 1 where
   -- the pass of this key opens a turn, and the cell in its turn
   pub opens : (key : ℕ) → Cell → Bool
   pub opened : Cell → Cell
+  -- a turn stands open; and the steps of this kind alone that are such a turn's, its pops and its end
+  pub draining : Cell → Bool
+  pub OfTurn : Own → Type 0
   -- what mustn't be lost is seen: it is pinged, or a turn stands open
   pub IsStanding : Cell → Type 0
 

@@ -20,6 +20,30 @@ returns-clause-key c = λ h. elim (h.pinged 0 7 refl refl) [ inl e ↦ not_true 
 pub returns-clause-sleeper : goal.returns-clause-sleeper
 returns-clause-sleeper c = λ h. elim (h.told 7 (λ e. cc) refl) [ inl n ↦ none_less n | inr s ↦ not_true s ]
 
+pub returns-clause-sleeper_in_its_wait : goal.returns-clause-sleeper_in_its_wait
+returns-clause-sleeper_in_its_wait c = λ h. elim (h.told 7 (λ e. cc) refl) [ inl n ↦ none_less n | inr s ↦ not_true s ]
+
+pub returns-clause-open : goal.returns-clause-open
+returns-clause-open c = λ h. not_true ((h.standing 0).sound.told refl)
+
+pub returns-clause-bound : goal.returns-clause-bound
+returns-clause-bound c = λ h. let e : 2 ≤ 1 = (h.standing 0).sound.room in omega (arith, e)
+
+pub returns-clause-pops : goal.returns-clause-pops
+returns-clause-pops c = λ h. let e : 3 ≤ 2 = (h.standing 0).bounded in omega (arith, e)
+
+pub returns-clause-woken : goal.returns-clause-woken
+returns-clause-woken c = λ h. not_true ((h.standing 0).standing.woken 3 _ refl refl)
+
+pub returns-clause-polled : goal.returns-clause-polled
+returns-clause-polled c = λ h. none-some (record { slot = 3; number = 0 }) ((h.standing 0).standing.sorted.polled 3 _ refl refl)
+
+pub returns-clause-number : goal.returns-clause-number
+returns-clause-number c = λ h. (let e : ◌≡◌ {A = ℕ} 3 4 = (h.standing 0).standing.sorted.numbered.apart 3 4 _ _ refl refl refl in omega (arith, e))
+
+pub returns-clause-next_number : goal.returns-clause-next_number
+returns-clause-next_number c = λ h. none_less ((h.standing 0).standing.sorted.numbered.below 3 _ refl)
+
 -- the first of a list, or 0
 abbrev first_of : List ℕ → ℕ
 first_of [] = 0
