@@ -1,5 +1,5 @@
 -- The lines of a script make calls that bring no counter of a timer into the loop.
-use Rattle.std.proofs.Common.{◌≡◌, inl, inr, ℕ, List, [], ◌∷◌, Option, Some, None, true, refl, sym, ap, ◌∙◌}
+use Rattle.std.proofs.Common.{◌≡◌, inl, inr, ℕ, List, [], ◌∷◌, ◌++◌, Option, Some, None, Result, Ok, Err, IfOk, IfSome, true, refl, sym, subst, ap, ◌∙◌}
 use Rattle.logbook.specs.Pages.{Book}
 use Rattle.calloop_wake.specs.declared.token.RegistrationToken.{RegistrationToken}
 use Rattle.calloop_core.specs.declared.sys.script.ScriptPoller.{ScriptPoller}
@@ -13,8 +13,10 @@ use Rattle.calloop.specs.declared.ping.PingSource.{PingSource}
 use Rattle.calloop.specs.declared.loop_logic.LoopCall.TheVariants.{Insert, Enable, Update, Disable, Remove as RemoveCall, Release, Exchange, Dispatch as DispatchCall, InsertIdle, Cancel, Answer as AnswerOf, ForgetStop, LookForStop, Poller as NewPoller}
 use Rattle.calloop.specs.declared.loop_logic.LoopAnswer.{LoopAnswer}
 use Rattle.calloop.specs.declared.loop_logic.LoopAnswer.TheVariants.{Inserted, Removed, Dispatched, Poller as OldPoller}
-use Rattle.calloop.specs.Machine.{View}
-use Rattle.calloop.specs.Laws.{IsFresh}
+use Rattle.calloop.specs.EveryRun.{LoopRun, OverEveryRun, FromTheStart}
+use Rattle.calloop.specs.Machine.{World, View, Change}
+use Rattle.calloop.specs.Rules.{Run, all_traced}
+use Rattle.calloop.specs.Laws.{IsFresh, IsKept, changes_of, moments_of}
 use Rattle.calloop.specs.Freshness.{AllFreshCalls}
 use Rattle.calloop.proofs.Running.{run_none, run_first}
 use Rattle.looptrace.specs.declared.command.Command.{Command}
@@ -23,8 +25,12 @@ use Rattle.looptrace.specs.declared.command.Command.TheVariants.{Answer as Event
 use Rattle.looptrace.specs.declared.source.Teller.{Teller}
 use Rattle.looptrace.specs.declared.source.Alarm.{Alarm}
 use Rattle.looptrace.specs.Sources.{Source, source_meaning, no_idles}
-use Rattle.looptrace.specs.Runs.{State, Calls, Carried, IsPingOf, IsNewPing, IsNewTimer, token_with, RemoveOf, showing, DispatchLine, InsertLine, AnswerLine, RingLine, CloseLine, ClockLine}
-use Rattle.looptrace.specs.InTime.{ScriptCall, IsScripted, AllScripted, Asks}
+use Rattle.looptrace.specs.Runs.{State, Calls, Carried, IsPingOf, IsNewPing, IsNewTimer, token_with, RemoveOf, showing, DispatchLine, InsertLine, AnswerLine, RingLine, CloseLine, ClockLine, trace_step, MayWrite}
+use Rattle.looptrace.specs.Commands.{command_of}
+use Rattle.looptrace.specs.Lines.{lines_of}
+use Rattle.looptrace.specs.Texts.{next_number}
+use Rattle.looptrace.specs.Traces.{Written, Writes, WritesTo}
+use Rattle.looptrace.specs.InTime.{ScriptCall, ScriptAnswerOf, IsScripted, AllScripted, Asks, LeadsInTime, MayWriteInTime}
 
 fresh_ping : {R : Type 0} (name : List ℕ) (held : OneOf (Dispatcher (PingSource R) Teller) (Dispatcher TimerSource Alarm)) (s : Source R) (ping : Option Book) → s.held ≡ held → IsPingOf name held ping
     → IsFresh (source_meaning {P = ScriptPoller}) s
@@ -130,3 +136,71 @@ module _ {R : Type 0} where
   pub line_asks : (s t : State R) (said : List ℕ) (command : Option Command) → Carried s command (Some (t, said)) → Asks s.loop t.loop
   line_asks s t said (Some command) h = command_asks s t said command h
   line_asks s t said None h = no_outcome (t, said) h
+
+-- Lists of calls, one list behind the other.
+
+run_append : {R : Type 0} (calls more : List (ScriptCall R)) (answers others : List (ScriptAnswerOf R)) (csss dsss : List (List (List (Change (Source R) (Unit {0}) ScriptPoller)))) (w u x : World (Source R) (Unit {0}) ScriptPoller)
+    → Run source_meaning no_idles script_outside calls answers csss w u → Run source_meaning no_idles script_outside more others dsss u x
+    → Run source_meaning no_idles script_outside (calls ++ more) (answers ++ others) (csss ++ dsss) w x
+run_append {R} [] more [] others [] dsss w u x h k = subst (λ (v : World (Source R) (Unit {0}) ScriptPoller). Run source_meaning no_idles script_outside more others dsss v x) h k
+run_append (call ∷ calls) more (answer ∷ answers) others (css ∷ csss) dsss w u x h k = (h.0, run_append calls more answers others csss dsss (all_traced w css) u x h.1 k)
+run_append calls more answers others csss dsss w u x h k = absurd h
+
+scripted_append : {R : Type 0} (calls more : List (ScriptCall R)) → AllScripted calls → AllScripted more → AllScripted (calls ++ more)
+scripted_append [] more h k = k
+scripted_append (call ∷ calls) more h k = (h.0, scripted_append calls more h.1 k)
+
+-- the law of the timers of scripts
+abbrev pub TheLaw : (R : Type 0) → Type 0
+TheLaw R = OverEveryRun (source_meaning {R = R}) no_idles script_outside
+    (FromTheStart (λ (r : LoopRun (Source R) (Unit {0}) ScriptPoller (Option (List ℕ))). AllScripted r.calls → IsKept r.ended.ledger r.ended.poll))
+
+module _ {R : Type 0} where
+  asks_on : (u v x : View (Source R) (Unit {0}) ScriptPoller) → Asks u v → Asks v x → Asks u x
+  asks_on u v x h k = record {
+    calls = h.calls ++ k.calls;
+    answers = h.answers ++ k.answers;
+    scripted = scripted_append h.calls k.calls h.scripted k.scripted;
+    leads = λ w is.
+        let a = h.leads w is in
+        let b = k.leads a.1 a.3 in
+        (a.0 ++ b.0, b.1, run_append h.calls k.calls h.answers k.answers a.0 b.0 w a.1 b.1 a.2 b.2, b.3);
+  }
+
+  lines_ask : (lines : List (List ℕ)) (s : State R) (number : ℕ) (w : Written) (finish : State R) → WritesTo trace_step s number lines w finish → Asks s.loop finish.loop
+  lines_ask [] s number w finish h = asks_nothing s finish h.1
+  lines_ask (line ∷ lines) s number w finish (inl h) = asks_nothing s finish h.2
+  lines_ask (line ∷ lines) s number w finish (inr h) =
+      asks_on s.loop h.0.loop finish.loop (line_asks s h.0 h.1 (command_of line) h.3) (lines_ask lines h.0 (next_number number) h.2 finish h.4)
+
+  writes_to : (lines : List (List ℕ)) (s : State R) (number : ℕ) (w : Written) → Writes trace_step s number lines w → (finish : State R) × WritesTo trace_step s number lines w finish
+  writes_to [] s number w h = (s, (h, refl))
+  writes_to (line ∷ lines) s number w (inl h) = (s, inl (h.0, h.1, refl))
+  writes_to (line ∷ lines) s number w (inr h) =
+      let rest = writes_to lines h.0 (next_number number) h.2 h.4 in
+      (rest.0, inr (h.0, h.1, h.2, h.3, rest.1, h.5))
+
+  leads_in_time : (u v : View (Source R) (Unit {0}) ScriptPoller) → TheLaw R → Asks u v → LeadsInTime u v
+  leads_in_time u v law h w new is =
+      let a = h.leads w is in
+      let r : LoopRun (Source R) (Unit {0}) ScriptPoller (Option (List ℕ)) = record {
+        calls = h.calls;
+        answers = h.answers;
+        changes = a.0;
+        moments = moments_of w (changes_of a.0);
+        began = w;
+        ended = a.1;
+      } in
+      (r, a.2, refl, a.3, law r a.2 refl new h.scripted)
+
+  pub in_time : (script : List ℕ) (w : Written) → TheLaw R → MayWrite R script w → MayWriteInTime R script w
+  in_time script w law h =
+      let to = writes_to (lines_of script) h.0 1 w h.2 in
+      (h.0, to.0, h.1, to.1, leads_in_time h.0.loop to.0.loop law (lines_ask (lines_of script) h.0 1 w to.0 to.1))
+
+pub all_in_time : {E : Type 0} (R : Type 0) (result : Result ℕ E) (first : Option (List ℕ)) (Out Errors : Written → Type 0) → TheLaw R
+    → IfOk result (λ status. IfSome first (λ script. (w : Written) × MayWrite R script w × Out w × Errors w × (status ≡ w.status)))
+    → IfOk result (λ status. IfSome first (λ script. (w : Written) × MayWriteInTime R script w × Out w))
+all_in_time R (Err e) first Out Errors law h = tt
+all_in_time R (Ok status) None Out Errors law h = tt
+all_in_time R (Ok status) (Some script) Out Errors law h = (h.0, in_time script h.0 law h.1, h.2)

@@ -6,11 +6,15 @@ use Rattle.calloop.specs.declared.loop_logic.LoopCall.{LoopCall}
 use Rattle.calloop.specs.declared.loop_logic.LoopCall.TheVariants.{Insert, Exchange}
 use Rattle.looptrace.specs.Sources.{Source}
 use Rattle.calloop.specs.declared.loop_logic.LoopAnswer.{LoopAnswer}
-use Rattle.calloop.specs.Machine.{View}
-use Rattle.calloop.specs.Rules.{RunLeads}
+use Rattle.calloop.specs.Machine.{World, View, IsNew, seen}
+use Rattle.calloop.specs.Rules.{Run, RunLeads}
+use Rattle.calloop.specs.Laws.{IsKept}
+use Rattle.calloop.specs.EveryRun.{LoopRun}
 use Rattle.calloop_core.specs.ScriptPollers.{script_outside}
 use Rattle.looptrace.specs.Sources.{source_meaning, no_idles}
-use Rattle.looptrace.specs.Runs.{IsNewPing, new_timer}
+use Rattle.looptrace.specs.Lines.{lines_of}
+use Rattle.looptrace.specs.Traces.{Written, WritesTo}
+use Rattle.looptrace.specs.Runs.{State, IsStart, IsNewPing, new_timer, trace_step}
 
 abbrev pub ScriptCall : Type 0 → Type 0
 ScriptCall R = LoopCall (Source R) ScriptPoller (Option (List ℕ)) (Unit {0})
@@ -36,3 +40,18 @@ pub record Asks {R : Type 0} (old new : View (Source R) (Unit {0}) ScriptPoller)
   pub answers : List (ScriptAnswerOf R)
   pub scripted : AllScripted calls
   pub leads : RunLeads source_meaning no_idles script_outside calls answers old new
+
+-- From every machine to which nothing has happened, and that agrees with what a loop held, there is a run to one that agrees with what it
+-- then holds, in which no timer is called early, nor twice for one arming.
+abbrev pub LeadsInTime : {R : Type 0} → (old new : View (Source R) (Unit {0}) ScriptPoller) → Type 0
+LeadsInTime {R} old new =
+    (u : World (Source R) (Unit {0}) ScriptPoller) → IsNew u → seen u ≡ old
+    → (r : LoopRun (Source R) (Unit {0}) ScriptPoller (Option (List ℕ)))
+    × Run source_meaning no_idles script_outside r.calls r.answers r.changes r.began r.ended
+    × (r.began ≡ u) × (seen r.ended ≡ new) × IsKept r.ended.ledger r.ended.poll
+
+-- the lines of a script may write this, and what they do to the loop is such a run
+abbrev pub MayWriteInTime : (R : Type 0) → List ℕ → Written → Type 0
+MayWriteInTime R script w =
+    (start : State R) × (finish : State R) × IsStart start × WritesTo trace_step start 1 (lines_of script) w finish
+    × LeadsInTime start.loop finish.loop

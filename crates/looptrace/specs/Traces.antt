@@ -24,3 +24,12 @@ Writes {S} step state number (line ∷ lines) w =
     ⊎ ((after : S) × (text : List ℕ) × (later : Written)
     × step state line (Some (after, text)) × Writes step after (next_number number) lines later
     × (w ≡ before text later))
+
+-- the same, and the state that the lines which were carried out leave
+abbrev pub WritesTo : {S : Type 0} → LineStep S → S → ℕ → List (List ℕ) → Written → S → Type 0
+WritesTo step state number [] w finish = (w ≡ record { out = []; err = []; status = 0 }) × (finish ≡ state)
+WritesTo {S} step state number (line ∷ lines) w finish =
+    (step state line None × (w ≡ record { out = []; err = error_text number; status = 2 }) × (finish ≡ state))
+    ⊎ ((after : S) × (text : List ℕ) × (later : Written)
+    × step state line (Some (after, text)) × WritesTo step after (next_number number) lines later finish
+    × (w ≡ before text later))

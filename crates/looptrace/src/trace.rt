@@ -4,8 +4,10 @@ ghost use Rattle.std.specs.Io.KnownBytes.{Appends};
 ghost use Rattle.looptrace.specs.Faults.{IsCause};
 ghost use Rattle.looptrace.specs.Traces.{Written};
 ghost use Rattle.looptrace.specs.Runs.{MayWrite};
+ghost use Rattle.looptrace.specs.InTime.{MayWriteInTime};
 
 use crate::driver::drive;
+use crate::laws::timers_are_called_in_time;
 use crate::runner::ScriptLoop;
 use crate::streams::Streams;
 use log::Log;
@@ -18,7 +20,7 @@ use std::sync::Wait;
 /// the first line that can't be read. What the loop does goes to the output, and that line's number to the errors.
 ///
 /// The loop begins with the clock at 0, without sources, and with a poller that gives no events. What it warns of goes to the
-/// log of `rt`. An `Err` is a fault of reading or writing, or want of memory; what was written before it stays.
+/// log of `rt`. What is written is of a run of the loop's machine in which no timer is called early, nor twice for one arming. An `Err` is a fault of reading or writing, or want of memory; what was written before it stays.
 pub fn trace<Q: Wait + Log + Clone + Drop, R: BufRead, W: Write, E: Write>(
     rt: &Q,
     alloc: Global,
@@ -28,9 +30,12 @@ pub fn trace<Q: Wait + Log + Clone + Drop, R: BufRead, W: Write, E: Write>(
         × Appends (W.contents streams.old.output) (W.contents streams.new.output) w.out
         × Appends (E.contents streams.old.errors) (E.contents streams.new.errors) w.err
         × (status ≡ w.status))) }
+    ensures in_time { IfOk result (λ _. IfSome (R.remaining streams.old.input) (λ script. (w : Written) × MayWriteInTime Q script w
+        × Appends (W.contents streams.old.output) (W.contents streams.new.output) w.out)) }
     ensures none { OnOk result (streams.new.faults.count ≡ streams.old.faults.count) }
     ensures err { IfErr result (λ e. IsCause e streams.old.faults.count streams.new.faults.count) }
 {
+    timers_are_called_in_time::<Q>();
     let mut script_loop = ScriptLoop::new(rt, alloc)?;
     drive(rt, alloc, &mut script_loop, streams)
 }
