@@ -11,7 +11,7 @@ pub mod stream;
 pub mod timeout;
 
 pub use calloop_core::both::{Both, Part};
-pub use calloop_core::callbacks::{On, QuietCallback, QuietDispatch};
+pub use calloop_core::callbacks::{On, OnWith, QuietCallback, QuietDispatch};
 pub use calloop_core::forwarding::Forward;
 pub use calloop_core::generic::{Generic, NoIoDrop};
 pub use calloop_core::idles::{IdleCallback, QuietIdle};

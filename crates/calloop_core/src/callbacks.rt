@@ -10,13 +10,35 @@ pub trait On<E, X, T> {
     fn on(&mut self, event: E, data: &mut X) -> T;
 }
 
-impl<E, M: Drop, T, X, Q: Asking, F: On<E, X, T>> Callback<E, M, T, X, Q> for F {
+/// A callback that asks the loop for nothing, and is lent what its source lends beside the event, as a `Generic` its socket. It is a
+/// `Callback` by that, with nothing to prove. Each `On` is one. `E` is the event, `M` the metadata, `X` the data that a dispatch lends,
+/// and `T` what the source is told.
+pub trait OnWith<E, M, X, T> {
+    /// What the metadata may be after a call. One without a relation of its own may do anything to it.
+    ghost leaves: { M → M → Type 0 } = { λ _ _. Unit {0} };
+
+    /// Called with an event.
+    fn on_with(&mut self, event: E, metadata: &mut M, data: &mut X) -> T
+        ensures { leaves metadata.old metadata.new };
+}
+
+impl<E, M: Drop, T, X, F: On<E, X, T>> OnWith<E, M, X, T> for F {
     ghost use Rattle.std.specs.Prelude.{◌≡◌};
 
-    ghost may = { λ f e m x q t g n y r. (n ≡ m) × (r ≡ q) };
+    ghost leaves = { λ m n. n ≡ m };
 
-    fn call(&mut self, event: E, _metadata: &mut M, data: &mut X, _requests: &mut Q) -> T {
+    fn on_with(&mut self, event: E, _metadata: &mut M, data: &mut X) -> T {
         self.on(event, data)
+    }
+}
+
+impl<E, M: Drop, T, X, Q: Asking, F: OnWith<E, M, X, T>> Callback<E, M, T, X, Q> for F {
+    ghost use Rattle.std.specs.Prelude.{◌≡◌};
+
+    ghost may = { λ f e m x q t g n y r. F.leaves m n × (r ≡ q) };
+
+    fn call(&mut self, event: E, metadata: &mut M, data: &mut X, _requests: &mut Q) -> T {
+        self.on_with(event, metadata, data)
     }
 }
 
@@ -27,7 +49,7 @@ pub trait QuietCallback<E, M, T, X, Q: Asking>: Callback<E, M, T, X, Q> {
     ghost quiet: { IsQuietCall Self.may };
 }
 
-impl<E, M: Drop, T, X, Q: Asking, F: On<E, X, T>> QuietCallback<E, M, T, X, Q> for F {
+impl<E, M: Drop, T, X, Q: Asking, F: OnWith<E, M, X, T>> QuietCallback<E, M, T, X, Q> for F {
     ghost quiet = { λ f g e m n x y q r t h. h.1 };
 }
 

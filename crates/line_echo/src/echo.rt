@@ -1,5 +1,5 @@
 //! The server's side: lines that are read, and given back.
-use calloop::{Asking, Callback, NoIoDrop, PostAction, Readiness};
+use calloop::{NoIoDrop, OnWith, PostAction, Readiness};
 use calloop_core::sys::system::MioIo;
 use std::alloc::Global;
 use std::io;
@@ -69,15 +69,12 @@ impl Echo {
     }
 }
 
-impl<Q: Asking> Callback<Readiness, NoIoDrop<MioIo>, io::Result<PostAction>, Session, Q> for Echo {
-    ghost may = { λ _ _ _ _ _ _ _ _ _ _. Unit {0} };
-
-    fn call(
+impl OnWith<Readiness, NoIoDrop<MioIo>, Session, io::Result<PostAction>> for Echo {
+    fn on_with(
         &mut self,
         _readiness: Readiness,
         io: &mut NoIoDrop<MioIo>,
         session: &mut Session,
-        _requests: &mut Q,
     ) -> io::Result<PostAction> {
         let MioIo::UnixStream(stream) = io.get_mut() else {
             return Err(io::Error::from(io::ErrorKind::Unsupported));

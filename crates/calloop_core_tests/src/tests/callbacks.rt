@@ -1,6 +1,6 @@
 //! Callbacks that ask for nothing.
 use super::{at, new_poll, polls};
-use calloop_core::callbacks::{On, QuietDispatch};
+use calloop_core::callbacks::{On, OnWith, QuietCallback, QuietDispatch};
 use calloop_core::idles::QuietIdle;
 use calloop_core::sources::{Asking, Callback, Dispatch, Dispatcher, OneOf, PostAction};
 use calloop_core::sys::script::{ScriptClock, ScriptPoller};
@@ -49,6 +49,31 @@ impl On<u8, u8, u8> for Adding {
         self.heard
     }
 }
+
+#[test]
+fn a_callback_is_lent_what_its_source_lends(rt: HostRuntime) {
+    let mut callback = Taking;
+    let (mut metadata, mut data, mut asked) = (4, 10, Tally { count: 3 });
+    quietly(&callback);
+    let answer = call(&mut callback, 5, &mut metadata, &mut data, &mut asked);
+    assert_eq!(rt; (answer, metadata, data, asked.count), (4, 5, 14, 3));
+}
+
+// Adds what its source lends to the data, and leaves the event there.
+#[derive(Drop)]
+struct Taking;
+
+impl OnWith<u8, u8, u8, u8> for Taking {
+    fn on_with(&mut self, event: u8, metadata: &mut u8, data: &mut u8) -> u8 {
+        let lent = *metadata;
+        *data = data.saturating_add(lent);
+        *metadata = event;
+        lent
+    }
+}
+
+// Takes only what asks the loop for nothing.
+fn quietly<F: QuietCallback<u8, u8, u8, u8, Tally>>(_callback: &F) {}
 
 // Counts requests.
 #[derive(Drop)]
