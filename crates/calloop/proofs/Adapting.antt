@@ -1,5 +1,5 @@
 -- Where an adapter leaves.
-use Rattle.std.proofs.Common.{◌≡◌, refl, [], List, Option, Some, None, Result, Err, inl, inr}
+use Rattle.std.proofs.Common.{◌≡◌, refl, [], true, false, List, Option, Some, None, Result, Err, inl, inr}
 use Rattle.std.specs.declared.io.ErrorKind.TheVariants.{NotFound}
 use Rattle.calloop_wake.specs.declared.error.Error.{Error}
 use Rattle.calloop_wake.specs.declared.error.Error.TheVariants.{InvalidToken}
@@ -7,7 +7,8 @@ use Rattle.calloop_wake.specs.declared.token.Token.{Token}
 use Rattle.calloop_core.specs.Pollers.{Outside, Sockets}
 use Rattle.calloop_core.specs.Polls.{PollView, PollStep, IsOfKind, AllStepped}
 use Rattle.calloop.specs.declared.io.adapter.Adapter.{Adapter}
-use Rattle.calloop.specs.Adapters.{TakenOut, Leaves, left_so}
+use Rattle.calloop.specs.declared.io.notes.SlotNote.TheVariants.{Asked}
+use Rattle.calloop.specs.Adapters.{TakenOut, Leaves, left_so, and_did}
 
 module _ {P R I : Type 0} (sockets : Sockets P I) (O : Outside P) where
   abbrev Left : Option Token → Adapter P R I → PollView P → Result (Unit {0}) Error → Adapter P R I → PollView P → Type 0
@@ -16,9 +17,9 @@ module _ {P R I : Type 0} (sockets : Sockets P I) (O : Outside P) where
   pub nowhere : (own : Option Token) (s : Adapter P R I) (v : PollView P) (e : Error) → own ≡ None → IsOfKind NotFound e → Left own s v (Err e) s v
   nowhere own s v e none kind = rw none ([], (e, refl, kind, refl, refl), (tt, refl))
 
-  pub not_let : (own : Option Token) (token : Token) (s : Adapter P R I) (v : PollView P) → own ≡ Some token → Left own s v (Err InvalidToken) s v
+  pub not_let : (own : Option Token) (token : Token) (s : Adapter P R I) (v : PollView P) → own ≡ Some token → Left own s v (Err InvalidToken) (and_did (Asked false) s) v
   not_let own token s v some = rw some ([], inl (InvalidToken, refl, refl, refl, refl), (tt, refl))
 
   pub let_out : (own : Option Token) (token : Token) (s : Adapter P R I) (v w : PollView P) (answer : Result (Unit {0}) Error) → own ≡ Some token
-      → ((steps : List (PollStep P)) × TakenOut sockets s.entered token v answer steps × AllStepped O v steps w) → Left own s v answer (left_so answer s) w
+      → ((steps : List (PollStep P)) × TakenOut sockets s.entered token v answer steps × AllStepped O v steps w) → Left own s v answer (left_so answer (and_did (Asked true) s)) w
   let_out own token s v w answer some h = rw some (h.0, inr (h.1, refl), h.2)

@@ -162,7 +162,7 @@ module _ {D I P X : Type 0} (C : D → Type 0) (S : D → D → Type 0) (M : Mea
   released_fresh w token (Err e) cs h k = asked_fresh w _ _ token (only (is_adapter M) (named (map slot_of w.slots) token)) (Err e) cs (λ d a l. l) h k
 
   step_fresh : (w : World D I P) (a b : Doing D X) (cs : List (Change D I P)) → Step M runs O (seen w) a cs b → Asked' w → Fresh w cs
-  step_fresh w (Beginning timeout x) b cs h k = rw h.3 ((tt, (tt, tt)), k)
+  step_fresh w (Beginning timeout x) b cs h k = rw h.4 ((tt, (tt, (tt, tt))), k)
   step_fresh w (Settling timeout [] x) b cs h k = rw h.0 (tt, k)
   step_fresh w (Settling timeout (t ∷ later) x) b cs h k = settled_fresh w t (only (is_adapter M) (named (map slot_of w.slots) t)) cs h.0 k
   step_fresh w (Sleeping timeout [] x) b cs h k = rw h.0 (tt, k)

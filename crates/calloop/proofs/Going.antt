@@ -26,8 +26,10 @@ use Rattle.calloop.specs.declared.loop_logic.asks.Asked.{Asked}
 use Rattle.calloop.specs.declared.loop_logic.asks.Idling.{Idling as Waiter}
 use Rattle.calloop.specs.Held.{HeldStep, Unlisted, Pend, Asking, Paid, Cleared, Warned, warned, IdlesTaken, IdleBegun, held_after}
 use Rattle.calloop.specs.Askings.{Asks, AskStep, Runs, Reaches, asks_after, cleared, idle_begun, running_of}
-use Rattle.calloop.specs.Machine.{View, Change, Put, Polls, Polling, Watching, Counting, Holds, Gathered, Cut, Ended, all_viewed, AllFit, IsFull, Appended, viewed}
-use Rattle.calloop_core.specs.SlotOrder.{IsInSlotOrder}
+use Rattle.calloop.specs.Machine.{taking, View, Change, Put, Polls, Polling, Watching, Counting, Holds, Gathered, Cut, Ended, all_viewed, AllFit, IsFull, Appended, viewed}
+use Rattle.calloop_core.specs.Marking.{AreTaken}
+use Rattle.calloop_wake.specs.Watches.{noted}
+use Rattle.calloop_wake.specs.declared.wake.notes.Note.TheVariants.{Counted, Marked}
 use Rattle.calloop.specs.Rules.{Goes, Steps, Step, Doing, Beginning, Settling, Sleeping, Waiting, Gathering, Noticing, Cutting, Serving, Ending, Returning, Idling, RunningIdles, ServingIdle, Leaving, Outcome, ByOne, left, traced, told_in, SleptAs, SleptBy, NoticedBy, ActedBy, ReturnedTo, emptied, after_turn as after, CutTo, CutFrom, ServedFrom, RunFrom, action_of, DispatchedBy, Did, appends}
 use Rattle.calloop.specs.Serving.{FirstServed, AllServed}
 
@@ -127,19 +129,19 @@ module _ {D I P X : Type 0} (M : Meaning D P (Lent X (Asks D I))) (runs : Runs D
   abbrev pub ready : (places : ℕ) → View D I P → View D I P
   ready places v = record v { poll = counted places v.poll; held = held_after v.held Cleared }
 
-  pub begun_with : (v : View D I P) (places : ℕ) (marked : List RegistrationToken) → IsInSlotOrder marked → (timeout : Option ℕ) (x : X) → Goes M runs O (Beginning timeout x) (Settling timeout marked x) v (ready places v)
-  begun_with v places marked order timeout x = goes_by (Beginning timeout x) (Settling timeout marked x) (Counting places ∷ Holds Cleared ∷ []) v (ready places v) (places, marked, order, refl, refl) (tt, (tt, tt)) refl
+  pub begun_with : (v : View D I P) (places : ℕ) (marked taken : List RegistrationToken) → AreTaken taken marked → (timeout : Option ℕ) (x : X) → Goes M runs O (Beginning timeout x) (Settling timeout marked x) v (taking taken (ready places v))
+  begun_with v places marked taken are timeout x = goes_by (Beginning timeout x) (Settling timeout marked x) (Counting places ∷ Holds Cleared ∷ Watching (noted (Marked taken) (noted (Counted places) v.poll.watch)) ∷ []) v (taking taken (ready places v)) (places, marked, taken, are, refl, refl) (tt, (tt, (tt, tt))) refl
 
   -- and what follows
-  pub begun_then : (v u : View D I P) (places : ℕ) (p' : PollView P) (asked : Asks D I) (es : List Error) (marked : List RegistrationToken) (order : IsInSlotOrder marked) (timeout : Option ℕ) (x : X) (b : Doing D X) → p' ≡ counted places v.poll → asked ≡ cleared v.held.asks → es ≡ []
-      → Goes M runs O (Settling timeout marked x) b (record v { poll = p'; held = record v.held { asks = asked; warnings = es } }) u → Goes M runs O (Beginning timeout x) b v u
-  begun_then v u places p' asked es marked order timeout x b polls asks none h =
+  pub begun_then : (v u : View D I P) (places : ℕ) (p' : PollView P) (asked : Asks D I) (es : List Error) (marked taken : List RegistrationToken) (are : AreTaken taken marked) (timeout : Option ℕ) (x : X) (b : Doing D X) → p' ≡ counted places v.poll → asked ≡ cleared v.held.asks → es ≡ []
+      → Goes M runs O (Settling timeout marked x) b (taking taken (record v { poll = p'; held = record v.held { asks = asked; warnings = es } })) u → Goes M runs O (Beginning timeout x) b v u
+  begun_then v u places p' asked es marked taken are timeout x b polls asks none h =
       let a : Doing D X = Settling timeout marked x in
-      let now : View D I P = record v { poll = p'; held = record v.held { asks = asked; warnings = es } } in
+      let now : View D I P = taking taken (record v { poll = p'; held = record v.held { asks = asked; warnings = es } }) in
       goes_on (Beginning timeout x) a b v now u
-      (goes_to (Beginning timeout x) a v (ready places v) now
-      (ap (λ (q : PollView P). record v { poll = q; held = record v.held { asks = asked; warnings = es } }) polls ∙ ap (λ (r : Asks D I). record v { poll = counted places v.poll; held = record v.held { asks = r; warnings = es } }) asks
-      ∙ ap (λ (l : List Error). record v { poll = counted places v.poll; held = record v.held { asks = cleared v.held.asks; warnings = l } }) none) (begun_with v places marked order timeout x)) h
+      (goes_to (Beginning timeout x) a v (taking taken (ready places v)) now
+      (ap (λ (q : PollView P). taking taken (record v { poll = q; held = record v.held { asks = asked; warnings = es } })) polls ∙ ap (λ (r : Asks D I). taking taken (record v { poll = counted places v.poll; held = record v.held { asks = r; warnings = es } })) asks
+      ∙ ap (λ (l : List Error). taking taken (record v { poll = counted places v.poll; held = record v.held { asks = cleared v.held.asks; warnings = l } })) none) (begun_with v places marked taken are timeout x)) h
 
   -- the wait and the gathering
   pub polled : (v : View D I P) (p' : PollView P) (timeout : Option ℕ) (x : X) → Polled O timeout (Ok tt) v.poll p' → Goes M runs O (Waiting timeout x) (Noticing (length v.poll.batch) v.held.lifecycle x) v (record v { poll = p' })

@@ -275,7 +275,7 @@ module _ {D I P X : Type 0} (M : Meaning D P (Lent X (Asks D I))) (runs : Runs D
   settled_homely v token (Source d) cs is (inr h) k = removed_homely v token h.0 cs (Source d) h.1 k
 
   step_homely : (v : View D I P) (a b : Doing D X) (cs : List (Change D I P)) → Step M runs O v a cs b → Homely v.slots → AsideHomely a → Homely (all_viewed v cs).slots × AsideHomely b
-  step_homely v (Beginning timeout x) b cs h k aside = rw (h.3, h.4) (k, tt)
+  step_homely v (Beginning timeout x) b cs h k aside = rw (h.4, h.5) (k, tt)
   step_homely v (Settling timeout [] x) b cs h k aside = rw (h.0, h.1) (k, tt)
   step_homely v (Settling timeout (t ∷ later) x) b cs h k aside = rw h.1 (settled_homely v t (only (is_adapter M) (named v.slots t)) cs (only_is (is_adapter M) v.slots t) h.0 k, tt)
   step_homely v (Sleeping timeout [] x) b cs h k aside = rw (h.0, h.1) (k, tt)

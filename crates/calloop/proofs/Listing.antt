@@ -374,7 +374,7 @@ module _ {D I P X : Type 0} (M : Meaning D P (Lent X (Asks D I))) (runs : Runs D
   settled_kept v token (Source d) cs is (inr h) k = removed_kept v token h.0 cs (Source d) is h.1 k
 
   step_kept : (v : View D I P) (a b : Doing D X) (cs : List (Change D I P)) → Step M runs O v a cs b → Kept a v → Kept b (all_viewed v cs)
-  step_kept v (Beginning timeout x) b cs h k = rw (h.3, h.4) k
+  step_kept v (Beginning timeout x) b cs h k = rw (h.4, h.5) k
   step_kept v (Settling timeout [] x) b cs h k = rw (h.0, h.1) k
   step_kept v (Settling timeout (t ∷ later) x) b cs h k = rw h.1 (settled_kept v t (only (is_adapter M) (named v.slots t)) cs (only_is (is_adapter M) v.slots t) h.0 k)
   step_kept v (Sleeping timeout [] x) b cs h k = rw (h.0, h.1) k

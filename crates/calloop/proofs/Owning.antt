@@ -35,6 +35,8 @@ use Rattle.calloop.specs.declared.loop_logic.LoopAnswer.{LoopAnswer}
 use Rattle.calloop.specs.declared.loop_logic.LoopAnswer.TheVariants.{Inserted, Enabled, Updated, Disabled, Removed, Released, Exchanged, Dispatched, IdleInserted, Cancelled, Answered, StopForgotten, Stopped, Poller as OldPoller}
 use Rattle.calloop.specs.declared.loop_logic.asks.Answer.{Answer}
 use Rattle.calloop.specs.declared.loop_logic.asks.Answer.TheVariants.{Done, Removed as RemovedAnswer}
+use Rattle.calloop_wake.specs.Watches.{noted}
+use Rattle.calloop_wake.specs.declared.wake.notes.Note.TheVariants.{Counted, Marked}
 use Rattle.calloop.specs.declared.loop_logic.stops.StopNote.TheVariants.{Forgot, Looked}
 use Rattle.calloop.specs.Held.{HeldStep, Listed, Unlisted, Pend, Asking, Begun, Told, Owe, Paid, Cleared, Warned, StopNoted, IdleIn, IdleNew, IdleOut, IdlesTaken, IdleBegun}
 use Rattle.calloop.specs.Roles.{only, is_callers, is_adapter}
@@ -510,7 +512,10 @@ module _ {D I P X : Type 0} (M : Meaning D P (Lent X (Asks D I))) (runs : Runs D
   step_owned : (w : World D I P) (a b : Doing D X) (cs : List (Change D I P)) → AllFresh M cs → Step M runs O (seen w) a cs b → AllFit O (seen w) cs → IsOwned M w (aside_of a) → IsOwned M (all_done w cs) (aside_of b)
   step_owned w (Settling timeout [] x) b cs fresh h fit k = rw (h.0, h.1) k
   step_owned w (Settling timeout (t ∷ later) x) b cs fresh h fit k = rw h.1 (settled_owned w t (only (is_adapter M) (named (map slot_of w.slots) t)) cs (only_is (is_adapter M) (map slot_of w.slots) t) h.0 fit k)
-  step_owned w (Beginning timeout x) b cs fresh h fit k = rw (h.3, h.4) (owned_listed M O law (done w (Counting h.0)) Cleared [] (owned_same M O law w (done w (Counting h.0)) [] refl refl refl refl k))
+  step_owned w (Beginning timeout x) b cs fresh h fit k = (
+      let cleared = done (done w (Counting h.0)) (Holds Cleared) in
+      rw (h.4, h.5) (owned_same M O law cleared (done cleared (Watching (noted (Marked h.2) (noted (Counted h.0) w.poll.watch)))) [] refl refl refl refl
+      (owned_listed M O law (done w (Counting h.0)) Cleared [] (owned_same M O law w (done w (Counting h.0)) [] refl refl refl refl k))))
   step_owned w (Sleeping timeout [] x) b cs fresh h fit k = rw (h.0, h.1) k
   step_owned w (Sleeping timeout (t ∷ later) x) b cs fresh h fit k = slept_owned w timeout t later x cs b (named (map slot_of w.slots) t) refl h k
   step_owned w (Waiting timeout x) b cs fresh h fit k = rw (h.5, h.6, aside_wait h.0 h.1 x) (owned_same M O law w (done (done w (Polling h.2)) (Watching h.3)) [] refl refl refl refl k)

@@ -1,5 +1,5 @@
 -- The polls of an executor's turn, one after the other.
-use Rattle.std.proofs.Common.{◌≡◌, ℕ, ◌+◌, Bool, true, false, Option, Some, None, IfSome, is_some, if◌then◌else◌, Ok, List, [], ◌∷◌, ◌++◌, length, refl, sym, ap, subst, arith, ◌∙◌, append_assoc, append-nil, length-append}
+use Rattle.std.proofs.Common.{◌≡◌, ℕ, ◌+◌, Bool, true, false, Option, Some, None, IfSome, if◌then◌else◌, Ok, List, [], ◌∷◌, ◌++◌, length, refl, sym, ap, subst, arith, ◌∙◌, append_assoc, append-nil, length-append}
 use Rattle.calloop_wake.specs.declared.wake.Twin.{Twin}
 use Rattle.calloop_wake.specs.declared.token.Token.{Token}
 use Rattle.calloop_wake.specs.Tokens.{key_of}
@@ -13,50 +13,61 @@ use Rattle.calloop_core.specs.declared.sources.PostAction.TheVariants.{Continue}
 use Rattle.calloop_core.specs.Calls.{CallbackCall, Calling, Went}
 use Rattle.calloop_core.proofs.Calling.{went_on}
 use Rattle.calloop_core.specs.Polls.{PollStep, TakePass}
-use Rattle.calloop.specs.Executors.{ResultCalls, call_of, calls_of, results_of, AllGiven, Answered, AnsweredSo, ExecutorTurns}
+use Rattle.calloop.specs.Executors.{ResultCalls, OfPop, gave, lacks, misses_of, call_of, calls_of, results_of, AllGiven, Answered, AnsweredSo, ExecutorTurns}
 
 module _ {O : Type 0} where
-  calls_more : (ps : List (Option O)) (p : Option O) → calls_of (ps ++ p ∷ []) ≡ calls_of ps ++ call_of p
+  calls_more : (ps : List (OfPop O)) (p : OfPop O) → calls_of (ps ++ p ∷ []) ≡ calls_of ps ++ call_of p
   calls_more [] p = append-nil (call_of p)
   calls_more (o ∷ ps) p = ap (λ cs. call_of o ++ cs) (calls_more ps p) ∙ sym (append_assoc (call_of o) (calls_of ps) (call_of p))
 
-  results_more : (ps : List (Option O)) (p : Option O) → results_of (ps ++ p ∷ []) ≡ results_of ps + one (is_some p)
-  results_more [] p = let n = one (is_some p) in let e : results_of (p ∷ []) ≡ n + 0 = refl in omega arith
+  results_more : (ps : List (OfPop O)) (p : OfPop O) → results_of (ps ++ p ∷ []) ≡ results_of ps + one (gave p)
+  results_more [] p = let n = one (gave p) in let e : results_of (p ∷ []) ≡ n + 0 = refl in omega arith
   results_more (o ∷ ps) p =
       let e = results_more ps p in
-      let a : results_of (o ∷ (ps ++ p ∷ [])) ≡ one (is_some o) + results_of (ps ++ p ∷ []) = refl in
-      let b : results_of (o ∷ ps) ≡ one (is_some o) + results_of ps = refl in
+      let a : results_of (o ∷ (ps ++ p ∷ [])) ≡ one (gave o) + results_of (ps ++ p ∷ []) = refl in
+      let b : results_of (o ∷ ps) ≡ one (gave o) + results_of ps = refl in
       omega arith
 
-  given_more : (given : O → Type 0) (ps : List (Option O)) (p : Option O) → AllGiven given ps → IfSome p given → AllGiven given (ps ++ p ∷ [])
+  misses_more : (ps : List (OfPop O)) (p : OfPop O) → misses_of (ps ++ p ∷ []) ≡ misses_of ps + one (lacks p)
+  misses_more [] p = let n = one (lacks p) in let e : misses_of (p ∷ []) ≡ n + 0 = refl in omega arith
+  misses_more (o ∷ ps) p =
+      let e = misses_more ps p in
+      let a : misses_of (o ∷ (ps ++ p ∷ [])) ≡ one (lacks o) + misses_of (ps ++ p ∷ []) = refl in
+      let b : misses_of (o ∷ ps) ≡ one (lacks o) + misses_of ps = refl in
+      omega arith
+
+  given_more : (given : OfPop O → Type 0) (ps : List (OfPop O)) (p : OfPop O) → AllGiven given ps → given p → AllGiven given (ps ++ p ∷ [])
   given_more given [] p so h = (h, tt)
   given_more given (o ∷ ps) p so h = (so.0, given_more given ps p so.1 h)
 
-module _ {F O X Q : Type 0} (given : O → Type 0) (may : Calling F O (Unit {0}) (Unit {0}) X Q) (reaches : Q → Q → Type 0) (f : F) (x : X) (q : Q) where
-  -- what the polls so far gave: how many there were, how many results, and that the callback was called for just these
-  pub record Polled (polled : List (Option O)) (count results : ℕ) (g : F) (y : X) (r : Q) : Type 0 where
+module _ {F O X Q : Type 0} (given : OfPop O → Type 0) (may : Calling F O (Unit {0}) (Unit {0}) X Q) (reaches : Q → Q → Type 0) (f : F) (x : X) (q : Q) where
+  -- what came of the pops so far: how many there were, how many gave results and of how many the future was still to come, and that the
+  -- callback was called for just these
+  pub record Polled (polled : List (OfPop O)) (count results misses : ℕ) (g : F) (y : X) (r : Q) : Type 0 where
     pub count_is : count ≡ length polled
     pub results_is : results ≡ results_of polled
+    pub misses_is : misses ≡ misses_of polled
     pub all_given : AllGiven given polled
     pub went : Went may reaches f x q (calls_of polled) g y r
 
-  pub polled_none : Polled [] 0 0 f x q
-  polled_none = record { count_is = refl; results_is = refl; all_given = tt; went = (refl, refl, refl) }
+  pub polled_none : Polled [] 0 0 0 f x q
+  polled_none = record { count_is = refl; results_is = refl; misses_is = refl; all_given = tt; went = (refl, refl, refl) }
 
-  pub polled_more : (ps : List (Option O)) (p : Option O) (count results : ℕ) (g h : F) (y z : X) (r s : Q)
-      → Polled ps count results g y r → IfSome p given → Went may reaches g y r (call_of p) h z s → Polled (ps ++ p ∷ []) (count + 1) (results + one (is_some p)) h z s
-  polled_more ps p count results g h y z r s so its went = record {
+  pub polled_more : (ps : List (OfPop O)) (p : OfPop O) (count results misses : ℕ) (g h : F) (y z : X) (r s : Q)
+      → Polled ps count results misses g y r → given p → Went may reaches g y r (call_of p) h z s → Polled (ps ++ p ∷ []) (count + 1) (results + one (gave p)) (misses + one (lacks p)) h z s
+  polled_more ps p count results misses g h y z r s so its went = record {
     count_is = let l = length-append ps (p ∷ []) in let c = so.count_is in omega arith;
-    results_is = ap (λ n. n + one (is_some p)) so.results_is ∙ sym (results_more ps p);
+    results_is = ap (λ n. n + one (gave p)) so.results_is ∙ sym (results_more ps p);
+    misses_is = ap (λ n. n + one (lacks p)) so.misses_is ∙ sym (misses_more ps p);
     all_given = given_more given ps p so.all_given its;
     went = subst (λ (cs : List (CallbackCall O (Unit {0}) (Unit {0}))). Went may reaches f x q cs h z s) (sym (calls_more ps p)) (went_on may reaches f g h x y z q r s (calls_of ps) (call_of p) so.went went);
   }
 
 -- an event of another token
-pub turn_of_another : (P O : Type 0) (given : O → Type 0) (twin : Twin) (token : Token) (pass : Option Taken) → is_own (key_of token) twin.key ≡ false → ExecutorTurns {P = P} given twin token pass [] (Ok Continue) [] twin
+pub turn_of_another : (P O : Type 0) (given : OfPop O → Type 0) (twin : Twin) (token : Token) (pass : Option Taken) → is_own (key_of token) twin.key ≡ false → ExecutorTurns {P = P} given twin token pass [] (Ok Continue) [] twin
 turn_of_another P O given twin token pass other = rw other (refl, refl, refl, refl)
 
-module _ (P O : Type 0) (given : O → Type 0) (twin : Twin) (token : Token) (pass : Option Taken) (own : is_own (key_of token) twin.key ≡ true) where
+module _ (P O : Type 0) (given : OfPop O → Type 0) (twin : Twin) (token : Token) (pass : Option Taken) (own : is_own (key_of token) twin.key ≡ true) where
   -- an event without a pass
   pub turn_without : pass ≡ None → ExecutorTurns {P = P} given twin token pass [] (Ok Continue) (TakePass ∷ []) twin
   turn_without none = rw (own, none) (refl, refl, refl, refl)

@@ -165,7 +165,7 @@ module _ {D I P X : Type 0} (M : Meaning D P (Lent X (Asks D I))) (runs : Runs D
   settled_right w token (Source d) cs (inr h) = removed_right w token (Source d) h.0 cs h.1
 
   step_right : (w : World D I P) (a b : Doing D X) (cs : List (Change D I P)) → Step M runs O (seen w) a cs b → AllRight w cs
-  step_right w (Beginning timeout x) b cs h = rw h.3 (tt, (tt, tt))
+  step_right w (Beginning timeout x) b cs h = rw h.4 (tt, (tt, (tt, tt)))
   step_right w (Settling timeout [] x) b cs h = rw h.0 tt
   step_right w (Settling timeout (t ∷ later) x) b cs h = settled_right w t (only (is_adapter M) (named (map slot_of w.slots) t)) cs h.0
   step_right w (Sleeping timeout [] x) b cs h = rw h.0 tt

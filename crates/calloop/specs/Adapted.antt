@@ -1,7 +1,6 @@
 -- What comes of adapting a socket, and of taking it back. Calloop's adapter is registered at once and hears of no refusal; here it is
 -- inserted as a source is, and leaves by a case of the machine of its own.
 use Rattle.std.specs.Prelude.{◌≡◌, ◌⊎◌, ℕ, None, false, Ok, Err}
-use Rattle.std.specs.Arc.{arc_value}
 use Rattle.calloop_wake.specs.declared.error.Error.{Error}
 use Rattle.calloop_wake.specs.declared.error.Error.TheVariants.{InvalidToken, OutOfMemory}
 use Rattle.calloop_wake.specs.declared.error.InsertError.{InsertError}
@@ -27,7 +26,7 @@ pub record IsNew {P R I : Type 0} (adapter : Adapter P R I) : Type 0 where
 abbrev pub IsAskedToAdapt : {D P R I S : Type 0} → (placed : Adapter P R S → D) → Async P R S → (ticket : ℕ)
     → Asks D I → Asks D I → Type 0
 IsAskedToAdapt {D} {P} {R} {I} {S} placed made ticket old new =
-    (adapter : Adapter P R S) × IsNew adapter × (arc_value adapter.shared ≡ arc_value made.shared)
+    (adapter : Adapter P R S) × IsNew adapter × (adapter.end.name ≡ made.end.name)
     × IsAsked (AskInsert (placed adapter)) ticket old new
 
 module _ {D P C R X I S : Type 0} (M : Meaning D P (Lent X (Asks D I))) (runs : Runs D I X) (O : Outside P) where
@@ -36,7 +35,7 @@ module _ {D P C R X I S : Type 0} (M : Meaning D P (Lent X (Asks D I))) (runs : 
       → Type 0
   IsAdapted placed made old new =
       (adapter : Adapter P R S) × (token : RegistrationToken) × IsNew adapter
-      × (arc_value adapter.shared ≡ arc_value made.shared)
+      × (adapter.end.name ≡ made.end.name)
       × IsCase M runs O (Insert (placed adapter)) (Inserted (Ok token)) old new
 
   -- its insertion was refused so, or there was no memory for it before, and the loop is as it was

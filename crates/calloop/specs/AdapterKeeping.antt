@@ -7,6 +7,7 @@ use Rattle.calloop_wake.specs.declared.token.RegistrationToken.{RegistrationToke
 use Rattle.calloop_wake.specs.declared.token.TokenFactory.{TokenFactory}
 use Rattle.calloop_wake.specs.Tokens.{next_token, key_of}
 use Rattle.calloop_core.specs.declared.sys.Interest.{Interest}
+use Rattle.calloop_core.specs.declared.sys.Readiness.{Readiness}
 use Rattle.calloop_core.specs.Pollers.{Sockets}
 use Rattle.calloop_core.specs.Tables.{Leave}
 use Rattle.calloop_core.specs.Polls.{PollView, PollStep}
@@ -19,7 +20,11 @@ use Rattle.calloop_core.specs.Lawful.{next_is_own, StaysHome, stays_home, silent
 use Rattle.calloop_core.specs.Meanings.{IsKeeping, KeepsCounters, IsAsking, FailsAsSource}
 use Rattle.calloop_core.specs.Quiet.{IsQuiet}
 use Rattle.calloop.specs.declared.io.adapter.Adapter.{Adapter}
-use Rattle.calloop.specs.Adapters.{TakesUpAt, TakesUp, ComesIn, TakenOut, Leaves, taking_up, left_so, adapter_meaning}
+use Rattle.calloop.specs.declared.io.notes.Settled.{Settled}
+use Rattle.calloop.specs.declared.io.notes.Settled.TheVariants.{Stays, Registers as RegistersFor, Leaves as IsToLeave}
+use Rattle.calloop.specs.declared.io.notes.SlotNote.TheVariants.{Settled as SettledSo, Asked, Reached}
+use Rattle.calloop.specs.TakingUp.{taking_up}
+use Rattle.calloop.specs.Adapters.{Registers, SettlesTo, ComesIn, TakenOut, Leaves, Goes, HearsSo, left_so, told_so, and_did, adapter_meaning}
 
 abbrev IsStill : {P : Type 0} → ℕ → List (PollStep P) → Type 0
 IsStill next steps = Keeps holds_none next steps holds_none
@@ -76,12 +81,26 @@ module _ {P R I : Type 0} where
   home_left r (Ok u) s home key is = absurd is
   home_left r (Err e) s home key is = home key is
 
+module _ {P R I : Type 0} where
+  home_told : (r : RegistrationToken) (a : Result (Unit {0}) Error) (s : Adapter P R I) → Home r s.token
+      → Home r (told_so a s).token
+  home_told r (Ok u) s home key is = home key is
+  home_told r (Err e) s home key is = home key is
+
 module _ {P R I : Type 0} (sockets : Sockets P I) where
-  taken_still : (next : ℕ) (own : Option Token) (s t : Adapter P R I) (v : PollView P) (l : List (PollStep P))
-      → TakesUpAt sockets own s v l t → IsStill next l
-  taken_still next None s t v l h = absurd h
-  taken_still next (Some own) s t v l h =
-      edits_still sockets v (taking_up own s.entered h.0) h.1 h.2 next h.3 l h.4
+  told_still : (next : ℕ) (interest : Interest) (own : Option Token) (s t : Adapter P R I) (v : PollView P)
+      (l : List (PollStep P))
+      → Registers sockets interest own s v l t → IsStill next l
+  told_still next interest None s t v l h = rw h.0 (λ counter. tt)
+  told_still next interest (Some own) s t v l (inl h) = rw h.0 (λ counter. tt)
+  told_still next interest (Some own) s t v l (inr h) =
+      edits_still sockets v (taking_up own s.entered interest) h.0 h.1 next h.2 l h.3
+
+  settled_still : (next : ℕ) (found : Settled) (s t : Adapter P R I) (v : PollView P) (l : List (PollStep P))
+      → SettlesTo sockets found s v l t → IsStill next l
+  settled_still next Stays s t v l h = rw h.0 (λ counter. tt)
+  settled_still next (RegistersFor interest) s t v l h = told_still next interest s.token s t v l h
+  settled_still next IsToLeave s t v l h = absurd h
 
   left_still : (next : ℕ) (own : Option Token) (s t : Adapter P R I) (v : PollView P) (a : Result (Unit {0}) Error)
       (l : List (PollStep P))
@@ -90,14 +109,28 @@ module _ {P R I : Type 0} (sockets : Sockets P I) where
   left_still next (Some own) s t v a l (inl h) = rw h.3 (λ counter. tt)
   left_still next (Some own) s t v a l (inr h) = out_still sockets next s.entered own v a l h.0
 
-  taken_home : (r : RegistrationToken) (own : Option Token) (s t : Adapter P R I) (v : PollView P) (l : List (PollStep P))
-      → Home r own → Home r s.token → TakesUpAt sockets own s v l t → Home r t.token × AllActFor r l
-  taken_home r None s t v l mine home h = absurd h
-  taken_home r (Some own) s t v l mine home h = (
-    rw h.5 home,
-    edits_for sockets v (taking_up own s.entered h.0) h.1 h.2 r h.3 l
-        (takes_for r own s.entered h.0 (mine (key_of own) refl)) h.4,
+  gone_still : (next : ℕ) (own : Option Token) (s t : Adapter P R I) (v : PollView P) (a : Result (Unit {0}) Error)
+      (l : List (PollStep P))
+      → Goes sockets own s v a l t → IsStill next l
+  gone_still next None s t v a l h = rw h.0 (λ counter. tt)
+  gone_still next (Some own) s t v a l h = out_still sockets next s.entered own v a l h.0
+
+  told_home : (r : RegistrationToken) (interest : Interest) (own : Option Token) (s t : Adapter P R I) (v : PollView P)
+      (l : List (PollStep P))
+      → Home r own → Home r s.token → Registers sockets interest own s v l t → Home r t.token × AllActFor r l
+  told_home r interest None s t v l mine home h = rw (h.0, h.1) (home, tt)
+  told_home r interest (Some own) s t v l mine home (inl h) = rw (h.0, h.1) (home, tt)
+  told_home r interest (Some own) s t v l mine home (inr h) = (
+    rw h.4 (home_told r h.2 (and_did (Reached true) s) home),
+    edits_for sockets v (taking_up own s.entered interest) h.0 h.1 r h.2 l
+        (takes_for r own s.entered interest (mine (key_of own) refl)) h.3,
   )
+
+  settled_home : (r : RegistrationToken) (found : Settled) (s t : Adapter P R I) (v : PollView P) (l : List (PollStep P))
+      → Home r s.token → SettlesTo sockets found s v l t → Home r t.token × AllActFor r l
+  settled_home r Stays s t v l home h = rw (h.0, h.1) (home, tt)
+  settled_home r (RegistersFor interest) s t v l home h = told_home r interest s.token s t v l home home h
+  settled_home r IsToLeave s t v l home h = absurd h
 
   left_home : (r : RegistrationToken) (own : Option Token) (s t : Adapter P R I) (v : PollView P)
       (a : Result (Unit {0}) Error) (l : List (PollStep P))
@@ -105,23 +138,30 @@ module _ {P R I : Type 0} (sockets : Sockets P I) where
   left_home r None s t v a l mine home h = rw (h.3, h.4) (home, tt)
   left_home r (Some own) s t v a l mine home (inl h) = rw (h.3, h.4) (home, tt)
   left_home r (Some own) s t v a l mine home (inr h) =
+      (rw h.1 (home_left r a (and_did (Asked true) s) home), out_for sockets r s.entered own v a l (mine (key_of own) refl) h.0)
+
+  gone_home : (r : RegistrationToken) (own : Option Token) (s t : Adapter P R I) (v : PollView P)
+      (a : Result (Unit {0}) Error) (l : List (PollStep P))
+      → Home r own → Home r s.token → Goes sockets own s v a l t → Home r t.token × AllActFor r l
+  gone_home r None s t v a l mine home h = rw (h.0, h.1) (home, tt)
+  gone_home r (Some own) s t v a l mine home h =
       (rw h.1 (home_left r a s home), out_for sockets r s.entered own v a l (mine (key_of own) refl) h.0)
 
-  up_still : (next : ℕ) (s t : Adapter P R I) (v : PollView P) (l : List (PollStep P)) → TakesUp sockets s v l t
-      → IsStill next l
-  up_still next s t v l (inl h) = rw h.0 (λ counter. tt)
-  up_still next s t v l (inr h) = taken_still next s.token s t v l h
-
-  up_home : (r : RegistrationToken) (s t : Adapter P R I) (v : PollView P) (l : List (PollStep P)) → Home r s.token
-      → TakesUp sockets s v l t → Home r t.token × AllActFor r l
-  up_home r s t v l home (inl h) = rw (h.0, h.1) (home, tt)
-  up_home r s t v l home (inr h) = taken_home r s.token s t v l home home h
+module _ {P R I : Type 0} where
+  heard_home : (r : RegistrationToken) (own : Option Token) (token : Token) (found : Readiness) (s t : Adapter P R I)
+      → Home r s.token → HearsSo own token found s t → Home r t.token
+  heard_home r own token found s t home (inl h) key is = home key (rw h.1 at is)
+  heard_home r own token found s t home (inr h) key is = home key (rw h.1 at is)
 
 module _ {P R I X Q : Type 0} (sockets : Sockets P I) where
   adapter_counts : KeepsCounters (adapter_meaning {P = P} {R = R} {I = I} sockets {X = X} {Q = Q})
   adapter_counts s t v (Registered f a g) l fits below h = (tt, in_still v.deadlines.next s.token s t f g a l h)
-  adapter_counts s t v (Reregistered f a g) l fits below h = (tt, up_still sockets v.deadlines.next s t v l h.2)
-  adapter_counts s t v (Unregistered a) l fits below h = (tt, left_still sockets v.deadlines.next s.token s t v a l h)
+  adapter_counts s t v (Reregistered f (Ok u) g) l fits below h =
+      (tt, settled_still sockets v.deadlines.next h.1.0 (and_did (SettledSo h.1.0) s) t v l h.1.1)
+  adapter_counts s t v (Reregistered f (Err e) g) l fits below h = (tt, rw h.2 (λ counter. tt))
+  adapter_counts s t v (Unregistered a) l fits below (inl h) = (tt, left_still sockets v.deadlines.next s.token s t v a l h)
+  adapter_counts s t v (Unregistered a) l fits below (inr h) =
+      (tt, gone_still sockets v.deadlines.next s.token (and_did (SettledSo IsToLeave) s) t v a l h)
   adapter_counts s t v (Slept gs a) l fits below h = (tt, rw h.1 (λ counter. tt))
   adapter_counts s t v (Noticed es) l fits below h = (tt, rw h.0 (λ counter. tt))
   adapter_counts s t v (Turned i token turn) l fits below h = (tt, rw h.3 (λ counter. tt))
@@ -130,11 +170,16 @@ module _ {P R I X Q : Type 0} (sockets : Sockets P I) where
   adapter_stays r s t v (Registered f (Ok u) g) l begins h = first_home r s.token s t f g l begins h
   adapter_stays r s t v (Registered f (Err e) g) l begins h =
       in_home r s.token s t f g (Err e) l begins.1 begins.0 h
-  adapter_stays r s t v (Reregistered f a g) l begins h = up_home sockets r s t v l begins.0 h.2
-  adapter_stays r s t v (Unregistered a) l home h = left_home sockets r s.token s t v a l home home h
+  adapter_stays r s t v (Reregistered f (Ok u) g) l begins h =
+      settled_home sockets r h.1.0 (and_did (SettledSo h.1.0) s) t v l begins.0 h.1.1
+  adapter_stays r s t v (Reregistered f (Err e) g) l begins h = rw (h.2, h.3) (begins.0, tt)
+  adapter_stays r s t v (Unregistered a) l home (inl h) = left_home sockets r s.token s t v a l home home h
+  adapter_stays r s t v (Unregistered a) l home (inr h) =
+      gone_home sockets r s.token (and_did (SettledSo IsToLeave) s) t v a l home home h
   adapter_stays r s t v (Slept gs a) l home h = rw (h.1, h.2) (home, tt)
   adapter_stays r s t v (Noticed es) l home h = rw (h.0, h.1) (home, tt)
-  adapter_stays r s t v (Turned i token turn) l home h = rw (h.3, h.4) (home, tt)
+  adapter_stays r s t v (Turned i token turn) l home h =
+      (heard_home r s.token token i s t home h.4, rw h.3 tt)
 
   pub adapter_keeps : IsKeeping (adapter_meaning {P = P} {R = R} {I = I} sockets {X = X} {Q = Q})
   adapter_keeps =

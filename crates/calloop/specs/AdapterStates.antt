@@ -1,13 +1,16 @@
 -- What the two ends of an adapter know of it. From calloop's `IoDispatcher`, which calls the poller at once: here what a
 -- poll waits for, and its drop, are marked, and the loop takes them up before its next wait.
-use Rattle.std.specs.Prelude.{Bool, true, false, ◌&&◌, ◌||◌, if◌then◌else◌, Option, Some, None, Result, Ok, Err}
+use Rattle.std.specs.Prelude.{Bool, true, false, ◌&&◌, ◌||◌, if◌then◌else◌, is_some, Option, Some, None, Result, Ok, Err}
 use Rattle.calloop_wake.specs.declared.error.Error.{Error}
 use Rattle.calloop_core.specs.declared.sys.Interest.{Interest}
 use Rattle.calloop_core.specs.declared.sys.Readiness.{Readiness}
 use Rattle.calloop.specs.declared.io.state.State.{State}
 use Rattle.calloop.specs.declared.io.refusal.Refusal.{Refusal}
-use Rattle.calloop.specs.declared.io.state.Settled.{Settled}
-use Rattle.calloop.specs.declared.io.state.Settled.TheVariants.{Stays, Registers, Leaves}
+use Rattle.calloop.specs.declared.io.state.Home.{Home}
+use Rattle.calloop.specs.declared.futures.task.Waker.{Waker}
+use Rattle.calloop.specs.declared.io.notes.Settled.{Settled}
+use Rattle.calloop.specs.declared.io.notes.Settled.TheVariants.{Stays, Registers, Leaves}
+use Rattle.logbook.specs.Pages.{Book}
 
 -- what was found answers a wait for this
 abbrev pub suits : Interest → Readiness → Bool
@@ -38,3 +41,34 @@ abbrev pub settled_by : (marked dropped : Bool) → Option Interest → Settled
 settled_by false dropped interest = Stays
 settled_by true true interest = Leaves
 settled_by true false interest = waiting_for interest
+
+abbrev pub error_of : Refusal → Error
+error_of kept = kept.error
+
+-- nothing was done to it yet, and it is in no loop
+abbrev pub fresh_state : {R : Type 0} → Book → State R
+fresh_state name =
+    record {
+      interest = None;
+      readiness = nothing_found;
+      waker = None;
+      refusal = None;
+      marked = false;
+      dropped = false;
+      leaving = false;
+      home = None;
+      name = name;
+    }
+
+-- a poll waits for this, in the place of an older one, and the adapter is marked where it is in a loop
+abbrev pub after_wait : {R : Type 0} → Interest → Waker R → State R → State R
+after_wait wanted waker s =
+    record s { interest = Some wanted; waker = Some waker; marked = s.marked || is_some s.home }
+
+-- it comes into a loop, and is marked there
+abbrev pub after_coming : {R : Type 0} → Home → State R → State R
+after_coming home s = record s { home = Some home; marked = true }
+
+-- its other end is gone, and it is marked where it is in a loop
+abbrev pub after_drop : {R : Type 0} → State R → State R
+after_drop s = record s { dropped = true; marked = s.marked || is_some s.home }

@@ -1,6 +1,6 @@
 -- An adapter in its slot: its registration, its settling and its turn. From calloop's `IoDispatcher`, which registers and
 -- unregisters at once; this one is told by its loop when to. Its socket lies under a lock, so what it is, each relation leaves open.
-use Rattle.std.specs.Prelude.{◌≡◌, ◌⊎◌, ◌||◌, List, [], Bool, true, false, is_ok, Option, Some, None, Result, Ok, Err}
+use Rattle.std.specs.Prelude.{◌≡◌, ◌⊎◌, List, [], Bool, true, false, Option, Some, None, Result, Ok, Err}
 use Rattle.std.specs.declared.io.ErrorKind.TheVariants.{AlreadyExists, NotFound}
 use Rattle.calloop_wake.specs.declared.error.Error.{Error}
 use Rattle.calloop_wake.specs.declared.error.Error.TheVariants.{InvalidToken, OutOfMemory, TooManyTokens}
@@ -8,12 +8,11 @@ use Rattle.calloop_wake.specs.declared.token.Token.{Token}
 use Rattle.calloop_wake.specs.declared.token.TokenFactory.{TokenFactory}
 use Rattle.calloop_wake.specs.Tokens.{next_token, after_token, most_tokens}
 use Rattle.calloop_core.specs.declared.sys.Interest.{Interest}
-use Rattle.calloop_core.specs.declared.sys.Watched.{Watched}
-use Rattle.calloop_core.specs.declared.sys.Mode.TheVariants.{OneShot}
+use Rattle.calloop_core.specs.declared.sys.Readiness.{Readiness}
 use Rattle.calloop_core.specs.declared.sources.PostAction.TheVariants.{Continue}
 use Rattle.calloop_core.specs.declared.sources.Role.TheVariants.{Adapter as AsAdapter}
 use Rattle.calloop_core.specs.Pollers.{Sockets}
-use Rattle.calloop_core.specs.Tables.{Edit, Enter, Change, Leave}
+use Rattle.calloop_core.specs.Tables.{Leave}
 use Rattle.calloop_core.specs.Polls.{PollView, PollStep, IsOfKind}
 use Rattle.calloop_core.specs.Registering.{Edits}
 use Rattle.calloop_core.specs.Generics.{under_token}
@@ -21,14 +20,12 @@ use Rattle.calloop_core.specs.Holdings.{holds_none}
 use Rattle.calloop_core.specs.Deeds.{Deed, Registered, Reregistered, Unregistered, Turned, SaysNothing, Slept, Noticed, Lent}
 use Rattle.calloop_core.specs.Meanings.{Meaning}
 use Rattle.calloop.specs.declared.io.adapter.Adapter.{Adapter}
-
-abbrev pub once : Interest → Watched
-once interest = record { interest = interest; mode = OneShot }
-
--- how its interest is registered under its token: first, or anew, also where it is the same
-abbrev pub taking_up : Token → (entered : Bool) → Interest → Edit
-taking_up token false interest = Enter token (once interest)
-taking_up token true interest = Change token token (once interest)
+use Rattle.calloop.specs.declared.io.notes.SlotNote.{SlotNote}
+use Rattle.calloop.specs.declared.io.notes.SlotNote.TheVariants.{Heard, Settled as SettledSo, Kept, Asked, Reached}
+use Rattle.calloop.specs.declared.io.notes.Settled.{Settled}
+use Rattle.calloop.specs.declared.io.notes.Settled.TheVariants.{Stays, Registers as RegistersFor, Leaves as IsToLeave}
+use Rattle.calloop.specs.AdapterNotes.{slotted}
+use Rattle.calloop.specs.TakingUp.{taking_up}
 
 -- refused, and nothing was done
 abbrev pub IsRefusedSo : {P S : Type 0} → S → Result (Unit {0}) Error → (Error → Type 0) → List (PollStep P) → S → Type 0
@@ -61,38 +58,67 @@ module _ {P R I : Type 0} where
   left_so (Ok u) s = registered_nowhere s
   left_so (Err e) s = s
 
+  -- what it did under its lock besides
+  abbrev pub and_did : SlotNote → Adapter P R I → Adapter P R I
+  and_did note s = record s { end = slotted note s.end }
+
+  -- its registration succeeded, or is kept as refused
+  abbrev pub told_so : Result (Unit {0}) Error → Adapter P R I → Adapter P R I
+  told_so (Ok u) s = record s { entered = true }
+  told_so (Err e) s = and_did (Kept e) s
+
+  -- an event of its own token is kept, and wakes who waits
+  abbrev pub HearsSo : Option Token → Token → Readiness → Adapter P R I → Adapter P R I → Type 0
+  HearsSo own token found s t =
+      ((own ≡ Some token) × (t ≡ and_did (Heard found) s)) ⊎ ((own ≡ Some token → ⊥) × (t ≡ s))
+
 module _ {P R I : Type 0} (sockets : Sockets P I) where
-  -- What its last poll waits for is registered; a refusal, which it keeps, leaves its registration as it was.
-  abbrev pub TakesUpAt : Option Token → Adapter P R I → PollView P → List (PollStep P) → Adapter P R I → Type 0
-  TakesUpAt None s v steps t = ⊥
-  TakesUpAt (Some token) s v steps t =
-      (interest : Interest) × (io : I) × (io' : I) × (told : Result (Unit {0}) Error)
+  -- It is registered for this, where its socket is there; a refusal, which it keeps, leaves its registration as it was.
+  abbrev pub Registers : Interest → Option Token → Adapter P R I → PollView P → List (PollStep P) → Adapter P R I → Type 0
+  Registers interest None s v steps t = (steps ≡ []) × (t ≡ s)
+  Registers interest (Some token) s v steps t =
+      ((steps ≡ []) × (t ≡ and_did (Reached false) s))
+      ⊎ ((io : I) × (io' : I) × (told : Result (Unit {0}) Error)
       × Edits sockets v (taking_up token s.entered interest) io told steps io'
-      × (t ≡ record s { entered = s.entered || is_ok told })
+      × (t ≡ told_so told (and_did (Reached true) s)))
 
-  -- or nothing waits, or its socket isn't there
+  -- what its settling found is done
+  abbrev pub SettlesTo : Settled → Adapter P R I → PollView P → List (PollStep P) → Adapter P R I → Type 0
+  SettlesTo Stays s v steps t = (steps ≡ []) × (t ≡ s)
+  SettlesTo (RegistersFor interest) s v steps t = Registers interest s.token s v steps t
+  SettlesTo IsToLeave s v steps t = ⊥
+
+  -- it is settled: what that found is what its state holds, as the twin notes
   abbrev pub TakesUp : Adapter P R I → PollView P → List (PollStep P) → Adapter P R I → Type 0
-  TakesUp s v steps t = ((steps ≡ []) × (t ≡ s)) ⊎ TakesUpAt s.token s v steps t
+  TakesUp s v steps t = (found : Settled) × SettlesTo found (and_did (SettledSo found) s) v steps t
 
-  -- One that isn't being given back, and wasn't dropped, doesn't leave.
+  -- One that isn't being given back doesn't leave.
   abbrev pub Leaves : Option Token → Adapter P R I → PollView P → Result (Unit {0}) Error → List (PollStep P)
       → Adapter P R I → Type 0
   Leaves None s v answer steps t = IsRefusedSo s answer (IsOfKind NotFound) steps t
   Leaves (Some own) s v answer steps t =
-      IsRefusedSo s answer (λ e. e ≡ InvalidToken) steps t
-      ⊎ (TakenOut sockets s.entered own v answer steps × (t ≡ left_so answer s))
+      IsRefusedSo (and_did (Asked false) s) answer (λ e. e ≡ InvalidToken) steps t
+      ⊎ (TakenOut sockets s.entered own v answer steps × (t ≡ left_so answer (and_did (Asked true) s)))
+
+  -- its other end is gone
+  abbrev pub Goes : Option Token → Adapter P R I → PollView P → Result (Unit {0}) Error → List (PollStep P)
+      → Adapter P R I → Type 0
+  Goes None s v told steps t = (steps ≡ []) × (t ≡ s)
+  Goes (Some own) s v told steps t = TakenOut sockets s.entered own v told steps × (t ≡ left_so told s)
 
   module _ {X Q : Type 0} where
     -- its turn keeps what was found, which lies under a lock, and calls nobody but who waits for it
     abbrev pub IsAdapter : Adapter P R I → PollView P → Deed (Lent X Q) → List (PollStep P) → Adapter P R I → Type 0
     IsAdapter s v (Registered f answer g) steps t = ComesIn s.token s f answer steps t g
-    IsAdapter s v (Reregistered f answer g) steps t = (answer ≡ Ok tt) × (g ≡ f) × TakesUp s v steps t
-    IsAdapter s v (Unregistered answer) steps t = Leaves s.token s v answer steps t
+    IsAdapter s v (Reregistered f (Ok u) g) steps t = (g ≡ f) × TakesUp s v steps t
+    IsAdapter s v (Reregistered f (Err e) g) steps t = (e ≡ InvalidToken) × (g ≡ f) × (steps ≡ []) × (t ≡ s)
+    IsAdapter s v (Unregistered answer) steps t =
+        Leaves s.token s v answer steps t ⊎ Goes s.token (and_did (SettledSo IsToLeave) s) v answer steps t
     IsAdapter s v (Slept given answer) steps t = SaysNothing given answer × (steps ≡ []) × (t ≡ s)
     IsAdapter s v (Noticed events) steps t = (steps ≡ []) × (t ≡ s)
     IsAdapter s v (Turned readiness token turn) steps t =
         (turn.answer ≡ Ok Continue) × (turn.after ≡ turn.before) × (turn.asked_after ≡ turn.asked_before)
-        × (steps ≡ []) × (t ≡ s)
+        × (steps ≡ []) × HearsSo s.token token readiness s t
 
     abbrev pub adapter_meaning : Meaning (Adapter P R I) P (Lent X Q)
     adapter_meaning =

@@ -5,7 +5,7 @@ use Rattle.std.specs.Prelude.{◌≡◌, ℕ, false, true, List, [], ◌∷◌, 
 use Rattle.logbook.specs.Pages.{Book}
 use Rattle.calloop_wake.specs.declared.error.Error.TheVariants.{OutOfMemory}
 use Rattle.calloop_wake.specs.declared.list.Content.TheVariants.{Source, InTurn}
-use Rattle.calloop_wake.specs.declared.wake.notes.Note.TheVariants.{Counted, Looked}
+use Rattle.calloop_wake.specs.declared.wake.notes.Note.TheVariants.{Counted, Looked, Marked}
 use Rattle.calloop_wake.specs.Tokens.{key_of}
 use Rattle.calloop_wake.specs.Watches.{noted}
 use Rattle.calloop_core.specs.declared.sources.PostAction.TheVariants.{Continue, Reregister}
@@ -15,7 +15,7 @@ use Rattle.calloop_core.specs.declared.sys.Watched.{Watched}
 use Rattle.calloop_core.specs.Deeds.{Lent}
 use Rattle.calloop_core.specs.Meanings.{Meaning, still}
 use Rattle.calloop_core.specs.Pollers.{Outside}
-use Rattle.calloop_core.specs.Polls.{Socket, counted, ready_to_read}
+use Rattle.calloop_core.specs.Polls.{Socket, counted, marks_taken, ready_to_read}
 use Rattle.calloop_core.specs.Tables.{Enter}
 use Rattle.calloop.specs.declared.loop_logic.LoopCall.{LoopCall}
 use Rattle.calloop.specs.declared.loop_logic.LoopCall.TheVariants.{Insert, Dispatch}
@@ -72,10 +72,10 @@ two_found_but_one = (key_of first_token, ready_to_read) ∷ []
 -- a step of the dispatch a list
 abbrev pub failing_dispatch : Book → List (List SmallChange)
 failing_dispatch name =
-    (Counting 0 ∷ Holds Cleared ∷ [])
+    (Counting 0 ∷ Holds Cleared ∷ Watching (noted (Marked []) (record { name = name; notes = Counted 0 ∷ [] })) ∷ [])
     ∷ []
     ∷ []
-    ∷ (Polling tt ∷ Watching (noted (Looked false) (record { name = name; notes = Counted 0 ∷ [] })) ∷ [])
+    ∷ (Polling tt ∷ Watching (noted (Looked false) (record { name = name; notes = Counted 0 ∷ Marked [] ∷ [] })) ∷ [])
     ∷ (Gathered [] two_found 5 ∷ [])
     ∷ []
     ∷ (Cut (Some 0)
@@ -95,10 +95,10 @@ behind_the_failure name = all_traced (all_traced (untouched name) busy_insertion
 
 abbrev pub dispatch_of_the_rest : Book → List (List SmallChange)
 dispatch_of_the_rest name =
-    (Counting 0 ∷ Holds Cleared ∷ [])
+    (Counting 0 ∷ Holds Cleared ∷ Watching (noted (Marked []) (counted 0 (behind_the_failure name).poll).watch) ∷ [])
     ∷ []
     ∷ []
-    ∷ (Polling tt ∷ Watching (noted (Looked false) (counted 0 (behind_the_failure name).poll).watch) ∷ [])
+    ∷ (Polling tt ∷ Watching (noted (Looked false) (marks_taken [] (counted 0 (behind_the_failure name).poll)).watch) ∷ [])
     ∷ (Gathered [] [] 6 ∷ [])
     ∷ []
     ∷ (Cut (Some 0) ∷ Put 0 InTurn ∷ Polls [] ∷ Ended ∷ Holds (Asking []) ∷ [])

@@ -4,7 +4,7 @@ use Rattle.std.specs.Prelude.{◌≡◌, false, true, List, [], ◌∷◌, Some,
 use Rattle.logbook.specs.Pages.{Book}
 use Rattle.calloop_wake.specs.declared.error.Error.TheVariants.{OutOfMemory}
 use Rattle.calloop_wake.specs.declared.wheel.Instant.{Instant}
-use Rattle.calloop_wake.specs.declared.wake.notes.Note.TheVariants.{Counted, Looked}
+use Rattle.calloop_wake.specs.declared.wake.notes.Note.TheVariants.{Counted, Looked, Marked}
 use Rattle.calloop_wake.specs.declared.list.Content.TheVariants.{Vacant, Source, InTurn}
 use Rattle.calloop_wake.specs.Watches.{noted}
 use Rattle.calloop_core.specs.declared.sources.Dispatcher.{Dispatcher}
@@ -123,10 +123,10 @@ of_the_exchange = (Swapped 0 as_armed as_changed ∷ []) ∷ []
 -- a step of the dispatch a list
 abbrev pub of_the_dispatch : Book → List (List Its)
 of_the_dispatch name =
-    (Counting 0 ∷ Holds Cleared ∷ [])
+    (Counting 0 ∷ Holds Cleared ∷ Watching (noted (Marked []) (record { name = name; notes = Counted 0 ∷ [] })) ∷ [])
     ∷ []
     ∷ []
-    ∷ (Polling tt ∷ Watching (noted (Looked false) (record { name = name; notes = Counted 0 ∷ [] })) ∷ [])
+    ∷ (Polling tt ∷ Watching (noted (Looked false) (record { name = name; notes = Counted 0 ∷ Marked [] ∷ [] })) ∷ [])
     ∷ (Gathered [] [] 5 ∷ [])
     ∷ []
     ∷ (Cut (Some 0) ∷ Put 0 InTurn ∷ Polls (Call 0 five ∷ []) ∷ Ended ∷ Holds (Asking []) ∷ [])

@@ -11,9 +11,9 @@ use Rattle.calloop_core.specs.Meanings.{IsKeeping}
 use Rattle.calloop_core.specs.Polls.{PollStep}
 use Rattle.calloop.specs.declared.futures.errors.ExecutorError.{ExecutorError}
 use Rattle.calloop.specs.CellKeeping.{IsQuietTurn, TurnsQuietly, cell_keeps}
-use Rattle.calloop.specs.Executors.{ResultCalls, Answered, Opened, Refused, AnsweredSo, ExecutorTurnWith, ExecutorTurnFor, ExecutorTurns, ExecutorTakes, executor_meaning}
+use Rattle.calloop.specs.Executors.{ResultCalls, OfPop, Answered, Opened, Refused, AnsweredSo, ExecutorTurnWith, ExecutorTurnFor, ExecutorTurns, ExecutorTakes, executor_meaning}
 
-answered_quiet : {P O : Type 0} (given : O → Type 0) (answered : Answered O) (p : Taken) (before after : Twin) (cs : ResultCalls O)
+answered_quiet : {P O : Type 0} (given : OfPop O → Type 0) (answered : Answered O) (p : Taken) (before after : Twin) (cs : ResultCalls O)
     (action : PostAction) (l : List (PollStep P)) → AnsweredSo given answered p before cs action l after
     → IsQuietTurn before after l
 answered_quiet given (Opened polled) p before after cs action l h =
@@ -21,30 +21,30 @@ answered_quiet given (Opened polled) p before after cs action l h =
 answered_quiet given Refused p before after cs action l h =
     record { key = ap (λ x. x.key) h.3; counters = λ next. rw h.2 (λ counter. tt); own = λ r. rw h.2 (tt, (tt, tt)) }
 
-with_quiet : {P O : Type 0} (given : O → Type 0) (pass : Option Taken) (before after : Twin) (cs : ResultCalls O) (action : PostAction)
+with_quiet : {P O : Type 0} (given : OfPop O → Type 0) (pass : Option Taken) (before after : Twin) (cs : ResultCalls O) (action : PostAction)
     (l : List (PollStep P)) → ExecutorTurnWith given pass before cs action l after → IsQuietTurn before after l
 with_quiet given None before after cs action l h =
     record { key = ap (λ x. x.key) h.3; counters = λ next. rw h.2 (λ counter. tt); own = λ r. rw h.2 (tt, tt) }
 with_quiet given (Some p) before after cs action l h = answered_quiet given h.0 p before after cs action l h.1
 
-for_quiet : {P O : Type 0} (given : O → Type 0) (is_own : Bool) (pass : Option Taken) (before after : Twin) (cs : ResultCalls O)
+for_quiet : {P O : Type 0} (given : OfPop O → Type 0) (is_own : Bool) (pass : Option Taken) (before after : Twin) (cs : ResultCalls O)
     (action : PostAction) (l : List (PollStep P)) → ExecutorTurnFor given is_own pass before cs action l after
     → IsQuietTurn before after l
 for_quiet given true pass before after cs action l h = with_quiet given pass before after cs action l h
 for_quiet given false pass before after cs action l h =
     record { key = ap (λ x. x.key) h.3; counters = λ next. rw h.2 (λ counter. tt); own = λ r. rw h.2 tt }
 
-turn_quiet : {P O : Type 0} (given : O → Type 0) (k : Token) (pass : Option Taken) (before after : Twin) (cs : ResultCalls O)
+turn_quiet : {P O : Type 0} (given : OfPop O → Type 0) (k : Token) (pass : Option Taken) (before after : Twin) (cs : ResultCalls O)
     (a : Result PostAction ExecutorError) (l : List (PollStep P)) → ExecutorTurns given before k pass cs a l after
     → IsQuietTurn before after l
 turn_quiet given k pass before after cs (Ok action) l h =
     for_quiet given (is_own (key_of k) before.key) pass before after cs action l h
 turn_quiet given k pass before after cs (Err e) l h = absurd h
 
-executor_quiet : {S P O : Type 0} (given : O → Type 0) (twin : S → Twin) → TurnsQuietly {P = P} twin (ExecutorTakes given twin)
+executor_quiet : {S P O : Type 0} (given : OfPop O → Type 0) (twin : S → Twin) → TurnsQuietly {P = P} twin (ExecutorTakes given twin)
 executor_quiet given twin s v token turn steps after h =
     turn_quiet given token v.pass (twin s) after turn.calls turn.answer steps h
 
-pub executor_keeps : {S P O : Type 0} (given : O → Type 0) (twin : S → Twin) (Same : S → S → Type 0)
+pub executor_keeps : {S P O : Type 0} (given : OfPop O → Type 0) (twin : S → Twin) (Same : S → S → Type 0)
     → IsKeeping (executor_meaning {S = S} {P = P} given twin Same)
 executor_keeps given twin Same = cell_keeps twin Same (ExecutorTakes given twin) (executor_quiet given twin)

@@ -1,5 +1,5 @@
 -- What an executor means as a source. Its registrations are those of every cell.
-use Rattle.std.specs.Prelude.{◌≡◌, ℕ, ◌+◌, ◌≤◌, Bool, true, false, List, [], ◌∷◌, ◌++◌, length, Option, None, Some, IfSome, is_some, Result, Ok, Err}
+use Rattle.std.specs.Prelude.{◌≡◌, ℕ, ◌+◌, ◌≤◌, Bool, true, false, List, [], ◌∷◌, ◌++◌, length, Option, None, Some, Result, Ok, Err}
 use Rattle.calloop_wake.specs.declared.token.Token.{Token}
 use Rattle.calloop_wake.specs.declared.wake.Twin.{Twin}
 use Rattle.calloop_wake.specs.Tokens.{key_of}
@@ -13,81 +13,110 @@ use Rattle.calloop_core.specs.Deeds.{Heard}
 use Rattle.calloop_core.specs.Meanings.{Meaning}
 use Rattle.calloop_core.specs.Polls.{PollStep, TakePass, PutBack}
 use Rattle.calloop.specs.declared.futures.errors.ExecutorError.{ExecutorError}
+use Rattle.calloop.specs.declared.futures.task.Poll.{Poll}
+use Rattle.calloop.specs.declared.futures.task.Poll.TheVariants.{Ready, Pending}
 use Rattle.calloop.specs.CellSources.{CellTurns, cell_meaning}
 
 -- the calls of an executor's callback, by what its futures give
 abbrev pub ResultCalls : Type 0 → Type 0
 ResultCalls O = List (CallbackCall O (Unit {0}) (Unit {0}))
 
--- the call of one poll: with what the future gave, or none where it is pending
-abbrev pub call_of : {O : Type 0} → Option O → ResultCalls O
-call_of None = []
-call_of (Some x) = record { event = x; before = tt; after = tt; answer = tt } ∷ []
+-- what came of one pop of a turn
+pub data OfPop (O : Type 0) : Type 0 where
+  -- its task's future was polled, and gave this
+  Gave : (x : O) → OfPop O
+  -- it was polled, and is pending
+  Pends : OfPop O
+  -- it is still to come, so nothing was polled
+  Lacks : OfPop O
+
+abbrev pub gave : {O : Type 0} → OfPop O → Bool
+gave (Gave x) = true
+gave Pends = false
+gave Lacks = false
+
+abbrev pub lacks : {O : Type 0} → OfPop O → Bool
+lacks (Gave x) = false
+lacks Pends = false
+lacks Lacks = true
+
+-- the call of one pop: with what the future gave, or none
+abbrev pub call_of : {O : Type 0} → OfPop O → ResultCalls O
+call_of (Gave x) = record { event = x; before = tt; after = tt; answer = tt } ∷ []
+call_of Pends = []
+call_of Lacks = []
 
 -- what the polls of a turn gave, in order: their calls
-abbrev pub calls_of : {O : Type 0} → List (Option O) → ResultCalls O
+abbrev pub calls_of : {O : Type 0} → List (OfPop O) → ResultCalls O
 calls_of [] = []
 calls_of (p ∷ ps) = call_of p ++ calls_of ps
 
 -- how many of them gave a result
-abbrev pub results_of : {O : Type 0} → List (Option O) → ℕ
+abbrev pub results_of : {O : Type 0} → List (OfPop O) → ℕ
 results_of [] = 0
-results_of (p ∷ ps) = one (is_some p) + results_of ps
+results_of (p ∷ ps) = one (gave p) + results_of ps
 
--- a result that a future may give
-abbrev pub GivenBy : {F O : Type 0} → (gives : F → O → Type 0) → O → Type 0
-GivenBy {F} gives x = (future : F) × gives future x
+-- of how many of them the future was still to come
+abbrev pub misses_of : {O : Type 0} → List (OfPop O) → ℕ
+misses_of [] = 0
+misses_of (p ∷ ps) = one (lacks p) + misses_of ps
 
--- what the polls of a turn gave, where each result is so
-abbrev pub AllGiven : {O : Type 0} → (given : O → Type 0) → List (Option O) → Type 0
+-- What comes of a future of the executor's type: a result that it may give, by a poll that it may make; or it is pending after such a one.
+abbrev pub ComesOf : {F O : Type 0} → (gives : F → O → Type 0) → (polls : F → Poll O → F → Type 0) → OfPop O → Type 0
+ComesOf {F} gives polls (Gave x) = (future : F) × (after : F) × polls future (Ready x) after × gives future x
+ComesOf {F} gives polls Pends = (future : F) × (after : F) × polls future Pending after
+ComesOf gives polls Lacks = Unit {0}
+
+-- what came of the pops of a turn, where each is so
+abbrev pub AllGiven : {O : Type 0} → (given : OfPop O → Type 0) → List (OfPop O) → Type 0
 AllGiven given [] = Unit {0}
-AllGiven given (p ∷ ps) = IfSome p given × AllGiven given ps
+AllGiven given (p ∷ ps) = given p × AllGiven given ps
 
 -- what the cell answers to a pass
 pub data Answered (O : Type 0) : Type 0 where
   -- a turn, with what the polls of its tasks gave
-  Opened : (polled : List (Option O)) → Answered O
+  Opened : (polled : List (OfPop O)) → Answered O
   -- no turn: the pass is of another key, or a turn stands open
   Refused : Answered O
 
 -- At most 1,024 tasks are polled, in queue order, and the callback is called with each result, one that some future of the executor's type
 -- may give; the twin counts just these. The source always goes on. calloop's process_events is this loop over its runnables.
-abbrev pub AnsweredSo : {P O : Type 0} → (given : O → Type 0) → Answered O → Taken → Twin → ResultCalls O → PostAction
+abbrev pub AnsweredSo : {P O : Type 0} → (given : OfPop O → Type 0) → Answered O → Taken → Twin → ResultCalls O → PostAction
     → List (PollStep P) → Twin → Type 0
 AnsweredSo given (Opened polled) p twin calls action steps after =
     (length polled ≤ most_tasks) × (calls ≡ calls_of polled) × (action ≡ Continue) × (steps ≡ TakePass ∷ [])
-    × (after ≡ record twin { turns = twin.turns + 1; number = twin.number + results_of polled })
+    × (after ≡ record twin { turns = twin.turns + 1; number = twin.number + results_of polled; misses = twin.misses + misses_of polled })
     × AllGiven given polled
 AnsweredSo given Refused p twin calls action steps after =
     (calls ≡ []) × (action ≡ Continue)
     × (steps ≡ TakePass ∷ PutBack (record p { refused = Some twin.name }) ∷ []) × (after ≡ twin)
 
-abbrev pub ExecutorTurnWith : {P O : Type 0} → (given : O → Type 0) → Option Taken → Twin → ResultCalls O → PostAction
+abbrev pub ExecutorTurnWith : {P O : Type 0} → (given : OfPop O → Type 0) → Option Taken → Twin → ResultCalls O → PostAction
     → List (PollStep P) → Twin → Type 0
 ExecutorTurnWith given None twin calls action steps after =
     (calls ≡ []) × (action ≡ Continue) × (steps ≡ TakePass ∷ []) × (after ≡ twin)
 ExecutorTurnWith {P} {O} given (Some p) twin calls action steps after =
     (answered : Answered O) × AnsweredSo given answered p twin calls action steps after
 
-abbrev pub ExecutorTurnFor : {P O : Type 0} → (given : O → Type 0) → (is_own : Bool) → Option Taken → Twin → ResultCalls O
+abbrev pub ExecutorTurnFor : {P O : Type 0} → (given : OfPop O → Type 0) → (is_own : Bool) → Option Taken → Twin → ResultCalls O
     → PostAction → List (PollStep P) → Twin → Type 0
 ExecutorTurnFor given true pass twin calls action steps after = ExecutorTurnWith given pass twin calls action steps after
 ExecutorTurnFor given false pass twin calls action steps after =
     (calls ≡ []) × (action ≡ Continue) × (steps ≡ []) × (after ≡ twin)
 
 -- a turn, which never fails: under another token nothing, without a pass nothing, else by what the cell answers to the pass
-abbrev pub ExecutorTurns : {P O : Type 0} → (given : O → Type 0) → Twin → Token → Option Taken → ResultCalls O
+abbrev pub ExecutorTurns : {P O : Type 0} → (given : OfPop O → Type 0) → Twin → Token → Option Taken → ResultCalls O
     → Result PostAction ExecutorError → List (PollStep P) → Twin → Type 0
 ExecutorTurns given twin token pass calls (Ok action) steps after =
     ExecutorTurnFor given (is_own (key_of token) twin.key) pass twin calls action steps after
 ExecutorTurns given twin token pass calls (Err e) steps after = ⊥
 
 -- a turn of an executor, a source of which this is the twin
-abbrev pub ExecutorTakes : {S P O : Type 0} → (given : O → Type 0) → (twin : S → Twin)
+abbrev pub ExecutorTakes : {S P O : Type 0} → (given : OfPop O → Type 0) → (twin : S → Twin)
     → CellTurns S P (Heard O (Unit {0}) (Unit {0}) ExecutorError)
 ExecutorTakes given twin s v token turn steps after =
     ExecutorTurns given (twin s) token v.pass turn.calls turn.answer steps after
 
-abbrev pub executor_meaning : {S P O : Type 0} → (given : O → Type 0) → (twin : S → Twin) → (Same : S → S → Type 0)
+abbrev pub executor_meaning : {S P O : Type 0} → (given : OfPop O → Type 0) → (twin : S → Twin) → (Same : S → S → Type 0)
     → Meaning S P (Heard O (Unit {0}) (Unit {0}) ExecutorError)
 executor_meaning given twin Same = cell_meaning twin Same (ExecutorTakes given twin)

@@ -36,6 +36,9 @@ pub mod Streams
 pub mod Blocking
 pub mod Timeouts
 pub mod Refusals
+pub mod TakingUp
+pub mod AdapterNotes
+pub mod AsyncPolls
 pub mod AdapterStates
 pub mod Adapters
 pub mod AdapterKeeping

@@ -10,6 +10,7 @@ use Rattle.calloop_wake.specs.declared.list.Slot.{Slot}
 use Rattle.calloop_wake.specs.Slots.{changed, first_changed, with_content, claimed, is_empty}
 use Rattle.calloop_core.specs.Batches.{ArePosted}
 use Rattle.calloop_wake.specs.declared.wake.watch.Watch.{Watch}
+use Rattle.calloop_wake.specs.declared.token.RegistrationToken.{RegistrationToken}
 use Rattle.calloop_core.specs.declared.sources.PostAction.TheVariants.{Continue}
 use Rattle.calloop_core.specs.declared.sys.Readiness.{Readiness}
 use Rattle.calloop_core.specs.declared.sys.poll.Pending.{Pending}
@@ -26,6 +27,7 @@ use Rattle.calloop_core.specs.Polls.{
   watching,
   counted,
   with_pass,
+  marks_taken,
   cut,
 }
 use Rattle.calloop.specs.Held.{Held, HeldStep, Asking, held_after}
@@ -79,6 +81,10 @@ view_of l =
           };
       signal = (arc_value l.signal.shared).name;
     }
+
+-- these marks were taken
+abbrev pub taking : {D I P : Type 0} → List RegistrationToken → View D I P → View D I P
+taking taken v = record v { poll = marks_taken taken v.poll }
 
 -- every change of the state is one of these
 pub data Change (D I P : Type 0) : Type 0 where

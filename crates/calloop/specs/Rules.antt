@@ -54,7 +54,9 @@ use Rattle.calloop_core.specs.Pollers.{Outside, nanos_of}
 use Rattle.calloop_core.specs.Events.{events_of}
 use Rattle.calloop_core.specs.Polls.{PollView, PollStep, AllAllowed, own_event, cut}
 use Rattle.calloop_core.specs.Waits.{Waited}
-use Rattle.calloop_core.specs.SlotOrder.{IsInSlotOrder}
+use Rattle.calloop_core.specs.Marking.{AreTaken}
+use Rattle.calloop_wake.specs.Watches.{noted}
+use Rattle.calloop_wake.specs.declared.wake.notes.Note.TheVariants.{Counted, Marked}
 use Rattle.calloop.specs.declared.loop_logic.LoopCall.{LoopCall}
 use Rattle.calloop.specs.declared.loop_logic.LoopCall.TheVariants.{
   Insert,
@@ -508,7 +510,8 @@ RunFrom {D} {I} {P} {X} runs (i ∷ is) v x cs b =
 abbrev pub Step : {D I P X : Type 0} → Meaning D P (Lent X (Asks D I)) → Runs D I X → Outside P → View D I P → Doing D X
     → List (Change D I P) → Doing D X → Type 0
 Step M runs O v (Beginning timeout x) cs b =
-    (places : ℕ) × (marked : List RegistrationToken) × IsInSlotOrder marked × (cs ≡ Counting places ∷ Holds Cleared ∷ [])
+    (places : ℕ) × (marked : List RegistrationToken) × (taken : List RegistrationToken) × AreTaken taken marked
+    × (cs ≡ Counting places ∷ Holds Cleared ∷ Watching (noted (Marked taken) (noted (Counted places) v.poll.watch)) ∷ [])
     × (b ≡ Settling timeout marked x)
 Step M runs O v (Settling timeout [] x) cs b = (cs ≡ []) × (b ≡ Sleeping timeout v.held.lifecycle x)
 Step M runs O v (Settling timeout (t ∷ later) x) cs b =

@@ -4,7 +4,7 @@ use Rattle.std.specs.Prelude.{◌≡◌, ℕ, true, false, List, [], ◌∷◌, 
 use Rattle.logbook.specs.Pages.{Book}
 use Rattle.calloop_wake.specs.declared.list.Content.TheVariants.{Vacant, Source, InTurn}
 use Rattle.calloop_wake.specs.declared.token.RegistrationToken.{RegistrationToken}
-use Rattle.calloop_wake.specs.declared.wake.notes.Note.TheVariants.{Counted, Looked}
+use Rattle.calloop_wake.specs.declared.wake.notes.Note.TheVariants.{Counted, Looked, Marked}
 use Rattle.calloop_wake.specs.declared.wheel.Instant.{Instant}
 use Rattle.calloop_wake.specs.Deadlines.{entry_of}
 use Rattle.calloop_wake.specs.Tokens.{key_of}
@@ -378,14 +378,24 @@ settles slot =
     ∷ Put slot (Source tt)
     ∷ []
 
-abbrev pub begins : List SmallChange
-begins = Counting 0 ∷ Holds Cleared ∷ []
+-- both were marked, in this order
+abbrev pub two_marked : (first second : ℕ) → List RegistrationToken
+two_marked first second = record { slot = first; version = 0 } ∷ record { slot = second; version = 0 } ∷ []
 
-abbrev pub behind_a_settling : Book → List (List SmallChange)
-behind_a_settling name =
+abbrev pub begins : Book → (first second : ℕ) → List SmallChange
+begins name first second =
+    Counting 0
+    ∷ Holds Cleared
+    ∷ Watching (noted (Marked (two_marked first second)) (record { name = name; notes = Counted 0 ∷ [] }))
+    ∷ []
+
+abbrev pub behind_a_settling : Book → (first second : ℕ) → List (List SmallChange)
+behind_a_settling name first second =
     []
     ∷ []
-    ∷ (Polling tt ∷ Watching (noted (Looked false) (record { name = name; notes = Counted 0 ∷ [] })) ∷ [])
+    ∷ (Polling tt
+    ∷ Watching (noted (Looked false) (record { name = name; notes = Counted 0 ∷ Marked (two_marked first second) ∷ [] }))
+    ∷ [])
     ∷ (Gathered [] [] 5 ∷ [])
     ∷ []
     ∷ []
@@ -394,7 +404,7 @@ behind_a_settling name =
     ∷ []
 
 abbrev pub of_a_settling : Book → (first second : ℕ) → List (List SmallChange)
-of_a_settling name first second = begins ∷ settles first ∷ settles second ∷ behind_a_settling name
+of_a_settling name first second = begins name first second ∷ settles first ∷ settles second ∷ behind_a_settling name first second
 
 abbrev pub one_dispatch : List (LoopCall (Unit {0}) (Unit {0}) (Unit {0}) (Unit {0}))
 one_dispatch = Dispatch None tt ∷ []

@@ -12,7 +12,9 @@ use calloop_core::sys::hub::share;
 use calloop_wake::error::Result as LoopResult;
 use calloop_wake::wake::Twin;
 use calloop_wake::wake::executor::ExecutorCore;
-use homes::Homes;
+use calloop_wake::wake::homes::Homes;
+use calloop_wake::wake::locked::Locked;
+use homes::SharedHomes;
 use std::alloc::Global;
 use std::sync::{Arc, Wait};
 
@@ -35,9 +37,10 @@ pub use task::{Context, Future, Poll, Waker};
 pub struct Executor<Fut: Drop, R: Wait + Drop> {
     rt: R,
     shared: SharedCell<ExecutorCore>,
-    homes: Arc<Homes<Fut, R>, Global>,
+    homes: SharedHomes<Fut, R>,
     twin: Twin,
     ghost tied: { twin.name ≡ (arc_value shared).slot },
+    ghost housed: { (arc_value homes).slot ≡ (arc_value shared).slot },
 }
 
 /// An executor, which is registered nowhere, and a scheduler that hands it futures. `rt` is the runtime by which they lock what they
@@ -55,8 +58,9 @@ pub fn make_executor<Fut: Future<R>, R: Wait + Clone + Drop>(
 {
     let of_executor = rt.clone()?;
     let of_scheduler = rt.clone()?;
-    let homes = Arc::new(alloc, Homes::new(alloc))?;
-    let (locked, right) = cell::locked(alloc)?;
+    let (locked, right, keeping) = cell::locked(alloc)?;
+    let (homes, of_homes) = Homes::new(alloc, keeping);
+    let homes = Arc::new(alloc, Locked::new(alloc, homes, &of_homes)?)?;
     let shared = Arc::new(alloc, locked)?;
     let sender = add_sender(rt, &shared)?;
     let twin = receiver(rt, &shared, right);
@@ -78,6 +82,6 @@ impl<Fut: Drop, R: Wait + Drop> Drop for Executor<Fut, R> {
             twin,
         } = self;
         abandon(&rt, &shared, twin);
-        homes.close(&rt);
+        homes::close(&rt, &homes);
     }
 }

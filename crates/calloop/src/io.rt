@@ -2,43 +2,47 @@
 //!
 //! An adapter has two ends. The loop's stands in a slot; an `Async` is the other one, which polls the socket. What a poll waits for is
 //! registered by the loop, at the beginning of its next dispatch; calloop registers it at once.
-ghost use Rattle.std.specs.Prelude.{◌≡◌, None, false, Ok, IfOk, IfErr};
-ghost use Rattle.std.specs.Arc.{arc_value};
+ghost use Rattle.std.specs.Prelude.{◌≡◌, ◌⊎◌, [], None, false, OnOk, IfOk, IfErr};
 ghost use Rattle.std.specs.Io.{ReadsAtMost, WritesAtMost};
 ghost use Rattle.calloop_wake.specs.declared.error.Error.TheVariants.{OutOfMemory};
 ghost use Rattle.calloop.specs.Polled.{IfReady};
 ghost use Rattle.calloop.specs.Refusals.{IsAnswer};
+ghost use Rattle.calloop.specs.AdapterNotes.{polled};
+ghost use Rattle.calloop.specs.AsyncPolls.{WaitsFor, AnswersWith, Polls, to_read, to_write};
+ghost use Rattle.calloop.specs.declared.io.notes.PollNote.TheVariants.{Waits, Tried, Flushed};
 
 use crate::futures::{Context, Poll, Waker};
 use calloop_core::sys::{Interest, Poller};
 use calloop_wake::error::Result as LoopResult;
 use calloop_wake::token::RegistrationToken;
-use shared::Shared;
+use shared::PollEnd;
 use std::alloc::Global;
 use std::io;
 use std::io::{Read, Write};
-use std::sync::{Arc, MutexGuard, Wait};
+use std::sync::{MutexGuard, Wait};
 
 mod adapter;
+pub mod notes;
 mod ready;
 mod refusal;
 mod shared;
-mod state;
+pub mod state;
 
 pub use adapter::Adapter;
 pub use ready::{Readable, Writable};
 
 /// A socket that is polled as a future, with its end in a loop. Its drop takes the adapter out of the loop, at the beginning of the next
 /// dispatch; `LoopHandle::into_inner` does so at once, and hands the socket back.
+///
+/// In a clause `end` is what it did: each poll adds its notes, and nothing else makes one.
 pub struct Async<P: Poller, R: Wait + Drop> {
-    rt: R,
-    shared: Arc<Shared<P, R>, Global>,
+    end: PollEnd<P, R>,
 }
 
 impl<P: Poller, R: Wait + Drop> Drop for Async<P, R> {
     fn drop(self) {
-        let Async { rt, shared } = self;
-        shared.let_go(&rt);
+        let Async { end } = self;
+        end.let_go();
     }
 }
 
@@ -48,54 +52,39 @@ pub(crate) fn make_ends<P: Poller, R: Wait + Clone + Drop>(
     alloc: Global,
 ) -> LoopResult<(Adapter<P, R>, Async<P, R>)>
     ensures ok { IfOk result (λ made. (made.0.token ≡ None) × (made.0.entered ≡ false)
-        × (arc_value made.0.shared ≡ arc_value made.1.shared)) }
+        × (made.0.end.name ≡ made.1.end.name)) }
+    ensures notes { IfOk result (λ made. (made.0.end.notes ≡ []) × (made.1.end.notes ≡ [])) }
     ensures err { IfErr result (λ e. e ≡ OutOfMemory) }
 {
-    let of_adapter = rt.clone()?;
-    let of_async = rt.clone()?;
-    let shared = Arc::new(alloc, Shared::new())?;
-    let again = Arc::try_clone(&shared)?;
-    let adapter = Adapter::new(of_adapter, again);
-    Ok((
-        adapter,
-        Async {
-            rt: of_async,
-            shared,
-        },
-    ))
-}
-
-fn not_there() -> io::Error {
-    io::Error::from(io::ErrorKind::NotFound)
+    let (slot, poll) = shared::make_ends(rt, alloc)?;
+    Ok((Adapter::new(slot), Async { end: poll }))
 }
 
 impl<P: Poller, R: Wait + Drop> Async<P, R> {
     // The socket comes in.
     pub(crate) fn put(&self, io: P::Io) {
-        *self.shared.io.lock(&self.rt) = Some(io);
+        *self.end.io() = Some(io);
     }
 
     // The socket goes out.
     pub(crate) fn take(&self) -> Option<P::Io> {
-        self.shared.io.lock(&self.rt).take()
+        self.end.io().take()
     }
 
     // Its registration, where it is in a loop, from where it may be taken out now.
     pub(crate) fn begin_leaving(&self) -> Option<RegistrationToken> {
-        let token = self.shared.registration(&self.rt)?;
-        self.shared.set_leaving(&self.rt, true);
-        Some(token)
+        self.end.begin_leaving()
     }
 
     // It stays in its loop, if it is in one.
     pub(crate) fn stay(&self) {
-        self.shared.set_leaving(&self.rt, false);
+        self.end.stay();
     }
 
     /// The socket, to be changed. It is there until it is taken out; while this is held, a dispatch of the loop that settles the adapter
     /// waits. Calloop answers a reference.
     pub fn get_mut(&mut self) -> MutexGuard<'_, Option<P::Io>> {
-        self.shared.io.lock(&self.rt)
+        self.end.io()
     }
 }
 
@@ -111,14 +100,19 @@ impl<P: Poller, R: Wait + Clone + Drop> Async<P, R> {
     }
 
     // A poll for this readiness.
-    pub(crate) fn poll_for(&self, cx: &mut Context<'_, R>, wanted: Interest) -> Poll<LoopResult<()>>
-        ensures { IfReady result IsAnswer }
+    pub(crate) fn poll_for(
+        &mut self,
+        cx: &mut Context<'_, R>,
+        wanted: Interest,
+    ) -> Poll<LoopResult<()>>
+        ensures answer { IfReady result IsAnswer }
+        ensures told { WaitsFor wanted self.old.end result self.new.end }
     {
         let waker = match cx.waker().clone() {
             Ok(waker) => waker,
             Err(failed) => return Poll::Ready(Err(failed.into())),
         };
-        match self.shared.answer_or_wait(&self.rt, wanted, waker) {
+        match self.end.answer_or_wait(wanted, waker) {
             Ok(Some(answer)) => Poll::Ready(answer),
             Ok(None) => Poll::Pending,
             Err(failed) => Poll::Ready(Err(failed.into())),
@@ -126,19 +120,25 @@ impl<P: Poller, R: Wait + Clone + Drop> Async<P, R> {
     }
 
     // It waits for this.
-    fn wait(&self, waker: &Waker<R>, wanted: Interest) -> LoopResult<()> {
-        self.shared.wait(&self.rt, wanted, waker.clone()?)?;
+    fn wait(&mut self, waker: &Waker<R>, wanted: Interest) -> LoopResult<()>
+        ensures ok { OnOk result (self.new.end ≡ polled (Waits wanted) self.old.end) }
+        ensures err { IfErr result (λ e. (e ≡ OutOfMemory)
+            × ((self.new.end ≡ self.old.end)
+            ⊎ (self.new.end ≡ polled (Waits wanted) self.old.end))) }
+    {
+        let waker = waker.clone()?;
+        self.end.wait(wanted, waker)?;
         Ok(())
     }
 
     // The answer of a call of the socket, unless it would block: then it waits for this.
     fn answer<T>(
-        &self,
+        &mut self,
         cx: &mut Context<'_, R>,
         wanted: Interest,
         answer: io::Result<T>,
     ) -> Poll<io::Result<T>>
-        ensures { IfReady result (λ given. IfOk given (λ value. answer ≡ Ok value)) }
+        ensures { AnswersWith wanted answer self.old.end result self.new.end }
     {
         match answer {
             Err(cause) if cause.kind() == io::ErrorKind::WouldBlock => {
@@ -151,26 +151,18 @@ impl<P: Poller, R: Wait + Clone + Drop> Async<P, R> {
         }
     }
 
-    // A refusal that is kept, once.
-    fn refusal(&self) -> Option<io::Error> {
-        let refusal = self.shared.take_refusal(&self.rt)?;
-        Some(io::Error::from(refusal.into_error()))
-    }
-
     /// Reads. Where the socket has nothing yet, it waits until the socket can be read. A refusal of a registration comes first, once;
     /// without memory to wait the answer is an error of kind `Other`, and without a socket one of kind `NotFound`.
     pub fn poll_read(&mut self, cx: &mut Context<'_, R>, buf: &mut [u8]) -> Poll<io::Result<usize>>
     where
         P::Io: Read,
         ensures bound { IfReady result (λ read. ReadsAtMost read buf.new) }
+        ensures told { Polls to_read Tried self.old.end result self.new.end }
     {
-        if let Some(refusal) = self.refusal() {
-            return Poll::Ready(Err(refusal));
+        if let Some(refusal) = self.end.take_refusal() {
+            return Poll::Ready(Err(io::Error::from(refusal)));
         }
-        let read = match &mut *self.shared.io.lock(&self.rt) {
-            Some(io) => io.read(buf),
-            None => Err(not_there()),
-        };
+        let read = self.end.try_read(buf);
         self.answer(cx, Interest::READ, read)
     }
 
@@ -179,14 +171,12 @@ impl<P: Poller, R: Wait + Clone + Drop> Async<P, R> {
     where
         P::Io: Write,
         ensures bound { IfReady result (λ written. WritesAtMost written buf.now) }
+        ensures told { Polls to_write Tried self.old.end result self.new.end }
     {
-        if let Some(refusal) = self.refusal() {
-            return Poll::Ready(Err(refusal));
+        if let Some(refusal) = self.end.take_refusal() {
+            return Poll::Ready(Err(io::Error::from(refusal)));
         }
-        let written = match &mut *self.shared.io.lock(&self.rt) {
-            Some(io) => io.write(buf),
-            None => Err(not_there()),
-        };
+        let written = self.end.try_write(buf);
         self.answer(cx, Interest::WRITE, written)
     }
 
@@ -194,14 +184,12 @@ impl<P: Poller, R: Wait + Clone + Drop> Async<P, R> {
     pub fn poll_flush(&mut self, cx: &mut Context<'_, R>) -> Poll<io::Result<()>>
     where
         P::Io: Write,
+        ensures told { Polls to_write Flushed self.old.end result self.new.end }
     {
-        if let Some(refusal) = self.refusal() {
-            return Poll::Ready(Err(refusal));
+        if let Some(refusal) = self.end.take_refusal() {
+            return Poll::Ready(Err(io::Error::from(refusal)));
         }
-        let flushed = match &mut *self.shared.io.lock(&self.rt) {
-            Some(io) => io.flush(),
-            None => Err(not_there()),
-        };
+        let flushed = self.end.try_flush();
         self.answer(cx, Interest::WRITE, flushed)
     }
 
@@ -209,6 +197,7 @@ impl<P: Poller, R: Wait + Clone + Drop> Async<P, R> {
     pub fn poll_close(&mut self, cx: &mut Context<'_, R>) -> Poll<io::Result<()>>
     where
         P::Io: Write,
+        ensures told { Polls to_write Flushed self.old.end result self.new.end }
     {
         self.poll_flush(cx)
     }

@@ -12,6 +12,7 @@ pub mod Hubs
 pub mod Keys
 pub mod WrongSteps
 pub mod SlotOrder
+pub mod Marking
 pub mod Meanings
 pub mod Quiet
 pub mod Beside

@@ -37,6 +37,7 @@ use Rattle.calloop_wake.specs.declared.error.Error.TheVariants.{IoError, OutOfMe
 use Rattle.std.specs.IoError.{error_kind}
 use Rattle.std.specs.declared.io.ErrorKind.{ErrorKind}
 use Rattle.std.specs.declared.io.ErrorKind.TheVariants.{AlreadyExists}
+use Rattle.calloop_wake.specs.declared.token.RegistrationToken.{RegistrationToken}
 use Rattle.calloop_wake.specs.declared.token.Token.{Token}
 use Rattle.calloop_wake.specs.declared.wheel.Entry.{Entry}
 use Rattle.calloop_wake.specs.declared.wheel.Instant.{Instant}
@@ -55,7 +56,7 @@ use Rattle.calloop_wake.specs.Passes.{Taken}
 use Rattle.calloop_wake.specs.Boards.{taken}
 use Rattle.calloop_wake.specs.Watches.{noted}
 use Rattle.calloop_wake.specs.declared.wake.watch.Watch.{Watch}
-use Rattle.calloop_wake.specs.declared.wake.notes.Note.TheVariants.{Counted, Unposted}
+use Rattle.calloop_wake.specs.declared.wake.notes.Note.TheVariants.{Counted, Unposted, Marked}
 use Rattle.calloop_core.specs.declared.sys.Readiness.{Readiness}
 use Rattle.calloop_core.specs.declared.sys.poll.Pending.{Pending}
 use Rattle.calloop_core.specs.declared.sys.poll.Poll.{Poll}
@@ -106,6 +107,10 @@ watching w v = record v { watch = w }
 -- the places on the board are counted
 abbrev pub counted : {P : Type 0} → (places : ℕ) → PollView P → PollView P
 counted places v = record v { places = places; watch = noted (Counted places) v.watch }
+
+-- these marks were taken, in the order in which they had been set
+abbrev pub marks_taken : {P : Type 0} → List RegistrationToken → PollView P → PollView P
+marks_taken taken v = record v { watch = noted (Marked taken) v.watch }
 
 -- what a source can do; what it does under the locks of the board and of a ping's cell isn't seen
 pub data PollStep (P : Type 0) : Type 0 where

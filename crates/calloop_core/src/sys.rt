@@ -12,7 +12,6 @@ use std::time::Duration;
 pub mod events;
 pub mod faults;
 pub mod hub;
-pub mod marks;
 pub mod notifier;
 pub mod poll;
 pub mod script;

@@ -196,7 +196,7 @@ tells k c = one (opens k c && (c.closed && not c.told))
 
 -- the receiving end of the cell of this name, which gave it no key yet and counted nothing
 abbrev pub fresh_twin : Book → Twin
-fresh_twin name = record { name = name; key = None; turns = 0; number = 0; closes = 0 }
+fresh_twin name = record { name = name; key = None; turns = 0; number = 0; closes = 0; misses = 0 }
 
 -- a receiving end that gave its cell no key yet, and opened no turn
 abbrev pub twin_of : CoreView → Twin

@@ -23,6 +23,8 @@ pub mod ExampleSchedules
 pub mod Delivery
 pub mod StepsOfCores
 pub mod Watches
+pub mod Marks
+pub mod Homes
 pub mod Slots
 pub mod Vacancies
 pub mod Lendings

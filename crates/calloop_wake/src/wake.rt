@@ -17,8 +17,10 @@ pub mod cell;
 pub mod channel;
 pub mod executor;
 pub mod ghosts;
+pub mod homes;
 mod laws;
 pub mod locked;
+pub mod marking;
 pub mod notes;
 pub mod ping;
 pub(crate) mod places;
@@ -176,6 +178,8 @@ pub struct Twin {
     pub(crate) turns: Count,
     pub(crate) number: Count,
     pub(crate) closes: Count,
+    // How many tasks were popped whose futures were still to come.
+    pub(crate) misses: Count,
 }
 
 impl Twin {
@@ -189,6 +193,7 @@ impl Twin {
             turns: Count::zero(),
             number: Count::zero(),
             closes: Count::zero(),
+            misses: Count::zero(),
         }
     }
 
@@ -199,6 +204,7 @@ impl Twin {
             turns: _,
             number: _,
             closes: _,
+            misses: _,
         } = self;
     }
 
@@ -214,6 +220,13 @@ impl Twin {
 #[must_use]
 pub struct Last {
     pub(crate) of_wake: (),
+}
+
+impl Last {
+    /// Spends it, by the end of what lay under the lock.
+    pub fn end(self) {
+        let Last { of_wake: _ } = self;
+    }
 }
 
 /// A loop that must be woken where it waits, since a mark was set anew on its board.

@@ -588,7 +588,7 @@ const REFUSED: Turn = Turn::Refused { marked: true };
 
 impl Desk {
     fn new<R: Abort>(rt: &R, alloc: Global) -> Desk {
-        let (board, watch, name) = WatchedBoard::new(alloc);
+        let (board, watch, name, _marks) = WatchedBoard::new(alloc);
         let board = Arc::new(alloc, Locked::new(alloc, board, &name).expect(rt, "a lock")).expect(
             rt, "a board",
         );

@@ -11,41 +11,43 @@ ghost use Rattle.calloop_wake.specs.declared.error.Error.TheVariants.{OutOfMemor
 use crate::cell::{Cell, settle};
 use calloop_wake::error::Result as LoopResult;
 use calloop_wake::wake::executor::{ExecutorCore, PutRefusal, PutTask, TaskTurn};
+use calloop_wake::wake::homes::{DueReceipt, KeepingRight, PoppedTask};
 use calloop_wake::wake::locked::{Held, Locked};
 use calloop_wake::wake::tasks::TaskKey;
-use calloop_wake::wake::{Receipt, ReceivingRight, TakenPass, Twin};
+use calloop_wake::wake::{ReceivingRight, TakenPass, Twin};
 use std::alloc::Global;
 use std::sync::Wait;
 
 /// What an executor shares with its schedulers and its wakers.
 pub type TaskCell = Cell<ExecutorCore>;
 
-/// A cell without tasks, under its lock, and the right to its receiving end.
-pub fn locked(alloc: Global) -> LoopResult<(Locked<TaskCell>, ReceivingRight)>
+/// A cell without tasks, under its lock, and the rights to its receiving end and to the places of its futures.
+pub fn locked(alloc: Global) -> LoopResult<(Locked<TaskCell>, ReceivingRight, KeepingRight)>
     ensures right { IfOk result (λ made. made.1.name ≡ made.0.slot) }
+    ensures keeping { IfOk result (λ made. made.2.name ≡ made.0.slot) }
     ensures err { IfErr result (λ e. e ≡ OutOfMemory) }
 {
-    let (core, name, right) = ExecutorCore::new(alloc)?;
-    Ok((Cell::locked(alloc, core, &name)?, right))
+    let (core, name, right, keeping) = ExecutorCore::new(alloc)?;
+    Ok((Cell::locked(alloc, core, &name)?, right, keeping))
 }
 
-/// A new task, which is queued, and its receipt.
+/// A new task, which is queued, and what gives its receipt once its future is kept.
 pub fn put<R: Wait>(
     rt: &R,
     shared: &Locked<TaskCell>,
     home: usize,
-) -> Result<(TaskKey, Receipt), PutRefusal>
+) -> Result<(TaskKey, DueReceipt), PutRefusal>
     ensures { IfOk result (λ put. put.1.name ≡ shared.now.slot) }
 {
     let mut held = shared.lock(rt);
     let cell = held.core();
     match cell.core.put(home) {
         Ok(put) => {
-            let PutTask { key, receipt, debt } = put;
+            let PutTask { key, due, debt } = put;
             let owed = cell.owed(rt, debt);
             held.unlock();
             settle(rt, owed);
-            Ok((key, receipt))
+            Ok((key, due))
         }
         Err(refusal) => {
             held.unlock();
@@ -114,14 +116,15 @@ pub fn pop<R: Wait>(
     twin: &mut Twin,
     turn: &mut TaskTurn,
     finished: bool,
-) -> Option<(TaskKey, usize)>
+) -> Option<PoppedTask>
     requires names { (turn.old.name ≡ shared.now.slot) × (twin.old.name ≡ shared.now.slot) }
     requires more { (turn.old.progress.dry ≡ false) × (turn.old.progress.pops < most_tasks) }
     requires finishes { finished ≡ true → IsSome turn.old.progress.polled }
     ensures name { turn.new.name ≡ turn.old.name }
     ensures pops { turn.new.progress.pops ≡ turn.old.progress.pops + 1 }
-    ensures some { IfSome result (λ popped. (turn.new.progress.polled ≡ Some popped.0)
+    ensures some { IfSome result (λ popped. (turn.new.progress.polled ≡ Some popped.key)
         × (turn.new.progress.dry ≡ false)) }
+    ensures popped { IfSome result (λ popped. popped.name ≡ shared.now.slot) }
     ensures none { IfNone result (turn.new.progress.dry ≡ true) }
     ensures twin { twin.new ≡ record twin.old { number = twin.old.number + one finished } }
 {

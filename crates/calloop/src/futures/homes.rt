@@ -1,102 +1,117 @@
-//! Where the futures of an executor are. They lie apart from its cell, which its wakers share, so that a future may keep a waker of
-//! its own; and each is polled, and dropped, outside of this lock.
-ghost use Rattle.std.specs.Prelude.{◌≡◌};
+//! The sections of the lock under which the futures of an executor are. It is another than that of its cell, which its wakers reach; within it
+//! no future is polled or dropped.
+ghost use Rattle.std.specs.Prelude.{◌≡◌, ◌+◌, IfSome, IfNone};
 
 use super::task::Pollable;
 use calloop_wake::wake::executor::PutRefusal;
-use slab::Slab;
+use calloop_wake::wake::homes::{DueReceipt, Homes, Place, PoppedTask, TakenFuture};
+use calloop_wake::wake::locked::Locked;
+use calloop_wake::wake::{Receipt, Twin};
 use std::alloc::Global;
-use std::mem;
-use std::sync::{Mutex, Wait};
+use std::sync::{Arc, Wait};
 
-// The place of one future.
-#[derive(Drop)]
-enum Place<Fut: Drop, R: Wait + Drop> {
-    // It is to come, or in its poll.
-    Empty,
-    // It is to come, and a turn has looked for it.
-    Missed,
-    Here(Pollable<Fut, R>),
-}
+/// The places of an executor's futures, under their lock. In a clause `slot` is the name of its cell.
+pub(crate) type SharedHomes<Fut, R> = Arc<Locked<Homes<Pollable<Fut, R>>>, Global>;
 
-/// The places of an executor's futures, under one lock.
-#[derive(Drop)]
-pub(crate) struct Homes<Fut: Drop, R: Wait + Drop> {
-    // None once the executor is gone.
-    places: Mutex<Option<Slab<Place<Fut, R>>>>,
-}
-
-fn take_out<Fut: Drop, R: Wait + Drop>(place: &mut Place<Fut, R>) -> Option<Pollable<Fut, R>> {
-    match mem::replace(place, Place::Empty) {
-        Place::Here(held) => Some(held),
-        Place::Empty | Place::Missed => {
-            *place = Place::Missed;
-            None
-        }
+/// A place for a future that is to come.
+pub(crate) fn reserve<Fut: Drop, R: Wait + Drop>(
+    rt: &R,
+    homes: &Locked<Homes<Pollable<Fut, R>>>,
+) -> Result<usize, PutRefusal> {
+    let mut places = homes.lock(rt);
+    let reserved = places.core().reserve();
+    places.unlock();
+    match reserved {
+        Some(Ok(home)) => Ok(home),
+        Some(Err(_)) => Err(PutRefusal::OutOfMemory),
+        None => Err(PutRefusal::Gone),
     }
 }
 
-impl<Fut: Drop, R: Wait + Drop> Homes<Fut, R> {
-    pub(crate) fn new(alloc: Global) -> Homes<Fut, R> {
-        Homes {
-            places: Mutex::new(Some(Slab::new(alloc))),
-        }
-    }
+/// Keeps the future of a task that was put, which gives the receipt of it, and says whether a turn has looked for it before. Where the
+/// executor is gone, the future is dropped.
+pub(crate) fn keep<Fut: Drop, R: Wait + Drop>(
+    rt: &R,
+    homes: &Locked<Homes<Pollable<Fut, R>>>,
+    due: DueReceipt,
+    held: Pollable<Fut, R>,
+) -> (Receipt, bool)
+    requires { due.name ≡ homes.now.slot }
+    ensures { result.0.name ≡ homes.now.slot }
+{
+    let mut places = homes.lock(rt);
+    let (receipt, before) = places.core().keep(due, held);
+    places.unlock();
+    let missed = match &before {
+        Ok(Place::Missed) => true,
+        _ => false,
+    };
+    drop(before);
+    (receipt, missed)
+}
 
-    /// A place for a future that is to come.
-    pub(crate) fn reserve(&self, rt: &R) -> Result<usize, PutRefusal> {
-        match &mut *self.places.lock(rt) {
-            Some(places) => match places.insert(Place::Empty) {
-                Ok(home) => Ok(home),
-                Err(_) => Err(PutRefusal::OutOfMemory),
-            },
-            None => Err(PutRefusal::Gone),
-        }
-    }
+/// Takes the future of a task that was popped, for its poll. Where it is still to come, its scheduler is told so by `keep`, and the twin counts
+/// that.
+pub(crate) fn take<Fut: Drop, R: Wait + Drop>(
+    rt: &R,
+    homes: &Locked<Homes<Pollable<Fut, R>>>,
+    twin: &mut Twin,
+    popped: PoppedTask,
+) -> Option<TakenFuture<Pollable<Fut, R>>>
+    requires { (popped.name ≡ homes.now.slot) × (twin.old.name ≡ homes.now.slot) }
+    ensures some { IfSome result (λ taken. (taken.task ≡ popped) × (twin.new ≡ twin.old)) }
+    ensures none { IfNone result (twin.new ≡ record twin.old { misses = twin.old.misses + 1 }) }
+{
+    let mut places = homes.lock(rt);
+    let taken = places.core().take(popped, twin);
+    places.unlock();
+    taken
+}
 
-    /// Puts a future into its place: whether a turn has looked for it before. Where the executor is gone, the future is dropped.
-    pub(crate) fn fill(&self, rt: &R, home: usize, held: Pollable<Fut, R>) -> bool {
-        let before = self.exchange(rt, home, Place::Here(held));
-        match before {
-            Place::Missed => true,
-            Place::Empty | Place::Here(_) => false,
-        }
-    }
+/// Puts a future back whose poll was pending.
+pub(crate) fn put_back<Fut: Drop, R: Wait + Drop>(
+    rt: &R,
+    homes: &Locked<Homes<Pollable<Fut, R>>>,
+    taken: TakenFuture<Pollable<Fut, R>>,
+)
+    requires { taken.task.name ≡ homes.now.slot }
+{
+    let mut places = homes.lock(rt);
+    let before = places.core().put_back(taken);
+    places.unlock();
+    drop(before);
+}
 
-    /// Takes the future out of its place, for its poll. Where it is still to come, its scheduler is told so by `fill`.
-    pub(crate) fn take(&self, rt: &R, home: usize) -> Option<Pollable<Fut, R>> {
-        match &mut *self.places.lock(rt) {
-            Some(places) => match places.get_mut(home) {
-                Some(place) => take_out(place),
-                None => None,
-            },
-            None => None,
-        }
-    }
+/// Gives the place of a task up whose future gave its result.
+pub(crate) fn finish<Fut: Drop, R: Wait + Drop>(
+    rt: &R,
+    homes: &Locked<Homes<Pollable<Fut, R>>>,
+    task: PoppedTask,
+)
+    requires { task.name ≡ homes.now.slot }
+{
+    let mut places = homes.lock(rt);
+    let before = places.core().finish(task);
+    places.unlock();
+    drop(before);
+}
 
-    // What stood in the place before, or what isn't put there.
-    fn exchange(&self, rt: &R, home: usize, next: Place<Fut, R>) -> Place<Fut, R> {
-        match &mut *self.places.lock(rt) {
-            Some(places) => match places.get_mut(home) {
-                Some(place) => mem::replace(place, next),
-                None => next,
-            },
-            None => next,
-        }
-    }
+/// Gives a place up that was reserved for a task which wasn't put.
+pub(crate) fn free<Fut: Drop, R: Wait + Drop>(
+    rt: &R,
+    homes: &Locked<Homes<Pollable<Fut, R>>>,
+    home: usize,
+) {
+    let mut places = homes.lock(rt);
+    let before = places.core().free(home);
+    places.unlock();
+    drop(before);
+}
 
-    /// Gives the place up, which is empty.
-    pub(crate) fn free(&self, rt: &R, home: usize) {
-        let mut left = None;
-        if let Some(places) = &mut *self.places.lock(rt) {
-            left = places.try_remove(home);
-        }
-        drop(left);
-    }
-
-    /// The executor is gone: its futures are dropped.
-    pub(crate) fn close(&self, rt: &R) {
-        let places = self.places.lock(rt).take();
-        drop(places);
-    }
+/// The executor is gone: its futures are dropped.
+pub(crate) fn close<Fut: Drop, R: Wait + Drop>(rt: &R, homes: &Locked<Homes<Pollable<Fut, R>>>) {
+    let mut places = homes.lock(rt);
+    let left = places.core().close();
+    places.unlock();
+    drop(left);
 }

@@ -5,13 +5,13 @@ ghost use Rattle.calloop.specs.Polled.{IsRefusalOf, IsDestroyed};
 
 use super::cell;
 use super::errors::{ExecutorDestroyed, ScheduleError};
-use super::homes::Homes;
+use super::homes::{self, SharedHomes};
 use super::task::{Future, Pollable, Waker};
 use crate::cell::{SharedCell, add_sender, drop_sender};
 use calloop_core::sys::hub::share;
 use calloop_wake::wake::executor::{ExecutorCore, PutRefusal};
 use calloop_wake::wake::{Receipt, Sender};
-use std::alloc::{AllocError, Global};
+use std::alloc::AllocError;
 use std::sync::{Arc, Wait};
 
 /// Hands futures to its executor, from any thread. As many as are cloned hand them to the same one, and the drop of the last closes
@@ -19,9 +19,10 @@ use std::sync::{Arc, Wait};
 pub struct Scheduler<Fut: Drop, R: Wait + Drop> {
     rt: R,
     shared: SharedCell<ExecutorCore>,
-    homes: Arc<Homes<Fut, R>, Global>,
+    homes: SharedHomes<Fut, R>,
     sender: Sender,
     ghost tied: { sender.name ≡ (arc_value shared).slot },
+    ghost housed: { (arc_value homes).slot ≡ (arc_value shared).slot },
 }
 
 // Why a future isn't scheduled.
@@ -42,10 +43,11 @@ impl<Fut: Drop, R: Wait + Drop> Scheduler<Fut, R> {
     pub(crate) fn of(
         rt: R,
         shared: SharedCell<ExecutorCore>,
-        homes: Arc<Homes<Fut, R>, Global>,
+        homes: SharedHomes<Fut, R>,
         sender: Sender,
     ) -> Scheduler<Fut, R>
-        requires { sender.name ≡ (arc_value shared).slot }
+        requires sender { sender.name ≡ (arc_value shared).slot }
+        requires homes { (arc_value homes).slot ≡ (arc_value shared).slot }
         ensures { result.shared ≡ shared }
     {
         Scheduler {
@@ -69,20 +71,22 @@ impl<Fut: Future<R>, R: Wait + Clone + Drop> Scheduler<Fut, R> {
         let Ok(own) = self.rt.clone() else {
             return Err(ScheduleError::OutOfMemory(future));
         };
-        let home = match self.homes.reserve(&self.rt) {
+        let home = match homes::reserve(&self.rt, &self.homes) {
             Ok(home) => home,
             Err(why) => return Err(refused(future, why)),
         };
         match cell::put(&self.rt, &self.shared, home) {
-            Ok((key, receipt)) => {
+            Ok((key, due)) => {
                 let waker = Waker::of_task(own, share(&self.rt, &self.shared), key);
-                if self.homes.fill(&self.rt, home, Pollable { future, waker }) {
+                let held = Pollable { future, waker };
+                let (receipt, missed) = homes::keep(&self.rt, &self.homes, due, held);
+                if missed {
                     cell::wake(&self.rt, &self.shared, key);
                 }
                 Ok(receipt)
             }
             Err(why) => {
-                self.homes.free(&self.rt, home);
+                homes::free(&self.rt, &self.homes, home);
                 Err(refused(future, why))
             }
         }

@@ -1,14 +1,14 @@
 //! An executor as a source of the loop.
-ghost use Rattle.std.specs.Prelude.{◌≡◌, ◌≤◌, ◌+◌, true, List, Option, IfSome, is_some, length};
+ghost use Rattle.std.specs.Prelude.{◌≡◌, ◌≤◌, ◌+◌, List, length};
+ghost use Rattle.calloop_wake.specs.Cells.{one};
 ghost use Rattle.calloop_wake.specs.Executors.{at_start, most_tasks};
 ghost use Rattle.calloop_core.specs.Calls.{Went};
-ghost use Rattle.calloop.specs.Executors.{GivenBy, AllGiven, call_of, calls_of, results_of};
+ghost use Rattle.calloop.specs.Executors.{OfPop, gave, lacks, ComesOf, AllGiven, call_of, calls_of, results_of, misses_of};
 
-use super::Executor;
 use super::cell::{self, TaskCell};
 use super::errors::ExecutorError;
-use super::homes::Homes;
-use super::task::Future;
+use super::task::{Future, Pollable};
+use super::{Executor, homes};
 use crate::cell::source::{is_mine, register, reregister, unregister};
 use calloop_core::sources::{Asking, Callback, EventSource, IntoError, PostAction};
 use calloop_core::sys::events::EventIterator;
@@ -19,6 +19,7 @@ use calloop_wake::error::{Error, Result as LoopResult};
 use calloop_wake::token::{Token, TokenFactory};
 use calloop_wake::wake::Twin;
 use calloop_wake::wake::executor::TaskTurn;
+use calloop_wake::wake::homes::{Homes, PoppedTask, TakenFuture};
 use calloop_wake::wake::locked::Locked;
 use std::sync::Wait;
 
@@ -40,8 +41,9 @@ impl IntoError for ExecutorError {
 // Polls a task outside of every lock, and calls back where it gives its result: whether it did.
 fn poll_task<Fut, R, F, X, Q>(
     rt: &R,
-    homes: &Homes<Fut, R>,
-    home: usize,
+    homes: &Locked<Homes<Pollable<Fut, R>>>,
+    twin: &mut Twin,
+    popped: PoppedTask,
     callback: &mut F,
     data: &mut X,
     requests: &mut Q,
@@ -51,22 +53,25 @@ where
     Fut: Future<R>,
     Q: Asking,
     F: Callback<Fut::Output, (), (), X, Q>,
-    ensures { (polled : Option Fut.Output) × (result ≡ is_some polled)
-        × IfSome polled (GivenBy Fut.gives)
+    requires { (popped.name ≡ homes.now.slot) × (twin.old.name ≡ homes.now.slot) }
+    ensures { (polled : OfPop Fut.Output) × (result ≡ gave polled)
+        × ComesOf Fut.gives Fut.polls polled
+        × (twin.new ≡ record twin.old { misses = twin.old.misses + one (lacks polled) })
         × Went F.may Q.reaches callback.old «data».old requests.old (call_of polled)
         callback.new «data».new requests.new }
 {
-    let Some(held) = homes.take(rt, home) else {
+    let Some(taken) = homes::take(rt, homes, twin, popped) else {
         return false;
     };
-    match held.poll() {
+    let TakenFuture { future, task } = taken;
+    match future.poll() {
         Ok(output) => {
-            homes.free(rt, home);
+            homes::finish(rt, homes, task);
             callback.call(output, &mut (), data, requests);
             true
         }
-        Err(held) => {
-            homes.fill(rt, home, held);
+        Err(future) => {
+            homes::put_back(rt, homes, TakenFuture { future, task });
             false
         }
     }
@@ -76,7 +81,7 @@ where
 fn run_tasks<Fut, R, F, X, Q>(
     rt: &R,
     shared: &Locked<TaskCell>,
-    homes: &Homes<Fut, R>,
+    homes: &Locked<Homes<Pollable<Fut, R>>>,
     twin: &mut Twin,
     turn: TaskTurn,
     callback: &mut F,
@@ -90,9 +95,13 @@ where
     F: Callback<Fut::Output, (), (), X, Q>,
     requires turn { turn ≡ record { name = shared.now.slot; progress = at_start } }
     requires twin { twin.old.name ≡ shared.now.slot }
-    ensures { (polled : List (Option Fut.Output)) × (length polled ≤ most_tasks)
-        × (twin.new ≡ record twin.old { number = twin.old.number + results_of polled })
-        × AllGiven (GivenBy Fut.gives) polled
+    requires homes { homes.now.slot ≡ shared.now.slot }
+    ensures { (polled : List (OfPop Fut.Output)) × (length polled ≤ most_tasks)
+        × (twin.new ≡ record twin.old {
+          number = twin.old.number + results_of polled;
+          misses = twin.old.misses + misses_of polled;
+        })
+        × AllGiven (ComesOf Fut.gives Fut.polls) polled
         × Went F.may Q.reaches callback.old «data».old requests.old (calls_of polled)
         callback.new «data».new requests.new }
 {
@@ -100,7 +109,7 @@ where
     let mut finished = false;
     'pops: while turn.goes_on() {
         finished = match cell::pop(rt, shared, twin, &mut turn, finished) {
-            Some((_key, home)) => poll_task(rt, homes, home, callback, data, requests),
+            Some(popped) => poll_task(rt, homes, twin, popped, callback, data, requests),
             None => false,
         };
     }
@@ -109,7 +118,7 @@ where
 
 impl<Fut: Future<R>, P: Poller, C, R: Wait + Drop> EventSource<P, C, R> for Executor<Fut, R> {
     ghost use Rattle.std.specs.Prelude.{◌≡◌};
-    ghost use Rattle.calloop.specs.Executors.{GivenBy, executor_meaning};
+    ghost use Rattle.calloop.specs.Executors.{ComesOf, executor_meaning};
     ghost use Rattle.calloop.specs.Executing.{executor_keeps};
 
     type Event = Fut::Output;
@@ -120,7 +129,7 @@ impl<Fut: Future<R>, P: Poller, C, R: Wait + Drop> EventSource<P, C, R> for Exec
 
     type Error = ExecutorError;
 
-    ghost means = { executor_meaning (GivenBy Fut.gives) (λ s. s.twin) (λ s t. t.shared ≡ s.shared) };
+    ghost means = { executor_meaning (ComesOf Fut.gives Fut.polls) (λ s. s.twin) (λ s t. t.shared ≡ s.shared) };
 
     /// Its turn: polls the queued tasks in their order, at most 1,024, each outside of every lock, and calls back with each result.
     /// After 1,024 it is posted again. A task that is woken in its poll is queued once more, and one that gave its result isn't
@@ -203,5 +212,5 @@ impl<Fut: Future<R>, P: Poller, C, R: Wait + Drop> EventSource<P, C, R> for Exec
 
     fn before_handle_events(&mut self, _events: EventIterator<'_>) {}
 
-    ghost keeps = { executor_keeps (GivenBy Fut.gives) (λ s. s.twin) (λ s t. t.shared ≡ s.shared) };
+    ghost keeps = { executor_keeps (ComesOf Fut.gives Fut.polls) (λ s. s.twin) (λ s t. t.shared ≡ s.shared) };
 }

@@ -1,5 +1,7 @@
 //! What a future is, what its poll is given, and what wakes it.
-ghost use Rattle.std.specs.Prelude.{⊤, IfOk};
+ghost use Rattle.std.specs.Prelude.{⊤, IfOk, IfErr};
+ghost use Rattle.calloop.specs.declared.futures.task.Poll.{Poll};
+ghost use Rattle.calloop.specs.declared.futures.task.Poll.TheVariants.{Ready, Pending};
 ghost use Rattle.calloop.specs.Polled.{IfReady, OnPending};
 
 use super::cell;
@@ -49,15 +51,15 @@ pub(crate) struct Blocked {
 }
 
 impl Blocked {
-    // Of a future that wasn't polled yet.
+    // Of a future that nobody woke yet.
     pub(crate) fn new(signal: LoopSignal) -> Blocked {
         Blocked {
-            woken: AtomicBool::new(true),
+            woken: AtomicBool::new(false),
             signal,
         }
     }
 
-    // Whether the future was woken since this was asked last, or wasn't polled yet.
+    // Whether the future was woken since this was asked last.
     pub(crate) fn is_woken(&self) -> bool {
         self.woken.swap(false, Ordering::SeqCst)
     }
@@ -151,10 +153,14 @@ pub trait Future<R: Wait + Drop>: Drop {
     // The outputs that it may give.
     ghost gives: { Self → Self.Output → Type 0 } = { λ _ _. ⊤ };
 
+    // What a poll may answer, and what it may make of the future. Of a future that isn't known no such thing can be shown but by a poll.
+    ghost polls: { Self → Poll Self.Output → Self → Type 0 } = { λ _ _ _. ⊤ };
+
     /// Polls it. Where it is pending, it has kept the waker, by a clone, or has woken it.
     fn poll(&mut self, cx: &mut Context<'_, R>) -> Poll<Self::Output>
         ensures value { IfReady result (gives self.old) }
-        ensures same { OnPending result ((x : _) → gives self.new x → gives self.old x) };
+        ensures same { OnPending result ((x : _) → gives self.new x → gives self.old x) }
+        ensures polled { polls self.old result self.new };
 }
 
 /// A future with its waker, as an executor keeps it.
@@ -167,7 +173,10 @@ pub(crate) struct Pollable<Fut: Drop, R: Wait + Drop> {
 impl<Fut: Future<R>, R: Wait + Drop> Pollable<Fut, R> {
     /// One poll: what the future gives, or the future back.
     pub(crate) fn poll(self) -> Result<Fut::Output, Pollable<Fut, R>>
-        ensures { IfOk result (Fut.gives self.future) }
+        ensures gives { IfOk result (Fut.gives self.future) }
+        ensures ready { IfOk result (λ output. (after : Fut)
+            × Fut.polls self.future (Ready output) after) }
+        ensures pending { IfErr result (λ back. Fut.polls self.future Pending back.future) }
     {
         let Pollable { mut future, waker } = self;
         match future.poll(&mut Context::from_waker(&waker)) {

@@ -1,31 +1,30 @@
 //! The loop's end of an adapter: what stands in a slot.
-ghost use Rattle.std.specs.Prelude.{◌≡◌, None, true, false, List, ℕ, IfErr, IfSome, IfNone};
+ghost use Rattle.std.specs.Prelude.{◌≡◌, None, false, List, ℕ, Result};
+ghost use Rattle.calloop_wake.specs.declared.error.Error.{Error};
 ghost use Rattle.calloop_core.specs.Polls.{PollStep, poll_view, AllStepped, IsReady};
-ghost use Rattle.calloop_core.specs.Registering.{DidEdit};
-ghost use Rattle.calloop.specs.Refusals.{of_registration};
-ghost use Rattle.calloop.specs.Adapters.{TakesUp, TakenOut, Leaves, taking_up};
+ghost use Rattle.calloop.specs.Adapters.{Registers, TakenOut, Leaves, Goes, left_so};
 
+use super::notes::Settled;
 use super::refusal::Refusal;
-use super::shared::Shared;
-use super::state::Settled;
+use super::shared::SlotEnd;
 use calloop_core::callbacks::QuietDispatch;
 use calloop_core::sources::{Asking, Dispatch, Here, Place, PostAction, Role};
 use calloop_core::sys::events::EventIterator;
 use calloop_core::sys::poll::Poll;
 use calloop_core::sys::synthetic::Synthetic;
-use calloop_core::sys::{Interest, Mode, Poller, Readiness};
+use calloop_core::sys::{Interest, Poller, Readiness};
 use calloop_wake::error::{Error, Failed, Result as LoopResult, leave};
 use calloop_wake::token::{RegistrationToken, Token, TokenFactory};
-use std::alloc::Global;
 use std::io;
-use std::sync::{Arc, Wait};
+use std::sync::Wait;
 
 /// The loop's end of an adapter, whose other end is an `Async`. A loop of adapters has a place for it among its sources. No call of a handle
 /// names it.
+///
+/// In a clause `end` is what it did.
 #[derive(Drop)]
 pub struct Adapter<P: Poller, R: Wait + Drop> {
-    rt: R,
-    shared: Arc<Shared<P, R>, Global>,
+    end: SlotEnd<P, R>,
     // The key that its events come under, once it is in a loop.
     token: Option<Token>,
     // Whether its socket stands in the table of the loop.
@@ -33,53 +32,30 @@ pub struct Adapter<P: Poller, R: Wait + Drop> {
 }
 
 impl<P: Poller, R: Wait + Drop> Adapter<P, R> {
-    pub(crate) fn new(rt: R, shared: Arc<Shared<P, R>, Global>) -> Adapter<P, R>
-        ensures { result ≡ record { rt = rt; shared = shared; token = None; entered = false } }
+    pub(crate) fn new(end: SlotEnd<P, R>) -> Adapter<P, R>
+        ensures { result ≡ record { end = end; token = None; entered = false } }
     {
         Adapter {
-            rt,
-            shared,
+            end,
             token: None,
             entered: false,
-        }
-    }
-
-    // Registers its socket for this, where it is there.
-    fn tell<C>(
-        &self,
-        token: Token,
-        interest: Interest,
-        poll: &mut Poll<P, C, R>,
-    ) -> Option<LoopResult<()>>
-        ensures none { IfNone result (poll_view poll.new ≡ poll_view poll.old) }
-        ensures some { IfSome result (λ told. (io : P.Io) × (after : P.Io)
-            × DidEdit P.outside P.sockets (taking_up token self.now.entered interest)
-            (poll_view poll.old) io told (poll_view poll.new) after) }
-        ensures refused { IfSome result (λ told. IfErr told (λ e. of_registration e ≡ true)) }
-        ensures ready { (more : ℕ) → IsReady more poll.old → IsReady more poll.new }
-    {
-        match &mut *self.shared.io.lock(&self.rt) {
-            Some(io) if self.entered => {
-                Some(poll.reregister(io, token, interest, Mode::OneShot, token))
-            }
-            Some(io) => Some(poll.register(io, interest, Mode::OneShot, token)),
-            None => None,
         }
     }
 
     // Registers its socket for this, and keeps a refusal.
     fn take_up<C>(&mut self, interest: Interest, poll: &mut Poll<P, C, R>)
         ensures steps { (steps : List (PollStep P))
-            × TakesUp P.sockets self.old (poll_view poll.old) steps self.new
+            × Registers P.sockets interest self.old.token self.old (poll_view poll.old) steps
+            self.new
             × AllStepped P.outside (poll_view poll.old) steps (poll_view poll.new) }
         ensures ready { (more : ℕ) → IsReady more poll.old → IsReady more poll.new }
     {
         let Some(token) = self.token else {
             return;
         };
-        match self.tell(token, interest, poll) {
+        match self.end.register(self.entered, token, interest, poll) {
             Some(Ok(())) => self.entered = true,
-            Some(Err(refusal)) => self.shared.refuse(&self.rt, Refusal::new(refusal)),
+            Some(Err(refusal)) => self.end.refuse(Refusal::new(refusal)),
             None => {}
         }
     }
@@ -94,14 +70,30 @@ impl<P: Poller, R: Wait + Drop> Adapter<P, R> {
         if !self.entered {
             return Ok(());
         }
-        match &mut *self.shared.io.lock(&self.rt) {
+        match &mut *self.end.io() {
             Some(io) => poll.unregister(io, token),
             None => Err(Error::IoError(io::Error::from(io::ErrorKind::NotFound))),
         }
     }
 
-    // Takes its registration back, where it may leave.
-    fn leave<C>(&mut self, poll: &mut Poll<P, C, R>) -> LoopResult<()>
+    // Takes its registration back.
+    fn leave<C>(&mut self, token: Token, poll: &mut Poll<P, C, R>) -> LoopResult<()>
+        ensures steps { (steps : List (PollStep P))
+            × TakenOut P.sockets self.old.entered token (poll_view poll.old) result steps
+            × AllStepped P.outside (poll_view poll.old) steps (poll_view poll.new) }
+        ensures adapter { self.new ≡ left_so result self.old }
+        ensures ready { (more : ℕ) → IsReady more poll.old → IsReady more poll.new }
+    {
+        self.take_out(token, poll)?;
+        self.token = None;
+        self.entered = false;
+        self.end.leave();
+        self.end.close_mark(poll.hub());
+        Ok(())
+    }
+
+    // Takes its registration back, where it is being given back.
+    fn give_back<C>(&mut self, poll: &mut Poll<P, C, R>) -> LoopResult<()>
         ensures steps { (steps : List (PollStep P))
             × Leaves P.sockets self.old.token self.old (poll_view poll.old) result steps self.new
             × AllStepped P.outside (poll_view poll.old) steps (poll_view poll.new) }
@@ -110,15 +102,25 @@ impl<P: Poller, R: Wait + Drop> Adapter<P, R> {
         let Some(token) = self.token else {
             return Err(Error::IoError(io::Error::from(io::ErrorKind::NotFound)));
         };
-        if !self.shared.may_leave(&self.rt) {
+        if !self.end.is_leaving() {
             return Err(Error::InvalidToken);
         }
-        self.take_out(token, poll)?;
-        self.token = None;
-        self.entered = false;
-        self.shared.leave(&self.rt);
-        poll.marks().close(&self.rt);
-        Ok(())
+        self.leave(token, poll)
+    }
+
+    // Its `Async` is gone: it takes its registration back, and needs no mark any more, also where the poller fails.
+    fn go<C>(&mut self, poll: &mut Poll<P, C, R>)
+        ensures steps { (told : Result (Unit {0}) Error) × (steps : List (PollStep P))
+            × Goes P.sockets self.old.token self.old (poll_view poll.old) told steps self.new
+            × AllStepped P.outside (poll_view poll.old) steps (poll_view poll.new) }
+        ensures ready { (more : ℕ) → IsReady more poll.old → IsReady more poll.new }
+    {
+        if let Some(token) = self.token {
+            if let Err(_) = self.leave(token, poll) {
+                self.end.leave();
+                self.end.close_mark(poll.hub());
+            }
+        }
     }
 }
 
@@ -142,42 +144,40 @@ impl<P: Poller, C, R: Wait + Drop, X, Q: Asking> Dispatch<P, C, R, X, Q> for Ada
             *failure = Error::IoError(io::Error::from(io::ErrorKind::AlreadyExists));
             return Err(Failed);
         }
-        if let Err(_) = poll.marks().open(&self.rt) {
+        if let Err(_) = self.end.open_mark(poll.hub()) {
             *failure = Error::OutOfMemory;
             return Err(Failed);
         }
         match factory.token() {
             Ok(token) => {
                 self.token = Some(token);
-                self.shared
-                    .come_into(&self.rt, poll.marks(), token.registration());
+                self.end.come_into(poll.hub(), token.registration());
                 Ok(())
             }
             Err(refusal) => {
-                poll.marks().close(&self.rt);
+                self.end.close_mark(poll.hub());
                 *failure = refusal;
                 Err(Failed)
             }
         }
     }
 
-    /// Takes up what its last poll waits for, where it is marked.
+    /// Nobody asks for this: it takes up what its last poll waits for where its loop settles it. The answer is `InvalidToken`, and nothing
+    /// changes.
     fn reregister(
         &mut self,
-        poll: &mut Poll<P, C, R>,
+        _poll: &mut Poll<P, C, R>,
         _factory: &mut TokenFactory,
-        _failure: &mut Error,
+        failure: &mut Error,
     ) -> Result<(), Failed> {
-        if let Settled::Registers(interest) = self.shared.settle(&self.rt) {
-            self.take_up(interest, poll);
-        }
-        Ok(())
+        *failure = Error::InvalidToken;
+        Err(Failed)
     }
 
-    /// Takes its socket out, where it is being given back or was dropped. Any other refuses with `InvalidToken`, and one that is in no
+    /// Takes its socket out, where it is being given back. Any other refuses with `InvalidToken`, and one that is in no
     /// loop with `IoError` of kind `NotFound`. A fault of the poller is `IoError`, and leaves it registered as it was.
     fn unregister(&mut self, poll: &mut Poll<P, C, R>, failure: &mut Error) -> Result<(), Failed> {
-        leave(self.leave(poll), failure)
+        leave(self.give_back(poll), failure)
     }
 
     /// Keeps what was found, where the token is its own, and wakes who waits for it. No poller is called.
@@ -191,7 +191,7 @@ impl<P: Poller, C, R: Wait + Drop, X, Q: Asking> Dispatch<P, C, R, X, Q> for Ada
         _failure: &mut Error,
     ) -> Result<PostAction, Failed> {
         if self.token == Some(token) {
-            self.shared.hear(&self.rt, readiness);
+            self.end.hear(readiness);
         }
         Ok(PostAction::Continue)
     }
@@ -210,14 +210,14 @@ impl<P: Poller, C, R: Wait + Drop, X, Q: Asking> Dispatch<P, C, R, X, Q> for Ada
 
     /// Takes up what its last poll waits for, and keeps a refusal of that for the next one; where it was dropped, it leaves.
     fn settle(&mut self, _token: RegistrationToken, poll: &mut Poll<P, C, R>) -> bool {
-        match self.shared.settle(&self.rt) {
+        match self.end.settle() {
             Settled::Stays => false,
             Settled::Registers(interest) => {
                 self.take_up(interest, poll);
                 false
             }
             Settled::Leaves => {
-                let _failed = self.leave(poll);
+                self.go(poll);
                 true
             }
         }

@@ -19,6 +19,12 @@ impl Refusal {
         Refusal { error }
     }
 
+    pub(crate) fn error(&self) -> &Error
+        ensures { result.now ≡ self.now.error }
+    {
+        &self.error
+    }
+
     pub(crate) fn into_error(self) -> Error
         ensures error { result ≡ self.error }
         ensures came { of_registration result ≡ true }

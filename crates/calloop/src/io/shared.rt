@@ -1,158 +1,524 @@
 //! What the two ends of an adapter share: its state and its socket, each under a lock of its own, of which none is taken within
-//! the other.
-ghost use Rattle.std.specs.Prelude.{IfOk, IfSome};
-ghost use Rattle.calloop.specs.Refusals.{IsAnswer};
+//! the other. Each end has its own twin with it, which notes what it did.
+ghost use Rattle.std.specs.Prelude.{◌≡◌, [], ℕ, true, is_some, IfOk, IfErr, IfSome, IfNone, OnErr};
+ghost use Rattle.std.specs.Io.{ReadsAtMost, WritesAtMost};
+ghost use Rattle.std.specs.Arc.{arc_value};
+ghost use Rattle.calloop_wake.specs.declared.error.Error.TheVariants.{OutOfMemory};
+ghost use Rattle.calloop_core.specs.Polls.{poll_view, IsReady};
+ghost use Rattle.calloop_core.specs.Registering.{DidEdit};
+ghost use Rattle.calloop.specs.TakingUp.{taking_up};
+ghost use Rattle.calloop.specs.AdapterNotes.{polled, slotted};
+ghost use Rattle.calloop.specs.declared.io.notes.PollNote.TheVariants.{Answered, Refused, Waits, Tried, Flushed};
+ghost use Rattle.calloop.specs.declared.io.notes.SlotNote.TheVariants.{Heard, Settled as SettledSo, Kept, Asked, Reached};
+ghost use Rattle.calloop.specs.Refusals.{IsAnswer, of_registration};
 
+use super::notes::Settled;
 use super::refusal::Refusal;
-use super::state::{Home, Settled, State};
+use super::state::{Home, MarkDebt, PollTwin, SlotTwin, State, Waiting};
 use crate::futures::Waker;
-use calloop_core::sys::hub::share;
-use calloop_core::sys::marks::SharedMarks;
-use calloop_core::sys::{Interest, Poller, Readiness};
-use calloop_wake::error::Result as LoopResult;
-use calloop_wake::token::RegistrationToken;
-use std::alloc::AllocError;
-use std::sync::{Mutex, Wait};
+use calloop_core::sys::hub::{SharedHub, share};
+use calloop_core::sys::poll::Poll;
+use calloop_core::sys::{Interest, Mode, Poller, Readiness};
+use calloop_wake::error::{Error, Result as LoopResult};
+use calloop_wake::token::{RegistrationToken, Token};
+use calloop_wake::wake::locked::Locked;
+use std::alloc::{AllocError, Global};
+use std::io;
+use std::io::{Read, Write};
+use std::marker::Model;
+use std::sync::{Arc, Mutex, MutexGuard, Wait};
 
 #[derive(Drop)]
 pub(crate) struct Shared<P: Poller, R: Wait + Drop> {
-    state: Mutex<State<R>>,
-    pub(crate) io: Mutex<Option<P::Io>>,
+    state: Locked<State<R>>,
+    io: Mutex<Option<P::Io>>,
 }
 
-// Which adapter of which loop it is to be marked as, now.
-fn to_mark<R: Wait + Drop>(state: &mut State<R>, rt: &R) -> Option<Home> {
-    if !state.mark() {
-        return None;
-    }
-    let home = state.home()?;
-    Some(Home {
-        marks: share(rt, &home.marks),
-        token: home.token,
-    })
+/// What an `Async` has of its adapter. In a clause it is the twin.
+pub(crate) struct PollEnd<P: Poller, R: Wait + Drop> {
+    rt: R,
+    shared: Arc<Shared<P, R>, Global>,
+    twin: PollTwin,
 }
 
-impl<P: Poller, R: Wait + Drop> Shared<P, R> {
-    // Of an adapter that is in no loop yet, without its socket.
-    pub(crate) fn new() -> Shared<P, R> {
-        Shared {
-            state: Mutex::new(State::new()),
-            io: Mutex::new(None),
+impl<P: Poller, R: Wait + Drop> Model for PollEnd<P, R> {
+    ghost use Rattle.std.specs.Prelude.{◌≡◌};
+    ghost use Rattle.std.specs.Arc.{arc_value};
+    ghost use Rattle.calloop.specs.declared.io.state.PollTwin.{PollTwin};
+
+    ghost Value = { PollTwin };
+
+    ghost view = { λ e. e.twin };
+
+    ghost invariant = { λ e. e.twin.name ≡ (arc_value e.shared).state.slot };
+}
+
+/// What the end in a slot has of its adapter. In a clause it is the twin.
+#[derive(Drop)]
+pub(crate) struct SlotEnd<P: Poller, R: Wait + Drop> {
+    rt: R,
+    shared: Arc<Shared<P, R>, Global>,
+    twin: SlotTwin,
+}
+
+impl<P: Poller, R: Wait + Drop> Model for SlotEnd<P, R> {
+    ghost use Rattle.std.specs.Prelude.{◌≡◌};
+    ghost use Rattle.std.specs.Arc.{arc_value};
+    ghost use Rattle.calloop.specs.declared.io.state.SlotTwin.{SlotTwin};
+
+    ghost Value = { SlotTwin };
+
+    ghost view = { λ e. e.twin };
+
+    ghost invariant = { λ e. e.twin.name ≡ (arc_value e.shared).state.slot };
+}
+
+/// Both ends of an adapter that is in no loop yet, without its socket. Want of memory is `OutOfMemory`.
+pub(crate) fn make_ends<P: Poller, R: Wait + Clone + Drop>(
+    rt: &R,
+    alloc: Global,
+) -> LoopResult<(SlotEnd<P, R>, PollEnd<P, R>)>
+    ensures same { IfOk result (λ made. made.0.name ≡ made.1.name) }
+    ensures slot { IfOk result (λ made. made.0.notes ≡ []) }
+    ensures poll { IfOk result (λ made. made.1.notes ≡ []) }
+    ensures err { IfErr result (λ e. e ≡ OutOfMemory) }
+{
+    let of_slot = rt.clone()?;
+    let of_poll = rt.clone()?;
+    let (state, name, poll, slot) = State::new();
+    let state = Locked::new(alloc, state, &name)?;
+    let io = Mutex::new(None);
+    let shared = Arc::new(alloc, Shared { state, io })?;
+    let again = share(rt, &shared);
+    let slot = SlotEnd {
+        rt: of_slot,
+        shared: again,
+        twin: slot.into_twin(),
+    };
+    let poll = PollEnd {
+        rt: of_poll,
+        shared,
+        twin: poll.into_twin(),
+    };
+    Ok((slot, poll))
+}
+
+// Puts an adapter among the marks of its loop. Without memory it isn't there.
+fn put_mark<R: Wait + Drop>(
+    rt: &R,
+    state: &Locked<State<R>>,
+    debt: Option<MarkDebt>,
+) -> Result<(), AllocError> {
+    let Some(debt) = debt else {
+        return Ok(());
+    };
+    match debt.settle(rt) {
+        Ok(()) => Ok(()),
+        Err(failed) => {
+            let mut held = state.lock(rt);
+            let refused = held.core().unmark(failed);
+            held.unlock();
+            Err(refused)
         }
     }
+}
 
-    pub(crate) fn take_refusal(&self, rt: &R) -> Option<Refusal> {
-        self.state.lock(rt).take_refusal()
+// The sections of an adapter's lock that its `Async` has.
+
+fn take_refusal<R: Wait + Drop>(
+    rt: &R,
+    state: &Locked<State<R>>,
+    twin: &mut PollTwin,
+) -> Option<Error>
+    requires { twin.old.name ≡ state.now.slot }
+    ensures refused { IfSome result (λ e. of_registration e ≡ true) }
+    ensures twin { twin.new ≡ polled (Refused result) twin.old }
+{
+    let mut held = state.lock(rt);
+    let error = held.core().take_refusal(twin);
+    held.unlock();
+    error
+}
+
+fn answer<R: Wait + Drop>(
+    rt: &R,
+    state: &Locked<State<R>>,
+    twin: &mut PollTwin,
+    wanted: Interest,
+) -> Option<LoopResult<()>>
+    requires { twin.old.name ≡ state.now.slot }
+    ensures refused { IfSome result IsAnswer }
+    ensures some { IfSome result (λ a. twin.new ≡ polled (Answered a) twin.old) }
+    ensures none { IfNone result (twin.new ≡ twin.old) }
+{
+    let mut held = state.lock(rt);
+    let answer = held.core().answer(twin, wanted);
+    held.unlock();
+    answer
+}
+
+fn wait<R: Wait + Drop>(
+    rt: &R,
+    state: &Locked<State<R>>,
+    twin: &mut PollTwin,
+    wanted: Interest,
+    waker: Waker<R>,
+) -> Result<(), AllocError>
+    requires { twin.old.name ≡ state.now.slot }
+    ensures { twin.new ≡ polled (Waits wanted) twin.old }
+{
+    let mut held = state.lock(rt);
+    let Waiting { older, debt } = held.core().wait(rt, twin, wanted, waker);
+    held.unlock();
+    drop(older);
+    put_mark(rt, state, debt)
+}
+
+fn answer_or_wait<R: Wait + Drop>(
+    rt: &R,
+    state: &Locked<State<R>>,
+    twin: &mut PollTwin,
+    wanted: Interest,
+    waker: Waker<R>,
+) -> Result<Option<LoopResult<()>>, AllocError>
+    requires { twin.old.name ≡ state.now.slot }
+    ensures refused { IfOk result (λ answer. IfSome answer IsAnswer) }
+    ensures some { IfOk result (λ answer. IfSome answer
+        (λ a. twin.new ≡ polled (Answered a) twin.old)) }
+    ensures none { IfOk result (λ answer. IfNone answer
+        (twin.new ≡ polled (Waits wanted) twin.old)) }
+    ensures err { OnErr result (twin.new ≡ polled (Waits wanted) twin.old) }
+{
+    let mut held = state.lock(rt);
+    let answer = held.core().answer(twin, wanted);
+    if let Some(answer) = answer {
+        held.unlock();
+        return Ok(Some(answer));
+    }
+    let Waiting { older, debt } = held.core().wait(rt, twin, wanted, waker);
+    held.unlock();
+    drop(older);
+    put_mark(rt, state, debt)?;
+    Ok(None)
+}
+
+// Which registration it has, where it is in a loop, from where it may be taken out from now on, or not.
+fn set_leaving<R: Wait + Drop>(
+    rt: &R,
+    state: &Locked<State<R>>,
+    twin: &PollTwin,
+    leaving: bool,
+) -> Option<RegistrationToken>
+    requires { twin.now.name ≡ state.now.slot }
+{
+    let mut held = state.lock(rt);
+    let state = held.core();
+    let token = state.registration();
+    state.set_leaving(twin, leaving && token.is_some());
+    held.unlock();
+    token
+}
+
+fn let_go<R: Wait + Drop>(rt: &R, state: &Locked<State<R>>, twin: PollTwin)
+    requires { twin.name ≡ state.now.slot }
+{
+    let mut held = state.lock(rt);
+    let debt = held.core().let_go(rt, twin);
+    held.unlock();
+    // Where there is no memory for the mark, the adapter leaves with its loop.
+    let _failed = put_mark(rt, state, debt);
+}
+
+// The sections of its socket's lock that it has.
+
+fn try_read<Io: Read + Drop, R: Wait>(
+    rt: &R,
+    io: &Mutex<Option<Io>>,
+    twin: &mut PollTwin,
+    buf: &mut [u8],
+) -> io::Result<usize>
+    ensures bound { ReadsAtMost result buf.new }
+    ensures twin { twin.new ≡ polled (Tried result) twin.old }
+{
+    let mut held = io.lock(rt);
+    twin.try_read(&mut *held, buf)
+}
+
+fn try_write<Io: Write + Drop, R: Wait>(
+    rt: &R,
+    io: &Mutex<Option<Io>>,
+    twin: &mut PollTwin,
+    buf: &[u8],
+) -> io::Result<usize>
+    ensures bound { WritesAtMost result buf.now }
+    ensures twin { twin.new ≡ polled (Tried result) twin.old }
+{
+    let mut held = io.lock(rt);
+    twin.try_write(&mut *held, buf)
+}
+
+fn try_flush<Io: Write + Drop, R: Wait>(
+    rt: &R,
+    io: &Mutex<Option<Io>>,
+    twin: &mut PollTwin,
+) -> io::Result<()>
+    ensures twin { twin.new ≡ polled (Flushed result) twin.old }
+{
+    let mut held = io.lock(rt);
+    twin.try_flush(&mut *held)
+}
+
+impl<P: Poller, R: Wait + Drop> PollEnd<P, R> {
+    /// The socket, where it is there, under its lock.
+    pub(crate) fn io(&self) -> MutexGuard<'_, Option<P::Io>> {
+        self.shared.io.lock(&self.rt)
     }
 
-    // Puts it among the marks. Without memory it isn't there.
-    fn put_mark(&self, rt: &R, mark: Option<Home>) -> Result<(), AllocError> {
-        let Some(home) = mark else {
-            return Ok(());
-        };
-        match home.marks.mark(rt, home.token) {
-            Ok(()) => Ok(()),
-            Err(failed) => {
-                self.state.lock(rt).unmark();
-                Err(failed)
-            }
-        }
+    /// A refusal that is kept, once.
+    pub(crate) fn take_refusal(&mut self) -> Option<Error>
+        ensures refused { IfSome result (λ e. of_registration e ≡ true) }
+        ensures twin { self.new ≡ polled (Refused result) self.old }
+    {
+        take_refusal(&self.rt, &self.shared.state, &mut self.twin)
     }
 
-    // What a poll is answered; else it waits, and the loop is nudged.
+    /// What a poll is answered; else it waits, and the loop is nudged.
     pub(crate) fn answer_or_wait(
-        &self,
-        rt: &R,
+        &mut self,
         wanted: Interest,
         waker: Waker<R>,
     ) -> Result<Option<LoopResult<()>>, AllocError>
-        ensures { IfOk result (λ answer. IfSome answer IsAnswer) }
+        ensures refused { IfOk result (λ answer. IfSome answer IsAnswer) }
+        ensures some { IfOk result (λ answer. IfSome answer
+            (λ a. self.new ≡ polled (Answered a) self.old)) }
+        ensures none { IfOk result (λ answer. IfNone answer
+            (self.new ≡ polled (Waits wanted) self.old)) }
+        ensures err { OnErr result (self.new ≡ polled (Waits wanted) self.old) }
     {
-        let mut state = self.state.lock(rt);
-        if let Some(answer) = state.answer(wanted) {
-            return Ok(Some(answer));
-        }
-        let older = state.wait(wanted, waker);
-        let mark = to_mark(&mut state, rt);
-        drop(state);
-        drop(older);
-        self.put_mark(rt, mark)?;
-        Ok(None)
+        answer_or_wait(&self.rt, &self.shared.state, &mut self.twin, wanted, waker)
     }
 
-    // A poll waits, and the loop is nudged.
-    pub(crate) fn wait(&self, rt: &R, wanted: Interest, waker: Waker<R>) -> Result<(), AllocError> {
-        let mut state = self.state.lock(rt);
-        let older = state.wait(wanted, waker);
-        let mark = to_mark(&mut state, rt);
-        drop(state);
-        drop(older);
-        self.put_mark(rt, mark)
+    /// A poll waits, and the loop is nudged.
+    pub(crate) fn wait(&mut self, wanted: Interest, waker: Waker<R>) -> Result<(), AllocError>
+        ensures { self.new ≡ polled (Waits wanted) self.old }
+    {
+        wait(&self.rt, &self.shared.state, &mut self.twin, wanted, waker)
     }
 
-    // The `Async` is gone. Where there is no memory for the mark, the adapter leaves with its loop.
-    pub(crate) fn let_go(&self, rt: &R) {
-        let mut state = self.state.lock(rt);
-        state.let_go();
-        let mark = to_mark(&mut state, rt);
-        drop(state);
-        let _failed = self.put_mark(rt, mark);
+    /// Reads the socket.
+    pub(crate) fn try_read(&mut self, buf: &mut [u8]) -> io::Result<usize>
+    where
+        P::Io: Read,
+        ensures bound { ReadsAtMost result buf.new }
+        ensures twin { self.new ≡ polled (Tried result) self.old }
+    {
+        try_read(&self.rt, &self.shared.io, &mut self.twin, buf)
     }
 
-    // It comes into a loop, where what was asked of it until then is taken up.
-    pub(crate) fn come_into(&self, rt: &R, marks: &SharedMarks, token: RegistrationToken) {
+    /// Writes to the socket.
+    pub(crate) fn try_write(&mut self, buf: &[u8]) -> io::Result<usize>
+    where
+        P::Io: Write,
+        ensures bound { WritesAtMost result buf.now }
+        ensures twin { self.new ≡ polled (Tried result) self.old }
+    {
+        try_write(&self.rt, &self.shared.io, &mut self.twin, buf)
+    }
+
+    /// Flushes the socket.
+    pub(crate) fn try_flush(&mut self) -> io::Result<()>
+    where
+        P::Io: Write,
+        ensures twin { self.new ≡ polled (Flushed result) self.old }
+    {
+        try_flush(&self.rt, &self.shared.io, &mut self.twin)
+    }
+
+    /// Its registration, where it is in a loop, from where it may be taken out now.
+    pub(crate) fn begin_leaving(&self) -> Option<RegistrationToken> {
+        set_leaving(&self.rt, &self.shared.state, &self.twin, true)
+    }
+
+    /// It stays in its loop, if it is in one.
+    pub(crate) fn stay(&self) {
+        let _token = set_leaving(&self.rt, &self.shared.state, &self.twin, false);
+    }
+
+    /// The `Async` is gone.
+    pub(crate) fn let_go(self) {
+        let PollEnd { rt, shared, twin } = self;
+        let_go(&rt, &shared.state, twin);
+    }
+}
+
+// The sections that the end in a slot has.
+
+fn come_into<R: Wait + Drop>(rt: &R, state: &Locked<State<R>>, twin: &SlotTwin, home: Home)
+    requires { twin.now.name ≡ state.now.slot }
+{
+    let mut held = state.lock(rt);
+    let debt = held.core().come_into(rt, twin, home);
+    held.unlock();
+    let _failed = put_mark(rt, state, debt);
+}
+
+fn leave<R: Wait + Drop>(rt: &R, state: &Locked<State<R>>, twin: &SlotTwin)
+    requires { twin.now.name ≡ state.now.slot }
+{
+    let mut held = state.lock(rt);
+    held.core().leave(twin);
+    held.unlock();
+}
+
+fn is_leaving<R: Wait + Drop>(rt: &R, state: &Locked<State<R>>, twin: &mut SlotTwin) -> bool
+    requires { twin.old.name ≡ state.now.slot }
+    ensures { twin.new ≡ slotted (Asked result) twin.old }
+{
+    let mut held = state.lock(rt);
+    let leaving = held.core().is_leaving(twin);
+    held.unlock();
+    leaving
+}
+
+fn settle<R: Wait + Drop>(rt: &R, state: &Locked<State<R>>, twin: &mut SlotTwin) -> Settled
+    requires { twin.old.name ≡ state.now.slot }
+    ensures { twin.new ≡ slotted (SettledSo result) twin.old }
+{
+    let mut held = state.lock(rt);
+    let settled = held.core().settle(twin);
+    held.unlock();
+    settled
+}
+
+fn refuse<R: Wait + Drop>(rt: &R, state: &Locked<State<R>>, twin: &mut SlotTwin, refusal: Refusal)
+    requires { twin.old.name ≡ state.now.slot }
+    ensures { twin.new ≡ slotted (Kept refusal.error) twin.old }
+{
+    let mut held = state.lock(rt);
+    let waking = held.core().refuse(twin, refusal);
+    held.unlock();
+    waking.wake();
+}
+
+fn hear<R: Wait + Drop>(rt: &R, state: &Locked<State<R>>, twin: &mut SlotTwin, found: Readiness)
+    requires { twin.old.name ≡ state.now.slot }
+    ensures { twin.new ≡ slotted (Heard found) twin.old }
+{
+    let mut held = state.lock(rt);
+    let waking = held.core().hear(twin, found);
+    held.unlock();
+    waking.wake();
+}
+
+// Registers the socket for this, where it is there, first or anew.
+fn register<P: Poller, C, R: Wait + Drop>(
+    rt: &R,
+    io: &Mutex<Option<P::Io>>,
+    twin: &mut SlotTwin,
+    entered: bool,
+    token: Token,
+    interest: Interest,
+    poll: &mut Poll<P, C, R>,
+) -> Option<LoopResult<()>>
+    ensures twin { twin.new ≡ slotted (Reached (is_some result)) twin.old }
+    ensures none { IfNone result (poll_view poll.new ≡ poll_view poll.old) }
+    ensures some { IfSome result (λ told. (socket : P.Io) × (after : P.Io)
+        × DidEdit P.outside P.sockets (taking_up token entered interest)
+        (poll_view poll.old) socket told (poll_view poll.new) after) }
+    ensures refused { IfSome result (λ told. IfErr told (λ e. of_registration e ≡ true)) }
+    ensures ready { (more : ℕ) → IsReady more poll.old → IsReady more poll.new }
+{
+    let mut held = io.lock(rt);
+    twin.reach(&*held);
+    match &mut *held {
+        Some(io) if entered => Some(poll.reregister(io, token, interest, Mode::OneShot, token)),
+        Some(io) => Some(poll.register(io, interest, Mode::OneShot, token)),
+        None => None,
+    }
+}
+
+impl<P: Poller, R: Wait + Drop> SlotEnd<P, R> {
+    /// Registers the socket for this, where it is there, first or anew.
+    pub(crate) fn register<C>(
+        &mut self,
+        entered: bool,
+        token: Token,
+        interest: Interest,
+        poll: &mut Poll<P, C, R>,
+    ) -> Option<LoopResult<()>>
+        ensures twin { self.new ≡ slotted (Reached (is_some result)) self.old }
+        ensures none { IfNone result (poll_view poll.new ≡ poll_view poll.old) }
+        ensures some { IfSome result (λ told. (socket : P.Io) × (after : P.Io)
+            × DidEdit P.outside P.sockets (taking_up token entered interest)
+            (poll_view poll.old) socket told (poll_view poll.new) after) }
+        ensures refused { IfSome result (λ told. IfErr told (λ e. of_registration e ≡ true)) }
+        ensures ready { (more : ℕ) → IsReady more poll.old → IsReady more poll.new }
+    {
+        register(
+            &self.rt,
+            &self.shared.io,
+            &mut self.twin,
+            entered,
+            token,
+            interest,
+            poll,
+        )
+    }
+
+    /// The socket, where it is there, under its lock.
+    pub(crate) fn io(&self) -> MutexGuard<'_, Option<P::Io>> {
+        self.shared.io.lock(&self.rt)
+    }
+
+    /// Makes room for its mark in this loop. Want of memory changes nothing.
+    pub(crate) fn open_mark(&self, hub: &SharedHub) -> Result<(), AllocError> {
+        hub.open_mark(&self.rt)
+    }
+
+    /// It needs no room for its mark any more.
+    pub(crate) fn close_mark(&self, hub: &SharedHub) {
+        hub.close_mark(&self.rt);
+    }
+
+    /// It comes into a loop, where what was asked of it until then is taken up.
+    pub(crate) fn come_into(&self, hub: &SharedHub, token: RegistrationToken) {
         let home = Home {
-            marks: share(rt, marks),
+            hub: share(&self.rt, hub),
             token,
         };
-        let mut state = self.state.lock(rt);
-        state.move_to(Some(home));
-        let mark = to_mark(&mut state, rt);
-        drop(state);
-        let _failed = self.put_mark(rt, mark);
+        come_into(&self.rt, &self.shared.state, &self.twin, home);
     }
 
-    // It leaves its loop.
-    pub(crate) fn leave(&self, rt: &R) {
-        self.state.lock(rt).move_to(None);
+    /// It leaves its loop.
+    pub(crate) fn leave(&self) {
+        leave(&self.rt, &self.shared.state, &self.twin);
     }
 
-    // Its registration, where it is in a loop.
-    pub(crate) fn registration(&self, rt: &R) -> Option<RegistrationToken> {
-        let state = self.state.lock(rt);
-        match state.home() {
-            Some(home) => Some(home.token),
-            None => None,
-        }
+    /// Whether it is being given back.
+    pub(crate) fn is_leaving(&mut self) -> bool
+        ensures { self.new ≡ slotted (Asked result) self.old }
+    {
+        is_leaving(&self.rt, &self.shared.state, &mut self.twin)
     }
 
-    // It is being given back, or that was refused.
-    pub(crate) fn set_leaving(&self, rt: &R, leaving: bool) {
-        self.state.lock(rt).set_leaving(leaving);
+    /// What the loop is to do with it.
+    pub(crate) fn settle(&mut self) -> Settled
+        ensures { self.new ≡ slotted (SettledSo result) self.old }
+    {
+        settle(&self.rt, &self.shared.state, &mut self.twin)
     }
 
-    // Whether it may leave its loop.
-    pub(crate) fn may_leave(&self, rt: &R) -> bool {
-        self.state.lock(rt).may_leave()
+    /// Keeps a refusal, and wakes who waits.
+    pub(crate) fn refuse(&mut self, refusal: Refusal)
+        ensures { self.new ≡ slotted (Kept refusal.error) self.old }
+    {
+        refuse(&self.rt, &self.shared.state, &mut self.twin, refusal);
     }
 
-    pub(crate) fn settle(&self, rt: &R) -> Settled {
-        self.state.lock(rt).settle()
-    }
-
-    // Keeps a refusal, and wakes who waits.
-    pub(crate) fn refuse(&self, rt: &R, refusal: Refusal) {
-        let waker = self.state.lock(rt).refuse(refusal);
-        if let Some(waker) = waker {
-            waker.wake();
-        }
-    }
-
-    // Keeps what was found, and wakes who waits.
-    pub(crate) fn hear(&self, rt: &R, found: Readiness) {
-        let waker = self.state.lock(rt).hear(found);
-        if let Some(waker) = waker {
-            waker.wake();
-        }
+    /// Keeps what was found, and wakes who waits.
+    pub(crate) fn hear(&mut self, found: Readiness)
+        ensures { self.new ≡ slotted (Heard found) self.old }
+    {
+        hear(&self.rt, &self.shared.state, &mut self.twin, found);
     }
 }

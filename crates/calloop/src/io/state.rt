@@ -1,45 +1,146 @@
-//! What the two ends of an adapter know of it, beside its socket.
-ghost use Rattle.std.specs.Prelude.{◌≡◌, None, Some, true, false, is_some, not, ◌&&◌, ◌||◌, IfSome};
-ghost use Rattle.calloop.specs.AdapterStates.{suits, nothing_found, answer_of, after_answer, settled_by};
-ghost use Rattle.calloop.specs.Refusals.{IsAnswer};
+//! What the two ends of an adapter know of it, beside its socket, under a lock with its name. What an end does there it notes in a value that
+//! nobody else has, its twin: so its contracts say what it did.
+ghost use Rattle.std.specs.Prelude.{◌≡◌, ◌++◌, ◌∷◌, [], None, Some, true, false, is_some, not, ◌&&◌, ◌||◌, IfSome, IfNone, option_map};
+ghost use Rattle.std.specs.Io.{ReadsAtMost, WritesAtMost};
+ghost use Rattle.calloop.specs.AdapterStates.{suits, fresh_state, error_of, answer_of, after_answer, after_wait, after_coming, after_drop, settled_by};
+ghost use Rattle.calloop.specs.AdapterNotes.{polled, slotted};
+ghost use Rattle.calloop.specs.declared.io.notes.PollNote.TheVariants.{Answered, Refused, Waits, Tried, Flushed};
+ghost use Rattle.calloop.specs.declared.io.notes.SlotNote.TheVariants.{Heard, Settled as SettledSo, Kept, Asked, Reached};
+ghost use Rattle.calloop.specs.Refusals.{IsAnswer, of_registration};
 
+use super::notes::{PollNotes, Settled, SlotNotes};
 use super::refusal::Refusal;
 use crate::futures::Waker;
-use calloop_core::sys::marks::SharedMarks;
+use calloop_core::sys::hub::{SharedHub, share};
 use calloop_core::sys::{Interest, Readiness};
-use calloop_wake::error::Result as LoopResult;
+use calloop_wake::error::{Error, Result as LoopResult};
 use calloop_wake::token::RegistrationToken;
-use std::mem;
+use calloop_wake::wake::Last;
+use calloop_wake::wake::ghosts::Name;
+use calloop_wake::wake::locked::Core;
+use counted_slot::Fits;
+use std::alloc::AllocError;
+use std::io::{Read, Write};
 use std::sync::Wait;
+use std::{io, mem};
 
-// Which adapter of which loop it is.
+/// Which adapter of which loop it is.
 #[derive(Drop)]
 pub(crate) struct Home {
-    pub(crate) marks: SharedMarks,
+    pub(crate) hub: SharedHub,
     pub(crate) token: RegistrationToken,
 }
 
-// What the loop is to do with an adapter.
-#[derive(Clone, Copy, Debug, PartialEq, Eq)]
-pub(crate) enum Settled {
-    Stays,
-    Registers(Interest),
-    Leaves,
+/// What the `Async` of the adapter of this name did. There is one for each adapter, and it is spent where the `Async` is let go.
+#[must_use]
+pub struct PollTwin {
+    name: Name,
+    notes: PollNotes,
 }
 
+/// What the end in a slot of the adapter of this name did. There is one for each adapter.
 #[derive(Drop)]
+pub struct SlotTwin {
+    name: Name,
+    notes: SlotNotes,
+}
+
+/// The right to what the `Async` of the adapter of this name has. There is one for each, made with it, and it can't be cloned.
+#[derive(Drop)]
+pub(crate) struct PollRight {
+    name: Name,
+}
+
+/// The right to what the end in a slot of the adapter of this name has. There is one for each, made with it, and it can't be cloned.
+#[derive(Drop)]
+pub(crate) struct SlotRight {
+    name: Name,
+}
+
+/// An adapter that is to be put among the marks of its loop.
+#[must_use]
+pub(crate) struct MarkDebt {
+    home: Home,
+}
+
+/// There was no memory for a mark.
+#[must_use]
+pub(crate) struct NotMarked {
+    of_state: (),
+}
+
+impl MarkDebt {
+    /// Spends it: the adapter is among the marks of its loop, which is woken.
+    pub(crate) fn settle<R: Wait>(self, rt: &R) -> Result<(), NotMarked> {
+        let MarkDebt { home } = self;
+        match home.hub.mark(rt, home.token) {
+            Ok(()) => Ok(()),
+            Err(_) => Err(NotMarked { of_state: () }),
+        }
+    }
+}
+
+/// Who waits, and is to be woken, where somebody does.
+#[must_use]
+pub(crate) struct Waking<R: Wait + Drop> {
+    waker: Option<Waker<R>>,
+}
+
+impl<R: Wait + Drop> Waking<R> {
+    /// Spends it, outside of every lock.
+    pub(crate) fn wake(self) {
+        let Waking { waker } = self;
+        if let Some(waker) = waker {
+            waker.wake();
+        }
+    }
+}
+
+/// A poll waits: the waker of the one before, and what is owed for the mark.
+pub(crate) struct Waiting<R: Wait + Drop> {
+    pub(crate) older: Option<Waker<R>>,
+    pub(crate) debt: Option<MarkDebt>,
+}
+
+/// What both ends share, as it lies under the lock. It has no `Drop`.
 pub(crate) struct State<R: Wait + Drop> {
     // What the last poll waits for.
     interest: Option<Interest>,
     readiness: Readiness,
     waker: Option<Waker<R>>,
     refusal: Option<Refusal>,
-    // It is among the marks of its loop.
+    // It is among the marks of its loop, or that is owed.
     marked: bool,
     dropped: bool,
     // It is being given back.
     leaving: bool,
     home: Option<Home>,
+    name: Name,
+}
+
+impl<R: Wait + Drop> Fits for State<R> {
+    ghost use Rattle.std.specs.Prelude.{◌≡◌};
+
+    type Tag = Name;
+
+    ghost fits = { λ tag state. state.name ≡ tag };
+}
+
+impl<R: Wait + Drop> Core for State<R> {
+    fn dissolve(self, last: Last) {
+        last.end();
+        let State {
+            interest: _,
+            readiness: _,
+            waker: _,
+            refusal: _,
+            marked: _,
+            dropped: _,
+            leaving: _,
+            home: _,
+            name: _,
+        } = self;
+    }
 }
 
 // Whether what was found answers a wait for this.
@@ -49,21 +150,103 @@ fn suits(wanted: Interest, found: Readiness) -> bool
     wanted.readable && found.readable || wanted.writable && found.writable || found.error
 }
 
-impl<R: Wait + Drop> State<R> {
-    // Of an adapter that is in no loop yet.
-    pub(crate) fn new() -> State<R>
-        ensures { result ≡ record {
-          interest = None;
-          readiness = nothing_found;
-          waker = None;
-          refusal = None;
-          marked = false;
-          dropped = false;
-          leaving = false;
-          home = None;
-        } }
+fn not_there() -> io::Error {
+    io::Error::from(io::ErrorKind::NotFound)
+}
+
+impl PollRight {
+    /// The twin, which did nothing yet.
+    pub(crate) fn into_twin(self) -> PollTwin
+        ensures { result ≡ record { name = self.name; notes = [] } }
     {
-        State {
+        let PollRight { name } = self;
+        PollTwin {
+            name,
+            notes: PollNotes::none(),
+        }
+    }
+}
+
+impl SlotRight {
+    /// The twin, which did nothing yet.
+    pub(crate) fn into_twin(self) -> SlotTwin
+        ensures { result ≡ record { name = self.name; notes = [] } }
+    {
+        let SlotRight { name } = self;
+        SlotTwin {
+            name,
+            notes: SlotNotes::none(),
+        }
+    }
+}
+
+impl PollTwin {
+    /// Reads the socket, where it is there, and notes the answer.
+    pub(crate) fn try_read<Io: Read>(
+        &mut self,
+        io: &mut Option<Io>,
+        buf: &mut [u8],
+    ) -> io::Result<usize>
+        ensures bound { ReadsAtMost result buf.new }
+        ensures twin { self.new ≡ polled (Tried result) self.old }
+    {
+        let answer = match io {
+            Some(io) => io.read(buf),
+            None => Err(not_there()),
+        };
+        self.notes = self.notes.and_tried(&answer);
+        answer
+    }
+
+    /// Writes to the socket, where it is there, and notes the answer.
+    pub(crate) fn try_write<Io: Write>(
+        &mut self,
+        io: &mut Option<Io>,
+        buf: &[u8],
+    ) -> io::Result<usize>
+        ensures bound { WritesAtMost result buf.now }
+        ensures twin { self.new ≡ polled (Tried result) self.old }
+    {
+        let answer = match io {
+            Some(io) => io.write(buf),
+            None => Err(not_there()),
+        };
+        self.notes = self.notes.and_tried(&answer);
+        answer
+    }
+
+    /// Flushes the socket, where it is there, and notes the answer.
+    pub(crate) fn try_flush<Io: Write>(&mut self, io: &mut Option<Io>) -> io::Result<()>
+        ensures twin { self.new ≡ polled (Flushed result) self.old }
+    {
+        let answer = match io {
+            Some(io) => io.flush(),
+            None => Err(not_there()),
+        };
+        self.notes = self.notes.and_flushed(&answer);
+        answer
+    }
+}
+
+impl SlotTwin {
+    /// Notes whether the socket is there.
+    pub(crate) fn reach<Io>(&mut self, io: &Option<Io>)
+        ensures { self.new ≡ slotted (Reached (is_some io.now)) self.old }
+    {
+        let there = io.is_some();
+        self.notes = self.notes.and_reached(&there);
+    }
+}
+
+impl<R: Wait + Drop> State<R> {
+    /// Of an adapter that is in no loop yet, its name, and the rights of its ends.
+    pub(crate) fn new() -> (State<R>, Name, PollRight, SlotRight)
+        ensures state { result.0 ≡ fresh_state result.1 }
+        ensures poll { result.2.name ≡ result.1 }
+        ensures slot { result.3.name ≡ result.1 }
+    {
+        let name = Name::fresh();
+        let state = State {
             interest: None,
             readiness: Readiness::EMPTY,
             waker: None,
@@ -72,19 +255,31 @@ impl<R: Wait + Drop> State<R> {
             dropped: false,
             leaving: false,
             home: None,
-        }
+            name: name.again(),
+        };
+        let poll = PollRight { name: name.again() };
+        let slot = SlotRight { name: name.again() };
+        (state, name, poll, slot)
     }
 
-    // The refusal that is kept, once.
-    pub(crate) fn take_refusal(&mut self) -> Option<Refusal>
-        ensures refusal { result ≡ self.old.refusal }
+    /// The refusal that is kept, once.
+    pub(crate) fn take_refusal(&mut self, twin: &mut PollTwin) -> Option<Error>
+        requires { twin.old.name ≡ self.old.name }
+        ensures gives { result ≡ option_map error_of self.old.refusal }
         ensures state { self.new ≡ record self.old { refusal = None } }
+        ensures refused { IfSome result (λ e. of_registration e ≡ true) }
+        ensures twin { twin.new ≡ polled (Refused result) twin.old }
     {
-        self.refusal.take()
+        let error = match self.refusal.take() {
+            Some(refusal) => Some(refusal.into_error()),
+            None => None,
+        };
+        twin.notes = twin.notes.and_refused(&error);
+        error
     }
 
-    // What a poll that waits for this is answered, once: a kept refusal first, and then what was found.
-    pub(crate) fn answer(&mut self, wanted: Interest) -> Option<LoopResult<()>>
+    // What a poll that waits for this is answered.
+    fn answer_to(&mut self, wanted: Interest) -> Option<LoopResult<()>>
         ensures answer { result ≡ answer_of self.old.refusal wanted self.old.readiness }
         ensures refused { IfSome result IsAnswer }
         ensures state { self.new ≡ after_answer self.old }
@@ -100,53 +295,119 @@ impl<R: Wait + Drop> State<R> {
         }
     }
 
-    // A poll has to wait for this. The older waker comes back.
-    pub(crate) fn wait(&mut self, wanted: Interest, waker: Waker<R>) -> Option<Waker<R>>
-        ensures older { result ≡ self.old.waker }
-        ensures state { self.new ≡ record self.old { interest = Some wanted; waker = Some waker } }
+    /// What a poll that waits for this is answered, once: a kept refusal first, and then what was found.
+    pub(crate) fn answer(&mut self, twin: &mut PollTwin, wanted: Interest) -> Option<LoopResult<()>>
+        requires { twin.old.name ≡ self.old.name }
+        ensures answer { result ≡ answer_of self.old.refusal wanted self.old.readiness }
+        ensures refused { IfSome result IsAnswer }
+        ensures state { self.new ≡ after_answer self.old }
+        ensures some { IfSome result (λ a. twin.new ≡ polled (Answered a) twin.old) }
+        ensures none { IfNone result (twin.new ≡ twin.old) }
     {
-        self.interest = Some(wanted);
-        mem::replace(&mut self.waker, Some(waker))
+        let answer = self.answer_to(wanted)?;
+        twin.notes = twin.notes.and_answered(&answer);
+        Some(answer)
     }
 
-    // Whether it is to be put among the marks of its loop: it has one, and isn't there yet.
-    pub(crate) fn mark(&mut self) -> bool
-        ensures marks { result ≡ (is_some self.old.home && not self.old.marked) }
+    // What is owed for its mark, where it is in a loop and isn't marked.
+    fn mark<S: Wait>(&mut self, rt: &S) -> Option<MarkDebt>
+        ensures owes { is_some result ≡ (is_some self.old.home && not self.old.marked) }
         ensures state { self.new
             ≡ record self.old { marked = self.old.marked || is_some self.old.home } }
     {
-        let marks = self.home.is_some() && !self.marked;
-        self.marked = self.marked || self.home.is_some();
-        marks
+        let home = self.home.as_ref()?;
+        if self.marked {
+            return None;
+        }
+        let debt = MarkDebt {
+            home: Home {
+                hub: share(rt, &home.hub),
+                token: home.token,
+            },
+        };
+        self.marked = true;
+        Some(debt)
     }
 
-    // It couldn't be put there.
-    pub(crate) fn unmark(&mut self)
+    /// A poll has to wait for this.
+    pub(crate) fn wait(
+        &mut self,
+        rt: &R,
+        twin: &mut PollTwin,
+        wanted: Interest,
+        waker: Waker<R>,
+    ) -> Waiting<R>
+        requires { twin.old.name ≡ self.old.name }
+        ensures older { result.older ≡ self.old.waker }
+        ensures owes { is_some result.debt ≡ (is_some self.old.home && not self.old.marked) }
+        ensures state { self.new ≡ after_wait wanted waker self.old }
+        ensures twin { twin.new ≡ polled (Waits wanted) twin.old }
+    {
+        twin.notes = twin.notes.and_waits(&wanted);
+        self.interest = Some(wanted);
+        let older = mem::replace(&mut self.waker, Some(waker));
+        let debt = self.mark(rt);
+        Waiting { older, debt }
+    }
+
+    /// There was no memory for its mark.
+    pub(crate) fn unmark(&mut self, failed: NotMarked) -> AllocError
         ensures { self.new ≡ record self.old { marked = false } }
     {
+        let NotMarked { of_state: _ } = failed;
         self.marked = false;
+        AllocError
     }
 
-    // Its loop, where it is in one.
-    pub(crate) fn home(&self) -> Option<&Home> {
-        self.home.as_ref()
-    }
-
-    // It comes into a loop, or leaves it.
-    pub(crate) fn move_to(&mut self, home: Option<Home>)
-        ensures { self.new ≡ record self.old { home = home; marked = false } }
+    /// Its registration, where it is in a loop.
+    pub(crate) fn registration(&self) -> Option<RegistrationToken>
+        ensures { is_some result ≡ is_some self.now.home }
     {
-        self.home = home;
+        match &self.home {
+            Some(home) => Some(home.token),
+            None => None,
+        }
+    }
+
+    /// It comes into a loop, where what was asked of it until then is taken up.
+    pub(crate) fn come_into(&mut self, rt: &R, twin: &SlotTwin, home: Home) -> Option<MarkDebt>
+        requires { twin.now.name ≡ self.old.name }
+        ensures owes { is_some result ≡ true }
+        ensures state { self.new ≡ after_coming home self.old }
+    {
+        let _ = twin;
+        self.home = Some(home);
+        self.marked = false;
+        self.mark(rt)
+    }
+
+    /// It leaves its loop.
+    pub(crate) fn leave(&mut self, twin: &SlotTwin)
+        requires { twin.now.name ≡ self.old.name }
+        ensures { self.new ≡ record self.old { home = None; marked = false } }
+    {
+        let _ = twin;
+        self.home = None;
         self.marked = false;
     }
 
-    // It was taken from the marks: what the loop is to do.
-    pub(crate) fn settle(&mut self) -> Settled
+    /// It was taken from the marks: what the loop is to do.
+    pub(crate) fn settle(&mut self, twin: &mut SlotTwin) -> Settled
+        requires { twin.old.name ≡ self.old.name }
         ensures settled { result ≡ settled_by self.old.marked self.old.dropped self.old.interest }
         ensures state { self.new ≡ record self.old { marked = false } }
+        ensures twin { twin.new ≡ slotted (SettledSo result) twin.old }
     {
-        let marked = mem::replace(&mut self.marked, false);
-        if !marked {
+        let settled = self.to_settle();
+        self.marked = false;
+        twin.notes = twin.notes.and_settled(&settled);
+        settled
+    }
+
+    fn to_settle(&self) -> Settled
+        ensures { result ≡ settled_by self.now.marked self.now.dropped self.now.interest }
+    {
+        if !self.marked {
             return Settled::Stays;
         }
         if self.dropped {
@@ -158,46 +419,66 @@ impl<R: Wait + Drop> State<R> {
         }
     }
 
-    // Its registration was refused. Whom to wake comes back.
-    pub(crate) fn refuse(&mut self, refusal: Refusal) -> Option<Waker<R>>
-        ensures wakes { result ≡ self.old.waker }
+    /// Its registration was refused. Who waits is to be woken.
+    pub(crate) fn refuse(&mut self, twin: &mut SlotTwin, refusal: Refusal) -> Waking<R>
+        requires { twin.old.name ≡ self.old.name }
+        ensures wakes { result.waker ≡ self.old.waker }
         ensures state { self.new
             ≡ record self.old { refusal = Some refusal; interest = None; waker = None } }
+        ensures twin { twin.new ≡ slotted (Kept refusal.error) twin.old }
     {
+        twin.notes = twin.notes.and_kept(refusal.error());
         self.refusal = Some(refusal);
         self.interest = None;
-        self.waker.take()
+        Waking {
+            waker: self.waker.take(),
+        }
     }
 
-    // An event came. Whom to wake comes back.
-    pub(crate) fn hear(&mut self, found: Readiness) -> Option<Waker<R>>
-        ensures wakes { result ≡ self.old.waker }
+    /// An event came. Who waits is to be woken.
+    pub(crate) fn hear(&mut self, twin: &mut SlotTwin, found: Readiness) -> Waking<R>
+        requires { twin.old.name ≡ self.old.name }
+        ensures wakes { result.waker ≡ self.old.waker }
         ensures state { self.new
             ≡ record self.old { readiness = found; interest = None; waker = None } }
+        ensures twin { twin.new ≡ slotted (Heard found) twin.old }
     {
+        twin.notes = twin.notes.and_heard(&found);
         self.readiness = found;
         self.interest = None;
-        self.waker.take()
+        Waking {
+            waker: self.waker.take(),
+        }
     }
 
-    // It is being given back, or that was refused.
-    pub(crate) fn set_leaving(&mut self, leaving: bool)
+    /// It is being given back, or that was refused.
+    pub(crate) fn set_leaving(&mut self, twin: &PollTwin, leaving: bool)
+        requires { twin.now.name ≡ self.old.name }
         ensures { self.new ≡ record self.old { leaving = leaving } }
     {
+        let _ = twin;
         self.leaving = leaving;
     }
 
-    // Whether it may leave its loop.
-    pub(crate) fn may_leave(&self) -> bool
-        ensures { result ≡ (self.now.leaving || self.now.dropped) }
+    /// Whether it is being given back.
+    pub(crate) fn is_leaving(&self, twin: &mut SlotTwin) -> bool
+        requires { twin.old.name ≡ self.now.name }
+        ensures answer { result ≡ self.now.leaving }
+        ensures twin { twin.new ≡ slotted (Asked result) twin.old }
     {
-        self.leaving || self.dropped
+        let leaving = self.leaving;
+        twin.notes = twin.notes.and_asked(&leaving);
+        leaving
     }
 
-    // Its other end is gone.
-    pub(crate) fn let_go(&mut self)
-        ensures { self.new ≡ record self.old { dropped = true } }
+    /// Its other end is gone, whose twin is spent.
+    pub(crate) fn let_go(&mut self, rt: &R, twin: PollTwin) -> Option<MarkDebt>
+        requires { twin.name ≡ self.old.name }
+        ensures owes { is_some result ≡ (is_some self.old.home && not self.old.marked) }
+        ensures state { self.new ≡ after_drop self.old }
     {
+        let PollTwin { name: _, notes: _ } = twin;
         self.dropped = true;
+        self.mark(rt)
     }
 }

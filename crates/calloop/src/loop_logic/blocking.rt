@@ -3,7 +3,8 @@ ghost use Rattle.std.specs.Prelude.{◌≡◌, ◌⊎◌, Err, IfErr, IfSome, If
 ghost use Rattle.std.specs.Fn.{CalledAtMut};
 ghost use Rattle.calloop_wake.specs.declared.error.Error.TheVariants.{OutOfMemory};
 ghost use Rattle.calloop.specs.Machine.{view_of};
-ghost use Rattle.calloop.specs.Blocking.{BlocksTo};
+ghost use Rattle.calloop.specs.Blocking.{BlocksTo, PolledOrNot};
+ghost use Rattle.calloop.specs.declared.futures.task.Poll.TheVariants.{Ready};
 
 use super::{EventDispatcher, EventLoop};
 use crate::futures::{Blocked, Context, Future, Poll, Waker};
@@ -14,6 +15,7 @@ use std::sync::{Arc, Wait};
 
 // Polls a future that was woken, or not polled yet: its output, where it is done.
 fn poll_if_woken<Fut, R>(
+    first: bool,
     future: &mut Fut,
     blocked: &Blocked,
     waker: &Waker<R>,
@@ -24,8 +26,10 @@ where
     ensures gives { IfSome result (Fut.gives future.old) }
     ensures same { IfNone result ((x : Fut.Output) → Fut.gives future.new x
         → Fut.gives future.old x) }
+    ensures done { IfSome result (λ output. Fut.polls future.old (Ready output) future.new) }
+    ensures pending { IfNone result (PolledOrNot first Fut.polls future.old future.new) }
 {
-    if !blocked.is_woken() {
+    if !first && !blocked.is_woken() {
         return None;
     }
     match future.poll(&mut Context::from_waker(waker)) {
@@ -55,19 +59,22 @@ impl<D: EventDispatcher<P, C, R>, P: Poller, C: Clock, R: Wait + Drop> EventLoop
     ) -> Result<Option<Fut::Output>>
         requires { F.IsAlwaysCallable callback }
         ensures { BlocksTo D.means D.Idle.runs P.outside (CalledAtMut F.FnMut) (Fut.gives future)
-            callback «data».old (view_of self.old) result «data».new (view_of self.new) }
+            Fut.polls future callback «data».old
+            (view_of self.old) result «data».new (view_of self.new) }
     {
         let (blocked, waker) = woken;
         let mut future = future;
         let mut callback = callback;
+        let mut first = true;
         self.forget_stop();
         'rounds: for _ in rt.forever() {
             if self.is_stopped() {
                 return Ok(None);
             }
-            if let Some(output) = poll_if_woken(&mut future, &blocked, &waker) {
+            if let Some(output) = poll_if_woken(first, &mut future, &blocked, &waker) {
                 return Ok(Some(output));
             }
+            first = false;
             self.dispatch(rt, None, data)?;
             callback(data);
         }
@@ -92,7 +99,8 @@ impl<D: EventDispatcher<P, C, R>, P: Poller, C: Clock, R: Wait + Drop> EventLoop
         ensures { ((result ≡ Err OutOfMemory) × («data».new ≡ «data».old)
             × (view_of self.new ≡ view_of self.old))
             ⊎ BlocksTo D.means D.Idle.runs P.outside (CalledAtMut F.FnMut) (Fut.gives future)
-            callback «data».old (view_of self.old) result «data».new (view_of self.new) }
+            Fut.polls future callback «data».old
+            (view_of self.old) result «data».new (view_of self.new) }
     {
         let woken = self.blocked(alloc)?;
         self.block_rounds(rt, future, woken, data, callback)

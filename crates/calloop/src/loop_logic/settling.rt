@@ -5,9 +5,9 @@ ghost use Rattle.calloop_wake.specs.declared.list.Content.TheVariants.{InTurn};
 ghost use Rattle.calloop_wake.specs.Slots.{named as named_by, source_of, changed, with_content};
 ghost use Rattle.calloop_core.specs.Polls.{IsReady};
 ghost use Rattle.calloop.specs.Limits.{all_limits};
-ghost use Rattle.calloop.specs.Machine.{view_of};
+ghost use Rattle.calloop.specs.Machine.{view_of, taking};
 ghost use Rattle.calloop.specs.Roles.{only, is_adapter};
-ghost use Rattle.calloop_core.specs.SlotOrder.{IsInSlotOrder};
+ghost use Rattle.calloop_core.specs.Marking.{AreTaken};
 ghost use Rattle.calloop.specs.declared.loop_logic.LoopCall.TheVariants.{Release};
 ghost use Rattle.calloop.specs.declared.loop_logic.LoopAnswer.TheVariants.{Released};
 ghost use Rattle.calloop.specs.Rules.{Case, Did, Goes, Settling, Sleeping};
@@ -91,12 +91,13 @@ impl<D: EventDispatcher<P, C, R>, P: Poller, C: Clock, R: Wait + Drop> EventLoop
         }
     }
 
-    // Settles the adapters that are marked, in the order of their slots.
+    // Takes the marks, and settles the adapters that are marked, in the order of their slots.
     pub(super) fn settle_marked(&mut self)
-        ensures machine { (marked : List RegistrationToken) × IsInSlotOrder marked
-            × ((timeout : Option ℕ) (x : D.Data) → Goes D.means D.Idle.runs P.outside
-            (Settling timeout marked x) (Sleeping timeout self.new.lifecycle.tokens.items x)
-            (view_of self.old) (view_of self.new)) }
+        ensures machine { (marked : List RegistrationToken) × (taken : List RegistrationToken)
+            × AreTaken taken marked × ((timeout : Option ℕ) (x : D.Data)
+            → Goes D.means D.Idle.runs P.outside (Settling timeout marked x)
+            (Sleeping timeout self.new.lifecycle.tokens.items x)
+            (taking taken (view_of self.old)) (view_of self.new)) }
         ensures ready { (more : ℕ) → IsReady more self.old.poll → IsReady more self.new.poll }
         ensures limits { all_limits D.means self.new.sources self.new.lifecycle.tokens.items
             ≤ all_limits D.means self.old.sources self.old.lifecycle.tokens.items }

@@ -1,10 +1,10 @@
-//! The board of posted keys under its lock, with what wakes the poller that looks at it.
-ghost use Rattle.std.specs.Prelude.{◌≡◌, ◌≢◌, ◌+◌, ◌-◌, ◌^◌, ◌≤◌, [], IfOk, IfErr, is_none, if◌then◌else◌};
+//! The board of posted keys and the marks of adapters, each under its lock, with what wakes the poller that looks at them.
+ghost use Rattle.std.specs.Prelude.{◌≡◌, ◌≢◌, ◌+◌, ◌-◌, ◌^◌, ◌≤◌, [], true, false, IfOk, IfErr, IfSome, IfNone, is_none, if◌then◌else◌};
 ghost use Rattle.std.specs.Arc.{arc_value};
 ghost use Rattle.std.specs.VecDeque.{deque_len, deque_capacity};
 ghost use Rattle.calloop_wake.specs.Tokens.{key_of};
 ghost use Rattle.calloop_wake.specs.Watches.{noted};
-ghost use Rattle.calloop_wake.specs.declared.wake.notes.Note.TheVariants.{Counted, Looked, Unposted};
+ghost use Rattle.calloop_wake.specs.declared.wake.notes.Note.TheVariants.{Counted, Looked, Unposted, Marked};
 ghost use Rattle.calloop_wake.specs.declared.error.Error.TheVariants.{OutOfMemory as MemoryError};
 ghost use Rattle.calloop_core.specs.Hubs.{HasUnposted};
 ghost use Rattle.calloop_core.specs.Polls.{CannotOpen};
@@ -12,9 +12,10 @@ ghost use Rattle.calloop_core.specs.Polls.{CannotOpen};
 use super::notifier::Notifier;
 use calloop_wake::error::{Error, Result};
 use calloop_wake::steps::Steps;
-use calloop_wake::token::Token;
+use calloop_wake::token::{RegistrationToken, Token};
 use calloop_wake::wake::board::OpenRefusal;
 use calloop_wake::wake::locked::Locked;
+use calloop_wake::wake::marking::Marks;
 use calloop_wake::wake::watch::{OpenPlaces, Watch, WatchedBoard};
 use calloop_wake::wake::{Debt, LeaveToClose, LeaveToSleep, OpenedPass, TakenPass};
 use std::alloc::{AllocError, Global};
@@ -30,15 +31,20 @@ use std::sync::{Arc, Wait};
 #[derive(Drop)]
 pub struct Hub {
     board: Locked<WatchedBoard>,
+    // Which adapters are to be settled before the next wait.
+    marks: Locked<Marks>,
     notifier: Notifier,
 }
 
 impl Model for Hub {
+    ghost use Rattle.std.specs.Prelude.{◌≡◌};
     ghost use Rattle.logbook.specs.Pages.{Book};
 
     ghost Value = { Book };
 
     ghost view = { λ h. h.board.slot };
+
+    ghost invariant = { λ h. h.marks.slot ≡ h.board.slot };
 }
 
 /// A hub with several owners.
@@ -61,9 +67,12 @@ impl Hub {
     pub fn new(alloc: Global, notifier: Notifier) -> std::result::Result<(Hub, Watch), AllocError>
         ensures { IfOk result (λ made. made.1 ≡ record { name = made.0; notes = [] }) }
     {
-        let (board, watch, name) = WatchedBoard::new(alloc);
+        let (board, watch, name, right) = WatchedBoard::new(alloc);
+        let board = Locked::new(alloc, board, &name)?;
+        let (marks, of_marks) = Marks::new(alloc, right);
         let hub = Hub {
-            board: Locked::new(alloc, board, &name)?,
+            board,
+            marks: Locked::new(alloc, marks, &of_marks)?,
             notifier,
         };
         Ok((hub, watch))
@@ -142,6 +151,69 @@ impl Hub {
         let none = held.core().unpost_none(room, watch);
         held.unlock();
         none
+    }
+
+    /// Makes room for the mark of one adapter more. Want of memory changes nothing.
+    pub fn open_mark<R: Wait>(&self, rt: &R) -> std::result::Result<(), AllocError> {
+        let mut held = self.marks.lock(rt);
+        let opened = held.core().open();
+        held.unlock();
+        opened
+    }
+
+    /// An adapter is gone, and needs no room for its mark any more.
+    pub fn close_mark<R: Wait>(&self, rt: &R) {
+        let mut held = self.marks.lock(rt);
+        held.core().close();
+        held.unlock();
+    }
+
+    /// Marks an adapter, which is to be settled before the next wait, and spends the nudge that this gives, outside the lock. Want of
+    /// memory marks nothing.
+    pub fn mark<R: Wait>(
+        &self,
+        rt: &R,
+        token: RegistrationToken,
+    ) -> std::result::Result<(), AllocError> {
+        let mut held = self.marks.lock(rt);
+        let marked = held.core().mark(token);
+        held.unlock();
+        marked?.spend(&self.notifier);
+        Ok(())
+    }
+
+    // Where nothing is marked, has the watch note that nothing was taken. Else nothing changes.
+    fn take_no_marks<R: Wait>(&self, rt: &R, watch: &mut Watch) -> bool
+        requires { watch.old.name ≡ self.now }
+        ensures none { result ≡ true → watch.new ≡ noted (Marked []) watch.old }
+        ensures some { result ≡ false → watch.new ≡ watch.old }
+    {
+        let mut held = self.marks.lock(rt);
+        let none = held.core().take_none(watch);
+        held.unlock();
+        none
+    }
+
+    /// Takes the marks, in the order in which they were set, and has the watch note them.
+    pub fn take_marks<R: Wait>(&self, rt: &R, watch: &mut Watch) -> Option<Vec<RegistrationToken>>
+        requires { watch.old.name ≡ self.now }
+        ensures none { IfNone result (watch.new ≡ noted (Marked []) watch.old) }
+        ensures some { IfSome result (λ taken. watch.new ≡ noted (Marked taken.items) watch.old) }
+    {
+        if self.take_no_marks(rt, watch) {
+            return None;
+        }
+        let mut held = self.marks.lock(rt);
+        let taken = held.core().take(watch);
+        held.unlock();
+        Some(taken)
+    }
+
+    /// Takes a list of marks back once it was settled, for the room that it has.
+    pub fn give_marks_back<R: Wait>(&self, rt: &R, settled: Vec<RegistrationToken>) {
+        let mut held = self.marks.lock(rt);
+        held.core().give_back(settled);
+        held.unlock();
     }
 
     /// Takes the posted keys, ascending, as many as there is room for, and appends a pass for each.
@@ -229,6 +301,14 @@ impl WatchedHub {
         ensures { self.new ≡ noted (Counted places.number) self.old }
     {
         self.watch.note_count(places);
+    }
+
+    /// Takes the marks, in the order in which they were set.
+    pub fn take_marks<R: Wait>(&mut self, rt: &R) -> Option<Vec<RegistrationToken>>
+        ensures none { IfNone result (self.new ≡ noted (Marked []) self.old) }
+        ensures some { IfSome result (λ taken. self.new ≡ noted (Marked taken.items) self.old) }
+    {
+        self.hub.take_marks(rt, &mut self.watch)
     }
 
     /// Takes the posted keys, ascending, as many as there is room for, and appends a pass for each.

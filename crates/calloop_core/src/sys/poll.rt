@@ -1,11 +1,12 @@
 //! What sources register with: the poller, the hub of pings, the deadlines of timers, and the batch of events.
-ghost use Rattle.std.specs.Prelude.{drop, ◌≡◌, ℕ, ◌+◌, ◌≤◌, [], List, None, length, vec_len, vec_capacity, OnOk, OnErr, IfOk, IfErr, IfSome};
+ghost use Rattle.std.specs.Prelude.{drop, ◌≡◌, ℕ, ◌+◌, ◌≤◌, [], List, None, length, vec_len, vec_capacity, OnOk, OnErr, IfOk, IfErr, IfSome, IfNone, IsPermutation};
 ghost use Rattle.std.specs.Borrow.{Lends, sem};
 ghost use Rattle.calloop_wake.specs.declared.error.Error.TheVariants.{OutOfMemory};
 ghost use Rattle.calloop_core.specs.Batches.{ArePosted};
 ghost use Rattle.calloop_core.specs.Pollers.{events_per_wait};
-ghost use Rattle.calloop_core.specs.Polls.{PollView, PollStep, TakePass, PutBack, poll_view, poll_after, with_pass, IsPassOf, IsReady, cut, head_of, gathered, counted, joining};
+ghost use Rattle.calloop_core.specs.Polls.{PollView, PollStep, TakePass, PutBack, poll_view, poll_after, with_pass, IsPassOf, IsReady, cut, head_of, gathered, counted, joining, marks_taken};
 ghost use Rattle.calloop_core.specs.Events.{events_left, events_of};
+ghost use Rattle.calloop_core.specs.Marking.{HasTaken};
 ghost use Rattle.calloop_core.specs.SlotOrder.{IsInSlotOrder};
 ghost use Rattle.std.specs.Arc.{arc_value};
 ghost use Rattle.calloop_core.specs.Lending.{with_poller};
@@ -13,7 +14,6 @@ ghost use Rattle.calloop_core.specs.contracts.sys.poll.Poll.{the_row};
 
 use super::events::EventIterator;
 use super::hub::{SharedHub, WatchedHub};
-use super::marks::{Marks, SharedMarks};
 use super::{EVENTS_PER_WAIT, Poller, Readiness, Watched};
 use batch::Batch;
 use calloop_wake::error::Result;
@@ -50,7 +50,6 @@ pub struct Poll<P, C, R: Wait + Drop> {
     // How many keys had places when they were counted last, to reserve room for what they give.
     places: usize,
     events: Vec<(u64, Readiness)>,
-    marks: SharedMarks,
 }
 
 impl<P: Drop, C: Drop, R: Wait + Drop> Drop for Poll<P, C, R> {
@@ -64,10 +63,19 @@ impl<P: Drop, C: Drop, R: Wait + Drop> Drop for Poll<P, C, R> {
             wheel: _,
             places: _,
             events: _,
-            marks: _,
         } = self;
         batch.give_back(&rt);
     }
+}
+
+// The same marks, in the order of their slots.
+fn by_slot(marked: Vec<RegistrationToken>) -> Vec<RegistrationToken>
+    ensures same { IsPermutation marked.items result.items }
+    ensures order { IsInSlotOrder result.items }
+{
+    let mut marked = marked;
+    marked.sort_unstable();
+    marked
 }
 
 impl<P: Poller, C: Drop, R: Wait + Drop> Poll<P, C, R> {
@@ -78,7 +86,6 @@ impl<P: Poller, C: Drop, R: Wait + Drop> Poll<P, C, R> {
         ensures err { IfErr result (λ e. e ≡ OutOfMemory) }
     {
         let hub = WatchedHub::new(alloc, poller.notifier()?)?;
-        let marks = Arc::new(alloc, Marks::new(alloc, poller.notifier()?))?;
         Ok(Poll {
             rt,
             poller,
@@ -88,7 +95,6 @@ impl<P: Poller, C: Drop, R: Wait + Drop> Poll<P, C, R> {
             wheel: TimerWheel::new(alloc),
             places: 0,
             events: Vec::new(alloc),
-            marks,
         })
     }
 }
@@ -117,23 +123,21 @@ impl<P: Poller, C, R: Wait + Drop> Poll<P, C, R> {
         self.batch.hub()
     }
 
-    /// The marks of adapters that are to be settled, to share.
-    pub fn marks(&self) -> &SharedMarks
-        ensures { result.now ≡ self.now.marks }
+    /// Takes the marks of the adapters that are to be settled, in the order of their slots, which the watch notes.
+    pub fn take_marks(&mut self) -> Option<Vec<RegistrationToken>>
+        ensures none { IfNone result (poll_view self.new ≡ marks_taken [] (poll_view self.old)) }
+        ensures some { IfSome result (λ marked. HasTaken marked.items (poll_view self.old) (poll_view self.new)) }
+        ensures ready { (more : ℕ) → IsReady more self.old → IsReady more self.new }
     {
-        &self.marks
-    }
-
-    /// Takes the marks, in the order of their slots.
-    pub fn take_marks(&self) -> Option<Vec<RegistrationToken>>
-        ensures { IfSome result (λ marked. IsInSlotOrder marked.items) }
-    {
-        self.marks.take(&self.rt)
+        let Some(taken) = self.batch.take_marks(&self.rt) else {
+            return None;
+        };
+        Some(by_slot(taken))
     }
 
     /// Takes a list of marks back once it was settled, for the room that it has.
     pub fn give_marks_back(&self, settled: Vec<RegistrationToken>) {
-        self.marks.give_back(&self.rt, settled);
+        self.batch.hub().give_marks_back(&self.rt, settled);
     }
 
     /// Takes the pass of the event whose turn it is, where one lies behind it and wasn't taken yet.

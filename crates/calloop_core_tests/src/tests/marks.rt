@@ -1,7 +1,11 @@
 //! Which adapters are to be settled, and what wakes the machine's poller.
-use calloop_core::sys::marks::Marks;
+ghost use Rattle.std.specs.Prelude.{◌≡◌};
+
+use super::{Scripted, new_poll};
+use calloop_core::sys::hub::Hub;
 use calloop_core::sys::notifier::{LazyWaker, Notifier};
 use calloop_wake::token::RegistrationToken;
+use calloop_wake::wake::watch::Watch;
 use calloop_wake::widths::MOST_SLOTS;
 use mio::{Poll, Token, Waker};
 use std::alloc::{AllocGlobal, Global};
@@ -12,7 +16,7 @@ use std::sync::{Arc, Wait};
 
 #[test]
 fn both_of_two_marks_are_taken_once_and_in_the_order_of_their_slots(rt: HostRuntime) {
-    let desk = Desk::new(&rt);
+    let mut desk = Desk::new(&rt);
     assert!(rt; desk.takes_none());
     assert!(rt; desk.marks_as(2) && desk.marks_as(1));
     assert!(rt; desk.takes(&[1, 2]));
@@ -21,7 +25,7 @@ fn both_of_two_marks_are_taken_once_and_in_the_order_of_their_slots(rt: HostRunt
 
 #[test]
 fn what_was_settled_does_not_come_again(rt: HostRuntime) {
-    let desk = Desk::new(&rt);
+    let mut desk = Desk::new(&rt);
     assert!(rt; desk.marks_as(1) && desk.marks_as(2));
     assert!(rt; desk.takes(&[1, 2]));
     assert!(rt; desk.marks_as(3));
@@ -33,12 +37,12 @@ fn what_was_settled_does_not_come_again(rt: HostRuntime) {
 
 #[test]
 fn each_mark_nudges_the_loop(rt: HostRuntime) {
-    let desk = Desk::new(&rt);
-    assert!(rt; !desk.is_nudged());
-    assert!(rt; desk.marks_as(1) && desk.is_nudged());
-    assert!(rt; desk.marks_as(2) && desk.is_nudged());
-    assert!(rt; desk.takes(&[1, 2]) && !desk.is_nudged());
-    assert!(rt; desk.marks_as(1) && desk.is_nudged());
+    let mut bell = Bell::new(&rt);
+    assert!(rt; !bell.is_nudged());
+    assert!(rt; bell.marks_as(1) && bell.is_nudged());
+    assert!(rt; bell.marks_as(2) && bell.is_nudged());
+    assert!(rt; bell.takes(&[1, 2]) && !bell.is_nudged());
+    assert!(rt; bell.marks_as(1) && bell.is_nudged());
 }
 
 #[test]
@@ -74,26 +78,22 @@ fn a_wait_that_failed_lets_the_next_one_sleep(rt: HostRuntime) {
     assert!(rt; waker.fall_asleep());
 }
 
-// Marks with room for four, of a loop whose nudges are noted.
+// A loop's `Poll` with room for four marks.
 #[derive(Drop)]
 struct Desk<R: Wait + Drop> {
     rt: R,
-    marks: Marks,
-    nudged: Arc<AtomicBool, Global>,
+    poll: Scripted<R>,
 }
 
 impl<R: AllocGlobal + Wait + Clone + Drop + Abort> Desk<R> {
     fn new(rt: &R) -> Desk<R> {
-        let nudged = Arc::new(rt.alloc(), AtomicBool::new(false)).expect(rt, "a signal");
-        let again = Arc::try_clone(&nudged).expect(rt, "a signal");
-        let marks = Marks::new(rt.alloc(), Notifier::Script(again));
+        let poll = new_poll(rt, rt.alloc());
         for _ in 0..4u32 {
-            marks.open(rt).expect(rt, "room");
+            poll.hub().open_mark(rt).expect(rt, "room");
         }
         Desk {
             rt: rt.clone().expect(rt, "a runtime"),
-            marks,
-            nudged,
+            poll,
         }
     }
 }
@@ -101,28 +101,76 @@ impl<R: AllocGlobal + Wait + Clone + Drop + Abort> Desk<R> {
 impl<R: Wait + Drop> Desk<R> {
     // Marks the adapter of this slot.
     fn marks_as(&self, slot: u32) -> bool {
-        let token = RegistrationToken::new(slot % MOST_SLOTS as u32, 0);
-        self.marks.mark(&self.rt, token).is_ok()
+        self.poll.hub().mark(&self.rt, registration(slot)).is_ok()
     }
 
     // Whether those of these slots are marked. They are settled then.
-    fn takes(&self, slots: &[u32]) -> bool {
-        let Some(marked) = self.marks.take(&self.rt) else {
+    fn takes(&mut self, slots: &[u32]) -> bool {
+        let Some(marked) = self.poll.take_marks() else {
             return false;
         };
         let are_these = are_of(&marked, slots);
-        self.marks.give_back(&self.rt, marked);
+        self.poll.give_marks_back(marked);
         are_these
     }
 
-    fn takes_none(&self) -> bool {
-        self.marks.take(&self.rt).is_none()
+    fn takes_none(&mut self) -> bool {
+        self.poll.take_marks().is_none()
+    }
+}
+
+// A hub with room for four marks, whose nudges are noted.
+#[derive(Drop)]
+struct Bell<R: Wait + Drop> {
+    rt: R,
+    hub: Hub,
+    watch: Watch,
+    nudged: Arc<AtomicBool, Global>,
+    ghost own: { watch.name ≡ hub },
+}
+
+impl<R: AllocGlobal + Wait + Clone + Drop + Abort> Bell<R> {
+    fn new(rt: &R) -> Bell<R> {
+        let nudged = Arc::new(rt.alloc(), AtomicBool::new(false)).expect(rt, "a signal");
+        let again = Arc::try_clone(&nudged).expect(rt, "a signal");
+        let (hub, watch) = Hub::new(rt.alloc(), Notifier::Script(again)).expect(rt, "a hub");
+        for _ in 0..4u32 {
+            hub.open_mark(rt).expect(rt, "room");
+        }
+        Bell {
+            rt: rt.clone().expect(rt, "a runtime"),
+            hub,
+            watch,
+            nudged,
+        }
+    }
+}
+
+impl<R: Wait + Drop> Bell<R> {
+    // Marks the adapter of this slot.
+    fn marks_as(&self, slot: u32) -> bool {
+        self.hub.mark(&self.rt, registration(slot)).is_ok()
+    }
+
+    // Whether those of these slots were marked, in this order. They are settled then.
+    fn takes(&mut self, slots: &[u32]) -> bool {
+        let Some(marked) = self.hub.take_marks(&self.rt, &mut self.watch) else {
+            return false;
+        };
+        let are_these = are_of(&marked, slots);
+        self.hub.give_marks_back(&self.rt, marked);
+        are_these
     }
 
     // Whether the loop was nudged since this was asked before.
     fn is_nudged(&self) -> bool {
         self.nudged.swap(false, Ordering::SeqCst)
     }
+}
+
+// The first registration of a slot, modulo how many there are.
+fn registration(slot: u32) -> RegistrationToken {
+    RegistrationToken::new(slot % MOST_SLOTS as u32, 0)
 }
 
 fn are_of(marked: &[RegistrationToken], slots: &[u32]) -> bool {

@@ -7,11 +7,10 @@ ghost use Rattle.calloop_wake.specs.Executors.{cell_of, at_start, owed, owed_at,
 
 use super::cell::CellCore;
 use super::ghosts::{Count, Name};
+use super::homes::{DueReceipt, KeepingRight, PoppedTask};
 use super::locked::Core;
 use super::tasks::{TaskKey, Tasks};
-use super::{
-    Debt, Last, LeaveToClose, OpenedPass, Receipt, ReceivingRight, Sender, TakenPass, Twin,
-};
+use super::{Debt, Last, LeaveToClose, OpenedPass, ReceivingRight, Sender, TakenPass, Twin};
 use counted_slot::Fits;
 use std::alloc::{AllocError, Global};
 use std::marker::Model;
@@ -131,7 +130,8 @@ impl TaskTurn {
 pub struct PutTask {
     /// By which it is woken.
     pub key: TaskKey,
-    pub receipt: Receipt,
+    /// What gives a receipt, once its future is kept.
+    pub due: DueReceipt,
     pub debt: Option<Debt>,
 }
 
@@ -162,9 +162,12 @@ fn owed_at_ping(pinged: bool, key: Option<u64>, board: &Name) -> Option<Debt>
 
 impl ExecutorCore {
     /// A cell without tasks, without a key and without senders, its name, and the right to its receiving end.
-    pub fn new(alloc: Global) -> Result<(ExecutorCore, Name, ReceivingRight), AllocError>
+    pub fn new(
+        alloc: Global,
+    ) -> Result<(ExecutorCore, Name, ReceivingRight, KeepingRight), AllocError>
         ensures core { IfOk result (λ made. made.0 ≡ record { table = no_tasks; next = 0; results = 0; pinged = false; draining = false; gone = false; progress = at_start; key = None; senders = 0; name = made.1; board = made.1 }) }
         ensures right { IfOk result (λ made. made.2.name ≡ made.1) }
+        ensures keeping { IfOk result (λ made. made.3.name ≡ made.1) }
     {
         let tasks = Tasks::new(alloc)?;
         let name = Name::fresh();
@@ -182,7 +185,8 @@ impl ExecutorCore {
             results: Count::zero(),
         };
         let right = ReceivingRight { name: name.again() };
-        Ok((core, name, right))
+        let keeping = KeepingRight { name: name.again() };
+        Ok((core, name, right, keeping))
     }
 
     /// Shows what the cell keeps: no wake is lost; each task is idle, queued once, polled, or finished; and each that was ever
@@ -194,7 +198,7 @@ impl ExecutorCore {
         let _ = &self.pinged;
     }
 
-    /// A new task, which is queued last, its receipt, and a debt where the cell has a key and was not pinged.
+    /// A new task, which is queued last, what gives its receipt, and a debt where the cell has a key and was not pinged.
     ///
     /// It is `Gone` where the executor is, and else `OutOfMemory` where there is no memory for it, or no number is left; then nothing
     /// changes.
@@ -202,7 +206,7 @@ impl ExecutorCore {
         ensures vacant { IfOk result (λ put. (self.old.gone ≡ false) × (task_at self.old.table put.key.slot ≡ None)) }
         ensures cell { IfOk result (λ put. cell_of self.new ≡ after_put put.key.slot home (cell_of self.old)) }
         ensures key { IfOk result (λ put. put.key.number ≡ self.old.next) }
-        ensures receipt { IfOk result (λ put. put.receipt ≡ record { name = self.old.name; number = self.old.next }) }
+        ensures due { IfOk result (λ put. put.due ≡ record { name = self.old.name; number = self.old.next; key = put.key; home = home }) }
         ensures gives { IfOk result (λ put. put.debt ≡ on self.old.board (owed (cell_of self.old) (cell_of self.new))) }
         ensures gone { self.old.gone ≡ true → result ≡ Err PutRefusal.Gone }
         ensures there { self.old.gone ≡ false → IfErr result (λ e. e ≡ PutRefusal.OutOfMemory) }
@@ -220,18 +224,17 @@ impl ExecutorCore {
             return Err(PutRefusal::OutOfMemory);
         };
         let debt = owed_at_ping(self.pinged, self.key, &self.board);
-        let receipt = Receipt {
+        let key = TaskKey { slot, number };
+        let due = DueReceipt {
             name: self.name.again(),
             number: self.puts.again(),
+            key,
+            home,
         };
         self.next = next;
         self.puts = self.puts.next();
         self.pinged = true;
-        Ok(PutTask {
-            key: TaskKey { slot, number },
-            receipt,
-            debt,
-        })
+        Ok(PutTask { key, due, debt })
     }
 
     /// A wake: an idle task is queued, and one that is polled is marked; of others nothing changes. It takes no memory.
@@ -412,7 +415,7 @@ impl ExecutorCore {
         turn: &mut TaskTurn,
         twin: &mut Twin,
         finished: bool,
-    ) -> Option<(TaskKey, usize)>
+    ) -> Option<PoppedTask>
         requires names { (turn.old.name ≡ self.old.name) × (twin.old.name ≡ self.old.name) }
         requires at { (self.old.draining ≡ true) × (turn.old.progress ≡ self.old.progress) }
         requires more { (turn.old.progress.dry ≡ false) × (turn.old.progress.pops < most_tasks) }
@@ -420,7 +423,8 @@ impl ExecutorCore {
         ensures cell { cell_of self.new ≡ after_pop finished (cell_of self.old) }
         ensures turn { turn.new ≡ record turn.old { progress = self.new.progress } }
         ensures twin { twin.new ≡ record twin.old { number = twin.old.number + one finished } }
-        ensures some { IfSome result (λ popped. (self.new.progress.polled ≡ Some popped.0) × (self.new.progress.dry ≡ false)) }
+        ensures some { IfSome result (λ popped. (self.new.progress.polled ≡ Some popped.key) × (self.new.progress.dry ≡ false)) }
+        ensures name { IfSome result (λ popped. popped.name ≡ self.old.name) }
         ensures none { IfNone result (self.new.progress.dry ≡ true) }
         ensures pops { self.new.progress.pops ≡ turn.old.progress.pops + 1 }
         ensures names { (self.new.name ≡ self.old.name) × (self.new.board ≡ self.old.board) }
@@ -429,7 +433,12 @@ impl ExecutorCore {
         twin.number = twin.number.and_one_if(finished);
         let popped = self.take();
         turn.progress = self.progress;
-        popped
+        let (key, home) = popped?;
+        Some(PoppedTask {
+            name: self.name.again(),
+            key,
+            home,
+        })
     }
 
     /// Ends the turn, whose last pop gave no task or was its 1,024th: the task that was popped last is settled, and after 1,024

@@ -1,10 +1,11 @@
 //! What was done to a board for its loop, as contracts alone see it. It has no bytes.
 ghost use Rattle.std.specs.Prelude.{◌≡◌, ◌++◌, ◌∷◌, []};
 ghost use Rattle.calloop_wake.specs.Boards.{any_marked, keys_within};
-ghost use Rattle.calloop_wake.specs.declared.wake.notes.Note.TheVariants.{Counted, Looked, Unposted};
+ghost use Rattle.calloop_wake.specs.declared.wake.notes.Note.TheVariants.{Counted, Looked, Unposted, Marked};
 
 use super::board::Board;
 use super::ghosts::Anything;
+use crate::token::RegistrationToken;
 use logbook::{Opening, Seen, Start};
 use std::marker::Model;
 
@@ -22,6 +23,21 @@ impl Model for Keys {
     ghost view = { λ k. k.seen.log };
 }
 
+/// Registrations.
+#[derive(Drop)]
+pub struct Registrations {
+    seen: Seen<RegistrationToken, u64, Anything>,
+}
+
+impl Model for Registrations {
+    ghost use Rattle.std.specs.Prelude.{List};
+    ghost use Rattle.calloop_wake.specs.declared.token.RegistrationToken.{RegistrationToken};
+
+    ghost Value = { List RegistrationToken };
+
+    ghost view = { λ r. r.seen.log };
+}
+
 /// What was done to a board for its loop.
 #[derive(Drop)]
 pub enum Note {
@@ -31,6 +47,8 @@ pub enum Note {
     Looked(bool),
     /// Posted keys were taken, with room for so many: these.
     Unposted(usize, Keys),
+    /// The marks were taken: these, in the order in which they were set.
+    Marked(Registrations),
 }
 
 /// Notes in order, the last one at the end.
@@ -70,6 +88,23 @@ struct Beside<'a> {
 struct WithNumber<'a> {
     notes: &'a Notes,
     number: usize,
+}
+
+// Notes, and the marks that were taken.
+#[derive(Clone, Copy)]
+struct WithMarked<'a> {
+    notes: &'a Notes,
+    marked: &'a [RegistrationToken],
+}
+
+// One taking of marks more.
+struct AndMarked;
+
+impl Opening<WithMarked<'_>, Note> for AndMarked {
+    ghost use Rattle.std.specs.Prelude.{◌++◌, ◌∷◌, []};
+    ghost use Rattle.calloop_wake.specs.declared.wake.notes.Note.TheVariants.{Marked};
+
+    ghost log = { λ words x. x.notes.now ++ Marked x.marked.now ∷ [] };
 }
 
 // One count more.
@@ -148,6 +183,18 @@ impl Notes {
             number: room,
         };
         let (seen, _pens) = Seen::open_row::<Beside<'_>, AndUnposted>(&about, Start::alone(), 0);
+        Notes { seen }
+    }
+
+    // These, and a taking of these marks.
+    pub(crate) fn and_marked(&self, marked: &[RegistrationToken]) -> Notes
+        ensures { result ≡ self.now ++ Marked marked.now ∷ [] }
+    {
+        let about = WithMarked {
+            notes: self,
+            marked,
+        };
+        let (seen, _pens) = Seen::open_row::<WithMarked<'_>, AndMarked>(&about, Start::alone(), 0);
         Notes { seen }
     }
 }

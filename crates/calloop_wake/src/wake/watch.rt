@@ -10,6 +10,7 @@ ghost use Rattle.calloop_wake.specs.declared.wake.notes.Note.TheVariants.{Counte
 use super::board::{Board, OpenRefusal};
 use super::ghosts::Name;
 use super::locked::Core;
+use super::marking::MarkingRight;
 use super::notes::Notes;
 use super::{Debt, Last, LeaveToClose, LeaveToSleep, Nudge, OpenedPass, TakenPass};
 use crate::steps::Steps;
@@ -82,10 +83,11 @@ impl Core for WatchedBoard {
 }
 
 impl WatchedBoard {
-    /// A board with no place, its watch, and the name of both. It allocates nothing yet.
-    pub fn new(alloc: Global) -> (WatchedBoard, Watch, Name)
+    /// A board with no place, its watch, the name of both, and the right to the marks under that name. It allocates nothing yet.
+    pub fn new(alloc: Global) -> (WatchedBoard, Watch, Name, MarkingRight)
         ensures board { result.0 ≡ record { places = []; name = result.2 } }
         ensures watch { result.1 ≡ record { name = result.2; notes = [] } }
+        ensures marks { result.3.name ≡ result.2 }
     {
         let name = Name::fresh();
         let board = WatchedBoard {
@@ -96,7 +98,8 @@ impl WatchedBoard {
             name: name.again(),
             notes: Notes::none(),
         };
-        (board, watch, name)
+        let right = MarkingRight { name: name.again() };
+        (board, watch, name, right)
     }
 
     /// How many places are open now.

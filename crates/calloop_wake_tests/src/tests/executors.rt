@@ -8,6 +8,7 @@ use calloop_wake::wake::Twin;
 use calloop_wake::wake::cell::CellCore;
 use calloop_wake::wake::executor::{ExecutorCore, PutRefusal, PutTask, TaskTurn};
 use calloop_wake::wake::ghosts::Name;
+use calloop_wake::wake::homes::Homes;
 use calloop_wake::wake::locked::Locked;
 use calloop_wake::wake::tasks::{TaskKey, Tasks};
 use std::alloc::Global;
@@ -159,15 +160,18 @@ struct Crew {
     name: Name,
     board: SharedBoard,
     alloc: Global,
+    homes: Homes<()>,
     ghost tied: { twin.name ≡ core.name },
     ghost named: { core.name ≡ name },
+    ghost housed: { homes.name ≡ core.name },
     ghost own: { is_some core.key ≡ true → core.board ≡ (arc_value board).slot },
 }
 
 impl Crew {
     fn new<R: Abort>(rt: &R, alloc: Global, desk: &Desk) -> Crew {
         let board = Arc::try_clone(&desk.board).expect(rt, "a board");
-        let (core, name, right) = ExecutorCore::new(alloc).expect(rt, "a cell");
+        let (core, name, right, keeping) = ExecutorCore::new(alloc).expect(rt, "a cell");
+        let (homes, _name) = Homes::new(alloc, keeping);
         let twin = core.receiver(right);
         Crew {
             core,
@@ -175,6 +179,7 @@ impl Crew {
             name,
             board,
             alloc,
+            homes,
         }
     }
 
@@ -184,11 +189,7 @@ impl Crew {
     {
         match self.core.put(home) {
             Ok(put) => {
-                let PutTask {
-                    key,
-                    receipt: _,
-                    debt,
-                } = put;
+                let PutTask { key, due: _, debt } = put;
                 let marked = Some(post(rt, &self.board, debt));
                 Put { key, marked }
             }
@@ -297,7 +298,9 @@ impl Crew {
         while turn.goes_on() {
             assert!(rt; self.core.is_at(&turn));
             finished = match self.core.pop(&mut turn, &mut self.twin, finished) {
-                Some((_key, home)) => {
+                Some(popped) => {
+                    let home = popped.home();
+                    let _none = self.homes.finish(popped);
                     let polled = polls.get(homes.len()).copied().unwrap_or(PENDING);
                     let _ = homes.push(home);
                     self.poll(rt, polled)
@@ -359,6 +362,7 @@ impl Crew {
             name,
             board,
             alloc,
+            homes,
         } = self;
         close(rt, &board, core.abandon(twin));
         let woken = core.wake(key);
@@ -367,7 +371,7 @@ impl Crew {
             Ok(put) => {
                 let PutTask {
                     key: _,
-                    receipt: _,
+                    due: _,
                     debt,
                 } = put;
                 post(rt, &board, debt);
@@ -376,6 +380,7 @@ impl Crew {
             Err(refusal) => refusal == PutRefusal::Gone,
         };
         drop(Locked::new(alloc, core, &name));
+        drop(Locked::new(alloc, homes, &name));
         refused && !marked
     }
 
@@ -386,8 +391,10 @@ impl Crew {
             name,
             board,
             alloc,
+            homes,
         } = self;
         close(rt, &board, core.abandon(twin));
         drop(Locked::new(alloc, core, &name));
+        drop(Locked::new(alloc, homes, &name));
     }
 }

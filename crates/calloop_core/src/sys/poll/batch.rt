@@ -1,12 +1,12 @@
 //! The events that wait for their turn, and the passes of those that the board gave.
-ghost use Rattle.std.specs.Prelude.{◌≡◌, ℕ, ◌+◌, ◌-◌, ◌≤◌, ◌++◌, [], ◌∷◌, List, Some, None, not, map, drop, length, OnOk, IfSome, MatchOption, is_none, true, if◌then◌else◌};
+ghost use Rattle.std.specs.Prelude.{◌≡◌, ℕ, ◌+◌, ◌-◌, ◌≤◌, ◌++◌, [], ◌∷◌, List, Some, None, not, map, drop, length, OnOk, IfSome, IfNone, MatchOption, is_none, true, if◌then◌else◌};
 ghost use Rattle.std.specs.VecDeque.{deque_len, deque_capacity};
 ghost use Rattle.std.specs.Arc.{arc_value};
 ghost use Rattle.calloop_wake.specs.Boards.{IsRising, taken};
 ghost use Rattle.calloop_wake.specs.Passes.{AreOf};
 ghost use Rattle.calloop_wake.specs.Deadlines.{due, not_due, with_entries};
 ghost use Rattle.calloop_wake.specs.Watches.{noted};
-ghost use Rattle.calloop_wake.specs.declared.wake.notes.Note.TheVariants.{Counted, Looked, Unposted};
+ghost use Rattle.calloop_wake.specs.declared.wake.notes.Note.TheVariants.{Counted, Looked, Unposted, Marked};
 ghost use Rattle.calloop_core.specs.Batches.{key_of_pass, ArePosted};
 ghost use Rattle.calloop_core.specs.Events.{events_left, events_of};
 ghost use Rattle.calloop_core.specs.Polls.{posted_event, posted_events, polled_event, polled_events, timer_event, timer_events, own_events, IsPassOf, head_of, tail_of, is_filled, own_key};
@@ -240,6 +240,14 @@ impl Batch {
         ensures { self.new ≡ record self.old { watch = noted (Counted places.number) self.old.watch } }
     {
         self.hub.note_count(places);
+    }
+
+    /// Takes the marks, in the order in which they were set.
+    pub fn take_marks<R: Wait>(&mut self, rt: &R) -> Option<Vec<RegistrationToken>>
+        ensures none { IfNone result (self.new ≡ record self.old { watch = noted (Marked []) self.old.watch }) }
+        ensures some { IfSome result (λ taken. self.new ≡ record self.old { watch = noted (Marked taken.items) self.old.watch }) }
+    {
+        self.hub.take_marks(rt)
     }
 
     /// Makes room for so many more events and passes. Want of memory leaves the events and the passes as they were.

@@ -1,6 +1,7 @@
-use Rattle.std.proofs.Common.{refl, Some}
+use Rattle.std.proofs.Common.{refl}
+use Rattle.calloop.specs.Executors.{Gave}
 use Rattle.calloop.proofs.futures.source.poll_task.Goals as goal
 
 pub returns-in-Ok : goal.returns-in-Ok
 returns-in-Ok g c =
-    (Some c.in-Ok.output, refl, (c.in-Some.held.future, c.in-Ok.ensures), (c.call.new.self, c.call.new.data, c.call.new.requests, c.call.ensures.may, c.call.ensures.asks, (refl, refl, refl)))
+    (Gave c.in-Ok.output, refl, (c.in-Some.taken.future.future, c.in-Ok.ensures.ready.0, c.in-Ok.ensures.ready.1, c.in-Ok.ensures.gives), c.in-Some.ensures.some.1, (c.call.new.self, c.call.new.data, c.call.new.requests, c.call.ensures.may, c.call.ensures.asks, (refl, refl, refl)))

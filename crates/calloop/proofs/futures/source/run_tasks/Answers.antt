@@ -1,10 +1,10 @@
-use Rattle.std.proofs.Common.{◌≡◌, ◌+◌, ◌<◌, ℕ, Option, IsSome, is_some, refl, [], ◌∷◌, ◌++◌, sym, ◌∙◌, ap, subst, arith}
+use Rattle.std.proofs.Common.{◌≡◌, ◌+◌, ◌<◌, ℕ, Option, IsSome, refl, [], ◌∷◌, ◌++◌, sym, ◌∙◌, ap, subst, arith}
 use Rattle.calloop_wake.specs.declared.wake.Twin.{Twin}
 use Rattle.calloop_wake.specs.declared.wake.executor.TaskTurn.{TaskTurn}
 use Rattle.calloop_wake.specs.declared.wake.tasks.TaskKey.{TaskKey}
 use Rattle.calloop_wake.specs.Cells.{one}
 use Rattle.calloop_wake.specs.Executors.{most_tasks}
-use Rattle.calloop.specs.Executors.{GivenBy}
+use Rattle.calloop.specs.Executors.{ComesOf, gave, lacks, results_of}
 use Rattle.calloop_wake.proofs.Ending.{goes_more, goes_wet}
 use Rattle.calloop.proofs.Polling.{polled_none, polled_more}
 use Rattle.calloop.proofs.futures.source.run_tasks.Goals as goal
@@ -22,9 +22,12 @@ pops-init g c =
         [],
         0,
         0,
+        0,
         omega (arith, pops, dry),
         refl,
-        polled_none (GivenBy g.Fut.Future.gives) g.F.Callback.may g.Q.Asking.reaches c.args.callback.now c.args.data.now c.args.requests.now,
+        omega arith,
+        c.requires.homes,
+        polled_none (ComesOf g.Fut.Future.gives g.Fut.Future.polls) g.F.Callback.may g.Q.Asking.reaches c.args.callback.now c.args.data.now c.args.requests.now,
       ),
     )
 
@@ -40,22 +43,31 @@ pops-preserved-in-Some g c =
     let count : c.pop.new.turn.progress.pops ≡ c.pops.turn.progress.pops + 1 = c.pop.ensures.pops in
     let number : c.pop.new.twin.number ≡ c.pops.twin.number + one c.pops.finished = ap (λ (t : Twin). t.number) c.pop.ensures.twin in
     let s = c.poll_task-finished.ensures in
-    let done : one c.poll_task-finished.result ≡ one (is_some s.0) = ap one s.1 in
-    let so_far = so.3 in
-    let numbers = so.4 in (
+    let done : one c.poll_task-finished.result ≡ one (gave s.0) = ap one s.1 in
+    let so_far = so.4 in
+    let numbers = so.5 in
+    let missed = so.6 in
+    let kept : c.pop.new.twin.misses ≡ c.pops.twin.misses = ap (λ (t : Twin). t.misses) c.pop.ensures.twin in
+    let after : c.poll_task-finished.new.twin.number ≡ c.pop.new.twin.number = ap (λ (t : Twin). t.number) s.3 in
+    let more_missed : c.poll_task-finished.new.twin.misses ≡ c.pop.new.twin.misses + one (lacks s.0) = ap (λ (t : Twin). t.misses) s.3 in (
       c.pop.ensures.name ∙ inv.0,
-      ap (λ (t : Twin). t.name) c.pop.ensures.twin ∙ inv.1,
+      ap (λ (t : Twin). t.name) s.3 ∙ ap (λ (t : Twin). t.name) c.pop.ensures.twin ∙ inv.1,
       omega (arith, count, more),
       λ e. subst (λ (o : Option TaskKey). IsSome o) (sym popped.0) refl,
-      c.pop.ensures.twin ∙ ap (λ (t : Twin). record t { number = c.pops.twin.number + one c.pops.finished }) inv.4
-          ∙ ap (λ (n : ℕ). record c.args.twin.now { number = n }) (sym number),
+      s.3 ∙ ap (λ (t : Twin). record t { misses = t.misses + one (lacks s.0) }) c.pop.ensures.twin
+          ∙ ap (λ (t : Twin). record t { number = c.pops.twin.number + one c.pops.finished; misses = c.pops.twin.misses + one (lacks s.0) }) inv.4
+          ∙ ap (λ (n : ℕ). record c.args.twin.now { number = n; misses = c.pops.twin.misses + one (lacks s.0) }) (sym (after ∙ number))
+          ∙ ap (λ (n : ℕ). record c.args.twin.now { number = c.poll_task-finished.new.twin.number; misses = n }) (sym (more_missed ∙ ap (λ n. n + one (lacks s.0)) kept)),
       (
         so.0 ++ s.0 ∷ [],
         so.1 + 1,
-        so.2 + one (is_some s.0),
+        so.2 + one (gave s.0),
+        so.3 + one (lacks s.0),
         omega (arith, so_far, wet, still, count),
-        omega (arith, numbers, number, done),
-        polled_more (GivenBy g.Fut.Future.gives) g.F.Callback.may g.Q.Asking.reaches c.args.callback.now c.args.data.now c.args.requests.now so.0 s.0 so.1 so.2 _ _ _ _ _ _ so.5 s.2 s.3,
+        omega (arith, numbers, number, done, after),
+        omega (arith, missed, kept, more_missed),
+        so.7,
+        polled_more (ComesOf g.Fut.Future.gives g.Fut.Future.polls) g.F.Callback.may g.Q.Asking.reaches c.args.callback.now c.args.data.now c.args.requests.now so.0 s.0 so.1 so.2 so.3 _ _ _ _ _ _ so.8 s.2 s.4,
       ),
     )
 
@@ -64,12 +76,13 @@ returns g c =
     let inv = c.pops.invariant in
     let so = inv.5 in
     let bound = inv.2 in
-    let so_far = so.3 in
-    let count = so.5.count_is in (
+    let so_far = so.4 in
+    let count = so.8.count_is in (
       so.0,
       omega (arith, bound, so_far, count),
       c.end_turn.ensures.twin ∙ ap (λ (t : Twin). record t { number = c.pops.twin.number + one c.pops.finished }) inv.4
-          ∙ ap (λ (n : ℕ). record c.args.twin.now { number = n }) (so.4 ∙ ap (λ n. c.args.twin.now.number + n) so.5.results_is),
-      so.5.all_given,
-      so.5.went,
+          ∙ ap (λ (n : ℕ). record c.args.twin.now { number = n; misses = c.pops.twin.misses }) (so.5 ∙ ap (λ n. c.args.twin.now.number + n) so.8.results_is)
+          ∙ ap (λ (n : ℕ). record c.args.twin.now { number = c.args.twin.now.number + results_of so.0; misses = n }) (so.6 ∙ ap (λ n. c.args.twin.now.misses + n) so.8.misses_is),
+      so.8.all_given,
+      so.8.went,
     )

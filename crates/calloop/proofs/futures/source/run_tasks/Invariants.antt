@@ -1,7 +1,7 @@
-use Rattle.std.proofs.Common.{◌≡◌, ◌+◌, ◌-◌, ◌≤◌, ℕ, true, List, Option, IsSome}
+use Rattle.std.proofs.Common.{◌≡◌, ◌+◌, ◌-◌, ◌≤◌, ℕ, true, List, IsSome}
 use Rattle.calloop_wake.specs.Cells.{one}
 use Rattle.calloop_wake.specs.Executors.{most_tasks}
-use Rattle.calloop.specs.Executors.{GivenBy}
+use Rattle.calloop.specs.Executors.{OfPop, ComesOf}
 use Rattle.calloop.proofs.Polling.{Polled}
 use Rattle.calloop.proofs.futures.source.run_tasks.Given as goal
 
@@ -9,11 +9,12 @@ abbrev pub invariant-pops : goal.invariant-pops
 invariant-pops g l =
     (l.turn.name ≡ l.shared.slot) × (l.twin.name ≡ l.shared.slot) × (l.turn.progress.pops ≤ most_tasks)
     × (l.finished ≡ true → IsSome l.turn.progress.polled)
-    × (l.twin ≡ record l.fn.twin { number = l.twin.number })
-    × ((ps : List (Option g.row.Fut-Output.Denot)) × (count : ℕ) × (results : ℕ)
+    × (l.twin ≡ record l.fn.twin { number = l.twin.number; misses = l.twin.misses })
+    × ((ps : List (OfPop g.row.Fut-Output.Denot)) × (count : ℕ) × (results : ℕ) × (misses : ℕ)
     × (count + one l.turn.progress.dry ≡ l.turn.progress.pops)
-    × (l.twin.number + one l.finished ≡ l.fn.twin.number + results)
-    × Polled (GivenBy g.Fut.Future.gives) g.F.Callback.may g.Q.Asking.reaches l.fn.callback l.fn.«data» l.fn.requests ps count results l.callback l.«data» l.requests)
+    × (l.twin.number + one l.finished ≡ l.fn.twin.number + results) × (l.twin.misses ≡ l.fn.twin.misses + misses)
+    × (l.homes.slot ≡ l.shared.slot)
+    × Polled (ComesOf g.Fut.Future.gives g.Fut.Future.polls) g.F.Callback.may g.Q.Asking.reaches l.fn.callback l.fn.«data» l.fn.requests ps count results misses l.callback l.«data» l.requests)
 
 abbrev pub decreases-pops : goal.decreases-pops
 decreases-pops g l = most_tasks - l.turn.progress.pops

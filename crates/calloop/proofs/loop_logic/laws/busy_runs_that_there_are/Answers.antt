@@ -1,12 +1,13 @@
 use Rattle.std.proofs.Common.{◌≡◌, ◌≤◌, ◌+◌, ℕ, zero, suc, List, rules, refl, ap, sym, ◌∙◌, subst, [], ◌∷◌, Some, None, Ok, Err, inl, inr, true, false, arith, slice_get}
+use Rattle.std.proofs.lemmas.List.Sorted.{IsPermutation-refl}
 use Rattle.calloop_wake.specs.declared.error.Error.TheVariants.{OutOfMemory}
 use Rattle.calloop_wake.specs.declared.list.Content.TheVariants.{Source, InTurn}
 use Rattle.calloop_wake.specs.declared.token.RegistrationToken.{RegistrationToken}
 use Rattle.calloop_wake.specs.Tokens.{after_token}
 use Rattle.calloop_wake.specs.Watches.{noted}
-use Rattle.calloop_wake.specs.declared.wake.notes.Note.TheVariants.{Counted, Looked}
+use Rattle.calloop_wake.specs.declared.wake.notes.Note.TheVariants.{Counted, Looked, Marked}
 use Rattle.calloop_core.specs.declared.sources.PostAction.TheVariants.{Continue, Reregister}
-use Rattle.calloop_core.specs.Polls.{Socket, counted}
+use Rattle.calloop_core.specs.Polls.{Socket, counted, marks_taken}
 use Rattle.calloop_core.specs.SlotOrder.{IsInSlotOrder}
 use Rattle.calloop_core.specs.Tables.{Enter}
 use Rattle.calloop.specs.declared.loop_logic.asks.Answer.TheVariants.{Done}
@@ -39,8 +40,8 @@ returns-clause-run c = λ name. (
     (
         inr (
           Settling None [] tt,
-          (0, [], λ place t u first second. cc, refl, refl),
-          (tt, (tt, tt)),
+          (0, [], [], record { same = IsPermutation-refl []; order = λ place t u first second. cc }, refl, refl),
+          (tt, (tt, (tt, tt))),
           (
             Sleeping None [] tt,
             (refl, refl),
@@ -51,7 +52,7 @@ returns-clause-run c = λ name. (
               tt,
               (
                 Gathering 5 two_found tt,
-                (Ok 5, two_found, tt, noted (Looked false) (record { name = name; notes = Counted 0 ∷ [] }), (0, tt, tt, false, [], (tt, refl, tt), refl, refl), refl, refl),
+                (Ok 5, two_found, tt, noted (Looked false) (record { name = name; notes = Counted 0 ∷ Marked [] ∷ [] }), (0, tt, tt, false, [], (tt, refl, tt), refl, refl), refl, refl),
                 (tt, (tt, tt)),
                 (
                   Noticing 0 [] tt,
@@ -97,8 +98,8 @@ returns-clause-run c = λ name. (
     (
       inr (
         Settling None [] tt,
-        (0, [], λ place t u first second. cc, refl, refl),
-        (tt, (tt, tt)),
+        (0, [], [], record { same = IsPermutation-refl []; order = λ place t u first second. cc }, refl, refl),
+        (tt, (tt, (tt, tt))),
         (
           Sleeping None [] tt,
           (refl, refl),
@@ -109,7 +110,7 @@ returns-clause-run c = λ name. (
             tt,
             (
               Gathering 6 [] tt,
-              (Ok 6, [], tt, noted (Looked false) (counted 0 (behind_the_failure name).poll).watch, (0, tt, tt, false, [], (tt, refl, tt), refl, refl), refl, refl),
+              (Ok 6, [], tt, noted (Looked false) (marks_taken [] (counted 0 (behind_the_failure name).poll)).watch, (0, tt, tt, false, [], (tt, refl, tt), refl, refl), refl, refl),
               (tt, (tt, tt)),
               (
                 Noticing 1 [] tt,
@@ -182,8 +183,8 @@ returns-clause-settled c = λ name. (
   (
       inr (
         Settling None (first_registration ∷ second_registration ∷ []) tt,
-        (0, first_registration ∷ second_registration ∷ [], in_order, refl, refl),
-        (tt, (tt, tt)),
+        (0, first_registration ∷ second_registration ∷ [], first_registration ∷ second_registration ∷ [], record { same = IsPermutation-refl (first_registration ∷ second_registration ∷ []); order = in_order }, refl, refl),
+        (tt, (tt, (tt, tt))),
         (
           Settling None (second_registration ∷ []) tt,
           (inl (tt, [], (factory_of first_registration, (refl, refl)), refl), refl),
@@ -202,7 +203,7 @@ returns-clause-settled c = λ name. (
                 tt,
                 (
                   Gathering 5 [] tt,
-                  (Ok 5, [], tt, noted (Looked false) (record { name = name; notes = Counted 0 ∷ [] }), (0, tt, tt, false, [], (tt, (refl, refl), tt), refl, refl), refl, refl),
+                  (Ok 5, [], tt, noted (Looked false) (record { name = name; notes = Counted 0 ∷ Marked (first_registration ∷ second_registration ∷ []) ∷ [] }), (0, tt, tt, false, [], (tt, (refl, refl), tt), refl, refl), refl, refl),
                   (tt, (tt, tt)),
                   (
                     Noticing 0 [] tt,
@@ -250,8 +251,8 @@ returns-clause-rearmed c = λ name. (
     (
         inr (
           Settling None [] tt,
-          (0, [], λ place t u first second. cc, refl, refl),
-          (tt, (tt, tt)),
+          (0, [], [], record { same = IsPermutation-refl []; order = λ place t u first second. cc }, refl, refl),
+          (tt, (tt, (tt, tt))),
           (
             Sleeping None [] tt,
             (refl, refl),
@@ -262,7 +263,7 @@ returns-clause-rearmed c = λ name. (
               tt,
               (
                 Gathering 5 [] tt,
-                (Ok 5, [], tt, noted (Looked false) (record { name = name; notes = Counted 0 ∷ [] }), (0, tt, tt, false, [], (tt, (refl, refl), tt), refl, refl), refl, refl),
+                (Ok 5, [], tt, noted (Looked false) (record { name = name; notes = Counted 0 ∷ Marked [] ∷ [] }), (0, tt, tt, false, [], (tt, (refl, refl), tt), refl, refl), refl, refl),
                 (tt, (tt, tt)),
                 (
                   Noticing 0 [] tt,
@@ -332,8 +333,8 @@ returns-clause-rearmed c = λ name. (
     (
       inr (
         Settling None [] tt,
-        (0, [], λ place t u first second. cc, refl, refl),
-        (tt, (tt, tt)),
+        (0, [], [], record { same = IsPermutation-refl []; order = λ place t u first second. cc }, refl, refl),
+        (tt, (tt, (tt, tt))),
         (
           Sleeping None [] tt,
           (refl, refl),
@@ -344,7 +345,7 @@ returns-clause-rearmed c = λ name. (
             tt,
             (
               Gathering 10 [] tt,
-              (Ok 10, [], tt, noted (Looked false) (counted 0 (behind_the_first_call name).poll).watch, (0, tt, tt, false, [], (tt, (refl, refl), tt), refl, refl), refl, refl),
+              (Ok 10, [], tt, noted (Looked false) (marks_taken [] (counted 0 (behind_the_first_call name).poll)).watch, (0, tt, tt, false, [], (tt, (refl, refl), tt), refl, refl), refl, refl),
               (tt, (tt, tt)),
               (
                 Noticing 0 [] tt,

@@ -1,8 +1,9 @@
 use Rattle.std.proofs.Common.{rules, refl, [], ◌∷◌, None, Ok, inl, inr, true, false, arith}
+use Rattle.std.proofs.lemmas.List.Sorted.{IsPermutation-refl}
 use Rattle.calloop_wake.specs.declared.list.Content.TheVariants.{Source, InTurn}
 use Rattle.calloop_wake.specs.Tokens.{after_token}
 use Rattle.calloop_wake.specs.Watches.{noted}
-use Rattle.calloop_wake.specs.declared.wake.notes.Note.TheVariants.{Counted, Looked}
+use Rattle.calloop_wake.specs.declared.wake.notes.Note.TheVariants.{Counted, Looked, Marked}
 use Rattle.calloop_core.specs.declared.sources.PostAction.TheVariants.{Remove}
 use Rattle.calloop_core.specs.declared.timer.TimeoutAction.TheVariants.{Drop}
 use Rattle.calloop_core.specs.Polls.{Arm, Cancel, Call}
@@ -42,8 +43,8 @@ returns-clause-run c = λ name. (
     (
       inr (
         Settling None [] tt,
-        (0, [], λ place t u first second. cc, refl, refl),
-        (tt, (tt, tt)),
+        (0, [], [], record { same = IsPermutation-refl []; order = λ place t u first second. cc }, refl, refl),
+        (tt, (tt, (tt, tt))),
         (
           Sleeping None [] tt,
           (refl, refl),
@@ -54,7 +55,7 @@ returns-clause-run c = λ name. (
             tt,
             (
               Gathering 5 [] tt,
-              (Ok 5, [], tt, noted (Looked false) (record { name = name; notes = Counted 0 ∷ [] }), (0, tt, tt, false, [], (tt, (refl, refl), tt), refl, refl), refl, refl),
+              (Ok 5, [], tt, noted (Looked false) (record { name = name; notes = Counted 0 ∷ Marked [] ∷ [] }), (0, tt, tt, false, [], (tt, (refl, refl), tt), refl, refl), refl, refl),
               (tt, (tt, tt)),
               (
                 Noticing 0 [] tt,

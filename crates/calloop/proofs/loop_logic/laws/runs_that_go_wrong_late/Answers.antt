@@ -130,8 +130,8 @@ returns-clause-settled_backwards c = λ name h.
     elim h.0 [
       | inl g ↦ (let e = g.2 in cc)
       | inr s ↦ (let begun = s.1 in
-          let after : View (Unit {0}) (Unit {0}) (Unit {0}) = all_viewed (seen (with_two_adapters name)) begins in
-          let css : List (List SmallChange) = settles 1 ∷ settles 0 ∷ behind_a_settling name in
-          backwards begun.1 after (behind_a_settling name) (Leaving (Ok tt) tt) begun.2
-          (subst (λ (d : Doing (Unit {0}) (Unit {0})). Steps adapters idle_never quiet_poller after d css (Leaving (Ok tt) tt)) begun.4 s.3))
+          let after : View (Unit {0}) (Unit {0}) (Unit {0}) = all_viewed (seen (with_two_adapters name)) (begins name 1 0) in
+          let css : List (List SmallChange) = settles 1 ∷ settles 0 ∷ behind_a_settling name 1 0 in
+          backwards begun.1 after (behind_a_settling name 1 0) (Leaving (Ok tt) tt) begun.3.order
+          (subst (λ (d : Doing (Unit {0}) (Unit {0})). Steps adapters idle_never quiet_poller after d css (Leaving (Ok tt) tt)) begun.5 s.3))
     ]

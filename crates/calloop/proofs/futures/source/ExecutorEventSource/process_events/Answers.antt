@@ -4,7 +4,7 @@ use Rattle.calloop_core.specs.Polls.{TakePass, PutBack, PollView, poll_after}
 use Rattle.calloop_wake.specs.declared.wake.Twin.{Twin}
 use Rattle.calloop_wake.specs.Tokens.{key_of}
 use Rattle.calloop_wake.specs.Cells.{is_own}
-use Rattle.calloop.specs.Executors.{GivenBy, calls_of, results_of, Opened, Refused}
+use Rattle.calloop.specs.Executors.{ComesOf, calls_of, results_of, misses_of, Opened, Refused}
 use Rattle.calloop.proofs.Polling.{turn_of_another, turn_without, turn_answered}
 use Rattle.calloop.proofs.futures.source.ExecutorEventSource.process_events.Goals as goal
 
@@ -12,13 +12,13 @@ pub returns-then-not-is_mine : goal.returns-then-not-is_mine
 returns-then-not-is_mine g c =
     let s = c.args.self.now in
     let other : is_own (key_of c.args.token) s.twin.key ≡ false = sym c.is_mine.ensures ∙ c.if-not-is_mine.true in
-    ([], ([], (turn_of_another _ _ (GivenBy g.Fut.Future.gives) s.twin c.args.token c.args.poll.now.batch.pass other, refl), (tt, refl)), (refl, refl, refl))
+    ([], ([], (turn_of_another _ _ (ComesOf g.Fut.Future.gives g.Fut.Future.polls) s.twin c.args.token c.args.poll.now.batch.pass other, refl), (tt, refl)), (refl, refl, refl))
 
 pub returns-in_default : goal.returns-in_default
 returns-in_default g c =
     let s = c.args.self.now in
     let own : is_own (key_of c.args.token) s.twin.key ≡ true = sym c.is_mine.ensures ∙ c.if-not-is_mine.false in
-    ([], (TakePass ∷ [], (turn_without _ _ (GivenBy g.Fut.Future.gives) s.twin c.args.token c.args.poll.now.batch.pass own (sym c.in_default.ensures.pass), refl), ((tt, tt), c.take_pass.ensures.view)), (refl, refl, refl))
+    ([], (TakePass ∷ [], (turn_without _ _ (ComesOf g.Fut.Future.gives g.Fut.Future.polls) s.twin c.args.token c.args.poll.now.batch.pass own (sym c.in_default.ensures.pass), refl), ((tt, tt), c.take_pass.ensures.view)), (refl, refl, refl))
 
 pub returns-in-Ok : goal.returns-in-Ok
 returns-in-Ok g c =
@@ -30,12 +30,12 @@ returns-in-Ok g c =
       (
         TakePass ∷ [],
         (
-          turn_answered _ _ (GivenBy g.Fut.Future.gives) s.twin c.args.token c.args.poll.now.batch.pass own c.in-Some.pass (Opened h.0) (calls_of h.0) Continue (TakePass ∷ []) c.run_tasks.new.twin (sym c.in-Some.ensures.pass) (
+          turn_answered _ _ (ComesOf g.Fut.Future.gives g.Fut.Future.polls) s.twin c.args.token c.args.poll.now.batch.pass own c.in-Some.pass (Opened h.0) (calls_of h.0) Continue (TakePass ∷ []) c.run_tasks.new.twin (sym c.in-Some.ensures.pass) (
             h.1,
             refl,
             refl,
             refl,
-            h.2 ∙ ap (λ (t : Twin). record t { number = t.number + results_of h.0 }) ok.1,
+            h.2 ∙ ap (λ (t : Twin). record t { number = t.number + results_of h.0; misses = t.misses + misses_of h.0 }) ok.1,
             h.3,
           ),
           refl,
@@ -53,7 +53,7 @@ returns-in-Err g c =
       (
         TakePass ∷ PutBack c.in-Err.pass ∷ [],
         (
-          turn_answered _ _ (GivenBy g.Fut.Future.gives) s.twin c.args.token c.args.poll.now.batch.pass own c.in-Some.pass Refused [] Continue (TakePass ∷ PutBack c.in-Err.pass ∷ []) c.open_turn.new.twin (sym c.in-Some.ensures.pass)
+          turn_answered _ _ (ComesOf g.Fut.Future.gives g.Fut.Future.polls) s.twin c.args.token c.args.poll.now.batch.pass own c.in-Some.pass Refused [] Continue (TakePass ∷ PutBack c.in-Err.pass ∷ []) c.open_turn.new.twin (sym c.in-Some.ensures.pass)
               (refl, refl, ap (λ p. TakePass ∷ PutBack p ∷ []) c.in-Err.ensures.err.0, c.in-Err.ensures.err.1),
           refl,
         ),
