@@ -1,5 +1,5 @@
 -- Where an adapter leaves.
-use Rattle.std.proofs.Common.{◌≡◌, refl, [], true, false, List, Option, Some, None, Result, Err, inl, inr}
+use Rattle.std.proofs.Common.{◌≡◌, refl, [], true, false, List, Option, Some, None, Result, Ok, Err, inl, inr}
 use Rattle.std.specs.declared.io.ErrorKind.TheVariants.{NotFound}
 use Rattle.calloop_wake.specs.declared.error.Error.{Error}
 use Rattle.calloop_wake.specs.declared.error.Error.TheVariants.{InvalidToken}
@@ -8,7 +8,7 @@ use Rattle.calloop_core.specs.Pollers.{Outside, Sockets}
 use Rattle.calloop_core.specs.Polls.{PollView, PollStep, IsOfKind, AllStepped}
 use Rattle.calloop.specs.declared.io.adapter.Adapter.{Adapter}
 use Rattle.calloop.specs.declared.io.notes.SlotNote.TheVariants.{Asked}
-use Rattle.calloop.specs.Adapters.{TakenOut, Leaves, left_so, and_did}
+use Rattle.calloop.specs.Adapters.{TakenOut, Leaves, Goes, left_so, and_did}
 
 module _ {P R I : Type 0} (sockets : Sockets P I) (O : Outside P) where
   abbrev Left : Option Token → Adapter P R I → PollView P → Result (Unit {0}) Error → Adapter P R I → PollView P → Type 0
@@ -23,3 +23,8 @@ module _ {P R I : Type 0} (sockets : Sockets P I) (O : Outside P) where
   pub let_out : (own : Option Token) (token : Token) (s : Adapter P R I) (v w : PollView P) (answer : Result (Unit {0}) Error) → own ≡ Some token
       → ((steps : List (PollStep P)) × TakenOut sockets s.entered token v answer steps × AllStepped O v steps w) → Left own s v answer (left_so answer (and_did (Asked true) s)) w
   let_out own token s v w answer some h = rw some (h.0, inr (h.1, refl), h.2)
+
+  -- its other end is gone, and it is in no loop
+  pub stays_out : (own : Option Token) (s : Adapter P R I) (v : PollView P) → own ≡ None
+      → (told : Result (Unit {0}) Error) × (steps : List (PollStep P)) × Goes sockets own s v told steps s × AllStepped O v steps v
+  stays_out own s v none = rw none (Ok tt, [], (refl, refl), (tt, refl))

@@ -89,7 +89,7 @@ module _ {D I P X : Type 0} (M : Meaning D P (Lent X (Asks D I))) (runs : Runs D
   viewed-append v [] ds = refl
   viewed-append v (c ∷ cs) ds = viewed-append (viewed v c) cs ds
 
-  viewed-joined : (v : View D I P) (css : List (List (Change D I P))) → all_viewed v (joined css) ≡ traced v css
+  pub viewed-joined : (v : View D I P) (css : List (List (Change D I P))) → all_viewed v (joined css) ≡ traced v css
   viewed-joined v [] = refl
   viewed-joined v (cs ∷ css) = viewed-append v cs (joined css) ∙ viewed-joined (all_viewed v cs) css
 
@@ -102,7 +102,7 @@ module _ {D I P X : Type 0} (M : Meaning D P (Lent X (Asks D I))) (runs : Runs D
   once_fit v R (cs ∷ []) h = fit-append O v cs [] h.1 tt
   once_fit v R (cs ∷ ds ∷ css) h = absurd h
 
-  case_fit : (v : View D I P) (call : LoopCall D P X I) (answer : LoopAnswer D P X I) (css : List (List (Change D I P))) → Case M runs O call answer v css → AllFit O v (joined css)
+  pub case_fit : (v : View D I P) (call : LoopCall D P X I) (answer : LoopAnswer D P X I) (css : List (List (Change D I P))) → Case M runs O call answer v css → AllFit O v (joined css)
   case_fit v (Insert d) (Inserted answer) css h = once_fit v (InsertedBy M d answer) css h
   case_fit v (Enable token) (Enabled answer) css h = once_fit v (EnabledBy M token answer) css h
   case_fit v (Update token) (Updated answer) css h = once_fit v (UpdatedBy M token answer) css h

@@ -10,6 +10,7 @@ pub mod Owning
 pub mod Inserting
 pub mod Held
 pub mod Rights
+pub mod Served
 pub mod Reuse
 pub mod Rounds
 pub mod Running

@@ -27,7 +27,9 @@ pub mod Homes
 pub mod Running
 pub mod Freshness
 pub mod EveryRun
+pub mod Served
 pub mod WrongRuns
+pub mod Unserved
 pub mod BusyRun
 pub mod RearmedRun
 pub mod Handles

@@ -5,6 +5,10 @@ ghost use Rattle.calloop_wake.specs.declared.error.Error.{Error};
 ghost use Rattle.calloop.specs.Machine.{World, View, IsNew};
 ghost use Rattle.calloop.specs.Rules.{Run};
 ghost use Rattle.calloop.specs.Homes.{AllAtHome};
+ghost use Rattle.calloop.specs.Served.{IsAccountOf, OverEveryDispatch, NothingIsLeft, AllAreCut, NoneIsLate, DueAreCut, IdlesRan, DeadlinesStaySorted};
+ghost use Rattle.calloop.specs.Unserved.{SmallAccount, two_wait, cuts_one, cuts_two, cuts_three, cuts_before, gathers_nothing, gathers_twice, takes_no_round, runs_no_idle, idle_waits, in_another_order, first_stays, second_stays, before_its_dispatch, account_of_it};
+ghost use Rattle.calloop.specs.ExampleRun.{of_the_dispatch};
+ghost use Rattle.calloop.specs.Laws.{joined};
 ghost use Rattle.calloop.specs.EveryRun.{OverEveryRun, FromTheStart, EventsReachTheirSource, ArmingsAreKept, ArmingsAreKeptOfFresh, SourcesKeepToTheirSlots, WhoIsToldStandsOnce, TicketsAreOfOneAnswer};
 ghost use Rattle.calloop.specs.Laws.{IsKept, IsSound, AllFresh, changes_of, IsTold, IsTicketed, GoesRight, NamesLater, StaysGone, OnTime};
 ghost use Rattle.calloop.specs.Freshness.{AsksFresh, RunsFresh, AllFreshCalls, AllKeepKeys};
@@ -58,7 +62,56 @@ pub fn once<D: EventDispatcher<P, C, R>, P: Poller, C: Clock, R: Wait + Drop>()
         (FromTheStart TicketsAreOfOneAnswer) }
 {}
 
-/// The same of a loop whose callbacks ask for nothing, as each `On`: its own calls are all that has to be looked at. Where each source
+/// Over every dispatch that answers `Ok`, from any state, whatever poller, sources, callbacks and idles answer: it gathered, once. No event
+/// is left waiting as it ends. The events that stood in the batch right behind the gathering were cut, all of them, in that order,
+/// and no others. Where the deadlines were sorted, as a wheel keeps them and as they are in every run from the start (`sorted`), none that had
+/// come by the clock's answer stays armed right behind the gathering, and each timer that was armed for such a one was cut. And it took up a
+/// round of idles, once, each of which has begun or was cancelled.
+///
+/// So a timer that is due when a dispatch gathers is cut in this same dispatch, or the dispatch answers an error.
+pub fn served<D: EventDispatcher<P, C, R>, P: Poller, C: Clock, R: Wait + Drop>()
+    ensures nothing_left { OverEveryDispatch D.means D.Idle.runs P.outside NothingIsLeft }
+    ensures all_cut { OverEveryDispatch D.means D.Idle.runs P.outside AllAreCut }
+    ensures none_is_late { OverEveryDispatch D.means D.Idle.runs P.outside NoneIsLate }
+    ensures due_are_cut { OverEveryDispatch D.means D.Idle.runs P.outside DueAreCut }
+    ensures idles_ran { OverEveryDispatch D.means D.Idle.runs P.outside IdlesRan }
+    ensures sorted { OverEveryRun D.means D.Idle.runs P.outside (FromTheStart DeadlinesStaySorted) }
+{}
+
+/// What `served` rules out, each by its own definitions: a dispatch that cuts one event of two and ends; one that cuts both and one more that
+/// joined them behind the gathering; one that cuts an event before it gathers, that doesn't gather, that gathers twice, or that begins no round of
+/// idles, of which there is no account; one that ends with an idle of its round; an account of two events in another order, which isn't
+/// one of the dispatch that cut them; and one in which a timer for the very moment of the gathering stays armed, as the first of two or
+/// behind one that is later, or isn't cut. And an account that there is: of the dispatch of `run_that_there_is`, which gathers at 5 and cuts
+/// the event of the timer for 5.
+pub fn unserved_dispatches_are_ruled_out()
+    ensures there_is { (name : Book)
+        → IsAccountOf (account_of_it name) (before_its_dispatch name)
+        (joined (of_the_dispatch name))
+        × AllAreCut (account_of_it name) }
+    ensures one_left { (name : Book) (a : SmallAccount) → IsAccountOf a (two_wait name) cuts_one
+        → (¬ NothingIsLeft a) × (¬ AllAreCut a) }
+    ensures one_more { (name : Book) (a : SmallAccount) → IsAccountOf a (two_wait name) cuts_three
+        → ¬ AllAreCut a }
+    ensures cut_before { (name : Book) (a : SmallAccount)
+        → ¬ IsAccountOf a (two_wait name) cuts_before }
+    ensures not_gathered { (name : Book) (a : SmallAccount)
+        → ¬ IsAccountOf a (two_wait name) gathers_nothing }
+    ensures gathered_twice { (name : Book) (a : SmallAccount)
+        → ¬ IsAccountOf a (two_wait name) gathers_twice }
+    ensures other_order { (name : Book)
+        → (¬ IsAccountOf (in_another_order name) (two_wait name) cuts_two)
+        × (¬ AllAreCut (in_another_order name)) }
+    ensures first_late { (name : Book) → ¬ NoneIsLate (first_stays name) }
+    ensures due_not_cut { (name : Book) → ¬ DueAreCut (first_stays name) }
+    ensures second_late { (name : Book) → ¬ NoneIsLate (second_stays name) }
+    ensures no_round { (name : Book) (a : SmallAccount)
+        → ¬ IsAccountOf a (two_wait name) takes_no_round }
+    ensures idle_left { (name : Book) (a : SmallAccount)
+        → IsAccountOf a (idle_waits name) runs_no_idle → ¬ IdlesRan a }
+{}
+
+/// The law of armings of a loop whose callbacks ask for nothing, as each `On`: its own calls are all that has to be looked at. Where each source
 /// that these insert holds no counter of a timer, and each that they exchange holds no more than the one before, no timer is called
 /// early, nor twice for one arming.
 pub fn once_where_nothing_is_asked<D, P: Poller, C: Clock, R: Wait + Drop>()

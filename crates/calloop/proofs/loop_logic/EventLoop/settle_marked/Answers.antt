@@ -16,4 +16,7 @@ returns-in_default-clause-machine g c = (
 pub returns-clause-machine : goal.returns-clause-machine
 returns-clause-machine g c =
     let h = c.in-Some.ensures.some in
-    (c.as_slice.result.now, h.taken, rw c.as_slice.ensures.value h.are, λ timeout x. rw sym h.noted (c.settle_all.ensures.machine timeout x))
+    (c.as_slice.result.now, h.taken, rw c.as_slice.ensures.value h.are, λ timeout x. rw (sym h.noted) (c.settle_all.ensures.machine timeout x))
+
+pub returns-clause-ready : goal.returns-clause-ready
+returns-clause-ready g c = λ more ready. c.settle_all.ensures.ready more (c.in-Some.ensures.ready more ready)

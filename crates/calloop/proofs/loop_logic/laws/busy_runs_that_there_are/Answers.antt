@@ -187,11 +187,11 @@ returns-clause-settled c = λ name. (
         (tt, (tt, (tt, tt))),
         (
           Settling None (second_registration ∷ []) tt,
-          (inl (tt, [], (factory_of first_registration, (refl, refl)), refl), refl),
+          (inl (tt, [], (factory_of first_registration, (refl, refl, tt)), refl), refl),
           ((record { version = 0; content = Source tt }, refl, refl), (tt, (tt, ((record { version = 0; content = InTurn }, refl, refl), tt)))),
           (
             Settling None [] tt,
-            (inl (tt, [], (factory_of second_registration, (refl, refl)), refl), refl),
+            (inl (tt, [], (factory_of second_registration, (refl, refl, tt)), refl), refl),
             ((record { version = 0; content = Source tt }, refl, refl), (tt, (tt, ((record { version = 0; content = InTurn }, refl, refl), tt)))),
             (
               Sleeping None [] tt,
