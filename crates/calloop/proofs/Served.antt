@@ -30,7 +30,7 @@ use Rattle.calloop.specs.declared.loop_logic.asks.Request.TheVariants.{Insert as
 use Rattle.calloop.specs.Askings.{Asks, AskStep, Write, Take, Runs, ask_after, asks_after, begun_from, all_but_first, is_other_idle}
 use Rattle.calloop.specs.Machine.{World, View, IsNew, seen, Change, Put, Claim, Swapped, Polls, Polling, Watching, Counting, Holds, Appended, Gathered, Cut, Ended, AllFit, viewed, all_viewed}
 use Rattle.calloop.specs.Roles.{only, is_callers, is_adapter}
-use Rattle.calloop.specs.Rules.{Doing, Beginning, Settling, Sleeping, Waiting, Gathering, Noticing, Cutting, Serving, Ending, Returning, Idling, RunningIdles, ServingIdle, Leaving, Outcome, Step, Steps, SleptAs, SleptBy, NoticedBy, CutTo, CutFrom, ActedBy, ReturnedTo, emptied, InsertedBy, AskedIn, SettledIn, RemovedIn, OwnOr, Served, ServedAs, ServedFrom, RunFrom, DispatchedBy, Run, all_traced, action_of, after_turn, after_wait}
+use Rattle.calloop.specs.Rules.{Doing, Beginning, Settling, Sleeping, Waiting, Gathering, Noticing, Cutting, Serving, Ending, Returning, Idling, RunningIdles, ServingIdle, Leaving, Outcome, Step, Steps, SleptAs, SleptBy, NoticedBy, CutTo, CutFrom, ActedBy, ReturnedTo, emptied, InsertedBy, AskedIn, SettledIn, RemovedIn, OwnOr, Served, ServedAs, ServedFrom, RunFrom, DispatchedBy, Run, all_traced, action_of, after_turn, after_wait, appends}
 use Rattle.calloop.specs.Held.{HeldStep, Listed, Unlisted, Pend, Asking, Begun, Told, Owe, Paid, Cleared, Warned, StopNoted, IdleIn, IdleNew, IdleOut, IdlesTaken, IdleBegun}
 use Rattle.calloop.specs.Laws.{joined}
 use Rattle.calloop.specs.Served.{Account, first_of, events_cut, gatherings, Gathers, idles_begun, idles_cancelled, rounds, RunsRound, IsAccountOf, NothingIsLeft, AllAreCut, AllLater, NoneIsLate, DueAreCut, IdlesRan}
@@ -614,17 +614,20 @@ module _ {D I P X : Type 0} (M : Meaning D P (Lent X (Asks D I))) (runs : Runs D
   settled_early v token (Source d) cs (inl h) = (let e = h.3 in rw e (tt, (tt, (tt, (tt, tt)))))
   settled_early v token (Source d) cs (inr h) = (let e = h.1.6 in rw e (tt, (tt, (tt, (tt, tt)))))
 
-  slept_as_early : (timeout : Option ℕ) (later : List RegistrationToken) (answer : Result (Option (Readiness × Token)) Error) (x : X) (cs : List (Change D I P)) (b : Doing D X) → SleptAs timeout later answer x cs b → AllPlain cs × IsEarly b
-  slept_as_early timeout later (Ok None) x cs b h = (rw h.0 tt, rw h.1 tt)
-  slept_as_early timeout later (Ok (Some given)) x cs b h = (rw h.0 (tt, tt), rw h.1 tt)
-  slept_as_early timeout later (Err e) x cs b h = (rw h.0 tt, rw h.1 tt)
+  appends_plain : (given : List (Readiness × Token)) → AllPlain {D = D} {I = I} {P = P} (appends given)
+  appends_plain [] = tt
+  appends_plain (e ∷ es) = (tt, appends_plain es)
+
+  slept_as_early : (timeout : Option ℕ) (later : List RegistrationToken) (given : List (Readiness × Token)) (answer : Outcome) (x : X) (cs : List (Change D I P)) (b : Doing D X) → SleptAs timeout later given answer x cs b → AllPlain cs × IsEarly b
+  slept_as_early timeout later given (Ok u) x cs b h = (rw h.0 (appends_plain given), rw h.1 tt)
+  slept_as_early timeout later given (Err e) x cs b h = (rw h.0 tt, rw h.1 tt)
 
   slept_early : (v : View D I P) (timeout : Option ℕ) (token : RegistrationToken) (later : List RegistrationToken) (x : X) (cs : List (Change D I P)) (b : Doing D X) (c : Content D) → SleptBy M timeout token later c v x cs b → AllPlain cs × IsEarly b
   slept_early v timeout token later x cs b Vacant h = (rw h.0 tt, rw h.1 tt)
   slept_early v timeout token later x cs b InTurn h = (rw h.0 tt, rw h.1 tt)
   slept_early v timeout token later x cs b (Source d) h =
-      let k = slept_as_early timeout later h.1 x h.2 b h.4 in
-      (rw h.5 (tt, (tt, (tt, k.0))), k.1)
+      let k = slept_as_early timeout later h.1 h.2 x h.3 b h.5 in
+      (rw h.6 (tt, (tt, (tt, k.0))), k.1)
 
   waited_early : (answer : Result ℕ Cause) (given : List (ℕ × Readiness)) (x : X) → IsEarly (after_wait answer given x)
   waited_early (Ok now) given x = tt
@@ -698,7 +701,7 @@ module _ {D I P X : Type 0} (M : Meaning D P (Lent X (Asks D I))) (runs : Runs D
   found v (Gathering now given x) x' [] early h = cc
   found v (Leaving (Err e) x) x' [] early h = cc
   found v (Beginning timeout x) x' (cs ∷ css) early h =
-      found_behind v cs (joined css) (let s = h.1 in rw s.3 (tt, (tt, tt))) h.2 (found (all_viewed v cs) h.0 x' css (let s = h.1 in rw s.4 tt) h.3)
+      found_behind v cs (joined css) (let s = h.1 in rw s.4 (tt, (tt, (tt, tt)))) h.2 (found (all_viewed v cs) h.0 x' css (let s = h.1 in rw s.5 tt) h.3)
   found v (Settling timeout [] x) x' (cs ∷ css) early h =
       found_behind v cs (joined css) (let s = h.1 in rw s.0 tt) h.2 (found (all_viewed v cs) h.0 x' css (let s = h.1 in rw s.1 tt) h.3)
   found v (Settling timeout (t ∷ later) x) x' (cs ∷ css) early h =
@@ -875,7 +878,7 @@ module _ {D I P X : Type 0} (M : Meaning D P (Lent X (Asks D I))) (runs : Runs D
   round_found : (v : View D I P) (a : Doing D X) (x' : X) (css : List (List (Change D I P))) → IsBeforeRound a → Steps M runs O v a css (Leaving (Ok tt) x') → RoundFound v (joined css)
   round_found v a x' [] r h = absurd (subst (λ (b : Doing D X). IsBeforeRound b) (sym h) r)
   round_found v (Beginning timeout x) x' (cs ∷ css) r h =
-      round_behind v cs (joined css) (let s = h.1 in rw s.3 (tt, (tt, tt))) (round_found (all_viewed v cs) h.0 x' css (let s = h.1 in rw s.4 tt) h.3)
+      round_behind v cs (joined css) (let s = h.1 in rw s.4 (tt, (tt, (tt, tt)))) (round_found (all_viewed v cs) h.0 x' css (let s = h.1 in rw s.5 tt) h.3)
   round_found v (Settling timeout [] x) x' (cs ∷ css) r h =
       round_behind v cs (joined css) (let s = h.1 in rw s.0 tt) (round_found (all_viewed v cs) h.0 x' css (let s = h.1 in rw s.1 tt) h.3)
   round_found v (Settling timeout (t ∷ later) x) x' (cs ∷ css) r h =

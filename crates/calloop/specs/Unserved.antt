@@ -2,7 +2,7 @@
 use Rattle.std.specs.Prelude.{ℕ, false, List, [], ◌∷◌, None}
 use Rattle.logbook.specs.Pages.{Book}
 use Rattle.calloop_wake.specs.declared.wheel.Entry.{Entry}
-use Rattle.calloop_wake.specs.declared.wake.notes.Note.TheVariants.{Counted, Looked}
+use Rattle.calloop_wake.specs.declared.wake.notes.Note.TheVariants.{Counted, Looked, Marked}
 use Rattle.calloop_wake.specs.Watches.{noted}
 use Rattle.calloop_wake.specs.Deadlines.{entry_of}
 use Rattle.calloop_core.specs.declared.sys.poll.Pending.{Pending}
@@ -132,8 +132,9 @@ before_its_gathering name =
     all_viewed (before_its_dispatch name)
     (Counting 0
     ∷ Holds Cleared
+    ∷ Watching (noted (Marked []) (record { name = name; notes = Counted 0 ∷ [] }))
     ∷ Polling tt
-    ∷ Watching (noted (Looked false) (record { name = name; notes = Counted 0 ∷ [] }))
+    ∷ Watching (noted (Looked false) (record { name = name; notes = Counted 0 ∷ Marked [] ∷ [] }))
     ∷ [])
 
 abbrev pub account_of_it : Book → Account Only (Unit {0}) (Unit {0})

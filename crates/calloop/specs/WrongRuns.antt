@@ -43,6 +43,7 @@ use Rattle.calloop.specs.Machine.{
 use Rattle.calloop.specs.Wrong.{
   first_token,
   first_registration,
+  second_registration,
   used,
   given_up,
   first_arming,
@@ -287,9 +288,6 @@ second_is_elsewhere name =
       ledger = new_ledger;
       signal = name;
     }
-
-abbrev pub second_registration : RegistrationToken
-second_registration = record { slot = 1; version = 0 }
 
 -- two slots, and these registrations are told of waits
 abbrev pub that_tells : Book → List (Registration (Unit {0})) → List RegistrationToken → SmallWorld

@@ -16,8 +16,7 @@ use Rattle.calloop.specs.Askings.{Write}
 use Rattle.calloop.specs.Held.{Pend, Told}
 use Rattle.calloop.specs.Machine.{Holds}
 use Rattle.calloop.specs.Rules.{factory_of, Settling, Sleeping, Waiting, Gathering, Noticing, Cutting, Serving, Ending, Returning, Idling, RunningIdles, Leaving}
-use Rattle.calloop.specs.Wrong.{first_token, first_registration}
-use Rattle.calloop.specs.WrongRuns.{second_registration}
+use Rattle.calloop.specs.Wrong.{first_token, first_registration, second_registration}
 use Rattle.calloop.specs.BusyRun.{for_reading, two_found, behind_the_failure}
 use Rattle.logbook.specs.Pages.{Book}
 use Rattle.calloop_core.specs.declared.sources.PostAction.TheVariants.{Remove}
