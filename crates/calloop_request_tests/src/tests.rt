@@ -258,23 +258,6 @@ fn each_case_goes_as_it_is_to(rt: HostRuntime) {
 }
 
 #[test]
-fn an_idle_finds_the_answer_that_it_waits_for_though_another_turn_fails_before_it(rt: HostRuntime) {
-    assert_eq!(rt; plays(&rt, rt.alloc(), ANOTHER_TURN_FAILS), None);
-}
-
-const ANOTHER_TURN_FAILS: &[Act<'static>] = &[
-    Act::Ping(
-        1,
-        &[Wish::Insert(1, PostAction::Continue), Wish::Reads(50, 0)],
-    ),
-    Act::Counter(None, 2, &[]),
-    Act::Ring(0),
-    Act::Script(1, &[1 << 40]),
-    Act::Fails(&[1, 2]),
-    Act::Says(Some(0), &[50, 1]),
-];
-
-#[test]
 fn the_last_ticket_is_given_and_none_behind_it(rt: HostRuntime) {
     let token = RegistrationToken::new(0, 0);
     let mut requests: Requests<(), ()> = Requests::numbered_from(u64::MAX - 1, rt.alloc());

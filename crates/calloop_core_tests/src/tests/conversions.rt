@@ -1,9 +1,8 @@
 use calloop_core::idles::IdleCallback;
 use calloop_core::sources::{Dispatcher, IntoError};
 use calloop_core::sys::{Interest, Readiness};
-use calloop_core::timer::{Timer, TimerError};
+use calloop_core::timer::TimerError;
 use calloop_wake::error::Error;
-use calloop_wake::wheel::Instant;
 use std::alloc::Global;
 use std::fmt::Display;
 use std::io;
@@ -94,13 +93,11 @@ fn an_interest_is_in_what_its_name_says(rt: HostRuntime) {
 
 #[test]
 fn a_dispatcher_lends_its_source_and_hands_it_back(rt: HostRuntime) {
-    let mut dispatcher = Dispatcher::new(Timer::from_deadline(Instant { nanos: 4 }), ());
-    assert!(rt; is_due_at(dispatcher.as_source_ref(), 4));
-    dispatcher
-        .as_source_mut()
-        .set_deadline(Instant { nanos: 9 });
-    assert!(rt; is_due_at(dispatcher.as_source_ref(), 9));
-    assert!(rt; is_due_at(&dispatcher.into_source_inner(), 9));
+    let mut dispatcher = Dispatcher::new(4u32, ());
+    assert_eq!(rt; *dispatcher.as_source_ref(), 4);
+    *dispatcher.as_source_mut() = 9;
+    assert_eq!(rt; *dispatcher.as_source_ref(), 9);
+    assert_eq!(rt; dispatcher.into_source_inner(), 9);
 }
 
 #[test]
@@ -127,8 +124,4 @@ fn shows<T: Display>(alloc: Global, shown: &T, text: &str) -> bool {
         Ok(found) => found.as_str() == text,
         Err(_) => false,
     }
-}
-
-fn is_due_at(timer: &Timer, nanos: u64) -> bool {
-    timer.current_deadline() == Some(Instant { nanos })
 }

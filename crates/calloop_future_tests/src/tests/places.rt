@@ -1,9 +1,7 @@
-//! Futures that schedule others while they are polled and while they are dropped, and threads that schedule beside the polls.
+//! Futures that a callback schedules, and threads that schedule beside the polls.
 use super::desk::Reader;
-use calloop::futures::{Context, Executor, Future, Poll, ScheduleError, Scheduler, make_executor};
-use calloop::{
-    Choice, Dispatcher, EventDispatcher, Here, On, RegistrationToken, ScriptLoop, Sources,
-};
+use calloop::futures::{Context, Executor, Future, Poll, Scheduler, make_executor};
+use calloop::{Choice, Dispatcher, EventDispatcher, Here, On, ScriptLoop, Sources};
 use calloop_core::sys::script::{ScriptClock, ScriptPoller};
 use std::alloc::Global;
 use std::sync::atomic::{AtomicU32, Ordering};
@@ -12,21 +10,9 @@ use std::thread::{JoinHandle, Threads, spawn, yield_now};
 use std::time::Duration;
 
 #[test]
-fn a_future_schedules_another_one_while_it_is_polled(rt: HostRuntime) {
-    let said = says_all::<Held<HostRuntime>, HostRuntime>(&rt, rt.alloc());
-    assert_eq!(rt; said, Some(true));
-}
-
-#[test]
 fn a_callback_schedules_another_future_in_place_of_the_one_that_is_done(rt: HostRuntime) {
     let said = says_below::<Repeating<HostRuntime>, HostRuntime>(&rt, rt.alloc());
     assert_eq!(rt; said, Some(true));
-}
-
-#[test]
-fn a_future_that_is_dropped_with_its_executor_is_refused_another_one(rt: HostRuntime) {
-    let refused = is_refused_by_its_drop::<Held<HostRuntime>, HostRuntime>(&rt, rt.alloc());
-    assert_eq!(rt; refused, Some(true));
 }
 
 #[test]
@@ -43,53 +29,23 @@ const EACH: u32 = 1_000;
 // How often a thread looks whether its future was polled, until it takes it for lost.
 const LOOKS: u32 = 200_000;
 
-/// Schedules a future where it is dropped, and counts whether the executor was gone.
-struct Last<R: Wait + Clone + Drop> {
-    scheduler: Scheduler<Task<R>, R>,
-    refusals: Arc<AtomicU32, Global>,
-}
-
-impl<R: Wait + Clone + Drop> Drop for Last<R> {
-    fn drop(self) {
-        let Last {
-            scheduler,
-            refusals,
-        } = self;
-        if let Err(ScheduleError::Destroyed(_)) = scheduler.schedule(Task::Gives(0)) {
-            refusals.fetch_add(1, Ordering::SeqCst);
-        }
-    }
-}
-
 /// What a future does.
 #[derive(Drop)]
-enum Task<R: Wait + Clone + Drop> {
+enum Task {
     /// It gives this at once.
     Gives(u32),
-    /// It schedules one that gives the next number, and gives this.
-    Schedules(Scheduler<Task<R>, R>, u32),
-    /// It gives nothing.
-    Waits(Last<R>),
     /// It counts its poll, and gives 0.
     Counts(Arc<AtomicU32, Global>),
     /// It wakes itself until all threads have ended.
     Spins(Arc<AtomicU32, Global>),
 }
 
-impl<R: Wait + Clone + Drop> Future<R> for Task<R> {
+impl<R: Wait + Drop> Future<R> for Task {
     type Output = u32;
 
     fn poll(&mut self, cx: &mut Context<'_, R>) -> Poll<u32> {
         match self {
             Task::Gives(number) => Poll::Ready(*number),
-            Task::Schedules(scheduler, number) => {
-                let next = Task::Gives(number.saturating_add(1));
-                match scheduler.schedule(next) {
-                    Ok(_receipt) => Poll::Ready(*number),
-                    Err(_) => Poll::Ready(0),
-                }
-            }
-            Task::Waits(_) => Poll::Pending,
             Task::Counts(counter) => {
                 counter.fetch_add(1, Ordering::SeqCst);
                 Poll::Ready(0)
@@ -106,12 +62,12 @@ impl<R: Wait + Clone + Drop> Future<R> for Task<R> {
 }
 
 /// What a loop of such futures holds.
-type Held<R> = Sources<Dispatcher<Executor<Task<R>, R>, Reader>, Vec<u32>>;
+type Held<R> = Sources<Dispatcher<Executor<Task, R>, Reader>, Vec<u32>>;
 
 /// Says each number, and schedules a future that gives the one below it.
 #[derive(Drop)]
 struct Repeats<R: Wait + Clone + Drop> {
-    scheduler: Scheduler<Task<R>, R>,
+    scheduler: Scheduler<Task, R>,
 }
 
 impl<R: Wait + Clone + Drop> On<u32, Vec<u32>, ()> for Repeats<R> {
@@ -124,13 +80,13 @@ impl<R: Wait + Clone + Drop> On<u32, Vec<u32>, ()> for Repeats<R> {
 }
 
 /// What a loop of these holds.
-type Repeating<R> = Sources<Dispatcher<Executor<Task<R>, R>, Repeats<R>>, Vec<u32>>;
+type Repeating<R> = Sources<Dispatcher<Executor<Task, R>, Repeats<R>>, Vec<u32>>;
 
 // Whether futures that a callback schedules, each while the one before it has just given its number, give theirs in one dispatch.
 fn says_below<D, R>(rt: &R, alloc: Global) -> Option<bool>
 where
     D: EventDispatcher<ScriptPoller, ScriptClock, R, Data = Vec<u32>>,
-    D: Choice<Executor<Task<R>, R>, Repeats<R>, Here>,
+    D: Choice<Executor<Task, R>, Repeats<R>, Here>,
     R: Wait + Clone + Drop,
 {
     let mut event_loop: ScriptLoop<D, R> = ScriptLoop::scripted(rt, alloc).ok()?;
@@ -147,63 +103,21 @@ where
     Some(said.as_slice() == [3, 1, 2, 0, 1, 0].as_slice())
 }
 
-// A loop with an executor, and its registration.
+// An executor in a loop.
 fn inserted<D, R>(
     rt: &R,
     alloc: Global,
     event_loop: &mut ScriptLoop<D, R>,
-) -> Option<(Scheduler<Task<R>, R>, RegistrationToken)>
+) -> Option<Scheduler<Task, R>>
 where
     D: EventDispatcher<ScriptPoller, ScriptClock, R, Data = Vec<u32>>,
-    D: Choice<Executor<Task<R>, R>, Reader, Here>,
+    D: Choice<Executor<Task, R>, Reader, Here>,
     R: Wait + Clone + Drop,
 {
     let (executor, scheduler) = make_executor(rt, alloc).ok()?;
     let held = D::hold(Dispatcher::new(executor, Reader));
-    let token = event_loop.handle().register_dispatcher(held).ok()?;
-    Some((scheduler, token))
-}
-
-// Whether a future and the one that it schedules both give their numbers, in one dispatch.
-fn says_all<D, R>(rt: &R, alloc: Global) -> Option<bool>
-where
-    D: EventDispatcher<ScriptPoller, ScriptClock, R, Data = Vec<u32>>,
-    D: Choice<Executor<Task<R>, R>, Reader, Here>,
-    R: Wait + Clone + Drop,
-{
-    let mut event_loop: ScriptLoop<D, R> = ScriptLoop::scripted(rt, alloc).ok()?;
-    let (scheduler, _token) = inserted(rt, alloc, &mut event_loop)?;
-    let again = scheduler.clone().ok()?;
-    scheduler.schedule(Task::Schedules(again, 7)).ok()?;
-    let mut said = Vec::new(alloc);
-    event_loop
-        .dispatch(rt, Some(Duration::ZERO), &mut said)
-        .ok()?;
-    Some(said.as_slice() == [7, 8].as_slice())
-}
-
-// Whether a future that is dropped with its executor finds that gone.
-fn is_refused_by_its_drop<D, R>(rt: &R, alloc: Global) -> Option<bool>
-where
-    D: EventDispatcher<ScriptPoller, ScriptClock, R, Data = Vec<u32>>,
-    D: Choice<Executor<Task<R>, R>, Reader, Here>,
-    R: Wait + Clone + Drop,
-{
-    let mut event_loop: ScriptLoop<D, R> = ScriptLoop::scripted(rt, alloc).ok()?;
-    let (scheduler, token) = inserted(rt, alloc, &mut event_loop)?;
-    let refusals = Arc::new(alloc, AtomicU32::new(0)).ok()?;
-    let last = Last {
-        scheduler: scheduler.clone().ok()?,
-        refusals: Arc::try_clone(&refusals).ok()?,
-    };
-    scheduler.schedule(Task::Waits(last)).ok()?;
-    let mut said = Vec::new(alloc);
-    event_loop
-        .dispatch(rt, Some(Duration::ZERO), &mut said)
-        .ok()?;
-    let before = refusals.load(Ordering::SeqCst);
-    drop(event_loop.handle().remove(token)?);
-    Some(before == 0 && refusals.load(Ordering::SeqCst) == 1)
+    event_loop.handle().register_dispatcher(held).ok()?;
+    Some(scheduler)
 }
 
 // Whether each future that two threads schedule is polled by a loop that polls another one again and again meanwhile. Each thread schedules
@@ -211,11 +125,11 @@ where
 fn polls_all_of_threads<D, R>(rt: &R, alloc: Global) -> Option<bool>
 where
     D: EventDispatcher<ScriptPoller, ScriptClock, R, Data = Vec<u32>>,
-    D: Choice<Executor<Task<R>, R>, Reader, Here>,
+    D: Choice<Executor<Task, R>, Reader, Here>,
     R: Threads + Wait + Clone + Drop + Send + Sync + 'static,
 {
     let mut event_loop: ScriptLoop<D, R> = ScriptLoop::scripted(rt, alloc).ok()?;
-    let (scheduler, _token) = inserted(rt, alloc, &mut event_loop)?;
+    let scheduler = inserted(rt, alloc, &mut event_loop)?;
     let ended = Arc::new(alloc, AtomicU32::new(0)).ok()?;
     let of_spinner = Arc::try_clone(&ended).ok()?;
     scheduler.schedule(Task::Spins(of_spinner)).ok()?;
@@ -238,7 +152,7 @@ where
 fn schedules<R>(
     rt: &R,
     alloc: Global,
-    scheduler: &Scheduler<Task<R>, R>,
+    scheduler: &Scheduler<Task, R>,
     ended: &Arc<AtomicU32, Global>,
 ) -> Option<JoinHandle<bool>>
 where
@@ -257,7 +171,7 @@ where
 
 // Schedules one that counts its poll: whether it is polled, in the time that a test has.
 fn is_polled<R: Wait + Clone + Drop>(
-    scheduler: &Scheduler<Task<R>, R>,
+    scheduler: &Scheduler<Task, R>,
     polled: &Arc<AtomicU32, Global>,
     number: u32,
 ) -> bool {

@@ -1,4 +1,4 @@
-//! Dropped adapters whose sockets the poller fails to delete, and sockets that were taken out.
+//! Adapters whose sockets were taken out.
 use super::desk::Silent;
 use calloop::futures::{Context, Future, Poll};
 use calloop::{
@@ -6,18 +6,11 @@ use calloop::{
     Requests, ScriptLoop, Sources, Timer,
 };
 use calloop_core::sys::script::{
-    ScriptAnswer, ScriptClock, ScriptEnd, ScriptEvents, ScriptIo, ScriptKind, ScriptPoller,
+    ScriptAnswer, ScriptClock, ScriptEnd, ScriptEvents, ScriptIo, ScriptPoller,
 };
 use std::alloc::Global;
 use std::io;
 use std::sync::Wait;
-use std::time::Duration;
-
-#[test]
-fn a_dropped_adapter_whose_deletion_fails_is_a_warning(rt: HostRuntime) {
-    let warned = warns::<Held<HostRuntime>, HostRuntime>(&rt, rt.alloc());
-    assert_eq!(rt; warned, Some(true));
-}
 
 #[test]
 fn an_adapter_whose_registered_socket_was_taken_out_is_not_found(rt: HostRuntime) {
@@ -92,28 +85,6 @@ impl<R: Wait + Clone + Drop> Future<R> for Looks<R> {
             Poll::Pending => Poll::Pending,
         }
     }
-}
-
-// Whether the dispatch in which a dropped adapter leaves, whose socket the poller fails to delete, has one warning.
-fn warns<D, R>(rt: &R, alloc: Global) -> Option<bool>
-where
-    D: EventDispatcher<ScriptPoller, ScriptClock, R, Data = ()>,
-    D: Keep<
-        Adapter<ScriptPoller, R>,
-        ScriptPoller,
-        ScriptClock,
-        R,
-        (),
-        Requests<D, <D as EventDispatcher<ScriptPoller, ScriptClock, R>>::Idle>,
-        Here,
-    >,
-    R: Wait + Clone + Drop,
-{
-    let (mut event_loop, io): (ScriptLoop<D, R>, _) = registered(rt, alloc)?;
-    drop(io);
-    event_loop.handle().poller_mut().fail(ScriptKind::Delete);
-    event_loop.dispatch(rt, Some(Duration::ZERO), &mut ()).ok()?;
-    Some(matches!(event_loop.handle().warnings(), [Error::IoError(_)]))
 }
 
 // Whether an adapter whose registered socket was taken out is refused so, and stays until its socket is there again.

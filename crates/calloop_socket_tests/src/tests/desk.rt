@@ -422,12 +422,16 @@ impl<R: Wait + Drop> Seen for Held<R> {
     }
 
     fn keeps_its_socket(self) -> bool {
-        match self.held {
-            OneOf::Other(OneOf::First(socket)) => match socket.into_source_inner().unwrap() {
-                Ok(_) => false,
-                Err(source) => source.get_ref().number == 1,
+        let held = self.held;
+        match held {
+            OneOf::First(_ping) => false,
+            OneOf::Other(rest) => match rest {
+                OneOf::First(socket) => match socket.into_source_inner().unwrap() {
+                    Ok(_) => false,
+                    Err(source) => source.get_ref().number == 1,
+                },
+                OneOf::Other(_timer) => false,
             },
-            _ => false,
         }
     }
 }

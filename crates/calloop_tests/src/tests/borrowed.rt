@@ -1,38 +1,38 @@
 //! Data of a dispatch that borrows.
+use calloop::loop_logic::EventLoop;
 use calloop::ping::make_ping;
-use calloop::{Choice, Dispatcher, EventDispatcher, Here, On, PingSource, ScriptLoop, Sources};
+use calloop::{Dispatcher, On, PingSource, Sources};
 use calloop_core::sys::script::{ScriptClock, ScriptPoller};
-use std::alloc::Global;
-use std::sync::Wait;
 use std::time::Duration;
 
 #[test]
 fn the_data_of_a_dispatch_may_borrow_what_outlives_the_loop(rt: HostRuntime) {
     let mut rings = 0;
-    let rung = rings_once::<Held<'_, HostRuntime>, HostRuntime>(&rt, rt.alloc(), &mut rings);
-    assert_eq!(rt; rung, Some(()));
+    {
+        let poller = ScriptPoller::new(rt.alloc()).expect(&rt, "a poller");
+        let clock = poller.clock().expect(&rt, "a clock");
+        let mut event_loop: Borrowing<'_, HostRuntime> = EventLoop::try_new(
+            &rt,
+            rt.alloc(),
+            poller,
+            clock,
+        ).expect(&rt, "a loop");
+        let (ping, source) = make_ping(&rt, rt.alloc()).expect(&rt, "a ping");
+        assert!(rt; event_loop.handle().insert_source(source, Ringer).is_ok());
+        ping.ping();
+        let mut count = Count { rings: &mut rings };
+        let answer = event_loop.dispatch(&rt, Some(Duration::ZERO), &mut count);
+        assert!(rt; answer.is_ok());
+    }
     assert_eq!(rt; rings, 1);
 }
 
-type Held<'a, R> = Sources<Dispatcher<PingSource<R>, Ringer>, Count<'a>>;
-
-// Rings a ping of a loop, and dispatches once.
-fn rings_once<'a, D, R>(rt: &R, alloc: Global, rings: &'a mut u32) -> Option<()>
-where
-    D: EventDispatcher<ScriptPoller, ScriptClock, R, Data = Count<'a>>,
-    D: Choice<PingSource<R>, Ringer, Here>,
-    R: Wait + Clone + Drop,
-{
-    let mut event_loop: ScriptLoop<D, R> = ScriptLoop::scripted(rt, alloc).ok()?;
-    let (ping, source) = make_ping(rt, alloc).ok()?;
-    let held = D::hold(Dispatcher::new(source, Ringer));
-    event_loop.handle().register_dispatcher(held).ok()?;
-    ping.ping();
-    let mut count = Count { rings };
-    event_loop
-        .dispatch(rt, Some(Duration::ZERO), &mut count)
-        .ok()
-}
+type Borrowing<'a, R> = EventLoop<
+    Sources<Dispatcher<PingSource<R>, Ringer>, Count<'a>>,
+    ScriptPoller,
+    ScriptClock,
+    R,
+>;
 
 // Lends a number.
 #[derive(Drop)]

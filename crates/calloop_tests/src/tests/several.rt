@@ -213,6 +213,10 @@ where
     fn events(&self, keys: &[u64]) -> Option<Vec<Token>> {
         let mut tokens = Vec::new(self.table.alloc);
         for key in keys {
+            // The greatest word is no token's key.
+            if *key == u64::MAX {
+                return None;
+            }
             tokens.push(Token::from_key(*key)).ok()?;
         }
         Some(tokens)
