@@ -2,6 +2,10 @@
 #![tactic(auto)]
 
 use calloop::{Dispatcher, Instant, On, Result, Sources, SystemLoop, TimeoutAction, Timer};
+use std::alloc::Global;
+use std::net::Net;
+use std::sync::Wait;
+use std::time::Clock;
 
 /// Says that its time has come, once.
 #[derive(Drop)]
@@ -14,13 +18,23 @@ impl On<Instant, String, TimeoutAction> for Says {
     }
 }
 
-fn main(rt: HostRuntime) -> Result<()> {
-    let mut said = String::new(rt.alloc());
-    let mut event_loop: SystemLoop<Sources<Dispatcher<Timer, Says>, String>, _> =
-        SystemLoop::system(&rt, rt.alloc())?;
+// Waits for it, by the machine's clock.
+fn wait_for_it<R: Net + Clock + Wait + Clone + Drop>(
+    rt: &R,
+    alloc: Global,
+    said: &mut String,
+) -> Result<()> {
+    let mut event_loop: SystemLoop<Sources<Dispatcher<Timer, Says>, String>, R> =
+        SystemLoop::system(rt, alloc)?;
     let timer = Timer::from_deadline(Instant::from_millis(5));
     event_loop.handle().insert_source(timer, Says)?;
-    event_loop.dispatch(&rt, None, &mut said)?;
+    event_loop.dispatch(rt, None, said)?;
+    Ok(())
+}
+
+fn main(rt: HostRuntime) -> Result<()> {
+    let mut said = String::new(rt.alloc());
+    wait_for_it(&rt, rt.alloc(), &mut said)?;
     print!(rt; "{said}")?;
     Ok(())
 }
