@@ -39,26 +39,39 @@ class Kept:
     """
 
     def __init__(self, root, *by):
-        self.root, self.crates, self.sums, self.by = root, crates_of(root), {}, by
+        self.root, self.crates, self.sums, self.stated, self.by = root, crates_of(root), {}, {}, by
+
+    def file(self, path):
+        """A file of the copy, by its path there, with a sum of what it holds."""
+        with open(f"{self.root}/{path}", "rb") as it:
+            return repr((path, hashlib.sha256(it.read()).digest())).encode()
+
+    def part(self, crate, part):
+        """The files of a folder of a crate, in order."""
+        for at, folders, files in os.walk(f"{self.root}/crates/{crate}/{part}"):
+            folders.sort()
+            yield from (self.file(os.path.relpath(f"{at}/{it}", self.root)) for it in sorted(files))
 
     def sum_of(self, crate):
         """The sum of a crate's files, of its line of crates.txt, and of those of the crates below it."""
         if crate not in self.sums:
             head, rest = self.crates[crate]
             found = [repr((head, rest)).encode(), *(self.sum_of(it) for it in rest if it in self.crates)]
-            for part in PARTS:
-                for at, folders, files in os.walk(f"{self.root}/crates/{crate}/{part}"):
-                    folders.sort()
-                    for name in sorted(files):
-                        with open(f"{at}/{name}", "rb") as it:
-                            path = os.path.relpath(f"{at}/{name}", self.root)
-                            found.append(repr((path, hashlib.sha256(it.read()).digest())).encode())
+            found += [it for part in PARTS for it in self.part(crate, part)]
             self.sums[crate] = hashlib.sha256(b"\n".join(found)).digest()
         return self.sums[crate]
 
     def sum_with(self, crate, tried):
         """The sum of what was tried in a crate and of all that it rests on, in hex digits."""
         return hashlib.sha256(repr((self.by, crate, self.sum_of(crate), tried)).encode()).hexdigest()
+
+    def sum_about(self, crate, tried, files):
+        """The sum of what was tried in a crate and of what that is about, in hex digits: these files of it, and its specs/. It stays
+        where proofs, other files, or crates below change."""
+        if crate not in self.stated:
+            self.stated[crate] = [*self.part(crate, "specs")]
+        found = [self.file(f"crates/{crate}/{it}") for it in sorted(files) if os.path.isfile(f"{self.root}/crates/{crate}/{it}")]
+        return hashlib.sha256(repr((self.by, crate, self.stated[crate], found, tried)).encode()).hexdigest()
 
     def get(self, sum):
         """What was kept for this sum, or None."""

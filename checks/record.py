@@ -1,8 +1,8 @@
 """The record of the wrong bodies that were refused: a file of the repository, with a line for each.
 
-A line is 'CRATE NAME SUM WHY': SUM is of all that the refusal rests on, shortened, and WHY the goal, its place and how it was refused.
-The lines stand in the order of crate and name. A line is a claim of whoever wrote it: it holds as long as its sum is that of what stands
-in the repository, and whoever doubts it tries the body again.
+A line is 'CRATE NAME SUM COMMIT WHY': SUM is of what the refusal is about, shortened, COMMIT that of the checkout where it was tried last, and
+WHY the goal, its place and how it was refused. The lines stand in the order of crate and name. A line is a claim of whoever wrote it: it
+holds as long as its sum is that of what stands in the repository, and whoever doubts it tries the body again.
 """
 import collections
 import os
@@ -10,8 +10,8 @@ import re
 import tempfile
 
 DIGITS = 16
-LINE = re.compile(rf"(\S+) (\S+) ([0-9a-f]{{{DIGITS}}}) (\S.*)")
-Line = collections.namedtuple("Line", "sum why")
+LINE = re.compile(rf"(\S+) (\S+) ([0-9a-f]{{{DIGITS}}}) (none|[0-9a-f]{{{DIGITS}}}) (\S.*)")
+Line = collections.namedtuple("Line", "sum at why")
 
 
 class Record:
@@ -30,7 +30,7 @@ class Record:
             elif body not in self.sums:
                 self.fault(number, f"is of {' '.join(body)}, and there is no such wrong body")
             else:
-                self.lines[body] = Line(found[3], found[4])
+                self.lines[body] = Line(found[3], found[4], found[5])
 
     def read(self):
         """Its lines; none where there is no such file."""
@@ -49,12 +49,12 @@ class Record:
         line = self.lines.get(body)
         return line.why if line and line.sum == self.sums[body] else None
 
-    def put(self, *body, why):
-        """Has the record say why this body was refused, or nothing of it where it wasn't."""
+    def put(self, *body, at, why):
+        """Has the record say why this body was refused, at that commit, or nothing of it where it wasn't."""
         self.tried.add(body)
         self.lines.pop(body, None)
         if why:
-            self.lines[body] = Line(self.sums[body], " ".join(why.split()))
+            self.lines[body] = Line(self.sums[body], at, " ".join(why.split()))
 
     def write(self):
         """Writes the lines that hold, in order; no other run meets half of them, and what a run that was cut off wrote stays whole.
@@ -64,7 +64,7 @@ class Record:
         others = {body: line for body, line in Record(self.path, self.sums).lines.items() if body not in self.tried}
         mine = {body: line for body, line in self.lines.items() if body in self.tried}
         self.lines = {**others, **mine}
-        text = "".join(f"{' '.join(it)} {self.sums[it]} {why}\n" for it in sorted(self.lines) if (why := self.why(*it)))
+        text = "".join(f"{' '.join(it)} {self.sums[it]} {self.lines[it].at} {why}\n" for it in sorted(self.lines) if (why := self.why(*it)))
         with tempfile.NamedTemporaryFile("w", dir=os.path.dirname(self.path), prefix="refused-", delete=False, encoding="utf-8", newline="\n") as it:
             it.write(text)
         os.chmod(it.name, 0o644)

@@ -3,10 +3,12 @@ import collections
 import re
 
 HEAD_OF_FUNCTION = re.compile(r"( *)(?:pub(?:\([^)]*\))? )?(?:(?:const|unsafe) )*fn (\w+)")
-HEAD_OF_IMPL = re.compile(r"impl\b(?:<.*?>)? (?:(\w[\w:]*)(?:<([\w:]*).*>)? for )?([\w:]+)")
+HEAD_OF_TYPE = re.compile(r"(?:pub(?:\([^)]*\))? )?(?:struct|enum) (\w+)")
+NAME = re.compile(r"'?[A-Za-z_][\w:]*")
 
 # Of `file`, its lines from `first` to `last`, counted from 1: one function, or one line outside of functions, and then
-# `name` is None. `of` is the name of its impl's type, `trait` that of its trait, and `by` that of the trait's first type.
+# `name` is None. `of` is the name of its impl's type, `trait` that of its trait, and `by` those of the trait's types, without parameters
+# of the impl.
 Place = collections.namedtuple("Place", "file first last name of trait by")
 
 
@@ -17,9 +19,9 @@ class Source:
         self.file, self.lines, self.functions = file, text.split("\n"), []
         of = trait = by = None
         for at, line in enumerate(self.lines):
-            impl, head = HEAD_OF_IMPL.match(self.head(at)), HEAD_OF_FUNCTION.match(line)
-            if impl:
-                of, trait, by = in_one_word(impl[3]), impl[1] and impl[1].split("::")[-1], in_one_word(impl[2] or "")
+            head = HEAD_OF_FUNCTION.match(line)
+            if re.match(r"impl\b", line):
+                of, trait, by = parts_of_impl(self.head(at))
             elif line == "}":
                 of = trait = by = None
             if head:
@@ -50,6 +52,10 @@ class Source:
                 return at
         return len(self.lines) - 1
 
+    def has_type(self, name):
+        """Whether a struct or an enum of this name stands in it."""
+        return any(HEAD_OF_TYPE.match(it) and HEAD_OF_TYPE.match(it)[1] == name for it in self.lines)
+
     def place(self, line):
         """The innermost function around a line, or that line alone."""
         around = [it for it in self.functions if it.first <= line <= it.last]
@@ -60,6 +66,29 @@ class Source:
         name = name or place.name
         of_it = (name, place.of, place.trait, place.by)
         return next((it for it in self.functions if (it.name, it.of, it.trait, it.by) == of_it), None)
+
+
+def brackets(text):
+    """What stands in the brackets that a text begins with, and what comes behind these."""
+    depth = 0
+    for at, letter in enumerate(text):
+        depth += (letter == "<") - (letter == ">" and text[at - 1] != "-")
+        if depth == 0:
+            return text[1:at], text[at + 1 :] if letter == ">" else text
+    return text, ""
+
+
+def parts_of_impl(head):
+    """Of the head of an impl the name of its type, that of its trait, if it is of one, and those of the trait's types."""
+    parameters, rest = brackets(head.removeprefix("impl"))
+    own = set(re.findall(r"(?:^|, )(?:const )?('?\w+)", re.sub(r"<.*?>", "", parameters)))
+    trait = NAME.match(rest.lstrip())
+    types, behind = brackets(rest.lstrip()[trait.end() :])
+    if not behind.lstrip().startswith("for "):
+        return in_one_word(trait[0]), None, None
+    of = NAME.match(behind.lstrip().removeprefix("for "))
+    named = [it for it in NAME.findall(types) if it not in own and not it.startswith("'")]
+    return in_one_word(of[0]) if of else None, trait[0].split("::")[-1], "".join(map(in_one_word, named))
 
 
 def in_one_word(path):
