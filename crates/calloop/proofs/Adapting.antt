@@ -1,14 +1,15 @@
 -- Where an adapter leaves.
-use Rattle.std.proofs.Common.{◌≡◌, refl, [], true, false, List, Option, Some, None, Result, Ok, Err, inl, inr}
+use Rattle.std.proofs.Common.{◌≡◌, ◌++◌, refl, subst, [], true, false, List, Option, Some, None, Result, Ok, Err, inl, inr}
 use Rattle.std.specs.declared.io.ErrorKind.TheVariants.{NotFound}
 use Rattle.calloop_wake.specs.declared.error.Error.{Error}
 use Rattle.calloop_wake.specs.declared.error.Error.TheVariants.{InvalidToken}
 use Rattle.calloop_wake.specs.declared.token.Token.{Token}
 use Rattle.calloop_core.specs.Pollers.{Outside, Sockets}
-use Rattle.calloop_core.specs.Polls.{PollView, PollStep, IsOfKind, AllStepped}
+use Rattle.calloop_core.specs.Polls.{PollView, PollStep, IsOfKind, AllStepped, polls_after}
+use Rattle.calloop_core.proofs.Stepping.{stepped-append}
 use Rattle.calloop.specs.declared.io.adapter.Adapter.{Adapter}
 use Rattle.calloop.specs.declared.io.notes.SlotNote.TheVariants.{Asked}
-use Rattle.calloop.specs.Adapters.{TakenOut, Leaves, Goes, left_so, and_did}
+use Rattle.calloop.specs.Adapters.{TakenOut, Leaves, Goes, discards, left_so, registered_nowhere, and_did}
 
 module _ {P R I : Type 0} (sockets : Sockets P I) (O : Outside P) where
   abbrev Left : Option Token → Adapter P R I → PollView P → Result (Unit {0}) Error → Adapter P R I → PollView P → Type 0
@@ -24,7 +25,18 @@ module _ {P R I : Type 0} (sockets : Sockets P I) (O : Outside P) where
       → ((steps : List (PollStep P)) × TakenOut sockets s.entered token v answer steps × AllStepped O v steps w) → Left own s v answer (left_so answer (and_did (Asked true) s)) w
   let_out own token s v w answer some h = rw some (h.0, inr (h.1, refl), h.2)
 
+  abbrev Gone : Option Token → Adapter P R I → PollView P → Result (Unit {0}) Error → Adapter P R I → PollView P → Type 0
+  Gone own s v told t w = (steps : List (PollStep P)) × Goes sockets own s v told steps t × AllStepped O v steps w
+
   -- its other end is gone, and it is in no loop
-  pub stays_out : (own : Option Token) (s : Adapter P R I) (v : PollView P) → own ≡ None
-      → (told : Result (Unit {0}) Error) × (steps : List (PollStep P)) × Goes sockets own s v told steps s × AllStepped O v steps v
-  stays_out own s v none = rw none (Ok tt, [], (refl, refl), (tt, refl))
+  pub stays_out : (own : Option Token) (s : Adapter P R I) (v : PollView P) → own ≡ None → Gone own s v (Ok tt) s v
+  stays_out own s v none = rw none ([], (refl, refl, refl), (tt, refl))
+
+  -- its other end is gone, and it was in a loop
+  pub goes_out : (own : Option Token) (token : Token) (s : Adapter P R I) (v u w : PollView P) (told : Result (Unit {0}) Error) → own ≡ Some token
+      → ((out : List (PollStep P)) × TakenOut sockets s.entered token v told out × AllStepped O v out u)
+      → AllStepped O u (discards told token u.poller) w → Gone own s v told (registered_nowhere s) w
+  goes_out own token s v u w told some h last =
+      let p : P = (polls_after v h.0).poller in
+      let then : AllStepped O u (discards told token p) w = subst (λ (x : PollView P). AllStepped O u (discards told token x.poller) w) h.2.1 last in
+      rw some (h.0 ++ discards told token p, (h.0, h.1, refl, refl), stepped-append O v u w h.0 (discards told token p) h.2 then)

@@ -1,20 +1,16 @@
 -- Of the limits of those that are told of waits: no settling and no telling raises them.
-use Rattle.std.proofs.Common.{◌≡◌, ℕ, zero, suc, ◌+◌, ◌<◌, ◌≤◌, List, [], ◌∷◌, filter, drop, length, refl, ap, sym, ◌∙◌, subst, arith, Some, None, Option, Result, Ok, Err, Bool, true, false, if◌then◌else◌, nat_eq, slice_get}
-use Rattle.calloop_wake.specs.declared.error.Error.{Error}
+use Rattle.std.proofs.Common.{◌≡◌, ℕ, zero, suc, ◌+◌, ◌<◌, ◌≤◌, List, [], ◌∷◌, filter, refl, ap, sym, ◌∙◌, subst, arith, Some, None, Option, Ok, Bool, true, false, if◌then◌else◌, nat_eq, slice_get}
 use Rattle.calloop_wake.specs.declared.list.Content.{Content}
 use Rattle.calloop_wake.specs.declared.list.Content.TheVariants.{Vacant, Source, InTurn}
 use Rattle.calloop_wake.specs.declared.list.Slot.{Slot}
-use Rattle.calloop_wake.specs.declared.token.Token.{Token}
 use Rattle.calloop_wake.specs.declared.token.RegistrationToken.{RegistrationToken}
-use Rattle.calloop_wake.specs.declared.token.TokenFactory.{TokenFactory}
 use Rattle.calloop_wake.specs.Slots.{changed, with_content, named, content_under, is_empty, after_turn}
 use Rattle.calloop_wake.proofs.Named.{named_slot, turn_ended}
-use Rattle.calloop_core.specs.declared.sys.Readiness.{Readiness}
 use Rattle.calloop_core.specs.declared.sources.Role.{Role}
 use Rattle.calloop_core.specs.declared.sources.Role.TheVariants.{Caller, Adapter}
 use Rattle.calloop_core.specs.Pollers.{Outside}
 use Rattle.calloop_core.specs.Polls.{PollView}
-use Rattle.calloop_core.specs.Deeds.{Reregistered, Unregistered, Slept}
+use Rattle.calloop_core.specs.Deeds.{Reregistered}
 use Rattle.calloop_core.specs.Meanings.{Meaning, KeepsLimit, Settles, fresh_factory}
 use Rattle.calloop.specs.Limits.{limit_in, all_limits}
 use Rattle.calloop.proofs.Inserting.{changed_twice}
@@ -65,6 +61,6 @@ module _ {D P T : Type 0} (M : Meaning D P T) where
       [ true ↦ omega (arith, rest) | false ↦ omega (arith, rest) ]
 
   -- what is settled and stays has the limit that it had
-  pub settled_limit : (O : Outside P) → KeepsLimit M → (r : Role) (token : RegistrationToken) (s t : D) (v w : PollView P) → Settles r O M token false s v t w → M.limit t ≡ M.limit s
+  pub settled_limit : (O : Outside P) → KeepsLimit M → (r : Role) (token : RegistrationToken) (s t : D) (v w : PollView P) → Settles r O M token None s v t w → M.limit t ≡ M.limit s
   settled_limit O k Caller token s t v w h = ap M.limit h.1
   settled_limit O k Adapter token s t v w h = k.same s t v (Reregistered (fresh_factory token) (Ok tt) h.0) h.1.0 h.1.1

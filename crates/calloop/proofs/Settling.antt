@@ -1,5 +1,5 @@
 -- The adapters that were marked are settled, one after the other.
-use Rattle.std.proofs.Common.{◌≡◌, ℕ, ◌≤◌, List, [], ◌∷◌, refl, ap, ◌∙◌, None, Some, Option, Result, Ok, Err, inl, inr, Bool, true, false, length, filter, suc, arith, if◌then◌else◌}
+use Rattle.std.proofs.Common.{◌≡◌, ℕ, ◌≤◌, List, [], ◌∷◌, refl, ap, ◌∙◌, None, Some, Option, Result, Ok, inl, inr, Bool, true, false, length, filter, suc, arith, if◌then◌else◌}
 use Rattle.calloop_wake.specs.declared.error.Error.{Error}
 use Rattle.calloop_wake.specs.declared.list.Content.{Content}
 use Rattle.calloop_wake.specs.declared.list.Content.TheVariants.{Vacant, Source, InTurn}
@@ -23,10 +23,6 @@ use Rattle.calloop.specs.Rules.{Goes, Settling, Sleeping, SettledIn}
 use Rattle.calloop.proofs.Roles.{only_source, only_passes}
 use Rattle.calloop.proofs.Going.{goes_by, full_named}
 use Rattle.calloop.proofs.Inserting.{changed_twice}
-
-none_warned : (told : Result (Unit {0}) Error) (es : List Error) → es ≡ warned false told es
-none_warned (Ok u) es = refl
-none_warned (Err e) es = refl
 
 pub fewer_passed : {A : Type 0} (p : A → Bool) (xs : List A) → length (filter p xs) ≤ length xs
 fewer_passed p [] = omega arith
@@ -63,37 +59,38 @@ module _ {D I P X : Type 0} (M : Meaning D P (Lent X (Asks D I))) (runs : Runs D
       (ap (λ (ss : List (Slot D)). record v { slots = ss; poll = p' }) (turn_ended v.slots token (Source e) full)
       ∙ ap (λ (q : PollView P). record v { slots = changed (with_content (Source e)) out token.slot; poll = q }) r.2.1)
 
-  -- it was dropped
-  pub settled_left : (timeout : Option ℕ) (token : RegistrationToken) (later : List RegistrationToken) (v : View D I P) (x : X) (d e : D) (told : Result (Unit {0}) Error) (p' : PollView P) → only (is_adapter M) (named v.slots token) ≡ Source d
+  -- it was dropped; a failure is a warning, where there is memory for one
+  pub settled_left : (timeout : Option ℕ) (token : RegistrationToken) (later : List RegistrationToken) (v : View D I P) (x : X) (d e : D) (told : Result (Unit {0}) Error) (p' : PollView P) (kept : Bool) (es : List Error)
+      → only (is_adapter M) (named v.slots token) ≡ Source d → es ≡ warned kept told v.held.warnings
       → Does O M d v.poll (Unregistered told) e p'
-      → Goes M runs O (Settling timeout (token ∷ later) x) (Settling timeout later x) v (record v { slots = after_turn Vacant token (changed (with_content InTurn) v.slots token.slot); poll = p'; held = held_after v.held (Unlisted token) })
-  settled_left timeout token later v x d e told p' is r =
+      → Goes M runs O (Settling timeout (token ∷ later) x) (Settling timeout later x) v (record v { slots = after_turn Vacant token (changed (with_content InTurn) v.slots token.slot); poll = p'; held = record (held_after v.held (Unlisted token)) { warnings = es } })
+  settled_left timeout token later v x d e told p' kept es is now r =
       let full : is_empty (named v.slots token) ≡ false = ap is_empty (only_source (is_adapter M) (named v.slots token) d is) in
-      goes_by M runs O (Settling timeout (token ∷ later) x) (Settling timeout later x) (Put token.slot Vacant ∷ Polls r.0 ∷ Holds (Unlisted token) ∷ Holds (Warned false told) ∷ []) v
-      (record v { slots = after_turn Vacant token (changed (with_content InTurn) v.slots token.slot); poll = p'; held = held_after v.held (Unlisted token) })
-      (rw is (inr (Some e, (e, told, false, r.0, r.1, refl, refl))), refl)
+      goes_by M runs O (Settling timeout (token ∷ later) x) (Settling timeout later x) (Put token.slot Vacant ∷ Polls r.0 ∷ Holds (Unlisted token) ∷ Holds (Warned kept told) ∷ []) v
+      (record v { slots = after_turn Vacant token (changed (with_content InTurn) v.slots token.slot); poll = p'; held = record (held_after v.held (Unlisted token)) { warnings = es } })
+      (rw is (inr (Some e, (e, told, kept, r.0, r.1, refl, refl))), refl)
       (full_named v.slots token full, (r.2.0, (tt, (tt, tt))))
-      (ap (λ (ss : List (Slot D)). record v { slots = ss; poll = p'; held = held_after v.held (Unlisted token) }) (turn_ended v.slots token Vacant full ∙ changed_twice Vacant InTurn v.slots token.slot)
-      ∙ ap (λ (q : PollView P). record v { slots = changed (with_content Vacant) v.slots token.slot; poll = q; held = held_after v.held (Unlisted token) }) r.2.1
-      ∙ ap (λ (l : List Error). record v { slots = changed (with_content Vacant) v.slots token.slot; poll = polls_after v.poll r.0; held = record (held_after v.held (Unlisted token)) { warnings = l } }) (none_warned told v.held.warnings))
+      (ap (λ (ss : List (Slot D)). record v { slots = ss; poll = p'; held = record (held_after v.held (Unlisted token)) { warnings = es } }) (turn_ended v.slots token Vacant full ∙ changed_twice Vacant InTurn v.slots token.slot)
+      ∙ ap (λ (q : PollView P). record v { slots = changed (with_content Vacant) v.slots token.slot; poll = q; held = record (held_after v.held (Unlisted token)) { warnings = es } }) r.2.1
+      ∙ ap (λ (l : List Error). record v { slots = changed (with_content Vacant) v.slots token.slot; poll = polls_after v.poll r.0; held = record (held_after v.held (Unlisted token)) { warnings = l } }) now)
 
-  adapter_settles : (r : Role) (token : RegistrationToken) (gone : Bool) (d e : D) (p p' : PollView P) → of_adapter r ≡ true → Settles r O M token gone d p e p' → SettledAs O M token gone d p e p'
-  adapter_settles Caller token gone d e p p' is h = cc
-  adapter_settles Adapter token gone d e p p' is h = h
+  adapter_settles : (r : Role) (token : RegistrationToken) (told : Option (Result (Unit {0}) Error)) (d e : D) (p p' : PollView P) → of_adapter r ≡ true → Settles r O M token told d p e p' → SettledAs O M token told d p e p'
+  adapter_settles Caller token told d e p p' is h = cc
+  adapter_settles Adapter token told d e p p' is h = h
 
   pub kept : (timeout : Option ℕ) (token : RegistrationToken) (later : List RegistrationToken) (v : View D I P) (x : X) (d e : D) (p' : PollView P) → only (is_adapter M) (named v.slots token) ≡ Source d
-      → Settles (M.role d) O M token false d v.poll e p'
+      → Settles (M.role d) O M token None d v.poll e p'
       → Goes M runs O (Settling timeout (token ∷ later) x) (Settling timeout later x) v (record v { slots = after_turn (Source e) token (changed (with_content InTurn) v.slots token.slot); poll = p' })
   kept timeout token later v x d e p' is h =
-      let r = adapter_settles (M.role d) token false d e v.poll p' (only_passes (is_adapter M) (named v.slots token) d is) h in
+      let r = adapter_settles (M.role d) token None d e v.poll p' (only_passes (is_adapter M) (named v.slots token) d is) h in
       settled timeout token later v x d e r.0 p' is r.1
 
-  pub gone : (timeout : Option ℕ) (token : RegistrationToken) (later : List RegistrationToken) (v : View D I P) (x : X) (d e : D) (p' : PollView P) → only (is_adapter M) (named v.slots token) ≡ Source d
-      → Settles (M.role d) O M token true d v.poll e p'
-      → Goes M runs O (Settling timeout (token ∷ later) x) (Settling timeout later x) v (record v { slots = after_turn Vacant token (changed (with_content InTurn) v.slots token.slot); poll = p'; held = held_after v.held (Unlisted token) })
-  gone timeout token later v x d e p' is h =
-      let r = adapter_settles (M.role d) token true d e v.poll p' (only_passes (is_adapter M) (named v.slots token) d is) h in
-      settled_left timeout token later v x d e r.0 p' is r.1
+  pub gone : (timeout : Option ℕ) (token : RegistrationToken) (later : List RegistrationToken) (v : View D I P) (x : X) (d e : D) (told : Result (Unit {0}) Error) (p' : PollView P) (kept : Bool) (es : List Error)
+      → only (is_adapter M) (named v.slots token) ≡ Source d → es ≡ warned kept told v.held.warnings
+      → Settles (M.role d) O M token (Some told) d v.poll e p'
+      → Goes M runs O (Settling timeout (token ∷ later) x) (Settling timeout later x) v (record v { slots = after_turn Vacant token (changed (with_content InTurn) v.slots token.slot); poll = p'; held = record (held_after v.held (Unlisted token)) { warnings = es } })
+  gone timeout token later v x d e told p' kept es is now h =
+      settled_left timeout token later v x d e told p' kept es is now (adapter_settles (M.role d) token (Some told) d e v.poll p' (only_passes (is_adapter M) (named v.slots token) d is) h)
 
   pub all_settled : (timeout : Option ℕ) (v : View D I P) (x : X) → Goes M runs O (Settling timeout [] x) (Sleeping timeout v.held.lifecycle x) v v
   all_settled timeout v x = goes_by M runs O (Settling timeout [] x) (Sleeping timeout v.held.lifecycle x) [] v v (refl, refl) tt refl

@@ -9,8 +9,9 @@ use Rattle.calloop_wake.specs.Tokens.{next_token, key_of}
 use Rattle.calloop_core.specs.declared.sys.Interest.{Interest}
 use Rattle.calloop_core.specs.declared.sys.Readiness.{Readiness}
 use Rattle.calloop_core.specs.Pollers.{Sockets}
+use Rattle.calloop_core.specs.Beside.{next_after, keeps_then, acts_then}
 use Rattle.calloop_core.specs.Tables.{Leave}
-use Rattle.calloop_core.specs.Polls.{PollView, PollStep}
+use Rattle.calloop_core.specs.Polls.{PollView, PollStep, polls_after}
 use Rattle.calloop_core.specs.Deeds.{Registered, Reregistered, Unregistered, Turned, Slept, Noticed}
 use Rattle.calloop_core.specs.Holdings.{Keeps, holds_none}
 use Rattle.calloop_core.specs.Generics.{under_token}
@@ -24,7 +25,7 @@ use Rattle.calloop.specs.declared.io.notes.Settled.{Settled}
 use Rattle.calloop.specs.declared.io.notes.Settled.TheVariants.{Stays, Registers as RegistersFor, Leaves as IsToLeave}
 use Rattle.calloop.specs.declared.io.notes.SlotNote.TheVariants.{Settled as SettledSo, Asked, Reached}
 use Rattle.calloop.specs.TakingUp.{taking_up}
-use Rattle.calloop.specs.Adapters.{Registers, SettlesTo, ComesIn, TakenOut, Leaves, Goes, HearsSo, left_so, told_so, and_did, adapter_meaning}
+use Rattle.calloop.specs.Adapters.{Registers, SettlesTo, ComesIn, TakenOut, Leaves, Goes, HearsSo, discards, left_so, told_so, and_did, adapter_meaning}
 
 abbrev IsStill : {P : Type 0} → ℕ → List (PollStep P) → Type 0
 IsStill next steps = Keeps holds_none next steps holds_none
@@ -39,6 +40,16 @@ takes_for : (r : RegistrationToken) (own : Token) (entered : Bool) (interest : I
     → EditsFor r (taking_up own entered interest)
 takes_for r own false interest is = is
 takes_for r own true interest is = (is, is)
+
+discarded_still : {P : Type 0} (next : ℕ) (a : Result (Unit {0}) Error) (own : Token) (p : P)
+    → IsStill next (discards a own p)
+discarded_still next (Ok u) own p = λ counter. tt
+discarded_still next (Err e) own p = λ counter. tt
+
+discarded_for : {P : Type 0} (r : RegistrationToken) (a : Result (Unit {0}) Error) (own : Token) (p : P)
+    → IsKeyOf r (key_of own) → AllActFor r (discards a own p)
+discarded_for r (Ok u) own p mine = tt
+discarded_for r (Err e) own p mine = (mine, tt)
 
 module _ {P I : Type 0} (sockets : Sockets P I) where
   out_still : (next : ℕ) (entered : Bool) (own : Token) (v : PollView P) (a : Result (Unit {0}) Error)
@@ -112,8 +123,11 @@ module _ {P R I : Type 0} (sockets : Sockets P I) where
   gone_still : (next : ℕ) (own : Option Token) (s t : Adapter P R I) (v : PollView P) (a : Result (Unit {0}) Error)
       (l : List (PollStep P))
       → Goes sockets own s v a l t → IsStill next l
-  gone_still next None s t v a l h = rw h.0 (λ counter. tt)
-  gone_still next (Some own) s t v a l h = out_still sockets next s.entered own v a l h.0
+  gone_still next None s t v a l h = rw h.1 (λ counter. tt)
+  gone_still next (Some own) s t v a l h =
+      let last : List (PollStep P) = discards a own (polls_after v h.0).poller in
+      rw h.2 (keeps_then next h.0 last holds_none holds_none holds_none (out_still sockets next s.entered own v a h.0 h.1)
+          (discarded_still (next_after next h.0) a own (polls_after v h.0).poller))
 
   told_home : (r : RegistrationToken) (interest : Interest) (own : Option Token) (s t : Adapter P R I) (v : PollView P)
       (l : List (PollStep P))
@@ -143,9 +157,15 @@ module _ {P R I : Type 0} (sockets : Sockets P I) where
   gone_home : (r : RegistrationToken) (own : Option Token) (s t : Adapter P R I) (v : PollView P)
       (a : Result (Unit {0}) Error) (l : List (PollStep P))
       → Home r own → Home r s.token → Goes sockets own s v a l t → Home r t.token × AllActFor r l
-  gone_home r None s t v a l mine home h = rw (h.0, h.1) (home, tt)
+  gone_home r None s t v a l mine home h = rw (h.1, h.2) (home, tt)
   gone_home r (Some own) s t v a l mine home h =
-      (rw h.1 (home_left r a s home), out_for sockets r s.entered own v a l (mine (key_of own) refl) h.0)
+      let of : IsKeyOf r (key_of own) = mine (key_of own) refl in
+      let last : List (PollStep P) = discards a own (polls_after v h.0).poller in
+      rw (h.2, h.3) (
+        (λ key is. absurd is),
+        acts_then r h.0 last (out_for sockets r s.entered own v a h.0 of h.1)
+            (discarded_for r a own (polls_after v h.0).poller of),
+      )
 
 module _ {P R I : Type 0} where
   heard_home : (r : RegistrationToken) (own : Option Token) (token : Token) (found : Readiness) (s t : Adapter P R I)

@@ -1,6 +1,6 @@
 -- An adapter in its slot: its registration, its settling and its turn. From calloop's `IoDispatcher`, which registers and
 -- unregisters at once; this one is told by its loop when to. Its socket lies under a lock, so what it is, each relation leaves open.
-use Rattle.std.specs.Prelude.{◌≡◌, ◌⊎◌, List, [], Bool, true, false, Option, Some, None, Result, Ok, Err}
+use Rattle.std.specs.Prelude.{◌≡◌, ◌⊎◌, List, [], ◌∷◌, ◌++◌, Bool, true, false, Option, Some, None, Result, Ok, Err}
 use Rattle.std.specs.declared.io.ErrorKind.TheVariants.{AlreadyExists, NotFound}
 use Rattle.calloop_wake.specs.declared.error.Error.{Error}
 use Rattle.calloop_wake.specs.declared.error.Error.TheVariants.{InvalidToken, OutOfMemory, TooManyTokens}
@@ -12,8 +12,8 @@ use Rattle.calloop_core.specs.declared.sys.Readiness.{Readiness}
 use Rattle.calloop_core.specs.declared.sources.PostAction.TheVariants.{Continue}
 use Rattle.calloop_core.specs.declared.sources.Role.TheVariants.{Adapter as AsAdapter}
 use Rattle.calloop_core.specs.Pollers.{Sockets}
-use Rattle.calloop_core.specs.Tables.{Leave}
-use Rattle.calloop_core.specs.Polls.{PollView, PollStep, IsOfKind}
+use Rattle.calloop_core.specs.Tables.{Leave, Discard}
+use Rattle.calloop_core.specs.Polls.{PollView, PollStep, Socket, polls_after, IsOfKind}
 use Rattle.calloop_core.specs.Registering.{Edits}
 use Rattle.calloop_core.specs.Generics.{under_token}
 use Rattle.calloop_core.specs.Holdings.{holds_none}
@@ -26,6 +26,11 @@ use Rattle.calloop.specs.declared.io.notes.Settled.{Settled}
 use Rattle.calloop.specs.declared.io.notes.Settled.TheVariants.{Stays, Registers as RegistersFor, Leaves as IsToLeave}
 use Rattle.calloop.specs.AdapterNotes.{slotted}
 use Rattle.calloop.specs.TakingUp.{taking_up}
+
+-- the key is dropped, where the socket wasn't taken out
+abbrev pub discards : {P : Type 0} → Result (Unit {0}) Error → Token → P → List (PollStep P)
+discards (Ok u) own p = []
+discards (Err e) own p = Socket (Discard own) p ∷ []
 
 -- refused, and nothing was done
 abbrev pub IsRefusedSo : {P S : Type 0} → S → Result (Unit {0}) Error → (Error → Type 0) → List (PollStep P) → S → Type 0
@@ -100,11 +105,13 @@ module _ {P R I : Type 0} (sockets : Sockets P I) where
       IsRefusedSo (and_did (Asked false) s) answer (λ e. e ≡ InvalidToken) steps t
       ⊎ (TakenOut sockets s.entered own v answer steps × (t ≡ left_so answer (and_did (Asked true) s)))
 
-  -- its other end is gone
+  -- Its other end is gone: it is in no loop any more, and its key goes, also where its socket can't be taken out.
   abbrev pub Goes : Option Token → Adapter P R I → PollView P → Result (Unit {0}) Error → List (PollStep P)
       → Adapter P R I → Type 0
-  Goes None s v told steps t = (steps ≡ []) × (t ≡ s)
-  Goes (Some own) s v told steps t = TakenOut sockets s.entered own v told steps × (t ≡ left_so told s)
+  Goes None s v told steps t = (told ≡ Ok tt) × (steps ≡ []) × (t ≡ s)
+  Goes (Some own) s v told steps t =
+      (out : List (PollStep P)) × TakenOut sockets s.entered own v told out
+      × (steps ≡ out ++ discards told own (polls_after v out).poller) × (t ≡ registered_nowhere s)
 
   module _ {X Q : Type 0} where
     -- its turn keeps what was found, which lies under a lock, and calls nobody but who waits for it

@@ -1,6 +1,6 @@
 -- What a poll of an `Async` may answer, by what its end did under the adapter's lock and to its socket. calloop's polls call the poller
 -- besides; here a refusal of that is kept for the next one.
-use Rattle.std.specs.Prelude.{◌≡◌, ◌⊎◌, true, false, Some, None, Result, Err}
+use Rattle.std.specs.Prelude.{◌≡◌, ◌≢◌, ◌⊎◌, true, false, Some, None, Result, Ok, Err}
 use Rattle.std.specs.declared.io.Error.{Error as Cause}
 use Rattle.std.specs.declared.io.ErrorKind.TheVariants.{WouldBlock}
 use Rattle.std.specs.IoError.{error_kind}
@@ -31,10 +31,15 @@ WaitsFor wanted s (Ready answer) t =
     (t ≡ polled (Answered answer) s) ⊎ ((answer ≡ Err OutOfMemory) × HadNoMemory wanted s t)
 WaitsFor wanted s Pending t = t ≡ polled (Waits wanted) s
 
+-- what a call of the socket answered, unless that is that it would block
+abbrev pub WouldNotBlock : {T : Type 0} → Result T Cause → Type 0
+WouldNotBlock (Ok x) = Unit {0}
+WouldNotBlock (Err cause) = error_kind cause ≢ WouldBlock
+
 -- the answer of a call of the socket is handed on, unless it would block; then the poll waits for this, or has no memory for that
 abbrev pub AnswersWith : {T : Type 0} → Interest → Result T Cause → PollTwin → Poll (Result T Cause) → PollTwin → Type 0
 AnswersWith {T} wanted answer s (Ready given) t =
-    ((given ≡ answer) × (t ≡ s))
+    ((given ≡ answer) × WouldNotBlock answer × (t ≡ s))
     ⊎ ((blocked : Cause) × (cause : Cause) × (answer ≡ Err blocked) × (error_kind blocked ≡ WouldBlock)
     × (given ≡ Err cause) × AsIo OutOfMemory cause × HadNoMemory wanted s t)
 AnswersWith wanted answer s Pending t =

@@ -42,7 +42,7 @@ use Rattle.calloop.specs.declared.loop_logic.asks.Asked.{Asked}
 use Rattle.calloop.specs.declared.loop_logic.asks.Answered.{Answered}
 use Rattle.calloop.specs.Askings.{Asks}
 use Rattle.calloop.specs.Held.{is_listed}
-use Rattle.calloop.specs.Machine.{World, Registration, Change, Claim, Swapped, Cut, done, all_done, is_free, slot_of}
+use Rattle.calloop.specs.Machine.{World, Registration, Change, Claim, Swapped, Cut, done, is_free, slot_of}
 
 -- a source stands there that isn't in its turn
 abbrev pub IsSource : {D : Type 0} → Content D → Type 0

@@ -37,7 +37,10 @@ mod telling;
 mod warnings;
 
 pub use asks::{Answer, Idle, Requests, Ticket};
-pub use laws::{once, once_where_nothing_is_asked, run_that_there_is, wrong_runs_are_ruled_out};
+pub use laws::{
+    busy_runs_that_there_are, once, once_where_nothing_is_asked, run_that_there_is,
+    runs_that_go_wrong_late, served, unserved_dispatches_are_ruled_out, wrong_runs_are_ruled_out,
+};
 pub use loops::{ScriptLoop, SystemLoop};
 pub use signal::LoopSignal;
 
@@ -211,7 +214,11 @@ where
         self.held.role()
     }
 
-    fn settle(&mut self, token: RegistrationToken, poll: &mut Poll<P, C, R>) -> bool {
+    fn settle(
+        &mut self,
+        token: RegistrationToken,
+        poll: &mut Poll<P, C, R>,
+    ) -> Option<Result<()>> {
         self.held.settle(token, poll)
     }
 

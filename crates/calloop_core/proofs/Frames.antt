@@ -5,7 +5,7 @@ use Rattle.std.specs.Ordering.{nat_cmp, is_eq, match_ordering}
 use Rattle.calloop_wake.specs.declared.token.RegistrationToken.{RegistrationToken}
 use Rattle.calloop_wake.specs.Tokens.{key_of}
 use Rattle.calloop_core.specs.declared.sys.Watched.{Watched}
-use Rattle.calloop_core.specs.Tables.{Table, Edit, Enter, Change, Leave, edited, with_key, without_key, watched_at, moved_to}
+use Rattle.calloop_core.specs.Tables.{Table, Edit, Enter, Change, Leave, Discard, edited, with_key, without_key, watched_at, moved_to}
 use Rattle.calloop_core.specs.Polls.{PollView, PollStep, TakePass, PutBack, Arm, ArmAgain, Cancel, Call, ReadClock, Socket, Fault, poll_after, polls_after}
 use Rattle.calloop_core.specs.Keys.{IsKeyOf, EditsFor, AllActFor}
 
@@ -45,6 +45,7 @@ edited_elsewhere : (r : RegistrationToken) (key : ℕ) (edit : Edit) (t : Table)
 edited_elsewhere r key (Enter token w) t away of = entered_elsewhere (key_of token) key w t (apart_from r key _ away of)
 edited_elsewhere r key (Change before token w) t away of = moved_elsewhere (key_of before) (key_of token) key w t (apart_from r key _ away of.0) (apart_from r key _ away of.1)
 edited_elsewhere r key (Leave token) t away of = left_elsewhere (key_of token) key t (apart_from r key _ away of)
+edited_elsewhere r key (Discard token) t away of = left_elsewhere (key_of token) key t (apart_from r key _ away of)
 
 pub stepped_elsewhere : {P : Type 0} (r : RegistrationToken) (key : ℕ) (v : PollView P) (l : List (PollStep P)) → ¬ IsKeyOf r key → AllActFor r l → watched_at key (polls_after v l).table ≡ watched_at key v.table
 stepped_elsewhere r key v [] away h = refl

@@ -5,7 +5,7 @@ use Rattle.calloop_wake.specs.Widths.{parts}
 use Rattle.calloop_wake.specs.declared.token.RegistrationToken.{RegistrationToken}
 use Rattle.calloop_wake.specs.declared.token.TokenFactory.{TokenFactory}
 use Rattle.calloop_wake.specs.Tokens.{key_of}
-use Rattle.calloop_core.specs.Tables.{Edit, Enter, Change, Leave}
+use Rattle.calloop_core.specs.Tables.{Edit, Enter, Change, Leave, Discard}
 use Rattle.calloop_core.specs.Polls.{PollStep, Arm, ArmAgain, Socket}
 
 -- the key of one of its tokens, whichever part that is of
@@ -21,6 +21,7 @@ abbrev pub EditsFor : RegistrationToken → Edit → Type 0
 EditsFor r (Enter token watched) = IsKeyOf r (key_of token)
 EditsFor r (Change before token watched) = IsKeyOf r (key_of before) × IsKeyOf r (key_of token)
 EditsFor r (Leave token) = IsKeyOf r (key_of token)
+EditsFor r (Discard token) = IsKeyOf r (key_of token)
 
 -- a step arms deadlines and edits the table under keys of this registration alone
 abbrev pub ActsFor : {P : Type 0} → RegistrationToken → PollStep P → Type 0

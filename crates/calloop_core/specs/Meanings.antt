@@ -1,7 +1,7 @@
 -- What a source or a dispatcher means: a relation between what it is before a call, what the call read of `Poll`,
 -- what was done, the steps that it made there, and what it is after it. calloop's `EventSource` and
 -- `EventDispatcher`, seen from outside; calloop promises nothing of them.
-use Rattle.std.specs.Prelude.{◌≡◌, ◌↔◌, ◌≤◌, ℕ, List, [], length, Bool, true, false, Result, Ok, Err}
+use Rattle.std.specs.Prelude.{◌≡◌, ◌↔◌, ◌≤◌, ℕ, List, [], length, Bool, true, false, Option, None, Some, Result, Ok, Err}
 use Rattle.calloop_wake.specs.declared.error.Error.{Error}
 use Rattle.calloop_wake.specs.declared.token.Token.{Token}
 use Rattle.calloop_wake.specs.declared.token.RegistrationToken.{RegistrationToken}
@@ -46,17 +46,17 @@ abbrev pub fresh_factory : RegistrationToken → TokenFactory
 fresh_factory t = record { registration = t; given = 0 }
 
 -- what the loop takes up of an adapter: its interest is registered anew, of which a refusal is kept by the adapter itself; or
--- it was dropped, and its registration is taken back
-abbrev pub SettledAs : {D P T : Type 0} → Outside P → Meaning D P T → RegistrationToken → (left : Bool) → D → PollView P → D
-    → PollView P → Type 0
-SettledAs outside m token false s v t w =
+-- it was dropped, and its registration is taken back, with this answer
+abbrev pub SettledAs : {D P T : Type 0} → Outside P → Meaning D P T → RegistrationToken
+    → (left : Option (Result (Unit {0}) Error)) → D → PollView P → D → PollView P → Type 0
+SettledAs outside m token None s v t w =
     (f : TokenFactory) × Does outside m s v (Reregistered (fresh_factory token) (Ok tt) f) t w
-SettledAs outside m token true s v t w = (answer : Result (Unit {0}) Error) × Does outside m s v (Unregistered answer) t w
+SettledAs outside m token (Some answer) s v t w = Does outside m s v (Unregistered answer) t w
 
 -- all others do nothing
-abbrev pub Settles : {D P T : Type 0} → Role → Outside P → Meaning D P T → RegistrationToken → (left : Bool) → D
-    → PollView P → D → PollView P → Type 0
-Settles Caller outside m token left s v t w = (left ≡ false) × (t ≡ s) × (w ≡ v)
+abbrev pub Settles : {D P T : Type 0} → Role → Outside P → Meaning D P T → RegistrationToken
+    → (left : Option (Result (Unit {0}) Error)) → D → PollView P → D → PollView P → Type 0
+Settles Caller outside m token left s v t w = (left ≡ None) × (t ≡ s) × (w ≡ v)
 Settles Adapter outside m token left s v t w = SettledAs outside m token left s v t w
 
 -- it leaves the counters of others alone, and calls at most once for each arming of its own

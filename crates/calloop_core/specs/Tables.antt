@@ -47,11 +47,13 @@ with_key key watched table = insert_entry nat_cmp table key watched
 abbrev pub without_key : (key : ℕ) → Table → Table
 without_key key table = remove_entry (is_at (nat_cmp key)) table
 
--- what is asked of the table for a socket: it enters under a token; from one token to another, or the same; it leaves
+-- what is asked of the table for a socket: it enters under a token; from one token to another, or the same; it leaves; and what
+-- stands there under a token is dropped, of which no poller is told
 pub data Edit : Type 0 where
   Enter : (token : Token) (watched : Watched) → Edit
   Change : (before token : Token) (watched : Watched) → Edit
   Leave : (token : Token) → Edit
+  Discard : (token : Token) → Edit
 
 abbrev pub moved_to : (before key : ℕ) → Watched → Table → Table
 moved_to before key watched table =
@@ -61,6 +63,7 @@ abbrev pub edited : Edit → Table → Table
 edited (Enter token watched) table = with_key (key_of token) watched table
 edited (Change before token watched) table = moved_to (key_of before) (key_of token) watched table
 edited (Leave token) table = without_key (key_of token) table
+edited (Discard token) table = without_key (key_of token) table
 
 -- why the table refuses, before any memory is taken and before the poller is called
 abbrev pub unless_in : Bool → Option ErrorKind
@@ -74,12 +77,14 @@ cannot (Change before token watched) table =
     then unless_in (not (nat_eq (key_of before) (key_of token)) && is_in (key_of token) table)
     else Some NotFound
 cannot (Leave token) table = if is_in (key_of token) table then None else Some NotFound
+cannot (Discard token) table = None
 
 -- whether it brings a key that wasn't there, for which memory may be wanting
 abbrev pub grows : Edit → Bool
 grows (Enter token watched) = true
 grows (Change before token watched) = not (nat_eq (key_of before) (key_of token))
 grows (Leave token) = false
+grows (Discard token) = false
 
 -- Of the poller: a socket with an empty interest stands in the table alone.
 
@@ -102,6 +107,7 @@ call_of (Enter token watched) table = call_for false (key_of token) watched.inte
 call_of (Change before token watched) table =
     call_for (is_known (watched_at (key_of before) table)) (key_of token) watched.interest
 call_of (Leave token) table = call_for (is_known (watched_at (key_of token) table)) (key_of token) no_interest
+call_of (Discard token) table = None
 
 -- a call of the poller, or none, and its count of faults
 abbrev pub Called : {P : Type 0} → Outside P → P → Option PollerCall → Result (Unit {0}) Cause → P → Type 0

@@ -182,8 +182,12 @@ where
         Role::Caller
     }
 
-    fn settle(&mut self, _token: RegistrationToken, _poll: &mut Poll<P, C, R>) -> bool {
-        false
+    fn settle(
+        &mut self,
+        _token: RegistrationToken,
+        _poll: &mut Poll<P, C, R>,
+    ) -> Option<LoopResult<()>> {
+        None
     }
 
     fn before_sleep(&mut self, _out: &mut Synthetic) -> LoopResult<()> {

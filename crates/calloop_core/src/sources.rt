@@ -196,8 +196,8 @@ pub trait EventSource<P: Poller, C, R: Wait + Drop> {
     fn before_handle_events(&mut self, events: EventIterator<'_>)
         ensures { (v : PollView P) → means.does self.old v (Noticed (events_left events.entry)) [] self.new };
 
-    /// Two laws. It touches no timer's counter of another source, and calls at most once for each arming of its own. And it uses
-    /// only keys of its own registration, from a registration that succeeded on.
+    /// Three laws. It touches no timer's counter of another source, and calls at most once for each arming of its own. It uses
+    /// only keys of its own registration, from a registration that succeeded on. And it asks for no more events than its limit, which stays.
     ghost keeps: { IsKeeping means };
 }
 
@@ -317,9 +317,13 @@ pub trait Dispatch<P: Poller, C, R: Wait + Drop, X, Q: Asking> {
     fn role(&self) -> Role
         ensures { result ≡ means.role self.now };
 
-    /// The loop takes up what was asked of an adapter since, which is registered under this token; true where it was dropped. All
-    /// others do nothing. The room that was reserved for a wait stays.
-    fn settle(&mut self, token: RegistrationToken, poll: &mut Poll<P, C, R>) -> bool
+    /// The loop takes up what was asked of an adapter since, which is registered under this token. Where it was dropped, the answer
+    /// is that of its unregistration, and else `None`. All others do nothing. The room that was reserved for a wait stays.
+    fn settle(
+        &mut self,
+        token: RegistrationToken,
+        poll: &mut Poll<P, C, R>,
+    ) -> Option<LoopResult<()>>
         ensures settles { Settles (means.role self.old) P.outside means token result self.old (poll_view poll.old) self.new (poll_view poll.new) }
         ensures ready { (more : ℕ) → IsReady more poll.old → IsReady more poll.new };
 
@@ -333,8 +337,8 @@ pub trait Dispatch<P: Poller, C, R: Wait + Drop, X, Q: Asking> {
     fn before_handle_events(&mut self, events: EventIterator<'_>)
         ensures { (v : PollView P) → means.does self.old v (Noticed (events_left events.entry)) [] self.new };
 
-    /// Two laws. It touches no timer's counter of another source, and calls at most once for each arming of its own. And it uses
-    /// only keys of its own registration, from a registration that succeeded on.
+    /// Three laws. It touches no timer's counter of another source, and calls at most once for each arming of its own. It uses
+    /// only keys of its own registration, from a registration that succeeded on. And it asks for no more events than its limit, which stays.
     ghost keeps: { IsKeeping means };
 
     /// What a turn asks for is reached from what was asked for before it.
@@ -409,8 +413,12 @@ where
         Role::Caller
     }
 
-    fn settle(&mut self, _token: RegistrationToken, _poll: &mut Poll<P, C, R>) -> bool {
-        false
+    fn settle(
+        &mut self,
+        _token: RegistrationToken,
+        _poll: &mut Poll<P, C, R>,
+    ) -> Option<LoopResult<()>> {
+        None
     }
 
     fn before_sleep(&mut self, out: &mut Synthetic) -> LoopResult<()> {
@@ -517,7 +525,11 @@ where
         }
     }
 
-    fn settle(&mut self, token: RegistrationToken, poll: &mut Poll<P, C, R>) -> bool {
+    fn settle(
+        &mut self,
+        token: RegistrationToken,
+        poll: &mut Poll<P, C, R>,
+    ) -> Option<LoopResult<()>> {
         match self {
             OneOf::First(held) => held.settle(token, poll),
             OneOf::Other(held) => held.settle(token, poll),

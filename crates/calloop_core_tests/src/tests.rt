@@ -31,6 +31,7 @@ mod conversions;
 mod marks;
 mod streams;
 mod system;
+mod table;
 
 #[test]
 fn a_script_answers_in_its_order_and_then_by_the_timeout(rt: HostRuntime) {

@@ -1,5 +1,6 @@
 use calloop::loop_logic::{
-    once, once_where_nothing_is_asked, run_that_there_is, wrong_runs_are_ruled_out,
+    busy_runs_that_there_are, once, once_where_nothing_is_asked, run_that_there_is,
+    runs_that_go_wrong_late, served, unserved_dispatches_are_ruled_out, wrong_runs_are_ruled_out,
 };
 use calloop::{Instant, PostAction};
 use calloop_core::sys::script::{ScriptClock, ScriptPoller};
@@ -393,7 +394,15 @@ fn the_law_of_all_runs_rules_wrong_runs_out(_rt: HostRuntime) {
     once::<Source<HostRuntime>, ScriptPoller, ScriptClock, HostRuntime>();
     once_where_nothing_is_asked::<Source<HostRuntime>, ScriptPoller, ScriptClock, HostRuntime>();
     run_that_there_is();
+    busy_runs_that_there_are();
     wrong_runs_are_ruled_out();
+    runs_that_go_wrong_late();
+}
+
+#[test]
+fn the_law_of_what_a_dispatch_has_done_rules_wrong_dispatches_out(_rt: HostRuntime) {
+    served::<Source<HostRuntime>, ScriptPoller, ScriptClock, HostRuntime>();
+    unserved_dispatches_are_ruled_out();
 }
 
 const OWN_KEY: u64 = u64::MAX;

@@ -29,7 +29,12 @@ pub(crate) mod sleepers;
 pub mod tasks;
 pub mod watch;
 
-pub use laws::{covered, lost_is_not_covered, schedules_that_there_are, steps_are_the_machines};
+pub use laws::{
+    can_be_delivered, covered, lost_is_not_covered, out_of_reach,
+    schedules_of_one_board_that_there_are, schedules_of_queues_that_there_are,
+    schedules_that_there_are, schedules_that_there_are_not, steps_are_the_machines,
+    turns_that_end_at_their_bound,
+};
 
 /// A key that must be posted on its board. Whoever holds it owes the post.
 #[must_use]

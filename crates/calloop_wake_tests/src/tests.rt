@@ -14,8 +14,11 @@ use calloop_wake::wake::locked::{Core, Locked};
 use calloop_wake::wake::ping::{OpenedTurn, PingCore};
 use calloop_wake::wake::watch::{Watch, WatchedBoard};
 use calloop_wake::wake::{
-    Debt, Last, LeaveToClose, Notify, OpenedPass, PingTurn, Sender, TakenPass, Twin, covered,
-    lost_is_not_covered, schedules_that_there_are, steps_are_the_machines,
+    Debt, Last, LeaveToClose, Notify, OpenedPass, PingTurn, Sender, TakenPass, Twin,
+    can_be_delivered, covered, lost_is_not_covered, out_of_reach,
+    schedules_of_one_board_that_there_are, schedules_of_queues_that_there_are,
+    schedules_that_there_are, schedules_that_there_are_not, steps_are_the_machines,
+    turns_that_end_at_their_bound,
 };
 use calloop_wake::wheel::{ArmRefusal, Instant, TimerWheel};
 use calloop_wake::widths::{MOST_SLOTS, VERSIONS};
@@ -310,7 +313,17 @@ fn the_law_of_all_schedules_rules_some_states_out(_rt: HostRuntime) {
     covered();
     lost_is_not_covered();
     schedules_that_there_are();
+    schedules_of_queues_that_there_are();
+    schedules_of_one_board_that_there_are();
+    turns_that_end_at_their_bound();
+    schedules_that_there_are_not();
     steps_are_the_machines();
+}
+
+#[test]
+fn the_law_of_delivery_rules_what_is_out_of_reach_out(_rt: HostRuntime) {
+    can_be_delivered();
+    out_of_reach();
 }
 
 #[test]

@@ -1,8 +1,7 @@
 //! The loop's end of an adapter: what stands in a slot.
-ghost use Rattle.std.specs.Prelude.{◌≡◌, None, false, List, ℕ, Result};
-ghost use Rattle.calloop_wake.specs.declared.error.Error.{Error};
+ghost use Rattle.std.specs.Prelude.{◌≡◌, None, false, List, ℕ};
 ghost use Rattle.calloop_core.specs.Polls.{PollStep, poll_view, AllStepped, IsReady};
-ghost use Rattle.calloop.specs.Adapters.{Registers, TakenOut, Leaves, Goes, left_so};
+ghost use Rattle.calloop.specs.Adapters.{Registers, TakenOut, Leaves, Goes, left_so, registered_nowhere};
 
 use super::notes::Settled;
 use super::refusal::Refusal;
@@ -10,6 +9,7 @@ use super::shared::SlotEnd;
 use calloop_core::callbacks::QuietDispatch;
 use calloop_core::sources::{Asking, Dispatch, Here, Place, PostAction, Role};
 use calloop_core::sys::events::EventIterator;
+use calloop_core::sys::hub::SharedHub;
 use calloop_core::sys::poll::Poll;
 use calloop_core::sys::synthetic::Synthetic;
 use calloop_core::sys::{Interest, Poller, Readiness};
@@ -76,6 +76,16 @@ impl<P: Poller, R: Wait + Drop> Adapter<P, R> {
         }
     }
 
+    // It is in no loop any more, and needs no mark.
+    fn come_out(&mut self, hub: &SharedHub)
+        ensures { self.new ≡ registered_nowhere self.old }
+    {
+        self.token = None;
+        self.entered = false;
+        self.end.leave();
+        self.end.close_mark(hub);
+    }
+
     // Takes its registration back.
     fn leave<C>(&mut self, token: Token, poll: &mut Poll<P, C, R>) -> LoopResult<()>
         ensures steps { (steps : List (PollStep P))
@@ -85,10 +95,7 @@ impl<P: Poller, R: Wait + Drop> Adapter<P, R> {
         ensures ready { (more : ℕ) → IsReady more poll.old → IsReady more poll.new }
     {
         self.take_out(token, poll)?;
-        self.token = None;
-        self.entered = false;
-        self.end.leave();
-        self.end.close_mark(poll.hub());
+        self.come_out(poll.hub());
         Ok(())
     }
 
@@ -108,17 +115,25 @@ impl<P: Poller, R: Wait + Drop> Adapter<P, R> {
         self.leave(token, poll)
     }
 
-    // Its `Async` is gone: it takes its registration back, and needs no mark any more, also where the poller fails.
-    fn go<C>(&mut self, poll: &mut Poll<P, C, R>)
-        ensures steps { (told : Result (Unit {0}) Error) × (steps : List (PollStep P))
-            × Goes P.sockets self.old.token self.old (poll_view poll.old) told steps self.new
+    // Its `Async` is gone: it takes its registration back. Where that fails, its key goes all the same.
+    fn go<C>(&mut self, poll: &mut Poll<P, C, R>) -> LoopResult<()>
+        ensures steps { (steps : List (PollStep P))
+            × Goes P.sockets self.old.token self.old (poll_view poll.old) result steps self.new
             × AllStepped P.outside (poll_view poll.old) steps (poll_view poll.new) }
         ensures ready { (more : ℕ) → IsReady more poll.old → IsReady more poll.new }
     {
-        if let Some(token) = self.token {
-            if let Err(_) = self.leave(token, poll) {
-                self.end.leave();
-                self.end.close_mark(poll.hub());
+        let Some(token) = self.token else {
+            return Ok(());
+        };
+        match self.take_out(token, poll) {
+            Ok(()) => {
+                self.come_out(poll.hub());
+                Ok(())
+            }
+            Err(failure) => {
+                poll.discard(token);
+                self.come_out(poll.hub());
+                Err(failure)
             }
         }
     }
@@ -208,18 +223,20 @@ impl<P: Poller, C, R: Wait + Drop, X, Q: Asking> Dispatch<P, C, R, X, Q> for Ada
         Role::Adapter
     }
 
-    /// Takes up what its last poll waits for, and keeps a refusal of that for the next one; where it was dropped, it leaves.
-    fn settle(&mut self, _token: RegistrationToken, poll: &mut Poll<P, C, R>) -> bool {
+    /// Takes up what its last poll waits for, and keeps a refusal of that for the next one; where it was dropped, it leaves. A fault of
+    /// the poller, or a socket that was taken out, is answered then, and its key goes all the same.
+    fn settle(
+        &mut self,
+        _token: RegistrationToken,
+        poll: &mut Poll<P, C, R>,
+    ) -> Option<LoopResult<()>> {
         match self.end.settle() {
-            Settled::Stays => false,
+            Settled::Stays => None,
             Settled::Registers(interest) => {
                 self.take_up(interest, poll);
-                false
+                None
             }
-            Settled::Leaves => {
-                self.go(poll);
-                true
-            }
+            Settled::Leaves => Some(self.go(poll)),
         }
     }
 

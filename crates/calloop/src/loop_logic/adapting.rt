@@ -57,8 +57,9 @@ impl<D: EventDispatcher<P, C, R>, P: Poller, C: Clock, R: Wait + Drop> LoopHandl
 
     /// Takes an adapter out of this loop, and its socket out of the poller, and hands the socket back.
     ///
-    /// A fault of the poller is `IoError`, and the adapter stays as it was. One of another loop, or of none, is refused with `InvalidToken`,
-    /// and so is one whose socket was taken out by `get_mut`. Each hands the `Async` back.
+    /// A fault of the poller is `IoError`, and the adapter stays as it was. One of another loop, or of none, is refused with `InvalidToken`.
+    /// One whose socket was taken out by `get_mut` is refused with `IoError` of kind `NotFound`, and stays, where the poller knew that
+    /// socket; else with `InvalidToken`, and it has left. Each hands the `Async` back.
     pub fn into_inner(&mut self, io: Async<P, R>) -> Result<P::Io, InsertError<Async<P, R>>>
         ensures same { self.new.inner.ghost_name ≡ self.old.inner.ghost_name }
         ensures ok { IfOk result (λ socket. IsGivenBack D.means D.Idle.runs P.outside

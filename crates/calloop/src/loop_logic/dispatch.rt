@@ -184,7 +184,7 @@ impl<D: EventDispatcher<P, C, R>, P: Poller, C: Clock, R: Wait + Drop> EventLoop
         };
         let mut failure = Error::OutOfMemory;
         let told = self.unregister(token, &mut left, &mut failure);
-        self.warnings.note(told, failure);
+        self.warnings.note(with_error(told, failure));
         self.requests.pay(Answer::Removed(Some(left)));
     }
 

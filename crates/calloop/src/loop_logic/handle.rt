@@ -183,7 +183,7 @@ impl<D: EventDispatcher<P, C, R>, P: Poller, C: Clock, R: Wait + Drop> EventLoop
         self.sources.vacate(token);
         let mut failure = Error::OutOfMemory;
         let told = self.unregister(token, &mut source, &mut failure);
-        self.warnings.note(told, failure);
+        self.warnings.note(with_error(told, failure));
         Some(source)
     }
 

@@ -53,7 +53,8 @@ impl<D: EventDispatcher<P, C, R>, P: Poller, C: Clock, R: Wait + Drop> EventLoop
         sources.begin_turn(token)
     }
 
-    // Settles what is marked under this token, where it is an adapter. One that was dropped leaves its slot.
+    // Settles what is marked under this token, where it is an adapter. One that was dropped leaves its slot; a failure of its
+    // unregistration is a warning.
     fn settle_one(&mut self, token: RegistrationToken)
         ensures machine { (timeout : Option ℕ) (later : List RegistrationToken) (x : D.Data)
             → Goes D.means D.Idle.runs P.outside (Settling timeout (token ∷ later) x)
@@ -66,11 +67,15 @@ impl<D: EventDispatcher<P, C, R>, P: Poller, C: Clock, R: Wait + Drop> EventLoop
         let Some(mut source) = Self::take_out_adapter(&mut self.sources, token) else {
             return;
         };
-        if source.settle(token, &mut self.poll) {
-            self.sources.vacate(token);
-            self.lifecycle.leave(token);
-        } else {
-            let _none = self.sources.end_turn(token, source);
+        match source.settle(token, &mut self.poll) {
+            Some(told) => {
+                self.sources.vacate(token);
+                self.lifecycle.leave(token);
+                self.warnings.note(told);
+            }
+            None => {
+                let _none = self.sources.end_turn(token, source);
+            }
         }
     }
 

@@ -1,9 +1,8 @@
 //! What went wrong where nothing could be answered: a source that left the loop failed to take its registration back.
 ghost use Rattle.std.specs.Prelude.{◌≡◌, [], Bool};
-ghost use Rattle.calloop_wake.specs.Failures.{with_error};
 ghost use Rattle.calloop.specs.Held.{warned};
 
-use calloop_wake::error::{Error, Failed};
+use calloop_wake::error::{Error, Result};
 use std::alloc::Global;
 
 /// In the order in which they came. Each is kept where there is memory for it.
@@ -22,11 +21,11 @@ impl Warnings {
     }
 
     // Keeps the error of what was told, where it failed.
-    pub(super) fn note(&mut self, told: Result<(), Failed>, failure: Error)
-        ensures { (kept : Bool) × (self.new.errors.items
-            ≡ warned kept (with_error told failure) self.old.errors.items) }
+    pub(super) fn note(&mut self, told: Result<()>)
+        ensures { (kept : Bool)
+            × (self.new.errors.items ≡ warned kept told self.old.errors.items) }
     {
-        if let Err(Failed) = told {
+        if let Err(failure) = told {
             let _ = self.errors.push(failure);
         }
     }

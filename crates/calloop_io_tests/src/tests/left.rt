@@ -1,21 +1,39 @@
-//! Adapters whose sockets were taken out.
+//! Adapters whose sockets were taken out, or that the poller fails to delete.
 use super::desk::Silent;
 use calloop::futures::{Context, Future, Poll};
 use calloop::{
-    Adapter, Async, Dispatcher, Error, EventDispatcher, Here, Instant, Keep, OneOf, Readiness,
-    Requests, ScriptLoop, Sources, Timer,
+    Adapter, Async, Choice, Dispatcher, Error, EventDispatcher, Here, Instant, Keep, OneOf,
+    Readiness, RegistrationToken, Requests, ScriptLoop, Sources, There, Timer,
 };
 use calloop_core::sys::script::{
-    ScriptAnswer, ScriptClock, ScriptEnd, ScriptEvents, ScriptIo, ScriptPoller,
+    ScriptAnswer, ScriptClock, ScriptEnd, ScriptEvents, ScriptIo, ScriptKind, ScriptPoller,
 };
 use std::alloc::Global;
 use std::io;
 use std::sync::Wait;
+use std::time::Duration;
 
 #[test]
 fn an_adapter_whose_registered_socket_was_taken_out_is_not_found(rt: HostRuntime) {
     let found = finds_no_socket::<Held<HostRuntime>, HostRuntime>(&rt, rt.alloc());
     assert_eq!(rt; found, Some(true));
+}
+
+#[test]
+fn a_dropped_adapter_that_cannot_be_deleted_leaves_with_a_warning(rt: HostRuntime) {
+    for cause in [Cause::Fault, Cause::NoSocket] {
+        let left = leaves_with_a_warning::<Held<HostRuntime>, HostRuntime>(&rt, rt.alloc(), cause);
+        assert_eq!(rt; left, Some(true));
+    }
+}
+
+/// Why the socket of a dropped adapter isn't deleted.
+#[derive(Clone, Copy, PartialEq, Eq)]
+enum Cause {
+    /// The poller fails.
+    Fault,
+    /// It was taken out before.
+    NoSocket,
 }
 
 /// What a loop of these tests holds.
@@ -116,4 +134,39 @@ where
     *back.get_mut() = Some(socket);
     let socket = event_loop.handle().into_inner(back).ok()?;
     Some(is_missing && socket.number == 1)
+}
+
+// Whether the dispatch in which it leaves has one warning, and its slot is vacant behind it.
+fn leaves_with_a_warning<D, R>(rt: &R, alloc: Global, cause: Cause) -> Option<bool>
+where
+    D: EventDispatcher<ScriptPoller, ScriptClock, R, Data = ()>,
+    D: Keep<
+        Adapter<ScriptPoller, R>,
+        ScriptPoller,
+        ScriptClock,
+        R,
+        (),
+        Requests<D, <D as EventDispatcher<ScriptPoller, ScriptClock, R>>::Idle>,
+        Here,
+    >,
+    D: Choice<Timer, Silent, There<Here>>,
+    R: Wait + Clone + Drop,
+{
+    let (mut event_loop, mut io): (ScriptLoop<D, R>, _) = registered(rt, alloc)?;
+    match cause {
+        Cause::Fault => event_loop.handle().poller_mut().fail(ScriptKind::Delete),
+        Cause::NoSocket => drop(io.get_mut().take()),
+    }
+    drop(io);
+    event_loop.dispatch(rt, Some(Duration::ZERO), &mut ()).ok()?;
+    let is_told = match event_loop.handle().warnings() {
+        [Error::IoError(fault)] => {
+            (fault.kind() == io::ErrorKind::NotFound) == (cause == Cause::NoSocket)
+        }
+        _ => false,
+    };
+    let timer = Dispatcher::new(Timer::from_deadline(Instant::from_millis(9)), Silent);
+    let held = <D as Choice<Timer, Silent, There<Here>>>::hold(timer);
+    let token = event_loop.handle().register_dispatcher(held).ok()?;
+    Some(is_told && token == RegistrationToken::new(0, 1))
 }

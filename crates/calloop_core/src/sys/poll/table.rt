@@ -1,14 +1,14 @@
 //! The table of sockets.
-ghost use Rattle.std.specs.Prelude.{◌≡◌, ◌+◌, true, false, nat_eq, ℕ, List, [], Some};
+ghost use Rattle.std.specs.Prelude.{◌≡◌, ◌+◌, ◌∷◌, true, false, nat_eq, ℕ, List, [], Some};
 ghost use Rattle.std.specs.Map.{keys_of};
 ghost use Rattle.std.specs.Ordering.{nat_cmp};
 ghost use Rattle.std.specs.List.Sorted.{IsStrictlySortedBy};
 ghost use Rattle.calloop_wake.specs.Tokens.{key_of};
-ghost use Rattle.calloop_core.specs.Tables.{Called, CalledFor, call_for, is_known, watched_at, is_in, Enter, Change, Leave};
+ghost use Rattle.calloop_core.specs.Tables.{Called, CalledFor, call_for, is_known, watched_at, is_in, Enter, Change, Leave, Discard};
 ghost use Rattle.calloop_core.specs.Polls.{poll_view, IsReady};
 ghost use Rattle.calloop_core.specs.Registering.{DidEdit};
 ghost use Rattle.calloop_wake.specs.declared.token.RegistrationToken.{RegistrationToken};
-ghost use Rattle.calloop_core.specs.Polls.{PollView, PollStep, polls_after};
+ghost use Rattle.calloop_core.specs.Polls.{PollView, PollStep, Socket, AllStepped, polls_after};
 ghost use Rattle.calloop_core.specs.Keys.{IsKeyOf, AllActFor};
 ghost use Rattle.calloop_core.specs.WrongSteps.{first_registration, token_of_second, to_be_read, enters_second};
 
@@ -188,6 +188,16 @@ impl<P: Poller, C, R: Wait + Drop> Poll<P, C, R> {
             }
             Err(cause) => Err(Error::IoError(cause)),
         }
+    }
+
+    /// Drops what stands under the key of this token, if anything does, and tells no poller: for a socket that is gone, or that the
+    /// poller refused to delete.
+    pub fn discard(&mut self, token: Token)
+        ensures edit { AllStepped P.outside (poll_view self.old)
+            (Socket (Discard token) (poll_view self.old).poller ∷ []) (poll_view self.new) }
+        ensures ready { (more : ℕ) → IsReady more self.old → IsReady more self.new }
+    {
+        self.table.remove(&token.key());
     }
 }
 

@@ -1,4 +1,4 @@
-use Rattle.std.proofs.Common.{◌≡◌, ◌+◌, ◌<◌, ◌≤◌, ◌^◌, ℕ, [], ◌∷◌, drop, arith}
+use Rattle.std.proofs.Common.{◌≡◌, ◌+◌, ◌≤◌, ◌^◌, ◌∷◌, drop, arith}
 use Rattle.calloop_wake.specs.Slots.{named}
 use Rattle.calloop.specs.Limits.{limit_in, all_limits}
 use Rattle.calloop.proofs.Limits.{not_less}

@@ -15,5 +15,5 @@ pub returns : goal.returns
 returns g c =
     let is : only (is_callers g.D.Dispatch.means) (named c.args.self.now.sources c.args.token) ≡ Source c.in_ok-source.source = source_is (only (is_callers g.D.Dispatch.means) (named c.args.self.now.sources c.args.token)) c.in_ok-source.source (sym c.in_ok-source.ensures.value) in
     removed g.D.Dispatch.means g.D.Idle.IdleCallback.runs g.P.Poller.outside (view_of c.args.self.now) c.args.token c.in_ok-source.source c.unregister-told.new.source (with_error c.unregister-told.result c.unregister-told.new.failure) (view_of c.unregister-told.new.self) c.note.ensures.0
-    c.note.new.self.errors.items c.note.ensures.1 is
+    c.note.new.self.errors.items (rw c.with_error.ensures at c.note.ensures.1) is
     (rw (c.vacate.ensures, c.in_ok-source.ensures.list) at c.unregister-told.ensures)

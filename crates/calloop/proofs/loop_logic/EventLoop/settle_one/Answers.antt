@@ -15,25 +15,25 @@ pub returns-in_default-clause-machine : goal.returns-in_default-clause-machine
 returns-in_default-clause-machine g c timeout later x =
     rw c.in_default.ensures.list (not_settled g.D.Dispatch.means g.D.Idle.IdleCallback.runs g.P.Poller.outside timeout c.args.token later (view_of c.args.self.now) x c.in_default.ensures.value)
 
-pub returns-then-settle-clause-machine : goal.returns-then-settle-clause-machine
-returns-then-settle-clause-machine g c timeout later x =
+pub returns-in-Some-settle-clause-machine : goal.returns-in-Some-settle-clause-machine
+returns-in-Some-settle-clause-machine g c timeout later x =
     let ss = only (is_adapter g.D.Dispatch.means) (named c.args.self.now.sources c.args.token) in
     let is : ss ≡ Source c.in-Some.source = source_is ss c.in-Some.source (sym c.in-Some.ensures.value) in
     rw (c.vacate.ensures, c.leave.ensures, c.in-Some.ensures.list)
-    (gone g.D.Dispatch.means g.D.Idle.IdleCallback.runs g.P.Poller.outside timeout c.args.token later (view_of c.args.self.now) x c.in-Some.source c.settle.new.self (poll_view c.settle.new.poll) is (rw c.if-settle.true at c.settle.ensures.settles))
+    (gone g.D.Dispatch.means g.D.Idle.IdleCallback.runs g.P.Poller.outside timeout c.args.token later (view_of c.args.self.now) x c.in-Some.source c.settle.new.self c.in-Some-settle.told (poll_view c.settle.new.poll) c.note.ensures.0 c.note.new.self.errors.items is c.note.ensures.1 c.in-Some-settle.ensures.settles)
 
-pub returns-else-settle-clause-machine : goal.returns-else-settle-clause-machine
-returns-else-settle-clause-machine g c timeout later x =
+pub returns-in-None-clause-machine : goal.returns-in-None-clause-machine
+returns-in-None-clause-machine g c timeout later x =
     let ss = only (is_adapter g.D.Dispatch.means) (named c.args.self.now.sources c.args.token) in
     let is : ss ≡ Source c.in-Some.source = source_is ss c.in-Some.source (sym c.in-Some.ensures.value) in
     rw (c.end_turn-none.ensures.list, c.in-Some.ensures.list)
-    (kept g.D.Dispatch.means g.D.Idle.IdleCallback.runs g.P.Poller.outside timeout c.args.token later (view_of c.args.self.now) x c.in-Some.source c.settle.new.self (poll_view c.settle.new.poll) is (rw c.if-settle.false at c.settle.ensures.settles))
+    (kept g.D.Dispatch.means g.D.Idle.IdleCallback.runs g.P.Poller.outside timeout c.args.token later (view_of c.args.self.now) x c.in-Some.source c.settle.new.self (poll_view c.settle.new.poll) is c.in-None.ensures.settles)
 
 pub returns-in_default-clause-limits : goal.returns-in_default-clause-limits
 returns-in_default-clause-limits g c = rw c.in_default.ensures.list (omega arith)
 
-pub returns-then-settle-clause-limits : goal.returns-then-settle-clause-limits
-returns-then-settle-clause-limits g c =
+pub returns-in-Some-settle-clause-limits : goal.returns-in-Some-settle-clause-limits
+returns-in-Some-settle-clause-limits g c =
     let M = g.D.Dispatch.means in
     let d = c.in-Some.source in
     let old = c.args.self.now.sources in
@@ -44,8 +44,8 @@ returns-then-settle-clause-limits g c =
     rw (c.vacate.ensures, c.leave.ensures, c.in-Some.ensures.list)
     (omega (arith, gone, filtered_limits M (is_another c.args.token) old tokens))
 
-pub returns-else-settle-clause-limits : goal.returns-else-settle-clause-limits
-returns-else-settle-clause-limits g c =
+pub returns-in-None-clause-limits : goal.returns-in-None-clause-limits
+returns-in-None-clause-limits g c =
     let M = g.D.Dispatch.means in
     let d = c.in-Some.source in
     let e = c.settle.new.self in
@@ -53,6 +53,6 @@ returns-else-settle-clause-limits g c =
     let tokens = c.args.self.now.lifecycle.tokens.items in
     let ss = only (is_adapter M) (named old c.args.token) in
     let is : named old c.args.token ≡ Source d = only_source (is_adapter M) (named old c.args.token) d (source_is ss d (sym c.in-Some.ensures.value)) in
-    let same = settled_limit M g.P.Poller.outside g.met.D.Dispatch.keeps.limit (M.role d) c.args.token d e (poll_view c.args.self.now.poll) (poll_view c.settle.new.poll) (rw c.if-settle.false at c.settle.ensures.settles) in
+    let same = settled_limit M g.P.Poller.outside g.met.D.Dispatch.keeps.limit (M.role d) c.args.token d e (poll_view c.args.self.now.poll) (poll_view c.settle.new.poll) c.in-None.ensures.settles in
     rw (c.end_turn-none.ensures.list, c.in-Some.ensures.list)
     (ended_limits M old c.args.token d (Source e) is (omega (arith, same)) tokens)

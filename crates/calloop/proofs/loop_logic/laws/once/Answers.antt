@@ -1,8 +1,7 @@
-use Rattle.std.proofs.Common.{List, subst, sym}
-use Rattle.calloop.specs.Machine.{World, all_done}
+use Rattle.calloop.specs.Machine.{all_done}
 use Rattle.calloop.proofs.Rights.{run_right}
 use Rattle.calloop.proofs.Reuse.{names_later}
-use Rattle.calloop.specs.Laws.{NamesLater, StaysGone, AllNamesLater, AllStayGone, moments_of, changes_of, IsFresh, IsNoMore, Any, HasNoMoreKeys}
+use Rattle.calloop.specs.Laws.{NamesLater, StaysGone, changes_of, IsFresh, IsNoMore, Any, HasNoMoreKeys}
 use Rattle.calloop.proofs.Gone.{stay_gone, run_fits}
 use Rattle.calloop.proofs.Moments.{any_two}
 use Rattle.calloop.proofs.Listing.{run_told}

@@ -10,7 +10,7 @@ use Rattle.calloop_core.specs.Polls.{Arm, Cancel, Call}
 use Rattle.calloop.specs.Askings.{asks_nothing, no_asks}
 use Rattle.calloop.specs.Rules.{factory_of, Settling, Sleeping, Waiting, Gathering, Noticing, Cutting, Serving, Ending, Returning, Idling, RunningIdles, Leaving}
 use Rattle.calloop.specs.Wrong.{first_token, first_registration}
-use Rattle.calloop.specs.ExampleRun.{five, first_arm, as_armed, as_changed, as_called, as_removed, only, its_calls, its_answers, its_changes, its_run}
+use Rattle.calloop.specs.ExampleRun.{five, first_arm, as_armed, as_changed, as_called, as_removed, only, its_run}
 use Rattle.std.proofs.Common.{ℕ, nat_eq, if◌then◌else◌}
 use Rattle.logbook.specs.Pages.{Book}
 use Rattle.calloop_core.specs.Holdings.{Free, Standing, IsWithin}

@@ -1,4 +1,4 @@
-use Rattle.std.proofs.Common.{◌≡◌, inl, inr, ℕ, Bool, true, false, List, [], ◌∷◌, Some, None, Ok, refl, sym, subst, ap, ◌∙◌, ◌≤◌, arith, length}
+use Rattle.std.proofs.Common.{◌≡◌, inl, inr, ℕ, Bool, true, false, List, [], ◌∷◌, None, Ok, refl, sym, subst, ap, ◌∙◌, ◌≤◌, arith, length}
 use Rattle.logbook.specs.Pages.{Book}
 use Rattle.calloop_wake.specs.Widths.{versions}
 use Rattle.calloop_wake.specs.declared.list.Content.{Content}

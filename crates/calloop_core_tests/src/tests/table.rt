@@ -1,0 +1,28 @@
+//! The table of sockets.
+use super::{Scripted, kind_of, new_poll, token};
+use calloop_core::sys::script::{ScriptIo, ScriptKind};
+use calloop_core::sys::{Interest, Mode};
+use calloop_wake::error::Error;
+use std::io::ErrorKind;
+use std::sync::Wait;
+
+#[test]
+fn a_key_that_was_discarded_is_free_and_all_others_stay(rt: HostRuntime) {
+    let mut poll = new_poll(&rt, rt.alloc());
+    assert!(rt; enters(&mut poll, 1, 1).is_ok() && enters(&mut poll, 2, 2).is_ok());
+    poll.poller_mut().fail(ScriptKind::Delete);
+    let mut first = ScriptIo { number: 1 };
+    assert!(rt; poll.unregister(&mut first, token(1)).is_err());
+    let taken = Some(ErrorKind::AlreadyExists);
+    assert_eq!(rt; kind_of(enters(&mut poll, 3, 1)), taken);
+    poll.discard(token(1));
+    assert!(rt; enters(&mut poll, 3, 1).is_ok());
+    assert_eq!(rt; kind_of(enters(&mut poll, 4, 2)), taken);
+    assert_eq!(rt; kind_of(enters(&mut poll, 4, 1)), taken);
+}
+
+// Enters the socket of this number, under the key of this slot.
+fn enters<R: Wait + Drop>(poll: &mut Scripted<R>, number: u32, slot: u32) -> Result<(), Error> {
+    let mut io = ScriptIo { number };
+    poll.register(&mut io, Interest::READ, Mode::Level, token(slot))
+}
