@@ -1,6 +1,6 @@
 -- What the ping behind a guard means: what the ping does, where it is reached, and else nothing.
 use Rattle.std.proofs.Common.{refl}
-use Rattle.std.specs.Prelude.{◌≡◌, ◌⊎◌, [], List, Result, Ok, Err, IsErr, None, false}
+use Rattle.std.specs.Prelude.{◌≡◌, ◌⊎◌, [], List, Result, Ok, Err, IsErr, false}
 use Rattle.std.proofs.Common.{inl, inr}
 use Rattle.calloop_core.specs.declared.sources.PostAction.{PostAction}
 use Rattle.calloop_core.specs.Polls.{PollView, PollStep}

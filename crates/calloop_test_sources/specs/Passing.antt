@@ -1,7 +1,7 @@
 -- What a source of the tests' own with one source in it means: that one is asked each time, and is all that has counters and
 -- keys; what a turn hands out, and how it ends, is the source's own.
 use Rattle.std.proofs.Common.{refl}
-use Rattle.std.specs.Prelude.{◌≡◌, ℕ, [], ◌∷◌, List, Bool, true, false, Ok, Err, None}
+use Rattle.std.specs.Prelude.{◌≡◌, ℕ, [], ◌∷◌, List, Bool, true, false, Ok, Err}
 use Rattle.calloop_core.specs.Polls.{PollView, PollStep}
 use Rattle.calloop_core.specs.Calls.{CallbackCall}
 use Rattle.calloop_core.specs.Lawful.{silent}
