@@ -3,4 +3,3 @@ mod answers;
 mod desk;
 mod keys;
 mod memory;
-mod stops;
