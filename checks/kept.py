@@ -11,6 +11,8 @@ import tempfile
 
 FOLDER = os.path.join(os.environ.get("XDG_CACHE_HOME") or os.path.expanduser("~/.cache"), "calloop-checks")
 PARTS = ("src", "specs", "proofs")
+# A line that begins so is a comment.
+COMMENTS = {".rt": b"//", ".antt": b"--"}
 
 
 def crates_of(root):
@@ -46,11 +48,18 @@ class Kept:
         with open(f"{self.root}/{path}", "rb") as it:
             return repr((path, hashlib.sha256(it.read()).digest())).encode()
 
-    def part(self, crate, part):
-        """The files of a folder of a crate, in order."""
+    def code(self, path):
+        """The same without its lines of comments, and however it is laid out."""
+        comment = COMMENTS.get(os.path.splitext(path)[1])
+        with open(f"{self.root}/{path}", "rb") as it:
+            words = [word for line in it.read().split(b"\n") if not (comment and line.lstrip().startswith(comment)) for word in line.split()]
+        return repr((path, hashlib.sha256(b" ".join(words)).digest())).encode()
+
+    def part(self, crate, part, seen=None):
+        """The files of a folder of a crate, in order: all that they hold, or what is seen of them."""
         for at, folders, files in os.walk(f"{self.root}/crates/{crate}/{part}"):
             folders.sort()
-            yield from (self.file(os.path.relpath(f"{at}/{it}", self.root)) for it in sorted(files))
+            yield from ((seen or self.file)(os.path.relpath(f"{at}/{it}", self.root)) for it in sorted(files))
 
     def sum_of(self, crate):
         """The sum of a crate's files, of its line of crates.txt, and of those of the crates below it."""
@@ -66,11 +75,11 @@ class Kept:
         return hashlib.sha256(repr((self.by, crate, self.sum_of(crate), tried)).encode()).hexdigest()
 
     def sum_about(self, crate, tried, files):
-        """The sum of what was tried in a crate and of what that is about, in hex digits: these files of it, and its specs/. It stays
-        where proofs, other files, or crates below change."""
+        """The sum of what was tried in a crate and of what that is about, in hex digits: these files of it, and its specs/, without
+        comments and layout. It stays where proofs, other files, or crates below change."""
         if crate not in self.stated:
-            self.stated[crate] = [*self.part(crate, "specs")]
-        found = [self.file(f"crates/{crate}/{it}") for it in sorted(files) if os.path.isfile(f"{self.root}/crates/{crate}/{it}")]
+            self.stated[crate] = [*self.part(crate, "specs", self.code)]
+        found = [self.code(f"crates/{crate}/{it}") for it in sorted(files) if os.path.isfile(f"{self.root}/crates/{crate}/{it}")]
         return hashlib.sha256(repr((self.by, crate, self.stated[crate], found, tried)).encode()).hexdigest()
 
     def get(self, sum):

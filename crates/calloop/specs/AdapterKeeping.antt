@@ -127,7 +127,7 @@ module _ {P R I : Type 0} (sockets : Sockets P I) where
   gone_still next (Some own) s t v a l h =
       let last : List (PollStep P) = discards a own (polls_after v h.0).poller in
       rw h.2 (keeps_then next h.0 last holds_none holds_none holds_none (out_still sockets next s.entered own v a h.0 h.1)
-          (discarded_still (next_after next h.0) a own (polls_after v h.0).poller))
+      (discarded_still (next_after next h.0) a own (polls_after v h.0).poller))
 
   told_home : (r : RegistrationToken) (interest : Interest) (own : Option Token) (s t : Adapter P R I) (v : PollView P)
       (l : List (PollStep P))

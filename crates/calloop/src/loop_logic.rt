@@ -214,11 +214,7 @@ where
         self.held.role()
     }
 
-    fn settle(
-        &mut self,
-        token: RegistrationToken,
-        poll: &mut Poll<P, C, R>,
-    ) -> Option<Result<()>> {
+    fn settle(&mut self, token: RegistrationToken, poll: &mut Poll<P, C, R>) -> Option<Result<()>> {
         self.held.settle(token, poll)
     }
 
