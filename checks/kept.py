@@ -1,6 +1,6 @@
 """What earlier runs of the checks came to on this machine, each by a sum of all that it rests on, so that it never goes stale.
 
-The kit's `rt ci` keeps what it passed in the same way. Nothing here is of the repository: a clone on another machine tries all.
+Nothing here is of the repository: a clone on another machine tries all.
 """
 import hashlib
 import json
