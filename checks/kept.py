@@ -15,9 +15,9 @@ PARTS = ("src", "specs", "proofs")
 COMMENTS = {".rt": b"//", ".antt": b"--"}
 
 
-def crates_of(root):
-    """What crates.txt names at the top of a repository: each crate with the names behind its own, lowest first."""
-    with open(f"{root}/crates.txt", encoding="utf-8") as it:
+def crates_of(root, file="crates.txt"):
+    """What crates.txt names at the top of a repository, or another such file of it: each crate with the names behind its own, lowest first."""
+    with open(f"{root}/{file}", encoding="utf-8") as it:
         lines = [line.partition(":") for line in it if line.strip() and not line.startswith("#")]
     return {head.split()[0]: (head, rest.split()) for head, _, rest in lines}
 

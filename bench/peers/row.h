@@ -1,14 +1,10 @@
-// What the programs of the peers share: their arguments, the clock, and the line that they print.
+// What the programs with rows share: their arguments, and the line that they print.
 #ifndef ROW_H
 #define ROW_H
 
-#include <inttypes.h>
-#include <stdint.h>
-#include <stdio.h>
-#include <stdlib.h>
+#include "program.h"
 #include <string.h>
 #include <sys/socket.h>
-#include <time.h>
 #include <unistd.h>
 
 // In how many seconds the timers are due that don't fire while a row runs.
@@ -31,18 +27,6 @@ struct rows {
 // How many callbacks were called since the row's first measured dispatch.
 static uint64_t calls;
 
-static void fail(const char *what) {
-    fprintf(stderr, "%s\n", what);
-    exit(1);
-}
-
-static uint64_t now(void) {
-    struct timespec moment;
-    if (clock_gettime(CLOCK_MONOTONIC, &moment) != 0)
-        fail("reading the clock");
-    return (uint64_t)moment.tv_sec * 1000000000 + (uint64_t)moment.tv_nsec;
-}
-
 // Returns once so many nanoseconds are over.
 static void pass(uint64_t nanoseconds) {
     uint64_t end = now() + nanoseconds;
@@ -55,29 +39,12 @@ static uint64_t scattered(uint32_t number) {
     return (uint64_t)number * 489905 % SCATTER;
 }
 
-static void *many(uint32_t size, size_t bytes) {
-    void *place = calloc(size, bytes);
-    if (place == NULL)
-        fail("out of memory");
-    return place;
-}
-
 // A socket with a byte to be read, whose peer stays open.
 static int readable_socket(void) {
     int ends[2];
     if (socketpair(AF_UNIX, SOCK_STREAM | SOCK_NONBLOCK, 0, ends) != 0 || write(ends[1], "x", 1) != 1)
         fail("making a socket");
     return ends[0];
-}
-
-static uint32_t number(const char *word) {
-    char *end;
-    unsigned long long value = strtoull(word, &end, 10);
-    if (*word < '0' || *word > '9' || *end != '\0' || value == 0 || value > UINT32_MAX) {
-        fprintf(stderr, "\"%s\" is no whole number from 1 to %" PRIu32 "\n", word, UINT32_MAX);
-        exit(2);
-    }
-    return (uint32_t)value;
 }
 
 // Measures the row that the arguments name, and prints it as `bench/rows` does.
@@ -97,7 +64,7 @@ static int measure(const char *library, const struct rows *rows, int argc, char 
         {"idle_dispatch", rows->idle_dispatch, 0, 0},
         {"readable_sockets", rows->readable_sockets, 1, 1},
     };
-    uint64_t count = number(argv[2]), size = number(argv[3]);
+    uint64_t count = number(argv[2], UINT32_MAX), size = number(argv[3], UINT32_MAX);
     for (size_t i = 0; i < sizeof kinds / sizeof *kinds; i++) {
         if (strcmp(argv[1], kinds[i].name) != 0)
             continue;

@@ -11,6 +11,11 @@ pub counted-append : {A : Type 0} (p : A → Bool) (xs ys : List A) → counted 
 counted-append p [] ys = omega arith
 counted-append p (x ∷ xs) ys = omega (arith, counted-append p xs ys)
 
+pub counted-filter : {A : Type 0} (p q : A → Bool) (xs : List A) → counted p (filter q xs) ≤ counted p xs
+counted-filter p q [] = omega arith
+counted-filter p q (x ∷ xs) =
+    elim (q x) as (λ b. counted p (if b then x ∷ filter q xs else filter q xs) ≤ one p x + counted p xs) [ true ↦ omega (arith, counted-filter p q xs) | false ↦ omega (arith, counted-filter p q xs) ]
+
 pub counted-armed_among : (p : NumberedEntry → Bool) (a : NumberedEntry) (xs : List NumberedEntry) → counted p (armed_among a xs) ≡ one p a + counted p xs
 counted-armed_among p a [] = refl
 counted-armed_among p a (x ∷ xs) =

@@ -35,7 +35,7 @@ use Rattle.calloop.specs.declared.loop_logic.asks.Asked.{Asked}
 use Rattle.calloop.specs.declared.loop_logic.asks.Idling.{Idling as Waiter}
 use Rattle.calloop.specs.declared.loop_logic.asks.Request.{Request}
 use Rattle.calloop.specs.declared.loop_logic.asks.Request.TheVariants.{Insert as AskInsert, Enable as AskEnable, Update as AskUpdate, Disable as AskDisable, Remove as AskRemove, Idle as AskIdle, Cancel as AskCancel}
-use Rattle.calloop.specs.Askings.{Asks, Runs, asks_after}
+use Rattle.calloop.specs.Askings.{Asks, Runs, asks_after, of_turn}
 use Rattle.calloop.specs.Machine.{World, View, IsNew, Change, Holds, all_viewed, seen, slot_of, viewed, Appended}
 use Rattle.calloop.specs.Roles.{only, is_callers, is_adapter}
 use Rattle.calloop.proofs.Roles.{Shows, only_is, left_removed}
@@ -175,7 +175,7 @@ module _ {D I P X : Type 0} (M : Meaning D P (Lent X (Asks D I))) (runs : Runs D
   cut_homely v e x cs b InTurn is h k = rw (h.0, h.1) (k, tt)
   cut_homely v e x cs b (Source d) is h k =
       let token = registration_of e.token in
-      let home = (law token d h.0 (cut v.poll) (Turned e.readiness e.token (lent x v.held.asks h.1 h.3 (asks_after v.held.asks h.4))) h.2 (home_named v.slots token d is k) h.5).0 in
+      let home = (law token d h.0 (cut v.poll) (Turned e.readiness e.token (lent x (of_turn (registration_of e.token) v.held.asks) h.1 h.3 (of_turn (registration_of e.token) (asks_after v.held.asks h.4)))) h.2 (home_named v.slots token d is k) h.5).0 in
       rw (h.6, h.7) (homely_without v.slots e.token.slot InTurn (λ d e. cc) k, home)
 
   from_homely : (v : View D I P) (es : List Pending) (x : X) (cs : List (Change D I P)) (b : Doing D X) → CutFrom M es v x cs b → Homely v.slots → Homely (all_viewed v cs).slots × AsideHomely b

@@ -27,7 +27,7 @@ use Rattle.calloop.specs.declared.loop_logic.asks.Asked.{Asked}
 use Rattle.calloop.specs.declared.loop_logic.asks.Idling.{Idling as Waiter}
 use Rattle.calloop.specs.declared.loop_logic.asks.Request.{Request}
 use Rattle.calloop.specs.declared.loop_logic.asks.Request.TheVariants.{Insert as AskInsert, Enable as AskEnable, Update as AskUpdate, Disable as AskDisable, Remove as AskRemove, Idle as AskIdle, Cancel as AskCancel}
-use Rattle.calloop.specs.Askings.{Asks, Runs, Take, asks_after}
+use Rattle.calloop.specs.Askings.{Asks, Runs, Take, asks_after, of_turn}
 use Rattle.calloop.specs.Machine.{World, View, IsNew, Registration, Change, Put, Claim, Swapped, Polls, Polling, Watching, Counting, Holds, Appended, Gathered, Cut, Ended, holding, reused, with_claim, done, all_done, seen, slot_of, viewed, AllFit}
 use Rattle.calloop.specs.declared.loop_logic.LoopCall.{LoopCall}
 use Rattle.calloop.specs.declared.loop_logic.LoopCall.TheVariants.{Insert, Enable, Update, Disable, Remove as RemoveCall, Release, Exchange, Dispatch, InsertIdle, Cancel, Answer as AnswerOf, ForgetStop, LookForStop, Poller as NewPoller}
@@ -344,7 +344,7 @@ module _ {D I P X : Type 0} (M : Meaning D P (Lent X (Asks D I))) (runs : Runs D
       let allowed : AllAllowed O (cut w.poll) h.2 = (rw h.6 at fit).1.1.0 in
       let polled : World D I P = done out (Polls h.2) in
       let own : IsOwned M polled (h.0 ∷ []) =
-      owned_polls M O law out [] d h.0 h.2 allowed (λ fits below. law d h.0 (cut w.poll) (Turned e.readiness e.token (lent x w.held.asks h.1 h.3 (asks_after w.held.asks h.4))) h.2 fits below h.5)
+      owned_polls M O law out [] d h.0 h.2 allowed (λ fits below. law d h.0 (cut w.poll) (Turned e.readiness e.token (lent x (of_turn (registration_of e.token) w.held.asks) h.1 h.3 (of_turn (registration_of e.token) (asks_after w.held.asks h.4)))) h.2 fits below h.5)
       (owned_out M O law begun [] e.token.slot d (at_named w.slots (registration_of e.token) d is) (owned_cut M O law w [] (Some e.token.slot) k)) in
       rw (h.6, h.7) (owned_listed M O law (done polled Ended) (Asking h.4) (h.0 ∷ []) (owned_same M O law polled (done polled Ended) (h.0 ∷ []) refl refl refl refl own))
 

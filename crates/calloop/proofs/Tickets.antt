@@ -10,12 +10,12 @@ use Rattle.calloop.specs.declared.loop_logic.asks.Answer.{Answer}
 use Rattle.calloop.specs.declared.loop_logic.asks.Answer.TheVariants.{Done}
 use Rattle.calloop.specs.declared.loop_logic.asks.Answered.{Answered}
 use Rattle.calloop.specs.declared.loop_logic.asks.Asked.{Asked}
-use Rattle.calloop.specs.Askings.{Asks, AskStep, Write, Take, Runs, ask_after, asks_after, all_handed, handed_by, without, taken_from, answering, begun_from}
+use Rattle.calloop.specs.Askings.{Asks, AskStep, Write, Take, Runs, ask_after, asks_after, all_handed, handed_by, without, taken_from, answering, begun_from, is_since}
 use Rattle.calloop.specs.Held.{Held, HeldStep, Listed, Unlisted, Pend, Asking, Begun, Told, Owe, Paid, Cleared, Warned, StopNoted, IdleIn, IdleNew, IdleOut, IdlesTaken, IdleBegun, held_after}
 use Rattle.calloop.specs.Machine.{World, IsNew, Change, Put, Claim, Swapped, Polls, Polling, Watching, Counting, Gathered, Appended, Holds, Cut, Ended, done, all_done, handed_in}
 use Rattle.calloop.specs.Rules.{Run, all_traced}
 use Rattle.calloop.specs.Laws.{counted, is_number, is_asked_as, is_answered_as, stands_as, standing, IsTicketed}
-use Rattle.calloop.proofs.Counting.{counted-append, next_number}
+use Rattle.calloop.proofs.Counting.{counted-append, counted-filter, next_number}
 
 -- with as many handed out
 abbrev pub IsTallied : {D I : Type 0} → Asks D I → List ℕ → Type 0
@@ -61,7 +61,7 @@ tallied_step k handed Begun h = rw (append_nil handed) (tallied_begun k.asks k.a
 tallied_step k handed (Told answer) h = rw (append_nil handed) (λ n. omega (arith, h n, counted-append (is_answered_as n) k.asks.answers (answering k.asks.serving answer), counted-answering n k.asks.serving answer))
 tallied_step k handed Owe h = rw (append_nil handed) (λ n. omega (arith, h n))
 tallied_step k handed (Paid answer) h = rw (append_nil handed) (λ n. omega (arith, h n, counted-append (is_answered_as n) k.asks.answers (answering k.asks.owed answer), counted-answering n k.asks.owed answer))
-tallied_step k handed Cleared h = rw (append_nil handed) (λ n. omega (arith, h n))
+tallied_step k handed Cleared h = rw (append_nil handed) (λ n. omega (arith, h n, counted-filter (is_answered_as n) (is_since k.asks.taken_up_at) k.asks.answers))
 tallied_step k handed (Warned kept told) h = rw (append_nil handed) h
 tallied_step k handed (StopNoted note) h = rw (append_nil handed) h
 tallied_step {D} k handed (IdleIn idle) h = rw (append_nil handed) (λ n. omega (arith, h n, counted-append (is_answered_as n) k.asks.answers (answering k.asks.serving Done), counted-answering {D = D} n k.asks.serving Done))

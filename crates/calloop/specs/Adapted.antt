@@ -1,5 +1,5 @@
--- What comes of adapting a socket, and of taking it back. Calloop's adapter is registered at once and hears of no refusal; here it is
--- inserted as a source is, and leaves by a case of the machine of its own.
+-- What comes of adapting a socket, and of taking it back. Calloop's adapter is registered at once, and taken back
+-- without an answer; here it is inserted as a source is, and leaves by a case of the machine of its own.
 use Rattle.std.specs.Prelude.{◌≡◌, ◌⊎◌, ℕ, None, false, Ok, Err}
 use Rattle.calloop_wake.specs.declared.error.Error.{Error}
 use Rattle.calloop_wake.specs.declared.error.Error.TheVariants.{InvalidToken, OutOfMemory}

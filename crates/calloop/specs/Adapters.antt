@@ -51,7 +51,7 @@ module _ {P R I : Type 0} where
   abbrev pub registered_nowhere : Adapter P R I → Adapter P R I
   registered_nowhere s = record s { token = None; entered = false }
 
-  -- It gets its token, and no poller is called.
+  -- It gets its token, and no poller is called; calloop's is registered with an empty interest.
   abbrev pub ComesIn : Option Token → Adapter P R I → TokenFactory → Result (Unit {0}) Error → List (PollStep P)
       → Adapter P R I → TokenFactory → Type 0
   ComesIn (Some own) s f answer steps t g = IsRefusedSo s answer (IsOfKind AlreadyExists) steps t × (g ≡ f)
@@ -105,7 +105,8 @@ module _ {P R I : Type 0} (sockets : Sockets P I) where
       IsRefusedSo (and_did (Asked false) s) answer (λ e. e ≡ InvalidToken) steps t
       ⊎ (TakenOut sockets s.entered own v answer steps × (t ≡ left_so answer (and_did (Asked true) s)))
 
-  -- Its other end is gone: it is in no loop any more, and its key goes, also where its socket can't be taken out.
+  -- Its other end is gone: it is in no loop any more, and its key goes, also where its socket can't be taken out. In
+  -- calloop the drop calls kill, which drops a refusal.
   abbrev pub Goes : Option Token → Adapter P R I → PollView P → Result (Unit {0}) Error → List (PollStep P)
       → Adapter P R I → Type 0
   Goes None s v told steps t = (told ≡ Ok tt) × (steps ≡ []) × (t ≡ s)

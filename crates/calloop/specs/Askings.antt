@@ -16,6 +16,7 @@ use Rattle.std.specs.Prelude.{
   filter,
   not,
   nat_eq,
+  nat_le,
   Bool,
   Option,
   Some,
@@ -24,6 +25,7 @@ use Rattle.std.specs.Prelude.{
 }
 use Rattle.std.specs.List.{remove}
 use Rattle.std.proofs.Common.{refl, ◌∙◌, ap, sym}
+use Rattle.calloop_wake.specs.declared.token.RegistrationToken.{RegistrationToken}
 use Rattle.calloop_wake.specs.declared.error.Error.{Error}
 use Rattle.calloop_wake.specs.declared.error.Error.TheVariants.{OutOfMemory, TooManyTickets}
 use Rattle.calloop.specs.declared.loop_logic.asks.Request.{Request}
@@ -47,6 +49,10 @@ pub record Asks (D I : Type 0) : Type 0 where
   pub serving : Option ℕ
   -- the ticket of a source that asked for its own removal, which is answered when its turn is over
   pub owed : Option ℕ
+  -- the next ticket when idles were last taken up
+  pub taken_up_at : ℕ
+  -- the source in whose turn requests are lent
+  pub turn : Option RegistrationToken
 
 -- what callbacks do to them: a request is written under the next ticket, or the answer under a ticket is handed out
 pub data AskStep (D I : Type 0) : Type 0 where
@@ -109,6 +115,10 @@ CannotAsk q e = ((q.next ≡ 2 ^ 64 - 1) × (e ≡ TooManyTickets)) ⊎ ((q.next
 
 -- What the loop does to them.
 
+-- as they are lent in the turn of this source; calloop's callbacks aren't told whose turn it is
+abbrev pub of_turn : {D I : Type 0} → RegistrationToken → Asks D I → Asks D I
+of_turn token q = record q { turn = Some token }
+
 -- the first request is carried out from now on
 abbrev pub begun_from : {D I : Type 0} → List (Asked D I) → Asks D I → Asks D I
 begun_from [] q = q
@@ -136,11 +146,15 @@ owing q = record q { owed = q.serving; serving = None }
 abbrev pub paid : {D I : Type 0} → Answer D → Asks D I → Asks D I
 paid answer q = record q { answers = q.answers ++ answering q.owed answer; owed = None }
 
--- answers that weren't handed out are gone
-abbrev pub cleared : {D I : Type 0} → Asks D I → Asks D I
-cleared q = record q { answers = [] }
+abbrev pub is_since : {D : Type 0} → (ticket : ℕ) → Answered D → Bool
+is_since ticket a = nat_le ticket a.ticket
 
--- Idles.
+-- Answers that weren't handed out are gone, but for those to what was asked for since idles were last taken up: an idle
+-- that was asked for beside it hasn't run.
+abbrev pub cleared : {D I : Type 0} → Asks D I → Asks D I
+cleared q = record q { answers = filter (is_since q.taken_up_at) q.answers }
+
+-- Idles: calloop's insert_idle, Idle::cancel and dispatch_idles.
 
 abbrev pub idle_under : {I : Type 0} → Option ℕ → I → List (Idling I)
 idle_under None idle = []
@@ -164,7 +178,7 @@ without_idle ticket q =
 
 -- a round begins: the list is taken whole
 abbrev pub taken_up : {D I : Type 0} → Asks D I → Asks D I
-taken_up q = record q { idles = []; running = q.running ++ q.idles }
+taken_up q = record q { idles = []; running = q.running ++ q.idles; taken_up_at = q.next }
 
 abbrev pub all_but_first : {A : Type 0} → List A → List A
 all_but_first [] = []
@@ -178,12 +192,24 @@ running_of (i ∷ is) = Some i.idle
 abbrev pub idle_begun : {D I : Type 0} → Asks D I → Asks D I
 idle_begun q = record q { running = all_but_first q.running }
 
--- what an idle may do: itself, the data and the requests before it runs, and these two after it
+-- what an idle may do: itself, the data and the requests before it runs, and these two after it; calloop's is a
+-- closure, of which nothing is known
 abbrev pub Runs : (D I X : Type 0) → Type 1
 Runs D I X = I → X → Asks D I → X → Asks D I → Type 0
 
 abbrev pub no_asks : {D I : Type 0} → Asks D I
-no_asks = record { written = []; next = 0; answers = []; idles = []; running = []; serving = None; owed = None }
+no_asks =
+    record {
+      written = [];
+      next = 0;
+      answers = [];
+      idles = [];
+      running = [];
+      serving = None;
+      owed = None;
+      taken_up_at = 0;
+      turn = None;
+    }
 
 abbrev pub debt : Option ℕ → ℕ
 debt None = 0

@@ -1,5 +1,5 @@
--- A loop that runs until a future is done or it is stopped. What a look for a stop finds no contract says, nor whether the future was
--- woken: both may come from anywhere.
+-- A loop that runs until a future is done or it is stopped, as by calloop's block_on. What a look for a stop finds no
+-- contract says, nor whether the future was woken: both may come from anywhere.
 use Rattle.std.specs.Prelude.{◌≡◌, ◌⊎◌, List, [], ◌∷◌, Bool, true, false, Option, Some, None, Result, Ok, Err}
 use Rattle.calloop_wake.specs.declared.error.Error.{Error}
 use Rattle.calloop_core.specs.Pollers.{Outside}
@@ -20,7 +20,7 @@ use Rattle.calloop.specs.Running.{RoundCall}
 abbrev pub Polling : (S T : Type 0) → Type 1
 Polling S T = S → Poll T → S → Type 0
 
--- it was polled, and is pending; or nobody had woken it, where this isn't its first round
+-- it was polled, and is pending; or nobody had woken it, where this isn't its first round; calloop has a flag for that
 abbrev pub PolledOrNot : {S T : Type 0} → (first : Bool) → Polling S T → S → S → Type 0
 PolledOrNot true polls s t = polls s Pending t
 PolledOrNot false polls s t = polls s Pending t ⊎ (t ≡ s)

@@ -42,6 +42,7 @@ use Rattle.calloop.specs.Askings.{
   without_idle,
 }
 
+-- of it calloop's LoopInner has AdditionalLifecycleEventsSet, idles and pending_action
 pub record Held (D I : Type 0) : Type 0 where
   -- the registrations that are told of waits, in the order of their entry
   pub lifecycle : List RegistrationToken
@@ -51,7 +52,7 @@ pub record Held (D I : Type 0) : Type 0 where
   pub asks : Asks D I
   -- why sources that left failed to take their registration back, since the last dispatch began
   pub warnings : List Error
-  -- what was done with the stop of the loop's signals, in order
+  -- what was done with the stop of the loop's signals, in order; contracts alone see it
   pub stops : List StopNote
 
 abbrev pub is_one : RegistrationToken → RegistrationToken → Bool

@@ -98,7 +98,7 @@ pub data Change (D I P : Type 0) : Type 0 where
   Polls : (steps : List (PollStep P)) → Change D I P
   -- the poller changed
   Polling : (poller : P) → Change D I P
-  -- the loop looked at its board, which its watch noted
+  -- the loop looked at its board or took its marks, which its watch noted
   Watching : (watch : Watch) → Change D I P
   -- room was made for what so many places can give
   Counting : (places : ℕ) → Change D I P

@@ -39,7 +39,7 @@ calls_of false = []
 abbrev pub action_of : (told : Bool) → PostAction
 action_of told = if told then Remove else Continue
 
--- what the cell answers to a pass
+-- what the cell answers to a pass; in calloop process_events reads the descriptor empty
 pub data Served : Type 0 where
   -- a turn, with the ring that stood and with the close that no turn told
   Opened : (rung told : Bool) → Served

@@ -1,4 +1,5 @@
--- The refusal of a registration that an adapter keeps for its next poll. calloop's adapters drop it.
+-- The refusal of a registration that an adapter keeps for its next poll. In calloop `readable` and `writable` drop it,
+-- and `poll_read` and the like answer it at once.
 use Rattle.std.specs.Prelude.{◌≡◌, Bool, true, false, Result, IfErr}
 use Rattle.calloop_wake.specs.declared.error.Error.{Error}
 use Rattle.calloop_wake.specs.declared.error.Error.TheVariants.{

@@ -1,5 +1,5 @@
 -- Which things in slots the calls of a handle name: the caller's own sources, and not those of the loop. calloop's handle
--- names any slot, and panics at an adapter's.
+-- names any slot, and panics where it enables or updates an adapter.
 use Rattle.std.specs.Prelude.{Bool, true, false}
 use Rattle.calloop_wake.specs.declared.list.Content.{Content}
 use Rattle.calloop_wake.specs.declared.list.Content.TheVariants.{Vacant, Source, InTurn}

@@ -1,5 +1,6 @@
 -- The rules of the loop: which changes each call may make. A rule speaks of what the loop holds before, and allows
--- lists of changes; what source, poller and callback answer, it leaves open.
+-- lists of changes; what source, poller and callback answer, it leaves open. In calloop these are the calls of
+-- LoopHandle and EventLoop, in loop_logic.rs.
 use Rattle.std.specs.Prelude.{
   ◌≡◌,
   ℕ,
@@ -113,7 +114,7 @@ use Rattle.calloop.specs.declared.loop_logic.asks.Request.TheVariants.{
   Cancel as AskCancel,
 }
 use Rattle.calloop.specs.declared.loop_logic.stops.StopNote.TheVariants.{Forgot, Looked}
-use Rattle.calloop.specs.Askings.{Asks, AskStep, Take, Runs, CannotAsk, asks_after, found, idle_begun}
+use Rattle.calloop.specs.Askings.{Asks, AskStep, Take, Runs, CannotAsk, asks_after, of_turn, found, idle_begun}
 use Rattle.calloop.specs.Roles.{only, is_callers, is_adapter}
 use Rattle.calloop.specs.Held.{
   HeldStep,
@@ -158,7 +159,7 @@ use Rattle.calloop.specs.Machine.{
   seen,
 }
 
--- a factory that has given no token
+-- a factory that has given no token: calloop's TokenFactory::new
 abbrev pub factory_of : RegistrationToken → TokenFactory
 factory_of t = record { registration = t; given = 0 }
 
@@ -200,7 +201,7 @@ abbrev pub CannotInsert : {D : Type 0} → List (Slot D) → (needed : Bool) →
 CannotInsert slots needed error = CannotClaim slots error ⊎ ((needed ≡ true) × (error ≡ OutOfMemory))
 
 -- a source is registered in the first vacant slot, which is claimed for it; where its registration is refused, the slot
--- is vacant again under its new version, and the poller is as that registration left it
+-- is vacant again under its new version, and the poller is as that registration left it: calloop's register_dispatcher
 abbrev pub InsertedBy : {D I P X : Type 0} → Meaning D P (Lent X (Asks D I)) → D
     → Result RegistrationToken (InsertError D) → View D I P → List (Change D I P) → Type 0
 InsertedBy {D} {I} {P} M d (Ok token) v cs =
@@ -246,7 +247,7 @@ DisabledBy M token answer v cs =
     (only (is_callers M) (named v.slots token)) answer cs
 
 -- it leaves its slot vacant, is unregistered, of which a failure is a warning where there is memory for one, and is
--- handed back
+-- handed back; calloop's remove hands nothing back
 abbrev pub RemovedIn : {D I P X : Type 0} → Meaning D P (Lent X (Asks D I)) → RegistrationToken → Content D → Option D
     → View D I P → List (Change D I P) → Type 0
 RemovedIn M token Vacant answer v cs = (answer ≡ None) × (cs ≡ [])
@@ -261,7 +262,7 @@ abbrev pub RemovedBy : {D I P X : Type 0} → Meaning D P (Lent X (Asks D I)) �
 RemovedBy M token answer v cs = RemovedIn M token (only (is_callers M) (named v.slots token)) answer v cs
 
 -- another source takes the place of the one that a token names, which is answered: so does who changes it where it
--- stands. Where the token names none, the other one is handed back.
+-- stands, as in calloop by as_source_mut. Where the token names none, the other one is handed back.
 abbrev pub ExchangedIn : {D I P : Type 0} → RegistrationToken → D → Content D → Result D D → List (Change D I P)
     → Type 0
 ExchangedIn token new Vacant answer cs = (answer ≡ Err new) × (cs ≡ [])
@@ -280,7 +281,8 @@ IdleInsertedBy idle (Ok made) v cs =
 IdleInsertedBy idle (Err refused) v cs = (refused.inserted ≡ idle) × CannotAsk v.held.asks refused.error × (cs ≡ [])
 
 -- what the loop takes up of an adapter in a slot: its interest is registered anew, of which a refusal is kept by the adapter
--- itself, or it was dropped, and leaves its slot; what is marked and isn't an adapter is left alone
+-- itself, or it was dropped, and leaves its slot; what is marked and isn't an adapter is left alone. In calloop a poll
+-- calls LoopInner's reregister
 abbrev pub TakesUp : {D I P X : Type 0} → Meaning D P (Lent X (Asks D I)) → RegistrationToken → PollView P → D → Outcome
     → List (PollStep P) → D → Type 0
 TakesUp M token v d answer steps e =
@@ -298,7 +300,7 @@ SettledIn {D} {I} {P} M token (Source d) v cs =
     ⊎ ((answer : Option D) × RemovedIn M token (Source d) answer v cs)
 
 -- an adapter is given back: its registration is taken back, and it leaves its slot; where that is refused, it stays as
--- that left it
+-- that left it; calloop's kill drops such a refusal, and the adapter leaves
 abbrev pub LeftIn : {D I P X : Type 0} → Meaning D P (Lent X (Asks D I)) → RegistrationToken → Content D → View D I P
     → List (Change D I P) → Type 0
 LeftIn M token Vacant v cs = ⊥
@@ -382,7 +384,8 @@ abbrev pub after_all_told : {D X : Type 0} → Option ℕ → Outcome → X → 
 after_all_told timeout (Ok u) x = Waiting timeout x
 after_all_told timeout (Err e) x = Leaving (Err e) x
 
--- the event that was cut goes to the source that its token names, which has its own turn, or to none
+-- the event that was cut goes to the source that its token names, which has its own turn, or to none: the loop of
+-- calloop's dispatch_events
 abbrev pub CutTo : {D I P X : Type 0} → Meaning D P (Lent X (Asks D I)) → Pending → Content D → View D I P → X
     → List (Change D I P) → Doing D X → Type 0
 CutTo M e Vacant v x cs b = (cs ≡ Cut None ∷ Ended ∷ []) × (b ≡ Cutting x)
@@ -391,7 +394,9 @@ CutTo {D} {I} {P} {X} M e (Source d) v x cs b =
     (d' : D) × (answer : Result PostAction Error) × (steps : List (PollStep P)) × (x' : X)
     × (asked : List (AskStep D I))
     × M.does d (cut v.poll)
-    (Turned e.readiness e.token (lent x v.held.asks answer x' (asks_after v.held.asks asked))) steps d'
+    (Turned e.readiness e.token
+    (lent x (of_turn (registration_of e.token) v.held.asks) answer x'
+    (of_turn (registration_of e.token) (asks_after v.held.asks asked)))) steps d'
     × (cs ≡ Cut (Some e.token.slot) ∷ Put e.token.slot InTurn ∷ Polls steps ∷ Ended ∷ Holds (Asking asked) ∷ [])
     × (b ≡ Serving (registration_of e.token) d' answer x')
 
@@ -424,7 +429,7 @@ OwnOr Vacant own other = other
 OwnOr (Source d) own other = other
 
 -- what a request does, and what came of it: a source in its turn can't be registered; that it is registered anew, or
--- that its registration is taken back, waits for the end of its turn
+-- that its registration is taken back, waits for the end of its turn; so in calloop, whose enable panics there
 abbrev pub ServedAs : {D I P X : Type 0} → Meaning D P (Lent X (Asks D I)) → Request D I → Outcome → View D I P
     → List (Change D I P) → Type 0
 ServedAs M (AskEnable token) answer v cs =
@@ -459,7 +464,7 @@ ServedFrom M [] on next b v cs = (cs ≡ []) × (b ≡ next)
 ServedFrom {D} {I} {P} M (a ∷ as') on next b v cs =
     (ds : List (Change D I P)) × Served M a.request (viewed v (Holds Begun)) ds × (cs ≡ Holds Begun ∷ ds) × (b ≡ on)
 
--- what a source asked for itself counts only beside `Continue`
+-- what a source asked for itself counts only beside `Continue`, as in calloop
 abbrev pub action_of : Result PostAction Error → (pending : PostAction) → Result PostAction Error
 action_of (Ok Continue) pending = Ok pending
 action_of (Ok Reregister) pending = Ok Reregister
@@ -481,7 +486,7 @@ ActedBy M token d (Ok Remove) v cs e told =
     (cs ≡ Holds (Pend Continue) ∷ emptied token (named v.slots token)) × (e ≡ d) × (told ≡ Ok tt)
 ActedBy M token d (Err error) v cs e told = (cs ≡ Holds (Pend Continue) ∷ []) × (e ≡ d) × (told ≡ Err error)
 
--- an error leaves the rest of the batch for the next dispatch
+-- an error leaves the rest of the batch for the next dispatch, where calloop drops it
 abbrev pub after_turn : {D X : Type 0} → Result (Unit {0}) Error → X → Doing D X
 after_turn (Ok u) x = Cutting x
 after_turn (Err e) x = Leaving (Err e) x
@@ -497,7 +502,7 @@ ReturnedTo {D} {I} {P} M token d content v cs =
     × (cs
     ≡ Polls steps ∷ Holds (Unlisted token) ∷ Holds (Warned kept answer) ∷ Holds (Paid (RemovedAnswer (Some e))) ∷ [])
 
--- the idles that were taken run in order; a cancelled one isn't among them
+-- the idles that were taken run in order, as by calloop's dispatch_idles; a cancelled one isn't among them
 abbrev pub RunFrom : {D I P X : Type 0} → Runs D I X → List (Waiter I) → View D I P → X → List (Change D I P)
     → Doing D X → Type 0
 RunFrom runs [] v x cs b = (cs ≡ []) × (b ≡ Leaving (Ok tt) x)
@@ -562,6 +567,7 @@ Once O R v (cs ∷ []) = R v cs × AllFit O v cs
 Once O R v (cs ∷ ds ∷ css) = ⊥
 
 -- where the batch finds no memory, nothing is changed; else a dispatch begins with its room and goes on until it leaves
+-- (in calloop dispatch_events, then dispatch_idles)
 abbrev pub DispatchedBy : {D I P X : Type 0} → Meaning D P (Lent X (Asks D I)) → Runs D I X → Outside P → Option ℕ → X
     → Result (Unit {0}) Error → X → View D I P → List (List (Change D I P)) → Type 0
 DispatchedBy M runs O timeout x answer x' v css =

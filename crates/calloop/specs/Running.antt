@@ -1,5 +1,5 @@
--- A loop that runs until it is stopped. What a look for a stop finds no contract says, for a signal may come from
--- anywhere; as in calloop, one that came before the run is forgotten.
+-- A loop that runs until it is stopped: calloop's run. What a look for a stop finds no contract says, for a signal may
+-- come from anywhere; as in calloop, one that came before the run is forgotten.
 use Rattle.std.specs.Prelude.{◌≡◌, List, [], ◌∷◌, true, false, Option, Result, Ok, Err}
 use Rattle.std.specs.declared.time.Duration.{Duration}
 use Rattle.calloop_wake.specs.declared.error.Error.{Error}

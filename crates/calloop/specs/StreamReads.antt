@@ -24,7 +24,7 @@ ReadsTo polls s [] AtEnd t = polls s (Ready None) t
 ReadsTo polls s [] AtLimit t = t ≡ s
 ReadsTo {S} polls s (x ∷ xs) ending t = (u : S) × polls s (Ready (Some x)) u × ReadsTo polls u xs ending t
 
--- the stream goes once its end was told
+-- the stream goes once its end was told; calloop's stays
 abbrev pub left_by : {S : Type 0} → Ending → S → Option S
 left_by AtPending t = Some t
 left_by AtEnd t = None

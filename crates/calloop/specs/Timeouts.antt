@@ -22,7 +22,8 @@ use Rattle.calloop.specs.declared.timeout.WakesTimeout.{WakesTimeout}
 use Rattle.calloop.specs.Askings.{Asks, Runs}
 use Rattle.calloop.specs.Handles.{held_by, IsCase}
 
--- whether a moment has come, by an answer of a clock; where there is none, it never comes
+-- whether a moment has come, by an answer of a clock; where there is none, it never comes: so compares calloop's
+-- TimeoutFuture::poll
 abbrev pub HasCome : (shows : ℕ → Type 0) → Option Instant → Bool → Type 0
 HasCome shows None come = come ≡ false
 HasCome shows (Some moment) come = (now : ℕ) × shows now × (come ≡ nat_le moment.nanos now)

@@ -8,6 +8,7 @@ use Rattle.calloop_wake.specs.Deadlines.{entry_of}
 use Rattle.calloop_core.specs.declared.sys.poll.Pending.{Pending}
 use Rattle.calloop_core.specs.Polls.{ready_to_read, timer_event}
 use Rattle.calloop.specs.declared.loop_logic.asks.Idling.{Idling as Waiter}
+use Rattle.calloop.specs.Askings.{no_asks}
 use Rattle.calloop.specs.ExampleRun.{Only, five, new_world, of_the_insertion, of_the_exchange, of_the_dispatch}
 use Rattle.calloop.specs.Held.{Cleared, IdlesTaken}
 use Rattle.calloop.specs.Laws.{joined}
@@ -33,7 +34,7 @@ that_waits name events entries idles =
     record {
       slots = [];
       poll = record (untouched_poll name) { deadlines = record { entries = entries; next = 2 }; batch = events };
-      held = record untouched_held { asks = record { written = []; next = 0; answers = []; idles = idles; running = []; serving = None; owed = None } };
+      held = record untouched_held { asks = record no_asks { idles = idles } };
       signal = name;
     }
 

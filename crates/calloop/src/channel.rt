@@ -11,6 +11,7 @@ use crate::ping::PingError;
 use calloop_core::sys::hub::share;
 use calloop_wake::error::{Error, Result as LoopResult};
 use calloop_wake::wake::channel::{ChannelCore, PutError};
+use calloop_wake::wake::locked::Awaited;
 use calloop_wake::wake::{Receipt, Twin};
 use std::alloc::{AllocError, Global};
 use std::sync::{Arc, Wait};
@@ -143,7 +144,7 @@ impl<T: Drop, R: Wait + Drop> Drop for Sender<T, R> {
     fn drop(self) {
         let Sender { rt, shared, sender } = self;
         drop_sender(&rt, &shared, sender);
-        shared.tell();
+        shared.tell_all(Awaited::Content);
     }
 }
 
@@ -156,7 +157,7 @@ impl<T: Drop, R: Wait + Drop> Drop for SyncSender<T, R> {
             limit: _,
         } = self;
         drop_sender(&rt, &shared, sender);
-        shared.tell();
+        shared.tell_all(Awaited::Content);
     }
 }
 
@@ -164,7 +165,7 @@ impl<T: Drop, R: Wait + Drop> Drop for Channel<T, R> {
     fn drop(self) {
         let Channel { rt, shared, twin } = self;
         abandon(&rt, &shared, twin);
-        shared.tell();
+        shared.tell_all(Awaited::Room);
     }
 }
 

@@ -61,6 +61,7 @@ TurnedBy {X} {Q} readiness token one (Ok action) turn second =
 TurnedBy readiness token one (Err e) turn second = (second ≡ None) × (turn ≡ one)
 
 module _ {A B P X Q : Type 0} (m : Meaning A P (Lent X Q)) (n : Meaning B P (Lent X Q)) where
+  -- as by calloop's batch macros, one after the other
   abbrev pub RegistersBoth : (TokenFactory → Result (Unit {0}) Error → TokenFactory → Deed (Lent X Q)) → Both A B
       → PollView P → TokenFactory → Result (Unit {0}) Error → TokenFactory → List (PollStep P) → Both A B → Type 0
   RegistersBoth deed s v f answer g steps t =

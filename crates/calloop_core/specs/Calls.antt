@@ -57,7 +57,7 @@ OfKind kind e = IsOther e
 abbrev pub OfIo : IoCause → Error → Type 0
 OfIo cause e = OfKind (error_kind cause) e
 
--- an error of the loop where a source answers it: one that is of no source becomes another failure
+-- an error of the loop where a source answers it: one that is of no source becomes another failure; calloop boxes each
 abbrev pub AsOfSource : Error → Error → Type 0
 AsOfSource (OtherError cause) e = e ≡ OtherError cause
 AsOfSource OutOfMemory e = e ≡ OutOfMemory

@@ -1,5 +1,5 @@
 -- A socket as a source: its registration and its turn. calloop's `Generic` leaves its mode to the poller; here it keeps
--- it, and acts on its own token alone.
+-- it. Both act on their own token alone.
 use Rattle.std.specs.Prelude.{◌≡◌, ◌⊎◌, ◌∷◌, [], List, ℕ, true, false, Bool, Option, None, Some, Result, Ok, Err}
 use Rattle.std.specs.declared.io.Error.{Error as Cause}
 use Rattle.std.specs.declared.io.ErrorKind.{ErrorKind}

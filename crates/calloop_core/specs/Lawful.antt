@@ -1,5 +1,5 @@
 -- Proofs that the dispatchers of the library meet the laws of `Meanings`. They define nothing; impls cite them, so
--- they stand here.
+-- they stand here. A caller's own may cite `other_of_source`, `memory_of_source`, `keeping_still`, `keeping_attentive`.
 use Rattle.std.specs.Prelude.{◌≡◌, ◌↔◌, ◌≤◌, ℕ, List, [], ◌∷◌, length, true, false, Result, Ok, Err}
 use Rattle.std.proofs.Common.{refl, sym, ap, subst, ◌∙◌, inl, inr, arith}
 use Rattle.anyhow.specs.declared.error.Error.{Error as Cause}

@@ -37,3 +37,4 @@ pub mod Clocks
 pub mod SystemEvents
 pub mod SystemPollers
 pub mod SystemSockets
+pub mod Portions

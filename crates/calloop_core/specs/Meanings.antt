@@ -66,7 +66,8 @@ KeepsCounters {D} {P} {T} m =
     → m.fits s → IsBelow v.deadlines.next (m.holds s) → m.does s v deed steps t
     → m.fits t × Keeps (m.holds s) v.deadlines.next steps (m.holds t)
 
--- it is at home in this registration: each key that it is registered under is one of it
+-- it is at home in this registration: each key that it is registered under is one of it; without a key it is at home
+-- anywhere
 abbrev pub IsAtHome : {D P T : Type 0} → Meaning D P T → RegistrationToken → D → Type 0
 IsAtHome m registration s = (key : ℕ) → m.keys s key → IsKeyOf registration key
 
@@ -116,7 +117,8 @@ FailsAsSource {D} {P} {X} {Q} m =
     (s t : D) (v : PollView P) (readiness : Readiness) (token : Token) (turn : Lent X Q) (steps : List (PollStep P))
     → m.does s v (Turned readiness token turn) steps t → (e : Error) → turn.answer ≡ Err e → IsOfSource e
 
--- the turn of a source with its callback: the source's own turn, whose calls went to the callback in order
+-- the turn of a source with its callback: the source's own turn, whose calls went to the callback in order, as in
+-- process_events of calloop's EventDispatcher
 pub record IsTurned
     {F E M T Cause X Q : Type 0}
     (turn : Heard E M T Cause → Type 0)
@@ -173,7 +175,7 @@ on_both R S (Other a) (Other b) = S a b
 on_both R S (First a) (Other b) = ⊥
 on_both R S (Other a) (First b) = ⊥
 
--- the meaning of a choice of two
+-- the meaning of a choice of two; calloop has trait objects
 abbrev pub one_of : {A B P T : Type 0} → Meaning A P T → Meaning B P T → Meaning (OneOf A B) P T
 one_of m n =
     record {

@@ -163,7 +163,7 @@ AllAllowed O v (s ∷ ss) = Allowed O v s × AllAllowed O (poll_after v s) ss
 abbrev pub AllStepped : {P : Type 0} → Outside P → PollView P → List (PollStep P) → PollView P → Type 0
 AllStepped O v steps v' = AllAllowed O v steps × (v' ≡ polls_after v steps)
 
--- the poller's own key, which no token has
+-- the poller's own key, which no token has; the crate polling keeps it for its notifier too
 abbrev pub own_key : ℕ
 own_key = 2 ^ 64 - 1
 
@@ -196,7 +196,7 @@ timer_event entry = record { readiness = ready_to_read; token = entry.token; pos
 abbrev pub timer_events : List Entry → List Pending
 timer_events entries = map timer_event entries
 
--- an event that a source asks for before a wait
+-- an event that a source asks for before a wait; in calloop it stands in synthetic_events
 abbrev pub own_event : Readiness × Token → Pending
 own_event given = record { readiness = given.0; token = given.1; posted = false }
 
@@ -212,7 +212,7 @@ abbrev pub appended : {P : Type 0} → Pending → PollView P → PollView P
 appended e v = record v { batch = v.batch ++ e ∷ [] }
 
 -- the posted keys, as far as there is room, and the deadlines that are due are taken, and the batch is what was left
--- over, then the posted keys, then what the poller gave, then the timers
+-- over, then the posted keys, then what the poller gave, then the timers; calloop's Poll::poll gives the last two
 abbrev pub gathered : {P : Type 0} → (posted : List ℕ) → (given : List (ℕ × Readiness)) → (now : ℕ) → PollView P
     → PollView P
 gathered posted given now v =
@@ -258,7 +258,7 @@ IsPassOf e pass = e.posted ≡ true → option_map key_of_pass pass ≡ Some (ke
 abbrev pub IsOfKind : ErrorKind → Error → Type 0
 IsOfKind kind e = (cause : Cause) × (e ≡ IoError cause) × (error_kind cause ≡ kind)
 
--- why a place can't be opened: the key has one, or no memory was left
+-- why a place can't be opened: the key has one, or no memory was left; calloop's poller refuses a descriptor it has
 abbrev pub CannotOpen : Error → Type 0
 CannotOpen e = IsOfKind AlreadyExists e ⊎ (e ≡ OutOfMemory)
 

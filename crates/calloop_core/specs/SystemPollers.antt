@@ -17,7 +17,7 @@ can_ask (Add key interest) = asks interest
 can_ask (Modify key interest) = asks interest
 can_ask Delete = true
 
--- one call for a socket: an empty interest is refused
+-- one call for a socket: an empty interest is refused; calloop hands it to its poller
 pub record SystemCalled {C : Type 0} (p : MioPoller C) (call : PollerCall) (answer : Result (Unit {0}) IoError)
     (q : MioPoller C) : Type 0 where
   pub refused : can_ask call ≡ false → (cause : IoError) × (answer ≡ Err cause) × (error_kind cause ≡ InvalidInput)

@@ -48,7 +48,8 @@ abbrev pub without_key : (key : ℕ) → Table → Table
 without_key key table = remove_entry (is_at (nat_cmp key)) table
 
 -- what is asked of the table for a socket: it enters under a token; from one token to another, or the same; it leaves; and what
--- stands there under a token is dropped, of which no poller is told
+-- stands there under a token is dropped, of which no poller is told. The first three are calloop's register, reregister
+-- and unregister of `Poll`.
 pub data Edit : Type 0 where
   Enter : (token : Token) (watched : Watched) → Edit
   Change : (before token : Token) (watched : Watched) → Edit
@@ -92,7 +93,7 @@ abbrev pub is_known : Option Watched → Bool
 is_known None = false
 is_known (Some watched) = asks watched.interest
 
--- the call of the poller, by whether it knows the socket
+-- the call of the poller, by whether it knows the socket; calloop's is always add, modify or delete, as the edit is
 abbrev pub call_for : (known : Bool) → (key : ℕ) → Interest → Option PollerCall
 call_for known key interest =
     if asks interest

@@ -80,7 +80,7 @@ Armed (Some at) next f (Ok u) steps t g =
     × (g ≡ after_token f)
 Armed (Some at) next f (Err e) steps t g = (steps ≡ []) × (t ≡ unarmed (Some at)) × RefusedTimer f next e g
 
--- the older arming is taken back, then it is armed
+-- the older arming is taken back, then it is armed; calloop's register leaves the older one armed
 abbrev pub IsTimerReg : {P : Type 0} → Timer → PollView P → TokenFactory
     → Result (Unit {0}) Error → List (PollStep P) → Timer → TokenFactory → Type 0
 IsTimerReg {P} s v f answer steps t g =
@@ -126,7 +126,8 @@ pub record IsCalled
   pub steps_are : steps ≡ Call r.counter r.armed ∷ more
   pub answered : Answered s r action answer more t
 
--- no call: the token isn't the timer's, its arming was called for, or its counter has a deadline
+-- no call: the token isn't the timer's, its arming was called for, or its counter has a deadline; in calloop a timer
+-- that was armed again can be called too early
 pub record IsIgnored
     {P : Type 0} (s : Timer) (token : Token) (v : PollView P) (calls : TimerCalls)
     (answer : Result PostAction TimerError) (steps : List (PollStep P)) (t : Timer) : Type 0 where

@@ -67,7 +67,8 @@ module _ {S P E M T Cause : Type 0} (m : Meaning S P (Heard E M T Cause)) where
   ThenEnters (Err e) new old v f answer steps t g =
       (answer ≡ Err e) × (steps ≡ []) × (t ≡ Replace new old true) × (g ≡ f)
 
-  -- the old one is unregistered, and then the new one registered
+  -- the old one is unregistered, and then the new one registered; calloop's register drops the old one without that,
+  -- and its reregister unregisters it again where the new one was refused
   pub record Replaces
       (new old : S) (v : PollView P) (f : TokenFactory) (answer : Result (Unit {0}) Error)
       (steps : List (PollStep P)) (t : State S) (g : TokenFactory) : Type 0 where
@@ -79,6 +80,7 @@ module _ {S P E M T Cause : Type 0} (m : Meaning S P (Heard E M T Cause)) where
     pub then : ThenEnters told new left (polls_after v first) f answer more t g
     pub steps_are : steps ≡ first ++ more
 
+  -- by the state and its mark: what is asked of the source within, and the state after it; calloop's have no mark
   abbrev pub RegisteredAs : State S → PollView P → TokenFactory → Result (Unit {0}) Error
       → List (PollStep P) → State S → TokenFactory → Type 0
   RegisteredAs (Keep s marked) v f answer steps t g = Enters (λ s'. Keep s' marked) s v f answer steps t g
@@ -173,7 +175,7 @@ module _ {S P E M T Cause : Type 0} (m : Meaning S P (Heard E M T Cause)) where
   abbrev pub transient_meaning : Meaning (TransientSource S) P (Heard E M T Cause)
   transient_meaning = seen_as (λ s. s.state) state_meaning
 
--- The calls of its owner.
+-- The calls of its owner: calloop's From, Default, is_none, remove, replace and map.
 
 module _ {S : Type 0} where
   abbrev pub coming : S → TransientSource S
@@ -199,7 +201,7 @@ module _ {S : Type 0} where
   is_empty (Remove s marked) = false
   is_empty (Replace new old marked) = false
 
-  -- it is to leave; a new one that was to come is dropped
+  -- it is to leave; a new one that was to come is dropped, where calloop drops the old one, which may be registered
   abbrev pub removed_from : State S → State S
   removed_from (Keep s marked) = Remove s marked
   removed_from (Register s) = Remove s false
@@ -208,7 +210,7 @@ module _ {S : Type 0} where
   removed_from (Replace new old marked) = Remove old marked
   removed_from Empty = Empty
 
-  -- another one is to come in its place
+  -- another one is to come in its place, and one that was to come before is dropped, where calloop drops the old one
   abbrev pub replaced_by : S → State S → State S
   replaced_by n (Keep s marked) = Replace n s marked
   replaced_by n (Register s) = Replace n s false
@@ -217,7 +219,7 @@ module _ {S : Type 0} where
   replaced_by n (Replace new old marked) = Replace n old marked
   replaced_by n Empty = Empty
 
-  -- which has no place in an empty wrapper
+  -- which has no place in an empty wrapper; calloop drops it
   abbrev pub refused_by : State S → S → Option S
   refused_by Empty n = Some n
   refused_by (Keep s marked) n = None

@@ -102,7 +102,8 @@ Waited {P} O v timeout answer given q w =
     × Waits O v timeout start (asked_for v posted timeout start start) p interruptions answer given q
     × (w ≡ looked interruptions (noted (Looked posted) v.watch)) × (O.faults q ≡ O.faults v.poller + faults_of answer)
 
--- a wait and, where it had no fault, the gathering, of the keys that the board then gives, ascending
+-- a wait and, where it had no fault, the gathering, of the keys that the board then gives, ascending; calloop's
+-- Poll::poll, and the loop around it in dispatch_events
 abbrev pub Polled : {P : Type 0} → Outside P → (timeout : Option ℕ) → Result (Unit {0}) Cause → PollView P → PollView P
     → Type 0
 Polled {P} O timeout (Ok u) v v' =

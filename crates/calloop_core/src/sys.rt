@@ -113,6 +113,10 @@ pub trait Clock: Clone + Drop {
 
     fn now(&self) -> Instant
         ensures { shows self.now result.nanos };
+
+    /// Lets about so much time pass, where it is the machine's. By default none does: then a poller that waits by this clock asks
+    /// the machine again and again.
+    fn sleep(&self, _time: Duration) {}
 }
 
 /// Waits for events, and tells the moment. The loop is proved for every answer that a poller may give.

@@ -47,6 +47,45 @@ const CASES: &[(&str, &[Act<'static>])] = &[
         ],
     ),
     (
+        "an_idle_finds_the_answer_that_it_waits_for_though_another_turn_fails_before_it",
+        &[
+            Act::Ping(
+                1,
+                &[Wish::Insert(1, PostAction::Continue), Wish::Reads(50, 0)],
+            ),
+            Act::Counter(None, 2, &[]),
+            Act::Ring(0),
+            Act::Script(1, &[1_099_511_627_776]),
+            Act::Fails(&[1, 2]),
+            Act::Says(Some(0), &[50, 1]),
+        ],
+    ),
+    (
+        "an_answer_outlasts_a_dispatch_that_fails_and_goes_with_the_next_one_behind_its_idles",
+        &[
+            Act::Ping(1, &[Wish::Insert(1, PostAction::Continue)]),
+            Act::Counter(None, 2, &[]),
+            Act::Ring(0),
+            Act::Script(1, &[1_099_511_627_776]),
+            Act::Fails(&[1, 2]),
+            Act::Says(Some(0), &[]),
+            Act::Says(Some(0), &[]),
+            Act::Untold(0),
+        ],
+    ),
+    (
+        "a_callback_is_told_its_own_token_and_an_idle_none",
+        &[
+            Act::Ping(1, &[Wish::Own]),
+            Act::Counter(Some(PostAction::Continue), 3, &[Wish::Own]),
+            Act::Remove((0, 0)),
+            Act::Ping(4, &[Wish::Own, Wish::Idle(6, None)]),
+            Act::Ring(1),
+            Act::Script(0, &[1_099_511_627_776]),
+            Act::Says(Some(0), &[4, 0, 1, 3, 1, 0, 6]),
+        ],
+    ),
+    (
         "a_timer_that_an_earlier_callback_disables_is_called_once_it_is_enabled",
         &[
             Act::Ping(1, &[Wish::Disable((1, 0))]),

@@ -10,6 +10,7 @@ use std::io::ErrorKind;
 
 mod actions;
 mod borrowed;
+mod channels;
 mod desk;
 mod exchanges;
 mod guards;

@@ -88,7 +88,7 @@ bound room [] = 2 ^ 64 - 1
 bound zero (p ∷ ps) = if p.marked then p.key else bound zero ps
 bound (suc room) (p ∷ ps) = if p.marked then bound room ps else bound (suc room) ps
 
--- as many of the posted keys as there is room for
+-- as many of the posted keys, the lowest, as there is room for; in calloop that is the room of the poller's buffer
 abbrev pub keys_within : (room : ℕ) → List Place → List ℕ
 keys_within room ps = taken_keys (bound room ps) ps
 

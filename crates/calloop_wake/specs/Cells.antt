@@ -194,7 +194,8 @@ core_after_open_turn k c =
 abbrev pub tells : ℕ → Cell → ℕ
 tells k c = one (opens k c && (c.closed && not c.told))
 
--- the receiving end of the cell of this name, which gave it no key yet and counted nothing
+-- the receiving end of the cell of this name, which gave it no key yet and counted nothing; its misses, the tasks that
+-- were popped before their futures came, are an executor's alone
 abbrev pub fresh_twin : Book → Twin
 fresh_twin name = record { name = name; key = None; turns = 0; number = 0; closes = 0; misses = 0 }
 

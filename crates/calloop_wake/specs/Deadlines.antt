@@ -42,13 +42,14 @@ use Rattle.calloop_wake.specs.declared.wheel.ArmRefusal.TheVariants.{
 use Rattle.calloop_wake.specs.declared.wheel.Entry.{Entry}
 use Rattle.calloop_wake.specs.declared.wheel.Instant.{Instant}
 
--- the moment that is so much later, where it fits 64 bits of nanoseconds
+-- the moment that is so much later, where it fits 64 bits of nanoseconds: in calloop Instant's checked_add
 abbrev pub moment_after : Instant → Duration → Option Instant
 moment_after moment time =
     if nat_lt (moment.nanos + as_nanos time) (2 ^ 64) then Some (record { nanos = moment.nanos + as_nanos time })
     else None
 
--- the entries in their order, and the counter that the next new one gets
+-- the entries in their order, and the counter that the next new one gets; that of calloop's TimerWheel has 32 bits, and
+-- runs over
 pub record Deadlines : Type 0 where
   pub entries : List Entry
   pub next : ℕ
@@ -82,11 +83,11 @@ entry_of counter deadline token = record { deadline = deadline; counter = counte
 abbrev pub with_entries : List Entry → Deadlines → Deadlines
 with_entries entries d = record { entries = entries; next = d.next }
 
--- with one more, under a new counter
+-- with one more, under a new counter, as calloop's insert
 abbrev pub with_new : (deadline : Instant) → Token → Deadlines → Deadlines
 with_new deadline token d = record { entries = inserted (entry_of d.next deadline token) d.entries; next = d.next + 1 }
 
--- with one more, under a counter that was given before
+-- with one more, under a counter that was given before, as calloop's insert_reuse
 abbrev pub with_again : (counter : ℕ) → (deadline : Instant) → Token → Deadlines → Deadlines
 with_again counter deadline token d = with_entries (inserted (entry_of counter deadline token) d.entries) d
 
@@ -96,7 +97,7 @@ is_other counter e = not (nat_eq e.counter counter)
 abbrev pub without_counter : (counter : ℕ) → List Entry → List Entry
 without_counter counter entries = filter (is_other counter) entries
 
--- without the entries of this counter
+-- without the entries of this counter; where the first entry is one, calloop's cancel takes out that alone
 abbrev pub cancelled : (counter : ℕ) → Deadlines → Deadlines
 cancelled counter d = with_entries (without_counter counter d.entries) d
 
@@ -109,6 +110,7 @@ has_counter counter entries = list_any (is_of counter) entries
 abbrev pub is_armed : (counter : ℕ) → Deadlines → Bool
 is_armed counter d = has_counter counter d.entries
 
+-- calloop's next_deadline
 abbrev pub first_deadline : List Entry → Option Instant
 first_deadline [] = None
 first_deadline (e ∷ es) = Some e.deadline
@@ -116,7 +118,7 @@ first_deadline (e ∷ es) = Some e.deadline
 abbrev pub is_due : (now : ℕ) → Entry → Bool
 is_due now e = nat_le e.deadline.nanos now
 
--- the first entry where it is due, and what is left then
+-- the first entry where it is due, and what is left then: calloop's next_expired
 abbrev pub first_due : (now : ℕ) → List Entry → Option Entry
 first_due now [] = None
 first_due now (e ∷ es) = if is_due now e then Some e else None

@@ -17,7 +17,8 @@ use Rattle.calloop_wake.specs.declared.error.Error.TheVariants.{
   NoRendezvous,
 }
 
--- the io::Error made of a refusal, as in calloop's error.rs: the content, or one of this kind
+-- the io::Error made of a refusal, as in calloop's error.rs, where it keeps the cause of an OtherError: the content, or
+-- one of this kind
 abbrev pub AsIo : Error → IoErr → Type 0
 AsIo (IoError cause) made = made ≡ cause
 AsIo InvalidToken made = error_kind made ≡ InvalidInput

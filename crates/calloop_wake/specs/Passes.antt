@@ -1,8 +1,10 @@
 -- What clients see of the values that carry a key: each has the name of the board of its key, so it is spent there.
+-- A name is seen as a Book of the kit's logbook, of which nothing is known but whether it is another name's.
 use Rattle.std.specs.Prelude.{◌≡◌, ℕ, List, [], ◌∷◌, Option, Some, None}
 use Rattle.logbook.specs.Pages.{Book}
 
--- a key of the board of this name; calloop's poller alone knows its descriptors' keys
+-- a Debt, an OpenedPass or a LeaveToClose: a key of the board of this name; calloop's poller alone knows its
+-- descriptors' keys
 pub record Keyed : Type 0 where
   pub key : ℕ
   pub board : Book
@@ -12,7 +14,7 @@ abbrev pub on : Book → Option ℕ → Option Keyed
 on board None = None
 on board (Some k) = Some (record { key = k; board = board })
 
--- a key that was taken from the board; calloop's poller hands out such keys as events, which can be dropped
+-- a TakenPass: a key that was taken from the board; calloop's poller gives such keys as events, which can be dropped
 pub record Taken : Type 0 where
   pub key : ℕ
   pub board : Book

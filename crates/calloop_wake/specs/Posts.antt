@@ -57,7 +57,7 @@ posted_at (Some at) = at
 abbrev pub posted_keys : List Place → List ℕ
 posted_keys ps = map (λ p. p.key) (filter (λ p. p.marked) ps)
 
--- the list has each posted key once, and the map says where; it has room for all open keys
+-- the invariant of a board: the list has each posted key once, and the map says where; it has room for all open keys
 pub record IsBoard (entries : List (ℕ × Option ℕ)) (posted : List ℕ) (capacity : ℕ) : Type 0 where
   pub ascending : IsAscending (places_of entries)
   pub once : IsDistinct nat_eq posted

@@ -1,4 +1,4 @@
--- Slots, and what the calls of a source list do to them. A list's value is the list of its slots.
+-- Slots, and what the calls of a source list do to them: calloop's SourceList. A list's value is the list of its slots.
 use Rattle.std.specs.Prelude.{
   ◌≡◌,
   ℕ,

@@ -111,7 +111,7 @@ is_vacant_in [] i = false
 is_vacant_in (s ∷ ss) zero = is_vacant s
 is_vacant_in (s ∷ ss) (suc i) = is_vacant_in ss i
 
--- the levels have the bits of each slot of the list, and say which of them are vacant
+-- the invariant of a source list: the levels have the bits of each slot, and say which of them are vacant
 pub record TellVacant {S : Type 0} (slots : List (Slot S)) (levels : List (List ℕ)) : Type 0 where
   pub few : length slots ≤ most_slots
   pub bits : (i : ℕ) → i < length slots → HasBits levels i

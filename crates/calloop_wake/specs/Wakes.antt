@@ -61,6 +61,7 @@ pub record Kind : Type 1 where
 abbrev pub owed_by : (K : Kind) → K.Cell → K.Cell → Option ℕ
 owed_by K c d = if K.pinged c then None else if K.pinged d then K.key d else None
 
+-- the debt that setting a key gives, where the cell is pinged
 abbrev pub owed_at : (K : Kind) → ℕ → K.Cell → Option ℕ
 owed_at K k c = if K.pinged c then Some k else None
 
@@ -85,7 +86,7 @@ and_any (Some k) bag = and_one k bag
 abbrev pub less_one : ℕ → Bag → Bag
 less_one k bag j = bag j - one (nat_eq j k)
 
--- where the loop is: at work, past a look that found no mark, or in its wait
+-- where the loop is: at work, past a look that found no mark, or in its wait; in calloop, in dispatch_events
 pub data Loop : Type 0 where
   Awake Looked Asleep : Loop
 
@@ -143,6 +144,7 @@ with_cell n c cells j = if nat_eq j n then c else cells j
 -- What a step needs: the value that it spends, and of the loop its place. A place is opened where the key has none.
 -- The loop sleeps after a look that found no mark, and a loop that sleeps doesn't look. A wait can return without
 -- having slept: a wait of zero has no look before it, and one that is interrupted may count as an empty answer.
+-- calloop's kernel asks for none of these.
 abbrev pub Needs : (K : Kind) → WakeWorld K.Cell → WakeStep K.Own → Type 0
 Needs K w (At n s) = K.Needs s (w.cells n)
 Needs K w (SetKey n k) = 0 < w.opened k

@@ -1,4 +1,6 @@
--- The board with the name of its watch, and what the watch notes.
+-- The board with the name of its watch, and what the watch notes of what was done to it for the loop: how many places
+-- were open, whether a look found a posted key, which keys were taken within which room, and which marks. Contracts
+-- alone see both.
 use Rattle.std.specs.Prelude.{List, [], ◌∷◌, ◌++◌}
 use Rattle.logbook.specs.Pages.{Book}
 use Rattle.calloop_wake.specs.declared.wake.board.Place.{Place}

@@ -28,10 +28,11 @@ abbrev pub NameTheSame : List Entry → (by_counter : List (ℕ × Instant)) →
 NameTheSame entries by_counter =
     (counter : ℕ) → lookup (nat_eq counter) by_counter ≡ deadline_of counter entries
 
--- both tables have the same deadline for each counter
+-- both tables have the same deadline for each counter, as before and after one is made smaller
 abbrev pub HaveTheSame : (old new : List (ℕ × Instant)) → Type 0
 HaveTheSame old new = (counter : ℕ) → lookup (nat_eq counter) new ≡ lookup (nat_eq counter) old
 
+-- the invariant of a wheel
 pub record IsWheel (by_due : List (Due × Token)) (by_counter : List (ℕ × Instant)) (next : ℕ) : Type 0 where
   pub ordered : IsOrdered (record { entries = entries_of by_due; next = next })
   pub same : NameTheSame (entries_of by_due) by_counter

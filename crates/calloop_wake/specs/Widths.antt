@@ -1,5 +1,6 @@
 -- How many bits the numbers of a token have, and what follows from that. All definitions and proofs go by these names, and
 -- the code by the constants of src/widths.rt: another width is another number here and there.
+-- `widths_are_the_contracts` says that both are the same.
 use Rattle.std.specs.Prelude.{ℕ, ◌+◌, ◌/◌, ◌^◌}
 
 -- the bits of a slot's number, of a version and of a sub-id: calloop's TokenInner has 32, 16 and 16. A key has 64

@@ -1,20 +1,19 @@
-//! The client's side, in a thread of its own.
-use calloop::ping::Ping;
-use mio::net::UnixStream;
+//! Clients of the server, each in a thread of its own.
 use std::io;
 use std::io::{Read, Write};
-use std::sync::Wait;
+use std::net::TcpStream;
 
-/// Sends three lines in two parts, and rings.
-pub fn speaks<R: Wait + Drop>(mut stream: UnixStream, bell: Ping<R>) -> io::Result<UnixStream> {
+/// Sends three lines in two parts: whether they come back.
+pub fn hears_back(mut stream: TcpStream) -> io::Result<bool> {
     stream.write_all(b"one\ntw")?;
     stream.write_all(b"o\nthree\n")?;
-    let _receipt = bell.ping();
-    Ok(stream)
+    let mut bytes = [0u8; 14];
+    stream.read_exact(&mut bytes)?;
+    Ok(bytes.as_slice() == b"one\ntwo\nthree\n".as_slice())
 }
 
-/// Reads what came back, up to 64 bytes.
-pub fn listens<'a>(stream: &mut UnixStream, bytes: &'a mut [u8; 64]) -> io::Result<&'a [u8]> {
-    let read = stream.read(bytes)?;
-    Ok(&bytes[..read])
+/// Sends nothing: whether the server ends the connection.
+pub fn is_dropped(mut stream: TcpStream) -> io::Result<bool> {
+    let mut bytes = [0u8; 1];
+    Ok(stream.read(&mut bytes)? == 0)
 }

@@ -1,90 +1,134 @@
-//! The server's side: lines that are read, and given back.
-use calloop::{NoIoDrop, OnWith, PostAction, Readiness};
-use calloop_core::sys::system::MioIo;
+//! What a client sends is given back, line by line.
+use crate::server::Server;
+use calloop::{Callback, MioIo, NoIoDrop, PostAction, Readiness, Requests};
+use mio::net::TcpStream;
 use std::alloc::Global;
 use std::io;
 use std::io::{Read, Write};
+use std::time::Clock as MachineClock;
 
-/// How many lines the client sends.
-const LINES: usize = 3;
+/// How many bytes a line may have. A client that sends a longer one is dropped.
+const LONGEST_LINE: usize = 4096;
 
-/// What the callbacks leave for the program.
-#[derive(Drop)]
-pub struct Session {
-    /// How many lines were given back.
-    pub lines: usize,
-    /// The client rang.
-    pub is_rung: bool,
-    /// The timer was called.
-    pub is_late: bool,
-}
-
-impl Session {
-    /// Nothing has come yet.
-    pub fn new() -> Session {
-        Session {
-            lines: 0,
-            is_rung: false,
-            is_late: false,
-        }
-    }
-
-    /// All has come that the program waits for.
-    pub fn is_over(&self) -> bool {
-        self.lines >= LINES && self.is_rung && self.is_late
-    }
-}
+/// How often a client is read in one turn, so that others have theirs.
+const READS_AT_ONCE: u32 = 16;
 
 /// Gives back each line, once all of it was read.
 #[derive(Drop)]
 pub struct Echo {
+    place: usize,
     line: Vec<u8>,
+    // What was read and isn't given back yet, since the client doesn't read.
+    pending: Vec<u8>,
+}
+
+/// What is next for a client.
+#[derive(Clone, Copy, Debug, PartialEq, Eq)]
+enum Next {
+    /// It is to be read again.
+    Read,
+    /// The machine tells when it can be read or written again.
+    Wait,
+    /// It is gone.
+    Leave,
 }
 
 impl Echo {
-    /// Nothing was read yet.
-    pub fn new(alloc: Global) -> Echo {
+    /// For the client in this place, of which nothing was read yet.
+    pub fn new(place: usize, alloc: Global) -> Echo {
         Echo {
+            place,
             line: Vec::new(alloc),
+            pending: Vec::new(alloc),
         }
     }
 
-    // Reads what is there, up to 64 bytes, and gives back the lines that end there: how many. None is the end of the stream.
-    fn read<S: Read + Write>(&mut self, stream: &mut S) -> io::Result<Option<usize>> {
-        let mut bytes = [0u8; 64];
-        let read = stream.read(&mut bytes)?;
-        if read == 0 {
-            return Ok(None);
+    // Reads up to 1,024 bytes, and gives back the lines that end there.
+    fn read(&mut self, stream: &mut TcpStream) -> io::Result<Next> {
+        if !self.give_back(stream)? {
+            return Ok(Next::Wait);
         }
-        let mut lines = 0usize;
-        for byte in &bytes[..read] {
+        let mut bytes = [0u8; 1024];
+        match stream.read(&mut bytes) {
+            Ok(0) => Ok(Next::Leave),
+            Ok(read) => {
+                self.take(&bytes[..read])?;
+                Ok(if self.line.len() > LONGEST_LINE {
+                    Next::Leave
+                } else {
+                    Next::Read
+                })
+            }
+            Err(cause) => waits(cause),
+        }
+    }
+
+    // Puts the lines that end in these bytes behind what is pending.
+    fn take(&mut self, bytes: &[u8]) -> io::Result<()> {
+        for byte in bytes {
             self.line.push(*byte)?;
             if *byte == b'\n' {
-                stream.write_all(&self.line)?;
-                self.line.clear();
-                lines = lines.saturating_add(1);
+                self.pending.append(&mut self.line)?;
             }
         }
-        Ok(Some(lines))
+        Ok(())
+    }
+
+    // Writes what is pending: whether all of it was written.
+    fn give_back(&mut self, stream: &mut TcpStream) -> io::Result<bool> {
+        if self.pending.is_empty() {
+            return Ok(true);
+        }
+        match stream.write(&self.pending) {
+            Ok(written) => {
+                self.pending.drain(..written);
+                Ok(self.pending.is_empty())
+            }
+            Err(cause) => {
+                waits(cause)?;
+                Ok(false)
+            }
+        }
     }
 }
 
-impl OnWith<Readiness, NoIoDrop<MioIo>, Session, io::Result<PostAction>> for Echo {
-    fn on_with(
+// A client that isn't ready is told of again; any other refusal is handed on.
+fn waits(cause: io::Error) -> io::Result<Next> {
+    if cause.kind() == io::ErrorKind::WouldBlock {
+        Ok(Next::Wait)
+    } else {
+        Err(cause)
+    }
+}
+
+impl<D, R> Callback<Readiness, NoIoDrop<MioIo>, io::Result<PostAction>, Server<R>, Requests<D>>
+    for Echo
+where
+    D: Drop,
+    R: MachineClock + Clone + Drop,
+{
+    /// Reads what is there, up to so often. What is left then is told of anew, by a registration anew.
+    fn call(
         &mut self,
         _readiness: Readiness,
         io: &mut NoIoDrop<MioIo>,
-        session: &mut Session,
+        server: &mut Server<R>,
+        requests: &mut Requests<D>,
     ) -> io::Result<PostAction> {
-        let MioIo::UnixStream(stream) = io.get_mut() else {
+        let MioIo::TcpStream(stream) = io.get_mut() else {
             return Err(io::Error::from(io::ErrorKind::Unsupported));
         };
-        match self.read(stream)? {
-            Some(lines) => {
-                session.lines = session.lines.saturating_add(lines);
-                Ok(PostAction::Continue)
+        server.hear(self.place, requests.own_token());
+        for _ in 0..READS_AT_ONCE {
+            match self.read(stream).unwrap_or(Next::Leave) {
+                Next::Read => {}
+                Next::Wait => return Ok(PostAction::Continue),
+                Next::Leave => {
+                    let _token = server.leave(self.place);
+                    return Ok(PostAction::Remove);
+                }
             }
-            None => Ok(PostAction::Remove),
         }
+        Ok(PostAction::Reregister)
     }
 }

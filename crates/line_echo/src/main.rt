@@ -1,150 +1,149 @@
-//! A server that gives back each line it reads: one loop over a socket, a timer and a ping of another thread, with the poller and
-//! the clock of the operating system. Each wait and each loop of it has a bound.
+//! A server that gives back each line it reads, over the poller and the clock of the machine: it listens, lets clients in as they come,
+//! and drops those that are silent for long.
+//!
+//! With an address, as 127.0.0.1:7000, it serves for good. With none it serves two clients of its own on a free port: one sends lines,
+//! the other one is silent; then it prints what they saw, and ends.
 #![tactic(auto)]
 
-use calloop::loop_logic::EventLoop;
-use calloop::ping::make_ping;
+use anyhow::Result;
 use calloop::{
-    Dispatcher, Error, EventDispatcher, Generic, Here, Hold, Instant, Interest, Mode, On, OneOf,
-    PingSource, Requests, Result, Sources, There, TimeoutAction, Timer,
+    Choice, Dispatcher, EventDispatcher, Generic, Here, Hold, Interest, MioIo, MioPoller, Mode,
+    OneOf, Requests, Sources, SystemClock, SystemLoop, There, Timer,
 };
-use calloop_core::sys::system::{MioIo, MioPoller, SystemClock};
-use echo::{Echo, Session};
-use mio::net::UnixStream;
+use echo::Echo;
+use mio::net::TcpListener;
+use server::{Accepts, Server, Sweeps};
 use std::alloc::Global;
-use std::io::Write;
-use std::net::Net;
+use std::env;
+use std::net::{Net, SocketAddr, TcpStream};
 use std::process::ExitCode;
+use std::rt::Runtime;
 use std::sync::Wait;
-use std::thread::{JoinHandle, Threads};
+use std::thread::{self, Threads};
 use std::time::{Clock as MachineClock, Duration};
-use std::{io, thread};
 
 mod client;
 mod echo;
+mod server;
 
-/// Says that the client rang.
-#[derive(Drop)]
-struct Rung;
-
-impl On<(), Session, ()> for Rung {
-    fn on(&mut self, _event: (), session: &mut Session) {
-        session.is_rung = true;
-    }
-}
-
-/// Says that the time has come.
-#[derive(Drop)]
-struct Late;
-
-impl On<Instant, Session, TimeoutAction> for Late {
-    fn on(&mut self, _deadline: Instant, session: &mut Session) -> TimeoutAction {
-        session.is_late = true;
-        TimeoutAction::Drop
-    }
-}
-
+/// The poller.
 type Machine<R> = MioPoller<SystemClock<R>>;
 
+/// What the loop holds: the listener, clients and the timer, each with its callback.
 type Held<R> = Sources<
     OneOf<
-        Dispatcher<PingSource<R>, Rung>,
-        OneOf<Dispatcher<Generic<Machine<R>>, Echo>, Dispatcher<Timer, Late>>,
+        Dispatcher<Generic<Machine<R>>, Accepts>,
+        OneOf<Dispatcher<Generic<Machine<R>>, Echo>, Dispatcher<Timer, Sweeps>>,
     >,
-    Session,
+    Server<R>,
 >;
-
-type Second = There<Here>;
 
 type Third = There<There<Here>>;
 
-// A loop over any choice of sources that holds those of the server. What a call does to a loop whose types are written out costs the
-// prover far more.
-type Server<D, R> = EventLoop<D, Machine<R>, SystemClock<R>, R>;
+/// How a server is to run.
+#[derive(Clone, Copy)]
+struct Plan {
+    /// For how long a client may be silent.
+    patience: Duration,
+    /// It ends once so many clients have left, or never.
+    clients: Option<usize>,
+}
 
-// A loop with the server's end of a socket, a ping, and a timer of a millisecond.
-fn open<D, R>(rt: &R, alloc: Global, near: UnixStream, bell: PingSource<R>) -> Result<Server<D, R>>
+// Serves at this listener as the plan says. This alone knows of which types the loop is.
+fn serve<R>(rt: &R, alloc: Global, listener: TcpListener, plan: Plan) -> Result<()>
 where
-    D: EventDispatcher<Machine<R>, SystemClock<R>, R, Data = Session, Idle = ()>,
-    D: Hold<PingSource<R>, Rung, Machine<R>, SystemClock<R>, R, Session, Requests<D>, Here>,
-    D: Hold<Generic<Machine<R>>, Echo, Machine<R>, SystemClock<R>, R, Session, Requests<D>, Second>,
-    D: Hold<Timer, Late, Machine<R>, SystemClock<R>, R, Session, Requests<D>, Third>,
     R: Net + MachineClock + Wait + Clone + Drop,
 {
-    let clock = SystemClock::new(rt)?;
-    let poller = MioPoller::new(rt, alloc, clock.clone()?)?;
-    let timer = Timer::from_duration(&clock, Duration::from_millis(1));
-    let socket = Generic::new(MioIo::from(near), Interest::READ, Mode::Level);
-    let mut event_loop: Server<D, R> = EventLoop::try_new(rt, alloc, poller, clock)?;
+    serve_in::<Held<R>, R>(rt, alloc, listener, plan)
+}
+
+fn serve_in<D, R>(rt: &R, alloc: Global, listener: TcpListener, plan: Plan) -> Result<()>
+where
+    D: EventDispatcher<Machine<R>, SystemClock<R>, R, Data = Server<R>, Idle = ()>,
+    D: Hold<
+        Generic<Machine<R>>,
+        Accepts,
+        Machine<R>,
+        SystemClock<R>,
+        R,
+        Server<R>,
+        Requests<D>,
+        Here,
+    >,
+    D: Choice<Generic<Machine<R>>, Echo, There<Here>>,
+    D: Hold<Timer, Sweeps, Machine<R>, SystemClock<R>, R, Server<R>, Requests<D>, Third>,
+    R: Net + MachineClock + Wait + Clone + Drop,
+{
+    let mut event_loop: SystemLoop<D, R> = SystemLoop::system(rt, alloc)?;
+    let clock = event_loop.clock().clone()?;
+    let mut server = Server::new(clock, plan.patience, alloc);
+    let each = plan.patience / 4;
+    let timer = Timer::from_duration(event_loop.clock(), each);
+    let listening = Generic::new(MioIo::from(listener), Interest::READ, Mode::Level);
     let mut handle = event_loop.handle();
-    handle.insert_source(bell, Rung)?;
-    handle.insert_source(socket, Echo::new(alloc))?;
-    handle.insert_source(timer, Late)?;
-    Ok(event_loop)
-}
-
-// Dispatches until all has come that is waited for, or ten seconds are over. Answers whether all has, and the client's end.
-fn listen<D, R>(
-    rt: &R,
-    mut event_loop: Server<D, R>,
-    child: JoinHandle<io::Result<UnixStream>>,
-) -> Result<(bool, UnixStream)>
-where
-    D: EventDispatcher<Machine<R>, SystemClock<R>, R, Data = Session, Idle = ()>,
-    R: Threads + Net + MachineClock + Wait + Clone + Drop,
-{
-    let mut session = Session::new();
-    for _ in 0..1000u32 {
-        if session.is_over() {
-            break;
+    handle.insert_source(listening, Accepts { alloc })?;
+    handle.insert_source(timer, Sweeps { each })?;
+    for _ in rt.forever() {
+        event_loop.dispatch(rt, None, &mut server)?;
+        if plan.clients.is_some_and(|clients| server.left >= clients) {
+            return Ok(());
         }
-        event_loop.dispatch(rt, Some(Duration::from_millis(10)), &mut session)?;
     }
-    let far = child.join(rt)?;
-    Ok((session.is_over(), far))
+    unreachable!()
 }
 
-// Serves a client of another thread, which rings this ping.
-fn serve_at<D, R>(
-    rt: &R,
-    alloc: Global,
-    near: UnixStream,
-    bell: PingSource<R>,
-    child: JoinHandle<io::Result<UnixStream>>,
-) -> Result<(bool, UnixStream)>
+// Serves two clients of its own, and prints what they saw.
+fn show<R>(rt: &R, alloc: Global) -> Result<()>
 where
-    D: EventDispatcher<Machine<R>, SystemClock<R>, R, Data = Session, Idle = ()>,
-    D: Hold<PingSource<R>, Rung, Machine<R>, SystemClock<R>, R, Session, Requests<D>, Here>,
-    D: Hold<Generic<Machine<R>>, Echo, Machine<R>, SystemClock<R>, R, Session, Requests<D>, Second>,
-    D: Hold<Timer, Late, Machine<R>, SystemClock<R>, R, Session, Requests<D>, Third>,
-    R: Threads + Net + MachineClock + Wait + Clone + Drop,
+    R: Runtime + Threads + Net<Stream = TcpStream> + Wait + Clone + Drop,
 {
-    listen(rt, open::<D, R>(rt, alloc, near, bell)?, child)
+    let listener = TcpListener::bind(rt, "127.0.0.1:0".parse::<SocketAddr>()?)?;
+    let address = listener.local_addr()?;
+    let one = TcpStream::connect(rt, address)?;
+    let other = TcpStream::connect(rt, address)?;
+    let one = thread::spawn(rt, move || client::hears_back(one))?;
+    let other = thread::spawn(rt, move || client::is_dropped(other))?;
+    let plan = Plan {
+        patience: Duration::from_millis(200),
+        clients: Some(2),
+    };
+    let served = serve(rt, alloc, listener, plan);
+    let is_heard = one.join(rt);
+    let is_dropped = other.join(rt);
+    served?;
+    if is_heard? {
+        println!(rt; "three lines came back")?;
+    }
+    if is_dropped? {
+        println!(rt; "a silent client was dropped")?;
+    }
+    Ok(())
 }
 
-// Starts a client in another thread, and serves it. This alone knows of which types the loop is.
-fn serve<R>(rt: &R, alloc: Global) -> Result<(bool, UnixStream)>
+fn run<R>(rt: &R, alloc: Global) -> Result<()>
 where
-    R: Threads + Net + MachineClock + Wait + Clone + Drop + Send + Sync + 'static,
+    R: Runtime + AllocGlobal + Threads + Net<Stream = TcpStream> + Wait + Clone + Drop,
 {
-    let (near, far) = UnixStream::pair(rt)?;
-    let (bell, source) = make_ping(rt, alloc)?;
-    match thread::spawn(rt, move || client::speaks(far, bell)) {
-        Ok(child) => serve_at::<Held<R>, R>(rt, alloc, near, source, child),
-        Err(_) => Err(Error::OutOfMemory),
+    let words: Vec<String> = env::args(rt)?.skip(1).collect(alloc)?;
+    match words.first() {
+        None => show(rt, alloc),
+        Some(address) => {
+            let listener = TcpListener::bind(rt, address.parse::<SocketAddr>()?)?;
+            let plan = Plan {
+                patience: Duration::from_secs(60),
+                clients: None,
+            };
+            serve(rt, alloc, listener, plan)
+        }
     }
 }
 
 fn main(rt: HostRuntime) -> ExitCode {
-    let Ok((true, mut far)) = serve(&rt, rt.alloc()) else {
-        return ExitCode::FAILURE;
-    };
-    let mut bytes = [0u8; 64];
-    let Ok(heard) = client::listens(&mut far, &mut bytes) else {
-        return ExitCode::FAILURE;
-    };
-    match rt.stdout().write_all(heard) {
+    match run(&rt, rt.alloc()) {
         Ok(()) => ExitCode::SUCCESS,
-        Err(_) => ExitCode::FAILURE,
+        Err(error) => {
+            let _unsaid = eprintln!(rt; "line_echo: {error}");
+            ExitCode::FAILURE
+        }
     }
 }

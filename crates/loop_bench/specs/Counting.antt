@@ -37,7 +37,8 @@ abbrev pub counts_and_stays : {I Q : Type 0} → Counts → Readiness → NoIoDr
 counts_and_stays callback readiness io calls asked answer after io' calls' asked' =
     (answer ≡ Ok Continue) × (io' ≡ io) × (calls' ≡ counted calls)
 
--- each call of a socket whose byte is read, too, which goes on; where it can't be read, nothing is counted
+-- each call of a socket whose byte is read, too, which goes on; where it can't be read, nothing is counted. What
+-- becomes of the socket isn't said
 abbrev pub counts_and_reads : {B I Q : Type 0} → B → Readiness → NoIoDrop I → ℕ → Q → Result PostAction Cause
     → B → NoIoDrop I → ℕ → Q → Type 0
 counts_and_reads callback readiness io calls asked answer after io' calls' asked' =

@@ -10,6 +10,7 @@ use Rattle.loop_bench.specs.declared.row.Kind.TheVariants.{
   IdleDispatch,
   IdleBesidePings,
   PingsServed,
+  PingsRung,
   ReadableSockets,
   EdgeSockets,
   LevelSockets,
@@ -20,6 +21,8 @@ use Rattle.loop_bench.specs.declared.row.Kind.TheVariants.{
   ReadyFutures,
   ThreadWoken,
   TimeoutsReady,
+  TimerNear,
+  WaitingSenders,
 }
 
 abbrev pub name_of : Kind → List ℕ
@@ -30,6 +33,7 @@ name_of InsertAndRemove = codes "insert_and_remove"
 name_of IdleDispatch = codes "idle_dispatch"
 name_of IdleBesidePings = codes "idle_beside_pings"
 name_of PingsServed = codes "pings_served"
+name_of PingsRung = codes "pings_rung"
 name_of ReadableSockets = codes "readable_sockets"
 name_of EdgeSockets = codes "edge_sockets"
 name_of LevelSockets = codes "level_sockets"
@@ -40,6 +44,8 @@ name_of BoundedThreadMessagesServed = codes "bounded_thread_messages_served"
 name_of ReadyFutures = codes "ready_futures"
 name_of ThreadWoken = codes "thread_woken"
 name_of TimeoutsReady = codes "timeouts_ready"
+name_of TimerNear = codes "timer_near"
+name_of WaitingSenders = codes "waiting_senders"
 
 abbrev pub is_named : List ℕ → Kind → Bool
 is_named name kind = pointwise nat_eq (name_of kind) name
@@ -54,6 +60,7 @@ operations_of InsertAndRemove count size = count
 operations_of IdleDispatch count size = count
 operations_of IdleBesidePings count size = count
 operations_of PingsServed count size = count * size
+operations_of PingsRung count size = count * size
 operations_of ReadableSockets count size = count
 operations_of EdgeSockets count size = count * size
 operations_of LevelSockets count size = count * size
@@ -64,6 +71,8 @@ operations_of BoundedThreadMessagesServed count size = count * size
 operations_of ReadyFutures count size = count * size
 operations_of ThreadWoken count size = count * size
 operations_of TimeoutsReady count size = count * size
+operations_of TimerNear count size = count
+operations_of WaitingSenders count size = count * size
 
 -- how many callbacks a row calls: one for each ring, one for each timer that fires, one for each socket that a wait tells of,
 -- one for each message, and one for each future
@@ -75,6 +84,7 @@ calls_of InsertAndRemove count size = 0
 calls_of IdleDispatch count size = 0
 calls_of IdleBesidePings count size = 0
 calls_of PingsServed count size = count * size
+calls_of PingsRung count size = count * size
 calls_of ReadableSockets count size = count * min size 1024
 calls_of EdgeSockets count size = count * size
 calls_of LevelSockets count size = count * size
@@ -85,3 +95,5 @@ calls_of BoundedThreadMessagesServed count size = count * size
 calls_of ReadyFutures count size = count * size
 calls_of ThreadWoken count size = count
 calls_of TimeoutsReady count size = count * size
+calls_of TimerNear count size = count
+calls_of WaitingSenders count size = count * size

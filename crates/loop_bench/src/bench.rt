@@ -146,7 +146,7 @@ pub type Seventh = There<Sixth>;
 #[derive(Drop)]
 pub struct Bench<D: EventDispatcher<P, C, R>, P: Poller, C: Clock, R: Wait + Drop> {
     pub rt: R,
-    alloc: Global,
+    pub alloc: Global,
     pub event_loop: EventLoop<D, P, C, R>,
     clock: C,
     pub calls: u64,

@@ -26,6 +26,8 @@ pub enum Kind {
     IdleBesidePings,
     /// Inserts pings, rings each, and dispatches until all are called.
     PingsServed,
+    /// Rings all pings that are in the loop, and dispatches until all are called.
+    PingsRung,
     /// Dispatches while sockets are readable.
     ReadableSockets,
     /// Dispatches until a byte that came to each socket was read, where each change is told of once.
@@ -46,11 +48,15 @@ pub enum Kind {
     ThreadWoken,
     /// Schedules futures that are ready at a moment, and dispatches until the results of all are handed out.
     TimeoutsReady,
+    /// Dispatches, each with a wait, until a timer that is a few microseconds ahead has fired: how late that is.
+    TimerNear,
+    /// Dispatches, each with a wait, until all messages of threads that wait for the one place of a channel are handed out.
+    WaitingSenders,
 }
 
 impl Kind {
     /// Each of them once, in the order in which they are printed.
-    pub const ALL: [Kind; 17] = [
+    pub const ALL: [Kind; 20] = [
         Kind::RingAndDispatch,
         Kind::TimersFired,
         Kind::TimersCancelled,
@@ -58,6 +64,7 @@ impl Kind {
         Kind::IdleDispatch,
         Kind::IdleBesidePings,
         Kind::PingsServed,
+        Kind::PingsRung,
         Kind::ReadableSockets,
         Kind::EdgeSockets,
         Kind::LevelSockets,
@@ -68,6 +75,8 @@ impl Kind {
         Kind::ReadyFutures,
         Kind::ThreadWoken,
         Kind::TimeoutsReady,
+        Kind::TimerNear,
+        Kind::WaitingSenders,
     ];
 
     /// Its name among the arguments, and in what is printed.
@@ -82,6 +91,7 @@ impl Kind {
             Kind::IdleDispatch => "idle_dispatch",
             Kind::IdleBesidePings => "idle_beside_pings",
             Kind::PingsServed => "pings_served",
+            Kind::PingsRung => "pings_rung",
             Kind::ReadableSockets => "readable_sockets",
             Kind::EdgeSockets => "edge_sockets",
             Kind::LevelSockets => "level_sockets",
@@ -92,6 +102,8 @@ impl Kind {
             Kind::ReadyFutures => "ready_futures",
             Kind::ThreadWoken => "thread_woken",
             Kind::TimeoutsReady => "timeouts_ready",
+            Kind::TimerNear => "timer_near",
+            Kind::WaitingSenders => "waiting_senders",
         }
     }
 
@@ -131,7 +143,9 @@ impl Row {
             | Kind::BoundedThreadMessagesServed
             | Kind::ReadyFutures
             | Kind::ThreadWoken
-            | Kind::TimeoutsReady => count * u64::from(self.size.get()),
+            | Kind::TimeoutsReady
+            | Kind::PingsRung
+            | Kind::WaitingSenders => count * u64::from(self.size.get()),
             _ => count,
         }
     }
@@ -142,6 +156,9 @@ impl Row {
     {
         match self.kind {
             Kind::RingAndDispatch
+            | Kind::PingsRung
+            | Kind::TimerNear
+            | Kind::WaitingSenders
             | Kind::TimersFired
             | Kind::PingsServed
             | Kind::EdgeSockets

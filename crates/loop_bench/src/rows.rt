@@ -81,6 +81,7 @@ where
             Kind::IdleDispatch => self.idle_dispatch(count, size),
             Kind::IdleBesidePings => self.idle_beside_pings(count, size),
             Kind::PingsServed => self.pings_served(count, size),
+            Kind::PingsRung => self.pings_rung(count, size),
             Kind::ReadableSockets => self.readable_sockets(count, size),
             Kind::EdgeSockets => self.sockets_read(count, size, Mode::Edge),
             Kind::LevelSockets => self.sockets_read(count, size, Mode::Level),
@@ -91,6 +92,8 @@ where
             Kind::ReadyFutures => self.ready_futures(count, size),
             Kind::ThreadWoken => self.thread_woken(count, size),
             Kind::TimeoutsReady => self.timeouts_ready(count, size),
+            Kind::TimerNear => self.timer_near(count, size),
+            Kind::WaitingSenders => self.waiting_senders(count, size),
         }
     }
 
@@ -198,6 +201,50 @@ where
         self.stop(began)?;
         drop(pings);
         self.dispatch()
+    }
+
+    fn pings_rung(&mut self, count: u32, size: u32) -> Result<()> {
+        let pings = self.insert_pings(size)?;
+        let began = self.start()?;
+        for _ in 0..count {
+            let wanted = self.calls.saturating_add(u64::from(size));
+            for ping in &pings {
+                ping.ping();
+            }
+            self.dispatch_until(wanted, size)?;
+        }
+        self.stop(began)
+    }
+
+    // How long after its deadline a dispatch has called a timer that was SIZE microseconds ahead, and returned.
+    fn timer_near(&mut self, count: u32, size: u32) -> Result<()> {
+        for _ in 0..count {
+            let wanted = self.calls.saturating_add(1);
+            let deadline = self.now().after(Duration::from_micros(u64::from(size)));
+            self.insert_timer(deadline)?;
+            self.wait_until(wanted, 1)?;
+            let late = self.now().nanos.saturating_sub(deadline.nanos);
+            self.nanoseconds = self.nanoseconds.saturating_add(late);
+        }
+        Ok(())
+    }
+
+    // SIZE threads send COUNT messages each into a channel of bound 1.
+    fn waiting_senders(&mut self, count: u32, size: u32) -> Result<()> {
+        let sender = self.insert_sync_channel(1)?;
+        let wanted = u64::from(count) * u64::from(size);
+        let mut children = Vec::new(self.alloc);
+        let began = self.start()?;
+        for _ in 0..size {
+            let own = sender.clone()?;
+            children.push(spawn(&self.rt, move || sends_waiting(own, count))?)?;
+        }
+        self.wait_until(wanted, count.saturating_mul(size))?;
+        self.stop(began)?;
+        for child in children {
+            child.join(&self.rt).context("a message is refused")?;
+        }
+        Ok(())
     }
 
     fn readable_sockets(&mut self, count: u32, size: u32) -> Result<()> {

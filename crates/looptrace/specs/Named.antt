@@ -27,6 +27,6 @@ ping_named name ss = option_and_then (λ ping. ping) (standing name ss)
 abbrev pub with_source : (name : List ℕ) → (ping : Option Book) → List Named → List Named
 with_source name ping ss = insert_entry (slice_cmp nat_cmp) ss name ping
 
--- the source of this name has no open ping any more
+-- the source of this name has no open ping any more; its name stays
 abbrev pub closed : (name : List ℕ) → List Named → List Named
 closed name ss = set_value (is_at (slice_cmp nat_cmp name)) ss None

@@ -10,7 +10,7 @@ use super::{RecvError, SendError, TryRecvError};
 use crate::cell::{Cell, settle};
 use calloop_wake::error::Result as LoopResult;
 use calloop_wake::wake::channel::{ChannelCore, Popped, PutError};
-use calloop_wake::wake::locked::Locked;
+use calloop_wake::wake::locked::{Awaited, Locked};
 use calloop_wake::wake::{ChannelTurn, Receipt, ReceivingRight, TakenPass, Twin};
 use std::alloc::Global;
 use std::sync::Wait;
@@ -47,7 +47,7 @@ pub fn put<T: Drop, R: Wait>(
         Ok((receipt, debt)) => {
             let owed = cell.owed(rt, debt);
             held.unlock();
-            shared.tell();
+            shared.tell_all(Awaited::Content);
             settle(rt, owed);
             Ok(receipt)
         }
@@ -84,7 +84,7 @@ pub fn put_waiting<T: Drop, R: Wait>(
             Ok((receipt, debt)) => {
                 let owed = cell.owed(rt, debt);
                 held.unlock();
-                shared.tell();
+                shared.tell_all(Awaited::Content);
                 settle(rt, owed);
                 return Ok(receipt);
             }
@@ -95,7 +95,7 @@ pub fn put_waiting<T: Drop, R: Wait>(
             Err(PutError::Full(refused)) => message = refused,
             Err(PutError::OutOfMemory(_)) => unreachable!(),
         }
-        held = held.wait(rt);
+        held = held.wait(rt, Awaited::Room);
     }
     unreachable!()
 }
@@ -115,9 +115,11 @@ pub fn take<T: Drop, R: Wait>(
     let message = cell.core.take(twin);
     let closed = cell.core.is_closed();
     held.unlock();
-    shared.tell();
     match message {
-        Some(message) => Ok(message),
+        Some(message) => {
+            shared.tell_one(Awaited::Room);
+            Ok(message)
+        }
         None if closed => Err(TryRecvError::Disconnected),
         None => Err(TryRecvError::Empty),
     }
@@ -138,14 +140,14 @@ pub fn take_waiting<T: Drop, R: Wait>(
         let cell = held.core();
         if let Some(message) = cell.core.take(twin) {
             held.unlock();
-            shared.tell();
+            shared.tell_one(Awaited::Room);
             return Ok(message);
         }
         if cell.core.is_closed() {
             held.unlock();
             return Err(RecvError);
         }
-        held = held.wait(rt);
+        held = held.wait(rt, Awaited::Content);
     }
     unreachable!()
 }
@@ -187,7 +189,9 @@ pub fn pop<T: Drop, R: Wait>(
     let cell = held.core();
     let popped = cell.core.pop(turn, twin);
     held.unlock();
-    shared.tell();
+    if matches!(popped, Popped::Item(_)) {
+        shared.tell_one(Awaited::Room);
+    }
     popped
 }
 

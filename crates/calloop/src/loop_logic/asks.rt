@@ -4,7 +4,7 @@ ghost use Rattle.std.specs.Prelude.{◌≡◌, ◌⊎◌, ◌+◌, ◌-◌, ◌^
 ghost use Rattle.std.specs.VecDeque.{deque_len, deque_capacity};
 ghost use Rattle.calloop_wake.specs.declared.error.Error.TheVariants.{OutOfMemory, TooManyTickets};
 ghost use Rattle.calloop.specs.declared.loop_logic.asks.Request.TheVariants.{Insert, Enable, Update, Disable, Remove, Idle as IdleOf, Cancel};
-ghost use Rattle.calloop.specs.Askings.{IsAsked, CannotAsk, OnlyAsks, StandsAt, Take, ask_after, begun, cleared, found, idle_begun, is_other_idle, no_asks, owing, paid, request_of, running_of, taken_up, told, with_idle, with_new_idle, without, without_idle};
+ghost use Rattle.calloop.specs.Askings.{IsAsked, CannotAsk, OnlyAsks, StandsAt, Take, ask_after, begun, cleared, found, idle_begun, is_other_idle, is_since, no_asks, of_turn, owing, paid, request_of, running_of, taken_up, told, with_idle, with_new_idle, without, without_idle};
 
 use calloop_core::sources::{Asking, Choice, Dispatcher};
 use calloop_wake::error::{Error, InsertError, Result};
@@ -12,6 +12,7 @@ use calloop_wake::token::RegistrationToken;
 use std::alloc::Global;
 use std::collections::VecDeque;
 use std::marker::Model;
+use std::mem;
 
 /// What names a request, and its answer.
 #[derive(Clone, Copy, Debug, PartialEq, Eq)]
@@ -104,6 +105,10 @@ pub struct Requests<D, I = ()> {
     running: VecDeque<Idling<I>>,
     serving: Option<u64>,
     owed: Option<u64>,
+    // The next ticket when idles were last taken up.
+    taken_up_at: u64,
+    // The source in whose turn this is lent.
+    turn: Option<RegistrationToken>,
 }
 
 impl<D, I> Model for Requests<D, I> {
@@ -122,6 +127,8 @@ impl<D, I> Model for Requests<D, I> {
           running = r.running.items;
           serving = r.serving;
           owed = r.owed;
+          taken_up_at = r.taken_up_at;
+          turn = r.turn;
         } };
 
     ghost invariant = { λ r.
@@ -154,6 +161,8 @@ impl<D, I> Requests<D, I> {
             running: VecDeque::new(alloc),
             serving: None,
             owed: None,
+            taken_up_at: 0,
+            turn: None,
         }
     }
 
@@ -324,7 +333,17 @@ impl<D, I> Requests<D, I> {
         }
     }
 
-    /// What came of the request of this ticket, where it was carried out since the last dispatch began. It is handed out once.
+    /// The token of the source in whose turn this is lent, by which its callback can ask for its own removal, or tell others of it. None
+    /// where an idle is lent it. calloop's callbacks aren't told.
+    pub fn own_token(&self) -> Option<RegistrationToken>
+        ensures { result ≡ self.now.turn }
+    {
+        self.turn
+    }
+
+    /// What came of the request of this ticket, once it was carried out. It is handed out once, and is gone when a dispatch begins
+    /// after the idles that were asked for beside it were taken up: the next one, or a later one where dispatches fail before their
+    /// idles or where an idle asked for it. In calloop a call of the handle answers at once.
     pub fn answer(&mut self, ticket: Ticket) -> Option<Answer<D>>
         ensures value { result ≡ found ticket.number self.old.answers }
         ensures rest { self.new ≡ ask_after self.old (Take ticket.number) }
@@ -371,6 +390,21 @@ impl<D, I> Requests<D, I> {
 }
 
 impl<D, I> Requests<D, I> {
+    // They are lent in the turn of this source from now on: whose turn it was before.
+    pub(super) fn enter_turn(&mut self, token: RegistrationToken) -> Option<RegistrationToken>
+        ensures older { result ≡ self.old.turn }
+        ensures asks { self.new ≡ of_turn token self.old }
+    {
+        mem::replace(&mut self.turn, Some(token))
+    }
+
+    // The turn is over.
+    pub(super) fn leave_turn(&mut self, older: Option<RegistrationToken>)
+        ensures { self.new ≡ record self.old { turn = older } }
+    {
+        self.turn = older;
+    }
+
     // The first request, which is carried out from now on.
     pub(super) fn begin(&mut self) -> Option<Request<D, I>>
         ensures first { result ≡ request_of self.old.written }
@@ -413,12 +447,13 @@ impl<D, I> Requests<D, I> {
         }
     }
 
+    // Answers to what was asked for before idles were last taken up are gone: what was asked beside them has run.
     pub(super) fn clear_answers(&mut self)
     where
         D: Drop,
         ensures { self.new ≡ cleared self.old }
     {
-        self.answers.clear();
+        drop_before(&mut self.answers, self.taken_up_at);
     }
 
     // Puts the idle of the request that is carried out at the end, and answers that.
@@ -487,6 +522,7 @@ impl<D, I> Requests<D, I> {
         ensures { self.new ≡ taken_up self.old }
     {
         move_all(&mut self.idles, &mut self.running);
+        self.taken_up_at = self.next;
     }
 
     // The first of the idles that run.
@@ -560,6 +596,15 @@ fn take_out<I: Drop>(idles: &mut VecDeque<Idling<I>>, ticket: u64)
         × (deque_capacity idles.new ≡ deque_capacity idles.old) }
 {
     idles.retain(|other| other.ticket != ticket);
+}
+
+// Drops those under lower tickets.
+fn drop_before<D: Drop>(answers: &mut Vec<Answered<D>>, ticket: u64)
+    ensures items { answers.new.items ≡ filter (is_since ticket) answers.old.items }
+    ensures room { (vec_len answers.new ≤ vec_len answers.old)
+        × (vec_capacity answers.new ≡ vec_capacity answers.old) }
+{
+    answers.retain(|answered| answered.ticket >= ticket);
 }
 
 // Where the answer under this ticket stands.

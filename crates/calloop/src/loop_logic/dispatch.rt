@@ -70,7 +70,8 @@ impl<D: EventDispatcher<P, C, R>, P: Poller, C: Clock, R: Wait + Drop> EventLoop
     ///
     /// What callbacks ask for in a turn is carried out in order when it ends, before that. When the batch is empty, the idles that
     /// stand then run once each, in order, with what each asks for after it; later ones wait for the next dispatch, and after an error
-    /// none runs. Warnings and answers of before are cleared at the beginning.
+    /// none runs. Warnings of before are cleared at the beginning, and so are answers to what was asked for before idles were last
+    /// taken up.
     pub fn dispatch<Q: Wait>(
         &mut self,
         rt: &Q,
@@ -135,6 +136,7 @@ impl<D: EventDispatcher<P, C, R>, P: Poller, C: Clock, R: Wait + Drop> EventLoop
             self.poll.end_event();
             return Ok(true);
         };
+        let outer = self.requests.enter_turn(token);
         let answer = source.process_events(
             event.readiness,
             event.token,
@@ -143,6 +145,7 @@ impl<D: EventDispatcher<P, C, R>, P: Poller, C: Clock, R: Wait + Drop> EventLoop
             &mut self.requests,
             failure,
         );
+        self.requests.leave_turn(outer);
         self.poll.end_event();
         self.serve_all();
         self.end_turn(token, source, answer, failure)

@@ -209,14 +209,16 @@ pub fn wrong_runs_are_ruled_out()
 
 /// Further runs that there are. A socket enters the table as its source is inserted; a dispatch gathers two events of it, of which the first one's turn asks
 /// for its registration anew, which is carried out and answered, and fails: the second event is left over, and the next dispatch cuts it
-/// first. And a dispatch that settles two adapters, the one in the first slot first. And a timer that is armed again by its callback, and called
-/// once for each of its armings, of which the premises of the law of armings are proved.
+/// first, and keeps the answer. And a dispatch that settles two adapters, the one in the first slot first. And a timer that is armed
+/// again by its callback, and called once for each of its armings, of which the premises of the law of armings are proved.
 pub fn busy_runs_that_there_are()
     ensures run { (name : Book) → Run anything idle_never giving_poller busy_calls busy_answers
         (busy_changes name) (untouched name) (busy_end name) }
     ensures rest { (name : Book)
         → (behind_the_failure name).poll.batch ≡ polled_events two_found_but_one }
     ensures answered { (name : Book) → (behind_the_failure name).held.asks.answers
+        ≡ record { ticket = 0; answer = Done } ∷ [] }
+    ensures outlasts { (name : Book) → (busy_end name).held.asks.answers
         ≡ record { ticket = 0; answer = Done } ∷ [] }
     ensures socket { (name : Book) → watched_at (key_of first_token) (busy_end name).poll.table
         ≡ Some for_reading }

@@ -1,11 +1,13 @@
 //! The poller of the operating system, over `mio`.
-ghost use Rattle.std.specs.Prelude.{◌≡◌, ◌+◌, ◌⊎◌, false, IfErr, IfOk, IfSome, is_some};
+ghost use Rattle.std.specs.Prelude.{◌≡◌, ◌+◌, ◌⊎◌, false, [], IfErr, IfOk, IfSome, OnErr, is_some};
 ghost use Rattle.std.specs.declared.io.Error.{Error as IoCause};
 ghost use Rattle.std.specs.IoError.{error_kind};
 ghost use Rattle.std.specs.declared.io.ErrorKind.TheVariants.{InvalidInput};
+ghost use Rattle.mio.specs.Events.{items};
 ghost use Rattle.mio.specs.Interest.{is_readable, is_writable, is_priority};
 ghost use Rattle.calloop_wake.specs.declared.error.Error.TheVariants.{IoError, OutOfMemory};
-ghost use Rattle.calloop_core.specs.Pollers.{asks, faults_of};
+ghost use Rattle.calloop_core.specs.Pollers.{asks, failure_of, faults_of};
+ghost use Rattle.calloop_core.specs.declared.sys.system.portions.Precision.TheVariants.{Microseconds};
 
 use super::faults::FaultCount;
 use super::notifier::{LazyWaker, Notifier};
@@ -22,9 +24,11 @@ use std::time::Duration;
 
 mod clock;
 mod found;
+mod portions;
 mod sockets;
 
 pub use clock::SystemClock;
+pub use portions::Precision;
 pub use sockets::MioIo;
 
 // No socket is told of under this key: the poller's own waker has it.
@@ -33,7 +37,8 @@ const OWN_KEY: Token = Token(usize::MAX);
 /// Waits on the sockets of the machine by epoll. Its clock is the one that it was given. A socket is told of when it becomes ready, and
 /// again by `modify`. One under the key 2^64 - 1 is never told of: that is its own waker's.
 ///
-/// A signal ends a wait without an event, and a wait of over 24 days is cut to that.
+/// A wait that ends with nothing found before its time is over by that clock is an interruption, after which the loop waits anew: as
+/// when the process gets a signal, and after each portion of a wait (`Precision`). By a clock that stood still meanwhile it is over.
 #[derive(Drop)]
 pub struct MioPoller<C> {
     poll: Poll,
@@ -41,12 +46,14 @@ pub struct MioPoller<C> {
     waker: Arc<LazyWaker, Global>,
     clock: C,
     faults: FaultCount,
+    precision: Precision,
 }
 
 impl<C: Drop> MioPoller<C> {
     /// Over this clock, with no socket. What the machine refuses is `IoError`, and want of memory is `OutOfMemory`.
     pub fn new<R: Net>(rt: &R, alloc: Global, clock: C) -> LoopResult<MioPoller<C>>
-        ensures ok { IfOk result (λ made. (made.clock ≡ clock) × (made.faults.count ≡ 0)) }
+        ensures ok { IfOk result (λ made. (made.clock ≡ clock) × (made.faults.count ≡ 0)
+            × (made.precision ≡ Microseconds)) }
         ensures err { IfErr result (λ e. (e ≡ OutOfMemory) ⊎ ((cause : IoCause) × (e ≡ IoError cause))) }
     {
         let poll = Poll::new(rt)?;
@@ -58,11 +65,19 @@ impl<C: Drop> MioPoller<C> {
             waker: Arc::new(alloc, LazyWaker::new(waker))?,
             clock,
             faults: FaultCount::new(),
+            precision: Precision::Microseconds,
         })
     }
 }
 
 impl<C> MioPoller<C> {
+    /// How exactly its waits end from now on. It is made with `Precision::Microseconds`.
+    pub fn set_precision(&mut self, precision: Precision)
+        ensures { self.new ≡ record self.old { precision = precision } }
+    {
+        self.precision = precision;
+    }
+
     // A wait that could sleep doesn't, where somebody notified since the last one.
     fn time_to_sleep(&self, timeout: Option<Duration>) -> Option<Duration> {
         if timeout == Some(Duration::ZERO) || self.waker.fall_asleep() {
@@ -82,6 +97,38 @@ impl<C> MioPoller<C> {
             self.faults = FaultCount::after(&self.faults);
         }
         answer
+    }
+}
+
+impl<C: Clock> MioPoller<C> {
+    // Waits for what the machine finds, for a portion of the time where that isn't over then.
+    fn find(&mut self, timeout: Option<Duration>) -> io::Result<()>
+        ensures events { OnErr result (items self.new.found.events ≡ []) }
+        ensures failed { failure_of result ≡ self.new.found.failed }
+        ensures poller { self.new ≡ record self.old { poll = self.new.poll; found = self.new.found } }
+    {
+        if timeout == Some(Duration::ZERO) {
+            return self.found.wait(&mut self.poll, timeout);
+        }
+        let start = self.clock.now();
+        let portion = self.precision.portion(timeout);
+        if !portion.asleep.is_zero() {
+            self.clock.sleep(portion.asleep);
+        }
+        self.found.wait(&mut self.poll, portion.waiting)?;
+        if self.found.is_empty() && !self.is_over(start, timeout) {
+            return Err(self.found.interrupted());
+        }
+        Ok(())
+    }
+
+    // Whether this time is over, counted from the start, or the clock stands still.
+    fn is_over(&self, start: Instant, timeout: Option<Duration>) -> bool {
+        let Some(timeout) = timeout else {
+            return false;
+        };
+        let now = self.clock.now();
+        now == start || now >= start.after(timeout)
     }
 }
 
@@ -152,7 +199,7 @@ impl<C: Clock> Poller for MioPoller<C> {
         events: &mut Vec<(u64, Readiness)>,
     ) -> io::Result<()> {
         let timeout = self.time_to_sleep(timeout);
-        match self.found.wait(&mut self.poll, timeout) {
+        match self.find(timeout) {
             Ok(()) => {
                 self.waker.get_up();
                 self.found.append_to(events);

@@ -1,5 +1,5 @@
 //! The poller of the operating system, over two streams that are connected.
-use calloop_core::sys::system::{MioIo, MioPoller, SystemClock};
+use calloop_core::sys::system::{MioIo, MioPoller, Precision, SystemClock};
 use calloop_core::sys::{Clock, EVENTS_PER_WAIT, Interest, Poller, Readiness};
 use calloop_wake::wake::Notify;
 use mio::net::UnixStream;
@@ -102,11 +102,20 @@ fn a_nudge_ends_a_wait_without_an_event(rt: HostRuntime) {
 #[test]
 fn a_clock_of_the_machine_counts_from_its_making(rt: HostRuntime) {
     let mut desk = Desk::new(&rt);
+    desk.poller.set_precision(Precision::Milliseconds);
     let first = desk.clock.now().nanos;
     assert!(rt; desk.waits(Duration::from_millis(20), &[]));
     let then = desk.poller.now().nanos;
     let later = desk.clock.now().nanos;
     assert!(rt; first.saturating_add(20_000_000) <= then && then <= later && later < MINUTE);
+}
+
+#[test]
+fn a_wait_of_milliseconds_ends_in_portions(rt: HostRuntime) {
+    let mut desk = Desk::new(&rt);
+    assert!(rt; desk.is_interrupted(Duration::from_millis(20)));
+    desk.poller.set_precision(Precision::Milliseconds);
+    assert!(rt; desk.waits(Duration::from_millis(20), &[]));
 }
 
 const KEY: u64 = 1099511627776;
@@ -171,6 +180,15 @@ impl<R: MachineClock + Clone + Drop> Desk<R> {
             return false;
         };
         self.poller.wait(Some(timeout), &mut told).is_ok() && are(&told, wanted)
+    }
+
+    // Whether such a wait is interrupted, and tells nothing.
+    fn is_interrupted(&mut self, timeout: Duration) -> bool {
+        let Ok(mut told) = Vec::with_capacity(self.alloc, EVENTS_PER_WAIT) else {
+            return false;
+        };
+        let answer = self.poller.wait(Some(timeout), &mut told);
+        fails(answer, io::ErrorKind::Interrupted) && told.is_empty()
     }
 }
 

@@ -1,6 +1,7 @@
 //! The table of sockets.
 use super::{Scripted, kind_of, new_poll, token};
-use calloop_core::sys::script::{ScriptIo, ScriptKind};
+use calloop_core::sys::poll::table::{other_keys_stay, wrong_steps_are_ruled_out};
+use calloop_core::sys::script::{ScriptIo, ScriptKind, ScriptPoller};
 use calloop_core::sys::{Interest, Mode};
 use calloop_wake::error::Error;
 use std::io::ErrorKind;
@@ -19,6 +20,12 @@ fn a_key_that_was_discarded_is_free_and_all_others_stay(rt: HostRuntime) {
     assert!(rt; enters(&mut poll, 3, 1).is_ok());
     assert_eq!(rt; kind_of(enters(&mut poll, 4, 2)), taken);
     assert_eq!(rt; kind_of(enters(&mut poll, 4, 1)), taken);
+}
+
+#[test]
+fn the_laws_of_the_table_are_there(_rt: HostRuntime) {
+    other_keys_stay::<ScriptPoller>();
+    wrong_steps_are_ruled_out::<ScriptPoller>();
 }
 
 // Enters the socket of this number, under the key of this slot.

@@ -33,6 +33,8 @@ pub enum Wish {
     Idle(u32, Option<usize>),
     /// Of the idle in this place of those that were asked for.
     Cancel(usize),
+    /// None: the slot and the version of its own source are said.
+    Own,
     /// For an idle of this number, which says besides whether the ticket in this place has its answer: 1 or 0.
     Reads(u32, usize),
 }
@@ -147,6 +149,7 @@ impl<D: Choice<Counter, Asker, Third> + Drop> IdleCallback<Said, Requests<D, Not
 
     fn run(self, said: &mut Said, requests: &mut Requests<D, Note>) {
         said.number(self.number);
+        own(said, requests);
         if let Some(place) = self.reads {
             said.number(is_answered(place, said, requests));
         }
@@ -201,6 +204,7 @@ fn write<D: Choice<Counter, Asker, Third> + Drop>(
             said.idle(requests.insert_idle(note).ok());
             return;
         }
+        Wish::Own => return own(said, requests),
         Wish::Reads(number, place) => {
             let reads = Some(place);
             let note = Note {
@@ -217,6 +221,14 @@ fn write<D: Choice<Counter, Asker, Third> + Drop>(
         },
     };
     said.ticket(ticket);
+}
+
+// Says the slot and the version of the source in whose turn this is, where there is one.
+fn own<D: Choice<Counter, Asker, Third> + Drop>(said: &mut Said, requests: &Requests<D, Note>) {
+    if let Some(token) = requests.own_token() {
+        said.number(token.slot());
+        said.number(token.version());
+    }
 }
 
 fn insert<D: Choice<Counter, Asker, Third> + Drop>(

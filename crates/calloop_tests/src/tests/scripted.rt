@@ -1,6 +1,7 @@
 //! Loops of pings over a scripted poller: threads that ring, runs, clocks, and pings that outlive their loop.
 use super::machine::runs;
 use super::stage::{Table, time};
+use calloop::futures::{Context, Future, Poll};
 use calloop::{
     Choice, Clock, Dispatcher, Error, EventDispatcher, Here, Instant, Ping, PingSource,
     RegistrationToken, ScriptLoop, Sources, make_ping,
@@ -42,6 +43,11 @@ fn a_ping_that_outlives_its_loop_can_be_rung(rt: HostRuntime) {
     assert_eq!(rt; goes(&rt, rt.alloc(), Trial::Outlives), Some(true));
 }
 
+#[test]
+fn a_loop_runs_for_a_future_that_is_ready_at_once(rt: HostRuntime) {
+    assert_eq!(rt; goes(&rt, rt.alloc(), Trial::Future), Some(true));
+}
+
 #[derive(Clone, Copy)]
 enum Trial {
     RingOfThread,
@@ -50,6 +56,7 @@ enum Trial {
     Stop,
     Fault,
     Outlives,
+    Future,
 }
 
 /// Pings that say their numbers.
@@ -77,7 +84,33 @@ where
         Trial::Stop => rests_to_its_end(table),
         Trial::Fault => is_ended_by_a_fault(rt, alloc, table),
         Trial::Outlives => outlives(table),
+        Trial::Future => runs_for(alloc, table),
     }
+}
+
+/// A future that is ready at once.
+#[derive(Drop)]
+struct Seven;
+
+impl<R: Wait + Drop> Future<R> for Seven {
+    type Output = u32;
+
+    fn poll(&mut self, _cx: &mut Context<'_, R>) -> Poll<u32> {
+        Poll::Ready(7)
+    }
+}
+
+// Whether the loop gives the future's output, and waits for nothing.
+fn runs_for<D, R>(alloc: Global, mut table: Table<D, R>) -> Option<bool>
+where
+    D: EventDispatcher<ScriptPoller, ScriptClock, R, Data = Vec<u32>>,
+    R: Wait + Clone + Drop,
+{
+    let mut said = Vec::new(alloc);
+    let ran = table
+        .event_loop
+        .block_on(&table.rt, alloc, Seven, &mut said, |_| {});
+    Some(ran.ok()? == Some(7) && table.asked(&[]))
 }
 
 // A ping of the loop, which says 1.

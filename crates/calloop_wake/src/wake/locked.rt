@@ -116,11 +116,38 @@ impl<X: Core> Drop for Slot<X> {
     }
 }
 
+/// What who has a lock may wait for.
+#[derive(Clone, Copy, Debug, PartialEq, Eq)]
+pub enum Awaited {
+    /// Something is put in, or nothing will come any more.
+    Content,
+    /// Something is taken out, or nobody will take it any more.
+    Room,
+}
+
 // Those that wait for a lock, and those that wait until its content was changed.
 #[derive(Drop)]
 struct Queues {
     entering: Sleepers,
-    watching: Sleepers,
+    for_content: Sleepers,
+    for_room: Sleepers,
+}
+
+impl Queues {
+    fn empty() -> Queues {
+        Queues {
+            entering: Sleepers::none(),
+            for_content: Sleepers::none(),
+            for_room: Sleepers::none(),
+        }
+    }
+
+    fn of(&self, awaited: Awaited) -> &Sleepers {
+        match awaited {
+            Awaited::Content => &self.for_content,
+            Awaited::Room => &self.for_room,
+        }
+    }
 }
 
 /// A lock, under the tag of its content. In a clause `slot` is the tag.
@@ -140,10 +167,7 @@ impl<X: Core> Locked<X> {
     {
         Ok(Locked {
             slot: Slot::new(alloc, core, tag)?,
-            queues: Queues {
-                entering: Sleepers::none(),
-                watching: Sleepers::none(),
-            },
+            queues: Queues::empty(),
         })
     }
 
@@ -155,9 +179,15 @@ impl<X: Core> Locked<X> {
         lock(rt, self.slot.shared(), &self.queues)
     }
 
-    /// Tells all that wait that the core was changed. Who changed it has given the lock up before.
-    pub fn tell(&self) {
-        self.queues.watching.tell_all();
+    /// Tells one of those that wait for this that it has come. Who changed the core so has given the lock up before. It is enough where
+    /// what came is for one of them.
+    pub fn tell_one(&self, awaited: Awaited) {
+        self.queues.of(awaited).tell_one();
+    }
+
+    /// Tells all that wait for this that it has come. Who changed the core so has given the lock up before.
+    pub fn tell_all(&self, awaited: Awaited) {
+        self.queues.of(awaited).tell_all();
     }
 }
 
@@ -265,8 +295,8 @@ impl<'a, X: Fits> Held<'a, X> {
         queues.entering.tell_one();
     }
 
-    /// Gives the lock up, and waits until somebody tells that the core was changed, or for less. Then it has the lock again.
-    pub fn wait<R: Wait>(self, rt: &R) -> Held<'a, X>
+    /// Gives the lock up, and waits until it is told that this has come, or for less. Then it has the lock again.
+    pub fn wait<R: Wait>(self, rt: &R, awaited: Awaited) -> Held<'a, X>
         requires { (self.seat.table_id ≡ self.shared.now.table_id) × HasOneSlot self.shared.now.table_id
             × IsTaken (X.fits self.shared.now.key) self.seat.me.1 }
         ensures { (result.shared.now.key ≡ self.entry.shared.now.key) × (result.seat.table_id ≡ result.shared.now.table_id)
@@ -274,11 +304,12 @@ impl<'a, X: Fits> Held<'a, X> {
     {
         let shared = self.shared;
         let queues = self.queues;
-        queues.watching.join();
-        let told = queues.watching.told();
+        let waiting = queues.of(awaited);
+        waiting.join();
+        let told = waiting.told();
         self.unlock();
-        queues.watching.sleep(rt, told);
-        queues.watching.leave();
+        waiting.sleep(rt, told);
+        waiting.leave();
         lock(rt, shared, queues)
     }
 }

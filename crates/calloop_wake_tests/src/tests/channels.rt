@@ -6,7 +6,7 @@ use super::{Desk, SharedBoard, close, post};
 use calloop_wake::steps::Steps;
 use calloop_wake::wake::cell::CellCore;
 use calloop_wake::wake::channel::{ChannelCore, Label, Popped, PutError};
-use calloop_wake::wake::locked::{Core, Locked};
+use calloop_wake::wake::locked::{Awaited, Core, Locked};
 use calloop_wake::wake::watch::WatchedBoard;
 use calloop_wake::wake::{ChannelTurn, Debt, Last, TakenPass, Twin};
 use counted_slot::Fits;
@@ -594,10 +594,10 @@ fn receive<R: Wait>(rt: &R, lock: &Locked<Keyless>, twin: &mut Twin) -> u64
     for _ in rt.forever() {
         if let Some(message) = held.core().core.take(twin) {
             held.unlock();
-            lock.tell();
+            lock.tell_one(Awaited::Room);
             return message;
         }
-        held = held.wait(rt);
+        held = held.wait(rt, Awaited::Content);
     }
     held.unlock();
     unreachable!()
@@ -611,10 +611,10 @@ fn put_message<R: Wait>(rt: &R, lock: &Locked<Keyless>, message: u64) -> Option<
     for _ in rt.forever() {
         if let Ok((_receipt, debt)) = held.core().core.put(message) {
             held.unlock();
-            lock.tell();
+            lock.tell_all(Awaited::Content);
             return debt;
         }
-        held = held.wait(rt);
+        held = held.wait(rt, Awaited::Room);
     }
     held.unlock();
     unreachable!()

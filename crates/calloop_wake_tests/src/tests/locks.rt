@@ -1,7 +1,7 @@
 //! The lock that the ends of a cell share, taken and read by several threads.
 use calloop_wake::wake::Last;
 use calloop_wake::wake::ghosts::Name;
-use calloop_wake::wake::locked::{Core, Locked};
+use calloop_wake::wake::locked::{Awaited, Core, Locked};
 use calloop_wake::wake::ping::PingCore;
 use counted_slot::Fits;
 use std::alloc::Global;
@@ -90,10 +90,10 @@ fn take_turn<R: Wait>(rt: &R, lock: &Locked<Tally>, odd: u64) {
         if tally.count % 2 == odd {
             tally.count = tally.count.wrapping_add(1);
             held.unlock();
-            lock.tell();
+            lock.tell_all(Awaited::Content);
             return;
         }
-        held = held.wait(rt);
+        held = held.wait(rt, Awaited::Content);
     }
     held.unlock();
     unreachable!()

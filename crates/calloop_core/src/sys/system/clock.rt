@@ -5,7 +5,8 @@ ghost use Rattle.calloop_core.specs.Clocks.{nanos_between};
 use crate::sys::Clock;
 use calloop_wake::wheel::Instant;
 use std::alloc::AllocError;
-use std::time::{Clock as MachineClock, Instant as Reading};
+use std::thread;
+use std::time::{Clock as MachineClock, Duration, Instant as Reading};
 
 /// Shows the nanoseconds since it was made, at most 2^64 - 1, and 0 where the machine's clock can't be read. Its clones count from
 /// the same moment. It keeps a clone of the runtime, by which it reads.
@@ -46,6 +47,10 @@ impl<R: MachineClock + Clone + Drop> Clock for SystemClock<R> {
 
     fn now(&self) -> Instant {
         between(self.start, Reading::now(&self.rt).ok())
+    }
+
+    fn sleep(&self, time: Duration) {
+        thread::sleep(&self.rt, time)
     }
 }
 

@@ -1,5 +1,7 @@
 //! The events of a wait of the machine.
-ghost use Rattle.std.specs.Prelude.{◌≡◌, ◌+◌, ◌≤◌, ◌++◌, [], length, vec_len, vec_capacity, OnErr};
+ghost use Rattle.std.specs.Prelude.{◌≡◌, ◌+◌, ◌≤◌, ◌++◌, true, [], Some, length, vec_len, vec_capacity, OnErr};
+ghost use Rattle.std.specs.IoError.{error_kind};
+ghost use Rattle.std.specs.declared.io.ErrorKind.TheVariants.{Interrupted};
 ghost use Rattle.mio.specs.Events.{items, capacity as events_capacity};
 ghost use Rattle.calloop_core.specs.Pollers.{events_per_wait, failure_of};
 ghost use Rattle.calloop_core.specs.SystemEvents.{readiness_of, told_events};
@@ -42,6 +44,22 @@ impl Found {
             Err(cause) => Some(cause.kind()),
         };
         answer
+    }
+
+    /// Whether the last wait found nothing, nor ended by the poller's own waker.
+    pub fn is_empty(&self) -> bool
+        ensures { result ≡ true → items self.now.events ≡ [] }
+    {
+        self.events.is_empty()
+    }
+
+    /// A wait that found nothing was interrupted: its error, whose kind is kept.
+    pub fn interrupted(&mut self) -> io::Error
+        ensures kind { error_kind result ≡ Interrupted }
+        ensures failed { self.new ≡ record self.old { failed = Some Interrupted } }
+    {
+        self.failed = Some(io::ErrorKind::Interrupted);
+        io::Error::from(io::ErrorKind::Interrupted)
     }
 
     /// Appends what the loop is told.

@@ -1,4 +1,4 @@
-use Rattle.std.proofs.Common.{◌≡◌, length, ◌∙◌, ap, subst, arith, None, Some, List}
+use Rattle.std.proofs.Common.{◌≡◌, length, ◌∙◌, ap, subst, arith, None, Some, Option, List}
 use Rattle.calloop_wake.specs.declared.list.Content.TheVariants.{InTurn}
 use Rattle.calloop_wake.specs.declared.token.RegistrationToken.{RegistrationToken}
 use Rattle.calloop_wake.specs.declared.list.Slot.{Slot}
@@ -9,7 +9,7 @@ use Rattle.calloop_wake.specs.Failures.{with_error}
 use Rattle.calloop.specs.Machine.{View, view_of}
 use Rattle.calloop.specs.Rules.{Goes, Cutting, Serving, Ending, Idling, after_hand_out}
 use Rattle.calloop_core.specs.Deeds.{lent}
-use Rattle.calloop.specs.Askings.{Asks}
+use Rattle.calloop.specs.Askings.{Asks, of_turn}
 use Rattle.calloop.proofs.Serving.{all_steady}
 use Rattle.calloop.proofs.Going.{goes_to, goes_on, no_event, cut_none, turned, turn_served, length-cut, batch-stepped}
 use Rattle.calloop.proofs.loop_logic.EventLoop.hand_out.Goals as goal
@@ -41,18 +41,22 @@ returns-clause-machine g c =
     let d = c.process_events-answer.new.self in
     let answer = with_error c.process_events-answer.result c.process_events-answer.new.failure in
     let polls : PollView g.row.P.Denot = poll_view c.end_event-2.new.self in
+    let given : Asks g.row.D.Denot g.row.D-Idle.Denot = c.enter_turn-outer.new.self in
     let asked : Asks g.row.D.Denot g.row.D-Idle.Denot = c.process_events-answer.new.requests in
+    let back : Asks g.row.D.Denot g.row.D-Idle.Denot = c.leave_turn.new.self in
+    let begun : given ≡ of_turn (registration_of e.token) v.held.asks = c.enter_turn-outer.ensures.asks ∙ ap (λ (t : RegistrationToken). of_turn t v.held.asks) c.registration-token.ensures in
+    let ended : back ≡ record asked { turn = v.held.asks.turn } = c.leave_turn.ensures ∙ ap (λ (o : Option RegistrationToken). record asked { turn = o }) c.enter_turn-outer.ensures.older in
     let x = c.args.«data».now in
     let y = c.process_events-answer.new.«data» in
     let own : c.registration-token.result.slot ≡ e.token.slot = ap (λ (t : RegistrationToken). t.slot) c.registration-token.ensures in
     let found : Some c.in-Some-begin_turn.source ≡ source_of (named v.slots (registration_of e.token)) = c.in-Some-begin_turn.ensures.value ∙ ap (λ (t : RegistrationToken). source_of (named v.slots t)) c.registration-token.ensures in
     let slots : c.begin_turn.new.self ≡ changed (with_content InTurn) v.slots e.token.slot = c.in-Some-begin_turn.ensures.list ∙ ap (λ n. changed (with_content InTurn) v.slots n) own in
-    let held : View g.row.D.Denot g.row.D-Idle.Denot g.row.P.Denot = record v { slots = c.begin_turn.new.self; poll = polls; held = record v.held { asks = asked } } in
+    let held : View g.row.D.Denot g.row.D-Idle.Denot g.row.P.Denot = record v { slots = c.begin_turn.new.self; poll = polls; held = record v.held { asks = back } } in
     let served = view_of c.serve_all.new.self in
     let after = after_hand_out (with_error c.end_turn.result c.end_turn.new.failure) y in
-    let asks = g.met.D.Dispatch.asks c.in-Some-begin_turn.source d (poll_view c.next_event.new.self) e.readiness e.token (lent x v.held.asks answer y asked) c.process_events-answer.ensures.0 c.process_events-answer.ensures.1 in
+    let asks = g.met.D.Dispatch.asks c.in-Some-begin_turn.source d (poll_view c.next_event.new.self) e.readiness e.token (lent x given answer y asked) c.process_events-answer.ensures.0 c.process_events-answer.ensures.1 in
     goes_on M R O (Cutting x) (Serving (registration_of e.token) d answer y) after v held (view_of c.end_turn.new.self)
-    (rw (slots, c.end_event-2.ensures) (turned M R O e v c.in-Some-begin_turn.source d answer (poll_view c.next_event.new.self) (poll_view c.process_events-answer.new.poll) x y asked c.in-Some.ensures.event found c.next_event.ensures.view c.process_events-answer.ensures asks))
+    (rw (slots, c.end_event-2.ensures) (turned M R O e v c.in-Some-begin_turn.source d answer (poll_view c.next_event.new.self) (poll_view c.process_events-answer.new.poll) x y given asked back c.in-Some.ensures.event found c.next_event.ensures.view begun ended c.process_events-answer.ensures asks))
     (goes_on M R O (Serving (registration_of e.token) d answer y) (Ending (registration_of e.token) d answer y) after held served (view_of c.end_turn.new.self)
     (turn_served M R O (registration_of e.token) d answer y c.serve_all.ensures.0 held served c.serve_all.ensures.1 c.serve_all.ensures.2)
     (subst (λ (t : RegistrationToken). Goes M R O (Ending t d answer y) after served (view_of c.end_turn.new.self)) c.registration-token.ensures (c.end_turn.ensures.machine y)))

@@ -3,7 +3,7 @@ use Rattle.std.proofs.lemmas.List.Sorted.{IsPermutation-refl}
 use Rattle.calloop_wake.specs.declared.error.Error.TheVariants.{OutOfMemory}
 use Rattle.calloop_wake.specs.declared.list.Content.TheVariants.{Source, InTurn}
 use Rattle.calloop_wake.specs.declared.token.RegistrationToken.{RegistrationToken}
-use Rattle.calloop_wake.specs.Tokens.{after_token}
+use Rattle.calloop_wake.specs.Tokens.{after_token, registration_of}
 use Rattle.calloop_wake.specs.Watches.{noted}
 use Rattle.calloop_wake.specs.declared.wake.notes.Note.TheVariants.{Counted, Looked, Marked}
 use Rattle.calloop_core.specs.declared.sources.PostAction.TheVariants.{Continue, Reregister}
@@ -23,7 +23,7 @@ use Rattle.calloop_core.specs.declared.sources.PostAction.TheVariants.{Remove}
 use Rattle.calloop_core.specs.declared.timer.TimeoutAction.TheVariants.{Drop, ToInstant}
 use Rattle.calloop_core.specs.Polls.{Arm, ArmAgain, Call, Cancel}
 use Rattle.calloop_core.specs.Timers.{armed_for}
-use Rattle.calloop.specs.Askings.{asks_nothing, no_asks}
+use Rattle.calloop.specs.Askings.{asks_nothing, no_asks, of_turn}
 use Rattle.calloop.specs.Machine.{IsNew}
 use Rattle.calloop.specs.ExampleRun.{five, first_arm, as_armed, new_world}
 use Rattle.calloop.specs.RearmedRun.{ten, as_rearmed, as_called_again, as_gone, rearmed_run, behind_the_first_call}
@@ -283,7 +283,7 @@ returns-clause-rearmed c = λ name. (
                         record {
                           inner = record { calls = record { event = five; before = tt; after = tt; answer = ToInstant ten } ∷ []; answer = Ok Continue };
                           turned = inl (first_arm, record { registered = refl; named = refl; unspent = refl; unarmed = refl; action = ToInstant ten; called = refl; more = ArmAgain 0 ten first_token ∷ []; steps_are = refl; answered = (refl, refl, refl) });
-                          went = (tt, tt, no_asks, (refl, refl), asks_nothing no_asks, (refl, refl, refl));
+                          went = (tt, tt, of_turn (registration_of first_token) no_asks, (refl, refl), asks_nothing (of_turn (registration_of first_token) no_asks), (refl, refl, refl));
                           told = refl;
                         },
                         refl,
@@ -365,7 +365,7 @@ returns-clause-rearmed c = λ name. (
                       record {
                         inner = record { calls = record { event = ten; before = tt; after = tt; answer = Drop } ∷ []; answer = Ok Remove };
                         turned = inl (armed_for ten first_arm, record { registered = refl; named = refl; unspent = refl; unarmed = refl; action = Drop; called = refl; more = []; steps_are = refl; answered = (refl, refl, refl) });
-                        went = (tt, tt, no_asks, (refl, refl), asks_nothing no_asks, (refl, refl, refl));
+                        went = (tt, tt, of_turn (registration_of first_token) no_asks, (refl, refl), asks_nothing (of_turn (registration_of first_token) no_asks), (refl, refl, refl));
                         told = refl;
                       },
                       refl,

@@ -1,13 +1,13 @@
 use Rattle.std.proofs.Common.{rules, refl, [], ◌∷◌, None, Ok, inl, inr, true, false, arith}
 use Rattle.std.proofs.lemmas.List.Sorted.{IsPermutation-refl}
 use Rattle.calloop_wake.specs.declared.list.Content.TheVariants.{Source, InTurn}
-use Rattle.calloop_wake.specs.Tokens.{after_token}
+use Rattle.calloop_wake.specs.Tokens.{after_token, registration_of}
 use Rattle.calloop_wake.specs.Watches.{noted}
 use Rattle.calloop_wake.specs.declared.wake.notes.Note.TheVariants.{Counted, Looked, Marked}
 use Rattle.calloop_core.specs.declared.sources.PostAction.TheVariants.{Remove}
 use Rattle.calloop_core.specs.declared.timer.TimeoutAction.TheVariants.{Drop}
 use Rattle.calloop_core.specs.Polls.{Arm, Cancel, Call}
-use Rattle.calloop.specs.Askings.{asks_nothing, no_asks}
+use Rattle.calloop.specs.Askings.{asks_nothing, no_asks, of_turn}
 use Rattle.calloop.specs.Rules.{factory_of, Settling, Sleeping, Waiting, Gathering, Noticing, Cutting, Serving, Ending, Returning, Idling, RunningIdles, Leaving}
 use Rattle.calloop.specs.Wrong.{first_token, first_registration}
 use Rattle.calloop.specs.ExampleRun.{five, first_arm, as_armed, as_changed, as_called, as_removed, only, its_run}
@@ -76,7 +76,7 @@ returns-clause-run c = λ name. (
                       record {
                         inner = record { calls = record { event = five; before = tt; after = tt; answer = Drop } ∷ []; answer = Ok Remove };
                         turned = inl (first_arm, record { registered = refl; named = refl; unspent = refl; unarmed = refl; action = Drop; called = refl; more = []; steps_are = refl; answered = (refl, refl, refl) });
-                        went = (tt, tt, no_asks, (refl, refl), asks_nothing no_asks, (refl, refl, refl));
+                        went = (tt, tt, of_turn (registration_of first_token) no_asks, (refl, refl), asks_nothing (of_turn (registration_of first_token) no_asks), (refl, refl, refl));
                         told = refl;
                       },
                       refl,

@@ -1,5 +1,0 @@
-//! What becomes of a loop whose poller answers anything, whose allocations are refused, or whose keys move beside other threads.
-mod answers;
-mod desk;
-mod keys;
-mod memory;

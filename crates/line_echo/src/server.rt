@@ -1,0 +1,147 @@
+//! Who is served: clients are let in by the listener's callback, and those that are silent for long leave by the timer's.
+use crate::Machine;
+use crate::echo::Echo;
+use calloop::{
+    Callback, Choice, Clock, Generic, Here, Instant, Interest, MioIo, Mode, NoIoDrop, PostAction,
+    Readiness, RegistrationToken, Requests, SystemClock, There, TimeoutAction,
+};
+use slab::Slab;
+use std::alloc::Global;
+use std::io;
+use std::sync::Wait;
+use std::time::{Clock as MachineClock, Duration};
+
+/// A client that was let in.
+#[derive(Drop)]
+struct Client {
+    /// What names its socket in the loop, once that had a turn.
+    token: Option<RegistrationToken>,
+    /// When it was heard last.
+    heard: Instant,
+}
+
+/// What each dispatch lends to the callbacks.
+#[derive(Drop)]
+pub struct Server<R: MachineClock + Clone + Drop> {
+    clients: Slab<Client>,
+    clock: SystemClock<R>,
+    patience: Duration,
+    /// How many clients have left, or were dropped.
+    pub left: usize,
+}
+
+impl<R: MachineClock + Clone + Drop> Server<R> {
+    /// Nobody is there yet. A client that is silent for longer than `patience` is dropped.
+    pub fn new(clock: SystemClock<R>, patience: Duration, alloc: Global) -> Server<R> {
+        Server {
+            clients: Slab::new(alloc),
+            clock,
+            patience,
+            left: 0,
+        }
+    }
+
+    // A client comes: its place, where there is memory for it.
+    fn enter(&mut self) -> Option<usize> {
+        let client = Client {
+            token: None,
+            heard: self.clock.now(),
+        };
+        self.clients.insert(client).ok()
+    }
+
+    /// A client was heard, in the turn of its socket.
+    pub fn hear(&mut self, place: usize, token: Option<RegistrationToken>) {
+        let now = self.clock.now();
+        if let Some(client) = self.clients.get_mut(place) {
+            client.heard = now;
+            client.token = token;
+        }
+    }
+
+    /// A client is gone: what named its socket.
+    pub fn leave(&mut self, place: usize) -> Option<RegistrationToken> {
+        let client = self.clients.try_remove(place)?;
+        self.left = self.left.saturating_add(1);
+        client.token
+    }
+
+    // A client that was silent for too long.
+    fn silent(&self) -> Option<usize> {
+        let now = self.clock.now();
+        for (place, client) in self.clients.iter() {
+            if client.heard.after(self.patience) <= now {
+                return Some(place);
+            }
+        }
+        None
+    }
+}
+
+/// Lets clients in, with memory from here.
+#[derive(Drop)]
+pub struct Accepts {
+    pub alloc: Global,
+}
+
+impl<D, R> Callback<Readiness, NoIoDrop<MioIo>, io::Result<PostAction>, Server<R>, Requests<D>>
+    for Accepts
+where
+    D: Choice<Generic<Machine<R>>, Echo, There<Here>> + Drop,
+    R: Wait + MachineClock + Clone + Drop,
+{
+    /// Lets one client in. `Mode::Level` tells of others that wait. What can't be had closes it.
+    fn call(
+        &mut self,
+        _readiness: Readiness,
+        io: &mut NoIoDrop<MioIo>,
+        server: &mut Server<R>,
+        requests: &mut Requests<D>,
+    ) -> io::Result<PostAction> {
+        let MioIo::TcpListener(listener) = io.get_mut() else {
+            return Err(io::Error::from(io::ErrorKind::Unsupported));
+        };
+        let Ok((stream, _address)) = listener.accept() else {
+            return Ok(PostAction::Continue);
+        };
+        let Some(place) = server.enter() else {
+            return Ok(PostAction::Continue);
+        };
+        let socket = Generic::new(MioIo::from(stream), Interest::BOTH, Mode::Edge);
+        let echo = Echo::new(place, self.alloc);
+        if requests.insert_source(socket, echo).is_err() {
+            let _token = server.leave(place);
+        }
+        Ok(PostAction::Continue)
+    }
+}
+
+/// Drops clients that are silent for too long.
+#[derive(Drop)]
+pub struct Sweeps {
+    /// How long it waits from one look to the next.
+    pub each: Duration,
+}
+
+impl<D, R> Callback<Instant, (), TimeoutAction, Server<R>, Requests<D>> for Sweeps
+where
+    D: Drop,
+    R: MachineClock + Clone + Drop,
+{
+    /// Drops one client. Where one was dropped, it looks again at once.
+    fn call(
+        &mut self,
+        _deadline: Instant,
+        _: &mut (),
+        server: &mut Server<R>,
+        requests: &mut Requests<D>,
+    ) -> TimeoutAction {
+        let Some(place) = server.silent() else {
+            return TimeoutAction::ToDuration(self.each);
+        };
+        if let Some(token) = server.leave(place) {
+            let _ticket = requests.remove(token);
+        }
+        TimeoutAction::ToDuration(Duration::ZERO)
+    }
+}
