@@ -12,6 +12,7 @@ use calloop_core::sys::{Clock, Interest, Poller, Readiness};
 use calloop_core::timer::{TimeoutAction, Timer};
 use calloop_wake::error::Error;
 use calloop_wake::token::{RegistrationToken, Token, TokenFactory};
+use calloop_wake::wake::cell::CellCore;
 use calloop_wake::wake::ghosts::Name;
 use calloop_wake::wake::locked::{Core, Locked};
 use calloop_wake::wake::ping::{OpenedTurn, PingCore};

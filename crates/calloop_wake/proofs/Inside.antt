@@ -5,8 +5,23 @@ use Rattle.calloop_wake.specs.declared.wake.tasks.Task.{Task}
 use Rattle.calloop_wake.specs.declared.wake.tasks.TaskKey.{TaskKey}
 use Rattle.calloop_wake.specs.declared.wake.executor.Progress.{Progress}
 use Rattle.calloop_wake.specs.Tasks.{TaskTable, task_at, phase_at, stepped, is_idle, is_woken, in_poll, woken_phase, settled_phase, slot_if}
+use Rattle.calloop_wake.specs.Cells.{Cell}
 use Rattle.calloop_wake.specs.Executors.{with_slot, inside_cell, IsKeeping, ExecutorCell, AreQueued, ArePolled, AreNumbered, polling, key_in}
 use Rattle.calloop_wake.proofs.ExecutorSteps.{wake-keeps, put-keeps, settles-at, take-none, take-some}
+
+-- the same with what a bell has of it, whatever its key and its senders are
+pub of-bell : (o : Option TaskTable) (next results : ℕ) (pinged draining : Bool) (progress : Progress) (k : Option ℕ) (senders : ℕ) (bell : Cell)
+    → bell.pinged ≡ pinged → bell.draining ≡ draining → IsKeeping (inside_cell o next results pinged draining progress k senders)
+    → IsKeeping (inside_cell o next results bell.pinged bell.draining progress bell.key bell.senders)
+of-bell o next results pinged draining progress k senders bell p d h =
+    let kept =
+    subst (λ (x : Bool). IsKeeping (inside_cell o next results x bell.draining progress k senders)) (sym p)
+    (subst (λ (x : Bool). IsKeeping (inside_cell o next results pinged x progress k senders)) (sym d) h) in
+    record {
+      sorted = record { queued = kept.sorted.queued; polled = kept.sorted.polled; numbered = kept.sorted.numbered };
+      lit = kept.lit;
+      running = kept.running;
+    }
 
 module _ (o : Option TaskTable) (old new : TaskTable) (next results : ℕ) (pinged draining : Bool) (progress : Progress) (k : Option ℕ) (senders : ℕ) (is : o ≡ Some old)
     (h : IsKeeping (inside_cell o next results pinged draining progress k senders)) where

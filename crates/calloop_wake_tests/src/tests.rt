@@ -9,6 +9,7 @@ use calloop_wake::token::{
     RegistrationToken, Token, TokenFactory, factory_tokens_differ, keys_differ,
 };
 use calloop_wake::wake::board::OpenRefusal;
+use calloop_wake::wake::cell::CellCore;
 use calloop_wake::wake::ghosts::Name;
 use calloop_wake::wake::locked::{Core, Locked};
 use calloop_wake::wake::ping::{OpenedTurn, PingCore};

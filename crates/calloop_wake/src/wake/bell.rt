@@ -1,5 +1,5 @@
-//! The bell beside a queue: what a cell has of a ping, for the kinds of cells that hand something out.
-ghost use Rattle.std.specs.Prelude.{◌≡◌, ◌+◌, ◌<◌, ◌^◌, ◌&&◌, ◌||◌, not, true, false, None, Some, IfOk, IfErr, if◌then◌else◌};
+//! The bell of a cell: what each kind of cell has of a ping.
+ghost use Rattle.std.specs.Prelude.{◌≡◌, ◌+◌, ◌-◌, ◌<◌, ◌^◌, ◌&&◌, ◌||◌, not, true, false, None, Some, IfOk, IfErr, if◌then◌else◌};
 ghost use Rattle.calloop_wake.specs.Cells.{fresh_twin, fresh, one, opens, owed, owed_at, owed_by_drop, after_close, after_add_sender, after_drop_sender, after_set_key, after_clear_key};
 ghost use Rattle.calloop_wake.specs.Bells.{bell_with, after_ping, drained, ended, owed_if, telling};
 ghost use Rattle.calloop_wake.specs.Passes.{on};
@@ -90,6 +90,13 @@ impl Bell {
         self.gone
     }
 
+    /// Whether a turn stands open.
+    pub(super) fn is_draining(&self) -> bool
+        ensures { result ≡ self.now.cell.draining }
+    {
+        self.draining
+    }
+
     // The debt that pinging gives.
     fn owed(&self) -> Option<Debt>
         ensures { result ≡ on self.now.board (owed self.now.cell) }
@@ -137,6 +144,7 @@ impl Bell {
     pub(super) fn add_sender(&mut self) -> Result<Sender, AllocError>
         ensures ok { IfOk result (λ sender. (sender.name ≡ self.old.name) × (self.old.cell.senders + 1 < 2 ^ 64) × (self.new ≡ bell_with (after_add_sender self.old.cell) self.old)) }
         ensures err { IfErr result (λ _. (self.old.cell.senders + 1 ≡ 2 ^ 64) × (self.new ≡ self.old)) }
+        ensures others { self.new ≡ bell_with (record self.old.cell { senders = self.new.cell.senders }) self.old }
     {
         match self.senders.checked_add(1) {
             Some(senders) => {
@@ -159,6 +167,14 @@ impl Bell {
         } else {
             self.close()
         }
+    }
+
+    /// One sender less, and no close where it was the last.
+    pub(super) fn drop_without_close(&mut self, sender: Sender)
+        ensures { self.new ≡ bell_with (record self.old.cell { senders = self.old.cell.senders - 1 }) self.old }
+    {
+        let Sender { name: _ } = sender;
+        self.senders = self.senders.saturating_sub(1);
     }
 
     pub(super) fn set_key(

@@ -25,21 +25,21 @@ pub trait CellCore: Core {
         requires { right.name ≡ name_of self.now }
         ensures { result ≡ fresh_twin (name_of self.now) };
 
-    /// One sender more, of which there can be 2^64 - 1.
+    /// One sender more. It is refused exactly where there are 2^64 - 1, and then nothing changes.
     fn add_sender(&mut self) -> Result<Sender, AllocError>
         ensures fits { (tag : Self.Tag) → Self.fits tag self.old → Self.fits tag self.new }
         ensures place { place_of self.new ≡ place_of self.old }
         ensures ok { IfOk result (λ sender. sender.name ≡ name_of self.old) };
 
-    /// One sender less. What that owes to the board is a debt.
+    /// One sender less. What that owes to the board is a debt: the last one of a ping or of a channel closes.
     fn drop_sender(&mut self, sender: Sender) -> Option<Debt>
         requires { sender.name ≡ name_of self.old }
         ensures fits { (tag : Self.Tag) → Self.fits tag self.old → Self.fits tag self.new }
         ensures place { place_of self.new ≡ place_of self.old }
         ensures owes { IfSome result (λ debt. place_of self.old ≡ Some debt) };
 
-    /// Gives the cell the key of a place that was opened. First comes what is owed under the new key, and then the leave to close
-    /// the place of the key that it had.
+    /// Gives the cell the key of a place that was opened, as calloop registers the descriptor under a token. First comes what is owed
+    /// under the new key, and then the leave to close the place of the key that it had.
     fn set_key(&mut self, pass: OpenedPass, twin: &mut Twin) -> (Option<Debt>, Option<LeaveToClose>)
         requires { twin.old.name ≡ name_of self.old }
         ensures twin { twin.new ≡ record twin.old { key = Some pass.key } }
@@ -48,7 +48,8 @@ pub trait CellCore: Core {
         ensures owes { IfSome result.0 (λ debt. debt ≡ pass) }
         ensures leaves { result.1 ≡ place_of self.old };
 
-    /// Takes the cell's key back.
+    /// Takes the cell's key back, as calloop takes the descriptor out of the poller. What is due stays so. It gives the leave to close
+    /// the place of the key, where the cell had one.
     fn clear_key(&mut self, twin: &mut Twin) -> Option<LeaveToClose>
         requires { twin.old.name ≡ name_of self.old }
         ensures twin { twin.new ≡ record twin.old { key = None } }
@@ -56,7 +57,7 @@ pub trait CellCore: Core {
         ensures place { place_of self.new ≡ None }
         ensures leaves { result ≡ place_of self.old };
 
-    /// The receiving end goes.
+    /// The receiving end goes: the same, and nobody will take what is due.
     fn abandon(&mut self, twin: Twin) -> Option<LeaveToClose>
         requires { twin.name ≡ name_of self.old }
         ensures fits { (tag : Self.Tag) → Self.fits tag self.old → Self.fits tag self.new }

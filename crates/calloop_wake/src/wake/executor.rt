@@ -1,10 +1,11 @@
 //! The cell of an executor, which its schedulers and its wakers share.
-ghost use Rattle.std.specs.Prelude.{if◌then◌else◌, ◌≡◌, nat_lt, Err, ◌+◌, ◌-◌, ◌<◌, ◌≤◌, ◌^◌, ◌&&◌, ◌⊎◌, not, true, false, None, Some, List, IsSome, IfOk, IfErr, OnErr, IfSome, IfNone};
-ghost use Rattle.calloop_wake.specs.Cells.{fresh_twin, one};
+ghost use Rattle.std.specs.Prelude.{if◌then◌else◌, ◌≡◌, nat_lt, Err, ◌+◌, ◌-◌, ◌<◌, ◌≤◌, ◌^◌, ◌&&◌, ◌⊎◌, not, true, false, None, Some, IsSome, IfOk, IfErr, OnErr, IfSome, IfNone};
+ghost use Rattle.calloop_wake.specs.Cells.{one};
 ghost use Rattle.calloop_wake.specs.Passes.{on};
 ghost use Rattle.calloop_wake.specs.Tasks.{no_tasks, task_at};
 ghost use Rattle.calloop_wake.specs.Executors.{cell_of, at_start, owed, owed_at, after_put, after_wake, after_pop, after_end_turn, after_clear_key, after_settle, settled_at, after_take, ended, in_turn, opens, most_tasks, IsKeeping, IsBalanced};
 
+use super::bell::Bell;
 use super::cell::CellCore;
 use super::ghosts::{Count, Name};
 use super::homes::{DueReceipt, KeepingRight, PoppedTask};
@@ -44,14 +45,8 @@ pub struct ExecutorCore {
     // None once the executor is gone.
     tasks: Option<Tasks>,
     next: u64,
-    pinged: bool,
-    draining: bool,
+    bell: Bell,
     progress: Progress,
-    key: Option<u64>,
-    senders: u64,
-    name: Name,
-    // The board of its key; its own name, where it had none yet.
-    board: Name,
     puts: Count,
     results: Count,
 }
@@ -67,18 +62,18 @@ impl Model for ExecutorCore {
       table = table_of c.tasks;
       next = c.next;
       results = c.results;
-      pinged = c.pinged;
-      draining = c.draining;
+      pinged = c.bell.cell.pinged;
+      draining = c.bell.cell.draining;
       gone = not (is_some c.tasks);
       progress = c.progress;
-      key = c.key;
-      senders = c.senders;
-      name = c.name;
-      board = c.board;
+      key = c.bell.cell.key;
+      senders = c.bell.cell.senders;
+      name = c.bell.name;
+      board = c.bell.board;
     } };
 
     ghost invariant = { λ c.
-        IsKeeping (inside_cell c.tasks c.next c.results c.pinged c.draining c.progress c.key c.senders)
+        IsKeeping (inside_cell c.tasks c.next c.results c.bell.cell.pinged c.bell.cell.draining c.progress c.bell.cell.key c.bell.cell.senders)
         × (not (is_some c.tasks) ≡ false → c.next ≡ c.results + count (table_of c.tasks))
         × (c.puts ≡ c.next) };
 }
@@ -97,16 +92,12 @@ impl Core for ExecutorCore {
         let ExecutorCore {
             tasks: _,
             next: _,
-            pinged: _,
-            draining: _,
+            bell,
             progress: _,
-            key: _,
-            senders: _,
-            name: _,
-            board: _,
             puts: _,
             results: _,
         } = self;
+        bell.dissolve();
     }
 }
 
@@ -144,22 +135,6 @@ pub enum PutRefusal {
     OutOfMemory,
 }
 
-// The debt that pinging a cell gives.
-fn owed_at_ping(pinged: bool, key: Option<u64>, board: &Name) -> Option<Debt>
-    ensures { result ≡ (if pinged then None else on board.now key) }
-{
-    if pinged {
-        return None;
-    }
-    match key {
-        Some(key) => Some(Debt {
-            key,
-            board: board.again(),
-        }),
-        None => None,
-    }
-}
-
 impl ExecutorCore {
     /// A cell without tasks, without a key and without senders, its name, and the right to its receiving end.
     pub fn new(
@@ -170,17 +145,12 @@ impl ExecutorCore {
         ensures keeping { IfOk result (λ made. made.3.name ≡ made.1) }
     {
         let tasks = Tasks::new(alloc)?;
-        let name = Name::fresh();
+        let (bell, name) = Bell::new();
         let core = ExecutorCore {
             tasks: Some(tasks),
             next: 0,
-            pinged: false,
-            draining: false,
+            bell,
             progress: AT_START,
-            key: None,
-            senders: 0,
-            name: name.again(),
-            board: name.again(),
             puts: Count::zero(),
             results: Count::zero(),
         };
@@ -195,7 +165,7 @@ impl ExecutorCore {
         ensures keeping { IsKeeping (cell_of self.now) }
         ensures balanced { IsBalanced self.now }
     {
-        let _ = &self.pinged;
+        let _ = &self.next;
     }
 
     /// A new task, which is queued last, what gives its receipt, and a debt where the cell has a key and was not pinged.
@@ -223,18 +193,20 @@ impl ExecutorCore {
         let Ok(slot) = tasks.put(number, home) else {
             return Err(PutRefusal::OutOfMemory);
         };
-        let debt = owed_at_ping(self.pinged, self.key, &self.board);
         let key = TaskKey { slot, number };
         let due = DueReceipt {
-            name: self.name.again(),
+            name: self.bell.name(),
             number: self.puts.again(),
             key,
             home,
         };
         self.next = next;
         self.puts = self.puts.next();
-        self.pinged = true;
-        Ok(PutTask { key, due, debt })
+        Ok(PutTask {
+            key,
+            due,
+            debt: self.bell.ping(),
+        })
     }
 
     /// A wake: an idle task is queued, and one that is polled is marked; of others nothing changes. It takes no memory.
@@ -249,21 +221,18 @@ impl ExecutorCore {
         let Some(tasks) = &mut self.tasks else {
             return None;
         };
-        let is_queued = tasks.wake(key);
-        let debt = if is_queued {
-            owed_at_ping(self.pinged, self.key, &self.board)
+        if tasks.wake(key) {
+            self.bell.ping()
         } else {
             None
-        };
-        self.pinged = is_queued || self.pinged;
-        debt
+        }
     }
 
     /// Whether the turn is the one that stands open here, and has come as far as it says.
     pub fn is_at(&self, turn: &TaskTurn) -> bool
         ensures { result ≡ true → (self.now.draining ≡ true) × (turn.now.progress ≡ self.now.progress) }
     {
-        self.draining && self.progress == turn.progress
+        self.bell.is_draining() && self.progress == turn.progress
     }
 
     // The task that was popped last is finished, or idle, or queued last where it was woken meanwhile.
@@ -339,25 +308,6 @@ impl ExecutorCore {
         Some((key, home))
     }
 
-    /// The receiving end, which gave the cell no key yet and opened no turn. Its right is spent, so there is one.
-    pub fn receiver(&self, right: ReceivingRight) -> Twin
-        requires { right.name ≡ self.now.name }
-        ensures { result ≡ fresh_twin self.now.name }
-    {
-        Twin::new(right)
-    }
-
-    fn take_key(&mut self) -> Option<LeaveToClose>
-        ensures core { self.new ≡ record self.old { key = None } }
-        ensures leaves { result ≡ on self.old.board self.old.key }
-    {
-        let key = self.key.take()?;
-        Some(LeaveToClose {
-            key,
-            board: self.board.again(),
-        })
-    }
-
     /// Opens a turn with a pass of the cell's own key; the twin counts it.
     ///
     /// It refuses a pass of another key, and any pass while a turn stands open: the pass comes back marked as
@@ -373,8 +323,8 @@ impl ExecutorCore {
             board,
             refused: _,
         } = pass;
-        if !self.opens(key) {
-            let refused = Some(self.name.again());
+        if !self.bell.opens(key) {
+            let refused = Some(self.bell.name());
             return Err(TakenPass {
                 key,
                 board,
@@ -384,16 +334,9 @@ impl ExecutorCore {
         self.begin_turn(key);
         twin.turns = twin.turns.next();
         Ok(TaskTurn {
-            name: self.name.again(),
+            name: self.bell.name(),
             progress: AT_START,
         })
-    }
-
-    // Whether a pass of this key opens a turn.
-    fn opens(&self, key: u64) -> bool
-        ensures { result ≡ opens key (cell_of self.now) }
-    {
-        self.key == Some(key) && !self.draining
     }
 
     fn begin_turn(&mut self, key: u64)
@@ -402,8 +345,7 @@ impl ExecutorCore {
         ensures names { (self.new.name ≡ self.old.name) × (self.new.board ≡ self.old.board) }
     {
         let _ = key;
-        self.pinged = false;
-        self.draining = true;
+        self.bell.open();
         self.progress = AT_START;
     }
 
@@ -435,7 +377,7 @@ impl ExecutorCore {
         turn.progress = self.progress;
         let (key, home) = popped?;
         Some(PoppedTask {
-            name: self.name.again(),
+            name: self.bell.name(),
             key,
             home,
         })
@@ -469,15 +411,8 @@ impl ExecutorCore {
         ensures names { (self.new.name ≡ self.old.name) × (self.new.board ≡ self.old.board) }
     {
         let is_early = !self.progress.dry;
-        let debt = if is_early {
-            owed_at_ping(self.pinged, self.key, &self.board)
-        } else {
-            None
-        };
-        self.pinged = self.pinged || is_early;
-        self.draining = false;
         self.progress = AT_START;
-        debt
+        self.bell.end(is_early)
     }
 }
 
@@ -491,21 +426,14 @@ impl CellCore for ExecutorCore {
     ghost named_by = { λ tag. tag };
 
     fn receiver(&self, right: ReceivingRight) -> Twin {
-        ExecutorCore::receiver(self, right)
+        self.bell.receiver(right)
     }
 
     fn add_sender(&mut self) -> Result<Sender, AllocError>
         ensures ok { IfOk result (λ sender. (sender.name ≡ self.old.name) × (self.new ≡ record self.old { senders = self.old.senders + 1 })) }
         ensures err { IfErr result (λ _. (self.old.senders + 1 ≡ 2 ^ 64) × (self.new ≡ self.old)) }
     {
-        match self.senders.checked_add(1) {
-            Some(senders) => {
-                self.senders = senders;
-                let name = self.name.again();
-                Ok(Sender { name })
-            }
-            None => Err(AllocError),
-        }
+        self.bell.add_sender()
     }
 
     // The last scheduler closes nothing.
@@ -514,8 +442,7 @@ impl CellCore for ExecutorCore {
         ensures core { self.new ≡ record self.old { senders = self.old.senders - 1 } }
         ensures gives { result ≡ None }
     {
-        let Sender { name: _ } = sender;
-        self.senders = self.senders.saturating_sub(1);
+        self.bell.drop_without_close(sender);
         None
     }
 
@@ -526,16 +453,7 @@ impl CellCore for ExecutorCore {
         ensures owes { result.0 ≡ on pass.board (owed_at pass.key (cell_of self.old)) }
         ensures leaves { result.1 ≡ on self.old.board self.old.key }
     {
-        let OpenedPass { key, board } = pass;
-        let leave = self.take_key();
-        self.key = Some(key);
-        self.board = board.again();
-        twin.key = Some(key);
-        if self.pinged {
-            (Some(Debt { key, board }), leave)
-        } else {
-            (None, leave)
-        }
+        self.bell.set_key(pass, twin)
     }
 
     fn clear_key(&mut self, twin: &mut Twin) -> Option<LeaveToClose>
@@ -544,8 +462,7 @@ impl CellCore for ExecutorCore {
         ensures core { self.new ≡ record self.old { key = None } }
         ensures leaves { result ≡ on self.old.board self.old.key }
     {
-        twin.key = None;
-        self.take_key()
+        self.bell.clear_key(twin)
     }
 
     // Every task is finished, and nothing is queued. The futures are dropped after this section.
@@ -555,10 +472,9 @@ impl CellCore for ExecutorCore {
         ensures name { self.new.name ≡ self.old.name }
         ensures leaves { result ≡ on self.old.board self.old.key }
     {
-        twin.end();
         self.tasks = None;
         self.progress.polled = None;
-        self.take_key()
+        self.bell.abandon(twin)
     }
 
     ghost is_named = { λ tag core fits. fits };

@@ -1,8 +1,9 @@
 //! The cell of a ping, which its ends share.
 ghost use Rattle.std.specs.Prelude.{◌≡◌, ◌+◌, ◌<◌, ◌^◌, ◌&&◌, not, true, false, None, Some, IfOk, IfErr};
-ghost use Rattle.calloop_wake.specs.Cells.{fresh, one, opens, IsLit, IsStanding, IsTold, IsSince, owed, owed_at, owed_by_drop, after_close, after_add_sender, after_drop_sender, after_clear_key, after_end_turn, in_turn, core_with, core_after_set_key, core_after_ring, core_after_open_turn, twin_of, twin_after_open_turn, receipt_of, turn_of};
+ghost use Rattle.calloop_wake.specs.Cells.{fresh, one, opens, IsLit, IsStanding, IsTold, IsSince, owed, owed_at, owed_by_drop, after_add_sender, after_drop_sender, after_clear_key, after_end_turn, in_turn, core_with, core_after_set_key, core_after_ring, core_after_open_turn, twin_after_open_turn, receipt_of, turn_of};
 ghost use Rattle.calloop_wake.specs.Passes.{on};
 
+use super::bell::Bell;
 use super::cell::CellCore;
 use super::ghosts::{Count, Name};
 use super::locked::Core;
@@ -19,17 +20,8 @@ use std::marker::Model;
 /// What is due, a ring or a close that no turn told, is pinged: its key is posted, owed or taken, or the cell has none yet.
 /// It has no `Drop`: it lies under a lock, whose last drop ends it.
 pub struct PingCore {
+    bell: Bell,
     rung: bool,
-    pinged: bool,
-    draining: bool,
-    closed: bool,
-    told: bool,
-    gone: bool,
-    key: Option<u64>,
-    senders: u64,
-    name: Name,
-    // The board of its key; its own name, where it had none yet.
-    board: Name,
     rings: Count,
     seen: Count,
     taken: Count,
@@ -42,17 +34,17 @@ impl Model for PingCore {
     ghost Value = { CoreView };
 
     ghost view = { λ c. record {
-      cell = record { rung = c.rung; pinged = c.pinged; draining = c.draining; closed = c.closed; told = c.told; gone = c.gone; key = c.key; senders = c.senders };
-      name = c.name;
-      board = c.board;
+      cell = record c.bell.cell { rung = c.rung };
+      name = c.bell.name;
+      board = c.bell.board;
       rings = c.rings;
       seen = c.seen;
       taken = c.taken;
     } };
 
     ghost invariant = { λ c.
-        IsLit (record { rung = c.rung; pinged = c.pinged; draining = c.draining; closed = c.closed; told = c.told; gone = c.gone; key = c.key; senders = c.senders })
-        × (c.told ≡ true → c.closed ≡ true)
+        IsLit (record c.bell.cell { rung = c.rung })
+        × (c.bell.cell.told ≡ true → c.bell.cell.closed ≡ true)
         × (c.rung ≡ true → c.seen < c.rings)
         × (c.rung ≡ false → c.seen ≡ c.rings)
         × (c.taken + one c.rung ≤ c.rings) };
@@ -70,20 +62,13 @@ impl Core for PingCore {
     fn dissolve(self, last: Last) {
         let Last { of_wake: _ } = last;
         let PingCore {
+            bell,
             rung: _,
-            pinged: _,
-            draining: _,
-            closed: _,
-            told: _,
-            gone: _,
-            key: _,
-            senders: _,
-            name: _,
-            board: _,
             rings: _,
             seen: _,
             taken: _,
         } = self;
+        bell.dissolve();
     }
 }
 
@@ -103,32 +88,16 @@ impl PingCore {
         ensures core { result.0 ≡ record { cell = fresh; name = result.1; board = result.1; rings = 0; seen = 0; taken = 0 } }
         ensures right { result.2.name ≡ result.1 }
     {
-        let name = Name::fresh();
+        let (bell, name) = Bell::new();
         let core = PingCore {
+            bell,
             rung: false,
-            pinged: false,
-            draining: false,
-            closed: false,
-            told: false,
-            gone: false,
-            key: None,
-            senders: 0,
-            name: name.again(),
-            board: name.again(),
             rings: Count::zero(),
             seen: Count::zero(),
             taken: Count::zero(),
         };
         let right = ReceivingRight { name: name.again() };
         (core, name, right)
-    }
-
-    /// The receiving end, which gave the cell no key yet and opened no turn. Its right is spent, so there is one.
-    pub fn receiver(&self, right: ReceivingRight) -> Twin
-        requires { right.name ≡ self.now.name }
-        ensures { result ≡ twin_of self.now }
-    {
-        Twin::new(right)
     }
 
     /// Shows that no ring and no close is lost: what is due is pinged, or a turn stands open. A ring stands exactly where
@@ -143,22 +112,6 @@ impl PingCore {
         let _ = &self.rung;
     }
 
-    // The debt that pinging the cell gives.
-    fn owed(&self) -> Option<Debt>
-        ensures { result ≡ on self.now.board (owed self.now.cell) }
-    {
-        if self.pinged {
-            return None;
-        }
-        match self.key {
-            Some(key) => Some(Debt {
-                key,
-                board: self.board.again(),
-            }),
-            None => None,
-        }
-    }
-
     /// Rings: the receipt of it, and a debt where the cell has a key and was not pinged. Calloop writes to the descriptor.
     pub fn ring(&mut self) -> (Receipt, Option<Debt>)
         ensures core { self.new ≡ core_after_ring self.old }
@@ -166,119 +119,12 @@ impl PingCore {
         ensures gives { result.1 ≡ on self.old.board (owed self.old.cell) }
     {
         let receipt = Receipt {
-            name: self.name.again(),
+            name: self.bell.name(),
             number: self.rings.again(),
         };
-        let debt = self.owed();
-        self.pinged = true;
         self.rung = true;
         self.rings = self.rings.next();
-        (receipt, debt)
-    }
-
-    /// One sender more. It is refused exactly where there are 2^64 - 1, and then nothing changes.
-    pub fn add_sender(&mut self) -> Result<Sender, AllocError>
-        ensures ok { IfOk result (λ sender. (sender.name ≡ self.old.name) × (self.old.cell.senders + 1 < 2 ^ 64) × (self.new ≡ core_with (after_add_sender self.old.cell) self.old)) }
-        ensures err { IfErr result (λ _. (self.old.cell.senders + 1 ≡ 2 ^ 64) × (self.new ≡ self.old)) }
-    {
-        match self.senders.checked_add(1) {
-            Some(senders) => {
-                self.senders = senders;
-                let name = self.name.again();
-                Ok(Sender { name })
-            }
-            None => Err(AllocError),
-        }
-    }
-
-    // The last sender is gone.
-    fn close(&mut self) -> Option<Debt>
-        ensures core { self.new ≡ core_with (after_close self.old.cell) self.old }
-        ensures gives { result ≡ on self.old.board (owed self.old.cell) }
-    {
-        let debt = self.owed();
-        self.senders = 0;
-        self.closed = true;
-        self.pinged = true;
-        debt
-    }
-
-    /// One sender less, which has to be one of this cell. The last one closes: that gives a debt where the cell has a key
-    /// and was not pinged.
-    pub fn drop_sender(&mut self, sender: Sender) -> Option<Debt>
-        requires { sender.name ≡ self.old.name }
-        ensures core { self.new ≡ core_with (after_drop_sender self.old.cell) self.old }
-        ensures gives { result ≡ on self.old.board (owed_by_drop self.old.cell) }
-    {
-        let Sender { name: _ } = sender;
-        if self.senders > 1 {
-            self.senders -= 1;
-            None
-        } else {
-            self.close()
-        }
-    }
-
-    /// Gives the cell the key of a place that was opened, as calloop registers the descriptor under a token.
-    ///
-    /// First comes the debt of the new key, where the cell is pinged, and then the leave to close the place of
-    /// the key that it had.
-    pub fn set_key(
-        &mut self,
-        pass: OpenedPass,
-        twin: &mut Twin,
-    ) -> (Option<Debt>, Option<LeaveToClose>)
-        requires { twin.old.name ≡ self.old.name }
-        ensures twin { twin.new ≡ record twin.old { key = Some pass.key } }
-        ensures core { self.new ≡ core_after_set_key pass self.old }
-        ensures owes { result.0 ≡ on pass.board (owed_at pass.key self.old.cell) }
-        ensures leaves { result.1 ≡ on self.old.board self.old.cell.key }
-    {
-        let OpenedPass { key, board } = pass;
-        let leave = self.take_key();
-        self.key = Some(key);
-        self.board = board.again();
-        twin.key = Some(key);
-        if self.pinged {
-            (Some(Debt { key, board }), leave)
-        } else {
-            (None, leave)
-        }
-    }
-
-    /// Takes the cell's key back, as calloop takes the descriptor out of the poller. What is due stays so.
-    ///
-    /// It gives the leave to close the place of the key, where the cell had one.
-    pub fn clear_key(&mut self, twin: &mut Twin) -> Option<LeaveToClose>
-        requires { twin.old.name ≡ self.old.name }
-        ensures twin { twin.new ≡ record twin.old { key = None } }
-        ensures core { self.new ≡ core_with (after_clear_key false self.old.cell) self.old }
-        ensures leaves { result ≡ on self.old.board self.old.cell.key }
-    {
-        twin.key = None;
-        self.take_key()
-    }
-
-    fn take_key(&mut self) -> Option<LeaveToClose>
-        ensures core { self.new ≡ core_with (after_clear_key false self.old.cell) self.old }
-        ensures leaves { result ≡ on self.old.board self.old.cell.key }
-    {
-        let key = self.key.take()?;
-        Some(LeaveToClose {
-            key,
-            board: self.board.again(),
-        })
-    }
-
-    /// The receiving end goes: the same, and the cell keeps that nobody will take its rings.
-    pub fn abandon(&mut self, twin: Twin) -> Option<LeaveToClose>
-        requires { twin.name ≡ self.old.name }
-        ensures core { self.new ≡ core_with (after_clear_key true self.old.cell) self.old }
-        ensures leaves { result ≡ on self.old.board self.old.cell.key }
-    {
-        twin.end();
-        self.gone = true;
-        self.take_key()
+        (receipt, self.bell.ping())
     }
 
     /// Opens a turn with a pass of the cell's own key, and takes what is due; the twin counts it.
@@ -296,8 +142,8 @@ impl PingCore {
             board,
             refused: _,
         } = pass;
-        if !self.opens(key) {
-            let refused = Some(self.name.again());
+        if !self.bell.opens(key) {
+            let refused = Some(self.bell.name());
             return Err(TakenPass {
                 key,
                 board,
@@ -307,13 +153,6 @@ impl PingCore {
         Ok(self.begin_turn(twin))
     }
 
-    // Whether a pass of this key opens a turn.
-    fn opens(&self, key: u64) -> bool
-        ensures { result ≡ opens key self.now.cell }
-    {
-        self.key == Some(key) && !self.draining
-    }
-
     // Nothing is due any more; the turn, a ring that it takes and a close that it tells are counted.
     fn begin_turn(&mut self, twin: &mut Twin) -> OpenedTurn
         ensures core { self.new ≡ record self.old { cell = in_turn self.old.cell; seen = self.old.rings; taken = self.old.taken + one self.old.cell.rung } }
@@ -321,14 +160,12 @@ impl PingCore {
         ensures turn { result ≡ record { turn = record { name = self.old.name }; rung = self.old.cell.rung; told = self.old.cell.closed && not self.old.cell.told } }
     {
         let rung = self.rung;
-        let told = self.closed && !self.told;
         let turn = PingTurn {
-            name: self.name.again(),
+            name: self.bell.name(),
         };
-        self.pinged = false;
-        self.draining = true;
+        self.bell.open();
+        let told = self.bell.tell();
         self.rung = false;
-        self.told = self.closed || self.told;
         self.seen = self.rings.again();
         self.taken = self.taken.and_one_if(rung);
         twin.turns = twin.turns.next();
@@ -344,8 +181,7 @@ impl PingCore {
         ensures gives { result ≡ None }
     {
         let PingTurn { name: _ } = turn;
-        self.draining = false;
-        None
+        self.bell.end(false)
     }
 }
 
@@ -359,14 +195,14 @@ impl CellCore for PingCore {
     ghost named_by = { λ tag. tag };
 
     fn receiver(&self, right: ReceivingRight) -> Twin {
-        PingCore::receiver(self, right)
+        self.bell.receiver(right)
     }
 
     fn add_sender(&mut self) -> Result<Sender, AllocError>
         ensures ok { IfOk result (λ sender. (sender.name ≡ self.old.name) × (self.new ≡ core_with (after_add_sender self.old.cell) self.old)) }
         ensures err { IfErr result (λ _. (self.old.cell.senders + 1 ≡ 2 ^ 64) × (self.new ≡ self.old)) }
     {
-        PingCore::add_sender(self)
+        self.bell.add_sender()
     }
 
     fn drop_sender(&mut self, sender: Sender) -> Option<Debt>
@@ -374,7 +210,7 @@ impl CellCore for PingCore {
         ensures core { self.new ≡ core_with (after_drop_sender self.old.cell) self.old }
         ensures gives { result ≡ on self.old.board (owed_by_drop self.old.cell) }
     {
-        PingCore::drop_sender(self, sender)
+        self.bell.drop_sender(sender)
     }
 
     fn set_key(&mut self, pass: OpenedPass, twin: &mut Twin) -> (Option<Debt>, Option<LeaveToClose>)
@@ -384,7 +220,7 @@ impl CellCore for PingCore {
         ensures owes { result.0 ≡ on pass.board (owed_at pass.key self.old.cell) }
         ensures leaves { result.1 ≡ on self.old.board self.old.cell.key }
     {
-        PingCore::set_key(self, pass, twin)
+        self.bell.set_key(pass, twin)
     }
 
     fn clear_key(&mut self, twin: &mut Twin) -> Option<LeaveToClose>
@@ -393,7 +229,7 @@ impl CellCore for PingCore {
         ensures core { self.new ≡ core_with (after_clear_key false self.old.cell) self.old }
         ensures leaves { result ≡ on self.old.board self.old.cell.key }
     {
-        PingCore::clear_key(self, twin)
+        self.bell.clear_key(twin)
     }
 
     fn abandon(&mut self, twin: Twin) -> Option<LeaveToClose>
@@ -401,7 +237,7 @@ impl CellCore for PingCore {
         ensures core { self.new ≡ core_with (after_clear_key true self.old.cell) self.old }
         ensures leaves { result ≡ on self.old.board self.old.cell.key }
     {
-        PingCore::abandon(self, twin)
+        self.bell.abandon(twin)
     }
 
     ghost is_named = { λ tag core fits. fits };

@@ -4,7 +4,7 @@ use Rattle.calloop_wake.proofs.wake.executor.ExecutorCore.finish.Goals as goal
 
 pub unreachable-requires : goal.unreachable-requires
 unreachable-requires c =
-    gone-polled c.self.inside.tasks c.self.inside.next c.self.inside.results c.self.inside.pinged c.self.inside.draining c.self.inside.progress c.self.inside.key c.self.inside.senders c.args.key (search rules) (search rules) c.self.invariant.0
+    gone-polled c.self.inside.tasks c.self.inside.next c.self.inside.results c.self.inside.bell.cell.pinged c.self.inside.bell.cell.draining c.self.inside.progress c.self.inside.bell.cell.key c.self.inside.bell.cell.senders c.args.key (search rules) (search rules) c.self.invariant.0
 
 pub finish-requires : goal.finish-requires
 finish-requires c = polled-there _ _ c.in-Some.tasks _ _ _ _ _ _ _ c.in-Some.is c.self.invariant.0 c.args.key (search rules)

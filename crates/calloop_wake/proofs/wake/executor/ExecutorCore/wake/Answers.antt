@@ -1,8 +1,24 @@
-use Rattle.std.proofs.Common.{rules, ◌≡◌, ◌||◌}
-use Rattle.calloop_wake.proofs.Inside.{inside-wake}
+use Rattle.std.proofs.Common.{rules, ◌≡◌, ◌||◌, true, Some, Bool}
+use Rattle.calloop_wake.proofs.Inside.{inside-wake, of-bell}
 use Rattle.calloop_wake.proofs.wake.executor.ExecutorCore.wake.Goals as goal
 
-pub invariant_of-self-2 : goal.invariant_of-self-2
-invariant_of-self-2 c =
-    let after : c.if-is_queued-2.self ≡ (c.wake-is_queued.result || c.self.inside.pinged) = search rules in
-    (inside-wake _ _ c.wake-is_queued.new.self _ _ _ _ _ _ _ c.in-Some.is c.self.invariant.0 c.args.key _ _ after c.wake-is_queued.ensures.result c.wake-is_queued.ensures.tasks c.wake-is_queued.ensures.line, search rules, search rules)
+pub invariant_of-self-then-wake : goal.invariant_of-self-then-wake
+invariant_of-self-then-wake c =
+    let i = c.self.inside in
+    let after : true ≡ (c.wake.result || i.bell.cell.pinged) = search rules in (
+      of-bell (Some c.wake.new.self) i.next i.results true i.bell.cell.draining i.progress i.bell.cell.key i.bell.cell.senders c.ping.new.self.cell (search rules) (search rules)
+          (inside-wake i.tasks c.in-Some.tasks c.wake.new.self i.next i.results i.bell.cell.pinged i.bell.cell.draining i.progress i.bell.cell.key i.bell.cell.senders
+          c.in-Some.is c.self.invariant.0 c.args.key _ _ after c.wake.ensures.result c.wake.ensures.tasks c.wake.ensures.line),
+      search rules,
+      search rules,
+    )
+
+pub invariant_of-self-else-wake : goal.invariant_of-self-else-wake
+invariant_of-self-else-wake c =
+    let i = c.self.inside in
+    let after : i.bell.cell.pinged ≡ (c.wake.result || i.bell.cell.pinged) = search rules in (
+      inside-wake i.tasks c.in-Some.tasks c.wake.new.self i.next i.results i.bell.cell.pinged i.bell.cell.draining i.progress i.bell.cell.key i.bell.cell.senders
+          c.in-Some.is c.self.invariant.0 c.args.key _ _ after c.wake.ensures.result c.wake.ensures.tasks c.wake.ensures.line,
+      search rules,
+      search rules,
+    )

@@ -13,11 +13,11 @@ marked : (p : Taken) (core : CoreView) (n : Book) → opens p.key core.cell ≡ 
 marked p core n shut is = rw (shut, is)
 
 -- what is the name of the content is that of the cell
-same_name : (core : CoreView) (n : Book) (i : Inside) → the_view i ≡ core → n ≡ i.name → n ≡ core.name
+same_name : (core : CoreView) (n : Book) (i : Inside) → the_view i ≡ core → n ≡ i.bell.name → n ≡ core.name
 same_name core n i seen is = is ∙ ap (λ (v : CoreView). v.name) seen
 
 pub returns-then-not-opens-clause-gives : goal.returns-then-not-opens-clause-gives
 returns-then-not-opens-clause-gives c =
     let p : Taken = record { key = c.pass.inside.key; board = c.pass.inside.board; refused = c.pass.inside.refused } in
-    let shut : opens p.key c.args.self.now.cell ≡ false = sym c.opens.ensures ∙ c.if-not-opens.true in
+    let shut : opens p.key c.args.self.now.cell ≡ false = sym (c.opens.ensures ∙ ap (λ (v : CoreView). opens p.key v.cell) c.self.view_is) ∙ c.if-not-opens.true in
     marked p c.args.self.now _ shut (search same_name) ∙ ap (λ (q : Taken). turn_of q c.args.self.now) c.pass.view_is
