@@ -7,7 +7,7 @@ use crate::cell::{Cell, settle};
 use calloop_wake::error::Result as LoopResult;
 use calloop_wake::wake::locked::Locked;
 use calloop_wake::wake::ping::{OpenedTurn, PingCore};
-use calloop_wake::wake::{PingTurn, Receipt, ReceivingRight, TakenPass, Twin};
+use calloop_wake::wake::{Receipt, ReceivingRight, TakenPass, Twin};
 use std::alloc::Global;
 use std::sync::Wait;
 
@@ -36,35 +36,38 @@ pub fn ring<R: Wait>(rt: &R, shared: &Locked<PingCell>) -> Receipt
     receipt
 }
 
-/// Opens a turn of the cell with the pass, which comes back as refused where it opens none.
-pub fn open_turn<R: Wait>(
+/// What a turn of the cell took.
+#[derive(Clone, Copy, Debug, PartialEq, Eq)]
+pub struct Due {
+    /// Somebody rang since the last turn.
+    pub rung: bool,
+    /// The last sender is gone, and no turn told it before.
+    pub told: bool,
+}
+
+/// A turn of the cell: opened with the pass, and ended. The pass comes back as refused where it opens none.
+pub fn take_turn<R: Wait>(
     rt: &R,
     shared: &Locked<PingCell>,
     twin: &mut Twin,
     pass: TakenPass,
-) -> Result<OpenedTurn, TakenPass>
+) -> Result<Due, TakenPass>
     requires { twin.old.name ≡ shared.now.slot }
     ensures name { twin.new.name ≡ twin.old.name }
-    ensures ok { IfOk result (λ opened. (opened.turn.name ≡ shared.now.slot)
-        × (twin.new ≡ twin_opened opened.rung opened.told twin.old)) }
+    ensures ok { IfOk result (λ due. twin.new ≡ twin_opened due.rung due.told twin.old) }
     ensures err { IfErr result (λ refused. (refused ≡ record pass { refused = Some twin.old.name })
         × (twin.new ≡ twin.old)) }
 {
     let mut held = shared.lock(rt);
     let cell = held.core();
-    let opened = cell.core.open_turn(pass, twin);
-    held.unlock();
-    opened
-}
-
-/// Ends a turn of the cell.
-pub fn end_turn<R: Wait>(rt: &R, shared: &Locked<PingCell>, turn: PingTurn)
-    requires { turn.name ≡ shared.now.slot }
-{
-    let mut held = shared.lock(rt);
-    let cell = held.core();
-    let debt = cell.core.end_turn(turn);
+    let (taken, debt) = match cell.core.open_turn(pass, twin) {
+        Ok(OpenedTurn { turn, rung, told }) => {
+            (Ok(Due { rung, told }), cell.core.end_turn(turn))
+        }
+        Err(pass) => (Err(pass), None),
+    };
     let owed = cell.owed(rt, debt);
     held.unlock();
     settle(rt, owed);
+    taken
 }

@@ -15,7 +15,6 @@ use calloop_core::sys::synthetic::Synthetic;
 use calloop_core::sys::{Poller, Readiness};
 use calloop_wake::error::{Error, Result as LoopResult};
 use calloop_wake::token::{Token, TokenFactory};
-use calloop_wake::wake::ping::OpenedTurn;
 use std::sync::Wait;
 use thiserror::Error as ThisError;
 
@@ -106,12 +105,10 @@ impl<P: Poller, C, R: Wait + Drop> EventSource<P, C, R> for PingSource<R> {
         let Some(pass) = poll.take_pass() else {
             return Ok(PostAction::Continue);
         };
-        match cell::open_turn(&self.rt, &self.shared, &mut self.twin, pass) {
-            Ok(opened) => {
-                let OpenedTurn { turn, rung, told } = opened;
-                call_if(rung, callback, data, requests);
-                cell::end_turn(&self.rt, &self.shared, turn);
-                Ok(action_of(told))
+        match cell::take_turn(&self.rt, &self.shared, &mut self.twin, pass) {
+            Ok(due) => {
+                call_if(due.rung, callback, data, requests);
+                Ok(action_of(due.told))
             }
             Err(pass) => {
                 poll.put_back(pass);

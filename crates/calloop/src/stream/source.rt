@@ -14,7 +14,8 @@ ghost use Rattle.std.specs.Arc.{arc_value};
 use super::reading::{Ending, Read, Readable, Stream};
 use super::{StreamError, StreamSource};
 use crate::cell::source::{is_mine, register, reregister, unregister};
-use crate::ping::{Ping, PingSource, cell};
+use crate::ping::cell::{self, Due};
+use crate::ping::{Ping, PingSource};
 use calloop_core::sources::{Asking, Callback, EventSource, PostAction};
 use calloop_core::sys::events::EventIterator;
 use calloop_core::sys::poll::Poll;
@@ -22,8 +23,7 @@ use calloop_core::sys::synthetic::Synthetic;
 use calloop_core::sys::{Poller, Readiness};
 use calloop_wake::error::Result as LoopResult;
 use calloop_wake::token::{Token, TokenFactory};
-use calloop_wake::wake::ping::OpenedTurn;
-use calloop_wake::wake::{PingTurn, Receipt, TakenPass};
+use calloop_wake::wake::{Receipt, TakenPass};
 use std::sync::Wait;
 
 // The most items of one turn.
@@ -157,17 +157,8 @@ impl<S: Stream<R>, P: Poller, C, R: Wait + Drop> EventSource<P, C, R> for Stream
         let Some(pass) = poll.take_pass() else {
             return Ok(PostAction::Continue);
         };
-        match open_turn(&mut self.source, pass) {
-            Ok(opened) => {
-                let OpenedTurn {
-                    turn,
-                    rung,
-                    told: _,
-                } = opened;
-                let action = self.listen(rung, callback, data, requests);
-                end_turn(&self.source, turn);
-                Ok(action)
-            }
+        match take_turn(&mut self.source, pass) {
+            Ok(due) => Ok(self.listen(due.rung, callback, data, requests)),
             Err(pass) => {
                 poll.put_back(pass);
                 Ok(PostAction::Continue)
@@ -221,19 +212,16 @@ impl<S: Stream<R>, P: Poller, C, R: Wait + Drop> EventSource<P, C, R> for Stream
     ghost keeps = { stream_keeps S.polls (λ s. s.source.twin) (λ s. reading_of s.stream s.own) (λ s t. t.source.shared ≡ s.source.shared) };
 }
 
-// Opens a turn of the ping's cell with the pass, which comes back as refused where it opens none.
-fn open_turn<R: Wait + Drop>(
-    source: &mut PingSource<R>,
-    pass: TakenPass,
-) -> Result<OpenedTurn, TakenPass>
+// A turn of the ping's cell. The pass comes back as refused where it opens none.
+fn take_turn<R: Wait + Drop>(source: &mut PingSource<R>, pass: TakenPass) -> Result<Due, TakenPass>
     ensures shared { source.new.shared ≡ source.old.shared }
-    ensures ok { IfOk result (λ opened. (opened.turn.name ≡ source.old.twin.name)
-        × (source.new.twin ≡ twin_opened opened.rung opened.told source.old.twin)) }
+    ensures ok { IfOk result
+        (λ due. source.new.twin ≡ twin_opened due.rung due.told source.old.twin) }
     ensures err { IfErr result
         (λ refused. (refused ≡ record pass { refused = Some source.old.twin.name })
         × (source.new.twin ≡ source.old.twin)) }
 {
-    cell::open_turn(&source.rt, &source.shared, &mut source.twin, pass)
+    cell::take_turn(&source.rt, &source.shared, &mut source.twin, pass)
 }
 
 // Whether the token is that of the ping.
@@ -241,11 +229,4 @@ fn is_own<R: Wait + Drop>(source: &PingSource<R>, token: Token) -> bool
     ensures { result ≡ is_own (key_of token) source.now.twin.key }
 {
     is_mine(&source.twin, token)
-}
-
-// Ends the turn of the ping's cell.
-fn end_turn<R: Wait + Drop>(source: &PingSource<R>, turn: PingTurn)
-    requires { turn.name ≡ source.now.twin.name }
-{
-    cell::end_turn(&source.rt, &source.shared, turn);
 }

@@ -22,14 +22,14 @@ returns-in_default g c =
 pub returns-in-Ok : goal.returns-in-Ok
 returns-in-Ok g c =
     let s = c.args.self.now in
-    let opened = c.in-Ok.opened in
+    let due = c.in-Ok.due in
     let own : is_own (key_of c.args.token) s.twin.key ≡ true = sym c.is_mine.ensures ∙ c.if-not-is_mine.false in (
-      calls_of opened.rung,
+      calls_of due.rung,
       (
         TakePass ∷ [],
         (
-          turn_served _ s.twin c.args.token c.args.poll.now.batch.pass own c.in-Some.pass (Opened opened.rung opened.told) (calls_of opened.rung) c.action_of.result (TakePass ∷ []) c.open_turn.new.twin (sym c.in-Some.ensures.pass)
-              (refl, c.action_of.ensures, refl, c.in-Ok.ensures.ok.1),
+          turn_served _ s.twin c.args.token c.args.poll.now.batch.pass own c.in-Some.pass (Opened due.rung due.told) (calls_of due.rung) c.action_of.result (TakePass ∷ []) c.take_turn.new.twin (sym c.in-Some.ensures.pass)
+              (refl, c.action_of.ensures, refl, c.in-Ok.ensures.ok),
           refl,
         ),
         ((tt, tt), c.take_pass.ensures.view),
@@ -45,7 +45,7 @@ returns-in-Err g c =
       (
         TakePass ∷ PutBack c.in-Err.pass ∷ [],
         (
-          turn_served _ s.twin c.args.token c.args.poll.now.batch.pass own c.in-Some.pass Refused [] Continue (TakePass ∷ PutBack c.in-Err.pass ∷ []) c.open_turn.new.twin (sym c.in-Some.ensures.pass)
+          turn_served _ s.twin c.args.token c.args.poll.now.batch.pass own c.in-Some.pass Refused [] Continue (TakePass ∷ PutBack c.in-Err.pass ∷ []) c.take_turn.new.twin (sym c.in-Some.ensures.pass)
               (refl, refl, ap (λ p. TakePass ∷ PutBack p ∷ []) c.in-Err.ensures.err.0, c.in-Err.ensures.err.1),
           refl,
         ),

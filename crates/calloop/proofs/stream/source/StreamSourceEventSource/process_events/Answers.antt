@@ -22,22 +22,22 @@ returns-in_default g c =
 pub returns-in-Ok : goal.returns-in-Ok
 returns-in-Ok g c =
     let s = c.args.self.now in
-    let t = c.listen-action.new.self in
+    let t = c.listen.new.self in
     let own : is_own (key_of c.args.token) s.source.twin.key ≡ true = sym c.is_own.ensures ∙ c.if-not-is_own.false in
     let ok = c.in-Ok.ensures.ok in
-    let h = c.listen-action.ensures.reads in
+    let h = c.listen.ensures.reads in
     let before = reading_of s.stream s.own in
     let after = reading_of t.stream t.own in (
       h.2,
       (
         TakePass ∷ [],
         (
-          turn_answered _ _ _ g.S.Stream.polls s.source.twin before c.args.token c.args.poll.now.batch.pass own c.in-Some.pass (Opened c.in-Ok.opened.rung c.in-Ok.opened.told h.0 h.1) h.2 c.listen-action.result (TakePass ∷ []) t.source.twin after (sym c.in-Some.ensures.pass) (
-            subst (λ n. ReadsSo g.S.Stream.polls n c.in-Ok.opened.rung before.stream h.0 h.1 before h.2 c.listen-action.result after) (ap (λ x. x.name) ok.1) h.3,
+          turn_answered _ _ _ g.S.Stream.polls s.source.twin before c.args.token c.args.poll.now.batch.pass own c.in-Some.pass (Opened c.in-Ok.due.rung c.in-Ok.due.told h.0 h.1) h.2 c.listen.result (TakePass ∷ []) t.source.twin after (sym c.in-Some.ensures.pass) (
+            subst (λ n. ReadsSo g.S.Stream.polls n c.in-Ok.due.rung before.stream h.0 h.1 before h.2 c.listen.result after) (ap (λ x. x.name) ok) h.3,
             refl,
-            ap (λ x. x.twin) c.listen-action.ensures.source ∙ ok.1,
+            ap (λ x. x.twin) c.listen.ensures.source ∙ ok,
           ),
-          ap (λ x. x.shared) c.listen-action.ensures.source ∙ c.in-Ok.ensures.shared,
+          ap (λ x. x.shared) c.listen.ensures.source ∙ c.in-Ok.ensures.shared,
         ),
         ((tt, tt), c.take_pass.ensures.view),
       ),
@@ -53,7 +53,7 @@ returns-in-Err g c =
       (
         TakePass ∷ PutBack c.in-Err.pass ∷ [],
         (
-          turn_answered _ _ _ g.S.Stream.polls s.source.twin before c.args.token c.args.poll.now.batch.pass own c.in-Some.pass Refused [] Continue (TakePass ∷ PutBack c.in-Err.pass ∷ []) c.open_turn.new.source.twin before (sym c.in-Some.ensures.pass)
+          turn_answered _ _ _ g.S.Stream.polls s.source.twin before c.args.token c.args.poll.now.batch.pass own c.in-Some.pass Refused [] Continue (TakePass ∷ PutBack c.in-Err.pass ∷ []) c.take_turn.new.source.twin before (sym c.in-Some.ensures.pass)
               (refl, refl, ap (λ p. TakePass ∷ PutBack p ∷ []) c.in-Err.ensures.err.0, c.in-Err.ensures.err.1, refl),
           c.in-Err.ensures.shared,
         ),
