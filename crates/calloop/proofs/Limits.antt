@@ -7,7 +7,7 @@ use Rattle.calloop_wake.specs.declared.token.RegistrationToken.{RegistrationToke
 use Rattle.calloop_wake.specs.Slots.{changed, with_content, named, content_under, is_empty, after_turn}
 use Rattle.calloop_wake.proofs.Named.{named_slot, turn_ended}
 use Rattle.calloop_core.specs.declared.sources.Role.{Role}
-use Rattle.calloop_core.specs.declared.sources.Role.TheVariants.{Caller, Adapter}
+use Rattle.calloop_core.specs.declared.sources.Role.TheVariants.{Caller, Adapter, Timeout}
 use Rattle.calloop_core.specs.Pollers.{Outside}
 use Rattle.calloop_core.specs.Polls.{PollView}
 use Rattle.calloop_core.specs.Deeds.{Reregistered}
@@ -63,4 +63,5 @@ module _ {D P T : Type 0} (M : Meaning D P T) where
   -- what is settled and stays has the limit that it had
   pub settled_limit : (O : Outside P) → KeepsLimit M → (r : Role) (token : RegistrationToken) (s t : D) (v w : PollView P) → Settles r O M token None s v t w → M.limit t ≡ M.limit s
   settled_limit O k Caller token s t v w h = ap M.limit h.1
+  settled_limit O k Timeout token s t v w h = ap M.limit h.1
   settled_limit O k Adapter token s t v w h = k.same s t v (Reregistered (fresh_factory token) (Ok tt) h.0) h.1.0 h.1.1

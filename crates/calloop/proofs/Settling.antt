@@ -14,7 +14,7 @@ use Rattle.calloop_core.specs.Polls.{PollView, polls_after, IsReady}
 use Rattle.calloop_core.specs.Deeds.{Reregistered, Unregistered, Lent}
 use Rattle.calloop_core.specs.Meanings.{Meaning, Does, fresh_factory, Settles, SettledAs}
 use Rattle.calloop_core.specs.declared.sources.Role.{Role}
-use Rattle.calloop_core.specs.declared.sources.Role.TheVariants.{Caller, Adapter}
+use Rattle.calloop_core.specs.declared.sources.Role.TheVariants.{Caller, Adapter, Timeout}
 use Rattle.calloop.specs.Held.{Unlisted, Warned, Listed, held_after, warned}
 use Rattle.calloop.specs.Askings.{Asks, Runs}
 use Rattle.calloop.specs.Machine.{View, Put, Polls, Holds}
@@ -76,6 +76,7 @@ module _ {D I P X : Type 0} (M : Meaning D P (Lent X (Asks D I))) (runs : Runs D
 
   adapter_settles : (r : Role) (token : RegistrationToken) (told : Option (Result (Unit {0}) Error)) (d e : D) (p p' : PollView P) → of_adapter r ≡ true → Settles r O M token told d p e p' → SettledAs O M token told d p e p'
   adapter_settles Caller token told d e p p' is h = cc
+  adapter_settles Timeout token told d e p p' is h = cc
   adapter_settles Adapter token told d e p p' is h = h
 
   pub kept : (timeout : Option ℕ) (token : RegistrationToken) (later : List RegistrationToken) (v : View D I P) (x : X) (d e : D) (p' : PollView P) → only (is_adapter M) (named v.slots token) ≡ Source d

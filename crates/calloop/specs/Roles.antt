@@ -4,16 +4,18 @@ use Rattle.std.specs.Prelude.{Bool, true, false}
 use Rattle.calloop_wake.specs.declared.list.Content.{Content}
 use Rattle.calloop_wake.specs.declared.list.Content.TheVariants.{Vacant, Source, InTurn}
 use Rattle.calloop_core.specs.declared.sources.Role.{Role}
-use Rattle.calloop_core.specs.declared.sources.Role.TheVariants.{Caller, Adapter}
+use Rattle.calloop_core.specs.declared.sources.Role.TheVariants.{Caller, Adapter, Timeout}
 use Rattle.calloop_core.specs.Meanings.{Meaning}
 
 abbrev pub of_caller : Role → Bool
 of_caller Caller = true
 of_caller Adapter = false
+of_caller Timeout = false
 
 abbrev pub of_adapter : Role → Bool
 of_adapter Caller = false
 of_adapter Adapter = true
+of_adapter Timeout = false
 
 abbrev pub is_callers : {D P T : Type 0} → Meaning D P T → D → Bool
 is_callers m d = of_caller (m.role d)

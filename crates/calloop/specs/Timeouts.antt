@@ -6,8 +6,7 @@ use Rattle.calloop_wake.specs.declared.error.Error.TheVariants.{OutOfMemory}
 use Rattle.calloop_wake.specs.declared.error.InsertError.{InsertError}
 use Rattle.calloop_wake.specs.declared.token.RegistrationToken.{RegistrationToken}
 use Rattle.calloop_wake.specs.declared.wheel.Instant.{Instant}
-use Rattle.calloop_core.specs.declared.sources.Dispatcher.{Dispatcher}
-use Rattle.calloop_core.specs.declared.timer.Timer.{Timer}
+use Rattle.calloop_core.specs.declared.sources.Role.TheVariants.{Timeout}
 use Rattle.calloop_core.specs.Deeds.{Lent}
 use Rattle.calloop_core.specs.Meanings.{Meaning}
 use Rattle.calloop_core.specs.Pollers.{Outside}
@@ -18,6 +17,7 @@ use Rattle.calloop.specs.declared.loop_logic.LoopHandle.{LoopHandle}
 use Rattle.calloop.specs.declared.loop_logic.LoopCall.TheVariants.{Insert}
 use Rattle.calloop.specs.declared.loop_logic.LoopAnswer.TheVariants.{Inserted}
 use Rattle.calloop.specs.declared.timeout.TimeoutFuture.{TimeoutFuture}
+use Rattle.calloop.specs.declared.timeout.TimeoutTimer.{TimeoutTimer}
 use Rattle.calloop.specs.declared.timeout.WakesTimeout.{WakesTimeout}
 use Rattle.calloop.specs.Askings.{Asks, Runs}
 use Rattle.calloop.specs.Handles.{held_by, IsCase}
@@ -33,36 +33,37 @@ is_ready (Ready x) = true
 is_ready Pending = false
 
 -- a timer that isn't armed yet, and what it calls
-abbrev pub timer_at : {R : Type 0} → Instant → WakesTimeout R → Dispatcher Timer (WakesTimeout R)
-timer_at moment wakes = record { source = unarmed (Some moment); callback = wakes }
+abbrev pub timer_at : {R : Type 0} → Instant → WakesTimeout R → TimeoutTimer R
+timer_at moment wakes = record { timer = record { source = unarmed (Some moment); callback = wakes } }
 
 -- what wakes the future of this timeout
 abbrev pub IsOf : {C R : Type 0} → TimeoutFuture C R → WakesTimeout R → Type 0
 IsOf made wakes = arc_value wakes.parked ≡ arc_value made.parked
 
--- A timer of this moment was inserted, which wakes the future.
+-- A timer of this moment was inserted, which wakes the future. It is the loop's own, so no call of a handle names it.
 abbrev pub HasTimer : {D P C R X I S : Type 0} → Meaning D P (Lent X (Asks D I)) → Runs D I X → Outside P
-    → (held : Dispatcher Timer (WakesTimeout R) → D) → Instant → TimeoutFuture C R
+    → (placed : TimeoutTimer R → D) → Instant → TimeoutFuture C R
     → LoopHandle D P C R X I S → LoopHandle D P C R X I S → Type 0
-HasTimer {D} {P} {C} {R} M runs O held moment made old new =
+HasTimer {D} {P} {C} {R} M runs O placed moment made old new =
     (token : RegistrationToken) × (wakes : WakesTimeout R) × IsOf made wakes
-    × IsCase M runs O (Insert (held (timer_at moment wakes))) (Inserted (Ok token)) old new
+    × (M.role (placed (timer_at moment wakes)) ≡ Timeout)
+    × IsCase M runs O (Insert (placed (timer_at moment wakes))) (Inserted (Ok token)) old new
 
 -- Its insertion was refused so, or there was no memory for the future before, and the loop is as it was.
 abbrev pub HasNoTimer : {D P C R X I S : Type 0} → Meaning D P (Lent X (Asks D I)) → Runs D I X → Outside P
-    → (held : Dispatcher Timer (WakesTimeout R) → D) → Instant → Error
+    → (placed : TimeoutTimer R → D) → Instant → Error
     → LoopHandle D P C R X I S → LoopHandle D P C R X I S → Type 0
-HasNoTimer {D} {P} {C} {R} M runs O held moment e old new =
+HasNoTimer {D} {P} {C} {R} M runs O placed moment e old new =
     ((e ≡ OutOfMemory) × (held_by new ≡ held_by old))
     ⊎ ((back : InsertError D) × (back.error ≡ e) × (wakes : WakesTimeout R)
-    × IsCase M runs O (Insert (held (timer_at moment wakes))) (Inserted (Err back)) old new)
+    × IsCase M runs O (Insert (placed (timer_at moment wakes))) (Inserted (Err back)) old new)
 
 -- What comes of making one. Without a moment nothing is inserted, and want of memory alone refuses it.
 abbrev pub IsMade : {D P C R X I S : Type 0} → Meaning D P (Lent X (Asks D I)) → Runs D I X → Outside P
-    → (held : Dispatcher Timer (WakesTimeout R) → D) → Option Instant → Result (TimeoutFuture C R) Error
+    → (placed : TimeoutTimer R → D) → Option Instant → Result (TimeoutFuture C R) Error
     → LoopHandle D P C R X I S → LoopHandle D P C R X I S → Type 0
-IsMade M runs O held None result old new =
+IsMade M runs O placed None result old new =
     IfOk result (λ made. made.deadline ≡ None) × IfErr result (λ e. e ≡ OutOfMemory) × (held_by new ≡ held_by old)
-IsMade M runs O held (Some moment) result old new =
-    IfOk result (λ made. (made.deadline ≡ Some moment) × HasTimer M runs O held moment made old new)
-    × IfErr result (λ e. HasNoTimer M runs O held moment e old new)
+IsMade M runs O placed (Some moment) result old new =
+    IfOk result (λ made. (made.deadline ≡ Some moment) × HasTimer M runs O placed moment made old new)
+    × IfErr result (λ e. HasNoTimer M runs O placed moment e old new)

@@ -41,4 +41,4 @@ pub use loop_logic::{
     Sources, SystemLoop, Ticket,
 };
 pub use ping::{Ping, PingError, PingSource, make_ping};
-pub use timeout::{TimeoutFuture, WakesTimeout};
+pub use timeout::{TimeoutFuture, TimeoutTimer, WakesTimeout};

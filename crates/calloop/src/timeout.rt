@@ -1,6 +1,7 @@
 //! A future that is ready once a moment of the loop's clock has come.
 //!
-//! From calloop's `TimeoutFuture` in `sources/timer.rs`. Like there, it is a timer in a slot, whose token nobody else has.
+//! From calloop's `TimeoutFuture` in `sources/timer.rs`. Like there, it is a timer in a slot, whose token nobody else has; and here
+//! nobody can make one up.
 ghost use Rattle.std.specs.Prelude.{◌≡◌, true, Some, IfOk, IfErr};
 ghost use Rattle.calloop_wake.specs.declared.error.Error.TheVariants.{OutOfMemory};
 ghost use Rattle.calloop_wake.specs.declared.wheel.Instant.{Instant};
@@ -11,12 +12,16 @@ ghost use Rattle.calloop.specs.Polled.{IfReady, OnPending};
 ghost use Rattle.calloop.specs.Timeouts.{HasCome, HasTimer, HasNoTimer, IsMade, IsOf, is_ready};
 
 use crate::futures::{Context, Future, Poll, Waker};
-use crate::loop_logic::{EventDispatcher, LoopHandle};
-use calloop_core::callbacks::On;
-use calloop_core::sources::{Choice, Dispatcher};
-use calloop_core::sys::{Clock, Poller};
+use crate::loop_logic::{EventDispatcher, LoopHandle, Requests};
+use calloop_core::callbacks::{On, QuietDispatch};
+use calloop_core::sources::{Asking, Dispatch, Dispatcher, Here, Keep, Place, PostAction, Role};
+use calloop_core::sys::events::EventIterator;
+use calloop_core::sys::poll::Poll as LoopPoll;
+use calloop_core::sys::synthetic::Synthetic;
+use calloop_core::sys::{Clock, Poller, Readiness};
 use calloop_core::timer::{TimeoutAction, Timer};
-use calloop_wake::error::Result;
+use calloop_wake::error::{Error, Failed, Result};
+use calloop_wake::token::{RegistrationToken, Token, TokenFactory};
 use calloop_wake::wake::ghosts::Name;
 use calloop_wake::wheel::Instant;
 use std::alloc::Global;
@@ -38,8 +43,7 @@ impl<R: Wait + Drop> Parked<R> {
     }
 }
 
-/// Wakes the future of a timeout, once its moment has come: what the timer of a `TimeoutFuture` calls. A loop of timeouts has a place
-/// for `Dispatcher<Timer, WakesTimeout<R>>`.
+/// Wakes the future of a timeout, once its moment has come: what the timer of a `TimeoutFuture` calls.
 #[derive(Drop)]
 pub struct WakesTimeout<R: Wait + Drop> {
     parked: Arc<Parked<R>, Global>,
@@ -57,6 +61,122 @@ impl<R: Wait + Drop, X> On<Instant, X, TimeoutAction> for WakesTimeout<R> {
         }
         TimeoutAction::Drop
     }
+}
+
+type Wakes<R> = Dispatcher<Timer, WakesTimeout<R>>;
+
+/// The timer of a `TimeoutFuture`, with what it calls. A loop of timeouts has a place for it. It is the loop's own: the calls of a handle
+/// answer for its token as for one that names no source.
+#[derive(Drop)]
+pub struct TimeoutTimer<R: Wait + Drop> {
+    timer: Wakes<R>,
+}
+
+impl<P: Poller, C, R: Wait + Drop, X, Q: Asking> Dispatch<P, C, R, X, Q> for TimeoutTimer<R> {
+    ghost use Rattle.calloop_core.specs.Meanings.{seen_as, in_role};
+    ghost use Rattle.calloop_core.specs.Lawful.{keeping_seen, keeping_in_role, asking_seen, failing_seen};
+    ghost use Rattle.calloop_core.specs.declared.sources.Role.TheVariants.{Timeout};
+
+    ghost means = { in_role Timeout (seen_as (λ t. t.timer) ⟦<Dispatcher<Timer, WakesTimeout<R>> as Dispatch<P, C, R, X, Q>>⟧.means) };
+
+    fn register(
+        &mut self,
+        poll: &mut LoopPoll<P, C, R>,
+        factory: &mut TokenFactory,
+        failure: &mut Error,
+    ) -> std::result::Result<(), Failed> {
+        <Wakes<R> as Dispatch<P, C, R, X, Q>>::register(&mut self.timer, poll, factory, failure)
+    }
+
+    fn reregister(
+        &mut self,
+        poll: &mut LoopPoll<P, C, R>,
+        factory: &mut TokenFactory,
+        failure: &mut Error,
+    ) -> std::result::Result<(), Failed> {
+        <Wakes<R> as Dispatch<P, C, R, X, Q>>::reregister(&mut self.timer, poll, factory, failure)
+    }
+
+    fn unregister(
+        &mut self,
+        poll: &mut LoopPoll<P, C, R>,
+        failure: &mut Error,
+    ) -> std::result::Result<(), Failed> {
+        <Wakes<R> as Dispatch<P, C, R, X, Q>>::unregister(&mut self.timer, poll, failure)
+    }
+
+    fn process_events(
+        &mut self,
+        readiness: Readiness,
+        token: Token,
+        poll: &mut LoopPoll<P, C, R>,
+        data: &mut X,
+        requests: &mut Q,
+        failure: &mut Error,
+    ) -> std::result::Result<PostAction, Failed> {
+        self.timer
+            .process_events(readiness, token, poll, data, requests, failure)
+    }
+
+    fn needs_extra_lifecycle_events(&self) -> bool {
+        false
+    }
+
+    fn synthetic_limit(&self) -> u16 {
+        0
+    }
+
+    fn role(&self) -> Role {
+        Role::Timeout
+    }
+
+    fn settle(
+        &mut self,
+        _token: RegistrationToken,
+        _poll: &mut LoopPoll<P, C, R>,
+    ) -> Option<Result<()>> {
+        None
+    }
+
+    fn before_sleep(&mut self, out: &mut Synthetic) -> Result<()> {
+        <Wakes<R> as Dispatch<P, C, R, X, Q>>::before_sleep(&mut self.timer, out)
+    }
+
+    fn before_handle_events(&mut self, events: EventIterator<'_>) {
+        <Wakes<R> as Dispatch<P, C, R, X, Q>>::before_handle_events(&mut self.timer, events)
+    }
+
+    ghost keeps = { keeping_in_role Timeout (seen_as (λ t. t.timer) ⟦<Dispatcher<Timer, WakesTimeout<R>> as Dispatch<P, C, R, X, Q>>⟧.means)
+        (keeping_seen (λ t. t.timer) ⟦<Dispatcher<Timer, WakesTimeout<R>> as Dispatch<P, C, R, X, Q>>⟧.means ⟦<Dispatcher<Timer, WakesTimeout<R>> as Dispatch<P, C, R, X, Q>>⟧.keeps) };
+
+    ghost asks = { asking_seen (λ t. t.timer) Q.reaches ⟦<Dispatcher<Timer, WakesTimeout<R>> as Dispatch<P, C, R, X, Q>>⟧.means ⟦<Dispatcher<Timer, WakesTimeout<R>> as Dispatch<P, C, R, X, Q>>⟧.asks };
+
+    ghost fails = { failing_seen (λ t. t.timer) ⟦<Dispatcher<Timer, WakesTimeout<R>> as Dispatch<P, C, R, X, Q>>⟧.means ⟦<Dispatcher<Timer, WakesTimeout<R>> as Dispatch<P, C, R, X, Q>>⟧.fails };
+}
+
+impl<P: Poller, C, R: Wait + Drop, X, Q: Asking> QuietDispatch<P, C, R, X, Q> for TimeoutTimer<R> {
+    ghost use Rattle.calloop_core.specs.Quiet.{quiet_seen};
+
+    ghost quiet = { quiet_seen (λ t. t.timer) ⟦<Dispatcher<Timer, WakesTimeout<R>> as Dispatch<P, C, R, X, Q>>⟧.means ⟦<Dispatcher<Timer, WakesTimeout<R>> as QuietDispatch<P, C, R, X, Q>>⟧.quiet };
+}
+
+impl<R: Wait + Drop> Place<TimeoutTimer<R>, Here> for TimeoutTimer<R> {
+    ghost use Rattle.std.specs.Prelude.{◌≡◌};
+
+    ghost placed = { λ timer. timer };
+
+    fn place(timer: TimeoutTimer<R>) -> TimeoutTimer<R>
+        ensures { result ≡ timer }
+    {
+        timer
+    }
+}
+
+impl<P: Poller, C, R: Wait + Drop, X, Q: Asking> Keep<TimeoutTimer<R>, P, C, R, X, Q, Here>
+    for TimeoutTimer<R> {
+    ghost use Rattle.calloop_core.specs.Lawful.{held_itself};
+
+    ghost placed_means = { held_itself ⟦<TimeoutTimer<R> as Dispatch<P, C, R, X, Q>>⟧.means };
 }
 
 /// A future that is ready once a moment of the loop's clock has come. It is made outside of a dispatch, and its timer leaves the loop
@@ -108,19 +228,22 @@ impl<C: Clock, R: Wait + Clone + Drop> TimeoutFuture<C, R> {
         deadline: Instant,
     ) -> Result<TimeoutFuture<C, R>>
     where
-        D: EventDispatcher<P, C, R> + Choice<Timer, WakesTimeout<R>, N>,
+        D: EventDispatcher<P, C, R>
+            + Keep<TimeoutTimer<R>, P, C, R, D::Data, Requests<D, D::Idle>, N>,
         P: Poller,
         ensures same { handle.new.inner.ghost_name ≡ handle.old.inner.ghost_name }
         ensures clock { IfOk result (λ made. C.is_clone (clock_by handle.old) made.clock) }
         ensures ok { IfOk result (λ made. (made.deadline ≡ Some deadline)
-            × HasTimer D.means D.Idle.runs P.outside D.held deadline made handle.old handle.new) }
+            × HasTimer D.means D.Idle.runs P.outside D.placed deadline made handle.old handle.new) }
         ensures err { IfErr result
-            (λ e. HasNoTimer D.means D.Idle.runs P.outside D.held
+            (λ e. HasNoTimer D.means D.Idle.runs P.outside D.placed
             deadline e handle.old handle.new) }
     {
         let (future, wakes) = TimeoutFuture::unarmed(handle.clock(), rt, alloc, Some(deadline))?;
-        let timer = Dispatcher::new(Timer::from_deadline(deadline), wakes);
-        handle.register_dispatcher(D::hold(timer))?;
+        let timer = TimeoutTimer {
+            timer: Dispatcher::new(Timer::from_deadline(deadline), wakes),
+        };
+        handle.register_dispatcher(D::place(timer))?;
         Ok(future)
     }
 
@@ -134,12 +257,13 @@ impl<C: Clock, R: Wait + Clone + Drop> TimeoutFuture<C, R> {
         duration: Duration,
     ) -> Result<TimeoutFuture<C, R>>
     where
-        D: EventDispatcher<P, C, R> + Choice<Timer, WakesTimeout<R>, N>,
+        D: EventDispatcher<P, C, R>
+            + Keep<TimeoutTimer<R>, P, C, R, D::Data, Requests<D, D::Idle>, N>,
         P: Poller,
         ensures same { handle.new.inner.ghost_name ≡ handle.old.inner.ghost_name }
         ensures clock { IfOk result (λ made. C.is_clone (clock_by handle.old) made.clock) }
         ensures made { (now : Instant) × C.shows (clock_by handle.old) now.nanos
-            × IsMade D.means D.Idle.runs P.outside D.held (moment_after now duration)
+            × IsMade D.means D.Idle.runs P.outside D.placed (moment_after now duration)
             result handle.old handle.new }
     {
         match handle.clock().now().checked_add(duration) {

@@ -4,7 +4,7 @@ use calloop::stream::{Stream, StreamSource};
 use calloop::{
     Adapter, Answer, Async, Callback, Choice, Dispatcher, EventDispatcher, Generic, Here, Instant,
     Interest, Keep, Mode, On, OneOf, PingSource, Place, Readiness, Requests, ScriptLoop, Sources,
-    There, Ticket, TimeoutFuture, Timer, WakesTimeout,
+    There, Ticket, TimeoutFuture, TimeoutTimer,
 };
 use calloop_core::sys::script::{
     ScriptAnswer, ScriptCall, ScriptClock, ScriptEnd, ScriptEvents, ScriptIo, ScriptPoller,
@@ -141,7 +141,7 @@ type Held<R> = Sources<
             Dispatcher<Executor<Looks<R>, R>, Says>,
             OneOf<
                 Dispatcher<StreamSource<One, R>, Says>,
-                OneOf<Dispatcher<Timer, WakesTimeout<R>>, Dispatcher<PingSource<R>, Adapts<R>>>,
+                OneOf<TimeoutTimer<R>, Dispatcher<PingSource<R>, Adapts<R>>>,
             >,
         >,
     >,
@@ -161,7 +161,7 @@ where
     D: Keep<Adapter<ScriptPoller, R>, ScriptPoller, ScriptClock, R, Told<R>, Requests<D>, Here>,
     D: Choice<Executor<Looks<R>, R>, Says, Second>,
     D: Choice<StreamSource<One, R>, Says, Third>,
-    D: Choice<Timer, WakesTimeout<R>, Fourth>,
+    D: Keep<TimeoutTimer<R>, ScriptPoller, ScriptClock, R, Told<R>, Requests<D>, Fourth>,
     D: Choice<PingSource<R>, Adapts<R>, Fifth>,
 {
     let mut table: Table<D, R> = Table {
@@ -300,7 +300,7 @@ where
 fn is_waited_for<D, R>(table: &mut Table<D, R>) -> Option<bool>
 where
     D: EventDispatcher<ScriptPoller, ScriptClock, R, Data = Told<R>, Idle = ()>,
-    D: Choice<Timer, WakesTimeout<R>, Fourth>,
+    D: Keep<TimeoutTimer<R>, ScriptPoller, ScriptClock, R, Told<R>, Requests<D>, Fourth>,
     R: Wait + Clone + Drop,
 {
     let mut handle = table.event_loop.handle();

@@ -23,6 +23,7 @@ use Rattle.calloop_wake.specs.Tokens.{key_of, next_token}
 use Rattle.calloop_core.specs.declared.sys.Readiness.{Readiness}
 use Rattle.calloop_core.specs.declared.sources.Dispatcher.{Dispatcher}
 use Rattle.calloop_core.specs.declared.sources.OneOf.{OneOf}
+use Rattle.calloop_core.specs.declared.sources.Role.{Role}
 use Rattle.calloop_core.specs.declared.sources.OneOf.TheVariants.{First, Other}
 use Rattle.calloop_core.specs.Polls.{PollView, PollStep}
 use Rattle.calloop_core.specs.Calls.{CallbackCall, Calling, Went, Becomes, IsOfSource, AsOfSource, OfKind, OfIo}
@@ -35,7 +36,7 @@ use Rattle.calloop_core.specs.Deeds.{Heard, Lent}
 use Rattle.calloop_core.specs.Keys.{IsKeyOf, IsFactoryOf, AllActFor}
 use Rattle.calloop_core.specs.Meanings.{Meaning, IsKeeping, KeepsCounters, KeepsHome, KeepsLimit, IsAsking, FailsAsSource, IsHeld}
 use Rattle.calloop_core.specs.Meanings.{IsAtHome, BeginsIn}
-use Rattle.calloop_core.specs.Meanings.{with_callback, dispatched, on_both, one_of, seen_as, still, attentive, attentive_to}
+use Rattle.calloop_core.specs.Meanings.{with_callback, dispatched, on_both, one_of, seen_as, in_role, still, attentive, attentive_to}
 
 -- Of an error of a source.
 
@@ -315,6 +316,16 @@ asking_seen see reaches m h s t = h (see s) (see t)
 pub failing_seen : {D A P X Q : Type 0} (see : D → A) (m : Meaning A P (Lent X Q))
     → FailsAsSource m → FailsAsSource (seen_as see m)
 failing_seen see m h s t = h (see s) (see t)
+
+-- Of what is given a role.
+
+pub keeping_in_role : {D P T : Type 0} (role : Role) (m : Meaning D P T) → IsKeeping m → IsKeeping (in_role role m)
+keeping_in_role role m h =
+    record {
+      counters = h.counters;
+      home = h.home;
+      limit = record { same = h.limit.same; within = h.limit.within; untold = h.limit.untold };
+    }
 
 -- Of places in a choice.
 

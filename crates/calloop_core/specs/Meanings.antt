@@ -10,7 +10,7 @@ use Rattle.calloop_core.specs.declared.sys.Readiness.{Readiness}
 use Rattle.calloop_core.specs.declared.sources.Dispatcher.{Dispatcher}
 use Rattle.calloop_core.specs.declared.sources.OneOf.{OneOf}
 use Rattle.calloop_core.specs.declared.sources.Role.{Role}
-use Rattle.calloop_core.specs.declared.sources.Role.TheVariants.{Caller, Adapter}
+use Rattle.calloop_core.specs.declared.sources.Role.TheVariants.{Caller, Adapter, Timeout}
 use Rattle.calloop_core.specs.declared.sources.OneOf.TheVariants.{First, Other}
 use Rattle.calloop_core.specs.Pollers.{Outside}
 use Rattle.calloop_core.specs.Polls.{PollView, PollStep, AllStepped}
@@ -58,6 +58,7 @@ abbrev pub Settles : {D P T : Type 0} → Role → Outside P → Meaning D P T �
     → (left : Option (Result (Unit {0}) Error)) → D → PollView P → D → PollView P → Type 0
 Settles Caller outside m token left s v t w = (left ≡ None) × (t ≡ s) × (w ≡ v)
 Settles Adapter outside m token left s v t w = SettledAs outside m token left s v t w
+Settles Timeout outside m token left s v t w = (left ≡ None) × (t ≡ s) × (w ≡ v)
 
 -- it leaves the counters of others alone, and calls at most once for each arming of its own
 abbrev pub KeepsCounters : {D P T : Type 0} → Meaning D P T → Type 0
@@ -200,6 +201,10 @@ seen_as see m =
       role = λ s. m.role (see s);
       does = λ s v deed steps t. m.does (see s) v deed steps (see t);
     }
+
+-- the same thing, of this role
+abbrev pub in_role : {D P T : Type 0} → Role → Meaning D P T → Meaning D P T
+in_role role m = record m { role = λ s. role }
 
 -- what is asked for before a wait is no more than so much
 abbrev pub IsWithin : {T : Type 0} → (limit : ℕ) → Deed T → Type 0

@@ -103,6 +103,8 @@ pub enum Role {
     Caller,
     /// The socket behind an `Async`.
     Adapter,
+    /// The timer of a `TimeoutFuture`.
+    Timeout,
 }
 
 /// The error of a source, as an error of the loop.

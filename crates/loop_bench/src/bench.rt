@@ -10,8 +10,8 @@ use calloop::loop_logic::EventLoop;
 use calloop::ping::{Ping, make_ping};
 use calloop::{
     Asking, Callback, Choice, Clock, Dispatcher, EventDispatcher, Generic, Here, Instant, Interest,
-    Mode, NoIoDrop, OneOf, PingSource, Poller, PostAction, Readiness, RegistrationToken, Sources,
-    There, TimeoutAction, TimeoutFuture, Timer, WakesTimeout,
+    Keep, Mode, NoIoDrop, OneOf, PingSource, Poller, PostAction, Readiness, RegistrationToken,
+    Requests, Sources, There, TimeoutAction, TimeoutFuture, TimeoutTimer, Timer,
 };
 use std::alloc::Global;
 use std::io;
@@ -112,10 +112,7 @@ pub type Held<P, C, R> = Sources<
                     Dispatcher<Channel<u64, R>, Counts>,
                     OneOf<
                         Dispatcher<Generic<P>, Reads>,
-                        OneOf<
-                            Dispatcher<Executor<Task<C, R>, R>, Counts>,
-                            Dispatcher<Timer, WakesTimeout<R>>,
-                        >,
+                        OneOf<Dispatcher<Executor<Task<C, R>, R>, Counts>, TimeoutTimer<R>>,
                     >,
                 >,
             >,
@@ -162,7 +159,7 @@ where
     D: Choice<Channel<u64, R>, Counts, Fourth>,
     D: Choice<Generic<P>, Reads, Fifth>,
     D: Choice<Executor<Task<C, R>, R>, Counts, Sixth>,
-    D: Choice<Timer, WakesTimeout<R>, Seventh>,
+    D: Keep<TimeoutTimer<R>, P, C, R, u64, Requests<D>, Seventh>,
     P: Measured<C, R>,
     C: Clock,
     R: Wait + time::Clock + Clone + Drop,

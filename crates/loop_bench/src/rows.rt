@@ -9,7 +9,8 @@ use anyhow::{Context, Result, ensure};
 use calloop::channel::{Channel, Sender, SyncSender};
 use calloop::futures::{Executor, Scheduler, Waker};
 use calloop::{
-    Choice, Clock, EventDispatcher, Generic, Here, Instant, Mode, PingSource, Timer, WakesTimeout,
+    Choice, Clock, EventDispatcher, Generic, Here, Instant, Keep, Mode, PingSource, Requests,
+    TimeoutTimer, Timer,
 };
 use std::alloc::Global;
 use std::sync::{Arc, Wait};
@@ -40,7 +41,7 @@ where
     D: Choice<Channel<u64, R>, Counts, Fourth>,
     D: Choice<Generic<P>, Reads, Fifth>,
     D: Choice<Executor<Task<C, R>, R>, Counts, Sixth>,
-    D: Choice<Timer, WakesTimeout<R>, Seventh>,
+    D: Keep<TimeoutTimer<R>, P, C, R, u64, Requests<D>, Seventh>,
     P: Measured<C, R>,
     P::Io: ReadsByte,
     C: Clock,
@@ -66,7 +67,7 @@ where
     D: Choice<Channel<u64, R>, Counts, Fourth>,
     D: Choice<Generic<P>, Reads, Fifth>,
     D: Choice<Executor<Task<C, R>, R>, Counts, Sixth>,
-    D: Choice<Timer, WakesTimeout<R>, Seventh>,
+    D: Keep<TimeoutTimer<R>, P, C, R, u64, Requests<D>, Seventh>,
     P: Measured<C, R>,
     C: Clock,
     R: Threads + Wait + time::Clock + Clone + Drop + Send + Sync + 'static,

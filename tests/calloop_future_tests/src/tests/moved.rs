@@ -2,8 +2,8 @@
 use super::desk::{Reader, time};
 use calloop::futures::{Context, Executor, Future, Poll, Scheduler, make_executor};
 use calloop::{
-    Choice, Clock, Dispatcher, EventDispatcher, Here, Instant, OneOf, ScriptLoop, Sources, There,
-    TimeoutFuture, Timer, WakesTimeout,
+    Choice, Clock, Dispatcher, EventDispatcher, Here, Instant, Keep, OneOf, Requests, ScriptLoop,
+    Sources, There, TimeoutFuture, TimeoutTimer,
 };
 use calloop_core::sys::script::{ScriptClock, ScriptPoller};
 use std::alloc::Global;
@@ -36,10 +36,7 @@ impl<C: Clock, R: Wait + Clone + Drop> Future<R> for Sharer<C, R> {
 
 /// What a loop of such futures holds.
 type Held<R> = Sources<
-    OneOf<
-        Dispatcher<Executor<Sharer<ScriptClock, R>, R>, Reader>,
-        Dispatcher<Timer, WakesTimeout<R>>,
-    >,
+    OneOf<Dispatcher<Executor<Sharer<ScriptClock, R>, R>, Reader>, TimeoutTimer<R>>,
     Vec<u32>,
 >;
 
@@ -48,7 +45,7 @@ fn says_last<D, R>(rt: &R, alloc: Global) -> Option<bool>
 where
     D: EventDispatcher<ScriptPoller, ScriptClock, R, Data = Vec<u32>>,
     D: Choice<Executor<Sharer<ScriptClock, R>, R>, Reader, Here>,
-    D: Choice<Timer, WakesTimeout<R>, There<Here>>,
+    D: Keep<TimeoutTimer<R>, ScriptPoller, ScriptClock, R, Vec<u32>, Requests<D>, There<Here>>,
     R: Wait + Clone + Drop,
 {
     let mut event_loop: ScriptLoop<D, R> = ScriptLoop::scripted(rt, alloc).ok()?;

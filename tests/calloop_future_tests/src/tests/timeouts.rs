@@ -2,8 +2,8 @@
 use super::desk::{Reader, are_waits, time};
 use calloop::futures::{Context, Executor, Future, Poll, Scheduler, make_executor};
 use calloop::{
-    Choice, Clock, Dispatcher, EventDispatcher, Here, Instant, OneOf, ScriptLoop, Sources, There,
-    TimeoutFuture, Timer, WakesTimeout,
+    Choice, Clock, Dispatcher, Error, EventDispatcher, Here, Instant, Keep, OneOf,
+    RegistrationToken, Requests, ScriptLoop, Sources, There, TimeoutFuture, TimeoutTimer,
 };
 use calloop_core::sys::script::{ScriptClock, ScriptPoller};
 use std::alloc::Global;
@@ -30,10 +30,7 @@ impl<C: Clock, R: Wait + Clone + Drop> Future<R> for Sleeper<C, R> {
 
 /// What a loop of such futures holds.
 type Held<R> = Sources<
-    OneOf<
-        Dispatcher<Executor<Sleeper<ScriptClock, R>, R>, Reader>,
-        Dispatcher<Timer, WakesTimeout<R>>,
-    >,
+    OneOf<Dispatcher<Executor<Sleeper<ScriptClock, R>, R>, Reader>, TimeoutTimer<R>>,
     Vec<u32>,
 >;
 
@@ -50,6 +47,8 @@ enum Act<'a> {
     Leave(u64),
     /// A loop that runs for a future of this moment ends with its number, and says nothing.
     Blocks(u64),
+    /// No call of a handle names what is in the slot behind the executor's.
+    Hides,
     /// A dispatch succeeds in which these numbers are said.
     Says(Option<u64>, &'a [u32]),
     /// The poller was asked for these waits since this was asked before.
@@ -74,7 +73,7 @@ impl<D, R> Bedroom<D, R>
 where
     D: EventDispatcher<ScriptPoller, ScriptClock, R, Data = Vec<u32>>,
     D: Choice<Executor<Sleeper<ScriptClock, R>, R>, Reader, Here>,
-    D: Choice<Timer, WakesTimeout<R>, There<Here>>,
+    D: Keep<TimeoutTimer<R>, ScriptPoller, ScriptClock, R, Vec<u32>, Requests<D>, There<Here>>,
     R: Wait + Clone + Drop,
 {
     fn new(rt: &R, alloc: Global) -> Option<Bedroom<D, R>> {
@@ -113,6 +112,7 @@ where
             }
             Act::Leave(millis) => self.until(millis).map(drop),
             Act::Blocks(millis) => self.blocks(millis),
+            Act::Hides => self.hides(RegistrationToken::new(1, 0)).then_some(()),
             Act::Says(timeout, numbers) => {
                 self.said.clear();
                 let answer = self
@@ -165,6 +165,14 @@ where
         (answer.ok()? == Some(1) && self.said.is_empty()).then_some(())
     }
 
+    fn hides(&mut self, token: RegistrationToken) -> bool {
+        let mut handle = self.event_loop.handle();
+        matches!(handle.enable(token), Err(Error::InvalidToken))
+            && matches!(handle.update(token), Err(Error::InvalidToken))
+            && matches!(handle.disable(token), Err(Error::InvalidToken))
+            && handle.remove(token).is_none()
+    }
+
     fn asked(&mut self, waits: &[Option<u64>]) -> Option<()> {
         let mut handle = self.event_loop.handle();
         let poller = handle.poller_mut();
@@ -184,7 +192,7 @@ fn plays_over<D, R>(rt: &R, alloc: Global, acts: &[Act<'_>]) -> Option<usize>
 where
     D: EventDispatcher<ScriptPoller, ScriptClock, R, Data = Vec<u32>>,
     D: Choice<Executor<Sleeper<ScriptClock, R>, R>, Reader, Here>,
-    D: Choice<Timer, WakesTimeout<R>, There<Here>>,
+    D: Keep<TimeoutTimer<R>, ScriptPoller, ScriptClock, R, Vec<u32>, Requests<D>, There<Here>>,
     R: Wait + Clone + Drop,
 {
     let made: Option<Bedroom<D, R>> = Bedroom::new(rt, alloc);
@@ -204,6 +212,17 @@ const CASES: &[(&str, &[Act<'static>])] = &[
             Act::Says(Some(10), &[]),
             Act::Says(Some(0), &[7]),
             Act::Asked(&[Some(0), Some(5), Some(0)]),
+        ],
+    ),
+    (
+        "no_call_of_a_handle_names_the_slot_of_a_timeout",
+        &[
+            Act::Until(5, 7),
+            Act::Hides,
+            Act::Says(Some(0), &[]),
+            Act::Hides,
+            Act::Says(Some(10), &[]),
+            Act::Says(Some(0), &[7]),
         ],
     ),
     (

@@ -5,9 +5,9 @@ use super::desk::Note;
 use calloop::generic::Generic;
 use calloop::ping::make_ping;
 use calloop::{
-    Choice, Dispatcher, Error, EventDispatcher, Here, InsertError, Instant, Interest, Mode, On,
-    OneOf, Ping, PingSource, PostAction, RegistrationToken, ScriptLoop, Sources, There,
-    TimeoutAction, TimeoutFuture, Timer, WakesTimeout,
+    Choice, Dispatcher, Error, EventDispatcher, Here, InsertError, Instant, Interest, Keep, Mode,
+    On, OneOf, Ping, PingSource, PostAction, RegistrationToken, Requests, ScriptLoop, Sources,
+    There, TimeoutAction, TimeoutFuture, TimeoutTimer, Timer,
 };
 use calloop_core::sys::script::{ScriptClock, ScriptIo, ScriptKind, ScriptPoller};
 use calloop_test_sources::shifting::Shifting;
@@ -75,7 +75,7 @@ type Held<R> = Sources<
         Dispatcher<Shifting<PingSource<R>>, Teller>,
         OneOf<
             Dispatcher<Timer, Waker>,
-            OneOf<Dispatcher<Generic<ScriptPoller>, Visitor>, Dispatcher<Timer, WakesTimeout<R>>>,
+            OneOf<Dispatcher<Generic<ScriptPoller>, Visitor>, TimeoutTimer<R>>,
         >,
     >,
     Vec<u32>,
@@ -322,7 +322,7 @@ where
 fn leaves_no_deadline<D, R>(rt: &R, alloc: Global) -> Option<bool>
 where
     D: EventDispatcher<ScriptPoller, ScriptClock, R, Data = Vec<u32>>,
-    D: Choice<Timer, WakesTimeout<R>, Fourth>,
+    D: Keep<TimeoutTimer<R>, ScriptPoller, ScriptClock, R, Vec<u32>, Requests<D, D::Idle>, Fourth>,
     R: Wait + Clone + Drop,
 {
     let (mut event_loop, mut said) = made::<D, R>(rt, alloc)?;
