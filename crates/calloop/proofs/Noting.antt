@@ -11,12 +11,12 @@ use Rattle.calloop_core.specs.Pollers.{Outside}
 use Rattle.calloop_core.specs.Polls.{PollView, PollStep, TakePass, PutBack, Arm, ArmAgain, Cancel, Call, ReadClock, Socket, Fault, poll_after, polls_after, AllAllowed, gathered, appended, posted_events, polled_events, cut, cut_from, begun, tail_of, head_of, with_pass}
 use Rattle.calloop_core.specs.Holdings.{Holding, Free, Spent, Standing, with_hold, IsWithin, Keeps}
 use Rattle.calloop.specs.Ledgers.{Ledger, Arming, NumberedEntry, TimerCall, latest, arm, step_noted, steps_noted, gathering_noted, appended_noted, cut_noted, is_under, number_of, from_elsewhere, from_deadline, due_in}
-use Rattle.calloop.specs.Laws.{IsKept, one, counted, is_armed_as, waits_as, is_number, is_call_as, came_timely, timely, event_of}
+use Rattle.calloop.specs.Laws.{IsLedgerOf, one, counted, is_armed_as, waits_as, is_number, is_call_as, came_timely, timely, event_of}
 use Rattle.calloop.proofs.Counting.{counted-append, counted-armed_among, counted-split, counted-number_of, counted-due, counted-elsewhere, counted-cut, next_number, not_yet, on_time-append, on_time-elsewhere, on_time-due, on_time-tail, on_time-heads, own-append, entries-armed_among, entries-filter, entries-not_due, events-due, events-elsewhere, events-append, events-tail, own_more, is_armed_by, kept-by, unarmed, gathered-by, timely-elsewhere, timely-least, Falls, latest_apart}
 
 -- the ledger, with its armings in the order of their making
 pub record IsNoted {P : Type 0} (l : Ledger) (v : PollView P) : Type 0 where
-  pub kept : IsKept l v
+  pub kept : IsLedgerOf l v
   pub falls : Falls l.count l.made
 
 -- a counter whose last arming, for this deadline, wasn't called for: it stands in the deadlines, or was gathered in time
@@ -84,14 +84,14 @@ uncalled_called l v n c deadline at falls differs h g =
     record { arming = g.arming; last = g.last; under = g.under; for_it = g.for_it; uncalled = more; stands = g.stands }
 
 -- the arming that comes next was never called for
-uncalled_next : {P : Type 0} (l : Ledger) (v : PollView P) → IsKept l v → counted (is_call_as l.count) l.calls ≡ 0
+uncalled_next : {P : Type 0} (l : Ledger) (v : PollView P) → IsLedgerOf l v → counted (is_call_as l.count) l.calls ≡ 0
 uncalled_next l v k = omega (arith, k.gathered l.count, k.placed l.count, not_yet l.count)
 
 eq_self : (n : ℕ) → nat_eq n n ≡ true
 eq_self n = grind (arith, nat_tests)
 
 -- a counter that was armed just now
-uncalled_new : {P : Type 0} (l : Ledger) (v : PollView P) (n : ℕ) (at : Instant) (token : Token) → IsKept l v → IsUncalled n at (arm l n at token)
+uncalled_new : {P : Type 0} (l : Ledger) (v : PollView P) (n : ℕ) (at : Instant) (token : Token) → IsLedgerOf l v → IsUncalled n at (arm l n at token)
 uncalled_new l v n at token k =
     record {
       arming = record { number = l.count; counter = n; deadline = at };

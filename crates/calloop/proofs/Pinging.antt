@@ -13,7 +13,7 @@ use Rattle.calloop_core.specs.declared.sources.PostAction.TheVariants.{Continue}
 use Rattle.calloop_core.specs.Calls.{CallbackCall}
 use Rattle.calloop_core.specs.Polls.{PollStep, TakePass, CannotOpen}
 use Rattle.calloop.specs.CellSources.{Registers, RegistersAnew, NoPlace, NoPlaceAnew}
-use Rattle.calloop.specs.Pings.{Served, ServedSo, TurnsBy}
+use Rattle.calloop.specs.Pings.{PassAnswer, ServedSo, TurnsBy}
 
 pub own_by_equal : (n : ℕ) (k : Option ℕ) → option_eq nat_eq k (Some n) ≡ is_own n k
 own_by_equal n None = refl
@@ -40,5 +40,5 @@ module _ (P : Type 0) (twin : Twin) (token : Token) (pass : Option Taken) (own :
   turn_without none = rw (own, none) (refl, refl, refl, refl)
 
   -- an event with one
-  pub turn_served : (p : Taken) (served : Served) (calls : List (CallbackCall (Unit {0}) (Unit {0}) (Unit {0}))) (action : PostAction) (steps : List (PollStep P)) (after : Twin) → pass ≡ Some p → ServedSo served p twin calls action steps after → TurnsBy twin token pass calls (Ok action) steps after
+  pub turn_served : (p : Taken) (served : PassAnswer) (calls : List (CallbackCall (Unit {0}) (Unit {0}) (Unit {0}))) (action : PostAction) (steps : List (PollStep P)) (after : Twin) → pass ≡ Some p → ServedSo served p twin calls action steps after → TurnsBy twin token pass calls (Ok action) steps after
   turn_served p served calls action steps after some h = rw (own, some) (served, h)

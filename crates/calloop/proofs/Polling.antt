@@ -13,7 +13,7 @@ use Rattle.calloop_core.specs.declared.sources.PostAction.TheVariants.{Continue}
 use Rattle.calloop_core.specs.Calls.{CallbackCall, Calling, Went}
 use Rattle.calloop_core.proofs.Calling.{went_on}
 use Rattle.calloop_core.specs.Polls.{PollStep, TakePass}
-use Rattle.calloop.specs.Executors.{ResultCalls, OfPop, gave, lacks, misses_of, call_of, calls_of, results_of, AllGiven, Answered, AnsweredSo, ExecutorTurns}
+use Rattle.calloop.specs.Executors.{ResultCalls, OfPop, gave, lacks, misses_of, call_of, calls_of, results_of, AllGiven, PassAnswer, AnsweredSo, ExecutorTurns}
 
 module _ {O : Type 0} where
   calls_more : (ps : List (OfPop O)) (p : OfPop O) → calls_of (ps ++ p ∷ []) ≡ calls_of ps ++ call_of p
@@ -73,7 +73,7 @@ module _ (P O : Type 0) (given : OfPop O → Type 0) (twin : Twin) (token : Toke
   turn_without none = rw (own, none) (refl, refl, refl, refl)
 
   -- an event with one
-  pub turn_answered : (p : Taken) (answered : Answered O) (calls : ResultCalls O) (action : PostAction) (steps : List (PollStep P)) (after : Twin) → pass ≡ Some p → AnsweredSo given answered p twin calls action steps after → ExecutorTurns given twin token pass calls (Ok action) steps after
+  pub turn_answered : (p : Taken) (answered : PassAnswer O) (calls : ResultCalls O) (action : PostAction) (steps : List (PollStep P)) (after : Twin) → pass ≡ Some p → AnsweredSo given answered p twin calls action steps after → ExecutorTurns given twin token pass calls (Ok action) steps after
   turn_answered p answered calls action steps after some h = rw (own, some) (answered, h)
 
 -- The steps of a turn leave the cell its key.

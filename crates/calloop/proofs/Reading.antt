@@ -14,7 +14,7 @@ use Rattle.calloop_core.specs.declared.sources.PostAction.TheVariants.{Continue}
 use Rattle.calloop_core.specs.Polls.{PollStep, TakePass}
 use Rattle.calloop.specs.declared.futures.task.Poll.TheVariants.{Ready, Pending}
 use Rattle.calloop.specs.StreamReads.{Polls, ReadsTo}
-use Rattle.calloop.specs.Streams.{StreamCalls, called, end_calls, calls_of, Reading, Answered, AnsweredSo, StreamTurns}
+use Rattle.calloop.specs.Streams.{StreamCalls, called, end_calls, calls_of, Reading, PassAnswer, AnsweredSo, StreamTurns}
 
 module _ {I : Type 0} where
   calls_more : (xs : List I) (x : I) → calls_of (xs ++ x ∷ []) AtLimit ≡ calls_of xs AtLimit ++ called (Some x) ∷ []
@@ -71,6 +71,6 @@ module _ (P S I : Type 0) (polls : Polls S I) (twin : Twin) (before : Reading S)
   turn_without none = rw (own, none) (refl, refl, refl, refl, refl)
 
   -- an event with one
-  pub turn_answered : (p : Taken) (answered : Answered I) (calls : StreamCalls I) (action : PostAction) (steps : List (PollStep P)) (twin' : Twin) (after : Reading S) → pass ≡ Some p
+  pub turn_answered : (p : Taken) (answered : PassAnswer I) (calls : StreamCalls I) (action : PostAction) (steps : List (PollStep P)) (twin' : Twin) (after : Reading S) → pass ≡ Some p
       → AnsweredSo polls answered p twin before calls action steps twin' after → StreamTurns polls twin before token pass calls (Ok action) steps twin' after
   turn_answered p answered calls action steps twin' after some h = rw (own, some) (answered, h)

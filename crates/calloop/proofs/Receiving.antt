@@ -16,7 +16,7 @@ use Rattle.calloop_core.specs.Calls.{CallbackCall, Calling, Went}
 use Rattle.calloop_core.proofs.Calling.{went_on}
 use Rattle.calloop_core.specs.Polls.{PollStep, TakePass}
 use Rattle.calloop.specs.declared.channel.Event.{Event}
-use Rattle.calloop.specs.Channels.{call_of, calls_of, turn_after, twin_after, told_in, ArePops, Handed, ChannelCalls, ChannelTurns, Answered, AnsweredSo}
+use Rattle.calloop.specs.Channels.{call_of, calls_of, turn_after, twin_after, told_in, ArePops, Handed, ChannelCalls, ChannelTurns, PassAnswer, AnsweredSo}
 
 or_false : (b : Bool) → (b || false) ≡ b
 or_false true = refl
@@ -104,5 +104,5 @@ module _ (P T : Type 0) (label : LabelView) (twin : Twin) (token : Token) (pass 
   turn_without none = rw (own, none) (refl, refl, refl, refl)
 
   -- an event with one
-  pub turn_answered : (p : Taken) (answered : Answered T) (calls : ChannelCalls T) (action : PostAction) (steps : List (PollStep P)) (after : Twin) → pass ≡ Some p → AnsweredSo label answered p twin calls action steps after → ChannelTurns label twin token pass calls (Ok action) steps after
+  pub turn_answered : (p : Taken) (answered : PassAnswer T) (calls : ChannelCalls T) (action : PostAction) (steps : List (PollStep P)) (after : Twin) → pass ≡ Some p → AnsweredSo label answered p twin calls action steps after → ChannelTurns label twin token pass calls (Ok action) steps after
   turn_answered p answered calls action steps after some h = rw (own, some) (answered, h)

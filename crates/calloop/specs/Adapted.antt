@@ -18,7 +18,7 @@ use Rattle.calloop.specs.Askings.{Asks, Runs, IsAsked}
 use Rattle.calloop.specs.Handles.{held_by, IsCase}
 
 -- an adapter that is in no loop yet
-pub record IsNew {P R I : Type 0} (adapter : Adapter P R I) : Type 0 where
+pub record IsInNoLoop {P R I : Type 0} (adapter : Adapter P R I) : Type 0 where
   pub token : adapter.token ≡ None
   pub entered : adapter.entered ≡ false
 
@@ -26,7 +26,7 @@ pub record IsNew {P R I : Type 0} (adapter : Adapter P R I) : Type 0 where
 abbrev pub IsAskedToAdapt : {D P R I S : Type 0} → (placed : Adapter P R S → D) → Async P R S → (ticket : ℕ)
     → Asks D I → Asks D I → Type 0
 IsAskedToAdapt {D} {P} {R} {I} {S} placed made ticket old new =
-    (adapter : Adapter P R S) × IsNew adapter × (adapter.end.name ≡ made.end.name)
+    (adapter : Adapter P R S) × IsInNoLoop adapter × (adapter.end.name ≡ made.end.name)
     × IsAsked (AskInsert (placed adapter)) ticket old new
 
 module _ {D P C R X I S : Type 0} (M : Meaning D P (Lent X (Asks D I))) (runs : Runs D I X) (O : Outside P) where
@@ -34,7 +34,7 @@ module _ {D P C R X I S : Type 0} (M : Meaning D P (Lent X (Asks D I))) (runs : 
   abbrev pub IsAdapted : (placed : Adapter P R S → D) → Async P R S → LoopHandle D P C R X I S → LoopHandle D P C R X I S
       → Type 0
   IsAdapted placed made old new =
-      (adapter : Adapter P R S) × (token : RegistrationToken) × IsNew adapter
+      (adapter : Adapter P R S) × (token : RegistrationToken) × IsInNoLoop adapter
       × (adapter.end.name ≡ made.end.name)
       × IsCase M runs O (Insert (placed adapter)) (Inserted (Ok token)) old new
 
@@ -43,7 +43,7 @@ module _ {D P C R X I S : Type 0} (M : Meaning D P (Lent X (Asks D I))) (runs : 
       → Type 0
   IsNotAdapted placed e old new =
       ((e ≡ OutOfMemory) × (held_by new ≡ held_by old))
-      ⊎ ((adapter : Adapter P R S) × (back : InsertError D) × (back.error ≡ e) × IsNew adapter
+      ⊎ ((adapter : Adapter P R S) × (back : InsertError D) × (back.error ≡ e) × IsInNoLoop adapter
       × IsCase M runs O (Insert (placed adapter)) (Inserted (Err back)) old new)
 
   -- an adapter left the loop, and its registration was taken back
@@ -51,8 +51,8 @@ module _ {D P C R X I S : Type 0} (M : Meaning D P (Lent X (Asks D I))) (runs : 
   IsGivenBack old new = (token : RegistrationToken) × IsCase M runs O (Release token) (Released (Ok tt)) old new
 
   -- it stayed, for this reason, or wasn't there; or it left, and its socket had been taken out before
-  abbrev pub IsKept : Error → LoopHandle D P C R X I S → LoopHandle D P C R X I S → Type 0
-  IsKept e old new =
+  abbrev pub IsNotGivenBack : Error → LoopHandle D P C R X I S → LoopHandle D P C R X I S → Type 0
+  IsNotGivenBack e old new =
       ((e ≡ InvalidToken) × (held_by new ≡ held_by old))
       ⊎ ((token : RegistrationToken) × IsCase M runs O (Release token) (Released (Err e)) old new)
       ⊎ ((e ≡ InvalidToken) × IsGivenBack old new)

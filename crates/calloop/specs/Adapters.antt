@@ -94,8 +94,8 @@ module _ {P R I : Type 0} (sockets : Sockets P I) where
   SettlesTo IsToLeave s v steps t = ⊥
 
   -- it is settled: what that found is what its state holds, as the twin notes
-  abbrev pub TakesUp : Adapter P R I → PollView P → List (PollStep P) → Adapter P R I → Type 0
-  TakesUp s v steps t = (found : Settled) × SettlesTo found (and_did (SettledSo found) s) v steps t
+  abbrev pub SettlesSo : Adapter P R I → PollView P → List (PollStep P) → Adapter P R I → Type 0
+  SettlesSo s v steps t = (found : Settled) × SettlesTo found (and_did (SettledSo found) s) v steps t
 
   -- One that isn't being given back doesn't leave.
   abbrev pub Leaves : Option Token → Adapter P R I → PollView P → Result (Unit {0}) Error → List (PollStep P)
@@ -118,7 +118,7 @@ module _ {P R I : Type 0} (sockets : Sockets P I) where
     -- its turn keeps what was found, which lies under a lock, and calls nobody but who waits for it
     abbrev pub IsAdapter : Adapter P R I → PollView P → Deed (Lent X Q) → List (PollStep P) → Adapter P R I → Type 0
     IsAdapter s v (Registered f answer g) steps t = ComesIn s.token s f answer steps t g
-    IsAdapter s v (Reregistered f (Ok u) g) steps t = (g ≡ f) × TakesUp s v steps t
+    IsAdapter s v (Reregistered f (Ok u) g) steps t = (g ≡ f) × SettlesSo s v steps t
     IsAdapter s v (Reregistered f (Err e) g) steps t = (e ≡ InvalidToken) × (g ≡ f) × (steps ≡ []) × (t ≡ s)
     IsAdapter s v (Unregistered answer) steps t =
         Leaves s.token s v answer steps t ⊎ Goes s.token (and_did (SettledSo IsToLeave) s) v answer steps t

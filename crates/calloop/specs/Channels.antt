@@ -88,16 +88,16 @@ abbrev pub begun : LabelView → ChannelTurn
 begun label = record { name = label.name; left = pops label.bound; done = false }
 
 -- what the cell answers to a pass
-pub data Answered (T : Type 0) : Type 0 where
+pub data PassAnswer (T : Type 0) : Type 0 where
   -- a turn, with what its pops gave
-  Opened : (popped : List (Popped T)) → Answered T
+  Opened : (popped : List (Popped T)) → PassAnswer T
   -- no turn: the pass is of another key, or a turn stands open
-  Refused : Answered T
+  Refused : PassAnswer T
 
 -- The callback is called with the messages of the turn's pops in order, and then with the close where it is told, which removes
 -- the source; the twin counts just these. A turn goes on to a pop that finds no message, or makes all that it may. calloop's
 -- process_events is this loop over its queue.
-abbrev pub AnsweredSo : {P T : Type 0} → LabelView → Answered T → Taken → Twin → ChannelCalls T → PostAction
+abbrev pub AnsweredSo : {P T : Type 0} → LabelView → PassAnswer T → Taken → Twin → ChannelCalls T → PostAction
     → List (PollStep P) → Twin → Type 0
 AnsweredSo label (Opened popped) p twin calls action steps after =
     ArePops popped (begun label) × IsOver (turn_after popped (begun label))
@@ -112,7 +112,7 @@ abbrev pub ChannelTurnWith : {P T : Type 0} → LabelView → Option Taken → T
 ChannelTurnWith label None twin calls action steps after =
     (calls ≡ []) × (action ≡ Continue) × (steps ≡ TakePass ∷ []) × (after ≡ twin)
 ChannelTurnWith {P} {T} label (Some p) twin calls action steps after =
-    (answered : Answered T) × AnsweredSo label answered p twin calls action steps after
+    (answered : PassAnswer T) × AnsweredSo label answered p twin calls action steps after
 
 abbrev pub ChannelTurnFor : {P T : Type 0} → LabelView → (is_own : Bool) → Option Taken → Twin → ChannelCalls T
     → PostAction → List (PollStep P) → Twin → Type 0

@@ -8,7 +8,7 @@ use Rattle.calloop.specs.declared.loop_logic.LoopAnswer.{LoopAnswer}
 use Rattle.calloop.specs.Askings.{Asks, Runs}
 use Rattle.calloop.specs.Machine.{World, Change, IsNew}
 use Rattle.calloop.specs.Rules.{Run}
-use Rattle.calloop.specs.Laws.{IsSound, IsKept, IsTold, IsTicketed, AllFresh, changes_of, moments_of}
+use Rattle.calloop.specs.Laws.{IsSound, IsLedgerOf, IsTold, IsTicketed, AllFresh, changes_of, moments_of}
 use Rattle.calloop.specs.Homes.{AllAtHome}
 use Rattle.calloop.specs.Freshness.{AllFreshCalls, AllKeepKeys}
 
@@ -41,11 +41,11 @@ EventsReachTheirSource r = IsSound r.began (changes_of r.changes) r.moments
 -- each that took another's place held none beside those that this held: each arming is in one place, and each call of a timer
 -- belongs to an arming of its own that was gathered in time, and hands out its deadline
 abbrev pub ArmingsAreKeptOfFresh : {D I P X : Type 0} → Meaning D P (Lent X (Asks D I)) → LoopRun D I P X → Type 0
-ArmingsAreKeptOfFresh M r = AllFresh M (changes_of r.changes) → IsKept r.ended.ledger r.ended.poll
+ArmingsAreKeptOfFresh M r = AllFresh M (changes_of r.changes) → IsLedgerOf r.ended.ledger r.ended.poll
 
 -- the same, where no source that comes in by a call holds a counter: this one speaks of calls and answers alone
 abbrev pub ArmingsAreKept : {D I P X : Type 0} → Meaning D P (Lent X (Asks D I)) → LoopRun D I P X → Type 0
-ArmingsAreKept M r = AllFreshCalls M r.calls r.answers → IsKept r.ended.ledger r.ended.poll
+ArmingsAreKept M r = AllFreshCalls M r.calls r.answers → IsLedgerOf r.ended.ledger r.ended.poll
 
 -- where no source that a call puts in another's place brings a key, each source is registered under keys of its own slot
 abbrev pub SourcesKeepToTheirSlots : {D I P X : Type 0} → Meaning D P (Lent X (Asks D I)) → LoopRun D I P X → Type 0

@@ -11,9 +11,9 @@ use Rattle.calloop_core.specs.Meanings.{IsKeeping}
 use Rattle.calloop_core.specs.Polls.{PollStep}
 use Rattle.calloop.specs.declared.futures.errors.ExecutorError.{ExecutorError}
 use Rattle.calloop.specs.CellKeeping.{IsQuietTurn, TurnsQuietly, cell_keeps}
-use Rattle.calloop.specs.Executors.{ResultCalls, OfPop, Answered, Opened, Refused, AnsweredSo, ExecutorTurnWith, ExecutorTurnFor, ExecutorTurns, ExecutorTakes, executor_meaning}
+use Rattle.calloop.specs.Executors.{ResultCalls, OfPop, PassAnswer, Opened, Refused, AnsweredSo, ExecutorTurnWith, ExecutorTurnFor, ExecutorTurns, ExecutorTakes, executor_meaning}
 
-answered_quiet : {P O : Type 0} (given : OfPop O → Type 0) (answered : Answered O) (p : Taken) (before after : Twin) (cs : ResultCalls O)
+answered_quiet : {P O : Type 0} (given : OfPop O → Type 0) (answered : PassAnswer O) (p : Taken) (before after : Twin) (cs : ResultCalls O)
     (action : PostAction) (l : List (PollStep P)) → AnsweredSo given answered p before cs action l after
     → IsQuietTurn before after l
 answered_quiet given (Opened polled) p before after cs action l h =

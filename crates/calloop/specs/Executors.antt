@@ -73,15 +73,15 @@ AllGiven given [] = Unit {0}
 AllGiven given (p ∷ ps) = given p × AllGiven given ps
 
 -- what the cell answers to a pass
-pub data Answered (O : Type 0) : Type 0 where
+pub data PassAnswer (O : Type 0) : Type 0 where
   -- a turn, with what the polls of its tasks gave
-  Opened : (polled : List (OfPop O)) → Answered O
+  Opened : (polled : List (OfPop O)) → PassAnswer O
   -- no turn: the pass is of another key, or a turn stands open
-  Refused : Answered O
+  Refused : PassAnswer O
 
 -- At most 1,024 tasks are polled, in queue order, and the callback is called with each result, one that some future of the executor's type
 -- may give; the twin counts just these. The source always goes on. calloop's process_events is this loop over its runnables.
-abbrev pub AnsweredSo : {P O : Type 0} → (given : OfPop O → Type 0) → Answered O → Taken → Twin → ResultCalls O → PostAction
+abbrev pub AnsweredSo : {P O : Type 0} → (given : OfPop O → Type 0) → PassAnswer O → Taken → Twin → ResultCalls O → PostAction
     → List (PollStep P) → Twin → Type 0
 AnsweredSo given (Opened polled) p twin calls action steps after =
     (length polled ≤ most_tasks) × (calls ≡ calls_of polled) × (action ≡ Continue) × (steps ≡ TakePass ∷ [])
@@ -96,7 +96,7 @@ abbrev pub ExecutorTurnWith : {P O : Type 0} → (given : OfPop O → Type 0) �
 ExecutorTurnWith given None twin calls action steps after =
     (calls ≡ []) × (action ≡ Continue) × (steps ≡ TakePass ∷ []) × (after ≡ twin)
 ExecutorTurnWith {P} {O} given (Some p) twin calls action steps after =
-    (answered : Answered O) × AnsweredSo given answered p twin calls action steps after
+    (answered : PassAnswer O) × AnsweredSo given answered p twin calls action steps after
 
 abbrev pub ExecutorTurnFor : {P O : Type 0} → (given : OfPop O → Type 0) → (is_own : Bool) → Option Taken → Twin → ResultCalls O
     → PostAction → List (PollStep P) → Twin → Type 0

@@ -191,7 +191,7 @@ abbrev pub event_of : Waiting → Pending
 event_of w = w.event
 
 -- what the ledger says of a `Poll`
-pub record IsKept {P : Type 0} (l : Ledger) (v : PollView P) : Type 0 where
+pub record IsLedgerOf {P : Type 0} (l : Ledger) (v : PollView P) : Type 0 where
   -- the armings in the deadlines are its deadlines, and those in the batch belong to its batch
   pub entries : map entry_in l.armed ≡ v.deadlines.entries
   pub events : map event_of l.batch ≡ v.batch

@@ -13,7 +13,7 @@ use Rattle.calloop_core.specs.Meanings.{IsKeeping}
 use Rattle.calloop_core.specs.Polls.{PollStep}
 use Rattle.calloop.specs.declared.channel.ChannelError.{ChannelError}
 use Rattle.calloop.specs.CellKeeping.{IsQuietTurn, TurnsQuietly, cell_keeps}
-use Rattle.calloop.specs.Channels.{ChannelCalls, ChannelTurns, ChannelTurnFor, ChannelTurnWith, Answered, Opened, Refused, AnsweredSo}
+use Rattle.calloop.specs.Channels.{ChannelCalls, ChannelTurns, ChannelTurnFor, ChannelTurnWith, PassAnswer, Opened, Refused, AnsweredSo}
 use Rattle.calloop.specs.Channels.{ChannelTakes, channel_twin, SameChannel, channel_meaning, label_of, twin_after}
 
 -- the pops of a turn change no key
@@ -21,7 +21,7 @@ twin_key : {T : Type 0} (ps : List (Popped T)) (twin : Twin) → (twin_after ps 
 twin_key [] twin = refl
 twin_key (p ∷ ps) twin = twin_key ps (twin_after_pop p twin)
 
-answered_quiet : {P T : Type 0} (label : LabelView) (answered : Answered T) (p : Taken) (before after : Twin)
+answered_quiet : {P T : Type 0} (label : LabelView) (answered : PassAnswer T) (p : Taken) (before after : Twin)
     (cs : ChannelCalls T) (action : PostAction) (l : List (PollStep P)) → AnsweredSo label answered p before cs action l after
     → IsQuietTurn before after l
 answered_quiet label (Opened ps) p before after cs action l h =

@@ -14,8 +14,8 @@ abbrev pub clock_of : {D P C R X I S : Type 0} → EventLoop D P C R X I S → C
 clock_of l = l.poll.clock
 
 -- a poller of the machine that no call failed of
-abbrev pub IsSound : {C : Type 0} → MioPoller C → Type 0
-IsSound poller = poller.faults.count ≡ 0
+abbrev pub IsFaultless : {C : Type 0} → MioPoller C → Type 0
+IsFaultless poller = poller.faults.count ≡ 0
 
 -- the loop's clock and its poller's count from one reading of the machine's clock
 abbrev pub CountFromOneReading : {D R X I S : Type 0}

@@ -40,11 +40,11 @@ abbrev pub action_of : (told : Bool) → PostAction
 action_of told = if told then Remove else Continue
 
 -- what the cell answers to a pass; in calloop process_events reads the descriptor empty
-pub data Served : Type 0 where
+pub data PassAnswer : Type 0 where
   -- a turn, with the ring that stood and with the close that no turn told
-  Opened : (rung told : Bool) → Served
+  Opened : (rung told : Bool) → PassAnswer
   -- no turn: the pass is of another key, or a turn stands open
-  Refused : Served
+  Refused : PassAnswer
 
 -- the twin of a source, after a turn was opened that took this ring and told this close
 abbrev pub twin_opened : (rung told : Bool) → Twin → Twin
@@ -53,7 +53,7 @@ twin_opened rung told twin =
 
 -- The twin counts the turn that the pass opened; the source is called as often as the twin's number of rings grows
 -- by, and removed where its number of closes does. A pass that the source's own cell refused is put back.
-abbrev pub ServedSo : {P : Type 0} → Served → Taken → Twin → PingCalls → PostAction → List (PollStep P) → Twin → Type 0
+abbrev pub ServedSo : {P : Type 0} → PassAnswer → Taken → Twin → PingCalls → PostAction → List (PollStep P) → Twin → Type 0
 ServedSo (Opened rung told) p twin calls action steps after =
     (calls ≡ calls_of rung) × (action ≡ action_of told) × (steps ≡ TakePass ∷ [])
     × (after ≡ twin_opened rung told twin)
@@ -66,7 +66,7 @@ abbrev pub PingTurnWith : {P : Type 0} → Option Taken → Twin → PingCalls �
 PingTurnWith None twin calls action steps after =
     (calls ≡ []) × (action ≡ Continue) × (steps ≡ TakePass ∷ []) × (after ≡ twin)
 PingTurnWith (Some p) twin calls action steps after =
-    (served : Served) × ServedSo served p twin calls action steps after
+    (served : PassAnswer) × ServedSo served p twin calls action steps after
 
 abbrev pub PingTurnFor : {P : Type 0} → (is_own : Bool) → Option Taken → Twin → PingCalls → PostAction
     → List (PollStep P)

@@ -12,9 +12,9 @@ use Rattle.calloop_core.specs.Polls.{PollStep}
 use Rattle.calloop.specs.declared.ping.source.PingError.{PingError}
 use Rattle.calloop.specs.CellKeeping.{IsQuietTurn, TurnsQuietly, cell_keeps}
 use Rattle.calloop.specs.Pings.{PingCalls, PingTurns, ping_twin, SamePing, TurnsBy, PingTurnFor, PingTurnWith}
-use Rattle.calloop.specs.Pings.{Served, Opened, Refused, ServedSo, ping_meaning}
+use Rattle.calloop.specs.Pings.{PassAnswer, Opened, Refused, ServedSo, ping_meaning}
 
-served_quiet : {P : Type 0} (served : Served) (p : Taken) (before after : Twin) (cs : PingCalls) (action : PostAction)
+served_quiet : {P : Type 0} (served : PassAnswer) (p : Taken) (before after : Twin) (cs : PingCalls) (action : PostAction)
     (l : List (PollStep P)) → ServedSo served p before cs action l after → IsQuietTurn before after l
 served_quiet (Opened rung told) p before after cs action l h =
     record { key = ap (λ x. x.key) h.3; counters = λ next. rw h.2 (λ counter. tt); own = λ r. rw h.2 (tt, tt) }

@@ -91,13 +91,13 @@ ReadsSo polls name false stream items ending before calls action after =
     (calls ≡ []) × (action ≡ Continue) × (after ≡ before)
 
 -- what the cell answers to a pass
-pub data Answered (I : Type 0) : Type 0 where
+pub data PassAnswer (I : Type 0) : Type 0 where
   -- a turn, with the ring and the close that stood, and with what was read
-  Opened : (rung told : Bool) → (items : List I) → Ending → Answered I
+  Opened : (rung told : Bool) → (items : List I) → Ending → PassAnswer I
   -- no turn: the pass is of another key, or a turn stands open
-  Refused : Answered I
+  Refused : PassAnswer I
 
-abbrev pub AnsweredSo : {P S I : Type 0} → Polls S I → Answered I → Taken → Twin → Reading S → StreamCalls I → PostAction
+abbrev pub AnsweredSo : {P S I : Type 0} → Polls S I → PassAnswer I → Taken → Twin → Reading S → StreamCalls I → PostAction
     → List (PollStep P) → Twin → Reading S → Type 0
 AnsweredSo polls (Opened rung told items ending) p twin before calls action steps twin' after =
     ReadsSo polls twin.name rung before.stream items ending before calls action after × (steps ≡ TakePass ∷ [])
@@ -111,7 +111,7 @@ abbrev pub StreamTurnWith : {P S I : Type 0} → Polls S I → Option Taken → 
 StreamTurnWith polls None twin before calls action steps twin' after =
     (calls ≡ []) × (action ≡ Continue) × (steps ≡ TakePass ∷ []) × (twin' ≡ twin) × (after ≡ before)
 StreamTurnWith {P} {S} {I} polls (Some p) twin before calls action steps twin' after =
-    (answered : Answered I) × AnsweredSo polls answered p twin before calls action steps twin' after
+    (answered : PassAnswer I) × AnsweredSo polls answered p twin before calls action steps twin' after
 
 abbrev pub StreamTurnFor : {P S I : Type 0} → Polls S I → (is_own : Bool) → Option Taken → Twin → Reading S → StreamCalls I → PostAction
     → List (PollStep P) → Twin → Reading S → Type 0
@@ -156,7 +156,7 @@ module _ {S P A I : Type 0} (polls : Polls A I) (twin : S → Twin) (reading : S
 
 -- Its turn leaves its key as it is, and makes no step of a timer. The impl cites these proofs, so they stand here.
 
-answered_quiet : {P S I : Type 0} (polls : Polls S I) (answered : Answered I) (p : Taken) (twin twin' : Twin) (before after : Reading S)
+answered_quiet : {P S I : Type 0} (polls : Polls S I) (answered : PassAnswer I) (p : Taken) (twin twin' : Twin) (before after : Reading S)
     (cs : StreamCalls I) (action : PostAction) (l : List (PollStep P))
     → AnsweredSo polls answered p twin before cs action l twin' after → IsQuietTurn twin twin' l
 answered_quiet polls (Opened rung told items ending) p twin twin' before after cs action l h =

@@ -6,10 +6,10 @@ use Rattle.calloop_core.specs.declared.sys.Watched.{Watched}
 use Rattle.calloop_core.specs.declared.sys.Mode.TheVariants.{OneShot}
 use Rattle.calloop_core.specs.Tables.{Edit, Enter, Change}
 
-abbrev pub once : Interest → Watched
-once interest = record { interest = interest; mode = OneShot }
+abbrev pub watched_once : Interest → Watched
+watched_once interest = record { interest = interest; mode = OneShot }
 
 -- under its token: first, or anew, also where it is the same
 abbrev pub taking_up : Token → (entered : Bool) → Interest → Edit
-taking_up token false interest = Enter token (once interest)
-taking_up token true interest = Change token token (once interest)
+taking_up token false interest = Enter token (watched_once interest)
+taking_up token true interest = Change token token (watched_once interest)

@@ -1,4 +1,29 @@
 //! A callback event loop, after the Rust crate calloop: every call of the loop is proved a case of a small machine.
+//!
+//! A loop holds sources, each with a callback. A dispatch waits until one has something, and calls back with it, lending the data that
+//! it was lent itself. Here a timer says a line, once:
+//!
+//! ```
+//! struct Says;
+//!
+//! impl On<Instant, String, TimeoutAction> for Says {
+//!     fn on(&mut self, _deadline: Instant, said: &mut String) -> TimeoutAction {
+//!         let _failed = said.push_str("five milliseconds\n");
+//!         TimeoutAction::Drop
+//!     }
+//! }
+//!
+//! let mut event_loop: SystemLoop<Sources<Dispatcher<Timer, Says>, String>, R> =
+//!     SystemLoop::system(rt, alloc)?;
+//! let timer = Timer::from_deadline(Instant::from_millis(5));
+//! event_loop.handle().insert_source(timer, Says)?;
+//! event_loop.dispatch(rt, None, said)?;
+//! ```
+//!
+//! - Sources: pings (`ping`), timers (`timer`), channels (`channel`), sockets (`generic`, `io`), futures (`futures`, `timeout`), streams
+//!   (`stream`), one's own (`EventSource`), and two as one (`Both`). A loop's type lists those that it can hold, as `OneOf`.
+//! - A callback asks its loop for things by the `Requests` that it is lent. Who owns the loop has a `LoopHandle`; a `LoopSignal` and a
+//!   `Ping` go to other threads.
 #![tactic(auto)]
 
 mod cell;

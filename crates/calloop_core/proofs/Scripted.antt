@@ -5,11 +5,11 @@ use Rattle.std.specs.declared.io.Error.{Error as Cause}
 use Rattle.std.specs.declared.io.ErrorKind.TheVariants.{Interrupted, Other}
 use Rattle.calloop_core.specs.declared.sys.script.ScriptAnswer.{ScriptAnswer}
 use Rattle.calloop_core.specs.declared.sys.script.ScriptEnd.TheVariants.{Interrupted as Interruption, Fault}
-use Rattle.calloop_core.specs.ScriptPollers.{Answered}
+use Rattle.calloop_core.specs.ScriptPollers.{WaitAnswered}
 
 module _ (answers left : List ScriptAnswer) (first : ScriptAnswer) (moment : ℕ) (asked : Option ℕ) (cause : Cause) (is : answers ≡ first ∷ left) where
-  pub interrupted : first.end ≡ Interruption → error_kind cause ≡ Interrupted → Answered answers moment asked (Err cause) [] first.moment.nanos left
+  pub interrupted : first.end ≡ Interruption → error_kind cause ≡ Interrupted → WaitAnswered answers moment asked (Err cause) [] first.moment.nanos left
   interrupted end kind = rw is (rw end (cause, refl, kind, refl), refl, refl)
 
-  pub faulted : first.end ≡ Fault → error_kind cause ≡ Other → Answered answers moment asked (Err cause) [] first.moment.nanos left
+  pub faulted : first.end ≡ Fault → error_kind cause ≡ Other → WaitAnswered answers moment asked (Err cause) [] first.moment.nanos left
   faulted end kind = rw is (rw end (cause, refl, kind, refl), refl, refl)

@@ -31,7 +31,7 @@ IsInStep events passes = map key_of_pass passes ≡ posted_keys events
 
 -- what has to be true of a batch over the board of this name: it is in step, and its passes, with that of the event
 -- whose turn it is, are of that board
-pub record IsKept (board : Book) (events : List Pending) (passes : List Taken) (pass : Option Taken) : Type 0 where
+pub record IsBatchOf (board : Book) (events : List Pending) (passes : List Taken) (pass : Option Taken) : Type 0 where
   pub in_step : IsInStep events passes
   pub own : AreOf board passes
   pub own_turn : IfSome pass (λ p. p.board ≡ board)

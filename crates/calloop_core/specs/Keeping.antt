@@ -22,7 +22,7 @@ use Rattle.calloop_core.specs.Lawful.{next_is_own, StaysHome, stays_home, silent
 use Rattle.calloop_core.specs.Meanings.{IsKeeping, KeepsCounters}
 use Rattle.calloop_core.specs.Polls.{PollView, PollStep}
 use Rattle.calloop_core.specs.Holdings.{Holding, Free, Spent, Standing, IsWithin, Keeps, with_hold}
-use Rattle.calloop_core.specs.Timers.{TimerCalls, timer_holds, held_as, releases, Armed, ArmedAgain, ArmedFor, Answered}
+use Rattle.calloop_core.specs.Timers.{TimerCalls, timer_holds, held_as, releases, Armed, ArmedAgain, ArmedFor, FollowsFrom}
 use Rattle.calloop_core.specs.Timers.{IsTimerReg, IsTimerUnreg, IsTimerTurn, timer_keys, timer_meaning}
 
 within_same : (h : Holding) → IsWithin h h
@@ -96,7 +96,7 @@ keeps_for held next r (Some at) a l t h =
 keeps_for held next r None a l t h = rw (h.1, h.2) (λ counter. within_one counter r.counter Spent held)
 
 keeps_answered : {P : Type 0} (held : ℕ → Holding) (next : ℕ) (s : Timer) (r : Registration) (x : TimeoutAction)
-    (a : Result PostAction TimerError) (l : List (PollStep P)) (t : Timer) → Answered s r x a l t
+    (a : Result PostAction TimerError) (l : List (PollStep P)) (t : Timer) → FollowsFrom s r x a l t
     → Keeps (with_hold r.counter Spent held) next l (timer_holds t)
 keeps_answered held next s r Drop a l t h = rw (h.1, h.2) (λ counter. within_one counter r.counter Spent held)
 keeps_answered held next s r (ToInstant at) a l t h =
@@ -160,7 +160,7 @@ home_for r own None a l t mine h = rw (h.1, h.2) (λ key e. rw e mine, tt)
 
 home_answered : {P : Type 0} (r : RegistrationToken) (s : Timer) (own : Registration) (x : TimeoutAction)
     (a : Result PostAction TimerError) (l : List (PollStep P)) (t : Timer) → IsKeyOf r (key_of own.token)
-    → Answered s own x a l t → Home r t × AllActFor r l
+    → FollowsFrom s own x a l t → Home r t × AllActFor r l
 home_answered r s own Drop a l t mine h = rw (h.1, h.2) (λ key e. rw e mine, tt)
 home_answered r s own (ToInstant at) a l t mine h = home_again r own at a l t mine h
 home_answered r s own (ToDuration time) a l t mine h =

@@ -49,17 +49,17 @@ Ended Fault answer given = (cause : IoError) × (answer ≡ Err cause) × (error
 
 -- the answer and the events of a wait, the moment after it and the answers that are left, by the answers that there
 -- were
-abbrev pub Answered : List ScriptAnswer → ℕ → (asked : Option ℕ) → Result (Unit {0}) IoError
+abbrev pub WaitAnswered : List ScriptAnswer → ℕ → (asked : Option ℕ) → Result (Unit {0}) IoError
     → (given : List (ℕ × Readiness)) → ℕ → List ScriptAnswer → Type 0
-Answered [] moment asked answer given after left =
+WaitAnswered [] moment asked answer given after left =
     (answer ≡ Ok tt) × (given ≡ []) × (after ≡ moved moment asked) × (left ≡ [])
-Answered (first ∷ answers) moment asked answer given after left =
+WaitAnswered (first ∷ answers) moment asked answer given after left =
     Ended first.end answer given × (after ≡ first.moment.nanos) × (left ≡ answers)
 
 -- one scripted wait; it notes what was asked
 pub record ScriptWaits (p : ScriptPoller) (asked : Option ℕ) (answer : Result (Unit {0}) IoError)
     (given : List (ℕ × Readiness)) (q : ScriptPoller) : Type 0 where
-  pub answered : Answered p.answers.items p.moment.nanos asked answer given q.moment.nanos q.answers.items
+  pub answered : WaitAnswered p.answers.items p.moment.nanos asked answer given q.moment.nanos q.answers.items
   pub timeout : Option Duration
   pub asked_is : nanos_of timeout ≡ asked
   pub noted : q.waits.items ≡ kept_waits p.waits.items (vec_capacity p.waits) timeout

@@ -104,11 +104,11 @@ ArmedFor r (Some at) answer steps t = ArmedAgain r at answer steps t
 ArmedFor r None answer steps t = (answer ≡ Ok Remove) × (steps ≡ []) × (t ≡ registered_as (spent r) None)
 
 -- what follows from the answer of a call
-abbrev pub Answered : {P : Type 0} → Timer → Registration → TimeoutAction
+abbrev pub FollowsFrom : {P : Type 0} → Timer → Registration → TimeoutAction
     → Result PostAction TimerError → List (PollStep P) → Timer → Type 0
-Answered s r Drop answer steps t = (answer ≡ Ok Remove) × (steps ≡ []) × (t ≡ registered_as (spent r) s.deadline)
-Answered s r (ToInstant at) answer steps t = ArmedAgain r at answer steps t
-Answered {P} s r (ToDuration time) answer steps t =
+FollowsFrom s r Drop answer steps t = (answer ≡ Ok Remove) × (steps ≡ []) × (t ≡ registered_as (spent r) s.deadline)
+FollowsFrom s r (ToInstant at) answer steps t = ArmedAgain r at answer steps t
+FollowsFrom {P} s r (ToDuration time) answer steps t =
     (now : Instant) × (after : P) × (more : List (PollStep P)) × (steps ≡ ReadClock now.nanos after ∷ more)
     × ArmedFor r (moment_after now time) answer more t
 
@@ -124,7 +124,7 @@ pub record IsCalled
   pub called : calls ≡ record { event = r.armed; before = tt; after = tt; answer = action } ∷ []
   pub more : List (PollStep P)
   pub steps_are : steps ≡ Call r.counter r.armed ∷ more
-  pub answered : Answered s r action answer more t
+  pub answered : FollowsFrom s r action answer more t
 
 -- no call: the token isn't the timer's, its arming was called for, or its counter has a deadline; in calloop a timer
 -- that was armed again can be called too early

@@ -37,7 +37,7 @@ use Rattle.calloop_core.specs.Beside.{
   right_moves,
   acts_then,
 }
-use Rattle.calloop_core.specs.Transients.{Rests, Enters, EntersAnew, Leaves, ThenEnters, Replaces, RegisteredAs, ReregisteredAs, UnregisteredAs, KeptBy, Ignores, TurnedAs, state_holds, state_keys, state_fits, state_meaning, transient_meaning}
+use Rattle.calloop_core.specs.Transients.{Rests, Enters, EntersAnew, LeavesState, ThenEnters, Replaces, RegisteredAs, ReregisteredAs, UnregisteredAs, KeptBy, Ignores, TurnedAs, state_holds, state_keys, state_fits, state_meaning, transient_meaning}
 
 module _ {S P E M T Cause : Type 0} (m : Meaning S P (Heard E M T Cause)) (k : IsKeeping m) where
   -- a state with no more than this source has
@@ -104,7 +104,7 @@ module _ {S P E M T Cause : Type 0} (m : Meaning S P (Heard E M T Cause)) (k : I
 
   leaves_counted : (left stood : S → State S) → ((x : S) → IsOf x (left x)) → ((x : S) → IsOf x (stood x))
       → (s : S) (t : State S) (v : PollView P) (a : Result (Unit {0}) Error) (l : List (PollStep P))
-      → m.fits s → IsBelow v.deadlines.next (m.holds s) → Leaves m left stood s v a l t → Counted (m.holds s) v l t
+      → m.fits s → IsBelow v.deadlines.next (m.holds s) → LeavesState m left stood s v a l t → Counted (m.holds s) v l t
   leaves_counted left stood is is' s t v (Ok u) l fits below h =
       did_counted s h.0 t v (Unregistered (Ok u)) l (rw h.2 (is h.0)) fits below h.1
   leaves_counted left stood is is' s t v (Err e) l fits below h =
@@ -298,7 +298,7 @@ module _ {S P E M T Cause : Type 0} (m : Meaning S P (Heard E M T Cause)) (k : I
 
     leaves_home : (left stood : S → State S) → ((x : S) → IsOf x (left x)) → ((x : S) → IsOf x (stood x))
         → (s : S) (t : State S) (v : PollView P) (a : Result (Unit {0}) Error) (l : List (PollStep P))
-        → Home s → Leaves m left stood s v a l t → HomeAs t × AllActFor r l
+        → Home s → LeavesState m left stood s v a l t → HomeAs t × AllActFor r l
     leaves_home left stood is is' s t v (Ok u) l home h =
         let x = k.home r s h.0 v (Unregistered (Ok u)) l home h.1 in
         (rw h.2 (of_home h.0 (left h.0) (is h.0) x.0), x.1 home)

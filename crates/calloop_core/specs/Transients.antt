@@ -55,9 +55,9 @@ module _ {S P E M T Cause : Type 0} (m : Meaning S P (Heard E M T Cause)) where
       (s' : S) × m.does s v (Reregistered f answer g) steps s' × (t ≡ after answer (Keep s' true) (Keep s' marked))
 
   -- it is unregistered, and left then; else it stands as it stood
-  abbrev pub Leaves : (left stood : S → State S) → S → PollView P → Result (Unit {0}) Error → List (PollStep P)
+  abbrev pub LeavesState : (left stood : S → State S) → S → PollView P → Result (Unit {0}) Error → List (PollStep P)
       → State S → Type 0
-  Leaves left stood s v answer steps t =
+  LeavesState left stood s v answer steps t =
       (s' : S) × m.does s v (Unregistered answer) steps s' × (t ≡ after answer (left s') (stood s'))
 
   -- after the old one was asked to leave, with this answer
@@ -87,7 +87,7 @@ module _ {S P E M T Cause : Type 0} (m : Meaning S P (Heard E M T Cause)) where
   RegisteredAs (Register s) v f answer steps t g = Enters (λ s'. Register s') s v f answer steps t g
   RegisteredAs (Disable s marked) v f answer steps t g = Enters (λ s'. Disable s' marked) s v f answer steps t g
   RegisteredAs (Remove s true) v f answer steps t g =
-      Leaves (λ s'. Empty) (λ s'. Remove s' true) s v answer steps t × (g ≡ f)
+      LeavesState (λ s'. Empty) (λ s'. Remove s' true) s v answer steps t × (g ≡ f)
   RegisteredAs (Remove s false) v f answer steps t g = Rests Empty answer steps t × (g ≡ f)
   RegisteredAs (Replace new old true) v f answer steps t g = Replaces new old v f answer steps t g
   RegisteredAs (Replace new old false) v f answer steps t g =
@@ -99,7 +99,7 @@ module _ {S P E M T Cause : Type 0} (m : Meaning S P (Heard E M T Cause)) where
   ReregisteredAs (Keep s marked) v f answer steps t g = EntersAnew s marked v f answer steps t g
   ReregisteredAs (Register s) v f answer steps t g = RegisteredAs (Register s) v f answer steps t g
   ReregisteredAs (Disable s true) v f answer steps t g =
-      Leaves (λ s'. Disable s' false) (λ s'. Disable s' true) s v answer steps t × (g ≡ f)
+      LeavesState (λ s'. Disable s' false) (λ s'. Disable s' true) s v answer steps t × (g ≡ f)
   ReregisteredAs (Disable s false) v f answer steps t g = Rests (Disable s false) answer steps t × (g ≡ f)
   ReregisteredAs (Remove s marked) v f answer steps t g = RegisteredAs (Remove s marked) v f answer steps t g
   ReregisteredAs (Replace new old marked) v f answer steps t g = RegisteredAs (Replace new old marked) v f answer steps t g
@@ -107,16 +107,16 @@ module _ {S P E M T Cause : Type 0} (m : Meaning S P (Heard E M T Cause)) where
 
   abbrev pub UnregisteredAs : State S → PollView P → Result (Unit {0}) Error → List (PollStep P) → State S → Type 0
   UnregisteredAs (Keep s true) v answer steps t =
-      Leaves (λ s'. Keep s' false) (λ s'. Keep s' true) s v answer steps t
+      LeavesState (λ s'. Keep s' false) (λ s'. Keep s' true) s v answer steps t
   UnregisteredAs (Keep s false) v answer steps t = Rests (Keep s false) answer steps t
   UnregisteredAs (Register s) v answer steps t = Rests (Register s) answer steps t
   UnregisteredAs (Disable s true) v answer steps t =
-      Leaves (λ s'. Disable s' false) (λ s'. Disable s' true) s v answer steps t
+      LeavesState (λ s'. Disable s' false) (λ s'. Disable s' true) s v answer steps t
   UnregisteredAs (Disable s false) v answer steps t = Rests (Disable s false) answer steps t
-  UnregisteredAs (Remove s true) v answer steps t = Leaves (λ s'. Empty) (λ s'. Remove s' true) s v answer steps t
+  UnregisteredAs (Remove s true) v answer steps t = LeavesState (λ s'. Empty) (λ s'. Remove s' true) s v answer steps t
   UnregisteredAs (Remove s false) v answer steps t = Rests Empty answer steps t
   UnregisteredAs (Replace new old true) v answer steps t =
-      Leaves (λ o. Register new) (λ o. Replace new o true) old v answer steps t
+      LeavesState (λ o. Register new) (λ o. Replace new o true) old v answer steps t
   UnregisteredAs (Replace new old false) v answer steps t = Rests (Register new) answer steps t
   UnregisteredAs Empty v answer steps t = Rests Empty answer steps t
 

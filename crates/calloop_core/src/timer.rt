@@ -6,7 +6,7 @@ ghost use Rattle.calloop_wake.specs.Deadlines.{is_armed, moment_after};
 ghost use Rattle.calloop_core.specs.Polls.{PollView, PollStep, poll_view, AllStepped};
 ghost use Rattle.calloop_core.specs.Calls.{CallbackCall, Went};
 ghost use Rattle.calloop_core.specs.declared.timer.TimeoutAction.{TimeoutAction};
-ghost use Rattle.calloop_core.specs.Timers.{unarmed, releases, Armed, ArmedAgain, Answered, timer_holds, IsTimerReg, IsTimerUnreg, IsTimerTurn};
+ghost use Rattle.calloop_core.specs.Timers.{unarmed, releases, Armed, ArmedAgain, FollowsFrom, timer_holds, IsTimerReg, IsTimerUnreg, IsTimerTurn};
 
 use crate::sources::{Asking, Callback, EventSource, IntoError, PostAction};
 use crate::sys::events::EventIterator;
@@ -203,7 +203,7 @@ impl Timer {
         Q: Asking,
         F: Callback<Instant, (), TimeoutAction, X, Q>,
         requires { is_armed registration.counter (poll_view poll.old).deadlines ≡ false }
-        ensures { (action : TimeoutAction) × (steps : List (PollStep P)) × Answered self.old registration action result steps self.new
+        ensures { (action : TimeoutAction) × (steps : List (PollStep P)) × FollowsFrom self.old registration action result steps self.new
             × AllStepped P.outside (poll_view poll.old) steps (poll_view poll.new)
             × Went F.may Q.reaches callback.old «data».old requests.old
             (record { event = registration.armed; before = tt; after = tt; answer = action } ∷ []) callback.new «data».new requests.new }

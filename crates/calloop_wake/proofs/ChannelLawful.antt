@@ -4,7 +4,7 @@ use Rattle.std.proofs.Common.{◌≡◌, ℕ, ◌+◌, ◌<◌, ◌≤◌, Bool,
 use Rattle.std.proofs.Math.Bool.{or-true}
 use Rattle.calloop_wake.specs.Cells.{Cell, one, is_own, after_close, after_set_key, after_clear_key}
 use Rattle.calloop_wake.specs.Bells.{after_ping, ended}
-use Rattle.calloop_wake.specs.Channels.{ChannelCell, fresh_channel, with_bell, is_below, pops, after_put, after_pop_of, after_take_of, popped_of, tells, is_close, is_early, after_end_turn, IsQuiet, IsLitChannel, IsSoundChannel, IsStandingChannel}
+use Rattle.calloop_wake.specs.Channels.{ChannelCell, fresh_channel, with_bell, is_below, pops, after_put, after_pop_of, after_take_of, popped_of, tells, is_close, is_early, after_end_turn, IsPingedIfDue, IsLitChannel, IsSoundChannel, IsStandingChannel}
 use Rattle.calloop_wake.specs.ChannelKind.{Telling, ChannelPast, unused_channel, ChannelStep, Ring, Close, Pop, Take, EndTurn, Put, Progress, behind_pop, at_start, channel_kind, item_of, told_by, AllOfEmpty, IsStandingPast}
 use Rattle.calloop_wake.proofs.Lawful.{own-is, and-left}
 use Rattle.calloop_wake.proofs.Schedules.{IsLawful, IsFresh}
@@ -18,7 +18,7 @@ pub record IsLitPast (p : ChannelPast) : Type 0 where
   pub of_empty : AllOfEmpty p.tellings
   pub bounded : p.turn.left ≤ pops p.now.bound
 
-quiet-pinged : (c : ChannelCell ℕ) → c.cell.pinged ≡ true → IsQuiet c
+quiet-pinged : (c : ChannelCell ℕ) → c.cell.pinged ≡ true → IsPingedIfDue c
 quiet-pinged c h = record { queue = λ _. h; close = λ _. h }
 
 lit-pinged : (c : ChannelCell ℕ) → c.cell.pinged ≡ true → IsLitChannel c
@@ -38,14 +38,14 @@ lit-bell b p lit told same l = record {
 -- a bell that differs in key and in who is there
 lit-same : (b : Cell) (c : ChannelCell ℕ) → b.pinged ≡ c.cell.pinged → b.draining ≡ c.cell.draining → b.closed ≡ c.cell.closed → b.told ≡ c.cell.told → IsLitChannel c → IsLitChannel (with_bell b c)
 lit-same b c pinged draining closed told l =
-    let quiet : IsQuiet c → IsQuiet (with_bell b c) = λ q. record {
+    let quiet : IsPingedIfDue c → IsPingedIfDue (with_bell b c) = λ q. record {
       queue = λ h. pinged ∙ q.queue h;
       close = λ h. pinged ∙ q.close (ap (λ t. c.cell.closed && not t) (sym told) ∙ (ap (λ x. x && not b.told) (sym closed) ∙ h));
     } in
     record { at_rest = λ h. quiet (l.at_rest (sym draining ∙ h)); in_turn = λ h. quiet (l.in_turn h) }
 
 quiet-ended : (c : ChannelCell ℕ) (early : Bool) → is_early c.last ≡ early → IsLitChannel c
-    → IsQuiet {T = ℕ} (record { cell = ended early c.cell; queue = c.queue; bound = c.bound; last = c.last })
+    → IsPingedIfDue {T = ℕ} (record { cell = ended early c.cell; queue = c.queue; bound = c.bound; last = c.last })
 quiet-ended c true is l = record { queue = λ _. refl; close = λ _. refl }
 quiet-ended c false is l = let q = l.in_turn is in record { queue = q.queue; close = q.close }
 
@@ -105,7 +105,7 @@ popped_from queue told p = record {
   tellings = p.tellings ++ told_by (is_close (popped_of queue told)) p.now;
 }
 
-quiet-empty : (c : ChannelCell ℕ) → IsQuiet (after_pop_of [] c)
+quiet-empty : (c : ChannelCell ℕ) → IsPingedIfDue (after_pop_of [] c)
 quiet-empty c = record { queue = λ h. absurd (omega arith); close = λ h. absurd (told-once c.cell.closed c.cell.told h) }
 
 sound-empty : (c : ChannelCell ℕ) → IsSoundChannel c → IsSoundChannel (after_pop_of [] c)
@@ -246,7 +246,7 @@ channel_lit p l = l
 pub unused_is : (bound : Option ℕ) → IsFresh channel_kind channel_lawful (unused_channel bound)
 unfolding channel_lawful
 unused_is bound =
-    let q : IsQuiet {T = ℕ} (fresh_channel bound) = record { queue = λ h. absurd (omega arith); close = λ h. absurd (cc) } in
+    let q : IsPingedIfDue {T = ℕ} (fresh_channel bound) = record { queue = λ h. absurd (omega arith); close = λ h. absurd (cc) } in
     record {
       lit = record {
         lit = record { at_rest = λ _. q; in_turn = λ h. absurd (cc) };

@@ -8,7 +8,7 @@ use Rattle.calloop_wake.specs.declared.wake.tasks.Task.{Task}
 use Rattle.calloop_wake.specs.declared.wake.tasks.TaskKey.{TaskKey}
 use Rattle.calloop_wake.specs.Cells.{is_own}
 use Rattle.calloop_wake.specs.Tasks.{phase_at, stepped, in_poll, woken_phase, settled_phase}
-use Rattle.calloop_wake.specs.Executors.{ExecutorCell, with_slot, after_settle, after_pop, settled_at, taken_of, after_clear_key, polling, AreNumbered, IsKeeping}
+use Rattle.calloop_wake.specs.Executors.{ExecutorCell, with_slot, after_settle, after_pop, settled_at, taken_of, after_clear_key, polling, AreNumbered, IsKeepingTasks}
 use Rattle.calloop_wake.specs.ExecutorKind.{ExecutorPast, unused_executor, ExecutorStep, Put, Wake, Pop, EndTurn, executor_needs, executor_after, given_of, given_by, past_after, IsStandingPast, executor_kind}
 use Rattle.calloop_wake.proofs.Schedules.{IsLawful, IsFresh}
 use Rattle.calloop_wake.proofs.Lawful.{own-is, and-left}
@@ -87,7 +87,7 @@ polled-is key tasks h = elim (in_poll-cases key tasks h) [
   | WasWoken task at number phase rest step ↦ (task, at, number)
 ]
 
-given-settled : (o : Option TaskKey) (finished : Bool) (given : List ℕ) (c : ExecutorCell) → c.progress.polled ≡ o → IsKeeping c → AreGiven given c.tasks c.next
+given-settled : (o : Option TaskKey) (finished : Bool) (given : List ℕ) (c : ExecutorCell) → c.progress.polled ≡ o → IsKeepingTasks c → AreGiven given c.tasks c.next
     → AreGiven (given ++ given_of o finished) (settled_at o finished c).tasks (settled_at o finished c).next
 given-settled None finished given c is k g = given-nothing given c.tasks c.next g
 given-settled (Some key) true given c is k g =
@@ -102,7 +102,7 @@ given-taken : (q : List ℕ) (given : List ℕ) (c : ExecutorCell) → AreGiven 
 given-taken [] given c g = g
 given-taken (slot ∷ rest) given c g = given-kept given c.tasks c.next g slot _ (same-polling (c.tasks slot))
 
-own-given : (s : ExecutorStep) (given : List ℕ) (c : ExecutorCell) → IsKeeping c → AreGiven given c.tasks c.next
+own-given : (s : ExecutorStep) (given : List ℕ) (c : ExecutorCell) → IsKeepingTasks c → AreGiven given c.tasks c.next
     → AreGiven (given ++ given_by s c) (executor_after s c).tasks (executor_after s c).next
 own-given (Put slot home) given c k g = given-nothing given _ _ (given-put given c.tasks c.next g slot _ refl)
 own-given (Wake key) given c k g =
@@ -113,7 +113,7 @@ own-given (EndTurn finished) given c k g = given-settled c.progress.polled finis
 
 -- what holds of an executor's cell and its past, whenever nobody is within a step
 pub record IsLitPast (p : ExecutorPast) : Type 0 where
-  pub keeps : IsKeeping p.now
+  pub keeps : IsKeepingTasks p.now
   pub given : AreGiven p.given p.now.tasks p.now.next
   -- a turn pops no more often than it may
   pub few : p.now.progress.pops ≤ 1024

@@ -11,7 +11,7 @@ use Rattle.calloop_wake.specs.declared.wake.tasks.TaskKey.{TaskKey}
 use Rattle.calloop_wake.specs.Cells.{is_own}
 use Rattle.calloop_wake.specs.Tasks.{phase_if, phase_at, stepped, is_idle, is_woken, in_poll, woken_phase, settled_phase, slot_if}
 use Rattle.calloop_wake.specs.ExecutorKind.{ExecutorStep, Put, Wake, Pop, EndTurn, executor_needs, executor_after}
-use Rattle.calloop_wake.specs.Executors.{ExecutorCell, fresh_executor, with_slot, after_put, after_wake, after_settle, settled_at, taken_of, after_pop, ended, after_end_turn, opens, in_turn, after_clear_key, is_empty, AreQueued, ArePolled, AreSorted, IsKeeping, IsStandingExecutor, polling, key_in}
+use Rattle.calloop_wake.specs.Executors.{ExecutorCell, fresh_executor, with_slot, after_put, after_wake, after_settle, settled_at, taken_of, after_pop, ended, after_end_turn, opens, in_turn, after_clear_key, is_empty, AreQueued, ArePolled, AreSorted, IsKeepingTasks, IsStandingExecutor, polling, key_in}
 use Rattle.calloop_wake.proofs.Sorted.{with_slot_cases, numbered-kept, numbered-gone, numbered-new, queued-add, queued-keep, queued-take, polled-keep, polled-mark, polled-settle, polled-take}
 
 -- writing what is there changes nothing
@@ -99,7 +99,7 @@ resorted c d t q n p s =
 
 -- a wake that changes no task
 wake-same : (key : TaskKey) (c : ExecutorCell) → stepped woken_phase key.number (c.tasks key.slot) ≡ c.tasks key.slot
-    → is_idle (phase_at key c.tasks) ≡ false → IsKeeping c → IsKeeping (after_wake key c)
+    → is_idle (phase_at key c.tasks) ≡ false → IsKeepingTasks c → IsKeepingTasks (after_wake key c)
 wake-same key c same quiet k =
     let tasks : with_slot key.slot (stepped woken_phase key.number (c.tasks key.slot)) c.tasks ≡ c.tasks = with_slot-same key.slot _ c.tasks same in
     let queue : c.queue ++ slot_if (is_idle (phase_at key c.tasks)) key.slot ≡ c.queue = ap (λ (b : Bool). c.queue ++ slot_if b key.slot) quiet ∙ append-nil c.queue in
@@ -112,7 +112,7 @@ wake-same key c same quiet k =
 
 wake-idle : (key : TaskKey) (c : ExecutorCell) (task : Task) → c.tasks key.slot ≡ Some task → task.phase ≡ Idle
     → stepped woken_phase key.number (c.tasks key.slot) ≡ Some (record task { phase = woken_phase task.phase })
-    → is_idle (phase_at key c.tasks) ≡ true → IsKeeping c → IsKeeping (after_wake key c)
+    → is_idle (phase_at key c.tasks) ≡ true → IsKeepingTasks c → IsKeepingTasks (after_wake key c)
 wake-idle key c task is idle step due k =
     let that : Task = record task { phase = woken_phase task.phase } in
     let queued : that.phase ≡ Queued = ap woken_phase idle in
@@ -135,7 +135,7 @@ wake-idle key c task is idle step due k =
 
 wake-polled : (key : TaskKey) (c : ExecutorCell) (task : Task) → c.tasks key.slot ≡ Some task → task.phase ≡ Polling
     → stepped woken_phase key.number (c.tasks key.slot) ≡ Some (record task { phase = woken_phase task.phase })
-    → is_idle (phase_at key c.tasks) ≡ false → IsKeeping c → IsKeeping (after_wake key c)
+    → is_idle (phase_at key c.tasks) ≡ false → IsKeepingTasks c → IsKeepingTasks (after_wake key c)
 wake-polled key c task is polled step quiet k =
     let that : Task = record task { phase = woken_phase task.phase } in
     let woken : that.phase ≡ Woken = ap woken_phase polled in
@@ -160,12 +160,12 @@ wake-polled key c task is polled step quiet k =
       );
     }
 
-pub wake-keeps : (key : TaskKey) (c : ExecutorCell) → IsKeeping c → IsKeeping (after_wake key c)
+pub wake-keeps : (key : TaskKey) (c : ExecutorCell) → IsKeepingTasks c → IsKeepingTasks (after_wake key c)
 wake-keeps key c k =
     elim (found key c.tasks) [
       | Nobody none same ↦ wake-same key c (same woken_phase) (ap is_idle none) k
       | Somebody task is number phase step ↦
-          elim task.phase as (λ p. task.phase ≡ p → IsKeeping (after_wake key c)) [
+          elim task.phase as (λ p. task.phase ≡ p → IsKeepingTasks (after_wake key c)) [
             | Idle ↦ λ e. wake-idle key c task is e (step woken_phase) (ap is_idle phase ∙ ap (λ (p : Phase). is_idle (Some p)) e) k
             | Queued ↦ λ e. wake-same key c (step woken_phase ∙ ap (λ (p : Phase). Some (record task { phase = woken_phase p })) e ∙ ap (λ (p : Phase). Some (record task { phase = p })) (sym e) ∙ sym is) (ap is_idle phase ∙ ap (λ (p : Phase). is_idle (Some p)) e) k
             | Polling ↦ λ e. wake-polled key c task is e (step woken_phase) (ap is_idle phase ∙ ap (λ (p : Phase). is_idle (Some p)) e) k
@@ -195,7 +195,7 @@ in_poll-cases key tasks h =
 
 -- what the end of a poll leaves besides what the cell keeps
 pub record Settles (c d : ExecutorCell) : Type 0 where
-  pub keeps : IsKeeping d
+  pub keeps : IsKeepingTasks d
   pub polled : d.progress.polled ≡ None
   pub draining : d.draining ≡ c.draining
   pub dry : d.progress.dry ≡ c.progress.dry
@@ -203,7 +203,7 @@ pub record Settles (c d : ExecutorCell) : Type 0 where
 not-polled : {A : Type 0} (key : TaskKey) → ◌≡◌ {A = Option TaskKey} None (Some key) → A
 not-polled key e = absurd (none-some key e)
 
-finish-settles : (key : TaskKey) (c : ExecutorCell) → c.progress.polled ≡ Some key → IsKeeping c → Settles c (settled_at (Some key) true c)
+finish-settles : (key : TaskKey) (c : ExecutorCell) → c.progress.polled ≡ Some key → IsKeepingTasks c → Settles c (settled_at (Some key) true c)
 finish-settles key c is k =
     let polled : ArePolled c.tasks (Some key) = subst (ArePolled c.tasks) is k.sorted.polled in
     let gone : (t : Task) → ◌≡◌ {A = Option Task} None (Some t) → t.phase ≢ Queued = λ t e p. absurd (none-some t e) in
@@ -230,7 +230,7 @@ finish-settles key c is k =
 pend-idle : (key : TaskKey) (c : ExecutorCell) (task : Task) → c.progress.polled ≡ Some key → c.tasks key.slot ≡ Some task → task.phase ≡ Polling
     → is_woken (phase_at key c.tasks) ≡ false
     → stepped settled_phase key.number (c.tasks key.slot) ≡ Some (record task { phase = settled_phase task.phase })
-    → IsKeeping c → IsKeeping (settled_at (Some key) false c)
+    → IsKeepingTasks c → IsKeepingTasks (settled_at (Some key) false c)
 pend-idle key c task is at phase quiet step k =
     let polled : ArePolled c.tasks (Some key) = subst (ArePolled c.tasks) is k.sorted.polled in
     let that : Task = record task { phase = settled_phase task.phase } in
@@ -252,7 +252,7 @@ pend-idle key c task is at phase quiet step k =
 pend-queued : (key : TaskKey) (c : ExecutorCell) (task : Task) → c.progress.polled ≡ Some key → c.tasks key.slot ≡ Some task → task.phase ≡ Woken
     → is_woken (phase_at key c.tasks) ≡ true
     → stepped settled_phase key.number (c.tasks key.slot) ≡ Some (record task { phase = settled_phase task.phase })
-    → IsKeeping c → IsKeeping (settled_at (Some key) false c)
+    → IsKeepingTasks c → IsKeepingTasks (settled_at (Some key) false c)
 pend-queued key c task is at phase due step k =
     let polled : ArePolled c.tasks (Some key) = subst (ArePolled c.tasks) is k.sorted.polled in
     let that : Task = record task { phase = settled_phase task.phase } in
@@ -270,7 +270,7 @@ pend-queued key c task is at phase due step k =
       running = λ other e. not-polled other e;
     }
 
-pend-settles : (key : TaskKey) (c : ExecutorCell) → c.progress.polled ≡ Some key → IsKeeping c → Settles c (settled_at (Some key) false c)
+pend-settles : (key : TaskKey) (c : ExecutorCell) → c.progress.polled ≡ Some key → IsKeepingTasks c → Settles c (settled_at (Some key) false c)
 pend-settles key c is k =
     record {
       keeps = elim (in_poll-cases key c.tasks (k.running key is).2) [
@@ -282,16 +282,16 @@ pend-settles key c is k =
       dry = refl;
     }
 
-pub settles-at : (o : Option TaskKey) (finished : Bool) (c : ExecutorCell) → c.progress.polled ≡ o → IsKeeping c → Settles c (settled_at o finished c)
+pub settles-at : (o : Option TaskKey) (finished : Bool) (c : ExecutorCell) → c.progress.polled ≡ o → IsKeepingTasks c → Settles c (settled_at o finished c)
 settles-at None finished c is k = record { keeps = k; polled = is; draining = refl; dry = refl }
 settles-at (Some key) true c is k = finish-settles key c is k
 settles-at (Some key) false c is k = pend-settles key c is k
 
-pub settles : (finished : Bool) (c : ExecutorCell) → IsKeeping c → Settles c (after_settle finished c)
+pub settles : (finished : Bool) (c : ExecutorCell) → IsKeepingTasks c → Settles c (after_settle finished c)
 settles finished c k = settles-at c.progress.polled finished c refl k
 
 -- a pop of an empty queue
-pub take-none : (c : ExecutorCell) → c.queue ≡ [] → c.progress.polled ≡ None → IsKeeping c → IsKeeping (taken_of [] c)
+pub take-none : (c : ExecutorCell) → c.queue ≡ [] → c.progress.polled ≡ None → IsKeepingTasks c → IsKeepingTasks (taken_of [] c)
 take-none c empty none k =
     record {
       sorted = resorted c (taken_of [] c) refl refl refl (sym none) k.sorted;
@@ -300,7 +300,7 @@ take-none c empty none k =
     }
 
 pub take-some : (slot : ℕ) (rest : List ℕ) (c : ExecutorCell) (task : Task) → c.queue ≡ slot ∷ rest → c.tasks slot ≡ Some task → c.progress.polled ≡ None
-    → c.draining ≡ true → IsKeeping c → IsKeeping (taken_of (slot ∷ rest) c)
+    → c.draining ≡ true → IsKeepingTasks c → IsKeepingTasks (taken_of (slot ∷ rest) c)
 take-some slot rest c task first at none opened k =
     let that : Task = record task { phase = Polling } in
     let now : polling (c.tasks slot) ≡ Some that = ap polling at in
@@ -326,18 +326,18 @@ take-some slot rest c task first at none opened k =
           );
     }
 
-take-at : (q : List ℕ) (c : ExecutorCell) → c.queue ≡ q → c.progress.polled ≡ None → c.draining ≡ true → IsKeeping c → IsKeeping (taken_of q c)
+take-at : (q : List ℕ) (c : ExecutorCell) → c.queue ≡ q → c.progress.polled ≡ None → c.draining ≡ true → IsKeepingTasks c → IsKeepingTasks (taken_of q c)
 take-at [] c is none opened k = take-none c is none k
 take-at (slot ∷ rest) c is none opened k =
     let there = k.sorted.queued.only slot (subst (IsIn slot) (sym is) (inl refl)) in
     take-some slot rest c there.0 is there.1 none opened k
 
-pub pop-keeps : (finished : Bool) (c : ExecutorCell) → c.draining ≡ true → IsKeeping c → IsKeeping (after_pop finished c)
+pub pop-keeps : (finished : Bool) (c : ExecutorCell) → c.draining ≡ true → IsKeepingTasks c → IsKeepingTasks (after_pop finished c)
 pop-keeps finished c opened k =
     let s = settles finished c k in
     take-at (after_settle finished c).queue (after_settle finished c) refl s.polled (s.draining ∙ opened) s.keeps
 
-pub end-keeps : (finished : Bool) (c : ExecutorCell) → IsKeeping c → IsKeeping (after_end_turn finished c)
+pub end-keeps : (finished : Bool) (c : ExecutorCell) → IsKeepingTasks c → IsKeepingTasks (after_end_turn finished c)
 end-keeps finished c k =
     let s = settles finished c k in
     let d : ExecutorCell = after_settle finished c in
@@ -347,7 +347,7 @@ end-keeps finished c k =
       running = λ other e. not-polled other e;
     }
 
-pub put-keeps : (slot home : ℕ) (c : ExecutorCell) → c.tasks slot ≡ None → IsKeeping c → IsKeeping (after_put slot home c)
+pub put-keeps : (slot home : ℕ) (c : ExecutorCell) → c.tasks slot ≡ None → IsKeepingTasks c → IsKeepingTasks (after_put slot home c)
 put-keeps slot home c free k =
     let that : Task = record { number = c.next; phase = Queued; home = home } in
     let quiet : (t : Task) → ◌≡◌ {A = Option Task} (Some that) (Some t) → in_poll (Some t.phase) ≢ true = λ t e p. absurd (cc) in
@@ -366,7 +366,7 @@ put-keeps slot home c free k =
       );
     }
 
-pub own-keeps : (s : ExecutorStep) (c : ExecutorCell) → executor_needs s c → IsKeeping c → IsKeeping (executor_after s c)
+pub own-keeps : (s : ExecutorStep) (c : ExecutorCell) → executor_needs s c → IsKeepingTasks c → IsKeepingTasks (executor_after s c)
 own-keeps (Put slot home) c need k = put-keeps slot home c need.1 k
 own-keeps (Wake key) c need k = wake-keeps key c k
 own-keeps (Pop finished) c need k = pop-keeps finished c need.0 k
@@ -374,11 +374,11 @@ own-keeps (EndTurn finished) c need k = end-keeps finished c k
 
 -- steps that all kinds have
 
-pub key-keeps : (k : Option ℕ) (c : ExecutorCell) → IsKeeping c → IsKeeping (record c { key = k })
+pub key-keeps : (k : Option ℕ) (c : ExecutorCell) → IsKeepingTasks c → IsKeepingTasks (record c { key = k })
 key-keeps k c h =
     record { sorted = resorted c (record c { key = k }) refl refl refl refl h.sorted; lit = h.lit; running = h.running }
 
-pub unkeyed-keeps : (b : Bool) (c : ExecutorCell) → IsKeeping c → IsKeeping (after_clear_key b c)
+pub unkeyed-keeps : (b : Bool) (c : ExecutorCell) → IsKeepingTasks c → IsKeepingTasks (after_clear_key b c)
 unkeyed-keeps false c k = key-keeps None c k
 unkeyed-keeps true c k =
     record {
@@ -395,7 +395,7 @@ and-right : (a b : Bool) → (a && b) ≡ true → b ≡ true
 and-right true b h = h
 and-right false b h = absurd (cc)
 
-idle-polled : (o : Option TaskKey) (c : ExecutorCell) → c.progress.polled ≡ o → c.draining ≡ false → IsKeeping c → o ≡ None
+idle-polled : (o : Option TaskKey) (c : ExecutorCell) → c.progress.polled ≡ o → c.draining ≡ false → IsKeepingTasks c → o ≡ None
 idle-polled None c is shut k = refl
 idle-polled (Some key) c is shut k = absurd (true≢false (sym (k.running key is).0 ∙ shut))
 
@@ -403,7 +403,7 @@ not-true : (a : Bool) → not a ≡ true → a ≡ false
 not-true true h = absurd (cc)
 not-true false h = refl
 
-pub in_turn-keeps : (k : ℕ) (c : ExecutorCell) → opens k c ≡ true → IsKeeping c → IsKeeping (in_turn c)
+pub in_turn-keeps : (k : ℕ) (c : ExecutorCell) → opens k c ≡ true → IsKeepingTasks c → IsKeepingTasks (in_turn c)
 in_turn-keeps n c o k =
     let shut : c.draining ≡ false = not-true c.draining (and-right (is_own n c.key) (not c.draining) o) in
     let none : c.progress.polled ≡ None = idle-polled c.progress.polled c refl shut k in
@@ -413,7 +413,7 @@ in_turn-keeps n c o k =
       running = λ other e. not-polled other e;
     }
 
-pub keeping-stands : (c : ExecutorCell) → IsKeeping c → IsStandingExecutor c
+pub keeping-stands : (c : ExecutorCell) → IsKeepingTasks c → IsStandingExecutor c
 keeping-stands c k =
     record {
       queued = λ h. drains c.pinged c.draining c.progress.dry (k.lit h);
@@ -421,7 +421,7 @@ keeping-stands c k =
       sorted = k.sorted;
     }
 
-pub fresh-keeps : IsKeeping fresh_executor
+pub fresh-keeps : IsKeepingTasks fresh_executor
 fresh-keeps =
     record {
       sorted = record {

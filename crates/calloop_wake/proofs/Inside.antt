@@ -6,17 +6,17 @@ use Rattle.calloop_wake.specs.declared.wake.tasks.TaskKey.{TaskKey}
 use Rattle.calloop_wake.specs.declared.wake.executor.Progress.{Progress}
 use Rattle.calloop_wake.specs.Tasks.{TaskTable, task_at, phase_at, stepped, is_idle, is_woken, in_poll, woken_phase, settled_phase, slot_if}
 use Rattle.calloop_wake.specs.Cells.{Cell}
-use Rattle.calloop_wake.specs.Executors.{with_slot, inside_cell, IsKeeping, ExecutorCell, AreQueued, ArePolled, AreNumbered, polling, key_in}
+use Rattle.calloop_wake.specs.Executors.{with_slot, inside_cell, IsKeepingTasks, ExecutorCell, AreQueued, ArePolled, AreNumbered, polling, key_in}
 use Rattle.calloop_wake.proofs.ExecutorSteps.{wake-keeps, put-keeps, settles-at, take-none, take-some}
 
 -- the same with what a bell has of it, whatever its key and its senders are
 pub of-bell : (o : Option TaskTable) (next results : ℕ) (pinged draining : Bool) (progress : Progress) (k : Option ℕ) (senders : ℕ) (bell : Cell)
-    → bell.pinged ≡ pinged → bell.draining ≡ draining → IsKeeping (inside_cell o next results pinged draining progress k senders)
-    → IsKeeping (inside_cell o next results bell.pinged bell.draining progress bell.key bell.senders)
+    → bell.pinged ≡ pinged → bell.draining ≡ draining → IsKeepingTasks (inside_cell o next results pinged draining progress k senders)
+    → IsKeepingTasks (inside_cell o next results bell.pinged bell.draining progress bell.key bell.senders)
 of-bell o next results pinged draining progress k senders bell p d h =
     let kept =
-    subst (λ (x : Bool). IsKeeping (inside_cell o next results x bell.draining progress k senders)) (sym p)
-    (subst (λ (x : Bool). IsKeeping (inside_cell o next results pinged x progress k senders)) (sym d) h) in
+    subst (λ (x : Bool). IsKeepingTasks (inside_cell o next results x bell.draining progress k senders)) (sym p)
+    (subst (λ (x : Bool). IsKeepingTasks (inside_cell o next results pinged x progress k senders)) (sym d) h) in
     record {
       sorted = record { queued = kept.sorted.queued; polled = kept.sorted.polled; numbered = kept.sorted.numbered };
       lit = kept.lit;
@@ -24,9 +24,9 @@ of-bell o next results pinged draining progress k senders bell p d h =
     }
 
 module _ (o : Option TaskTable) (old new : TaskTable) (next results : ℕ) (pinged draining : Bool) (progress : Progress) (k : Option ℕ) (senders : ℕ) (is : o ≡ Some old)
-    (h : IsKeeping (inside_cell o next results pinged draining progress k senders)) where
-  there : IsKeeping (inside_cell (Some old) next results pinged draining progress k senders)
-  there = subst (λ (t : Option TaskTable). IsKeeping (inside_cell t next results pinged draining progress k senders)) is h
+    (h : IsKeepingTasks (inside_cell o next results pinged draining progress k senders)) where
+  there : IsKeepingTasks (inside_cell (Some old) next results pinged draining progress k senders)
+  there = subst (λ (t : Option TaskTable). IsKeepingTasks (inside_cell t next results pinged draining progress k senders)) is h
 
   cell : (tasks : ℕ → Option Task) (queue : List ℕ) (next results : ℕ) (pinged : Bool) (progress : Progress) → ExecutorCell
   cell tasks queue next results pinged progress =
@@ -35,43 +35,43 @@ module _ (o : Option TaskTable) (old new : TaskTable) (next results : ℕ) (ping
   -- the fields of the new core are those of the cell after the step
   fields : (tasks : ℕ → Option Task) (queue : List ℕ) (next results : ℕ) (pinged : Bool) (progress : Progress)
       → task_at new ≡ tasks → new.queue ≡ queue
-      → IsKeeping (record { tasks = tasks; queue = queue; next = next; results = results; pinged = pinged; draining = draining; gone = false; progress = progress; key = k; senders = senders })
-      → IsKeeping (inside_cell (Some new) next results pinged draining progress k senders)
+      → IsKeepingTasks (record { tasks = tasks; queue = queue; next = next; results = results; pinged = pinged; draining = draining; gone = false; progress = progress; key = k; senders = senders })
+      → IsKeepingTasks (inside_cell (Some new) next results pinged draining progress k senders)
   fields tasks queue next results pinged progress t q kept =
-      subst (λ (x : ℕ → Option Task). IsKeeping (record { tasks = x; queue = new.queue; next = next; results = results; pinged = pinged; draining = draining; gone = false; progress = progress; key = k; senders = senders })) (sym t)
-      (subst (λ (x : List ℕ). IsKeeping (record { tasks = tasks; queue = x; next = next; results = results; pinged = pinged; draining = draining; gone = false; progress = progress; key = k; senders = senders })) (sym q) kept)
+      subst (λ (x : ℕ → Option Task). IsKeepingTasks (record { tasks = x; queue = new.queue; next = next; results = results; pinged = pinged; draining = draining; gone = false; progress = progress; key = k; senders = senders })) (sym t)
+      (subst (λ (x : List ℕ). IsKeepingTasks (record { tasks = tasks; queue = x; next = next; results = results; pinged = pinged; draining = draining; gone = false; progress = progress; key = k; senders = senders })) (sym q) kept)
 
   pub inside-wake : (key : TaskKey) (b after : Bool) → after ≡ (b || pinged) → b ≡ is_idle (phase_at key (task_at old))
       → task_at new ≡ with_slot key.slot (stepped woken_phase key.number (task_at old key.slot)) (task_at old)
       → new.queue ≡ old.queue ++ slot_if b key.slot
-      → IsKeeping (inside_cell (Some new) next results after draining progress k senders)
+      → IsKeepingTasks (inside_cell (Some new) next results after draining progress k senders)
   inside-wake key b after p e t q =
-      subst (λ (x : Bool). IsKeeping (inside_cell (Some new) next results x draining progress k senders)) (sym p)
-      (subst (λ (x : Bool). IsKeeping (inside_cell (Some new) next results (x || pinged) draining progress k senders)) (sym e)
+      subst (λ (x : Bool). IsKeepingTasks (inside_cell (Some new) next results x draining progress k senders)) (sym p)
+      (subst (λ (x : Bool). IsKeepingTasks (inside_cell (Some new) next results (x || pinged) draining progress k senders)) (sym e)
       (fields _ _ next results (is_idle (phase_at key (task_at old)) || pinged) progress t (q ∙ ap (λ (x : Bool). old.queue ++ slot_if x key.slot) e)
       (wake-keeps key (inside_cell (Some old) next results pinged draining progress k senders) there)))
 
   pub inside-put : (slot home after : ℕ) → after ≡ next + 1 → task_at old slot ≡ None
       → task_at new ≡ with_slot slot (Some (record { number = next; phase = Queued; home = home })) (task_at old)
       → new.queue ≡ old.queue ++ slot ∷ []
-      → IsKeeping (inside_cell (Some new) after results true draining progress k senders)
+      → IsKeepingTasks (inside_cell (Some new) after results true draining progress k senders)
   inside-put slot home after more free t q =
-      subst (λ (n : ℕ). IsKeeping (inside_cell (Some new) n results true draining progress k senders)) (sym more)
+      subst (λ (n : ℕ). IsKeepingTasks (inside_cell (Some new) n results true draining progress k senders)) (sym more)
       (fields _ _ (next + 1) results true progress t q
       (put-keeps slot home (inside_cell (Some old) next results pinged draining progress k senders) free there))
 
   pub inside-finish : (key : TaskKey) (after : ℕ) → after ≡ results + 1 → progress.polled ≡ Some key
       → task_at new ≡ with_slot key.slot None (task_at old) → new.queue ≡ old.queue
-      → IsKeeping (inside_cell (Some new) next after pinged draining (record progress { polled = None }) k senders)
+      → IsKeepingTasks (inside_cell (Some new) next after pinged draining (record progress { polled = None }) k senders)
   inside-finish key after more polled t q =
-      subst (λ (n : ℕ). IsKeeping (inside_cell (Some new) next n pinged draining (record progress { polled = None }) k senders)) (sym more)
+      subst (λ (n : ℕ). IsKeepingTasks (inside_cell (Some new) next n pinged draining (record progress { polled = None }) k senders)) (sym more)
       (fields _ _ next (results + 1) pinged (record progress { polled = None }) t q
       (settles-at (Some key) true (inside_cell (Some old) next results pinged draining progress k senders) polled there).keeps)
 
   pub inside-pend : (key : TaskKey) → progress.polled ≡ Some key
       → task_at new ≡ with_slot key.slot (stepped settled_phase key.number (task_at old key.slot)) (task_at old)
       → new.queue ≡ old.queue ++ slot_if (is_woken (phase_at key (task_at old))) key.slot
-      → IsKeeping (inside_cell (Some new) next results pinged draining (record progress { polled = None }) k senders)
+      → IsKeepingTasks (inside_cell (Some new) next results pinged draining (record progress { polled = None }) k senders)
   inside-pend key polled t q =
       fields _ _ next results pinged (record progress { polled = None }) t q
       (settles-at (Some key) false (inside_cell (Some old) next results pinged draining progress k senders) polled there).keeps
@@ -80,17 +80,17 @@ module _ (o : Option TaskTable) (old new : TaskTable) (next results : ℕ) (ping
   polled-there key polled = (there.running key polled).2
 
 pub gone-polled : (o : Option TaskTable) (next results : ℕ) (pinged draining : Bool) (progress : Progress) (k : Option ℕ) (senders : ℕ) (key : TaskKey)
-    → o ≡ None → progress.polled ≡ Some key → IsKeeping (inside_cell o next results pinged draining progress k senders) → ⊥
+    → o ≡ None → progress.polled ≡ Some key → IsKeepingTasks (inside_cell o next results pinged draining progress k senders) → ⊥
 gone-polled o next results pinged draining progress k senders key none polled h =
-    let there = subst (λ (t : Option TaskTable). IsKeeping (inside_cell t next results pinged draining progress k senders)) none h in
+    let there = subst (λ (t : Option TaskTable). IsKeepingTasks (inside_cell t next results pinged draining progress k senders)) none h in
     true≢false (sym (there.running key polled).2)
 
 pub inside-gone : (o : Option TaskTable) (next results pops : ℕ) (pinged draining : Bool) (progress : Progress) (k : Option ℕ) (senders : ℕ)
-    → o ≡ None → progress.polled ≡ None → IsKeeping (inside_cell o next results pinged draining progress k senders)
-    → IsKeeping (inside_cell o next results pinged draining (record { pops = pops; dry = true; polled = None }) k senders)
+    → o ≡ None → progress.polled ≡ None → IsKeepingTasks (inside_cell o next results pinged draining progress k senders)
+    → IsKeepingTasks (inside_cell o next results pinged draining (record { pops = pops; dry = true; polled = None }) k senders)
 inside-gone o next results pops pinged draining progress k senders none settled h =
-    let there = subst (λ (t : Option TaskTable). IsKeeping (inside_cell t next results pinged draining progress k senders)) none h in
-    subst (λ (t : Option TaskTable). IsKeeping (inside_cell t next results pinged draining (record { pops = pops; dry = true; polled = None }) k senders)) (sym none)
+    let there = subst (λ (t : Option TaskTable). IsKeepingTasks (inside_cell t next results pinged draining progress k senders)) none h in
+    subst (λ (t : Option TaskTable). IsKeepingTasks (inside_cell t next results pinged draining (record { pops = pops; dry = true; polled = None }) k senders)) (sym none)
     (let kept = take-none (inside_cell None next results pinged draining progress k senders) refl settled there in
     record {
       sorted = record { queued = kept.sorted.queued; polled = kept.sorted.polled; numbered = kept.sorted.numbered };
@@ -103,10 +103,10 @@ pub inside-take : (o : Option TaskTable) (old new : TaskTable) (next results pop
     → old.queue ≡ key.slot ∷ new.queue
     → task_at old key.slot ≡ Some (record { number = key.number; home = home; phase = Queued })
     → task_at new ≡ with_slot key.slot (Some (record { number = key.number; home = home; phase = Polling })) (task_at old)
-    → IsKeeping (inside_cell o next results pinged draining progress k senders)
-    → IsKeeping (inside_cell (Some new) next results pinged draining (record { pops = pops; dry = false; polled = Some key }) k senders)
+    → IsKeepingTasks (inside_cell o next results pinged draining progress k senders)
+    → IsKeepingTasks (inside_cell (Some new) next results pinged draining (record { pops = pops; dry = false; polled = Some key }) k senders)
 inside-take o old new next results pops pinged draining progress k senders key home is opened settled first at t h =
-    let there = subst (λ (x : Option TaskTable). IsKeeping (inside_cell x next results pinged draining progress k senders)) is h in
+    let there = subst (λ (x : Option TaskTable). IsKeepingTasks (inside_cell x next results pinged draining progress k senders)) is h in
     let task : Task = record { number = key.number; home = home; phase = Queued } in
     let kept = take-some key.slot new.queue (inside_cell (Some old) next results pinged draining progress k senders) task first at settled opened there in
     let now : polling (task_at old key.slot) ≡ Some (record { number = key.number; home = home; phase = Polling }) = ap polling at in

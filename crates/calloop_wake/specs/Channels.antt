@@ -144,15 +144,15 @@ abbrev pub after_end_turn : {T : Type 0} → ChannelCell T → ChannelCell T
 after_end_turn c = record { cell = ended (is_early c.last) c.cell; queue = c.queue; bound = c.bound; last = c.last }
 
 -- there is nothing to be handed out or told, or it is pinged
-pub record IsQuiet {T : Type 0} (c : ChannelCell T) : Type 0 where
+pub record IsPingedIfDue {T : Type 0} (c : ChannelCell T) : Type 0 where
   pub queue : 0 < length c.queue → c.cell.pinged ≡ true
   pub close : tells c.cell ≡ true → c.cell.pinged ≡ true
 
 -- What mustn't be lost is pinged, at rest, and in a turn whose last pop found nothing. Calloop has no word for it: a turn
 -- that stops early rings its own ping.
 pub record IsLitChannel {T : Type 0} (c : ChannelCell T) : Type 0 where
-  pub at_rest : c.cell.draining ≡ false → IsQuiet c
-  pub in_turn : is_early c.last ≡ false → IsQuiet c
+  pub at_rest : c.cell.draining ≡ false → IsPingedIfDue c
+  pub in_turn : is_early c.last ≡ false → IsPingedIfDue c
 
 -- only a close is told, and it holds no more than its bound
 pub record IsSoundChannel {T : Type 0} (c : ChannelCell T) : Type 0 where

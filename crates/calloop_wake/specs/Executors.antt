@@ -199,7 +199,7 @@ IsRunning c = (key : TaskKey) → c.progress.polled ≡ Some key
     → (c.draining ≡ true) × (c.progress.dry ≡ false) × (in_poll (phase_at key c.tasks) ≡ true)
 
 -- what the cell keeps, whenever nobody is within a step
-pub record IsKeeping (c : ExecutorCell) : Type 0 where
+pub record IsKeepingTasks (c : ExecutorCell) : Type 0 where
   pub sorted : AreSorted c
   pub lit : IsLitExecutor c
   pub running : IsRunning c

@@ -16,7 +16,7 @@ use Rattle.calloop.specs.declared.loop_logic.LoopAnswer.TheVariants.{Inserted, R
 use Rattle.calloop.specs.EveryRun.{LoopRun, OverEveryRun, FromTheStart}
 use Rattle.calloop.specs.Machine.{World, View, Change}
 use Rattle.calloop.specs.Rules.{Run, all_traced}
-use Rattle.calloop.specs.Laws.{IsFresh, IsKept, changes_of, moments_of}
+use Rattle.calloop.specs.Laws.{IsFresh, IsLedgerOf, changes_of, moments_of}
 use Rattle.calloop.specs.Freshness.{AllFreshCalls}
 use Rattle.calloop.proofs.Running.{run_none, run_first}
 use Rattle.looptrace.specs.declared.command.Command.{Command}
@@ -153,7 +153,7 @@ scripted_append (call ∷ calls) more h k = (h.0, scripted_append calls more h.1
 -- the law of the timers of scripts
 abbrev pub TheLaw : (R : Type 0) → Type 0
 TheLaw R = OverEveryRun (source_meaning {R = R}) no_idles script_outside
-    (FromTheStart (λ (r : LoopRun (Source R) (Unit {0}) ScriptPoller (Option (List ℕ))). AllScripted r.calls → IsKept r.ended.ledger r.ended.poll))
+    (FromTheStart (λ (r : LoopRun (Source R) (Unit {0}) ScriptPoller (Option (List ℕ))). AllScripted r.calls → IsLedgerOf r.ended.ledger r.ended.poll))
 
 module _ {R : Type 0} where
   asks_on : (u v x : View (Source R) (Unit {0}) ScriptPoller) → Asks u v → Asks v x → Asks u x

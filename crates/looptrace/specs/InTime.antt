@@ -8,7 +8,7 @@ use Rattle.looptrace.specs.Sources.{Source}
 use Rattle.calloop.specs.declared.loop_logic.LoopAnswer.{LoopAnswer}
 use Rattle.calloop.specs.Machine.{World, View, IsNew, seen}
 use Rattle.calloop.specs.Rules.{Run, RunLeads}
-use Rattle.calloop.specs.Laws.{IsKept}
+use Rattle.calloop.specs.Laws.{IsLedgerOf}
 use Rattle.calloop.specs.EveryRun.{LoopRun}
 use Rattle.calloop_core.specs.ScriptPollers.{script_outside}
 use Rattle.looptrace.specs.Sources.{source_meaning, no_idles}
@@ -48,7 +48,7 @@ LeadsInTime {R} old new =
     (u : World (Source R) (Unit {0}) ScriptPoller) → IsNew u → seen u ≡ old
     → (r : LoopRun (Source R) (Unit {0}) ScriptPoller (Option (List ℕ)))
     × Run source_meaning no_idles script_outside r.calls r.answers r.changes r.began r.ended
-    × (r.began ≡ u) × (seen r.ended ≡ new) × IsKept r.ended.ledger r.ended.poll
+    × (r.began ≡ u) × (seen r.ended ≡ new) × IsLedgerOf r.ended.ledger r.ended.poll
 
 -- the lines of a script may write this, and what they do to the loop is such a run
 abbrev pub MayWriteInTime : (R : Type 0) → List ℕ → Written → Type 0

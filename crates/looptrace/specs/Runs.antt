@@ -231,7 +231,7 @@ NextAnswer false (Some pending) now answers =
 
 -- the same poller with an empty list of asked waits, in which there is room for one, and with a script of just what the
 -- next wait gives
-pub record IsReady (fault : Bool) (pending : Option Pending) (p q : ScriptPoller) : Type 0 where
+pub record IsPrepared (fault : Bool) (pending : Option Pending) (p q : ScriptPoller) : Type 0 where
   pub same : q ≡ record p { answers = q.answers; waits = q.waits }
   pub answers : NextAnswer fault pending p.moment q.answers.items
   pub none : q.waits.items ≡ []
@@ -254,7 +254,7 @@ pending_after stands fault pending = if stands || fault then pending else None
 -- waits, then what the callbacks said, then the refusal
 pub record DispatchLine {R : Type 0} (s : State R) (timeout : Option ℕ) (t : State R) (said : List ℕ) : Type 0 where
   pub ready : ScriptPoller
-  pub is_ready : IsReady s.fault s.pending s.loop.poll.poller ready
+  pub is_ready : IsPrepared s.fault s.pending s.loop.poll.poller ready
   pub before : View (Source R) (Unit {0}) ScriptPoller
   pub lent : Calls (NewPoller ready) (OldPoller s.loop.poll.poller) s.loop before
   pub limit : Option Duration

@@ -3,7 +3,7 @@ ghost use Rattle.std.specs.Prelude.{List, ℕ, Option, Some};
 ghost use Rattle.calloop_core.specs.declared.sys.script.ScriptPoller.{ScriptPoller};
 ghost use Rattle.calloop_core.specs.ScriptPollers.{script_outside};
 ghost use Rattle.calloop.specs.EveryRun.{LoopRun, OverEveryRun, FromTheStart};
-ghost use Rattle.calloop.specs.Laws.{IsKept};
+ghost use Rattle.calloop.specs.Laws.{IsLedgerOf};
 ghost use Rattle.looptrace.specs.Sources.{Source, source_meaning, no_idles};
 ghost use Rattle.looptrace.specs.Runs.{State, trace_step};
 ghost use Rattle.looptrace.specs.InTime.{AllScripted, Asks};
@@ -19,7 +19,7 @@ use std::sync::Wait;
 pub fn timers_are_called_in_time<R: Wait + Clone + Drop>()
     ensures lines { (s t : State R) (line said : List ℕ) → trace_step s line (Some (t, said)) → Asks s.loop t.loop }
     ensures in_time { OverEveryRun source_meaning no_idles script_outside
-        (FromTheStart (λ (r : LoopRun (Source R) (Unit {0}) ScriptPoller (Option (List ℕ))). AllScripted r.calls → IsKept r.ended.ledger r.ended.poll)) }
+        (FromTheStart (λ (r : LoopRun (Source R) (Unit {0}) ScriptPoller (Option (List ℕ))). AllScripted r.calls → IsLedgerOf r.ended.ledger r.ended.poll)) }
 {
     once_where_nothing_is_asked::<Source<R>, ScriptPoller, ScriptClock, R>();
 }

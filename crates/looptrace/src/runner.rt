@@ -7,7 +7,7 @@ ghost use Rattle.std.specs.declared.io.ErrorKind.TheVariants.{OutOfMemory};
 ghost use Rattle.calloop_core.specs.Pollers.{nanos_of, events_per_wait};
 ghost use Rattle.calloop_core.specs.Polls.{is_filled};
 ghost use Rattle.calloop.specs.Pings.{cell_of};
-ghost use Rattle.looptrace.specs.Runs.{token_with, removed_text, RemoveLine, Pending, pending_of, events_of, AnswerLine, NextAnswer, fault_after, pending_after, IsTakenBack, word_of, waits_text, answer_text, nanos_in, IsStart, state_of, InsertSays, InsertLine, RingLine, CloseLine, ClockLine, IsReady, DispatchLine, Carried, IsNewPing, IsNewTimer};
+ghost use Rattle.looptrace.specs.Runs.{token_with, removed_text, RemoveLine, Pending, pending_of, events_of, AnswerLine, NextAnswer, fault_after, pending_after, IsTakenBack, word_of, waits_text, answer_text, nanos_in, IsStart, state_of, InsertSays, InsertLine, RingLine, CloseLine, ClockLine, IsPrepared, DispatchLine, Carried, IsNewPing, IsNewTimer};
 
 use crate::command::{Command, parse};
 use crate::driver::Runner;
@@ -191,7 +191,7 @@ fn make_ready(
     fault: bool,
     pending: &Option<PendingAnswer>,
 ) -> io::Result<()>
-    ensures ok { OnOk result (IsReady fault (option_map pending_of pending.now) poller.old poller.new) }
+    ensures ok { OnOk result (IsPrepared fault (option_map pending_of pending.now) poller.old poller.new) }
     ensures err { IfErr result (λ e. error_kind e ≡ OutOfMemory) }
 {
     poller.keep_waits(1)?;

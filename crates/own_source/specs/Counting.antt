@@ -3,11 +3,11 @@ use Rattle.std.specs.Prelude.{◌≡◌, ◌+◌, ◌-◌, ◌^◌, min, ℕ, []
 use Rattle.calloop_core.specs.Polls.{PollView}
 use Rattle.calloop_core.specs.Deeds.{Deed, Registered, Reregistered, Unregistered, Turned, Slept, Noticed, Heard}
 use Rattle.own_source.specs.declared.numbers.Numbers.{Numbers}
-use Rattle.own_source.specs.declared.numbers.NumbersError.{NumbersError}
+use Rattle.calloop_wake.specs.declared.error.Error.{Error}
 
 -- each wait brings the next number, and each turn hands it out, in one call; nothing else changes it
 abbrev pub HandsOut : {P : Type 0}
-    → Numbers → PollView P → Deed (Heard ℕ (Unit {0}) (Unit {0}) NumbersError) → Numbers → Type 0
+    → Numbers → PollView P → Deed (Heard ℕ (Unit {0}) (Unit {0}) Error) → Numbers → Type 0
 HandsOut s v (Registered f answer g) t = t.number ≡ s.number
 HandsOut s v (Reregistered f answer g) t = t.number ≡ s.number
 HandsOut s v (Unregistered answer) t = t.number ≡ s.number

@@ -1,7 +1,7 @@
 //! A source of numbers, one at each of the loop's first waits.
 use calloop::{
-    Asking, Callback, Error, EventIterator, EventSource, IntoError, Poll, Poller, PostAction,
-    Readiness, Result, Synthetic, Token, TokenFactory,
+    Asking, Callback, Error, EventIterator, EventSource, Poll, Poller, PostAction, Readiness,
+    Result, Synthetic, Token, TokenFactory,
 };
 use std::sync::Wait;
 
@@ -23,26 +23,6 @@ impl Numbers {
     }
 }
 
-/// Why a turn of it could fail. None does.
-#[derive(Debug, Drop)]
-pub enum NumbersError {
-    OutOfMemory,
-}
-
-impl IntoError for NumbersError {
-    ghost use Rattle.std.specs.Prelude.{◌≡◌};
-    ghost use Rattle.calloop_wake.specs.declared.error.Error.TheVariants.{OutOfMemory};
-    ghost use Rattle.calloop_core.specs.Lawful.{memory_of_source};
-
-    ghost becomes = { λ _ e. e ≡ OutOfMemory };
-
-    ghost of_source = { λ _ e is. memory_of_source e is };
-
-    fn into_error(self) -> Error {
-        Error::OutOfMemory
-    }
-}
-
 impl<P: Poller, C, R: Wait + Drop> EventSource<P, C, R> for Numbers {
     ghost use Rattle.calloop_core.specs.Meanings.{attentive};
     ghost use Rattle.calloop_core.specs.Lawful.{keeping_attentive};
@@ -54,7 +34,7 @@ impl<P: Poller, C, R: Wait + Drop> EventSource<P, C, R> for Numbers {
 
     type Ret = ();
 
-    type Error = NumbersError;
+    type Error = Error;
 
     ghost means = { attentive HandsOut };
 
@@ -66,7 +46,7 @@ impl<P: Poller, C, R: Wait + Drop> EventSource<P, C, R> for Numbers {
         callback: &mut F,
         data: &mut X,
         requests: &mut Q,
-    ) -> std::result::Result<PostAction, NumbersError>
+    ) -> Result<PostAction>
     where
         Q: Asking,
         F: Callback<u64, (), (), X, Q>,

@@ -3,10 +3,10 @@ use Rattle.std.specs.Prelude.{◌≡◌, [], ◌∷◌}
 use Rattle.calloop_core.specs.Polls.{PollView}
 use Rattle.calloop_core.specs.Deeds.{Deed, Registered, Reregistered, Unregistered, Turned, Slept, Noticed, Heard}
 use Rattle.three_kinds.specs.declared.countdown.Countdown.{Countdown}
-use Rattle.three_kinds.specs.declared.countdown.CountdownError.{CountdownError}
+use Rattle.calloop_wake.specs.declared.error.Error.{Error}
 
 abbrev pub CallsOnce : {P : Type 0} → Countdown → PollView P
-    → Deed (Heard (Unit {0}) (Unit {0}) (Unit {0}) CountdownError) → Countdown → Type 0
+    → Deed (Heard (Unit {0}) (Unit {0}) (Unit {0}) Error) → Countdown → Type 0
 CallsOnce s v (Registered f answer g) t = Unit {0}
 CallsOnce s v (Reregistered f answer g) t = Unit {0}
 CallsOnce s v (Unregistered answer) t = Unit {0}

@@ -1,7 +1,7 @@
 //! A source of the program's own, which calls back at each of the loop's first waits.
 use calloop::{
-    Asking, Callback, Error, EventIterator, EventSource, IntoError, Poll, Poller, PostAction,
-    Readiness, Result, Synthetic, Token, TokenFactory,
+    Asking, Callback, Error, EventIterator, EventSource, Poll, Poller, PostAction, Readiness,
+    Result, Synthetic, Token, TokenFactory,
 };
 use std::sync::Wait;
 
@@ -21,26 +21,6 @@ impl Countdown {
     }
 }
 
-/// Why a turn of it could fail. None does.
-#[derive(Debug, Drop)]
-pub enum CountdownError {
-    OutOfMemory,
-}
-
-impl IntoError for CountdownError {
-    ghost use Rattle.std.specs.Prelude.{◌≡◌};
-    ghost use Rattle.calloop_wake.specs.declared.error.Error.TheVariants.{OutOfMemory};
-    ghost use Rattle.calloop_core.specs.Lawful.{memory_of_source};
-
-    ghost becomes = { λ _ e. e ≡ OutOfMemory };
-
-    ghost of_source = { λ _ e is. memory_of_source e is };
-
-    fn into_error(self) -> Error {
-        Error::OutOfMemory
-    }
-}
-
 impl<P: Poller, C, R: Wait + Drop> EventSource<P, C, R> for Countdown {
     ghost use Rattle.calloop_core.specs.Meanings.{attentive};
     ghost use Rattle.calloop_core.specs.Lawful.{keeping_attentive};
@@ -52,7 +32,7 @@ impl<P: Poller, C, R: Wait + Drop> EventSource<P, C, R> for Countdown {
 
     type Ret = ();
 
-    type Error = CountdownError;
+    type Error = Error;
 
     ghost means = { attentive CallsOnce };
 
@@ -64,7 +44,7 @@ impl<P: Poller, C, R: Wait + Drop> EventSource<P, C, R> for Countdown {
         callback: &mut F,
         data: &mut X,
         requests: &mut Q,
-    ) -> std::result::Result<PostAction, CountdownError>
+    ) -> Result<PostAction>
     where
         Q: Asking,
         F: Callback<(), (), (), X, Q>,

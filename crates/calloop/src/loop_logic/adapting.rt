@@ -1,7 +1,7 @@
 //! Adapters come into a loop, and are given back. From calloop's `LoopHandle::adapt_io` and `Async::into_inner`.
 ghost use Rattle.std.specs.Prelude.{◌≡◌, ◌⊎◌, IfOk, IfErr};
 ghost use Rattle.calloop_wake.specs.declared.error.Error.TheVariants.{OutOfMemory};
-ghost use Rattle.calloop.specs.Adapted.{IsAdapted, IsNotAdapted, IsAskedToAdapt, IsGivenBack, IsKept};
+ghost use Rattle.calloop.specs.Adapted.{IsAdapted, IsNotAdapted, IsAskedToAdapt, IsGivenBack, IsNotGivenBack};
 ghost use Rattle.calloop.specs.Askings.{CannotAsk, OnlyAsks};
 
 use super::asks::{Requests, Ticket};
@@ -65,7 +65,7 @@ impl<D: EventDispatcher<P, C, R>, P: Poller, C: Clock, R: Wait + Drop> LoopHandl
         ensures ok { IfOk result (λ socket. IsGivenBack D.means D.Idle.runs P.outside
             self.old self.new) }
         ensures err { IfErr result (λ refused. (refused.inserted ≡ io)
-            × IsKept D.means D.Idle.runs P.outside refused.error self.old self.new) }
+            × IsNotGivenBack D.means D.Idle.runs P.outside refused.error self.old self.new) }
     {
         let Some(token) = io.begin_leaving() else {
             return Err(InsertError {

@@ -10,7 +10,7 @@ ghost use Rattle.calloop.specs.Unserved.{SmallAccount, two_wait, cuts_one, cuts_
 ghost use Rattle.calloop.specs.ExampleRun.{of_the_dispatch};
 ghost use Rattle.calloop.specs.Laws.{joined};
 ghost use Rattle.calloop.specs.EveryRun.{OverEveryRun, FromTheStart, EventsReachTheirSource, ArmingsAreKept, ArmingsAreKeptOfFresh, SourcesKeepToTheirSlots, WhoIsToldStandsOnce, TicketsAreOfOneAnswer};
-ghost use Rattle.calloop.specs.Laws.{IsKept, IsSound, AllFresh, changes_of, IsTold, IsTicketed, GoesRight, NamesLater, StaysGone, OnTime};
+ghost use Rattle.calloop.specs.Laws.{IsLedgerOf, IsSound, AllFresh, changes_of, IsTold, IsTicketed, GoesRight, NamesLater, StaysGone, OnTime};
 ghost use Rattle.calloop.specs.Freshness.{AsksFresh, RunsFresh, AllFreshCalls, AllKeepKeys};
 ghost use Rattle.calloop_wake.specs.declared.list.Content.TheVariants.{Vacant};
 ghost use Rattle.calloop.specs.ExampleRun.{only, no_idle, quiet_poller, new_world, its_calls, its_answers, its_changes, its_run, end_of_it};
@@ -148,10 +148,10 @@ pub fn run_that_there_is()
         (end_of_it name) }
     ensures armings { (name : Book)
         → OverEveryRun only no_idle quiet_poller (FromTheStart (ArmingsAreKept only))
-        → IsKept (end_of_it name).ledger (end_of_it name).poll }
+        → IsLedgerOf (end_of_it name).ledger (end_of_it name).poll }
     ensures armings_of_fresh { (name : Book)
         → OverEveryRun only no_idle quiet_poller (FromTheStart (ArmingsAreKeptOfFresh only))
-        → IsKept (end_of_it name).ledger (end_of_it name).poll }
+        → IsLedgerOf (end_of_it name).ledger (end_of_it name).poll }
     ensures home { (name : Book)
         → OverEveryRun only no_idle quiet_poller (FromTheStart (SourcesKeepToTheirSlots only))
         → AllAtHome only (end_of_it name) }
@@ -177,9 +177,9 @@ pub fn wrong_runs_are_ruled_out()
     ensures there_again { (w w' : World (Unit {0}) (Unit {0}) (Unit {0}))
         → w.slots ≡ given_up 0 ∷ [] → w'.slots ≡ used 0 ∷ [] → ¬ StaysGone w w' }
     ensures early_event { ¬ OnTime early }
-    ensures two_places { (v : PollView (Unit {0})) → ¬ IsKept in_two_places v }
-    ensures two_calls { (v : PollView (Unit {0})) → ¬ IsKept called_twice v }
-    ensures early_call { (v : PollView (Unit {0})) → ¬ IsKept called_early v }
+    ensures two_places { (v : PollView (Unit {0})) → ¬ IsLedgerOf in_two_places v }
+    ensures two_calls { (v : PollView (Unit {0})) → ¬ IsLedgerOf called_twice v }
+    ensures early_call { (v : PollView (Unit {0})) → ¬ IsLedgerOf called_early v }
     ensures told_twice { (w : World (Unit {0}) (Unit {0}) (Unit {0}))
         → w.held.lifecycle ≡ first_registration ∷ first_registration ∷ [] → ¬ IsTold w }
     ensures told_when_gone { (w : World (Unit {0}) (Unit {0}) (Unit {0}))
@@ -192,12 +192,12 @@ pub fn wrong_runs_are_ruled_out()
         → w.held.asks ≡ answered_twice → ¬ IsTicketed w }
     ensures handed_out_twice { (w : World (Unit {0}) (Unit {0}) (Unit {0}))
         → w.held.asks ≡ one_ticket → w.handed ≡ 0 ∷ 0 ∷ [] → ¬ IsTicketed w }
-    ensures call_from_nowhere { (v : PollView (Unit {0})) → ¬ IsKept called_from_nowhere v }
-    ensures other_deadline { (v : PollView (Unit {0})) → ¬ IsKept called_with_another_deadline v }
-    ensures no_place { (v : PollView (Unit {0})) → ¬ IsKept in_no_place v }
+    ensures call_from_nowhere { (v : PollView (Unit {0})) → ¬ IsLedgerOf called_from_nowhere v }
+    ensures other_deadline { (v : PollView (Unit {0})) → ¬ IsLedgerOf called_with_another_deadline v }
+    ensures no_place { (v : PollView (Unit {0})) → ¬ IsLedgerOf in_no_place v }
     ensures no_deadline { (v : PollView (Unit {0})) → v.deadlines.entries ≡ []
-        → ¬ IsKept armed_once v }
-    ensures no_event { (v : PollView (Unit {0})) → v.batch ≡ [] → ¬ IsKept gathered_once v }
+        → ¬ IsLedgerOf armed_once v }
+    ensures no_event { (v : PollView (Unit {0})) → v.batch ≡ [] → ¬ IsLedgerOf gathered_once v }
     ensures asked_twice { (w : World (Unit {0}) (Unit {0}) (Unit {0})) → w.held.asks ≡ asked_twice
         → ¬ IsTicketed w }
     ensures last_event_alone { ¬ KeepsTheLastAlone }
@@ -233,7 +233,7 @@ pub fn busy_runs_that_there_are()
         → (rearmed_end name).ledger.calls ≡ first_call ∷ call_at_ten ∷ [] }
     ensures in_time { (name : Book)
         → OverEveryRun again no_idle quiet_poller (FromTheStart (ArmingsAreKept again))
-        → IsKept (rearmed_end name).ledger (rearmed_end name).poll }
+        → IsLedgerOf (rearmed_end name).ledger (rearmed_end name).poll }
 {}
 
 /// Small runs that the laws of `once` rule out as they stand there, each of which is wrong at its end alone, or in its second element

@@ -4,7 +4,7 @@ ghost use Rattle.std.specs.declared.io.Error.{Error as IoCause};
 ghost use Rattle.calloop_wake.specs.declared.error.Error.TheVariants.{IoError, OutOfMemory};
 ghost use Rattle.calloop.specs.Machine.{BeginsAnew};
 ghost use Rattle.calloop.specs.Handles.{clock_by};
-ghost use Rattle.calloop.specs.Loops.{poller_of, clock_of, IsSound, CountFromOneReading, IsUnscripted};
+ghost use Rattle.calloop.specs.Loops.{poller_of, clock_of, IsFaultless, CountFromOneReading, IsUnscripted};
 
 use super::{EventDispatcher, EventLoop, LoopHandle};
 use calloop_core::sys::script::{ScriptClock, ScriptPoller};
@@ -51,7 +51,7 @@ where
     /// What the machine refuses is `IoError`, and want of memory is `OutOfMemory`.
     pub fn system(rt: &R, alloc: Global) -> Result<SystemLoop<D, R>>
         ensures new { IfOk result BeginsAnew }
-        ensures poller { IfOk result (λ made. IsSound (poller_of made)) }
+        ensures poller { IfOk result (λ made. IsFaultless (poller_of made)) }
         ensures clock { IfOk result CountFromOneReading }
         ensures err { IfErr result (λ e. (e ≡ OutOfMemory)
             ⊎ ((cause : IoCause) × (e ≡ IoError cause))) }

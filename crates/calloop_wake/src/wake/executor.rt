@@ -3,7 +3,7 @@ ghost use Rattle.std.specs.Prelude.{if◌then◌else◌, ◌≡◌, nat_lt, Err,
 ghost use Rattle.calloop_wake.specs.Cells.{one};
 ghost use Rattle.calloop_wake.specs.Passes.{on};
 ghost use Rattle.calloop_wake.specs.Tasks.{no_tasks, task_at};
-ghost use Rattle.calloop_wake.specs.Executors.{cell_of, at_start, owed, owed_at, after_put, after_wake, after_pop, after_end_turn, after_clear_key, after_settle, settled_at, after_take, ended, in_turn, opens, most_tasks, IsKeeping, IsBalanced};
+ghost use Rattle.calloop_wake.specs.Executors.{cell_of, at_start, owed, owed_at, after_put, after_wake, after_pop, after_end_turn, after_clear_key, after_settle, settled_at, after_take, ended, in_turn, opens, most_tasks, IsKeepingTasks, IsBalanced};
 
 use super::bell::Bell;
 use super::cell::CellCore;
@@ -54,7 +54,7 @@ pub struct ExecutorCore {
 impl Model for ExecutorCore {
     ghost use Rattle.std.specs.Prelude.{◌≡◌, not, is_some, true, false, ◌+◌};
     ghost use Rattle.calloop_wake.specs.Tasks.{count};
-    ghost use Rattle.calloop_wake.specs.Executors.{ExecutorView, IsKeeping, table_of, inside_cell};
+    ghost use Rattle.calloop_wake.specs.Executors.{ExecutorView, IsKeepingTasks, table_of, inside_cell};
 
     ghost Value = { ExecutorView };
 
@@ -73,7 +73,7 @@ impl Model for ExecutorCore {
     } };
 
     ghost invariant = { λ c.
-        IsKeeping (inside_cell c.tasks c.next c.results c.bell.cell.pinged c.bell.cell.draining c.progress c.bell.cell.key c.bell.cell.senders)
+        IsKeepingTasks (inside_cell c.tasks c.next c.results c.bell.cell.pinged c.bell.cell.draining c.progress c.bell.cell.key c.bell.cell.senders)
         × (not (is_some c.tasks) ≡ false → c.next ≡ c.results + count (table_of c.tasks))
         × (c.puts ≡ c.next) };
 }
@@ -162,7 +162,7 @@ impl ExecutorCore {
     /// Shows what the cell keeps: no wake is lost; each task is idle, queued once, polled, or finished; and each that was ever
     /// put gave its result or is there, until the executor is gone.
     pub fn stands(&self)
-        ensures keeping { IsKeeping (cell_of self.now) }
+        ensures keeping { IsKeepingTasks (cell_of self.now) }
         ensures balanced { IsBalanced self.now }
     {
         let _ = &self.next;

@@ -40,7 +40,7 @@ pub struct Batch {
 impl Model for Batch {
     ghost use Rattle.std.specs.Prelude.{◌-◌};
     ghost use Rattle.std.specs.VecDeque.{deque_len, deque_capacity};
-    ghost use Rattle.calloop_core.specs.Batches.{BatchView, IsKept};
+    ghost use Rattle.calloop_core.specs.Batches.{BatchView, IsBatchOf};
 
     ghost Value = { BatchView };
 
@@ -53,7 +53,7 @@ impl Model for Batch {
       pass_room = deque_capacity b.passes - deque_len b.passes;
     } };
 
-    ghost invariant = { λ b. IsKept b.hub.name b.events.items b.passes.items b.pass };
+    ghost invariant = { λ b. IsBatchOf b.hub.name b.events.items b.passes.items b.pass };
 }
 
 // Posts the keys of these passes again.

@@ -10,7 +10,7 @@ use Rattle.calloop_wake.specs.declared.wheel.Instant.{Instant}
 use Rattle.calloop_wake.specs.Tokens.{key_of}
 use Rattle.calloop_core.specs.SlotOrder.{IsInSlotOrder}
 use Rattle.calloop.specs.ExampleRun.{quiet_poller}
-use Rattle.calloop.specs.Laws.{IsKept}
+use Rattle.calloop.specs.Laws.{IsLedgerOf}
 use Rattle.calloop.specs.Ledgers.{Arming}
 use Rattle.calloop.specs.Machine.{View, Put, IsNew, seen, all_viewed}
 use Rattle.calloop.specs.Rules.{Doing, Settling, Leaving, Steps, SettledIn}
@@ -34,7 +34,7 @@ is_untouched : {D : Type 0} (name : Book) → IsNew (untouched {D = D} name)
 is_untouched name =
     record { slots = refl; table = refl; deadlines = refl; batch = refl; passes = refl; pass = refl; places = refl; unwatched = refl; held = refl; handed = refl; ledger = refl }
 
-out_of_time : (name : Book) (w : SmallWorld) → (IsKept w.ledger w.poll → ⊥) → IsOutOfTime (that_ends name w)
+out_of_time : (name : Book) (w : SmallWorld) → (IsLedgerOf w.ledger w.poll → ⊥) → IsOutOfTime (that_ends name w)
 out_of_time name w wrong = (λ h. wrong (h (is_untouched name) tt), λ h. wrong (h (is_untouched name) tt))
 
 pub returns-clause-wrong_slot : goal.returns-clause-wrong_slot

@@ -14,7 +14,7 @@ use Rattle.calloop.specs.Lending.{with_loop_poller}
 use Rattle.calloop.specs.Machine.{View, Polling, view_of}
 use Rattle.looptrace.specs.declared.runner.PendingAnswer.{PendingAnswer}
 use Rattle.looptrace.specs.Sources.{Source}
-use Rattle.looptrace.specs.Runs.{IsReady, IsTakenBack, State, state_of, pending_of, fault_after, pending_after, Calls, waits_text, answer_text}
+use Rattle.looptrace.specs.Runs.{IsPrepared, IsTakenBack, State, state_of, pending_of, fault_after, pending_after, Calls, waits_text, answer_text}
 use Rattle.looptrace.proofs.runner.ScriptLoop.dispatch.Goals as goal
 
 -- an equal dispatch
@@ -45,7 +45,7 @@ returns-clause-ok g c =
     let same_before : view_of (with_loop_poller ready c.handle.result.inner.now) ≡ before = ap (λ (e : EventLoop (Source g.row.R.Denot) ScriptPoller ScriptClock g.row.R.Denot (Option (List ℕ)) (Unit {0}) ScriptIo). view_of (with_loop_poller ready e)) held in
     let loop_back : view_of (with_loop_poller back c.handle-2.result.inner.now) ≡ record after { poll = polling back after.poll } =
     ap (λ (e : EventLoop (Source g.row.R.Denot) ScriptPoller ScriptClock g.row.R.Denot (Option (List ℕ)) (Unit {0}) ScriptIo). view_of (with_loop_poller back e)) held_after in
-    let is_ready : IsReady s.fault s.pending s.loop.poll.poller ready = subst (λ (p : ScriptPoller). IsReady s.fault s.pending p ready) poller c.in_ok-make_ready.ensures.ok in
+    let is_ready : IsPrepared s.fault s.pending s.loop.poll.poller ready = subst (λ (p : ScriptPoller). IsPrepared s.fault s.pending p ready) poller c.in_ok-make_ready.ensures.ok in
     let is_back : IsTakenBack after.poll.poller back = subst (λ (p : ScriptPoller). IsTakenBack p back) poller_after c.in_ok-stands.ensures.2 in
     let stands : c.in_ok-stands.stands ≡ is_filled after.poll.poller.answers.items = c.in_ok-stands.ensures.1 ∙ ap (λ (p : ScriptPoller). is_filled p.answers.items) poller_after in
     let waits = waits_text after.poll.poller.waits.items in
