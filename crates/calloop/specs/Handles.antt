@@ -1,4 +1,7 @@
 -- The calls of a loop's handle as calls of the machine. Calloop's handle reaches its loop through a cell; this one is lent it.
+use Rattle.std.specs.Prelude.{◌≡◌, None}
+use Rattle.calloop_wake.specs.declared.token.RegistrationToken.{RegistrationToken}
+use Rattle.calloop_wake.specs.Slots.{named, source_of}
 use Rattle.calloop_core.specs.Deeds.{Lent}
 use Rattle.calloop_core.specs.Meanings.{Meaning}
 use Rattle.calloop_core.specs.Pollers.{Outside}
@@ -7,11 +10,18 @@ use Rattle.calloop.specs.declared.loop_logic.LoopCall.{LoopCall}
 use Rattle.calloop.specs.declared.loop_logic.LoopAnswer.{LoopAnswer}
 use Rattle.calloop.specs.Askings.{Asks, Runs}
 use Rattle.calloop.specs.Machine.{View, view_of}
+use Rattle.calloop.specs.Roles.{only, is_callers}
 use Rattle.calloop.specs.Rules.{Case, Did, Leads}
 
 -- what the loop of a handle holds
 abbrev pub held_by : {D P C R X I S : Type 0} → LoopHandle D P C R X I S → View D I P
 held_by h = view_of h.inner.now
+
+-- the token names no source of the caller's there: its slot is vacant, was used again since, or holds what is the loop's own; calloop's
+-- handle answers so for the first two
+abbrev pub NamesNone : {D P C R X I S : Type 0} → Meaning D P (Lent X (Asks D I)) → RegistrationToken
+    → LoopHandle D P C R X I S → Type 0
+NamesNone M token h = source_of (only (is_callers M) (named (held_by h).slots token)) ≡ None
 
 -- its clock
 abbrev pub clock_by : {D P C R X I S : Type 0} → LoopHandle D P C R X I S → C

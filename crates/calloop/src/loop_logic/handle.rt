@@ -14,7 +14,7 @@ ghost use Rattle.calloop.specs.Lending.{with_loop_poller, with_loop_source, with
 ghost use Rattle.calloop.specs.declared.loop_logic.LoopCall.TheVariants.{Insert, Enable, Update, Disable, Remove, Exchange, InsertIdle, Cancel, Answer as AnswerOf, Poller as NewPoller};
 ghost use Rattle.calloop.specs.declared.loop_logic.LoopAnswer.TheVariants.{Inserted, Enabled, Updated, Disabled, Removed, Exchanged, IdleInserted, Cancelled, Answered, Poller as OldPoller};
 ghost use Rattle.calloop.specs.Machine.{view_of};
-ghost use Rattle.calloop.specs.Handles.{held_by, IsCase, LeadsAsCase};
+ghost use Rattle.calloop.specs.Handles.{held_by, IsCase, LeadsAsCase, NamesNone};
 ghost use Rattle.calloop.specs.Rules.{Case, Did, held_answer};
 
 use super::asks::{Answer, Idle, Requests, Ticket};
@@ -134,8 +134,10 @@ impl<D: EventDispatcher<P, C, R>, P: Poller, C: Clock, R: Wait + Drop> EventLoop
 
     // Registers the source that the token names.
     pub(super) fn enable(&mut self, token: RegistrationToken) -> Result<()>
-        ensures { Did (Case D.means D.Idle.runs P.outside (Enable token) (Enabled result))
+        ensures case { Did (Case D.means D.Idle.runs P.outside (Enable token) (Enabled result))
             (view_of self.old) (view_of self.new) }
+        ensures refuses { source_of (only (is_callers D.means) (named_by self.old.sources token)) ≡ None
+            → result ≡ Err InvalidToken }
     {
         let Some(mut source) = Self::take_out(&mut self.sources, token) else {
             return Err(Error::InvalidToken);
@@ -148,8 +150,10 @@ impl<D: EventDispatcher<P, C, R>, P: Poller, C: Clock, R: Wait + Drop> EventLoop
 
     // Registers the source that the token names anew.
     pub(super) fn update(&mut self, token: RegistrationToken) -> Result<()>
-        ensures { Did (Case D.means D.Idle.runs P.outside (Update token) (Updated result))
+        ensures case { Did (Case D.means D.Idle.runs P.outside (Update token) (Updated result))
             (view_of self.old) (view_of self.new) }
+        ensures refuses { source_of (only (is_callers D.means) (named_by self.old.sources token)) ≡ None
+            → result ≡ Err InvalidToken }
     {
         let Some(mut source) = Self::take_out(&mut self.sources, token) else {
             return Err(Error::InvalidToken);
@@ -162,8 +166,10 @@ impl<D: EventDispatcher<P, C, R>, P: Poller, C: Clock, R: Wait + Drop> EventLoop
 
     // Takes back the registration of the source that the token names.
     pub(super) fn disable(&mut self, token: RegistrationToken) -> Result<()>
-        ensures { Did (Case D.means D.Idle.runs P.outside (Disable token) (Disabled result))
+        ensures case { Did (Case D.means D.Idle.runs P.outside (Disable token) (Disabled result))
             (view_of self.old) (view_of self.new) }
+        ensures refuses { source_of (only (is_callers D.means) (named_by self.old.sources token)) ≡ None
+            → result ≡ Err InvalidToken }
     {
         let Some(mut source) = Self::take_out(&mut self.sources, token) else {
             return Err(Error::InvalidToken);
@@ -176,8 +182,10 @@ impl<D: EventDispatcher<P, C, R>, P: Poller, C: Clock, R: Wait + Drop> EventLoop
 
     // Takes the source that the token names out of the loop. A failure of the unregistration is a warning.
     pub(super) fn remove(&mut self, token: RegistrationToken) -> Option<D>
-        ensures { Did (Case D.means D.Idle.runs P.outside (Remove token) (Removed result))
+        ensures case { Did (Case D.means D.Idle.runs P.outside (Remove token) (Removed result))
             (view_of self.old) (view_of self.new) }
+        ensures none { (result ≡ None)
+            ↔ (source_of (only (is_callers D.means) (named_by self.old.sources token)) ≡ None) }
     {
         let mut source = Self::take_out(&mut self.sources, token)?;
         self.sources.vacate(token);
@@ -243,9 +251,7 @@ impl<D: EventDispatcher<P, C, R>, P: Poller, C: Clock, R: Wait + Drop> LoopHandl
     pub fn dispatcher(&self, token: &RegistrationToken) -> Result<&D>
         ensures ok { IfOk result
             (λ held. named_by (held_by self.now).slots token.now ≡ Source held.now) }
-        ensures refuses { IsErr result
-            ↔ (source_of (only (is_callers D.means)
-            (named_by (held_by self.now).slots token.now)) ≡ None) }
+        ensures refuses { IsErr result ↔ NamesNone D.means token.now self.now }
         ensures err { IfErr result (λ e. e ≡ InvalidToken) }
     {
         if !EventLoop::<D, P, C, R>::is_callers(&self.inner.sources, *token) {
@@ -272,9 +278,7 @@ impl<D: EventDispatcher<P, C, R>, P: Poller, C: Clock, R: Wait + Drop> LoopHandl
             → Did (Case D.means D.Idle.runs P.outside
             (Exchange token.now written) (Exchanged (Ok held.now)))
             (held_by self.old) (view_of (with_loop_source token.now written self.old.inner.now))) }
-        ensures refuses { IsErr result
-            ↔ (source_of (only (is_callers D.means)
-            (named_by (held_by self.old).slots token.now)) ≡ None) }
+        ensures refuses { IsErr result ↔ NamesNone D.means token.now self.old }
         ensures err { IfErr result (λ e. e ≡ InvalidToken) }
     {
         if !EventLoop::<D, P, C, R>::is_callers(&self.inner.sources, *token) {
@@ -291,6 +295,7 @@ impl<D: EventDispatcher<P, C, R>, P: Poller, C: Clock, R: Wait + Drop> LoopHandl
         ensures same { self.new.inner.ghost_name ≡ self.old.inner.ghost_name }
         ensures case { IsCase D.means D.Idle.runs P.outside
             (Enable token.now) (Enabled result) self.old self.new }
+        ensures refuses { NamesNone D.means token.now self.old → result ≡ Err InvalidToken }
         ensures machine { LeadsAsCase D.means D.Idle.runs P.outside
             (Enable token.now) (Enabled result) self.old self.new }
     {
@@ -303,6 +308,7 @@ impl<D: EventDispatcher<P, C, R>, P: Poller, C: Clock, R: Wait + Drop> LoopHandl
         ensures same { self.new.inner.ghost_name ≡ self.old.inner.ghost_name }
         ensures case { IsCase D.means D.Idle.runs P.outside
             (Update token.now) (Updated result) self.old self.new }
+        ensures refuses { NamesNone D.means token.now self.old → result ≡ Err InvalidToken }
         ensures machine { LeadsAsCase D.means D.Idle.runs P.outside
             (Update token.now) (Updated result) self.old self.new }
     {
@@ -315,6 +321,7 @@ impl<D: EventDispatcher<P, C, R>, P: Poller, C: Clock, R: Wait + Drop> LoopHandl
         ensures same { self.new.inner.ghost_name ≡ self.old.inner.ghost_name }
         ensures case { IsCase D.means D.Idle.runs P.outside
             (Disable token.now) (Disabled result) self.old self.new }
+        ensures refuses { NamesNone D.means token.now self.old → result ≡ Err InvalidToken }
         ensures machine { LeadsAsCase D.means D.Idle.runs P.outside
             (Disable token.now) (Disabled result) self.old self.new }
     {
@@ -329,6 +336,7 @@ impl<D: EventDispatcher<P, C, R>, P: Poller, C: Clock, R: Wait + Drop> LoopHandl
         ensures same { self.new.inner.ghost_name ≡ self.old.inner.ghost_name }
         ensures case { IsCase D.means D.Idle.runs P.outside
             (Remove token) (Removed result) self.old self.new }
+        ensures none { (result ≡ None) ↔ NamesNone D.means token self.old }
         ensures machine { LeadsAsCase D.means D.Idle.runs P.outside
             (Remove token) (Removed result) self.old self.new }
     {

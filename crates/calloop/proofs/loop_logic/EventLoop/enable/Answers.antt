@@ -8,11 +8,11 @@ use Rattle.calloop.specs.Roles.{only, is_callers}
 use Rattle.calloop.proofs.Inserting.{not_enabled, enabled}
 use Rattle.calloop.proofs.loop_logic.EventLoop.enable.Goals as goal
 
-pub returns-in_default : goal.returns-in_default
-returns-in_default g c = rw c.in_default.ensures.list (not_enabled g.D.Dispatch.means g.D.Idle.IdleCallback.runs g.P.Poller.outside (view_of c.args.self.now) c.args.token c.in_default.ensures.value)
+pub returns-in_default-clause-case : goal.returns-in_default-clause-case
+returns-in_default-clause-case g c = rw c.in_default.ensures.list (not_enabled g.D.Dispatch.means g.D.Idle.IdleCallback.runs g.P.Poller.outside (view_of c.args.self.now) c.args.token c.in_default.ensures.value)
 
-pub returns : goal.returns
-returns g c =
+pub returns-clause-case : goal.returns-clause-case
+returns-clause-case g c =
     let is : only (is_callers g.D.Dispatch.means) (named c.args.self.now.sources c.args.token) ≡ Source c.in-Some.source = source_is (only (is_callers g.D.Dispatch.means) (named c.args.self.now.sources c.args.token)) c.in-Some.source (sym c.in-Some.ensures.value) in
     rw (c.with_error.ensures, c.end_turn-none.ensures.list)
     (enabled g.D.Dispatch.means g.D.Idle.IdleCallback.runs g.P.Poller.outside (view_of c.args.self.now) c.args.token c.in-Some.source c.register-answer.new.source (with_error c.register-answer.result c.register-answer.new.failure) (view_of c.register-answer.new.self) is (rw c.in-Some.ensures.list at c.register-answer.ensures))

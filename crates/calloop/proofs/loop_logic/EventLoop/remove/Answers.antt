@@ -8,11 +8,11 @@ use Rattle.calloop.specs.Roles.{only, is_callers}
 use Rattle.calloop.proofs.Inserting.{not_removed, removed}
 use Rattle.calloop.proofs.loop_logic.EventLoop.remove.Goals as goal
 
-pub returns-in_err-source : goal.returns-in_err-source
-returns-in_err-source g c = rw (c.from_residual.ensures, c.in_err-source.ensures.list) (not_removed g.D.Dispatch.means g.D.Idle.IdleCallback.runs g.P.Poller.outside (view_of c.args.self.now) c.args.token c.in_err-source.ensures.value)
+pub returns-in_err-source-clause-case : goal.returns-in_err-source-clause-case
+returns-in_err-source-clause-case g c = rw (c.from_residual.ensures, c.in_err-source.ensures.list) (not_removed g.D.Dispatch.means g.D.Idle.IdleCallback.runs g.P.Poller.outside (view_of c.args.self.now) c.args.token c.in_err-source.ensures.value)
 
-pub returns : goal.returns
-returns g c =
+pub returns-clause-case : goal.returns-clause-case
+returns-clause-case g c =
     let is : only (is_callers g.D.Dispatch.means) (named c.args.self.now.sources c.args.token) ≡ Source c.in_ok-source.source = source_is (only (is_callers g.D.Dispatch.means) (named c.args.self.now.sources c.args.token)) c.in_ok-source.source (sym c.in_ok-source.ensures.value) in
     removed g.D.Dispatch.means g.D.Idle.IdleCallback.runs g.P.Poller.outside (view_of c.args.self.now) c.args.token c.in_ok-source.source c.unregister-told.new.source (with_error c.unregister-told.result c.unregister-told.new.failure) (view_of c.unregister-told.new.self) c.note.ensures.0
     c.note.new.self.errors.items (rw c.with_error.ensures at c.note.ensures.1) is
