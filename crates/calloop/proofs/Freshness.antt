@@ -10,8 +10,8 @@ use Rattle.calloop_wake.specs.declared.list.Content.TheVariants.{Vacant, Source,
 use Rattle.calloop_wake.specs.Tokens.{registration_of}
 use Rattle.calloop_wake.specs.Slots.{named}
 use Rattle.calloop_core.specs.declared.sys.poll.Pending.{Pending}
-use Rattle.calloop_core.specs.declared.sources.PostAction.{PostAction}
-use Rattle.calloop_core.specs.declared.sources.PostAction.TheVariants.{Continue, Reregister, Disable as DisableIt, Remove}
+use Rattle.calloop_core.specs.declared.sources.source.PostAction.{PostAction}
+use Rattle.calloop_core.specs.declared.sources.source.PostAction.TheVariants.{Continue, Reregister, Disable as DisableIt, Remove}
 use Rattle.calloop_core.specs.Pollers.{Outside}
 use Rattle.calloop_core.specs.Polls.{PollStep, own_event}
 use Rattle.calloop.specs.declared.loop_logic.LoopCall.{LoopCall}

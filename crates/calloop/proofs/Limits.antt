@@ -6,8 +6,8 @@ use Rattle.calloop_wake.specs.declared.list.Slot.{Slot}
 use Rattle.calloop_wake.specs.declared.token.RegistrationToken.{RegistrationToken}
 use Rattle.calloop_wake.specs.Slots.{changed, with_content, named, content_under, is_empty, after_turn}
 use Rattle.calloop_wake.proofs.Named.{named_slot, turn_ended}
-use Rattle.calloop_core.specs.declared.sources.Role.{Role}
-use Rattle.calloop_core.specs.declared.sources.Role.TheVariants.{Caller, Adapter, Timeout}
+use Rattle.calloop_core.specs.declared.sources.dispatch.Role.{Role}
+use Rattle.calloop_core.specs.declared.sources.dispatch.Role.TheVariants.{Caller, Adapter, Timeout}
 use Rattle.calloop_core.specs.Pollers.{Outside}
 use Rattle.calloop_core.specs.Polls.{PollView}
 use Rattle.calloop_core.specs.Deeds.{Reregistered}

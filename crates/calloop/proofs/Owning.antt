@@ -16,8 +16,8 @@ use Rattle.calloop_wake.specs.Slots.{changed, named, content_under, is_empty, fi
 use Rattle.calloop_wake.specs.Tokens.{registration_of}
 use Rattle.calloop_core.specs.declared.sys.Readiness.{Readiness}
 use Rattle.calloop_core.specs.declared.sys.poll.Pending.{Pending}
-use Rattle.calloop_core.specs.declared.sources.PostAction.{PostAction}
-use Rattle.calloop_core.specs.declared.sources.PostAction.TheVariants.{Continue, Reregister, Disable as DisableIt, Remove}
+use Rattle.calloop_core.specs.declared.sources.source.PostAction.{PostAction}
+use Rattle.calloop_core.specs.declared.sources.source.PostAction.TheVariants.{Continue, Reregister, Disable as DisableIt, Remove}
 use Rattle.calloop_core.specs.Pollers.{Outside, nanos_of}
 use Rattle.calloop_core.specs.Polls.{PollView, PollStep, AllAllowed, cut, own_event}
 use Rattle.calloop_core.specs.Holdings.{Holding, Free, Spent, Standing, Keeps, IsBelow, IsWithin}

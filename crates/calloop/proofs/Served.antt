@@ -17,8 +17,8 @@ use Rattle.calloop_wake.specs.declared.list.Content.TheVariants.{Vacant, Source,
 use Rattle.calloop_wake.specs.Tokens.{registration_of}
 use Rattle.calloop_wake.specs.Slots.{named}
 use Rattle.calloop_core.specs.declared.sys.poll.Pending.{Pending}
-use Rattle.calloop_core.specs.declared.sources.PostAction.{PostAction}
-use Rattle.calloop_core.specs.declared.sources.PostAction.TheVariants.{Continue, Reregister, Disable as DisableIt, Remove}
+use Rattle.calloop_core.specs.declared.sources.source.PostAction.{PostAction}
+use Rattle.calloop_core.specs.declared.sources.source.PostAction.TheVariants.{Continue, Reregister, Disable as DisableIt, Remove}
 use Rattle.calloop_core.specs.Pollers.{Outside}
 use Rattle.calloop_core.specs.Polls.{PollView, PollStep, TakePass, PutBack, Arm, ArmAgain, Cancel, Call, ReadClock, Socket, Fault, poll_after, polls_after, AllAllowed, cut_from, begun, tail_of, head_of, with_pass, posted_events, polled_events, timer_event, timer_events}
 use Rattle.calloop_core.specs.Deeds.{Lent}

@@ -13,8 +13,8 @@ use Rattle.calloop_core.specs.declared.sys.poll.Poll.{Poll}
 use Rattle.calloop_core.specs.Polls.{PollView, polls_after, IsReady}
 use Rattle.calloop_core.specs.Deeds.{Reregistered, Unregistered, Lent}
 use Rattle.calloop_core.specs.Meanings.{Meaning, Does, fresh_factory, Settles, SettledAs}
-use Rattle.calloop_core.specs.declared.sources.Role.{Role}
-use Rattle.calloop_core.specs.declared.sources.Role.TheVariants.{Caller, Adapter, Timeout}
+use Rattle.calloop_core.specs.declared.sources.dispatch.Role.{Role}
+use Rattle.calloop_core.specs.declared.sources.dispatch.Role.TheVariants.{Caller, Adapter, Timeout}
 use Rattle.calloop.specs.Held.{Unlisted, Warned, Listed, held_after, warned}
 use Rattle.calloop.specs.Askings.{Asks, Runs}
 use Rattle.calloop.specs.Machine.{View, Put, Polls, Holds}

@@ -9,8 +9,8 @@ use Rattle.calloop_wake.specs.declared.token.TokenFactory.{TokenFactory}
 use Rattle.calloop_wake.specs.Tokens.{next_token, after_token, most_tokens}
 use Rattle.calloop_core.specs.declared.sys.Interest.{Interest}
 use Rattle.calloop_core.specs.declared.sys.Readiness.{Readiness}
-use Rattle.calloop_core.specs.declared.sources.PostAction.TheVariants.{Continue}
-use Rattle.calloop_core.specs.declared.sources.Role.TheVariants.{Adapter as AsAdapter}
+use Rattle.calloop_core.specs.declared.sources.source.PostAction.TheVariants.{Continue}
+use Rattle.calloop_core.specs.declared.sources.dispatch.Role.TheVariants.{Adapter as AsAdapter}
 use Rattle.calloop_core.specs.Pollers.{Sockets}
 use Rattle.calloop_core.specs.Tables.{Leave, Discard}
 use Rattle.calloop_core.specs.Polls.{PollView, PollStep, Socket, polls_after, IsOfKind}

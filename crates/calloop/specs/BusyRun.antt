@@ -8,7 +8,7 @@ use Rattle.calloop_wake.specs.declared.list.Content.TheVariants.{Source, InTurn}
 use Rattle.calloop_wake.specs.declared.wake.notes.Note.TheVariants.{Counted, Looked, Marked}
 use Rattle.calloop_wake.specs.Tokens.{key_of}
 use Rattle.calloop_wake.specs.Watches.{noted}
-use Rattle.calloop_core.specs.declared.sources.PostAction.TheVariants.{Continue, Reregister}
+use Rattle.calloop_core.specs.declared.sources.source.PostAction.TheVariants.{Continue, Reregister}
 use Rattle.calloop_core.specs.declared.sys.Mode.TheVariants.{Level}
 use Rattle.calloop_core.specs.declared.sys.Readiness.{Readiness}
 use Rattle.calloop_core.specs.declared.sys.Watched.{Watched}

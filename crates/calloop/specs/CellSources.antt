@@ -12,7 +12,7 @@ use Rattle.calloop_wake.specs.Tokens.{key_of, next_token, after_token, most_toke
 use Rattle.calloop_wake.specs.Cells.{is_own}
 use Rattle.calloop_core.specs.Deeds.{Deed, Registered, Reregistered, Unregistered, Turned, SaysNothing, Slept, Noticed}
 use Rattle.calloop_core.specs.Holdings.{holds_none}
-use Rattle.calloop_core.specs.declared.sources.Role.TheVariants.{Caller}
+use Rattle.calloop_core.specs.declared.sources.dispatch.Role.TheVariants.{Caller}
 use Rattle.calloop_core.specs.Meanings.{Meaning}
 use Rattle.calloop_core.specs.Polls.{PollView, PollStep, CannotOpen, IsOfKind}
 

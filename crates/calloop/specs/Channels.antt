@@ -11,8 +11,8 @@ use Rattle.calloop_wake.specs.Tokens.{key_of}
 use Rattle.calloop_wake.specs.Passes.{Taken}
 use Rattle.calloop_wake.specs.Cells.{is_own}
 use Rattle.calloop_wake.specs.Channels.{LabelView, pops, is_close, turn_after_pop, twin_after_pop}
-use Rattle.calloop_core.specs.declared.sources.PostAction.{PostAction}
-use Rattle.calloop_core.specs.declared.sources.PostAction.TheVariants.{Continue}
+use Rattle.calloop_core.specs.declared.sources.source.PostAction.{PostAction}
+use Rattle.calloop_core.specs.declared.sources.source.PostAction.TheVariants.{Continue}
 use Rattle.calloop_core.specs.Calls.{CallbackCall, Calling, Went}
 use Rattle.calloop_core.specs.Deeds.{Heard}
 use Rattle.calloop_core.specs.Meanings.{Meaning}

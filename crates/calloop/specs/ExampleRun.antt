@@ -7,8 +7,8 @@ use Rattle.calloop_wake.specs.declared.wheel.Instant.{Instant}
 use Rattle.calloop_wake.specs.declared.wake.notes.Note.TheVariants.{Counted, Looked, Marked}
 use Rattle.calloop_wake.specs.declared.list.Content.TheVariants.{Vacant, Source, InTurn}
 use Rattle.calloop_wake.specs.Watches.{noted}
-use Rattle.calloop_core.specs.declared.sources.Dispatcher.{Dispatcher}
-use Rattle.calloop_core.specs.declared.sources.PostAction.TheVariants.{Continue}
+use Rattle.calloop_core.specs.declared.sources.dispatch.Dispatcher.{Dispatcher}
+use Rattle.calloop_core.specs.declared.sources.source.PostAction.TheVariants.{Continue}
 use Rattle.calloop_core.specs.declared.timer.Timer.{Timer}
 use Rattle.calloop_core.specs.declared.timer.Registration.{Registration}
 use Rattle.calloop_core.specs.declared.timer.TimeoutAction.{TimeoutAction}

@@ -6,8 +6,8 @@ use Rattle.calloop_wake.specs.Tokens.{key_of}
 use Rattle.calloop_wake.specs.Passes.{Taken}
 use Rattle.calloop_wake.specs.Cells.{one, is_own}
 use Rattle.calloop_wake.specs.Executors.{most_tasks}
-use Rattle.calloop_core.specs.declared.sources.PostAction.{PostAction}
-use Rattle.calloop_core.specs.declared.sources.PostAction.TheVariants.{Continue}
+use Rattle.calloop_core.specs.declared.sources.source.PostAction.{PostAction}
+use Rattle.calloop_core.specs.declared.sources.source.PostAction.TheVariants.{Continue}
 use Rattle.calloop_core.specs.Calls.{CallbackCall}
 use Rattle.calloop_core.specs.Deeds.{Heard}
 use Rattle.calloop_core.specs.Meanings.{Meaning}

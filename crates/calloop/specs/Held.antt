@@ -23,7 +23,7 @@ use Rattle.std.specs.Prelude.{
 }
 use Rattle.calloop_wake.specs.declared.error.Error.{Error}
 use Rattle.calloop_wake.specs.declared.token.RegistrationToken.{RegistrationToken}
-use Rattle.calloop_core.specs.declared.sources.PostAction.{PostAction}
+use Rattle.calloop_core.specs.declared.sources.source.PostAction.{PostAction}
 use Rattle.calloop.specs.declared.loop_logic.asks.Answer.{Answer}
 use Rattle.calloop.specs.declared.loop_logic.stops.StopNote.{StopNote}
 use Rattle.calloop.specs.Askings.{

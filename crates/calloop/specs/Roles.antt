@@ -3,8 +3,8 @@
 use Rattle.std.specs.Prelude.{Bool, true, false}
 use Rattle.calloop_wake.specs.declared.list.Content.{Content}
 use Rattle.calloop_wake.specs.declared.list.Content.TheVariants.{Vacant, Source, InTurn}
-use Rattle.calloop_core.specs.declared.sources.Role.{Role}
-use Rattle.calloop_core.specs.declared.sources.Role.TheVariants.{Caller, Adapter, Timeout}
+use Rattle.calloop_core.specs.declared.sources.dispatch.Role.{Role}
+use Rattle.calloop_core.specs.declared.sources.dispatch.Role.TheVariants.{Caller, Adapter, Timeout}
 use Rattle.calloop_core.specs.Meanings.{Meaning}
 
 abbrev pub of_caller : Role → Bool

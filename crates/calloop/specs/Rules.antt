@@ -41,9 +41,9 @@ use Rattle.calloop_wake.specs.declared.wake.watch.Watch.{Watch}
 use Rattle.calloop_wake.specs.Slots.{named, first_vacant, next_registration, CannotClaim}
 use Rattle.calloop_core.specs.declared.sys.Readiness.{Readiness}
 use Rattle.calloop_core.specs.declared.sys.poll.Pending.{Pending}
-use Rattle.calloop_core.specs.declared.sources.Dispatcher.{Dispatcher}
-use Rattle.calloop_core.specs.declared.sources.PostAction.{PostAction}
-use Rattle.calloop_core.specs.declared.sources.PostAction.TheVariants.{
+use Rattle.calloop_core.specs.declared.sources.dispatch.Dispatcher.{Dispatcher}
+use Rattle.calloop_core.specs.declared.sources.source.PostAction.{PostAction}
+use Rattle.calloop_core.specs.declared.sources.source.PostAction.TheVariants.{
   Continue,
   Reregister,
   Disable as DisableIt,

@@ -10,13 +10,13 @@ use Rattle.calloop_wake.specs.declared.wake.Twin.{Twin}
 use Rattle.calloop_wake.specs.Tokens.{key_of}
 use Rattle.calloop_wake.specs.Passes.{Taken}
 use Rattle.calloop_wake.specs.Cells.{is_own}
-use Rattle.calloop_core.specs.declared.sources.PostAction.{PostAction}
-use Rattle.calloop_core.specs.declared.sources.PostAction.TheVariants.{Continue, Remove}
+use Rattle.calloop_core.specs.declared.sources.source.PostAction.{PostAction}
+use Rattle.calloop_core.specs.declared.sources.source.PostAction.TheVariants.{Continue, Remove}
 use Rattle.calloop_core.specs.Calls.{CallbackCall}
 use Rattle.calloop_core.specs.Lawful.{silent}
 use Rattle.calloop_core.specs.Deeds.{Deed, Heard, Registered, Reregistered, Unregistered, Turned, SaysNothing, Slept, Noticed}
 use Rattle.calloop_core.specs.Holdings.{holds_none}
-use Rattle.calloop_core.specs.declared.sources.Role.TheVariants.{Caller}
+use Rattle.calloop_core.specs.declared.sources.dispatch.Role.TheVariants.{Caller}
 use Rattle.calloop_core.specs.Meanings.{Meaning, IsKeeping}
 use Rattle.calloop_core.specs.Polls.{PollView, PollStep, TakePass, PutBack}
 use Rattle.calloop.specs.Pings.{twin_opened}

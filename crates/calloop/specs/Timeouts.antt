@@ -6,7 +6,7 @@ use Rattle.calloop_wake.specs.declared.error.Error.TheVariants.{OutOfMemory}
 use Rattle.calloop_wake.specs.declared.error.InsertError.{InsertError}
 use Rattle.calloop_wake.specs.declared.token.RegistrationToken.{RegistrationToken}
 use Rattle.calloop_wake.specs.declared.wheel.Instant.{Instant}
-use Rattle.calloop_core.specs.declared.sources.Role.TheVariants.{Timeout}
+use Rattle.calloop_core.specs.declared.sources.dispatch.Role.TheVariants.{Timeout}
 use Rattle.calloop_core.specs.Deeds.{Lent}
 use Rattle.calloop_core.specs.Meanings.{Meaning}
 use Rattle.calloop_core.specs.Pollers.{Outside}

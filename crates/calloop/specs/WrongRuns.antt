@@ -10,8 +10,8 @@ use Rattle.calloop_wake.specs.Deadlines.{entry_of}
 use Rattle.calloop_wake.specs.Tokens.{key_of}
 use Rattle.calloop_wake.specs.Watches.{noted}
 use Rattle.calloop_wake.specs.Widths.{versions}
-use Rattle.calloop_core.specs.declared.sources.PostAction.TheVariants.{Continue}
-use Rattle.calloop_core.specs.declared.sources.Role.TheVariants.{Adapter}
+use Rattle.calloop_core.specs.declared.sources.source.PostAction.TheVariants.{Continue}
+use Rattle.calloop_core.specs.declared.sources.dispatch.Role.TheVariants.{Adapter}
 use Rattle.calloop_core.specs.Deeds.{Lent}
 use Rattle.calloop_core.specs.Meanings.{Meaning, still}
 use Rattle.calloop_core.specs.Polls.{PollView, timer_event}

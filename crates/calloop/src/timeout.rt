@@ -75,7 +75,7 @@ pub struct TimeoutTimer<R: Wait + Drop> {
 impl<P: Poller, C, R: Wait + Drop, X, Q: Asking> Dispatch<P, C, R, X, Q> for TimeoutTimer<R> {
     ghost use Rattle.calloop_core.specs.Meanings.{seen_as, in_role};
     ghost use Rattle.calloop_core.specs.Lawful.{keeping_seen, keeping_in_role, asking_seen, failing_seen};
-    ghost use Rattle.calloop_core.specs.declared.sources.Role.TheVariants.{Timeout};
+    ghost use Rattle.calloop_core.specs.declared.sources.dispatch.Role.TheVariants.{Timeout};
 
     ghost means = { in_role Timeout (seen_as (λ t. t.timer) ⟦<Dispatcher<Timer, WakesTimeout<R>> as Dispatch<P, C, R, X, Q>>⟧.means) };
 

@@ -1,6 +1,6 @@
 -- What becomes of a source that is made of sources, after the turns of two of them. As calloop's `|` of post actions.
-use Rattle.calloop_core.specs.declared.sources.PostAction.{PostAction}
-use Rattle.calloop_core.specs.declared.sources.PostAction.TheVariants.{Continue, Reregister, Disable, Remove}
+use Rattle.calloop_core.specs.declared.sources.source.PostAction.{PostAction}
+use Rattle.calloop_core.specs.declared.sources.source.PostAction.TheVariants.{Continue, Reregister, Disable, Remove}
 
 -- what both ask for, else it is registered anew
 abbrev pub either : PostAction → PostAction → PostAction

@@ -7,13 +7,13 @@ use Rattle.calloop_wake.specs.declared.error.Error.TheVariants.{InvalidToken}
 use Rattle.calloop_wake.specs.declared.token.Token.{Token}
 use Rattle.calloop_wake.specs.declared.token.TokenFactory.{TokenFactory}
 use Rattle.calloop_core.specs.declared.sys.Readiness.{Readiness}
-use Rattle.calloop_core.specs.declared.sources.PostAction.{PostAction}
+use Rattle.calloop_core.specs.declared.sources.source.PostAction.{PostAction}
 use Rattle.calloop_core.specs.declared.both.Both.{Both}
 use Rattle.calloop_core.specs.Actions.{either}
 use Rattle.calloop_core.specs.Polls.{PollView, PollStep, polls_after}
 use Rattle.calloop_core.specs.Deeds.{Deed, Registered, Reregistered, Unregistered, Turned, SaysNothing, Slept, Noticed, Lent, lent}
 use Rattle.calloop_core.specs.Holdings.{Holding}
-use Rattle.calloop_core.specs.declared.sources.Role.TheVariants.{Caller}
+use Rattle.calloop_core.specs.declared.sources.dispatch.Role.TheVariants.{Caller}
 use Rattle.calloop_core.specs.Meanings.{Meaning}
 use Rattle.calloop_core.specs.Beside.{IsApart, beside}
 

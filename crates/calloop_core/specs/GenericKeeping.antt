@@ -10,7 +10,7 @@ use Rattle.calloop_wake.specs.declared.token.TokenFactory.{TokenFactory}
 use Rattle.calloop_wake.specs.Tokens.{next_token, key_of}
 use Rattle.calloop_core.specs.declared.sys.Mode.{Mode}
 use Rattle.calloop_core.specs.declared.sys.Mode.TheVariants.{OneShot, Level, Edge}
-use Rattle.calloop_core.specs.declared.sources.PostAction.{PostAction}
+use Rattle.calloop_core.specs.declared.sources.source.PostAction.{PostAction}
 use Rattle.calloop_core.specs.declared.generic.Generic.{Generic}
 use Rattle.calloop_core.specs.Pollers.{Sockets}
 use Rattle.calloop_core.specs.Tables.{Edit, Enter, Change, Leave, cannot}

@@ -14,8 +14,8 @@ use Rattle.calloop_core.specs.declared.sys.Mode.{Mode}
 use Rattle.calloop_core.specs.declared.sys.Mode.TheVariants.{OneShot, Level, Edge}
 use Rattle.calloop_core.specs.declared.sys.Watched.{Watched}
 use Rattle.calloop_core.specs.declared.sys.Readiness.{Readiness}
-use Rattle.calloop_core.specs.declared.sources.PostAction.{PostAction}
-use Rattle.calloop_core.specs.declared.sources.PostAction.TheVariants.{Continue}
+use Rattle.calloop_core.specs.declared.sources.source.PostAction.{PostAction}
+use Rattle.calloop_core.specs.declared.sources.source.PostAction.TheVariants.{Continue}
 use Rattle.calloop_core.specs.declared.generic.NoIoDrop.{NoIoDrop}
 use Rattle.calloop_core.specs.declared.generic.Generic.{Generic}
 use Rattle.calloop_core.specs.Pollers.{Sockets}
@@ -26,7 +26,7 @@ use Rattle.calloop_core.specs.Calls.{CallbackCall}
 use Rattle.calloop_core.specs.Deeds.{Deed, Registered, Reregistered, Unregistered, Turned, SaysNothing, Slept, Noticed, Heard}
 use Rattle.calloop_core.specs.Holdings.{holds_none}
 use Rattle.calloop_core.specs.Keys.{no_key}
-use Rattle.calloop_core.specs.declared.sources.Role.TheVariants.{Caller}
+use Rattle.calloop_core.specs.declared.sources.dispatch.Role.TheVariants.{Caller}
 use Rattle.calloop_core.specs.Meanings.{Meaning}
 
 abbrev pub socket : {I : Type 0} → I → NoIoDrop I

@@ -21,10 +21,10 @@ use Rattle.calloop_wake.specs.declared.token.TokenFactory.{TokenFactory}
 use Rattle.calloop_wake.specs.declared.token.Token.{Token}
 use Rattle.calloop_wake.specs.Tokens.{key_of, next_token}
 use Rattle.calloop_core.specs.declared.sys.Readiness.{Readiness}
-use Rattle.calloop_core.specs.declared.sources.Dispatcher.{Dispatcher}
-use Rattle.calloop_core.specs.declared.sources.OneOf.{OneOf}
-use Rattle.calloop_core.specs.declared.sources.Role.{Role}
-use Rattle.calloop_core.specs.declared.sources.OneOf.TheVariants.{First, Other}
+use Rattle.calloop_core.specs.declared.sources.dispatch.Dispatcher.{Dispatcher}
+use Rattle.calloop_core.specs.declared.sources.choice.OneOf.{OneOf}
+use Rattle.calloop_core.specs.declared.sources.dispatch.Role.{Role}
+use Rattle.calloop_core.specs.declared.sources.choice.OneOf.TheVariants.{First, Other}
 use Rattle.calloop_core.specs.Polls.{PollView, PollStep}
 use Rattle.calloop_core.specs.Calls.{CallbackCall, Calling, Went, Becomes, IsOfSource, AsOfSource, OfKind, OfIo}
 use Rattle.std.specs.declared.io.Error.{Error as IoCause}

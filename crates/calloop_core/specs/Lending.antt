@@ -1,7 +1,7 @@
 -- What a `Poll` becomes where its poller was lent, a dispatcher where its source was, and a socket's source where its
 -- socket was.
 use Rattle.calloop_core.specs.declared.sys.poll.Poll.{Poll}
-use Rattle.calloop_core.specs.declared.sources.Dispatcher.{Dispatcher}
+use Rattle.calloop_core.specs.declared.sources.dispatch.Dispatcher.{Dispatcher}
 use Rattle.calloop_core.specs.declared.generic.Generic.{Generic}
 
 abbrev pub with_poller : {P C R : Type 0} → P → Poll P C R → Poll P C R

@@ -7,11 +7,11 @@ use Rattle.calloop_wake.specs.declared.token.Token.{Token}
 use Rattle.calloop_wake.specs.declared.token.RegistrationToken.{RegistrationToken}
 use Rattle.calloop_wake.specs.declared.token.TokenFactory.{TokenFactory}
 use Rattle.calloop_core.specs.declared.sys.Readiness.{Readiness}
-use Rattle.calloop_core.specs.declared.sources.Dispatcher.{Dispatcher}
-use Rattle.calloop_core.specs.declared.sources.OneOf.{OneOf}
-use Rattle.calloop_core.specs.declared.sources.Role.{Role}
-use Rattle.calloop_core.specs.declared.sources.Role.TheVariants.{Caller, Adapter, Timeout}
-use Rattle.calloop_core.specs.declared.sources.OneOf.TheVariants.{First, Other}
+use Rattle.calloop_core.specs.declared.sources.dispatch.Dispatcher.{Dispatcher}
+use Rattle.calloop_core.specs.declared.sources.choice.OneOf.{OneOf}
+use Rattle.calloop_core.specs.declared.sources.dispatch.Role.{Role}
+use Rattle.calloop_core.specs.declared.sources.dispatch.Role.TheVariants.{Caller, Adapter, Timeout}
+use Rattle.calloop_core.specs.declared.sources.choice.OneOf.TheVariants.{First, Other}
 use Rattle.calloop_core.specs.Pollers.{Outside}
 use Rattle.calloop_core.specs.Polls.{PollView, PollStep, AllStepped}
 use Rattle.calloop_core.specs.Calls.{Calling, Went, Becomes, IsOfSource}

@@ -9,7 +9,7 @@ use Rattle.calloop_core.specs.declared.transient.State.TheVariants.{Keep, Regist
 use Rattle.calloop_core.specs.declared.movable.Movable.{Movable}
 use Rattle.calloop_core.specs.Polls.{PollView, PollStep}
 use Rattle.calloop_core.specs.Deeds.{Deed, Registered, Reregistered, Unregistered, Turned, Slept, Noticed, Heard}
-use Rattle.calloop_core.specs.declared.sources.Role.TheVariants.{Caller}
+use Rattle.calloop_core.specs.declared.sources.dispatch.Role.TheVariants.{Caller}
 use Rattle.calloop_core.specs.Meanings.{Meaning, IsKeeping, KeepsCounters, KeepsHome, seen_as}
 use Rattle.calloop_core.specs.Lawful.{keeping_seen, silent}
 use Rattle.calloop_core.specs.Transients.{Moves, RegisteredAs, ReregisteredAs, coming, state_holds, state_keys, state_fits}

@@ -5,7 +5,7 @@ use Rattle.std.proofs.Common.{◌∙◌}
 use Rattle.calloop_wake.specs.declared.error.Error.{Error}
 use Rattle.calloop_wake.specs.declared.token.Token.{Token}
 use Rattle.calloop_core.specs.declared.sys.Readiness.{Readiness}
-use Rattle.calloop_core.specs.declared.sources.OneOf.TheVariants.{First, Other}
+use Rattle.calloop_core.specs.declared.sources.choice.OneOf.TheVariants.{First, Other}
 use Rattle.calloop_core.specs.Polls.{PollView, PollStep}
 use Rattle.calloop_core.specs.Calls.{Calling, CallbackCall, Went}
 use Rattle.calloop_core.specs.Deeds.{Turned, Lent, Heard}

@@ -9,9 +9,9 @@ use Rattle.calloop_wake.specs.declared.token.TokenFactory.{TokenFactory}
 use Rattle.calloop_wake.specs.declared.wheel.Instant.{Instant}
 use Rattle.calloop_wake.specs.Deadlines.{is_armed, moment_after, CannotArm}
 use Rattle.calloop_wake.specs.Tokens.{key_of, next_token, after_token, most_tokens}
-use Rattle.calloop_core.specs.declared.sources.PostAction.{PostAction}
-use Rattle.calloop_core.specs.declared.sources.Role.TheVariants.{Caller}
-use Rattle.calloop_core.specs.declared.sources.PostAction.TheVariants.{Continue, Remove}
+use Rattle.calloop_core.specs.declared.sources.source.PostAction.{PostAction}
+use Rattle.calloop_core.specs.declared.sources.dispatch.Role.TheVariants.{Caller}
+use Rattle.calloop_core.specs.declared.sources.source.PostAction.TheVariants.{Continue, Remove}
 use Rattle.calloop_core.specs.declared.timer.TimeoutAction.{TimeoutAction}
 use Rattle.calloop_core.specs.declared.timer.TimeoutAction.TheVariants.{Drop, ToInstant, ToDuration}
 use Rattle.calloop_core.specs.declared.timer.TimerError.{TimerError}

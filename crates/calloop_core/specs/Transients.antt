@@ -5,8 +5,8 @@ use Rattle.calloop_wake.specs.declared.error.Error.{Error}
 use Rattle.calloop_wake.specs.declared.token.Token.{Token}
 use Rattle.calloop_wake.specs.declared.token.TokenFactory.{TokenFactory}
 use Rattle.calloop_core.specs.declared.sys.Readiness.{Readiness}
-use Rattle.calloop_core.specs.declared.sources.PostAction.{PostAction}
-use Rattle.calloop_core.specs.declared.sources.PostAction.TheVariants.{
+use Rattle.calloop_core.specs.declared.sources.source.PostAction.{PostAction}
+use Rattle.calloop_core.specs.declared.sources.source.PostAction.TheVariants.{
   Continue,
   Reregister,
   Disable as DisableIt,
@@ -20,7 +20,7 @@ use Rattle.calloop_core.specs.Deeds.{Deed, Registered, Reregistered, Unregistere
 use Rattle.calloop_core.specs.Holdings.{Holding, holds_none}
 use Rattle.calloop_core.specs.Keys.{no_key}
 use Rattle.calloop_core.specs.Beside.{IsApart, beside}
-use Rattle.calloop_core.specs.declared.sources.Role.TheVariants.{Caller}
+use Rattle.calloop_core.specs.declared.sources.dispatch.Role.TheVariants.{Caller}
 use Rattle.calloop_core.specs.Meanings.{Meaning, seen_as}
 
 -- the one where a call succeeded, the other where it was refused

@@ -2,8 +2,8 @@
 ghost use Rattle.std.specs.Prelude.{◌≡◌, ◌⊎◌, ◌≤◌, List, Bool, true, false, Ok};
 ghost use Rattle.std.specs.Fn.{FnOnceReturnsAtMut};
 ghost use Rattle.calloop_wake.specs.declared.token.Token.{Token};
-ghost use Rattle.calloop_core.specs.declared.sources.PostAction.{PostAction};
-ghost use Rattle.calloop_core.specs.declared.sources.PostAction.TheVariants.{Continue, Reregister};
+ghost use Rattle.calloop_core.specs.declared.sources.source.PostAction.{PostAction};
+ghost use Rattle.calloop_core.specs.declared.sources.source.PostAction.TheVariants.{Continue, Reregister};
 ghost use Rattle.calloop_core.specs.declared.sys.Readiness.{Readiness};
 ghost use Rattle.calloop_core.specs.declared.transient.State.{State};
 ghost use Rattle.calloop_core.specs.declared.transient.State.TheVariants.{Keep, Register, Disable, Remove, Replace};

@@ -6,7 +6,7 @@ use Rattle.calloop_core.specs.Polls.{PollView, PollStep}
 use Rattle.calloop_core.specs.Calls.{CallbackCall}
 use Rattle.calloop_core.specs.Lawful.{silent}
 use Rattle.calloop_core.specs.Deeds.{Deed, Registered, Reregistered, Unregistered, Turned, SaysNothing, Slept, Noticed, Heard}
-use Rattle.calloop_core.specs.declared.sources.Role.TheVariants.{Caller}
+use Rattle.calloop_core.specs.declared.sources.dispatch.Role.TheVariants.{Caller}
 use Rattle.calloop_core.specs.Meanings.{Meaning, IsKeeping, KeepsCounters, KeepsHome}
 use Rattle.calloop_core.specs.Beside.{within_itself}
 

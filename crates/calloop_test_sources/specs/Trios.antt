@@ -3,8 +3,8 @@ use Rattle.std.specs.Prelude.{◌≡◌, ◌⊎◌, ℕ, ◌<◌, ◌++◌, List
 use Rattle.std.proofs.Common.{inl, inr, refl, ◌∙◌}
 use Rattle.calloop_wake.specs.Widths.{parts}
 use Rattle.calloop_wake.specs.declared.wheel.Instant.{Instant}
-use Rattle.calloop_core.specs.declared.sources.PostAction.{PostAction}
-use Rattle.calloop_core.specs.declared.sources.PostAction.TheVariants.{Continue}
+use Rattle.calloop_core.specs.declared.sources.source.PostAction.{PostAction}
+use Rattle.calloop_core.specs.declared.sources.source.PostAction.TheVariants.{Continue}
 use Rattle.calloop_core.specs.declared.timer.TimeoutAction.{TimeoutAction}
 use Rattle.calloop_core.specs.declared.timer.TimerError.{TimerError}
 use Rattle.calloop_core.specs.Calls.{CallbackCall}
@@ -15,7 +15,7 @@ use Rattle.calloop_core.specs.Holdings.{Holding, holds_none, IsBelow, Keeps}
 use Rattle.calloop_wake.specs.declared.token.TokenFactory.{TokenFactory}
 use Rattle.calloop_wake.specs.declared.token.RegistrationToken.{RegistrationToken}
 use Rattle.calloop_core.specs.Keys.{AllActFor}
-use Rattle.calloop_core.specs.declared.sources.Role.TheVariants.{Caller}
+use Rattle.calloop_core.specs.declared.sources.dispatch.Role.TheVariants.{Caller}
 use Rattle.calloop_core.specs.Meanings.{Meaning, IsKeeping, KeepsCounters, KeepsHome, IsAtHome, BeginsIn}
 use Rattle.calloop_core.specs.Timers.{timer_holds, timer_keys, timer_meaning}
 use Rattle.calloop_core.specs.Keeping.{timer_keeps}

@@ -7,8 +7,8 @@ use Rattle.calloop.specs.declared.channel.Event.{Event}
 use Rattle.loop_bench.specs.declared.bench.Counts.{Counts}
 use Rattle.std.specs.declared.io.Error.{Error as Cause}
 use Rattle.calloop_core.specs.declared.sys.Readiness.{Readiness}
-use Rattle.calloop_core.specs.declared.sources.PostAction.{PostAction}
-use Rattle.calloop_core.specs.declared.sources.PostAction.TheVariants.{Continue}
+use Rattle.calloop_core.specs.declared.sources.source.PostAction.{PostAction}
+use Rattle.calloop_core.specs.declared.sources.source.PostAction.TheVariants.{Continue}
 use Rattle.calloop_core.specs.declared.generic.NoIoDrop.{NoIoDrop}
 
 -- one more call, up to the greatest number of 64 bits

@@ -4,9 +4,9 @@ use Rattle.logbook.specs.Pages.{Book}
 use Rattle.calloop_wake.specs.declared.token.RegistrationToken.{RegistrationToken}
 use Rattle.calloop_core.specs.declared.sys.script.ScriptPoller.{ScriptPoller}
 use Rattle.calloop_core.specs.declared.sys.Readiness.{Readiness}
-use Rattle.calloop_core.specs.declared.sources.Dispatcher.{Dispatcher}
-use Rattle.calloop_core.specs.declared.sources.OneOf.{OneOf}
-use Rattle.calloop_core.specs.declared.sources.OneOf.TheVariants.{First, Other}
+use Rattle.calloop_core.specs.declared.sources.dispatch.Dispatcher.{Dispatcher}
+use Rattle.calloop_core.specs.declared.sources.choice.OneOf.{OneOf}
+use Rattle.calloop_core.specs.declared.sources.choice.OneOf.TheVariants.{First, Other}
 use Rattle.calloop_core.specs.declared.timer.Timer.{Timer as TimerSource}
 use Rattle.calloop_core.specs.ScriptPollers.{script_outside}
 use Rattle.calloop.specs.declared.ping.PingSource.{PingSource}

@@ -3,7 +3,7 @@ use Rattle.std.proofs.Common.{Bool, false, ◌≡◌, ℕ, List, subst, refl, So
 use Rattle.logbook.specs.Pages.{Book}
 use Rattle.calloop_wake.specs.declared.error.InsertError.{InsertError}
 use Rattle.calloop_wake.specs.declared.token.RegistrationToken.{RegistrationToken}
-use Rattle.calloop_core.specs.declared.sources.Dispatcher.{Dispatcher}
+use Rattle.calloop_core.specs.declared.sources.dispatch.Dispatcher.{Dispatcher}
 use Rattle.calloop_core.specs.declared.sys.script.ScriptPoller.{ScriptPoller}
 use Rattle.calloop.specs.declared.loop_logic.LoopCall.TheVariants.{Insert}
 use Rattle.calloop.specs.declared.loop_logic.LoopAnswer.TheVariants.{Inserted}

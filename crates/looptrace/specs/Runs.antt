@@ -40,8 +40,8 @@ use Rattle.calloop.specs.Rules.{Case, Did}
 use Rattle.looptrace.specs.declared.command.Command.{Command}
 use Rattle.looptrace.specs.declared.command.Command.TheVariants.{Nothing, Ping, Ring, Close, Remove}
 use Rattle.looptrace.specs.declared.command.Command.TheVariants.{Answer as Event, Timer, Clock, Fault, Dispatch}
-use Rattle.calloop_core.specs.declared.sources.OneOf.{OneOf}
-use Rattle.calloop_core.specs.declared.sources.OneOf.TheVariants.{First, Other}
+use Rattle.calloop_core.specs.declared.sources.choice.OneOf.{OneOf}
+use Rattle.calloop_core.specs.declared.sources.choice.OneOf.TheVariants.{First, Other}
 use Rattle.looptrace.specs.declared.runner.PendingAnswer.{PendingAnswer}
 use Rattle.looptrace.specs.declared.runner.ScriptLoop.{ScriptLoop}
 use Rattle.looptrace.specs.Named.{Named, is_taken, ping_named, with_source, closed}
@@ -49,7 +49,7 @@ use Rattle.looptrace.specs.Lines.{lines_of}
 use Rattle.looptrace.specs.Traces.{Written, Writes}
 use Rattle.looptrace.specs.Commands.{command_of}
 use Rattle.looptrace.specs.Texts.{insert_text, wait_text, refused_text}
-use Rattle.calloop_core.specs.declared.sources.Dispatcher.{Dispatcher}
+use Rattle.calloop_core.specs.declared.sources.dispatch.Dispatcher.{Dispatcher}
 use Rattle.calloop_core.specs.declared.timer.Timer.{Timer as TimerSource}
 use Rattle.calloop.specs.declared.ping.PingSource.{PingSource}
 use Rattle.looptrace.specs.declared.source.Teller.{Teller}

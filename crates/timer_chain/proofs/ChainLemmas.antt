@@ -1,7 +1,7 @@
 -- The callbacks of the chain ask for timers alone that hold no counter.
 use Rattle.std.proofs.Common.{◌≡◌, ℕ, List, [], ◌∷◌, ◌++◌, Some, Result, Ok, Err, IfOk, IfErr, refl, sym, ap, subst}
 use Rattle.calloop_wake.specs.declared.error.InsertError.{InsertError}
-use Rattle.calloop_core.specs.declared.sources.Dispatcher.{Dispatcher}
+use Rattle.calloop_core.specs.declared.sources.dispatch.Dispatcher.{Dispatcher}
 use Rattle.calloop_core.specs.declared.timer.Timer.{Timer}
 use Rattle.calloop_core.specs.Timers.{unarmed}
 use Rattle.calloop.specs.declared.loop_logic.asks.Ticket.{Ticket}

@@ -1,5 +1,5 @@
 use Rattle.std.proofs.Common.{[], ◌∷◌, refl, sym, ◌∙◌}
-use Rattle.calloop_core.specs.declared.sources.PostAction.TheVariants.{Reregister as Action}
+use Rattle.calloop_core.specs.declared.sources.source.PostAction.TheVariants.{Reregister as Action}
 use Rattle.calloop_wake.specs.Slots.{named}
 use Rattle.calloop.specs.Held.{Pend}
 use Rattle.calloop.specs.Machine.{Holds}

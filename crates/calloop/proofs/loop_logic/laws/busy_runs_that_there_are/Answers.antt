@@ -6,7 +6,7 @@ use Rattle.calloop_wake.specs.declared.token.RegistrationToken.{RegistrationToke
 use Rattle.calloop_wake.specs.Tokens.{after_token, registration_of}
 use Rattle.calloop_wake.specs.Watches.{noted}
 use Rattle.calloop_wake.specs.declared.wake.notes.Note.TheVariants.{Counted, Looked, Marked}
-use Rattle.calloop_core.specs.declared.sources.PostAction.TheVariants.{Continue, Reregister}
+use Rattle.calloop_core.specs.declared.sources.source.PostAction.TheVariants.{Continue, Reregister}
 use Rattle.calloop_core.specs.Polls.{Socket, counted, marks_taken}
 use Rattle.calloop_core.specs.SlotOrder.{IsInSlotOrder}
 use Rattle.calloop_core.specs.Tables.{Enter}
@@ -19,7 +19,7 @@ use Rattle.calloop.specs.Rules.{factory_of, Settling, Sleeping, Waiting, Gatheri
 use Rattle.calloop.specs.Wrong.{first_token, first_registration, second_registration}
 use Rattle.calloop.specs.BusyRun.{for_reading, two_found, behind_the_failure}
 use Rattle.logbook.specs.Pages.{Book}
-use Rattle.calloop_core.specs.declared.sources.PostAction.TheVariants.{Remove}
+use Rattle.calloop_core.specs.declared.sources.source.PostAction.TheVariants.{Remove}
 use Rattle.calloop_core.specs.declared.timer.TimeoutAction.TheVariants.{Drop, ToInstant}
 use Rattle.calloop_core.specs.Polls.{Arm, ArmAgain, Call, Cancel}
 use Rattle.calloop_core.specs.Timers.{armed_for}

@@ -4,7 +4,7 @@ use Rattle.calloop_wake.specs.declared.list.Content.TheVariants.{Source, InTurn}
 use Rattle.calloop_wake.specs.Tokens.{after_token, registration_of}
 use Rattle.calloop_wake.specs.Watches.{noted}
 use Rattle.calloop_wake.specs.declared.wake.notes.Note.TheVariants.{Counted, Looked, Marked}
-use Rattle.calloop_core.specs.declared.sources.PostAction.TheVariants.{Remove}
+use Rattle.calloop_core.specs.declared.sources.source.PostAction.TheVariants.{Remove}
 use Rattle.calloop_core.specs.declared.timer.TimeoutAction.TheVariants.{Drop}
 use Rattle.calloop_core.specs.Polls.{Arm, Cancel, Call}
 use Rattle.calloop.specs.Askings.{asks_nothing, no_asks, of_turn}

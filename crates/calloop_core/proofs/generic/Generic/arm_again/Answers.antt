@@ -5,7 +5,7 @@ use mathlib.Core.Bool.{not}
 use Rattle.calloop_wake.specs.declared.token.Token.{Token}
 use Rattle.calloop_core.specs.declared.sys.Mode.{Mode}
 use Rattle.calloop_core.specs.declared.sys.Mode.TheVariants.{OneShot, Level, Edge}
-use Rattle.calloop_core.specs.declared.sources.PostAction.{PostAction}
+use Rattle.calloop_core.specs.declared.sources.source.PostAction.{PostAction}
 use Rattle.calloop_core.specs.declared.generic.Generic.{Generic}
 use Rattle.calloop_core.specs.contracts.sys.Mode.{the_type}
 use Rattle.calloop_core.specs.Pollers.{Sockets}

@@ -1,7 +1,7 @@
 use Rattle.std.proofs.Common.{refl, ◌∷◌, [], sym, ◌∙◌, subst, Option, Some, None, Ok, ◌≡◌}
 use Rattle.calloop_wake.specs.declared.wheel.Instant.{Instant}
 use Rattle.calloop_wake.specs.Deadlines.{moment_after}
-use Rattle.calloop_core.specs.declared.sources.PostAction.TheVariants.{Remove}
+use Rattle.calloop_core.specs.declared.sources.source.PostAction.TheVariants.{Remove}
 use Rattle.calloop_core.specs.Polls.{ReadClock, poll_view}
 use Rattle.calloop_core.specs.Timers.{ArmedFor, registered_as, spent}
 use Rattle.calloop_core.proofs.Stepping.{stepped_first}

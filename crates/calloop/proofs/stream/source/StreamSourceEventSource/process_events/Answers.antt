@@ -1,5 +1,5 @@
 use Rattle.std.proofs.Common.{◌≡◌, refl, sym, ◌∙◌, ap, subst, true, false, [], ◌∷◌}
-use Rattle.calloop_core.specs.declared.sources.PostAction.TheVariants.{Continue}
+use Rattle.calloop_core.specs.declared.sources.source.PostAction.TheVariants.{Continue}
 use Rattle.calloop_core.specs.Polls.{TakePass, PutBack, PollView, poll_after}
 use Rattle.calloop_wake.specs.Tokens.{key_of}
 use Rattle.calloop_wake.specs.Cells.{is_own}
