@@ -6,11 +6,20 @@ use Rattle.calloop_wake.specs.declared.error.Error.TheVariants.{OutOfMemory}
 use Rattle.calloop_wake.specs.declared.error.InsertError.{InsertError}
 use Rattle.calloop_wake.specs.declared.token.RegistrationToken.{RegistrationToken}
 use Rattle.calloop_wake.specs.declared.wheel.Instant.{Instant}
+use Rattle.calloop_core.specs.declared.sources.dispatch.Dispatcher.{Dispatcher}
 use Rattle.calloop_core.specs.declared.sources.dispatch.Role.TheVariants.{Timeout}
+use Rattle.calloop_core.specs.declared.timer.Timer.{Timer}
+use Rattle.calloop_core.specs.declared.timer.TimeoutAction.{TimeoutAction}
+use Rattle.calloop_core.specs.declared.timer.TimerError.{TimerError}
 use Rattle.calloop_core.specs.Deeds.{Lent}
-use Rattle.calloop_core.specs.Meanings.{Meaning}
+use Rattle.calloop_core.specs.Calls.{Calling}
+use Rattle.calloop_core.specs.Keeping.{timer_keeps}
+use Rattle.calloop_core.specs.Lawful.{keeping_with_callback, asking_with_callback, failing_with_callback, memory_of_source}
+use Rattle.calloop_core.specs.Lawful.{keeping_seen, keeping_in_role, asking_seen, failing_seen}
+use Rattle.calloop_core.specs.Meanings.{Meaning, IsKeeping, IsAsking, FailsAsSource, with_callback, seen_as, in_role}
 use Rattle.calloop_core.specs.Pollers.{Outside}
-use Rattle.calloop_core.specs.Timers.{unarmed}
+use Rattle.calloop_core.specs.Quiet.{IsQuietCall, IsQuiet, quiet_dispatcher, quiet_seen}
+use Rattle.calloop_core.specs.Timers.{unarmed, timer_meaning}
 use Rattle.calloop.specs.declared.futures.task.Poll.{Poll}
 use Rattle.calloop.specs.declared.futures.task.Poll.TheVariants.{Ready, Pending}
 use Rattle.calloop.specs.declared.loop_logic.LoopHandle.{LoopHandle}
@@ -67,3 +76,36 @@ IsMade M runs O placed None result old new =
 IsMade M runs O placed (Some moment) result old new =
     IfOk result (λ made. (made.deadline ≡ Some moment) × HasTimer M runs O placed moment made old new)
     × IfErr result (λ e. HasNoTimer M runs O placed moment e old new)
+
+module _ {P R X Q : Type 0} (may : Calling (WakesTimeout R) Instant (Unit {0}) TimeoutAction X Q) (reaches : Q → Q → Type 0) where
+  -- a timer with this callback
+  abbrev wakes_meaning : Meaning (Dispatcher Timer (WakesTimeout R)) P (Lent X Q)
+  wakes_meaning = with_callback timer_meaning may reaches (λ (cause : TimerError) e. e ≡ OutOfMemory)
+
+  -- the same, as the loop's own
+  abbrev pub timeout_meaning : Meaning (TimeoutTimer R) P (Lent X Q)
+  timeout_meaning = in_role Timeout (seen_as (λ t. t.timer) wakes_meaning)
+
+  -- Proofs from here on, which the impls cite.
+
+  pub timeout_keeps : IsKeeping timeout_meaning
+  timeout_keeps =
+      keeping_in_role Timeout (seen_as (λ t. t.timer) wakes_meaning)
+      (keeping_seen (λ t. t.timer) wakes_meaning
+      (keeping_with_callback timer_meaning may reaches (λ (cause : TimerError) e. e ≡ OutOfMemory) timer_keeps))
+
+  pub timeout_asks : ((q : Q) → reaches q q) → ((q r s : Q) → reaches q r → reaches r s → reaches q s)
+      → IsAsking reaches timeout_meaning
+  timeout_asks stays goes_on =
+      asking_seen (λ (t : TimeoutTimer R). t.timer) reaches wakes_meaning
+      (asking_with_callback timer_meaning may reaches (λ (cause : TimerError) e. e ≡ OutOfMemory) stays goes_on)
+
+  pub timeout_fails : FailsAsSource timeout_meaning
+  timeout_fails =
+      failing_seen (λ (t : TimeoutTimer R). t.timer) wakes_meaning
+      (failing_with_callback timer_meaning may reaches (λ (cause : TimerError) e. e ≡ OutOfMemory) (λ cause e is. memory_of_source e is))
+
+  pub timeout_quiet : IsQuietCall may → IsQuiet timeout_meaning
+  timeout_quiet quiet =
+      quiet_seen (λ (t : TimeoutTimer R). t.timer) wakes_meaning
+      (quiet_dispatcher timer_meaning may reaches (λ (cause : TimerError) e. e ≡ OutOfMemory) quiet)

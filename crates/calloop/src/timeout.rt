@@ -14,7 +14,9 @@ ghost use Rattle.calloop.specs.Timeouts.{HasCome, HasTimer, HasNoTimer, IsMade, 
 use crate::futures::{Context, Future, Poll, Waker};
 use crate::loop_logic::{EventDispatcher, LoopHandle, Requests};
 use calloop_core::callbacks::{On, QuietDispatch};
-use calloop_core::sources::{Asking, Dispatch, Dispatcher, Here, Keep, Place, PostAction, Role};
+use calloop_core::sources::{
+    Asking, Callback, Dispatch, Dispatcher, Here, Keep, Place, PostAction, Role,
+};
 use calloop_core::sys::events::EventIterator;
 use calloop_core::sys::poll::Poll as LoopPoll;
 use calloop_core::sys::synthetic::Synthetic;
@@ -73,11 +75,10 @@ pub struct TimeoutTimer<R: Wait + Drop> {
 }
 
 impl<P: Poller, C, R: Wait + Drop, X, Q: Asking> Dispatch<P, C, R, X, Q> for TimeoutTimer<R> {
-    ghost use Rattle.calloop_core.specs.Meanings.{seen_as, in_role};
-    ghost use Rattle.calloop_core.specs.Lawful.{keeping_seen, keeping_in_role, asking_seen, failing_seen};
-    ghost use Rattle.calloop_core.specs.declared.sources.dispatch.Role.TheVariants.{Timeout};
+    ghost use Rattle.calloop.specs.Timeouts.{timeout_meaning, timeout_keeps, timeout_asks, timeout_fails};
 
-    ghost means = { in_role Timeout (seen_as (λ t. t.timer) ⟦<Dispatcher<Timer, WakesTimeout<R>> as Dispatch<P, C, R, X, Q>>⟧.means) };
+    ghost means = { timeout_meaning
+        ⟦<WakesTimeout<R> as Callback<Instant, (), TimeoutAction, X, Q>>⟧.may Q.reaches };
 
     fn register(
         &mut self,
@@ -146,18 +147,23 @@ impl<P: Poller, C, R: Wait + Drop, X, Q: Asking> Dispatch<P, C, R, X, Q> for Tim
         <Wakes<R> as Dispatch<P, C, R, X, Q>>::before_handle_events(&mut self.timer, events)
     }
 
-    ghost keeps = { keeping_in_role Timeout (seen_as (λ t. t.timer) ⟦<Dispatcher<Timer, WakesTimeout<R>> as Dispatch<P, C, R, X, Q>>⟧.means)
-        (keeping_seen (λ t. t.timer) ⟦<Dispatcher<Timer, WakesTimeout<R>> as Dispatch<P, C, R, X, Q>>⟧.means ⟦<Dispatcher<Timer, WakesTimeout<R>> as Dispatch<P, C, R, X, Q>>⟧.keeps) };
+    ghost keeps = { timeout_keeps
+        ⟦<WakesTimeout<R> as Callback<Instant, (), TimeoutAction, X, Q>>⟧.may Q.reaches };
 
-    ghost asks = { asking_seen (λ t. t.timer) Q.reaches ⟦<Dispatcher<Timer, WakesTimeout<R>> as Dispatch<P, C, R, X, Q>>⟧.means ⟦<Dispatcher<Timer, WakesTimeout<R>> as Dispatch<P, C, R, X, Q>>⟧.asks };
+    ghost asks = { timeout_asks
+        ⟦<WakesTimeout<R> as Callback<Instant, (), TimeoutAction, X, Q>>⟧.may
+        Q.reaches Q.stays Q.goes_on };
 
-    ghost fails = { failing_seen (λ t. t.timer) ⟦<Dispatcher<Timer, WakesTimeout<R>> as Dispatch<P, C, R, X, Q>>⟧.means ⟦<Dispatcher<Timer, WakesTimeout<R>> as Dispatch<P, C, R, X, Q>>⟧.fails };
+    ghost fails = { timeout_fails
+        ⟦<WakesTimeout<R> as Callback<Instant, (), TimeoutAction, X, Q>>⟧.may Q.reaches };
 }
 
 impl<P: Poller, C, R: Wait + Drop, X, Q: Asking> QuietDispatch<P, C, R, X, Q> for TimeoutTimer<R> {
-    ghost use Rattle.calloop_core.specs.Quiet.{quiet_seen};
+    ghost use Rattle.calloop.specs.Timeouts.{timeout_quiet};
 
-    ghost quiet = { quiet_seen (λ t. t.timer) ⟦<Dispatcher<Timer, WakesTimeout<R>> as Dispatch<P, C, R, X, Q>>⟧.means ⟦<Dispatcher<Timer, WakesTimeout<R>> as QuietDispatch<P, C, R, X, Q>>⟧.quiet };
+    ghost quiet = { timeout_quiet
+        ⟦<WakesTimeout<R> as Callback<Instant, (), TimeoutAction, X, Q>>⟧.may Q.reaches
+        (λ f g e m n x y q r t h. h.1) };
 }
 
 impl<R: Wait + Drop> Place<TimeoutTimer<R>, Here> for TimeoutTimer<R> {
