@@ -136,8 +136,8 @@ impl<D: EventDispatcher<P, C, R>, P: Poller, C: Clock, R: Wait + Drop> EventLoop
     pub(super) fn enable(&mut self, token: RegistrationToken) -> Result<()>
         ensures case { Did (Case D.means D.Idle.runs P.outside (Enable token) (Enabled result))
             (view_of self.old) (view_of self.new) }
-        ensures refuses { source_of (only (is_callers D.means) (named_by self.old.sources token)) ≡ None
-            → result ≡ Err InvalidToken }
+        ensures refuses { source_of (only (is_callers D.means)
+            (named_by self.old.sources token)) ≡ None → result ≡ Err InvalidToken }
     {
         let Some(mut source) = Self::take_out(&mut self.sources, token) else {
             return Err(Error::InvalidToken);
@@ -152,8 +152,8 @@ impl<D: EventDispatcher<P, C, R>, P: Poller, C: Clock, R: Wait + Drop> EventLoop
     pub(super) fn update(&mut self, token: RegistrationToken) -> Result<()>
         ensures case { Did (Case D.means D.Idle.runs P.outside (Update token) (Updated result))
             (view_of self.old) (view_of self.new) }
-        ensures refuses { source_of (only (is_callers D.means) (named_by self.old.sources token)) ≡ None
-            → result ≡ Err InvalidToken }
+        ensures refuses { source_of (only (is_callers D.means)
+            (named_by self.old.sources token)) ≡ None → result ≡ Err InvalidToken }
     {
         let Some(mut source) = Self::take_out(&mut self.sources, token) else {
             return Err(Error::InvalidToken);
@@ -168,8 +168,8 @@ impl<D: EventDispatcher<P, C, R>, P: Poller, C: Clock, R: Wait + Drop> EventLoop
     pub(super) fn disable(&mut self, token: RegistrationToken) -> Result<()>
         ensures case { Did (Case D.means D.Idle.runs P.outside (Disable token) (Disabled result))
             (view_of self.old) (view_of self.new) }
-        ensures refuses { source_of (only (is_callers D.means) (named_by self.old.sources token)) ≡ None
-            → result ≡ Err InvalidToken }
+        ensures refuses { source_of (only (is_callers D.means)
+            (named_by self.old.sources token)) ≡ None → result ≡ Err InvalidToken }
     {
         let Some(mut source) = Self::take_out(&mut self.sources, token) else {
             return Err(Error::InvalidToken);

@@ -193,7 +193,8 @@ pub fn wrong_runs_are_ruled_out()
     ensures handed_out_twice { (w : World (Unit {0}) (Unit {0}) (Unit {0}))
         → w.held.asks ≡ one_ticket → w.handed ≡ 0 ∷ 0 ∷ [] → ¬ IsTicketed w }
     ensures call_from_nowhere { (v : PollView (Unit {0})) → ¬ IsLedgerOf called_from_nowhere v }
-    ensures other_deadline { (v : PollView (Unit {0})) → ¬ IsLedgerOf called_with_another_deadline v }
+    ensures other_deadline { (v : PollView (Unit {0}))
+        → ¬ IsLedgerOf called_with_another_deadline v }
     ensures no_place { (v : PollView (Unit {0})) → ¬ IsLedgerOf in_no_place v }
     ensures no_deadline { (v : PollView (Unit {0})) → v.deadlines.entries ≡ []
         → ¬ IsLedgerOf armed_once v }
