@@ -43,7 +43,7 @@ type Held<R> = Sources<
 // Whether of two futures that polled a timeout the last one gives its number once the moment has come.
 fn says_last<D, R>(rt: &R, alloc: Global) -> Option<bool>
 where
-    D: EventDispatcher<ScriptPoller, ScriptClock, R, Data = Vec<u32>>,
+    D: EventDispatcher<ScriptPoller, ScriptClock, R, Data = Vec<u32>, Idle = ()>,
     D: Choice<Executor<Sharer<ScriptClock, R>, R>, Reader, Here>,
     D: Keep<TimeoutTimer<R>, ScriptPoller, ScriptClock, R, Vec<u32>, Requests<D>, There<Here>>,
     R: Wait + Clone + Drop,

@@ -71,7 +71,7 @@ where
 
 impl<D, R> Bedroom<D, R>
 where
-    D: EventDispatcher<ScriptPoller, ScriptClock, R, Data = Vec<u32>>,
+    D: EventDispatcher<ScriptPoller, ScriptClock, R, Data = Vec<u32>, Idle = ()>,
     D: Choice<Executor<Sleeper<ScriptClock, R>, R>, Reader, Here>,
     D: Keep<TimeoutTimer<R>, ScriptPoller, ScriptClock, R, Vec<u32>, Requests<D>, There<Here>>,
     R: Wait + Clone + Drop,
@@ -167,9 +167,9 @@ where
 
     fn hides(&mut self, token: RegistrationToken) -> bool {
         let mut handle = self.event_loop.handle();
-        matches!(handle.enable(token), Err(Error::InvalidToken))
-            && matches!(handle.update(token), Err(Error::InvalidToken))
-            && matches!(handle.disable(token), Err(Error::InvalidToken))
+        matches!(handle.enable(&token), Err(Error::InvalidToken))
+            && matches!(handle.update(&token), Err(Error::InvalidToken))
+            && matches!(handle.disable(&token), Err(Error::InvalidToken))
             && handle.remove(token).is_none()
     }
 
@@ -190,7 +190,7 @@ fn plays<R: Wait + Clone + Drop>(rt: &R, alloc: Global, acts: &[Act<'_>]) -> Opt
 
 fn plays_over<D, R>(rt: &R, alloc: Global, acts: &[Act<'_>]) -> Option<usize>
 where
-    D: EventDispatcher<ScriptPoller, ScriptClock, R, Data = Vec<u32>>,
+    D: EventDispatcher<ScriptPoller, ScriptClock, R, Data = Vec<u32>, Idle = ()>,
     D: Choice<Executor<Sleeper<ScriptClock, R>, R>, Reader, Here>,
     D: Keep<TimeoutTimer<R>, ScriptPoller, ScriptClock, R, Vec<u32>, Requests<D>, There<Here>>,
     R: Wait + Clone + Drop,
