@@ -1,7 +1,7 @@
 //! A future that is ready once a moment of the loop's clock has come.
 //!
 //! From calloop's `TimeoutFuture` in `sources/timer.rs`. Like there, it is a timer in a slot, whose token nobody else has; and here
-//! nobody can make one up.
+//! one that is made up names nothing.
 ghost use Rattle.std.specs.Prelude.{◌≡◌, true, Some, IfOk, IfErr};
 ghost use Rattle.calloop_wake.specs.declared.error.Error.TheVariants.{OutOfMemory};
 ghost use Rattle.calloop_wake.specs.declared.wheel.Instant.{Instant};
