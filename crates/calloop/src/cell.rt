@@ -38,6 +38,8 @@ impl<K: CellCore> Fits for Cell<K> {
 }
 
 impl<K: CellCore> Core for Cell<K> {
+    ghost hints = { λ number cell. K.hints number cell.core };
+
     fn dissolve(self, last: Last) {
         let Cell { core, hub: _ } = self;
         core.dissolve(last);

@@ -5,7 +5,7 @@ use Rattle.std.proofs.Math.Bool.{or-true}
 use Rattle.calloop_wake.specs.Cells.{Cell, one, is_own, after_close, after_set_key, after_clear_key}
 use Rattle.calloop_wake.specs.Bells.{after_ping, ended}
 use Rattle.calloop_wake.specs.Channels.{ChannelCell, fresh_channel, with_bell, is_below, pops, after_put, after_pop_of, after_take_of, popped_of, tells, is_close, is_early, after_end_turn, IsPingedIfDue, IsLitChannel, IsSoundChannel, IsStandingChannel}
-use Rattle.calloop_wake.specs.ChannelKind.{Telling, ChannelPast, unused_channel, ChannelStep, Ring, Close, Pop, Take, EndTurn, Put, Progress, behind_pop, at_start, channel_kind, item_of, told_by, AllOfEmpty, IsStandingPast}
+use Rattle.calloop_wake.specs.ChannelKind.{Telling, ChannelPast, unused_channel, ChannelStep, Ring, Close, Pop, Take, EndTurn, Put, behind_pop, channel_kind, item_of, told_by, AllOfEmpty, IsStandingPast}
 use Rattle.calloop_wake.proofs.Lawful.{own-is, and-left}
 use Rattle.calloop_wake.proofs.Schedules.{IsLawful, IsFresh}
 

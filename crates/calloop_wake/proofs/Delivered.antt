@@ -1,10 +1,10 @@
 -- The kinds of cells that there are can be delivered.
-use Rattle.std.proofs.Common.{◌≡◌, ℕ, zero, suc, ◌+◌, ◌-◌, ◌<◌, ◌≤◌, Bool, true, false, ◌&&◌, ◌||◌, not, inl, inr, List, [], ◌∷◌, length, min, Option, Some, None, refl, sym, ◌∙◌, ap, arith, eq-eqb}
+use Rattle.std.proofs.Common.{◌≡◌, ℕ, zero, suc, ◌+◌, ◌-◌, ◌≤◌, Bool, true, false, ◌&&◌, ◌||◌, not, inl, inr, List, [], ◌∷◌, length, Option, Some, None, refl, ◌∙◌, ap, arith, eq-eqb}
 use Rattle.std.proofs.Math.Bool.{or-true}
 use Rattle.calloop_wake.specs.declared.wake.tasks.TaskKey.{TaskKey}
 use Rattle.calloop_wake.specs.Cells.{Cell, is_own}
 use Rattle.calloop_wake.specs.Channels.{ChannelCell, after_pop_of, after_take_of, is_early, pops}
-use Rattle.calloop_wake.specs.Executors.{ExecutorCell, settled_at, taken_of, after_settle, after_pop}
+use Rattle.calloop_wake.specs.Executors.{ExecutorCell, settled_at, taken_of, after_settle}
 use Rattle.calloop_wake.specs.Tasks.{is_idle, phase_at}
 use Rattle.calloop_wake.specs.Wakes.{Kind, WakeStep, start, after_all, IsSchedule}
 use Rattle.calloop_wake.specs.PingKind as ping

@@ -9,9 +9,9 @@ use Rattle.calloop_wake.specs.declared.wake.tasks.Phase.TheVariants.{Idle, Queue
 use Rattle.calloop_wake.specs.declared.wake.tasks.Task.{Task}
 use Rattle.calloop_wake.specs.declared.wake.tasks.TaskKey.{TaskKey}
 use Rattle.calloop_wake.specs.Cells.{is_own}
-use Rattle.calloop_wake.specs.Tasks.{phase_if, phase_at, stepped, is_idle, is_woken, in_poll, woken_phase, settled_phase, slot_if}
+use Rattle.calloop_wake.specs.Tasks.{phase_if, phase_at, stepped, is_idle, is_woken, is_awake, in_poll, woken_phase, settled_phase, slot_if}
 use Rattle.calloop_wake.specs.ExecutorKind.{ExecutorStep, Put, Wake, Pop, EndTurn, executor_needs, executor_after}
-use Rattle.calloop_wake.specs.Executors.{ExecutorCell, fresh_executor, with_slot, after_put, after_wake, after_settle, settled_at, taken_of, after_pop, ended, after_end_turn, opens, in_turn, after_clear_key, is_empty, AreQueued, ArePolled, AreSorted, IsKeepingTasks, IsStandingExecutor, polling, key_in}
+use Rattle.calloop_wake.specs.Executors.{ExecutorCell, IsAwake, fresh_executor, with_slot, after_put, after_wake, after_settle, settled_at, taken_of, after_pop, ended, after_end_turn, opens, in_turn, after_clear_key, is_empty, AreQueued, ArePolled, AreSorted, IsKeepingTasks, IsStandingExecutor, polling, key_in}
 use Rattle.calloop_wake.proofs.Sorted.{with_slot_cases, numbered-kept, numbered-gone, numbered-new, queued-add, queued-keep, queued-take, polled-keep, polled-mark, polled-settle, polled-take}
 
 -- writing what is there changes nothing
@@ -109,6 +109,42 @@ wake-same key c same quiet k =
       lit = rw (queue, pinged) k.lit;
       running = λ other p. let r = k.running other p in (r.0, r.1, subst (λ (t : ℕ → Option Task). in_poll (phase_at other t) ≡ true) (sym tasks) r.2);
     }
+
+-- the same, seen of the whole cell
+wake-nothing : (key : TaskKey) (c : ExecutorCell) → stepped woken_phase key.number (c.tasks key.slot) ≡ c.tasks key.slot
+    → is_idle (phase_at key c.tasks) ≡ false → after_wake key c ≡ c
+wake-nothing key c same quiet =
+    let tasks : with_slot key.slot (stepped woken_phase key.number (c.tasks key.slot)) c.tasks ≡ c.tasks = with_slot-same key.slot _ c.tasks same in
+    let queue : c.queue ++ slot_if (is_idle (phase_at key c.tasks)) key.slot ≡ c.queue = ap (λ (b : Bool). c.queue ++ slot_if b key.slot) quiet ∙ append-nil c.queue in
+    let pinged : (is_idle (phase_at key c.tasks) || c.pinged) ≡ c.pinged = ap (λ (b : Bool). b || c.pinged) quiet in
+    ap (λ (t : ℕ → Option Task). record c { tasks = t; queue = c.queue ++ slot_if (is_idle (phase_at key c.tasks)) key.slot; pinged = is_idle (phase_at key c.tasks) || c.pinged }) tasks
+    ∙ ap (λ (q : List ℕ). record c { queue = q; pinged = is_idle (phase_at key c.tasks) || c.pinged }) queue
+    ∙ ap (λ (p : Bool). record c { pinged = p }) pinged
+
+awake-stays : (p : Phase) → is_awake (Some p) ≡ true → (woken_phase p ≡ p) × (is_idle (Some p) ≡ false)
+awake-stays Idle h = absurd (true≢false (sym h))
+awake-stays Queued h = (refl, refl)
+awake-stays Polling h = absurd (true≢false (sym h))
+awake-stays Woken h = (refl, refl)
+
+-- a wake of a task that will be polled changes nothing, whichever slot its key says: no other task has its number
+pub awake : (key : TaskKey) (c : ExecutorCell) → IsKeepingTasks c → is_awake (phase_at key c.tasks) ≡ true → IsAwake key.number c
+awake key c k due slot = let other : TaskKey = record { slot = slot; number = key.number } in
+    elim (found key c.tasks) [
+      | Nobody none same ↦ absurd (true≢false (sym due ∙ ap is_awake none))
+      | Somebody task is number at step ↦
+          elim (found other c.tasks) [
+            | Nobody none same ↦ wake-nothing other c (same woken_phase) (ap is_idle none)
+            | Somebody that there its phase steps ↦
+                let here : slot ≡ key.slot = k.sorted.numbered.apart slot key.slot that task there is (its ∙ sym number) in
+                let one : that ≡ task = same_Some that task (sym there ∙ ap c.tasks here ∙ is) in
+                let stays = awake-stays task.phase (sym (ap is_awake at) ∙ due) in
+                wake-nothing other c
+                (steps woken_phase ∙ subst (λ (t : Task). ◌≡◌ {A = Option Task} (Some (record t { phase = woken_phase t.phase })) (Some t)) (sym one)
+                (ap (λ (p : Phase). Some (record task { phase = p })) stays.0) ∙ sym there)
+                (ap is_idle (phase ∙ ap (λ (t : Task). Some t.phase) one) ∙ stays.1)
+          ]
+    ]
 
 wake-idle : (key : TaskKey) (c : ExecutorCell) (task : Task) → c.tasks key.slot ≡ Some task → task.phase ≡ Idle
     → stepped woken_phase key.number (c.tasks key.slot) ≡ Some (record task { phase = woken_phase task.phase })

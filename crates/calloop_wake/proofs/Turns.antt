@@ -1,14 +1,14 @@
 -- Turns that pop as often as they may: what each of their rounds finds and leaves.
-use Rattle.std.proofs.Common.{◌≡◌, ℕ, zero, suc, ◌+◌, ◌-◌, ◌<◌, Bool, true, false, List, [], ◌∷◌, ◌++◌, length, Option, Some, None, refl, sym, ◌∙◌, ap, subst, arith, inl, inr}
+use Rattle.std.proofs.Common.{◌≡◌, ℕ, zero, suc, ◌+◌, ◌<◌, true, false, [], ◌∷◌, ◌++◌, Option, Some, None, refl, sym, ◌∙◌, ap, subst, arith, inl, inr}
 use Rattle.std.specs.Prelude.{IsSome}
 use Rattle.calloop_wake.specs.declared.wake.tasks.Phase.TheVariants.{Polling, Queued, Woken}
 use Rattle.calloop_wake.specs.declared.wake.tasks.Task.{Task}
 use Rattle.calloop_wake.specs.declared.wake.tasks.TaskKey.{TaskKey}
-use Rattle.calloop_wake.specs.Channels.{ChannelCell, after_pop_of, after_put, has_room, is_below}
+use Rattle.calloop_wake.specs.Channels.{after_pop_of, has_room, is_below}
 use Rattle.calloop_wake.specs.ChannelKind as channel
 use Rattle.calloop_wake.specs.ChannelKind.{ChannelPast, ChannelStep, channel_kind, channel_needs, channel_after}
-use Rattle.calloop_wake.specs.Executors.{ExecutorCell, settled_at, taken_of, after_take, after_settle, after_pop, after_wake, key_in, polling}
-use Rattle.calloop_wake.specs.Tasks.{is_woken, is_idle, phase_if, phase_at, stepped, settled_phase, woken_phase, slot_if}
+use Rattle.calloop_wake.specs.Executors.{ExecutorCell, settled_at, taken_of, after_take, after_pop, after_wake, key_in, polling}
+use Rattle.calloop_wake.specs.Tasks.{is_woken, is_idle, phase_if, stepped, settled_phase, woken_phase, slot_if}
 use Rattle.calloop_wake.specs.ExecutorKind as executor
 use Rattle.calloop_wake.specs.ExecutorKind.{ExecutorPast, ExecutorStep, executor_kind, executor_needs, past_after}
 use Rattle.calloop_wake.specs.PingKind.{ping_kind}

@@ -77,6 +77,11 @@ after_wake key c =
       pinged = is_idle (phase_at key c.tasks) || c.pinged;
     }
 
+-- A wake of the task of this number changes nothing, whichever slot its key says. Calloop's async_task sees in one word that a task
+-- is scheduled, and lets its wake be.
+abbrev pub IsAwake : ℕ → ExecutorCell → Type 0
+IsAwake number c = (slot : ℕ) → after_wake (record { slot = slot; number = number }) c ≡ c
+
 -- the task that was popped last is finished, or idle, or queued last where it was woken in its poll
 abbrev pub settled_at : Option TaskKey → (finished : Bool) → ExecutorCell → ExecutorCell
 settled_at None finished c = c

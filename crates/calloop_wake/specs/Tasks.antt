@@ -49,6 +49,12 @@ in_poll (Some Polling) = true
 in_poll (Some Woken) = true
 in_poll _ = false
 
+-- it is queued, or was woken in its poll, so that it will be polled
+abbrev pub is_awake : Option Phase → Bool
+is_awake (Some Queued) = true
+is_awake (Some Woken) = true
+is_awake _ = false
+
 -- what a wake makes of a phase
 abbrev pub woken_phase : Phase → Phase
 woken_phase Idle = Queued

@@ -56,13 +56,20 @@ pub fn put<R: Wait>(
     }
 }
 
-/// Wakes a task.
+/// Wakes a task. Where it is known to be awake by the lock's hint, that would change nothing, and the lock isn't taken.
 pub fn wake<R: Wait>(rt: &R, shared: &Locked<TaskCell>, key: TaskKey) {
+    if shared.has_hint(key.number) {
+        return;
+    }
     let mut held = shared.lock(rt);
     let cell = held.core();
     let debt = cell.core.wake(key);
     let owed = cell.owed(rt, debt);
-    held.unlock();
+    if cell.core.is_awake(key) {
+        held.unlock_with_hint(key.number);
+    } else {
+        held.unlock();
+    }
     settle(rt, owed);
 }
 

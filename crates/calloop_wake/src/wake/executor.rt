@@ -2,8 +2,8 @@
 ghost use Rattle.std.specs.Prelude.{if◌then◌else◌, ◌≡◌, nat_lt, Err, ◌+◌, ◌-◌, ◌<◌, ◌≤◌, ◌^◌, ◌&&◌, ◌⊎◌, not, true, false, None, Some, IsSome, IfOk, IfErr, OnErr, IfSome, IfNone};
 ghost use Rattle.calloop_wake.specs.Cells.{one};
 ghost use Rattle.calloop_wake.specs.Passes.{on};
-ghost use Rattle.calloop_wake.specs.Tasks.{no_tasks, task_at};
-ghost use Rattle.calloop_wake.specs.Executors.{cell_of, at_start, owed, owed_at, after_put, after_wake, after_pop, after_end_turn, after_clear_key, after_settle, settled_at, after_take, ended, in_turn, opens, most_tasks, IsKeepingTasks, IsBalanced};
+ghost use Rattle.calloop_wake.specs.Tasks.{no_tasks, task_at, phase_at, is_awake};
+ghost use Rattle.calloop_wake.specs.Executors.{cell_of, at_start, owed, owed_at, after_put, after_wake, after_pop, after_end_turn, after_clear_key, after_settle, settled_at, after_take, ended, in_turn, opens, most_tasks, IsAwake, IsKeepingTasks, IsBalanced};
 
 use super::bell::Bell;
 use super::cell::CellCore;
@@ -87,6 +87,11 @@ impl Fits for ExecutorCore {
 }
 
 impl Core for ExecutorCore {
+    ghost use Rattle.calloop_wake.specs.Executors.{IsAwake, cell_of};
+
+    // A hint is the number of a task whose wake changes nothing.
+    ghost hints = { λ number core. IsAwake number (cell_of core) };
+
     fn dissolve(self, last: Last) {
         let Last { of_wake: _ } = last;
         let ExecutorCore {
@@ -225,6 +230,17 @@ impl ExecutorCore {
             self.bell.ping()
         } else {
             None
+        }
+    }
+
+    /// Whether the task of this key is queued, or was woken in its poll. Then a wake of it changes nothing.
+    pub fn is_awake(&self, key: TaskKey) -> bool
+        ensures value { result ≡ is_awake (phase_at key (task_at self.now.table)) }
+        ensures hint { result ≡ true → IsAwake key.number (cell_of self.now) }
+    {
+        match &self.tasks {
+            Some(tasks) => tasks.is_awake(key),
+            None => false,
         }
     }
 

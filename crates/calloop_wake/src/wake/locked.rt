@@ -1,6 +1,6 @@
 //! A lock whose content keeps to one tag for good, and is changed where it lies.
-ghost use Rattle.std.specs.Prelude.{◌≡◌, ◌<◌, ◌∷◌, [], IfSome, IfOk};
-ghost use Rattle.calloop_wake.specs.Locks.{HasOneSlot, IsTaken};
+ghost use Rattle.std.specs.Prelude.{ℕ, ◌≡◌, ◌+◌, ◌<◌, ◌⊎◌, ◌∷◌, [], true, IfSome, IfOk};
+ghost use Rattle.calloop_wake.specs.Locks.{HasOneSlot, IsTaken, WasHinted};
 
 use super::Last;
 use super::sleepers::Sleepers;
@@ -15,27 +15,40 @@ mod lends;
 
 /// What lies under a lock. It has no `Drop`: it ends where the lock ends.
 pub trait Core: Fits {
+    // What a number says of the content, where who gives the lock up leaves it as a hint.
+    ghost hints: { ℕ → Self → Type 0 } = { λ _ _. ⊥ };
+
     /// Ends it, once nobody has the lock any more.
     fn dissolve(self, last: Last);
 }
 
-// The words of a lock: its content is at home, or somebody has it.
+// The words of a lock: its content is at home, somebody has it, or it is at home and the number 0 is a hint of it. Higher ones are
+// further hints.
 const FREE: u64 = 0;
 
 const HELD: u64 = 1;
 
+const FIRST_HINT: u64 = 2;
+
+// The word of a free lock with this hint.
+fn with_hint(number: u64) -> u64
+    ensures { (result ≡ number + 2) ⊎ (result ≡ 0) }
+{
+    number.checked_add(FIRST_HINT).unwrap_or(FREE)
+}
+
 // How often who finds the lock held looks again before it sleeps.
 const LOOKS: u32 = 100;
 
-/// What holds of a lock between any two steps: where it is free, its content is at home and fits its tag.
+/// What holds of a lock between any two steps: where it is free, its content is at home, fits its tag, and is as the hint says.
 pub struct Keeps<X> {
     marker: PhantomData<X>,
 }
 
-impl<X: Fits> TableRule<X, X::Tag, X::Tag> for Keeps<X> {
+impl<X: Core> TableRule<X, X::Tag, X::Tag> for Keeps<X> {
     ghost use Rattle.calloop_wake.specs.Locks.{IsLock};
 
-    ghost holds = { λ tag. IsLock (X.fits tag) };
+    ghost holds = { λ tag. IsLock (X.fits tag) X.hints };
 
     ghost first = { λ tag. tag };
 }
@@ -45,11 +58,23 @@ struct Takes<X> {
     marker: PhantomData<X>,
 }
 
-impl<X: Fits> Play<X, X::Tag> for Takes<X> {
+impl<X: Core> Play<X, X::Tag> for Takes<X> {
     ghost use Rattle.std.specs.Prelude.{◌≡◌};
     ghost use Rattle.calloop_wake.specs.Locks.{IsTaken};
 
-    ghost then = { λ _ me found new. found ≡ 0 → IsTaken (X.fits me.0) new.1 };
+    ghost then = { λ _ me found new. ¬ (found ≡ 1) → IsTaken (X.fits me.0) new.1 };
+}
+
+// A look at the word.
+struct Looks<X> {
+    marker: PhantomData<X>,
+}
+
+impl<X: Core> Play<X, X::Tag> for Looks<X> {
+    ghost use Rattle.std.specs.Prelude.{◌≡◌};
+    ghost use Rattle.calloop_wake.specs.Locks.{WasHintedBy};
+
+    ghost then = { λ _ me found new. (new.0 ≡ me.0) × WasHintedBy (X.fits me.0) X.hints found };
 }
 
 // A store: who has the content gives it back.
@@ -179,6 +204,24 @@ impl<X: Core> Locked<X> {
         lock(rt, self.slot.shared(), &self.queues)
     }
 
+    /// Whether who gave the lock up last left this number as a hint of its content, and nobody has had it since.
+    ///
+    /// Where it is so, the word is written as it was: so who takes the lock next sees all that was written before this call, as if this had
+    /// been a section of the lock. `async-task` does the same for a wake of what is scheduled.
+    pub fn has_hint(&self, number: u64) -> bool
+        ensures { result ≡ true → WasHinted (X.fits self.now.slot) X.hints number }
+    {
+        let shared = self.slot.shared();
+        let Some(word) = number.checked_add(FIRST_HINT) else {
+            return false;
+        };
+        let (found, mut seat) = shared.load_new_seat::<Looks<X>>(0);
+        if found != word {
+            return false;
+        }
+        shared.compare_exchange::<Looks<X>>(&mut seat, 0, word, word) == word
+    }
+
     /// Tells one of those that wait for this that it has come. Who changed the core so has given the lock up before. It is enough where
     /// what came is for one of them.
     pub fn tell_one(&self, awaited: Awaited) {
@@ -192,14 +235,14 @@ impl<X: Core> Locked<X> {
 }
 
 /// What lies under a lock, for who has taken it.
-pub struct Held<'a, X: Fits> {
+pub struct Held<'a, X: Core> {
     seat: Seat<X, X::Tag>,
     shared: &'a Shared<X, X::Tag, X::Tag, Keeps<X>>,
     queues: &'a Queues,
 }
 
 // Takes the lock, where it is free.
-fn take<'a, X: Fits>(
+fn take<'a, X: Core>(
     shared: &'a Shared<X, X::Tag, X::Tag, Keeps<X>>,
     queues: &'a Queues,
 ) -> Option<Held<'a, X>>
@@ -208,19 +251,19 @@ fn take<'a, X: Fits>(
         × HasOneSlot held.shared.now.table_id × IsTaken (X.fits held.shared.now.key) held.seat.me.1) }
 {
     let (found, seat) = shared.swap_new_seat::<Takes<X>>(0, HELD);
-    if found == FREE {
+    if found == HELD {
+        None
+    } else {
         Some(Held {
             seat,
             shared,
             queues,
         })
-    } else {
-        None
     }
 }
 
 // Looks for a while whether the lock is free.
-fn take_soon<'a, X: Fits>(
+fn take_soon<'a, X: Core>(
     shared: &'a Shared<X, X::Tag, X::Tag, Keeps<X>>,
     queues: &'a Queues,
 ) -> Option<Held<'a, X>>
@@ -229,7 +272,7 @@ fn take_soon<'a, X: Fits>(
         × HasOneSlot held.shared.now.table_id × IsTaken (X.fits held.shared.now.key) held.seat.me.1) }
 {
     for _ in 0..LOOKS {
-        if shared.peek(0) == FREE {
+        if shared.peek(0) != HELD {
             if let Some(held) = take(shared, queues) {
                 return Some(held);
             }
@@ -240,7 +283,7 @@ fn take_soon<'a, X: Fits>(
 }
 
 // Sleeps until the lock is free.
-fn take_late<'a, X: Fits, R: Wait>(
+fn take_late<'a, X: Core, R: Wait>(
     rt: &R,
     shared: &'a Shared<X, X::Tag, X::Tag, Keeps<X>>,
     queues: &'a Queues,
@@ -262,7 +305,7 @@ fn take_late<'a, X: Fits, R: Wait>(
 }
 
 // Takes the lock. It waits while another has it.
-fn lock<'a, X: Fits, R: Wait>(
+fn lock<'a, X: Core, R: Wait>(
     rt: &R,
     shared: &'a Shared<X, X::Tag, X::Tag, Keeps<X>>,
     queues: &'a Queues,
@@ -280,7 +323,7 @@ fn lock<'a, X: Fits, R: Wait>(
     }
 }
 
-impl<'a, X: Fits> Held<'a, X> {
+impl<'a, X: Core> Held<'a, X> {
     /// Gives the lock up, once what lies under it fits its tag again.
     pub fn unlock(self)
         requires { (self.seat.table_id ≡ self.shared.now.table_id) × HasOneSlot self.shared.now.table_id
@@ -292,6 +335,20 @@ impl<'a, X: Fits> Held<'a, X> {
             queues,
         } = self;
         shared.store::<GivesBack>(&mut seat, 0, FREE);
+        queues.entering.tell_one();
+    }
+
+    /// Gives the lock up, and leaves this number as a hint of what lies under it, which is so. The highest two numbers leave none.
+    pub fn unlock_with_hint(self, number: u64)
+        requires { (self.seat.table_id ≡ self.shared.now.table_id) × HasOneSlot self.shared.now.table_id
+            × IsTaken (λ content. X.fits self.shared.now.key content × X.hints number content) self.seat.me.1 }
+    {
+        let Held {
+            mut seat,
+            shared,
+            queues,
+        } = self;
+        shared.store::<GivesBack>(&mut seat, 0, with_hint(number));
         queues.entering.tell_one();
     }
 

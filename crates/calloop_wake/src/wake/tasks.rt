@@ -3,7 +3,7 @@
 ghost use Rattle.std.specs.Prelude.{◌≡◌, ◌≢◌, ℕ, ◌+◌, ◌<◌, ◌++◌, ◌∷◌, [], true, false, Some, None, option_map, IsSome, IsNone, IfSome, IfNone, IfOk, OnErr, is_some, count_by};
 ghost use Rattle.slab.specs.Slab.{ContainsKey, Updates, get as value_at};
 ghost use Rattle.futures.specs.LinkedLists.{list_of, list_count, key_limit, items, IsApart, IsIn};
-ghost use Rattle.calloop_wake.specs.Tasks.{TaskTable, no_tasks, task_at, place_of, phase_at, is_idle, is_woken, in_poll, woken_phase, settled_phase, with_phase, stepped, slot_if, count};
+ghost use Rattle.calloop_wake.specs.Tasks.{TaskTable, no_tasks, task_at, place_of, phase_at, is_idle, is_woken, is_awake, in_poll, woken_phase, settled_phase, with_phase, stepped, slot_if, count};
 ghost use Rattle.calloop_wake.specs.Executors.{with_slot};
 ghost use Rattle.calloop_wake.specs.declared.wake.tasks.Task.{Task};
 
@@ -110,6 +110,13 @@ impl Tasks {
         } else {
             None
         }
+    }
+
+    /// Whether the task of this key is queued, or was woken in its poll.
+    pub fn is_awake(&self, key: TaskKey) -> bool
+        ensures { result ≡ is_awake (phase_at key (task_at self.now)) }
+    {
+        matches!(self.phase(key), Some(Phase::Queued | Phase::Woken))
     }
 
     /// A wake: an idle task is queued, and one in a poll is marked. It takes no memory.

@@ -7,14 +7,13 @@ ghost use Rattle.calloop_wake.specs.contracts.wake.locked.Held.{the_row};
 ghost use Rattle.calloop_wake.specs.Locks.{IsOut, OfContent};
 ghost use Rattle.calloop_wake.specs.LockLendings.{held_with};
 
-use super::Held;
-use counted_slot::Fits;
+use super::{Core, Held};
 
-impl<'a, X: Fits> Held<'a, X> {
+impl<'a, X: Core> Held<'a, X> {
     /// What lies under the lock, where it lies.
     pub fn core(&mut self) -> &mut X
         requires { (self.old.seat.table_id ≡ self.old.shared.now.table_id) × IsOut self.old.seat.me.1 }
-        ensures* writes_back { sem 𝓛 (follows (the_row (record { mir = named 1; lft = [] }) X.row X.Tag.row X.Fits) X.row self.entry.ghost_name result.ghost_name (held_with self.old)) }
+        ensures* writes_back { sem 𝓛 (follows (the_row (record { mir = named 1; lft = [] }) X.row X.Tag.row (record { hints = X.hints }) X.Fits) X.row self.entry.ghost_name result.ghost_name (held_with self.old)) }
         ensures value { self.old.seat.me.1 ≡ (0, result.now) ∷ rest self.old.seat.me.1 }
         ensures fits { OfContent (X.fits self.old.shared.now.key) self.old.seat.me.1 → X.fits self.old.shared.now.key result.now }
     {

@@ -1,4 +1,4 @@
-use Rattle.std.proofs.Common.{◌≡◌, ◌<◌, ℕ, List, [], ◌∷◌, true, false, refl, arith}
+use Rattle.std.proofs.Common.{◌<◌, [], ◌∷◌, true, false, refl, arith}
 use Rattle.calloop_wake.specs.ChannelKind as channel
 use Rattle.calloop_wake.specs.ExecutorKind as executor
 use Rattle.calloop_wake.specs.ExampleSchedules.{opens_channel, opens_executor, repeated}

@@ -1,4 +1,4 @@
-use Rattle.std.proofs.Common.{rules, ◌≡◌, ◌||◌, true, Some, Bool}
+use Rattle.std.proofs.Common.{rules, ◌≡◌, ◌||◌, true, Some}
 use Rattle.calloop_wake.proofs.Inside.{inside-wake, of-bell}
 use Rattle.calloop_wake.proofs.wake.executor.ExecutorCore.wake.Goals as goal
 

@@ -1,4 +1,4 @@
-use Rattle.calloop_wake.proofs.Locking.{is_out, of_content}
+use Rattle.calloop_wake.proofs.Locking.{is_out}
 use Rattle.calloop_wake.proofs.wake.locked.Held.core.Goals as goal
 
 pub slot_mut-requires : goal.slot_mut-requires
