@@ -121,6 +121,13 @@ module _ {D I P X : Type 0} (M : Meaning D P (Lent X (Asks D I))) (runs : Runs D
   none_removed token InTurn h = (refl, refl)
   none_removed token (Source d) h = cc
 
+  -- the slot of a source that was taken out and not put back is vacant, and all others are as they were
+  pub vacated : (token : RegistrationToken) (d : D) → only (is_callers M) (named v.slots token) ≡ Source d
+      → after_turn Vacant token (changed (with_content InTurn) v.slots token.slot) ≡ changed (with_content Vacant) v.slots token.slot
+  vacated token d is =
+      let full : is_empty (named v.slots token) ≡ false = ap is_empty (only_source (is_callers M) (named v.slots token) d is) in
+      turn_ended v.slots token Vacant full ∙ changed_twice Vacant InTurn v.slots token.slot
+
   pub not_removed : (token : RegistrationToken) → None ≡ source_of (only (is_callers M) (named v.slots token)) → Did (Case M runs O (Remove token) (Removed None)) v v
   not_removed token h = one_step (RemovedBy M token None) [] v (none_removed token (only (is_callers M) (named v.slots token)) h) tt refl
 
@@ -133,7 +140,7 @@ module _ {D I P X : Type 0} (M : Meaning D P (Lent X (Asks D I))) (runs : Runs D
       (rw is (e, told, kept, r.0, r.1, refl, refl)) (full_named v.slots token full, (r.2, (tt, (tt, tt))))
       (ap (λ (l : List Error). record u { held = record u.held { warnings = l } }) now
       ∙ ap (λ (t : View D I P). record t { held = held_after t.held (Warned kept told) }) r.3
-      ∙ ap (λ (ss : List (Slot D)). record v { slots = ss; poll = polls_after v.poll r.0; held = held_after (held_after v.held (Unlisted token)) (Warned kept told) }) (turn_ended v.slots token Vacant full ∙ changed_twice Vacant InTurn v.slots token.slot))
+      ∙ ap (λ (ss : List (Slot D)). record v { slots = ss; poll = polls_after v.poll r.0; held = held_after (held_after v.held (Unlisted token)) (Warned kept told) }) (vacated token d is))
 
   pub not_released : (token : RegistrationToken) → None ≡ source_of (only (is_adapter M) (named v.slots token)) → Did (Case M runs O (Release token) (Released (Err InvalidToken))) v v
   not_released token h = one_step (ReleasedBy M token (Err InvalidToken)) [] v (none_asked _ _ token (only (is_adapter M) (named v.slots token)) h) tt refl

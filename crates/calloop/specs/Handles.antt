@@ -1,14 +1,17 @@
 -- The calls of a loop's handle as calls of the machine. Calloop's handle reaches its loop through a cell; this one is lent it.
-use Rattle.std.specs.Prelude.{◌≡◌, None}
+use Rattle.std.specs.Prelude.{◌≡◌, List, None}
 use Rattle.calloop_wake.specs.declared.token.RegistrationToken.{RegistrationToken}
+use Rattle.calloop_wake.specs.declared.list.Slot.{Slot}
 use Rattle.calloop_wake.specs.Slots.{named, source_of}
 use Rattle.calloop_core.specs.Deeds.{Lent}
 use Rattle.calloop_core.specs.Meanings.{Meaning}
 use Rattle.calloop_core.specs.Pollers.{Outside}
+use Rattle.calloop.specs.declared.loop_logic.EventLoop.{EventLoop}
 use Rattle.calloop.specs.declared.loop_logic.LoopHandle.{LoopHandle}
 use Rattle.calloop.specs.declared.loop_logic.LoopCall.{LoopCall}
 use Rattle.calloop.specs.declared.loop_logic.LoopAnswer.{LoopAnswer}
 use Rattle.calloop.specs.Askings.{Asks, Runs}
+use Rattle.calloop.specs.Lending.{with_loop_poller, with_loop_source}
 use Rattle.calloop.specs.Machine.{View, view_of}
 use Rattle.calloop.specs.Roles.{only, is_callers}
 use Rattle.calloop.specs.Rules.{Case, Did, Leads}
@@ -22,6 +25,30 @@ held_by h = view_of h.inner.now
 abbrev pub NamesNone : {D P C R X I S : Type 0} → Meaning D P (Lent X (Asks D I)) → RegistrationToken
     → LoopHandle D P C R X I S → Type 0
 NamesNone M token h = source_of (only (is_callers M) (named (held_by h).slots token)) ≡ None
+
+-- it is lent a loop that is this
+abbrev pub loop_by : {D P C R X I S : Type 0} → LoopHandle D P C R X I S → EventLoop D P C R X I S
+loop_by h = h.inner.now
+
+-- it is lent the very loop that it was lent before
+abbrev pub HasTheSameLoop : {D P C R X I S : Type 0} → LoopHandle D P C R X I S → LoopHandle D P C R X I S → Type 0
+HasTheSameLoop old new = new.inner.ghost_name ≡ old.inner.ghost_name
+
+-- what its loop holds in its slots
+abbrev pub slots_by : {D P C R X I S : Type 0} → LoopHandle D P C R X I S → List (Slot D)
+slots_by h = (held_by h).slots
+
+-- its poller
+abbrev pub poller_by : {D P C R X I S : Type 0} → LoopHandle D P C R X I S → P
+poller_by h = h.inner.now.poll.poller
+
+-- what its loop holds with another poller
+abbrev pub held_with_poller : {D P C R X I S : Type 0} → P → LoopHandle D P C R X I S → View D I P
+held_with_poller p h = view_of (with_loop_poller p h.inner.now)
+
+-- what its loop holds with another source in the place of the one that the token names
+abbrev pub held_with_source : {D P C R X I S : Type 0} → RegistrationToken → D → LoopHandle D P C R X I S → View D I P
+held_with_source token d h = view_of (with_loop_source token d h.inner.now)
 
 -- its clock
 abbrev pub clock_by : {D P C R X I S : Type 0} → LoopHandle D P C R X I S → C

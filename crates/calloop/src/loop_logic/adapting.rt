@@ -3,6 +3,7 @@ ghost use Rattle.std.specs.Prelude.{◌≡◌, ◌⊎◌, IfOk, IfErr};
 ghost use Rattle.calloop_wake.specs.declared.error.Error.TheVariants.{OutOfMemory};
 ghost use Rattle.calloop.specs.Adapted.{IsAdapted, IsNotAdapted, IsAskedToAdapt, IsGivenBack, IsNotGivenBack};
 ghost use Rattle.calloop.specs.Askings.{CannotAsk, OnlyAsks};
+ghost use Rattle.calloop.specs.Handles.{HasTheSameLoop};
 
 use super::asks::{Requests, Ticket};
 use super::{EventDispatcher, LoopHandle};
@@ -27,7 +28,7 @@ impl<D: EventDispatcher<P, C, R>, P: Poller, C: Clock, R: Wait + Drop> LoopHandl
     where
         D: Keep<Adapter<P, R>, P, C, R, D::Data, Requests<D, D::Idle>, N>,
         R: Clone,
-        ensures same { self.new.inner.ghost_name ≡ self.old.inner.ghost_name }
+        ensures same { HasTheSameLoop self.old self.new }
         ensures ok { IfOk result (λ made. IsAdapted D.means D.Idle.runs P.outside D.placed made
             self.old self.new) }
         ensures err { IfErr result (λ refused. (refused.inserted ≡ io)
@@ -61,7 +62,7 @@ impl<D: EventDispatcher<P, C, R>, P: Poller, C: Clock, R: Wait + Drop> LoopHandl
     /// One whose socket was taken out by `get_mut` is refused with `IoError` of kind `NotFound`, and stays, where the poller knew that
     /// socket; else with `InvalidToken`, and it has left. Each hands the `Async` back.
     pub fn into_inner(&mut self, io: Async<P, R>) -> Result<P::Io, InsertError<Async<P, R>>>
-        ensures same { self.new.inner.ghost_name ≡ self.old.inner.ghost_name }
+        ensures same { HasTheSameLoop self.old self.new }
         ensures ok { IfOk result (λ socket. IsGivenBack D.means D.Idle.runs P.outside
             self.old self.new) }
         ensures err { IfErr result (λ refused. (refused.inserted ≡ io)

@@ -2,19 +2,19 @@
 ghost use Rattle.std.specs.Prelude.{◌≡◌, ◌↔◌, None, Ok, Err, IfOk, IfErr, IsErr};
 ghost use Rattle.calloop_wake.specs.declared.error.Error.TheVariants.{InvalidToken};
 ghost use Rattle.calloop_wake.specs.declared.list.Content.TheVariants.{Source};
-ghost use Rattle.calloop_wake.specs.declared.list.Content.TheVariants.{InTurn};
-ghost use Rattle.calloop_wake.specs.Slots.{named as named_by, source_of, changed, with_content};
+ghost use Rattle.calloop_wake.specs.declared.list.Content.TheVariants.{InTurn, Vacant};
+ghost use Rattle.calloop_wake.specs.Slots.{named as named_by, source_of, changed, with_content, next_registration};
 ghost use Rattle.std.specs.Prelude.{is_some, if◌then◌else◌};
 ghost use Rattle.calloop.specs.Roles.{only, is_callers};
 ghost use Rattle.std.specs.Borrow.{Lends, LendsIfOk, sem};
 ghost use Rattle.std.specs.Prelude.{[]};
 ghost use mir.Syntax.{named};
 ghost use Rattle.calloop.specs.contracts.loop_logic.LoopHandle.{the_row};
-ghost use Rattle.calloop.specs.Lending.{with_loop_poller, with_loop_source, with_handle_poller, with_handle_source};
+ghost use Rattle.calloop.specs.Lending.{with_handle_poller, with_handle_source};
 ghost use Rattle.calloop.specs.declared.loop_logic.LoopCall.TheVariants.{Insert, Enable, Update, Disable, Remove, Exchange, InsertIdle, Cancel, Answer as AnswerOf, Poller as NewPoller};
 ghost use Rattle.calloop.specs.declared.loop_logic.LoopAnswer.TheVariants.{Inserted, Enabled, Updated, Disabled, Removed, Exchanged, IdleInserted, Cancelled, Answered, Poller as OldPoller};
 ghost use Rattle.calloop.specs.Machine.{view_of};
-ghost use Rattle.calloop.specs.Handles.{held_by, IsCase, LeadsAsCase, NamesNone};
+ghost use Rattle.calloop.specs.Handles.{held_by, slots_by, poller_by, held_with_poller, held_with_source, HasTheSameLoop, IsCase, LeadsAsCase, NamesNone};
 ghost use Rattle.calloop.specs.Rules.{Case, Did, held_answer};
 
 use super::asks::{Answer, Idle, Requests, Ticket};
@@ -61,10 +61,11 @@ impl<D: EventDispatcher<P, C, R>, P: Poller, C: Clock, R: Wait + Drop> EventLoop
         D: Hold<S, F, P, C, R, D::Data, Requests<D, D::Idle>, N>,
         S: EventSource<P, C, R>,
         F: Callback<S::Event, S::Metadata, S::Ret, D::Data, Requests<D, D::Idle>> + Drop,
-        ensures { Did (Case D.means D.Idle.runs P.outside
+        ensures case { Did (Case D.means D.Idle.runs P.outside
             (Insert (D.held (record { source = source; callback = callback })))
             (Inserted (held_answer D.held callback result)))
             (view_of self.old) (view_of self.new) }
+        ensures token { IfOk result (λ token. token ≡ next_registration self.old.sources) }
     {
         let mut source = source;
         let needed = <S as EventSource<P, C, R>>::needs_extra_lifecycle_events();
@@ -100,8 +101,9 @@ impl<D: EventDispatcher<P, C, R>, P: Poller, C: Clock, R: Wait + Drop> EventLoop
         &mut self,
         dispatcher: D,
     ) -> std::result::Result<RegistrationToken, InsertError<D>>
-        ensures { Did (Case D.means D.Idle.runs P.outside (Insert dispatcher) (Inserted result))
+        ensures case { Did (Case D.means D.Idle.runs P.outside (Insert dispatcher) (Inserted result))
             (view_of self.old) (view_of self.new) }
+        ensures token { IfOk result (λ token. token ≡ next_registration self.old.sources) }
     {
         let mut inserted = dispatcher;
         let needed = inserted.needs_extra_lifecycle_events();
@@ -186,6 +188,8 @@ impl<D: EventDispatcher<P, C, R>, P: Poller, C: Clock, R: Wait + Drop> EventLoop
             (view_of self.old) (view_of self.new) }
         ensures none { (result ≡ None)
             ↔ (source_of (only (is_callers D.means) (named_by self.old.sources token)) ≡ None) }
+        ensures slots { self.new.sources ≡ (if is_some result
+            then changed (with_content Vacant) self.old.sources token.slot else self.old.sources) }
     {
         let mut source = Self::take_out(&mut self.sources, token)?;
         self.sources.vacate(token);
@@ -221,7 +225,8 @@ impl<D: EventDispatcher<P, C, R>, P: Poller, C: Clock, R: Wait + Drop> LoopHandl
         D: Hold<S, F, P, C, R, D::Data, Requests<D, D::Idle>, N>,
         S: EventSource<P, C, R>,
         F: Callback<S::Event, S::Metadata, S::Ret, D::Data, Requests<D, D::Idle>> + Drop,
-        ensures same { self.new.inner.ghost_name ≡ self.old.inner.ghost_name }
+        ensures same { HasTheSameLoop self.old self.new }
+        ensures token { IfOk result (λ token. token ≡ next_registration (slots_by self.old)) }
         ensures case { IsCase D.means D.Idle.runs P.outside
             (Insert (D.held (record { source = source; callback = callback })))
             (Inserted (held_answer D.held callback result)) self.old self.new }
@@ -238,7 +243,8 @@ impl<D: EventDispatcher<P, C, R>, P: Poller, C: Clock, R: Wait + Drop> LoopHandl
         &mut self,
         dispatcher: D,
     ) -> std::result::Result<RegistrationToken, InsertError<D>>
-        ensures same { self.new.inner.ghost_name ≡ self.old.inner.ghost_name }
+        ensures same { HasTheSameLoop self.old self.new }
+        ensures token { IfOk result (λ token. token ≡ next_registration (slots_by self.old)) }
         ensures case { IsCase D.means D.Idle.runs P.outside
             (Insert dispatcher) (Inserted result) self.old self.new }
         ensures machine { LeadsAsCase D.means D.Idle.runs P.outside
@@ -250,7 +256,7 @@ impl<D: EventDispatcher<P, C, R>, P: Poller, C: Clock, R: Wait + Drop> LoopHandl
     /// The source that the token names, with its callback. Where it names none the answer is `InvalidToken`.
     pub fn dispatcher(&self, token: &RegistrationToken) -> Result<&D>
         ensures ok { IfOk result
-            (λ held. named_by (held_by self.now).slots token.now ≡ Source held.now) }
+            (λ held. named_by (slots_by self.now) token.now ≡ Source held.now) }
         ensures refuses { IsErr result ↔ NamesNone D.means token.now self.now }
         ensures err { IfErr result (λ e. e ≡ InvalidToken) }
     {
@@ -273,11 +279,11 @@ impl<D: EventDispatcher<P, C, R>, P: Poller, C: Clock, R: Wait + Drop> LoopHandl
             D.row P.row C.row R.row D.Data.row D.Idle.row P.Io.row)
             D.row self.entry result (λ w. with_handle_source token.now w self.old) self.old) }
         ensures ok { IfOk result
-            (λ held. named_by (held_by self.old).slots token.now ≡ Source held.now) }
+            (λ held. named_by (slots_by self.old) token.now ≡ Source held.now) }
         ensures machine { IfOk result (λ held. (written : D)
             → Did (Case D.means D.Idle.runs P.outside
             (Exchange token.now written) (Exchanged (Ok held.now)))
-            (held_by self.old) (view_of (with_loop_source token.now written self.old.inner.now))) }
+            (held_by self.old) (held_with_source token.now written self.old)) }
         ensures refuses { IsErr result ↔ NamesNone D.means token.now self.old }
         ensures err { IfErr result (λ e. e ≡ InvalidToken) }
     {
@@ -292,10 +298,10 @@ impl<D: EventDispatcher<P, C, R>, P: Poller, C: Clock, R: Wait + Drop> LoopHandl
     /// Where the token names no source the answer is `InvalidToken`, and nothing changes. Else it is the answer of the
     /// source, which stays in its slot as that left it, also after a refusal.
     pub fn enable(&mut self, token: &RegistrationToken) -> Result<()>
-        ensures same { self.new.inner.ghost_name ≡ self.old.inner.ghost_name }
+        ensures same { HasTheSameLoop self.old self.new }
+        ensures refuses { NamesNone D.means token.now self.old → result ≡ Err InvalidToken }
         ensures case { IsCase D.means D.Idle.runs P.outside
             (Enable token.now) (Enabled result) self.old self.new }
-        ensures refuses { NamesNone D.means token.now self.old → result ≡ Err InvalidToken }
         ensures machine { LeadsAsCase D.means D.Idle.runs P.outside
             (Enable token.now) (Enabled result) self.old self.new }
     {
@@ -305,10 +311,10 @@ impl<D: EventDispatcher<P, C, R>, P: Poller, C: Clock, R: Wait + Drop> LoopHandl
     /// Registers the source that the token names anew, as after a change of what it waits for. The answer is as that of
     /// `enable`.
     pub fn update(&mut self, token: &RegistrationToken) -> Result<()>
-        ensures same { self.new.inner.ghost_name ≡ self.old.inner.ghost_name }
+        ensures same { HasTheSameLoop self.old self.new }
+        ensures refuses { NamesNone D.means token.now self.old → result ≡ Err InvalidToken }
         ensures case { IsCase D.means D.Idle.runs P.outside
             (Update token.now) (Updated result) self.old self.new }
-        ensures refuses { NamesNone D.means token.now self.old → result ≡ Err InvalidToken }
         ensures machine { LeadsAsCase D.means D.Idle.runs P.outside
             (Update token.now) (Updated result) self.old self.new }
     {
@@ -318,10 +324,10 @@ impl<D: EventDispatcher<P, C, R>, P: Poller, C: Clock, R: Wait + Drop> LoopHandl
     /// Takes back the registration of the source that the token names. It stays in its slot, and `enable` registers it
     /// again. The answer is as that of `enable`.
     pub fn disable(&mut self, token: &RegistrationToken) -> Result<()>
-        ensures same { self.new.inner.ghost_name ≡ self.old.inner.ghost_name }
+        ensures same { HasTheSameLoop self.old self.new }
+        ensures refuses { NamesNone D.means token.now self.old → result ≡ Err InvalidToken }
         ensures case { IsCase D.means D.Idle.runs P.outside
             (Disable token.now) (Disabled result) self.old self.new }
-        ensures refuses { NamesNone D.means token.now self.old → result ≡ Err InvalidToken }
         ensures machine { LeadsAsCase D.means D.Idle.runs P.outside
             (Disable token.now) (Disabled result) self.old self.new }
     {
@@ -333,10 +339,13 @@ impl<D: EventDispatcher<P, C, R>, P: Poller, C: Clock, R: Wait + Drop> LoopHandl
     ///
     /// Where the token names no source the answer is `None`, and nothing changes.
     pub fn remove(&mut self, token: RegistrationToken) -> Option<D>
-        ensures same { self.new.inner.ghost_name ≡ self.old.inner.ghost_name }
+        ensures same { HasTheSameLoop self.old self.new }
+        ensures none { (result ≡ None) ↔ NamesNone D.means token self.old }
+        ensures slots { slots_by self.new ≡ (if is_some result
+            then changed (with_content Vacant) (slots_by self.old) token.slot
+            else slots_by self.old) }
         ensures case { IsCase D.means D.Idle.runs P.outside
             (Remove token) (Removed result) self.old self.new }
-        ensures none { (result ≡ None) ↔ NamesNone D.means token self.old }
         ensures machine { LeadsAsCase D.means D.Idle.runs P.outside
             (Remove token) (Removed result) self.old self.new }
     {
@@ -346,7 +355,7 @@ impl<D: EventDispatcher<P, C, R>, P: Poller, C: Clock, R: Wait + Drop> LoopHandl
     /// Asks for something to be done once, at the end of the next dispatch. A refusal hands it back: `OutOfMemory`, or `TooManyTickets`
     /// where 2^64 - 1 tickets were given.
     pub fn insert_idle(&mut self, idle: D::Idle) -> std::result::Result<Idle, InsertError<D::Idle>>
-        ensures same { self.new.inner.ghost_name ≡ self.old.inner.ghost_name }
+        ensures same { HasTheSameLoop self.old self.new }
         ensures case { IsCase D.means D.Idle.runs P.outside
             (InsertIdle idle) (IdleInserted result) self.old self.new }
         ensures machine { LeadsAsCase D.means D.Idle.runs P.outside
@@ -357,7 +366,7 @@ impl<D: EventDispatcher<P, C, R>, P: Poller, C: Clock, R: Wait + Drop> LoopHandl
 
     /// Asks for an idle not to be run. One that has run is not undone. calloop has this as `Idle::cancel`.
     pub fn cancel(&mut self, idle: Idle)
-        ensures same { self.new.inner.ghost_name ≡ self.old.inner.ghost_name }
+        ensures same { HasTheSameLoop self.old self.new }
         ensures case { IsCase D.means D.Idle.runs P.outside
             (Cancel idle) Cancelled self.old self.new }
         ensures machine { LeadsAsCase D.means D.Idle.runs P.outside
@@ -368,7 +377,7 @@ impl<D: EventDispatcher<P, C, R>, P: Poller, C: Clock, R: Wait + Drop> LoopHandl
 
     /// What came of the request of this ticket, where it was carried out in the last dispatch. It is handed out once.
     pub fn answer(&mut self, ticket: Ticket) -> Option<Answer<D>>
-        ensures same { self.new.inner.ghost_name ≡ self.old.inner.ghost_name }
+        ensures same { HasTheSameLoop self.old self.new }
         ensures case { IsCase D.means D.Idle.runs P.outside
             (AnswerOf ticket) (Answered result) self.old self.new }
         ensures machine { LeadsAsCase D.means D.Idle.runs P.outside
@@ -392,10 +401,10 @@ impl<D: EventDispatcher<P, C, R>, P: Poller, C: Clock, R: Wait + Drop> LoopHandl
             (the_row (record { mir = named 1; lft = [] })
             D.row P.row C.row R.row D.Data.row D.Idle.row P.Io.row)
             P.row self.entry result (λ w. with_handle_poller w self.old)) }
-        ensures value { result.now ≡ self.old.inner.now.poll.poller }
+        ensures value { result.now ≡ poller_by self.old }
         ensures machine { (written : P)
             → Did (Case D.means D.Idle.runs P.outside (NewPoller written) (OldPoller result.now))
-            (held_by self.old) (view_of (with_loop_poller written self.old.inner.now)) }
+            (held_by self.old) (held_with_poller written self.old) }
     {
         self.inner.poll.poller_mut()
     }

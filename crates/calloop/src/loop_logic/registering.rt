@@ -92,11 +92,12 @@ impl<D: EventDispatcher<P, C, R>, P: Poller, C: Clock, R: Wait + Drop> EventLoop
         source: &mut D,
         failure: &mut Error,
     ) -> Result<(), Failed>
-        ensures { ByOne P.outside
+        ensures deed { ByOne P.outside
             (λ d answer steps e.
             D.means.does d (view_of self.old).poll (Unregistered answer) steps e)
             (left token) source.old (with_error result failure.new) source.new
             (view_of self.old) (view_of self.new) }
+        ensures slots { self.new.sources ≡ self.old.sources }
     {
         let answer = source.unregister(&mut self.poll, failure);
         self.lifecycle.leave(token);

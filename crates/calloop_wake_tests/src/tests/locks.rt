@@ -42,6 +42,32 @@ fn a_wait_loses_no_wake(rt: HostRuntime) {
     assert_eq!(rt; count(&rt, &lock), 40_000);
 }
 
+#[test]
+fn a_hint_stands_until_the_lock_is_taken_again(rt: HostRuntime) {
+    let lock = new_tally(&rt, rt.alloc());
+    assert!(rt; !lock.has_hint(0));
+    leave_hint(&rt, &lock, 7);
+    assert!(rt; lock.has_hint(7) && lock.has_hint(7));
+    assert!(rt; !lock.has_hint(6) && !lock.has_hint(8));
+    let mut held = lock.lock(&rt);
+    let left = held.core().count;
+    let is_hidden = !lock.has_hint(7);
+    held.unlock();
+    assert!(rt; is_hidden && left == 7);
+    assert!(rt; !lock.has_hint(7));
+}
+
+#[test]
+fn the_highest_two_numbers_are_no_hints(rt: HostRuntime) {
+    let lock = new_tally(&rt, rt.alloc());
+    leave_hint(&rt, &lock, u64::MAX - 2);
+    assert!(rt; lock.has_hint(u64::MAX - 2));
+    leave_hint(&rt, &lock, u64::MAX - 1);
+    assert!(rt; !lock.has_hint(u64::MAX - 1) && !lock.has_hint(u64::MAX - 2));
+    leave_hint(&rt, &lock, u64::MAX);
+    assert!(rt; !lock.has_hint(u64::MAX));
+}
+
 // How often somebody had the lock, beside a cell, which alone can end what lies under one.
 struct Tally {
     core: PingCore,
@@ -57,6 +83,11 @@ impl Fits for Tally {
 }
 
 impl Core for Tally {
+    ghost use Rattle.std.specs.Prelude.{◌≡◌};
+
+    // A hint is the count.
+    ghost hints = { λ number tally. tally.count ≡ number };
+
     fn dissolve(self, last: Last) {
         let Tally { core, count: _ } = self;
         core.dissolve(last);
@@ -80,6 +111,13 @@ fn add<R: Wait>(rt: &R, lock: &Locked<Tally>, times: u64) {
         tally.count = tally.count.wrapping_add(1);
         held.unlock();
     }
+}
+
+// Sets the count, and leaves it as a hint.
+fn leave_hint<R: Wait>(rt: &R, lock: &Locked<Tally>, count: u64) {
+    let mut held = lock.lock(rt);
+    held.core().count = count;
+    held.unlock_with_hint(count);
 }
 
 // Waits until the count is odd, or even, and counts once.

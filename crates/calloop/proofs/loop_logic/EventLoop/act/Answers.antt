@@ -40,11 +40,11 @@ returns-in-Ok-Disable-clause-machine g c x =
     let action : c.in-Ok-Disable.field-0 ≡ Disable = rw c.in-Ok-Disable.is at c.in-Ok-Disable.field-0-is in
     let is : action_of (with_error c.args.answer c.args.failure.now) c.args.self.now.pending ≡ Ok Disable = sym (c.action_of-action.ensures c.args.failure.now) ∙ ap (λ (r : Result PostAction Failed). with_error r c.args.failure.now) c.in-Ok-Disable.is ∙ ap (λ (a : PostAction). Ok a) action in
     acted_with M g.D.Idle.IdleCallback.runs g.P.Poller.outside (λ f a steps e. M.does f v.poll (Unregistered a) steps e) (left t) t v (view_of c.unregister.new.self) c.args.source.now c.unregister.new.source (with_error c.args.answer c.args.failure.now) (with_error c.unregister.result c.unregister.new.failure) x
-    (λ steps h. rw is (steps, h, refl)) c.unregister.ensures
+    (λ steps h. rw is (steps, h, refl)) c.unregister.ensures.deed
 
 pub returns-in-Ok-Disable-clause-batch : goal.returns-in-Ok-Disable-clause-batch
 returns-in-Ok-Disable-clause-batch g c =
-    ap (λ (u : View g.row.D.Denot g.row.D-Idle.Denot g.row.P.Denot). u.poll.batch) c.unregister.ensures.3 ∙ batch-stepped (poll_view c.args.self.now.poll) c.unregister.ensures.0
+    ap (λ (u : View g.row.D.Denot g.row.D-Idle.Denot g.row.P.Denot). u.poll.batch) c.unregister.ensures.deed.3 ∙ batch-stepped (poll_view c.args.self.now.poll) c.unregister.ensures.deed.0
 
 pub returns-in-Ok-Remove-clause-machine : goal.returns-in-Ok-Remove-clause-machine
 returns-in-Ok-Remove-clause-machine g c x =

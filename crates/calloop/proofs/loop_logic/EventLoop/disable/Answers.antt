@@ -15,4 +15,4 @@ pub returns-clause-case : goal.returns-clause-case
 returns-clause-case g c =
     let is : only (is_callers g.D.Dispatch.means) (named c.args.self.now.sources c.args.token) ≡ Source c.in-Some.source = source_is (only (is_callers g.D.Dispatch.means) (named c.args.self.now.sources c.args.token)) c.in-Some.source (sym c.in-Some.ensures.value) in
     rw (c.with_error.ensures, c.end_turn-none.ensures.list)
-    (disabled g.D.Dispatch.means g.D.Idle.IdleCallback.runs g.P.Poller.outside (view_of c.args.self.now) c.args.token c.in-Some.source c.unregister-answer.new.source (with_error c.unregister-answer.result c.unregister-answer.new.failure) (view_of c.unregister-answer.new.self) is (rw c.in-Some.ensures.list at c.unregister-answer.ensures))
+    (disabled g.D.Dispatch.means g.D.Idle.IdleCallback.runs g.P.Poller.outside (view_of c.args.self.now) c.args.token c.in-Some.source c.unregister-answer.new.source (with_error c.unregister-answer.result c.unregister-answer.new.failure) (view_of c.unregister-answer.new.self) is (rw c.in-Some.ensures.list at c.unregister-answer.ensures.deed))

@@ -19,7 +19,7 @@ returns-clause-machine g c told x =
     let ss' : c.end_turn.new.self ≡ ss = rw there.0 at c.in-Some.ensures.list in
     rw c.pay.ensures
     (gone g.D.Dispatch.means g.D.Idle.IdleCallback.runs g.P.Poller.outside c.args.token (view_of c.args.self.now) (view_of c.unregister-told.new.self) c.args.source c.unregister-told.new.source told (with_error c.unregister-told.result c.unregister-told.new.failure) c.note.ensures.0
-    c.note.new.self.errors.items x there.0 (rw (there.1, ss') at c.unregister-told.ensures) (rw c.with_error.ensures at c.note.ensures.1))
+    c.note.new.self.errors.items x there.0 (rw (there.1, ss') at c.unregister-told.ensures.deed) (rw c.with_error.ensures at c.note.ensures.1))
 
 pub returns-clause-batch : goal.returns-clause-batch
-returns-clause-batch g c = ap (λ (u : View g.row.D.Denot g.row.D-Idle.Denot g.row.P.Denot). u.poll.batch) c.unregister-told.ensures.3 ∙ batch-stepped (poll_view c.args.self.now.poll) c.unregister-told.ensures.0
+returns-clause-batch g c = ap (λ (u : View g.row.D.Denot g.row.D-Idle.Denot g.row.P.Denot). u.poll.batch) c.unregister-told.ensures.deed.3 ∙ batch-stepped (poll_view c.args.self.now.poll) c.unregister-told.ensures.deed.0

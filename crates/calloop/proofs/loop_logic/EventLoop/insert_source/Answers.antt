@@ -11,15 +11,15 @@ use Rattle.calloop.proofs.Inserting.{not_claimed, not_registered, registered}
 use Rattle.calloop.proofs.Held.{held_reg}
 use Rattle.calloop.proofs.loop_logic.EventLoop.insert_source.Goals as goal
 
-pub returns-in-Err : goal.returns-in-Err
-returns-in-Err g c =
+pub returns-in-Err-clause-case : goal.returns-in-Err-clause-case
+returns-in-Err-clause-case g c =
     let others = c.in-Err.ensures.others in
     let same : view_of c.claim.new.self ≡ view_of c.args.self.now = rw (c.in-Err.ensures.err.1, others.0, others.1, others.2, others.3, others.4, others.5, others.6) refl in
     rw c.from.ensures (not_claimed g.D.Dispatch.means g.D.Idle.IdleCallback.runs g.P.Poller.outside (view_of c.args.self.now) (g.D.Choice.held (record { source = c.args.source; callback = c.args.callback })) (claim_error c.in-Err.refusal) (view_of c.claim.new.self)
     (rw (sym (g.met.D.Hold.held_means.needs (record { source = c.args.source; callback = c.args.callback }) ∙ c.needs_extra_lifecycle_events-needed.ensures c.args.source)) at c.in-Err.ensures.err.0) same)
 
-pub returns-in-Ok-register : goal.returns-in-Ok-register
-returns-in-Ok-register g c =
+pub returns-in-Ok-register-clause-case : goal.returns-in-Ok-register-clause-case
+returns-in-Ok-register-clause-case g c =
     let v : View g.row.D.Denot g.row.D-Idle.Denot g.row.P.Denot = view_of c.args.self.now in
     let others = c.in-Ok.ensures.others in
     let needs = sym (g.met.D.Hold.held_means.needs (record { source = c.args.source; callback = c.args.callback }) ∙ c.needs_extra_lifecycle_events-needed.ensures c.args.source) in
@@ -33,8 +33,8 @@ returns-in-Ok-register g c =
     (arc_value c.claim.new.self.signal.shared).name c.claim.new.self.warnings.errors.items c.claim.new.self.stops (ap (λ (s : LoopSignal). (arc_value s.shared).name) others.5) (ap (λ (w : Warnings). w.errors.items) others.4) others.6 c.in-Ok.ensures.ok.0 c.in-Ok.ensures.ok.1
     (let r = rw (c.new-factory.ensures, c.in-Ok-register.is, others.0) at c.register.ensures in held_reg g.P.Poller.outside g.D.Choice.held _ g.D.Dispatch.means g.met.D.Hold.held_means (record { source = c.args.source; callback = c.args.callback }) (record { source = c.register.new.self; callback = c.args.callback }) _ _ _ _ _ (r.0, (r.1, refl), r.2)))
 
-pub returns-in-Err-register : goal.returns-in-Err-register
-returns-in-Err-register g c =
+pub returns-in-Err-register-clause-case : goal.returns-in-Err-register-clause-case
+returns-in-Err-register-clause-case g c =
     let others = c.in-Ok.ensures.others in
     rw (c.vacate.ensures, c.in-Ok.ensures.ok.2, others.1, others.2, others.3, others.4, others.5, others.6)
     (not_registered g.D.Dispatch.means g.D.Idle.IdleCallback.runs g.P.Poller.outside (view_of c.args.self.now) (g.D.Choice.held (record { source = c.args.source; callback = c.args.callback })) (g.D.Choice.held (record { source = c.register.new.self; callback = c.args.callback })) c.in-Err-register.error

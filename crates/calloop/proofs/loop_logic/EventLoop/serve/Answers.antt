@@ -13,7 +13,7 @@ returns-in-Insert g c =
     let R = InsertedBy g.D.Dispatch.means c.in-Insert.dispatcher answer in
     let v = view_of c.args.self.now in
     let u = view_of c.insert-answer.new.self in
-    let d = closed g.P.Poller.outside R v u (inserted_answer answer) (one_done g.P.Poller.outside R v u c.insert-answer.ensures) in
+    let d = closed g.P.Poller.outside R v u (inserted_answer answer) (one_done g.P.Poller.outside R v u c.insert-answer.ensures.case) in
     rw (c.in-Insert.is, c.tell.ensures, c.inserted_answer.ensures) (_, (answer, d.0, d.1, refl), d.2, d.3)
 
 pub returns-in-Enable : goal.returns-in-Enable

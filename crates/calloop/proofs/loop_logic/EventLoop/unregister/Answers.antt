@@ -5,8 +5,8 @@ use Rattle.calloop.specs.Held.{Unlisted, held_after}
 use Rattle.calloop.specs.Machine.{View, view_of}
 use Rattle.calloop.proofs.loop_logic.EventLoop.unregister.Goals as goal
 
-pub returns : goal.returns
-returns g c =
+pub returns-clause-deed : goal.returns-clause-deed
+returns-clause-deed g c =
     let v : View g.row.D.Denot g.row.D-Idle.Denot g.row.P.Denot = view_of c.args.self.now in
     let r = c.unregister-answer.ensures in (
       r.0,
