@@ -3,7 +3,6 @@
 //! From calloop's `sources/stream.rs`. Its streams are those of the crate `futures`; these are of this module, as the futures of
 //! `futures` are.
 ghost use Rattle.std.specs.Prelude.{◌≡◌, None, IfOk, IfErr};
-ghost use Rattle.std.specs.Arc.{arc_value};
 ghost use Rattle.calloop_wake.specs.Cells.{fresh_twin};
 ghost use Rattle.calloop_wake.specs.declared.error.Error.TheVariants.{OutOfMemory};
 
@@ -33,7 +32,7 @@ pub struct StreamSource<S: Stream<R>, R: Wait + Drop> {
     stream: Option<Readable<S, R>>,
     // Of the ring by which its last turn asked for another one.
     own: Option<Receipt>,
-    ghost tied: { (arc_value ping.shared).slot ≡ source.twin.name },
+    ghost tied: { ping ≡ source.name },
 }
 
 impl<S: Stream<R>, R: Wait + Clone + Drop> StreamSource<S, R> {
@@ -41,7 +40,7 @@ impl<S: Stream<R>, R: Wait + Clone + Drop> StreamSource<S, R> {
     ///
     /// Want of memory is `OutOfMemory`, and hands the stream back.
     pub fn new(rt: &R, alloc: Global, stream: S) -> Result<StreamSource<S, R>, InsertError<S>>
-        ensures ok { IfOk result (λ made. (made.source.twin ≡ fresh_twin made.source.twin.name)
+        ensures ok { IfOk result (λ made. (made.source ≡ fresh_twin made.source.name)
             × (made.own ≡ None)) }
         ensures err { IfErr result (λ e. (e.inserted ≡ stream) × (e.error ≡ OutOfMemory)) }
     {

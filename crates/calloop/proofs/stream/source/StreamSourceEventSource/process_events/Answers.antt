@@ -10,20 +10,20 @@ use Rattle.calloop.proofs.stream.source.StreamSourceEventSource.process_events.G
 pub returns-then-not-is_own : goal.returns-then-not-is_own
 returns-then-not-is_own g c =
     let s = c.args.self.now in
-    let other : is_own (key_of c.args.token) s.source.twin.key ≡ false = sym c.is_own.ensures ∙ c.if-not-is_own.true in
-    ([], ([], (turn_of_another _ _ _ g.S.Stream.polls s.source.twin (reading_of s.stream s.own) c.args.token c.args.poll.now.batch.pass other, refl), (tt, refl)), (refl, refl, refl))
+    let other : is_own (key_of c.args.token) s.source.key ≡ false = sym c.is_own.ensures ∙ c.if-not-is_own.true in
+    ([], ([], (turn_of_another _ _ _ g.S.Stream.polls s.source (reading_of s.stream s.own) c.args.token c.args.poll.now.batch.pass other, refl), (tt, refl)), (refl, refl, refl))
 
 pub returns-in_default : goal.returns-in_default
 returns-in_default g c =
     let s = c.args.self.now in
-    let own : is_own (key_of c.args.token) s.source.twin.key ≡ true = sym c.is_own.ensures ∙ c.if-not-is_own.false in
-    ([], (TakePass ∷ [], (turn_without _ _ _ g.S.Stream.polls s.source.twin (reading_of s.stream s.own) c.args.token c.args.poll.now.batch.pass own (sym c.in_default.ensures.pass), refl), ((tt, tt), c.take_pass.ensures.view)), (refl, refl, refl))
+    let own : is_own (key_of c.args.token) s.source.key ≡ true = sym c.is_own.ensures ∙ c.if-not-is_own.false in
+    ([], (TakePass ∷ [], (turn_without _ _ _ g.S.Stream.polls s.source (reading_of s.stream s.own) c.args.token c.args.poll.now.batch.pass own (sym c.in_default.ensures.pass), refl), ((tt, tt), c.take_pass.ensures.view)), (refl, refl, refl))
 
 pub returns-in-Ok : goal.returns-in-Ok
 returns-in-Ok g c =
     let s = c.args.self.now in
     let t = c.listen.new.self in
-    let own : is_own (key_of c.args.token) s.source.twin.key ≡ true = sym c.is_own.ensures ∙ c.if-not-is_own.false in
+    let own : is_own (key_of c.args.token) s.source.key ≡ true = sym c.is_own.ensures ∙ c.if-not-is_own.false in
     let ok = c.in-Ok.ensures.ok in
     let h = c.listen.ensures.reads in
     let before = reading_of s.stream s.own in
@@ -32,12 +32,12 @@ returns-in-Ok g c =
       (
         TakePass ∷ [],
         (
-          turn_answered _ _ _ g.S.Stream.polls s.source.twin before c.args.token c.args.poll.now.batch.pass own c.in-Some.pass (Opened c.in-Ok.due.rung c.in-Ok.due.told h.0 h.1) h.2 c.listen.result (TakePass ∷ []) t.source.twin after (sym c.in-Some.ensures.pass) (
+          turn_answered _ _ _ g.S.Stream.polls s.source before c.args.token c.args.poll.now.batch.pass own c.in-Some.pass (Opened c.in-Ok.due.rung c.in-Ok.due.told h.0 h.1) h.2 c.listen.result (TakePass ∷ []) t.source after (sym c.in-Some.ensures.pass) (
             subst (λ n. ReadsSo g.S.Stream.polls n c.in-Ok.due.rung before.stream h.0 h.1 before h.2 c.listen.result after) (ap (λ x. x.name) ok) h.3,
             refl,
-            ap (λ x. x.twin) c.listen.ensures.source ∙ ok,
+            c.listen.ensures.source ∙ ok,
           ),
-          ap (λ x. x.shared) c.listen.ensures.source ∙ c.in-Ok.ensures.shared,
+          ap (λ x. x.name) c.listen.ensures.source ∙ c.in-Ok.ensures.name,
         ),
         ((tt, tt), c.take_pass.ensures.view),
       ),
@@ -47,15 +47,15 @@ returns-in-Ok g c =
 pub returns-in-Err : goal.returns-in-Err
 returns-in-Err g c =
     let s = c.args.self.now in
-    let own : is_own (key_of c.args.token) s.source.twin.key ≡ true = sym c.is_own.ensures ∙ c.if-not-is_own.false in
+    let own : is_own (key_of c.args.token) s.source.key ≡ true = sym c.is_own.ensures ∙ c.if-not-is_own.false in
     let before = reading_of s.stream s.own in (
       [],
       (
         TakePass ∷ PutBack c.in-Err.pass ∷ [],
         (
-          turn_answered _ _ _ g.S.Stream.polls s.source.twin before c.args.token c.args.poll.now.batch.pass own c.in-Some.pass Refused [] Continue (TakePass ∷ PutBack c.in-Err.pass ∷ []) c.take_turn.new.source.twin before (sym c.in-Some.ensures.pass)
+          turn_answered _ _ _ g.S.Stream.polls s.source before c.args.token c.args.poll.now.batch.pass own c.in-Some.pass Refused [] Continue (TakePass ∷ PutBack c.in-Err.pass ∷ []) c.take_turn.new.self before (sym c.in-Some.ensures.pass)
               (refl, refl, ap (λ p. TakePass ∷ PutBack p ∷ []) c.in-Err.ensures.err.0, c.in-Err.ensures.err.1, refl),
-          c.in-Err.ensures.shared,
+          c.in-Err.ensures.name,
         ),
         ((tt, (tt, tt)), c.put_back.ensures ∙ ap (λ (v : PollView g.row.P.Denot). poll_after v (PutBack c.in-Err.pass)) c.take_pass.ensures.view),
       ),
