@@ -141,9 +141,8 @@ impl<T: Drop, R: Wait + Drop> Channel<T, R> {
             × Handed F.may Q.reaches turn self.old.twin callback.old «data».old requests.old ps
             (turn_after ps turn) self.new.twin result callback.new «data».new requests.new }
     {
-        let rt = &self.rt;
         hand_out(
-            rt,
+            &self.rt,
             &self.shared,
             &mut self.twin,
             turn,
