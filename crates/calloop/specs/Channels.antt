@@ -1,6 +1,6 @@
 -- What a channel means as a source. Its registrations are those of a ping.
-use Rattle.std.specs.Prelude.{◌≡◌, ◌+◌, ◌<◌, ◌⊎◌, Bool, true, false, ◌||◌, List, [], ◌∷◌, ◌++◌, Option, None, Some, Result, Ok, Err}
-use Rattle.std.specs.Arc.{arc_value}
+use Rattle.std.specs.Prelude.{◌≡◌, ℕ, ◌+◌, ◌<◌, ◌⊎◌, Bool, true, false, ◌||◌, List, [], ◌∷◌, ◌++◌, Option, None, Some, Result, Ok, Err}
+use Rattle.logbook.specs.Pages.{Book}
 use Rattle.calloop_wake.specs.declared.token.Token.{Token}
 use Rattle.calloop_wake.specs.declared.wake.Twin.{Twin}
 use Rattle.calloop_wake.specs.declared.wake.ChannelTurn.{ChannelTurn}
@@ -16,13 +16,30 @@ use Rattle.calloop_core.specs.declared.sources.source.PostAction.TheVariants.{Co
 use Rattle.calloop_core.specs.Calls.{CallbackCall, Calling, Went}
 use Rattle.calloop_core.specs.Deeds.{Heard}
 use Rattle.calloop_core.specs.Meanings.{Meaning}
-use Rattle.calloop_core.specs.Polls.{PollView, PollStep, TakePass, PutBack}
+use Rattle.calloop_core.specs.Polls.{PollStep, TakePass, PutBack}
 use Rattle.calloop.specs.declared.channel.Event.{Event}
 use Rattle.calloop.specs.declared.channel.Event.TheVariants.{Msg, Closed}
 use Rattle.calloop.specs.declared.channel.ChannelError.{ChannelError}
-use Rattle.calloop.specs.declared.channel.Channel.{Channel}
-use Rattle.calloop.specs.CellSources.{cell_meaning}
+use Rattle.calloop.specs.CellSources.{CellTurns, cell_meaning}
 use Rattle.calloop.specs.Pings.{action_of}
+
+-- what is seen of a channel: its twin, and how many messages it holds at most
+pub record ReceivingEnd : Type 0 where
+  pub twin : Twin
+  pub bound : Option ℕ
+
+-- what is seen of a sender whose channel has a bound: the name of the cell to which it sends, and the bound
+pub record BoundedEnd : Type 0 where
+  pub name : Book
+  pub bound : ℕ
+
+-- a turn more was opened
+abbrev pub opened : ReceivingEnd → ReceivingEnd
+opened c = record c { twin = record c.twin { turns = c.twin.turns + 1 } }
+
+-- one message more was handed out
+abbrev pub received : ReceivingEnd → ReceivingEnd
+received c = record c { twin = record c.twin { number = c.twin.number + 1 } }
 
 -- the calls of a channel's callback
 abbrev pub ChannelCalls : Type 0 → Type 0
@@ -129,22 +146,21 @@ ChannelTurns label twin token pass calls (Ok action) steps after =
 ChannelTurns label twin token pass calls (Err e) steps after = ⊥
 
 -- what never changes of a channel's cell
-abbrev pub label_of : {T R : Type 0} → Channel T R → LabelView
-label_of s = record { name = (arc_value s.shared).slot.name; bound = (arc_value s.shared).slot.bound }
+abbrev pub label_of : ReceivingEnd → LabelView
+label_of c = record { name = c.twin.name; bound = c.bound }
 
 -- a turn of a channel
-abbrev pub ChannelTakes : {P T R : Type 0} → Channel T R → PollView P → Token
-    → Heard (Event T) (Unit {0}) (Unit {0}) ChannelError → List (PollStep P) → Twin → Type 0
-ChannelTakes s v token turn steps after =
-    ChannelTurns (label_of s) s.twin token v.pass turn.calls turn.answer steps after
+abbrev pub ChannelTakes : {P T : Type 0} → CellTurns ReceivingEnd P (Heard (Event T) (Unit {0}) (Unit {0}) ChannelError)
+ChannelTakes c v token turn steps after =
+    ChannelTurns (label_of c) c.twin token v.pass turn.calls turn.answer steps after
 
-abbrev pub channel_twin : {T R : Type 0} → Channel T R → Twin
-channel_twin s = s.twin
+abbrev pub channel_twin : ReceivingEnd → Twin
+channel_twin c = c.twin
 
 -- its cell stays the same one
-abbrev pub SameChannel : {T R : Type 0} → Channel T R → Channel T R → Type 0
-SameChannel s t = t.shared ≡ s.shared
+abbrev pub SameChannel : (before after : ReceivingEnd) → Type 0
+SameChannel before after = label_of after ≡ label_of before
 
-abbrev pub channel_meaning : {P T R : Type 0}
-    → Meaning (Channel T R) P (Heard (Event T) (Unit {0}) (Unit {0}) ChannelError)
+abbrev pub channel_meaning : {P T : Type 0}
+    → Meaning ReceivingEnd P (Heard (Event T) (Unit {0}) (Unit {0}) ChannelError)
 channel_meaning = cell_meaning channel_twin SameChannel ChannelTakes

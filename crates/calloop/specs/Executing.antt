@@ -11,7 +11,7 @@ use Rattle.calloop_core.specs.Meanings.{IsKeeping}
 use Rattle.calloop_core.specs.Polls.{PollStep}
 use Rattle.calloop.specs.declared.futures.errors.ExecutorError.{ExecutorError}
 use Rattle.calloop.specs.CellKeeping.{IsQuietTurn, TurnsQuietly, cell_keeps}
-use Rattle.calloop.specs.Executors.{ResultCalls, OfPop, PassAnswer, Opened, Refused, AnsweredSo, ExecutorTurnWith, ExecutorTurnFor, ExecutorTurns, ExecutorTakes, executor_meaning}
+use Rattle.calloop.specs.Executors.{ResultCalls, OfPop, PassAnswer, Opened, Refused, AnsweredSo, ExecutorTurnWith, ExecutorTurnFor, ExecutorTurns, ExecutorTakes, executor_twin, SameExecutor, executor_meaning}
 
 answered_quiet : {P O : Type 0} (given : OfPop O → Type 0) (answered : PassAnswer O) (p : Taken) (before after : Twin) (cs : ResultCalls O)
     (action : PostAction) (l : List (PollStep P)) → AnsweredSo given answered p before cs action l after
@@ -41,10 +41,9 @@ turn_quiet given k pass before after cs (Ok action) l h =
     for_quiet given (is_own (key_of k) before.key) pass before after cs action l h
 turn_quiet given k pass before after cs (Err e) l h = absurd h
 
-executor_quiet : {S P O : Type 0} (given : OfPop O → Type 0) (twin : S → Twin) → TurnsQuietly {P = P} twin (ExecutorTakes given twin)
-executor_quiet given twin s v token turn steps after h =
-    turn_quiet given token v.pass (twin s) after turn.calls turn.answer steps h
+executor_quiet : {P O : Type 0} (given : OfPop O → Type 0) → TurnsQuietly {P = P} executor_twin (ExecutorTakes given)
+executor_quiet given twin v token turn steps after h =
+    turn_quiet given token v.pass twin after turn.calls turn.answer steps h
 
-pub executor_keeps : {S P O : Type 0} (given : OfPop O → Type 0) (twin : S → Twin) (Same : S → S → Type 0)
-    → IsKeeping (executor_meaning {S = S} {P = P} given twin Same)
-executor_keeps given twin Same = cell_keeps twin Same (ExecutorTakes given twin) (executor_quiet given twin)
+pub executor_keeps : {P O : Type 0} (given : OfPop O → Type 0) → IsKeeping (executor_meaning {P = P} given)
+executor_keeps given = cell_keeps executor_twin SameExecutor (ExecutorTakes given) (executor_quiet given)

@@ -111,12 +111,20 @@ ExecutorTurns given twin token pass calls (Ok action) steps after =
     ExecutorTurnFor given (is_own (key_of token) twin.key) pass twin calls action steps after
 ExecutorTurns given twin token pass calls (Err e) steps after = ⊥
 
--- a turn of an executor, a source of which this is the twin
-abbrev pub ExecutorTakes : {S P O : Type 0} → (given : OfPop O → Type 0) → (twin : S → Twin)
-    → CellTurns S P (Heard O (Unit {0}) (Unit {0}) ExecutorError)
-ExecutorTakes given twin s v token turn steps after =
-    ExecutorTurns given (twin s) token v.pass turn.calls turn.answer steps after
+-- a turn of an executor
+abbrev pub ExecutorTakes : {P O : Type 0} → (given : OfPop O → Type 0)
+    → CellTurns Twin P (Heard O (Unit {0}) (Unit {0}) ExecutorError)
+ExecutorTakes given twin v token turn steps after =
+    ExecutorTurns given twin token v.pass turn.calls turn.answer steps after
 
-abbrev pub executor_meaning : {S P O : Type 0} → (given : OfPop O → Type 0) → (twin : S → Twin) → (Same : S → S → Type 0)
-    → Meaning S P (Heard O (Unit {0}) (Unit {0}) ExecutorError)
-executor_meaning given twin Same = cell_meaning twin Same (ExecutorTakes given twin)
+-- an executor is seen as its twin
+abbrev pub executor_twin : Twin → Twin
+executor_twin twin = twin
+
+-- its cell stays the same one
+abbrev pub SameExecutor : (before after : Twin) → Type 0
+SameExecutor before after = after.name ≡ before.name
+
+abbrev pub executor_meaning : {P O : Type 0} → (given : OfPop O → Type 0)
+    → Meaning Twin P (Heard O (Unit {0}) (Unit {0}) ExecutorError)
+executor_meaning given = cell_meaning executor_twin SameExecutor (ExecutorTakes given)

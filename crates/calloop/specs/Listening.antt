@@ -54,9 +54,9 @@ turn_quiet label k pass before after cs (Ok action) l h =
     for_quiet label (is_own (key_of k) before.key) pass before after cs action l h
 turn_quiet label k pass before after cs (Err e) l h = absurd h
 
-channel_quiet : {P T R : Type 0} → TurnsQuietly {P = P} (channel_twin {T = T} {R = R}) ChannelTakes
-channel_quiet s v token turn steps after h =
-    turn_quiet (label_of s) token v.pass s.twin after turn.calls turn.answer steps h
+channel_quiet : {P T : Type 0} → TurnsQuietly {P = P} channel_twin (ChannelTakes {T = T})
+channel_quiet c v token turn steps after h =
+    turn_quiet (label_of c) token v.pass c.twin after turn.calls turn.answer steps h
 
-pub channel_keeps : {P T R : Type 0} → IsKeeping (channel_meaning {P = P} {T = T} {R = R})
+pub channel_keeps : {P T : Type 0} → IsKeeping (channel_meaning {P = P} {T = T})
 channel_keeps = cell_keeps channel_twin SameChannel ChannelTakes channel_quiet

@@ -3,8 +3,6 @@
 -- a pass comes from outside. What is seen of a source is its twin, which has the key that it gave the cell.
 use Rattle.std.specs.Prelude.{◌≡◌, ℕ, ◌+◌, List, [], ◌∷◌, Bool, true, false, if◌then◌else◌, Option, Some, None}
 use Rattle.std.specs.Prelude.{Result, Ok, Err}
-use Rattle.std.specs.Arc.{arc_value}
-use Rattle.logbook.specs.Pages.{Book}
 use Rattle.calloop_wake.specs.declared.token.Token.{Token}
 use Rattle.calloop_wake.specs.declared.wake.Twin.{Twin}
 use Rattle.calloop_wake.specs.Tokens.{key_of}
@@ -16,14 +14,8 @@ use Rattle.calloop_core.specs.Calls.{CallbackCall}
 use Rattle.calloop_core.specs.Deeds.{Deed, Heard}
 use Rattle.calloop_core.specs.Meanings.{Meaning}
 use Rattle.calloop_core.specs.Polls.{PollView, PollStep, TakePass, PutBack}
-use Rattle.calloop.specs.CellSources.{IsCell, cell_keys, cell_meaning}
+use Rattle.calloop.specs.CellSources.{CellTurns, IsCell, cell_keys, cell_meaning}
 use Rattle.calloop.specs.declared.ping.source.PingError.{PingError}
-use Rattle.calloop.specs.declared.ping.Ping.{Ping}
-use Rattle.calloop.specs.declared.ping.PingSource.{PingSource}
-
--- the name of the cell that a ping rings
-abbrev pub cell_of : {R : Type 0} → Ping R → Book
-cell_of ping = (arc_value ping.shared).slot
 
 -- the calls of a ping's callback
 abbrev pub PingCalls : Type 0
@@ -84,24 +76,24 @@ TurnsBy twin token pass calls (Ok action) steps after =
 TurnsBy twin token pass calls (Err e) steps after = ⊥
 
 -- a turn of a ping's source
-abbrev pub PingTurns : {P R : Type 0} → PingSource R → PollView P → Token
-    → Heard (Unit {0}) (Unit {0}) (Unit {0}) PingError → List (PollStep P) → Twin → Type 0
-PingTurns s v token turn steps after = TurnsBy s.twin token v.pass turn.calls turn.answer steps after
+abbrev pub PingTurns : {P : Type 0} → CellTurns Twin P (Heard (Unit {0}) (Unit {0}) (Unit {0}) PingError)
+PingTurns twin v token turn steps after = TurnsBy twin token v.pass turn.calls turn.answer steps after
 
-abbrev pub ping_twin : {R : Type 0} → PingSource R → Twin
-ping_twin s = s.twin
+-- a ping's source is seen as its twin
+abbrev pub ping_twin : Twin → Twin
+ping_twin twin = twin
 
 -- its cell stays the same one
-abbrev pub SamePing : {R : Type 0} → PingSource R → PingSource R → Type 0
-SamePing s t = t.shared ≡ s.shared
+abbrev pub SamePing : (before after : Twin) → Type 0
+SamePing before after = after.name ≡ before.name
 
-abbrev pub IsPing : {P R : Type 0} → PingSource R → PollView P
-    → Deed (Heard (Unit {0}) (Unit {0}) (Unit {0}) PingError) → List (PollStep P) → PingSource R → Type 0
-IsPing s v deed steps t = IsCell ping_twin SamePing PingTurns s v deed steps t
+abbrev pub IsPing : {P : Type 0} → Twin → PollView P → Deed (Heard (Unit {0}) (Unit {0}) (Unit {0}) PingError)
+    → List (PollStep P) → Twin → Type 0
+IsPing before v deed steps after = IsCell ping_twin SamePing PingTurns before v deed steps after
 
 -- the key that it gave its cell
-abbrev pub ping_keys : {R : Type 0} → PingSource R → (key : ℕ) → Type 0
-ping_keys s key = cell_keys ping_twin s key
+abbrev pub ping_keys : Twin → (key : ℕ) → Type 0
+ping_keys twin key = cell_keys ping_twin twin key
 
-abbrev pub ping_meaning : {P R : Type 0} → Meaning (PingSource R) P (Heard (Unit {0}) (Unit {0}) (Unit {0}) PingError)
+abbrev pub ping_meaning : {P : Type 0} → Meaning Twin P (Heard (Unit {0}) (Unit {0}) (Unit {0}) PingError)
 ping_meaning = cell_meaning ping_twin SamePing PingTurns

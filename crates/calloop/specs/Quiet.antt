@@ -40,8 +40,8 @@ turn_quiet : {P : Type 0} (k : Token) (pass : Option Taken) (before after : Twin
 turn_quiet k pass before after cs (Ok action) l h = for_quiet (is_own (key_of k) before.key) pass before after cs action l h
 turn_quiet k pass before after cs (Err e) l h = absurd h
 
-pub ping_quiet : {P R : Type 0} → TurnsQuietly {P = P} (ping_twin {R = R}) PingTurns
-ping_quiet s v token turn steps after h = turn_quiet token v.pass s.twin after turn.calls turn.answer steps h
+pub ping_quiet : {P : Type 0} → TurnsQuietly {P = P} ping_twin PingTurns
+ping_quiet twin v token turn steps after h = turn_quiet token v.pass twin after turn.calls turn.answer steps h
 
-pub ping_keeps : {P R : Type 0} → IsKeeping (ping_meaning {P = P} {R = R})
+pub ping_keeps : {P : Type 0} → IsKeeping (ping_meaning {P = P})
 ping_keeps = cell_keeps ping_twin SamePing PingTurns ping_quiet

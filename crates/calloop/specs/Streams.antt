@@ -9,7 +9,7 @@ use Rattle.calloop_wake.specs.declared.wake.Receipt.{Receipt}
 use Rattle.calloop_wake.specs.declared.wake.Twin.{Twin}
 use Rattle.calloop_wake.specs.Tokens.{key_of}
 use Rattle.calloop_wake.specs.Passes.{Taken}
-use Rattle.calloop_wake.specs.Cells.{is_own}
+use Rattle.calloop_wake.specs.Cells.{fresh_twin, is_own}
 use Rattle.calloop_core.specs.declared.sources.source.PostAction.{PostAction}
 use Rattle.calloop_core.specs.declared.sources.source.PostAction.TheVariants.{Continue, Remove}
 use Rattle.calloop_core.specs.Calls.{CallbackCall}
@@ -74,6 +74,19 @@ RingsItself name AtEnd receipt = receipt ≡ None
 pub record Reading (S : Type 0) : Type 0 where
   pub stream : Option S
   pub own : Option Receipt
+
+-- what is seen of a stream's source: its twin, as that of a ping, and what it reads
+pub record StreamEnd (S : Type 0) : Type 0 where
+  pub twin : Twin
+  pub reading : Reading S
+
+-- one that is registered nowhere and wasn't polled
+abbrev pub fresh_stream : {S : Type 0} → S → (name : Book) → StreamEnd S
+fresh_stream stream name = record { twin = fresh_twin name; reading = record { stream = Some stream; own = None } }
+
+-- a turn was opened that took this ring and told this close
+abbrev pub opened : {S : Type 0} → (rung told : Bool) → StreamEnd S → StreamEnd S
+opened rung told s = record s { twin = twin_opened rung told s.twin }
 
 -- the same by the parts
 abbrev pub reading_of : {S R I : Type 0} → Option (Readable S R I) → Option Receipt → Reading S

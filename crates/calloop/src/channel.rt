@@ -1,9 +1,9 @@
 //! Channels: messages that are sent from any thread, as a source.
-ghost use Rattle.std.specs.Prelude.{◌≡◌, ◌<◌, ◌+◌, None, Some, Err, IfOk, IfErr};
+ghost use Rattle.std.specs.Prelude.{◌≡◌, ◌<◌, None, Some, Err, IfOk, IfErr};
 ghost use Rattle.calloop_wake.specs.Cells.{fresh_twin};
 ghost use Rattle.std.specs.Arc.{arc_value};
-ghost use Rattle.std.proofs.Props.{props};
 ghost use Rattle.calloop_wake.specs.declared.error.Error.TheVariants.{OutOfMemory, NoRendezvous};
+ghost use Rattle.calloop.specs.Channels.{received};
 ghost use Rattle.calloop.specs.Sends.{unsent, IsDisconnected, untried};
 
 use crate::cell::{SharedCell, abandon, add_sender, drop_sender, receiver};
@@ -14,6 +14,7 @@ use calloop_wake::wake::channel::{ChannelCore, PutError};
 use calloop_wake::wake::locked::Awaited;
 use calloop_wake::wake::{Receipt, Twin};
 use std::alloc::{AllocError, Global};
+use std::marker::Model;
 use std::sync::{Arc, Wait};
 use thiserror::Error as ThisError;
 
@@ -39,38 +40,77 @@ pub enum Event<T> {
 pub struct ChannelError(pub PingError);
 
 /// Sends to its channel, from any thread. As many as are cloned send to the same channel, and the drop of the last one closes it.
+///
+/// In a clause it is the name of the cell to which it sends.
 pub struct Sender<T: Drop, R: Wait + Drop> {
     rt: R,
     shared: SharedCell<ChannelCore<T>>,
     sender: calloop_wake::wake::Sender,
-    ghost tied: { sender.name ≡ (arc_value shared).slot.name },
-    ghost unbounded: { (arc_value shared).slot.bound ≡ None } by { Prim.hlevel props },
+}
+
+impl<T: Drop, R: Wait + Drop> Model for Sender<T, R> {
+    ghost use Rattle.std.specs.Prelude.{◌≡◌, None};
+    ghost use Rattle.std.specs.Arc.{arc_value};
+    ghost use Rattle.logbook.specs.Pages.{Book};
+
+    ghost Value = { Book };
+
+    ghost view = { λ s. (arc_value s.shared).slot.name };
+
+    ghost invariant = { λ s. (s.sender.name ≡ (arc_value s.shared).slot.name)
+        × ((arc_value s.shared).slot.bound ≡ None) };
 }
 
 /// Sends to its channel, which holds as many messages as its bound says. A send can wait for room.
+///
+/// In a clause it is the name of the cell to which it sends, and the bound.
 pub struct SyncSender<T: Drop, R: Wait + Drop> {
     rt: R,
     shared: SharedCell<ChannelCore<T>>,
     sender: calloop_wake::wake::Sender,
     limit: usize,
-    ghost tied: { sender.name ≡ (arc_value shared).slot.name },
-    ghost bounded: { (arc_value shared).slot.bound ≡ Some limit } by { Prim.hlevel props },
+}
+
+impl<T: Drop, R: Wait + Drop> Model for SyncSender<T, R> {
+    ghost use Rattle.std.specs.Prelude.{◌≡◌, Some};
+    ghost use Rattle.std.specs.Arc.{arc_value};
+    ghost use Rattle.calloop.specs.Channels.{BoundedEnd};
+
+    ghost Value = { BoundedEnd };
+
+    ghost view = { λ s. record { name = (arc_value s.shared).slot.name; bound = s.limit } };
+
+    ghost invariant = { λ s. (s.sender.name ≡ (arc_value s.shared).slot.name)
+        × ((arc_value s.shared).slot.bound ≡ Some s.limit) };
 }
 
 /// The receiving end of a channel, and its source. Each message is an event.
 ///
 /// Its drop, as by the drop of the loop that it is registered with, takes its registration back.
+///
+/// In a clause it is its twin, as a `PingSource` is, and how many messages it holds at most.
 pub struct Channel<T: Drop, R: Wait + Drop> {
     rt: R,
     shared: SharedCell<ChannelCore<T>>,
     twin: Twin,
-    ghost tied: { twin.name ≡ (arc_value shared).slot.name },
+}
+
+impl<T: Drop, R: Wait + Drop> Model for Channel<T, R> {
+    ghost use Rattle.std.specs.Prelude.{◌≡◌};
+    ghost use Rattle.std.specs.Arc.{arc_value};
+    ghost use Rattle.calloop.specs.Channels.{ReceivingEnd};
+
+    ghost Value = { ReceivingEnd };
+
+    ghost view = { λ c. record { twin = c.twin; bound = (arc_value c.shared).slot.bound } };
+
+    ghost invariant = { λ c. c.twin.name ≡ (arc_value c.shared).slot.name };
 }
 
 impl<T: Drop, R: Wait + Drop> Sender<T, R> {
     /// Appends a message. The receipt is of a message of this very channel.
     pub fn send(&self, message: T) -> Result<Receipt, SendError<T>>
-        ensures ok { IfOk result (λ r. r.name ≡ (arc_value self.now.shared).slot.name) }
+        ensures ok { IfOk result (λ r. r.name ≡ self.now) }
         ensures err { IfErr result (λ e. unsent e ≡ message) }
     {
         match cell::put(&self.rt, &self.shared, message) {
@@ -86,7 +126,7 @@ impl<T: Drop, R: Wait + Drop> SyncSender<T, R> {
     /// Appends a message, and waits while there is no room. The receipt is of a message of this very channel. It takes no
     /// memory.
     pub fn send(&self, message: T) -> Result<Receipt, SendError<T>>
-        ensures ok { IfOk result (λ r. r.name ≡ (arc_value self.now.shared).slot.name) }
+        ensures ok { IfOk result (λ r. r.name ≡ self.now.name) }
         ensures err { IfErr result (λ e. (unsent e ≡ message) × IsDisconnected e) }
     {
         cell::put_waiting(&self.rt, &self.shared, message, self.limit)
@@ -94,7 +134,7 @@ impl<T: Drop, R: Wait + Drop> SyncSender<T, R> {
 
     /// Appends a message, where there is room. Where there is none, the channel is pinged. It takes no memory.
     pub fn try_send(&self, message: T) -> Result<Receipt, TrySendError<T>>
-        ensures ok { IfOk result (λ r. r.name ≡ (arc_value self.now.shared).slot.name) }
+        ensures ok { IfOk result (λ r. r.name ≡ self.now.name) }
         ensures err { IfErr result (λ e. untried e ≡ message) }
     {
         match cell::put(&self.rt, &self.shared, message) {
@@ -108,9 +148,8 @@ impl<T: Drop, R: Wait + Drop> SyncSender<T, R> {
 
 impl<T: Drop, R: Wait + Clone + Drop> Clone for Sender<T, R> {
     ghost use Rattle.std.specs.Prelude.{◌≡◌};
-    ghost use Rattle.std.specs.Arc.{arc_value};
 
-    ghost is_clone = { λ sender again. (arc_value again.shared).slot ≡ (arc_value sender.shared).slot };
+    ghost is_clone = { λ sender again. again ≡ sender };
 
     fn clone(&self) -> Result<Sender<T, R>, AllocError> {
         let rt = self.rt.clone()?;
@@ -122,9 +161,8 @@ impl<T: Drop, R: Wait + Clone + Drop> Clone for Sender<T, R> {
 
 impl<T: Drop, R: Wait + Clone + Drop> Clone for SyncSender<T, R> {
     ghost use Rattle.std.specs.Prelude.{◌≡◌};
-    ghost use Rattle.std.specs.Arc.{arc_value};
 
-    ghost is_clone = { λ sender again. (arc_value again.shared).slot ≡ (arc_value sender.shared).slot };
+    ghost is_clone = { λ sender again. again ≡ sender };
 
     fn clone(&self) -> Result<SyncSender<T, R>, AllocError> {
         let rt = self.rt.clone()?;
@@ -172,20 +210,16 @@ impl<T: Drop, R: Wait + Drop> Drop for Channel<T, R> {
 impl<T: Drop, R: Wait + Drop> Channel<T, R> {
     /// The first message. It waits while there is none and a sender is there.
     pub fn recv(&mut self) -> Result<T, RecvError>
-        ensures ok { IfOk result
-            (λ _. self.new.twin ≡ record self.old.twin { number = self.old.twin.number + 1 }) }
-        ensures err { IfErr result (λ _. self.new.twin ≡ self.old.twin) }
-        ensures shared { self.new.shared ≡ self.old.shared }
+        ensures ok { IfOk result (λ _. self.new ≡ received self.old) }
+        ensures err { IfErr result (λ _. self.new ≡ self.old) }
     {
         cell::take_waiting(&self.rt, &self.shared, &mut self.twin)
     }
 
     /// The first message, where there is one.
     pub fn try_recv(&mut self) -> Result<T, TryRecvError>
-        ensures ok { IfOk result
-            (λ _. self.new.twin ≡ record self.old.twin { number = self.old.twin.number + 1 }) }
-        ensures err { IfErr result (λ _. self.new.twin ≡ self.old.twin) }
-        ensures shared { self.new.shared ≡ self.old.shared }
+        ensures ok { IfOk result (λ _. self.new ≡ received self.old) }
+        ensures err { IfErr result (λ _. self.new ≡ self.old) }
     {
         cell::take(&self.rt, &self.shared, &mut self.twin)
     }
@@ -206,8 +240,8 @@ fn ends<T: Drop, R: Wait + Clone + Drop>(
 >
     ensures sender { IfOk result (λ made. made.2.name ≡ (arc_value made.1).slot.name) }
     ensures bound { IfOk result (λ made. (arc_value made.1).slot.bound ≡ bound) }
-    ensures twin { IfOk result (λ made. made.3.twin ≡ fresh_twin (arc_value made.1).slot.name) }
-    ensures same { IfOk result (λ made. (arc_value made.3.shared).slot ≡ (arc_value made.1).slot) }
+    ensures channel { IfOk result (λ made.
+        made.3 ≡ record { twin = fresh_twin (arc_value made.1).slot.name; bound = bound }) }
     ensures err { IfErr result (λ e. e ≡ OutOfMemory) }
 {
     let of_sender = rt.clone()?;
@@ -234,8 +268,7 @@ pub fn make_channel<T: Drop, R: Wait + Clone + Drop>(
     alloc: Global,
 ) -> LoopResult<(Sender<T, R>, Channel<T, R>)>
     ensures ok { IfOk result (λ made.
-        (made.1.twin ≡ fresh_twin (arc_value made.0.shared).slot.name)
-        × ((arc_value made.1.shared).slot ≡ (arc_value made.0.shared).slot)) }
+        made.1 ≡ record { twin = fresh_twin made.0; bound = None }) }
     ensures err { IfErr result (λ e. e ≡ OutOfMemory) }
 {
     let (rt, shared, sender, channel) = ends(rt, alloc, None)?;
@@ -251,10 +284,9 @@ pub fn sync_channel<T: Drop, R: Wait + Clone + Drop>(
     alloc: Global,
     bound: usize,
 ) -> LoopResult<(SyncSender<T, R>, Channel<T, R>)>
-    ensures ok { IfOk result (λ made.
-        (made.1.twin ≡ fresh_twin (arc_value made.0.shared).slot.name)
-        × ((arc_value made.1.shared).slot ≡ (arc_value made.0.shared).slot)
-        × ((arc_value made.0.shared).slot.bound ≡ Some bound)) }
+    ensures channel { IfOk result (λ made.
+        made.1 ≡ record { twin = fresh_twin made.0.name; bound = Some bound }) }
+    ensures sender { IfOk result (λ made. made.0.bound ≡ bound) }
     ensures none { bound ≡ 0 → result ≡ Err NoRendezvous }
     ensures err { 0 < bound → IfErr result (λ e. e ≡ OutOfMemory) }
 {

@@ -4,7 +4,6 @@
 //! step of the executor's own cell.
 ghost use Rattle.std.specs.Prelude.{◌≡◌, None, IfOk, IfErr};
 ghost use Rattle.calloop_wake.specs.Cells.{fresh_twin};
-ghost use Rattle.std.specs.Arc.{arc_value};
 ghost use Rattle.calloop_wake.specs.declared.error.Error.TheVariants.{OutOfMemory};
 
 use crate::cell::{SharedCell, abandon, add_sender, receiver};
@@ -16,6 +15,7 @@ use calloop_wake::wake::homes::Homes;
 use calloop_wake::wake::locked::Locked;
 use homes::SharedHomes;
 use std::alloc::Global;
+use std::marker::Model;
 use std::sync::{Arc, Wait};
 
 mod cell;
@@ -34,13 +34,26 @@ pub use task::{Context, Future, Poll, Waker};
 /// Runs futures in the loop, as a source. What a future gives is an event.
 ///
 /// Its drop, as by the drop of the loop that it is registered with, takes its registration back and drops its futures.
+///
+/// In a clause it is its twin, as a `PingSource` is.
 pub struct Executor<Fut: Drop, R: Wait + Drop> {
     rt: R,
     shared: SharedCell<ExecutorCore>,
     homes: SharedHomes<Fut, R>,
     twin: Twin,
-    ghost tied: { twin.name ≡ (arc_value shared).slot },
-    ghost housed: { (arc_value homes).slot ≡ (arc_value shared).slot },
+}
+
+impl<Fut: Drop, R: Wait + Drop> Model for Executor<Fut, R> {
+    ghost use Rattle.std.specs.Prelude.{◌≡◌};
+    ghost use Rattle.std.specs.Arc.{arc_value};
+    ghost use Rattle.calloop_wake.specs.declared.wake.Twin.{Twin};
+
+    ghost Value = { Twin };
+
+    ghost view = { λ e. e.twin };
+
+    ghost invariant = { λ e. (e.twin.name ≡ (arc_value e.shared).slot)
+        × ((arc_value e.homes).slot ≡ (arc_value e.shared).slot) };
 }
 
 /// An executor, which is registered nowhere, and a scheduler that hands it futures. `rt` is the runtime by which they lock what they
@@ -51,9 +64,7 @@ pub fn make_executor<Fut: Future<R>, R: Wait + Clone + Drop>(
     rt: &R,
     alloc: Global,
 ) -> LoopResult<(Executor<Fut, R>, Scheduler<Fut, R>)>
-    ensures ok { IfOk result (λ made.
-        (made.0.twin ≡ fresh_twin (arc_value made.1.shared).slot)
-        × ((arc_value made.0.shared).slot ≡ (arc_value made.1.shared).slot)) }
+    ensures ok { IfOk result (λ made. made.0 ≡ fresh_twin made.1) }
     ensures err { IfErr result (λ e. e ≡ OutOfMemory) }
 {
     let of_executor = rt.clone()?;

@@ -19,6 +19,7 @@ use shared::PollEnd;
 use std::alloc::Global;
 use std::io;
 use std::io::{Read, Write};
+use std::marker::Model;
 use std::sync::{MutexGuard, Wait};
 
 mod adapter;
@@ -34,9 +35,17 @@ pub use ready::{Readable, Writable};
 /// A socket that is polled as a future, with its end in a loop. Its drop takes the adapter out of the loop, at the beginning of the next
 /// dispatch; `LoopHandle::into_inner` does so at once, and hands the socket back.
 ///
-/// In a clause `end` is what it did: each poll adds its notes, and nothing else makes one.
+/// In a clause it is its twin: the name of its adapter, and what it did. Each poll adds its notes, and nothing else makes one.
 pub struct Async<P: Poller, R: Wait + Drop> {
     end: PollEnd<P, R>,
+}
+
+impl<P: Poller, R: Wait + Drop> Model for Async<P, R> {
+    ghost use Rattle.calloop.specs.declared.io.state.PollTwin.{PollTwin};
+
+    ghost Value = { PollTwin };
+
+    ghost view = { λ a. a.end };
 }
 
 impl<P: Poller, R: Wait + Drop> Drop for Async<P, R> {
@@ -52,8 +61,8 @@ pub(crate) fn make_ends<P: Poller, R: Wait + Clone + Drop>(
     alloc: Global,
 ) -> LoopResult<(Adapter<P, R>, Async<P, R>)>
     ensures ok { IfOk result (λ made. (made.0.token ≡ None) × (made.0.entered ≡ false)
-        × (made.0.end.name ≡ made.1.end.name)) }
-    ensures notes { IfOk result (λ made. (made.0.end.notes ≡ []) × (made.1.end.notes ≡ [])) }
+        × (made.0.end.name ≡ made.1.name)) }
+    ensures notes { IfOk result (λ made. (made.0.end.notes ≡ []) × (made.1.notes ≡ [])) }
     ensures err { IfErr result (λ e. e ≡ OutOfMemory) }
 {
     let (slot, poll) = shared::make_ends(rt, alloc)?;
@@ -106,7 +115,7 @@ impl<P: Poller, R: Wait + Clone + Drop> Async<P, R> {
         wanted: Interest,
     ) -> Poll<LoopResult<()>>
         ensures answer { IfReady result IsAnswer }
-        ensures told { WaitsFor wanted self.old.end result self.new.end }
+        ensures told { WaitsFor wanted self.old result self.new }
     {
         let waker = match cx.waker().clone() {
             Ok(waker) => waker,
@@ -121,10 +130,10 @@ impl<P: Poller, R: Wait + Clone + Drop> Async<P, R> {
 
     // It waits for this.
     fn wait(&mut self, waker: &Waker<R>, wanted: Interest) -> LoopResult<()>
-        ensures ok { OnOk result (self.new.end ≡ polled (Waits wanted) self.old.end) }
+        ensures ok { OnOk result (self.new ≡ polled (Waits wanted) self.old) }
         ensures err { IfErr result (λ e. (e ≡ OutOfMemory)
-            × ((self.new.end ≡ self.old.end)
-            ⊎ (self.new.end ≡ polled (Waits wanted) self.old.end))) }
+            × ((self.new ≡ self.old)
+            ⊎ (self.new ≡ polled (Waits wanted) self.old))) }
     {
         let waker = waker.clone()?;
         self.end.wait(wanted, waker)?;
@@ -138,7 +147,7 @@ impl<P: Poller, R: Wait + Clone + Drop> Async<P, R> {
         wanted: Interest,
         answer: io::Result<T>,
     ) -> Poll<io::Result<T>>
-        ensures { AnswersWith wanted answer self.old.end result self.new.end }
+        ensures { AnswersWith wanted answer self.old result self.new }
     {
         match answer {
             Err(cause) if cause.kind() == io::ErrorKind::WouldBlock => {
@@ -157,7 +166,7 @@ impl<P: Poller, R: Wait + Clone + Drop> Async<P, R> {
     where
         P::Io: Read,
         ensures bound { IfReady result (λ read. ReadsAtMost read buf.new) }
-        ensures told { Polls to_read Tried self.old.end result self.new.end }
+        ensures told { Polls to_read Tried self.old result self.new }
     {
         if let Some(refusal) = self.end.take_refusal() {
             return Poll::Ready(Err(io::Error::from(refusal)));
@@ -171,7 +180,7 @@ impl<P: Poller, R: Wait + Clone + Drop> Async<P, R> {
     where
         P::Io: Write,
         ensures bound { IfReady result (λ written. WritesAtMost written buf.now) }
-        ensures told { Polls to_write Tried self.old.end result self.new.end }
+        ensures told { Polls to_write Tried self.old result self.new }
     {
         if let Some(refusal) = self.end.take_refusal() {
             return Poll::Ready(Err(io::Error::from(refusal)));
@@ -184,7 +193,7 @@ impl<P: Poller, R: Wait + Clone + Drop> Async<P, R> {
     pub fn poll_flush(&mut self, cx: &mut Context<'_, R>) -> Poll<io::Result<()>>
     where
         P::Io: Write,
-        ensures told { Polls to_write Flushed self.old.end result self.new.end }
+        ensures told { Polls to_write Flushed self.old result self.new }
     {
         if let Some(refusal) = self.end.take_refusal() {
             return Poll::Ready(Err(io::Error::from(refusal)));
@@ -197,7 +206,7 @@ impl<P: Poller, R: Wait + Clone + Drop> Async<P, R> {
     pub fn poll_close(&mut self, cx: &mut Context<'_, R>) -> Poll<io::Result<()>>
     where
         P::Io: Write,
-        ensures told { Polls to_write Flushed self.old.end result self.new.end }
+        ensures told { Polls to_write Flushed self.old result self.new }
     {
         self.poll_flush(cx)
     }

@@ -1,7 +1,6 @@
 //! Pings: a source that is woken by hand, from any thread.
 ghost use Rattle.std.specs.Prelude.{◌≡◌, None, IfOk, IfErr};
 ghost use Rattle.calloop_wake.specs.Cells.{fresh_twin};
-ghost use Rattle.std.specs.Arc.{arc_value};
 ghost use Rattle.calloop_wake.specs.declared.error.Error.TheVariants.{OutOfMemory};
 
 use crate::cell::{SharedCell, abandon, add_sender, drop_sender, receiver};
@@ -10,6 +9,7 @@ use calloop_wake::error::Result as LoopResult;
 use calloop_wake::wake::ping::PingCore;
 use calloop_wake::wake::{Receipt, Sender, Twin};
 use std::alloc::{AllocError, Global};
+use std::marker::Model;
 use std::sync::{Arc, Wait};
 
 pub(crate) mod cell;
@@ -19,21 +19,47 @@ pub use calloop_wake::wake::covered;
 pub use source::{PingError, is_registered_by_its_calls};
 
 /// Rings its source, from any thread. As many as are cloned ring the same source, and the drop of the last one closes it.
+///
+/// In a clause it is the name of the cell that it rings.
 pub struct Ping<R: Wait + Drop> {
     rt: R,
     shared: SharedCell<PingCore>,
     sender: Sender,
-    ghost tied: { sender.name ≡ (arc_value shared).slot },
+}
+
+impl<R: Wait + Drop> Model for Ping<R> {
+    ghost use Rattle.std.specs.Prelude.{◌≡◌};
+    ghost use Rattle.std.specs.Arc.{arc_value};
+    ghost use Rattle.logbook.specs.Pages.{Book};
+
+    ghost Value = { Book };
+
+    ghost view = { λ p. (arc_value p.shared).slot };
+
+    ghost invariant = { λ p. p.sender.name ≡ (arc_value p.shared).slot };
 }
 
 /// The source of a ping. Any number of rings before its turn are one event.
 ///
 /// Its drop, as by the drop of the loop that it is registered with, takes its registration back.
+///
+/// In a clause it is the twin: the name of its cell, the key that it gave that, and what was counted.
 pub struct PingSource<R: Wait + Drop> {
     pub(crate) rt: R,
     pub(crate) shared: SharedCell<PingCore>,
     pub(crate) twin: Twin,
-    ghost tied: { twin.name ≡ (arc_value shared).slot },
+}
+
+impl<R: Wait + Drop> Model for PingSource<R> {
+    ghost use Rattle.std.specs.Prelude.{◌≡◌};
+    ghost use Rattle.std.specs.Arc.{arc_value};
+    ghost use Rattle.calloop_wake.specs.declared.wake.Twin.{Twin};
+
+    ghost Value = { Twin };
+
+    ghost view = { λ s. s.twin };
+
+    ghost invariant = { λ s. s.twin.name ≡ (arc_value s.shared).slot };
 }
 
 /// A ping that nobody rang, and its source, which is registered nowhere. `rt` is the runtime by which they lock what they share.
@@ -43,9 +69,7 @@ pub fn make_ping<R: Wait + Clone + Drop>(
     rt: &R,
     alloc: Global,
 ) -> LoopResult<(Ping<R>, PingSource<R>)>
-    ensures ok { IfOk result (λ made.
-        (made.1.twin ≡ fresh_twin (arc_value made.0.shared).slot)
-        × ((arc_value made.1.shared).slot ≡ (arc_value made.0.shared).slot)) }
+    ensures ok { IfOk result (λ made. made.1 ≡ fresh_twin made.0) }
     ensures err { IfErr result (λ e. e ≡ OutOfMemory) }
 {
     let of_ping = rt.clone()?;
@@ -73,7 +97,7 @@ impl<R: Wait + Drop> Ping<R> {
     ///
     /// Where the source is registered and nothing was due, its key is posted on the board of its loop, and the loop is woken.
     pub fn ping(&self) -> Receipt
-        ensures { result.name ≡ (arc_value self.now.shared).slot }
+        ensures { result.name ≡ self.now }
     {
         cell::ring(&self.rt, &self.shared)
     }
@@ -81,9 +105,8 @@ impl<R: Wait + Drop> Ping<R> {
 
 impl<R: Wait + Clone + Drop> Clone for Ping<R> {
     ghost use Rattle.std.specs.Prelude.{◌≡◌};
-    ghost use Rattle.std.specs.Arc.{arc_value};
 
-    ghost is_clone = { λ ping again. (arc_value again.shared).slot ≡ (arc_value ping.shared).slot };
+    ghost is_clone = { λ ping again. again ≡ ping };
 
     fn clone(&self) -> Result<Ping<R>, AllocError> {
         let rt = self.rt.clone()?;

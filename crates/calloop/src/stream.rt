@@ -2,9 +2,8 @@
 //!
 //! From calloop's `sources/stream.rs`. Its streams are those of the crate `futures`; these are of this module, as the futures of
 //! `futures` are.
-ghost use Rattle.std.specs.Prelude.{◌≡◌, None, IfOk, IfErr};
-ghost use Rattle.std.specs.Arc.{arc_value};
-ghost use Rattle.calloop_wake.specs.Cells.{fresh_twin};
+ghost use Rattle.std.specs.Prelude.{◌≡◌, IfOk, IfErr};
+ghost use Rattle.calloop.specs.Streams.{fresh_stream};
 ghost use Rattle.calloop_wake.specs.declared.error.Error.TheVariants.{OutOfMemory};
 
 use crate::futures::Waker;
@@ -13,6 +12,7 @@ use calloop_wake::error::{Error, InsertError};
 use calloop_wake::wake::Receipt;
 use reading::Readable;
 use std::alloc::Global;
+use std::marker::Model;
 use std::sync::Wait;
 
 mod errors;
@@ -25,6 +25,8 @@ pub use reading::Stream;
 /// A stream as a source: each item is an event `Some(item)`, and its end is `None`, once.
 ///
 /// Its drop, as by the drop of the loop that it is registered with, takes its registration back and drops the stream.
+///
+/// In a clause it is its twin, as a `PingSource` is, and what it reads.
 #[derive(Drop)]
 pub struct StreamSource<S: Stream<R>, R: Wait + Drop> {
     source: PingSource<R>,
@@ -33,7 +35,17 @@ pub struct StreamSource<S: Stream<R>, R: Wait + Drop> {
     stream: Option<Readable<S, R>>,
     // Of the ring by which its last turn asked for another one.
     own: Option<Receipt>,
-    ghost tied: { (arc_value ping.shared).slot ≡ source.twin.name },
+}
+
+impl<S: Stream<R>, R: Wait + Drop> Model for StreamSource<S, R> {
+    ghost use Rattle.std.specs.Prelude.{◌≡◌};
+    ghost use Rattle.calloop.specs.Streams.{StreamEnd, reading_of};
+
+    ghost Value = { StreamEnd S };
+
+    ghost view = { λ s. record { twin = s.source; reading = reading_of s.stream s.own } };
+
+    ghost invariant = { λ s. s.ping ≡ s.source.name };
 }
 
 impl<S: Stream<R>, R: Wait + Clone + Drop> StreamSource<S, R> {
@@ -41,8 +53,7 @@ impl<S: Stream<R>, R: Wait + Clone + Drop> StreamSource<S, R> {
     ///
     /// Want of memory is `OutOfMemory`, and hands the stream back.
     pub fn new(rt: &R, alloc: Global, stream: S) -> Result<StreamSource<S, R>, InsertError<S>>
-        ensures ok { IfOk result (λ made. (made.source.twin ≡ fresh_twin made.source.twin.name)
-            × (made.own ≡ None)) }
+        ensures ok { IfOk result (λ made. made ≡ fresh_stream stream made.twin.name) }
         ensures err { IfErr result (λ e. (e.inserted ≡ stream) × (e.error ≡ OutOfMemory)) }
     {
         let Ok((ping, source)) = make_ping(rt, alloc) else {

@@ -13,7 +13,7 @@ writes_of (line ∷ lines) s number w (inr h) = inr (state_of h.0, h.1, h.2, h.3
 
 pub may_write : {E : Type 0} {R : Type 0} (s : ScriptLoop R) → IsStart (state_of s) → (result : Result ℕ E) (first : Option (List ℕ)) (Out Errors : Written → Type 0)
     → IfOk result (λ status. IfSome first (λ script. (w : Written) × Writes line_step s 1 (lines_of script) w × Out w × Errors w × (status ≡ w.status)))
-    → IfOk result (λ status. IfSome first (λ script. (w : Written) × MayWrite R script w × Out w × Errors w × (status ≡ w.status)))
+    → IfOk result (λ status. IfSome first (λ script. (w : Written) × MayWrite script w × Out w × Errors w × (status ≡ w.status)))
 may_write s start (Err e) first Out Errors h = tt
 may_write s start (Ok status) None Out Errors h = tt
 may_write s start (Ok status) (Some script) Out Errors h = (h.0, (state_of s, start, writes_of (lines_of script) s 1 h.0 h.1), h.2, h.3, h.4)

@@ -16,42 +16,42 @@ use Rattle.looptrace.specs.Lines.{lines_of}
 use Rattle.looptrace.specs.Traces.{Written, WritesTo}
 use Rattle.looptrace.specs.Runs.{State, IsStart, IsNewPing, new_timer, trace_step}
 
-abbrev pub ScriptCall : Type 0 → Type 0
-ScriptCall R = LoopCall (Source R) ScriptPoller (Option (List ℕ)) (Unit {0})
+abbrev pub ScriptCall : Type 0
+ScriptCall = LoopCall Source ScriptPoller (Option (List ℕ)) (Unit {0})
 
 -- a call as lines make it: what it inserts is a ping or a timer that was never registered, and it exchanges no source
-abbrev pub IsScripted : {R : Type 0} → ScriptCall R → Type 0
+abbrev pub IsScripted : ScriptCall → Type 0
 IsScripted (Insert source) =
     (name : List ℕ)
     × (((ping : Option Book) × IsNewPing name source ping) ⊎ ((deadline : ℕ) × (source ≡ new_timer name deadline)))
 IsScripted (Exchange token source) = ⊥
 IsScripted call = Unit {0}
 
-abbrev pub AllScripted : {R : Type 0} → List (ScriptCall R) → Type 0
+abbrev pub AllScripted : List ScriptCall → Type 0
 AllScripted [] = Unit {0}
 AllScripted (call ∷ calls) = IsScripted call × AllScripted calls
 
-abbrev pub ScriptAnswerOf : Type 0 → Type 0
-ScriptAnswerOf R = LoopAnswer (Source R) ScriptPoller (Option (List ℕ)) (Unit {0})
+abbrev pub ScriptAnswerOf : Type 0
+ScriptAnswerOf = LoopAnswer Source ScriptPoller (Option (List ℕ)) (Unit {0})
 
 -- some such calls lead from what a loop held to what it then holds
-pub record Asks {R : Type 0} (old new : View (Source R) (Unit {0}) ScriptPoller) : Type 0 where
-  pub calls : List (ScriptCall R)
-  pub answers : List (ScriptAnswerOf R)
+pub record Asks (old new : View Source (Unit {0}) ScriptPoller) : Type 0 where
+  pub calls : List ScriptCall
+  pub answers : List ScriptAnswerOf
   pub scripted : AllScripted calls
   pub leads : RunLeads source_meaning no_idles script_outside calls answers old new
 
 -- From every machine to which nothing has happened, and that agrees with what a loop held, there is a run to one that agrees with what it
 -- then holds, in which no timer is called early, nor twice for one arming.
-abbrev pub LeadsInTime : {R : Type 0} → (old new : View (Source R) (Unit {0}) ScriptPoller) → Type 0
-LeadsInTime {R} old new =
-    (u : World (Source R) (Unit {0}) ScriptPoller) → IsNew u → seen u ≡ old
-    → (r : LoopRun (Source R) (Unit {0}) ScriptPoller (Option (List ℕ)))
+abbrev pub LeadsInTime : (old new : View Source (Unit {0}) ScriptPoller) → Type 0
+LeadsInTime old new =
+    (u : World Source (Unit {0}) ScriptPoller) → IsNew u → seen u ≡ old
+    → (r : LoopRun Source (Unit {0}) ScriptPoller (Option (List ℕ)))
     × Run source_meaning no_idles script_outside r.calls r.answers r.changes r.began r.ended
     × (r.began ≡ u) × (seen r.ended ≡ new) × IsLedgerOf r.ended.ledger r.ended.poll
 
 -- the lines of a script may write this, and what they do to the loop is such a run
-abbrev pub MayWriteInTime : (R : Type 0) → List ℕ → Written → Type 0
-MayWriteInTime R script w =
-    (start : State R) × (finish : State R) × IsStart start × WritesTo trace_step start 1 (lines_of script) w finish
+abbrev pub MayWriteInTime : List ℕ → Written → Type 0
+MayWriteInTime script w =
+    (start : State) × (finish : State) × IsStart start × WritesTo trace_step start 1 (lines_of script) w finish
     × LeadsInTime start.loop finish.loop

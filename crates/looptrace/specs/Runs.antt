@@ -21,6 +21,7 @@ use Rattle.calloop_wake.specs.declared.error.InsertError.{InsertError}
 use Rattle.calloop_wake.specs.declared.token.RegistrationToken.{RegistrationToken}
 use Rattle.logbook.specs.Pages.{Book}
 use Rattle.calloop_wake.specs.declared.wheel.Instant.{Instant}
+use Rattle.calloop_wake.specs.declared.wake.Twin.{Twin}
 use Rattle.calloop_core.specs.declared.sys.Readiness.{Readiness}
 use Rattle.calloop_core.specs.declared.sys.script.ScriptAnswer.{ScriptAnswer}
 use Rattle.calloop_core.specs.declared.sys.script.ScriptEvents.{ScriptEvents}
@@ -51,7 +52,6 @@ use Rattle.looptrace.specs.Commands.{command_of}
 use Rattle.looptrace.specs.Texts.{insert_text, wait_text, refused_text}
 use Rattle.calloop_core.specs.declared.sources.dispatch.Dispatcher.{Dispatcher}
 use Rattle.calloop_core.specs.declared.timer.Timer.{Timer as TimerSource}
-use Rattle.calloop.specs.declared.ping.PingSource.{PingSource}
 use Rattle.looptrace.specs.declared.source.Teller.{Teller}
 use Rattle.looptrace.specs.declared.source.Alarm.{Alarm}
 use Rattle.looptrace.specs.Sources.{Source, timer_in, source_meaning, no_idles}
@@ -65,13 +65,13 @@ abbrev pub pending_of : PendingAnswer → Pending
 pending_of p = record { moment = p.moment; events = p.events.events.items }
 
 -- what the loop holds, the sources that were made, whether the next wait is to fail, and the pending answer
-pub record State (R : Type 0) : Type 0 where
-  pub loop : View (Source R) (Unit {0}) ScriptPoller
+pub record State : Type 0 where
+  pub loop : View Source (Unit {0}) ScriptPoller
   pub sources : List Named
   pub fault : Bool
   pub pending : Option Pending
 
-abbrev pub state_of : {R : Type 0} → ScriptLoop R → State R
+abbrev pub state_of : {R : Type 0} → ScriptLoop R → State
 state_of s =
     record {
       loop = view_of s.event_loop;
@@ -81,8 +81,8 @@ state_of s =
     }
 
 -- a machine to which nothing has happened agrees, over a poller with the clock at 0 and without answers
-pub record IsStart {R : Type 0} (s : State R) : Type 0 where
-  pub world : World (Source R) (Unit {0}) ScriptPoller
+pub record IsStart (s : State) : Type 0 where
+  pub world : World Source (Unit {0}) ScriptPoller
   pub new : IsNew world
   pub agrees : seen world ≡ s.loop
   pub moment : s.loop.poll.poller.moment.nanos ≡ 0
@@ -92,9 +92,9 @@ pub record IsStart {R : Type 0} (s : State R) : Type 0 where
   pub pending : s.pending ≡ None
 
 -- a call on the loop is a case of its machine
-abbrev pub Calls : {R : Type 0} → LoopCall (Source R) ScriptPoller (Option (List ℕ)) (Unit {0})
-    → LoopAnswer (Source R) ScriptPoller (Option (List ℕ)) (Unit {0})
-    → View (Source R) (Unit {0}) ScriptPoller → View (Source R) (Unit {0}) ScriptPoller → Type 0
+abbrev pub Calls : LoopCall Source ScriptPoller (Option (List ℕ)) (Unit {0})
+    → LoopAnswer Source ScriptPoller (Option (List ℕ)) (Unit {0})
+    → View Source (Unit {0}) ScriptPoller → View Source (Unit {0}) ScriptPoller → Type 0
 Calls call answer old new = Did (Case source_meaning no_idles script_outside call answer) old new
 
 -- the names of the refusals
@@ -131,44 +131,44 @@ InsertSays name ping (Ok token) before after said =
 InsertSays name ping (Err refused) before after said = (after ≡ before) × (said ≡ refused_text (word_of refused.error))
 
 -- a source that was made so is inserted under a name that no source has yet; under another name the line can't be read
-abbrev pub InsertLine : {R : Type 0} → State R → List ℕ → (made : Source R → Option Book → Type 0)
-    → Option (State R × List ℕ) → Type 0
+abbrev pub InsertLine : State → List ℕ → (made : Source → Option Book → Type 0)
+    → Option (State × List ℕ) → Type 0
 InsertLine s name made None = is_taken name s.sources ≡ true
-InsertLine {R} s name made (Some (t, said)) =
-    (is_taken name s.sources ≡ false) × (source : Source R) × (ping : Option Book) × made source ping
-    × (answer : Result RegistrationToken (InsertError (Source R)))
+InsertLine s name made (Some (t, said)) =
+    (is_taken name s.sources ≡ false) × (source : Source) × (ping : Option Book) × made source ping
+    × (answer : Result RegistrationToken (InsertError Source))
     × Calls (Insert source) (Inserted answer) s.loop t.loop
     × InsertSays name ping answer s.sources t.sources said × (t.fault ≡ s.fault) × (t.pending ≡ s.pending)
 
 -- a source of a cell that no turn took a ring of, registered nowhere, with a callback that says its name, and the
 -- cell's ping
-abbrev pub IsPingOf : {R : Type 0} → List ℕ → OneOf (Dispatcher (PingSource R) Teller) (Dispatcher TimerSource Alarm)
+abbrev pub IsPingOf : List ℕ → OneOf (Dispatcher Twin Teller) (Dispatcher TimerSource Alarm)
     → Option Book → Type 0
 IsPingOf name (First d) ping =
-    (d.source.twin.key ≡ None) × (d.source.twin.number ≡ 0) × (d.callback ≡ record { name = name })
-    × (ping ≡ Some d.source.twin.name)
+    (d.source.key ≡ None) × (d.source.number ≡ 0) × (d.callback ≡ record { name = name })
+    × (ping ≡ Some d.source.name)
 IsPingOf name (Other d) ping = ⊥
 
-abbrev pub IsNewPing : {R : Type 0} → List ℕ → Source R → Option Book → Type 0
+abbrev pub IsNewPing : List ℕ → Source → Option Book → Type 0
 IsNewPing name s ping = IsPingOf name s.held ping
 
 -- a timer with a deadline, with a callback that says its name and the deadline
-abbrev pub new_timer : {R : Type 0} → List ℕ → (deadline : ℕ) → Source R
+abbrev pub new_timer : List ℕ → (deadline : ℕ) → Source
 new_timer name deadline =
     timer_in (record { source = unarmed (Some (record { nanos = deadline })); callback = record { name = name } })
 
 -- such a timer, without a ping
-abbrev pub IsNewTimer : {R : Type 0} → List ℕ → (deadline : ℕ) → Source R → Option Book → Type 0
+abbrev pub IsNewTimer : List ℕ → (deadline : ℕ) → Source → Option Book → Type 0
 IsNewTimer name deadline source ping = (source ≡ new_timer name deadline) × (ping ≡ None)
 
 -- an open ping of this name is rung, which is seen of nothing here and prints nothing; where there is none, the line
 -- can't be read
-abbrev pub RingLine : {R : Type 0} → State R → List ℕ → Option (State R × List ℕ) → Type 0
+abbrev pub RingLine : State → List ℕ → Option (State × List ℕ) → Type 0
 RingLine s name None = ping_named name s.sources ≡ None
 RingLine s name (Some (t, said)) = IsSome (ping_named name s.sources) × (t ≡ s) × (said ≡ [])
 
 -- the open ping of this name is dropped, which prints nothing; where there is none, the line can't be read
-abbrev pub CloseLine : {R : Type 0} → State R → List ℕ → Option (State R × List ℕ) → Type 0
+abbrev pub CloseLine : State → List ℕ → Option (State × List ℕ) → Type 0
 CloseLine s name None = ping_named name s.sources ≡ None
 CloseLine s name (Some (t, said)) =
     IsSome (ping_named name s.sources) × (t ≡ record s { sources = closed name s.sources }) × (said ≡ [])
@@ -178,19 +178,19 @@ abbrev pub token_with : (slot version : ℕ) → Option RegistrationToken
 token_with slot version =
     if nat_lt slot most_slots && nat_lt version versions then Some (record { slot = slot; version = version }) else None
 
-abbrev pub removed_text : {R : Type 0} → Option (Source R) → List ℕ
+abbrev pub removed_text : Option Source → List ℕ
 removed_text None = refused_text (word_of InvalidToken)
 removed_text (Some source) = []
 
 -- a removal by a token, if there is one; the ping of what is removed stays open
-abbrev pub RemoveOf : {R : Type 0} → State R → Option RegistrationToken → State R → List ℕ → Type 0
+abbrev pub RemoveOf : State → Option RegistrationToken → State → List ℕ → Type 0
 RemoveOf s None t said = (t ≡ s) × (said ≡ refused_text (word_of InvalidToken))
-RemoveOf {R} s (Some token) t said =
-    (answer : Option (Source R)) × Calls (RemoveCall token) (Removed answer) s.loop t.loop
+RemoveOf s (Some token) t said =
+    (answer : Option Source) × Calls (RemoveCall token) (Removed answer) s.loop t.loop
     × (t.sources ≡ s.sources) × (t.fault ≡ s.fault) × (t.pending ≡ s.pending) × (said ≡ removed_text answer)
 
 -- what the token of these numbers names is removed
-abbrev pub RemoveLine : {R : Type 0} → State R → (slot version : ℕ) → State R → List ℕ → Type 0
+abbrev pub RemoveLine : State → (slot version : ℕ) → State → List ℕ → Type 0
 RemoveLine s slot version t said = RemoveOf s (token_with slot version) t said
 
 -- a poller that shows another moment
@@ -198,7 +198,7 @@ abbrev pub showing : (moment : ℕ) → ScriptPoller → ScriptPoller
 showing moment p = record p { moment = record { nanos = moment } }
 
 -- the clock is set, and nothing else changes
-pub record ClockLine {R : Type 0} (s : State R) (moment : ℕ) (t : State R) : Type 0 where
+pub record ClockLine (s : State) (moment : ℕ) (t : State) : Type 0 where
   pub changed : Calls (NewPoller (showing moment s.loop.poll.poller)) (OldPoller s.loop.poll.poller) s.loop t.loop
   pub sources : t.sources ≡ s.sources
   pub fault : t.fault ≡ s.fault
@@ -209,7 +209,7 @@ events_of None = []
 events_of (Some pending) = pending.events
 
 -- one event more in the pending answer, whose moment is what the clock shows; a 1,025th can't be read
-abbrev pub AnswerLine : {R : Type 0} → State R → (key : ℕ) → Readiness → Option (State R × List ℕ) → Type 0
+abbrev pub AnswerLine : State → (key : ℕ) → Readiness → Option (State × List ℕ) → Type 0
 AnswerLine s key readiness None = events_per_wait ≤ length (events_of s.pending)
 AnswerLine s key readiness (Some (t, said)) =
     (length (events_of s.pending) < events_per_wait)
@@ -252,16 +252,16 @@ pending_after stands fault pending = if stands || fault then pending else None
 
 -- a dispatch over a poller that is ready for its wait, which is then without a script again; the text is the asked
 -- waits, then what the callbacks said, then the refusal
-pub record DispatchLine {R : Type 0} (s : State R) (timeout : Option ℕ) (t : State R) (said : List ℕ) : Type 0 where
+pub record DispatchLine (s : State) (timeout : Option ℕ) (t : State) (said : List ℕ) : Type 0 where
   pub ready : ScriptPoller
   pub is_ready : IsPrepared s.fault s.pending s.loop.poll.poller ready
-  pub before : View (Source R) (Unit {0}) ScriptPoller
+  pub before : View Source (Unit {0}) ScriptPoller
   pub lent : Calls (NewPoller ready) (OldPoller s.loop.poll.poller) s.loop before
   pub limit : Option Duration
   pub limit_is : nanos_of limit ≡ timeout
   pub answer : Result (Unit {0}) Error
   pub called : List ℕ
-  pub after : View (Source R) (Unit {0}) ScriptPoller
+  pub after : View Source (Unit {0}) ScriptPoller
   pub dispatched : Calls (DispatchCall limit (Some [])) (Dispatched answer (Some called)) before after
   pub is_back : IsTakenBack after.poll.poller t.loop.poll.poller
   pub back : Calls (NewPoller t.loop.poll.poller) (OldPoller after.poll.poller) after t.loop
@@ -271,7 +271,7 @@ pub record DispatchLine {R : Type 0} (s : State R) (timeout : Option ℕ) (t : S
   pub text : said ≡ (waits_text after.poll.poller.waits.items ++ called) ++ answer_text answer
 
 -- what a command does, and what it prints; nothing where the line can't be read
-abbrev pub Carried : {R : Type 0} → State R → Option Command → Option (State R × List ℕ) → Type 0
+abbrev pub Carried : State → Option Command → Option (State × List ℕ) → Type 0
 Carried s None outcome = outcome ≡ None
 Carried s (Some Nothing) outcome = outcome ≡ Some (s, [])
 Carried s (Some (Ping name)) outcome = InsertLine s name (IsNewPing name) outcome
@@ -287,16 +287,16 @@ Carried s (Some Fault) outcome = outcome ≡ Some (record s { fault = true }, []
 Carried s (Some (Dispatch timeout)) None = ⊥
 Carried s (Some (Dispatch timeout)) (Some (t, said)) = DispatchLine s timeout t said
 
-abbrev pub trace_step : {R : Type 0} → State R → List ℕ → Option (State R × List ℕ) → Type 0
+abbrev pub trace_step : State → List ℕ → Option (State × List ℕ) → Type 0
 trace_step s line outcome = Carried s (command_of line) outcome
 
 -- the same of a loop
-abbrev pub state_and_text : {R : Type 0} → ScriptLoop R × List ℕ → State R × List ℕ
+abbrev pub state_and_text : {R : Type 0} → ScriptLoop R × List ℕ → State × List ℕ
 state_and_text p = (state_of p.0, p.1)
 
 abbrev pub line_step : {R : Type 0} → ScriptLoop R → List ℕ → Option (ScriptLoop R × List ℕ) → Type 0
 line_step s line outcome = trace_step (state_of s) line (option_map state_and_text outcome)
 
--- from a machine to which nothing has happened, the lines of a script may write this, by a loop over this runtime
-abbrev pub MayWrite : (R : Type 0) → List ℕ → Written → Type 0
-MayWrite R script w = (start : State R) × IsStart start × Writes trace_step start 1 (lines_of script) w
+-- from a machine to which nothing has happened, the lines of a script may write this
+abbrev pub MayWrite : List ℕ → Written → Type 0
+MayWrite script w = (start : State) × IsStart start × Writes trace_step start 1 (lines_of script) w

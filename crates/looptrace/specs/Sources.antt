@@ -2,6 +2,7 @@
 use Rattle.std.specs.Prelude.{◌≡◌, ℕ, List, Option}
 use Rattle.calloop_wake.specs.declared.error.Error.TheVariants.{OutOfMemory}
 use Rattle.calloop_wake.specs.declared.wheel.Instant.{Instant}
+use Rattle.calloop_wake.specs.declared.wake.Twin.{Twin}
 use Rattle.calloop_core.specs.declared.sources.dispatch.Dispatcher.{Dispatcher}
 use Rattle.calloop_core.specs.declared.timer.Timer.{Timer}
 use Rattle.calloop_core.specs.declared.timer.TimeoutAction.{TimeoutAction}
@@ -14,7 +15,6 @@ use Rattle.calloop.specs.declared.loop_logic.Sources.{Sources}
 use Rattle.calloop.specs.Askings.{Asks, Reaches, Runs}
 use Rattle.calloop.specs.Choices.{with_data}
 use Rattle.calloop_core.specs.Timers.{timer_meaning}
-use Rattle.calloop.specs.declared.ping.PingSource.{PingSource}
 use Rattle.calloop.specs.Pings.{ping_meaning}
 use Rattle.looptrace.specs.declared.source.Teller.{Teller}
 use Rattle.looptrace.specs.declared.source.Alarm.{Alarm}
@@ -34,21 +34,21 @@ tells_deadline alarm deadline metadata said asked answer after metadata' said' a
     (answer ≡ Drop) × (after ≡ alarm) × Tells (alarm_text alarm.name deadline.nanos) said said' × (asked' ≡ asked)
 
 -- the sources of a script: a ping with its teller, or a timer with its alarm
-abbrev pub Source : Type 0 → Type 0
-Source R = Sources (OneOf (Dispatcher (PingSource R) Teller) (Dispatcher Timer Alarm)) (Option (List ℕ)) (Unit {0})
+abbrev pub Source : Type 0
+Source = Sources (OneOf (Dispatcher Twin Teller) (Dispatcher Timer Alarm)) (Option (List ℕ)) (Unit {0})
 
-abbrev pub ping_in : {R : Type 0} → Dispatcher (PingSource R) Teller → Source R
+abbrev pub ping_in : Dispatcher Twin Teller → Source
 ping_in d = with_data (First d)
 
-abbrev pub timer_in : {R : Type 0} → Dispatcher Timer Alarm → Source R
+abbrev pub timer_in : Dispatcher Timer Alarm → Source
 timer_in d = with_data (Other d)
 
-abbrev pub source_meaning : {P R : Type 0} → Meaning (Source R) P (Lent (Option (List ℕ)) (Asks (Source R) (Unit {0})))
+abbrev pub source_meaning : {P : Type 0} → Meaning Source P (Lent (Option (List ℕ)) (Asks Source (Unit {0})))
 source_meaning =
     seen_as (λ s. s.held)
     (one_of (with_callback ping_meaning tells Reaches (λ cause e. e ≡ OutOfMemory))
     (with_callback timer_meaning tells_deadline Reaches (λ cause e. e ≡ OutOfMemory)))
 
 -- a script asks for no idle
-abbrev pub no_idles : {R : Type 0} → Runs (Source R) (Unit {0}) (Option (List ℕ))
+abbrev pub no_idles : Runs Source (Unit {0}) (Option (List ℕ))
 no_idles idle said asked said' asked' = (said' ≡ said) × (asked' ≡ asked)

@@ -1,7 +1,6 @@
 //! The sources of a script under their names, with the pings that ring them.
 ghost use Rattle.std.specs.Prelude.{◌≡◌, [], OnOk, OnErr, None, is_some};
 ghost use Rattle.std.specs.Option.{option_map};
-ghost use Rattle.calloop.specs.Pings.{cell_of};
 ghost use Rattle.looptrace.specs.Named.{is_taken, ping_named, with_source, closed};
 
 use crate::name::SourceName;
@@ -20,13 +19,11 @@ struct Named<R: Wait + Drop> {
 
 impl<R: Wait + Drop> Model for Named<R> {
     ghost use Rattle.std.specs.Prelude.{Option};
-    ghost use Rattle.std.specs.Option.{option_map};
-    ghost use Rattle.calloop.specs.Pings.{cell_of};
     ghost use Rattle.logbook.specs.Pages.{Book};
 
     ghost Value = { Option Book };
 
-    ghost view = { λ s. option_map cell_of s.ping };
+    ghost view = { λ s. s.ping };
 }
 
 impl<R: Wait + Drop> Named<R> {
@@ -116,7 +113,7 @@ impl<R: Wait + Drop> Names<R> {
     /// Keeps a name with its ping. Where the name has a source already, that one's ping is dropped. An `Err` is want of
     /// memory, and nothing changes.
     pub fn insert(&mut self, name: SourceName, ping: Option<Ping<R>>) -> Result<(), AllocError>
-        ensures ok { OnOk result (self.new ≡ with_source name (option_map cell_of ping) self.old) }
+        ensures ok { OnOk result (self.new ≡ with_source name ping self.old) }
         ensures err { OnErr result (self.new ≡ self.old) }
     {
         self.by_name.insert(name, Named { ping })?;

@@ -6,7 +6,6 @@ ghost use Rattle.std.specs.IoError.{error_kind};
 ghost use Rattle.std.specs.declared.io.ErrorKind.TheVariants.{OutOfMemory};
 ghost use Rattle.calloop_core.specs.Pollers.{nanos_of, events_per_wait};
 ghost use Rattle.calloop_core.specs.Polls.{is_filled};
-ghost use Rattle.calloop.specs.Pings.{cell_of};
 ghost use Rattle.looptrace.specs.Runs.{token_with, removed_text, RemoveLine, Pending, pending_of, events_of, AnswerLine, NextAnswer, fault_after, pending_after, IsTakenBack, word_of, waits_text, answer_text, nanos_in, IsStart, state_of, InsertSays, InsertLine, RingLine, CloseLine, ClockLine, IsPrepared, DispatchLine, Carried, IsNewPing, IsNewTimer};
 
 use crate::command::{Command, parse};
@@ -140,7 +139,7 @@ fn keep<S: Drop, R: Wait + Drop>(
     answer: Result<RegistrationToken, InsertError<S>>,
     text: &mut Vec<u8>,
 ) -> Result<(), AllocError>
-    ensures { OnOk result ((said : List ℕ) × (text.new.items ≡ text.old.items ++ said) × InsertSays name (option_map cell_of ping) answer sources.old sources.new said) }
+    ensures { OnOk result ((said : List ℕ) × (text.new.items ≡ text.old.items ++ said) × InsertSays name ping answer sources.old sources.new said) }
 {
     match answer {
         Ok(token) => {

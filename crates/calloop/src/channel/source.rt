@@ -1,10 +1,11 @@
 //! A channel as a source of the loop.
-ghost use Rattle.std.specs.Prelude.{◌≡◌, ◌<◌, Bool, false, List, Option, Result};
-ghost use Rattle.calloop_wake.specs.declared.token.Token.{Token};
+ghost use Rattle.std.specs.Prelude.{◌≡◌, ◌<◌, List, Some, IfOk, IfErr};
+ghost use Rattle.calloop_wake.specs.Tokens.{key_of};
+ghost use Rattle.calloop_wake.specs.Cells.{is_own};
 ghost use Rattle.calloop_wake.specs.Channels.{turn_after_pop, twin_after_pop, is_close};
 ghost use Rattle.calloop_wake.specs.declared.wake.channel.Popped.{Popped};
-ghost use Rattle.calloop_core.specs.Calls.{CallbackCall, Went};
-ghost use Rattle.calloop.specs.Channels.{call_of, turn_after, IsOver, Handed};
+ghost use Rattle.calloop_core.specs.Calls.{Went};
+ghost use Rattle.calloop.specs.Channels.{call_of, begun, label_of, opened, turn_after, IsOver, Handed};
 
 use super::cell::{self, ChannelCell};
 use super::{Channel, ChannelError, Event};
@@ -19,7 +20,7 @@ use calloop_wake::error::{Error, Result as LoopResult};
 use calloop_wake::token::{Token, TokenFactory};
 use calloop_wake::wake::channel::Popped;
 use calloop_wake::wake::locked::Locked;
-use calloop_wake::wake::{ChannelTurn, Twin};
+use calloop_wake::wake::{ChannelTurn, TakenPass, Twin};
 use std::sync::Wait;
 
 impl IntoError for ChannelError {
@@ -105,6 +106,53 @@ where
     told
 }
 
+impl<T: Drop, R: Wait + Drop> Channel<T, R> {
+    // Whether the token is that under which it is registered.
+    fn is_own(&self, token: Token) -> bool
+        ensures { result ≡ is_own (key_of token) self.now.twin.key }
+    {
+        is_mine(&self.twin, token)
+    }
+
+    // Opens a turn of its cell. The pass comes back as refused where it opens none.
+    fn open_turn(&mut self, pass: TakenPass) -> Result<ChannelTurn, TakenPass>
+        ensures ok { IfOk result (λ turn.
+            (turn ≡ begun (label_of self.old)) × (self.new ≡ opened self.old)) }
+        ensures err { IfErr result (λ refused.
+            (refused ≡ record pass { refused = Some self.old.twin.name }) × (self.new ≡ self.old)) }
+    {
+        cell::open_turn(&self.rt, &self.shared, &mut self.twin, pass)
+    }
+
+    // The pops of a turn. Whether the close was told.
+    fn hand_out<F, X, Q>(
+        &mut self,
+        turn: ChannelTurn,
+        callback: &mut F,
+        data: &mut X,
+        requests: &mut Q,
+    ) -> bool
+    where
+        Q: Asking,
+        F: Callback<Event<T>, (), (), X, Q>,
+        requires { turn.name ≡ self.old.twin.name }
+        ensures label { label_of self.new ≡ label_of self.old }
+        ensures handed { (ps : List (Popped T)) × IsOver (turn_after ps turn)
+            × Handed F.may Q.reaches turn self.old.twin callback.old «data».old requests.old ps
+            (turn_after ps turn) self.new.twin result callback.new «data».new requests.new }
+    {
+        hand_out(
+            &self.rt,
+            &self.shared,
+            &mut self.twin,
+            turn,
+            callback,
+            data,
+            requests,
+        )
+    }
+}
+
 impl<T: Drop, P: Poller, C, R: Wait + Drop> EventSource<P, C, R> for Channel<T, R> {
     ghost use Rattle.calloop.specs.Channels.{channel_meaning};
     ghost use Rattle.calloop.specs.Listening.{channel_keeps};
@@ -135,23 +183,15 @@ impl<T: Drop, P: Poller, C, R: Wait + Drop> EventSource<P, C, R> for Channel<T, 
         Q: Asking,
         F: Callback<Event<T>, (), (), X, Q>,
     {
-        if !is_mine(&self.twin, token) {
+        if !self.is_own(token) {
             return Ok(PostAction::Continue);
         }
         let Some(pass) = poll.take_pass() else {
             return Ok(PostAction::Continue);
         };
-        match cell::open_turn(&self.rt, &self.shared, &mut self.twin, pass) {
+        match self.open_turn(pass) {
             Ok(turn) => {
-                let told = hand_out(
-                    &self.rt,
-                    &self.shared,
-                    &mut self.twin,
-                    turn,
-                    callback,
-                    data,
-                    requests,
-                );
+                let told = self.hand_out(turn, callback, data, requests);
                 Ok(action_of(told))
             }
             Err(pass) => {

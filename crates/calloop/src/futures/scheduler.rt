@@ -12,17 +12,31 @@ use calloop_core::sys::hub::share;
 use calloop_wake::wake::executor::{ExecutorCore, PutRefusal};
 use calloop_wake::wake::{Receipt, Sender};
 use std::alloc::AllocError;
+use std::marker::Model;
 use std::sync::{Arc, Wait};
 
 /// Hands futures to its executor, from any thread. As many as are cloned hand them to the same one, and the drop of the last closes
 /// nothing.
+///
+/// In a clause it is the name of its executor's cell.
 pub struct Scheduler<Fut: Drop, R: Wait + Drop> {
     rt: R,
     shared: SharedCell<ExecutorCore>,
     homes: SharedHomes<Fut, R>,
     sender: Sender,
-    ghost tied: { sender.name ≡ (arc_value shared).slot },
-    ghost housed: { (arc_value homes).slot ≡ (arc_value shared).slot },
+}
+
+impl<Fut: Drop, R: Wait + Drop> Model for Scheduler<Fut, R> {
+    ghost use Rattle.std.specs.Prelude.{◌≡◌};
+    ghost use Rattle.std.specs.Arc.{arc_value};
+    ghost use Rattle.logbook.specs.Pages.{Book};
+
+    ghost Value = { Book };
+
+    ghost view = { λ s. (arc_value s.shared).slot };
+
+    ghost invariant = { λ s. (s.sender.name ≡ (arc_value s.shared).slot)
+        × ((arc_value s.homes).slot ≡ (arc_value s.shared).slot) };
 }
 
 // Why a future isn't scheduled.
@@ -48,7 +62,7 @@ impl<Fut: Drop, R: Wait + Drop> Scheduler<Fut, R> {
     ) -> Scheduler<Fut, R>
         requires sender { sender.name ≡ (arc_value shared).slot }
         requires homes { (arc_value homes).slot ≡ (arc_value shared).slot }
-        ensures { result.shared ≡ shared }
+        ensures { result ≡ (arc_value shared).slot }
     {
         Scheduler {
             rt,
@@ -65,7 +79,7 @@ impl<Fut: Future<R>, R: Wait + Clone + Drop> Scheduler<Fut, R> {
     /// Where the executor is gone, the answer is `Destroyed`, and the future is dropped. Want of memory hands it back; later wakes
     /// of the task take none.
     pub fn schedule(&self, future: Fut) -> Result<Receipt, ScheduleError<Fut>>
-        ensures ok { IfOk result (λ r. r.name ≡ (arc_value self.now.shared).slot) }
+        ensures ok { IfOk result (λ r. r.name ≡ self.now) }
         ensures err { IfErr result (IsRefusalOf future) }
     {
         let Ok(own) = self.rt.clone() else {
@@ -95,9 +109,8 @@ impl<Fut: Future<R>, R: Wait + Clone + Drop> Scheduler<Fut, R> {
 
 impl<Fut: Drop, R: Wait + Clone + Drop> Clone for Scheduler<Fut, R> {
     ghost use Rattle.std.specs.Prelude.{◌≡◌};
-    ghost use Rattle.std.specs.Arc.{arc_value};
 
-    ghost is_clone = { λ scheduler again. (arc_value again.shared).slot ≡ (arc_value scheduler.shared).slot };
+    ghost is_clone = { λ scheduler again. again ≡ scheduler };
 
     fn clone(&self) -> Result<Scheduler<Fut, R>, AllocError> {
         let rt = self.rt.clone()?;

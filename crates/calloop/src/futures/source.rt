@@ -1,6 +1,7 @@
 //! An executor as a source of the loop.
-ghost use Rattle.std.specs.Prelude.{◌≡◌, ◌≤◌, ◌+◌, List, length};
-ghost use Rattle.calloop_wake.specs.Cells.{one};
+ghost use Rattle.std.specs.Prelude.{◌≡◌, ◌≤◌, ◌+◌, List, length, Some, IfOk, IfErr};
+ghost use Rattle.calloop_wake.specs.Tokens.{key_of};
+ghost use Rattle.calloop_wake.specs.Cells.{one, is_own};
 ghost use Rattle.calloop_wake.specs.Executors.{at_start, most_tasks};
 ghost use Rattle.calloop_core.specs.Calls.{Went};
 ghost use Rattle.calloop.specs.Executors.{OfPop, gave, lacks, ComesOf, AllGiven, call_of, calls_of, results_of, misses_of};
@@ -17,10 +18,10 @@ use calloop_core::sys::synthetic::Synthetic;
 use calloop_core::sys::{Poller, Readiness};
 use calloop_wake::error::{Error, Result as LoopResult};
 use calloop_wake::token::{Token, TokenFactory};
-use calloop_wake::wake::Twin;
 use calloop_wake::wake::executor::TaskTurn;
 use calloop_wake::wake::homes::{Homes, PoppedTask, TakenFuture};
 use calloop_wake::wake::locked::Locked;
+use calloop_wake::wake::{TakenPass, Twin};
 use std::sync::Wait;
 
 impl IntoError for ExecutorError {
@@ -116,6 +117,59 @@ where
     cell::end_turn(rt, shared, twin, turn, finished);
 }
 
+impl<Fut: Future<R>, R: Wait + Drop> Executor<Fut, R> {
+    // Whether the token is that under which it is registered.
+    fn is_own(&self, token: Token) -> bool
+        ensures { result ≡ is_own (key_of token) self.now.key }
+    {
+        is_mine(&self.twin, token)
+    }
+
+    // Opens a turn of its cell. The pass comes back as refused where it opens none.
+    fn open_turn(&mut self, pass: TakenPass) -> Result<TaskTurn, TakenPass>
+        ensures ok { IfOk result (λ turn.
+            (turn ≡ record { name = self.old.name; progress = at_start })
+            × (self.new ≡ record self.old { turns = self.old.turns + 1 })) }
+        ensures err { IfErr result (λ refused.
+            (refused ≡ record pass { refused = Some self.old.name }) × (self.new ≡ self.old)) }
+    {
+        cell::open_turn(&self.rt, &self.shared, &mut self.twin, pass)
+    }
+
+    // The pops of a turn, each with its poll.
+    fn run_tasks<F, X, Q>(
+        &mut self,
+        turn: TaskTurn,
+        callback: &mut F,
+        data: &mut X,
+        requests: &mut Q,
+    )
+    where
+        Q: Asking,
+        F: Callback<Fut::Output, (), (), X, Q>,
+        requires { turn ≡ record { name = self.old.name; progress = at_start } }
+        ensures { (polled : List (OfPop Fut.Output)) × (length polled ≤ most_tasks)
+            × (self.new ≡ record self.old {
+              number = self.old.number + results_of polled;
+              misses = self.old.misses + misses_of polled;
+            })
+            × AllGiven (ComesOf Fut.gives Fut.polls) polled
+            × Went F.may Q.reaches callback.old «data».old requests.old (calls_of polled)
+            callback.new «data».new requests.new }
+    {
+        run_tasks(
+            &self.rt,
+            &self.shared,
+            &self.homes,
+            &mut self.twin,
+            turn,
+            callback,
+            data,
+            requests,
+        );
+    }
+}
+
 impl<Fut: Future<R>, P: Poller, C, R: Wait + Drop> EventSource<P, C, R> for Executor<Fut, R> {
     ghost use Rattle.std.specs.Prelude.{◌≡◌};
     ghost use Rattle.calloop.specs.Executors.{ComesOf, executor_meaning};
@@ -129,7 +183,7 @@ impl<Fut: Future<R>, P: Poller, C, R: Wait + Drop> EventSource<P, C, R> for Exec
 
     type Error = ExecutorError;
 
-    ghost means = { executor_meaning (ComesOf Fut.gives Fut.polls) (λ s. s.twin) (λ s t. t.shared ≡ s.shared) };
+    ghost means = { executor_meaning (ComesOf Fut.gives Fut.polls) };
 
     /// Its turn: polls the queued tasks in their order, at most 1,024, each outside of every lock, and calls back with each result.
     /// After 1,024 it is posted again. A task that is woken in its poll is queued once more, and one that gave its result isn't
@@ -147,23 +201,14 @@ impl<Fut: Future<R>, P: Poller, C, R: Wait + Drop> EventSource<P, C, R> for Exec
         Q: Asking,
         F: Callback<Fut::Output, (), (), X, Q>,
     {
-        if !is_mine(&self.twin, token) {
+        if !self.is_own(token) {
             return Ok(PostAction::Continue);
         }
         let Some(pass) = poll.take_pass() else {
             return Ok(PostAction::Continue);
         };
-        match cell::open_turn(&self.rt, &self.shared, &mut self.twin, pass) {
-            Ok(turn) => run_tasks(
-                &self.rt,
-                &self.shared,
-                &self.homes,
-                &mut self.twin,
-                turn,
-                callback,
-                data,
-                requests,
-            ),
+        match self.open_turn(pass) {
+            Ok(turn) => self.run_tasks(turn, callback, data, requests),
             Err(pass) => poll.put_back(pass),
         }
         Ok(PostAction::Continue)
@@ -212,5 +257,5 @@ impl<Fut: Future<R>, P: Poller, C, R: Wait + Drop> EventSource<P, C, R> for Exec
 
     fn before_handle_events(&mut self, _events: EventIterator<'_>) {}
 
-    ghost keeps = { executor_keeps (ComesOf Fut.gives Fut.polls) (λ s. s.twin) (λ s t. t.shared ≡ s.shared) };
+    ghost keeps = { executor_keeps (ComesOf Fut.gives Fut.polls) };
 }

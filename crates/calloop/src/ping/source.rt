@@ -1,12 +1,13 @@
 //! A ping as a source of the loop.
-ghost use Rattle.std.specs.Prelude.{◌≡◌, Bool, List, Option, Result, is_some};
-ghost use Rattle.calloop_wake.specs.declared.token.Token.{Token};
-ghost use Rattle.calloop_core.specs.Polls.{PollStep, poll_view, AllStepped};
-ghost use Rattle.calloop_core.specs.Calls.{CallbackCall, Went};
+ghost use Rattle.std.specs.Prelude.{◌≡◌, Some, IfOk, IfErr, is_some};
+ghost use Rattle.calloop_wake.specs.Tokens.{key_of};
+ghost use Rattle.calloop_wake.specs.Cells.{is_own};
+ghost use Rattle.calloop_core.specs.Calls.{Went};
 ghost use Rattle.calloop_core.specs.Marks.{IsRegisteredBy};
-ghost use Rattle.calloop.specs.Pings.{calls_of, action_of, ping_meaning};
+ghost use Rattle.calloop.specs.Pings.{calls_of, action_of, twin_opened, ping_meaning};
 
-use super::{PingSource, cell};
+use super::PingSource;
+use super::cell::{self, Due};
 use crate::cell::source::{is_mine, register, reregister, unregister};
 use calloop_core::sources::{Asking, Callback, EventSource, IntoError, PostAction};
 use calloop_core::sys::events::EventIterator;
@@ -15,6 +16,7 @@ use calloop_core::sys::synthetic::Synthetic;
 use calloop_core::sys::{Poller, Readiness};
 use calloop_wake::error::{Error, Result as LoopResult};
 use calloop_wake::token::{Token, TokenFactory};
+use calloop_wake::wake::TakenPass;
 use std::sync::Wait;
 use thiserror::Error as ThisError;
 
@@ -67,8 +69,27 @@ pub(crate) fn action_of(told: bool) -> PostAction
 /// A ping is registered from a registration that succeeds until one is taken back, as its twin's key shows. So the law
 /// `at_most_one_is_registered` holds of a wrapper of pings.
 pub fn is_registered_by_its_calls<P: Poller, R: Wait + Drop>()
-    ensures { IsRegisteredBy (ping_meaning {P = P} {R = R}) (λ source. is_some source.twin.key) }
+    ensures { IsRegisteredBy (ping_meaning {P = P}) (λ twin. is_some twin.key) }
 {}
+
+impl<R: Wait + Drop> PingSource<R> {
+    // Whether the token is that under which it is registered.
+    pub(crate) fn is_own(&self, token: Token) -> bool
+        ensures { result ≡ is_own (key_of token) self.now.key }
+    {
+        is_mine(&self.twin, token)
+    }
+
+    // A turn of its cell. The pass comes back as refused where it opens none.
+    pub(crate) fn take_turn(&mut self, pass: TakenPass) -> Result<Due, TakenPass>
+        ensures name { self.new.name ≡ self.old.name }
+        ensures ok { IfOk result (λ due. self.new ≡ twin_opened due.rung due.told self.old) }
+        ensures err { IfErr result (λ refused.
+            (refused ≡ record pass { refused = Some self.old.name }) × (self.new ≡ self.old)) }
+    {
+        cell::take_turn(&self.rt, &self.shared, &mut self.twin, pass)
+    }
+}
 
 impl<P: Poller, C, R: Wait + Drop> EventSource<P, C, R> for PingSource<R> {
     ghost use Rattle.calloop.specs.Pings.{ping_meaning};
@@ -99,13 +120,13 @@ impl<P: Poller, C, R: Wait + Drop> EventSource<P, C, R> for PingSource<R> {
         Q: Asking,
         F: Callback<(), (), (), X, Q>,
     {
-        if !is_mine(&self.twin, token) {
+        if !self.is_own(token) {
             return Ok(PostAction::Continue);
         }
         let Some(pass) = poll.take_pass() else {
             return Ok(PostAction::Continue);
         };
-        match cell::take_turn(&self.rt, &self.shared, &mut self.twin, pass) {
+        match self.take_turn(pass) {
             Ok(due) => {
                 call_if(due.rung, callback, data, requests);
                 Ok(action_of(due.told))

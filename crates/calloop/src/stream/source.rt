@@ -1,21 +1,19 @@
 //! A stream as a source of the loop.
-ghost use Rattle.std.specs.Prelude.{◌≡◌, List, length, None, Some, IfOk, IfErr};
-ghost use Rattle.calloop_core.specs.Calls.{Went};
-ghost use Rattle.calloop_wake.specs.Cells.{is_own};
+ghost use Rattle.std.specs.Prelude.{◌≡◌, List, length, Some, IfOk, IfErr};
 ghost use Rattle.calloop_wake.specs.Tokens.{key_of};
-ghost use Rattle.calloop.specs.Pings.{twin_opened};
+ghost use Rattle.calloop_wake.specs.Cells.{is_own};
+ghost use Rattle.calloop_core.specs.Calls.{Went};
 ghost use Rattle.calloop.specs.StreamReads.{ReadsTo, left_by};
-ghost use Rattle.calloop.specs.Streams.{StreamCalls, calls_of, action_of, reading_of, EndsSo, RingsItself, ReadsSo};
+ghost use Rattle.calloop.specs.Streams.{StreamCalls, calls_of, action_of, opened, EndsSo, RingsItself, ReadsSo};
 ghost use Rattle.calloop.specs.declared.stream.reading.Readable.{Readable};
 ghost use Rattle.std.specs.Option.{option_map};
 ghost use Rattle.calloop.specs.declared.stream.reading.Ending.{Ending};
-ghost use Rattle.std.specs.Arc.{arc_value};
 
 use super::reading::{Ending, Read, Readable, Stream};
 use super::{StreamError, StreamSource};
-use crate::cell::source::{is_mine, register, reregister, unregister};
-use crate::ping::cell::{self, Due};
-use crate::ping::{Ping, PingSource};
+use crate::cell::source::{register, reregister, unregister};
+use crate::ping::Ping;
+use crate::ping::cell::Due;
 use calloop_core::sources::{Asking, Callback, EventSource, PostAction};
 use calloop_core::sys::events::EventIterator;
 use calloop_core::sys::poll::Poll;
@@ -69,7 +67,7 @@ where
 
 // The receipt of a ring by which the source asks for another turn, where it stopped at the limit.
 fn ring_at_limit<R: Wait + Drop>(ping: &Ping<R>, ending: Ending) -> Option<Receipt>
-    ensures { RingsItself (arc_value ping.now.shared).slot ending result }
+    ensures { RingsItself ping.now ending result }
 {
     match ending {
         Ending::AtLimit => Some(ping.ping()),
@@ -88,6 +86,23 @@ fn action_of(ending: Ending) -> PostAction
 }
 
 impl<S: Stream<R>, R: Wait + Drop> StreamSource<S, R> {
+    // Whether the token is that under which it is registered.
+    fn is_own(&self, token: Token) -> bool
+        ensures { result ≡ is_own (key_of token) self.now.twin.key }
+    {
+        self.source.is_own(token)
+    }
+
+    // A turn of its ping's cell. The pass comes back as refused where it opens none.
+    fn take_turn(&mut self, pass: TakenPass) -> Result<Due, TakenPass>
+        ensures name { self.new.twin.name ≡ self.old.twin.name }
+        ensures ok { IfOk result (λ due. self.new ≡ opened due.rung due.told self.old) }
+        ensures err { IfErr result (λ refused.
+            (refused ≡ record pass { refused = Some self.old.twin.name }) × (self.new ≡ self.old)) }
+    {
+        self.source.take_turn(pass)
+    }
+
     // What an opened turn does: one that took a ring reads the stream, unless its end was told before.
     fn listen<F, X, Q>(
         &mut self,
@@ -99,12 +114,10 @@ impl<S: Stream<R>, R: Wait + Drop> StreamSource<S, R> {
     where
         Q: Asking,
         F: Callback<Option<S::Item>, (), (), X, Q>,
-        ensures source { self.new.source ≡ self.old.source }
+        ensures twin { self.new.twin ≡ self.old.twin }
         ensures reads { (items : List S.Item) × (ending : Ending) × (calls : StreamCalls S.Item)
-            × ReadsSo S.polls self.old.source.twin.name rung
-            (reading_of self.old.stream self.old.own).stream items ending
-            (reading_of self.old.stream self.old.own) calls result
-            (reading_of self.new.stream self.new.own)
+            × ReadsSo S.polls self.old.twin.name rung self.old.reading.stream items ending
+            self.old.reading calls result self.new.reading
             × Went F.may Q.reaches callback.old «data».old requests.old calls
             callback.new «data».new requests.new }
     {
@@ -123,7 +136,7 @@ impl<S: Stream<R>, R: Wait + Drop> StreamSource<S, R> {
 
 impl<S: Stream<R>, P: Poller, C, R: Wait + Drop> EventSource<P, C, R> for StreamSource<S, R> {
     ghost use Rattle.std.specs.Prelude.{◌≡◌};
-    ghost use Rattle.calloop.specs.Streams.{stream_meaning, stream_keeps, reading_of};
+    ghost use Rattle.calloop.specs.Streams.{stream_meaning, stream_keeps};
 
     type Event = Option<S::Item>;
 
@@ -133,7 +146,7 @@ impl<S: Stream<R>, P: Poller, C, R: Wait + Drop> EventSource<P, C, R> for Stream
 
     type Error = StreamError;
 
-    ghost means = { stream_meaning S.polls (λ s. s.source.twin) (λ s. reading_of s.stream s.own) (λ s t. t.source.shared ≡ s.source.shared) };
+    ghost means = { stream_meaning S.polls (λ s. s.twin) (λ s. s.reading) (λ s t. t.twin.name ≡ s.twin.name) };
 
     /// Its turn: where its ping stands, polls the stream and calls back with each item, until it is pending, or at most 1,024 times; then
     /// it asks for another turn. The end is called back as `None`, once, and removes the source. An event of another token, or without a
@@ -151,13 +164,13 @@ impl<S: Stream<R>, P: Poller, C, R: Wait + Drop> EventSource<P, C, R> for Stream
         Q: Asking,
         F: Callback<Option<S::Item>, (), (), X, Q>,
     {
-        if !is_own(&self.source, token) {
+        if !self.is_own(token) {
             return Ok(PostAction::Continue);
         }
         let Some(pass) = poll.take_pass() else {
             return Ok(PostAction::Continue);
         };
-        match take_turn(&mut self.source, pass) {
+        match self.take_turn(pass) {
             Ok(due) => Ok(self.listen(due.rung, callback, data, requests)),
             Err(pass) => {
                 poll.put_back(pass);
@@ -209,24 +222,5 @@ impl<S: Stream<R>, P: Poller, C, R: Wait + Drop> EventSource<P, C, R> for Stream
 
     fn before_handle_events(&mut self, _events: EventIterator<'_>) {}
 
-    ghost keeps = { stream_keeps S.polls (λ s. s.source.twin) (λ s. reading_of s.stream s.own) (λ s t. t.source.shared ≡ s.source.shared) };
-}
-
-// A turn of the ping's cell. The pass comes back as refused where it opens none.
-fn take_turn<R: Wait + Drop>(source: &mut PingSource<R>, pass: TakenPass) -> Result<Due, TakenPass>
-    ensures shared { source.new.shared ≡ source.old.shared }
-    ensures ok { IfOk result
-        (λ due. source.new.twin ≡ twin_opened due.rung due.told source.old.twin) }
-    ensures err { IfErr result
-        (λ refused. (refused ≡ record pass { refused = Some source.old.twin.name })
-        × (source.new.twin ≡ source.old.twin)) }
-{
-    cell::take_turn(&source.rt, &source.shared, &mut source.twin, pass)
-}
-
-// Whether the token is that of the ping.
-fn is_own<R: Wait + Drop>(source: &PingSource<R>, token: Token) -> bool
-    ensures { result ≡ is_own (key_of token) source.now.twin.key }
-{
-    is_mine(&source.twin, token)
+    ghost keeps = { stream_keeps S.polls (λ s. s.twin) (λ s. s.reading) (λ s t. t.twin.name ≡ s.twin.name) };
 }

@@ -1,5 +1,4 @@
 use Rattle.std.specs.Io.KnownBytes.{Appends}
-use Rattle.std.proofs.Common.{◌≡◌}
 use Rattle.looptrace.proofs.InTimeLemmas.{all_in_time}
 use Rattle.looptrace.proofs.RunLemmas.{may_write}
 use Rattle.looptrace.proofs.trace.trace.Goals as goal
@@ -13,7 +12,7 @@ returns-clause-run g c =
 
 pub returns-clause-in_time : goal.returns-clause-in_time
 returns-clause-in_time g c =
-    all_in_time g.row.Q.Denot c.drive.result (g.R.Read.remaining c.args.streams.now.input)
+    all_in_time c.drive.result (g.R.Read.remaining c.args.streams.now.input)
     (λ w. Appends (g.W.Write.contents c.args.streams.now.output) (g.W.Write.contents c.drive.new.streams.output) w.out)
     (λ w. Appends (g.E.Write.contents c.args.streams.now.errors) (g.E.Write.contents c.drive.new.streams.errors) w.err)
     c.timers_are_called_in_time.ensures.in_time

@@ -7,6 +7,6 @@ returns-then-not-rung-clause-reads g c = rw c.if-not-rung.true ([], AtPending, [
 
 pub returns-in_default-clause-reads : goal.returns-in_default-clause-reads
 returns-in_default-clause-reads g c =
-    let none : c.args.self.now.stream ≡ None = sym c.in_default.ensures.value in
+    let none : c.self.inside.stream ≡ None = sym c.in_default.ensures.value in
     let after : c.take.new.self ≡ None = c.in_default.ensures.after in
-    rw (none, after, c.if-not-rung.false) ([], AtPending, [], (refl, refl, refl), (refl, refl, refl))
+    rw (sym c.self.view_is, none, after, c.if-not-rung.false) ([], AtPending, [], (refl, refl, refl), (refl, refl, refl))

@@ -18,11 +18,11 @@ use Rattle.looptrace.specs.Runs.{IsPrepared, IsTakenBack, State, state_of, pendi
 use Rattle.looptrace.proofs.runner.ScriptLoop.dispatch.Goals as goal
 
 -- an equal dispatch
-moved : {R : Type 0} (limit : Option Duration) (answer : Result (Unit {0}) Error) (x x' y y' : Option (List ℕ)) (v v' w w' : View (Source R) (Unit {0}) ScriptPoller) → x ≡ x' → y ≡ y' → v ≡ v' → w ≡ w'
+moved : (limit : Option Duration) (answer : Result (Unit {0}) Error) (x x' y y' : Option (List ℕ)) (v v' w w' : View Source (Unit {0}) ScriptPoller) → x ≡ x' → y ≡ y' → v ≡ v' → w ≡ w'
     → Calls (DispatchCall limit x) (Dispatched answer y) v w → Calls (DispatchCall limit x') (Dispatched answer y') v' w'
-moved {R} limit answer x x' y y' v v' w w' same_x same_y same_v same_w call =
-    subst (λ (w : View (Source R) (Unit {0}) ScriptPoller). Calls (DispatchCall limit x') (Dispatched answer y') v' w) same_w
-    (subst (λ (v : View (Source R) (Unit {0}) ScriptPoller). Calls (DispatchCall limit x') (Dispatched answer y') v w) same_v
+moved limit answer x x' y y' v v' w w' same_x same_y same_v same_w call =
+    subst (λ (w : View Source (Unit {0}) ScriptPoller). Calls (DispatchCall limit x') (Dispatched answer y') v' w) same_w
+    (subst (λ (v : View Source (Unit {0}) ScriptPoller). Calls (DispatchCall limit x') (Dispatched answer y') v w) same_v
     (subst (λ (y : Option (List ℕ)). Calls (DispatchCall limit x') (Dispatched answer y) v w) same_y
     (subst (λ (x : Option (List ℕ)). Calls (DispatchCall limit x) (Dispatched answer y) v w) same_x call)))
 
@@ -33,18 +33,18 @@ three old a b d t u v first second third =
 
 pub returns-clause-ok : goal.returns-clause-ok
 returns-clause-ok g c =
-    let s : State g.row.R.Denot = state_of c.args.self.now in
+    let s : State = state_of c.args.self.now in
     let held = c.handle.ensures.value in
     let held_after = c.handle-2.ensures.value in
     let ready : ScriptPoller = c.make_ready.new.poller in
     let back : ScriptPoller = c.take_back.new.poller in
-    let before : View (Source g.row.R.Denot) (Unit {0}) ScriptPoller = record s.loop { poll = polling ready s.loop.poll } in
-    let after : View (Source g.row.R.Denot) (Unit {0}) ScriptPoller = view_of c.dispatch-answer.new.self in
-    let poller : c.poller_mut.result.now ≡ s.loop.poll.poller = c.poller_mut.ensures.value ∙ ap (λ (e : EventLoop (Source g.row.R.Denot) ScriptPoller ScriptClock g.row.R.Denot (Option (List ℕ)) (Unit {0}) ScriptIo). e.poll.poller) held in
-    let poller_after : c.poller_mut-2.result.now ≡ after.poll.poller = c.poller_mut-2.ensures.value ∙ ap (λ (e : EventLoop (Source g.row.R.Denot) ScriptPoller ScriptClock g.row.R.Denot (Option (List ℕ)) (Unit {0}) ScriptIo). e.poll.poller) held_after in
-    let same_before : view_of (with_loop_poller ready c.handle.result.inner.now) ≡ before = ap (λ (e : EventLoop (Source g.row.R.Denot) ScriptPoller ScriptClock g.row.R.Denot (Option (List ℕ)) (Unit {0}) ScriptIo). view_of (with_loop_poller ready e)) held in
+    let before : View Source (Unit {0}) ScriptPoller = record s.loop { poll = polling ready s.loop.poll } in
+    let after : View Source (Unit {0}) ScriptPoller = view_of c.dispatch-answer.new.self in
+    let poller : c.poller_mut.result.now ≡ s.loop.poll.poller = c.poller_mut.ensures.value ∙ ap (λ (e : EventLoop Source ScriptPoller ScriptClock g.row.R.Denot (Option (List ℕ)) (Unit {0}) ScriptIo). e.poll.poller) held in
+    let poller_after : c.poller_mut-2.result.now ≡ after.poll.poller = c.poller_mut-2.ensures.value ∙ ap (λ (e : EventLoop Source ScriptPoller ScriptClock g.row.R.Denot (Option (List ℕ)) (Unit {0}) ScriptIo). e.poll.poller) held_after in
+    let same_before : view_of (with_loop_poller ready c.handle.result.inner.now) ≡ before = ap (λ (e : EventLoop Source ScriptPoller ScriptClock g.row.R.Denot (Option (List ℕ)) (Unit {0}) ScriptIo). view_of (with_loop_poller ready e)) held in
     let loop_back : view_of (with_loop_poller back c.handle-2.result.inner.now) ≡ record after { poll = polling back after.poll } =
-    ap (λ (e : EventLoop (Source g.row.R.Denot) ScriptPoller ScriptClock g.row.R.Denot (Option (List ℕ)) (Unit {0}) ScriptIo). view_of (with_loop_poller back e)) held_after in
+    ap (λ (e : EventLoop Source ScriptPoller ScriptClock g.row.R.Denot (Option (List ℕ)) (Unit {0}) ScriptIo). view_of (with_loop_poller back e)) held_after in
     let is_ready : IsPrepared s.fault s.pending s.loop.poll.poller ready = subst (λ (p : ScriptPoller). IsPrepared s.fault s.pending p ready) poller c.in_ok-make_ready.ensures.ok in
     let is_back : IsTakenBack after.poll.poller back = subst (λ (p : ScriptPoller). IsTakenBack p back) poller_after c.in_ok-stands.ensures.2 in
     let stands : c.in_ok-stands.stands ≡ is_filled after.poll.poller.answers.items = c.in_ok-stands.ensures.1 ∙ ap (λ (p : ScriptPoller). is_filled p.answers.items) poller_after in

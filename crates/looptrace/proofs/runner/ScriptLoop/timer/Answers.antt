@@ -8,15 +8,15 @@ use Rattle.looptrace.specs.Runs.{IsNewTimer, new_timer, pending_of}
 use Rattle.looptrace.proofs.InsertLemmas.{line_is}
 use Rattle.looptrace.proofs.runner.ScriptLoop.timer.Goals as goal
 
-new_is : (R : Type 0) (timer : Timer) (deadline : ℕ) (name : List ℕ) (asked : List ℕ) → timer ≡ unarmed (Some (record { nanos = deadline })) → name ≡ asked → ◌≡◌ {A = Source R} (timer_in (record { source = timer; callback = record { name = name } })) (new_timer asked deadline)
-new_is R timer deadline name asked is_unarmed same =
+new_is : (timer : Timer) (deadline : ℕ) (name : List ℕ) (asked : List ℕ) → timer ≡ unarmed (Some (record { nanos = deadline })) → name ≡ asked → ◌≡◌ {A = Source} (timer_in (record { source = timer; callback = record { name = name } })) (new_timer asked deadline)
+new_is timer deadline name asked is_unarmed same =
     ap (λ (timer : Timer). timer_in (record { source = timer; callback = record { name = name } })) is_unarmed ∙ ap (λ (name : List ℕ). new_timer name deadline) same
 
 pub returns-clause-ok : goal.returns-clause-ok
 returns-clause-ok g c =
     let name : List ℕ = c.args.name.now in
     let none = sym c.is_taken.ensures ∙ c.if-is_taken.false in
-    let source = new_is g.row.R.Denot c.from_deadline-source.result c.args.deadline c.in_ok-new.field-0 name c.from_deadline-source.ensures (c.in_ok-new.ensures ∙ c.as_slice.ensures) in
+    let source = new_is c.from_deadline-source.result c.args.deadline c.in_ok-new.field-0 name c.from_deadline-source.ensures (c.in_ok-new.ensures ∙ c.as_slice.ensures) in
     let kept : c.in_ok-kept.kept ≡ name = c.in_ok-kept.ensures ∙ c.as_slice-2.ensures in
     let says = c.in_ok-keep.ensures in (
       says.0,
