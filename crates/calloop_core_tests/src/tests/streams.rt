@@ -99,7 +99,7 @@ fn any_port() -> SocketAddr {
 }
 
 // Two ends of a connection over TCP.
-fn connected<R: Net + Abort>(rt: &R) -> (MioIo, MioIo) {
+pub(super) fn connected<R: Net + Abort>(rt: &R) -> (MioIo, MioIo) {
     let listener = TcpListener::bind(rt, any_port()).expect(rt, "a listener");
     let address = listener.local_addr().expect(rt, "an address");
     let near = TcpStream::connect(rt, address).expect(rt, "a stream");
