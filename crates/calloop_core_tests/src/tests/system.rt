@@ -5,12 +5,11 @@ use calloop_core::sys::{Clock, EVENTS_PER_WAIT, Interest, Poller, Readiness};
 use calloop_wake::wake::Notify;
 use mio::net::UnixStream;
 use std::alloc::{AllocGlobal, Global};
-use std::io;
 use std::io::{Read, Write};
-use std::mem;
 use std::net::Net;
 use std::process::Abort;
 use std::time::{Clock as MachineClock, Duration};
+use std::{io, mem};
 
 #[test]
 fn a_socket_is_told_of_once_it_can_be_read(rt: HostRuntime) {
@@ -136,10 +135,10 @@ fn a_byte_that_nobody_reads_is_told_again(rt: HostRuntime) {
 fn a_byte_that_nobody_reads_is_told_again_over_tcp(rt: HostRuntime) {
     let mut desk = Desk::over(&rt, connected(&rt));
     assert!(rt; desk.add(KEY, Interest::READ).is_ok());
-    assert!(rt; desk.writes() && desk.waits(SECOND, &[(KEY, true, false)]));
+    assert!(rt; desk.writes() && desk.comes_to_tell(&[(KEY, true, false)]));
     assert!(rt; desk.empties() && desk.modify(KEY, Interest::READ).is_ok());
     assert!(rt; desk.tells(&[]));
-    assert!(rt; desk.writes() && desk.waits(SECOND, &[(KEY, true, false)]));
+    assert!(rt; desk.writes() && desk.comes_to_tell(&[(KEY, true, false)]));
     assert!(rt; desk.modify(KEY, Interest::READ).is_ok());
     assert!(rt; desk.tells(&[(KEY, true, false)]));
 }
@@ -249,8 +248,6 @@ const OTHER_KEY: u64 = 65536;
 
 const MINUTE: u64 = 60_000_000_000;
 
-const SECOND: Duration = Duration::from_secs(1);
-
 // One stream stands before the poller, and the other is its peer.
 #[derive(Drop)]
 struct Desk<R: MachineClock + Clone + Drop> {
@@ -336,6 +333,11 @@ impl<R: MachineClock + Clone + Drop> Desk<R> {
     // Whether a wait of 0 gives these keys, readable and writable as they say, and no error.
     fn tells(&mut self, wanted: &[(u64, bool, bool)]) -> bool {
         self.waits(Duration::ZERO, wanted)
+    }
+
+    // Whether a wait of a second at most gives them.
+    fn comes_to_tell(&mut self, wanted: &[(u64, bool, bool)]) -> bool {
+        self.waits(Duration::from_secs(1), wanted)
     }
 
     fn waits(&mut self, timeout: Duration, wanted: &[(u64, bool, bool)]) -> bool {
