@@ -226,7 +226,9 @@ impl<C: Clock> Poller for MioPoller<C> {
         self.counted(answer)
     }
 
-    /// An empty interest is refused with an error of kind `InvalidInput`, and counted; the socket stays as it was added.
+    /// An empty interest is refused with an error of kind `InvalidInput`, and counted; the socket stays as it was added. A stream that is
+    /// registered so, and was read and written until it had to wait since the last wait of the poller, will be told of anyway: for that
+    /// the system isn't called.
     fn modify(&mut self, io: &mut MioIo, key: u64, interest: Interest) -> io::Result<()> {
         let answer = match asked(interest) {
             Some(asked) => self.register_again(io, key, interest, asked),

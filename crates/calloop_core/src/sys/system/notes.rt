@@ -1,4 +1,8 @@
-//! What a stream notes of itself, so that the poller needn't ask the machine what it is known to answer.
+//! What a stream notes of itself, so that the poller needn't call the system where it is known what that would do.
+//!
+//! A stream that was read until nothing was left is told of once something comes, as long as it stays registered as it is: `modify` has nothing to
+//! do. That is so until the next wait, which may find what came. So a note is a number, which the poller raises when a wait has ended, and
+//! which is taken before a read begins: what the next wait found may lie in the batch, and another thread may read while the poller waits.
 use crate::sys::Interest;
 use mio::Poll;
 use std::alloc::{AllocError, Global};
@@ -10,7 +14,7 @@ use std::sync::atomic::{AtomicU64, Ordering};
 // The number of no wait: they are counted from 1.
 pub(super) const NEVER: u64 = 0;
 
-/// The number of a poller's last wait that has ended, which its streams read too. It ends with the poller.
+/// The number of a poller's last wait that has ended, which its streams see too. It ends with the poller.
 pub struct WaitCount {
     number: Arc<AtomicU64, Global>,
     // The poller's descriptor: no other one has it while the poller is there.

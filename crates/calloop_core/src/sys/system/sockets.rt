@@ -14,7 +14,7 @@ use mio::{Registry, Token};
 use std::io;
 use std::io::{Read, Write};
 
-/// A socket of the machine. It is non-blocking. A stream notes when it was emptied and filled.
+/// A socket of the machine. It is non-blocking. Its streams note when they were emptied and filled.
 #[derive(Drop)]
 pub enum MioIo {
     TcpListener(TcpListener),

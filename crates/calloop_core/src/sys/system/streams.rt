@@ -12,8 +12,9 @@ use std::io::{Read, Write};
 use std::marker::Model;
 use std::ops::Deref;
 
-/// A stream of `mio`'s which notes when a read or a write of it had to wait. By that the poller knows that it will be told of the next
-/// change, and makes no call of the system where the stream is registered again as it was.
+/// A stream of `mio` that notes when a read or a write had to wait. So the poller knows that the next change will be told, and makes no call
+/// of the system where the stream is registered again as it was. Less than was asked for shows no such thing: a read also ends before an
+/// urgent byte, and behind a message with descriptors.
 #[derive(Drop)]
 pub struct NotingStream<S> {
     pub(super) stream: S,
@@ -136,6 +137,7 @@ impl<S> Deref for NotingStream<S> {
 }
 
 impl Read for NotingStream<TcpStream> {
+    /// Reads, and answers as the stream does. An answer of kind `WouldBlock` is noted.
     fn read(&mut self, buf: &mut [u8]) -> io::Result<usize>
         ensures bound { ReadsAtMost result buf.new }
         ensures same { self.new ≡ self.old }
@@ -147,6 +149,7 @@ impl Read for NotingStream<TcpStream> {
 }
 
 impl Write for NotingStream<TcpStream> {
+    /// Writes, and answers as the stream does. An answer of kind `WouldBlock` is noted.
     fn write(&mut self, buf: &[u8]) -> io::Result<usize>
         ensures bound { WritesAtMost result buf.now }
         ensures same { self.new ≡ self.old }
@@ -164,6 +167,7 @@ impl Write for NotingStream<TcpStream> {
 }
 
 impl Read for NotingStream<UnixStream> {
+    /// Reads, and answers as the stream does. An answer of kind `WouldBlock` is noted.
     fn read(&mut self, buf: &mut [u8]) -> io::Result<usize>
         ensures bound { ReadsAtMost result buf.new }
         ensures same { self.new ≡ self.old }
@@ -175,6 +179,7 @@ impl Read for NotingStream<UnixStream> {
 }
 
 impl Write for NotingStream<UnixStream> {
+    /// Writes, and answers as the stream does. An answer of kind `WouldBlock` is noted.
     fn write(&mut self, buf: &[u8]) -> io::Result<usize>
         ensures bound { WritesAtMost result buf.now }
         ensures same { self.new ≡ self.old }
