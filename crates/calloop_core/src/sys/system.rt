@@ -16,6 +16,7 @@ use calloop_wake::error::{Error, Result as LoopResult};
 use calloop_wake::wheel::Instant;
 use found::Found;
 use mio::{Poll, Token, Waker};
+use notes::WaitCount;
 use std::alloc::Global;
 use std::io;
 use std::net::Net;
@@ -24,12 +25,15 @@ use std::time::Duration;
 
 mod clock;
 mod found;
+mod notes;
 mod portions;
 mod sockets;
+mod streams;
 
 pub use clock::SystemClock;
 pub use portions::Precision;
 pub use sockets::MioIo;
+pub use streams::NotingStream;
 
 // No socket is told of under this key: the poller's own waker has it.
 const OWN_KEY: Token = Token(usize::MAX);
@@ -41,6 +45,7 @@ const OWN_KEY: Token = Token(usize::MAX);
 /// when the process gets a signal, and after each portion of a wait (`Precision`). By a clock that stood still meanwhile it is over.
 #[derive(Drop)]
 pub struct MioPoller<C> {
+    waits: WaitCount,
     poll: Poll,
     found: Found,
     waker: Arc<LazyWaker, Global>,
@@ -58,8 +63,10 @@ impl<C: Drop> MioPoller<C> {
     {
         let poll = Poll::new(rt)?;
         let found = Found::new(alloc)?;
+        let waits = WaitCount::new(alloc, &poll)?;
         let waker = Waker::new(poll.registry(), OWN_KEY)?;
         Ok(MioPoller {
+            waits,
             poll,
             found,
             waker: Arc::new(alloc, LazyWaker::new(waker))?,
@@ -85,6 +92,56 @@ impl<C> MioPoller<C> {
         } else {
             Some(Duration::ZERO)
         }
+    }
+
+    // A stream notes what it is registered for, where it is.
+    fn note(&self, answer: &io::Result<()>, io: &mut MioIo, key: u64, interest: Interest)
+        ensures { io.new ≡ io.old }
+    {
+        if answer.is_ok() {
+            io.note_registered(&self.waits, key, interest);
+        } else {
+            io.forget();
+        }
+    }
+
+    // The first time.
+    fn register(
+        &self,
+        io: &mut MioIo,
+        key: u64,
+        interest: Interest,
+        asked: mio::Interest,
+    ) -> io::Result<()>
+        ensures { io.new ≡ io.old }
+    {
+        let answer = self
+            .poll
+            .registry()
+            .register(io, Token(key as usize), asked);
+        self.note(&answer, io, key, interest);
+        answer
+    }
+
+    // Anew, by a call of the system where the machine may have told of something that is still there.
+    fn register_again(
+        &self,
+        io: &mut MioIo,
+        key: u64,
+        interest: Interest,
+        asked: mio::Interest,
+    ) -> io::Result<()>
+        ensures { io.new ≡ io.old }
+    {
+        if io.is_waiting(&self.waits, key, interest) {
+            return Ok(());
+        }
+        let answer = self
+            .poll
+            .registry()
+            .reregister(io, Token(key as usize), asked);
+        self.note(&answer, io, key, interest);
+        answer
     }
 
     // A refusal is one more fault.
@@ -163,28 +220,25 @@ impl<C: Clock> Poller for MioPoller<C> {
     /// An empty interest is refused with an error of kind `InvalidInput`, and counted.
     fn add(&mut self, io: &mut MioIo, key: u64, interest: Interest) -> io::Result<()> {
         let answer = match asked(interest) {
-            Some(asked) => self
-                .poll
-                .registry()
-                .register(io, Token(key as usize), asked),
+            Some(asked) => self.register(io, key, interest, asked),
             None => Err(no_interest()),
         };
         self.counted(answer)
     }
 
-    /// An empty interest is refused with an error of kind `InvalidInput`, and counted; the socket stays as it was added.
+    /// An empty interest is refused with an error of kind `InvalidInput`, and counted; the socket stays as it was added. A stream that is
+    /// registered so, and was read and written until it had to wait since the last wait of the poller, will be told of anyway: for that
+    /// the system isn't called.
     fn modify(&mut self, io: &mut MioIo, key: u64, interest: Interest) -> io::Result<()> {
         let answer = match asked(interest) {
-            Some(asked) => self
-                .poll
-                .registry()
-                .reregister(io, Token(key as usize), asked),
+            Some(asked) => self.register_again(io, key, interest, asked),
             None => Err(no_interest()),
         };
         self.counted(answer)
     }
 
     fn delete(&mut self, io: &mut MioIo) -> io::Result<()> {
+        io.forget();
         let answer = self.poll.registry().deregister(io);
         self.counted(answer)
     }
@@ -199,7 +253,9 @@ impl<C: Clock> Poller for MioPoller<C> {
         events: &mut Vec<(u64, Readiness)>,
     ) -> io::Result<()> {
         let timeout = self.time_to_sleep(timeout);
-        match self.find(timeout) {
+        let answer = self.find(timeout);
+        self.waits.count();
+        match answer {
             Ok(()) => {
                 self.waker.get_up();
                 self.found.append_to(events);

@@ -1,10 +1,10 @@
 //! Sockets that are read and written, and those that refuse it.
 use calloop_core::sys::script::ScriptIo;
-use calloop_core::sys::system::MioIo;
+use calloop_core::sys::system::{MioIo, NotingStream};
 use mio::net::{TcpListener, TcpStream, UdpSocket, UnixListener, UnixStream};
 use std::io;
 use std::io::{Read, Write};
-use std::net::{Ipv4Addr, Net, SocketAddr};
+use std::net::{Ipv4Addr, Net, Shutdown, SocketAddr};
 use std::os::unix::net::{SocketAddr as UnixAddr, SocketAddrExt};
 use std::process::Abort;
 
@@ -60,6 +60,21 @@ fn a_full_stream_would_block(rt: HostRuntime) {
 }
 
 #[test]
+fn a_stream_is_the_same_without_its_notes(rt: HostRuntime) {
+    let (near, far) = UnixStream::pair(&rt).expect(&rt, "two streams");
+    let (mut near, mut far) = (NotingStream::new(near), MioIo::from(far));
+    assert_eq!(rt;
+        kind_of(near.read(&mut [0u8; 4])),
+        Some(io::ErrorKind::WouldBlock)
+    );
+    assert!(rt; writes(&mut near, b"by it") && reads(&mut far, b"by it"));
+    assert!(rt; near.shutdown(Shutdown::Read).is_ok());
+    assert!(rt; reads(&mut near, b""));
+    assert!(rt; writes(near.get_mut(), b"lent") && reads(&mut far, b"lent"));
+    assert!(rt; writes(&mut near.into_inner(), b"alone") && reads(&mut far, b"alone"));
+}
+
+#[test]
 fn a_listener_and_a_udp_socket_refuse_to_be_read_and_written(rt: HostRuntime) {
     let listener = TcpListener::bind(&rt, any_port()).expect(&rt, "a listener");
     let port = listener.local_addr().expect(&rt, "an address").port();
@@ -99,7 +114,7 @@ fn any_port() -> SocketAddr {
 }
 
 // Two ends of a connection over TCP.
-fn connected<R: Net + Abort>(rt: &R) -> (MioIo, MioIo) {
+pub(super) fn connected<R: Net + Abort>(rt: &R) -> (MioIo, MioIo) {
     let listener = TcpListener::bind(rt, any_port()).expect(rt, "a listener");
     let address = listener.local_addr().expect(rt, "an address");
     let near = TcpStream::connect(rt, address).expect(rt, "a stream");

@@ -1,14 +1,15 @@
 //! The poller of the operating system, over two streams that are connected.
+use super::streams::connected;
 use calloop_core::sys::system::{MioIo, MioPoller, Precision, SystemClock};
 use calloop_core::sys::{Clock, EVENTS_PER_WAIT, Interest, Poller, Readiness};
 use calloop_wake::wake::Notify;
 use mio::net::UnixStream;
 use std::alloc::{AllocGlobal, Global};
-use std::io;
-use std::io::Write;
+use std::io::{Read, Write};
 use std::net::Net;
 use std::process::Abort;
 use std::time::{Clock as MachineClock, Duration};
+use std::{io, mem};
 
 #[test]
 fn a_socket_is_told_of_once_it_can_be_read(rt: HostRuntime) {
@@ -118,6 +119,129 @@ fn a_wait_of_milliseconds_ends_in_portions(rt: HostRuntime) {
     assert!(rt; desk.waits(Duration::from_millis(20), &[]));
 }
 
+#[test]
+fn a_byte_that_nobody_reads_is_told_again(rt: HostRuntime) {
+    let mut desk = Desk::new(&rt);
+    assert!(rt; desk.add(KEY, Interest::READ).is_ok());
+    assert!(rt; desk.writes() && desk.tells(&[(KEY, true, false)]));
+    assert!(rt; desk.empties() && desk.modify(KEY, Interest::READ).is_ok());
+    assert!(rt; desk.tells(&[]));
+    assert!(rt; desk.writes() && desk.tells(&[(KEY, true, false)]));
+    assert!(rt; desk.modify(KEY, Interest::READ).is_ok());
+    assert!(rt; desk.tells(&[(KEY, true, false)]));
+}
+
+#[test]
+fn a_byte_that_nobody_reads_is_told_again_over_tcp(rt: HostRuntime) {
+    let mut desk = Desk::over(&rt, connected(&rt));
+    assert!(rt; desk.add(KEY, Interest::READ).is_ok());
+    assert!(rt; desk.writes() && desk.comes_to_tell(&[(KEY, true, false)]));
+    assert!(rt; desk.empties() && desk.modify(KEY, Interest::READ).is_ok());
+    assert!(rt; desk.tells(&[]));
+    assert!(rt; desk.writes() && desk.comes_to_tell(&[(KEY, true, false)]));
+    assert!(rt; desk.modify(KEY, Interest::READ).is_ok());
+    assert!(rt; desk.tells(&[(KEY, true, false)]));
+}
+
+#[test]
+fn a_byte_of_a_later_wait_is_told_again(rt: HostRuntime) {
+    let mut desk = Desk::new(&rt);
+    assert!(rt; desk.add(KEY, Interest::READ).is_ok());
+    assert!(rt; desk.writes() && desk.tells(&[(KEY, true, false)]));
+    assert!(rt; desk.empties());
+    assert!(rt; desk.writes() && desk.tells(&[(KEY, true, false)]));
+    assert!(rt; desk.modify(KEY, Interest::READ).is_ok());
+    assert!(rt; desk.tells(&[(KEY, true, false)]));
+}
+
+#[test]
+fn a_byte_that_comes_after_the_last_read_is_told(rt: HostRuntime) {
+    let mut desk = Desk::new(&rt);
+    assert!(rt; desk.add(KEY, Interest::READ).is_ok());
+    assert!(rt; desk.writes() && desk.tells(&[(KEY, true, false)]));
+    assert!(rt; desk.empties() && desk.writes());
+    assert!(rt; desk.modify(KEY, Interest::READ).is_ok());
+    assert!(rt; desk.tells(&[(KEY, true, false)]));
+    assert!(rt; desk.empties() && desk.modify(KEY, Interest::READ).is_ok());
+    assert!(rt; desk.writes() && desk.tells(&[(KEY, true, false)]));
+}
+
+#[test]
+fn a_close_behind_a_short_read_is_told_again(rt: HostRuntime) {
+    let mut desk = Desk::new(&rt);
+    assert!(rt; desk.add(KEY, Interest::READ).is_ok());
+    assert!(rt; desk.writes());
+    desk.peer = None;
+    assert!(rt; desk.tells(&[(KEY, true, true)]));
+    assert!(rt; matches!(desk.io.read(&mut [0u8; 4]), Ok(1)));
+    assert!(rt; desk.modify(KEY, Interest::READ).is_ok());
+    assert!(rt; desk.tells(&[(KEY, true, true)]));
+}
+
+#[test]
+fn another_key_or_interest_is_taken_up_by_an_emptied_socket(rt: HostRuntime) {
+    let mut desk = Desk::new(&rt);
+    assert!(rt; desk.add(KEY, Interest::READ).is_ok());
+    assert!(rt; desk.empties() && desk.modify(KEY, Interest::BOTH).is_ok());
+    assert!(rt; desk.tells(&[(KEY, false, true)]));
+    assert!(rt; desk.modify(KEY, Interest::READ).is_ok());
+    assert!(rt; desk.empties() && desk.modify(OTHER_KEY, Interest::READ).is_ok());
+    assert!(rt; desk.writes() && desk.tells(&[(OTHER_KEY, true, false)]));
+}
+
+#[test]
+fn an_emptied_socket_that_can_be_written_is_told_again(rt: HostRuntime) {
+    let mut desk = Desk::new(&rt);
+    assert!(rt; desk.add(KEY, Interest::BOTH).is_ok());
+    assert!(rt; desk.tells(&[(KEY, false, true)]));
+    assert!(rt; desk.empties() && desk.modify(KEY, Interest::BOTH).is_ok());
+    assert!(rt; desk.tells(&[(KEY, false, true)]));
+}
+
+#[test]
+fn a_full_socket_is_told_of_once_it_has_room(rt: HostRuntime) {
+    let mut desk = Desk::new(&rt);
+    assert!(rt; desk.add(KEY, Interest::WRITE).is_ok());
+    assert!(rt; desk.tells(&[(KEY, false, true)]));
+    assert!(rt; desk.fills() && desk.modify(KEY, Interest::WRITE).is_ok());
+    assert!(rt; desk.tells(&[]));
+    assert!(rt; desk.peer_empties() && desk.tells(&[(KEY, false, true)]));
+    assert!(rt; desk.modify(KEY, Interest::WRITE).is_ok());
+    assert!(rt; desk.tells(&[(KEY, false, true)]));
+}
+
+#[test]
+fn a_stream_that_was_exchanged_is_not_registered(rt: HostRuntime) {
+    let mut desk = Desk::new(&rt);
+    let (other, _peer) = UnixStream::pair(&rt).expect(&rt, "two streams");
+    assert!(rt; desk.add(KEY, Interest::READ).is_ok());
+    assert!(rt; desk.empties() && desk.modify(KEY, Interest::READ).is_ok());
+    assert!(rt; desk.exchanges(other));
+    assert!(rt; fails(desk.modify(KEY, Interest::READ), io::ErrorKind::NotFound));
+}
+
+#[test]
+fn an_emptied_socket_that_was_taken_out_is_not_registered(rt: HostRuntime) {
+    let mut desk = Desk::new(&rt);
+    assert!(rt; desk.add(KEY, Interest::READ).is_ok());
+    assert!(rt; desk.empties() && desk.delete().is_ok());
+    assert!(rt; fails(desk.modify(KEY, Interest::READ), io::ErrorKind::NotFound));
+}
+
+#[test]
+fn an_emptied_socket_is_registered_with_its_own_poller_alone(rt: HostRuntime) {
+    let mut desk = Desk::new(&rt);
+    let mut other = Desk::new(&rt);
+    assert!(rt; desk.add(KEY, Interest::READ).is_ok());
+    assert!(rt; desk.empties());
+    assert!(rt;
+        fails(
+            other.poller.modify(&mut desk.io, KEY, Interest::READ),
+            io::ErrorKind::NotFound
+        )
+    );
+}
+
 const KEY: u64 = 1099511627776;
 
 const OTHER_KEY: u64 = 65536;
@@ -131,19 +255,24 @@ struct Desk<R: MachineClock + Clone + Drop> {
     clock: SystemClock<R>,
     poller: MioPoller<SystemClock<R>>,
     io: MioIo,
-    peer: Option<UnixStream>,
+    peer: Option<MioIo>,
 }
 
 impl<R: Net + AllocGlobal + MachineClock + Clone + Drop + Abort> Desk<R> {
     fn new(rt: &R) -> Desk<R> {
+        let (near, far) = UnixStream::pair(rt).expect(rt, "two streams");
+        Desk::over(rt, (MioIo::from(near), MioIo::from(far)))
+    }
+
+    fn over(rt: &R, streams: (MioIo, MioIo)) -> Desk<R> {
         let clock = SystemClock::new(rt).expect(rt, "a clock");
         let read_by_poller = clock.clone().expect(rt, "a clock");
-        let (near, far) = UnixStream::pair(rt).expect(rt, "two streams");
+        let (near, far) = streams;
         Desk {
             alloc: rt.alloc(),
             clock,
             poller: MioPoller::new(rt, rt.alloc(), read_by_poller).expect(rt, "a poller"),
-            io: MioIo::from(near),
+            io: near,
             peer: Some(far),
         }
     }
@@ -170,9 +299,45 @@ impl<R: MachineClock + Clone + Drop> Desk<R> {
         }
     }
 
+    // Reads until nothing is left.
+    fn empties(&mut self) -> bool {
+        is_emptied(&mut self.io)
+    }
+
+    fn peer_empties(&mut self) -> bool {
+        match &mut self.peer {
+            Some(peer) => is_emptied(peer),
+            None => false,
+        }
+    }
+
+    // Writes until there is no room.
+    fn fills(&mut self) -> bool {
+        for _ in 0..10_000u32 {
+            if let Err(cause) = self.io.write(&[0u8; 4096]) {
+                return cause.kind() == io::ErrorKind::WouldBlock;
+            }
+        }
+        false
+    }
+
+    // Puts another stream in the place of its own, which is closed.
+    fn exchanges(&mut self, other: UnixStream) -> bool {
+        let MioIo::UnixStream(stream) = &mut self.io else {
+            return false;
+        };
+        let _closed = mem::replace(stream.get_mut(), other);
+        true
+    }
+
     // Whether a wait of 0 gives these keys, readable and writable as they say, and no error.
     fn tells(&mut self, wanted: &[(u64, bool, bool)]) -> bool {
         self.waits(Duration::ZERO, wanted)
+    }
+
+    // Whether a wait of a second at most gives them.
+    fn comes_to_tell(&mut self, wanted: &[(u64, bool, bool)]) -> bool {
+        self.waits(Duration::from_secs(1), wanted)
     }
 
     fn waits(&mut self, timeout: Duration, wanted: &[(u64, bool, bool)]) -> bool {
@@ -190,6 +355,17 @@ impl<R: MachineClock + Clone + Drop> Desk<R> {
         let answer = self.poller.wait(Some(timeout), &mut told);
         fails(answer, io::ErrorKind::Interrupted) && told.is_empty()
     }
+}
+
+// Whether it is read until nothing is left.
+fn is_emptied(io: &mut MioIo) -> bool {
+    let mut buf = [0u8; 4096];
+    for _ in 0..10_000u32 {
+        if let Err(cause) = io.read(&mut buf) {
+            return cause.kind() == io::ErrorKind::WouldBlock;
+        }
+    }
+    false
 }
 
 fn are(told: &[(u64, Readiness)], wanted: &[(u64, bool, bool)]) -> bool {
