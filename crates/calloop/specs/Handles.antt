@@ -26,7 +26,7 @@ abbrev pub NamesNone : {D P C R X I S : Type 0} → Meaning D P (Lent X (Asks D 
     → LoopHandle D P C R X I S → Type 0
 NamesNone M token h = source_of (only (is_callers M) (named (held_by h).slots token)) ≡ None
 
--- it is lent a loop that is this
+-- the loop that it is lent, as that is now
 abbrev pub loop_by : {D P C R X I S : Type 0} → LoopHandle D P C R X I S → EventLoop D P C R X I S
 loop_by h = h.inner.now
 

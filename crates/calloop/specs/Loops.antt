@@ -3,7 +3,9 @@ use Rattle.std.specs.Prelude.{◌≡◌, [], false, vec_capacity}
 use Rattle.calloop_core.specs.declared.sys.system.MioPoller.{MioPoller}
 use Rattle.calloop_core.specs.declared.sys.system.clock.SystemClock.{SystemClock}
 use Rattle.calloop_core.specs.declared.sys.script.ScriptPoller.{ScriptPoller}
+use Rattle.std.specs.Arc.{arc_value}
 use Rattle.calloop.specs.declared.loop_logic.EventLoop.{EventLoop}
+use Rattle.calloop.specs.declared.loop_logic.signal.LoopSignal.{LoopSignal}
 
 -- the poller of a loop
 abbrev pub poller_of : {D P C R X I S : Type 0} → EventLoop D P C R X I S → P
@@ -12,6 +14,14 @@ poller_of l = l.poll.poller
 -- its clock
 abbrev pub clock_of : {D P C R X I S : Type 0} → EventLoop D P C R X I S → C
 clock_of l = l.poll.clock
+
+-- its own signal
+abbrev pub signal_of : {D P C R X I S : Type 0} → EventLoop D P C R X I S → LoopSignal
+signal_of l = l.signal
+
+-- both stop the same loop and end its waits: they share what does it
+abbrev pub AreOfOneLoop : LoopSignal → LoopSignal → Type 0
+AreOfOneLoop signal again = arc_value again.shared ≡ arc_value signal.shared
 
 -- a poller of the machine that no call failed of
 abbrev pub IsFaultless : {C : Type 0} → MioPoller C → Type 0

@@ -7,7 +7,7 @@ ghost use Rattle.calloop_wake.specs.declared.error.Error.TheVariants.{OutOfMemor
 ghost use Rattle.calloop_wake.specs.declared.wheel.Instant.{Instant};
 ghost use Rattle.calloop_wake.specs.Deadlines.{moment_after};
 ghost use Rattle.calloop_core.specs.declared.timer.TimeoutAction.TheVariants.{Drop};
-ghost use Rattle.calloop.specs.Handles.{clock_by};
+ghost use Rattle.calloop.specs.Handles.{clock_by, HasTheSameLoop};
 ghost use Rattle.calloop.specs.Polled.{IfReady, OnPending};
 ghost use Rattle.calloop.specs.Timeouts.{HasCome, HasTimer, HasNoTimer, IsMade, IsOf, is_ready};
 
@@ -237,7 +237,7 @@ impl<C: Clock, R: Wait + Clone + Drop> TimeoutFuture<C, R> {
         D: EventDispatcher<P, C, R>
             + Keep<TimeoutTimer<R>, P, C, R, D::Data, Requests<D, D::Idle>, N>,
         P: Poller,
-        ensures same { handle.new.inner.ghost_name ≡ handle.old.inner.ghost_name }
+        ensures same { HasTheSameLoop handle.old handle.new }
         ensures clock { IfOk result (λ made. C.is_clone (clock_by handle.old) made.clock) }
         ensures ok { IfOk result (λ made. (made.deadline ≡ Some deadline)
             × HasTimer D.means D.Idle.runs P.outside D.placed deadline made handle.old handle.new) }
@@ -266,7 +266,7 @@ impl<C: Clock, R: Wait + Clone + Drop> TimeoutFuture<C, R> {
         D: EventDispatcher<P, C, R>
             + Keep<TimeoutTimer<R>, P, C, R, D::Data, Requests<D, D::Idle>, N>,
         P: Poller,
-        ensures same { handle.new.inner.ghost_name ≡ handle.old.inner.ghost_name }
+        ensures same { HasTheSameLoop handle.old handle.new }
         ensures clock { IfOk result (λ made. C.is_clone (clock_by handle.old) made.clock) }
         ensures made { (now : Instant) × C.shows (clock_by handle.old) now.nanos
             × IsMade D.means D.Idle.runs P.outside D.placed (moment_after now duration)

@@ -5,6 +5,7 @@ ghost use Rattle.std.specs.Fn.{CalledAtMut};
 ghost use Rattle.calloop_wake.specs.declared.error.Error.TheVariants.{OutOfMemory};
 ghost use Rattle.calloop.specs.declared.loop_logic.LoopCall.TheVariants.{ForgetStop, LookForStop};
 ghost use Rattle.calloop.specs.declared.loop_logic.LoopAnswer.TheVariants.{StopForgotten, Stopped};
+ghost use Rattle.calloop.specs.Loops.{AreOfOneLoop, signal_of};
 ghost use Rattle.calloop.specs.Machine.{view_of};
 ghost use Rattle.calloop.specs.Rules.{Case, Did};
 ghost use Rattle.calloop.specs.Running.{RunsTo};
@@ -76,7 +77,9 @@ impl LoopSignal {
 }
 
 impl Clone for LoopSignal {
-    ghost is_clone = { λ signal again. arc_value again.shared ≡ arc_value signal.shared };
+    ghost use Rattle.calloop.specs.Loops.{AreOfOneLoop};
+
+    ghost is_clone = { AreOfOneLoop };
 
     /// One more signal of the same loop. At 2^63 of them it is refused.
     fn clone(&self) -> std::result::Result<LoopSignal, AllocError> {
@@ -89,8 +92,7 @@ impl Clone for LoopSignal {
 impl<D: EventDispatcher<P, C, R>, P: Poller, C: Clock, R: Wait + Drop> EventLoop<D, P, C, R> {
     /// A signal of this loop, which stops its runs and ends its waits. At 2^63 of them it is `OutOfMemory`.
     pub fn get_signal(&self) -> Result<LoopSignal>
-        ensures ok { IfOk result
-            (λ signal. arc_value signal.shared ≡ arc_value self.now.signal.shared) }
+        ensures ok { IfOk result (AreOfOneLoop (signal_of self.now)) }
         ensures err { IfErr result (λ e. e ≡ OutOfMemory) }
     {
         Ok(self.signal.clone()?)
