@@ -101,8 +101,8 @@ impl<D: EventDispatcher<P, C, R>, P: Poller, C: Clock, R: Wait + Drop> EventLoop
         &mut self,
         dispatcher: D,
     ) -> std::result::Result<RegistrationToken, InsertError<D>>
-        ensures case { Did (Case D.means D.Idle.runs P.outside (Insert dispatcher) (Inserted result))
-            (view_of self.old) (view_of self.new) }
+        ensures case { Did (Case D.means D.Idle.runs P.outside (Insert dispatcher)
+            (Inserted result)) (view_of self.old) (view_of self.new) }
         ensures token { IfOk result (λ token. token ≡ next_registration self.old.sources) }
     {
         let mut inserted = dispatcher;

@@ -101,7 +101,7 @@ impl<C> MioPoller<C> {
         if answer.is_ok() {
             io.note_registered(&self.waits, key, interest);
         } else {
-            io.forget();
+            io.clear_notes();
         }
     }
 
@@ -238,7 +238,7 @@ impl<C: Clock> Poller for MioPoller<C> {
     }
 
     fn delete(&mut self, io: &mut MioIo) -> io::Result<()> {
-        io.forget();
+        io.clear_notes();
         let answer = self.poll.registry().deregister(io);
         self.counted(answer)
     }

@@ -46,12 +46,12 @@ impl MioIo {
     }
 
     /// Nothing is noted of it any more.
-    pub(super) fn forget(&mut self)
+    pub(super) fn clear_notes(&mut self)
         ensures { self.new ≡ self.old }
     {
         match self {
-            MioIo::TcpStream(stream) => stream.forget(),
-            MioIo::UnixStream(stream) => stream.forget(),
+            MioIo::TcpStream(stream) => stream.clear_notes(),
+            MioIo::UnixStream(stream) => stream.clear_notes(),
             MioIo::TcpListener(_) | MioIo::UdpSocket(_) | MioIo::UnixListener(_) => {}
         }
     }

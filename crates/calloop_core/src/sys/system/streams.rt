@@ -116,7 +116,7 @@ impl<S> NotingStream<S> {
     }
 
     /// Nothing is known of it.
-    pub(super) fn forget(&mut self)
+    pub(super) fn clear_notes(&mut self)
         ensures { self.new ≡ self.old }
     {
         self.notes = None;
