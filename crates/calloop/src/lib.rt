@@ -48,7 +48,7 @@ pub use calloop_core::sources::{
 pub use calloop_core::sys::events::EventIterator;
 pub use calloop_core::sys::poll::Poll;
 pub use calloop_core::sys::synthetic::Synthetic;
-pub use calloop_core::sys::system::{MioIo, MioPoller, NotingStream, Precision, SystemClock};
+pub use calloop_core::sys::system::{MioIo, MioPoller, Precision, SystemClock};
 pub use calloop_core::sys::{Clock, Interest, Mode, Poller, Readiness};
 pub use calloop_core::timer::{TimeoutAction, Timer, TimerError};
 pub use calloop_core::{

@@ -149,6 +149,16 @@ pub trait Poller: Drop {
         ensures calls { outside.calls self.old (Modify key interest) result self.new }
         ensures faults { outside.faults self.new ≡ outside.faults self.old + faults_of result };
 
+    /// As `modify`, for a source that hears of the socket as long as it is ready (`Mode::Level`). From now on each wait may tell of it
+    /// anew without a further call: a call with the same key and interest then has nothing to do. By default it is `modify`.
+    fn modify_level(&mut self, io: &mut Self::Io, key: u64, interest: Interest) -> io::Result<()>
+        ensures sockets { sockets self.old io.old (Modify key interest) result self.new io.new }
+        ensures calls { outside.calls self.old (Modify key interest) result self.new }
+        ensures faults { outside.faults self.new ≡ outside.faults self.old + faults_of result }
+    {
+        self.modify(io, key, interest)
+    }
+
     /// A wait gives no event of this socket any more. An `Err` is a fault, and is counted.
     fn delete(&mut self, io: &mut Self::Io) -> io::Result<()>
         ensures sockets { sockets self.old io.old Delete result self.new io.new }
@@ -164,9 +174,13 @@ pub trait Poller: Drop {
     /// reserved: each is the key of a token and what was found. Without a timeout it may wait for ever.
     /// An `Err` gives no event that is handed out. One of kind `Interrupted` is an interruption, after which the loop
     /// waits anew; any other is a fault, and is counted.
+    ///
+    /// `left` is how many events wait for their turn since an earlier dispatch failed. A poller that tells of a socket anew while it is
+    /// ready may tell of nothing then, so that they can't pile up.
     fn wait(
         &mut self,
         timeout: Option<Duration>,
+        left: usize,
         events: &mut Vec<(u64, Readiness)>,
     ) -> io::Result<()>
         requires { vec_len events.old + events_per_wait ≤ vec_capacity events.old }

@@ -469,7 +469,7 @@ fn waits(
     let Ok(mut events) = Vec::with_capacity(alloc, 1024) else {
         return false;
     };
-    poller.wait(timeout, &mut events).is_ok()
+    poller.wait(timeout, 0, &mut events).is_ok()
         && events.len() == keys.len()
         && events.iter().zip(keys).all(|(event, key)| event.0 == *key
             && event.1.writable
@@ -822,6 +822,7 @@ impl Poller for FailsFirst {
     fn wait(
         &mut self,
         _timeout: Option<Duration>,
+        _left: usize,
         events: &mut Vec<(u64, Readiness)>,
     ) -> io::Result<()> {
         if self.waits > 0 {

@@ -1,6 +1,6 @@
 //! What a client sends is given back, line by line.
 use crate::server::Server;
-use calloop::{Callback, MioIo, NoIoDrop, NotingStream, PostAction, Readiness, Requests};
+use calloop::{Callback, MioIo, NoIoDrop, PostAction, Readiness, Requests};
 use mio::net::TcpStream;
 use std::alloc::Global;
 use std::io;
@@ -44,7 +44,7 @@ impl Echo {
     }
 
     // Reads up to 1,024 bytes, and gives back the lines that end there.
-    fn read(&mut self, stream: &mut NotingStream<TcpStream>) -> io::Result<Next> {
+    fn read(&mut self, stream: &mut TcpStream) -> io::Result<Next> {
         if !self.give_back(stream)? {
             return Ok(Next::Wait);
         }
@@ -75,7 +75,7 @@ impl Echo {
     }
 
     // Writes what is pending: whether all of it was written.
-    fn give_back(&mut self, stream: &mut NotingStream<TcpStream>) -> io::Result<bool> {
+    fn give_back(&mut self, stream: &mut TcpStream) -> io::Result<bool> {
         if self.pending.is_empty() {
             return Ok(true);
         }

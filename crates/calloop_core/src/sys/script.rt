@@ -283,6 +283,7 @@ impl Poller for ScriptPoller {
     fn wait(
         &mut self,
         timeout: Option<Duration>,
+        _left: usize,
         events: &mut Vec<(u64, Readiness)>,
     ) -> io::Result<()> {
         self.note(timeout);

@@ -11,42 +11,44 @@ ghost use Rattle.calloop_core.specs.declared.sys.system.portions.Precision.TheVa
 
 use super::faults::FaultCount;
 use super::notifier::{LazyWaker, Notifier};
-use super::{Clock, Interest, Poller, Readiness};
+use super::{Clock, EVENTS_PER_WAIT, Interest, Poller, Readiness};
 use calloop_wake::error::{Error, Result as LoopResult};
 use calloop_wake::wheel::Instant;
 use found::Found;
+use levels::{Levels, register_level};
 use mio::{Poll, Token, Waker};
-use notes::WaitCount;
 use std::alloc::Global;
 use std::io;
 use std::net::Net;
+use std::os::fd::AsRawFd;
 use std::sync::Arc;
 use std::time::Duration;
 
 mod clock;
 mod found;
-mod notes;
+mod levels;
 mod portions;
 mod sockets;
-mod streams;
 
 pub use clock::SystemClock;
 pub use portions::Precision;
 pub use sockets::MioIo;
-pub use streams::NotingStream;
 
 // No socket is told of under this key: the poller's own waker has it.
 const OWN_KEY: Token = Token(usize::MAX);
 
 /// Waits on the sockets of the machine by epoll. Its clock is the one that it was given. A socket is told of when it becomes ready, and
-/// again by `modify`. One under the key 2^64 - 1 is never told of: that is its own waker's.
+/// again by `modify`; after `modify_level` in each wait as long as it is ready. One under the key 2^64 - 1 is never told of: that is its
+/// own waker's.
+///
+/// While 1,024 events that were told before wait for their turn, a wait finds none, so that what stays ready can't pile up.
 ///
 /// A wait that ends with nothing found before its time is over by that clock is an interruption, after which the loop waits anew: as
 /// when the process gets a signal, and after each portion of a wait (`Precision`). By a clock that stood still meanwhile it is over.
 #[derive(Drop)]
 pub struct MioPoller<C> {
-    waits: WaitCount,
     poll: Poll,
+    levels: Levels,
     found: Found,
     waker: Arc<LazyWaker, Global>,
     clock: C,
@@ -63,11 +65,10 @@ impl<C: Drop> MioPoller<C> {
     {
         let poll = Poll::new(rt)?;
         let found = Found::new(alloc)?;
-        let waits = WaitCount::new(alloc, &poll)?;
         let waker = Waker::new(poll.registry(), OWN_KEY)?;
         Ok(MioPoller {
-            waits,
             poll,
+            levels: Levels::new(alloc),
             found,
             waker: Arc::new(alloc, LazyWaker::new(waker))?,
             clock,
@@ -94,56 +95,6 @@ impl<C> MioPoller<C> {
         }
     }
 
-    // A stream notes what it is registered for, where it is.
-    fn note(&self, answer: &io::Result<()>, io: &mut MioIo, key: u64, interest: Interest)
-        ensures { io.new ≡ io.old }
-    {
-        if answer.is_ok() {
-            io.note_registered(&self.waits, key, interest);
-        } else {
-            io.clear_notes();
-        }
-    }
-
-    // The first time.
-    fn register(
-        &self,
-        io: &mut MioIo,
-        key: u64,
-        interest: Interest,
-        asked: mio::Interest,
-    ) -> io::Result<()>
-        ensures { io.new ≡ io.old }
-    {
-        let answer = self
-            .poll
-            .registry()
-            .register(io, Token(key as usize), asked);
-        self.note(&answer, io, key, interest);
-        answer
-    }
-
-    // Anew, by a call of the system where the machine may have told of something that is still there.
-    fn register_again(
-        &self,
-        io: &mut MioIo,
-        key: u64,
-        interest: Interest,
-        asked: mio::Interest,
-    ) -> io::Result<()>
-        ensures { io.new ≡ io.old }
-    {
-        if io.is_waiting(&self.waits, key, interest) {
-            return Ok(());
-        }
-        let answer = self
-            .poll
-            .registry()
-            .reregister(io, Token(key as usize), asked);
-        self.note(&answer, io, key, interest);
-        answer
-    }
-
     // A refusal is one more fault.
     fn counted(&mut self, answer: io::Result<()>) -> io::Result<()>
         ensures same { result ≡ answer }
@@ -157,13 +108,34 @@ impl<C> MioPoller<C> {
     }
 }
 
+impl<C> MioPoller<C> {
+    // Has each wait tell of a socket as long as it is ready, by a call of the system where it isn't registered so already.
+    fn keep_level(&mut self, io: &MioIo, key: u64, interest: Interest) -> io::Result<()>
+        ensures { self.new ≡ self.old }
+    {
+        let descriptor = io.as_raw_fd();
+        if self.levels.has(descriptor, key, interest) {
+            return Ok(());
+        }
+        self.levels.clear(descriptor);
+        register_level(&self.poll, descriptor, key, interest)?;
+        // Where it isn't noted, the next call asks the system again.
+        let _noted = self.levels.note(descriptor, key, interest);
+        Ok(())
+    }
+}
+
 impl<C: Clock> MioPoller<C> {
-    // Waits for what the machine finds, for a portion of the time where that isn't over then.
-    fn find(&mut self, timeout: Option<Duration>) -> io::Result<()>
+    // Waits for what the machine finds, for a portion of the time where that isn't over then; not where so many events are left.
+    fn find(&mut self, timeout: Option<Duration>, left: usize) -> io::Result<()>
         ensures events { OnErr result (items self.new.found.events ≡ []) }
         ensures failed { failure_of result ≡ self.new.found.failed }
         ensures poller { self.new ≡ record self.old { poll = self.new.poll; found = self.new.found } }
     {
+        if left >= EVENTS_PER_WAIT {
+            self.found.clear();
+            return Ok(());
+        }
         if timeout == Some(Duration::ZERO) {
             return self.found.wait(&mut self.poll, timeout);
         }
@@ -219,26 +191,42 @@ impl<C: Clock> Poller for MioPoller<C> {
 
     /// An empty interest is refused with an error of kind `InvalidInput`, and counted.
     fn add(&mut self, io: &mut MioIo, key: u64, interest: Interest) -> io::Result<()> {
+        self.levels.clear(io.as_raw_fd());
         let answer = match asked(interest) {
-            Some(asked) => self.register(io, key, interest, asked),
+            Some(asked) => self
+                .poll
+                .registry()
+                .register(io, Token(key as usize), asked),
             None => Err(no_interest()),
         };
         self.counted(answer)
     }
 
-    /// An empty interest is refused with an error of kind `InvalidInput`, and counted; the socket stays as it was added. A stream that is
-    /// registered so, and was read and written until it had to wait since the last wait of the poller, will be told of anyway: for that
-    /// the system isn't called.
+    /// An empty interest is refused with an error of kind `InvalidInput`, and counted; the socket stays as it was added.
     fn modify(&mut self, io: &mut MioIo, key: u64, interest: Interest) -> io::Result<()> {
+        self.levels.clear(io.as_raw_fd());
         let answer = match asked(interest) {
-            Some(asked) => self.register_again(io, key, interest, asked),
+            Some(asked) => self
+                .poll
+                .registry()
+                .reregister(io, Token(key as usize), asked),
             None => Err(no_interest()),
+        };
+        self.counted(answer)
+    }
+
+    /// An empty interest is refused as by `modify`. Where the socket is registered so already, the system isn't called.
+    fn modify_level(&mut self, io: &mut MioIo, key: u64, interest: Interest) -> io::Result<()> {
+        let answer = if interest.asks() {
+            self.keep_level(io, key, interest)
+        } else {
+            Err(no_interest())
         };
         self.counted(answer)
     }
 
     fn delete(&mut self, io: &mut MioIo) -> io::Result<()> {
-        io.clear_notes();
+        self.levels.clear(io.as_raw_fd());
         let answer = self.poll.registry().deregister(io);
         self.counted(answer)
     }
@@ -250,12 +238,11 @@ impl<C: Clock> Poller for MioPoller<C> {
     fn wait(
         &mut self,
         timeout: Option<Duration>,
+        left: usize,
         events: &mut Vec<(u64, Readiness)>,
     ) -> io::Result<()> {
         let timeout = self.time_to_sleep(timeout);
-        let answer = self.find(timeout);
-        self.waits.count();
-        match answer {
+        match self.find(timeout, left) {
             Ok(()) => {
                 self.waker.get_up();
                 self.found.append_to(events);

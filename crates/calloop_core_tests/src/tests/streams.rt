@@ -1,10 +1,10 @@
 //! Sockets that are read and written, and those that refuse it.
 use calloop_core::sys::script::ScriptIo;
-use calloop_core::sys::system::{MioIo, NotingStream};
+use calloop_core::sys::system::MioIo;
 use mio::net::{TcpListener, TcpStream, UdpSocket, UnixListener, UnixStream};
 use std::io;
 use std::io::{Read, Write};
-use std::net::{Ipv4Addr, Net, Shutdown, SocketAddr};
+use std::net::{Ipv4Addr, Net, SocketAddr};
 use std::os::unix::net::{SocketAddr as UnixAddr, SocketAddrExt};
 use std::process::Abort;
 
@@ -57,21 +57,6 @@ fn a_full_stream_would_block(rt: HostRuntime) {
     assert_eq!(rt; kind, Some(io::ErrorKind::WouldBlock));
     drop(far);
     assert_eq!(rt; kind_of(near.write(b"x")), Some(io::ErrorKind::BrokenPipe));
-}
-
-#[test]
-fn a_stream_is_the_same_without_its_notes(rt: HostRuntime) {
-    let (near, far) = UnixStream::pair(&rt).expect(&rt, "two streams");
-    let (mut near, mut far) = (NotingStream::new(near), MioIo::from(far));
-    assert_eq!(rt;
-        kind_of(near.read(&mut [0u8; 4])),
-        Some(io::ErrorKind::WouldBlock)
-    );
-    assert!(rt; writes(&mut near, b"by it") && reads(&mut far, b"by it"));
-    assert!(rt; near.shutdown(Shutdown::Read).is_ok());
-    assert!(rt; reads(&mut near, b""));
-    assert!(rt; writes(near.get_mut(), b"lent") && reads(&mut far, b"lent"));
-    assert!(rt; writes(&mut near.into_inner(), b"alone") && reads(&mut far, b"alone"));
 }
 
 #[test]

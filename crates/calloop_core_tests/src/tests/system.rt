@@ -3,13 +3,13 @@ use super::streams::connected;
 use calloop_core::sys::system::{MioIo, MioPoller, Precision, SystemClock};
 use calloop_core::sys::{Clock, EVENTS_PER_WAIT, Interest, Poller, Readiness};
 use calloop_wake::wake::Notify;
-use mio::net::UnixStream;
+use mio::net::{TcpListener, TcpStream, UnixStream};
 use std::alloc::{AllocGlobal, Global};
+use std::io;
 use std::io::{Read, Write};
-use std::net::Net;
+use std::net::{Ipv4Addr, Net, SocketAddr};
 use std::process::Abort;
 use std::time::{Clock as MachineClock, Duration};
-use std::{io, mem};
 
 #[test]
 fn a_socket_is_told_of_once_it_can_be_read(rt: HostRuntime) {
@@ -120,126 +120,147 @@ fn a_wait_of_milliseconds_ends_in_portions(rt: HostRuntime) {
 }
 
 #[test]
-fn a_byte_that_nobody_reads_is_told_again(rt: HostRuntime) {
+fn a_level_socket_is_told_of_in_each_wait(rt: HostRuntime) {
     let mut desk = Desk::new(&rt);
     assert!(rt; desk.add(KEY, Interest::READ).is_ok());
     assert!(rt; desk.writes() && desk.tells(&[(KEY, true, false)]));
-    assert!(rt; desk.empties() && desk.modify(KEY, Interest::READ).is_ok());
-    assert!(rt; desk.tells(&[]));
-    assert!(rt; desk.writes() && desk.tells(&[(KEY, true, false)]));
-    assert!(rt; desk.modify(KEY, Interest::READ).is_ok());
+    assert!(rt; desk.level(KEY, Interest::READ).is_ok());
+    assert!(rt; desk.tells(&[(KEY, true, false)]) && desk.tells(&[(KEY, true, false)]));
+    assert!(rt; desk.level(KEY, Interest::READ).is_ok());
     assert!(rt; desk.tells(&[(KEY, true, false)]));
+    assert!(rt; desk.empties() && desk.tells(&[]));
+    assert!(rt; desk.level(KEY, Interest::READ).is_ok() && desk.tells(&[]));
+    assert!(rt; desk.writes());
+    assert!(rt; desk.tells(&[(KEY, true, false)]) && desk.tells(&[(KEY, true, false)]));
 }
 
 #[test]
-fn a_byte_that_nobody_reads_is_told_again_over_tcp(rt: HostRuntime) {
+fn a_level_socket_over_tcp_is_told_of_in_each_wait(rt: HostRuntime) {
     let mut desk = Desk::over(&rt, connected(&rt));
     assert!(rt; desk.add(KEY, Interest::READ).is_ok());
+    assert!(rt; desk.level(KEY, Interest::READ).is_ok());
     assert!(rt; desk.writes() && desk.comes_to_tell(&[(KEY, true, false)]));
-    assert!(rt; desk.empties() && desk.modify(KEY, Interest::READ).is_ok());
-    assert!(rt; desk.tells(&[]));
-    assert!(rt; desk.writes() && desk.comes_to_tell(&[(KEY, true, false)]));
-    assert!(rt; desk.modify(KEY, Interest::READ).is_ok());
     assert!(rt; desk.tells(&[(KEY, true, false)]));
+    assert!(rt; desk.empties() && desk.tells(&[]));
 }
 
 #[test]
-fn a_byte_of_a_later_wait_is_told_again(rt: HostRuntime) {
-    let mut desk = Desk::new(&rt);
-    assert!(rt; desk.add(KEY, Interest::READ).is_ok());
-    assert!(rt; desk.writes() && desk.tells(&[(KEY, true, false)]));
-    assert!(rt; desk.empties());
-    assert!(rt; desk.writes() && desk.tells(&[(KEY, true, false)]));
-    assert!(rt; desk.modify(KEY, Interest::READ).is_ok());
-    assert!(rt; desk.tells(&[(KEY, true, false)]));
-}
-
-#[test]
-fn a_byte_that_comes_after_the_last_read_is_told(rt: HostRuntime) {
-    let mut desk = Desk::new(&rt);
-    assert!(rt; desk.add(KEY, Interest::READ).is_ok());
-    assert!(rt; desk.writes() && desk.tells(&[(KEY, true, false)]));
-    assert!(rt; desk.empties() && desk.writes());
-    assert!(rt; desk.modify(KEY, Interest::READ).is_ok());
-    assert!(rt; desk.tells(&[(KEY, true, false)]));
-    assert!(rt; desk.empties() && desk.modify(KEY, Interest::READ).is_ok());
-    assert!(rt; desk.writes() && desk.tells(&[(KEY, true, false)]));
-}
-
-#[test]
-fn a_close_behind_a_short_read_is_told_again(rt: HostRuntime) {
-    let mut desk = Desk::new(&rt);
-    assert!(rt; desk.add(KEY, Interest::READ).is_ok());
-    assert!(rt; desk.writes());
-    desk.peer = None;
-    assert!(rt; desk.tells(&[(KEY, true, true)]));
-    assert!(rt; matches!(desk.io.read(&mut [0u8; 4]), Ok(1)));
-    assert!(rt; desk.modify(KEY, Interest::READ).is_ok());
-    assert!(rt; desk.tells(&[(KEY, true, true)]));
-}
-
-#[test]
-fn another_key_or_interest_is_taken_up_by_an_emptied_socket(rt: HostRuntime) {
-    let mut desk = Desk::new(&rt);
-    assert!(rt; desk.add(KEY, Interest::READ).is_ok());
-    assert!(rt; desk.empties() && desk.modify(KEY, Interest::BOTH).is_ok());
-    assert!(rt; desk.tells(&[(KEY, false, true)]));
-    assert!(rt; desk.modify(KEY, Interest::READ).is_ok());
-    assert!(rt; desk.empties() && desk.modify(OTHER_KEY, Interest::READ).is_ok());
-    assert!(rt; desk.writes() && desk.tells(&[(OTHER_KEY, true, false)]));
-}
-
-#[test]
-fn an_emptied_socket_that_can_be_written_is_told_again(rt: HostRuntime) {
-    let mut desk = Desk::new(&rt);
-    assert!(rt; desk.add(KEY, Interest::BOTH).is_ok());
-    assert!(rt; desk.tells(&[(KEY, false, true)]));
-    assert!(rt; desk.empties() && desk.modify(KEY, Interest::BOTH).is_ok());
-    assert!(rt; desk.tells(&[(KEY, false, true)]));
-}
-
-#[test]
-fn a_full_socket_is_told_of_once_it_has_room(rt: HostRuntime) {
+fn a_level_socket_with_room_is_told_of_until_it_is_full(rt: HostRuntime) {
     let mut desk = Desk::new(&rt);
     assert!(rt; desk.add(KEY, Interest::WRITE).is_ok());
-    assert!(rt; desk.tells(&[(KEY, false, true)]));
-    assert!(rt; desk.fills() && desk.modify(KEY, Interest::WRITE).is_ok());
-    assert!(rt; desk.tells(&[]));
-    assert!(rt; desk.peer_empties() && desk.tells(&[(KEY, false, true)]));
-    assert!(rt; desk.modify(KEY, Interest::WRITE).is_ok());
-    assert!(rt; desk.tells(&[(KEY, false, true)]));
+    assert!(rt; desk.level(KEY, Interest::WRITE).is_ok());
+    assert!(rt; desk.tells(&[(KEY, false, true)]) && desk.tells(&[(KEY, false, true)]));
+    assert!(rt; desk.fills() && desk.tells(&[]));
+    assert!(rt; desk.peer_empties());
+    assert!(rt; desk.tells(&[(KEY, false, true)]) && desk.tells(&[(KEY, false, true)]));
 }
 
 #[test]
-fn a_stream_that_was_exchanged_is_not_registered(rt: HostRuntime) {
+fn a_level_socket_whose_peer_hung_up_is_told_of_in_each_wait(rt: HostRuntime) {
+    let mut desk = Desk::new(&rt);
+    assert!(rt; desk.add(KEY, Interest::READ).is_ok());
+    assert!(rt; desk.level(KEY, Interest::READ).is_ok());
+    desk.peer = None;
+    assert!(rt; desk.tells(&[(KEY, true, true)]) && desk.tells(&[(KEY, true, true)]));
+}
+
+#[test]
+fn a_level_socket_takes_up_another_key_and_interest(rt: HostRuntime) {
+    let mut desk = Desk::new(&rt);
+    assert!(rt; desk.add(KEY, Interest::READ).is_ok());
+    assert!(rt; desk.level(KEY, Interest::READ).is_ok() && desk.tells(&[]));
+    assert!(rt; desk.level(KEY, Interest::BOTH).is_ok());
+    assert!(rt; desk.tells(&[(KEY, false, true)]) && desk.tells(&[(KEY, false, true)]));
+    assert!(rt; desk.level(OTHER_KEY, Interest::BOTH).is_ok());
+    assert!(rt; desk.tells(&[(OTHER_KEY, false, true)]));
+}
+
+#[test]
+fn a_level_socket_that_is_modified_is_told_of_once(rt: HostRuntime) {
+    let mut desk = Desk::new(&rt);
+    assert!(rt; desk.add(KEY, Interest::READ).is_ok());
+    assert!(rt; desk.level(KEY, Interest::READ).is_ok() && desk.writes());
+    assert!(rt; desk.modify(KEY, Interest::READ).is_ok());
+    assert!(rt; desk.tells(&[(KEY, true, false)]) && desk.tells(&[]));
+    assert!(rt; desk.level(KEY, Interest::READ).is_ok());
+    assert!(rt; desk.tells(&[(KEY, true, false)]) && desk.tells(&[(KEY, true, false)]));
+}
+
+#[test]
+fn a_level_socket_that_was_taken_out_is_not_registered(rt: HostRuntime) {
+    let mut desk = Desk::new(&rt);
+    assert!(rt; desk.add(KEY, Interest::READ).is_ok());
+    assert!(rt; desk.level(KEY, Interest::READ).is_ok() && desk.delete().is_ok());
+    assert!(rt; fails(desk.level(KEY, Interest::READ), io::ErrorKind::NotFound));
+    assert!(rt; desk.writes() && desk.add(KEY, Interest::READ).is_ok());
+    assert!(rt; desk.tells(&[(KEY, true, false)]) && desk.tells(&[]));
+    assert!(rt; desk.level(KEY, Interest::READ).is_ok());
+    assert!(rt; desk.tells(&[(KEY, true, false)]) && desk.tells(&[(KEY, true, false)]));
+}
+
+#[test]
+fn a_level_socket_that_was_exchanged_is_not_registered(rt: HostRuntime) {
     let mut desk = Desk::new(&rt);
     let (other, _peer) = UnixStream::pair(&rt).expect(&rt, "two streams");
     assert!(rt; desk.add(KEY, Interest::READ).is_ok());
-    assert!(rt; desk.empties() && desk.modify(KEY, Interest::READ).is_ok());
-    assert!(rt; desk.exchanges(other));
-    assert!(rt; fails(desk.modify(KEY, Interest::READ), io::ErrorKind::NotFound));
+    assert!(rt; desk.level(KEY, Interest::READ).is_ok());
+    desk.io = MioIo::from(other);
+    assert!(rt; fails(desk.level(KEY, Interest::READ), io::ErrorKind::NotFound));
 }
 
 #[test]
-fn an_emptied_socket_that_was_taken_out_is_not_registered(rt: HostRuntime) {
-    let mut desk = Desk::new(&rt);
-    assert!(rt; desk.add(KEY, Interest::READ).is_ok());
-    assert!(rt; desk.empties() && desk.delete().is_ok());
-    assert!(rt; fails(desk.modify(KEY, Interest::READ), io::ErrorKind::NotFound));
-}
-
-#[test]
-fn an_emptied_socket_is_registered_with_its_own_poller_alone(rt: HostRuntime) {
+fn a_level_socket_is_registered_with_its_own_poller_alone(rt: HostRuntime) {
     let mut desk = Desk::new(&rt);
     let mut other = Desk::new(&rt);
     assert!(rt; desk.add(KEY, Interest::READ).is_ok());
-    assert!(rt; desk.empties());
+    assert!(rt; desk.level(KEY, Interest::READ).is_ok());
     assert!(rt;
         fails(
-            other.poller.modify(&mut desk.io, KEY, Interest::READ),
+            other.poller.modify_level(&mut desk.io, KEY, Interest::READ),
             io::ErrorKind::NotFound
         )
     );
+}
+
+#[test]
+fn an_empty_interest_of_a_level_socket_is_refused(rt: HostRuntime) {
+    let mut desk = Desk::new(&rt);
+    assert!(rt; desk.add(KEY, Interest::READ).is_ok());
+    assert!(rt;
+        fails(
+            desk.level(KEY, Interest::EMPTY),
+            io::ErrorKind::InvalidInput
+        )
+    );
+    assert!(rt; desk.writes() && desk.tells(&[(KEY, true, false)]));
+}
+
+#[test]
+fn a_listener_is_told_of_until_all_are_accepted(rt: HostRuntime) {
+    let (mut listener, address) = listening(&rt);
+    let mut desk = Desk::new(&rt);
+    assert!(rt; desk.poller.add(&mut listener, KEY, Interest::READ).is_ok());
+    assert!(rt;
+        desk.poller
+            .modify_level(&mut listener, KEY, Interest::READ)
+            .is_ok()
+    );
+    let _first = TcpStream::connect(&rt, address).expect(&rt, "a stream");
+    let _second = TcpStream::connect(&rt, address).expect(&rt, "a stream");
+    assert!(rt; desk.comes_to_tell(&[(KEY, true, false)]) && accepts(&listener));
+    assert!(rt; desk.tells(&[(KEY, true, false)]) && accepts(&listener));
+    assert!(rt; desk.tells(&[]) && !accepts(&listener));
+}
+
+#[test]
+fn nothing_more_is_told_beside_a_thousand_events_that_are_left(rt: HostRuntime) {
+    let mut desk = Desk::new(&rt);
+    assert!(rt; desk.add(KEY, Interest::READ).is_ok());
+    assert!(rt; desk.level(KEY, Interest::READ).is_ok() && desk.writes());
+    assert!(rt; desk.tells_beside(EVENTS_PER_WAIT, &[]));
+    assert!(rt; desk.tells_beside(EVENTS_PER_WAIT - 1, &[(KEY, true, false)]));
+    assert!(rt; desk.tells_beside(usize::MAX, &[]));
+    assert!(rt; desk.tells(&[(KEY, true, false)]));
 }
 
 const KEY: u64 = 1099511627776;
@@ -287,6 +308,10 @@ impl<R: MachineClock + Clone + Drop> Desk<R> {
         self.poller.modify(&mut self.io, key, interest)
     }
 
+    fn level(&mut self, key: u64, interest: Interest) -> io::Result<()> {
+        self.poller.modify_level(&mut self.io, key, interest)
+    }
+
     fn delete(&mut self) -> io::Result<()> {
         self.poller.delete(&mut self.io)
     }
@@ -321,15 +346,6 @@ impl<R: MachineClock + Clone + Drop> Desk<R> {
         false
     }
 
-    // Puts another stream in the place of its own, which is closed.
-    fn exchanges(&mut self, other: UnixStream) -> bool {
-        let MioIo::UnixStream(stream) = &mut self.io else {
-            return false;
-        };
-        let _closed = mem::replace(stream.get_mut(), other);
-        true
-    }
-
     // Whether a wait of 0 gives these keys, readable and writable as they say, and no error.
     fn tells(&mut self, wanted: &[(u64, bool, bool)]) -> bool {
         self.waits(Duration::ZERO, wanted)
@@ -341,10 +357,24 @@ impl<R: MachineClock + Clone + Drop> Desk<R> {
     }
 
     fn waits(&mut self, timeout: Duration, wanted: &[(u64, bool, bool)]) -> bool {
+        self.waits_beside(timeout, 0, wanted)
+    }
+
+    // Whether a wait of 0 gives them while so many events are left.
+    fn tells_beside(&mut self, left: usize, wanted: &[(u64, bool, bool)]) -> bool {
+        self.waits_beside(Duration::ZERO, left, wanted)
+    }
+
+    fn waits_beside(
+        &mut self,
+        timeout: Duration,
+        left: usize,
+        wanted: &[(u64, bool, bool)],
+    ) -> bool {
         let Ok(mut told) = Vec::with_capacity(self.alloc, EVENTS_PER_WAIT) else {
             return false;
         };
-        self.poller.wait(Some(timeout), &mut told).is_ok() && are(&told, wanted)
+        self.poller.wait(Some(timeout), left, &mut told).is_ok() && are(&told, wanted)
     }
 
     // Whether such a wait is interrupted, and tells nothing.
@@ -352,8 +382,23 @@ impl<R: MachineClock + Clone + Drop> Desk<R> {
         let Ok(mut told) = Vec::with_capacity(self.alloc, EVENTS_PER_WAIT) else {
             return false;
         };
-        let answer = self.poller.wait(Some(timeout), &mut told);
+        let answer = self.poller.wait(Some(timeout), 0, &mut told);
         fails(answer, io::ErrorKind::Interrupted) && told.is_empty()
+    }
+}
+
+// A listener and where it listens.
+fn listening<R: Net + Abort>(rt: &R) -> (MioIo, SocketAddr) {
+    let any = SocketAddr::from((Ipv4Addr::LOCALHOST, 0));
+    let listener = TcpListener::bind(rt, any).expect(rt, "a listener");
+    let address = listener.local_addr().expect(rt, "an address");
+    (MioIo::from(listener), address)
+}
+
+fn accepts(listener: &MioIo) -> bool {
+    match listener {
+        MioIo::TcpListener(listener) => listener.accept().is_ok(),
+        _ => false,
     }
 }
 

@@ -23,7 +23,7 @@ fn a_notifier_of_another_thread_ends_a_long_wait(rt: HostRuntime) -> std::result
     let notifier = poller.notifier()?;
     let child = spawn(&rt, move || notifies_later(&rt, notifier))?;
     let mut told: Vec<(u64, Readiness)> = Vec::with_capacity(rt.alloc(), EVENTS_PER_WAIT)?;
-    assert!(rt; poller.wait(minute(), &mut told).is_ok());
+    assert!(rt; poller.wait(minute(), 0, &mut told).is_ok());
     assert!(rt; told.is_empty() && is_early(&clock));
     child.join(&rt);
     Ok(())

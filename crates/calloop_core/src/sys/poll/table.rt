@@ -26,16 +26,17 @@ fn tell<P: Poller>(
     io: &mut P::Io,
     known: bool,
     key: u64,
-    interest: Interest,
+    watched: Watched,
 ) -> io::Result<()>
-    ensures sockets { CalledFor P.sockets poller.old io.old (call_for known key interest) result poller.new io.new }
-    ensures calls { Called P.outside poller.old (call_for known key interest) result poller.new }
+    ensures sockets { CalledFor P.sockets poller.old io.old (call_for known key watched.interest) result poller.new io.new }
+    ensures calls { Called P.outside poller.old (call_for known key watched.interest) result poller.new }
 {
+    let Watched { interest, mode } = watched;
     if interest.asks() {
-        if known {
-            poller.modify(io, key, interest)
-        } else {
-            poller.add(io, key, interest)
+        match (known, mode) {
+            (true, Mode::Level) => poller.modify_level(io, key, interest),
+            (true, Mode::OneShot | Mode::Edge) => poller.modify(io, key, interest),
+            (false, _) => poller.add(io, key, interest),
         }
     } else if known {
         poller.delete(io)
@@ -71,8 +72,9 @@ impl<P: Poller, C, R: Wait + Drop> Poll<P, C, R> {
         if self.table.contains_key(&key) {
             return Err(Error::IoError(io::Error::from(io::ErrorKind::AlreadyExists)));
         }
-        self.table.insert(key, Watched { interest, mode })?;
-        match tell(&mut self.poller, io, false, key, interest) {
+        let watched = Watched { interest, mode };
+        self.table.insert(key, watched)?;
+        match tell(&mut self.poller, io, false, key, watched) {
             Ok(()) => Ok(()),
             Err(cause) => {
                 self.table.remove(&key);
@@ -98,7 +100,7 @@ impl<P: Poller, C, R: Wait + Drop> Poll<P, C, R> {
     {
         let same = token.key();
         let known = stood.interest.asks();
-        match tell(&mut self.poller, io, known, same, watched.interest) {
+        match tell(&mut self.poller, io, known, same, watched) {
             Ok(()) => {
                 if watched != stood {
                     // The key is there, so it takes no memory.
@@ -128,7 +130,7 @@ impl<P: Poller, C, R: Wait + Drop> Poll<P, C, R> {
     {
         let key = token.key();
         self.table.insert(key, watched)?;
-        match tell(&mut self.poller, io, known, key, watched.interest) {
+        match tell(&mut self.poller, io, known, key, watched) {
             Ok(()) => {
                 self.table.remove(&before.key());
                 Ok(())
@@ -177,11 +179,15 @@ impl<P: Poller, C, R: Wait + Drop> Poll<P, C, R> {
         ensures ready { (more : ℕ) → IsReady more self.old → IsReady more self.new }
     {
         let key = token.key();
-        let known = match self.table.get(&key) {
-            Some(watched) => watched.interest.asks(),
+        let stood = match self.table.get(&key) {
+            Some(watched) => *watched,
             None => return Err(Error::IoError(io::Error::from(io::ErrorKind::NotFound))),
         };
-        match tell(&mut self.poller, io, known, key, Interest::EMPTY) {
+        let nothing = Watched {
+            interest: Interest::EMPTY,
+            ..stood
+        };
+        match tell(&mut self.poller, io, stood.interest.asks(), key, nothing) {
             Ok(()) => {
                 self.table.remove(&key);
                 Ok(())

@@ -46,6 +46,15 @@ impl Found {
         answer
     }
 
+    /// Nothing, as after a wait that found none.
+    pub fn clear(&mut self)
+        ensures events { items self.new.events ≡ [] }
+        ensures failed { self.new.failed ≡ None }
+    {
+        self.events.clear();
+        self.failed = None;
+    }
+
     /// Whether the last wait found nothing, nor ended by the poller's own waker.
     pub fn is_empty(&self) -> bool
         ensures { result ≡ true → items self.now.events ≡ [] }

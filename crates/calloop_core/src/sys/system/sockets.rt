@@ -5,54 +5,32 @@ ghost use Rattle.std.specs.Io.KnownBytes.{ReadConsumes, WriteAppends, Keeps};
 ghost use Rattle.std.specs.IoError.{error_kind};
 ghost use Rattle.std.specs.declared.io.ErrorKind.TheVariants.{Unsupported};
 
-use super::notes::WaitCount;
-use super::streams::NotingStream;
-use crate::sys::Interest;
 use mio::event::Source;
 use mio::net::{TcpListener, TcpStream, UdpSocket, UnixListener, UnixStream};
-use mio::{Registry, Token};
+use mio::{Interest, Registry, Token};
 use std::io;
 use std::io::{Read, Write};
+use std::os::fd::{AsRawFd, RawFd};
 
-/// A socket of the machine. It is non-blocking. Its streams note when they were emptied and filled.
+/// A socket of the machine. It is non-blocking.
 #[derive(Drop)]
 pub enum MioIo {
     TcpListener(TcpListener),
-    TcpStream(NotingStream<TcpStream>),
+    TcpStream(TcpStream),
     UdpSocket(UdpSocket),
     UnixListener(UnixListener),
-    UnixStream(NotingStream<UnixStream>),
+    UnixStream(UnixStream),
 }
 
 impl MioIo {
-    /// Whether the poller will be told of the next change, as the socket is registered now: where a stream noted so.
-    pub(super) fn is_waiting(&self, waits: &WaitCount, key: u64, interest: Interest) -> bool {
+    /// The descriptor of the socket, which it keeps.
+    pub(super) fn as_raw_fd(&self) -> RawFd {
         match self {
-            MioIo::TcpStream(stream) => stream.is_waiting(waits, key, interest),
-            MioIo::UnixStream(stream) => stream.is_waiting(waits, key, interest),
-            MioIo::TcpListener(_) | MioIo::UdpSocket(_) | MioIo::UnixListener(_) => false,
-        }
-    }
-
-    /// It was registered so.
-    pub(super) fn note_registered(&mut self, waits: &WaitCount, key: u64, interest: Interest)
-        ensures { self.new ≡ self.old }
-    {
-        match self {
-            MioIo::TcpStream(stream) => stream.note_registered(waits, key, interest),
-            MioIo::UnixStream(stream) => stream.note_registered(waits, key, interest),
-            MioIo::TcpListener(_) | MioIo::UdpSocket(_) | MioIo::UnixListener(_) => {}
-        }
-    }
-
-    /// Nothing is noted of it any more.
-    pub(super) fn clear_notes(&mut self)
-        ensures { self.new ≡ self.old }
-    {
-        match self {
-            MioIo::TcpStream(stream) => stream.clear_notes(),
-            MioIo::UnixStream(stream) => stream.clear_notes(),
-            MioIo::TcpListener(_) | MioIo::UdpSocket(_) | MioIo::UnixListener(_) => {}
+            MioIo::TcpListener(listener) => listener.as_raw_fd(),
+            MioIo::TcpStream(stream) => stream.as_raw_fd(),
+            MioIo::UdpSocket(socket) => socket.as_raw_fd(),
+            MioIo::UnixListener(listener) => listener.as_raw_fd(),
+            MioIo::UnixStream(stream) => stream.as_raw_fd(),
         }
     }
 }
@@ -66,14 +44,14 @@ impl Source for MioIo {
         &mut self,
         registry: &Registry,
         token: Token,
-        interests: mio::Interest,
+        interests: Interest,
     ) -> io::Result<()> {
         match self {
             MioIo::TcpListener(listener) => listener.register(registry, token, interests),
-            MioIo::TcpStream(stream) => stream.stream.register(registry, token, interests),
+            MioIo::TcpStream(stream) => stream.register(registry, token, interests),
             MioIo::UdpSocket(socket) => socket.register(registry, token, interests),
             MioIo::UnixListener(listener) => listener.register(registry, token, interests),
-            MioIo::UnixStream(stream) => stream.stream.register(registry, token, interests),
+            MioIo::UnixStream(stream) => stream.register(registry, token, interests),
         }
     }
 
@@ -81,24 +59,24 @@ impl Source for MioIo {
         &mut self,
         registry: &Registry,
         token: Token,
-        interests: mio::Interest,
+        interests: Interest,
     ) -> io::Result<()> {
         match self {
             MioIo::TcpListener(listener) => listener.reregister(registry, token, interests),
-            MioIo::TcpStream(stream) => stream.stream.reregister(registry, token, interests),
+            MioIo::TcpStream(stream) => stream.reregister(registry, token, interests),
             MioIo::UdpSocket(socket) => socket.reregister(registry, token, interests),
             MioIo::UnixListener(listener) => listener.reregister(registry, token, interests),
-            MioIo::UnixStream(stream) => stream.stream.reregister(registry, token, interests),
+            MioIo::UnixStream(stream) => stream.reregister(registry, token, interests),
         }
     }
 
     fn deregister(&mut self, registry: &Registry) -> io::Result<()> {
         match self {
             MioIo::TcpListener(listener) => listener.deregister(registry),
-            MioIo::TcpStream(stream) => stream.stream.deregister(registry),
+            MioIo::TcpStream(stream) => stream.deregister(registry),
             MioIo::UdpSocket(socket) => socket.deregister(registry),
             MioIo::UnixListener(listener) => listener.deregister(registry),
-            MioIo::UnixStream(stream) => stream.stream.deregister(registry),
+            MioIo::UnixStream(stream) => stream.deregister(registry),
         }
     }
 }
@@ -193,7 +171,7 @@ impl From<TcpStream> for MioIo {
     ghost from_gives = { λ stream made. made ≡ OfTcpStream stream };
 
     fn from(stream: TcpStream) -> MioIo {
-        MioIo::TcpStream(NotingStream::new(stream))
+        MioIo::TcpStream(stream)
     }
 }
 
@@ -226,6 +204,6 @@ impl From<UnixStream> for MioIo {
     ghost from_gives = { λ stream made. made ≡ OfUnixStream stream };
 
     fn from(stream: UnixStream) -> MioIo {
-        MioIo::UnixStream(NotingStream::new(stream))
+        MioIo::UnixStream(stream)
     }
 }
