@@ -82,7 +82,8 @@ impl Timer {
 
     /// Due so much later than this clock shows. Past 2^64 - 1 nanoseconds it has no deadline.
     pub fn from_duration<C: Clock>(clock: &C, duration: Duration) -> Timer
-        ensures { (now : Instant) × C.shows clock.now now.nanos × (result ≡ unarmed (moment_after now duration)) }
+        ensures { (now : Instant) × C.shows clock.now now.nanos
+            × (result ≡ unarmed (moment_after now duration)) }
     {
         Timer {
             registration: None,
@@ -126,7 +127,8 @@ impl Timer {
     // Takes the older arming back.
     fn release<P: Poller, C, R: Wait + Drop>(&mut self, poll: &mut Poll<P, C, R>)
         ensures timer { self.new ≡ unarmed self.old.deadline }
-        ensures steps { AllStepped P.outside (poll_view poll.old) (releases self.old.registration) (poll_view poll.new) }
+        ensures steps { AllStepped P.outside (poll_view poll.old)
+            (releases self.old.registration) (poll_view poll.new) }
         ensures next { (poll_view poll.new).deadlines.next ≡ (poll_view poll.old).deadlines.next }
     {
         if let Some(registration) = self.registration {
@@ -143,7 +145,8 @@ impl Timer {
     ) -> LoopResult<()>
         requires { self.old ≡ unarmed self.old.deadline }
         ensures { (steps : List (PollStep P))
-            × Armed self.old.deadline (poll_view poll.old).deadlines.next factory.old result steps self.new factory.new
+            × Armed self.old.deadline (poll_view poll.old).deadlines.next factory.old result steps
+            self.new factory.new
             × AllStepped P.outside (poll_view poll.old) steps (poll_view poll.new) }
     {
         let Some(deadline) = self.deadline else {
@@ -168,7 +171,8 @@ impl Timer {
         poll: &mut Poll<P, C, R>,
     ) -> Result<PostAction, TimerError>
         requires { is_armed registration.counter (poll_view poll.old).deadlines ≡ false }
-        ensures { (steps : List (PollStep P)) × ArmedAgain registration deadline result steps self.new
+        ensures { (steps : List (PollStep P))
+            × ArmedAgain registration deadline result steps self.new
             × AllStepped P.outside (poll_view poll.old) steps (poll_view poll.new) }
     {
         self.deadline = Some(deadline);
@@ -203,10 +207,12 @@ impl Timer {
         Q: Asking,
         F: Callback<Instant, (), TimeoutAction, X, Q>,
         requires { is_armed registration.counter (poll_view poll.old).deadlines ≡ false }
-        ensures { (action : TimeoutAction) × (steps : List (PollStep P)) × FollowsFrom self.old registration action result steps self.new
+        ensures { (action : TimeoutAction) × (steps : List (PollStep P))
+            × FollowsFrom self.old registration action result steps self.new
             × AllStepped P.outside (poll_view poll.old) steps (poll_view poll.new)
             × Went F.may Q.reaches callback.old «data».old requests.old
-            (record { event = registration.armed; before = tt; after = tt; answer = action } ∷ []) callback.new «data».new requests.new }
+            (record { event = registration.armed; before = tt; after = tt; answer = action } ∷ [])
+            callback.new «data».new requests.new }
     {
         self.registration = Some(Registration {
             spent: true,

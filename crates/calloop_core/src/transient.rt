@@ -59,8 +59,9 @@ fn removed<P: Poller, C, R: Wait + Drop, T>(
 ) -> (State<T>, LoopResult<()>)
 where
     T: EventSource<P, C, R> + Drop,
-    ensures { Does P.outside (state_meaning T.EventSource.means) (Remove source registered) (poll_view poll.old)
-        (Unregistered result.1) result.0 (poll_view poll.new) }
+    ensures { Does P.outside (state_meaning T.EventSource.means) (Remove source registered)
+        (poll_view poll.old) (Unregistered result.1)
+        result.0 (poll_view poll.new) }
 {
     if !registered {
         return (State::Empty, Ok(()));
@@ -91,8 +92,9 @@ fn entered<P: Poller, C, R: Wait + Drop, T>(
 ) -> (State<T>, LoopResult<()>)
 where
     T: EventSource<P, C, R> + Drop,
-    ensures { Does P.outside (state_meaning T.EventSource.means) (Replace new old false) (poll_view poll.old)
-        (Registered factory.old result.1 factory.new) result.0 (poll_view poll.new) }
+    ensures { Does P.outside (state_meaning T.EventSource.means) (Replace new old false)
+        (poll_view poll.old) (Registered factory.old result.1 factory.new)
+        result.0 (poll_view poll.new) }
 {
     match new.register(poll, factory) {
         Ok(()) => kept(new),
@@ -116,8 +118,9 @@ fn replaced<P: Poller, C, R: Wait + Drop, T>(
 ) -> (State<T>, LoopResult<()>)
 where
     T: EventSource<P, C, R> + Drop,
-    ensures { Does P.outside (state_meaning T.EventSource.means) (Replace new old true) (poll_view poll.old)
-        (Registered factory.old result.1 factory.new) result.0 (poll_view poll.new) }
+    ensures { Does P.outside (state_meaning T.EventSource.means) (Replace new old true)
+        (poll_view poll.old) (Registered factory.old result.1 factory.new)
+        result.0 (poll_view poll.new) }
 {
     match old.unregister(poll) {
         Ok(()) => entered(new, old, poll, factory),
@@ -210,8 +213,9 @@ fn disabled<P: Poller, C, R: Wait + Drop, T>(
 ) -> (State<T>, LoopResult<()>)
 where
     T: EventSource<P, C, R> + Drop,
-    ensures { Does P.outside (state_meaning T.EventSource.means) (Disable source registered) (poll_view poll.old)
-        (Unregistered result.1) result.0 (poll_view poll.new) }
+    ensures { Does P.outside (state_meaning T.EventSource.means) (Disable source registered)
+        (poll_view poll.old) (Unregistered result.1)
+        result.0 (poll_view poll.new) }
 {
     if !registered {
         return (State::Disable { source, registered }, Ok(()));
@@ -579,7 +583,8 @@ where
     ensures replaced { (registered : T → Bool) (new : T) (state : State T) → registered new ≡ false
         → IsMarked registered state → IsMarked registered (replaced_by new state) }
     ensures answers { (s t : State T) (v : PollView P) (readiness : Readiness) (token : Token)
-        (turn : Heard T.Event T.Metadata T.Ret T.Error) (steps : List (PollStep P)) (action : PostAction)
+        (turn : Heard T.Event T.Metadata T.Ret T.Error)
+        (steps : List (PollStep P)) (action : PostAction)
         → turn.answer ≡ Ok action → Moves T.means s v (Turned readiness token turn) steps t
         → (action ≡ Continue) ⊎ (action ≡ Reregister) }
 {}

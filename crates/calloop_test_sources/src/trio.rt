@@ -89,7 +89,8 @@ fn call_if<F, X, Q>(part: Option<Part>, callback: &mut F, data: &mut X, requests
 where
     Q: Asking,
     F: Callback<Part, (), (), X, Q>,
-    ensures { Went F.may Q.reaches callback.old «data».old requests.old (calls_of part) callback.new «data».new requests.new }
+    ensures { Went F.may Q.reaches callback.old «data».old requests.old (calls_of part)
+        callback.new «data».new requests.new }
 {
     if let Some(part) = part {
         callback.call(part, &mut (), data, requests);

@@ -136,10 +136,13 @@ fn add<S: Drop>(
 ) -> std::result::Result<RegistrationToken, ClaimRefusal>
     requires full { first_vacant slots.old.items ≡ length slots.old.items }
     requires told { TellVacant slots.old.items vacancies.old }
-    ensures ok { IfOk result (λ t. (t ≡ next_registration slots.old.items) × (slots.new.items ≡ claimed slots.old.items)) }
+    ensures ok { IfOk result (λ t. (t ≡ next_registration slots.old.items)
+        × (slots.new.items ≡ claimed slots.old.items)) }
     ensures within { IfOk result (λ t. (t.slot < length slots.new.items) × (t.slot < most_slots)) }
     ensures full { IsErrOf result TooManySources ↔ (most_slots ≤ first_vacant slots.old.items) }
-    ensures err { IfErr result (λ e. (slots.new.items ≡ slots.old.items) × (vacancies.new ≡ vacancies.old) × CannotClaim slots.old.items (claim_error e)) }
+    ensures err { IfErr result (λ e. (slots.new.items ≡ slots.old.items)
+        × (vacancies.new ≡ vacancies.old)
+        × CannotClaim slots.old.items (claim_error e)) }
     ensures told { TellVacant slots.new.items vacancies.new }
 {
     let place = slots.len();
@@ -166,10 +169,13 @@ fn claim<S: Drop>(
 ) -> std::result::Result<RegistrationToken, ClaimRefusal>
     requires fresh { steps.old ≡ 0 }
     requires told { TellVacant slots.old.items vacancies.old }
-    ensures ok { IfOk result (λ t. (t ≡ next_registration slots.old.items) × (slots.new.items ≡ claimed slots.old.items)) }
+    ensures ok { IfOk result (λ t. (t ≡ next_registration slots.old.items)
+        × (slots.new.items ≡ claimed slots.old.items)) }
     ensures within { IfOk result (λ t. (t.slot < length slots.new.items) × (t.slot < most_slots)) }
     ensures full { IsErrOf result TooManySources ↔ (most_slots ≤ first_vacant slots.old.items) }
-    ensures err { IfErr result (λ e. (slots.new.items ≡ slots.old.items) × (vacancies.new ≡ vacancies.old) × CannotClaim slots.old.items (claim_error e)) }
+    ensures err { IfErr result (λ e. (slots.new.items ≡ slots.old.items)
+        × (vacancies.new ≡ vacancies.old)
+        × CannotClaim slots.old.items (claim_error e)) }
     ensures told { TellVacant slots.new.items vacancies.new }
     ensures steps { steps.new ≤ steps.old + level_count }
 {
@@ -263,10 +269,12 @@ impl<S: Drop> SourceList<S> {
         steps: &mut Steps,
     ) -> std::result::Result<RegistrationToken, ClaimRefusal>
         requires { steps.old ≡ 0 }
-        ensures ok { IfOk result (λ t. (t ≡ next_registration self.old) × (self.new ≡ claimed self.old)) }
+        ensures ok { IfOk result (λ t. (t ≡ next_registration self.old)
+            × (self.new ≡ claimed self.old)) }
         ensures within { IfOk result (λ t. (t.slot < length self.new) × (t.slot < most_slots)) }
         ensures full { IsErrOf result TooManySources ↔ (most_slots ≤ first_vacant self.old) }
-        ensures err { IfErr result (λ e. (self.new ≡ self.old) × CannotClaim self.old (claim_error e)) }
+        ensures err { IfErr result (λ e. (self.new ≡ self.old)
+            × CannotClaim self.old (claim_error e)) }
         ensures steps { steps.new ≤ steps.old + level_count }
     {
         claim(&mut self.slots, &mut self.vacancies, steps)
@@ -277,7 +285,8 @@ impl<S: Drop> SourceList<S> {
     /// It gives `None`, and the list stays as it is, where the token names none, or where the source is in its turn.
     pub fn begin_turn(&mut self, token: RegistrationToken) -> Option<S>
         ensures value { result ≡ source_of (named self.old token) }
-        ensures list { self.new ≡ (if is_some result then changed (with_content InTurn) self.old token.slot else self.old) }
+        ensures list { self.new ≡ (if is_some result
+            then changed (with_content InTurn) self.old token.slot else self.old) }
         ensures within { OnSome result (token.slot < length self.new) }
     {
         if !has_source(&self.slots, token) {

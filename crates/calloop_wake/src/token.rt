@@ -153,7 +153,8 @@ impl TokenFactory {
     ///
     /// After these it refuses with `TooManyTokens`, each time, and stays as it is. Calloop panics there.
     pub fn token(&mut self) -> Result<Token>
-        ensures ok { IfOk result (λ t. (t ≡ next_token self.old) × (self.new ≡ after_token self.old)) }
+        ensures ok { IfOk result (λ t. (t ≡ next_token self.old)
+            × (self.new ≡ after_token self.old)) }
         ensures refuses { IsErr result ↔ (self.old.given ≡ most_tokens) }
         ensures err { IfErr result (λ e. (e ≡ TooManyTokens) × (self.new ≡ self.old)) }
         ensures not_the_poller { IfOk result (λ t. key_of t ≢ 2 ^ 64 - 1) }
@@ -178,5 +179,7 @@ pub fn keys_differ()
 
 /// Tokens that factories of one registration give at different counts differ, and so do their keys.
 pub fn factory_tokens_differ()
-    ensures { (f g : TokenFactory) → f.registration ≡ g.registration → f.given < most_tokens → g.given < most_tokens → f.given ≢ g.given → (next_token f ≢ next_token g) × (key_of (next_token f) ≢ key_of (next_token g)) }
+    ensures { (f g : TokenFactory) → f.registration ≡ g.registration
+        → f.given < most_tokens → g.given < most_tokens → f.given ≢ g.given
+        → (next_token f ≢ next_token g) × (key_of (next_token f) ≢ key_of (next_token g)) }
 {}

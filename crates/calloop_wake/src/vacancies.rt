@@ -67,7 +67,8 @@ impl Words {
     // Appends a word, which is 0, where the words end at this place or before. Whether it did.
     fn extend(&mut self, place: usize) -> Result<bool, AllocError>
         requires { place < most_words }
-        ensures ok { IfOk result (λ b. (b ≡ not (nat_lt place (length self.old))) × (self.new ≡ extended place self.old)) }
+        ensures ok { IfOk result (λ b. (b ≡ not (nat_lt place (length self.old)))
+            × (self.new ≡ extended place self.old)) }
         ensures err { OnErr result (self.new ≡ self.old) }
     {
         if place < self.words.len() {
@@ -88,7 +89,8 @@ impl Words {
     fn set(&mut self, bit: usize)
         requires { bit / 64 < length self.old }
         ensures bits { (i : ℕ) → is_set self.new i ≡ with_slot bit true (is_set self.old) i }
-        ensures words { (i : ℕ) → is_filled self.new i ≡ with_slot (bit / 64) true (is_filled self.old) i }
+        ensures words { (i : ℕ)
+            → is_filled self.new i ≡ with_slot (bit / 64) true (is_filled self.old) i }
         ensures len { length self.new ≡ length self.old }
     {
         self.words[bit / 64] |= 1 << (bit % 64);
@@ -106,8 +108,11 @@ struct Taken {
 // Takes out the first vacant slot below the word at this place. The highest level comes first.
 fn take(levels: &mut [Words], place: usize, steps: &mut Steps) -> Option<Taken>
     requires { steps.old + length levels.old < 2 ^ 64 }
-    ensures none { IfNone result ((levels.new ≡ levels.old) × ((vacant : ℕ → Bool) → AreLevels vacant levels.old → said vacant levels.old place ≡ false)) }
-    ensures some { IfSome result (λ t. (vacant : ℕ → Bool) → AreLevels vacant levels.old → Takes vacant place t levels.old levels.new) }
+    ensures none { IfNone result ((levels.new ≡ levels.old)
+        × ((vacant : ℕ → Bool) → AreLevels vacant levels.old
+        → said vacant levels.old place ≡ false)) }
+    ensures some { IfSome result (λ t. (vacant : ℕ → Bool) → AreLevels vacant levels.old
+        → Takes vacant place t levels.old levels.new) }
     ensures len { map length levels.new ≡ map length levels.old }
     ensures steps { steps.new ≤ steps.old + length levels.old }
 {
@@ -140,8 +145,10 @@ fn take(levels: &mut [Words], place: usize, steps: &mut Steps) -> Option<Taken>
 fn mark(levels: &mut [Words], slot: usize)
     requires few { length levels.old ≤ level_count }
     requires bits { HasBits levels.old slot }
-    ensures levels { (vacant : ℕ → Bool) → AreLevels vacant levels.old → AreLevels (with_slot slot true vacant) levels.new }
-    ensures above { (vacant : ℕ → Bool) (q : ℕ) → said (with_slot slot true vacant) levels.new q ≡ with_slot (place levels.old slot) true (said vacant levels.old) q }
+    ensures levels { (vacant : ℕ → Bool) → AreLevels vacant levels.old
+        → AreLevels (with_slot slot true vacant) levels.new }
+    ensures above { (vacant : ℕ → Bool) (q : ℕ) → said (with_slot slot true vacant) levels.new q
+        ≡ with_slot (place levels.old slot) true (said vacant levels.old) q }
     ensures len { map length levels.new ≡ map length levels.old }
 {
     if let Some((level, below)) = levels.split_first_mut() {
@@ -204,9 +211,12 @@ impl Vacancies {
     /// Takes out the first vacant slot, where one is. It reads a word of each level at most.
     pub(crate) fn take_first(&mut self, steps: &mut Steps) -> Option<usize>
         requires { steps.old ≡ 0 }
-        ensures none { IfNone result ((self.new ≡ self.old) × ((vacant : ℕ → Bool) → AreLevels vacant self.old → (i : ℕ) → vacant i ≡ false)) }
-        ensures first { IfSome result (λ slot. (vacant : ℕ → Bool) → AreLevels vacant self.old → IsFirst vacant slot) }
-        ensures levels { IfSome result (λ slot. (vacant : ℕ → Bool) → AreLevels vacant self.old → AreLevels (with_slot slot false vacant) self.new) }
+        ensures none { IfNone result ((self.new ≡ self.old)
+            × ((vacant : ℕ → Bool) → AreLevels vacant self.old → (i : ℕ) → vacant i ≡ false)) }
+        ensures first { IfSome result (λ slot. (vacant : ℕ → Bool) → AreLevels vacant self.old
+            → IsFirst vacant slot) }
+        ensures levels { IfSome result (λ slot. (vacant : ℕ → Bool) → AreLevels vacant self.old
+            → AreLevels (with_slot slot false vacant) self.new) }
         ensures bits { (i : ℕ) → HasBits self.old i → HasBits self.new i }
         ensures steps { steps.new ≤ steps.old + level_count }
     {
@@ -219,7 +229,8 @@ impl Vacancies {
     /// Makes a slot vacant. It decides by no word, and takes no memory.
     pub(crate) fn insert(&mut self, slot: usize)
         requires { HasBits self.old slot }
-        ensures levels { (vacant : ℕ → Bool) → AreLevels vacant self.old → AreLevels (with_slot slot true vacant) self.new }
+        ensures levels { (vacant : ℕ → Bool) → AreLevels vacant self.old
+            → AreLevels (with_slot slot true vacant) self.new }
         ensures bits { (i : ℕ) → HasBits self.old i → HasBits self.new i }
     {
         mark(&mut self.levels, slot);

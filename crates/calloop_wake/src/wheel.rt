@@ -145,7 +145,8 @@ fn enter(
 ) -> Result<(), AllocError>
     requires free { has_counter due.counter (entries_of by_due.old.entries) ≡ false }
     requires same { NameTheSame (entries_of by_due.old.entries) by_counter.old.entries }
-    ensures ok { OnOk result (entries_of by_due.new.entries ≡ inserted (entry_at (due, token)) (entries_of by_due.old.entries)) }
+    ensures ok { OnOk result (entries_of by_due.new.entries
+        ≡ inserted (entry_at (due, token)) (entries_of by_due.old.entries)) }
     ensures err { OnErr result (by_due.new.entries ≡ by_due.old.entries) }
     ensures same { NameTheSame (entries_of by_due.new.entries) by_counter.new.entries }
 {
@@ -173,7 +174,8 @@ fn trim(by_counter: &mut HashMap<u64, Instant>)
 fn leave(by_due: &mut BTreeMap<Due, Token>, by_counter: &mut HashMap<u64, Instant>, counter: u64)
     requires sorted { IsSorted (entries_of by_due.old.entries) }
     requires same { NameTheSame (entries_of by_due.old.entries) by_counter.old.entries }
-    ensures entries { entries_of by_due.new.entries ≡ without_counter counter (entries_of by_due.old.entries) }
+    ensures entries { entries_of by_due.new.entries
+        ≡ without_counter counter (entries_of by_due.old.entries) }
     ensures same { NameTheSame (entries_of by_due.new.entries) by_counter.new.entries }
 {
     if let Some(deadline) = by_counter.remove(&counter) {
@@ -197,7 +199,8 @@ fn take_first(
 ) -> Option<Entry>
     requires sorted { IsSorted (entries_of by_due.old.entries) }
     requires same { NameTheSame (entries_of by_due.old.entries) by_counter.old.entries }
-    ensures first { IfSome result (λ e. entries_of by_due.old.entries ≡ e ∷ entries_of by_due.new.entries) }
+    ensures first { IfSome result (λ e.
+        entries_of by_due.old.entries ≡ e ∷ entries_of by_due.new.entries) }
     ensures none { IfNone result ((by_due.old.entries ≡ []) × (by_due.new.entries ≡ [])) }
     ensures same { NameTheSame (entries_of by_due.new.entries) by_counter.new.entries }
 {
@@ -242,9 +245,11 @@ impl TimerWheel {
     /// It refuses with `TooManyTimers` exactly where the counter would be 2^64 - 1, and else with `OutOfMemory` where
     /// there is no memory for an entry. After a refusal the wheel is as it was.
     pub fn insert(&mut self, deadline: Instant, token: Token) -> Result<u64, ArmRefusal>
-        ensures ok { IfOk result (λ c. (c ≡ self.old.next) × (self.new ≡ with_new deadline token self.old)) }
+        ensures ok { IfOk result (λ c. (c ≡ self.old.next)
+            × (self.new ≡ with_new deadline token self.old)) }
         ensures full { IsErrOf result TooManyTimers ↔ (self.old.next ≡ 2 ^ 64 - 1) }
-        ensures err { IfErr result (λ e. CannotArm self.old.next (arm_error e) × (self.new ≡ self.old)) }
+        ensures err { IfErr result (λ e. CannotArm self.old.next (arm_error e)
+            × (self.new ≡ self.old)) }
     {
         let counter = self.counter;
         if counter == u64::MAX {
@@ -267,8 +272,10 @@ impl TimerWheel {
         token: Token,
     ) -> Result<(), ArmRefusal>
         requires { is_armed counter self.old ≡ false }
-        ensures ok { OnOk result ((counter < self.old.next) × (self.new ≡ with_again counter deadline token self.old)) }
-        ensures err { IfErr result (λ e. CannotArmAgain counter self.old (arm_error e) × (self.new ≡ self.old)) }
+        ensures ok { OnOk result ((counter < self.old.next)
+            × (self.new ≡ with_again counter deadline token self.old)) }
+        ensures err { IfErr result (λ e. CannotArmAgain counter self.old (arm_error e)
+            × (self.new ≡ self.old)) }
     {
         if counter >= self.counter {
             return Err(ArmRefusal::UnknownCounter);
@@ -303,7 +310,8 @@ impl TimerWheel {
     /// Takes the first deadline out where it isn't later than `now`.
     pub fn next_expired(&mut self, now: Instant) -> Option<Entry>
         ensures first { result ≡ first_due now.nanos self.old.entries }
-        ensures rest { self.new ≡ with_entries (after_first_due now.nanos self.old.entries) self.old }
+        ensures rest { self.new
+            ≡ with_entries (after_first_due now.nanos self.old.entries) self.old }
     {
         let due = next_due(&self.by_due)?;
         if due.deadline.nanos > now.nanos {

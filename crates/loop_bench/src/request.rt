@@ -45,7 +45,9 @@ impl fmt::Display for Unreadable<'_> {
 
 // A whole number from 1 to 2^32 - 1.
 fn number(word: &str) -> Result<NonZeroU32, Unreadable<'_>>
-    ensures { MatchResult result (λ number. IsNumber word.now (non_zero_u32_get number)) (λ _. (n : ℕ) → ¬ IsNumber word.now n) }
+    ensures { MatchResult result
+        (λ number. IsNumber word.now (non_zero_u32_get number))
+        (λ _. (n : ℕ) → ¬ IsNumber word.now n) }
 {
     match word.parse::<NonZeroU32>() {
         Ok(number) => Ok(number),
@@ -55,7 +57,9 @@ fn number(word: &str) -> Result<NonZeroU32, Unreadable<'_>>
 
 // A row by the words for its name, its count and its size.
 fn row<'a>(kind: &'a str, count: &'a str, size: &'a str) -> Result<Row, Unreadable<'a>>
-    ensures { MatchResult result (λ row. IsRow kind.now count.now size.now row) (λ _. (row : Row) → ¬ IsRow kind.now count.now size.now row) }
+    ensures { MatchResult result
+        (λ row. IsRow kind.now count.now size.now row)
+        (λ _. (row : Row) → ¬ IsRow kind.now count.now size.now row) }
 {
     let Some(named) = Kind::named(kind) else {
         return Err(Unreadable::Row(kind));
@@ -71,7 +75,9 @@ fn row<'a>(kind: &'a str, count: &'a str, size: &'a str) -> Result<Row, Unreadab
 
 /// Reads the arguments, without the program's name.
 pub fn read(words: &[String]) -> Result<Request, Unreadable<'_>>
-    ensures { MatchResult result (λ request. Asks words.now request) (λ _. (request : Request) → ¬ Asks words.now request) }
+    ensures { MatchResult result
+        (λ request. Asks words.now request)
+        (λ _. (request : Request) → ¬ Asks words.now request) }
 {
     match words {
         [word] if word.as_str() == "check" => Ok(Request::Check),

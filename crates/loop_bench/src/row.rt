@@ -128,7 +128,8 @@ impl Row {
     /// In how many steps its time is divided: each timer that fires is one, each ping that is inserted and served, each socket that is
     /// read, each message, each future that is ready, and each wake.
     pub fn operations(&self) -> u64
-        ensures value { result ≡ operations_of self.now.kind (non_zero_u32_get self.now.count) (non_zero_u32_get self.now.size) }
+        ensures value { result ≡ operations_of self.now.kind
+            (non_zero_u32_get self.now.count) (non_zero_u32_get self.now.size) }
         ensures nonzero { 0 < result }
     {
         let count = u64::from(self.count.get());
@@ -152,7 +153,8 @@ impl Row {
 
     /// How many callbacks it has to call.
     pub fn calls(&self) -> u64
-        ensures { result ≡ calls_of self.now.kind (non_zero_u32_get self.now.count) (non_zero_u32_get self.now.size) }
+        ensures { result ≡ calls_of self.now.kind
+            (non_zero_u32_get self.now.count) (non_zero_u32_get self.now.size) }
     {
         match self.kind {
             Kind::RingAndDispatch

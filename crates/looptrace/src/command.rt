@@ -133,7 +133,8 @@ fn parse_timer_with(
     name: &[u8],
     deadline: &[u8],
 ) -> Result<Option<Command>, AllocError>
-    ensures { IfOk result (λ command. command ≡ timer_with (name_of name.now) (number_of deadline.now)) }
+    ensures { IfOk result (λ command.
+        command ≡ timer_with (name_of name.now) (number_of deadline.now)) }
 {
     let Some(name) = parse_name(alloc, name)? else {
         return Ok(None);

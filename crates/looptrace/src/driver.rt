@@ -26,7 +26,8 @@ pub trait Runner {
     /// False where the line can't be read. An `Err` is want of memory, and then nothing is known of `text`.
     fn line<Q: Wait + Log>(&mut self, rt: &Q, line: &[u8], text: &mut Vec<u8>) -> io::Result<bool>
         ensures read { IfOk result (λ read. MatchBool read
-            ((said : List ℕ) × (text.new.items ≡ text.old.items ++ said) × step self.old line.now (Some (self.new, said)))
+            ((said : List ℕ) × (text.new.items ≡ text.old.items ++ said)
+            × step self.old line.now (Some (self.new, said)))
             (step self.old line.now None)) }
         ensures err { IfErr result (λ e. error_kind e ≡ OutOfMemory) };
 }
@@ -42,7 +43,8 @@ pub fn drive<Q: Wait + Log, L: Runner, R: BufRead, W: Write, E: Write>(
     runner: &mut L,
     streams: &mut Streams<R, W, E>,
 ) -> io::Result<u8>
-    ensures run { IfOk result (λ status. IfSome (R.remaining streams.old.input) (λ bytes. (w : Written) × Writes L.step runner.old 1 (lines_of bytes) w
+    ensures run { IfOk result (λ status. IfSome (R.remaining streams.old.input) (λ bytes.
+        (w : Written) × Writes L.step runner.old 1 (lines_of bytes) w
         × Appends (W.contents streams.old.output) (W.contents streams.new.output) w.out
         × Appends (E.contents streams.old.errors) (E.contents streams.new.errors) w.err
         × (status ≡ w.status))) }

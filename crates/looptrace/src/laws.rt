@@ -17,9 +17,11 @@ use std::sync::Wait;
 /// And over every run of a loop by such calls, from its beginning: no timer is called early, nor twice for one arming, and each call
 /// hands out the deadline of its arming.
 pub fn timers_are_called_in_time<R: Wait + Clone + Drop>()
-    ensures lines { (s t : State) (line said : List ℕ) → trace_step s line (Some (t, said)) → Asks s.loop t.loop }
+    ensures lines { (s t : State) (line said : List ℕ) → trace_step s line (Some (t, said))
+        → Asks s.loop t.loop }
     ensures in_time { OverEveryRun source_meaning no_idles script_outside
-        (FromTheStart (λ (r : LoopRun Source (Unit {0}) ScriptPoller (Option (List ℕ))). AllScripted r.calls → IsLedgerOf r.ended.ledger r.ended.poll)) }
+        (FromTheStart (λ (r : LoopRun Source (Unit {0}) ScriptPoller (Option (List ℕ))).
+        AllScripted r.calls → IsLedgerOf r.ended.ledger r.ended.poll)) }
 {
     once_where_nothing_is_asked::<Source<R>, ScriptPoller, ScriptClock, R>();
 }

@@ -139,7 +139,8 @@ fn keep<S: Drop, R: Wait + Drop>(
     answer: Result<RegistrationToken, InsertError<S>>,
     text: &mut Vec<u8>,
 ) -> Result<(), AllocError>
-    ensures { OnOk result ((said : List ℕ) × (text.new.items ≡ text.old.items ++ said) × InsertSays name ping answer sources.old sources.new said) }
+    ensures { OnOk result ((said : List ℕ) × (text.new.items ≡ text.old.items ++ said)
+        × InsertSays name ping answer sources.old sources.new said) }
 {
     match answer {
         Ok(token) => {
@@ -152,7 +153,8 @@ fn keep<S: Drop, R: Wait + Drop>(
 
 // Whether no event more fits into the pending answer.
 fn is_full(pending: &Option<PendingAnswer>) -> bool
-    ensures { result ≡ nat_le events_per_wait (length (events_of (option_map pending_of pending.now))) }
+    ensures { result
+        ≡ nat_le events_per_wait (length (events_of (option_map pending_of pending.now))) }
 {
     match pending {
         Some(pending) => pending.events.is_full(),
@@ -166,7 +168,8 @@ fn next_answer(
     fault: bool,
     pending: &Option<PendingAnswer>,
 ) -> Result<Option<ScriptAnswer>, AllocError>
-    ensures { IfOk result (λ answer. NextAnswer fault (option_map pending_of pending.now) now (option_to_list answer)) }
+    ensures { IfOk result (λ answer.
+        NextAnswer fault (option_map pending_of pending.now) now (option_to_list answer)) }
 {
     if fault {
         return Ok(Some(ScriptAnswer {
@@ -190,7 +193,8 @@ fn make_ready(
     fault: bool,
     pending: &Option<PendingAnswer>,
 ) -> io::Result<()>
-    ensures ok { OnOk result (IsPrepared fault (option_map pending_of pending.now) poller.old poller.new) }
+    ensures ok { OnOk result
+        (IsPrepared fault (option_map pending_of pending.now) poller.old poller.new) }
     ensures err { IfErr result (λ e. error_kind e ≡ OutOfMemory) }
 {
     poller.keep_waits(1)?;
@@ -207,8 +211,10 @@ fn make_ready(
 // Says the waits that were asked, and takes back what was scripted and given to none of them. False where there was nothing
 // to take back.
 fn take_back(poller: &mut ScriptPoller, text: &mut Vec<u8>) -> Result<bool, AllocError>
-    ensures { IfOk result (λ stands. (text.new.items ≡ text.old.items ++ waits_text poller.old.waits.items)
-        × (stands ≡ is_filled poller.old.answers.items) × IsTakenBack poller.old poller.new) }
+    ensures { IfOk result (λ stands.
+        (text.new.items ≡ text.old.items ++ waits_text poller.old.waits.items)
+        × (stands ≡ is_filled poller.old.answers.items)
+        × IsTakenBack poller.old poller.new) }
 {
     append_waits(text, poller.waits())?;
     Ok(poller.unscript().is_some())
@@ -223,7 +229,8 @@ fn fault_after(stands: bool, fault: bool) -> bool
 
 // What is pending after a dispatch. A fault only delays the answer.
 fn pending_after(stands: bool, fault: bool, pending: Option<PendingAnswer>) -> Option<PendingAnswer>
-    ensures { option_map pending_of result ≡ pending_after stands fault (option_map pending_of pending) }
+    ensures { option_map pending_of result
+        ≡ pending_after stands fault (option_map pending_of pending) }
 {
     if stands || fault { pending } else { None }
 }
@@ -253,7 +260,9 @@ impl<R: Wait + Clone + Drop> ScriptLoop<R> {
 
     fn ping(&mut self, name: &SourceName, text: &mut Vec<u8>) -> io::Result<bool>
         ensures ok { IfOk result (λ read. MatchBool read
-            ((said : List ℕ) × (text.new.items ≡ text.old.items ++ said) × InsertLine (state_of self.old) name.now (IsNewPing name.now) (Some (state_of self.new, said)))
+            ((said : List ℕ) × (text.new.items ≡ text.old.items ++ said)
+            × InsertLine (state_of self.old) name.now (IsNewPing name.now)
+            (Some (state_of self.new, said)))
             (InsertLine (state_of self.old) name.now (IsNewPing name.now) None)) }
         ensures err { IfErr result (λ e. error_kind e ≡ OutOfMemory) }
     {
@@ -274,7 +283,9 @@ impl<R: Wait + Clone + Drop> ScriptLoop<R> {
 
     fn timer(&mut self, name: &SourceName, deadline: u64, text: &mut Vec<u8>) -> io::Result<bool>
         ensures ok { IfOk result (λ read. MatchBool read
-            ((said : List ℕ) × (text.new.items ≡ text.old.items ++ said) × InsertLine (state_of self.old) name.now (IsNewTimer name.now deadline) (Some (state_of self.new, said)))
+            ((said : List ℕ) × (text.new.items ≡ text.old.items ++ said)
+            × InsertLine (state_of self.old) name.now (IsNewTimer name.now deadline)
+            (Some (state_of self.new, said)))
             (InsertLine (state_of self.old) name.now (IsNewTimer name.now deadline) None)) }
         ensures err { IfErr result (λ e. error_kind e ≡ OutOfMemory) }
     {
@@ -314,7 +325,8 @@ impl<R: Wait + Clone + Drop> ScriptLoop<R> {
     }
 
     fn remove(&mut self, slot: u64, version: u64, text: &mut Vec<u8>) -> io::Result<()>
-        ensures ok { OnOk result ((said : List ℕ) × (text.new.items ≡ text.old.items ++ said) × RemoveLine (state_of self.old) slot version (state_of self.new) said) }
+        ensures ok { OnOk result ((said : List ℕ) × (text.new.items ≡ text.old.items ++ said)
+            × RemoveLine (state_of self.old) slot version (state_of self.new) said) }
         ensures err { IfErr result (λ e. error_kind e ≡ OutOfMemory) }
     {
         let Some(token) = token_with(slot, version) else {
@@ -361,7 +373,8 @@ impl<R: Wait + Clone + Drop> ScriptLoop<R> {
         timeout: Option<u64>,
         text: &mut Vec<u8>,
     ) -> io::Result<()>
-        ensures ok { OnOk result ((said : List ℕ) × (text.new.items ≡ text.old.items ++ said) × DispatchLine (state_of self.old) timeout (state_of self.new) said) }
+        ensures ok { OnOk result ((said : List ℕ) × (text.new.items ≡ text.old.items ++ said)
+            × DispatchLine (state_of self.old) timeout (state_of self.new) said) }
         ensures err { IfErr result (λ e. error_kind e ≡ OutOfMemory) }
     {
         make_ready(
@@ -404,7 +417,8 @@ impl<R: Wait + Clone + Drop> ScriptLoop<R> {
         text: &mut Vec<u8>,
     ) -> io::Result<bool>
         ensures ok { IfOk result (λ read. MatchBool read
-            ((said : List ℕ) × (text.new.items ≡ text.old.items ++ said) × Carried (state_of self.old) (Some command.now) (Some (state_of self.new, said)))
+            ((said : List ℕ) × (text.new.items ≡ text.old.items ++ said)
+            × Carried (state_of self.old) (Some command.now) (Some (state_of self.new, said)))
             (Carried (state_of self.old) (Some command.now) None)) }
         ensures err { IfErr result (λ e. error_kind e ≡ OutOfMemory) }
     {
@@ -445,7 +459,8 @@ impl<R: Wait + Clone + Drop> Runner for ScriptLoop<R> {
 
     fn line<Q: Wait + Log>(&mut self, rt: &Q, line: &[u8], text: &mut Vec<u8>) -> io::Result<bool>
         ensures read { IfOk result (λ read. MatchBool read
-            ((said : List ℕ) × (text.new.items ≡ text.old.items ++ said) × line_step self.old line.now (Some (self.new, said)))
+            ((said : List ℕ) × (text.new.items ≡ text.old.items ++ said)
+            × line_step self.old line.now (Some (self.new, said)))
             (line_step self.old line.now None)) }
         ensures err { IfErr result (λ e. error_kind e ≡ OutOfMemory) }
     {

@@ -24,7 +24,10 @@ pub struct Streams<R, W, E> {
 impl<R, W, E> Streams<R, W, E> {
     /// No call failed yet.
     pub fn new(input: R, output: W, errors: E) -> Streams<R, W, E>
-        ensures { (result.input ≡ input) × (result.output ≡ output) × (result.errors ≡ errors) × (result.faults.count ≡ 0) }
+        ensures { (result.input ≡ input)
+            × (result.output ≡ output)
+            × (result.errors ≡ errors)
+            × (result.faults.count ≡ 0) }
     {
         Streams {
             input,
@@ -37,7 +40,9 @@ impl<R, W, E> Streams<R, W, E> {
     // Counts a call that failed.
     fn note<A>(&mut self, answer: io::Result<A>) -> io::Result<A>
         ensures answer { result ≡ answer }
-        ensures streams { (self.new.input ≡ self.old.input) × (self.new.output ≡ self.old.output) × (self.new.errors ≡ self.old.errors) }
+        ensures streams { (self.new.input ≡ self.old.input)
+            × (self.new.output ≡ self.old.output)
+            × (self.new.errors ≡ self.old.errors) }
         ensures faults { self.new.faults.count ≡ counted answer self.old.faults.count }
     {
         if answer.is_err() {
@@ -50,10 +55,13 @@ impl<R, W, E> Streams<R, W, E> {
 impl<R: BufRead, W: Write, E: Write> Streams<R, W, E> {
     /// Reads one line with its line feed into `line`. False at the end of the input.
     pub fn read_line(&mut self, line: &mut Vec<u8>) -> io::Result<bool>
-        ensures end { IfOk result (λ more. IfSome (R.remaining self.old.input) (λ xs. more ≡ false → xs ≡ [])) }
-        ensures line { IfOk result (λ more. IfSome (R.remaining self.old.input) (λ xs. more ≡ true →
-            (lines_of xs ≡ first_of line.new.items ∷ lines_of (drop_through 10 xs)) × (R.remaining self.new.input ≡ Some (drop_through 10 xs)))) }
-        ensures writers { (self.new.output ≡ self.old.output) × (self.new.errors ≡ self.old.errors) }
+        ensures end { IfOk result (λ more.
+            IfSome (R.remaining self.old.input) (λ xs. more ≡ false → xs ≡ [])) }
+        ensures line { IfOk result (λ more. IfSome (R.remaining self.old.input) (λ xs. more ≡ true
+            → (lines_of xs ≡ first_of line.new.items ∷ lines_of (drop_through 10 xs))
+            × (R.remaining self.new.input ≡ Some (drop_through 10 xs)))) }
+        ensures writers { (self.new.output ≡ self.old.output)
+            × (self.new.errors ≡ self.old.errors) }
         ensures faults { self.new.faults.count ≡ counted result self.old.faults.count }
     {
         let answer = lines::read_line(&mut self.input, line);
@@ -62,7 +70,8 @@ impl<R: BufRead, W: Write, E: Write> Streams<R, W, E> {
 
     /// Writes a text to the output.
     pub fn say(&mut self, text: &[u8]) -> io::Result<()>
-        ensures bytes { OnOk result (Appends (W.contents self.old.output) (W.contents self.new.output) text.now) }
+        ensures bytes { OnOk result
+            (Appends (W.contents self.old.output) (W.contents self.new.output) text.now) }
         ensures others { (self.new.input ≡ self.old.input) × (self.new.errors ≡ self.old.errors) }
         ensures faults { self.new.faults.count ≡ counted result self.old.faults.count }
     {
@@ -72,7 +81,8 @@ impl<R: BufRead, W: Write, E: Write> Streams<R, W, E> {
 
     /// Names a line that can't be read, by its number, to the errors.
     pub fn refuse(&mut self, number: u64) -> io::Result<()>
-        ensures bytes { OnOk result (Appends (E.contents self.old.errors) (E.contents self.new.errors) (error_text number)) }
+        ensures bytes { OnOk result (Appends (E.contents self.old.errors)
+            (E.contents self.new.errors) (error_text number)) }
         ensures others { (self.new.input ≡ self.old.input) × (self.new.output ≡ self.old.output) }
         ensures faults { self.new.faults.count ≡ counted result self.old.faults.count }
     {

@@ -26,11 +26,13 @@ pub fn trace<Q: Wait + Log + Clone + Drop, R: BufRead, W: Write, E: Write>(
     alloc: Global,
     streams: &mut Streams<R, W, E>,
 ) -> io::Result<u8>
-    ensures run { IfOk result (λ status. IfSome (R.remaining streams.old.input) (λ script. (w : Written) × MayWrite script w
+    ensures run { IfOk result (λ status. IfSome (R.remaining streams.old.input) (λ script.
+        (w : Written) × MayWrite script w
         × Appends (W.contents streams.old.output) (W.contents streams.new.output) w.out
         × Appends (E.contents streams.old.errors) (E.contents streams.new.errors) w.err
         × (status ≡ w.status))) }
-    ensures in_time { IfOk result (λ _. IfSome (R.remaining streams.old.input) (λ script. (w : Written) × MayWriteInTime script w
+    ensures in_time { IfOk result (λ _. IfSome (R.remaining streams.old.input) (λ script.
+        (w : Written) × MayWriteInTime script w
         × Appends (W.contents streams.old.output) (W.contents streams.new.output) w.out)) }
     ensures none { OnOk result (streams.new.faults.count ≡ streams.old.faults.count) }
     ensures err { IfErr result (λ e. IsCause e streams.old.faults.count streams.new.faults.count) }

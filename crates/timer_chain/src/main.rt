@@ -62,7 +62,8 @@ type Chain = Sources<Dispatcher<Timer, Again>, u64>;
 /// by a call was never registered, and none is exchanged for one that holds more, no timer is called early, nor twice for one
 /// arming. That the callbacks ask for such timers alone, their relation says.
 pub fn no_timer_is_early<P: Poller, C: Clock, R: Wait + Drop>()
-    ensures { OverEveryRun chain_meaning no_idles P.outside (FromTheStart (ArmingsAreKept chain_meaning)) }
+    ensures { OverEveryRun chain_meaning no_idles P.outside
+        (FromTheStart (ArmingsAreKept chain_meaning)) }
 {
     once::<Chain, P, C, R>();
 }

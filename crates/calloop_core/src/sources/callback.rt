@@ -27,6 +27,7 @@ pub trait Callback<E, M, T, X, Q: Asking> {
     ghost may: { Self → E → M → X → Q → T → Self → M → X → Q → Type 0 } = { λ _ _ _ _ _ _ _ _ _ _. Unit {0} };
 
     fn call(&mut self, event: E, metadata: &mut M, data: &mut X, requests: &mut Q) -> T
-        ensures may { may self.old event metadata.old «data».old requests.old result self.new metadata.new «data».new requests.new }
+        ensures may { may self.old event metadata.old «data».old requests.old result
+            self.new metadata.new «data».new requests.new }
         ensures asks { Q.reaches requests.old requests.new };
 }

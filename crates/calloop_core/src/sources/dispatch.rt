@@ -51,7 +51,8 @@ impl<S, F> Dispatcher<S, F> {
 
     /// The source, to be changed.
     pub fn as_source_mut(&mut self) -> &mut S
-        ensures* writes_back { sem 𝓛 (Lends (the_row S.row F.row) S.row self.entry result (λ s. with_source s self.old)) }
+        ensures* writes_back { sem 𝓛 (Lends (the_row S.row F.row) S.row self.entry result
+            (λ s. with_source s self.old)) }
         ensures value { result.now ≡ self.old.source }
     {
         &mut self.source
@@ -145,7 +146,8 @@ pub trait Dispatch<P: Poller, C, R: Wait + Drop, X, Q: Asking> {
         token: RegistrationToken,
         poll: &mut Poll<P, C, R>,
     ) -> Option<LoopResult<()>>
-        ensures settles { Settles (means.role self.old) P.outside means token result self.old (poll_view poll.old) self.new (poll_view poll.new) }
+        ensures settles { Settles (means.role self.old) P.outside means token result
+            self.old (poll_view poll.old) self.new (poll_view poll.new) }
         ensures ready { (more : ℕ) → IsReady more poll.old → IsReady more poll.new };
 
     /// The source is told of the wait that comes, and may ask for events.
@@ -156,7 +158,8 @@ pub trait Dispatch<P: Poller, C, R: Wait + Drop, X, Q: Asking> {
 
     /// The source is told of the events that a wait brought for its registration.
     fn before_handle_events(&mut self, events: EventIterator<'_>)
-        ensures { (v : PollView P) → means.does self.old v (Noticed (events_left events.entry)) [] self.new };
+        ensures { (v : PollView P)
+            → means.does self.old v (Noticed (events_left events.entry)) [] self.new };
 
     /// Three laws. It touches no timer's counter of another source, and calls at most once for each arming of its own. It uses
     /// only keys of its own registration, from a registration that succeeded on. And it asks for no more events than its limit, which stays.

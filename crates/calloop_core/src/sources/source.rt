@@ -118,8 +118,10 @@ pub trait EventSource<P: Poller, C, R: Wait + Drop> {
         Q: Asking,
         F: Callback<Self::Event, Self::Metadata, Self::Ret, X, Q>,
         ensures { (calls : List (CallbackCall Self.Event Self.Metadata Self.Ret))
-            × Does P.outside means self.old (poll_view poll.old) (Turned readiness token (heard calls result)) self.new (poll_view poll.new)
-            × Went F.may Q.reaches callback.old «data».old requests.old calls callback.new «data».new requests.new };
+            × Does P.outside means self.old (poll_view poll.old)
+            (Turned readiness token (heard calls result)) self.new (poll_view poll.new)
+            × Went F.may Q.reaches callback.old «data».old requests.old calls
+            callback.new «data».new requests.new };
 
     /// Registers it with tokens of the factory.
     fn register(&mut self, poll: &mut Poll<P, C, R>, factory: &mut TokenFactory) -> LoopResult<()>
@@ -133,7 +135,8 @@ pub trait EventSource<P: Poller, C, R: Wait + Drop> {
 
     /// Takes its registration back.
     fn unregister(&mut self, poll: &mut Poll<P, C, R>) -> LoopResult<()>
-        ensures { Does P.outside means self.old (poll_view poll.old) (Unregistered result) self.new (poll_view poll.new) };
+        ensures { Does P.outside means self.old (poll_view poll.old) (Unregistered result)
+            self.new (poll_view poll.new) };
 
     /// Whether it is told of waits: by `before_sleep` before each, and by `before_handle_events` after each. calloop has a
     /// constant of this name.
@@ -153,7 +156,8 @@ pub trait EventSource<P: Poller, C, R: Wait + Drop> {
 
     /// Called after each wait, before any turn, with the events that it brought for this source's registration.
     fn before_handle_events(&mut self, events: EventIterator<'_>)
-        ensures { (v : PollView P) → means.does self.old v (Noticed (events_left events.entry)) [] self.new };
+        ensures { (v : PollView P)
+            → means.does self.old v (Noticed (events_left events.entry)) [] self.new };
 
     /// Three laws. It touches no timer's counter of another source, and calls at most once for each arming of its own. It uses
     /// only keys of its own registration, from a registration that succeeded on. And it asks for no more events than its limit, which stays.

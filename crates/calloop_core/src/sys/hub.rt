@@ -226,7 +226,8 @@ impl Hub {
     )
         requires name { watch.old.name ≡ self.now }
         requires room { deque_len passes.old + room ≤ deque_capacity passes.old }
-        ensures keys { HasUnposted room watch.old watch.new passes.old.items passes.new.items (deque_len passes.old) (deque_len passes.new) }
+        ensures keys { HasUnposted room watch.old watch.new
+            passes.old.items passes.new.items (deque_len passes.old) (deque_len passes.new) }
         ensures capacity { deque_capacity passes.new ≡ deque_capacity passes.old }
     {
         let mut held = self.board.lock(rt);
@@ -314,7 +315,8 @@ impl WatchedHub {
     /// Takes the posted keys, ascending, as many as there is room for, and appends a pass for each.
     pub fn unpost<R: Wait>(&mut self, rt: &R, room: usize, passes: &mut VecDeque<TakenPass>)
         requires room { deque_len passes.old + room ≤ deque_capacity passes.old }
-        ensures keys { HasUnposted room self.old self.new passes.old.items passes.new.items (deque_len passes.old) (deque_len passes.new) }
+        ensures keys { HasUnposted room self.old self.new
+            passes.old.items passes.new.items (deque_len passes.old) (deque_len passes.new) }
         ensures capacity { deque_capacity passes.new ≡ deque_capacity passes.old }
     {
         if self.found || !self.hub.unpost_none(rt, room, &mut self.watch) {

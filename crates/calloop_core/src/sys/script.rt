@@ -47,8 +47,10 @@ impl ScriptEvents {
 
     /// Adds an event. The 1,025th is handed back, and one for which there is no memory too; then nothing changes.
     pub fn push(&mut self, key: u64, readiness: Readiness) -> Result<(), (u64, Readiness)>
-        ensures ok { OnOk result (self.new.events.items ≡ self.old.events.items ++ (key, readiness) ∷ []) }
-        ensures err { IfErr result (λ event. (event ≡ (key, readiness)) × (self.new.events.items ≡ self.old.events.items)) }
+        ensures ok { OnOk result
+            (self.new.events.items ≡ self.old.events.items ++ (key, readiness) ∷ []) }
+        ensures err { IfErr result (λ event. (event ≡ (key, readiness))
+            × (self.new.events.items ≡ self.old.events.items)) }
     {
         if self.events.len() >= EVENTS_PER_WAIT {
             return Err((key, readiness));
@@ -129,7 +131,13 @@ impl Clock for ScriptClock {
 impl ScriptPoller {
     /// With the clock at 0, no answer, and no room for asked waits.
     pub fn new(alloc: Global) -> Result<ScriptPoller, AllocError>
-        ensures { IfOk result (λ made. (made.moment.nanos ≡ 0) × (made.answers.items ≡ []) × (made.waits.items ≡ []) × (vec_capacity made.waits ≡ 0) × (made.calls.items ≡ []) × (made.failing ≡ record { add = false; modify = false; delete = false }) × (made.faults.count ≡ 0)) }
+        ensures { IfOk result (λ made. (made.moment.nanos ≡ 0)
+            × (made.answers.items ≡ [])
+            × (made.waits.items ≡ [])
+            × (vec_capacity made.waits ≡ 0)
+            × (made.calls.items ≡ [])
+            × (made.failing ≡ record { add = false; modify = false; delete = false })
+            × (made.faults.count ≡ 0)) }
     {
         Ok(ScriptPoller {
             moment: Instant { nanos: 0 },
@@ -167,7 +175,8 @@ impl ScriptPoller {
 
     /// Adds the answer of one more wait, behind those that are there.
     pub fn script(&mut self, answer: ScriptAnswer) -> Result<(), AllocFailed<ScriptAnswer>>
-        ensures answers { self.new.answers.items ≡ (if is_ok result then self.old.answers.items ++ answer ∷ [] else self.old.answers.items) }
+        ensures answers { self.new.answers.items ≡ (if is_ok result
+            then self.old.answers.items ++ answer ∷ [] else self.old.answers.items) }
         ensures value_returned { IfErr result (λ failed. failed.value ≡ answer) }
         ensures moment { self.new.moment ≡ self.old.moment }
         ensures waits { self.new.waits ≡ self.old.waits }
@@ -230,7 +239,8 @@ impl ScriptPoller {
     }
 
     fn note(&mut self, timeout: Option<Duration>)
-        ensures waits { self.new.waits.items ≡ kept_waits self.old.waits.items (vec_capacity self.old.waits) timeout }
+        ensures waits { self.new.waits.items
+            ≡ kept_waits self.old.waits.items (vec_capacity self.old.waits) timeout }
         ensures room { vec_capacity self.new.waits ≡ vec_capacity self.old.waits }
         ensures moment { self.new.moment ≡ self.old.moment }
         ensures answers { self.new.answers ≡ self.old.answers }

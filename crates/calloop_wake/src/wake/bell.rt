@@ -142,9 +142,13 @@ impl Bell {
     }
 
     pub(super) fn add_sender(&mut self) -> Result<Sender, AllocError>
-        ensures ok { IfOk result (λ sender. (sender.name ≡ self.old.name) × (self.old.cell.senders + 1 < 2 ^ 64) × (self.new ≡ bell_with (after_add_sender self.old.cell) self.old)) }
-        ensures err { IfErr result (λ _. (self.old.cell.senders + 1 ≡ 2 ^ 64) × (self.new ≡ self.old)) }
-        ensures others { self.new ≡ bell_with (record self.old.cell { senders = self.new.cell.senders }) self.old }
+        ensures ok { IfOk result (λ sender. (sender.name ≡ self.old.name)
+            × (self.old.cell.senders + 1 < 2 ^ 64)
+            × (self.new ≡ bell_with (after_add_sender self.old.cell) self.old)) }
+        ensures err { IfErr result (λ _. (self.old.cell.senders + 1 ≡ 2 ^ 64)
+            × (self.new ≡ self.old)) }
+        ensures others { self.new
+            ≡ bell_with (record self.old.cell { senders = self.new.cell.senders }) self.old }
     {
         match self.senders.checked_add(1) {
             Some(senders) => {
@@ -171,7 +175,8 @@ impl Bell {
 
     /// One sender less, and no close where it was the last.
     pub(super) fn drop_without_close(&mut self, sender: Sender)
-        ensures { self.new ≡ bell_with (record self.old.cell { senders = self.old.cell.senders - 1 }) self.old }
+        ensures { self.new
+            ≡ bell_with (record self.old.cell { senders = self.old.cell.senders - 1 }) self.old }
     {
         let Sender { name: _ } = sender;
         self.senders = self.senders.saturating_sub(1);

@@ -102,9 +102,11 @@ fn mark(places: &mut Places, posted: &mut Vec<u64>, key: u64) -> bool
 // Notes where each posted key stands once so many of the first are gone, by one look-up each.
 fn renumber(places: &mut Places, posted: &[u64], gone: usize, steps: &mut Steps)
     requires fresh { steps.old ≡ 0 }
-    requires open { (key : ℕ) → list_any (nat_eq key) posted.now ≡ true → IsSome (standing_at key places.old) }
+    requires open { (key : ℕ) → list_any (nat_eq key) posted.now ≡ true
+        → IsSome (standing_at key places.old) }
     requires once { IsDistinct nat_eq posted.now }
-    ensures standing { (key : ℕ) → standing_at key places.new ≡ renumbered gone (index_of key posted.now) (standing_at key places.old) }
+    ensures standing { (key : ℕ) → standing_at key places.new
+        ≡ renumbered gone (index_of key posted.now) (standing_at key places.old) }
     ensures keys { keys_of places.new ≡ keys_of places.old }
     ensures steps { steps.new ≡ length posted.now }
 {
@@ -166,7 +168,8 @@ impl Board {
     /// memory for one. After a refusal the board is as it was.
     pub(crate) fn open_place(&mut self, key: u64) -> Result<(), OpenRefusal>
         requires { key < 2 ^ 64 - 1 }
-        ensures board { self.new ≡ (if is_ok result then after_open_place key self.old else self.old) }
+        ensures board { self.new
+            ≡ (if is_ok result then after_open_place key self.old else self.old) }
         ensures open { is_open key self.old ≡ true → result ≡ Err AlreadyExists }
         ensures shut { is_open key self.old ≡ false → IfErr result (λ e. e ≡ OutOfMemory) }
     {
@@ -227,8 +230,10 @@ impl Board {
         requires room { deque_len passes.old + room ≤ deque_capacity passes.old }
         requires fresh { steps.old ≡ 0 }
         ensures board { self.new ≡ after_unpost (bound room self.old) self.old }
-        ensures gives { passes.new.items ≡ passes.old.items ++ map (taken name.now) (keys_within room self.old) }
-        ensures len { deque_len passes.new ≡ deque_len passes.old + length (keys_within room self.old) }
+        ensures gives { passes.new.items
+            ≡ passes.old.items ++ map (taken name.now) (keys_within room self.old) }
+        ensures len { deque_len passes.new
+            ≡ deque_len passes.old + length (keys_within room self.old) }
         ensures capacity { deque_capacity passes.new ≡ deque_capacity passes.old }
         ensures rising { IsRising (keys_within room self.old) }
         ensures few { length (keys_within room self.old) ≤ room }

@@ -134,12 +134,18 @@ impl<T> ChannelCore<T> {
     /// Appends a message: its receipt, and a debt where the cell has a key and was not pinged. At a refusal the cell is as it
     /// was.
     pub fn put(&mut self, message: T) -> Result<(Receipt, Option<Debt>), PutError<T>>
-        ensures core { self.new ≡ (if is_ok result then view_after_put message self.old else self.old) }
+        ensures core { self.new
+            ≡ (if is_ok result then view_after_put message self.old else self.old) }
         ensures gone { self.old.state.cell.gone ≡ true → result ≡ Err (Gone message) }
-        ensures full { self.old.state.cell.gone ≡ false → has_room self.old.state ≡ false → result ≡ Err (Full message) }
+        ensures full { self.old.state.cell.gone ≡ false → has_room self.old.state ≡ false
+            → result ≡ Err (Full message) }
         ensures put { self.old.state.cell.gone ≡ false → has_room self.old.state ≡ true
-            → MatchResult result (λ put. (put.0 ≡ receipt_of self.old) × (put.1 ≡ on self.old.board (owed self.old.state.cell))) (λ e. (e ≡ OutOfMemory message) × (self.old.state.bound ≡ None)) }
-        ensures err { IfErr result (λ e. (handed_back e ≡ message) × FitsBound self.old.state.bound e) }
+            → MatchResult result
+            (λ put. (put.0 ≡ receipt_of self.old)
+            × (put.1 ≡ on self.old.board (owed self.old.state.cell)))
+            (λ e. (e ≡ OutOfMemory message) × (self.old.state.bound ≡ None)) }
+        ensures err { IfErr result (λ e. (handed_back e ≡ message)
+            × FitsBound self.old.state.bound e) }
         ensures ok { IfOk result (λ put. put.0 ≡ receipt_of self.old) }
         ensures owes { IfOk result (λ put. put.1 ≡ on self.old.board (owed self.old.state.cell)) }
     {
@@ -162,8 +168,11 @@ impl<T> ChannelCore<T> {
     // Appends where there is room.
     fn append(&mut self, message: T) -> Result<Option<Debt>, T>
         requires { has_room self.old.state ≡ true }
-        ensures core { self.new ≡ (if is_ok result then view_after_put message self.old else self.old) }
-        ensures answer { MatchResult result (λ debt. debt ≡ on self.old.board (owed self.old.state.cell)) (λ back. (back ≡ message) × (self.old.state.bound ≡ None)) }
+        ensures core { self.new
+            ≡ (if is_ok result then view_after_put message self.old else self.old) }
+        ensures answer { MatchResult result
+            (λ debt. debt ≡ on self.old.board (owed self.old.state.cell))
+            (λ back. (back ≡ message) × (self.old.state.bound ≡ None)) }
     {
         match self.queue.put(message) {
             Ok(()) => Ok(self.bell.ping()),
@@ -173,7 +182,8 @@ impl<T> ChannelCore<T> {
 
     /// Pings without a message, as a send that finds the queue full does.
     pub fn ring(&mut self) -> Option<Debt>
-        ensures core { self.new ≡ view_with (with_bell (after_ping self.old.state.cell) self.old.state) self.old }
+        ensures core { self.new
+            ≡ view_with (with_bell (after_ping self.old.state.cell) self.old.state) self.old }
         ensures gives { result ≡ on self.old.board (owed self.old.state.cell) }
     {
         self.bell.ping()
@@ -289,7 +299,8 @@ impl<T> ChannelCore<T> {
         requires turn { turn.name ≡ self.old.name }
         requires over { (turn.left ≡ 0) ⊎ (turn.done ≡ true) }
         ensures core { self.new ≡ view_with (after_end_turn self.old.state) self.old }
-        ensures gives { result ≡ on self.old.board (owed_if (is_early self.old.state.last) self.old.state.cell) }
+        ensures gives { result
+            ≡ on self.old.board (owed_if (is_early self.old.state.last) self.old.state.cell) }
     {
         let ChannelTurn {
             name: _,
@@ -318,15 +329,19 @@ impl<T: Drop> CellCore for ChannelCore<T> {
     }
 
     fn add_sender(&mut self) -> Result<Sender, AllocError>
-        ensures ok { IfOk result (λ sender. (sender.name ≡ self.old.name) × (self.new ≡ view_with (with_bell (after_add_sender self.old.state.cell) self.old.state) self.old)) }
-        ensures err { IfErr result (λ _. (self.old.state.cell.senders + 1 ≡ 2 ^ 64) × (self.new ≡ self.old)) }
+        ensures ok { IfOk result (λ sender. (sender.name ≡ self.old.name)
+            × (self.new ≡ view_with
+            (with_bell (after_add_sender self.old.state.cell) self.old.state) self.old)) }
+        ensures err { IfErr result (λ _. (self.old.state.cell.senders + 1 ≡ 2 ^ 64)
+            × (self.new ≡ self.old)) }
     {
         self.bell.add_sender()
     }
 
     fn drop_sender(&mut self, sender: Sender) -> Option<Debt>
         requires { sender.name ≡ self.old.name }
-        ensures core { self.new ≡ view_with (with_bell (after_drop_sender self.old.state.cell) self.old.state) self.old }
+        ensures core { self.new ≡ view_with
+            (with_bell (after_drop_sender self.old.state.cell) self.old.state) self.old }
         ensures gives { result ≡ on self.old.board (owed_by_drop self.old.state.cell) }
     {
         self.bell.drop_sender(sender)
@@ -345,7 +360,8 @@ impl<T: Drop> CellCore for ChannelCore<T> {
     fn clear_key(&mut self, twin: &mut Twin) -> Option<LeaveToClose>
         requires { twin.old.name ≡ self.old.name }
         ensures twin { twin.new ≡ record twin.old { key = None } }
-        ensures core { self.new ≡ view_with (with_bell (after_clear_key false self.old.state.cell) self.old.state) self.old }
+        ensures core { self.new ≡ view_with
+            (with_bell (after_clear_key false self.old.state.cell) self.old.state) self.old }
         ensures leaves { result ≡ on self.old.board self.old.state.cell.key }
     {
         self.bell.clear_key(twin)
@@ -353,7 +369,8 @@ impl<T: Drop> CellCore for ChannelCore<T> {
 
     fn abandon(&mut self, twin: Twin) -> Option<LeaveToClose>
         requires { twin.name ≡ self.old.name }
-        ensures core { self.new ≡ view_with (with_bell (after_clear_key true self.old.state.cell) self.old.state) self.old }
+        ensures core { self.new ≡ view_with
+            (with_bell (after_clear_key true self.old.state.cell) self.old.state) self.old }
         ensures leaves { result ≡ on self.old.board self.old.state.cell.key }
     {
         self.bell.abandon(twin)

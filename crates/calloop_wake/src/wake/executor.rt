@@ -178,11 +178,15 @@ impl ExecutorCore {
     /// It is `Gone` where the executor is, and else `OutOfMemory` where there is no memory for it, or no number is left; then nothing
     /// changes.
     pub fn put(&mut self, home: usize) -> Result<PutTask, PutRefusal>
-        ensures vacant { IfOk result (λ put. (self.old.gone ≡ false) × (task_at self.old.table put.key.slot ≡ None)) }
-        ensures cell { IfOk result (λ put. cell_of self.new ≡ after_put put.key.slot home (cell_of self.old)) }
+        ensures vacant { IfOk result (λ put. (self.old.gone ≡ false)
+            × (task_at self.old.table put.key.slot ≡ None)) }
+        ensures cell { IfOk result (λ put.
+            cell_of self.new ≡ after_put put.key.slot home (cell_of self.old)) }
         ensures key { IfOk result (λ put. put.key.number ≡ self.old.next) }
-        ensures due { IfOk result (λ put. put.due ≡ record { name = self.old.name; number = self.old.next; key = put.key; home = home }) }
-        ensures gives { IfOk result (λ put. put.debt ≡ on self.old.board (owed (cell_of self.old) (cell_of self.new))) }
+        ensures due { IfOk result (λ put. put.due
+            ≡ record { name = self.old.name; number = self.old.next; key = put.key; home = home }) }
+        ensures gives { IfOk result (λ put.
+            put.debt ≡ on self.old.board (owed (cell_of self.old) (cell_of self.new))) }
         ensures gone { self.old.gone ≡ true → result ≡ Err PutRefusal.Gone }
         ensures there { self.old.gone ≡ false → IfErr result (λ e. e ≡ PutRefusal.OutOfMemory) }
         ensures refused { OnErr result (cell_of self.new ≡ cell_of self.old) }
@@ -246,7 +250,8 @@ impl ExecutorCore {
 
     /// Whether the turn is the one that stands open here, and has come as far as it says.
     pub fn is_at(&self, turn: &TaskTurn) -> bool
-        ensures { result ≡ true → (self.now.draining ≡ true) × (turn.now.progress ≡ self.now.progress) }
+        ensures { result ≡ true
+            → (self.now.draining ≡ true) × (turn.now.progress ≡ self.now.progress) }
     {
         self.bell.is_draining() && self.progress == turn.progress
     }
@@ -295,7 +300,8 @@ impl ExecutorCore {
         requires opened { self.old.draining ≡ true }
         requires more { self.old.progress.pops < most_tasks }
         ensures cell { cell_of self.new ≡ after_take (cell_of self.old) }
-        ensures some { IfSome result (λ popped. (self.new.progress.polled ≡ Some popped.0) × (self.new.progress.dry ≡ false)) }
+        ensures some { IfSome result (λ popped. (self.new.progress.polled ≡ Some popped.0)
+            × (self.new.progress.dry ≡ false)) }
         ensures none { IfNone result (self.new.progress.dry ≡ true) }
         ensures names { (self.new.name ≡ self.old.name) × (self.new.board ≡ self.old.board) }
     {
@@ -330,8 +336,16 @@ impl ExecutorCore {
     /// refused by this cell, and the cell stays as it is.
     pub fn open_turn(&mut self, pass: TakenPass, twin: &mut Twin) -> Result<TaskTurn, TakenPass>
         requires { twin.old.name ≡ self.old.name }
-        ensures ok { IfOk result (λ turn. (turn ≡ record { name = self.old.name; progress = at_start }) × (opens pass.key (cell_of self.old) ≡ true) × (cell_of self.new ≡ in_turn (cell_of self.old)) × (twin.new ≡ record twin.old { turns = twin.old.turns + 1 })) }
-        ensures err { IfErr result (λ refused. (refused ≡ record pass { refused = Some self.old.name }) × (opens pass.key (cell_of self.old) ≡ false) × (self.new ≡ self.old) × (twin.new ≡ twin.old)) }
+        ensures ok { IfOk result (λ turn.
+            (turn ≡ record { name = self.old.name; progress = at_start })
+            × (opens pass.key (cell_of self.old) ≡ true)
+            × (cell_of self.new ≡ in_turn (cell_of self.old))
+            × (twin.new ≡ record twin.old { turns = twin.old.turns + 1 })) }
+        ensures err { IfErr result (λ refused.
+            (refused ≡ record pass { refused = Some self.old.name })
+            × (opens pass.key (cell_of self.old) ≡ false)
+            × (self.new ≡ self.old)
+            × (twin.new ≡ twin.old)) }
         ensures names { (self.new.name ≡ self.old.name) × (self.new.board ≡ self.old.board) }
     {
         let TakenPass {
@@ -381,7 +395,8 @@ impl ExecutorCore {
         ensures cell { cell_of self.new ≡ after_pop finished (cell_of self.old) }
         ensures turn { turn.new ≡ record turn.old { progress = self.new.progress } }
         ensures twin { twin.new ≡ record twin.old { number = twin.old.number + one finished } }
-        ensures some { IfSome result (λ popped. (self.new.progress.polled ≡ Some popped.key) × (self.new.progress.dry ≡ false)) }
+        ensures some { IfSome result (λ popped. (self.new.progress.polled ≡ Some popped.key)
+            × (self.new.progress.dry ≡ false)) }
         ensures name { IfSome result (λ popped. popped.name ≡ self.old.name) }
         ensures none { IfNone result (self.new.progress.dry ≡ true) }
         ensures pops { self.new.progress.pops ≡ turn.old.progress.pops + 1 }
@@ -446,7 +461,8 @@ impl CellCore for ExecutorCore {
     }
 
     fn add_sender(&mut self) -> Result<Sender, AllocError>
-        ensures ok { IfOk result (λ sender. (sender.name ≡ self.old.name) × (self.new ≡ record self.old { senders = self.old.senders + 1 })) }
+        ensures ok { IfOk result (λ sender. (sender.name ≡ self.old.name)
+            × (self.new ≡ record self.old { senders = self.old.senders + 1 })) }
         ensures err { IfErr result (λ _. (self.old.senders + 1 ≡ 2 ^ 64) × (self.new ≡ self.old)) }
     {
         self.bell.add_sender()

@@ -106,7 +106,8 @@ fn exchange<F: Drop>(
     ensures is { IfOk result (λ before. value_at places.new home ≡ Some next) }
     ensures none { IfErr result (λ back. (back ≡ next) × (value_at places.old home ≡ None)) }
     ensures same { IfErr result (λ back. value_at places.new home ≡ None) }
-    ensures others { (other : ℕ) → other ≢ home → value_at places.new other ≡ value_at places.old other }
+    ensures others { (other : ℕ) → other ≢ home
+        → value_at places.new other ≡ value_at places.old other }
 {
     match places.get_mut(home) {
         Some(place) => Ok(mem::replace(place, next)),
@@ -131,7 +132,8 @@ impl<F: Drop> Homes<F> {
     /// A place for a future that is to come. It is refused where the executor is gone, or for want of memory.
     pub fn reserve(&mut self) -> Option<Result<usize, AllocError>>
         ensures gone { (result ≡ None) → (self.old.gone ≡ true) }
-        ensures place { IfSome result (λ answer. IfOk answer (λ home. (place_in self.old home ≡ None) × (place_in self.new home ≡ Some Empty))) }
+        ensures place { IfSome result (λ answer. IfOk answer (λ home.
+            (place_in self.old home ≡ None) × (place_in self.new home ≡ Some Empty))) }
         ensures name { self.new.name ≡ self.old.name }
     {
         let Some(places) = &mut self.places else {
@@ -148,7 +150,8 @@ impl<F: Drop> Homes<F> {
         ensures was { IfOk result (λ before. place_in self.old home ≡ Some before) }
         ensures is { IfOk result (λ before. place_in self.new home ≡ Some next) }
         ensures none { IfErr result (λ back. (back ≡ next) × (place_in self.old home ≡ None)) }
-        ensures others { (other : ℕ) → other ≢ home → place_in self.new other ≡ place_in self.old other }
+        ensures others { (other : ℕ) → other ≢ home
+            → place_in self.new other ≡ place_in self.old other }
         ensures name { (self.new.name ≡ self.old.name) × (self.new.gone ≡ self.old.gone) }
     {
         match &mut self.places {
@@ -162,10 +165,13 @@ impl<F: Drop> Homes<F> {
     pub fn keep(&mut self, due: DueReceipt, future: F) -> (Receipt, Result<Place<F>, Place<F>>)
         requires { due.name ≡ self.old.name }
         ensures receipt { result.0 ≡ record { name = due.name; number = due.number } }
-        ensures kept { IfOk result.1 (λ before. place_in self.new due.home ≡ Some (Here due.key future)) }
+        ensures kept { IfOk result.1 (λ before.
+            place_in self.new due.home ≡ Some (Here due.key future)) }
         ensures was { IfOk result.1 (λ before. place_in self.old due.home ≡ Some before) }
-        ensures back { IfErr result.1 (λ back. (back ≡ Here due.key future) × (place_in self.old due.home ≡ None)) }
-        ensures others { (other : ℕ) → other ≢ due.home → place_in self.new other ≡ place_in self.old other }
+        ensures back { IfErr result.1 (λ back. (back ≡ Here due.key future)
+            × (place_in self.old due.home ≡ None)) }
+        ensures others { (other : ℕ) → other ≢ due.home
+            → place_in self.new other ≡ place_in self.old other }
         ensures name { self.new.name ≡ self.old.name }
     {
         let DueReceipt {
@@ -182,10 +188,13 @@ impl<F: Drop> Homes<F> {
     /// looked for it, and the twin counts that.
     pub fn take(&mut self, popped: PoppedTask, twin: &mut Twin) -> Option<TakenFuture<F>>
         requires { (popped.name ≡ self.old.name) × (twin.old.name ≡ self.old.name) }
-        ensures some { IfSome result (λ taken. (place_in self.old popped.home ≡ Some (Here popped.key taken.future)) × (taken.task ≡ popped)) }
+        ensures some { IfSome result (λ taken.
+            (place_in self.old popped.home ≡ Some (Here popped.key taken.future))
+            × (taken.task ≡ popped)) }
         ensures same { IfSome result (λ _. twin.new ≡ twin.old) }
         ensures none { IfNone result (twin.new ≡ record twin.old { misses = twin.old.misses + 1 }) }
-        ensures others { (other : ℕ) → other ≢ popped.home → place_in self.new other ≡ place_in self.old other }
+        ensures others { (other : ℕ) → other ≢ popped.home
+            → place_in self.new other ≡ place_in self.old other }
         ensures name { self.new.name ≡ self.old.name }
     {
         let before = match self.put(popped.home, Place::Empty) {
@@ -217,7 +226,8 @@ impl<F: Drop> Homes<F> {
     // The future of a task that was popped is still to come.
     fn miss(&mut self, popped: PoppedTask, twin: &mut Twin)
         ensures twin { twin.new ≡ record twin.old { misses = twin.old.misses + 1 } }
-        ensures others { (other : ℕ) → other ≢ popped.home → place_in self.new other ≡ place_in self.old other }
+        ensures others { (other : ℕ) → other ≢ popped.home
+            → place_in self.new other ≡ place_in self.old other }
         ensures name { self.new.name ≡ self.old.name }
     {
         let PoppedTask {
@@ -233,9 +243,11 @@ impl<F: Drop> Homes<F> {
     /// Puts a future back into its place after a poll that was pending. Where the executor is gone, it comes back.
     pub fn put_back(&mut self, taken: TakenFuture<F>) -> Result<Place<F>, Place<F>>
         requires { taken.task.name ≡ self.old.name }
-        ensures kept { IfOk result (λ before. place_in self.new taken.task.home ≡ Some (Here taken.task.key taken.future)) }
+        ensures kept { IfOk result (λ before.
+            place_in self.new taken.task.home ≡ Some (Here taken.task.key taken.future)) }
         ensures back { IfErr result (λ back. back ≡ Here taken.task.key taken.future) }
-        ensures others { (other : ℕ) → other ≢ taken.task.home → place_in self.new other ≡ place_in self.old other }
+        ensures others { (other : ℕ) → other ≢ taken.task.home
+            → place_in self.new other ≡ place_in self.old other }
         ensures name { self.new.name ≡ self.old.name }
     {
         let TakenFuture { future, task } = taken;
@@ -248,7 +260,8 @@ impl<F: Drop> Homes<F> {
         requires { task.name ≡ self.old.name }
         ensures gives { result ≡ place_in self.old task.home }
         ensures freed { place_in self.new task.home ≡ None }
-        ensures others { (other : ℕ) → other ≢ task.home → place_in self.new other ≡ place_in self.old other }
+        ensures others { (other : ℕ) → other ≢ task.home
+            → place_in self.new other ≡ place_in self.old other }
         ensures name { self.new.name ≡ self.old.name }
     {
         let PoppedTask {
@@ -263,7 +276,8 @@ impl<F: Drop> Homes<F> {
     pub fn free(&mut self, home: usize) -> Option<Place<F>>
         ensures gives { result ≡ place_in self.old home }
         ensures freed { place_in self.new home ≡ None }
-        ensures others { (other : ℕ) → other ≢ home → place_in self.new other ≡ place_in self.old other }
+        ensures others { (other : ℕ) → other ≢ home
+            → place_in self.new other ≡ place_in self.old other }
         ensures name { self.new.name ≡ self.old.name }
     {
         match &mut self.places {

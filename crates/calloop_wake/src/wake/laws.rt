@@ -31,7 +31,8 @@ ghost use Rattle.calloop_wake.specs.ExampleSchedules.{turn_that_stops, turn_with
 /// message, or where it may pop no more. And each task of an executor is idle, queued once, in a poll, or
 /// finished; its result is handed out at most once, and then it is in no queue.
 pub fn covered()
-    ensures { (born : ℕ → Born) (steps : List (WakeStep every_kind.Own)) → IsSchedule every_kind (start (λ n. new_cell (born n))) steps
+    ensures { (born : ℕ → Born) (steps : List (WakeStep every_kind.Own))
+        → IsSchedule every_kind (start (λ n. new_cell (born n))) steps
         → IsCovered every_kind (after_all every_kind (start (λ n. new_cell (born n))) steps) }
 {}
 
@@ -40,10 +41,14 @@ pub fn covered()
 /// own three open a turn. So nothing is beyond reach: no step of anybody has to be made that isn't owed. It isn't said that these steps
 /// come.
 pub fn can_be_delivered()
-    ensures { (born : ℕ → Born) (steps : List (WakeStep every_kind.Own)) → IsSchedule every_kind (start (λ n. new_cell (born n))) steps → (n k : ℕ)
-        → every_kind.pinged ((after_all every_kind (start (λ m. new_cell (born m))) steps).cells n) ≡ true
-        → every_kind.key ((after_all every_kind (start (λ m. new_cell (born m))) steps).cells n) ≡ Some k
-        → CanBeDelivered every_kind (after_all every_kind (start (λ m. new_cell (born m))) steps) n k }
+    ensures { (born : ℕ → Born) (steps : List (WakeStep every_kind.Own))
+        → IsSchedule every_kind (start (λ n. new_cell (born n))) steps → (n k : ℕ)
+        → every_kind.pinged ((after_all every_kind (start (λ m. new_cell (born m))) steps).cells n)
+        ≡ true
+        → every_kind.key ((after_all every_kind (start (λ m. new_cell (born m))) steps).cells n)
+        ≡ Some k
+        → CanBeDelivered every_kind
+        (after_all every_kind (start (λ m. new_cell (born m))) steps) n k }
 {}
 
 /// Small states from which nobody can be delivered: a key that is nowhere, and a loop that sleeps and that nobody tells of a posted key.
@@ -85,28 +90,39 @@ pub fn lost_is_not_covered()
 /// Schedules that there are, with each kind of step at the moments that matter, and the cell that each leaves.
 pub fn schedules_that_there_are()
     ensures wait { IsSchedule every_kind of_pings ring_in_a_wait }
-    ensures waited { (after_all every_kind of_pings ring_in_a_wait).cells 0 ≡ First (record of_key_seven { draining = true }) }
+    ensures waited { (after_all every_kind of_pings ring_in_a_wait).cells 0
+        ≡ First (record of_key_seven { draining = true }) }
     ensures look { IsSchedule every_kind of_pings post_between_look_and_sleep }
-    ensures looked { (after_all every_kind of_pings post_between_look_and_sleep).cells 0 ≡ First of_key_seven }
+    ensures looked { (after_all every_kind of_pings post_between_look_and_sleep).cells 0
+        ≡ First of_key_seven }
     ensures turn { IsSchedule every_kind of_pings ring_in_a_turn }
-    ensures turned { (after_all every_kind of_pings ring_in_a_turn).cells 0 ≡ First (record of_key_seven { rung = true; pinged = true }) }
+    ensures turned { (after_all every_kind of_pings ring_in_a_turn).cells 0
+        ≡ First (record of_key_seven { rung = true; pinged = true }) }
     ensures close { IsSchedule every_kind of_pings close_in_a_turn }
-    ensures closed { (after_all every_kind of_pings close_in_a_turn).cells 0 ≡ First (record of_key_seven { closed = true; told = true; draining = true }) }
+    ensures closed { (after_all every_kind of_pings close_in_a_turn).cells 0
+        ≡ First (record of_key_seven { closed = true; told = true; draining = true }) }
     ensures back { IsSchedule every_kind of_pings pass_that_goes_back }
-    ensures gone_back { (after_all every_kind of_pings pass_that_goes_back).cells 0 ≡ First (record of_key_seven { rung = true; pinged = true }) }
+    ensures gone_back { (after_all every_kind of_pings pass_that_goes_back).cells 0
+        ≡ First (record of_key_seven { rung = true; pinged = true }) }
     ensures moves { IsSchedule every_kind of_pings key_that_moves }
-    ensures moved { (after_all every_kind of_pings key_that_moves).cells 0 ≡ First (record of_key_nine { draining = true }) }
+    ensures moved { (after_all every_kind of_pings key_that_moves).cells 0
+        ≡ First (record of_key_nine { draining = true }) }
     ensures clear { IsSchedule every_kind of_pings key_that_is_cleared }
-    ensures cleared { (after_all every_kind of_pings key_that_is_cleared).cells 0 ≡ First (record of_key_nine { draining = true }) }
+    ensures cleared { (after_all every_kind of_pings key_that_is_cleared).cells 0
+        ≡ First (record of_key_nine { draining = true }) }
     ensures drop { IsSchedule every_kind of_pings drop_in_a_turn }
-    ensures dropped { (after_all every_kind of_pings drop_in_a_turn).cells 0 ≡ First (record fresh { gone = true }) }
+    ensures dropped { (after_all every_kind of_pings drop_in_a_turn).cells 0
+        ≡ First (record fresh { gone = true }) }
     ensures sleepless { IsSchedule every_kind of_pings wait_without_a_sleep }
     ensures message { IsSchedule every_kind of_channels message_in_a_turn }
-    ensures handed_out { (after_all every_kind of_channels message_in_a_turn).cells 0 ≡ Second (First after_message_in_a_turn) }
+    ensures handed_out { (after_all every_kind of_channels message_in_a_turn).cells 0
+        ≡ Second (First after_message_in_a_turn) }
     ensures behind { IsSchedule every_kind of_channels close_behind_a_message }
-    ensures told { (after_all every_kind of_channels close_behind_a_message).cells 0 ≡ Second (First after_close_behind_a_message) }
+    ensures told { (after_all every_kind of_channels close_behind_a_message).cells 0
+        ≡ Second (First after_close_behind_a_message) }
     ensures task { IsSchedule every_kind of_executors task_in_a_turn }
-    ensures polled { (after_all every_kind of_executors task_in_a_turn).cells 0 ≡ Second (Second after_task_in_a_turn) }
+    ensures polled { (after_all every_kind of_executors task_in_a_turn).cells 0
+        ≡ Second (Second after_task_in_a_turn) }
     ensures wake { IsSchedule every_kind of_executors wake_in_a_wait }
     ensures goes { IsSchedule every_kind of_executors executor_that_goes }
 {}
@@ -114,20 +130,26 @@ pub fn schedules_that_there_are()
 /// Schedules of channels and of executors that there are, and the cell that most of them leave.
 pub fn schedules_of_queues_that_there_are()
     ensures rung { IsSchedule every_kind of_channels channel_that_is_rung }
-    ensures was_rung { (after_all every_kind of_channels channel_that_is_rung).cells 0 ≡ Second (First after_channel_that_is_rung) }
+    ensures was_rung { (after_all every_kind of_channels channel_that_is_rung).cells 0
+        ≡ Second (First after_channel_that_is_rung) }
     ensures close { IsSchedule every_kind of_channels close_in_a_channels_turn }
-    ensures closed { (after_all every_kind of_channels close_in_a_channels_turn).cells 0 ≡ Second (First after_close_in_a_channels_turn) }
+    ensures closed { (after_all every_kind of_channels close_in_a_channels_turn).cells 0
+        ≡ Second (First after_close_in_a_channels_turn) }
     ensures late_close { IsSchedule every_kind of_channels close_behind_the_last_pop }
     ensures outside { IsSchedule every_kind of_channels message_outside_of_a_turn }
-    ensures received { (after_all every_kind of_channels message_outside_of_a_turn).cells 0 ≡ Second (First after_message_outside_of_a_turn) }
+    ensures received { (after_all every_kind of_channels message_outside_of_a_turn).cells 0
+        ≡ Second (First after_message_outside_of_a_turn) }
     ensures bounded { IsSchedule every_kind of_bounded_channels bounded_channel }
-    ensures full { (after_all every_kind of_bounded_channels bounded_channel).cells 0 ≡ Second (First after_bounded_channel) }
+    ensures full { (after_all every_kind of_bounded_channels bounded_channel).cells 0
+        ≡ Second (First after_bounded_channel) }
     ensures behind { IsSchedule every_kind of_channels message_behind_the_close }
-    ensures told { (after_all every_kind of_channels message_behind_the_close).cells 0 ≡ Second (First after_message_behind_the_close) }
+    ensures told { (after_all every_kind of_channels message_behind_the_close).cells 0
+        ≡ Second (First after_message_behind_the_close) }
     ensures moves { IsSchedule every_kind of_channels channel_that_moves }
     ensures executor_moves { IsSchedule every_kind of_executors executor_that_moves }
     ensures second_task { IsSchedule every_kind of_executors second_task_in_a_slot }
-    ensures polled { (after_all every_kind of_executors second_task_in_a_slot).cells 0 ≡ Second (Second after_second_task_in_a_slot) }
+    ensures polled { (after_all every_kind of_executors second_task_in_a_slot).cells 0
+        ≡ Second (Second after_second_task_in_a_slot) }
 {}
 
 /// Schedules of a ping and a channel on one board, and of a key that moves or is taken while the loop waits.
@@ -160,47 +182,80 @@ pub fn schedules_that_there_are_not()
 /// What the core of a ping, of a channel or of an executor gives by a step is what the machine's step gives: the cell after it, the debt, and the leave
 /// to close a place. And what a step of the board gives: its places after it, the nudge of a post, the leave to sleep of a look, the passes that are taken.
 pub fn steps_are_the_machines()
-    ensures ring { (w : WakeWorld Cell) (n : ℕ) → after ping_kind w (At n Ring) ≡ with_step n (after_ring (w.cells n)) (owed (w.cells n)) w }
-    ensures close { (w : WakeWorld Cell) (n : ℕ) → after ping_kind w (At n Close) ≡ with_step n (after_close (w.cells n)) (owed (w.cells n)) w }
-    ensures end_turn { (w : WakeWorld Cell) (n : ℕ) → after ping_kind w (At n EndTurn) ≡ with_step n (after_end_turn (w.cells n)) None w }
+    ensures ring { (w : WakeWorld Cell) (n : ℕ) → after ping_kind w (At n Ring)
+        ≡ with_step n (after_ring (w.cells n)) (owed (w.cells n)) w }
+    ensures close { (w : WakeWorld Cell) (n : ℕ) → after ping_kind w (At n Close)
+        ≡ with_step n (after_close (w.cells n)) (owed (w.cells n)) w }
+    ensures end_turn { (w : WakeWorld Cell) (n : ℕ) → after ping_kind w (At n EndTurn)
+        ≡ with_step n (after_end_turn (w.cells n)) None w }
     ensures set_key { (w : WakeWorld Cell) (n k : ℕ) → after ping_kind w (SetKey n k)
-        ≡ with_leave (w.cells n).key (with_place_taken k (with_step n (after_set_key k (w.cells n)) (owed_at k (w.cells n)) w)) }
-    ensures clear_key { (w : WakeWorld Cell) (n : ℕ) (by_drop : Bool) → after ping_kind w (ClearKey n by_drop)
+        ≡ with_leave (w.cells n).key
+        (with_place_taken k (with_step n (after_set_key k (w.cells n)) (owed_at k (w.cells n)) w)) }
+    ensures clear_key { (w : WakeWorld Cell) (n : ℕ) (by_drop : Bool)
+        → after ping_kind w (ClearKey n by_drop)
         ≡ with_leave (w.cells n).key (with_step n (after_clear_key by_drop (w.cells n)) None w) }
-    ensures open_turn { (w : WakeWorld Cell) (n k : ℕ) → (after ping_kind w (OpenTurn n k)).cells ≡ with_cell n (after_open_turn k (w.cells n)) w.cells }
-    ensures pass { (w : WakeWorld Cell) (n k : ℕ) → (after ping_kind w (OpenTurn n k)).passes ≡ (if opens k (w.cells n) then less_one k w.passes else w.passes) }
-    ensures channel_ring { (w : WakeWorld ChannelPast) (n : ℕ) → after channel_kind w (At n channel.Ring)
-        ≡ with_step n (channel.past_with_bell (after_ping (w.cells n).now.cell) (w.cells n)) (owed (w.cells n).now.cell) w }
-    ensures channel_close { (w : WakeWorld ChannelPast) (n : ℕ) → after channel_kind w (At n channel.Close)
-        ≡ with_step n (channel.past_with_bell (after_close (w.cells n).now.cell) (w.cells n)) (owed (w.cells n).now.cell) w }
-    ensures put { (w : WakeWorld ChannelPast) (n message : ℕ) → after channel_kind w (At n (channel.Put message))
-        ≡ with_step n (channel.channel_after (channel.Put message) (w.cells n)) (owed (w.cells n).now.cell) w }
-    ensures put_now { (p : ChannelPast) (message : ℕ) → (channel.channel_after (channel.Put message) p).now ≡ after_put message p.now }
+    ensures open_turn { (w : WakeWorld Cell) (n k : ℕ) → (after ping_kind w (OpenTurn n k)).cells
+        ≡ with_cell n (after_open_turn k (w.cells n)) w.cells }
+    ensures pass { (w : WakeWorld Cell) (n k : ℕ) → (after ping_kind w (OpenTurn n k)).passes
+        ≡ (if opens k (w.cells n) then less_one k w.passes else w.passes) }
+    ensures channel_ring { (w : WakeWorld ChannelPast) (n : ℕ)
+        → after channel_kind w (At n channel.Ring)
+        ≡ with_step n (channel.past_with_bell (after_ping (w.cells n).now.cell) (w.cells n))
+        (owed (w.cells n).now.cell) w }
+    ensures channel_close { (w : WakeWorld ChannelPast) (n : ℕ)
+        → after channel_kind w (At n channel.Close)
+        ≡ with_step n (channel.past_with_bell (after_close (w.cells n).now.cell) (w.cells n))
+        (owed (w.cells n).now.cell) w }
+    ensures put { (w : WakeWorld ChannelPast) (n message : ℕ)
+        → after channel_kind w (At n (channel.Put message))
+        ≡ with_step n (channel.channel_after (channel.Put message) (w.cells n))
+        (owed (w.cells n).now.cell) w }
+    ensures put_now { (p : ChannelPast) (message : ℕ)
+        → (channel.channel_after (channel.Put message) p).now ≡ after_put message p.now }
     ensures pop { (w : WakeWorld ChannelPast) (n : ℕ) → after channel_kind w (At n channel.Pop)
         ≡ with_step n (channel.channel_after channel.Pop (w.cells n)) None w }
-    ensures pop_now { (p : ChannelPast) → (channel.channel_after channel.Pop p).now ≡ after_pop p.now }
-    ensures take { (w : WakeWorld ChannelPast) (n : ℕ) → after channel_kind w (At n channel.Take)
-        ≡ with_step n (channel.channel_after channel.Take (w.cells n)) (owed_by channel_kind (w.cells n) (channel.channel_after channel.Take (w.cells n))) w }
-    ensures take_now { (p : ChannelPast) → (channel.channel_after channel.Take p).now ≡ after_take p.now }
-    ensures channel_set_key { (k : ℕ) (p : ChannelPast) → (channel_kind.keyed k p).now ≡ with_bell (after_set_key k p.now.cell) p.now }
-    ensures channel_clear_key { (by_drop : Bool) (p : ChannelPast) → (channel_kind.unkeyed by_drop p).now ≡ with_bell (after_clear_key by_drop p.now.cell) p.now }
-    ensures channel_open_turn { (k : ℕ) (p : ChannelPast) → channel_after_open_turn k p.now ≡ (if channel_kind.opens k p then (channel_kind.opened p).now else p.now) }
-    ensures channel_end_turn { (w : WakeWorld ChannelPast) (n : ℕ) → after channel_kind w (At n channel.EndTurn)
-        ≡ with_step n (channel.past_with (channel_after_end_turn (w.cells n).now) (w.cells n)) (owed_if (is_early (w.cells n).now.last) (w.cells n).now.cell) w }
-    ensures executor_own { (w : WakeWorld ExecutorPast) (n : ℕ) (s : executor.ExecutorStep) → after executor_kind w (At n s)
-        ≡ with_step n (executor.past_after s (w.cells n)) (owed_by_step (w.cells n).now (executor.executor_after s (w.cells n).now)) w }
-    ensures executor_now { (p : ExecutorPast) (s : executor.ExecutorStep) → (executor.past_after s p).now ≡ executor.executor_after s p.now }
-    ensures executor_open_turn { (k : ℕ) (p : ExecutorPast) → executor_after_open_turn k p.now ≡ (if executor_kind.opens k p then (executor_kind.opened p).now else p.now) }
-    ensures executor_set_key { (k : ℕ) (p : ExecutorPast) → (executor_kind.keyed k p).now ≡ executor_after_set_key k p.now }
-    ensures executor_clear_key { (by_drop : Bool) (p : ExecutorPast) → (executor_kind.unkeyed by_drop p).now ≡ executor_after_clear_key by_drop p.now }
+    ensures pop_now { (p : ChannelPast)
+        → (channel.channel_after channel.Pop p).now ≡ after_pop p.now }
+    ensures take { (w : WakeWorld ChannelPast) (n : ℕ)
+        → after channel_kind w (At n channel.Take)
+        ≡ with_step n (channel.channel_after channel.Take (w.cells n))
+        (owed_by channel_kind (w.cells n) (channel.channel_after channel.Take (w.cells n))) w }
+    ensures take_now { (p : ChannelPast)
+        → (channel.channel_after channel.Take p).now ≡ after_take p.now }
+    ensures channel_set_key { (k : ℕ) (p : ChannelPast)
+        → (channel_kind.keyed k p).now ≡ with_bell (after_set_key k p.now.cell) p.now }
+    ensures channel_clear_key { (by_drop : Bool) (p : ChannelPast)
+        → (channel_kind.unkeyed by_drop p).now
+        ≡ with_bell (after_clear_key by_drop p.now.cell) p.now }
+    ensures channel_open_turn { (k : ℕ) (p : ChannelPast) → channel_after_open_turn k p.now
+        ≡ (if channel_kind.opens k p then (channel_kind.opened p).now else p.now) }
+    ensures channel_end_turn { (w : WakeWorld ChannelPast) (n : ℕ)
+        → after channel_kind w (At n channel.EndTurn)
+        ≡ with_step n (channel.past_with (channel_after_end_turn (w.cells n).now) (w.cells n))
+        (owed_if (is_early (w.cells n).now.last) (w.cells n).now.cell) w }
+    ensures executor_own { (w : WakeWorld ExecutorPast) (n : ℕ) (s : executor.ExecutorStep)
+        → after executor_kind w (At n s)
+        ≡ with_step n (executor.past_after s (w.cells n))
+        (owed_by_step (w.cells n).now (executor.executor_after s (w.cells n).now)) w }
+    ensures executor_now { (p : ExecutorPast) (s : executor.ExecutorStep)
+        → (executor.past_after s p).now ≡ executor.executor_after s p.now }
+    ensures executor_open_turn { (k : ℕ) (p : ExecutorPast) → executor_after_open_turn k p.now
+        ≡ (if executor_kind.opens k p then (executor_kind.opened p).now else p.now) }
+    ensures executor_set_key { (k : ℕ) (p : ExecutorPast)
+        → (executor_kind.keyed k p).now ≡ executor_after_set_key k p.now }
+    ensures executor_clear_key { (by_drop : Bool) (p : ExecutorPast)
+        → (executor_kind.unkeyed by_drop p).now ≡ executor_after_clear_key by_drop p.now }
     ensures open_place { (w : WakeWorld Cell) (k : ℕ) → after ping_kind w (OpenPlace k)
         ≡ record w { board = after_open_place k w.board; opened = and_one k w.opened } }
     ensures close_place { (w : WakeWorld Cell) (k : ℕ) → after ping_kind w (ClosePlace k)
         ≡ record w { board = after_close_place k w.board; leaves = less_one k w.leaves } }
     ensures post { (w : WakeWorld Cell) (k : ℕ) → after ping_kind w (Post k)
         ≡ record w { board = after_post k w.board; debts = less_one k w.debts; nudges = w.nudges + one (wakes k w.board) } }
-    ensures look { (w : WakeWorld Cell) → after ping_kind w Look ≡ record w { loop = if any_marked w.board then Awake else Looked } }
-    ensures unpost { (w : WakeWorld Cell) (below : ℕ) → (after ping_kind w (Unpost below)).board ≡ after_unpost below w.board }
-    ensures unposted { (w : WakeWorld Cell) (below k : ℕ) → (after ping_kind w (Unpost below)).passes k
+    ensures look { (w : WakeWorld Cell) → after ping_kind w Look
+        ≡ record w { loop = if any_marked w.board then Awake else Looked } }
+    ensures unpost { (w : WakeWorld Cell) (below : ℕ)
+        → (after ping_kind w (Unpost below)).board ≡ after_unpost below w.board }
+    ensures unposted { (w : WakeWorld Cell) (below k : ℕ)
+        → (after ping_kind w (Unpost below)).passes k
         ≡ w.passes k + one (is_marked k w.board && nat_lt k below) }
 {}

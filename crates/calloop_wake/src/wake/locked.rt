@@ -198,8 +198,10 @@ impl<X: Core> Locked<X> {
 
     /// Takes the lock, and what lies under it. It waits while another has it.
     pub fn lock<R: Wait>(&self, rt: &R) -> Held<'_, X>
-        ensures { (result.shared.now.key ≡ self.now.slot) × (result.seat.table_id ≡ result.shared.now.table_id)
-            × HasOneSlot result.shared.now.table_id × IsTaken (X.fits result.shared.now.key) result.seat.me.1 }
+        ensures { (result.shared.now.key ≡ self.now.slot)
+            × (result.seat.table_id ≡ result.shared.now.table_id)
+            × HasOneSlot result.shared.now.table_id
+            × IsTaken (X.fits result.shared.now.key) result.seat.me.1 }
     {
         lock(rt, self.slot.shared(), &self.queues)
     }
@@ -247,8 +249,10 @@ fn take<'a, X: Core>(
     queues: &'a Queues,
 ) -> Option<Held<'a, X>>
     requires { HasOneSlot shared.now.table_id }
-    ensures { IfSome result (λ held. (held.shared.now.key ≡ shared.now.key) × (held.seat.table_id ≡ held.shared.now.table_id)
-        × HasOneSlot held.shared.now.table_id × IsTaken (X.fits held.shared.now.key) held.seat.me.1) }
+    ensures { IfSome result (λ held. (held.shared.now.key ≡ shared.now.key)
+        × (held.seat.table_id ≡ held.shared.now.table_id)
+        × HasOneSlot held.shared.now.table_id
+        × IsTaken (X.fits held.shared.now.key) held.seat.me.1) }
 {
     let (found, seat) = shared.swap_new_seat::<Takes<X>>(0, HELD);
     if found == HELD {
@@ -268,8 +272,10 @@ fn take_soon<'a, X: Core>(
     queues: &'a Queues,
 ) -> Option<Held<'a, X>>
     requires { HasOneSlot shared.now.table_id }
-    ensures { IfSome result (λ held. (held.shared.now.key ≡ shared.now.key) × (held.seat.table_id ≡ held.shared.now.table_id)
-        × HasOneSlot held.shared.now.table_id × IsTaken (X.fits held.shared.now.key) held.seat.me.1) }
+    ensures { IfSome result (λ held. (held.shared.now.key ≡ shared.now.key)
+        × (held.seat.table_id ≡ held.shared.now.table_id)
+        × HasOneSlot held.shared.now.table_id
+        × IsTaken (X.fits held.shared.now.key) held.seat.me.1) }
 {
     for _ in 0..LOOKS {
         if shared.peek(0) != HELD {
@@ -289,8 +295,10 @@ fn take_late<'a, X: Core, R: Wait>(
     queues: &'a Queues,
 ) -> Held<'a, X>
     requires { HasOneSlot shared.now.table_id }
-    ensures { (result.shared.now.key ≡ shared.now.key) × (result.seat.table_id ≡ result.shared.now.table_id)
-        × HasOneSlot result.shared.now.table_id × IsTaken (X.fits result.shared.now.key) result.seat.me.1 }
+    ensures { (result.shared.now.key ≡ shared.now.key)
+        × (result.seat.table_id ≡ result.shared.now.table_id)
+        × HasOneSlot result.shared.now.table_id
+        × IsTaken (X.fits result.shared.now.key) result.seat.me.1 }
 {
     queues.entering.join();
     for _ in rt.forever() {
@@ -311,8 +319,10 @@ fn lock<'a, X: Core, R: Wait>(
     queues: &'a Queues,
 ) -> Held<'a, X>
     requires { HasOneSlot shared.now.table_id }
-    ensures { (result.shared.now.key ≡ shared.now.key) × (result.seat.table_id ≡ result.shared.now.table_id)
-        × HasOneSlot result.shared.now.table_id × IsTaken (X.fits result.shared.now.key) result.seat.me.1 }
+    ensures { (result.shared.now.key ≡ shared.now.key)
+        × (result.seat.table_id ≡ result.shared.now.table_id)
+        × HasOneSlot result.shared.now.table_id
+        × IsTaken (X.fits result.shared.now.key) result.seat.me.1 }
 {
     if let Some(held) = take(shared, queues) {
         return held;
@@ -326,7 +336,8 @@ fn lock<'a, X: Core, R: Wait>(
 impl<'a, X: Core> Held<'a, X> {
     /// Gives the lock up, once what lies under it fits its tag again.
     pub fn unlock(self)
-        requires { (self.seat.table_id ≡ self.shared.now.table_id) × HasOneSlot self.shared.now.table_id
+        requires { (self.seat.table_id ≡ self.shared.now.table_id)
+            × HasOneSlot self.shared.now.table_id
             × IsTaken (X.fits self.shared.now.key) self.seat.me.1 }
     {
         let Held {
@@ -340,8 +351,10 @@ impl<'a, X: Core> Held<'a, X> {
 
     /// Gives the lock up, and leaves this number as a hint of what lies under it, which is so. The highest two numbers leave none.
     pub fn unlock_with_hint(self, number: u64)
-        requires { (self.seat.table_id ≡ self.shared.now.table_id) × HasOneSlot self.shared.now.table_id
-            × IsTaken (λ content. X.fits self.shared.now.key content × X.hints number content) self.seat.me.1 }
+        requires { (self.seat.table_id ≡ self.shared.now.table_id)
+            × HasOneSlot self.shared.now.table_id
+            × IsTaken (λ content. X.fits self.shared.now.key content × X.hints number content)
+            self.seat.me.1 }
     {
         let Held {
             mut seat,
@@ -354,10 +367,13 @@ impl<'a, X: Core> Held<'a, X> {
 
     /// Gives the lock up, and waits until it is told that this has come, or for less. Then it has the lock again.
     pub fn wait<R: Wait>(self, rt: &R, awaited: Awaited) -> Held<'a, X>
-        requires { (self.seat.table_id ≡ self.shared.now.table_id) × HasOneSlot self.shared.now.table_id
+        requires { (self.seat.table_id ≡ self.shared.now.table_id)
+            × HasOneSlot self.shared.now.table_id
             × IsTaken (X.fits self.shared.now.key) self.seat.me.1 }
-        ensures { (result.shared.now.key ≡ self.entry.shared.now.key) × (result.seat.table_id ≡ result.shared.now.table_id)
-            × HasOneSlot result.shared.now.table_id × IsTaken (X.fits result.shared.now.key) result.seat.me.1 }
+        ensures { (result.shared.now.key ≡ self.entry.shared.now.key)
+            × (result.seat.table_id ≡ result.shared.now.table_id)
+            × HasOneSlot result.shared.now.table_id
+            × IsTaken (X.fits result.shared.now.key) result.seat.me.1 }
     {
         let shared = self.shared;
         let queues = self.queues;

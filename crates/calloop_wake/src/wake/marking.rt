@@ -100,7 +100,8 @@ impl Marks {
     /// Marks an adapter, behind those that are marked. Where each adapter is marked once until it is taken, there is room; else want of
     /// memory is possible, and marks nothing. It gives a nudge.
     pub fn mark(&mut self, token: RegistrationToken) -> Result<Nudge, AllocError>
-        ensures ok { OnOk result (self.new ≡ record self.old { marked = self.old.marked ++ token ∷ [] }) }
+        ensures ok { OnOk result
+            (self.new ≡ record self.old { marked = self.old.marked ++ token ∷ [] }) }
         ensures err { OnErr result (self.new ≡ self.old) }
     {
         match self.marked.push(token) {
@@ -113,7 +114,8 @@ impl Marks {
     pub fn take_none(&self, watch: &mut Watch) -> bool
         requires { watch.old.name ≡ self.now.name }
         ensures none { result ≡ true → self.now.marked ≡ [] }
-        ensures watch { watch.new ≡ (if result then noted (Marked self.now.marked) watch.old else watch.old) }
+        ensures watch { watch.new
+            ≡ (if result then noted (Marked self.now.marked) watch.old else watch.old) }
     {
         let none = self.marked.is_empty();
         if none {

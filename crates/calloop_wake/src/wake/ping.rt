@@ -85,7 +85,8 @@ pub struct OpenedTurn {
 impl PingCore {
     /// A cell that nobody rang, without a key and without senders, its name, and the right to its receiving end.
     pub fn new() -> (PingCore, Name, ReceivingRight)
-        ensures core { result.0 ≡ record { cell = fresh; name = result.1; board = result.1; rings = 0; seen = 0; taken = 0 } }
+        ensures core { result.0 ≡ record
+            { cell = fresh; name = result.1; board = result.1; rings = 0; seen = 0; taken = 0 } }
         ensures right { result.2.name ≡ result.1 }
     {
         let (bell, name) = Bell::new();
@@ -199,8 +200,10 @@ impl CellCore for PingCore {
     }
 
     fn add_sender(&mut self) -> Result<Sender, AllocError>
-        ensures ok { IfOk result (λ sender. (sender.name ≡ self.old.name) × (self.new ≡ core_with (after_add_sender self.old.cell) self.old)) }
-        ensures err { IfErr result (λ _. (self.old.cell.senders + 1 ≡ 2 ^ 64) × (self.new ≡ self.old)) }
+        ensures ok { IfOk result (λ sender. (sender.name ≡ self.old.name)
+            × (self.new ≡ core_with (after_add_sender self.old.cell) self.old)) }
+        ensures err { IfErr result (λ _. (self.old.cell.senders + 1 ≡ 2 ^ 64)
+            × (self.new ≡ self.old)) }
     {
         self.bell.add_sender()
     }

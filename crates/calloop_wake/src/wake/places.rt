@@ -45,7 +45,8 @@ impl Places {
 
     /// Opens a place for a key that has none. With no memory for it all stays as it was.
     pub(crate) fn open(&mut self, key: u64) -> Result<(), OpenRefusal>
-        ensures ok { OnOk result ((self.new ≡ insert_entry nat_cmp self.old key None) × Changes key (Some None) self.old self.new) }
+        ensures ok { OnOk result ((self.new ≡ insert_entry nat_cmp self.old key None)
+            × Changes key (Some None) self.old self.new) }
         ensures len { length self.new ≤ length self.old + 1 }
         ensures err { IfErr result (λ e. (e ≡ OutOfMemory) × (self.new ≡ self.old)) }
     {
@@ -91,7 +92,8 @@ impl Places {
     /// Notes at the place of a key where it stands among those that are posted.
     pub(crate) fn note(&mut self, key: u64, at: Option<usize>, steps: &mut Steps)
         requires { steps.old < 2 ^ 64 - 1 }
-        ensures updates { IsSome (standing_at key self.old) → Changes key (Some at) self.old self.new }
+        ensures updates { IsSome (standing_at key self.old)
+            → Changes key (Some at) self.old self.new }
         ensures keys { keys_of self.new ≡ keys_of self.old }
         ensures len { length self.new ≡ length self.old }
         ensures steps { steps.new ≡ steps.old + 1 }

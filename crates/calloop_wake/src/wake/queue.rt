@@ -92,8 +92,10 @@ impl<T> Queue<T> {
     /// Appends a message where it finds room. Without a bound that can fail for want of memory, and then nothing changes.
     pub(super) fn put(&mut self, message: T) -> Result<(), AllocFailed<T>>
         requires { is_below (length self.old.items) self.old.bound ≡ true }
-        ensures queue { self.new ≡ (if is_ok result then queue_after_put message self.old else self.old) }
-        ensures answer { MatchResult result (λ _. Unit {0}) (λ e. (e.value ≡ message) × (self.old.bound ≡ None)) }
+        ensures queue { self.new
+            ≡ (if is_ok result then queue_after_put message self.old else self.old) }
+        ensures answer { MatchResult result (λ _. Unit {0})
+            (λ e. (e.value ≡ message) × (self.old.bound ≡ None)) }
     {
         self.items.push_back(message)?;
         self.puts = self.puts.next();

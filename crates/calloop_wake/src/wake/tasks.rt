@@ -72,8 +72,10 @@ impl Model for Tasks {
 
 fn set_phase(slab: &mut Slab<Task>, slot: usize, phase: Phase)
     requires { ContainsKey slab.old slot }
-    ensures changed { value_at slab.new slot ≡ option_map (with_phase phase) (value_at slab.old slot) }
-    ensures others { (other : ℕ) → other ≢ slot → value_at slab.new other ≡ value_at slab.old other }
+    ensures changed { value_at slab.new slot
+        ≡ option_map (with_phase phase) (value_at slab.old slot) }
+    ensures others { (other : ℕ) → other ≢ slot
+        → value_at slab.new other ≡ value_at slab.old other }
     ensures count { count_by is_some slab.new.slots ≡ count_by is_some slab.old.slots }
 {
     if let Some(task) = slab.get_mut(slot) {
@@ -125,7 +127,8 @@ impl Tasks {
     #[tactic(auto, using(crate::proofs::Written::written, crate::proofs::Written::unwritten))]
     pub fn wake(&mut self, key: TaskKey) -> bool
         ensures result { result ≡ is_idle (phase_at key (task_at self.old)) }
-        ensures tasks { task_at self.new ≡ with_slot key.slot (stepped woken_phase key.number (task_at self.old key.slot)) (task_at self.old) }
+        ensures tasks { task_at self.new ≡ with_slot key.slot
+            (stepped woken_phase key.number (task_at self.old key.slot)) (task_at self.old) }
         ensures line { self.new.queue ≡ self.old.queue ++ slot_if result key.slot }
         ensures count { count self.new ≡ count self.old }
     {
@@ -147,7 +150,9 @@ impl Tasks {
     #[tactic(auto, using(crate::proofs::Written::written, crate::proofs::Written::unwritten))]
     pub fn put(&mut self, number: u64, home: usize) -> Result<usize, AllocError>
         ensures vacant { IfOk result (λ slot. task_at self.old slot ≡ None) }
-        ensures tasks { IfOk result (λ slot. task_at self.new ≡ with_slot slot (Some (record { number = number; phase = Phase.Queued; home = home })) (task_at self.old)) }
+        ensures tasks { IfOk result (λ slot. task_at self.new ≡ with_slot slot
+            (Some (record { number = number; phase = Phase.Queued; home = home }))
+            (task_at self.old)) }
         ensures last { IfOk result (λ slot. self.new.queue ≡ self.old.queue ++ slot ∷ []) }
         ensures count { IfOk result (λ _. count self.new ≡ count self.old + 1) }
         ensures kept { OnErr result (task_at self.new ≡ task_at self.old) }
@@ -169,8 +174,10 @@ impl Tasks {
     /// The end of a pending poll: the task is idle, or queued last where it was woken meanwhile. It takes no memory.
     #[tactic(auto, using(crate::proofs::Written::written, crate::proofs::Written::unwritten))]
     pub fn settle(&mut self, key: TaskKey)
-        ensures tasks { task_at self.new ≡ with_slot key.slot (stepped settled_phase key.number (task_at self.old key.slot)) (task_at self.old) }
-        ensures line { self.new.queue ≡ self.old.queue ++ slot_if (is_woken (phase_at key (task_at self.old))) key.slot }
+        ensures tasks { task_at self.new ≡ with_slot key.slot
+            (stepped settled_phase key.number (task_at self.old key.slot)) (task_at self.old) }
+        ensures line { self.new.queue
+            ≡ self.old.queue ++ slot_if (is_woken (phase_at key (task_at self.old))) key.slot }
         ensures count { count self.new ≡ count self.old }
     {
         match self.phase(key) {
@@ -198,8 +205,11 @@ impl Tasks {
     #[tactic(auto, using(crate::proofs::Written::written, crate::proofs::Written::unwritten))]
     pub fn take(&mut self) -> Option<(TaskKey, usize)>
         ensures first { IfSome result (λ (key, home). self.old.queue ≡ key.slot ∷ self.new.queue) }
-        ensures was { IfSome result (λ (key, home). task_at self.old key.slot ≡ Some (record { number = key.number; home = home; phase = Phase.Queued })) }
-        ensures tasks { IfSome result (λ (key, home). task_at self.new ≡ with_slot key.slot (Some (record { number = key.number; home = home; phase = Phase.Polling })) (task_at self.old)) }
+        ensures was { IfSome result (λ (key, home). task_at self.old key.slot
+            ≡ Some (record { number = key.number; home = home; phase = Phase.Queued })) }
+        ensures tasks { IfSome result (λ (key, home). task_at self.new ≡ with_slot key.slot
+            (Some (record { number = key.number; home = home; phase = Phase.Polling }))
+            (task_at self.old)) }
         ensures empty { IfNone result (self.old.queue ≡ []) }
         ensures same { IfNone result (self.new ≡ self.old) }
         ensures count { count self.new ≡ count self.old }

@@ -118,9 +118,13 @@ impl WatchedBoard {
     /// memory for one. After a refusal the board is as it was.
     pub fn open_place(&mut self, key: u64) -> Result<OpenedPass, OpenRefusal>
         requires { key < 2 ^ 64 - 1 }
-        ensures board { self.new ≡ with_places (if is_ok result then after_open_place key self.old.places else self.old.places) self.old }
+        ensures board { self.new ≡ with_places
+            (if is_ok result then after_open_place key self.old.places else self.old.places)
+            self.old }
         ensures open { is_open key self.old.places ≡ true → result ≡ Err AlreadyExists }
-        ensures shut { is_open key self.old.places ≡ false → MatchResult result (λ pass. pass ≡ record { key = key; board = self.old.name }) (λ e. e ≡ OutOfMemory) }
+        ensures shut { is_open key self.old.places ≡ false → MatchResult result
+            (λ pass. pass ≡ record { key = key; board = self.old.name })
+            (λ e. e ≡ OutOfMemory) }
     {
         self.board.open_place(key)?;
         Ok(OpenedPass {
@@ -163,7 +167,8 @@ impl WatchedBoard {
     pub fn unpost_none(&self, room: usize, watch: &mut Watch) -> bool
         requires { watch.old.name ≡ self.now.name }
         ensures gives { result ≡ not (any_marked self.now.places) }
-        ensures watch { watch.new ≡ (if result then noted (Unposted room []) watch.old else watch.old) }
+        ensures watch { watch.new
+            ≡ (if result then noted (Unposted room []) watch.old else watch.old) }
     {
         let none = !self.board.any_marked();
         if none {
@@ -184,10 +189,14 @@ impl WatchedBoard {
         requires name { watch.old.name ≡ self.old.name }
         requires room { deque_len passes.old + room ≤ deque_capacity passes.old }
         requires fresh { steps.old ≡ 0 }
-        ensures board { self.new ≡ with_places (after_unpost (bound room self.old.places) self.old.places) self.old }
-        ensures watch { watch.new ≡ noted (Unposted room (keys_within room self.old.places)) watch.old }
-        ensures gives { passes.new.items ≡ passes.old.items ++ map (taken self.old.name) (keys_within room self.old.places) }
-        ensures len { deque_len passes.new ≡ deque_len passes.old + length (keys_within room self.old.places) }
+        ensures board { self.new
+            ≡ with_places (after_unpost (bound room self.old.places) self.old.places) self.old }
+        ensures watch { watch.new
+            ≡ noted (Unposted room (keys_within room self.old.places)) watch.old }
+        ensures gives { passes.new.items
+            ≡ passes.old.items ++ map (taken self.old.name) (keys_within room self.old.places) }
+        ensures len { deque_len passes.new
+            ≡ deque_len passes.old + length (keys_within room self.old.places) }
         ensures capacity { deque_capacity passes.new ≡ deque_capacity passes.old }
         ensures rising { IsRising (keys_within room self.old.places) }
         ensures few { length (keys_within room self.old.places) ≤ room }

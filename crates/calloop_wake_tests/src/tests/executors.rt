@@ -265,7 +265,8 @@ impl Crew {
 
     // Opens a turn with the first marked key.
     fn open<R: Wait>(&mut self, rt: &R, alloc: Global, desk: &mut Desk) -> Option<TaskTurn>
-        ensures { IfSome result (λ turn. (turn.name ≡ self.new.core.name) × (turn.progress.pops ≡ 0)) }
+        ensures { IfSome result (λ turn. (turn.name ≡ self.new.core.name)
+            × (turn.progress.pops ≡ 0)) }
     {
         let mut passes = desk.take_passes(rt, alloc, &mut Steps::new()).ok()?;
         let first = passes.pop_front();

@@ -13,7 +13,8 @@ impl<P: Poller, C, R: Wait + Drop> Poll<P, C, R> {
     /// Arms a deadline under the next counter, which it gives. The refusals are those of `TimerWheel::insert`, and change
     /// nothing.
     pub fn insert_timer(&mut self, deadline: Instant, token: Token) -> Result<u64, ArmRefusal>
-        ensures ok { IfOk result (λ counter. (counter ≡ (poll_view self.old).deadlines.next) × (poll_view self.new ≡ poll_after (poll_view self.old) (Arm deadline token))) }
+        ensures ok { IfOk result (λ counter. (counter ≡ (poll_view self.old).deadlines.next)
+            × (poll_view self.new ≡ poll_after (poll_view self.old) (Arm deadline token))) }
         ensures err { IfErr result (λ e. CannotArm (poll_view self.old).deadlines.next (arm_error e)
             × (poll_view self.new ≡ poll_view self.old)) }
     {
@@ -29,7 +30,10 @@ impl<P: Poller, C, R: Wait + Drop> Poll<P, C, R> {
         token: Token,
     ) -> Result<(), ArmRefusal>
         requires { is_armed counter (poll_view self.old).deadlines ≡ false }
-        ensures ok { OnOk result (Allowed P.outside (poll_view self.old) (ArmAgain counter deadline token) × (poll_view self.new ≡ poll_after (poll_view self.old) (ArmAgain counter deadline token))) }
+        ensures ok { OnOk result
+            (Allowed P.outside (poll_view self.old) (ArmAgain counter deadline token)
+            × (poll_view self.new
+            ≡ poll_after (poll_view self.old) (ArmAgain counter deadline token))) }
         ensures err { IfErr result (λ e.
             CannotArmAgain counter (poll_view self.old).deadlines (arm_error e)
             × (poll_view self.new ≡ poll_view self.old)) }
@@ -53,7 +57,10 @@ impl<P: Poller, C, R: Wait + Drop> Poll<P, C, R> {
 
     /// The moment that the poller's clock shows.
     pub fn now(&mut self) -> Instant
-        ensures { (after : P) × Allowed P.outside (poll_view self.old) (ReadClock result.nanos after) × (poll_view self.new ≡ poll_after (poll_view self.old) (ReadClock result.nanos after)) }
+        ensures { (after : P)
+            × Allowed P.outside (poll_view self.old) (ReadClock result.nanos after)
+            × (poll_view self.new
+            ≡ poll_after (poll_view self.old) (ReadClock result.nanos after)) }
     {
         self.poller.now()
     }

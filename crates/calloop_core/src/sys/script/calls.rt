@@ -143,7 +143,8 @@ impl ScriptPoller {
     // Whether the next call of this kind was to fail; from now on it isn't.
     fn take_failing(&mut self, kind: ScriptKind) -> bool
         ensures fails { result ≡ is_to_fail kind self.old.failing }
-        ensures poller { self.new ≡ record self.old { failing = with_failing kind false self.old.failing } }
+        ensures poller { self.new
+            ≡ record self.old { failing = with_failing kind false self.old.failing } }
     {
         let fails = self.failing.is_set(kind);
         self.failing.set(kind, false);

@@ -12,10 +12,15 @@ use super::{Core, Held};
 impl<'a, X: Core> Held<'a, X> {
     /// What lies under the lock, where it lies.
     pub fn core(&mut self) -> &mut X
-        requires { (self.old.seat.table_id ≡ self.old.shared.now.table_id) × IsOut self.old.seat.me.1 }
-        ensures* writes_back { sem 𝓛 (follows (the_row (record { mir = named 1; lft = [] }) X.row X.Tag.row (record { hints = X.hints }) X.Fits) X.row self.entry.ghost_name result.ghost_name (held_with self.old)) }
+        requires { (self.old.seat.table_id ≡ self.old.shared.now.table_id)
+            × IsOut self.old.seat.me.1 }
+        ensures* writes_back { sem 𝓛 (follows
+            (the_row (record { mir = named 1; lft = [] })
+            X.row X.Tag.row (record { hints = X.hints }) X.Fits)
+            X.row self.entry.ghost_name result.ghost_name (held_with self.old)) }
         ensures value { self.old.seat.me.1 ≡ (0, result.now) ∷ rest self.old.seat.me.1 }
-        ensures fits { OfContent (X.fits self.old.shared.now.key) self.old.seat.me.1 → X.fits self.old.shared.now.key result.now }
+        ensures fits { OfContent (X.fits self.old.shared.now.key) self.old.seat.me.1
+            → X.fits self.old.shared.now.key result.now }
     {
         let shared = self.shared;
         self.seat.slot_mut(shared, 0)
