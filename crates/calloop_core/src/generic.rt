@@ -30,7 +30,8 @@ impl<T> NoIoDrop<T> {
     /// The socket, to be changed. One that is changed while it is registered can make a later call of the poller fail, and
     /// nothing worse; calloop has this call as an unsafe one.
     pub fn get_mut(&mut self) -> &mut T
-        ensures* writes_back { sem 𝓛 (Lends (lent_row T.row) T.row self.entry result (λ io. record { io = io })) }
+        ensures* writes_back { sem 𝓛 (Lends (lent_row T.row) T.row self.entry result
+            (λ io. record { io = io })) }
         ensures value { result.now ≡ self.old.io }
     {
         &mut self.io
@@ -119,7 +120,8 @@ impl<P: Poller, E> Generic<P, E> {
     /// The socket, to be changed. One that is changed while it is registered can make a later call of the poller fail, and
     /// nothing worse; calloop has this call as an unsafe one.
     pub fn get_mut(&mut self) -> &mut P::Io
-        ensures* writes_back { sem 𝓛 (Lends (the_row P.row E.row P.Io.row) P.Io.row self.entry result (λ io. with_socket io self.old)) }
+        ensures* writes_back { sem 𝓛 (Lends (the_row P.row E.row P.Io.row) P.Io.row self.entry
+            result (λ io. with_socket io self.old)) }
         ensures value { result.now ≡ self.old.io.io }
     {
         self.io.get_mut()
@@ -172,7 +174,9 @@ impl<P: Poller, E: From<io::Error>> Generic<P, E> {
         action: PostAction,
         poll: &mut Poll<P, C, R>,
     ) -> Result<PostAction, E>
-        ensures { (steps : List (PollStep P)) × ArmedBy P.sockets E.from_gives self.old.mode token self.old (poll_view poll.old) action result steps self.new
+        ensures { (steps : List (PollStep P))
+            × ArmedBy P.sockets E.from_gives self.old.mode token self.old (poll_view poll.old)
+            action result steps self.new
             × AllStepped P.outside (poll_view poll.old) steps (poll_view poll.new) }
     {
         if self.mode != Mode::Level {

@@ -184,7 +184,9 @@ pub trait Poller: Drop {
         events: &mut Vec<(u64, Readiness)>,
     ) -> io::Result<()>
         requires { vec_len events.old + events_per_wait ≤ vec_capacity events.old }
-        ensures waits { (given : List (ℕ × Readiness)) × outside.waits self.old (nanos_of timeout) result given self.new × (events.new.items ≡ events.old.items ++ given) × (length given ≤ events_per_wait) }
+        ensures waits { (given : List (ℕ × Readiness))
+            × outside.waits self.old (nanos_of timeout) result given self.new
+            × (events.new.items ≡ events.old.items ++ given) × (length given ≤ events_per_wait) }
         ensures room { vec_capacity events.old ≤ vec_capacity events.new }
         ensures faults { IsCounted (outside.faults self.old) result (outside.faults self.new) };
 

@@ -81,7 +81,16 @@ fn by_slot(marked: Vec<RegistrationToken>) -> Vec<RegistrationToken>
 impl<P: Poller, C: Drop, R: Wait + Drop> Poll<P, C, R> {
     /// Over this poller, with no socket, an empty board, no deadline and an empty batch. Want of memory is `OutOfMemory`.
     pub fn new(rt: R, alloc: Global, poller: P, clock: C) -> Result<Poll<P, C, R>>
-        ensures ok { IfOk result (λ made. poll_view made ≡ record { poller = poller; table = []; deadlines = record { entries = []; next = 0 }; batch = []; passes = []; pass = None; places = 0; watch = record { name = (poll_view made).watch.name; notes = [] } }) }
+        ensures ok { IfOk result (λ made. poll_view made ≡ record {
+          poller = poller;
+          table = [];
+          deadlines = record { entries = []; next = 0 };
+          batch = [];
+          passes = [];
+          pass = None;
+          places = 0;
+          watch = record { name = (poll_view made).watch.name; notes = [] };
+        }) }
         ensures clock { IfOk result (λ made. made.clock ≡ clock) }
         ensures err { IfErr result (λ e. e ≡ OutOfMemory) }
     {
@@ -110,7 +119,8 @@ impl<P: Poller, C, R: Wait + Drop> Poll<P, C, R> {
     /// The poller itself, as to give a scripted one its answers. Pings wake the poller that `new` was given: another one in
     /// its place hears of them only at its next wait.
     pub fn poller_mut(&mut self) -> &mut P
-        ensures* writes_back { sem 𝓛 (Lends (the_row P.row C.row R.row) P.row self.entry result (λ w. with_poller w self.old)) }
+        ensures* writes_back { sem 𝓛 (Lends (the_row P.row C.row R.row) P.row self.entry result
+            (λ w. with_poller w self.old)) }
         ensures value { result.now ≡ self.old.poller }
     {
         &mut self.poller
@@ -126,7 +136,8 @@ impl<P: Poller, C, R: Wait + Drop> Poll<P, C, R> {
     /// Takes the marks of the adapters that are to be settled, in the order of their slots, which the watch notes.
     pub fn take_marks(&mut self) -> Option<Vec<RegistrationToken>>
         ensures none { IfNone result (poll_view self.new ≡ marks_taken [] (poll_view self.old)) }
-        ensures some { IfSome result (λ marked. HasTaken marked.items (poll_view self.old) (poll_view self.new)) }
+        ensures some { IfSome result (λ marked.
+            HasTaken marked.items (poll_view self.old) (poll_view self.new)) }
         ensures ready { (more : ℕ) → IsReady more self.old → IsReady more self.new }
     {
         let Some(taken) = self.batch.take_marks(&self.rt) else {
@@ -159,7 +170,8 @@ impl<P: Poller, C, R: Wait + Drop> Poll<P, C, R> {
 
     // How many events one `poll` can gather at most, with this many posted keys, and so many more.
     fn room(&self, places: usize, more: usize) -> Option<usize>
-        ensures { IfSome result (λ n. n ≡ more + (places + (events_per_wait + length self.now.wheel.entries))) }
+        ensures { IfSome result (λ n.
+            n ≡ more + (places + (events_per_wait + length self.now.wheel.entries))) }
     {
         EVENTS_PER_WAIT
             .checked_add(self.wheel.len())?
@@ -170,7 +182,8 @@ impl<P: Poller, C, R: Wait + Drop> Poll<P, C, R> {
     /// Counts the places on the board, and reserves what one `poll` can gather, and `more` events besides. Want of memory changes
     /// nothing.
     pub fn reserve(&mut self, more: usize) -> std::result::Result<(), AllocError>
-        ensures ok { OnOk result ((places : ℕ) × (poll_view self.new ≡ counted places (poll_view self.old))) }
+        ensures ok { OnOk result ((places : ℕ)
+            × (poll_view self.new ≡ counted places (poll_view self.old))) }
         ensures ready { OnOk result (IsReady more self.new) }
         ensures err { OnErr result (poll_view self.new ≡ poll_view self.old) }
     {
@@ -191,7 +204,8 @@ impl<P: Poller, C, R: Wait + Drop> Poll<P, C, R> {
     pub fn join(&mut self, given: &[(Readiness, Token)])
         requires { IsReady (length given.now) self.old }
         ensures view { poll_view self.new ≡ joining given.now (poll_view self.old) }
-        ensures ready { (more : ℕ) → IsReady (length given.now + more) self.old → IsReady more self.new }
+        ensures ready { (more : ℕ) → IsReady (length given.now + more) self.old
+            → IsReady more self.new }
     {
         self.batch.join(given);
     }
@@ -205,7 +219,8 @@ impl<P: Poller, C, R: Wait + Drop> Poll<P, C, R> {
 
     /// Those of one registration among the events that wait for their turn, without the first `from` of them.
     pub fn events(&self, from: usize, registration: RegistrationToken) -> EventIterator<'_>
-        ensures { events_left result ≡ events_of registration (drop from (poll_view self.now).batch) }
+        ensures { events_left result
+            ≡ events_of registration (drop from (poll_view self.now).batch) }
     {
         self.batch.events(from, registration)
     }
@@ -227,10 +242,13 @@ impl<P: Poller, C, R: Wait + Drop> Poll<P, C, R> {
     }
 
     fn gather(&mut self, now: Instant)
-        requires batch { self.old.places + (events_per_wait + length self.old.wheel.entries) ≤ self.old.batch.room }
+        requires batch { self.old.places + (events_per_wait + length self.old.wheel.entries)
+            ≤ self.old.batch.room }
         requires passes { self.old.places ≤ self.old.batch.pass_room }
         requires events { vec_len self.old.events ≤ events_per_wait }
-        ensures { (posted : List ℕ) × ArePosted self.old.places posted × (poll_view self.new ≡ gathered posted self.old.events.items now.nanos (poll_view self.old)) }
+        ensures { (posted : List ℕ) × ArePosted self.old.places posted
+            × (poll_view self.new
+            ≡ gathered posted self.old.events.items now.nanos (poll_view self.old)) }
     {
         self.batch
             .gather(&self.rt, self.places, &self.events, &mut self.wheel, now);

@@ -61,7 +61,8 @@ impl<C: Drop> MioPoller<C> {
     pub fn new<R: Net>(rt: &R, alloc: Global, clock: C) -> LoopResult<MioPoller<C>>
         ensures ok { IfOk result (λ made. (made.clock ≡ clock) × (made.faults.count ≡ 0)
             × (made.precision ≡ Microseconds)) }
-        ensures err { IfErr result (λ e. (e ≡ OutOfMemory) ⊎ ((cause : IoCause) × (e ≡ IoError cause))) }
+        ensures err { IfErr result (λ e. (e ≡ OutOfMemory)
+            ⊎ ((cause : IoCause) × (e ≡ IoError cause))) }
     {
         let poll = Poll::new(rt)?;
         let found = Found::new(alloc)?;
@@ -130,7 +131,10 @@ impl<C: Clock> MioPoller<C> {
     fn find(&mut self, timeout: Option<Duration>, left: usize) -> io::Result<()>
         ensures events { OnErr result (items self.new.found.events ≡ []) }
         ensures failed { failure_of result ≡ self.new.found.failed }
-        ensures poller { self.new ≡ record self.old { poll = self.new.poll; found = self.new.found } }
+        ensures poller { self.new ≡ record self.old {
+          poll = self.new.poll;
+          found = self.new.found;
+        } }
     {
         if left >= EVENTS_PER_WAIT {
             self.found.clear();
@@ -164,7 +168,8 @@ impl<C: Clock> MioPoller<C> {
 // The interest as `mio` has it, where it is one in anything.
 fn asked(interest: Interest) -> Option<mio::Interest>
     ensures some { is_some result ≡ asks interest }
-    ensures value { IfSome result (λ asked. (is_readable asked ≡ interest.readable) × (is_writable asked ≡ interest.writable) × (is_priority asked ≡ false)) }
+    ensures value { IfSome result (λ asked. (is_readable asked ≡ interest.readable)
+        × (is_writable asked ≡ interest.writable) × (is_priority asked ≡ false)) }
 {
     match (interest.readable, interest.writable) {
         (true, true) => Some(mio::Interest::READABLE | mio::Interest::WRITABLE),

@@ -188,7 +188,11 @@ impl Bell {
         twin: &mut Twin,
     ) -> (Option<Debt>, Option<LeaveToClose>)
         ensures twin { twin.new ≡ record twin.old { key = Some pass.key } }
-        ensures bell { self.new ≡ record { cell = after_set_key pass.key self.old.cell; name = self.old.name; board = pass.board } }
+        ensures bell { self.new ≡ record {
+          cell = after_set_key pass.key self.old.cell;
+          name = self.old.name;
+          board = pass.board;
+        } }
         ensures owes { result.0 ≡ on pass.board (owed_at pass.key self.old.cell) }
         ensures leaves { result.1 ≡ on self.old.board self.old.cell.key }
     {

@@ -107,7 +107,13 @@ impl<T> ChannelCore<T> {
     ) -> Result<(ChannelCore<T>, Label, ReceivingRight), AllocError>
     where
         T: Drop,
-        ensures core { IfOk result (λ r. r.0 ≡ record { state = fresh_channel bound; name = r.1.name; board = r.1.name; puts = 0; given = 0 }) }
+        ensures core { IfOk result (λ r. r.0 ≡ record {
+          state = fresh_channel bound;
+          name = r.1.name;
+          board = r.1.name;
+          puts = 0;
+          given = 0;
+        }) }
         ensures label { IfOk result (λ r. r.1.bound ≡ bound) }
         ensures right { IfOk result (λ r. r.2.name ≡ r.1.name) }
     {
@@ -230,7 +236,13 @@ impl<T> ChannelCore<T> {
     }
 
     fn begin(&mut self)
-        ensures { self.new ≡ view_with (record { cell = record self.old.state.cell { pinged = false; draining = true }; queue = self.old.state.queue; bound = self.old.state.bound; last = LastPop.NoPop }) self.old }
+        ensures { self.new ≡ view_with (record {
+          cell = record self.old.state.cell { pinged = false; draining = true };
+          queue = self.old.state.queue;
+          bound = self.old.state.bound;
+          last = LastPop.NoPop;
+        })
+            self.old }
     {
         self.last = LastPop::NoPop;
         self.bell.open();

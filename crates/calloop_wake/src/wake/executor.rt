@@ -145,7 +145,19 @@ impl ExecutorCore {
     pub fn new(
         alloc: Global,
     ) -> Result<(ExecutorCore, Name, ReceivingRight, KeepingRight), AllocError>
-        ensures core { IfOk result (λ made. made.0 ≡ record { table = no_tasks; next = 0; results = 0; pinged = false; draining = false; gone = false; progress = at_start; key = None; senders = 0; name = made.1; board = made.1 }) }
+        ensures core { IfOk result (λ made. made.0 ≡ record {
+          table = no_tasks;
+          next = 0;
+          results = 0;
+          pinged = false;
+          draining = false;
+          gone = false;
+          progress = at_start;
+          key = None;
+          senders = 0;
+          name = made.1;
+          board = made.1;
+        }) }
         ensures right { IfOk result (λ made. made.2.name ≡ made.1) }
         ensures keeping { IfOk result (λ made. made.3.name ≡ made.1) }
     {

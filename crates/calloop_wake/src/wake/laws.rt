@@ -250,7 +250,11 @@ pub fn steps_are_the_machines()
     ensures close_place { (w : WakeWorld Cell) (k : ℕ) → after ping_kind w (ClosePlace k)
         ≡ record w { board = after_close_place k w.board; leaves = less_one k w.leaves } }
     ensures post { (w : WakeWorld Cell) (k : ℕ) → after ping_kind w (Post k)
-        ≡ record w { board = after_post k w.board; debts = less_one k w.debts; nudges = w.nudges + one (wakes k w.board) } }
+        ≡ record w {
+          board = after_post k w.board;
+          debts = less_one k w.debts;
+          nudges = w.nudges + one (wakes k w.board);
+        } }
     ensures look { (w : WakeWorld Cell) → after ping_kind w Look
         ≡ record w { loop = if any_marked w.board then Awake else Looked } }
     ensures unpost { (w : WakeWorld Cell) (below : ℕ)

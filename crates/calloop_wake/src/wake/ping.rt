@@ -156,9 +156,21 @@ impl PingCore {
 
     // Nothing is due any more; the turn, a ring that it takes and a close that it tells are counted.
     fn begin_turn(&mut self, twin: &mut Twin) -> OpenedTurn
-        ensures core { self.new ≡ record self.old { cell = in_turn self.old.cell; seen = self.old.rings; taken = self.old.taken + one self.old.cell.rung } }
-        ensures twin { twin.new ≡ record twin.old { turns = twin.old.turns + 1; number = twin.old.number + one self.old.cell.rung; closes = twin.old.closes + one (self.old.cell.closed && not self.old.cell.told) } }
-        ensures turn { result ≡ record { turn = record { name = self.old.name }; rung = self.old.cell.rung; told = self.old.cell.closed && not self.old.cell.told } }
+        ensures core { self.new ≡ record self.old {
+          cell = in_turn self.old.cell;
+          seen = self.old.rings;
+          taken = self.old.taken + one self.old.cell.rung;
+        } }
+        ensures twin { twin.new ≡ record twin.old {
+          turns = twin.old.turns + 1;
+          number = twin.old.number + one self.old.cell.rung;
+          closes = twin.old.closes + one (self.old.cell.closed && not self.old.cell.told);
+        } }
+        ensures turn { result ≡ record {
+          turn = record { name = self.old.name };
+          rung = self.old.cell.rung;
+          told = self.old.cell.closed && not self.old.cell.told;
+        } }
     {
         let rung = self.rung;
         let turn = PingTurn {

@@ -103,7 +103,8 @@ fn append_posted(batch: &mut VecDeque<Pending>, passes: &VecDeque<TakenPass>, fi
     requires first { first ≤ deque_len passes.now }
     requires tokens { IsRising (map key_of_pass (drop first passes.now.items)) }
     requires room { deque_len batch.old + deque_len passes.now ≤ deque_capacity batch.old + first }
-    ensures items { batch.new.items ≡ batch.old.items ++ posted_events (map key_of_pass (drop first passes.now.items)) }
+    ensures items { batch.new.items ≡ batch.old.items
+        ++ posted_events (map key_of_pass (drop first passes.now.items)) }
     ensures len { deque_len batch.new + first ≤ deque_len batch.old + deque_len passes.now }
     ensures capacity { deque_capacity batch.new ≡ deque_capacity batch.old }
 {
@@ -147,7 +148,8 @@ fn append_polled(batch: &mut VecDeque<Pending>, events: &[(u64, Readiness)])
 // The events of the deadlines that are due, which leave the wheel.
 fn append_due(batch: &mut VecDeque<Pending>, wheel: &mut TimerWheel, now: Instant)
     requires { deque_len batch.old + length wheel.old.entries ≤ deque_capacity batch.old }
-    ensures items { batch.new.items ≡ batch.old.items ++ timer_events (due now.nanos wheel.old.entries) }
+    ensures items { batch.new.items ≡ batch.old.items
+        ++ timer_events (due now.nanos wheel.old.entries) }
     ensures wheel { wheel.new ≡ with_entries (not_due now.nanos wheel.old.entries) wheel.old }
 {
     while let Some(entry) = wheel.next_expired(now) {
@@ -158,7 +160,14 @@ fn append_due(batch: &mut VecDeque<Pending>, wheel: &mut TimerWheel, now: Instan
 impl Batch {
     /// No event, over this hub. It allocates nothing yet.
     pub fn new(alloc: Global, hub: WatchedHub) -> Batch
-        ensures { result ≡ record { events = []; passes = []; pass = None; watch = hub; room = result.room; pass_room = result.pass_room } }
+        ensures { result ≡ record {
+          events = [];
+          passes = [];
+          pass = None;
+          watch = hub;
+          room = result.room;
+          pass_room = result.pass_room;
+        } }
     {
         Batch {
             hub,
@@ -206,7 +215,10 @@ impl Batch {
     /// Events that aren't posted come after those that wait, in their order.
     pub fn join(&mut self, given: &[(Readiness, Token)])
         requires { length given.now ≤ self.old.room }
-        ensures others { self.new ≡ record self.old { events = self.old.events ++ own_events given.now; room = self.new.room } }
+        ensures others { self.new ≡ record self.old {
+          events = self.old.events ++ own_events given.now;
+          room = self.new.room;
+        } }
         ensures room { self.old.room ≤ self.new.room + length given.now }
     {
         append_own(&mut self.events, given);
@@ -237,15 +249,19 @@ impl Batch {
     /// Notes a count of the places.
     pub fn note_count(&mut self, places: OpenPlaces)
         requires { places.name ≡ self.old.watch.name }
-        ensures { self.new ≡ record self.old { watch = noted (Counted places.number) self.old.watch } }
+        ensures { self.new ≡ record self.old {
+          watch = noted (Counted places.number) self.old.watch;
+        } }
     {
         self.hub.note_count(places);
     }
 
     /// Takes the marks, in the order in which they were set.
     pub fn take_marks<R: Wait>(&mut self, rt: &R) -> Option<Vec<RegistrationToken>>
-        ensures none { IfNone result (self.new ≡ record self.old { watch = noted (Marked []) self.old.watch }) }
-        ensures some { IfSome result (λ taken. self.new ≡ record self.old { watch = noted (Marked taken.items) self.old.watch }) }
+        ensures none { IfNone result
+            (self.new ≡ record self.old { watch = noted (Marked []) self.old.watch }) }
+        ensures some { IfSome result (λ taken.
+            self.new ≡ record self.old { watch = noted (Marked taken.items) self.old.watch }) }
     {
         self.hub.take_marks(rt)
     }
@@ -254,7 +270,10 @@ impl Batch {
     pub fn reserve(&mut self, events: usize, passes: usize) -> Result<(), AllocError>
         ensures room { OnOk result (events ≤ self.new.room) }
         ensures pass_room { OnOk result (passes ≤ self.new.pass_room) }
-        ensures others { self.new ≡ record self.old { room = self.new.room; pass_room = self.new.pass_room } }
+        ensures others { self.new ≡ record self.old {
+          room = self.new.room;
+          pass_room = self.new.pass_room;
+        } }
     {
         self.events.reserve(events)?;
         self.passes.reserve(passes)
@@ -316,7 +335,8 @@ impl Batch {
         requires room { places + (length given.now + length wheel.old.entries) ≤ self.old.room }
         requires passes { places ≤ self.old.pass_room }
         ensures batch { (posted : List ℕ) × ArePosted places posted × (self.new ≡ record self.old {
-          events = ((self.old.events ++ posted_events posted) ++ polled_events given.now) ++ timer_events (due now.nanos wheel.old.entries);
+          events = ((self.old.events ++ posted_events posted) ++ polled_events given.now)
+              ++ timer_events (due now.nanos wheel.old.entries);
           passes = self.old.passes ++ map (taken self.old.watch.name) posted;
           watch = noted (Unposted places posted) self.old.watch;
           room = self.new.room;

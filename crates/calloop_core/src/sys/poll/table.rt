@@ -28,8 +28,10 @@ fn tell<P: Poller>(
     key: u64,
     watched: Watched,
 ) -> io::Result<()>
-    ensures sockets { CalledFor P.sockets poller.old io.old (call_for known key watched.interest) result poller.new io.new }
-    ensures calls { Called P.outside poller.old (call_for known key watched.interest) result poller.new }
+    ensures sockets { CalledFor P.sockets poller.old io.old (call_for known key watched.interest)
+        result poller.new io.new }
+    ensures calls { Called P.outside poller.old (call_for known key watched.interest)
+        result poller.new }
 {
     let Watched { interest, mode } = watched;
     if interest.asks() {
@@ -65,7 +67,9 @@ impl<P: Poller, C, R: Wait + Drop> Poll<P, C, R> {
         mode: Mode,
         token: Token,
     ) -> Result<()>
-        ensures edit { DidEdit P.outside P.sockets (Enter token (record { interest = interest; mode = mode })) (poll_view self.old) io.old result (poll_view self.new) io.new }
+        ensures edit { DidEdit P.outside P.sockets
+            (Enter token (record { interest = interest; mode = mode }))
+            (poll_view self.old) io.old result (poll_view self.new) io.new }
         ensures ready { (more : ℕ) → IsReady more self.old → IsReady more self.new }
     {
         let key = token.key();
@@ -95,7 +99,8 @@ impl<P: Poller, C, R: Wait + Drop> Poll<P, C, R> {
         requires same { key_of before ≡ key_of token }
         requires there { watched_at (key_of before) (poll_view self.old).table ≡ Some stood }
         requires ordered { IsStrictlySortedBy nat_cmp (keys_of (poll_view self.old).table) }
-        ensures edit { DidEdit P.outside P.sockets (Change before token watched) (poll_view self.old) io.old result (poll_view self.new) io.new }
+        ensures edit { DidEdit P.outside P.sockets (Change before token watched)
+            (poll_view self.old) io.old result (poll_view self.new) io.new }
         ensures ready { (more : ℕ) → IsReady more self.old → IsReady more self.new }
     {
         let same = token.key();
@@ -125,7 +130,8 @@ impl<P: Poller, C, R: Wait + Drop> Poll<P, C, R> {
         requires there { is_in (key_of before) (poll_view self.old).table ≡ true }
         requires free { is_in (key_of token) (poll_view self.old).table ≡ false }
         requires known { is_known (watched_at (key_of before) (poll_view self.old).table) ≡ known }
-        ensures edit { DidEdit P.outside P.sockets (Change before token watched) (poll_view self.old) io.old result (poll_view self.new) io.new }
+        ensures edit { DidEdit P.outside P.sockets (Change before token watched)
+            (poll_view self.old) io.old result (poll_view self.new) io.new }
         ensures ready { (more : ℕ) → IsReady more self.old → IsReady more self.new }
     {
         let key = token.key();
@@ -154,7 +160,9 @@ impl<P: Poller, C, R: Wait + Drop> Poll<P, C, R> {
         mode: Mode,
         token: Token,
     ) -> Result<()>
-        ensures edit { DidEdit P.outside P.sockets (Change before token (record { interest = interest; mode = mode })) (poll_view self.old) io.old result (poll_view self.new) io.new }
+        ensures edit { DidEdit P.outside P.sockets
+            (Change before token (record { interest = interest; mode = mode }))
+            (poll_view self.old) io.old result (poll_view self.new) io.new }
         ensures ready { (more : ℕ) → IsReady more self.old → IsReady more self.new }
     {
         let key = token.key();
@@ -175,7 +183,8 @@ impl<P: Poller, C, R: Wait + Drop> Poll<P, C, R> {
     /// Takes a socket out, and from the poller, unless its interest is empty. A token whose key isn't in the table is refused
     /// with `IoError` of kind `NotFound`, and a fault of the poller is one; each leaves the table as it was.
     pub fn unregister(&mut self, io: &mut P::Io, token: Token) -> Result<()>
-        ensures edit { DidEdit P.outside P.sockets (Leave token) (poll_view self.old) io.old result (poll_view self.new) io.new }
+        ensures edit { DidEdit P.outside P.sockets (Leave token)
+            (poll_view self.old) io.old result (poll_view self.new) io.new }
         ensures ready { (more : ℕ) → IsReady more self.old → IsReady more self.new }
     {
         let key = token.key();
@@ -210,13 +219,17 @@ impl<P: Poller, C, R: Wait + Drop> Poll<P, C, R> {
 /// The steps of one registration leave alone what every key of another waits for.
 #[tactic(auto, using(crate::proofs::Frames::stepped_elsewhere))]
 pub fn other_keys_stay<P>()
-    ensures { (registration : RegistrationToken) (key : ℕ) (v : PollView P) (steps : List (PollStep P))
-        → ¬ IsKeyOf registration key → AllActFor registration steps → watched_at key (polls_after v steps).table ≡ watched_at key v.table }
+    ensures { (registration : RegistrationToken) (key : ℕ)
+        (v : PollView P) (steps : List (PollStep P))
+        → ¬ IsKeyOf registration key → AllActFor registration steps
+        → watched_at key (polls_after v steps).table ≡ watched_at key v.table }
 {}
 
 /// A case that this rules out: a socket that is entered under a key of the second slot. It doesn't act for the registration in the
 /// first one, and that key waits for something then.
 pub fn wrong_steps_are_ruled_out<P>()
     ensures elsewhere { (after : P) → ¬ AllActFor first_registration (enters_second after) }
-    ensures changed { (v : PollView P) (after : P) → v.table ≡ [] → watched_at (key_of token_of_second) (polls_after v (enters_second after)).table ≡ Some to_be_read }
+    ensures changed { (v : PollView P) (after : P) → v.table ≡ []
+        → watched_at (key_of token_of_second) (polls_after v (enters_second after)).table
+        ≡ Some to_be_read }
 {}

@@ -62,7 +62,9 @@ impl<P, C, R: Wait + Drop> Poll<P, C, R> {
         start: Instant,
         now: Instant,
     ) -> Option<Duration>
-        ensures { nanos_of result ≡ asked_for (poll_view self.now) (is_none leave) (nanos_of timeout) start.nanos now.nanos }
+        ensures { nanos_of result
+            ≡ asked_for (poll_view self.now) (is_none leave)
+            (nanos_of timeout) start.nanos now.nanos }
     {
         match leave {
             Some(leave) => {
@@ -83,9 +85,16 @@ impl<P: Poller, C, R: Wait + Drop> Poll<P, C, R> {
     fn wait<Q: Wait>(&mut self, rt: &Q, timeout: Option<Duration>) -> io::Result<Instant>
         requires events { self.old.events.items ≡ [] }
         requires room { events_per_wait ≤ vec_capacity self.old.events }
-        ensures ok { IfOk result (λ now. Waited P.outside (poll_view self.old) (nanos_of timeout) (Ok now.nanos) self.new.events.items self.new.poller self.new.batch.watch) }
-        ensures err { IfErr result (λ cause. (given : List (ℕ × Readiness)) × Waited P.outside (poll_view self.old) (nanos_of timeout) (Err cause) given self.new.poller self.new.batch.watch) }
-        ensures others { self.new ≡ record self.old { poller = self.new.poller; batch = record self.old.batch { watch = self.new.batch.watch }; events = self.new.events } }
+        ensures ok { IfOk result (λ now. Waited P.outside (poll_view self.old) (nanos_of timeout)
+            (Ok now.nanos) self.new.events.items self.new.poller self.new.batch.watch) }
+        ensures err { IfErr result (λ cause. (given : List (ℕ × Readiness))
+            × Waited P.outside (poll_view self.old) (nanos_of timeout) (Err cause) given
+            self.new.poller self.new.batch.watch) }
+        ensures others { self.new ≡ record self.old {
+          poller = self.new.poller;
+          batch = record self.old.batch { watch = self.new.batch.watch };
+          events = self.new.events;
+        } }
         ensures few { vec_len self.new.events ≤ events_per_wait }
     {
         let start = self.poller.now();
@@ -119,7 +128,8 @@ impl<P: Poller, C, R: Wait + Drop> Poll<P, C, R> {
     /// the batch, the posted keys and the deadlines are as they were.
     pub fn poll<Q: Wait>(&mut self, rt: &Q, timeout: Option<Duration>) -> io::Result<()>
         requires { IsReady 0 self.old }
-        ensures { Polled P.outside (nanos_of timeout) result (poll_view self.old) (poll_view self.new) }
+        ensures { Polled P.outside (nanos_of timeout) result
+            (poll_view self.old) (poll_view self.new) }
     {
         let now = self.wait(rt, timeout)?;
         self.gather(now);
