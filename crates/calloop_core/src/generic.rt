@@ -27,8 +27,8 @@ pub struct NoIoDrop<T> {
 }
 
 impl<T> NoIoDrop<T> {
-    /// The socket, to be changed. One that is changed while it is registered can make a later call of the poller fail, and
-    /// nothing worse; calloop has this call as an unsafe one.
+    /// The socket, to be changed. One that is changed while it is registered can make a later call of the poller fail, or stay
+    /// unheard of, and nothing worse; calloop has this call as an unsafe one.
     pub fn get_mut(&mut self) -> &mut T
         ensures* writes_back { sem 𝓛 (Lends (lent_row T.row) T.row self.entry result
             (λ io. record { io = io })) }
@@ -63,8 +63,8 @@ impl<T> Deref for NoIoDrop<T> {
 /// A socket as a source. Its callback gets what was found, and the socket. `P` is the poller, and `E` the error of the callback,
 /// of which a fault of the poller in this source's turn becomes one.
 ///
-/// The poller tells of each change of readiness once, and the source keeps its mode. Its drop calls no poller: one that is dropped
-/// while it is registered leaves its key in the loop's table, where calloop's takes its descriptor out.
+/// Its drop calls no poller: one that is dropped while it is registered leaves its key in the loop's table, where calloop's takes its
+/// descriptor out.
 #[derive(Drop)]
 pub struct Generic<P: Poller, E = io::Error> {
     io: NoIoDrop<P::Io>,
@@ -117,8 +117,8 @@ impl<P: Poller, E> Generic<P, E> {
         &self.io.io
     }
 
-    /// The socket, to be changed. One that is changed while it is registered can make a later call of the poller fail, and
-    /// nothing worse; calloop has this call as an unsafe one.
+    /// The socket, to be changed. One that is changed while it is registered can make a later call of the poller fail, or stay
+    /// unheard of, and nothing worse; calloop has this call as an unsafe one.
     pub fn get_mut(&mut self) -> &mut P::Io
         ensures* writes_back { sem 𝓛 (Lends (the_row P.row E.row P.Io.row) P.Io.row self.entry
             result (λ io. with_socket io self.old)) }
@@ -167,7 +167,7 @@ impl<P: Poller, E> Generic<P, E> {
 }
 
 impl<P: Poller, E: From<io::Error>> Generic<P, E> {
-    // Under `Level` the poller is told of the socket again.
+    // Under `Level` the poller is asked to tell of the socket again.
     fn arm_again<C, R: Wait + Drop>(
         &mut self,
         token: Token,
@@ -207,7 +207,8 @@ where
     ghost means = { generic_meaning P.sockets E.from_gives };
 
     /// Calls back with what was found, where the token is its own; under `OneShot` for one event alone. After a callback that
-    /// succeeded, `Level` tells the poller of the socket again, under the same key, and a refusal of that is the turn's error.
+    /// succeeded, `Level` asks the poller to tell of the socket again, with the interest as it is now, and a refusal of that is the
+    /// turn's error. The machine's poller needs a call of the system for it only where the interest is another.
     fn process_events<F, X, Q>(
         &mut self,
         readiness: Readiness,

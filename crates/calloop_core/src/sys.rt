@@ -85,7 +85,7 @@ impl Interest {
     }
 }
 
-/// How often a socket's source hears of what it is ready for, as in calloop. The source keeps it; no poller knows of it.
+/// How often a socket's source hears of what it is ready for, as in calloop. The source keeps it, and a poller is told of `Level`.
 #[derive(Clone, Copy, Debug, PartialEq, Eq)]
 pub enum Mode {
     /// Once, until it is registered anew.
@@ -149,8 +149,18 @@ pub trait Poller: Drop {
         ensures calls { outside.calls self.old (Modify key interest) result self.new }
         ensures faults { outside.faults self.new ≡ outside.faults self.old + faults_of result };
 
-    /// As `modify`, for a source that hears of the socket as long as it is ready (`Mode::Level`). From now on each wait may tell of it
-    /// anew without a further call: a call with the same key and interest then has nothing to do. By default it is `modify`.
+    /// As `add`, for a source that hears of the socket as long as it is ready (`Mode::Level`): from now on each wait may tell of it anew
+    /// without a further call. By default it is `add`.
+    fn add_level(&mut self, io: &mut Self::Io, key: u64, interest: Interest) -> io::Result<()>
+        ensures sockets { sockets self.old io.old (Add key interest) result self.new io.new }
+        ensures calls { outside.calls self.old (Add key interest) result self.new }
+        ensures faults { outside.faults self.new ≡ outside.faults self.old + faults_of result }
+    {
+        self.add(io, key, interest)
+    }
+
+    /// As `modify`, for such a source. Where each wait tells of the socket under this key and for this interest already, there is nothing to
+    /// do. By default it is `modify`.
     fn modify_level(&mut self, io: &mut Self::Io, key: u64, interest: Interest) -> io::Result<()>
         ensures sockets { sockets self.old io.old (Modify key interest) result self.new io.new }
         ensures calls { outside.calls self.old (Modify key interest) result self.new }

@@ -1,5 +1,5 @@
 //! The poller of the operating system, over `mio`.
-ghost use Rattle.std.specs.Prelude.{◌≡◌, ◌+◌, ◌⊎◌, false, [], IfErr, IfOk, IfSome, OnErr, is_some};
+ghost use Rattle.std.specs.Prelude.{◌≡◌, ◌+◌, ◌⊎◌, false, [], IfErr, IfOk, IfSome, IsErrAnd, OnErr, is_some};
 ghost use Rattle.std.specs.declared.io.Error.{Error as IoCause};
 ghost use Rattle.std.specs.IoError.{error_kind};
 ghost use Rattle.std.specs.declared.io.ErrorKind.TheVariants.{InvalidInput};
@@ -15,7 +15,7 @@ use super::{Clock, EVENTS_PER_WAIT, Interest, Poller, Readiness};
 use calloop_wake::error::{Error, Result as LoopResult};
 use calloop_wake::wheel::Instant;
 use found::Found;
-use levels::{Levels, register_level};
+use levels::{Levels, Registering};
 use mio::{Poll, Token, Waker};
 use std::alloc::Global;
 use std::io;
@@ -38,7 +38,7 @@ pub use sockets::MioIo;
 const OWN_KEY: Token = Token(usize::MAX);
 
 /// Waits on the sockets of the machine by epoll. Its clock is the one that it was given. A socket is told of when it becomes ready, and
-/// again by `modify`; after `modify_level` in each wait as long as it is ready. One under the key 2^64 - 1 is never told of: that is its
+/// again by `modify`; after `add_level` and `modify_level` in each wait as long as it is ready. One under the key 2^64 - 1 is never told of: that is its
 /// own waker's.
 ///
 /// While 1,024 events that were told before wait for their turn, a wait finds none, so that what stays ready can't pile up.
@@ -110,16 +110,23 @@ impl<C> MioPoller<C> {
 }
 
 impl<C> MioPoller<C> {
-    // Has each wait tell of a socket as long as it is ready, by a call of the system where it isn't registered so already.
-    fn keep_level(&mut self, io: &MioIo, key: u64, interest: Interest) -> io::Result<()>
-        ensures { self.new ≡ self.old }
+    // Has each wait tell of a socket as long as it is ready, where the interest is one in anything.
+    fn register_level(
+        &mut self,
+        how: Registering,
+        io: &MioIo,
+        key: u64,
+        interest: Interest,
+    ) -> io::Result<()>
+        ensures same { self.new ≡ self.old }
+        ensures refused { asks interest ≡ false → IsErrAnd result (λ cause. error_kind cause ≡ InvalidInput) }
     {
-        let descriptor = io.as_raw_fd();
-        if self.levels.has(descriptor, key, interest) {
-            return Ok(());
+        if !interest.asks() {
+            return Err(no_interest());
         }
+        let descriptor = io.as_raw_fd();
         self.levels.clear(descriptor);
-        register_level(&self.poll, descriptor, key, interest)?;
+        how.register(&self.poll, descriptor, key, interest)?;
         // Where it isn't noted, the next call asks the system again.
         let _noted = self.levels.note(descriptor, key, interest);
         Ok(())
@@ -220,13 +227,18 @@ impl<C: Clock> Poller for MioPoller<C> {
         self.counted(answer)
     }
 
+    /// An empty interest is refused as by `add`.
+    fn add_level(&mut self, io: &mut MioIo, key: u64, interest: Interest) -> io::Result<()> {
+        let answer = self.register_level(Registering::First, io, key, interest);
+        self.counted(answer)
+    }
+
     /// An empty interest is refused as by `modify`. Where the socket is registered so already, the system isn't called.
     fn modify_level(&mut self, io: &mut MioIo, key: u64, interest: Interest) -> io::Result<()> {
-        let answer = if interest.asks() {
-            self.keep_level(io, key, interest)
-        } else {
-            Err(no_interest())
-        };
+        if interest.asks() && self.levels.has(io.as_raw_fd(), key, interest) {
+            return Ok(());
+        }
+        let answer = self.register_level(Registering::Again, io, key, interest);
         self.counted(answer)
     }
 

@@ -122,9 +122,8 @@ fn a_wait_of_milliseconds_ends_in_portions(rt: HostRuntime) {
 #[test]
 fn a_level_socket_is_told_of_in_each_wait(rt: HostRuntime) {
     let mut desk = Desk::new(&rt);
-    assert!(rt; desk.add(KEY, Interest::READ).is_ok());
-    assert!(rt; desk.writes() && desk.tells(&[(KEY, true, false)]));
-    assert!(rt; desk.level(KEY, Interest::READ).is_ok());
+    assert!(rt; desk.add_level(KEY, Interest::READ).is_ok());
+    assert!(rt; desk.tells(&[]) && desk.writes());
     assert!(rt; desk.tells(&[(KEY, true, false)]) && desk.tells(&[(KEY, true, false)]));
     assert!(rt; desk.level(KEY, Interest::READ).is_ok());
     assert!(rt; desk.tells(&[(KEY, true, false)]));
@@ -135,10 +134,32 @@ fn a_level_socket_is_told_of_in_each_wait(rt: HostRuntime) {
 }
 
 #[test]
+fn an_added_socket_becomes_a_level_one(rt: HostRuntime) {
+    let mut desk = Desk::new(&rt);
+    assert!(rt; desk.add(KEY, Interest::READ).is_ok() && desk.writes());
+    assert!(rt; desk.tells(&[(KEY, true, false)]) && desk.tells(&[]));
+    assert!(rt; desk.level(KEY, Interest::READ).is_ok());
+    assert!(rt; desk.tells(&[(KEY, true, false)]) && desk.tells(&[(KEY, true, false)]));
+}
+
+#[test]
+fn what_the_machine_refuses_of_a_level_socket_is_answered(rt: HostRuntime) {
+    let mut desk = Desk::new(&rt);
+    assert!(rt; fails(desk.level(KEY, Interest::READ), io::ErrorKind::NotFound));
+    assert!(rt; desk.add_level(KEY, Interest::READ).is_ok());
+    assert!(rt;
+        fails(
+            desk.add_level(KEY, Interest::READ),
+            io::ErrorKind::AlreadyExists
+        )
+    );
+    assert!(rt; desk.writes() && desk.tells(&[(KEY, true, false)]));
+}
+
+#[test]
 fn a_level_socket_over_tcp_is_told_of_in_each_wait(rt: HostRuntime) {
     let mut desk = Desk::over(&rt, connected(&rt));
-    assert!(rt; desk.add(KEY, Interest::READ).is_ok());
-    assert!(rt; desk.level(KEY, Interest::READ).is_ok());
+    assert!(rt; desk.add_level(KEY, Interest::READ).is_ok());
     assert!(rt; desk.writes() && desk.comes_to_tell(&[(KEY, true, false)]));
     assert!(rt; desk.tells(&[(KEY, true, false)]));
     assert!(rt; desk.empties() && desk.tells(&[]));
@@ -147,8 +168,7 @@ fn a_level_socket_over_tcp_is_told_of_in_each_wait(rt: HostRuntime) {
 #[test]
 fn a_level_socket_with_room_is_told_of_until_it_is_full(rt: HostRuntime) {
     let mut desk = Desk::new(&rt);
-    assert!(rt; desk.add(KEY, Interest::WRITE).is_ok());
-    assert!(rt; desk.level(KEY, Interest::WRITE).is_ok());
+    assert!(rt; desk.add_level(KEY, Interest::WRITE).is_ok());
     assert!(rt; desk.tells(&[(KEY, false, true)]) && desk.tells(&[(KEY, false, true)]));
     assert!(rt; desk.fills() && desk.tells(&[]));
     assert!(rt; desk.peer_empties());
@@ -158,8 +178,7 @@ fn a_level_socket_with_room_is_told_of_until_it_is_full(rt: HostRuntime) {
 #[test]
 fn a_level_socket_whose_peer_hung_up_is_told_of_in_each_wait(rt: HostRuntime) {
     let mut desk = Desk::new(&rt);
-    assert!(rt; desk.add(KEY, Interest::READ).is_ok());
-    assert!(rt; desk.level(KEY, Interest::READ).is_ok());
+    assert!(rt; desk.add_level(KEY, Interest::READ).is_ok());
     desk.peer = None;
     assert!(rt; desk.tells(&[(KEY, true, true)]) && desk.tells(&[(KEY, true, true)]));
 }
@@ -167,8 +186,8 @@ fn a_level_socket_whose_peer_hung_up_is_told_of_in_each_wait(rt: HostRuntime) {
 #[test]
 fn a_level_socket_takes_up_another_key_and_interest(rt: HostRuntime) {
     let mut desk = Desk::new(&rt);
-    assert!(rt; desk.add(KEY, Interest::READ).is_ok());
-    assert!(rt; desk.level(KEY, Interest::READ).is_ok() && desk.tells(&[]));
+    assert!(rt; desk.add_level(KEY, Interest::READ).is_ok());
+    assert!(rt; desk.tells(&[]));
     assert!(rt; desk.level(KEY, Interest::BOTH).is_ok());
     assert!(rt; desk.tells(&[(KEY, false, true)]) && desk.tells(&[(KEY, false, true)]));
     assert!(rt; desk.level(OTHER_KEY, Interest::BOTH).is_ok());
@@ -178,8 +197,8 @@ fn a_level_socket_takes_up_another_key_and_interest(rt: HostRuntime) {
 #[test]
 fn a_level_socket_that_is_modified_is_told_of_once(rt: HostRuntime) {
     let mut desk = Desk::new(&rt);
-    assert!(rt; desk.add(KEY, Interest::READ).is_ok());
-    assert!(rt; desk.level(KEY, Interest::READ).is_ok() && desk.writes());
+    assert!(rt; desk.add_level(KEY, Interest::READ).is_ok());
+    assert!(rt; desk.writes());
     assert!(rt; desk.modify(KEY, Interest::READ).is_ok());
     assert!(rt; desk.tells(&[(KEY, true, false)]) && desk.tells(&[]));
     assert!(rt; desk.level(KEY, Interest::READ).is_ok());
@@ -189,8 +208,8 @@ fn a_level_socket_that_is_modified_is_told_of_once(rt: HostRuntime) {
 #[test]
 fn a_level_socket_that_was_taken_out_is_not_registered(rt: HostRuntime) {
     let mut desk = Desk::new(&rt);
-    assert!(rt; desk.add(KEY, Interest::READ).is_ok());
-    assert!(rt; desk.level(KEY, Interest::READ).is_ok() && desk.delete().is_ok());
+    assert!(rt; desk.add_level(KEY, Interest::READ).is_ok());
+    assert!(rt; desk.delete().is_ok());
     assert!(rt; fails(desk.level(KEY, Interest::READ), io::ErrorKind::NotFound));
     assert!(rt; desk.writes() && desk.add(KEY, Interest::READ).is_ok());
     assert!(rt; desk.tells(&[(KEY, true, false)]) && desk.tells(&[]));
@@ -202,8 +221,7 @@ fn a_level_socket_that_was_taken_out_is_not_registered(rt: HostRuntime) {
 fn a_level_socket_that_was_exchanged_is_not_registered(rt: HostRuntime) {
     let mut desk = Desk::new(&rt);
     let (other, _peer) = UnixStream::pair(&rt).expect(&rt, "two streams");
-    assert!(rt; desk.add(KEY, Interest::READ).is_ok());
-    assert!(rt; desk.level(KEY, Interest::READ).is_ok());
+    assert!(rt; desk.add_level(KEY, Interest::READ).is_ok());
     desk.io = MioIo::from(other);
     assert!(rt; fails(desk.level(KEY, Interest::READ), io::ErrorKind::NotFound));
 }
@@ -212,8 +230,7 @@ fn a_level_socket_that_was_exchanged_is_not_registered(rt: HostRuntime) {
 fn a_level_socket_is_registered_with_its_own_poller_alone(rt: HostRuntime) {
     let mut desk = Desk::new(&rt);
     let mut other = Desk::new(&rt);
-    assert!(rt; desk.add(KEY, Interest::READ).is_ok());
-    assert!(rt; desk.level(KEY, Interest::READ).is_ok());
+    assert!(rt; desk.add_level(KEY, Interest::READ).is_ok());
     assert!(rt;
         fails(
             other.poller.modify_level(&mut desk.io, KEY, Interest::READ),
@@ -225,13 +242,10 @@ fn a_level_socket_is_registered_with_its_own_poller_alone(rt: HostRuntime) {
 #[test]
 fn an_empty_interest_of_a_level_socket_is_refused(rt: HostRuntime) {
     let mut desk = Desk::new(&rt);
-    assert!(rt; desk.add(KEY, Interest::READ).is_ok());
-    assert!(rt;
-        fails(
-            desk.level(KEY, Interest::EMPTY),
-            io::ErrorKind::InvalidInput
-        )
-    );
+    let refused = io::ErrorKind::InvalidInput;
+    assert!(rt; fails(desk.add_level(KEY, Interest::EMPTY), refused));
+    assert!(rt; desk.add_level(KEY, Interest::READ).is_ok());
+    assert!(rt; fails(desk.level(KEY, Interest::EMPTY), refused));
     assert!(rt; desk.writes() && desk.tells(&[(KEY, true, false)]));
 }
 
@@ -239,10 +253,9 @@ fn an_empty_interest_of_a_level_socket_is_refused(rt: HostRuntime) {
 fn a_listener_is_told_of_until_all_are_accepted(rt: HostRuntime) {
     let (mut listener, address) = listening(&rt);
     let mut desk = Desk::new(&rt);
-    assert!(rt; desk.poller.add(&mut listener, KEY, Interest::READ).is_ok());
     assert!(rt;
         desk.poller
-            .modify_level(&mut listener, KEY, Interest::READ)
+            .add_level(&mut listener, KEY, Interest::READ)
             .is_ok()
     );
     let _first = TcpStream::connect(&rt, address).expect(&rt, "a stream");
@@ -255,8 +268,8 @@ fn a_listener_is_told_of_until_all_are_accepted(rt: HostRuntime) {
 #[test]
 fn nothing_more_is_told_beside_a_thousand_events_that_are_left(rt: HostRuntime) {
     let mut desk = Desk::new(&rt);
-    assert!(rt; desk.add(KEY, Interest::READ).is_ok());
-    assert!(rt; desk.level(KEY, Interest::READ).is_ok() && desk.writes());
+    assert!(rt; desk.add_level(KEY, Interest::READ).is_ok());
+    assert!(rt; desk.writes());
     assert!(rt; desk.tells_beside(EVENTS_PER_WAIT, &[]));
     assert!(rt; desk.tells_beside(EVENTS_PER_WAIT - 1, &[(KEY, true, false)]));
     assert!(rt; desk.tells_beside(usize::MAX, &[]));
@@ -306,6 +319,10 @@ impl<R: MachineClock + Clone + Drop> Desk<R> {
 
     fn modify(&mut self, key: u64, interest: Interest) -> io::Result<()> {
         self.poller.modify(&mut self.io, key, interest)
+    }
+
+    fn add_level(&mut self, key: u64, interest: Interest) -> io::Result<()> {
+        self.poller.add_level(&mut self.io, key, interest)
     }
 
     fn level(&mut self, key: u64, interest: Interest) -> io::Result<()> {

@@ -38,7 +38,8 @@ fn tell<P: Poller>(
         match (known, mode) {
             (true, Mode::Level) => poller.modify_level(io, key, interest),
             (true, Mode::OneShot | Mode::Edge) => poller.modify(io, key, interest),
-            (false, _) => poller.add(io, key, interest),
+            (false, Mode::Level) => poller.add_level(io, key, interest),
+            (false, Mode::OneShot | Mode::Edge) => poller.add(io, key, interest),
         }
     } else if known {
         poller.delete(io)

@@ -1,7 +1,7 @@
 //! Which sockets the machine tells of in each wait.
 //!
 //! `mio` registers a socket so that it is told of when it becomes ready. A source under `Mode::Level` hears of its socket as long as that is ready:
-//! after its first event the socket is registered by a call of the system without `EPOLLET`, and from then on needs no further one.
+//! so that is registered by a call of the system without `EPOLLET`, as calloop's poller does, and needs no further one while it stays so.
 ghost use Rattle.std.specs.Prelude.{◌≡◌};
 
 use crate::sys::Interest;
@@ -93,22 +93,30 @@ fn flags_of(interest: Interest) -> u32 {
     flags
 }
 
-/// Has each wait tell of a registered socket from now on, under this key, as long as it is ready for that.
-pub fn register_level(
-    poll: &Poll,
-    descriptor: RawFd,
-    key: u64,
-    interest: Interest,
-) -> io::Result<()> {
-    let status = os::epoll_ctl(
-        poll.as_raw_fd(),
-        c::EPOLL_CTL_MOD,
-        descriptor,
-        flags_of(interest),
-        key,
-    );
-    if status < 0 {
-        return Err(io::Error::from_raw_os_error(os::errno()));
+/// Whether a socket is registered for the first time, or stands in the poller.
+#[derive(Clone, Copy, Debug)]
+pub enum Registering {
+    First,
+    Again,
+}
+
+impl Registering {
+    /// Has each wait tell of a socket from now on, under this key, as long as it is ready for that.
+    pub fn register(
+        self,
+        poll: &Poll,
+        descriptor: RawFd,
+        key: u64,
+        interest: Interest,
+    ) -> io::Result<()> {
+        let call = match self {
+            Registering::First => c::EPOLL_CTL_ADD,
+            Registering::Again => c::EPOLL_CTL_MOD,
+        };
+        let flags = flags_of(interest);
+        if os::epoll_ctl(poll.as_raw_fd(), call, descriptor, flags, key) < 0 {
+            return Err(io::Error::from_raw_os_error(os::errno()));
+        }
+        Ok(())
     }
-    Ok(())
 }
