@@ -185,8 +185,8 @@ pub trait Poller: Drop {
     /// An `Err` gives no event that is handed out. One of kind `Interrupted` is an interruption, after which the loop
     /// waits anew; any other is a fault, and is counted.
     ///
-    /// `left` is how many events wait for their turn since an earlier dispatch failed. A poller that tells of a socket anew while it is
-    /// ready may tell of nothing then, so that they can't pile up.
+    /// `left` is how many events wait for their turn since an earlier dispatch failed, up to the last one that this poller gave. One that
+    /// tells of a socket anew while it is ready may tell of nothing beside them, so that no event is told twice.
     fn wait(
         &mut self,
         timeout: Option<Duration>,

@@ -11,7 +11,7 @@ ghost use Rattle.calloop_core.specs.declared.sys.system.portions.Precision.TheVa
 
 use super::faults::FaultCount;
 use super::notifier::{LazyWaker, Notifier};
-use super::{Clock, EVENTS_PER_WAIT, Interest, Poller, Readiness};
+use super::{Clock, Interest, Poller, Readiness};
 use calloop_wake::error::{Error, Result as LoopResult};
 use calloop_wake::wheel::Instant;
 use found::Found;
@@ -41,7 +41,7 @@ const OWN_KEY: Token = Token(usize::MAX);
 /// again by `modify`; after `add_level` and `modify_level` in each wait as long as it is ready. One under the key 2^64 - 1 is never told of: that is its
 /// own waker's.
 ///
-/// While 1,024 events that were told before wait for their turn, a wait finds none, so that what stays ready can't pile up.
+/// While an event of an earlier wait is left, a wait finds none: so what stays ready isn't told twice.
 ///
 /// A wait that ends with nothing found before its time is over by that clock is an interruption, after which the loop waits anew: as
 /// when the process gets a signal, and after each portion of a wait (`Precision`). By a clock that stood still meanwhile it is over.
@@ -134,7 +134,7 @@ impl<C> MioPoller<C> {
 }
 
 impl<C: Clock> MioPoller<C> {
-    // Waits for what the machine finds, for a portion of the time where that isn't over then; not where so many events are left.
+    // Waits for what the machine finds, for a portion of the time where that isn't over then; not where so many events of earlier waits are left.
     fn find(&mut self, timeout: Option<Duration>, left: usize) -> io::Result<()>
         ensures events { OnErr result (items self.new.found.events ≡ []) }
         ensures failed { failure_of result ≡ self.new.found.failed }
@@ -143,7 +143,7 @@ impl<C: Clock> MioPoller<C> {
           found = self.new.found;
         } }
     {
-        if left >= EVENTS_PER_WAIT {
+        if left > 0 {
             self.found.clear();
             return Ok(());
         }

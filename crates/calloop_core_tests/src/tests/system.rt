@@ -266,14 +266,13 @@ fn a_listener_is_told_of_until_all_are_accepted(rt: HostRuntime) {
 }
 
 #[test]
-fn nothing_more_is_told_beside_a_thousand_events_that_are_left(rt: HostRuntime) {
+fn nothing_more_is_told_beside_events_that_are_left(rt: HostRuntime) {
     let mut desk = Desk::new(&rt);
     assert!(rt; desk.add_level(KEY, Interest::READ).is_ok());
     assert!(rt; desk.writes());
-    assert!(rt; desk.tells_beside(EVENTS_PER_WAIT, &[]));
-    assert!(rt; desk.tells_beside(EVENTS_PER_WAIT - 1, &[(KEY, true, false)]));
+    assert!(rt; desk.tells_beside(1, &[]));
     assert!(rt; desk.tells_beside(usize::MAX, &[]));
-    assert!(rt; desk.tells(&[(KEY, true, false)]));
+    assert!(rt; desk.tells_beside(0, &[(KEY, true, false)]));
 }
 
 const KEY: u64 = 1099511627776;

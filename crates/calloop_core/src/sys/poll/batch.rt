@@ -35,6 +35,8 @@ pub struct Batch {
     events: VecDeque<Pending>,
     passes: VecDeque<TakenPass>,
     pass: Option<TakenPass>,
+    // How many events wait, up to the last one of the poller.
+    polled: usize,
 }
 
 impl Model for Batch {
@@ -157,6 +159,15 @@ fn append_due(batch: &mut VecDeque<Pending>, wheel: &mut TimerWheel, now: Instan
     }
 }
 
+// Up to where the events of the poller go, once these are in the batch.
+fn last_polled(before: usize, given: &[(u64, Readiness)], batch: &VecDeque<Pending>) -> usize {
+    if given.is_empty() {
+        before
+    } else {
+        batch.len()
+    }
+}
+
 impl Batch {
     /// No event, over this hub. It allocates nothing yet.
     pub fn new(alloc: Global, hub: WatchedHub) -> Batch
@@ -174,6 +185,7 @@ impl Batch {
             events: VecDeque::new(alloc),
             passes: VecDeque::new(alloc),
             pass: None,
+            polled: 0,
         }
     }
 
@@ -184,6 +196,7 @@ impl Batch {
             events: _,
             passes,
             pass,
+            polled: _,
         } = self;
         if let Some(pass) = pass {
             hub.hub().settle(rt, pass.back());
@@ -196,6 +209,11 @@ impl Batch {
         ensures { arc_value result.now ≡ self.now.watch.name }
     {
         self.hub.hub()
+    }
+
+    /// How many events wait, up to the last one that the poller gave.
+    pub fn polled(&self) -> usize {
+        self.polled
     }
 
     /// How many events wait.
@@ -311,6 +329,7 @@ impl Batch {
         }) }
     {
         let event = self.events.pop_front()?;
+        self.polled = self.polled.saturating_sub(1);
         let pass = if event.posted {
             match self.passes.pop_front() {
                 Some(pass) => Some(pass),
@@ -348,6 +367,7 @@ impl Batch {
         self.hub.unpost(rt, places, &mut self.passes);
         append_posted(&mut self.events, &self.passes, first);
         append_polled(&mut self.events, given);
+        self.polled = last_polled(self.polled, given, &self.events);
         append_due(&mut self.events, wheel, now);
     }
 }
