@@ -119,7 +119,8 @@ impl<C> MioPoller<C> {
         interest: Interest,
     ) -> io::Result<()>
         ensures same { self.new ≡ self.old }
-        ensures refused { asks interest ≡ false → IsErrAnd result (λ cause. error_kind cause ≡ InvalidInput) }
+        ensures refused { asks interest ≡ false
+            → IsErrAnd result (λ cause. error_kind cause ≡ InvalidInput) }
     {
         if !interest.asks() {
             return Err(no_interest());
