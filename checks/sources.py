@@ -3,12 +3,13 @@ import collections
 import re
 
 HEAD_OF_FUNCTION = re.compile(r"( *)(?:pub(?:\([^)]*\))? )?(?:(?:const|unsafe) )*fn (\w+)")
+HEAD_OF_TRAIT = re.compile(r"(?:pub(?:\([^)]*\))? )?trait (\w+)")
 HEAD_OF_TYPE = re.compile(r"(?:pub(?:\([^)]*\))? )?(?:struct|enum) (\w+)")
 NAME = re.compile(r"'?[A-Za-z_][\w:]*")
 
 # Of `file`, its lines from `first` to `last`, counted from 1: one function, or one line outside of functions, and then
 # `name` is None. `of` is the name of its impl's type, `trait` that of its trait, and `by` those of the trait's types, without parameters
-# of the impl.
+# of the impl. Of a function of a trait itself `of` is the trait's name, and `trait` is empty.
 Place = collections.namedtuple("Place", "file first last name of trait by")
 
 
@@ -22,6 +23,8 @@ class Source:
             head = HEAD_OF_FUNCTION.match(line)
             if re.match(r"impl\b", line):
                 of, trait, by = parts_of_impl(self.head(at))
+            elif HEAD_OF_TRAIT.match(line):
+                of, trait, by = HEAD_OF_TRAIT.match(line)[1], "", ""
             elif line == "}":
                 of = trait = by = None
             if head:
