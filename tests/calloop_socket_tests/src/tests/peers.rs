@@ -145,14 +145,14 @@ impl<R: Net + Wait + Drop + Abort> Scene<R> for APeerThatClosesByHalfIsAnEnd {
 }
 
 #[test]
-fn a_peer_that_resets_is_an_error_that_keeps_the_rest(rt: HostRuntime) {
-    plays(&rt, rt.alloc(), APeerThatResetsIsAnErrorThatKeepsTheRest);
+fn a_peer_that_resets_is_an_error_and_then_an_end(rt: HostRuntime) {
+    plays(&rt, rt.alloc(), APeerThatResetsIsAnErrorAndThenAnEnd);
 }
 
 #[derive(Drop)]
-struct APeerThatResetsIsAnErrorThatKeepsTheRest;
+struct APeerThatResetsIsAnErrorAndThenAnEnd;
 
-impl<R: Net + Wait + Drop + Abort> Scene<R> for APeerThatResetsIsAnErrorThatKeepsTheRest {
+impl<R: Net + Wait + Drop + Abort> Scene<R> for APeerThatResetsIsAnErrorAndThenAnEnd {
     fn play<S: Square<R> + Drop>(self, rt: &R, alloc: Global) {
         let mut square = S::new(rt, alloc);
         let (mut near, far) = connected(rt);
@@ -161,12 +161,15 @@ impl<R: Net + Wait + Drop + Abort> Scene<R> for APeerThatResetsIsAnErrorThatKeep
         let (_, mut other) = square.stream(Mode::Level);
         assert!(rt; other.write_all(&[5]).is_ok());
         drop(far);
-        let (answer, said) = square.dispatch(Duration::from_millis(10));
+        let (answer, mut said) = square.dispatch(Duration::from_millis(10));
         assert!(rt; matches!(answer, Err(Error::OtherError(_))));
-        let (rest, later) = square.dispatch(Duration::ZERO);
-        assert!(rt; rest.is_ok());
-        assert!(rt; said.len().saturating_add(later.len()) == 1);
-        assert!(rt; square.takes_out(token).is_some());
+        for _ in 0..2u32 {
+            let (rest, later) = square.dispatch(Duration::ZERO);
+            assert!(rt; rest.is_ok() && said.extend_from_slice(&later).is_ok());
+        }
+        said.sort_unstable();
+        assert_eq!(rt; said.as_slice(), [5, END].as_slice());
+        assert!(rt; square.takes_out(token).is_none());
     }
 }
 
