@@ -38,8 +38,8 @@ pub use sockets::MioIo;
 const OWN_KEY: Token = Token(usize::MAX);
 
 /// Waits on the sockets of the machine by epoll. Its clock is the one that it was given. A socket is told of when it becomes ready, and
-/// again by `modify`; after `add_level` and `modify_level` in each wait as long as it is ready. One under the key 2^64 - 1 is never told of: that is its
-/// own waker's.
+/// again by `modify`; after `add_level` and `modify_level` in each wait as long as it is ready. One under the key 2^64 - 1 is never told of:
+/// that is its own waker's.
 ///
 /// While an event of an earlier wait is left, a wait finds none: so what stays ready isn't told twice.
 ///
@@ -135,7 +135,8 @@ impl<C> MioPoller<C> {
 }
 
 impl<C: Clock> MioPoller<C> {
-    // Waits for what the machine finds, for a portion of the time where that isn't over then; not where so many events of earlier waits are left.
+    // Waits for what the machine finds, for a portion of the time where that isn't over then; not at all where events of earlier waits are
+    // left.
     fn find(&mut self, timeout: Option<Duration>, left: usize) -> io::Result<()>
         ensures events { OnErr result (items self.new.found.events ≡ []) }
         ensures failed { failure_of result ≡ self.new.found.failed }
