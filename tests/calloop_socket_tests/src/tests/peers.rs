@@ -159,8 +159,8 @@ impl<R: Net + Wait + Drop + Abort> Scene<R> for APeerThatResetsIsAnErrorAndThenA
         assert!(rt; near.write_all(&[1]).is_ok());
         let token = square.insert(MioIo::from(near), Interest::READ, Mode::Level);
         let (_, mut other) = square.stream(Mode::Level);
-        assert!(rt; other.write_all(&[5]).is_ok());
         drop(far);
+        assert!(rt; other.write_all(&[5]).is_ok());
         let (answer, mut said) = square.dispatch(Duration::from_millis(10));
         assert!(rt; matches!(answer, Err(Error::OtherError(_))));
         for _ in 0..2u32 {
