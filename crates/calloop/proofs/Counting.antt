@@ -1,47 +1,47 @@
 -- Counting armings in their places.
 use Rattle.std.proofs.Common.{◌≡◌, ℕ, ◌+◌, ◌<◌, ◌≤◌, List, [], ◌∷◌, ◌++◌, map, filter, not, refl, ap, arith, Some, Bool, true, false, ◌&&◌, if◌then◌else◌, nat_eq, nat_lt, nat_le}
 use Rattle.std.proofs.lemmas.Bool.Decides.{nat_tests}
-use Rattle.calloop_wake.specs.Deadlines.{is_before, is_due, is_other, inserted, without_counter, has_counter, due, not_due}
+use Rattle.calloop_wake.specs.Deadlines.{is_before, is_due, is_other, after_insert, without_counter, has_counter, due, not_due}
 use Rattle.calloop_core.specs.declared.sys.poll.Pending.{Pending}
 use Rattle.calloop_core.specs.Polls.{timer_event, timer_events, tail_of}
 use Rattle.calloop.specs.Ledgers.{Arming, NumberedEntry, Origin, Elsewhere, Due, Waiting, TimerCall, latest, armed_among, entry_in, number_of, arming_of, is_under_other, is_under, from_elsewhere, from_deadline, due_in, not_due_in, heads_of}
-use Rattle.calloop.specs.Laws.{one, counted, is_armed_as, is_due_as, waits_as, is_number, is_same, is_timely, came_timely, AllOnTime, AllOwnCalls, event_of}
+use Rattle.calloop.specs.Laws.{one, how_many, is_armed_as, is_due_as, waits_as, is_number, is_same, is_timely, came_timely, AllOnTime, AllOwnCalls, event_of}
 
-pub counted-append : {A : Type 0} (p : A → Bool) (xs ys : List A) → counted p (xs ++ ys) ≡ counted p xs + counted p ys
+pub counted-append : {A : Type 0} (p : A → Bool) (xs ys : List A) → how_many p (xs ++ ys) ≡ how_many p xs + how_many p ys
 counted-append p [] ys = omega arith
 counted-append p (x ∷ xs) ys = omega (arith, counted-append p xs ys)
 
-pub counted-filter : {A : Type 0} (p q : A → Bool) (xs : List A) → counted p (filter q xs) ≤ counted p xs
+pub counted-filter : {A : Type 0} (p q : A → Bool) (xs : List A) → how_many p (filter q xs) ≤ how_many p xs
 counted-filter p q [] = omega arith
 counted-filter p q (x ∷ xs) =
-    elim (q x) as (λ b. counted p (if b then x ∷ filter q xs else filter q xs) ≤ one p x + counted p xs) [ true ↦ omega (arith, counted-filter p q xs) | false ↦ omega (arith, counted-filter p q xs) ]
+    elim (q x) as (λ b. how_many p (if b then x ∷ filter q xs else filter q xs) ≤ one p x + how_many p xs) [ true ↦ omega (arith, counted-filter p q xs) | false ↦ omega (arith, counted-filter p q xs) ]
 
-pub counted-armed_among : (p : NumberedEntry → Bool) (a : NumberedEntry) (xs : List NumberedEntry) → counted p (armed_among a xs) ≡ one p a + counted p xs
+pub counted-armed_among : (p : NumberedEntry → Bool) (a : NumberedEntry) (xs : List NumberedEntry) → how_many p (armed_among a xs) ≡ one p a + how_many p xs
 counted-armed_among p a [] = refl
 counted-armed_among p a (x ∷ xs) =
-    elim (is_before x.entry a.entry) as (λ b. counted p (if b then x ∷ armed_among a xs else a ∷ x ∷ xs) ≡ one p a + (one p x + counted p xs)) [ true ↦ omega (arith, counted-armed_among p a xs) | false ↦ refl ]
+    elim (is_before x.entry a.entry) as (λ b. how_many p (if b then x ∷ armed_among a xs else a ∷ x ∷ xs) ≡ one p a + (one p x + how_many p xs)) [ true ↦ omega (arith, counted-armed_among p a xs) | false ↦ refl ]
 
-pub counted-split : (p : NumberedEntry → Bool) (counter : ℕ) (xs : List NumberedEntry) → counted p (filter (is_under_other counter) xs) + counted p (filter (is_under counter) xs) ≡ counted p xs
+pub counted-split : (p : NumberedEntry → Bool) (counter : ℕ) (xs : List NumberedEntry) → how_many p (filter (is_under_other counter) xs) + how_many p (filter (is_under counter) xs) ≡ how_many p xs
 counted-split p counter [] = refl
 counted-split p counter (x ∷ xs) =
-    elim (nat_eq x.entry.counter counter) as (λ b. counted p (if not b then x ∷ filter (is_under_other counter) xs else filter (is_under_other counter) xs) + counted p (if b then x ∷ filter (is_under counter) xs else filter (is_under counter) xs) ≡ one p x + counted p xs)
+    elim (nat_eq x.entry.counter counter) as (λ b. how_many p (if not b then x ∷ filter (is_under_other counter) xs else filter (is_under_other counter) xs) + how_many p (if b then x ∷ filter (is_under counter) xs else filter (is_under counter) xs) ≡ one p x + how_many p xs)
     [ true ↦ omega (arith, counted-split p counter xs) | false ↦ omega (arith, counted-split p counter xs) ]
 
-pub counted-number_of : (n : ℕ) (xs : List NumberedEntry) → counted (is_number n) (map number_of xs) ≡ counted (is_armed_as n) xs
+pub counted-number_of : (n : ℕ) (xs : List NumberedEntry) → how_many (is_number n) (map number_of xs) ≡ how_many (is_armed_as n) xs
 counted-number_of n [] = refl
 counted-number_of n (x ∷ xs) = ap (λ k. one (is_armed_as n) x + k) (counted-number_of n xs)
 
-pub counted-due : (n now : ℕ) (xs : List NumberedEntry) → counted (waits_as n) (map (from_deadline now) (due_in now xs)) + counted (is_armed_as n) (not_due_in now xs) ≡ counted (is_armed_as n) xs
+pub counted-due : (n now : ℕ) (xs : List NumberedEntry) → how_many (waits_as n) (map (from_deadline now) (due_in now xs)) + how_many (is_armed_as n) (not_due_in now xs) ≡ how_many (is_armed_as n) xs
 counted-due n now [] = refl
 counted-due n now (x ∷ xs) =
-    elim (is_due now x.entry) as (λ b. counted (waits_as n) (map (from_deadline now) (if b then x ∷ due_in now xs else [])) + counted (is_armed_as n) (if b then not_due_in now xs else x ∷ xs) ≡ one (is_armed_as n) x + counted (is_armed_as n) xs)
+    elim (is_due now x.entry) as (λ b. how_many (waits_as n) (map (from_deadline now) (if b then x ∷ due_in now xs else [])) + how_many (is_armed_as n) (if b then not_due_in now xs else x ∷ xs) ≡ one (is_armed_as n) x + how_many (is_armed_as n) xs)
     [ true ↦ omega (arith, counted-due n now xs) | false ↦ omega arith ]
 
-pub counted-elsewhere : (n : ℕ) (es : List Pending) → counted (waits_as n) (map from_elsewhere es) ≡ 0
+pub counted-elsewhere : (n : ℕ) (es : List Pending) → how_many (waits_as n) (map from_elsewhere es) ≡ 0
 counted-elsewhere n [] = refl
 counted-elsewhere n (e ∷ es) = omega (arith, counted-elsewhere n es)
 
-pub counted-cut : {A : Type 0} (p : A → Bool) (xs ys : List A) → counted p (tail_of xs) + counted p (ys ++ heads_of xs) ≡ counted p xs + counted p ys
+pub counted-cut : {A : Type 0} (p : A → Bool) (xs ys : List A) → how_many p (tail_of xs) + how_many p (ys ++ heads_of xs) ≡ how_many p xs + how_many p ys
 counted-cut p [] ys = omega (arith, counted-append p ys [])
 counted-cut p (x ∷ xs) ys = omega (arith, counted-append p ys (x ∷ []))
 
@@ -83,10 +83,10 @@ own_more f g (c ∷ cs) more h = let m = more h.0.0 in ((h.0.0, h.0.1, h.0.2, om
 
 -- the ledger's lists and what they stand for
 
-pub entries-armed_among : (a : NumberedEntry) (xs : List NumberedEntry) → map entry_in (armed_among a xs) ≡ inserted a.entry (map entry_in xs)
+pub entries-armed_among : (a : NumberedEntry) (xs : List NumberedEntry) → map entry_in (armed_among a xs) ≡ after_insert a.entry (map entry_in xs)
 entries-armed_among a [] = refl
 entries-armed_among a (x ∷ xs) =
-    elim (is_before x.entry a.entry) as (λ b. map entry_in (if b then x ∷ armed_among a xs else a ∷ x ∷ xs) ≡ (if b then x.entry ∷ inserted a.entry (map entry_in xs) else a.entry ∷ x.entry ∷ map entry_in xs))
+    elim (is_before x.entry a.entry) as (λ b. map entry_in (if b then x ∷ armed_among a xs else a ∷ x ∷ xs) ≡ (if b then x.entry ∷ after_insert a.entry (map entry_in xs) else a.entry ∷ x.entry ∷ map entry_in xs))
     [ true ↦ ap (λ l. x.entry ∷ l) (entries-armed_among a xs) | false ↦ refl ]
 
 pub entries-filter : (counter : ℕ) (xs : List NumberedEntry) → map entry_in (filter (is_under_other counter) xs) ≡ without_counter counter (map entry_in xs)
@@ -126,16 +126,16 @@ eq_swap : (m n : ℕ) → nat_eq m n ≡ false → nat_eq n m ≡ false
 eq_swap m n e = grind (arith, nat_tests)
 
 -- those of another counter are left
-pub kept-by : (counter : ℕ) (a : Arming) (xs : List NumberedEntry) → nat_eq counter a.counter ≡ false → counted (is_armed_by a) (filter (is_under_other counter) xs) ≡ counted (is_armed_by a) xs
+pub kept-by : (counter : ℕ) (a : Arming) (xs : List NumberedEntry) → nat_eq counter a.counter ≡ false → how_many (is_armed_by a) (filter (is_under_other counter) xs) ≡ how_many (is_armed_by a) xs
 kept-by counter a [] differs = refl
 kept-by counter a (x ∷ xs) differs =
-    elim (nat_eq x.entry.counter counter) as (λ b. nat_eq x.entry.counter counter ≡ b → counted (is_armed_by a) (if not b then x ∷ filter (is_under_other counter) xs else filter (is_under_other counter) xs) ≡ counted (is_armed_by a) (x ∷ xs)) [
+    elim (nat_eq x.entry.counter counter) as (λ b. nat_eq x.entry.counter counter ≡ b → how_many (is_armed_by a) (if not b then x ∷ filter (is_under_other counter) xs else filter (is_under_other counter) xs) ≡ how_many (is_armed_by a) (x ∷ xs)) [
       | true ↦ λ yes. (let un : nat_eq a.counter x.entry.counter ≡ false = grind (arith, nat_tests) in rw un (omega (arith, kept-by counter a xs differs)))
       | false ↦ λ _. ap (λ k. one (is_armed_by a) x + k) (kept-by counter a xs differs)
     ] refl
 
 -- where no entry stands under its counter
-pub unarmed : (a : Arming) (xs : List NumberedEntry) → has_counter a.counter (map entry_in xs) ≡ false → counted (is_armed_by a) xs ≡ 0
+pub unarmed : (a : Arming) (xs : List NumberedEntry) → has_counter a.counter (map entry_in xs) ≡ false → how_many (is_armed_by a) xs ≡ 0
 unarmed a [] h = refl
 unarmed a (x ∷ xs) h =
     let no : nat_eq x.entry.counter a.counter ≡ false = grind (arith, nat_tests) in
@@ -157,13 +157,13 @@ timely_due a x now due =
       | false ↦ λ _. omega arith
     ] refl
 
-pub gathered-by : (a : Arming) (now : ℕ) (xs : List NumberedEntry) → counted (is_armed_by a) xs ≤ counted (is_armed_by a) (not_due_in now xs) + counted (came_timely a) (map (from_deadline now) (due_in now xs))
+pub gathered-by : (a : Arming) (now : ℕ) (xs : List NumberedEntry) → how_many (is_armed_by a) xs ≤ how_many (is_armed_by a) (not_due_in now xs) + how_many (came_timely a) (map (from_deadline now) (due_in now xs))
 gathered-by a now [] = omega arith
 gathered-by a now (x ∷ xs) =
-    elim (is_due now x.entry) as (λ b. is_due now x.entry ≡ b → one (is_armed_by a) x + counted (is_armed_by a) xs ≤ counted (is_armed_by a) (if b then not_due_in now xs else x ∷ xs) + counted (came_timely a) (map (from_deadline now) (if b then x ∷ due_in now xs else [])))
+    elim (is_due now x.entry) as (λ b. is_due now x.entry ≡ b → one (is_armed_by a) x + how_many (is_armed_by a) xs ≤ how_many (is_armed_by a) (if b then not_due_in now xs else x ∷ xs) + how_many (came_timely a) (map (from_deadline now) (if b then x ∷ due_in now xs else [])))
     [ true ↦ λ due. omega (arith, gathered-by a now xs, timely_due a x now due) | false ↦ λ _. omega arith ] refl
 
-pub timely-elsewhere : (a : Arming) (es : List Pending) → counted (came_timely a) (map from_elsewhere es) ≡ 0
+pub timely-elsewhere : (a : Arming) (es : List Pending) → how_many (came_timely a) (map from_elsewhere es) ≡ 0
 timely-elsewhere a [] = refl
 timely-elsewhere a (e ∷ es) = omega (arith, timely-elsewhere a es)
 
@@ -188,7 +188,7 @@ waits_timely a (Due b gathered) =
     omega (arith, first_of_two (is_same a b) (nat_le a.deadline.nanos gathered), second_of (nat_eq a.counter b.counter) (nat_eq a.number b.number) (nat_eq a.deadline.nanos b.deadline.nanos), ap {B = ℕ} (λ c. if c then 1 else 0) (turned_round a.number b.number))
 
 -- what came from an arming in time came from it
-pub timely-least : (a : Arming) (xs : List Waiting) → counted (came_timely a) xs ≤ counted (waits_as a.number) xs
+pub timely-least : (a : Arming) (xs : List Waiting) → how_many (came_timely a) xs ≤ how_many (waits_as a.number) xs
 timely-least a [] = omega arith
 timely-least a (x ∷ xs) = omega (arith, waits_timely a x.origin, timely-least a xs)
 

@@ -1,7 +1,7 @@
 -- Where the answer under a ticket stands.
 use Rattle.std.proofs.Common.{◌≡◌, ℕ, zero, suc, ◌<◌, ◌+◌, ◌⊎◌, inl, inr, length, get_or, true, false, if◌then◌else◌, nat_eq, List, [], ◌∷◌, Some, None, slice_get, refl, ap, sym, ◌∙◌, arith}
 use Rattle.calloop.specs.declared.loop_logic.asks.Answered.{Answered}
-use Rattle.calloop.specs.Askings.{found, without, StandsAt}
+use Rattle.calloop.specs.Askings.{answer_under, without, StandsAt}
 
 -- none of those before this place has the ticket
 abbrev pub NoneBefore : {D : Type 0} → (ticket place : ℕ) → List (Answered D) → Type 0
@@ -12,18 +12,18 @@ stands_at ticket place a [] is hit before = let e = is in cc
 stands_at {D} ticket zero a (x ∷ xs) is hit before =
     let same : x ≡ a = cc in
     let here : nat_eq x.ticket ticket ≡ true = ap (λ (y : Answered D). nat_eq y.ticket ticket) same ∙ hit in
-    (a, is, sym (ap (λ b. if b then xs else x ∷ without ticket xs) here), ap (λ b. if b then Some x.answer else found ticket xs) here ∙ ap (λ (y : Answered D). Some y.answer) same)
+    (a, is, sym (ap (λ b. if b then xs else x ∷ without ticket xs) here), ap (λ b. if b then Some x.answer else answer_under ticket xs) here ∙ ap (λ (y : Answered D). Some y.answer) same)
 stands_at {D} ticket (suc place) a (x ∷ xs) is hit before =
     let other : nat_eq x.ticket ticket ≡ false = before 0 x (omega arith) refl in
     let rest = stands_at ticket place a xs is hit (λ k b less at. before (suc k) b (omega (arith, less)) at) in
-    (rest.0, rest.1, ap (λ l. x ∷ l) rest.2 ∙ sym (ap (λ b. if b then xs else x ∷ without ticket xs) other), ap (λ b. if b then Some x.answer else found ticket xs) other ∙ rest.3)
+    (rest.0, rest.1, ap (λ l. x ∷ l) rest.2 ∙ sym (ap (λ b. if b then xs else x ∷ without ticket xs) other), ap (λ b. if b then Some x.answer else answer_under ticket xs) other ∙ rest.3)
 
-pub stands_nowhere : {D : Type 0} (ticket : ℕ) (answers : List (Answered D)) → ((k : ℕ) (a : Answered D) → slice_get answers k ≡ Some a → nat_eq a.ticket ticket ≡ false) → (found ticket answers ≡ None) × (without ticket answers ≡ answers)
+pub stands_nowhere : {D : Type 0} (ticket : ℕ) (answers : List (Answered D)) → ((k : ℕ) (a : Answered D) → slice_get answers k ≡ Some a → nat_eq a.ticket ticket ≡ false) → (answer_under ticket answers ≡ None) × (without ticket answers ≡ answers)
 stands_nowhere ticket [] none = (refl, refl)
 stands_nowhere {D} ticket (x ∷ xs) none =
     let other : nat_eq x.ticket ticket ≡ false = none 0 x refl in
     let rest = stands_nowhere ticket xs (λ k a at. none (suc k) a at) in
-    (ap (λ b. if b then Some x.answer else found ticket xs) other ∙ rest.0, ap (λ b. if b then xs else x ∷ without ticket xs) other ∙ ap (λ l. x ∷ l) rest.1)
+    (ap (λ b. if b then Some x.answer else answer_under ticket xs) other ∙ rest.0, ap (λ b. if b then xs else x ∷ without ticket xs) other ∙ ap (λ l. x ∷ l) rest.1)
 
 pub within : {A : Type 0} (k : ℕ) (a : A) (as' : List A) → slice_get as' k ≡ Some a → k < length as'
 within k a [] is = let e = is in cc

@@ -8,7 +8,7 @@ use Rattle.calloop_wake.specs.declared.list.Content.TheVariants.{Vacant, Source,
 use Rattle.calloop_wake.specs.declared.list.Slot.{Slot}
 use Rattle.calloop_wake.specs.declared.token.RegistrationToken.{RegistrationToken}
 use Rattle.calloop_wake.specs.Tokens.{registration_of}
-use Rattle.calloop_wake.specs.Slots.{changed, with_content, named, source_of, is_empty, is_in_turn, after_turn, after_turn as ended}
+use Rattle.calloop_wake.specs.Slots.{with_change, with_content, content_at, source_of, is_empty, is_in_turn, after_turn, after_turn as ended}
 use Rattle.calloop_wake.proofs.Named.{source_is, named_slot, turn_ended, named_changed}
 use Rattle.calloop_core.specs.declared.sys.poll.Pending.{Pending}
 use Rattle.calloop_core.specs.declared.sources.source.PostAction.{PostAction}
@@ -18,22 +18,22 @@ use Rattle.calloop_core.specs.declared.sys.Readiness.{Readiness}
 use Rattle.calloop_core.specs.Pollers.{Outside}
 use Rattle.calloop_core.specs.Waits.{Polled}
 use Rattle.calloop_core.specs.Events.{events_of}
-use Rattle.calloop_core.specs.Polls.{PollView, PollStep, polling, watching, counted, with_pass, cut, cut_from, begun, tail_of, head_of, poll_after, polls_after, TakePass, PutBack, Arm, ArmAgain, Cancel, Call, ReadClock, Socket, Fault, own_event, own_events, joining}
-use Rattle.calloop_core.specs.Deeds.{Turned, Unregistered, Slept, Noticed, Lent, lent}
+use Rattle.calloop_core.specs.Polls.{PollView, PollStep, polling, watching, after_count, with_pass, cut, cut_from, with_turn_of, tail_of, head_of, poll_after, polls_after, TakePass, PutBack, Arm, ArmAgain, Cancel, Call, ReadClock, Socket, Fault, own_event, own_events, joining}
+use Rattle.calloop_core.specs.Deeds.{Turned, Unregistered, Slept, Noticed, Lent, lend}
 use Rattle.calloop_core.specs.Meanings.{Meaning, Does}
 use Rattle.calloop.specs.declared.loop_logic.asks.Answer.TheVariants.{Removed as RemovedAnswer}
 use Rattle.calloop.specs.declared.loop_logic.asks.Asked.{Asked}
 use Rattle.calloop.specs.declared.loop_logic.asks.Idling.{Idling as Waiter}
-use Rattle.calloop.specs.Held.{HeldStep, Unlisted, Pend, Asking, Paid, Cleared, Warned, warned, IdlesTaken, IdleBegun, held_after}
-use Rattle.calloop.specs.Askings.{Asks, AskStep, Write, Take, Runs, Reaches, ask_after, asks_after, of_turn, cleared, idle_begun, running_of}
-use Rattle.calloop.specs.Machine.{taking, View, Change, Put, Polls, Polling, Watching, Counting, Holds, Gathered, Cut, Ended, all_viewed, AllFit, IsFull, Appended, viewed}
+use Rattle.calloop.specs.Held.{HeldStep, Unlisted, Pend, Asking, Paid, Cleared, Warned, with_warning, IdlesTaken, IdleBegun, held_after}
+use Rattle.calloop.specs.Askings.{Asks, AskStep, Write, Take, Runs, Reaches, ask_after, asks_after, of_turn, without_old, idle_begun, running_of}
+use Rattle.calloop.specs.Machine.{taking, View, Change, Put, Polls, Polling, Watching, Counting, Holds, Gathered, Cut, Ended, all_viewed, AllFit, IsFull, Appended, after_change}
 use Rattle.calloop_core.specs.Marking.{AreTaken}
-use Rattle.calloop_wake.specs.Watches.{noted}
+use Rattle.calloop_wake.specs.Watches.{with_note}
 use Rattle.calloop_wake.specs.declared.wake.notes.Note.TheVariants.{Counted, Marked}
-use Rattle.calloop.specs.Rules.{Goes, Steps, Step, Doing, Beginning, Settling, Sleeping, Waiting, Gathering, Noticing, Cutting, Serving, Ending, Returning, Idling, RunningIdles, ServingIdle, Leaving, Outcome, ByOne, left, traced, told_in, SleptAs, SleptBy, NoticedBy, ActedBy, ReturnedTo, emptied, after_turn as after, CutTo, CutFrom, ServedFrom, RunFrom, action_of, DispatchedBy, Did, appends}
+use Rattle.calloop.specs.Rules.{Goes, Steps, Step, Doing, Beginning, Settling, Sleeping, Waiting, Gathering, Noticing, Cutting, Serving, Ending, Returning, Idling, RunningIdles, ServingIdle, Leaving, Outcome, ByOne, unlisting_of, after_changes, told_in, SleptAs, SleptBy, NoticedBy, ActedBy, ReturnedTo, vacate, after_turn as after, CutTo, CutFrom, ServedFrom, RunFrom, action_of, DispatchedBy, Did, appends}
 use Rattle.calloop.specs.Serving.{FirstServed, AllServed}
 
-traced-append : {D I P : Type 0} (v : View D I P) (css dss : List (List (Change D I P))) → traced v (css ++ dss) ≡ traced (traced v css) dss
+traced-append : {D I P : Type 0} (v : View D I P) (css dss : List (List (Change D I P))) → after_changes v (css ++ dss) ≡ after_changes (after_changes v css) dss
 traced-append v [] dss = refl
 traced-append v (cs ∷ css) dss = traced-append (all_viewed v cs) css dss
 
@@ -61,9 +61,9 @@ pub batch-stepped : {P : Type 0} (v : PollView P) (steps : List (PollStep P)) �
 batch-stepped v [] = refl
 batch-stepped v (s ∷ ss) = batch-stepped (poll_after v s) ss ∙ batch-after v s
 
-length-begun : {P : Type 0} (e : Pending) (v : PollView P) (rest : List Pending) → v.batch ≡ e ∷ rest → length (begun e v).batch + 1 ≡ length (e ∷ rest)
+length-begun : {P : Type 0} (e : Pending) (v : PollView P) (rest : List Pending) → v.batch ≡ e ∷ rest → length (with_turn_of e v).batch + 1 ≡ length (e ∷ rest)
 length-begun {P} e v rest is =
-    let left : (begun e v).batch ≡ tail_of v.batch = elim e.posted as (λ b. (if b then record (with_pass (head_of v.passes) v) { batch = tail_of v.batch; passes = tail_of v.passes } else record (with_pass None v) { batch = tail_of v.batch }).batch ≡ tail_of v.batch) [ true ↦ refl | false ↦ refl ] in
+    let left : (with_turn_of e v).batch ≡ tail_of v.batch = elim e.posted as (λ b. (if b then record (with_pass (head_of v.passes) v) { batch = tail_of v.batch; passes = tail_of v.passes } else record (with_pass None v) { batch = tail_of v.batch }).batch ≡ tail_of v.batch) [ true ↦ refl | false ↦ refl ] in
     omega (arith, ap length left, ap (λ es. length (tail_of es)) is)
 
 pub length-cut : {P : Type 0} (v : PollView P) (e : Pending) → Some e ≡ head_of v.batch → length (cut v).batch + 1 ≡ length v.batch
@@ -96,11 +96,11 @@ not_in_turn true d e h = cc
 not_in_turn false d e h = (refl, cc)
 
 -- what a token names is full
-pub full_named : {D : Type 0} (slots : List (Slot D)) (token : RegistrationToken) → is_empty (named slots token) ≡ false → IsFull slots token.slot
+pub full_named : {D : Type 0} (slots : List (Slot D)) (token : RegistrationToken) → is_empty (content_at slots token) ≡ false → IsFull slots token.slot
 full_named slots token e = let s = named_slot slots token e in (s.0, s.1, sym (ap is_empty s.3) ∙ e)
 
 module _ {D I P X : Type 0} (M : Meaning D P (Lent X (Asks D I))) (runs : Runs D I X) (O : Outside P) where
-  steps-append : (v : View D I P) (a b c : Doing D X) (css dss : List (List (Change D I P))) → Steps M runs O v a css b → Steps M runs O (traced v css) b dss c → Steps M runs O v a (css ++ dss) c
+  steps-append : (v : View D I P) (a b c : Doing D X) (css dss : List (List (Change D I P))) → Steps M runs O v a css b → Steps M runs O (after_changes v css) b dss c → Steps M runs O v a (css ++ dss) c
   steps-append v a b c [] dss h k = rw (← h) k
   steps-append v a b c (cs ∷ css) dss h k = (h.0, h.1, h.2, steps-append (all_viewed v cs) h.0 b c css dss h.3 k)
 
@@ -109,7 +109,7 @@ module _ {D I P X : Type 0} (M : Meaning D P (Lent X (Asks D I))) (runs : Runs D
   goes_on a b c v u t h k = (
     h.0 ++ k.0,
     steps-append v a b c h.0 k.0 h.1 (subst (λ (x : View D I P). Steps M runs O x b k.0 c) h.2 k.1),
-    k.2 ∙ ap (λ (x : View D I P). traced x k.0) h.2 ∙ sym (traced-append v h.0 k.0),
+    k.2 ∙ ap (λ (x : View D I P). after_changes x k.0) h.2 ∙ sym (traced-append v h.0 k.0),
   )
 
   -- to what is the same
@@ -142,21 +142,21 @@ module _ {D I P X : Type 0} (M : Meaning D P (Lent X (Asks D I))) (runs : Runs D
 
   -- room for the batch
   abbrev pub ready : (places : ℕ) → View D I P → View D I P
-  ready places v = record v { poll = counted places v.poll; held = held_after v.held Cleared }
+  ready places v = record v { poll = after_count places v.poll; held = held_after v.held Cleared }
 
   pub begun_with : (v : View D I P) (places : ℕ) (marked taken : List RegistrationToken) → AreTaken taken marked → (timeout : Option ℕ) (x : X) → Goes M runs O (Beginning timeout x) (Settling timeout marked x) v (taking taken (ready places v))
-  begun_with v places marked taken are timeout x = goes_by (Beginning timeout x) (Settling timeout marked x) (Counting places ∷ Holds Cleared ∷ Watching (noted (Marked taken) (noted (Counted places) v.poll.watch)) ∷ []) v (taking taken (ready places v)) (places, marked, taken, are, refl, refl) (tt, (tt, (tt, tt))) refl
+  begun_with v places marked taken are timeout x = goes_by (Beginning timeout x) (Settling timeout marked x) (Counting places ∷ Holds Cleared ∷ Watching (with_note (Marked taken) (with_note (Counted places) v.poll.watch)) ∷ []) v (taking taken (ready places v)) (places, marked, taken, are, refl, refl) (tt, (tt, (tt, tt))) refl
 
   -- and what follows
-  pub begun_then : (v u : View D I P) (places : ℕ) (p' : PollView P) (asked : Asks D I) (es : List Error) (marked taken : List RegistrationToken) (are : AreTaken taken marked) (timeout : Option ℕ) (x : X) (b : Doing D X) → p' ≡ counted places v.poll → asked ≡ cleared v.held.asks → es ≡ []
+  pub begun_then : (v u : View D I P) (places : ℕ) (p' : PollView P) (asked : Asks D I) (es : List Error) (marked taken : List RegistrationToken) (are : AreTaken taken marked) (timeout : Option ℕ) (x : X) (b : Doing D X) → p' ≡ after_count places v.poll → asked ≡ without_old v.held.asks → es ≡ []
       → Goes M runs O (Settling timeout marked x) b (taking taken (record v { poll = p'; held = record v.held { asks = asked; warnings = es } })) u → Goes M runs O (Beginning timeout x) b v u
   begun_then v u places p' asked es marked taken are timeout x b polls asks none h =
       let a : Doing D X = Settling timeout marked x in
       let now : View D I P = taking taken (record v { poll = p'; held = record v.held { asks = asked; warnings = es } }) in
       goes_on (Beginning timeout x) a b v now u
       (goes_to (Beginning timeout x) a v (taking taken (ready places v)) now
-      (ap (λ (q : PollView P). taking taken (record v { poll = q; held = record v.held { asks = asked; warnings = es } })) polls ∙ ap (λ (r : Asks D I). taking taken (record v { poll = counted places v.poll; held = record v.held { asks = r; warnings = es } })) asks
-      ∙ ap (λ (l : List Error). taking taken (record v { poll = counted places v.poll; held = record v.held { asks = cleared v.held.asks; warnings = l } })) none) (begun_with v places marked taken are timeout x)) h
+      (ap (λ (q : PollView P). taking taken (record v { poll = q; held = record v.held { asks = asked; warnings = es } })) polls ∙ ap (λ (r : Asks D I). taking taken (record v { poll = after_count places v.poll; held = record v.held { asks = r; warnings = es } })) asks
+      ∙ ap (λ (l : List Error). taking taken (record v { poll = after_count places v.poll; held = record v.held { asks = without_old v.held.asks; warnings = l } })) none) (begun_with v places marked taken are timeout x)) h
 
   -- the wait and the gathering
   pub polled : (v : View D I P) (p' : PollView P) (timeout : Option ℕ) (x : X) → Polled O timeout (Ok tt) v.poll p' → Goes M runs O (Waiting timeout x) (Noticing (length v.poll.batch) v.held.lifecycle x) v (record v { poll = p' })
@@ -183,7 +183,7 @@ module _ {D I P X : Type 0} (M : Meaning D P (Lent X (Asks D I))) (runs : Runs D
       let nil : v.poll.batch ≡ [] = nil_of_head v.poll.batch none in
       goes_by (Cutting x) (Idling x) [] v (record v { poll = cut v.poll }) (rw nil (refl, refl)) tt (ap (λ es. record v { poll = cut_from es v.poll }) nil)
 
-  from_cons : (es rest : List Pending) (e : Pending) (v : View D I P) (x : X) (cs : List (Change D I P)) (b : Doing D X) → es ≡ e ∷ rest → CutTo M e (named v.slots (registration_of e.token)) v x cs b → CutFrom M es v x cs b
+  from_cons : (es rest : List Pending) (e : Pending) (v : View D I P) (x : X) (cs : List (Change D I P)) (b : Doing D X) → es ≡ e ∷ rest → CutTo M e (content_at v.slots (registration_of e.token)) v x cs b → CutFrom M es v x cs b
   from_cons es rest e v x cs b is h = rw is h
 
   none_named : (e : Pending) (v : View D I P) (x : X) (c : Content D) → None ≡ source_of c → CutTo M e c v x (Cut None ∷ Ended ∷ []) (Cutting x)
@@ -192,43 +192,43 @@ module _ {D I P X : Type 0} (M : Meaning D P (Lent X (Asks D I))) (runs : Runs D
   none_named e v x (Source d) h = cc
 
   -- an event whose token names no source
-  pub cut_none : (e : Pending) (v : View D I P) (x : X) → Some e ≡ head_of v.poll.batch → None ≡ source_of (named v.slots (registration_of e.token))
+  pub cut_none : (e : Pending) (v : View D I P) (x : X) → Some e ≡ head_of v.poll.batch → None ≡ source_of (content_at v.slots (registration_of e.token))
       → Goes M runs O (Cutting x) (Cutting x) v (record v { poll = with_pass None (cut v.poll) })
   cut_none e v x first none =
       let f = cons_of_head v.poll.batch e first in
       goes_by (Cutting x) (Cutting x) (Cut None ∷ Ended ∷ []) v (record v { poll = with_pass None (cut v.poll) })
-      (from_cons v.poll.batch f.0 e v x (Cut None ∷ Ended ∷ []) (Cutting x) f.1 (none_named e v x (named v.slots (registration_of e.token)) none)) (tt, (tt, tt)) refl
+      (from_cons v.poll.batch f.0 e v x (Cut None ∷ Ended ∷ []) (Cutting x) f.1 (none_named e v x (content_at v.slots (registration_of e.token)) none)) (tt, (tt, tt)) refl
 
   -- an event whose token names a source has its turn
-  pub turned : (e : Pending) (v : View D I P) (d d' : D) (answer : Result PostAction Error) (q p' : PollView P) (x x' : X) (given asked back : Asks D I) → Some e ≡ head_of v.poll.batch → Some d ≡ source_of (named v.slots (registration_of e.token)) → q ≡ cut v.poll
+  pub turned : (e : Pending) (v : View D I P) (d d' : D) (answer : Result PostAction Error) (q p' : PollView P) (x x' : X) (given asked back : Asks D I) → Some e ≡ head_of v.poll.batch → Some d ≡ source_of (content_at v.slots (registration_of e.token)) → q ≡ cut v.poll
       → given ≡ of_turn (registration_of e.token) v.held.asks → back ≡ record asked { turn = v.held.asks.turn }
-      → Does O M d q (Turned e.readiness e.token (lent x given answer x' asked)) d' p' → Reaches given asked
-      → Goes M runs O (Cutting x) (Serving (registration_of e.token) d' answer x') v (record v { slots = changed (with_content InTurn) v.slots e.token.slot; poll = with_pass None p'; held = record v.held { asks = back } })
+      → Does O M d q (Turned e.readiness e.token (lend x given answer x' asked)) d' p' → Reaches given asked
+      → Goes M runs O (Cutting x) (Serving (registration_of e.token) d' answer x') v (record v { slots = with_change (with_content InTurn) v.slots e.token.slot; poll = with_pass None p'; held = record v.held { asks = back } })
   turned e v d d' answer q p' x x' given asked back first named_as is begun ended u asks =
       let f = cons_of_head v.poll.batch e first in
       let token = registration_of e.token in
-      let full = source_is (named v.slots token) d (sym named_as) in
-      let t = subst (λ (r : PollView P). Does O M d r (Turned e.readiness e.token (lent x given answer x' asked)) d' p') is u in
+      let full = source_is (content_at v.slots token) d (sym named_as) in
+      let t = subst (λ (r : PollView P). Does O M d r (Turned e.readiness e.token (lend x given answer x' asked)) d' p') is u in
       let a : Doing D X = Serving token d' answer x' in
       let became : asked ≡ of_turn token (asks_after v.held.asks asks.steps) = asks.is ∙ ap (λ (r : Asks D I). asks_after r asks.steps) begun ∙ turn_passes token v.held.asks asks.steps in
       let kept : back ≡ asks_after v.held.asks asks.steps = ended ∙ ap (λ (r : Asks D I). record r { turn = v.held.asks.turn }) became ∙ turn_kept v.held.asks asks.steps in
       let cs : List (Change D I P) = Cut (Some e.token.slot) ∷ Put e.token.slot InTurn ∷ Polls t.0 ∷ Ended ∷ Holds (Asking asks.steps) ∷ [] in
-      let does = subst (λ (r : Asks D I). M.does d (cut v.poll) (Turned e.readiness e.token (lent x r answer x' (of_turn token (asks_after v.held.asks asks.steps)))) t.0 d') begun
-      (subst (λ (r : Asks D I). M.does d (cut v.poll) (Turned e.readiness e.token (lent x given answer x' r)) t.0 d') became t.1) in
-      goes_by (Cutting x) a cs v (record v { slots = changed (with_content InTurn) v.slots e.token.slot; poll = with_pass None p'; held = record v.held { asks = back } })
+      let does = subst (λ (r : Asks D I). M.does d (cut v.poll) (Turned e.readiness e.token (lend x r answer x' (of_turn token (asks_after v.held.asks asks.steps)))) t.0 d') begun
+      (subst (λ (r : Asks D I). M.does d (cut v.poll) (Turned e.readiness e.token (lend x given answer x' r)) t.0 d') became t.1) in
+      goes_by (Cutting x) a cs v (record v { slots = with_change (with_content InTurn) v.slots e.token.slot; poll = with_pass None p'; held = record v.held { asks = back } })
       (from_cons v.poll.batch f.0 e v x cs a f.1 (rw full (d', answer, t.0, x', asks.steps, does, refl, refl)))
       (tt, (full_named v.slots (registration_of e.token) (ap is_empty full), (t.2.0, (tt, (tt, tt)))))
-      (ap (λ (r : Asks D I). record v { slots = changed (with_content InTurn) v.slots e.token.slot; poll = with_pass None p'; held = record v.held { asks = r } }) kept
-      ∙ ap (λ (r : PollView P). record v { slots = changed (with_content InTurn) v.slots e.token.slot; poll = with_pass None r; held = record v.held { asks = asks_after v.held.asks asks.steps } }) t.2.1)
+      (ap (λ (r : Asks D I). record v { slots = with_change (with_content InTurn) v.slots e.token.slot; poll = with_pass None p'; held = record v.held { asks = r } }) kept
+      ∙ ap (λ (r : PollView P). record v { slots = with_change (with_content InTurn) v.slots e.token.slot; poll = with_pass None r; held = record v.held { asks = asks_after v.held.asks asks.steps } }) t.2.1)
 
   -- what was asked for is carried out
-  pub turn_served : (token : RegistrationToken) (d : D) (answer : Result PostAction Error) (x : X) (css : List (List (Change D I P))) (v u : View D I P) → AllServed M O v css → u ≡ traced v css → Goes M runs O (Serving token d answer x) (Ending token d answer x) v u
+  pub turn_served : (token : RegistrationToken) (d : D) (answer : Result PostAction Error) (x : X) (css : List (List (Change D I P))) (v u : View D I P) → AllServed M O v css → u ≡ after_changes v css → Goes M runs O (Serving token d answer x) (Ending token d answer x) v u
   turn_served token d answer x [] v u h is = goes_by (Serving token d answer x) (Ending token d answer x) [] v u (rw h (refl, refl)) tt is
   turn_served token d answer x (cs ∷ css) v u h is =
       let a : Doing D X = Serving token d answer x in
       goes_on a a (Ending token d answer x) v (all_viewed v cs) u (goes_by a a cs v (all_viewed v cs) (first_from v.held.asks.written a (Ending token d answer x) v cs h.0) h.1 refl) (turn_served token d answer x css (all_viewed v cs) u h.2 is)
 
-  pub idle_served : (x : X) (css : List (List (Change D I P))) (v u : View D I P) → AllServed M O v css → u ≡ traced v css → Goes M runs O (ServingIdle x) (RunningIdles x) v u
+  pub idle_served : (x : X) (css : List (List (Change D I P))) (v u : View D I P) → AllServed M O v css → u ≡ after_changes v css → Goes M runs O (ServingIdle x) (RunningIdles x) v u
   idle_served x [] v u h is = goes_by (ServingIdle x) (RunningIdles x) [] v u (rw h (refl, refl)) tt is
   idle_served x (cs ∷ css) v u h is =
       let a : Doing D X = ServingIdle x in
@@ -254,19 +254,19 @@ module _ {D I P X : Type 0} (M : Meaning D P (Lent X (Asks D I))) (runs : Runs D
   acted token v d answer told x h = goes_by (Ending token d answer x) (Returning token d told x) (Holds (Pend Continue) ∷ []) v (still_v v) (d, told, h, refl) (tt, tt) refl
 
   -- one with steps of the source
-  pub acted_with : (R : D → Outcome → List (PollStep P) → D → Type 0) (noted : D → Outcome → HeldStep D I) (token : RegistrationToken) (v u : View D I P) (d e : D) (answer : Result PostAction Error) (told : Outcome) (x : X)
-      → ((steps : List (PollStep P)) → R d told steps e → ActedBy M token d (action_of answer v.held.pending) v (Holds (Pend Continue) ∷ Polls steps ∷ Holds (noted d told) ∷ []) e told)
-      → ByOne O R noted d told e (still_v v) u
+  pub acted_with : (R : D → Outcome → List (PollStep P) → D → Type 0) (entry : D → Outcome → HeldStep D I) (token : RegistrationToken) (v u : View D I P) (d e : D) (answer : Result PostAction Error) (told : Outcome) (x : X)
+      → ((steps : List (PollStep P)) → R d told steps e → ActedBy M token d (action_of answer v.held.pending) v (Holds (Pend Continue) ∷ Polls steps ∷ Holds (entry d told) ∷ []) e told)
+      → ByOne O R entry d told e (still_v v) u
       → Goes M runs O (Ending token d answer x) (Returning token e told x) v u
-  acted_with R noted token v u d e answer told x by r =
-      goes_by (Ending token d answer x) (Returning token e told x) (Holds (Pend Continue) ∷ Polls r.0 ∷ Holds (noted d told) ∷ []) v u (e, told, by r.0 r.1, refl) (tt, (r.2, (tt, tt))) r.3
+  acted_with R entry token v u d e answer told x by r =
+      goes_by (Ending token d answer x) (Returning token e told x) (Holds (Pend Continue) ∷ Polls r.0 ∷ Holds (entry d told) ∷ []) v u (e, told, by r.0 r.1, refl) (tt, (r.2, (tt, tt))) r.3
 
-  emptied_fit : (token : RegistrationToken) (v : View D I P) (c : Content D) → named v.slots token ≡ c → AllFit O v (emptied token c)
+  emptied_fit : (token : RegistrationToken) (v : View D I P) (c : Content D) → content_at v.slots token ≡ c → AllFit O v (vacate token c)
   emptied_fit token v Vacant is = tt
   emptied_fit token v (Source d) is = tt
   emptied_fit token v InTurn is = (full_named v.slots token (ap is_empty is), tt)
 
-  emptied_view : (token : RegistrationToken) (v : View D I P) (c : Content D) → record v { slots = (if is_in_turn c then changed (with_content Vacant) v.slots token.slot else v.slots) } ≡ all_viewed v (emptied token c)
+  emptied_view : (token : RegistrationToken) (v : View D I P) (c : Content D) → record v { slots = (if is_in_turn c then with_change (with_content Vacant) v.slots token.slot else v.slots) } ≡ all_viewed v (vacate token c)
   emptied_view token v Vacant = refl
   emptied_view token v (Source d) = refl
   emptied_view token v InTurn = refl
@@ -275,8 +275,8 @@ module _ {D I P X : Type 0} (M : Meaning D P (Lent X (Asks D I))) (runs : Runs D
   pub acted_leaving : (token : RegistrationToken) (v : View D I P) (d : D) (answer : Result PostAction Error) (x : X) → action_of answer v.held.pending ≡ Ok Remove
       → Goes M runs O (Ending token d answer x) (Returning token d (Ok tt) x) v (record (still_v v) { slots = after_turn Vacant token v.slots })
   acted_leaving token v d answer x is =
-      goes_by (Ending token d answer x) (Returning token d (Ok tt) x) (Holds (Pend Continue) ∷ emptied token (named v.slots token)) v (record (still_v v) { slots = after_turn Vacant token v.slots }) (d, Ok tt, rw is (refl, refl, refl), refl)
-      (tt, emptied_fit token (still_v v) (named v.slots token) refl) (emptied_view token (still_v v) (named v.slots token))
+      goes_by (Ending token d answer x) (Returning token d (Ok tt) x) (Holds (Pend Continue) ∷ vacate token (content_at v.slots token)) v (record (still_v v) { slots = after_turn Vacant token v.slots }) (d, Ok tt, rw is (refl, refl, refl), refl)
+      (tt, emptied_fit token (still_v v) (content_at v.slots token) refl) (emptied_view token (still_v v) (content_at v.slots token))
 
   turn_is : (c : Content D) → is_in_turn c ≡ true → c ≡ InTurn
   turn_is Vacant e = cc
@@ -284,11 +284,11 @@ module _ {D I P X : Type 0} (M : Meaning D P (Lent X (Asks D I))) (runs : Runs D
   turn_is InTurn e = refl
 
   -- the source goes back to its slot
-  pub returned : (token : RegistrationToken) (v : View D I P) (d : D) (told : Result (Unit {0}) Error) (x : X) → is_in_turn (named v.slots token) ≡ true
-      → Goes M runs O (Returning token d told x) (after told x) v (record v { slots = changed (with_content (Source d)) v.slots token.slot })
+  pub returned : (token : RegistrationToken) (v : View D I P) (d : D) (told : Result (Unit {0}) Error) (x : X) → is_in_turn (content_at v.slots token) ≡ true
+      → Goes M runs O (Returning token d told x) (after told x) v (record v { slots = with_change (with_content (Source d)) v.slots token.slot })
   returned token v d told x here =
-      let is = turn_is (named v.slots token) here in
-      goes_by (Returning token d told x) (after told x) (Put token.slot (Source d) ∷ []) v (record v { slots = changed (with_content (Source d)) v.slots token.slot }) (rw is refl, refl) (full_named v.slots token (ap is_empty is), tt) refl
+      let is = turn_is (content_at v.slots token) here in
+      goes_by (Returning token d told x) (after told x) (Put token.slot (Source d) ∷ []) v (record v { slots = with_change (with_content (Source d)) v.slots token.slot }) (rw is refl, refl) (full_named v.slots token (ap is_empty is), tt) refl
 
   gone_by : (token : RegistrationToken) (v : View D I P) (d e : D) (c : Content D) (answer : Outcome) (kept : Bool) (steps : List (PollStep P)) → is_in_turn c ≡ false → M.does d v.poll (Unregistered answer) steps e
       → ReturnedTo M token d c v (Polls steps ∷ Holds (Unlisted token) ∷ Holds (Warned kept answer) ∷ Holds (Paid (RemovedAnswer (Some e))) ∷ [])
@@ -297,24 +297,24 @@ module _ {D I P X : Type 0} (M : Meaning D P (Lent X (Asks D I))) (runs : Runs D
   gone_by token v d e InTurn answer kept steps none h = cc
 
   -- it left the loop
-  pub gone : (token : RegistrationToken) (v u : View D I P) (d e : D) (told answer : Outcome) (kept : Bool) (es : List Error) (x : X) → is_in_turn (named v.slots token) ≡ false
-      → ByOne O (λ f a steps g. M.does f v.poll (Unregistered a) steps g) (left token) d answer e v u → es ≡ warned kept answer u.held.warnings
+  pub gone : (token : RegistrationToken) (v u : View D I P) (d e : D) (told answer : Outcome) (kept : Bool) (es : List Error) (x : X) → is_in_turn (content_at v.slots token) ≡ false
+      → ByOne O (λ f a steps g. M.does f v.poll (Unregistered a) steps g) (unlisting_of token) d answer e v u → es ≡ with_warning kept answer u.held.warnings
       → Goes M runs O (Returning token d told x) (after told x) v (record u { held = held_after (record u.held { warnings = es }) (Paid (RemovedAnswer (Some e))) })
   gone token v u d e told answer kept es x none r now =
       goes_by (Returning token d told x) (after told x) (Polls r.0 ∷ Holds (Unlisted token) ∷ Holds (Warned kept answer) ∷ Holds (Paid (RemovedAnswer (Some e))) ∷ []) v (record u { held = held_after (record u.held { warnings = es }) (Paid (RemovedAnswer (Some e))) })
-      (gone_by token v d e (named v.slots token) answer kept r.0 none r.1, refl) (r.2, (tt, (tt, (tt, tt))))
+      (gone_by token v d e (content_at v.slots token) answer kept r.0 none r.1, refl) (r.2, (tt, (tt, (tt, tt))))
       (ap (λ (l : List Error). record u { held = held_after (record u.held { warnings = l }) (Paid (RemovedAnswer (Some e))) }) now
       ∙ ap (λ (t : View D I P). record t { held = held_after (held_after t.held (Warned kept answer)) (Paid (RemovedAnswer (Some e))) }) r.3)
 
   -- one that is told of a wait was taken out and put back
   abbrev pub told : RegistrationToken → D → View D I P → View D I P
-  told token e v = record v { slots = ended (Source e) token (changed (with_content InTurn) v.slots token.slot) }
+  told token e v = record v { slots = ended (Source e) token (with_change (with_content InTurn) v.slots token.slot) }
 
-  told_by : (a b : Doing D X) (token : RegistrationToken) (v : View D I P) (d e : D) (joined : List (Change D I P)) → named v.slots token ≡ Source d → Step M runs O v a (told_in token e ++ joined) b
+  told_by : (a b : Doing D X) (token : RegistrationToken) (v : View D I P) (d e : D) (joined : List (Change D I P)) → content_at v.slots token ≡ Source d → Step M runs O v a (told_in token e ++ joined) b
       → ((u : View D I P) → AllFit O u joined) → Goes M runs O a b v (all_viewed (told token e v) joined)
   told_by a b token v d e joined is step fit =
-      let full : is_empty (named v.slots token) ≡ false = ap is_empty is in
-      let out = changed (with_content InTurn) v.slots token.slot in
+      let full : is_empty (content_at v.slots token) ≡ false = ap is_empty is in
+      let out = with_change (with_content InTurn) v.slots token.slot in
       goes_by a b (told_in token e ++ joined) v (all_viewed (told token e v) joined) step
       (full_named v.slots token full, (tt, (full_named out token (ap is_empty (named_changed v.slots token InTurn full)), fit _)))
       (ap (λ (ss : List (Slot D)). all_viewed (record v { slots = ss }) joined) (turn_ended v.slots token (Source e) full))
@@ -324,13 +324,13 @@ module _ {D I P X : Type 0} (M : Meaning D P (Lent X (Asks D I))) (runs : Runs D
   none_slept timeout token later InTurn v x h = (refl, refl)
   none_slept timeout token later (Source d) v x h = cc
 
-  pub not_slept : (timeout : Option ℕ) (token : RegistrationToken) (later : List RegistrationToken) (v : View D I P) (x : X) → None ≡ source_of (named v.slots token)
+  pub not_slept : (timeout : Option ℕ) (token : RegistrationToken) (later : List RegistrationToken) (v : View D I P) (x : X) → None ≡ source_of (content_at v.slots token)
       → Goes M runs O (Sleeping timeout (token ∷ later) x) (Sleeping timeout later x) v v
   not_slept timeout token later v x none =
-      goes_by (Sleeping timeout (token ∷ later) x) (Sleeping timeout later x) [] v v (none_slept timeout token later (named v.slots token) v x none) tt refl
+      goes_by (Sleeping timeout (token ∷ later) x) (Sleeping timeout later x) [] v v (none_slept timeout token later (content_at v.slots token) v x none) tt refl
 
   slept : (timeout : Option ℕ) (token : RegistrationToken) (later : List RegistrationToken) (v : View D I P) (x : X) (d e : D) (given : List (Readiness × Token)) (answer : Result (Unit {0}) Error) (joined : List (Change D I P)) (b : Doing D X)
-      → named v.slots token ≡ Source d → M.does d v.poll (Slept given answer) [] e → SleptAs timeout later given answer x joined b → ((u : View D I P) → AllFit O u joined)
+      → content_at v.slots token ≡ Source d → M.does d v.poll (Slept given answer) [] e → SleptAs timeout later given answer x joined b → ((u : View D I P) → AllFit O u joined)
       → Goes M runs O (Sleeping timeout (token ∷ later) x) b v (all_viewed (told token e v) joined)
   slept timeout token later v x d e given answer joined b is does joins fit =
       told_by (Sleeping timeout (token ∷ later) x) b token v d e joined is (rw is (e, given, answer, joined, does, joins, refl)) fit
@@ -338,23 +338,23 @@ module _ {D I P X : Type 0} (M : Meaning D P (Lent X (Asks D I))) (runs : Runs D
   -- what it asks for joins the batch
   appends_fit : (given : List (Readiness × Token)) (u : View D I P) → AllFit O u (appends given)
   appends_fit [] u = tt
-  appends_fit (e ∷ es) u = (refl, appends_fit es (viewed u (Appended (own_event e))))
+  appends_fit (e ∷ es) u = (refl, appends_fit es (after_change u (Appended (own_event e))))
 
   appends_viewed : (given : List (Readiness × Token)) (u : View D I P) → record u { poll = joining given u.poll } ≡ all_viewed u (appends given)
   appends_viewed [] u = ap (λ (es : List Pending). record u { poll = record u.poll { batch = es } }) (append-nil u.poll.batch)
   appends_viewed (e ∷ es) u =
       ap (λ (all : List Pending). record u { poll = record u.poll { batch = all } }) (sym (append_assoc u.poll.batch (own_event e ∷ []) (own_events es)))
-      ∙ appends_viewed es (viewed u (Appended (own_event e)))
+      ∙ appends_viewed es (after_change u (Appended (own_event e)))
 
   pub slept_well : (timeout : Option ℕ) (token : RegistrationToken) (later : List RegistrationToken) (v : View D I P) (x : X) (d e : D) (given : List (Readiness × Token))
-      → named v.slots token ≡ Source d → M.does d v.poll (Slept given (Ok tt)) [] e
+      → content_at v.slots token ≡ Source d → M.does d v.poll (Slept given (Ok tt)) [] e
       → Goes M runs O (Sleeping timeout (token ∷ later) x) (Sleeping timeout later x) v (record (told token e v) { poll = joining given v.poll })
   slept_well timeout token later v x d e given is does =
       subst (λ (u : View D I P). Goes M runs O (Sleeping timeout (token ∷ later) x) (Sleeping timeout later x) v u) (sym (appends_viewed given (told token e v)))
       (slept timeout token later v x d e given (Ok tt) (appends given) (Sleeping timeout later x) is does (refl, refl) (appends_fit given))
 
   pub slept_badly : (timeout : Option ℕ) (token : RegistrationToken) (later : List RegistrationToken) (v : View D I P) (x : X) (d e : D) (given : List (Readiness × Token)) (error : Error)
-      → named v.slots token ≡ Source d → M.does d v.poll (Slept given (Err error)) [] e
+      → content_at v.slots token ≡ Source d → M.does d v.poll (Slept given (Err error)) [] e
       → Goes M runs O (Sleeping timeout (token ∷ later) x) (Leaving (Err error) x) v (told token e v)
   slept_badly timeout token later v x d e given error is does =
       slept timeout token later v x d e given (Err error) [] (Leaving (Err error) x) is does (refl, refl) (λ u. tt)
@@ -364,12 +364,12 @@ module _ {D I P X : Type 0} (M : Meaning D P (Lent X (Asks D I))) (runs : Runs D
   none_noticed from token later InTurn v x h = (refl, refl)
   none_noticed from token later (Source d) v x h = cc
 
-  pub not_noticed : (from : ℕ) (token : RegistrationToken) (later : List RegistrationToken) (v : View D I P) (x : X) → None ≡ source_of (named v.slots token)
+  pub not_noticed : (from : ℕ) (token : RegistrationToken) (later : List RegistrationToken) (v : View D I P) (x : X) → None ≡ source_of (content_at v.slots token)
       → Goes M runs O (Noticing from (token ∷ later) x) (Noticing from later x) v v
   not_noticed from token later v x none =
-      goes_by (Noticing from (token ∷ later) x) (Noticing from later x) [] v v (none_noticed from token later (named v.slots token) v x none) tt refl
+      goes_by (Noticing from (token ∷ later) x) (Noticing from later x) [] v v (none_noticed from token later (content_at v.slots token) v x none) tt refl
 
-  pub noticed : (from : ℕ) (token : RegistrationToken) (later : List RegistrationToken) (v : View D I P) (x : X) (d e : D) → named v.slots token ≡ Source d → M.does d v.poll (Noticed (events_of token (drop from v.poll.batch))) [] e
+  pub noticed : (from : ℕ) (token : RegistrationToken) (later : List RegistrationToken) (v : View D I P) (x : X) (d e : D) → content_at v.slots token ≡ Source d → M.does d v.poll (Noticed (events_of token (drop from v.poll.batch))) [] e
       → Goes M runs O (Noticing from (token ∷ later) x) (Noticing from later x) v (told token e v)
   noticed from token later v x d e is does =
       told_by (Noticing from (token ∷ later) x) (Noticing from later x) token v d e [] is (rw is (e, does, refl, refl)) (λ u. tt)

@@ -4,7 +4,7 @@ use Rattle.calloop_wake.specs.declared.list.Content.{Content}
 use Rattle.calloop_wake.specs.declared.list.Content.TheVariants.{Vacant, Source, InTurn}
 use Rattle.calloop_wake.specs.declared.list.Slot.{Slot}
 use Rattle.calloop_wake.specs.declared.token.RegistrationToken.{RegistrationToken}
-use Rattle.calloop_wake.specs.Slots.{changed, with_content, named, content_under, is_empty, after_turn}
+use Rattle.calloop_wake.specs.Slots.{with_change, with_content, content_at, content_under, is_empty, after_turn}
 use Rattle.calloop_wake.proofs.Named.{named_slot, turn_ended}
 use Rattle.calloop_core.specs.declared.sources.dispatch.Role.{Role}
 use Rattle.calloop_core.specs.declared.sources.dispatch.Role.TheVariants.{Caller, Adapter, Timeout}
@@ -24,7 +24,7 @@ module _ {D P T : Type 0} (M : Meaning D P T) where
   -- what is put into a slot, with no greater limit than what stood there, raises none
   at_place : (slots : List (Slot D)) (i k version : ℕ) (c : Content D)
       → ((s : Slot D) → slice_get slots i ≡ Some s → limit_in M c ≤ limit_in M s.content)
-      → limit_in M (content_under version (slice_get (changed (with_content c) slots i) k)) ≤ limit_in M (content_under version (slice_get slots k))
+      → limit_in M (content_under version (slice_get (with_change (with_content c) slots i) k)) ≤ limit_in M (content_under version (slice_get slots k))
   at_place [] i k version c h = omega arith
   at_place (x ∷ xs) zero zero version c h =
       elim (nat_eq x.version version) as (λ b. limit_in M (if b then c else Vacant) ≤ limit_in M (if b then x.content else Vacant))
@@ -36,8 +36,8 @@ module _ {D P T : Type 0} (M : Meaning D P T) where
   same_there : (slots : List (Slot D)) (i : ℕ) (s t : Slot D) → slice_get slots i ≡ Some s → slice_get slots i ≡ Some t → s ≡ t
   same_there slots i s t one other = (let two : ◌≡◌ {A = Option (Slot D)} (Some s) (Some t) = sym one ∙ other in cc)
 
-  pub put_limits : (slots : List (Slot D)) (token : RegistrationToken) (d : D) (c : Content D) → named slots token ≡ Source d → limit_in M c ≤ M.limit d
-      → (ts : List RegistrationToken) → all_limits M (changed (with_content c) slots token.slot) ts ≤ all_limits M slots ts
+  pub put_limits : (slots : List (Slot D)) (token : RegistrationToken) (d : D) (c : Content D) → content_at slots token ≡ Source d → limit_in M c ≤ M.limit d
+      → (ts : List RegistrationToken) → all_limits M (with_change (with_content c) slots token.slot) ts ≤ all_limits M slots ts
   put_limits slots token d c is less [] = omega arith
   put_limits slots token d c is less (t ∷ ts) =
       let there = named_slot slots token (ap is_empty is) in
@@ -46,8 +46,8 @@ module _ {D P T : Type 0} (M : Meaning D P T) where
       omega (arith, here, put_limits slots token d c is less ts)
 
   -- a source was taken out, and this stands there now
-  pub ended_limits : (slots : List (Slot D)) (token : RegistrationToken) (d : D) (c : Content D) → named slots token ≡ Source d → limit_in M c ≤ M.limit d
-      → (ts : List RegistrationToken) → all_limits M (after_turn c token (changed (with_content InTurn) slots token.slot)) ts ≤ all_limits M slots ts
+  pub ended_limits : (slots : List (Slot D)) (token : RegistrationToken) (d : D) (c : Content D) → content_at slots token ≡ Source d → limit_in M c ≤ M.limit d
+      → (ts : List RegistrationToken) → all_limits M (after_turn c token (with_change (with_content InTurn) slots token.slot)) ts ≤ all_limits M slots ts
   ended_limits slots token d c is less ts =
       subst (λ (ss : List (Slot D)). all_limits M ss ts ≤ all_limits M slots ts)
       (sym (turn_ended slots token c (ap is_empty is) ∙ changed_twice c InTurn slots token.slot))
@@ -57,7 +57,7 @@ module _ {D P T : Type 0} (M : Meaning D P T) where
   filtered_limits p slots [] = omega arith
   filtered_limits p slots (t ∷ ts) =
       let rest = filtered_limits p slots ts in
-      elim (p t) as (λ b. all_limits M slots (if b then t ∷ filter p ts else filter p ts) ≤ limit_in M (named slots t) + all_limits M slots ts)
+      elim (p t) as (λ b. all_limits M slots (if b then t ∷ filter p ts else filter p ts) ≤ limit_in M (content_at slots t) + all_limits M slots ts)
       [ true ↦ omega (arith, rest) | false ↦ omega (arith, rest) ]
 
   -- what is settled and stays has the limit that it had

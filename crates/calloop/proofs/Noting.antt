@@ -4,14 +4,14 @@ use Rattle.std.proofs.Common.{◌≡◌, ◌≢◌, ◌⊎◌, inl, inr, ℕ, �
 use Rattle.std.proofs.lemmas.Bool.Decides.{nat_tests}
 use Rattle.calloop_wake.specs.declared.token.Token.{Token}
 use Rattle.calloop_wake.specs.declared.wheel.Instant.{Instant}
-use Rattle.calloop_wake.specs.Deadlines.{is_armed, entry_of, inserted, without_counter, not_due}
+use Rattle.calloop_wake.specs.Deadlines.{is_armed, entry_of, after_insert, without_counter, not_due}
 use Rattle.calloop_core.specs.declared.sys.Readiness.{Readiness}
 use Rattle.calloop_core.specs.declared.sys.poll.Pending.{Pending}
 use Rattle.calloop_core.specs.Pollers.{Outside}
-use Rattle.calloop_core.specs.Polls.{PollView, PollStep, TakePass, PutBack, Arm, ArmAgain, Cancel, Call, ReadClock, Socket, Fault, poll_after, polls_after, AllAllowed, gathered, appended, posted_events, polled_events, cut, cut_from, begun, tail_of, head_of, with_pass}
+use Rattle.calloop_core.specs.Polls.{PollView, PollStep, TakePass, PutBack, Arm, ArmAgain, Cancel, Call, ReadClock, Socket, Fault, poll_after, polls_after, AllAllowed, after_gather, with_event, posted_events, polled_events, cut, cut_from, with_turn_of, tail_of, head_of, with_pass}
 use Rattle.calloop_core.specs.Holdings.{Holding, Free, Spent, Standing, with_hold, IsWithin, Keeps}
 use Rattle.calloop.specs.Ledgers.{Ledger, Arming, NumberedEntry, TimerCall, latest, arm, step_noted, steps_noted, gathering_noted, appended_noted, cut_noted, is_under, number_of, from_elsewhere, from_deadline, due_in}
-use Rattle.calloop.specs.Laws.{IsLedgerOf, one, counted, is_armed_as, waits_as, is_number, is_call_as, came_timely, timely, event_of}
+use Rattle.calloop.specs.Laws.{IsLedgerOf, one, how_many, is_armed_as, waits_as, is_number, is_call_as, came_timely, timely, event_of}
 use Rattle.calloop.proofs.Counting.{counted-append, counted-armed_among, counted-split, counted-number_of, counted-due, counted-elsewhere, counted-cut, next_number, not_yet, on_time-append, on_time-elsewhere, on_time-due, on_time-tail, on_time-heads, own-append, entries-armed_among, entries-filter, entries-not_due, events-due, events-elsewhere, events-append, events-tail, own_more, is_armed_by, kept-by, unarmed, gathered-by, timely-elsewhere, timely-least, Falls, latest_apart}
 
 -- the ledger, with its armings in the order of their making
@@ -25,8 +25,8 @@ pub record IsUncalled (counter : ℕ) (deadline : Instant) (l : Ledger) : Type 0
   pub last : latest counter l.made ≡ Some arming
   pub under : arming.counter ≡ counter
   pub for_it : arming.deadline ≡ deadline
-  pub uncalled : counted (is_call_as arming.number) l.calls ≡ 0
-  pub stands : 1 ≤ counted (is_armed_by arming) l.armed + timely l arming
+  pub uncalled : how_many (is_call_as arming.number) l.calls ≡ 0
+  pub stands : 1 ≤ how_many (is_armed_by arming) l.armed + timely l arming
 
 -- what is held was given, and what stands wasn't called for
 pub record IsGood (l : Ledger) (next : ℕ) (held : ℕ → Holding) : Type 0 where
@@ -79,12 +79,12 @@ uncalled_cancelled l v n c deadline differs g =
 uncalled_called : {P : Type 0} (l : Ledger) (v : PollView P) (n c : ℕ) (deadline at : Instant) → Falls l.count l.made → nat_eq n c ≡ false → IsUncalled n at l → IsUncalled c deadline l → IsUncalled c deadline (step_noted l v (Call n at))
 uncalled_called l v n c deadline at falls differs h g =
     let apart : nat_eq h.arming.number g.arming.number ≡ false = latest_apart l.count n c l.made h.arming g.arming falls h.last g.last differs in
-    let more : counted (is_call_as g.arming.number) (l.calls ++ record { deadline = at; arming = latest n l.made } ∷ []) ≡ 0 =
+    let more : how_many (is_call_as g.arming.number) (l.calls ++ record { deadline = at; arming = latest n l.made } ∷ []) ≡ 0 =
     counted-append (is_call_as g.arming.number) l.calls (record { deadline = at; arming = latest n l.made } ∷ []) ∙ rw (h.last, apart, g.uncalled) refl in
     record { arming = g.arming; last = g.last; under = g.under; for_it = g.for_it; uncalled = more; stands = g.stands }
 
 -- the arming that comes next was never called for
-uncalled_next : {P : Type 0} (l : Ledger) (v : PollView P) → IsLedgerOf l v → counted (is_call_as l.count) l.calls ≡ 0
+uncalled_next : {P : Type 0} (l : Ledger) (v : PollView P) → IsLedgerOf l v → how_many (is_call_as l.count) l.calls ≡ 0
 uncalled_next l v k = omega (arith, k.gathered l.count, k.placed l.count, not_yet l.count)
 
 eq_self : (n : ℕ) → nat_eq n n ≡ true
@@ -105,13 +105,13 @@ uncalled_new l v n at token k =
           omega (arith, first, counted-armed_among (is_armed_by made) (record { entry = entry_of n at token; number = l.count }) l.armed);
     }
 
-noted_armed : {P : Type 0} (l : Ledger) (v v' : PollView P) (n : ℕ) (at : Instant) (token : Token) → v'.deadlines.entries ≡ inserted (entry_of n at token) v.deadlines.entries → v'.batch ≡ v.batch → IsNoted l v → IsNoted (arm l n at token) v'
+noted_armed : {P : Type 0} (l : Ledger) (v v' : PollView P) (n : ℕ) (at : Instant) (token : Token) → v'.deadlines.entries ≡ after_insert (entry_of n at token) v.deadlines.entries → v'.batch ≡ v.batch → IsNoted l v → IsNoted (arm l n at token) v'
 noted_armed l v v' n at token entries batch h =
     let a : NumberedEntry = record { entry = entry_of n at token; number = l.count } in
     record {
       kept =
           record {
-            entries = entries-armed_among a l.armed ∙ ap (λ es. inserted (entry_of n at token) es) h.kept.entries ∙ sym entries;
+            entries = entries-armed_among a l.armed ∙ ap (λ es. after_insert (entry_of n at token) es) h.kept.entries ∙ sym entries;
             events = h.kept.events ∙ sym batch;
             placed = λ number. omega (arith, h.kept.placed number, counted-armed_among (is_armed_as number) a l.armed, next_number number l.count);
             batch_on_time = h.kept.batch_on_time;
@@ -147,9 +147,9 @@ one_more n m c bound most here = elim (nat_eq m n) as (λ b. (b ≡ true → c +
 noted_called : {P : Type 0} (l : Ledger) (v : PollView P) (n : ℕ) (at : Instant) → is_armed n v.deadlines ≡ false → IsUncalled n at l → IsNoted l v → IsNoted (step_noted l v (Call n at)) (poll_after v (Call n at))
 noted_called l v n at idle g h =
     let call : TimerCall = record { deadline = at; arming = latest n l.made } in
-    let none_armed : counted (is_armed_by g.arming) l.armed ≡ 0 = unarmed g.arming l.armed (rw g.under (rw (← h.kept.entries) at idle)) in
+    let none_armed : how_many (is_armed_by g.arming) l.armed ≡ 0 = unarmed g.arming l.armed (rw g.under (rw (← h.kept.entries) at idle)) in
     let in_time : 1 ≤ timely l g.arming = omega (arith, none_armed, g.stands) in
-    let more : (number : ℕ) → counted (is_call_as number) (l.calls ++ call ∷ []) ≡ counted (is_call_as number) l.calls + ((if nat_eq g.arming.number number then 1 else 0) + 0) =
+    let more : (number : ℕ) → how_many (is_call_as number) (l.calls ++ call ∷ []) ≡ how_many (is_call_as number) l.calls + ((if nat_eq g.arming.number number then 1 else 0) + 0) =
     λ number. counted-append (is_call_as number) l.calls (call ∷ []) ∙ rw g.last refl in
     record {
       kept =
@@ -161,14 +161,14 @@ noted_called l v n at idle g h =
             cut_on_time = h.kept.cut_on_time;
             own = own-append (timely l) l.calls (call ∷ []) h.kept.own ((g.arming, g.last, g.for_it, in_time), tt);
             once = λ number.
-                rw (more number) (one_more number g.arming.number (counted (is_call_as number) l.calls) 1 (h.kept.once number) (λ here. let same : g.arming.number ≡ number = grind (arith, nat_tests) in let none : counted (is_call_as number) l.calls ≡ 0 = ap (λ k. counted (is_call_as k) l.calls) (sym same) ∙ g.uncalled in omega (arith, none)));
+                rw (more number) (one_more number g.arming.number (how_many (is_call_as number) l.calls) 1 (h.kept.once number) (λ here. let same : g.arming.number ≡ number = grind (arith, nat_tests) in let none : how_many (is_call_as number) l.calls ≡ 0 = ap (λ k. how_many (is_call_as k) l.calls) (sym same) ∙ g.uncalled in omega (arith, none)));
             gathered = λ number.
                 rw (more number)
-                (one_more number g.arming.number (counted (is_call_as number) l.calls) (counted (waits_as number) l.batch + counted (waits_as number) l.cut) (h.kept.gathered number)
+                (one_more number g.arming.number (how_many (is_call_as number) l.calls) (how_many (waits_as number) l.batch + how_many (waits_as number) l.cut) (h.kept.gathered number)
                 (λ here.
                 let same : g.arming.number ≡ number = grind (arith, nat_tests) in
-                let none : counted (is_call_as number) l.calls ≡ 0 = ap (λ k. counted (is_call_as k) l.calls) (sym same) ∙ g.uncalled in
-                let out : 1 ≤ counted (waits_as g.arming.number) l.batch + counted (waits_as g.arming.number) l.cut = omega (arith, in_time, timely-least g.arming l.batch, timely-least g.arming l.cut) in
+                let none : how_many (is_call_as number) l.calls ≡ 0 = ap (λ k. how_many (is_call_as k) l.calls) (sym same) ∙ g.uncalled in
+                let out : 1 ≤ how_many (waits_as g.arming.number) l.batch + how_many (waits_as g.arming.number) l.cut = omega (arith, in_time, timely-least g.arming l.batch, timely-least g.arming l.cut) in
                 omega (arith, none, rw same at out)));
           };
       falls = h.falls;
@@ -196,7 +196,7 @@ pub noted_alike : {P : Type 0} (l : Ledger) (v v' : PollView P) → v'.deadlines
 noted_alike l v v' deadlines batch h = noted_same l v v' deadlines batch h
 
 timely_sum : (l : Ledger) (posted : List ℕ) (given : List (ℕ × Readiness)) (now : ℕ) (a : Arming)
-    → timely (gathering_noted l posted given now) a ≡ timely l a + counted (came_timely a) (map (from_deadline now) (due_in now l.armed))
+    → timely (gathering_noted l posted given now) a ≡ timely l a + how_many (came_timely a) (map (from_deadline now) (due_in now l.armed))
 timely_sum l posted given now a =
     let e = map from_elsewhere (posted_events posted) in
     let f = map from_elsewhere (polled_events given) in
@@ -207,12 +207,12 @@ timely_gathered : (l : Ledger) (posted : List ℕ) (given : List (ℕ × Readine
 timely_gathered l posted given now a = omega (arith, timely_sum l posted given now a)
 
 -- the batch is put together
-pub noted_gathered : {P : Type 0} (l : Ledger) (v : PollView P) (posted : List ℕ) (given : List (ℕ × Readiness)) (now : ℕ) → IsNoted l v → IsNoted (gathering_noted l posted given now) (gathered posted given now v)
+pub noted_gathered : {P : Type 0} (l : Ledger) (v : PollView P) (posted : List ℕ) (given : List (ℕ × Readiness)) (now : ℕ) → IsNoted l v → IsNoted (gathering_noted l posted given now) (after_gather posted given now v)
 noted_gathered l v posted given now h =
     let a = map from_elsewhere (posted_events posted) in
     let b = map from_elsewhere (polled_events given) in
     let d = map (from_deadline now) (due_in now l.armed) in
-    let sum : (n : ℕ) → counted (waits_as n) (((l.batch ++ a) ++ b) ++ d) ≡ counted (waits_as n) l.batch + counted (waits_as n) d =
+    let sum : (n : ℕ) → how_many (waits_as n) (((l.batch ++ a) ++ b) ++ d) ≡ how_many (waits_as n) l.batch + how_many (waits_as n) d =
     λ n.
     omega (arith, counted-append (waits_as n) ((l.batch ++ a) ++ b) d, counted-append (waits_as n) (l.batch ++ a) b, counted-append (waits_as n) l.batch a, counted-elsewhere n (posted_events posted), counted-elsewhere n (polled_events given)) in
     record {
@@ -243,9 +243,9 @@ good_gathered l next held posted given now h = record { below = h.below; standin
 timely_appended : (l : Ledger) (e : Pending) (a : Arming) → timely (appended_noted l e) a ≡ timely l a
 timely_appended l e a = omega (arith, counted-append (came_timely a) l.batch (from_elsewhere e ∷ []))
 
-pub noted_appended : {P : Type 0} (l : Ledger) (v : PollView P) (e : Pending) → IsNoted l v → IsNoted (appended_noted l e) (appended e v)
+pub noted_appended : {P : Type 0} (l : Ledger) (v : PollView P) (e : Pending) → IsNoted l v → IsNoted (appended_noted l e) (with_event e v)
 noted_appended l v e h =
-    let sum : (n : ℕ) → counted (waits_as n) (l.batch ++ from_elsewhere e ∷ []) ≡ counted (waits_as n) l.batch = λ n. omega (arith, counted-append (waits_as n) l.batch (from_elsewhere e ∷ [])) in
+    let sum : (n : ℕ) → how_many (waits_as n) (l.batch ++ from_elsewhere e ∷ []) ≡ how_many (waits_as n) l.batch = λ n. omega (arith, counted-append (waits_as n) l.batch (from_elsewhere e ∷ [])) in
     record {
       kept =
           record {
@@ -271,7 +271,7 @@ good_appended l next held e h =
     }
 
 -- the first event is cut
-cut_begun : {P : Type 0} (e : Pending) (v : PollView P) → ((begun e v).batch ≡ tail_of v.batch) × ((begun e v).deadlines ≡ v.deadlines)
+cut_begun : {P : Type 0} (e : Pending) (v : PollView P) → ((with_turn_of e v).batch ≡ tail_of v.batch) × ((with_turn_of e v).deadlines ≡ v.deadlines)
 cut_begun e v =
     elim e.posted as (λ b. ((if b then record (with_pass (head_of v.passes) v) { batch = tail_of v.batch; passes = tail_of v.passes } else record (with_pass None v) { batch = tail_of v.batch }).batch ≡ tail_of v.batch) × ((if b then record (with_pass (head_of v.passes) v) { batch = tail_of v.batch; passes = tail_of v.passes } else record (with_pass None v) { batch = tail_of v.batch }).deadlines ≡ v.deadlines))
     [ true ↦ (refl, refl) | false ↦ (refl, refl) ]

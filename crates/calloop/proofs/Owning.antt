@@ -12,7 +12,7 @@ use Rattle.calloop_wake.specs.declared.token.RegistrationToken.{RegistrationToke
 use Rattle.std.proofs.lemmas.Option.{slice_get-map}
 use Rattle.std.specs.Option.{option_map}
 use Rattle.std.specs.declared.io.Error.{Error as Cause}
-use Rattle.calloop_wake.specs.Slots.{changed, named, content_under, is_empty, first_vacant, next_registration}
+use Rattle.calloop_wake.specs.Slots.{with_change, content_at, content_under, is_empty, first_vacant, next_registration}
 use Rattle.calloop_wake.specs.Tokens.{registration_of}
 use Rattle.calloop_core.specs.declared.sys.Readiness.{Readiness}
 use Rattle.calloop_core.specs.declared.sys.poll.Pending.{Pending}
@@ -21,29 +21,29 @@ use Rattle.calloop_core.specs.declared.sources.source.PostAction.TheVariants.{Co
 use Rattle.calloop_core.specs.Pollers.{Outside, nanos_of}
 use Rattle.calloop_core.specs.Polls.{PollView, PollStep, AllAllowed, cut, own_event}
 use Rattle.calloop_core.specs.Holdings.{Holding, Free, Spent, Standing, Keeps, IsBelow, IsWithin}
-use Rattle.calloop_core.specs.Deeds.{Deed, Registered, Reregistered, Unregistered, Turned, Slept, Noticed, Lent, lent}
+use Rattle.calloop_core.specs.Deeds.{Deed, Registered, Reregistered, Unregistered, Turned, Slept, Noticed, Lent, lend}
 use Rattle.calloop_core.specs.Meanings.{Meaning, KeepsCounters}
 use Rattle.calloop.specs.declared.loop_logic.asks.Asked.{Asked}
 use Rattle.calloop.specs.declared.loop_logic.asks.Idling.{Idling as Waiter}
 use Rattle.calloop.specs.declared.loop_logic.asks.Request.{Request}
 use Rattle.calloop.specs.declared.loop_logic.asks.Request.TheVariants.{Insert as AskInsert, Enable as AskEnable, Update as AskUpdate, Disable as AskDisable, Remove as AskRemove, Idle as AskIdle, Cancel as AskCancel}
 use Rattle.calloop.specs.Askings.{Asks, Runs, Take, asks_after, of_turn}
-use Rattle.calloop.specs.Machine.{World, View, IsNew, Registration, Change, Put, Claim, Swapped, Polls, Polling, Watching, Counting, Holds, Appended, Gathered, Cut, Ended, holding, reused, with_claim, done, all_done, seen, slot_of, viewed, AllFit}
+use Rattle.calloop.specs.Machine.{World, View, IsNew, Registration, Change, Put, Claim, Swapped, Polls, Polling, Watching, Counting, Holds, Appended, Gathered, Cut, Ended, holding, next_use, with_claim, done, all_done, visible, slot_of, after_change, AllFit}
 use Rattle.calloop.specs.declared.loop_logic.LoopCall.{LoopCall}
 use Rattle.calloop.specs.declared.loop_logic.LoopCall.TheVariants.{Insert, Enable, Update, Disable, Remove as RemoveCall, Release, Exchange, Dispatch, InsertIdle, Cancel, Answer as AnswerOf, ForgetStop, LookForStop, Poller as NewPoller}
 use Rattle.calloop.specs.declared.loop_logic.LoopAnswer.{LoopAnswer}
 use Rattle.calloop.specs.declared.loop_logic.LoopAnswer.TheVariants.{Inserted, Enabled, Updated, Disabled, Removed, Released, Exchanged, Dispatched, IdleInserted, Cancelled, Answered, StopForgotten, Stopped, Poller as OldPoller}
 use Rattle.calloop.specs.declared.loop_logic.asks.Answer.{Answer}
 use Rattle.calloop.specs.declared.loop_logic.asks.Answer.TheVariants.{Done, Removed as RemovedAnswer}
-use Rattle.calloop_wake.specs.Watches.{noted}
+use Rattle.calloop_wake.specs.Watches.{with_note}
 use Rattle.calloop_wake.specs.declared.wake.notes.Note.TheVariants.{Counted, Marked}
 use Rattle.calloop.specs.declared.loop_logic.stops.StopNote.TheVariants.{Forgot, Looked}
 use Rattle.calloop.specs.Held.{HeldStep, Listed, Unlisted, Pend, Asking, Begun, Told, Owe, Paid, Cleared, Warned, StopNoted, IdleIn, IdleNew, IdleOut, IdlesTaken, IdleBegun}
 use Rattle.calloop.specs.Roles.{only, is_callers, is_adapter}
 use Rattle.calloop.proofs.Roles.{Shows, only_is, left_removed}
-use Rattle.calloop.specs.Rules.{Doing, Beginning, Settling, Sleeping, Waiting, Gathering, Noticing, Cutting, Serving, Ending, Returning, Idling, RunningIdles, ServingIdle, Leaving, Step, Steps, SleptAs, SleptBy, NoticedBy, told_in, CutTo, CutFrom, ActedBy, ReturnedTo, emptied, entered, after_turn, after_wait, Outcome, RegisteredBy, Case, Once, Run, InsertedBy, AskedIn, SettledIn, TakesUp, as_listed, EnabledBy, UpdatedBy, DisabledBy, RemovedIn, RemovedBy, ReleasedBy, ExchangedIn, ExchangedBy, IdleInsertedBy, OwnOr, Served, ServedAs, ServedFrom, RunFrom, action_of, factory_of, all_traced, appends}
+use Rattle.calloop.specs.Rules.{Doing, Beginning, Settling, Sleeping, Waiting, Gathering, Noticing, Cutting, Serving, Ending, Returning, Idling, RunningIdles, ServingIdle, Leaving, Step, Steps, SleptAs, SleptBy, NoticedBy, told_in, CutTo, CutFrom, ActedBy, ReturnedTo, vacate, listing_of, after_turn, after_wait, Outcome, RegisteredBy, Case, Once, Run, InsertedBy, AskedIn, SettledIn, TakesUp, as_listed, EnabledBy, UpdatedBy, DisabledBy, RemovedIn, RemovedBy, ReleasedBy, ExchangedIn, ExchangedBy, IdleInsertedBy, OwnOr, Served, ServedAs, ServedFrom, RunFrom, action_of, factory_of, all_traced, appends}
 use Rattle.calloop.specs.Ledgers.{Ledger}
-use Rattle.calloop.specs.Laws.{HoldsNone, HoldsNoMore, AllFresh, joined, changes_of}
+use Rattle.calloop.specs.Laws.{HoldsNone, HoldsNoMore, AllFresh, flatten, changes_of}
 use Rattle.calloop.proofs.Seen.{seen-all_done, done-append}
 use Rattle.calloop.proofs.Gone.{fit_first}
 use Rattle.calloop.proofs.Noting.{IsNoted, IsGood, IsApart, apart_sym, noted_alike, noted_gathered, noted_appended, noted_cut, good_gathered, good_appended, good_cut, cut_deadlines, done_steps}
@@ -52,7 +52,7 @@ use Rattle.calloop.proofs.Noting.{IsNoted, IsGood, IsApart, apart_sym, noted_ali
 abbrev pub At : {D : Type 0} → List (Registration D) → ℕ → D → Type 0
 At {D} slots i d = (r : Registration D) × (slice_get slots i ≡ Some r) × (r.content ≡ Source d)
 
-at_put : {D : Type 0} (slots : List (Registration D)) (k i : ℕ) (content : Content D) (d : D) → At (changed (holding content) slots k) i d → ((i ≡ k) × (content ≡ Source d)) ⊎ ((i ≢ k) × At slots i d)
+at_put : {D : Type 0} (slots : List (Registration D)) (k i : ℕ) (content : Content D) (d : D) → At (with_change (holding content) slots k) i d → ((i ≡ k) × (content ≡ Source d)) ⊎ ((i ≢ k) × At slots i d)
 at_put [] k i content d h = let e = h.1 in cc
 at_put (x ∷ xs) zero zero content d h = let e = h.1 in let f = h.2 in inl (refl, cc)
 at_put (x ∷ xs) zero (suc i) content d h = inr (λ e. cc, (h.0, h.1, h.2))
@@ -63,10 +63,10 @@ at_claim : {D : Type 0} (slots : List (Registration D)) (i : ℕ) (d : D) → At
 at_claim [] zero d h = let e = h.1 in let f = h.2 in cc
 at_claim [] (suc i) d h = let e = h.1 in cc
 at_claim {D} (x ∷ xs) zero d h =
-    elim (is_empty x.content) as (λ b. slice_get (if b then reused x ∷ xs else x ∷ with_claim xs) 0 ≡ Some h.0 → At (x ∷ xs) 0 d)
+    elim (is_empty x.content) as (λ b. slice_get (if b then next_use x ∷ xs else x ∷ with_claim xs) 0 ≡ Some h.0 → At (x ∷ xs) 0 d)
     [ true ↦ λ e. (let f = h.2 in cc) | false ↦ λ e. (h.0, e, h.2) ] h.1
 at_claim {D} (x ∷ xs) (suc i) d h =
-    elim (is_empty x.content) as (λ b. slice_get (if b then reused x ∷ xs else x ∷ with_claim xs) (suc i) ≡ Some h.0 → At (x ∷ xs) (suc i) d)
+    elim (is_empty x.content) as (λ b. slice_get (if b then next_use x ∷ xs else x ∷ with_claim xs) (suc i) ≡ Some h.0 → At (x ∷ xs) (suc i) d)
     [ true ↦ λ e. (h.0, e, h.2) | false ↦ λ e. at_claim xs i d (h.0, e, h.2) ] h.1
 
 -- what a source holds agrees with the ledger
@@ -150,7 +150,7 @@ module _ {D I P X : Type 0} (M : Meaning D P (Lent X (Asks D I))) (O : Outside P
   -- what is no source is put into a slot
   owned_emptied : (w : World D I P) (aside : List D) (k : ℕ) (content : Content D) → ((d : D) → content ≡ Source d → ⊥) → IsOwned M w aside → IsOwned M (done w (Put k content)) aside
   owned_emptied w aside k content none h =
-      let back : (i : ℕ) (d : D) → At (changed (holding content) w.slots k) i d → At w.slots i d = λ i d is. elim (at_put w.slots k i content d is) [ inl e ↦ absurd (none d e.1) | inr e ↦ e.1 ] in
+      let back : (i : ℕ) (d : D) → At (with_change (holding content) w.slots k) i d → At w.slots i d = λ i d is. elim (at_put w.slots k i content d is) [ inl e ↦ absurd (none d e.1) | inr e ↦ e.1 ] in
       record {
         noted = h.noted;
         good = λ i d is. h.good i d (back i d is);
@@ -258,7 +258,7 @@ module _ {D I P X : Type 0} (M : Meaning D P (Lent X (Asks D I))) (O : Outside P
       }
 
 -- what is put into a slot last stands there
-put_twice : {D : Type 0} (c e : Content D) (slots : List (Registration D)) (i : ℕ) → changed (holding c) (changed (holding e) slots i) i ≡ changed (holding c) slots i
+put_twice : {D : Type 0} (c e : Content D) (slots : List (Registration D)) (i : ℕ) → with_change (holding c) (with_change (holding e) slots i) i ≡ with_change (holding c) slots i
 put_twice c e [] i = refl
 put_twice c e (r ∷ rs) zero = refl
 put_twice c e (r ∷ rs) (suc i) = ap (λ ss. r ∷ ss) (put_twice c e rs i)
@@ -268,7 +268,7 @@ at_under v None d e = cc
 at_under {D} v (Some r) d e = elim (nat_eq (r.reuse % versions) v) as (λ b. (if b then r.content else Vacant) ≡ Source d → (r' : Registration D) × (◌≡◌ {A = Option (Registration D)} (Some r) (Some r')) × (r'.content ≡ Source d)) [ true ↦ λ full. (r, refl, full) | false ↦ λ none. cc ] e
 
 -- the source that a token names stands in its slot
-at_named : {D : Type 0} (slots : List (Registration D)) (token : RegistrationToken) (d : D) → named (map slot_of slots) token ≡ Source d → At slots token.slot d
+at_named : {D : Type 0} (slots : List (Registration D)) (token : RegistrationToken) (d : D) → content_at (map slot_of slots) token ≡ Source d → At slots token.slot d
 at_named slots token d is =
     let h = at_under token.version (slice_get slots token.slot) d (sym (ap (content_under token.version) (slice_get-map slot_of slots token.slot)) ∙ is) in
     (h.0, h.1, h.2)
@@ -310,7 +310,7 @@ module _ {D I P X : Type 0} (M : Meaning D P (Lent X (Asks D I))) (runs : Runs D
   registered_keeps deed token v d e answer steps (inr h) fits below = law d e v (deed (factory_of token) answer h.0) steps fits below h.1
 
   -- a source is told of a wait
-  told_owned : (w : World D I P) (token : RegistrationToken) (d e : D) (deed : Deed (Lent X (Asks D I))) → named (map slot_of w.slots) token ≡ Source d → M.does d w.poll deed [] e → IsOwned M w [] → IsOwned M (all_done w (told_in token e)) []
+  told_owned : (w : World D I P) (token : RegistrationToken) (d e : D) (deed : Deed (Lent X (Asks D I))) → content_at (map slot_of w.slots) token ≡ Source d → M.does d w.poll deed [] e → IsOwned M w [] → IsOwned M (all_done w (told_in token e)) []
   told_owned w token d e deed is does k =
       let out : World D I P = done w (Put token.slot InTurn) in
       owned_back M O law (done out (Polls [])) [] token.slot e
@@ -324,18 +324,18 @@ module _ {D I P X : Type 0} (M : Meaning D P (Lent X (Asks D I))) (runs : Runs D
   slept_as w timeout later given (Ok u) x cs b h k = rw (h.0, h.1) (appends_owned given w k)
   slept_as w timeout later given (Err e) x cs b h k = rw (h.0, h.1) k
 
-  slept_owned : (w : World D I P) (timeout : Option ℕ) (token : RegistrationToken) (later : List RegistrationToken) (x : X) (cs : List (Change D I P)) (b : Doing D X) (c : Content D) → named (map slot_of w.slots) token ≡ c → SleptBy M timeout token later c (seen w) x cs b → IsOwned M w [] → IsOwned M (all_done w cs) (aside_of b)
+  slept_owned : (w : World D I P) (timeout : Option ℕ) (token : RegistrationToken) (later : List RegistrationToken) (x : X) (cs : List (Change D I P)) (b : Doing D X) (c : Content D) → content_at (map slot_of w.slots) token ≡ c → SleptBy M timeout token later c (visible w) x cs b → IsOwned M w [] → IsOwned M (all_done w cs) (aside_of b)
   slept_owned w timeout token later x cs b Vacant is h k = rw (h.0, h.1) k
   slept_owned w timeout token later x cs b InTurn is h k = rw (h.0, h.1) k
   slept_owned w timeout token later x cs b (Source d) is h k =
       rw h.6 (slept_as (all_done w (told_in token h.0)) timeout later h.1 h.2 x h.3 b h.5 (told_owned w token d h.0 (Slept h.1 h.2) is h.4 k))
 
-  noticed_owned : (w : World D I P) (from : ℕ) (token : RegistrationToken) (later : List RegistrationToken) (x : X) (cs : List (Change D I P)) (b : Doing D X) (c : Content D) → named (map slot_of w.slots) token ≡ c → NoticedBy M from token later c (seen w) x cs b → IsOwned M w [] → IsOwned M (all_done w cs) (aside_of b)
+  noticed_owned : (w : World D I P) (from : ℕ) (token : RegistrationToken) (later : List RegistrationToken) (x : X) (cs : List (Change D I P)) (b : Doing D X) (c : Content D) → content_at (map slot_of w.slots) token ≡ c → NoticedBy M from token later c (visible w) x cs b → IsOwned M w [] → IsOwned M (all_done w cs) (aside_of b)
   noticed_owned w from token later x cs b Vacant is h k = rw (h.0, h.1) k
   noticed_owned w from token later x cs b InTurn is h k = rw (h.0, h.1) k
   noticed_owned w from token later x cs b (Source d) is h k = rw (h.2, h.3) (told_owned w token d h.0 (Noticed _) is h.1 k)
 
-  cut_owned : (w : World D I P) (e : Pending) (x : X) (cs : List (Change D I P)) (b : Doing D X) (c : Content D) → named (map slot_of w.slots) (registration_of e.token) ≡ c → CutTo M e c (seen w) x cs b → AllFit O (seen w) cs → IsOwned M w [] → IsOwned M (all_done w cs) (aside_of b)
+  cut_owned : (w : World D I P) (e : Pending) (x : X) (cs : List (Change D I P)) (b : Doing D X) (c : Content D) → content_at (map slot_of w.slots) (registration_of e.token) ≡ c → CutTo M e c (visible w) x cs b → AllFit O (visible w) cs → IsOwned M w [] → IsOwned M (all_done w cs) (aside_of b)
   cut_owned w e x cs b Vacant is h fit k = rw (h.0, h.1) (owned_same M O law (done w (Cut None)) (done (done w (Cut None)) Ended) [] refl refl refl refl (owned_cut M O law w [] None k))
   cut_owned w e x cs b InTurn is h fit k = rw (h.0, h.1) (owned_same M O law (done w (Cut None)) (done (done w (Cut None)) Ended) [] refl refl refl refl (owned_cut M O law w [] None k))
   cut_owned w e x cs b (Source d) is h fit k =
@@ -344,25 +344,25 @@ module _ {D I P X : Type 0} (M : Meaning D P (Lent X (Asks D I))) (runs : Runs D
       let allowed : AllAllowed O (cut w.poll) h.2 = (rw h.6 at fit).1.1.0 in
       let polled : World D I P = done out (Polls h.2) in
       let own : IsOwned M polled (h.0 ∷ []) =
-      owned_polls M O law out [] d h.0 h.2 allowed (λ fits below. law d h.0 (cut w.poll) (Turned e.readiness e.token (lent x (of_turn (registration_of e.token) w.held.asks) h.1 h.3 (of_turn (registration_of e.token) (asks_after w.held.asks h.4)))) h.2 fits below h.5)
+      owned_polls M O law out [] d h.0 h.2 allowed (λ fits below. law d h.0 (cut w.poll) (Turned e.readiness e.token (lend x (of_turn (registration_of e.token) w.held.asks) h.1 h.3 (of_turn (registration_of e.token) (asks_after w.held.asks h.4)))) h.2 fits below h.5)
       (owned_out M O law begun [] e.token.slot d (at_named w.slots (registration_of e.token) d is) (owned_cut M O law w [] (Some e.token.slot) k)) in
       rw (h.6, h.7) (owned_listed M O law (done polled Ended) (Asking h.4) (h.0 ∷ []) (owned_same M O law polled (done polled Ended) (h.0 ∷ []) refl refl refl refl own))
 
-  from_owned : (w : World D I P) (es : List Pending) (x : X) (cs : List (Change D I P)) (b : Doing D X) → CutFrom M es (seen w) x cs b → AllFit O (seen w) cs → IsOwned M w [] → IsOwned M (all_done w cs) (aside_of b)
+  from_owned : (w : World D I P) (es : List Pending) (x : X) (cs : List (Change D I P)) (b : Doing D X) → CutFrom M es (visible w) x cs b → AllFit O (visible w) cs → IsOwned M w [] → IsOwned M (all_done w cs) (aside_of b)
   from_owned w [] x cs b h fit k = rw (h.0, h.1) k
-  from_owned w (e ∷ es) x cs b h fit k = cut_owned w e x cs b (named (map slot_of w.slots) (registration_of e.token)) refl h fit k
+  from_owned w (e ∷ es) x cs b h fit k = cut_owned w e x cs b (content_at (map slot_of w.slots) (registration_of e.token)) refl h fit k
 
-  emptied_owned : (w : World D I P) (token : RegistrationToken) (c : Content D) (aside : List D) → IsOwned M w aside → IsOwned M (all_done w (emptied token c)) aside
+  emptied_owned : (w : World D I P) (token : RegistrationToken) (c : Content D) (aside : List D) → IsOwned M w aside → IsOwned M (all_done w (vacate token c)) aside
   emptied_owned w token Vacant aside k = k
   emptied_owned w token (Source d) aside k = k
   emptied_owned w token InTurn aside k = owned_emptied M O law w aside token.slot Vacant (λ e is. cc) k
 
-  acted_owned : (w : World D I P) (token : RegistrationToken) (d : D) (answer : Result PostAction Error) (cs : List (Change D I P)) (e : D) (told : Result (Unit {0}) Error) → ActedBy M token d answer (seen w) cs e told → AllFit O (seen w) cs → IsOwned M w (d ∷ []) → IsOwned M (all_done w cs) (e ∷ [])
+  acted_owned : (w : World D I P) (token : RegistrationToken) (d : D) (answer : Result PostAction Error) (cs : List (Change D I P)) (e : D) (told : Result (Unit {0}) Error) → ActedBy M token d answer (visible w) cs e told → AllFit O (visible w) cs → IsOwned M w (d ∷ []) → IsOwned M (all_done w cs) (e ∷ [])
   acted_owned w token d (Ok Continue) cs e told h fit k = rw (h.0, h.1) (owned_listed M O law w (Pend Continue) (d ∷ []) k)
   acted_owned w token d (Ok Reregister) cs e told h fit k =
       let allowed : AllAllowed O w.poll h.0 = (rw h.2 at fit).1.0 in
       rw h.2
-      (owned_listed M O law (done (done w (Holds (Pend Continue))) (Polls h.0)) (entered M token d told) (e ∷ [])
+      (owned_listed M O law (done (done w (Holds (Pend Continue))) (Polls h.0)) (listing_of M token d told) (e ∷ [])
       (owned_polls M O law (done w (Holds (Pend Continue))) [] d e h.0 allowed (registered_keeps Reregistered token w.poll d e told h.0 h.1)
       (owned_listed M O law w (Pend Continue) (d ∷ []) k)))
   acted_owned w token d (Ok DisableIt) cs e told h fit k =
@@ -372,10 +372,10 @@ module _ {D I P X : Type 0} (M : Meaning D P (Lent X (Asks D I))) (runs : Runs D
       (owned_polls M O law (done w (Holds (Pend Continue))) [] d e h.0 allowed (λ fits below. law d e w.poll (Unregistered told) h.0 fits below h.1)
       (owned_listed M O law w (Pend Continue) (d ∷ []) k)))
   acted_owned w token d (Ok Remove) cs e told h fit k =
-      rw (h.0, h.1) (emptied_owned (done w (Holds (Pend Continue))) token (named (map slot_of w.slots) token) (d ∷ []) (owned_listed M O law w (Pend Continue) (d ∷ []) k))
+      rw (h.0, h.1) (emptied_owned (done w (Holds (Pend Continue))) token (content_at (map slot_of w.slots) token) (d ∷ []) (owned_listed M O law w (Pend Continue) (d ∷ []) k))
   acted_owned w token d (Err error) cs e told h fit k = rw (h.0, h.1) (owned_listed M O law w (Pend Continue) (d ∷ []) k)
 
-  gone_owned : (w : World D I P) (token : RegistrationToken) (d : D) (cs : List (Change D I P)) → (h : (e : D) × (answer : Outcome) × (kept : Bool) × (steps : List (PollStep P)) × M.does d w.poll (Unregistered answer) steps e × (cs ≡ Polls steps ∷ Holds (Unlisted token) ∷ Holds (Warned kept answer) ∷ Holds (Paid (RemovedAnswer (Some e))) ∷ [])) → AllFit O (seen w) cs → IsOwned M w (d ∷ []) → IsOwned M (all_done w cs) []
+  gone_owned : (w : World D I P) (token : RegistrationToken) (d : D) (cs : List (Change D I P)) → (h : (e : D) × (answer : Outcome) × (kept : Bool) × (steps : List (PollStep P)) × M.does d w.poll (Unregistered answer) steps e × (cs ≡ Polls steps ∷ Holds (Unlisted token) ∷ Holds (Warned kept answer) ∷ Holds (Paid (RemovedAnswer (Some e))) ∷ [])) → AllFit O (visible w) cs → IsOwned M w (d ∷ []) → IsOwned M (all_done w cs) []
   gone_owned w token d cs h fit k =
       let allowed : AllAllowed O w.poll h.3 = (rw h.5 at fit).0 in
       let out : World D I P = done (done w (Polls h.3)) (Holds (Unlisted token)) in
@@ -385,12 +385,12 @@ module _ {D I P X : Type 0} (M : Meaning D P (Lent X (Asks D I))) (runs : Runs D
       (owned_listed M O law (done w (Polls h.3)) (Unlisted token) []
       (owned_dropped M O law (done w (Polls h.3)) [] h.0 (owned_polls M O law w [] d h.0 h.3 allowed (λ fits below. law d h.0 w.poll (Unregistered h.1) h.3 fits below h.4) k)))))
 
-  returned_owned : (w : World D I P) (token : RegistrationToken) (d : D) (c : Content D) (cs : List (Change D I P)) → ReturnedTo M token d c (seen w) cs → AllFit O (seen w) cs → IsOwned M w (d ∷ []) → IsOwned M (all_done w cs) []
+  returned_owned : (w : World D I P) (token : RegistrationToken) (d : D) (c : Content D) (cs : List (Change D I P)) → ReturnedTo M token d c (visible w) cs → AllFit O (visible w) cs → IsOwned M w (d ∷ []) → IsOwned M (all_done w cs) []
   returned_owned w token d InTurn cs h fit k = rw h (owned_back M O law w [] token.slot d k)
   returned_owned w token d Vacant cs h fit k = gone_owned w token d cs h fit k
   returned_owned w token d (Source f) cs h fit k = gone_owned w token d cs h fit k
 
-  inserted_owned : (w : World D I P) (rest : List D) (d : D) (answer : Result RegistrationToken (InsertError D)) (cs : List (Change D I P)) → AllFresh M cs → InsertedBy M d answer (seen w) cs → AllFit O (seen w) cs → IsOwned M w rest → IsOwned M (all_done w cs) rest
+  inserted_owned : (w : World D I P) (rest : List D) (d : D) (answer : Result RegistrationToken (InsertError D)) (cs : List (Change D I P)) → AllFresh M cs → InsertedBy M d answer (visible w) cs → AllFit O (visible w) cs → IsOwned M w rest → IsOwned M (all_done w cs) rest
   inserted_owned w rest d (Ok token) cs fresh h fit k =
       let claimed : World D I P = done w (Claim d) in
       let allowed : AllAllowed O w.poll h.4 = (rw h.6 at fit).1.0 in
@@ -411,20 +411,20 @@ module _ {D I P X : Type 0} (M : Meaning D P (Lent X (Asks D I))) (runs : Runs D
       (owned_emptied M O law polled (refused.inserted ∷ rest) place Vacant (λ e is. cc)
       (owned_polls M O law claimed rest d refused.inserted h.2 allowed (λ fits below. law d refused.inserted w.poll (Registered (factory_of (next_registration (map slot_of w.slots))) (Err refused.error) h.1) h.2 fits below h.3) (owned_fresh M O law claimed rest d free (owned_claim M O law w d rest k)))))
 
-  asked_owned : (w : World D I P) (rest : List D) (R : D → Result (Unit {0}) Error → List (PollStep P) → D → Type 0) (noted : D → Outcome → HeldStep D I) (token : RegistrationToken) (answer : Result (Unit {0}) Error) (cs : List (Change D I P)) (c : Content D)
+  asked_owned : (w : World D I P) (rest : List D) (R : D → Result (Unit {0}) Error → List (PollStep P) → D → Type 0) (entry : D → Outcome → HeldStep D I) (token : RegistrationToken) (answer : Result (Unit {0}) Error) (cs : List (Change D I P)) (c : Content D)
       → ((d e : D) (l : List (PollStep P)) → R d answer l e → M.fits d → IsBelow w.poll.deadlines.next (M.holds d) → M.fits e × Keeps (M.holds d) w.poll.deadlines.next l (M.holds e))
-      → Shows (map slot_of w.slots) token c → AskedIn R noted token c answer cs → AllFit O (seen w) cs → IsOwned M w rest → IsOwned M (all_done w cs) rest
-  asked_owned w rest R noted token answer cs Vacant keeps is h fit k = rw h.1 k
-  asked_owned w rest R noted token answer cs InTurn keeps is h fit k = rw h.1 k
-  asked_owned w rest R noted token answer cs (Source d) keeps is h fit k =
+      → Shows (map slot_of w.slots) token c → AskedIn R entry token c answer cs → AllFit O (visible w) cs → IsOwned M w rest → IsOwned M (all_done w cs) rest
+  asked_owned w rest R entry token answer cs Vacant keeps is h fit k = rw h.1 k
+  asked_owned w rest R entry token answer cs InTurn keeps is h fit k = rw h.1 k
+  asked_owned w rest R entry token answer cs (Source d) keeps is h fit k =
       let out : World D I P = done w (Put token.slot InTurn) in
       let allowed : AllAllowed O w.poll h.1 = (rw h.3 at fit).1.0 in
       rw h.3
-      (owned_back M O law (done (done out (Polls h.1)) (Holds (noted d answer))) rest token.slot h.0
-      (owned_listed M O law (done out (Polls h.1)) (noted d answer) (h.0 ∷ rest)
+      (owned_back M O law (done (done out (Polls h.1)) (Holds (entry d answer))) rest token.slot h.0
+      (owned_listed M O law (done out (Polls h.1)) (entry d answer) (h.0 ∷ rest)
       (owned_polls M O law out rest d h.0 h.1 allowed (keeps d h.0 h.1 h.2) (owned_out M O law w rest token.slot d (at_named w.slots token d (is d refl)) k))))
 
-  removed_owned : (w : World D I P) (rest : List D) (token : RegistrationToken) (answer : Option D) (cs : List (Change D I P)) (c : Content D) → Shows (map slot_of w.slots) token c → RemovedIn M token c answer (seen w) cs → AllFit O (seen w) cs → IsOwned M w rest → IsOwned M (all_done w cs) rest
+  removed_owned : (w : World D I P) (rest : List D) (token : RegistrationToken) (answer : Option D) (cs : List (Change D I P)) (c : Content D) → Shows (map slot_of w.slots) token c → RemovedIn M token c answer (visible w) cs → AllFit O (visible w) cs → IsOwned M w rest → IsOwned M (all_done w cs) rest
   removed_owned w rest token answer cs Vacant is h fit k = rw h.1 k
   removed_owned w rest token answer cs InTurn is h fit k = rw h.1 k
   removed_owned w rest token answer cs (Source d) is h fit k =
@@ -445,12 +445,12 @@ module _ {D I P X : Type 0} (M : Meaning D P (Lent X (Asks D I))) (runs : Runs D
   fresh_rest (c ∷ cs) ds h = fresh_rest cs ds h.1
 
   -- the changes of a request, and its answer behind them
-  told_owned_by : (w : World D I P) (rest : List D) (ds cs : List (Change D I P)) (answer : Answer D) → cs ≡ ds ++ Holds (Told answer) ∷ [] → AllFresh M cs → AllFit O (seen w) cs
-      → (AllFresh M ds → AllFit O (seen w) ds → IsOwned M (all_done w ds) rest) → IsOwned M (all_done w cs) rest
+  told_owned_by : (w : World D I P) (rest : List D) (ds cs : List (Change D I P)) (answer : Answer D) → cs ≡ ds ++ Holds (Told answer) ∷ [] → AllFresh M cs → AllFit O (visible w) cs
+      → (AllFresh M ds → AllFit O (visible w) ds → IsOwned M (all_done w ds) rest) → IsOwned M (all_done w cs) rest
   told_owned_by w rest ds cs answer is fresh fit f =
       let step : Change D I P = Holds (Told answer) in
       let some : AllFresh M ds = fresh_first ds (step ∷ []) (subst (λ (l : List (Change D I P)). AllFresh M l) is fresh) in
-      let fits : AllFit O (seen w) ds = fit_first O (seen w) ds (step ∷ []) (subst (λ (l : List (Change D I P)). AllFit O (seen w) l) is fit) in
+      let fits : AllFit O (visible w) ds = fit_first O (visible w) ds (step ∷ []) (subst (λ (l : List (Change D I P)). AllFit O (visible w) l) is fit) in
       rw (is, done-append w ds (step ∷ [])) (owned_listed M O law (all_done w ds) (Told answer) rest (f some fits))
 
   own_or : {A B G : Type 0} (c : Content D) → (c ≡ InTurn → A → G) → (B → G) → OwnOr c A B → G
@@ -458,89 +458,89 @@ module _ {D I P X : Type 0} (M : Meaning D P (Lent X (Asks D I))) (runs : Runs D
   own_or Vacant f g h = g h
   own_or (Source d) f g h = g h
 
-  served_as_owned : (w : World D I P) (rest : List D) (request : Request D I) (answer : Outcome) (cs : List (Change D I P)) → ServedAs M request answer (seen w) cs → AllFit O (seen w) cs → IsOwned M w rest → IsOwned M (all_done w cs) rest
+  served_as_owned : (w : World D I P) (rest : List D) (request : Request D I) (answer : Outcome) (cs : List (Change D I P)) → ServedAs M request answer (visible w) cs → AllFit O (visible w) cs → IsOwned M w rest → IsOwned M (all_done w cs) rest
   served_as_owned w rest (AskEnable token) answer cs h fit k =
-      own_or (named (map slot_of w.slots) token) (λ _ o. rw o.1 k)
-      (λ o. asked_owned w rest _ _ token answer cs (only (is_callers M) (named (map slot_of w.slots) token)) (λ d e l u. registered_keeps Registered token w.poll d e answer l u) (only_is (is_callers M) (map slot_of w.slots) token) o fit k) h
+      own_or (content_at (map slot_of w.slots) token) (λ _ o. rw o.1 k)
+      (λ o. asked_owned w rest _ _ token answer cs (only (is_callers M) (content_at (map slot_of w.slots) token)) (λ d e l u. registered_keeps Registered token w.poll d e answer l u) (only_is (is_callers M) (map slot_of w.slots) token) o fit k) h
   served_as_owned w rest (AskUpdate token) answer cs h fit k =
-      own_or (named (map slot_of w.slots) token) (λ _ o. rw o.1 (owned_listed M O law w (Pend Reregister) rest k))
-      (λ o. asked_owned w rest _ _ token answer cs (only (is_callers M) (named (map slot_of w.slots) token)) (λ d e l u. registered_keeps Reregistered token w.poll d e answer l u) (only_is (is_callers M) (map slot_of w.slots) token) o fit k) h
+      own_or (content_at (map slot_of w.slots) token) (λ _ o. rw o.1 (owned_listed M O law w (Pend Reregister) rest k))
+      (λ o. asked_owned w rest _ _ token answer cs (only (is_callers M) (content_at (map slot_of w.slots) token)) (λ d e l u. registered_keeps Reregistered token w.poll d e answer l u) (only_is (is_callers M) (map slot_of w.slots) token) o fit k) h
   served_as_owned w rest (AskDisable token) answer cs h fit k =
-      own_or (named (map slot_of w.slots) token) (λ _ o. rw o.1 (owned_listed M O law w (Pend DisableIt) rest k))
-      (λ o. asked_owned w rest _ _ token answer cs (only (is_callers M) (named (map slot_of w.slots) token)) (λ d e l u fits below. law d e w.poll (Unregistered answer) l fits below u) (only_is (is_callers M) (map slot_of w.slots) token) o fit k) h
+      own_or (content_at (map slot_of w.slots) token) (λ _ o. rw o.1 (owned_listed M O law w (Pend DisableIt) rest k))
+      (λ o. asked_owned w rest _ _ token answer cs (only (is_callers M) (content_at (map slot_of w.slots) token)) (λ d e l u fits below. law d e w.poll (Unregistered answer) l fits below u) (only_is (is_callers M) (map slot_of w.slots) token) o fit k) h
   served_as_owned w rest (AskInsert d) answer cs h fit k = absurd h
   served_as_owned w rest (AskRemove token) answer cs h fit k = absurd h
   served_as_owned w rest (AskIdle idle) answer cs h fit k = absurd h
   served_as_owned w rest (AskCancel ticket) answer cs h fit k = absurd h
 
-  served_owned : (w : World D I P) (rest : List D) (request : Request D I) (cs : List (Change D I P)) → AllFresh M cs → Served M request (seen w) cs → AllFit O (seen w) cs → IsOwned M w rest → IsOwned M (all_done w cs) rest
+  served_owned : (w : World D I P) (rest : List D) (request : Request D I) (cs : List (Change D I P)) → AllFresh M cs → Served M request (visible w) cs → AllFit O (visible w) cs → IsOwned M w rest → IsOwned M (all_done w cs) rest
   served_owned w rest (AskInsert d) cs fresh h fit k = told_owned_by w rest h.1 cs _ h.3 fresh fit (λ some fits. inserted_owned w rest d h.0 h.1 some h.2 fits k)
   served_owned w rest (AskEnable token) cs fresh h fit k = told_owned_by w rest h.1 cs _ h.3 fresh fit (λ some fits. served_as_owned w rest (AskEnable token) h.0 h.1 h.2 fits k)
   served_owned w rest (AskUpdate token) cs fresh h fit k = told_owned_by w rest h.1 cs _ h.3 fresh fit (λ some fits. served_as_owned w rest (AskUpdate token) h.0 h.1 h.2 fits k)
   served_owned w rest (AskDisable token) cs fresh h fit k = told_owned_by w rest h.1 cs _ h.3 fresh fit (λ some fits. served_as_owned w rest (AskDisable token) h.0 h.1 h.2 fits k)
   served_owned w rest (AskRemove token) cs fresh h fit k =
       let out : World D I P = done w (Put token.slot Vacant) in
-      own_or (named (map slot_of w.slots) token)
+      own_or (content_at (map slot_of w.slots) token)
       (λ _ o. rw o (owned_listed M O law (done out (Holds (Unlisted token))) Owe rest (owned_listed M O law out (Unlisted token) rest (owned_emptied M O law w rest token.slot Vacant (λ e is. cc) k))))
-      (λ o. told_owned_by w rest o.1 cs _ o.3 fresh fit (λ some fits. removed_owned w rest token o.0 o.1 (only (is_callers M) (named (map slot_of w.slots) token)) (only_is (is_callers M) (map slot_of w.slots) token) o.2 fits k)) h
+      (λ o. told_owned_by w rest o.1 cs _ o.3 fresh fit (λ some fits. removed_owned w rest token o.0 o.1 (only (is_callers M) (content_at (map slot_of w.slots) token)) (only_is (is_callers M) (map slot_of w.slots) token) o.2 fits k)) h
   served_owned w rest (AskIdle idle) cs fresh h fit k = rw h (owned_listed M O law w (IdleIn idle) rest k)
   served_owned w rest (AskCancel ticket) cs fresh h fit k = rw h (owned_listed M O law (done w (Holds (IdleOut ticket))) (Told Done) rest (owned_listed M O law w (IdleOut ticket) rest k))
 
-  served_from_owned : (w : World D I P) (asked : List (Asked D I)) (on next b : Doing D X) (cs : List (Change D I P)) → AllFresh M cs → ServedFrom M asked on next b (seen w) cs → AllFit O (seen w) cs → aside_of next ≡ aside_of on
+  served_from_owned : (w : World D I P) (asked : List (Asked D I)) (on next b : Doing D X) (cs : List (Change D I P)) → AllFresh M cs → ServedFrom M asked on next b (visible w) cs → AllFit O (visible w) cs → aside_of next ≡ aside_of on
       → IsOwned M w (aside_of on) → IsOwned M (all_done w cs) (aside_of b)
   served_from_owned w [] on next b cs fresh h fit same k = rw (h.0, h.1, same) k
   served_from_owned w (a ∷ as') on next b cs fresh h fit same k =
       let some : AllFresh M h.0 = (rw h.2 at fresh).1 in
-      let fits : AllFit O (viewed (seen w) (Holds Begun)) h.0 = (rw h.2 at fit).1 in
+      let fits : AllFit O (after_change (visible w) (Holds Begun)) h.0 = (rw h.2 at fit).1 in
       rw (h.2, h.3) (served_owned (done w (Holds Begun)) (aside_of on) a.request h.0 some h.1 fits (owned_listed M O law w Begun (aside_of on) k))
 
-  run_from_owned : (w : World D I P) (idles : List (Waiter I)) (x : X) (cs : List (Change D I P)) (b : Doing D X) → RunFrom runs idles (seen w) x cs b → IsOwned M w [] → IsOwned M (all_done w cs) (aside_of b)
+  run_from_owned : (w : World D I P) (idles : List (Waiter I)) (x : X) (cs : List (Change D I P)) (b : Doing D X) → RunFrom runs idles (visible w) x cs b → IsOwned M w [] → IsOwned M (all_done w cs) (aside_of b)
   run_from_owned w [] x cs b h k = rw (h.0, h.1) k
   run_from_owned w (i ∷ is) x cs b h k = rw (h.3, h.4) (owned_listed M O law (done w (Holds IdleBegun)) (Asking h.1) [] (owned_listed M O law w IdleBegun [] k))
 
-  released_owned : (w : World D I P) (token : RegistrationToken) (answer : Outcome) (cs : List (Change D I P)) → ReleasedBy M token answer (seen w) cs → AllFit O (seen w) cs → IsOwned M w [] → IsOwned M (all_done w cs) []
-  released_owned w token (Ok u) cs h fit k = (let r = left_removed M token (only (is_adapter M) (named (map slot_of w.slots) token)) (seen w) cs h in removed_owned w [] token r.0 cs (only (is_adapter M) (named (map slot_of w.slots) token)) (only_is (is_adapter M) (map slot_of w.slots) token) r.1 fit k)
-  released_owned w token (Err e) cs h fit k = asked_owned w [] _ _ token (Err e) cs (only (is_adapter M) (named (map slot_of w.slots) token)) (λ d f l u fits below. law d f w.poll (Unregistered (Err e)) l fits below u) (only_is (is_adapter M) (map slot_of w.slots) token) h fit k
+  released_owned : (w : World D I P) (token : RegistrationToken) (answer : Outcome) (cs : List (Change D I P)) → ReleasedBy M token answer (visible w) cs → AllFit O (visible w) cs → IsOwned M w [] → IsOwned M (all_done w cs) []
+  released_owned w token (Ok u) cs h fit k = (let r = left_removed M token (only (is_adapter M) (content_at (map slot_of w.slots) token)) (visible w) cs h in removed_owned w [] token r.0 cs (only (is_adapter M) (content_at (map slot_of w.slots) token)) (only_is (is_adapter M) (map slot_of w.slots) token) r.1 fit k)
+  released_owned w token (Err e) cs h fit k = asked_owned w [] _ _ token (Err e) cs (only (is_adapter M) (content_at (map slot_of w.slots) token)) (λ d f l u fits below. law d f w.poll (Unregistered (Err e)) l fits below u) (only_is (is_adapter M) (map slot_of w.slots) token) h fit k
 
-  settled_owned : (w : World D I P) (token : RegistrationToken) (c : Content D) (cs : List (Change D I P)) → Shows (map slot_of w.slots) token c → SettledIn M token c (seen w) cs → AllFit O (seen w) cs → IsOwned M w [] → IsOwned M (all_done w cs) []
+  settled_owned : (w : World D I P) (token : RegistrationToken) (c : Content D) (cs : List (Change D I P)) → Shows (map slot_of w.slots) token c → SettledIn M token c (visible w) cs → AllFit O (visible w) cs → IsOwned M w [] → IsOwned M (all_done w cs) []
   settled_owned w token Vacant cs is h fit k = rw h k
   settled_owned w token InTurn cs is h fit k = rw h k
   settled_owned w token (Source d) cs is (inl h) fit k =
       asked_owned w [] (TakesUp M token w.poll) (as_listed token) token (Ok tt) cs (Source d) (λ d e l u fits below. law d e w.poll (Reregistered (factory_of token) (Ok tt) u.0) l fits below u.1) is h fit k
   settled_owned w token (Source d) cs is (inr h) fit k = removed_owned w [] token h.0 cs (Source d) is h.1 fit k
 
-  step_owned : (w : World D I P) (a b : Doing D X) (cs : List (Change D I P)) → AllFresh M cs → Step M runs O (seen w) a cs b → AllFit O (seen w) cs → IsOwned M w (aside_of a) → IsOwned M (all_done w cs) (aside_of b)
+  step_owned : (w : World D I P) (a b : Doing D X) (cs : List (Change D I P)) → AllFresh M cs → Step M runs O (visible w) a cs b → AllFit O (visible w) cs → IsOwned M w (aside_of a) → IsOwned M (all_done w cs) (aside_of b)
   step_owned w (Settling timeout [] x) b cs fresh h fit k = rw (h.0, h.1) k
-  step_owned w (Settling timeout (t ∷ later) x) b cs fresh h fit k = rw h.1 (settled_owned w t (only (is_adapter M) (named (map slot_of w.slots) t)) cs (only_is (is_adapter M) (map slot_of w.slots) t) h.0 fit k)
+  step_owned w (Settling timeout (t ∷ later) x) b cs fresh h fit k = rw h.1 (settled_owned w t (only (is_adapter M) (content_at (map slot_of w.slots) t)) cs (only_is (is_adapter M) (map slot_of w.slots) t) h.0 fit k)
   step_owned w (Beginning timeout x) b cs fresh h fit k = (
       let cleared = done (done w (Counting h.0)) (Holds Cleared) in
-      rw (h.4, h.5) (owned_same M O law cleared (done cleared (Watching (noted (Marked h.2) (noted (Counted h.0) w.poll.watch)))) [] refl refl refl refl
+      rw (h.4, h.5) (owned_same M O law cleared (done cleared (Watching (with_note (Marked h.2) (with_note (Counted h.0) w.poll.watch)))) [] refl refl refl refl
       (owned_listed M O law (done w (Counting h.0)) Cleared [] (owned_same M O law w (done w (Counting h.0)) [] refl refl refl refl k))))
   step_owned w (Sleeping timeout [] x) b cs fresh h fit k = rw (h.0, h.1) k
-  step_owned w (Sleeping timeout (t ∷ later) x) b cs fresh h fit k = slept_owned w timeout t later x cs b (named (map slot_of w.slots) t) refl h k
+  step_owned w (Sleeping timeout (t ∷ later) x) b cs fresh h fit k = slept_owned w timeout t later x cs b (content_at (map slot_of w.slots) t) refl h k
   step_owned w (Waiting timeout x) b cs fresh h fit k = rw (h.5, h.6, aside_wait h.0 h.1 x) (owned_same M O law w (done (done w (Polling h.2)) (Watching h.3)) [] refl refl refl refl k)
   step_owned w (Gathering now given x) b cs fresh h fit k = rw (h.1, h.2) (owned_gathered M O law w [] h.0 given now k)
   step_owned w (Noticing from [] x) b cs fresh h fit k = rw (h.0, h.1) k
-  step_owned w (Noticing from (t ∷ later) x) b cs fresh h fit k = noticed_owned w from t later x cs b (named (map slot_of w.slots) t) refl h k
+  step_owned w (Noticing from (t ∷ later) x) b cs fresh h fit k = noticed_owned w from t later x cs b (content_at (map slot_of w.slots) t) refl h k
   step_owned w (Cutting x) b cs fresh h fit k = from_owned w w.poll.batch x cs b h fit k
   step_owned w (Serving token d answer x) b cs fresh h fit k = served_from_owned w w.held.asks.written _ _ b cs fresh h fit refl k
   step_owned w (Ending token d answer x) b cs fresh h fit k = rw h.3 (acted_owned w token d (action_of answer w.held.pending) cs h.0 h.1 h.2 fit k)
-  step_owned w (Returning token d told x) b cs fresh h fit k = rw (h.1, aside_after told x) (returned_owned w token d (named (map slot_of w.slots) token) cs h.0 fit k)
+  step_owned w (Returning token d told x) b cs fresh h fit k = rw (h.1, aside_after told x) (returned_owned w token d (content_at (map slot_of w.slots) token) cs h.0 fit k)
   step_owned w (Idling x) b cs fresh h fit k = rw (h.0, h.1) (owned_listed M O law w IdlesTaken [] k)
   step_owned w (RunningIdles x) b cs fresh h fit k = run_from_owned w w.held.asks.running x cs b h k
   step_owned w (ServingIdle x) b cs fresh h fit k = served_from_owned w w.held.asks.written _ _ b cs fresh h fit refl k
   step_owned w (Leaving answer x) b cs fresh h fit k = absurd h
 
-  steps_owned : (w : World D I P) (a b : Doing D X) (css : List (List (Change D I P))) → AllFresh M (joined css) → Steps M runs O (seen w) a css b → IsOwned M w (aside_of a) → IsOwned M (all_traced w css) (aside_of b)
+  steps_owned : (w : World D I P) (a b : Doing D X) (css : List (List (Change D I P))) → AllFresh M (flatten css) → Steps M runs O (visible w) a css b → IsOwned M w (aside_of a) → IsOwned M (all_traced w css) (aside_of b)
   steps_owned w a b [] fresh h k = rw h k
   steps_owned w a b (cs ∷ css) fresh h k =
-      steps_owned (all_done w cs) h.0 b css (fresh_rest cs (joined css) fresh) (subst (λ (v : View D I P). Steps M runs O v h.0 css b) (sym (seen-all_done w cs)) h.3) (step_owned w a h.0 cs (fresh_first cs (joined css) fresh) h.1 h.2 k)
+      steps_owned (all_done w cs) h.0 b css (fresh_rest cs (flatten css) fresh) (subst (λ (v : View D I P). Steps M runs O v h.0 css b) (sym (seen-all_done w cs)) h.3) (step_owned w a h.0 cs (fresh_first cs (flatten css) fresh) h.1 h.2 k)
 
   -- another source takes the place of one: that goes out of its slot, and this comes in
   owned_swapped : (w : World D I P) (k : ℕ) (old new : D) → At w.slots k old → HoldsNoMore M old new × M.fits new → IsOwned M w [] → IsOwned M (done w (Swapped k old new)) []
   owned_swapped w k old new here less h =
       let out : World D I P = done w (Put k InTurn) in
-      let same : changed (holding (Source new)) (changed (holding InTurn) w.slots k) k ≡ changed (holding (Source new)) w.slots k = put_twice (Source new) InTurn w.slots k in
+      let same : with_change (holding (Source new)) (with_change (holding InTurn) w.slots k) k ≡ with_change (holding (Source new)) w.slots k = put_twice (Source new) InTurn w.slots k in
       subst (λ (slots : List (Registration D)). IsOwned M (record w { slots = slots }) []) same
       (owned_back M O law out [] k new (owned_polls M O law out [] old new [] tt (λ fits below. (less.1, less.0)) (owned_out M O law w [] k old here h)))
 
@@ -551,26 +551,26 @@ module _ {D I P X : Type 0} (M : Meaning D P (Lent X (Asks D I))) (runs : Runs D
       let less : HoldsNoMore M d new × M.fits new = (rw h.1 at fresh).0 in
       rw h.1 (owned_swapped w token.slot d new (at_named w.slots token d (is d refl)) less k)
 
-  once_owned : (w : World D I P) (R : View D I P → List (Change D I P) → Type 0) (css : List (List (Change D I P))) → AllFresh M (joined css) → Once O R (seen w) css → ((cs : List (Change D I P)) → AllFresh M cs → R (seen w) cs → AllFit O (seen w) cs → IsOwned M (all_done w cs) []) → IsOwned M (all_traced w css) []
+  once_owned : (w : World D I P) (R : View D I P → List (Change D I P) → Type 0) (css : List (List (Change D I P))) → AllFresh M (flatten css) → Once O R (visible w) css → ((cs : List (Change D I P)) → AllFresh M cs → R (visible w) cs → AllFit O (visible w) cs → IsOwned M (all_done w cs) []) → IsOwned M (all_traced w css) []
   once_owned w R [] fresh h f = absurd h
   once_owned w R (cs ∷ []) fresh h f = f cs (fresh_first cs [] fresh) h.0 h.1
   once_owned w R (cs ∷ ds ∷ css) fresh h f = absurd h
 
-  case_owned : (w : World D I P) (call : LoopCall D P X I) (answer : LoopAnswer D P X I) (css : List (List (Change D I P))) → AllFresh M (joined css) → Case M runs O call answer (seen w) css → IsOwned M w [] → IsOwned M (all_traced w css) []
+  case_owned : (w : World D I P) (call : LoopCall D P X I) (answer : LoopAnswer D P X I) (css : List (List (Change D I P))) → AllFresh M (flatten css) → Case M runs O call answer (visible w) css → IsOwned M w [] → IsOwned M (all_traced w css) []
   case_owned w (Insert d) (Inserted answer) css free h k = once_owned w (InsertedBy M d answer) css free h (λ cs fresh r fit. inserted_owned w [] d answer cs fresh r fit k)
   case_owned w (Enable token) (Enabled answer) css free h k =
       once_owned w (EnabledBy M token answer) css free h
-      (λ cs fresh r fit. asked_owned w [] _ _ token answer cs (only (is_callers M) (named (map slot_of w.slots) token)) (λ d e l u. registered_keeps Registered token w.poll d e answer l u) (only_is (is_callers M) (map slot_of w.slots) token) r fit k)
+      (λ cs fresh r fit. asked_owned w [] _ _ token answer cs (only (is_callers M) (content_at (map slot_of w.slots) token)) (λ d e l u. registered_keeps Registered token w.poll d e answer l u) (only_is (is_callers M) (map slot_of w.slots) token) r fit k)
   case_owned w (Update token) (Updated answer) css free h k =
       once_owned w (UpdatedBy M token answer) css free h
-      (λ cs fresh r fit. asked_owned w [] _ _ token answer cs (only (is_callers M) (named (map slot_of w.slots) token)) (λ d e l u. registered_keeps Reregistered token w.poll d e answer l u) (only_is (is_callers M) (map slot_of w.slots) token) r fit k)
+      (λ cs fresh r fit. asked_owned w [] _ _ token answer cs (only (is_callers M) (content_at (map slot_of w.slots) token)) (λ d e l u. registered_keeps Reregistered token w.poll d e answer l u) (only_is (is_callers M) (map slot_of w.slots) token) r fit k)
   case_owned w (Disable token) (Disabled answer) css free h k =
       once_owned w (DisabledBy M token answer) css free h
-      (λ cs fresh r fit. asked_owned w [] _ _ token answer cs (only (is_callers M) (named (map slot_of w.slots) token)) (λ d e l u fits below. law d e w.poll (Unregistered answer) l fits below u) (only_is (is_callers M) (map slot_of w.slots) token) r fit k)
-  case_owned w (RemoveCall token) (Removed answer) css free h k = once_owned w (RemovedBy M token answer) css free h (λ cs fresh r fit. removed_owned w [] token answer cs (only (is_callers M) (named (map slot_of w.slots) token)) (only_is (is_callers M) (map slot_of w.slots) token) r fit k)
+      (λ cs fresh r fit. asked_owned w [] _ _ token answer cs (only (is_callers M) (content_at (map slot_of w.slots) token)) (λ d e l u fits below. law d e w.poll (Unregistered answer) l fits below u) (only_is (is_callers M) (map slot_of w.slots) token) r fit k)
+  case_owned w (RemoveCall token) (Removed answer) css free h k = once_owned w (RemovedBy M token answer) css free h (λ cs fresh r fit. removed_owned w [] token answer cs (only (is_callers M) (content_at (map slot_of w.slots) token)) (only_is (is_callers M) (map slot_of w.slots) token) r fit k)
   case_owned w (Release token) (Released answer) css free h k = once_owned w (ReleasedBy M token answer) css free h (λ cs fresh r fit. released_owned w token answer cs r fit k)
   case_owned w (Exchange token d) (Exchanged answer) css free h k =
-      once_owned w (ExchangedBy M token d answer) css free h (λ cs fresh r fit. exchanged_owned w token d answer cs (only (is_callers M) (named (map slot_of w.slots) token)) (only_is (is_callers M) (map slot_of w.slots) token) fresh r k)
+      once_owned w (ExchangedBy M token d answer) css free h (λ cs fresh r fit. exchanged_owned w token d answer cs (only (is_callers M) (content_at (map slot_of w.slots) token)) (only_is (is_callers M) (map slot_of w.slots) token) fresh r k)
   case_owned w (Dispatch timeout x) (Dispatched answer x') css free (inl h) k = rw h.2 k
   case_owned w (Dispatch timeout x) (Dispatched answer x') css free (inr h) k = steps_owned w (Beginning (nanos_of timeout) x) (Leaving answer x') css free h k
   case_owned w (InsertIdle idle) (IdleInserted (Ok made)) css free h k = once_owned w (IdleInsertedBy idle (Ok made)) css free h (λ cs fresh r fit. rw r.2 (owned_listed M O law w (IdleNew idle) [] k))
@@ -584,7 +584,7 @@ module _ {D I P X : Type 0} (M : Meaning D P (Lent X (Asks D I))) (runs : Runs D
 
   pub run_owned : (calls : List (LoopCall D P X I)) (answers : List (LoopAnswer D P X I)) (csss : List (List (List (Change D I P)))) (w w' : World D I P) → AllFresh M (changes_of csss) → Run M runs O calls answers csss w w' → IsOwned M w [] → IsOwned M w' []
   run_owned [] [] [] w w' free run k = rw run k
-  run_owned (call ∷ calls) (answer ∷ answers) (css ∷ csss) w w' free run k = run_owned calls answers csss (all_traced w css) w' (fresh_rest (joined css) (changes_of csss) free) run.1 (case_owned w call answer css (fresh_first (joined css) (changes_of csss) free) run.0 k)
+  run_owned (call ∷ calls) (answer ∷ answers) (css ∷ csss) w w' free run k = run_owned calls answers csss (all_traced w css) w' (fresh_rest (flatten css) (changes_of csss) free) run.1 (case_owned w call answer css (fresh_first (flatten css) (changes_of csss) free) run.0 k)
   run_owned calls answers csss w w' free run k = absurd run
 
 nobody : {D : Type 0} (slots : List (Registration D)) → slots ≡ [] → (i : ℕ) (d : D) → At slots i d → ⊥

@@ -5,7 +5,7 @@ use Rattle.calloop_wake.specs.declared.token.Token.{Token}
 use Rattle.calloop_wake.specs.Tokens.{key_of}
 use Rattle.calloop_wake.specs.Cells.{one, is_own}
 use Rattle.calloop_wake.specs.Passes.{Taken, Keyed, on}
-use Rattle.calloop_wake.specs.Executors.{ExecutorCell, settled_at, after_settle, taken_of, after_pop, after_end_turn, owed}
+use Rattle.calloop_wake.specs.Executors.{ExecutorCell, settled_at, after_settle, taken_of, after_pop, after_end_turn, debt_between}
 use Rattle.calloop_wake.specs.declared.wake.tasks.TaskKey.{TaskKey}
 use Rattle.logbook.specs.Pages.{Book}
 use Rattle.calloop_core.specs.declared.sources.source.PostAction.{PostAction}
@@ -97,7 +97,7 @@ some_of None P h = tt
 some_of (Some place) P h = h place refl
 
 -- what is owed is of the key that the cell had
-pub owed_place : (board : Book) (c d : ExecutorCell) (P : Keyed → Type 0) → ((place : Keyed) → on board c.key ≡ Some place → P place) → d.key ≡ c.key → IfSome (on board (owed c d)) P
+pub owed_place : (board : Book) (c d : ExecutorCell) (P : Keyed → Type 0) → ((place : Keyed) → on board c.key ≡ Some place → P place) → d.key ≡ c.key → IfSome (on board (debt_between c d)) P
 owed_place board c d P h same =
     elim c.pinged as (λ b. IfSome (on board (if b then None else if d.pinged then d.key else None)) P) [
       | true ↦ tt

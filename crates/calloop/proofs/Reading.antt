@@ -14,16 +14,16 @@ use Rattle.calloop_core.specs.declared.sources.source.PostAction.TheVariants.{Co
 use Rattle.calloop_core.specs.Polls.{PollStep, TakePass}
 use Rattle.calloop.specs.declared.futures.task.Poll.TheVariants.{Ready, Pending}
 use Rattle.calloop.specs.StreamReads.{Polls, ReadsTo}
-use Rattle.calloop.specs.Streams.{StreamCalls, called, end_calls, calls_of, Reading, PassAnswer, AnsweredSo, StreamTurns}
+use Rattle.calloop.specs.Streams.{StreamCalls, call_with, end_calls, calls_of, Reading, PassAnswer, AnsweredSo, StreamTurns}
 
 module _ {I : Type 0} where
-  calls_more : (xs : List I) (x : I) → calls_of (xs ++ x ∷ []) AtLimit ≡ calls_of xs AtLimit ++ called (Some x) ∷ []
+  calls_more : (xs : List I) (x : I) → calls_of (xs ++ x ∷ []) AtLimit ≡ calls_of xs AtLimit ++ call_with (Some x) ∷ []
   calls_more [] x = refl
-  calls_more (y ∷ ys) x = ap (λ cs. called (Some y) ∷ cs) (calls_more ys x)
+  calls_more (y ∷ ys) x = ap (λ cs. call_with (Some y) ∷ cs) (calls_more ys x)
 
   calls_ended : (xs : List I) (ending : Ending) → calls_of xs ending ≡ calls_of xs AtLimit ++ end_calls ending
   calls_ended [] ending = refl
-  calls_ended (y ∷ ys) ending = ap (λ cs. called (Some y) ∷ cs) (calls_ended ys ending)
+  calls_ended (y ∷ ys) ending = ap (λ cs. call_with (Some y) ∷ cs) (calls_ended ys ending)
 
 module _ {S I : Type 0} (polls : Polls S I) where
   reads_more : (s u v : S) (xs : List I) (x : I) → ReadsTo polls s xs AtLimit u → polls u (Ready (Some x)) v → ReadsTo polls s (xs ++ x ∷ []) AtLimit v
@@ -49,11 +49,11 @@ module _ {F S I X Q : Type 0} (polls : Polls S I) (may : Calling F (Option I) (U
   read_none = record { count_is = refl; reads = refl; went = (refl, refl, refl) }
 
   pub read_more : (items : List I) (item : I) (count : ℕ) (u v : S) (g h : F) (y z : X) (r w : Q) → ReadSoFar items count u g y r
-      → polls u (Ready (Some item)) v → Went may reaches g y r (called (Some item) ∷ []) h z w → ReadSoFar (items ++ item ∷ []) (count + 1) v h z w
+      → polls u (Ready (Some item)) v → Went may reaches g y r (call_with (Some item) ∷ []) h z w → ReadSoFar (items ++ item ∷ []) (count + 1) v h z w
   read_more items item count u v g h y z r w so p went = record {
     reads = reads_more polls s u v items item so.reads p;
     count_is = let l = length-append items (item ∷ []) in let c = so.count_is in omega arith;
-    went = subst (λ (cs : List (CallbackCall (Option I) (Unit {0}) (Unit {0}))). Went may reaches f x q cs h z w) (sym (calls_more items item)) (went_on may reaches f g h x y z q r w (calls_of items AtLimit) (called (Some item) ∷ []) so.went went);
+    went = subst (λ (cs : List (CallbackCall (Option I) (Unit {0}) (Unit {0}))). Went may reaches f x q cs h z w) (sym (calls_more items item)) (went_on may reaches f g h x y z q r w (calls_of items AtLimit) (call_with (Some item) ∷ []) so.went went);
   }
 
   pub read_ended : (items : List I) (ending : Ending) (count : ℕ) (u : S) (g h : F) (y z : X) (r w : Q) → ReadSoFar items count u g y r

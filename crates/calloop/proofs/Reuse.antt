@@ -4,14 +4,14 @@ use Rattle.std.proofs.Math.Nat.{mod-add-div}
 use Rattle.calloop_wake.specs.Widths.{versions}
 use Rattle.calloop_wake.specs.declared.list.Content.{Content}
 use Rattle.calloop_wake.specs.declared.list.Content.TheVariants.{Source}
-use Rattle.calloop_wake.specs.Slots.{changed, is_empty}
-use Rattle.calloop.specs.Machine.{World, Registration, Change, Put, Claim, Swapped, Polls, Polling, Watching, Counting, Holds, Appended, Gathered, Cut, Ended, holding, reused, with_claim, done, all_done}
+use Rattle.calloop_wake.specs.Slots.{with_change, is_empty}
+use Rattle.calloop.specs.Machine.{World, Registration, Change, Put, Claim, Swapped, Polls, Polling, Watching, Counting, Holds, Appended, Gathered, Cut, Ended, holding, next_use, with_claim, done, all_done}
 use Rattle.calloop.specs.Laws.{NamesLater}
 
 abbrev pub Older : {D : Type 0} → List (Registration D) → ℕ → Registration D → Type 0
 Older {D} rs i r = (r' : Registration D) × (slice_get rs i ≡ Some r') × (r.reuse ≤ r'.reuse)
 
-older_changed : {D : Type 0} (c : Content D) (rs : List (Registration D)) (j i : ℕ) (r : Registration D) → Older rs i r → Older (changed (holding c) rs j) i r
+older_changed : {D : Type 0} (c : Content D) (rs : List (Registration D)) (j i : ℕ) (r : Registration D) → Older rs i r → Older (with_change (holding c) rs j) i r
 older_changed c [] j i r h = h
 older_changed c (x ∷ xs) zero zero r h = (holding c x, refl, let e : x ≡ h.0 = cc in omega (arith, h.2, ap (λ (y : Registration _). y.reuse) e))
 older_changed c (x ∷ xs) zero (suc i) r h = h
@@ -22,9 +22,9 @@ older_claim : {D : Type 0} (rs : List (Registration D)) (i : ℕ) (r : Registrat
 older_claim [] i r h = cc
 older_claim {D} (x ∷ xs) zero r h =
     let e : x ≡ h.0 = cc in
-    elim (is_empty x.content) as (λ b. Older (if b then reused x ∷ xs else x ∷ with_claim xs) zero r) [ true ↦ (reused x, refl, omega (arith, h.2, ap (λ (y : Registration D). y.reuse) e)) | false ↦ (x, refl, omega (arith, h.2, ap (λ (y : Registration D). y.reuse) e)) ]
+    elim (is_empty x.content) as (λ b. Older (if b then next_use x ∷ xs else x ∷ with_claim xs) zero r) [ true ↦ (next_use x, refl, omega (arith, h.2, ap (λ (y : Registration D). y.reuse) e)) | false ↦ (x, refl, omega (arith, h.2, ap (λ (y : Registration D). y.reuse) e)) ]
 older_claim {D} (x ∷ xs) (suc i) r h =
-    elim (is_empty x.content) as (λ b. Older (if b then reused x ∷ xs else x ∷ with_claim xs) (suc i) r) [ true ↦ h | false ↦ older_claim xs i r h ]
+    elim (is_empty x.content) as (λ b. Older (if b then next_use x ∷ xs else x ∷ with_claim xs) (suc i) r) [ true ↦ h | false ↦ older_claim xs i r h ]
 
 older_done : {D I P : Type 0} (w : World D I P) (c : Change D I P) (i : ℕ) (r : Registration D) → Older w.slots i r → Older (done w c).slots i r
 older_done w (Put slot content) i r h = older_changed content w.slots slot i r h

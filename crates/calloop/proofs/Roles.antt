@@ -6,7 +6,7 @@ use Rattle.calloop_wake.specs.declared.token.RegistrationToken.{RegistrationToke
 use Rattle.calloop_wake.specs.declared.list.Content.{Content}
 use Rattle.calloop_wake.specs.declared.list.Slot.{Slot}
 use Rattle.calloop_wake.specs.declared.list.Content.TheVariants.{Vacant, Source, InTurn}
-use Rattle.calloop_wake.specs.Slots.{named, source_of}
+use Rattle.calloop_wake.specs.Slots.{content_at, source_of}
 use Rattle.calloop_core.specs.Deeds.{Lent}
 use Rattle.calloop_core.specs.Meanings.{Meaning}
 use Rattle.calloop.specs.Askings.{Asks}
@@ -25,10 +25,10 @@ only_source p (Source e) d h = when_source (p e) e d h
 
 -- a source that is seen there stands there
 abbrev pub Shows : {D : Type 0} → List (Slot D) → RegistrationToken → Content D → Type 0
-Shows {D} slots token c = (d : D) → c ≡ Source d → named slots token ≡ Source d
+Shows {D} slots token c = (d : D) → c ≡ Source d → content_at slots token ≡ Source d
 
-pub only_is : {D : Type 0} (p : D → Bool) (slots : List (Slot D)) (token : RegistrationToken) → Shows slots token (only p (named slots token))
-only_is p slots token d h = only_source p (named slots token) d h
+pub only_is : {D : Type 0} (p : D → Bool) (slots : List (Slot D)) (token : RegistrationToken) → Shows slots token (only p (content_at slots token))
+only_is p slots token d h = only_source p (content_at slots token) d h
 
 when_seen : {D : Type 0} (b : Bool) (d : D) → true ≡ is_some (source_of (when b d)) → when b d ≡ Source d
 when_seen true d h = refl

@@ -15,12 +15,12 @@ use Rattle.calloop_core.specs.declared.sys.Readiness.{Readiness}
 use Rattle.calloop_wake.specs.declared.list.Content.{Content}
 use Rattle.calloop_wake.specs.declared.list.Content.TheVariants.{Vacant, Source, InTurn}
 use Rattle.calloop_wake.specs.Tokens.{registration_of}
-use Rattle.calloop_wake.specs.Slots.{named}
+use Rattle.calloop_wake.specs.Slots.{content_at}
 use Rattle.calloop_core.specs.declared.sys.poll.Pending.{Pending}
 use Rattle.calloop_core.specs.declared.sources.source.PostAction.{PostAction}
 use Rattle.calloop_core.specs.declared.sources.source.PostAction.TheVariants.{Continue, Reregister, Disable as DisableIt, Remove}
 use Rattle.calloop_core.specs.Pollers.{Outside}
-use Rattle.calloop_core.specs.Polls.{PollView, PollStep, TakePass, PutBack, Arm, ArmAgain, Cancel, Call, ReadClock, Socket, Fault, poll_after, polls_after, AllAllowed, cut_from, begun, tail_of, head_of, with_pass, posted_events, polled_events, timer_event, timer_events}
+use Rattle.calloop_core.specs.Polls.{PollView, PollStep, TakePass, PutBack, Arm, ArmAgain, Cancel, Call, ReadClock, Socket, Fault, poll_after, polls_after, AllAllowed, cut_from, with_turn_of, tail_of, head_of, with_pass, posted_events, polled_events, timer_event, timer_events}
 use Rattle.calloop_core.specs.Deeds.{Lent}
 use Rattle.calloop_core.specs.Meanings.{Meaning}
 use Rattle.calloop.specs.declared.loop_logic.asks.Asked.{Asked}
@@ -28,11 +28,11 @@ use Rattle.calloop.specs.declared.loop_logic.asks.Idling.{Idling as Waiter}
 use Rattle.calloop.specs.declared.loop_logic.asks.Request.{Request}
 use Rattle.calloop.specs.declared.loop_logic.asks.Request.TheVariants.{Insert as AskInsert, Enable as AskEnable, Update as AskUpdate, Disable as AskDisable, Remove as AskRemove, Idle as AskIdle, Cancel as AskCancel}
 use Rattle.calloop.specs.Askings.{Asks, AskStep, Write, Take, Runs, ask_after, asks_after, begun_from, all_but_first, is_other_idle}
-use Rattle.calloop.specs.Machine.{World, View, IsNew, seen, Change, Put, Claim, Swapped, Polls, Polling, Watching, Counting, Holds, Appended, Gathered, Cut, Ended, AllFit, viewed, all_viewed}
+use Rattle.calloop.specs.Machine.{World, View, IsNew, visible, Change, Put, Claim, Swapped, Polls, Polling, Watching, Counting, Holds, Appended, Gathered, Cut, Ended, AllFit, after_change, all_viewed}
 use Rattle.calloop.specs.Roles.{only, is_callers, is_adapter}
-use Rattle.calloop.specs.Rules.{Doing, Beginning, Settling, Sleeping, Waiting, Gathering, Noticing, Cutting, Serving, Ending, Returning, Idling, RunningIdles, ServingIdle, Leaving, Outcome, Step, Steps, SleptAs, SleptBy, NoticedBy, CutTo, CutFrom, ActedBy, ReturnedTo, emptied, InsertedBy, AskedIn, SettledIn, RemovedIn, OwnOr, Served, ServedAs, ServedFrom, RunFrom, DispatchedBy, Run, all_traced, action_of, after_turn, after_wait, appends}
+use Rattle.calloop.specs.Rules.{Doing, Beginning, Settling, Sleeping, Waiting, Gathering, Noticing, Cutting, Serving, Ending, Returning, Idling, RunningIdles, ServingIdle, Leaving, Outcome, Step, Steps, SleptAs, SleptBy, NoticedBy, CutTo, CutFrom, ActedBy, ReturnedTo, vacate, InsertedBy, AskedIn, SettledIn, RemovedIn, OwnOr, Served, ServedAs, ServedFrom, RunFrom, DispatchedBy, Run, all_traced, action_of, after_turn, after_wait, appends}
 use Rattle.calloop.specs.Held.{HeldStep, Listed, Unlisted, Pend, Asking, Begun, Told, Owe, Paid, Cleared, Warned, StopNoted, IdleIn, IdleNew, IdleOut, IdlesTaken, IdleBegun}
-use Rattle.calloop.specs.Laws.{joined}
+use Rattle.calloop.specs.Laws.{flatten}
 use Rattle.calloop.specs.Served.{Account, first_of, events_cut, gatherings, Gathers, idles_begun, idles_cancelled, rounds, RunsRound, IsAccountOf, NothingIsLeft, AllAreCut, AllLater, NoneIsLate, DueAreCut, IdlesRan}
 use Rattle.calloop.specs.declared.loop_logic.LoopCall.{LoopCall}
 use Rattle.calloop.specs.declared.loop_logic.LoopAnswer.{LoopAnswer}
@@ -216,7 +216,7 @@ batch_steps : {P : Type 0} (p : PollView P) (ss : List (PollStep P)) → (polls_
 batch_steps p [] = refl
 batch_steps p (s ∷ ss) = batch_steps (poll_after p s) ss ∙ batch_step p s
 
-batch_begun : {P : Type 0} (p : PollView P) (e : Pending) → (begun e p).batch ≡ tail_of p.batch
+batch_begun : {P : Type 0} (p : PollView P) (e : Pending) → (with_turn_of e p).batch ≡ tail_of p.batch
 batch_begun {P} p e =
     elim e.posted as (λ b. ◌≡◌ {A = List Pending} (if b then record (with_pass (head_of p.passes) p) { batch = tail_of p.batch; passes = tail_of p.passes } else record (with_pass None p) { batch = tail_of p.batch }).batch (tail_of p.batch))
     [ true ↦ refl | false ↦ refl ]
@@ -228,21 +228,21 @@ batch_cut p (e ∷ es) is = ap (λ l. e ∷ l) (batch_begun p e ∙ ap tail_of i
 -- what such changes cut, and what is left then, is what was there
 all_cut : {D I P : Type 0} (v : View D I P) (cs : List (Change D I P)) → AllLoose cs → events_cut v cs ++ (all_viewed v cs).poll.batch ≡ v.poll.batch
 all_cut v [] h = refl
-all_cut v (Put slot content ∷ cs) h = all_cut (viewed v (Put slot content)) cs h.1
-all_cut v (Swapped slot old new ∷ cs) h = all_cut (viewed v (Swapped slot old new)) cs h.1
-all_cut v (Claim source ∷ cs) h = all_cut (viewed v (Claim source)) cs h.1
-all_cut v (Polls steps ∷ cs) h = all_cut (viewed v (Polls steps)) cs h.1 ∙ batch_steps v.poll steps
-all_cut v (Polling poller ∷ cs) h = all_cut (viewed v (Polling poller)) cs h.1
-all_cut v (Watching watch ∷ cs) h = all_cut (viewed v (Watching watch)) cs h.1
-all_cut v (Counting places ∷ cs) h = all_cut (viewed v (Counting places)) cs h.1
-all_cut v (Holds step ∷ cs) h = all_cut (viewed v (Holds step)) cs h.1
+all_cut v (Put slot content ∷ cs) h = all_cut (after_change v (Put slot content)) cs h.1
+all_cut v (Swapped slot old new ∷ cs) h = all_cut (after_change v (Swapped slot old new)) cs h.1
+all_cut v (Claim source ∷ cs) h = all_cut (after_change v (Claim source)) cs h.1
+all_cut v (Polls steps ∷ cs) h = all_cut (after_change v (Polls steps)) cs h.1 ∙ batch_steps v.poll steps
+all_cut v (Polling poller ∷ cs) h = all_cut (after_change v (Polling poller)) cs h.1
+all_cut v (Watching watch ∷ cs) h = all_cut (after_change v (Watching watch)) cs h.1
+all_cut v (Counting places ∷ cs) h = all_cut (after_change v (Counting places)) cs h.1
+all_cut v (Holds step ∷ cs) h = all_cut (after_change v (Holds step)) cs h.1
 all_cut v (Appended event ∷ cs) h = absurd h.0
 all_cut v (Gathered posted given now ∷ cs) h = absurd h.0
 all_cut v (Cut slot ∷ cs) h =
-    append_assoc (first_of v.poll.batch) (events_cut (viewed v (Cut slot)) cs) (all_viewed (viewed v (Cut slot)) cs).poll.batch
-    ∙ ap (λ l. first_of v.poll.batch ++ l) (all_cut (viewed v (Cut slot)) cs h.1)
+    append_assoc (first_of v.poll.batch) (events_cut (after_change v (Cut slot)) cs) (all_viewed (after_change v (Cut slot)) cs).poll.batch
+    ∙ ap (λ l. first_of v.poll.batch ++ l) (all_cut (after_change v (Cut slot)) cs h.1)
     ∙ batch_cut v.poll v.poll.batch refl
-all_cut v (Ended ∷ cs) h = all_cut (viewed v Ended) cs h.1
+all_cut v (Ended ∷ cs) h = all_cut (after_change v Ended) cs h.1
 
 -- an empty batch stays so
 stays_empty : {D I P : Type 0} (v : View D I P) (cs : List (Change D I P)) → AllLoose cs → v.poll.batch ≡ [] → (all_viewed v cs).poll.batch ≡ []
@@ -328,52 +328,52 @@ begins_or (x ∷ xs) i h = elim (in_cons x xs i h) [ inl same ↦ inl (0, omega 
 abbrev pub IsOver : {D I P : Type 0} → View D I P → List (Change D I P) → Waiter I → Type 0
 IsOver v cs i = Contains (idles_begun v cs) i ⊎ (Contains (idles_cancelled cs) i.ticket ⊎ Contains (all_viewed v cs).held.asks.running i)
 
-over_out : {D I P : Type 0} (v : View D I P) (ticket : ℕ) (cs : List (Change D I P)) (i : Waiter I) → IsOver (viewed v (Holds (IdleOut ticket))) cs i → IsOver v (Holds (IdleOut ticket) ∷ cs) i
+over_out : {D I P : Type 0} (v : View D I P) (ticket : ℕ) (cs : List (Change D I P)) (i : Waiter I) → IsOver (after_change v (Holds (IdleOut ticket))) cs i → IsOver v (Holds (IdleOut ticket) ∷ cs) i
 over_out v ticket cs i (inl h) = inl h
 over_out v ticket cs i (inr (inl h)) = inr (inl (Contains-append_right (ticket ∷ []) (idles_cancelled cs) i.ticket h))
 over_out v ticket cs i (inr (inr h)) = inr (inr h)
 
-over_begun : {D I P : Type 0} (v : View D I P) (cs : List (Change D I P)) (i : Waiter I) → IsOver (viewed v (Holds IdleBegun)) cs i → IsOver v (Holds IdleBegun ∷ cs) i
-over_begun v cs i (inl h) = inl (Contains-append_right (first_of v.held.asks.running) (idles_begun (viewed v (Holds IdleBegun)) cs) i h)
+over_begun : {D I P : Type 0} (v : View D I P) (cs : List (Change D I P)) (i : Waiter I) → IsOver (after_change v (Holds IdleBegun)) cs i → IsOver v (Holds IdleBegun ∷ cs) i
+over_begun v cs i (inl h) = inl (Contains-append_right (first_of v.held.asks.running) (idles_begun (after_change v (Holds IdleBegun)) cs) i h)
 over_begun v cs i (inr h) = inr h
 
 is_over : {D I P : Type 0} (v : View D I P) (cs : List (Change D I P)) → AllQuiet cs → (i : Waiter I) → Contains v.held.asks.running i → IsOver v cs i
 is_over v [] q i h = inr (inr h)
-is_over v (Put slot content ∷ cs) q i h = is_over (viewed v (Put slot content)) cs q.1 i h
-is_over v (Swapped slot old new ∷ cs) q i h = is_over (viewed v (Swapped slot old new)) cs q.1 i h
-is_over v (Claim source ∷ cs) q i h = is_over (viewed v (Claim source)) cs q.1 i h
-is_over v (Polls steps ∷ cs) q i h = is_over (viewed v (Polls steps)) cs q.1 i h
-is_over v (Polling poller ∷ cs) q i h = is_over (viewed v (Polling poller)) cs q.1 i h
-is_over v (Watching watch ∷ cs) q i h = is_over (viewed v (Watching watch)) cs q.1 i h
-is_over v (Counting places ∷ cs) q i h = is_over (viewed v (Counting places)) cs q.1 i h
-is_over {D} {I} {P} v (Holds (Listed needed token) ∷ cs) q i h = is_over (viewed v (Holds (Listed needed token))) cs q.1 i h
-is_over {D} {I} {P} v (Holds (Unlisted token) ∷ cs) q i h = is_over (viewed v (Holds (Unlisted token))) cs q.1 i h
-is_over {D} {I} {P} v (Holds (Pend action) ∷ cs) q i h = is_over (viewed v (Holds (Pend action))) cs q.1 i h
-is_over {D} {I} {P} v (Holds (Asking steps) ∷ cs) q i h = is_over (viewed v (Holds (Asking steps))) cs q.1 i (subst (λ (l : List (Waiter I)). Contains l i) (sym (running_asks v.held.asks steps)) h)
-is_over {D} {I} {P} v (Holds Begun ∷ cs) q i h = is_over (viewed v (Holds Begun)) cs q.1 i (subst (λ (l : List (Waiter I)). Contains l i) (sym (running_begun v.held.asks.written v.held.asks)) h)
-is_over {D} {I} {P} v (Holds (Told answer) ∷ cs) q i h = is_over (viewed v (Holds (Told answer))) cs q.1 i h
-is_over {D} {I} {P} v (Holds Owe ∷ cs) q i h = is_over (viewed v (Holds Owe)) cs q.1 i h
-is_over {D} {I} {P} v (Holds (Paid answer) ∷ cs) q i h = is_over (viewed v (Holds (Paid answer))) cs q.1 i h
-is_over {D} {I} {P} v (Holds Cleared ∷ cs) q i h = is_over (viewed v (Holds Cleared)) cs q.1 i h
-is_over {D} {I} {P} v (Holds (Warned kept told) ∷ cs) q i h = is_over (viewed v (Holds (Warned kept told))) cs q.1 i h
-is_over {D} {I} {P} v (Holds (StopNoted note) ∷ cs) q i h = is_over (viewed v (Holds (StopNoted note))) cs q.1 i h
-is_over {D} {I} {P} v (Holds (IdleIn idle) ∷ cs) q i h = is_over (viewed v (Holds (IdleIn idle))) cs q.1 i h
-is_over {D} {I} {P} v (Holds (IdleNew idle) ∷ cs) q i h = is_over (viewed v (Holds (IdleNew idle))) cs q.1 i h
+is_over v (Put slot content ∷ cs) q i h = is_over (after_change v (Put slot content)) cs q.1 i h
+is_over v (Swapped slot old new ∷ cs) q i h = is_over (after_change v (Swapped slot old new)) cs q.1 i h
+is_over v (Claim source ∷ cs) q i h = is_over (after_change v (Claim source)) cs q.1 i h
+is_over v (Polls steps ∷ cs) q i h = is_over (after_change v (Polls steps)) cs q.1 i h
+is_over v (Polling poller ∷ cs) q i h = is_over (after_change v (Polling poller)) cs q.1 i h
+is_over v (Watching watch ∷ cs) q i h = is_over (after_change v (Watching watch)) cs q.1 i h
+is_over v (Counting places ∷ cs) q i h = is_over (after_change v (Counting places)) cs q.1 i h
+is_over {D} {I} {P} v (Holds (Listed needed token) ∷ cs) q i h = is_over (after_change v (Holds (Listed needed token))) cs q.1 i h
+is_over {D} {I} {P} v (Holds (Unlisted token) ∷ cs) q i h = is_over (after_change v (Holds (Unlisted token))) cs q.1 i h
+is_over {D} {I} {P} v (Holds (Pend action) ∷ cs) q i h = is_over (after_change v (Holds (Pend action))) cs q.1 i h
+is_over {D} {I} {P} v (Holds (Asking steps) ∷ cs) q i h = is_over (after_change v (Holds (Asking steps))) cs q.1 i (subst (λ (l : List (Waiter I)). Contains l i) (sym (running_asks v.held.asks steps)) h)
+is_over {D} {I} {P} v (Holds Begun ∷ cs) q i h = is_over (after_change v (Holds Begun)) cs q.1 i (subst (λ (l : List (Waiter I)). Contains l i) (sym (running_begun v.held.asks.written v.held.asks)) h)
+is_over {D} {I} {P} v (Holds (Told answer) ∷ cs) q i h = is_over (after_change v (Holds (Told answer))) cs q.1 i h
+is_over {D} {I} {P} v (Holds Owe ∷ cs) q i h = is_over (after_change v (Holds Owe)) cs q.1 i h
+is_over {D} {I} {P} v (Holds (Paid answer) ∷ cs) q i h = is_over (after_change v (Holds (Paid answer))) cs q.1 i h
+is_over {D} {I} {P} v (Holds Cleared ∷ cs) q i h = is_over (after_change v (Holds Cleared)) cs q.1 i h
+is_over {D} {I} {P} v (Holds (Warned kept told) ∷ cs) q i h = is_over (after_change v (Holds (Warned kept told))) cs q.1 i h
+is_over {D} {I} {P} v (Holds (StopNoted note) ∷ cs) q i h = is_over (after_change v (Holds (StopNoted note))) cs q.1 i h
+is_over {D} {I} {P} v (Holds (IdleIn idle) ∷ cs) q i h = is_over (after_change v (Holds (IdleIn idle))) cs q.1 i h
+is_over {D} {I} {P} v (Holds (IdleNew idle) ∷ cs) q i h = is_over (after_change v (Holds (IdleNew idle))) cs q.1 i h
 is_over {D} {I} {P} v (Holds (IdleOut ticket) ∷ cs) q i h =
     elim (nat_eq i.ticket ticket) as (λ b. nat_eq i.ticket ticket ≡ b → IsOver v (Holds (IdleOut ticket) ∷ cs) i) [
       | true ↦ λ e. inr (inl (0, omega arith, (let same : i.ticket ≡ ticket = grind (arith, nat_tests) in sym same)))
-      | false ↦ λ off. over_out v ticket cs i (is_over (viewed v (Holds (IdleOut ticket))) cs q.1 i (still_there ticket v.held.asks.running i off h))
+      | false ↦ λ off. over_out v ticket cs i (is_over (after_change v (Holds (IdleOut ticket))) cs q.1 i (still_there ticket v.held.asks.running i off h))
     ] refl
 is_over {D} {I} {P} v (Holds IdlesTaken ∷ cs) q i h = absurd q.0
 is_over {D} {I} {P} v (Holds IdleBegun ∷ cs) q i h =
     elim (begins_or v.held.asks.running i h) [
-      | inl k ↦ inl (Contains-append_left (first_of v.held.asks.running) (idles_begun (viewed v (Holds IdleBegun)) cs) i k)
-      | inr k ↦ over_begun v cs i (is_over (viewed v (Holds IdleBegun)) cs q.1 i k)
+      | inl k ↦ inl (Contains-append_left (first_of v.held.asks.running) (idles_begun (after_change v (Holds IdleBegun)) cs) i k)
+      | inr k ↦ over_begun v cs i (is_over (after_change v (Holds IdleBegun)) cs q.1 i k)
     ]
-is_over v (Appended event ∷ cs) q i h = is_over (viewed v (Appended event)) cs q.1 i h
-is_over v (Gathered posted given now ∷ cs) q i h = is_over (viewed v (Gathered posted given now)) cs q.1 i h
-is_over v (Cut slot ∷ cs) q i h = is_over (viewed v (Cut slot)) cs q.1 i h
-is_over v (Ended ∷ cs) q i h = is_over (viewed v Ended) cs q.1 i h
+is_over v (Appended event ∷ cs) q i h = is_over (after_change v (Appended event)) cs q.1 i h
+is_over v (Gathered posted given now ∷ cs) q i h = is_over (after_change v (Gathered posted given now)) cs q.1 i h
+is_over v (Cut slot ∷ cs) q i h = is_over (after_change v (Cut slot)) cs q.1 i h
+is_over v (Ended ∷ cs) q i h = is_over (after_change v Ended) cs q.1 i h
 
 module _ {D I P X : Type 0} (M : Meaning D P (Lent X (Asks D I))) (runs : Runs D I X) (O : Outside P) where
   ordered_steps : (p : PollView P) (ss : List (PollStep P)) → AllAllowed O p ss → IsOrdered p.deadlines → IsOrdered (polls_after p ss).deadlines
@@ -408,18 +408,18 @@ module _ {D I P X : Type 0} (M : Meaning D P (Lent X (Asks D I))) (runs : Runs D
 
   ordered_all : (v : View D I P) (cs : List (Change D I P)) → AllFit O v cs → IsOrdered v.poll.deadlines → IsOrdered (all_viewed v cs).poll.deadlines
   ordered_all v [] f h = h
-  ordered_all v (Put slot content ∷ cs) f h = ordered_all (viewed v (Put slot content)) cs f.1 h
-  ordered_all v (Swapped slot old new ∷ cs) f h = ordered_all (viewed v (Swapped slot old new)) cs f.1 h
-  ordered_all v (Claim source ∷ cs) f h = ordered_all (viewed v (Claim source)) cs f.1 h
-  ordered_all v (Polls steps ∷ cs) f h = ordered_all (viewed v (Polls steps)) cs f.1 (ordered_steps v.poll steps f.0 h)
-  ordered_all v (Polling poller ∷ cs) f h = ordered_all (viewed v (Polling poller)) cs f.1 h
-  ordered_all v (Watching watch ∷ cs) f h = ordered_all (viewed v (Watching watch)) cs f.1 h
-  ordered_all v (Counting places ∷ cs) f h = ordered_all (viewed v (Counting places)) cs f.1 h
-  ordered_all v (Holds step ∷ cs) f h = ordered_all (viewed v (Holds step)) cs f.1 h
-  ordered_all v (Appended event ∷ cs) f h = ordered_all (viewed v (Appended event)) cs f.1 h
-  ordered_all v (Gathered posted given now ∷ cs) f h = ordered_all (viewed v (Gathered posted given now)) cs f.1 (record { sorted = sorted_behind now v.poll.deadlines.entries h.sorted; below = below_behind now v.poll.deadlines.next v.poll.deadlines.entries h.below })
-  ordered_all v (Cut slot ∷ cs) f h = ordered_all (viewed v (Cut slot)) cs f.1 (subst (λ (d : Deadlines). IsOrdered d) (sym (deadlines_cut v.poll v.poll.batch)) h)
-  ordered_all v (Ended ∷ cs) f h = ordered_all (viewed v Ended) cs f.1 h
+  ordered_all v (Put slot content ∷ cs) f h = ordered_all (after_change v (Put slot content)) cs f.1 h
+  ordered_all v (Swapped slot old new ∷ cs) f h = ordered_all (after_change v (Swapped slot old new)) cs f.1 h
+  ordered_all v (Claim source ∷ cs) f h = ordered_all (after_change v (Claim source)) cs f.1 h
+  ordered_all v (Polls steps ∷ cs) f h = ordered_all (after_change v (Polls steps)) cs f.1 (ordered_steps v.poll steps f.0 h)
+  ordered_all v (Polling poller ∷ cs) f h = ordered_all (after_change v (Polling poller)) cs f.1 h
+  ordered_all v (Watching watch ∷ cs) f h = ordered_all (after_change v (Watching watch)) cs f.1 h
+  ordered_all v (Counting places ∷ cs) f h = ordered_all (after_change v (Counting places)) cs f.1 h
+  ordered_all v (Holds step ∷ cs) f h = ordered_all (after_change v (Holds step)) cs f.1 h
+  ordered_all v (Appended event ∷ cs) f h = ordered_all (after_change v (Appended event)) cs f.1 h
+  ordered_all v (Gathered posted given now ∷ cs) f h = ordered_all (after_change v (Gathered posted given now)) cs f.1 (record { sorted = sorted_behind now v.poll.deadlines.entries h.sorted; below = below_behind now v.poll.deadlines.next v.poll.deadlines.entries h.below })
+  ordered_all v (Cut slot ∷ cs) f h = ordered_all (after_change v (Cut slot)) cs f.1 (subst (λ (d : Deadlines). IsOrdered d) (sym (deadlines_cut v.poll v.poll.batch)) h)
+  ordered_all v (Ended ∷ cs) f h = ordered_all (after_change v Ended) cs f.1 h
 
   -- Each step behind the gathering puts nothing into the batch.
 
@@ -430,9 +430,9 @@ module _ {D I P X : Type 0} (M : Meaning D P (Lent X (Asks D I))) (runs : Runs D
 
   from_tame : (v : View D I P) (es : List Pending) (x : X) (cs : List (Change D I P)) (b : Doing D X) → CutFrom M es v x cs b → AllTame cs
   from_tame v [] x cs b h = rw h.0 tt
-  from_tame v (e ∷ es) x cs b h = cut_tame v e x cs b (named v.slots (registration_of e.token)) h
+  from_tame v (e ∷ es) x cs b h = cut_tame v e x cs b (content_at v.slots (registration_of e.token)) h
 
-  emptied_tame : (token : RegistrationToken) (c : Content D) → AllTame (emptied {D = D} {I = I} {P = P} token c)
+  emptied_tame : (token : RegistrationToken) (c : Content D) → AllTame (vacate {D = D} {I = I} {P = P} token c)
   emptied_tame token Vacant = tt
   emptied_tame token (Source d) = tt
   emptied_tame token InTurn = (tt, tt)
@@ -441,7 +441,7 @@ module _ {D I P X : Type 0} (M : Meaning D P (Lent X (Asks D I))) (runs : Runs D
   acted_tame v token d (Ok Continue) cs e told h = rw h.0 (tt, tt)
   acted_tame v token d (Ok Reregister) cs e told h = rw h.2 (tt, (tt, (tt, tt)))
   acted_tame v token d (Ok DisableIt) cs e told h = rw h.2 (tt, (tt, (tt, tt)))
-  acted_tame v token d (Ok Remove) cs e told h = rw h.0 (tt, emptied_tame token (named v.slots token))
+  acted_tame v token d (Ok Remove) cs e told h = rw h.0 (tt, emptied_tame token (content_at v.slots token))
   acted_tame v token d (Err error) cs e told h = rw h.0 (tt, tt)
 
   returned_tame : (v : View D I P) (token : RegistrationToken) (d : D) (c : Content D) (cs : List (Change D I P)) → ReturnedTo M token d c v cs → AllTame cs
@@ -478,9 +478,9 @@ module _ {D I P X : Type 0} (M : Meaning D P (Lent X (Asks D I))) (runs : Runs D
   told_tame ds cs step q is h = rw is (tame-append ds (Holds step ∷ []) h (q, tt))
 
   served_as_tame : (v : View D I P) (request : Request D I) (answer : Outcome) (cs : List (Change D I P)) → ServedAs M request answer v cs → AllTame cs
-  served_as_tame v (AskEnable token) answer cs h = own_or (named v.slots token) (λ k. rw k.1 tt) (λ k. asked_tame _ _ (λ d a. tt) token (only (is_callers M) (named v.slots token)) answer cs k) h
-  served_as_tame v (AskUpdate token) answer cs h = own_or (named v.slots token) (λ k. rw k.1 (tt, tt)) (λ k. asked_tame _ _ (λ d a. tt) token (only (is_callers M) (named v.slots token)) answer cs k) h
-  served_as_tame v (AskDisable token) answer cs h = own_or (named v.slots token) (λ k. rw k.1 (tt, tt)) (λ k. asked_tame _ _ (λ d a. tt) token (only (is_callers M) (named v.slots token)) answer cs k) h
+  served_as_tame v (AskEnable token) answer cs h = own_or (content_at v.slots token) (λ k. rw k.1 tt) (λ k. asked_tame _ _ (λ d a. tt) token (only (is_callers M) (content_at v.slots token)) answer cs k) h
+  served_as_tame v (AskUpdate token) answer cs h = own_or (content_at v.slots token) (λ k. rw k.1 (tt, tt)) (λ k. asked_tame _ _ (λ d a. tt) token (only (is_callers M) (content_at v.slots token)) answer cs k) h
+  served_as_tame v (AskDisable token) answer cs h = own_or (content_at v.slots token) (λ k. rw k.1 (tt, tt)) (λ k. asked_tame _ _ (λ d a. tt) token (only (is_callers M) (content_at v.slots token)) answer cs k) h
   served_as_tame v (AskInsert d) answer cs h = absurd h
   served_as_tame v (AskRemove token) answer cs h = absurd h
   served_as_tame v (AskIdle idle) answer cs h = absurd h
@@ -492,13 +492,13 @@ module _ {D I P X : Type 0} (M : Meaning D P (Lent X (Asks D I))) (runs : Runs D
   served_tame v (AskUpdate token) cs h = told_tame h.1 cs _ tt h.3 (served_as_tame v (AskUpdate token) h.0 h.1 h.2)
   served_tame v (AskDisable token) cs h = told_tame h.1 cs _ tt h.3 (served_as_tame v (AskDisable token) h.0 h.1 h.2)
   served_tame v (AskRemove token) cs h =
-      own_or (named v.slots token) (λ k. rw k (tt, (tt, (tt, tt)))) (λ k. told_tame k.1 cs _ tt k.3 (removed_tame v token (only (is_callers M) (named v.slots token)) k.0 k.1 k.2)) h
+      own_or (content_at v.slots token) (λ k. rw k (tt, (tt, (tt, tt)))) (λ k. told_tame k.1 cs _ tt k.3 (removed_tame v token (only (is_callers M) (content_at v.slots token)) k.0 k.1 k.2)) h
   served_tame v (AskIdle idle) cs h = rw h (tt, tt)
   served_tame v (AskCancel ticket) cs h = rw h (tt, (tt, tt))
 
   served_from_tame : (v : View D I P) (asked : List (Asked D I)) (on next b : Doing D X) (cs : List (Change D I P)) → ServedFrom M asked on next b v cs → AllTame cs
   served_from_tame v [] on next b cs h = rw h.0 tt
-  served_from_tame v (a ∷ as') on next b cs h = rw h.2 (tt, served_tame (viewed v (Holds Begun)) a.request h.0 h.1)
+  served_from_tame v (a ∷ as') on next b cs h = rw h.2 (tt, served_tame (after_change v (Holds Begun)) a.request h.0 h.1)
 
   run_from_tame : (v : View D I P) (idles : List (Waiter I)) (x : X) (cs : List (Change D I P)) (b : Doing D X) → RunFrom runs idles v x cs b → AllTame cs
   run_from_tame v [] x cs b h = rw h.0 tt
@@ -548,7 +548,7 @@ module _ {D I P X : Type 0} (M : Meaning D P (Lent X (Asks D I))) (runs : Runs D
 
   from_on : (v : View D I P) (es : List Pending) (x : X) (cs : List (Change D I P)) (b : Doing D X) → v.poll.batch ≡ es → CutFrom M es v x cs b → IsLate b × Stands (all_viewed v cs) b
   from_on v [] x cs b is h = rw (h.1, h.0) (tt, is)
-  from_on v (e ∷ es) x cs b is h = cut_on v e x cs b (named v.slots (registration_of e.token)) h
+  from_on v (e ∷ es) x cs b is h = cut_on v e x cs b (content_at v.slots (registration_of e.token)) h
 
   returned_on : (u : View D I P) (told : Outcome) (x : X) → IsLate (after_turn told x) × Stands u (after_turn told x)
   returned_on u (Ok t) x = (tt, tt)
@@ -574,8 +574,8 @@ module _ {D I P X : Type 0} (M : Meaning D P (Lent X (Asks D I))) (runs : Runs D
   goes_on v (Gathering now given x) b cs late s h = absurd late
   goes_on v (Noticing from [] x) b cs late s h = record { tame = rw h.0 tt; late = rw h.1 tt; stands = rw h.1 tt }
   goes_on v (Noticing from (t ∷ later) x) b cs late s h =
-      let is = noticed_on v from t later x cs b (named v.slots t) h in
-      record { tame = loose_tame cs (noticed_tame v from t later x cs b (named v.slots t) h); late = rw is tt; stands = rw is tt }
+      let is = noticed_on v from t later x cs b (content_at v.slots t) h in
+      record { tame = loose_tame cs (noticed_tame v from t later x cs b (content_at v.slots t) h); late = rw is tt; stands = rw is tt }
   goes_on v (Cutting x) b cs late s h =
       let k = from_on v v.poll.batch x cs b refl h in
       record { tame = loose_tame cs (from_tame v v.poll.batch x cs b h); late = k.0; stands = k.1 }
@@ -586,7 +586,7 @@ module _ {D I P X : Type 0} (M : Meaning D P (Lent X (Asks D I))) (runs : Runs D
       record { tame = loose_tame cs (acted_tame v token d (action_of answer v.held.pending) cs h.0 h.1 h.2); late = rw h.3 tt; stands = rw h.3 tt }
   goes_on v (Returning token d told x) b cs late s h =
       let k = returned_on (all_viewed v cs) told x in
-      record { tame = loose_tame cs (returned_tame v token d (named v.slots token) cs h.0); late = rw h.1 k.0; stands = rw h.1 k.1 }
+      record { tame = loose_tame cs (returned_tame v token d (content_at v.slots token) cs h.0); late = rw h.1 k.0; stands = rw h.1 k.1 }
   goes_on v (Idling x) b cs late s h = record { tame = rw h.0 (tt, tt); late = rw h.1 tt; stands = rw (h.1, h.0) s }
   goes_on v (RunningIdles x) b cs late s h =
       let t = loose_tame cs (run_from_tame v v.held.asks.running x cs b h) in
@@ -599,12 +599,12 @@ module _ {D I P X : Type 0} (M : Meaning D P (Lent X (Asks D I))) (runs : Runs D
   goes_on v (Leaving answer x) b cs late s h = absurd h
 
   -- all steps behind the gathering
-  all_go_on : (v : View D I P) (a b : Doing D X) (css : List (List (Change D I P))) → IsLate a → Stands v a → Steps M runs O v a css b → AllLoose (joined css) × Stands (all_viewed v (joined css)) b
+  all_go_on : (v : View D I P) (a b : Doing D X) (css : List (List (Change D I P))) → IsLate a → Stands v a → Steps M runs O v a css b → AllLoose (flatten css) × Stands (all_viewed v (flatten css)) b
   all_go_on v a b [] late s h = (tt, rw h s)
   all_go_on v a b (cs ∷ css) late s h =
       let k = goes_on v a h.0 cs late s h.1 in
       let rest = all_go_on (all_viewed v cs) h.0 b css k.late k.stands h.3 in
-      (loose-append cs (joined css) k.tame rest.0, subst (λ (u : View D I P). Stands u b) (sym (viewed-append v cs (joined css))) rest.1)
+      (loose-append cs (flatten css) k.tame rest.0, subst (λ (u : View D I P). Stands u b) (sym (viewed-append v cs (flatten css))) rest.1)
 
   -- Before the gathering.
 
@@ -647,18 +647,18 @@ module _ {D I P X : Type 0} (M : Meaning D P (Lent X (Asks D I))) (runs : Runs D
 
   gathers_behind : (now : ℕ) (t u : View D I P) (es : List Pending) (v : View D I P) (cs ds : List (Change D I P)) → AllPlain cs → Gathers now t u es (all_viewed v cs) ds → Gathers now t u es v (cs ++ ds)
   gathers_behind now t u es v [] ds p h = h
-  gathers_behind now t u es v (Put slot content ∷ cs) ds p h = gathers_behind now t u es (viewed v (Put slot content)) cs ds p.1 h
-  gathers_behind now t u es v (Swapped slot old new ∷ cs) ds p h = gathers_behind now t u es (viewed v (Swapped slot old new)) cs ds p.1 h
-  gathers_behind now t u es v (Claim source ∷ cs) ds p h = gathers_behind now t u es (viewed v (Claim source)) cs ds p.1 h
-  gathers_behind now t u es v (Polls steps ∷ cs) ds p h = gathers_behind now t u es (viewed v (Polls steps)) cs ds p.1 h
-  gathers_behind now t u es v (Polling poller ∷ cs) ds p h = gathers_behind now t u es (viewed v (Polling poller)) cs ds p.1 h
-  gathers_behind now t u es v (Watching watch ∷ cs) ds p h = gathers_behind now t u es (viewed v (Watching watch)) cs ds p.1 h
-  gathers_behind now t u es v (Counting places ∷ cs) ds p h = gathers_behind now t u es (viewed v (Counting places)) cs ds p.1 h
-  gathers_behind now t u es v (Holds step ∷ cs) ds p h = gathers_behind now t u es (viewed v (Holds step)) cs ds p.1 h
-  gathers_behind now t u es v (Appended event ∷ cs) ds p h = gathers_behind now t u es (viewed v (Appended event)) cs ds p.1 h
+  gathers_behind now t u es v (Put slot content ∷ cs) ds p h = gathers_behind now t u es (after_change v (Put slot content)) cs ds p.1 h
+  gathers_behind now t u es v (Swapped slot old new ∷ cs) ds p h = gathers_behind now t u es (after_change v (Swapped slot old new)) cs ds p.1 h
+  gathers_behind now t u es v (Claim source ∷ cs) ds p h = gathers_behind now t u es (after_change v (Claim source)) cs ds p.1 h
+  gathers_behind now t u es v (Polls steps ∷ cs) ds p h = gathers_behind now t u es (after_change v (Polls steps)) cs ds p.1 h
+  gathers_behind now t u es v (Polling poller ∷ cs) ds p h = gathers_behind now t u es (after_change v (Polling poller)) cs ds p.1 h
+  gathers_behind now t u es v (Watching watch ∷ cs) ds p h = gathers_behind now t u es (after_change v (Watching watch)) cs ds p.1 h
+  gathers_behind now t u es v (Counting places ∷ cs) ds p h = gathers_behind now t u es (after_change v (Counting places)) cs ds p.1 h
+  gathers_behind now t u es v (Holds step ∷ cs) ds p h = gathers_behind now t u es (after_change v (Holds step)) cs ds p.1 h
+  gathers_behind now t u es v (Appended event ∷ cs) ds p h = gathers_behind now t u es (after_change v (Appended event)) cs ds p.1 h
   gathers_behind now t u es v (Gathered posted given moment ∷ cs) ds p h = absurd p.0
   gathers_behind now t u es v (Cut slot ∷ cs) ds p h = absurd p.0
-  gathers_behind now t u es v (Ended ∷ cs) ds p h = gathers_behind now t u es (viewed v Ended) cs ds p.1 h
+  gathers_behind now t u es v (Ended ∷ cs) ds p h = gathers_behind now t u es (after_change v Ended) cs ds p.1 h
 
   found_behind : (v : View D I P) (cs ds : List (Change D I P)) → AllPlain cs → AllFit O v cs → Found (all_viewed v cs) ds → Found v (cs ++ ds)
   found_behind v cs ds p fits f =
@@ -674,17 +674,17 @@ module _ {D I P X : Type 0} (M : Meaning D P (Lent X (Asks D I))) (runs : Runs D
         empty = subst (λ (u : View D I P). u.poll.batch ≡ []) (sym (viewed-append v cs ds)) f.empty;
       }
 
-  found_there : (v : View D I P) (posted : List ℕ) (given : List (ℕ × Readiness)) (now : ℕ) (from : ℕ) (later : List RegistrationToken) (x x' : X) (css : List (List (Change D I P))) → Steps M runs O (viewed v (Gathered posted given now)) (Noticing from later x) css (Leaving (Ok tt) x') → Found v (Gathered posted given now ∷ joined css)
+  found_there : (v : View D I P) (posted : List ℕ) (given : List (ℕ × Readiness)) (now : ℕ) (from : ℕ) (later : List RegistrationToken) (x x' : X) (css : List (List (Change D I P))) → Steps M runs O (after_change v (Gathered posted given now)) (Noticing from later x) css (Leaving (Ok tt) x') → Found v (Gathered posted given now ∷ flatten css)
   found_there v posted given now from later x x' css h =
-      let u = viewed v (Gathered posted given now) in
+      let u = after_change v (Gathered posted given now) in
       let k = all_go_on u (Noticing from later x) (Leaving (Ok tt) x') css tt tt h in
-      let all = sym (append_nil (events_cut u (joined css))) ∙ ap (λ l. events_cut u (joined css) ++ l) (sym k.1.0) ∙ all_cut u (joined css) k.0 in
+      let all = sym (append_nil (events_cut u (flatten css))) ∙ ap (λ l. events_cut u (flatten css) ++ l) (sym k.1.0) ∙ all_cut u (flatten css) k.0 in
       record {
         now = now;
         right_before = v;
         right_behind = u;
-        cut_then = events_cut u (joined css);
-        gathers = (refl, refl, refl, refl, none_gathers (joined css) k.0);
+        cut_then = events_cut u (flatten css);
+        gathers = (refl, refl, refl, refl, none_gathers (flatten css) k.0);
         all = all;
         later = λ o. not_due_later now v.poll.deadlines.entries o.sorted;
         due_cut = λ o e there come.
@@ -693,7 +693,7 @@ module _ {D I P X : Type 0} (M : Meaning D P (Lent X (Asks D I))) (runs : Runs D
         empty = k.1.0;
       }
 
-  found : (v : View D I P) (a : Doing D X) (x' : X) (css : List (List (Change D I P))) → IsEarly a → Steps M runs O v a css (Leaving (Ok tt) x') → Found v (joined css)
+  found : (v : View D I P) (a : Doing D X) (x' : X) (css : List (List (Change D I P))) → IsEarly a → Steps M runs O v a css (Leaving (Ok tt) x') → Found v (flatten css)
   found v (Beginning timeout x) x' [] early h = cc
   found v (Settling timeout later x) x' [] early h = cc
   found v (Sleeping timeout later x) x' [] early h = cc
@@ -701,23 +701,23 @@ module _ {D I P X : Type 0} (M : Meaning D P (Lent X (Asks D I))) (runs : Runs D
   found v (Gathering now given x) x' [] early h = cc
   found v (Leaving (Err e) x) x' [] early h = cc
   found v (Beginning timeout x) x' (cs ∷ css) early h =
-      found_behind v cs (joined css) (let s = h.1 in rw s.4 (tt, (tt, (tt, tt)))) h.2 (found (all_viewed v cs) h.0 x' css (let s = h.1 in rw s.5 tt) h.3)
+      found_behind v cs (flatten css) (let s = h.1 in rw s.4 (tt, (tt, (tt, tt)))) h.2 (found (all_viewed v cs) h.0 x' css (let s = h.1 in rw s.5 tt) h.3)
   found v (Settling timeout [] x) x' (cs ∷ css) early h =
-      found_behind v cs (joined css) (let s = h.1 in rw s.0 tt) h.2 (found (all_viewed v cs) h.0 x' css (let s = h.1 in rw s.1 tt) h.3)
+      found_behind v cs (flatten css) (let s = h.1 in rw s.0 tt) h.2 (found (all_viewed v cs) h.0 x' css (let s = h.1 in rw s.1 tt) h.3)
   found v (Settling timeout (t ∷ later) x) x' (cs ∷ css) early h =
-      found_behind v cs (joined css) (settled_early v t (only (is_adapter M) (named v.slots t)) cs h.1.0) h.2 (found (all_viewed v cs) h.0 x' css (let s = h.1 in rw s.1 tt) h.3)
+      found_behind v cs (flatten css) (settled_early v t (only (is_adapter M) (content_at v.slots t)) cs h.1.0) h.2 (found (all_viewed v cs) h.0 x' css (let s = h.1 in rw s.1 tt) h.3)
   found v (Sleeping timeout [] x) x' (cs ∷ css) early h =
-      found_behind v cs (joined css) (let s = h.1 in rw s.0 tt) h.2 (found (all_viewed v cs) h.0 x' css (let s = h.1 in rw s.1 tt) h.3)
+      found_behind v cs (flatten css) (let s = h.1 in rw s.0 tt) h.2 (found (all_viewed v cs) h.0 x' css (let s = h.1 in rw s.1 tt) h.3)
   found v (Sleeping timeout (t ∷ later) x) x' (cs ∷ css) early h =
-      let k = slept_early v timeout t later x cs h.0 (named v.slots t) h.1 in
-      found_behind v cs (joined css) k.0 h.2 (found (all_viewed v cs) h.0 x' css k.1 h.3)
+      let k = slept_early v timeout t later x cs h.0 (content_at v.slots t) h.1 in
+      found_behind v cs (flatten css) k.0 h.2 (found (all_viewed v cs) h.0 x' css k.1 h.3)
   found v (Waiting timeout x) x' (cs ∷ css) early h =
-      found_behind v cs (joined css) (let s = h.1 in rw s.5 (tt, (tt, tt))) h.2 (found (all_viewed v cs) h.0 x' css (let s = h.1 in rw s.6 (waited_early s.0 s.1 x)) h.3)
+      found_behind v cs (flatten css) (let s = h.1 in rw s.5 (tt, (tt, tt))) h.2 (found (all_viewed v cs) h.0 x' css (let s = h.1 in rw s.6 (waited_early s.0 s.1 x)) h.3)
   found v (Gathering now given x) x' (cs ∷ css) early h =
       let s = h.1 in
       let from = subst (λ (ds : List (Change D I P)). Steps M runs O (all_viewed v ds) h.0 css (Leaving (Ok tt) x')) s.1 h.3 in
-      let there = subst (λ (c : Doing D X). Steps M runs O (viewed v (Gathered s.0 given now)) c css (Leaving (Ok tt) x')) s.2 from in
-      subst (λ (ds : List (Change D I P)). Found v (ds ++ joined css)) (sym s.1) (found_there v s.0 given now _ _ x x' css there)
+      let there = subst (λ (c : Doing D X). Steps M runs O (after_change v (Gathered s.0 given now)) c css (Leaving (Ok tt) x')) s.2 from in
+      subst (λ (ds : List (Change D I P)). Found v (ds ++ flatten css)) (sym s.1) (found_there v s.0 given now _ _ x x' css there)
   found v (Leaving (Err e) x) x' (cs ∷ css) early h = absurd h.1
   found v (Leaving (Ok u) x) x' css early h = absurd early
   found v (Noticing from later x) x' css early h = absurd early
@@ -729,7 +729,7 @@ module _ {D I P X : Type 0} (M : Meaning D P (Lent X (Asks D I))) (runs : Runs D
   found v (RunningIdles x) x' css early h = absurd early
   found v (ServingIdle x) x' css early h = absurd early
 
-  found_in : (timeout : Option ℕ) (x x' : X) (v : View D I P) (css : List (List (Change D I P))) → DispatchedBy M runs O timeout x (Ok tt) x' v css → Found v (joined css)
+  found_in : (timeout : Option ℕ) (x x' : X) (v : View D I P) (css : List (List (Change D I P))) → DispatchedBy M runs O timeout x (Ok tt) x' v css → Found v (flatten css)
   found_in timeout x x' v css (inl h) = (let e = h.0 in cc)
   found_in timeout x x' v css (inr h) = found v (Beginning timeout x) x' css tt h
 
@@ -773,7 +773,7 @@ module _ {D I P X : Type 0} (M : Meaning D P (Lent X (Asks D I))) (runs : Runs D
 
   from_ahead : (v : View D I P) (es : List Pending) (x : X) (cs : List (Change D I P)) (b : Doing D X) → CutFrom M es v x cs b → IsBeforeRound b
   from_ahead v [] x cs b h = rw h.1 tt
-  from_ahead v (e ∷ es) x cs b h = cut_ahead v e x cs b (named v.slots (registration_of e.token)) h
+  from_ahead v (e ∷ es) x cs b h = cut_ahead v e x cs b (content_at v.slots (registration_of e.token)) h
 
   returned_ahead : (told : Outcome) (x : X) → IsBeforeRound (after_turn told x)
   returned_ahead (Ok t) x = tt
@@ -793,33 +793,33 @@ module _ {D I P X : Type 0} (M : Meaning D P (Lent X (Asks D I))) (runs : Runs D
 
   takes_behind : (is js : List (Waiter I)) (ns : List ℕ) (v : View D I P) (cs ds : List (Change D I P)) → AllQuiet cs → RunsRound is js ns (all_viewed v cs) ds → RunsRound is js ns v (cs ++ ds)
   takes_behind is js ns v [] ds q h = h
-  takes_behind is js ns v (Put slot content ∷ cs) ds q h = takes_behind is js ns (viewed v (Put slot content)) cs ds q.1 h
-  takes_behind is js ns v (Swapped slot old new ∷ cs) ds q h = takes_behind is js ns (viewed v (Swapped slot old new)) cs ds q.1 h
-  takes_behind is js ns v (Claim source ∷ cs) ds q h = takes_behind is js ns (viewed v (Claim source)) cs ds q.1 h
-  takes_behind is js ns v (Polls steps ∷ cs) ds q h = takes_behind is js ns (viewed v (Polls steps)) cs ds q.1 h
-  takes_behind is js ns v (Polling poller ∷ cs) ds q h = takes_behind is js ns (viewed v (Polling poller)) cs ds q.1 h
-  takes_behind is js ns v (Watching watch ∷ cs) ds q h = takes_behind is js ns (viewed v (Watching watch)) cs ds q.1 h
-  takes_behind is js ns v (Counting places ∷ cs) ds q h = takes_behind is js ns (viewed v (Counting places)) cs ds q.1 h
-  takes_behind is js ns v (Holds (Listed needed token) ∷ cs) ds q h = takes_behind is js ns (viewed v (Holds (Listed needed token))) cs ds q.1 h
-  takes_behind is js ns v (Holds (Unlisted token) ∷ cs) ds q h = takes_behind is js ns (viewed v (Holds (Unlisted token))) cs ds q.1 h
-  takes_behind is js ns v (Holds (Pend action) ∷ cs) ds q h = takes_behind is js ns (viewed v (Holds (Pend action))) cs ds q.1 h
-  takes_behind is js ns v (Holds (Asking steps) ∷ cs) ds q h = takes_behind is js ns (viewed v (Holds (Asking steps))) cs ds q.1 h
-  takes_behind is js ns v (Holds Begun ∷ cs) ds q h = takes_behind is js ns (viewed v (Holds Begun)) cs ds q.1 h
-  takes_behind is js ns v (Holds (Told answer) ∷ cs) ds q h = takes_behind is js ns (viewed v (Holds (Told answer))) cs ds q.1 h
-  takes_behind is js ns v (Holds Owe ∷ cs) ds q h = takes_behind is js ns (viewed v (Holds Owe)) cs ds q.1 h
-  takes_behind is js ns v (Holds (Paid answer) ∷ cs) ds q h = takes_behind is js ns (viewed v (Holds (Paid answer))) cs ds q.1 h
-  takes_behind is js ns v (Holds Cleared ∷ cs) ds q h = takes_behind is js ns (viewed v (Holds Cleared)) cs ds q.1 h
-  takes_behind is js ns v (Holds (Warned kept told) ∷ cs) ds q h = takes_behind is js ns (viewed v (Holds (Warned kept told))) cs ds q.1 h
-  takes_behind is js ns v (Holds (StopNoted note) ∷ cs) ds q h = takes_behind is js ns (viewed v (Holds (StopNoted note))) cs ds q.1 h
-  takes_behind is js ns v (Holds (IdleIn idle) ∷ cs) ds q h = takes_behind is js ns (viewed v (Holds (IdleIn idle))) cs ds q.1 h
-  takes_behind is js ns v (Holds (IdleNew idle) ∷ cs) ds q h = takes_behind is js ns (viewed v (Holds (IdleNew idle))) cs ds q.1 h
-  takes_behind is js ns v (Holds (IdleOut ticket) ∷ cs) ds q h = takes_behind is js ns (viewed v (Holds (IdleOut ticket))) cs ds q.1 h
+  takes_behind is js ns v (Put slot content ∷ cs) ds q h = takes_behind is js ns (after_change v (Put slot content)) cs ds q.1 h
+  takes_behind is js ns v (Swapped slot old new ∷ cs) ds q h = takes_behind is js ns (after_change v (Swapped slot old new)) cs ds q.1 h
+  takes_behind is js ns v (Claim source ∷ cs) ds q h = takes_behind is js ns (after_change v (Claim source)) cs ds q.1 h
+  takes_behind is js ns v (Polls steps ∷ cs) ds q h = takes_behind is js ns (after_change v (Polls steps)) cs ds q.1 h
+  takes_behind is js ns v (Polling poller ∷ cs) ds q h = takes_behind is js ns (after_change v (Polling poller)) cs ds q.1 h
+  takes_behind is js ns v (Watching watch ∷ cs) ds q h = takes_behind is js ns (after_change v (Watching watch)) cs ds q.1 h
+  takes_behind is js ns v (Counting places ∷ cs) ds q h = takes_behind is js ns (after_change v (Counting places)) cs ds q.1 h
+  takes_behind is js ns v (Holds (Listed needed token) ∷ cs) ds q h = takes_behind is js ns (after_change v (Holds (Listed needed token))) cs ds q.1 h
+  takes_behind is js ns v (Holds (Unlisted token) ∷ cs) ds q h = takes_behind is js ns (after_change v (Holds (Unlisted token))) cs ds q.1 h
+  takes_behind is js ns v (Holds (Pend action) ∷ cs) ds q h = takes_behind is js ns (after_change v (Holds (Pend action))) cs ds q.1 h
+  takes_behind is js ns v (Holds (Asking steps) ∷ cs) ds q h = takes_behind is js ns (after_change v (Holds (Asking steps))) cs ds q.1 h
+  takes_behind is js ns v (Holds Begun ∷ cs) ds q h = takes_behind is js ns (after_change v (Holds Begun)) cs ds q.1 h
+  takes_behind is js ns v (Holds (Told answer) ∷ cs) ds q h = takes_behind is js ns (after_change v (Holds (Told answer))) cs ds q.1 h
+  takes_behind is js ns v (Holds Owe ∷ cs) ds q h = takes_behind is js ns (after_change v (Holds Owe)) cs ds q.1 h
+  takes_behind is js ns v (Holds (Paid answer) ∷ cs) ds q h = takes_behind is js ns (after_change v (Holds (Paid answer))) cs ds q.1 h
+  takes_behind is js ns v (Holds Cleared ∷ cs) ds q h = takes_behind is js ns (after_change v (Holds Cleared)) cs ds q.1 h
+  takes_behind is js ns v (Holds (Warned kept told) ∷ cs) ds q h = takes_behind is js ns (after_change v (Holds (Warned kept told))) cs ds q.1 h
+  takes_behind is js ns v (Holds (StopNoted note) ∷ cs) ds q h = takes_behind is js ns (after_change v (Holds (StopNoted note))) cs ds q.1 h
+  takes_behind is js ns v (Holds (IdleIn idle) ∷ cs) ds q h = takes_behind is js ns (after_change v (Holds (IdleIn idle))) cs ds q.1 h
+  takes_behind is js ns v (Holds (IdleNew idle) ∷ cs) ds q h = takes_behind is js ns (after_change v (Holds (IdleNew idle))) cs ds q.1 h
+  takes_behind is js ns v (Holds (IdleOut ticket) ∷ cs) ds q h = takes_behind is js ns (after_change v (Holds (IdleOut ticket))) cs ds q.1 h
   takes_behind is js ns v (Holds IdlesTaken ∷ cs) ds q h = absurd q.0
-  takes_behind is js ns v (Holds IdleBegun ∷ cs) ds q h = takes_behind is js ns (viewed v (Holds IdleBegun)) cs ds q.1 h
-  takes_behind is js ns v (Appended event ∷ cs) ds q h = takes_behind is js ns (viewed v (Appended event)) cs ds q.1 h
-  takes_behind is js ns v (Gathered posted given now ∷ cs) ds q h = takes_behind is js ns (viewed v (Gathered posted given now)) cs ds q.1 h
-  takes_behind is js ns v (Cut slot ∷ cs) ds q h = takes_behind is js ns (viewed v (Cut slot)) cs ds q.1 h
-  takes_behind is js ns v (Ended ∷ cs) ds q h = takes_behind is js ns (viewed v Ended) cs ds q.1 h
+  takes_behind is js ns v (Holds IdleBegun ∷ cs) ds q h = takes_behind is js ns (after_change v (Holds IdleBegun)) cs ds q.1 h
+  takes_behind is js ns v (Appended event ∷ cs) ds q h = takes_behind is js ns (after_change v (Appended event)) cs ds q.1 h
+  takes_behind is js ns v (Gathered posted given now ∷ cs) ds q h = takes_behind is js ns (after_change v (Gathered posted given now)) cs ds q.1 h
+  takes_behind is js ns v (Cut slot ∷ cs) ds q h = takes_behind is js ns (after_change v (Cut slot)) cs ds q.1 h
+  takes_behind is js ns v (Ended ∷ cs) ds q h = takes_behind is js ns (after_change v Ended) cs ds q.1 h
 
   round_behind : (v : View D I P) (cs ds : List (Change D I P)) → AllQuiet cs → RoundFound (all_viewed v cs) ds → RoundFound v (cs ++ ds)
   round_behind v cs ds q f = record { round = f.round; begun' = f.begun'; cancelled = f.cancelled; takes = takes_behind f.round f.begun' f.cancelled v cs ds q f.takes; over = f.over }
@@ -833,17 +833,17 @@ module _ {D I P X : Type 0} (M : Meaning D P (Lent X (Asks D I))) (runs : Runs D
   run_in v (i ∷ idles) x cs b none h = rw h.4 tt
 
   -- the steps of a round, up to the end
-  in_round : (v : View D I P) (a : Doing D X) (x' : X) (css : List (List (Change D I P))) → InRound v a → Steps M runs O v a css (Leaving (Ok tt) x') → AllQuiet (joined css) × ((all_viewed v (joined css)).held.asks.running ≡ [])
+  in_round : (v : View D I P) (a : Doing D X) (x' : X) (css : List (List (Change D I P))) → InRound v a → Steps M runs O v a css (Leaving (Ok tt) x') → AllQuiet (flatten css) × ((all_viewed v (flatten css)).held.asks.running ≡ [])
   in_round v a x' [] r h = (tt, subst (λ (b : Doing D X). InRound v b) (sym h) r)
   in_round v (RunningIdles x) x' (cs ∷ css) r h =
       let rest = in_round (all_viewed v cs) h.0 x' css (run_in v v.held.asks.running x cs h.0 refl h.1) h.3 in (
-        quiet-append cs (joined css) (quiet_tame cs (run_from_tame v v.held.asks.running x cs h.0 h.1)) rest.0,
-        subst (λ (u : View D I P). u.held.asks.running ≡ []) (sym (viewed-append v cs (joined css))) rest.1,
+        quiet-append cs (flatten css) (quiet_tame cs (run_from_tame v v.held.asks.running x cs h.0 h.1)) rest.0,
+        subst (λ (u : View D I P). u.held.asks.running ≡ []) (sym (viewed-append v cs (flatten css))) rest.1,
       )
   in_round v (ServingIdle x) x' (cs ∷ css) r h =
       let rest = in_round (all_viewed v cs) h.0 x' css (idle_in v (all_viewed v cs) v.held.asks.written x h.0 cs h.1) h.3 in (
-        quiet-append cs (joined css) (quiet_tame cs (served_from_tame v v.held.asks.written _ _ h.0 cs h.1)) rest.0,
-        subst (λ (u : View D I P). u.held.asks.running ≡ []) (sym (viewed-append v cs (joined css))) rest.1,
+        quiet-append cs (flatten css) (quiet_tame cs (served_from_tame v v.held.asks.written _ _ h.0 cs h.1)) rest.0,
+        subst (λ (u : View D I P). u.held.asks.running ≡ []) (sym (viewed-append v cs (flatten css))) rest.1,
       )
   in_round v (Leaving answer x) x' (cs ∷ css) r h = absurd h.1
   in_round v (Beginning timeout x) x' (cs ∷ css) r h = absurd r
@@ -863,70 +863,70 @@ module _ {D I P X : Type 0} (M : Meaning D P (Lent X (Asks D I))) (runs : Runs D
   over_by v cs none i (inr (inl h)) = inr h
   over_by v cs none i (inr (inr h)) = (let k = subst (λ (l : List (Waiter I)). Contains l i) none h in absurd (omega (arith, k.1)))
 
-  round_there : (v : View D I P) (x x' : X) (css : List (List (Change D I P))) → Steps M runs O (viewed v (Holds IdlesTaken)) (RunningIdles x) css (Leaving (Ok tt) x') → RoundFound v (Holds IdlesTaken ∷ joined css)
+  round_there : (v : View D I P) (x x' : X) (css : List (List (Change D I P))) → Steps M runs O (after_change v (Holds IdlesTaken)) (RunningIdles x) css (Leaving (Ok tt) x') → RoundFound v (Holds IdlesTaken ∷ flatten css)
   round_there v x x' css h =
-      let u = viewed v (Holds IdlesTaken) in
+      let u = after_change v (Holds IdlesTaken) in
       let k = in_round u (RunningIdles x) x' css tt h in
       record {
         round = u.held.asks.running;
-        begun' = idles_begun u (joined css);
-        cancelled = idles_cancelled (joined css);
-        takes = (refl, refl, refl, none_round (joined css) k.0);
-        over = λ i there. over_by u (joined css) k.1 i (is_over u (joined css) k.0 i there);
+        begun' = idles_begun u (flatten css);
+        cancelled = idles_cancelled (flatten css);
+        takes = (refl, refl, refl, none_round (flatten css) k.0);
+        over = λ i there. over_by u (flatten css) k.1 i (is_over u (flatten css) k.0 i there);
       }
 
-  round_found : (v : View D I P) (a : Doing D X) (x' : X) (css : List (List (Change D I P))) → IsBeforeRound a → Steps M runs O v a css (Leaving (Ok tt) x') → RoundFound v (joined css)
+  round_found : (v : View D I P) (a : Doing D X) (x' : X) (css : List (List (Change D I P))) → IsBeforeRound a → Steps M runs O v a css (Leaving (Ok tt) x') → RoundFound v (flatten css)
   round_found v a x' [] r h = absurd (subst (λ (b : Doing D X). IsBeforeRound b) (sym h) r)
   round_found v (Beginning timeout x) x' (cs ∷ css) r h =
-      round_behind v cs (joined css) (let s = h.1 in rw s.4 (tt, (tt, (tt, tt)))) (round_found (all_viewed v cs) h.0 x' css (let s = h.1 in rw s.5 tt) h.3)
+      round_behind v cs (flatten css) (let s = h.1 in rw s.4 (tt, (tt, (tt, tt)))) (round_found (all_viewed v cs) h.0 x' css (let s = h.1 in rw s.5 tt) h.3)
   round_found v (Settling timeout [] x) x' (cs ∷ css) r h =
-      round_behind v cs (joined css) (let s = h.1 in rw s.0 tt) (round_found (all_viewed v cs) h.0 x' css (let s = h.1 in rw s.1 tt) h.3)
+      round_behind v cs (flatten css) (let s = h.1 in rw s.0 tt) (round_found (all_viewed v cs) h.0 x' css (let s = h.1 in rw s.1 tt) h.3)
   round_found v (Settling timeout (t ∷ later) x) x' (cs ∷ css) r h =
-      round_behind v cs (joined css) (quiet_plain cs (settled_early v t (only (is_adapter M) (named v.slots t)) cs h.1.0)) (round_found (all_viewed v cs) h.0 x' css (let s = h.1 in rw s.1 tt) h.3)
+      round_behind v cs (flatten css) (quiet_plain cs (settled_early v t (only (is_adapter M) (content_at v.slots t)) cs h.1.0)) (round_found (all_viewed v cs) h.0 x' css (let s = h.1 in rw s.1 tt) h.3)
   round_found v (Sleeping timeout [] x) x' (cs ∷ css) r h =
-      round_behind v cs (joined css) (let s = h.1 in rw s.0 tt) (round_found (all_viewed v cs) h.0 x' css (let s = h.1 in rw s.1 tt) h.3)
+      round_behind v cs (flatten css) (let s = h.1 in rw s.0 tt) (round_found (all_viewed v cs) h.0 x' css (let s = h.1 in rw s.1 tt) h.3)
   round_found v (Sleeping timeout (t ∷ later) x) x' (cs ∷ css) r h =
-      let k = slept_early v timeout t later x cs h.0 (named v.slots t) h.1 in
-      round_behind v cs (joined css) (quiet_plain cs k.0) (round_found (all_viewed v cs) h.0 x' css (early_ahead h.0 k.1) h.3)
+      let k = slept_early v timeout t later x cs h.0 (content_at v.slots t) h.1 in
+      round_behind v cs (flatten css) (quiet_plain cs k.0) (round_found (all_viewed v cs) h.0 x' css (early_ahead h.0 k.1) h.3)
   round_found v (Waiting timeout x) x' (cs ∷ css) r h =
-      round_behind v cs (joined css) (let s = h.1 in rw s.5 (tt, (tt, tt))) (round_found (all_viewed v cs) h.0 x' css (let s = h.1 in rw s.6 (early_ahead (after_wait s.0 s.1 x) (waited_early s.0 s.1 x))) h.3)
+      round_behind v cs (flatten css) (let s = h.1 in rw s.5 (tt, (tt, tt))) (round_found (all_viewed v cs) h.0 x' css (let s = h.1 in rw s.6 (early_ahead (after_wait s.0 s.1 x) (waited_early s.0 s.1 x))) h.3)
   round_found v (Gathering now given x) x' (cs ∷ css) r h =
-      round_behind v cs (joined css) (let s = h.1 in rw s.1 (tt, tt)) (round_found (all_viewed v cs) h.0 x' css (let s = h.1 in rw s.2 tt) h.3)
+      round_behind v cs (flatten css) (let s = h.1 in rw s.1 (tt, tt)) (round_found (all_viewed v cs) h.0 x' css (let s = h.1 in rw s.2 tt) h.3)
   round_found v (Noticing from [] x) x' (cs ∷ css) r h =
-      round_behind v cs (joined css) (let s = h.1 in rw s.0 tt) (round_found (all_viewed v cs) h.0 x' css (let s = h.1 in rw s.1 tt) h.3)
+      round_behind v cs (flatten css) (let s = h.1 in rw s.0 tt) (round_found (all_viewed v cs) h.0 x' css (let s = h.1 in rw s.1 tt) h.3)
   round_found v (Noticing from (t ∷ later) x) x' (cs ∷ css) r h =
-      let is = noticed_on v from t later x cs h.0 (named v.slots t) h.1 in
-      round_behind v cs (joined css) (quiet_tame cs (noticed_tame v from t later x cs h.0 (named v.slots t) h.1)) (round_found (all_viewed v cs) h.0 x' css (rw is tt) h.3)
+      let is = noticed_on v from t later x cs h.0 (content_at v.slots t) h.1 in
+      round_behind v cs (flatten css) (quiet_tame cs (noticed_tame v from t later x cs h.0 (content_at v.slots t) h.1)) (round_found (all_viewed v cs) h.0 x' css (rw is tt) h.3)
   round_found v (Cutting x) x' (cs ∷ css) r h =
-      round_behind v cs (joined css) (quiet_tame cs (from_tame v v.poll.batch x cs h.0 h.1)) (round_found (all_viewed v cs) h.0 x' css (from_ahead v v.poll.batch x cs h.0 h.1) h.3)
+      round_behind v cs (flatten css) (quiet_tame cs (from_tame v v.poll.batch x cs h.0 h.1)) (round_found (all_viewed v cs) h.0 x' css (from_ahead v v.poll.batch x cs h.0 h.1) h.3)
   round_found v (Serving token d answer x) x' (cs ∷ css) r h =
-      round_behind v cs (joined css) (quiet_tame cs (served_from_tame v v.held.asks.written _ _ h.0 cs h.1)) (round_found (all_viewed v cs) h.0 x' css (serving_ahead v v.held.asks.written token d answer x h.0 cs h.1) h.3)
+      round_behind v cs (flatten css) (quiet_tame cs (served_from_tame v v.held.asks.written _ _ h.0 cs h.1)) (round_found (all_viewed v cs) h.0 x' css (serving_ahead v v.held.asks.written token d answer x h.0 cs h.1) h.3)
   round_found v (Ending token d answer x) x' (cs ∷ css) r h =
       let s = h.1 in
-      round_behind v cs (joined css) (quiet_tame cs (acted_tame v token d (action_of answer v.held.pending) cs s.0 s.1 s.2)) (round_found (all_viewed v cs) h.0 x' css (rw s.3 tt) h.3)
+      round_behind v cs (flatten css) (quiet_tame cs (acted_tame v token d (action_of answer v.held.pending) cs s.0 s.1 s.2)) (round_found (all_viewed v cs) h.0 x' css (rw s.3 tt) h.3)
   round_found v (Returning token d told x) x' (cs ∷ css) r h =
       let s = h.1 in
-      round_behind v cs (joined css) (quiet_tame cs (returned_tame v token d (named v.slots token) cs s.0)) (round_found (all_viewed v cs) h.0 x' css (rw s.1 (returned_ahead told x)) h.3)
+      round_behind v cs (flatten css) (quiet_tame cs (returned_tame v token d (content_at v.slots token) cs s.0)) (round_found (all_viewed v cs) h.0 x' css (rw s.1 (returned_ahead told x)) h.3)
   round_found v (Idling x) x' (cs ∷ css) r h =
       let s = h.1 in
       let from = subst (λ (ds : List (Change D I P)). Steps M runs O (all_viewed v ds) h.0 css (Leaving (Ok tt) x')) s.0 h.3 in
-      let there = subst (λ (c : Doing D X). Steps M runs O (viewed v (Holds IdlesTaken)) c css (Leaving (Ok tt) x')) s.1 from in
-      subst (λ (ds : List (Change D I P)). RoundFound v (ds ++ joined css)) (sym s.0) (round_there v x x' css there)
+      let there = subst (λ (c : Doing D X). Steps M runs O (after_change v (Holds IdlesTaken)) c css (Leaving (Ok tt) x')) s.1 from in
+      subst (λ (ds : List (Change D I P)). RoundFound v (ds ++ flatten css)) (sym s.0) (round_there v x x' css there)
   round_found v (Leaving (Err e) x) x' (cs ∷ css) r h = absurd h.1
   round_found v (Leaving (Ok u) x) x' (cs ∷ css) r h = absurd r
   round_found v (RunningIdles x) x' (cs ∷ css) r h = absurd r
   round_found v (ServingIdle x) x' (cs ∷ css) r h = absurd r
 
-  round_in : (timeout : Option ℕ) (x x' : X) (v : View D I P) (css : List (List (Change D I P))) → DispatchedBy M runs O timeout x (Ok tt) x' v css → RoundFound v (joined css)
+  round_in : (timeout : Option ℕ) (x x' : X) (v : View D I P) (css : List (List (Change D I P))) → DispatchedBy M runs O timeout x (Ok tt) x' v css → RoundFound v (flatten css)
   round_in timeout x x' v css (inl h) = (let e = h.0 in cc)
   round_in timeout x x' v css (inr h) = round_found v (Beginning timeout x) x' css tt h
 
   pub served_all : (timeout : Option ℕ) (x x' : X) (v : View D I P) (css : List (List (Change D I P))) → DispatchedBy M runs O timeout x (Ok tt) x' v css
-      → (a : Account D I P) × IsAccountOf a v (joined css) × (NothingIsLeft a × AllAreCut a × NoneIsLate a × DueAreCut a × IdlesRan a)
+      → (a : Account D I P) × IsAccountOf a v (flatten css) × (NothingIsLeft a × AllAreCut a × NoneIsLate a × DueAreCut a × IdlesRan a)
   served_all timeout x x' v css h =
       let f = found_in timeout x x' v css h in
       let r = round_in timeout x x' v css h in (
-        record { began = v; now = f.now; before = f.right_before; gathered = f.right_behind; cut = f.cut_then; round = r.round; begun = r.begun'; cancelled = r.cancelled; ended = all_viewed v (joined css) },
+        record { began = v; now = f.now; before = f.right_before; gathered = f.right_behind; cut = f.cut_then; round = r.round; begun = r.begun'; cancelled = r.cancelled; ended = all_viewed v (flatten css) },
         (refl, refl, f.gathers, r.takes),
         (f.empty, f.all, f.later, f.due_cut, r.over),
       )
@@ -934,9 +934,9 @@ module _ {D I P X : Type 0} (M : Meaning D P (Lent X (Asks D I))) (runs : Runs D
   pub run_sorted : (calls : List (LoopCall D P X I)) (answers : List (LoopAnswer D P X I)) (csss : List (List (List (Change D I P)))) (w w' : World D I P) → Run M runs O calls answers csss w w' → IsOrdered w.poll.deadlines → IsOrdered w'.poll.deadlines
   run_sorted [] [] [] w w' run h = rw run h
   run_sorted (call ∷ calls) (answer ∷ answers) (css ∷ csss) w w' run h =
-      let kept = ordered_all (seen w) (joined css) (case_fit M runs O (seen w) call answer css run.0) h in
+      let kept = ordered_all (visible w) (flatten css) (case_fit M runs O (visible w) call answer css run.0) h in
       run_sorted calls answers csss (all_traced w css) w' run.1
-      (subst (λ (v : View D I P). IsOrdered v.poll.deadlines) (viewed-joined M runs O (seen w) css ∙ sym (seen-all_traced w css)) kept)
+      (subst (λ (v : View D I P). IsOrdered v.poll.deadlines) (viewed-joined M runs O (visible w) css ∙ sym (seen-all_traced w css)) kept)
   run_sorted calls answers csss w w' run h = absurd run
 
 pub new_sorted : {D I P : Type 0} (w : World D I P) → IsNew w → IsOrdered w.poll.deadlines

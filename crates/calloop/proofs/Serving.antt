@@ -4,7 +4,7 @@ use Rattle.calloop_wake.specs.declared.error.InsertError.{InsertError}
 use Rattle.calloop_wake.specs.declared.list.Content.{Content}
 use Rattle.calloop_wake.specs.declared.list.Content.TheVariants.{Vacant, Source, InTurn}
 use Rattle.calloop_wake.specs.declared.token.RegistrationToken.{RegistrationToken}
-use Rattle.calloop_wake.specs.Slots.{named, is_empty, is_in_turn}
+use Rattle.calloop_wake.specs.Slots.{content_at, is_empty, is_in_turn}
 use Rattle.calloop_core.specs.Pollers.{Outside}
 use Rattle.calloop_core.specs.Polls.{PollStep}
 use Rattle.calloop_core.specs.Deeds.{Lent}
@@ -16,9 +16,9 @@ use Rattle.calloop.specs.declared.loop_logic.asks.Request.{Request}
 use Rattle.calloop.specs.declared.loop_logic.asks.Request.TheVariants.{Insert as AskInsert, Enable as AskEnable, Update as AskUpdate, Disable as AskDisable, Remove as AskRemove, Idle as AskIdle, Cancel as AskCancel}
 use Rattle.calloop.specs.Askings.{Asks, AskStep, Write, Take, Reaches, ask_after, asks_after, all_but_first, begun_from, idle_begun, is_other_idle, request_of, running_of}
 use Rattle.calloop.specs.Held.{HeldStep, Begun, Told, held_after}
-use Rattle.calloop.specs.Machine.{View, Change, Holds, AllFit, viewed, all_viewed}
+use Rattle.calloop.specs.Machine.{View, Change, Holds, AllFit, after_change, all_viewed}
 use Rattle.calloop.specs.Roles.{only, is_callers}
-use Rattle.calloop.specs.Rules.{Did, Once, OwnOr, Served, ServedAs, InsertedBy, AskedIn, RemovedIn, Outcome, traced}
+use Rattle.calloop.specs.Rules.{Did, Once, OwnOr, Served, ServedAs, InsertedBy, AskedIn, RemovedIn, Outcome, after_changes}
 use Rattle.calloop.specs.Serving.{Serves, ServesFirst, FirstServed, AllServed}
 use Rattle.calloop.proofs.Going.{batch-stepped}
 use Rattle.calloop.proofs.Seen.{viewed-append}
@@ -41,7 +41,7 @@ turn_full InTurn is = refl
 module _ {D I P : Type 0} (O : Outside P) where
   fit-append : (v : View D I P) (cs ds : List (Change D I P)) → AllFit O v cs → AllFit O (all_viewed v cs) ds → AllFit O v (cs ++ ds)
   fit-append v [] ds h k = k
-  fit-append v (c ∷ cs) ds h k = (h.0, fit-append (viewed v c) cs ds h.1 k)
+  fit-append v (c ∷ cs) ds h k = (h.0, fit-append (after_change v c) cs ds h.1 k)
 
   -- an answer behind what was done
   abbrev pub answered : Answer D → View D I P → View D I P
@@ -59,7 +59,7 @@ module _ {D I P : Type 0} (O : Outside P) where
 
 module _ {D I P X : Type 0} (M : Meaning D P (Lent X (Asks D I))) (O : Outside P) where
   pub serves_first : (as' : List (Asked D I)) (request : Request D I) (v u : View D I P) → request_of as' ≡ Some request
-      → Serves M O request (viewed v (Holds Begun)) u → ServesFirst M O as' true v u
+      → Serves M O request (after_change v (Holds Begun)) u → ServesFirst M O as' true v u
   serves_first [] request v u is h = search rules
   serves_first (a ∷ as') request v u is h = search rules
 
@@ -103,9 +103,9 @@ module _ {D I P X : Type 0} (M : Meaning D P (Lent X (Asks D I))) (O : Outside P
   told_steady v ds cs answer is h = rw (is, viewed-append v ds (Holds (Told answer) ∷ [])) (record { batch = h.batch; written = h.written; running = h.running })
 
   served_as_steady : (v : View D I P) (request : Request D I) (answer : Outcome) (cs : List (Change D I P)) → ServedAs M request answer v cs → Steady v (all_viewed v cs)
-  served_as_steady v (AskEnable token) answer cs h = own_or (named v.slots token) (λ o. rw o.1 (still_steady v v refl refl)) (λ o. asked_steady v _ _ token answer cs (only (is_callers M) (named v.slots token)) (λ d. refl) o) h
-  served_as_steady v (AskUpdate token) answer cs h = own_or (named v.slots token) (λ o. rw o.1 (still_steady v _ refl refl)) (λ o. asked_steady v _ _ token answer cs (only (is_callers M) (named v.slots token)) (λ d. refl) o) h
-  served_as_steady v (AskDisable token) answer cs h = own_or (named v.slots token) (λ o. rw o.1 (still_steady v _ refl refl)) (λ o. asked_steady v _ _ token answer cs (only (is_callers M) (named v.slots token)) (λ d. refl) o) h
+  served_as_steady v (AskEnable token) answer cs h = own_or (content_at v.slots token) (λ o. rw o.1 (still_steady v v refl refl)) (λ o. asked_steady v _ _ token answer cs (only (is_callers M) (content_at v.slots token)) (λ d. refl) o) h
+  served_as_steady v (AskUpdate token) answer cs h = own_or (content_at v.slots token) (λ o. rw o.1 (still_steady v _ refl refl)) (λ o. asked_steady v _ _ token answer cs (only (is_callers M) (content_at v.slots token)) (λ d. refl) o) h
+  served_as_steady v (AskDisable token) answer cs h = own_or (content_at v.slots token) (λ o. rw o.1 (still_steady v _ refl refl)) (λ o. asked_steady v _ _ token answer cs (only (is_callers M) (content_at v.slots token)) (λ d. refl) o) h
   served_as_steady v (AskInsert d) answer cs h = absurd h
   served_as_steady v (AskRemove token) answer cs h = absurd h
   served_as_steady v (AskIdle idle) answer cs h = absurd h
@@ -117,7 +117,7 @@ module _ {D I P X : Type 0} (M : Meaning D P (Lent X (Asks D I))) (O : Outside P
   served_steady v (AskUpdate token) cs h = told_steady v h.1 cs _ h.3 (served_as_steady v (AskUpdate token) h.0 h.1 h.2)
   served_steady v (AskDisable token) cs h = told_steady v h.1 cs _ h.3 (served_as_steady v (AskDisable token) h.0 h.1 h.2)
   served_steady v (AskRemove token) cs h =
-      own_or (named v.slots token) (λ o. rw o (record { batch = refl; written = refl; running = omega arith })) (λ o. told_steady v o.1 cs _ o.3 (removed_steady v token o.0 o.1 (only (is_callers M) (named v.slots token)) o.2)) h
+      own_or (content_at v.slots token) (λ o. rw o (record { batch = refl; written = refl; running = omega arith })) (λ o. told_steady v o.1 cs _ o.3 (removed_steady v token o.0 o.1 (only (is_callers M) (content_at v.slots token)) o.2)) h
   served_steady v (AskIdle idle) cs h = rw h (record { batch = refl; written = refl; running = omega arith })
   served_steady v (AskCancel ticket) cs h = rw h (record { batch = refl; written = refl; running = shorter ticket v.held.asks.running })
 
@@ -125,13 +125,13 @@ module _ {D I P X : Type 0} (M : Meaning D P (Lent X (Asks D I))) (O : Outside P
       → ((all_viewed v cs).poll.batch ≡ v.poll.batch) × (length (all_viewed v cs).held.asks.written + 1 ≡ length asked) × (length (all_viewed v cs).held.asks.running ≤ length v.held.asks.running)
   fewer_written [] v cs is h = absurd h
   fewer_written (a ∷ as') v cs is h =
-      let s = served_steady (viewed v (Holds Begun)) a.request h.0 h.1 in
-      let left : (all_viewed (viewed v (Holds Begun)) h.0).held.asks.written ≡ as' = s.written ∙ ap (λ (l : List (Asked D I)). (begun_from l v.held.asks).written) is in
+      let s = served_steady (after_change v (Holds Begun)) a.request h.0 h.1 in
+      let left : (all_viewed (after_change v (Holds Begun)) h.0).held.asks.written ≡ as' = s.written ∙ ap (λ (l : List (Asked D I)). (begun_from l v.held.asks).written) is in
       let running : (begun_from v.held.asks.written v.held.asks).running ≡ v.held.asks.running = ap (λ (l : List (Asked D I)). (begun_from l v.held.asks).running) is in
       rw h.2 (s.batch, omega (arith, ap (λ (l : List (Asked D I)). length l) left), omega (arith, s.running, ap (λ (l : List (Waiter I)). length l) running))
 
   -- all of them
-  pub all_steady : (v : View D I P) (css : List (List (Change D I P))) → AllServed M O v css → ((traced v css).poll.batch ≡ v.poll.batch) × (length (traced v css).held.asks.running ≤ length v.held.asks.running)
+  pub all_steady : (v : View D I P) (css : List (List (Change D I P))) → AllServed M O v css → ((after_changes v css).poll.batch ≡ v.poll.batch) × (length (after_changes v css).held.asks.running ≤ length v.held.asks.running)
   all_steady v [] h = (refl, omega arith)
   all_steady v (cs ∷ css) h =
       let one = fewer_written v.held.asks.written v cs refl h.0 in
@@ -146,7 +146,7 @@ module _ {D I P X : Type 0} (M : Meaning D P (Lent X (Asks D I))) (O : Outside P
   pub first_then : (v u t : View D I P) → ServesFirst M O v.held.asks.written true v u → Did (AllServed M O) u t → Did (AllServed M O) v t
   first_then v u t h k =
       let f = first_from v.held.asks.written v u h in
-      (f.0 ∷ k.0, (f.1, f.2, subst (λ (x : View D I P). AllServed M O x k.0) f.3 k.1), k.2 ∙ ap (λ (x : View D I P). traced x k.0) f.3)
+      (f.0 ∷ k.0, (f.1, f.2, subst (λ (x : View D I P). AllServed M O x k.0) f.3 k.1), k.2 ∙ ap (λ (x : View D I P). after_changes x k.0) f.3)
 
   none_written : (asked : List (Asked D I)) (v u : View D I P) → ServesFirst M O asked false v u → (asked ≡ []) × (u ≡ v)
   none_written [] v u h = (refl, h.1)

@@ -14,20 +14,20 @@ use Rattle.calloop.specs.Askings.{Asks, AskStep, Write, Take, Runs, ask_after, a
 use Rattle.calloop.specs.Held.{Held, HeldStep, Listed, Unlisted, Pend, Asking, Begun, Told, Owe, Paid, Cleared, Warned, StopNoted, IdleIn, IdleNew, IdleOut, IdlesTaken, IdleBegun, held_after}
 use Rattle.calloop.specs.Machine.{World, IsNew, Change, Put, Claim, Swapped, Polls, Polling, Watching, Counting, Gathered, Appended, Holds, Cut, Ended, done, all_done, handed_in}
 use Rattle.calloop.specs.Rules.{Run, all_traced}
-use Rattle.calloop.specs.Laws.{counted, is_number, is_asked_as, is_answered_as, stands_as, standing, IsTicketed}
+use Rattle.calloop.specs.Laws.{how_many, is_number, is_asked_as, is_answered_as, stands_as, standing, IsTicketed}
 use Rattle.calloop.proofs.Counting.{counted-append, counted-filter, next_number}
 
 -- with as many handed out
 abbrev pub IsTallied : {D I : Type 0} → Asks D I → List ℕ → Type 0
-IsTallied q handed = (n : ℕ) → standing n q + counted (is_number n) handed ≤ (if nat_lt n q.next then 1 else 0)
+IsTallied q handed = (n : ℕ) → standing n q + how_many (is_number n) handed ≤ (if nat_lt n q.next then 1 else 0)
 
-counted-without : {D : Type 0} (n ticket : ℕ) (as' : List (Answered D)) → counted (is_answered_as n) as' ≡ counted (is_answered_as n) (without ticket as') + counted (is_number n) (taken_from ticket as')
+counted-without : {D : Type 0} (n ticket : ℕ) (as' : List (Answered D)) → how_many (is_answered_as n) as' ≡ how_many (is_answered_as n) (without ticket as') + how_many (is_number n) (taken_from ticket as')
 counted-without n ticket [] = refl
 counted-without {D} n ticket (a ∷ as') =
-    elim (nat_eq a.ticket ticket) as (λ b. nat_eq a.ticket ticket ≡ b → counted (is_answered_as n) (a ∷ as') ≡ counted (is_answered_as n) (if b then as' else a ∷ without ticket as') + counted (is_number n) (if b then ticket ∷ [] else taken_from ticket as'))
+    elim (nat_eq a.ticket ticket) as (λ b. nat_eq a.ticket ticket ≡ b → how_many (is_answered_as n) (a ∷ as') ≡ how_many (is_answered_as n) (if b then as' else a ∷ without ticket as') + how_many (is_number n) (if b then ticket ∷ [] else taken_from ticket as'))
     [ true ↦ λ e. (let same : a.ticket ≡ ticket = grind (arith, nat_tests) in rw (← same) (omega arith)) | false ↦ λ e. omega (arith, counted-without n ticket as') ] refl
 
-counted-answering : {D : Type 0} (n : ℕ) (o : Option ℕ) (answer : Answer D) → counted (is_answered_as n) (answering o answer) ≡ stands_as n o
+counted-answering : {D : Type 0} (n : ℕ) (o : Option ℕ) (answer : Answer D) → how_many (is_answered_as n) (answering o answer) ≡ stands_as n o
 counted-answering n None answer = refl
 counted-answering n (Some ticket) answer = omega arith
 

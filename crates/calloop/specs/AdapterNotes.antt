@@ -6,8 +6,8 @@ use Rattle.calloop.specs.declared.io.state.PollTwin.{PollTwin}
 use Rattle.calloop.specs.declared.io.state.SlotTwin.{SlotTwin}
 
 -- with one note more
-abbrev pub polled : PollNote → PollTwin → PollTwin
-polled note twin = record twin { notes = twin.notes ++ note ∷ [] }
+abbrev pub with_poll_note : PollNote → PollTwin → PollTwin
+with_poll_note note twin = record twin { notes = twin.notes ++ note ∷ [] }
 
-abbrev pub slotted : SlotNote → SlotTwin → SlotTwin
-slotted note twin = record twin { notes = twin.notes ++ note ∷ [] }
+abbrev pub with_slot_note : SlotNote → SlotTwin → SlotTwin
+with_slot_note note twin = record twin { notes = twin.notes ++ note ∷ [] }

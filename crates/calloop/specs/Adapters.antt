@@ -24,7 +24,7 @@ use Rattle.calloop.specs.declared.io.notes.SlotNote.{SlotNote}
 use Rattle.calloop.specs.declared.io.notes.SlotNote.TheVariants.{Heard, Settled as SettledSo, Kept, Asked, Reached}
 use Rattle.calloop.specs.declared.io.notes.Settled.{Settled}
 use Rattle.calloop.specs.declared.io.notes.Settled.TheVariants.{Stays, Registers as RegistersFor, Leaves as IsToLeave}
-use Rattle.calloop.specs.AdapterNotes.{slotted}
+use Rattle.calloop.specs.AdapterNotes.{with_slot_note}
 use Rattle.calloop.specs.TakingUp.{taking_up}
 
 -- the key is dropped, where the socket wasn't taken out
@@ -65,7 +65,7 @@ module _ {P R I : Type 0} where
 
   -- what it did under its lock besides
   abbrev pub and_did : SlotNote → Adapter P R I → Adapter P R I
-  and_did note s = record s { end = slotted note s.end }
+  and_did note s = record s { end = with_slot_note note s.end }
 
   -- its registration succeeded, or is kept as refused
   abbrev pub told_so : Result (Unit {0}) Error → Adapter P R I → Adapter P R I

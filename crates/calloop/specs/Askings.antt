@@ -60,9 +60,9 @@ pub data AskStep (D I : Type 0) : Type 0 where
   Take : (ticket : ℕ) → AskStep D I
 
 -- the answer under a ticket
-abbrev pub found : {D : Type 0} → ℕ → List (Answered D) → Option (Answer D)
-found ticket [] = None
-found ticket (a ∷ as') = if nat_eq a.ticket ticket then Some a.answer else found ticket as'
+abbrev pub answer_under : {D : Type 0} → ℕ → List (Answered D) → Option (Answer D)
+answer_under ticket [] = None
+answer_under ticket (a ∷ as') = if nat_eq a.ticket ticket then Some a.answer else answer_under ticket as'
 
 abbrev pub without : {D : Type 0} → ℕ → List (Answered D) → List (Answered D)
 without ticket [] = []
@@ -72,7 +72,7 @@ without ticket (a ∷ as') = if nat_eq a.ticket ticket then as' else a ∷ witho
 abbrev pub StandsAt : {D : Type 0} → (ticket place : ℕ) → List (Answered D) → Type 0
 StandsAt {D} ticket place answers =
     (a : Answered D) × (slice_get answers place ≡ Some a) × (remove answers place ≡ without ticket answers)
-    × (found ticket answers ≡ Some a.answer)
+    × (answer_under ticket answers ≡ Some a.answer)
 
 abbrev pub ask_after : {D I : Type 0} → Asks D I → AskStep D I → Asks D I
 ask_after q (Write request) =
@@ -124,8 +124,8 @@ abbrev pub begun_from : {D I : Type 0} → List (Asked D I) → Asks D I → Ask
 begun_from [] q = q
 begun_from (a ∷ as') q = record q { written = as'; serving = Some a.ticket }
 
-abbrev pub begun : {D I : Type 0} → Asks D I → Asks D I
-begun q = begun_from q.written q
+abbrev pub after_begin : {D I : Type 0} → Asks D I → Asks D I
+after_begin q = begun_from q.written q
 
 abbrev pub request_of : {D I : Type 0} → List (Asked D I) → Option (Request D I)
 request_of [] = None
@@ -136,23 +136,23 @@ answering None answer = []
 answering (Some ticket) answer = record { ticket = ticket; answer = answer } ∷ []
 
 -- its answer
-abbrev pub told : {D I : Type 0} → Answer D → Asks D I → Asks D I
-told answer q = record q { answers = q.answers ++ answering q.serving answer; serving = None }
+abbrev pub with_answer : {D I : Type 0} → Answer D → Asks D I → Asks D I
+with_answer answer q = record q { answers = q.answers ++ answering q.serving answer; serving = None }
 
 -- its answer is owed until the turn is over; and what is owed is answered
 abbrev pub owing : {D I : Type 0} → Asks D I → Asks D I
 owing q = record q { owed = q.serving; serving = None }
 
-abbrev pub paid : {D I : Type 0} → Answer D → Asks D I → Asks D I
-paid answer q = record q { answers = q.answers ++ answering q.owed answer; owed = None }
+abbrev pub with_owed_answer : {D I : Type 0} → Answer D → Asks D I → Asks D I
+with_owed_answer answer q = record q { answers = q.answers ++ answering q.owed answer; owed = None }
 
 abbrev pub is_since : {D : Type 0} → (ticket : ℕ) → Answered D → Bool
 is_since ticket a = nat_le ticket a.ticket
 
 -- Answers that weren't handed out are gone, but for those to what was asked for since idles were last taken up: an idle
 -- that was asked for beside it hasn't run.
-abbrev pub cleared : {D I : Type 0} → Asks D I → Asks D I
-cleared q = record q { answers = filter (is_since q.taken_up_at) q.answers }
+abbrev pub without_old : {D I : Type 0} → Asks D I → Asks D I
+without_old q = record q { answers = filter (is_since q.taken_up_at) q.answers }
 
 -- Idles: calloop's insert_idle, Idle::cancel and dispatch_idles.
 
@@ -162,7 +162,7 @@ idle_under (Some ticket) idle = record { ticket = ticket; idle = idle } ∷ []
 
 -- that of the request that is carried out, which is answered
 abbrev pub with_idle : {D I : Type 0} → I → Asks D I → Asks D I
-with_idle idle q = told Done (record q { idles = q.idles ++ idle_under q.serving idle })
+with_idle idle q = with_answer Done (record q { idles = q.idles ++ idle_under q.serving idle })
 
 -- one that no callback asked for
 abbrev pub with_new_idle : {D I : Type 0} → I → Asks D I → Asks D I

@@ -13,7 +13,7 @@ use Rattle.calloop.specs.declared.futures.task.Poll.TheVariants.{Ready, Pending}
 use Rattle.calloop.specs.declared.io.state.PollTwin.{PollTwin}
 use Rattle.calloop.specs.declared.io.notes.PollNote.{PollNote}
 use Rattle.calloop.specs.declared.io.notes.PollNote.TheVariants.{Answered, Refused, Waits}
-use Rattle.calloop.specs.AdapterNotes.{polled}
+use Rattle.calloop.specs.AdapterNotes.{with_poll_note}
 
 abbrev pub to_read : Interest
 to_read = record { readable = true; writable = false }
@@ -23,13 +23,13 @@ to_write = record { readable = false; writable = true }
 
 -- there was no memory to wait, or to be marked
 abbrev pub HadNoMemory : Interest → PollTwin → PollTwin → Type 0
-HadNoMemory wanted s t = (t ≡ s) ⊎ (t ≡ polled (Waits wanted) s)
+HadNoMemory wanted s t = (t ≡ s) ⊎ (t ≡ with_poll_note (Waits wanted) s)
 
 -- It waits for this, where it is pending; else that is the answer under the lock, or there was no memory.
 abbrev pub WaitsFor : Interest → PollTwin → Poll (Result (Unit {0}) Error) → PollTwin → Type 0
 WaitsFor wanted s (Ready answer) t =
-    (t ≡ polled (Answered answer) s) ⊎ ((answer ≡ Err OutOfMemory) × HadNoMemory wanted s t)
-WaitsFor wanted s Pending t = t ≡ polled (Waits wanted) s
+    (t ≡ with_poll_note (Answered answer) s) ⊎ ((answer ≡ Err OutOfMemory) × HadNoMemory wanted s t)
+WaitsFor wanted s Pending t = t ≡ with_poll_note (Waits wanted) s
 
 -- what a call of the socket answered, unless that is that it would block
 abbrev pub WouldNotBlock : {T : Type 0} → Result T Cause → Type 0
@@ -43,10 +43,10 @@ AnswersWith {T} wanted answer s (Ready given) t =
     ⊎ ((blocked : Cause) × (cause : Cause) × (answer ≡ Err blocked) × (error_kind blocked ≡ WouldBlock)
     × (given ≡ Err cause) × AsIo OutOfMemory cause × HadNoMemory wanted s t)
 AnswersWith wanted answer s Pending t =
-    (blocked : Cause) × (answer ≡ Err blocked) × (error_kind blocked ≡ WouldBlock) × (t ≡ polled (Waits wanted) s)
+    (blocked : Cause) × (answer ≡ Err blocked) × (error_kind blocked ≡ WouldBlock) × (t ≡ with_poll_note (Waits wanted) s)
 
 -- A refusal that is kept is the answer. Else the socket is tried once, as this note says, and what that gives is the answer.
 abbrev pub Polls : {T : Type 0} → Interest → (tried : Result T Cause → PollNote) → PollTwin → Poll (Result T Cause) → PollTwin → Type 0
 Polls {T} wanted tried s result t =
-    ((e : Error) × (cause : Cause) × AsIo e cause × (result ≡ Ready (Err cause)) × (t ≡ polled (Refused (Some e)) s))
-    ⊎ ((answer : Result T Cause) × AnswersWith wanted answer (polled (tried answer) (polled (Refused None) s)) result t)
+    ((e : Error) × (cause : Cause) × AsIo e cause × (result ≡ Ready (Err cause)) × (t ≡ with_poll_note (Refused (Some e)) s))
+    ⊎ ((answer : Result T Cause) × AnswersWith wanted answer (with_poll_note (tried answer) (with_poll_note (Refused None) s)) result t)

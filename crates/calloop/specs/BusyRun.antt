@@ -7,7 +7,7 @@ use Rattle.calloop_wake.specs.declared.error.Error.TheVariants.{OutOfMemory}
 use Rattle.calloop_wake.specs.declared.list.Content.TheVariants.{Source, InTurn}
 use Rattle.calloop_wake.specs.declared.wake.notes.Note.TheVariants.{Counted, Looked, Marked}
 use Rattle.calloop_wake.specs.Tokens.{key_of}
-use Rattle.calloop_wake.specs.Watches.{noted}
+use Rattle.calloop_wake.specs.Watches.{with_note}
 use Rattle.calloop_core.specs.declared.sources.source.PostAction.TheVariants.{Continue, Reregister}
 use Rattle.calloop_core.specs.declared.sys.Mode.TheVariants.{Level}
 use Rattle.calloop_core.specs.declared.sys.Readiness.{Readiness}
@@ -15,7 +15,7 @@ use Rattle.calloop_core.specs.declared.sys.Watched.{Watched}
 use Rattle.calloop_core.specs.Deeds.{Lent}
 use Rattle.calloop_core.specs.Meanings.{Meaning, still}
 use Rattle.calloop_core.specs.Pollers.{Outside}
-use Rattle.calloop_core.specs.Polls.{Socket, counted, marks_taken, ready_to_read}
+use Rattle.calloop_core.specs.Polls.{Socket, after_count, marks_taken, ready_to_read}
 use Rattle.calloop_core.specs.Tables.{Enter}
 use Rattle.calloop.specs.declared.loop_logic.LoopCall.{LoopCall}
 use Rattle.calloop.specs.declared.loop_logic.LoopCall.TheVariants.{Insert, Dispatch}
@@ -28,7 +28,7 @@ use Rattle.calloop.specs.Held.{Listed, Pend, Asking, Begun, Told, Cleared, Idles
 use Rattle.calloop.specs.Machine.{Claim, Put, Polls, Polling, Watching, Counting, Holds, Gathered, Cut, Ended}
 use Rattle.calloop.specs.Rules.{all_traced}
 use Rattle.calloop.specs.Wrong.{first_token, first_registration}
-use Rattle.calloop.specs.WrongRuns.{SmallWorld, SmallChange, untouched}
+use Rattle.calloop.specs.WrongRuns.{SmallWorld, SmallChange, idle_world}
 
 -- sources that may do anything
 abbrev pub anything : Meaning (Unit {0}) (Unit {0}) (Lent (Unit {0}) (Asks (Unit {0}) (Unit {0})))
@@ -72,10 +72,10 @@ two_found_but_one = (key_of first_token, ready_to_read) ∷ []
 -- a step of the dispatch a list
 abbrev pub failing_dispatch : Book → List (List SmallChange)
 failing_dispatch name =
-    (Counting 0 ∷ Holds Cleared ∷ Watching (noted (Marked []) (record { name = name; notes = Counted 0 ∷ [] })) ∷ [])
+    (Counting 0 ∷ Holds Cleared ∷ Watching (with_note (Marked []) (record { name = name; notes = Counted 0 ∷ [] })) ∷ [])
     ∷ []
     ∷ []
-    ∷ (Polling tt ∷ Watching (noted (Looked false) (record { name = name; notes = Counted 0 ∷ Marked [] ∷ [] })) ∷ [])
+    ∷ (Polling tt ∷ Watching (with_note (Looked false) (record { name = name; notes = Counted 0 ∷ Marked [] ∷ [] })) ∷ [])
     ∷ (Gathered [] two_found 5 ∷ [])
     ∷ []
     ∷ (Cut (Some 0)
@@ -91,14 +91,14 @@ failing_dispatch name =
     ∷ []
 
 abbrev pub behind_the_failure : Book → SmallWorld
-behind_the_failure name = all_traced (all_traced (untouched name) busy_insertion) (failing_dispatch name)
+behind_the_failure name = all_traced (all_traced (idle_world name) busy_insertion) (failing_dispatch name)
 
 abbrev pub dispatch_of_the_rest : Book → List (List SmallChange)
 dispatch_of_the_rest name =
-    (Counting 0 ∷ Holds Cleared ∷ Watching (noted (Marked []) (counted 0 (behind_the_failure name).poll).watch) ∷ [])
+    (Counting 0 ∷ Holds Cleared ∷ Watching (with_note (Marked []) (after_count 0 (behind_the_failure name).poll).watch) ∷ [])
     ∷ []
     ∷ []
-    ∷ (Polling tt ∷ Watching (noted (Looked false) (marks_taken [] (counted 0 (behind_the_failure name).poll)).watch) ∷ [])
+    ∷ (Polling tt ∷ Watching (with_note (Looked false) (marks_taken [] (after_count 0 (behind_the_failure name).poll)).watch) ∷ [])
     ∷ (Gathered [] [] 6 ∷ [])
     ∷ []
     ∷ (Cut (Some 0) ∷ Put 0 InTurn ∷ Polls [] ∷ Ended ∷ Holds (Asking []) ∷ [])

@@ -34,12 +34,12 @@ pub record BoundedEnd : Type 0 where
   pub bound : ℕ
 
 -- a turn more was opened
-abbrev pub opened : ReceivingEnd → ReceivingEnd
-opened c = record c { twin = record c.twin { turns = c.twin.turns + 1 } }
+abbrev pub with_turn : ReceivingEnd → ReceivingEnd
+with_turn c = record c { twin = record c.twin { turns = c.twin.turns + 1 } }
 
 -- one message more was handed out
-abbrev pub received : ReceivingEnd → ReceivingEnd
-received c = record c { twin = record c.twin { number = c.twin.number + 1 } }
+abbrev pub with_message : ReceivingEnd → ReceivingEnd
+with_message c = record c { twin = record c.twin { number = c.twin.number + 1 } }
 
 -- the calls of a channel's callback
 abbrev pub ChannelCalls : Type 0 → Type 0
@@ -101,8 +101,8 @@ pub record Handed
   pub went : Went may reaches f x q (calls_of popped) g y r
 
 -- a turn of a channel with this bound that made no pop yet
-abbrev pub begun : LabelView → ChannelTurn
-begun label = record { name = label.name; left = pops label.bound; done = false }
+abbrev pub fresh_turn : LabelView → ChannelTurn
+fresh_turn label = record { name = label.name; left = pops label.bound; done = false }
 
 -- what the cell answers to a pass
 pub data PassAnswer (T : Type 0) : Type 0 where
@@ -117,7 +117,7 @@ pub data PassAnswer (T : Type 0) : Type 0 where
 abbrev pub AnsweredSo : {P T : Type 0} → LabelView → PassAnswer T → Taken → Twin → ChannelCalls T → PostAction
     → List (PollStep P) → Twin → Type 0
 AnsweredSo label (Opened popped) p twin calls action steps after =
-    ArePops popped (begun label) × IsOver (turn_after popped (begun label))
+    ArePops popped (fresh_turn label) × IsOver (turn_after popped (fresh_turn label))
     × (calls ≡ calls_of popped) × (action ≡ action_of (told_in popped)) × (steps ≡ TakePass ∷ [])
     × (after ≡ twin_after popped (record twin { turns = twin.turns + 1 }))
 AnsweredSo label Refused p twin calls action steps after =

@@ -6,7 +6,7 @@ use Rattle.calloop_wake.specs.declared.error.Error.TheVariants.{OutOfMemory}
 use Rattle.calloop_wake.specs.declared.wheel.Instant.{Instant}
 use Rattle.calloop_wake.specs.declared.wake.notes.Note.TheVariants.{Counted, Looked, Marked}
 use Rattle.calloop_wake.specs.declared.list.Content.TheVariants.{Vacant, Source, InTurn}
-use Rattle.calloop_wake.specs.Watches.{noted}
+use Rattle.calloop_wake.specs.Watches.{with_note}
 use Rattle.calloop_core.specs.declared.sources.dispatch.Dispatcher.{Dispatcher}
 use Rattle.calloop_core.specs.declared.sources.source.PostAction.TheVariants.{Continue}
 use Rattle.calloop_core.specs.declared.timer.Timer.{Timer}
@@ -17,7 +17,7 @@ use Rattle.calloop_core.specs.Pollers.{Outside}
 use Rattle.calloop_core.specs.Polls.{Arm, Cancel, Call}
 use Rattle.calloop_core.specs.Deeds.{Lent}
 use Rattle.calloop_core.specs.Meanings.{Meaning, with_callback}
-use Rattle.calloop_core.specs.Timers.{timer_meaning, unarmed, registered_as, spent}
+use Rattle.calloop_core.specs.Timers.{timer_meaning, fresh_timer, registered_as, with_call}
 use Rattle.calloop.specs.declared.loop_logic.LoopCall.{LoopCall}
 use Rattle.calloop.specs.declared.loop_logic.LoopCall.TheVariants.{Insert, Exchange, Dispatch}
 use Rattle.calloop.specs.declared.loop_logic.LoopAnswer.{LoopAnswer}
@@ -64,7 +64,7 @@ six = record { nanos = 6 }
 
 -- the timer before it is registered, armed, with another deadline to come, and after its call
 abbrev pub as_made : Only
-as_made = record { source = unarmed (Some five); callback = tt }
+as_made = record { source = fresh_timer (Some five); callback = tt }
 
 abbrev pub first_arm : Registration
 first_arm = record { token = first_token; counter = 0; armed = five; spent = false }
@@ -76,10 +76,10 @@ abbrev pub as_changed : Only
 as_changed = record { source = registered_as first_arm (Some six); callback = tt }
 
 abbrev pub as_called : Only
-as_called = record { source = registered_as (spent first_arm) (Some six); callback = tt }
+as_called = record { source = registered_as (with_call first_arm) (Some six); callback = tt }
 
 abbrev pub as_removed : Only
-as_removed = record { source = unarmed (Some six); callback = tt }
+as_removed = record { source = fresh_timer (Some six); callback = tt }
 
 -- nothing has happened to a loop over a board of this name
 abbrev pub new_world : Book → World Only (Unit {0}) (Unit {0})
@@ -123,10 +123,10 @@ of_the_exchange = (Swapped 0 as_armed as_changed ∷ []) ∷ []
 -- a step of the dispatch a list
 abbrev pub of_the_dispatch : Book → List (List Its)
 of_the_dispatch name =
-    (Counting 0 ∷ Holds Cleared ∷ Watching (noted (Marked []) (record { name = name; notes = Counted 0 ∷ [] })) ∷ [])
+    (Counting 0 ∷ Holds Cleared ∷ Watching (with_note (Marked []) (record { name = name; notes = Counted 0 ∷ [] })) ∷ [])
     ∷ []
     ∷ []
-    ∷ (Polling tt ∷ Watching (noted (Looked false) (record { name = name; notes = Counted 0 ∷ Marked [] ∷ [] })) ∷ [])
+    ∷ (Polling tt ∷ Watching (with_note (Looked false) (record { name = name; notes = Counted 0 ∷ Marked [] ∷ [] })) ∷ [])
     ∷ (Gathered [] [] 5 ∷ [])
     ∷ []
     ∷ (Cut (Some 0) ∷ Put 0 InTurn ∷ Polls (Call 0 five ∷ []) ∷ Ended ∷ Holds (Asking []) ∷ [])

@@ -2,7 +2,7 @@
 use Rattle.std.specs.Prelude.{◌≡◌, List, None}
 use Rattle.calloop_wake.specs.declared.token.RegistrationToken.{RegistrationToken}
 use Rattle.calloop_wake.specs.declared.list.Slot.{Slot}
-use Rattle.calloop_wake.specs.Slots.{named, source_of}
+use Rattle.calloop_wake.specs.Slots.{content_at, source_of}
 use Rattle.calloop_core.specs.Deeds.{Lent}
 use Rattle.calloop_core.specs.Meanings.{Meaning}
 use Rattle.calloop_core.specs.Pollers.{Outside}
@@ -24,7 +24,7 @@ held_by h = view_of h.inner.now
 -- handle answers so for the first two
 abbrev pub NamesNone : {D P C R X I S : Type 0} → Meaning D P (Lent X (Asks D I)) → RegistrationToken
     → LoopHandle D P C R X I S → Type 0
-NamesNone M token h = source_of (only (is_callers M) (named (held_by h).slots token)) ≡ None
+NamesNone M token h = source_of (only (is_callers M) (content_at (held_by h).slots token)) ≡ None
 
 -- the loop that it is lent, as that is now
 abbrev pub loop_by : {D P C R X I S : Type 0} → LoopHandle D P C R X I S → EventLoop D P C R X I S

@@ -30,13 +30,13 @@ use Rattle.calloop.specs.Askings.{
   Asks,
   AskStep,
   asks_after,
-  begun,
-  cleared,
+  after_begin,
+  without_old,
   idle_begun,
   owing,
-  paid,
+  with_owed_answer,
   taken_up,
-  told,
+  with_answer,
   with_idle,
   with_new_idle,
   without_idle,
@@ -66,14 +66,14 @@ is_listed token [] = false
 is_listed token (t ∷ ts) = is_one t token || is_listed token ts
 
 -- at the end, unless it stands there
-abbrev pub listed : RegistrationToken → List RegistrationToken → List RegistrationToken
-listed token ts = if is_listed token ts then ts else ts ++ token ∷ []
+abbrev pub with_listing : RegistrationToken → List RegistrationToken → List RegistrationToken
+with_listing token ts = if is_listed token ts then ts else ts ++ token ∷ []
 
 -- the error of a source that left is kept where there is memory for it
-abbrev pub warned : (kept : Bool) → Result (Unit {0}) Error → List Error → List Error
-warned kept (Ok u) es = es
-warned true (Err e) es = es ++ e ∷ []
-warned false (Err e) es = es
+abbrev pub with_warning : (kept : Bool) → Result (Unit {0}) Error → List Error → List Error
+with_warning kept (Ok u) es = es
+with_warning true (Err e) es = es ++ e ∷ []
+with_warning false (Err e) es = es
 
 pub data HeldStep (D I : Type 0) : Type 0 where
   -- a registration is entered, where it is needed
@@ -104,16 +104,16 @@ pub data HeldStep (D I : Type 0) : Type 0 where
   IdleBegun : HeldStep D I
 
 abbrev pub held_after : {D I : Type 0} → Held D I → HeldStep D I → Held D I
-held_after h (Listed needed token) = record h { lifecycle = if needed then listed token h.lifecycle else h.lifecycle }
+held_after h (Listed needed token) = record h { lifecycle = if needed then with_listing token h.lifecycle else h.lifecycle }
 held_after h (Unlisted token) = record h { lifecycle = filter (is_another token) h.lifecycle }
 held_after h (Pend action) = record h { pending = action }
 held_after h (Asking steps) = record h { asks = asks_after h.asks steps }
-held_after h Begun = record h { asks = begun h.asks }
-held_after h (Told answer) = record h { asks = told answer h.asks }
+held_after h Begun = record h { asks = after_begin h.asks }
+held_after h (Told answer) = record h { asks = with_answer answer h.asks }
 held_after h Owe = record h { asks = owing h.asks }
-held_after h (Paid answer) = record h { asks = paid answer h.asks }
-held_after h Cleared = record h { asks = cleared h.asks; warnings = [] }
-held_after h (Warned kept told) = record h { warnings = warned kept told h.warnings }
+held_after h (Paid answer) = record h { asks = with_owed_answer answer h.asks }
+held_after h Cleared = record h { asks = without_old h.asks; warnings = [] }
+held_after h (Warned kept told) = record h { warnings = with_warning kept told h.warnings }
 held_after h (StopNoted note) = record h { stops = h.stops ++ note ∷ [] }
 held_after h (IdleIn idle) = record h { asks = with_idle idle h.asks }
 held_after h (IdleNew idle) = record h { asks = with_new_idle idle h.asks }

@@ -37,7 +37,7 @@ use Rattle.calloop_core.specs.Deeds.{Lent}
 use Rattle.calloop_core.specs.Meanings.{Meaning}
 use Rattle.calloop.specs.Ledgers.{Ledger, Arming, NumberedEntry, Origin, Elsewhere, Due, Waiting, TimerCall, entry_in}
 use Rattle.calloop_wake.specs.declared.token.RegistrationToken.{RegistrationToken}
-use Rattle.calloop_wake.specs.Slots.{named, is_empty}
+use Rattle.calloop_wake.specs.Slots.{content_at, is_empty}
 use Rattle.calloop.specs.declared.loop_logic.asks.Asked.{Asked}
 use Rattle.calloop.specs.declared.loop_logic.asks.Answered.{Answered}
 use Rattle.calloop.specs.Askings.{Asks}
@@ -71,14 +71,14 @@ abbrev pub AllRight : {D I P : Type 0} → World D I P → List (Change D I P) �
 AllRight w [] = Unit {0}
 AllRight w (c ∷ cs) = IsRight w c × AllRight (done w c) cs
 
-abbrev pub joined : {A : Type 0} → List (List A) → List A
-joined [] = []
-joined (xs ∷ xss) = xs ++ joined xss
+abbrev pub flatten : {A : Type 0} → List (List A) → List A
+flatten [] = []
+flatten (xs ∷ xss) = xs ++ flatten xss
 
 -- all changes of a run, one after the other
 abbrev pub changes_of : {D I P : Type 0} → List (List (List (Change D I P))) → List (Change D I P)
 changes_of [] = []
-changes_of (css ∷ csss) = joined css ++ changes_of csss
+changes_of (css ∷ csss) = flatten css ++ changes_of csss
 
 -- the token names this registration
 abbrev pub Names : {D I P : Type 0} → World D I P → Token → Registration D → Type 0
@@ -124,9 +124,9 @@ abbrev pub one : {A : Type 0} → (A → Bool) → A → ℕ
 one p x = if p x then 1 else 0
 
 -- how many pass
-abbrev pub counted : {A : Type 0} → (A → Bool) → List A → ℕ
-counted p [] = 0
-counted p (x ∷ xs) = one p x + counted p xs
+abbrev pub how_many : {A : Type 0} → (A → Bool) → List A → ℕ
+how_many p [] = 0
+how_many p (x ∷ xs) = one p x + how_many p xs
 
 abbrev pub is_armed_as : (number : ℕ) → NumberedEntry → Bool
 is_armed_as n a = nat_eq a.number n
@@ -152,8 +152,8 @@ is_call_as n c = is_arming_as n c.arming
 -- cut ones
 abbrev pub places : (number : ℕ) → Ledger → ℕ
 places n l =
-    counted (is_armed_as n) l.armed +
-    (counted (waits_as n) l.batch + (counted (is_number n) l.cancelled + counted (waits_as n) l.cut))
+    how_many (is_armed_as n) l.armed +
+    (how_many (waits_as n) l.batch + (how_many (is_number n) l.cancelled + how_many (waits_as n) l.cut))
 
 -- gathered when its deadline had come
 abbrev pub OnTime : Origin → Type 0
@@ -177,7 +177,7 @@ came_timely a w = is_timely a w.origin
 
 -- how often this arming was gathered when its deadline had come
 abbrev pub timely : Ledger → Arming → ℕ
-timely l a = counted (came_timely a) l.batch + counted (came_timely a) l.cut
+timely l a = how_many (came_timely a) l.batch + how_many (came_timely a) l.cut
 
 -- a call belongs to an arming, which was gathered in time, and handed out its deadline
 abbrev pub IsOwnCall : (gathered : Arming → ℕ) → TimerCall → Type 0
@@ -202,9 +202,9 @@ pub record IsLedgerOf {P : Type 0} (l : Ledger) (v : PollView P) : Type 0 where
   pub cut_on_time : AllOnTime l.cut
   -- each call belongs to an arming of its own, which was gathered in time, and handed out its deadline
   pub own : AllOwnCalls (timely l) l.calls
-  pub once : (number : ℕ) → counted (is_call_as number) l.calls ≤ 1
+  pub once : (number : ℕ) → how_many (is_call_as number) l.calls ≤ 1
   pub gathered : (number : ℕ)
-      → counted (is_call_as number) l.calls ≤ counted (waits_as number) l.batch + counted (waits_as number) l.cut
+      → how_many (is_call_as number) l.calls ≤ how_many (waits_as number) l.batch + how_many (waits_as number) l.cut
 
 -- a dispatcher that holds no counter, as one that was never registered
 abbrev pub HoldsNone : {D P X Q : Type 0} → Meaning D P (Lent X Q) → D → Type 0
@@ -255,7 +255,7 @@ AllOnce (t ∷ ts) = (is_listed t ts ≡ false) × AllOnce ts
 pub record IsTold {D I P : Type 0} (w : World D I P) : Type 0 where
   pub once : AllOnce w.held.lifecycle
   pub full : (token : RegistrationToken) → is_listed token w.held.lifecycle ≡ true
-      → is_empty (named (map slot_of w.slots) token) ≡ false
+      → is_empty (content_at (map slot_of w.slots) token) ≡ false
 
 abbrev pub is_asked_as : {D I : Type 0} → (ticket : ℕ) → Asked D I → Bool
 is_asked_as n a = nat_eq a.ticket n
@@ -271,13 +271,13 @@ stands_as n (Some ticket) = one (is_number n) ticket
 -- or over an answer
 abbrev pub standing : {D I : Type 0} → (ticket : ℕ) → Asks D I → ℕ
 standing n q =
-    counted (is_asked_as n) q.written +
-    (stands_as n q.serving + (stands_as n q.owed + counted (is_answered_as n) q.answers))
+    how_many (is_asked_as n) q.written +
+    (stands_as n q.serving + (stands_as n q.owed + how_many (is_answered_as n) q.answers))
 
 -- a ticket that was given stands at most once, or its answer was handed out, once; no other ticket stands anywhere
 abbrev pub IsTicketed : {D I P : Type 0} → World D I P → Type 0
 IsTicketed w =
-    (n : ℕ) → standing n w.held.asks + counted (is_number n) w.handed ≤ (if nat_lt n w.held.asks.next then 1 else 0)
+    (n : ℕ) → standing n w.held.asks + how_many (is_number n) w.handed ≤ (if nat_lt n w.held.asks.next then 1 else 0)
 
 -- of these changes, and of the states between them
 pub record IsSound {D I P : Type 0} (w : World D I P) (cs : List (Change D I P)) (moments : List (World D I P)) : Type 0 where

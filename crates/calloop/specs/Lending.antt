@@ -1,7 +1,7 @@
 -- What a loop becomes where its poller, or a source of it, was lent through a handle.
 use Rattle.calloop_wake.specs.declared.token.RegistrationToken.{RegistrationToken}
 use Rattle.calloop_wake.specs.declared.list.Content.TheVariants.{Source}
-use Rattle.calloop_wake.specs.Slots.{changed, with_content}
+use Rattle.calloop_wake.specs.Slots.{with_change, with_content}
 use Rattle.calloop_core.specs.Lending.{with_poller}
 use Rattle.calloop.specs.declared.loop_logic.EventLoop.{EventLoop}
 use Rattle.calloop.specs.declared.loop_logic.LoopHandle.{LoopHandle}
@@ -14,7 +14,7 @@ with_handle_poller w h = record { inner = record h.inner { now = with_loop_polle
 
 abbrev pub with_loop_source : {D P C R X I S : Type 0} → RegistrationToken → D → EventLoop D P C R X I S
     → EventLoop D P C R X I S
-with_loop_source token d l = record l { sources = changed (with_content (Source d)) l.sources token.slot }
+with_loop_source token d l = record l { sources = with_change (with_content (Source d)) l.sources token.slot }
 
 abbrev pub with_handle_source : {D P C R X I S : Type 0} → RegistrationToken → D → LoopHandle D P C R X I S
     → LoopHandle D P C R X I S

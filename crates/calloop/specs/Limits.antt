@@ -5,7 +5,7 @@ use Rattle.calloop_wake.specs.declared.list.Content.{Content}
 use Rattle.calloop_wake.specs.declared.list.Content.TheVariants.{Vacant, Source, InTurn}
 use Rattle.calloop_wake.specs.declared.list.Slot.{Slot}
 use Rattle.calloop_wake.specs.declared.token.RegistrationToken.{RegistrationToken}
-use Rattle.calloop_wake.specs.Slots.{named}
+use Rattle.calloop_wake.specs.Slots.{content_at}
 use Rattle.calloop_core.specs.Meanings.{Meaning}
 
 -- the limit of a source in a slot
@@ -17,4 +17,4 @@ limit_in M InTurn = 0
 -- the sum over what these tokens name
 abbrev pub all_limits : {D P T : Type 0} → Meaning D P T → List (Slot D) → List RegistrationToken → ℕ
 all_limits M slots [] = 0
-all_limits M slots (t ∷ ts) = limit_in M (named slots t) + all_limits M slots ts
+all_limits M slots (t ∷ ts) = limit_in M (content_at slots t) + all_limits M slots ts

@@ -7,7 +7,7 @@ use Rattle.calloop_wake.specs.Widths.{versions}
 use Rattle.calloop_wake.specs.declared.list.Content.{Content}
 use Rattle.calloop_wake.specs.declared.list.Content.TheVariants.{Source, InTurn}
 use Rattle.calloop_wake.specs.declared.list.Slot.{Slot}
-use Rattle.calloop_wake.specs.Slots.{changed, first_changed, with_content, claimed, is_empty}
+use Rattle.calloop_wake.specs.Slots.{with_change, first_changed, with_content, after_claim, is_empty}
 use Rattle.calloop_core.specs.Batches.{ArePosted}
 use Rattle.calloop_wake.specs.declared.wake.watch.Watch.{Watch}
 use Rattle.calloop_wake.specs.declared.token.RegistrationToken.{RegistrationToken}
@@ -21,11 +21,11 @@ use Rattle.calloop_core.specs.Polls.{
   poll_view,
   polls_after,
   AllAllowed,
-  gathered,
-  appended,
+  after_gather,
+  with_event,
   polling,
   watching,
-  counted,
+  after_count,
   with_pass,
   marks_taken,
   cut,
@@ -63,8 +63,8 @@ abbrev pub slot_of : {D : Type 0} → Registration D → Slot D
 slot_of r = record { version = r.reuse % versions; content = r.content }
 
 -- reuse counts are known modulo the versions that there are, and the ledger isn't
-abbrev pub seen : {D I P : Type 0} → World D I P → View D I P
-seen w = record { slots = map slot_of w.slots; poll = w.poll; held = w.held; signal = w.signal }
+abbrev pub visible : {D I P : Type 0} → World D I P → View D I P
+visible w = record { slots = map slot_of w.slots; poll = w.poll; held = w.held; signal = w.signal }
 
 abbrev pub view_of : {D P C R X I S : Type 0} → EventLoop D P C R X I S → View D I P
 view_of l =
@@ -115,23 +115,23 @@ pub data Change (D I P : Type 0) : Type 0 where
   Ended : Change D I P
 
 -- by what is seen
-abbrev pub viewed : {D I P : Type 0} → View D I P → Change D I P → View D I P
-viewed v (Put slot content) = record v { slots = changed (with_content content) v.slots slot }
-viewed v (Swapped slot old new) = record v { slots = changed (with_content (Source new)) v.slots slot }
-viewed v (Claim source) = record v { slots = claimed v.slots }
-viewed v (Polls steps) = record v { poll = polls_after v.poll steps }
-viewed v (Polling poller) = record v { poll = polling poller v.poll }
-viewed v (Watching watch) = record v { poll = watching watch v.poll }
-viewed v (Counting places) = record v { poll = counted places v.poll }
-viewed v (Holds step) = record v { held = held_after v.held step }
-viewed v (Appended event) = record v { poll = appended event v.poll }
-viewed v (Gathered posted given now) = record v { poll = gathered posted given now v.poll }
-viewed v (Cut slot) = record v { poll = cut v.poll }
-viewed v Ended = record v { poll = with_pass None v.poll }
+abbrev pub after_change : {D I P : Type 0} → View D I P → Change D I P → View D I P
+after_change v (Put slot content) = record v { slots = with_change (with_content content) v.slots slot }
+after_change v (Swapped slot old new) = record v { slots = with_change (with_content (Source new)) v.slots slot }
+after_change v (Claim source) = record v { slots = after_claim v.slots }
+after_change v (Polls steps) = record v { poll = polls_after v.poll steps }
+after_change v (Polling poller) = record v { poll = polling poller v.poll }
+after_change v (Watching watch) = record v { poll = watching watch v.poll }
+after_change v (Counting places) = record v { poll = after_count places v.poll }
+after_change v (Holds step) = record v { held = held_after v.held step }
+after_change v (Appended event) = record v { poll = with_event event v.poll }
+after_change v (Gathered posted given now) = record v { poll = after_gather posted given now v.poll }
+after_change v (Cut slot) = record v { poll = cut v.poll }
+after_change v Ended = record v { poll = with_pass None v.poll }
 
 abbrev pub all_viewed : {D I P : Type 0} → View D I P → List (Change D I P) → View D I P
 all_viewed v [] = v
-all_viewed v (c ∷ cs) = all_viewed (viewed v c) cs
+all_viewed v (c ∷ cs) = all_viewed (after_change v c) cs
 
 -- in the machine
 
@@ -143,28 +143,28 @@ handed_in h step = []
 abbrev pub holding : {D : Type 0} → Content D → Registration D → Registration D
 holding c r = record { reuse = r.reuse; content = c }
 
-abbrev pub reused : {D : Type 0} → Registration D → Registration D
-reused r = record { reuse = r.reuse + 1; content = InTurn }
+abbrev pub next_use : {D : Type 0} → Registration D → Registration D
+next_use r = record { reuse = r.reuse + 1; content = InTurn }
 
 abbrev pub is_free : {D : Type 0} → Registration D → Bool
 is_free r = is_empty r.content
 
 -- the first vacant one is used once more, or one is added, for a source that is registered meanwhile
 abbrev pub with_claim : {D : Type 0} → List (Registration D) → List (Registration D)
-with_claim rs = first_changed is_free reused (record { reuse = 0; content = InTurn }) rs
+with_claim rs = first_changed is_free next_use (record { reuse = 0; content = InTurn }) rs
 
 abbrev pub done : {D I P : Type 0} → World D I P → Change D I P → World D I P
-done w (Put slot content) = record w { slots = changed (holding content) w.slots slot }
-done w (Swapped slot old new) = record w { slots = changed (holding (Source new)) w.slots slot }
+done w (Put slot content) = record w { slots = with_change (holding content) w.slots slot }
+done w (Swapped slot old new) = record w { slots = with_change (holding (Source new)) w.slots slot }
 done w (Claim source) = record w { slots = with_claim w.slots }
 done w (Polls steps) = record w { poll = polls_after w.poll steps; ledger = steps_noted w.ledger w.poll steps }
 done w (Polling poller) = record w { poll = polling poller w.poll }
 done w (Watching watch) = record w { poll = watching watch w.poll }
-done w (Counting places) = record w { poll = counted places w.poll }
+done w (Counting places) = record w { poll = after_count places w.poll }
 done w (Holds step) = record w { held = held_after w.held step; handed = w.handed ++ handed_in w.held step }
-done w (Appended event) = record w { poll = appended event w.poll; ledger = appended_noted w.ledger event }
+done w (Appended event) = record w { poll = with_event event w.poll; ledger = appended_noted w.ledger event }
 done w (Gathered posted given now) =
-    record w { poll = gathered posted given now w.poll; ledger = gathering_noted w.ledger posted given now }
+    record w { poll = after_gather posted given now w.poll; ledger = gathering_noted w.ledger posted given now }
 done w (Cut slot) = record w { poll = cut w.poll; ledger = cut_noted w.ledger }
 done w Ended = record w { poll = with_pass None w.poll }
 
@@ -194,7 +194,7 @@ Fits O v change = Unit {0}
 
 abbrev pub AllFit : {D I P : Type 0} → Outside P → View D I P → List (Change D I P) → Type 0
 AllFit O v [] = Unit {0}
-AllFit O v (c ∷ cs) = Fits O v c × AllFit O (viewed v c) cs
+AllFit O v (c ∷ cs) = Fits O v c × AllFit O (after_change v c) cs
 
 -- nothing has happened yet
 pub record IsNew {D I P : Type 0} (w : World D I P) : Type 0 where
@@ -212,4 +212,4 @@ pub record IsNew {D I P : Type 0} (w : World D I P) : Type 0 where
 
 -- a machine to which nothing has happened agrees with the loop
 abbrev pub BeginsAnew : {D P C R X I S : Type 0} → EventLoop D P C R X I S → Type 0
-BeginsAnew {D} {P} {C} {R} {X} {I} l = (w : World D I P) × IsNew w × (seen w ≡ view_of l)
+BeginsAnew {D} {P} {C} {R} {X} {I} l = (w : World D I P) × IsNew w × (visible w ≡ view_of l)

@@ -15,7 +15,7 @@ abbrev pub OnPending : {T : Type 0} → Poll T → Type 0 → Type 0
 OnPending (Ready x) P = Unit {0}
 OnPending Pending P = P
 
--- a refusal for want of memory hands this very future back; one of an executor that is gone drops it, as calloop's does
+-- a refusal for lack of memory hands this very future back; one of an executor that is gone drops it, as calloop's does
 abbrev pub IsRefusalOf : {F : Type 0} → F → ScheduleError F → Type 0
 IsRefusalOf future (Destroyed e) = Unit {0}
 IsRefusalOf future (OutOfMemory back) = back ≡ future

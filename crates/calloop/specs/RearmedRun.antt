@@ -6,14 +6,14 @@ use Rattle.calloop_wake.specs.declared.error.Error.TheVariants.{OutOfMemory}
 use Rattle.calloop_wake.specs.declared.list.Content.TheVariants.{Vacant, Source, InTurn}
 use Rattle.calloop_wake.specs.declared.wake.notes.Note.TheVariants.{Counted, Looked, Marked}
 use Rattle.calloop_wake.specs.declared.wheel.Instant.{Instant}
-use Rattle.calloop_wake.specs.Watches.{noted}
+use Rattle.calloop_wake.specs.Watches.{with_note}
 use Rattle.calloop_core.specs.declared.sources.source.PostAction.TheVariants.{Continue}
 use Rattle.calloop_core.specs.declared.timer.TimeoutAction.{TimeoutAction}
 use Rattle.calloop_core.specs.declared.timer.TimeoutAction.TheVariants.{Drop, ToInstant}
 use Rattle.calloop_core.specs.Deeds.{Lent}
 use Rattle.calloop_core.specs.Meanings.{Meaning, with_callback}
-use Rattle.calloop_core.specs.Polls.{ArmAgain, Cancel, Call, counted, marks_taken}
-use Rattle.calloop_core.specs.Timers.{timer_meaning, unarmed, registered_as, spent, armed_for}
+use Rattle.calloop_core.specs.Polls.{ArmAgain, Cancel, Call, after_count, marks_taken}
+use Rattle.calloop_core.specs.Timers.{timer_meaning, fresh_timer, registered_as, with_call, armed_for}
 use Rattle.calloop.specs.declared.loop_logic.LoopCall.{LoopCall}
 use Rattle.calloop.specs.declared.loop_logic.LoopCall.TheVariants.{Insert, Dispatch}
 use Rattle.calloop.specs.declared.loop_logic.LoopAnswer.{LoopAnswer}
@@ -45,10 +45,10 @@ abbrev pub as_rearmed : Only
 as_rearmed = record { source = registered_as (armed_for ten first_arm) (Some ten); callback = tt }
 
 abbrev pub as_called_again : Only
-as_called_again = record { source = registered_as (spent (armed_for ten first_arm)) (Some ten); callback = tt }
+as_called_again = record { source = registered_as (with_call (armed_for ten first_arm)) (Some ten); callback = tt }
 
 abbrev pub as_gone : Only
-as_gone = record { source = unarmed (Some ten); callback = tt }
+as_gone = record { source = fresh_timer (Some ten); callback = tt }
 
 abbrev pub rearmed_calls : List (LoopCall Only (Unit {0}) (Unit {0}) (Unit {0}))
 rearmed_calls = Insert as_made ∷ Dispatch None tt ∷ Dispatch None tt ∷ []
@@ -58,10 +58,10 @@ rearmed_answers = Inserted (Ok first_registration) ∷ Dispatched (Ok tt) tt ∷
 
 abbrev pub of_the_first_call : Book → List (List Its)
 of_the_first_call name =
-    (Counting 0 ∷ Holds Cleared ∷ Watching (noted (Marked []) (record { name = name; notes = Counted 0 ∷ [] })) ∷ [])
+    (Counting 0 ∷ Holds Cleared ∷ Watching (with_note (Marked []) (record { name = name; notes = Counted 0 ∷ [] })) ∷ [])
     ∷ []
     ∷ []
-    ∷ (Polling tt ∷ Watching (noted (Looked false) (record { name = name; notes = Counted 0 ∷ Marked [] ∷ [] })) ∷ [])
+    ∷ (Polling tt ∷ Watching (with_note (Looked false) (record { name = name; notes = Counted 0 ∷ Marked [] ∷ [] })) ∷ [])
     ∷ (Gathered [] [] 5 ∷ [])
     ∷ []
     ∷ (Cut (Some 0)
@@ -83,10 +83,10 @@ behind_the_first_call name = all_traced (all_traced (new_world name) of_the_inse
 
 abbrev pub of_the_second_call : Book → List (List Its)
 of_the_second_call name =
-    (Counting 0 ∷ Holds Cleared ∷ Watching (noted (Marked []) (counted 0 (behind_the_first_call name).poll).watch) ∷ [])
+    (Counting 0 ∷ Holds Cleared ∷ Watching (with_note (Marked []) (after_count 0 (behind_the_first_call name).poll).watch) ∷ [])
     ∷ []
     ∷ []
-    ∷ (Polling tt ∷ Watching (noted (Looked false) (marks_taken [] (counted 0 (behind_the_first_call name).poll)).watch) ∷ [])
+    ∷ (Polling tt ∷ Watching (with_note (Looked false) (marks_taken [] (after_count 0 (behind_the_first_call name).poll)).watch) ∷ [])
     ∷ (Gathered [] [] 10 ∷ [])
     ∷ []
     ∷ (Cut (Some 0) ∷ Put 0 InTurn ∷ Polls (Call 0 ten ∷ []) ∷ Ended ∷ Holds (Asking []) ∷ [])

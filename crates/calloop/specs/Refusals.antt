@@ -15,7 +15,7 @@ use Rattle.calloop_wake.specs.declared.error.Error.TheVariants.{
   NoRendezvous,
 }
 
--- what the registration of a socket can be refused with: a fault of the poller, or a refusal of the table, or want of memory
+-- what the registration of a socket can be refused with: a fault of the poller, or a refusal of the table, or running out of memory
 abbrev pub of_registration : Error → Bool
 of_registration (IoError cause) = true
 of_registration OutOfMemory = true

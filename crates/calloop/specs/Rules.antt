@@ -38,7 +38,7 @@ use Rattle.calloop_wake.specs.declared.list.Slot.{Slot}
 use Rattle.calloop_wake.specs.declared.list.Content.TheVariants.{Vacant, Source, InTurn}
 use Rattle.calloop_wake.specs.Tokens.{registration_of}
 use Rattle.calloop_wake.specs.declared.wake.watch.Watch.{Watch}
-use Rattle.calloop_wake.specs.Slots.{named, first_vacant, next_registration, CannotClaim}
+use Rattle.calloop_wake.specs.Slots.{content_at, first_vacant, next_registration, CannotClaim}
 use Rattle.calloop_core.specs.declared.sys.Readiness.{Readiness}
 use Rattle.calloop_core.specs.declared.sys.poll.Pending.{Pending}
 use Rattle.calloop_core.specs.declared.sources.dispatch.Dispatcher.{Dispatcher}
@@ -49,14 +49,14 @@ use Rattle.calloop_core.specs.declared.sources.source.PostAction.TheVariants.{
   Disable as DisableIt,
   Remove,
 }
-use Rattle.calloop_core.specs.Deeds.{Deed, Registered, Reregistered, Unregistered, Turned, Slept, Noticed, Lent, lent}
+use Rattle.calloop_core.specs.Deeds.{Deed, Registered, Reregistered, Unregistered, Turned, Slept, Noticed, Lent, lend}
 use Rattle.calloop_core.specs.Meanings.{Meaning}
 use Rattle.calloop_core.specs.Pollers.{Outside, nanos_of}
 use Rattle.calloop_core.specs.Events.{events_of}
 use Rattle.calloop_core.specs.Polls.{PollView, PollStep, AllAllowed, own_event, cut}
 use Rattle.calloop_core.specs.Waits.{Waited}
 use Rattle.calloop_core.specs.Marking.{AreTaken}
-use Rattle.calloop_wake.specs.Watches.{noted}
+use Rattle.calloop_wake.specs.Watches.{with_note}
 use Rattle.calloop_wake.specs.declared.wake.notes.Note.TheVariants.{Counted, Marked}
 use Rattle.calloop.specs.declared.loop_logic.LoopCall.{LoopCall}
 use Rattle.calloop.specs.declared.loop_logic.LoopCall.TheVariants.{
@@ -114,7 +114,7 @@ use Rattle.calloop.specs.declared.loop_logic.asks.Request.TheVariants.{
   Cancel as AskCancel,
 }
 use Rattle.calloop.specs.declared.loop_logic.stops.StopNote.TheVariants.{Forgot, Looked}
-use Rattle.calloop.specs.Askings.{Asks, AskStep, Take, Runs, CannotAsk, asks_after, of_turn, found, idle_begun}
+use Rattle.calloop.specs.Askings.{Asks, AskStep, Take, Runs, CannotAsk, asks_after, of_turn, answer_under, idle_begun}
 use Rattle.calloop.specs.Roles.{only, is_callers, is_adapter}
 use Rattle.calloop.specs.Held.{
   HeldStep,
@@ -153,10 +153,10 @@ use Rattle.calloop.specs.Machine.{
   Cut,
   Ended,
   AllFit,
-  viewed,
+  after_change,
   all_viewed,
   all_done,
-  seen,
+  visible,
 }
 
 -- a factory that has given no token: calloop's TokenFactory::new
@@ -181,20 +181,20 @@ RegisteredBy M deed token listed v d answer steps e =
     ⊎ ((f : TokenFactory) × M.does d v (deed (factory_of token) answer f) steps e)
 
 -- a registration that succeeds enters what is to be told of waits
-abbrev pub entered : {D I P X : Type 0} → Meaning D P (Lent X (Asks D I)) → RegistrationToken → D → Outcome
+abbrev pub listing_of : {D I P X : Type 0} → Meaning D P (Lent X (Asks D I)) → RegistrationToken → D → Outcome
     → HeldStep D I
-entered M token d answer = Listed (M.needs d && is_done answer) token
+listing_of M token d answer = Listed (M.needs d && is_done answer) token
 
 -- one that is taken back takes it out, also where that fails
-abbrev pub left : {D I : Type 0} → RegistrationToken → D → Outcome → HeldStep D I
-left token d answer = Unlisted token
+abbrev pub unlisting_of : {D I : Type 0} → RegistrationToken → D → Outcome → HeldStep D I
+unlisting_of token d answer = Unlisted token
 
 -- what a source that is out of its slot did, by R, with what becomes of its entry
 abbrev pub ByOne : {D I P : Type 0} → Outside P → (D → Outcome → List (PollStep P) → D → Type 0)
-    → (noted : D → Outcome → HeldStep D I) → D → Outcome → D → View D I P → View D I P → Type 0
-ByOne {D} {I} {P} O R noted d answer e v u =
+    → (entry : D → Outcome → HeldStep D I) → D → Outcome → D → View D I P → View D I P → Type 0
+ByOne {D} {I} {P} O R entry d answer e v u =
     (steps : List (PollStep P)) × R d answer steps e × AllAllowed O v.poll steps
-    × (u ≡ all_viewed v (Polls steps ∷ Holds (noted d answer) ∷ []))
+    × (u ≡ all_viewed v (Polls steps ∷ Holds (entry d answer) ∷ []))
 
 -- why an insertion changes nothing: there is no slot, or no room for an entry
 abbrev pub CannotInsert : {D : Type 0} → List (Slot D) → (needed : Bool) → Error → Type 0
@@ -216,35 +216,35 @@ InsertedBy {D} {I} {P} M d (Err refused) v cs =
     × (cs ≡ Claim d ∷ Polls steps ∷ Put (first_vacant v.slots) Vacant ∷ []))
 
 -- what is asked of the source in a slot: it goes out of the slot, and comes back as that left it, also after a refusal;
--- R relates the source, its answer, its steps, and what it is then, and `noted` is what becomes of its entry
+-- R relates the source, its answer, its steps, and what it is then, and `entry` is what becomes of its entry
 abbrev pub AskedIn : {D I P : Type 0} → (D → Outcome → List (PollStep P) → D → Type 0)
-    → (noted : D → Outcome → HeldStep D I) → RegistrationToken → Content D → Outcome → List (Change D I P) → Type 0
-AskedIn R noted token Vacant answer cs = (answer ≡ Err InvalidToken) × (cs ≡ [])
-AskedIn R noted token InTurn answer cs = (answer ≡ Err InvalidToken) × (cs ≡ [])
-AskedIn {D} {I} {P} R noted token (Source d) answer cs =
+    → (entry : D → Outcome → HeldStep D I) → RegistrationToken → Content D → Outcome → List (Change D I P) → Type 0
+AskedIn R entry token Vacant answer cs = (answer ≡ Err InvalidToken) × (cs ≡ [])
+AskedIn R entry token InTurn answer cs = (answer ≡ Err InvalidToken) × (cs ≡ [])
+AskedIn {D} {I} {P} R entry token (Source d) answer cs =
     (e : D) × (steps : List (PollStep P)) × R d answer steps e
-    × (cs ≡ Put token.slot InTurn ∷ Polls steps ∷ Holds (noted d answer) ∷ Put token.slot (Source e) ∷ [])
+    × (cs ≡ Put token.slot InTurn ∷ Polls steps ∷ Holds (entry d answer) ∷ Put token.slot (Source e) ∷ [])
 
 -- the source that a token names is registered, with a factory that has given no token
 abbrev pub EnabledBy : {D I P X : Type 0} → Meaning D P (Lent X (Asks D I)) → RegistrationToken
     → Result (Unit {0}) Error → View D I P → List (Change D I P) → Type 0
 EnabledBy M token answer v cs =
-    AskedIn (RegisteredBy M Registered token (is_listed token v.held.lifecycle) v.poll) (entered M token) token
-    (only (is_callers M) (named v.slots token)) answer cs
+    AskedIn (RegisteredBy M Registered token (is_listed token v.held.lifecycle) v.poll) (listing_of M token) token
+    (only (is_callers M) (content_at v.slots token)) answer cs
 
 -- it is registered anew
 abbrev pub UpdatedBy : {D I P X : Type 0} → Meaning D P (Lent X (Asks D I)) → RegistrationToken
     → Result (Unit {0}) Error → View D I P → List (Change D I P) → Type 0
 UpdatedBy M token answer v cs =
-    AskedIn (RegisteredBy M Reregistered token (is_listed token v.held.lifecycle) v.poll) (entered M token) token
-    (only (is_callers M) (named v.slots token)) answer cs
+    AskedIn (RegisteredBy M Reregistered token (is_listed token v.held.lifecycle) v.poll) (listing_of M token) token
+    (only (is_callers M) (content_at v.slots token)) answer cs
 
 -- its registration is taken back
 abbrev pub DisabledBy : {D I P X : Type 0} → Meaning D P (Lent X (Asks D I)) → RegistrationToken
     → Result (Unit {0}) Error → View D I P → List (Change D I P) → Type 0
 DisabledBy M token answer v cs =
-    AskedIn (λ d a steps e. M.does d v.poll (Unregistered a) steps e) (left token) token
-    (only (is_callers M) (named v.slots token)) answer cs
+    AskedIn (λ d a steps e. M.does d v.poll (Unregistered a) steps e) (unlisting_of token) token
+    (only (is_callers M) (content_at v.slots token)) answer cs
 
 -- it leaves its slot vacant, is unregistered, of which a failure is a warning where there is memory for one, and is
 -- handed back; calloop's remove hands nothing back
@@ -259,7 +259,7 @@ RemovedIn {D} {I} {P} M token (Source d) answer v cs =
 
 abbrev pub RemovedBy : {D I P X : Type 0} → Meaning D P (Lent X (Asks D I)) → RegistrationToken → Option D → View D I P
     → List (Change D I P) → Type 0
-RemovedBy M token answer v cs = RemovedIn M token (only (is_callers M) (named v.slots token)) answer v cs
+RemovedBy M token answer v cs = RemovedIn M token (only (is_callers M) (content_at v.slots token)) answer v cs
 
 -- another source takes the place of the one that a token names, which is answered: so does who changes it where it
 -- stands, as in calloop by as_source_mut. Where the token names none, the other one is handed back.
@@ -271,7 +271,7 @@ ExchangedIn token new (Source d) answer cs = (answer ≡ Ok d) × (cs ≡ Swappe
 
 abbrev pub ExchangedBy : {D I P X : Type 0} → Meaning D P (Lent X (Asks D I)) → RegistrationToken → D → Result D D
     → View D I P → List (Change D I P) → Type 0
-ExchangedBy M token new answer v cs = ExchangedIn token new (only (is_callers M) (named v.slots token)) answer cs
+ExchangedBy M token new answer v cs = ExchangedIn token new (only (is_callers M) (content_at v.slots token)) answer cs
 
 -- an idle is put at the end, under the next ticket, or handed back
 abbrev pub IdleInsertedBy : {D I P : Type 0} → I → Result Idle (InsertError I) → View D I P → List (Change D I P)
@@ -311,10 +311,10 @@ LeftIn {D} {I} {P} M token (Source d) v cs =
 
 abbrev pub ReleasedBy : {D I P X : Type 0} → Meaning D P (Lent X (Asks D I)) → RegistrationToken → Outcome → View D I P
     → List (Change D I P) → Type 0
-ReleasedBy M token (Ok u) v cs = LeftIn M token (only (is_adapter M) (named v.slots token)) v cs
+ReleasedBy M token (Ok u) v cs = LeftIn M token (only (is_adapter M) (content_at v.slots token)) v cs
 ReleasedBy M token (Err e) v cs =
-    AskedIn (λ d a steps f. M.does d v.poll (Unregistered a) steps f) (left token) token
-    (only (is_adapter M) (named v.slots token)) (Err e) cs
+    AskedIn (λ d a steps f. M.does d v.poll (Unregistered a) steps f) (unlisting_of token) token
+    (only (is_adapter M) (content_at v.slots token)) (Err e) cs
 
 -- what the loop is doing within a dispatch; X is the data that the caller lends
 pub data Doing (D X : Type 0) : Type 0 where
@@ -395,7 +395,7 @@ CutTo {D} {I} {P} {X} M e (Source d) v x cs b =
     × (asked : List (AskStep D I))
     × M.does d (cut v.poll)
     (Turned e.readiness e.token
-    (lent x (of_turn (registration_of e.token) v.held.asks) answer x'
+    (lend x (of_turn (registration_of e.token) v.held.asks) answer x'
     (of_turn (registration_of e.token) (asks_after v.held.asks asked)))) steps d'
     × (cs ≡ Cut (Some e.token.slot) ∷ Put e.token.slot InTurn ∷ Polls steps ∷ Ended ∷ Holds (Asking asked) ∷ [])
     × (b ≡ Serving (registration_of e.token) d' answer x')
@@ -403,13 +403,13 @@ CutTo {D} {I} {P} {X} M e (Source d) v x cs b =
 abbrev pub CutFrom : {D I P X : Type 0} → Meaning D P (Lent X (Asks D I)) → List Pending → View D I P → X
     → List (Change D I P) → Doing D X → Type 0
 CutFrom M [] v x cs b = (cs ≡ []) × (b ≡ Idling x)
-CutFrom M (e ∷ es) v x cs b = CutTo M e (named v.slots (registration_of e.token)) v x cs b
+CutFrom M (e ∷ es) v x cs b = CutTo M e (content_at v.slots (registration_of e.token)) v x cs b
 
 -- its slot is emptied, where it is still in its turn
-abbrev pub emptied : {D I P : Type 0} → RegistrationToken → Content D → List (Change D I P)
-emptied token InTurn = Put token.slot Vacant ∷ []
-emptied token Vacant = []
-emptied token (Source d) = []
+abbrev pub vacate : {D I P : Type 0} → RegistrationToken → Content D → List (Change D I P)
+vacate token InTurn = Put token.slot Vacant ∷ []
+vacate token Vacant = []
+vacate token (Source d) = []
 
 -- What callbacks ask for.
 
@@ -433,11 +433,11 @@ OwnOr (Source d) own other = other
 abbrev pub ServedAs : {D I P X : Type 0} → Meaning D P (Lent X (Asks D I)) → Request D I → Outcome → View D I P
     → List (Change D I P) → Type 0
 ServedAs M (AskEnable token) answer v cs =
-    OwnOr (named v.slots token) ((answer ≡ Err OwnTurn) × (cs ≡ [])) (EnabledBy M token answer v cs)
+    OwnOr (content_at v.slots token) ((answer ≡ Err OwnTurn) × (cs ≡ [])) (EnabledBy M token answer v cs)
 ServedAs M (AskUpdate token) answer v cs =
-    OwnOr (named v.slots token) ((answer ≡ Ok tt) × (cs ≡ Holds (Pend Reregister) ∷ [])) (UpdatedBy M token answer v cs)
+    OwnOr (content_at v.slots token) ((answer ≡ Ok tt) × (cs ≡ Holds (Pend Reregister) ∷ [])) (UpdatedBy M token answer v cs)
 ServedAs M (AskDisable token) answer v cs =
-    OwnOr (named v.slots token) ((answer ≡ Ok tt) × (cs ≡ Holds (Pend DisableIt) ∷ [])) (DisabledBy M token answer v cs)
+    OwnOr (content_at v.slots token) ((answer ≡ Ok tt) × (cs ≡ Holds (Pend DisableIt) ∷ [])) (DisabledBy M token answer v cs)
 ServedAs M request answer v cs = ⊥
 
 -- a request with its answer. A source that asks for its own removal leaves its slot at once, and is answered when its
@@ -448,7 +448,7 @@ Served {D} {I} {P} M (AskInsert d) v cs =
     (answer : Result RegistrationToken (InsertError D)) × (ds : List (Change D I P)) × InsertedBy M d answer v ds
     × (cs ≡ ds ++ Holds (Told (inserted_answer answer)) ∷ [])
 Served {D} {I} {P} M (AskRemove token) v cs =
-    OwnOr (named v.slots token) (cs ≡ Put token.slot Vacant ∷ Holds (Unlisted token) ∷ Holds Owe ∷ [])
+    OwnOr (content_at v.slots token) (cs ≡ Put token.slot Vacant ∷ Holds (Unlisted token) ∷ Holds Owe ∷ [])
     ((answer : Option D) × (ds : List (Change D I P)) × RemovedBy M token answer v ds
     × (cs ≡ ds ++ Holds (Told (RemovedAnswer answer)) ∷ []))
 Served M (AskIdle idle) v cs = cs ≡ Holds (IdleIn idle) ∷ []
@@ -462,7 +462,7 @@ abbrev pub ServedFrom : {D I P X : Type 0} → Meaning D P (Lent X (Asks D I)) �
     → (on next b : Doing D X) → View D I P → List (Change D I P) → Type 0
 ServedFrom M [] on next b v cs = (cs ≡ []) × (b ≡ next)
 ServedFrom {D} {I} {P} M (a ∷ as') on next b v cs =
-    (ds : List (Change D I P)) × Served M a.request (viewed v (Holds Begun)) ds × (cs ≡ Holds Begun ∷ ds) × (b ≡ on)
+    (ds : List (Change D I P)) × Served M a.request (after_change v (Holds Begun)) ds × (cs ≡ Holds Begun ∷ ds) × (b ≡ on)
 
 -- what a source asked for itself counts only beside `Continue`, as in calloop
 abbrev pub action_of : Result PostAction Error → (pending : PostAction) → Result PostAction Error
@@ -478,12 +478,12 @@ abbrev pub ActedBy : {D I P X : Type 0} → Meaning D P (Lent X (Asks D I)) → 
 ActedBy M token d (Ok Continue) v cs e told = (cs ≡ Holds (Pend Continue) ∷ []) × (e ≡ d) × (told ≡ Ok tt)
 ActedBy {D} {I} {P} M token d (Ok Reregister) v cs e told =
     (steps : List (PollStep P)) × RegisteredBy M Reregistered token (is_listed token v.held.lifecycle) v.poll d told steps e
-    × (cs ≡ Holds (Pend Continue) ∷ Polls steps ∷ Holds (entered M token d told) ∷ [])
+    × (cs ≡ Holds (Pend Continue) ∷ Polls steps ∷ Holds (listing_of M token d told) ∷ [])
 ActedBy {D} {I} {P} M token d (Ok DisableIt) v cs e told =
     (steps : List (PollStep P)) × M.does d v.poll (Unregistered told) steps e
     × (cs ≡ Holds (Pend Continue) ∷ Polls steps ∷ Holds (Unlisted token) ∷ [])
 ActedBy M token d (Ok Remove) v cs e told =
-    (cs ≡ Holds (Pend Continue) ∷ emptied token (named v.slots token)) × (e ≡ d) × (told ≡ Ok tt)
+    (cs ≡ Holds (Pend Continue) ∷ vacate token (content_at v.slots token)) × (e ≡ d) × (told ≡ Ok tt)
 ActedBy M token d (Err error) v cs e told = (cs ≡ Holds (Pend Continue) ∷ []) × (e ≡ d) × (told ≡ Err error)
 
 -- an error leaves the rest of the batch for the next dispatch, where calloop drops it
@@ -516,13 +516,13 @@ abbrev pub Step : {D I P X : Type 0} → Meaning D P (Lent X (Asks D I)) → Run
     → List (Change D I P) → Doing D X → Type 0
 Step M runs O v (Beginning timeout x) cs b =
     (places : ℕ) × (marked : List RegistrationToken) × (taken : List RegistrationToken) × AreTaken taken marked
-    × (cs ≡ Counting places ∷ Holds Cleared ∷ Watching (noted (Marked taken) (noted (Counted places) v.poll.watch)) ∷ [])
+    × (cs ≡ Counting places ∷ Holds Cleared ∷ Watching (with_note (Marked taken) (with_note (Counted places) v.poll.watch)) ∷ [])
     × (b ≡ Settling timeout marked x)
 Step M runs O v (Settling timeout [] x) cs b = (cs ≡ []) × (b ≡ Sleeping timeout v.held.lifecycle x)
 Step M runs O v (Settling timeout (t ∷ later) x) cs b =
-    SettledIn M t (only (is_adapter M) (named v.slots t)) v cs × (b ≡ Settling timeout later x)
+    SettledIn M t (only (is_adapter M) (content_at v.slots t)) v cs × (b ≡ Settling timeout later x)
 Step M runs O v (Sleeping timeout [] x) cs b = (cs ≡ []) × (b ≡ Waiting timeout x)
-Step M runs O v (Sleeping timeout (t ∷ later) x) cs b = SleptBy M timeout t later (named v.slots t) v x cs b
+Step M runs O v (Sleeping timeout (t ∷ later) x) cs b = SleptBy M timeout t later (content_at v.slots t) v x cs b
 Step {D} {I} {P} M runs O v (Waiting timeout x) cs b =
     (answer : Result ℕ Cause) × (given : List (ℕ × Readiness)) × (p : P) × (w : Watch)
     × Waited O v.poll timeout answer given p w
@@ -530,7 +530,7 @@ Step {D} {I} {P} M runs O v (Waiting timeout x) cs b =
 Step M runs O v (Gathering now given x) cs b =
     (posted : List ℕ) × (cs ≡ Gathered posted given now ∷ []) × (b ≡ Noticing (length v.poll.batch) v.held.lifecycle x)
 Step M runs O v (Noticing from [] x) cs b = (cs ≡ []) × (b ≡ Cutting x)
-Step M runs O v (Noticing from (t ∷ later) x) cs b = NoticedBy M from t later (named v.slots t) v x cs b
+Step M runs O v (Noticing from (t ∷ later) x) cs b = NoticedBy M from t later (content_at v.slots t) v x cs b
 Step M runs O v (Cutting x) cs b = CutFrom M v.poll.batch v x cs b
 Step M runs O v (Serving token d answer x) cs b =
     ServedFrom M v.held.asks.written (Serving token d answer x) (Ending token d answer x) b v cs
@@ -538,7 +538,7 @@ Step {D} M runs O v (Ending token d answer x) cs b =
     (e : D) × (told : Result (Unit {0}) Error) × ActedBy M token d (action_of answer v.held.pending) v cs e told
     × (b ≡ Returning token e told x)
 Step M runs O v (Returning token d told x) cs b =
-    ReturnedTo M token d (named v.slots token) v cs × (b ≡ after_turn told x)
+    ReturnedTo M token d (content_at v.slots token) v cs × (b ≡ after_turn told x)
 Step M runs O v (Idling x) cs b = (cs ≡ Holds IdlesTaken ∷ []) × (b ≡ RunningIdles x)
 Step M runs O v (RunningIdles x) cs b = RunFrom runs v.held.asks.running v x cs b
 Step M runs O v (ServingIdle x) cs b = ServedFrom M v.held.asks.written (ServingIdle x) (RunningIdles x) b v cs
@@ -551,9 +551,9 @@ Steps M runs O v a [] b = b ≡ a
 Steps {D} {I} {P} {X} M runs O v a (cs ∷ css) b =
     (c : Doing D X) × Step M runs O v a cs c × AllFit O v cs × Steps M runs O (all_viewed v cs) c css b
 
-abbrev pub traced : {D I P : Type 0} → View D I P → List (List (Change D I P)) → View D I P
-traced v [] = v
-traced v (cs ∷ css) = traced (all_viewed v cs) css
+abbrev pub after_changes : {D I P : Type 0} → View D I P → List (List (Change D I P)) → View D I P
+after_changes v [] = v
+after_changes v (cs ∷ css) = after_changes (all_viewed v cs) css
 
 abbrev pub all_traced : {D I P : Type 0} → World D I P → List (List (Change D I P)) → World D I P
 all_traced w [] = w
@@ -588,7 +588,7 @@ Case M runs O (Dispatch timeout x) (Dispatched answer x') v css =
 Case M runs O (InsertIdle idle) (IdleInserted answer) v css = Once O (IdleInsertedBy idle answer) v css
 Case M runs O (Cancel idle) Cancelled v css = css ≡ (Holds (IdleOut idle.ticket.number) ∷ []) ∷ []
 Case M runs O (AnswerOf ticket) (Answered answer) v css =
-    (answer ≡ found ticket.number v.held.asks.answers) × (css ≡ (Holds (Asking (Take ticket.number ∷ [])) ∷ []) ∷ [])
+    (answer ≡ answer_under ticket.number v.held.asks.answers) × (css ≡ (Holds (Asking (Take ticket.number ∷ [])) ∷ []) ∷ [])
 Case M runs O ForgetStop StopForgotten v css = css ≡ (Holds (StopNoted Forgot) ∷ []) ∷ []
 Case M runs O LookForStop (Stopped found) v css = css ≡ (Holds (StopNoted (Looked found)) ∷ []) ∷ []
 Case M runs O (NewPoller p) (OldPoller q) v css = (q ≡ v.poll.poller) × (css ≡ (Polling p ∷ []) ∷ [])
@@ -599,20 +599,20 @@ abbrev pub Run : {D I P X : Type 0} → Meaning D P (Lent X (Asks D I)) → Runs
     → List (LoopAnswer D P X I) → List (List (List (Change D I P))) → World D I P → World D I P → Type 0
 Run M runs O [] [] [] w w' = w' ≡ w
 Run M runs O (call ∷ calls) (answer ∷ answers) (css ∷ csss) w w' =
-    Case M runs O call answer (seen w) css × Run M runs O calls answers csss (all_traced w css) w'
+    Case M runs O call answer (visible w) css × Run M runs O calls answers csss (all_traced w css) w'
 Run M runs O calls answers csss w w' = ⊥
 
 -- what a function of the loop did, by what is seen
 abbrev pub Did : {D I P : Type 0} → (View D I P → List (List (Change D I P)) → Type 0) → View D I P → View D I P
     → Type 0
-Did {D} {I} {P} R old new = (css : List (List (Change D I P))) × R old css × (new ≡ traced old css)
+Did {D} {I} {P} R old new = (css : List (List (Change D I P))) × R old css × (new ≡ after_changes old css)
 
 -- from every machine state that agrees with what the loop held, the call is a case, and ends in one that agrees again
 abbrev pub Leads : {D I P : Type 0} → (View D I P → List (List (Change D I P)) → Type 0) → View D I P → View D I P
     → Type 0
 Leads {D} {I} {P} R old new =
-    (w : World D I P) → seen w ≡ old
-    → (css : List (List (Change D I P))) × R (seen w) css × (seen (all_traced w css) ≡ new)
+    (w : World D I P) → visible w ≡ old
+    → (css : List (List (Change D I P))) × R (visible w) css × (visible (all_traced w css) ≡ new)
 
 -- within a dispatch
 abbrev pub Goes : {D I P X : Type 0} → Meaning D P (Lent X (Asks D I)) → Runs D I X → Outside P → Doing D X → Doing D X
@@ -646,6 +646,6 @@ held_answer held f (Err refused) =
 abbrev pub RunLeads : {D I P X : Type 0} → Meaning D P (Lent X (Asks D I)) → Runs D I X → Outside P
     → List (LoopCall D P X I) → List (LoopAnswer D P X I) → View D I P → View D I P → Type 0
 RunLeads {D} {I} {P} M runs O calls answers old new =
-    (w : World D I P) → seen w ≡ old
+    (w : World D I P) → visible w ≡ old
     → (csss : List (List (List (Change D I P)))) × (w' : World D I P) × Run M runs O calls answers csss w w'
-    × (seen w' ≡ new)
+    × (visible w' ≡ new)

@@ -13,6 +13,6 @@ abbrev pub IsDisconnected : {T : Type 0} → sent.SendError T → Type 0
 IsDisconnected (Disconnected x) = Unit {0}
 IsDisconnected (OutOfMemory x) = ⊥
 
-abbrev pub untried : {T : Type 0} → tried.TrySendError T → T
-untried (Full x) = x
-untried (Left x) = x
+abbrev pub message_back : {T : Type 0} → tried.TrySendError T → T
+message_back (Full x) = x
+message_back (Left x) = x

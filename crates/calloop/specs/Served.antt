@@ -13,8 +13,8 @@ use Rattle.calloop.specs.declared.loop_logic.asks.Idling.{Idling as Waiter}
 use Rattle.calloop.specs.Held.{IdlesTaken, IdleBegun, IdleOut}
 use Rattle.calloop.specs.Askings.{Asks, Runs}
 use Rattle.calloop.specs.EveryRun.{LoopRun}
-use Rattle.calloop.specs.Laws.{joined}
-use Rattle.calloop.specs.Machine.{View, Change, Holds, Gathered, Cut, viewed, all_viewed}
+use Rattle.calloop.specs.Laws.{flatten}
+use Rattle.calloop.specs.Machine.{View, Change, Holds, Gathered, Cut, after_change, all_viewed}
 use Rattle.calloop.specs.Rules.{DispatchedBy}
 
 -- What is told of a dispatch: where it began; what the clock answered as it gathered, and what stood there right before that and
@@ -38,8 +38,8 @@ first_of (x ∷ xs) = x ∷ []
 -- the events that are cut in these changes: at each cut the first one of the batch
 abbrev pub events_cut : {D I P : Type 0} → View D I P → List (Change D I P) → List Pending
 events_cut v [] = []
-events_cut v (Cut slot ∷ cs) = first_of v.poll.batch ++ events_cut (viewed v (Cut slot)) cs
-events_cut v (c ∷ cs) = events_cut (viewed v c) cs
+events_cut v (Cut slot ∷ cs) = first_of v.poll.batch ++ events_cut (after_change v (Cut slot)) cs
+events_cut v (c ∷ cs) = events_cut (after_change v c) cs
 
 -- how often the batch is put together in them
 abbrev pub gatherings : {D I P : Type 0} → List (Change D I P) → ℕ
@@ -53,17 +53,17 @@ abbrev pub Gathers : {D I P : Type 0} → (now : ℕ) → (before behind : View 
     → List (Change D I P) → Type 0
 Gathers now t u es v [] = ⊥
 Gathers now t u es v (Gathered posted given moment ∷ cs) =
-    (now ≡ moment) × (t ≡ v) × (u ≡ viewed v (Gathered posted given moment)) × (es ≡ events_cut u cs)
+    (now ≡ moment) × (t ≡ v) × (u ≡ after_change v (Gathered posted given moment)) × (es ≡ events_cut u cs)
     × (gatherings cs ≡ 0)
 Gathers now t u es v (Cut slot ∷ cs) = ⊥
-Gathers now t u es v (c ∷ cs) = Gathers now t u es (viewed v c) cs
+Gathers now t u es v (c ∷ cs) = Gathers now t u es (after_change v c) cs
 
 -- the idles that begin in these changes: at each beginning the first one of those that are still to run
 abbrev pub idles_begun : {D I P : Type 0} → View D I P → List (Change D I P) → List (Waiter I)
 idles_begun v [] = []
 idles_begun v (Holds IdleBegun ∷ cs) =
-    first_of v.held.asks.running ++ idles_begun (viewed v (Holds IdleBegun)) cs
-idles_begun v (c ∷ cs) = idles_begun (viewed v c) cs
+    first_of v.held.asks.running ++ idles_begun (after_change v (Holds IdleBegun)) cs
+idles_begun v (c ∷ cs) = idles_begun (after_change v c) cs
 
 -- the tickets of idles that are cancelled in them
 abbrev pub idles_cancelled : {D I P : Type 0} → List (Change D I P) → List ℕ
@@ -82,9 +82,9 @@ abbrev pub RunsRound : {D I P : Type 0} → (round begun : List (Waiter I)) → 
     → List (Change D I P) → Type 0
 RunsRound is js ns v [] = ⊥
 RunsRound is js ns v (Holds IdlesTaken ∷ cs) =
-    (is ≡ (viewed v (Holds IdlesTaken)).held.asks.running) × (js ≡ idles_begun (viewed v (Holds IdlesTaken)) cs)
+    (is ≡ (after_change v (Holds IdlesTaken)).held.asks.running) × (js ≡ idles_begun (after_change v (Holds IdlesTaken)) cs)
     × (ns ≡ idles_cancelled cs) × (rounds cs ≡ 0)
-RunsRound is js ns v (c ∷ cs) = RunsRound is js ns (viewed v c) cs
+RunsRound is js ns v (c ∷ cs) = RunsRound is js ns (after_change v c) cs
 
 -- this is told of a dispatch that began there and made these changes
 abbrev pub IsAccountOf : {D I P : Type 0} → Account D I P → View D I P → List (Change D I P) → Type 0
@@ -98,7 +98,7 @@ abbrev pub OverEveryDispatch : {D I P X : Type 0} → Meaning D P (Lent X (Asks 
 OverEveryDispatch {D} {I} {P} {X} M runs O Law =
     (timeout : Option ℕ) (x x' : X) (v : View D I P) (css : List (List (Change D I P)))
     → DispatchedBy M runs O timeout x (Ok tt) x' v css
-    → (a : Account D I P) × IsAccountOf a v (joined css) × Law a
+    → (a : Account D I P) × IsAccountOf a v (flatten css) × Law a
 
 -- no event waits any more
 abbrev pub NothingIsLeft : {D I P : Type 0} → Account D I P → Type 0

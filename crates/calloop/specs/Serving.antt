@@ -7,7 +7,7 @@ use Rattle.calloop.specs.declared.loop_logic.asks.Asked.{Asked}
 use Rattle.calloop.specs.declared.loop_logic.asks.Request.{Request}
 use Rattle.calloop.specs.Askings.{Asks}
 use Rattle.calloop.specs.Held.{Begun}
-use Rattle.calloop.specs.Machine.{View, Change, Holds, AllFit, viewed, all_viewed}
+use Rattle.calloop.specs.Machine.{View, Change, Holds, AllFit, after_change, all_viewed}
 use Rattle.calloop.specs.Rules.{Outcome, Served, ServedAs}
 
 -- one request, with its answer
@@ -26,13 +26,13 @@ ServesAs {D} {I} {P} M O request answer v u =
 abbrev pub ServesFirst : {D I P X : Type 0} → Meaning D P (Lent X (Asks D I)) → Outside P → List (Asked D I)
     → (any : Bool) → View D I P → View D I P → Type 0
 ServesFirst M O [] any v u = (any ≡ false) × (u ≡ v)
-ServesFirst M O (a ∷ as') any v u = (any ≡ true) × Serves M O a.request (viewed v (Holds Begun)) u
+ServesFirst M O (a ∷ as') any v u = (any ≡ true) × Serves M O a.request (after_change v (Holds Begun)) u
 
 abbrev pub FirstServed : {D I P X : Type 0} → Meaning D P (Lent X (Asks D I)) → List (Asked D I) → View D I P
     → List (Change D I P) → Type 0
 FirstServed M [] v cs = ⊥
 FirstServed {D} {I} {P} M (a ∷ as') v cs =
-    (ds : List (Change D I P)) × Served M a.request (viewed v (Holds Begun)) ds × (cs ≡ Holds Begun ∷ ds)
+    (ds : List (Change D I P)) × Served M a.request (after_change v (Holds Begun)) ds × (cs ≡ Holds Begun ∷ ds)
 
 -- one after the other, until none is left
 abbrev pub AllServed : {D I P X : Type 0} → Meaning D P (Lent X (Asks D I)) → Outside P → View D I P

@@ -37,19 +37,19 @@ most_items = 1024
 abbrev pub StreamCalls : Type 0 → Type 0
 StreamCalls I = List (CallbackCall (Option I) (Unit {0}) (Unit {0}))
 
-abbrev pub called : {I : Type 0} → Option I → CallbackCall (Option I) (Unit {0}) (Unit {0})
-called event = record { event = event; before = tt; after = tt; answer = tt }
+abbrev pub call_with : {I : Type 0} → Option I → CallbackCall (Option I) (Unit {0}) (Unit {0})
+call_with event = record { event = event; before = tt; after = tt; answer = tt }
 
 -- the call of the end, which is told as `None`
 abbrev pub end_calls : {I : Type 0} → Ending → StreamCalls I
-end_calls AtEnd = called None ∷ []
+end_calls AtEnd = call_with None ∷ []
 end_calls AtPending = []
 end_calls AtLimit = []
 
 -- a call for each item, in order, and then that of the end
 abbrev pub calls_of : {I : Type 0} → List I → Ending → StreamCalls I
 calls_of [] ending = end_calls ending
-calls_of (x ∷ xs) ending = called (Some x) ∷ calls_of xs ending
+calls_of (x ∷ xs) ending = call_with (Some x) ∷ calls_of xs ending
 
 -- a turn ends where the stream is pending or at its end, or after so many items
 abbrev pub EndsSo : (items : ℕ) → Ending → Type 0
@@ -85,8 +85,8 @@ abbrev pub fresh_stream : {S : Type 0} → S → (name : Book) → StreamEnd S
 fresh_stream stream name = record { twin = fresh_twin name; reading = record { stream = Some stream; own = None } }
 
 -- a turn was opened that took this ring and told this close
-abbrev pub opened : {S : Type 0} → (rung told : Bool) → StreamEnd S → StreamEnd S
-opened rung told s = record s { twin = twin_opened rung told s.twin }
+abbrev pub with_stream_turn : {S : Type 0} → (rung told : Bool) → StreamEnd S → StreamEnd S
+with_stream_turn rung told s = record s { twin = twin_opened rung told s.twin }
 
 -- the same by the parts
 abbrev pub reading_of : {S R I : Type 0} → Option (Readable S R I) → Option Receipt → Reading S

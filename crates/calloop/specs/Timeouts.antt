@@ -19,7 +19,7 @@ use Rattle.calloop_core.specs.Lawful.{keeping_seen, keeping_in_role, asking_seen
 use Rattle.calloop_core.specs.Meanings.{Meaning, IsKeeping, IsAsking, FailsAsSource, with_callback, seen_as, in_role}
 use Rattle.calloop_core.specs.Pollers.{Outside}
 use Rattle.calloop_core.specs.Quiet.{IsQuietCall, IsQuiet, quiet_dispatcher, quiet_seen}
-use Rattle.calloop_core.specs.Timers.{unarmed, timer_meaning}
+use Rattle.calloop_core.specs.Timers.{fresh_timer, timer_meaning}
 use Rattle.calloop.specs.declared.futures.task.Poll.{Poll}
 use Rattle.calloop.specs.declared.futures.task.Poll.TheVariants.{Ready, Pending}
 use Rattle.calloop.specs.declared.loop_logic.LoopHandle.{LoopHandle}
@@ -43,7 +43,7 @@ is_ready Pending = false
 
 -- a timer that isn't armed yet, and what it calls
 abbrev pub timer_at : {R : Type 0} → Instant → WakesTimeout R → TimeoutTimer R
-timer_at moment wakes = record { timer = record { source = unarmed (Some moment); callback = wakes } }
+timer_at moment wakes = record { timer = record { source = fresh_timer (Some moment); callback = wakes } }
 
 -- what wakes the future of this timeout
 abbrev pub IsOf : {C R : Type 0} → TimeoutFuture C R → WakesTimeout R → Type 0
@@ -67,7 +67,7 @@ HasNoTimer {D} {P} {C} {R} M runs O placed moment e old new =
     ⊎ ((back : InsertError D) × (back.error ≡ e) × (wakes : WakesTimeout R)
     × IsCase M runs O (Insert (placed (timer_at moment wakes))) (Inserted (Err back)) old new)
 
--- What comes of making one. Without a moment nothing is inserted, and want of memory alone refuses it.
+-- What comes of making one. Without a moment nothing is inserted, and running out of memory alone refuses it.
 abbrev pub IsMade : {D P C R X I S : Type 0} → Meaning D P (Lent X (Asks D I)) → Runs D I X → Outside P
     → (placed : TimeoutTimer R → D) → Option Instant → Result (TimeoutFuture C R) Error
     → LoopHandle D P C R X I S → LoopHandle D P C R X I S → Type 0

@@ -3,7 +3,7 @@ use Rattle.std.specs.Prelude.{ℕ, false, List, [], ◌∷◌, None}
 use Rattle.logbook.specs.Pages.{Book}
 use Rattle.calloop_wake.specs.declared.wheel.Entry.{Entry}
 use Rattle.calloop_wake.specs.declared.wake.notes.Note.TheVariants.{Counted, Looked, Marked}
-use Rattle.calloop_wake.specs.Watches.{noted}
+use Rattle.calloop_wake.specs.Watches.{with_note}
 use Rattle.calloop_wake.specs.Deadlines.{entry_of}
 use Rattle.calloop_core.specs.declared.sys.poll.Pending.{Pending}
 use Rattle.calloop_core.specs.Polls.{ready_to_read, timer_event}
@@ -11,8 +11,8 @@ use Rattle.calloop.specs.declared.loop_logic.asks.Idling.{Idling as Waiter}
 use Rattle.calloop.specs.Askings.{no_asks}
 use Rattle.calloop.specs.ExampleRun.{Only, five, new_world, of_the_insertion, of_the_exchange, of_the_dispatch}
 use Rattle.calloop.specs.Held.{Cleared, IdlesTaken}
-use Rattle.calloop.specs.Laws.{joined}
-use Rattle.calloop.specs.Machine.{View, Polling, Watching, Counting, Holds, Appended, Gathered, Cut, Ended, seen, viewed, all_viewed}
+use Rattle.calloop.specs.Laws.{flatten}
+use Rattle.calloop.specs.Machine.{View, Polling, Watching, Counting, Holds, Appended, Gathered, Cut, Ended, visible, after_change, all_viewed}
 use Rattle.calloop.specs.Rules.{all_traced}
 use Rattle.calloop.specs.Served.{Account}
 use Rattle.calloop.specs.Wrong.{first_token}
@@ -89,7 +89,7 @@ in_another_order name =
       began = two_wait name;
       now = 5;
       before = two_wait name;
-      gathered = viewed (two_wait name) (Gathered [] [] 5);
+      gathered = after_change (two_wait name) (Gathered [] [] 5);
       cut = event_for 1 ∷ event_for 0 ∷ [];
       round = [];
       begun = [];
@@ -126,16 +126,16 @@ second_stays name = that_leaves name (armed_for 7 5)
 
 -- What is told of the dispatch of the run that there is: it gathered at 5, and cut the event of the timer for 5.
 abbrev pub before_its_dispatch : Book → View Only (Unit {0}) (Unit {0})
-before_its_dispatch name = seen (all_traced (all_traced (new_world name) of_the_insertion) of_the_exchange)
+before_its_dispatch name = visible (all_traced (all_traced (new_world name) of_the_insertion) of_the_exchange)
 
 abbrev pub before_its_gathering : Book → View Only (Unit {0}) (Unit {0})
 before_its_gathering name =
     all_viewed (before_its_dispatch name)
     (Counting 0
     ∷ Holds Cleared
-    ∷ Watching (noted (Marked []) (record { name = name; notes = Counted 0 ∷ [] }))
+    ∷ Watching (with_note (Marked []) (record { name = name; notes = Counted 0 ∷ [] }))
     ∷ Polling tt
-    ∷ Watching (noted (Looked false) (record { name = name; notes = Counted 0 ∷ Marked [] ∷ [] }))
+    ∷ Watching (with_note (Looked false) (record { name = name; notes = Counted 0 ∷ Marked [] ∷ [] }))
     ∷ [])
 
 abbrev pub account_of_it : Book → Account Only (Unit {0}) (Unit {0})
@@ -144,10 +144,10 @@ account_of_it name =
       began = before_its_dispatch name;
       now = 5;
       before = before_its_gathering name;
-      gathered = viewed (before_its_gathering name) (Gathered [] [] 5);
+      gathered = after_change (before_its_gathering name) (Gathered [] [] 5);
       cut = timer_event (entry_of 0 five first_token) ∷ [];
       round = [];
       begun = [];
       cancelled = [];
-      ended = all_viewed (before_its_dispatch name) (joined (of_the_dispatch name));
+      ended = all_viewed (before_its_dispatch name) (flatten (of_the_dispatch name));
     }

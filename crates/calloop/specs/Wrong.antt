@@ -70,8 +70,8 @@ TellsInTheOrderOfSlots v =
     (Sleeping None (first_registration ∷ second_registration ∷ []) tt)
 
 -- a slot that is used for the first time, or once more, with a source that is one of all alike
-abbrev pub used : (reuse : ℕ) → Registration (Unit {0})
-used reuse = record { reuse = reuse; content = Source tt }
+abbrev pub full_slot : (reuse : ℕ) → Registration (Unit {0})
+full_slot reuse = record { reuse = reuse; content = Source tt }
 
 -- it was given up
 abbrev pub given_up : (reuse : ℕ) → Registration (Unit {0})
@@ -146,8 +146,8 @@ abbrev pub gathered_once : Ledger
 gathered_once = record new_ledger { batch = gathered_at 5 ∷ []; made = first_arming ∷ []; count = 1 }
 
 -- a source that is the key which it is registered under, and that stays as it is whatever is asked of it
-abbrev pub unmoved : Meaning ℕ (Unit {0}) (Lent (Unit {0}) (Unit {0}))
-unmoved = record (still (λ s v deed t. t ≡ s)) { keys = λ s key. key ≡ s }
+abbrev pub still_meaning : Meaning ℕ (Unit {0}) (Lent (Unit {0}) (Unit {0}))
+still_meaning = record (still (λ s v deed t. t ≡ s)) { keys = λ s key. key ≡ s }
 
 -- one without a key, which arms a deadline under a token of the first registration whatever is asked of it
 abbrev pub arms_elsewhere : Meaning (Unit {0}) (Unit {0}) (Lent (Unit {0}) (Unit {0}))

@@ -8,7 +8,7 @@ use Rattle.calloop_wake.specs.declared.wake.notes.Note.TheVariants.{Counted, Loo
 use Rattle.calloop_wake.specs.declared.wheel.Instant.{Instant}
 use Rattle.calloop_wake.specs.Deadlines.{entry_of}
 use Rattle.calloop_wake.specs.Tokens.{key_of}
-use Rattle.calloop_wake.specs.Watches.{noted}
+use Rattle.calloop_wake.specs.Watches.{with_note}
 use Rattle.calloop_wake.specs.Widths.{versions}
 use Rattle.calloop_core.specs.declared.sources.source.PostAction.TheVariants.{Continue}
 use Rattle.calloop_core.specs.declared.sources.dispatch.Role.TheVariants.{Adapter}
@@ -44,7 +44,7 @@ use Rattle.calloop.specs.Wrong.{
   first_token,
   first_registration,
   second_registration,
-  used,
+  full_slot,
   given_up,
   first_arming,
   first_call,
@@ -78,8 +78,8 @@ untouched_poll name =
 abbrev pub untouched_held : {D : Type 0} → Held D (Unit {0})
 untouched_held = record { lifecycle = []; pending = Continue; asks = no_asks; warnings = []; stops = [] }
 
-abbrev pub untouched : {D : Type 0} → Book → World D (Unit {0}) (Unit {0})
-untouched name =
+abbrev pub idle_world : {D : Type 0} → Book → World D (Unit {0}) (Unit {0})
+idle_world name =
     record {
       slots = [];
       poll = untouched_poll name;
@@ -107,7 +107,7 @@ of_changes cs w =
 abbrev pub with_two_events : Book → SmallWorld
 with_two_events name =
     record {
-      slots = used 0 ∷ used 0 ∷ [];
+      slots = full_slot 0 ∷ full_slot 0 ∷ [];
       poll = record (untouched_poll name) { batch = (gathered_at 5).event ∷ (gathered_at 5).event ∷ [] };
       held = untouched_held;
       handed = [];
@@ -148,17 +148,17 @@ of_moments name first second third =
 -- the token of the first moment names a lesser reuse count in the last one, where it named nothing in between; or that of the
 -- second does
 abbrev pub ends_under_an_earlier_use : Book → SmallRun
-ends_under_an_earlier_use name = of_moments name (used versions) (used 1) (used 0)
+ends_under_an_earlier_use name = of_moments name (full_slot versions) (full_slot 1) (full_slot 0)
 
 abbrev pub goes_back_to_an_earlier_use : Book → SmallRun
-goes_back_to_an_earlier_use name = of_moments name (used 1) (used versions) (used 0)
+goes_back_to_an_earlier_use name = of_moments name (full_slot 1) (full_slot versions) (full_slot 0)
 
 -- what was given up in the first moment is there again in the last one; or what was in the second
 abbrev pub ends_with_what_was_given_up : Book → SmallRun
-ends_with_what_was_given_up name = of_moments name (given_up 0) (used 1) (used 0)
+ends_with_what_was_given_up name = of_moments name (given_up 0) (full_slot 1) (full_slot 0)
 
 abbrev pub goes_back_to_what_was_given_up : Book → SmallRun
-goes_back_to_what_was_given_up name = of_moments name (used 1) (given_up 0) (used 0)
+goes_back_to_what_was_given_up name = of_moments name (full_slot 1) (given_up 0) (full_slot 0)
 
 -- Runs from where nothing has happened, which are wrong as they end.
 
@@ -168,8 +168,8 @@ that_ends name w =
       calls = [];
       answers = [];
       changes = [];
-      moments = untouched name ∷ w ∷ [];
-      began = untouched name;
+      moments = idle_world name ∷ w ∷ [];
+      began = idle_world name;
       ended = w;
     }
 
@@ -304,11 +304,11 @@ that_tells name slots tokens =
 -- the second one twice, or though its slot was given up
 abbrev pub second_is_told_twice : Book → SmallWorld
 second_is_told_twice name =
-    that_tells name (used 0 ∷ used 0 ∷ []) (first_registration ∷ second_registration ∷ second_registration ∷ [])
+    that_tells name (full_slot 0 ∷ full_slot 0 ∷ []) (first_registration ∷ second_registration ∷ second_registration ∷ [])
 
 abbrev pub second_is_told_when_gone : Book → SmallWorld
 second_is_told_when_gone name =
-    that_tells name (used 0 ∷ given_up 0 ∷ []) (first_registration ∷ second_registration ∷ [])
+    that_tells name (full_slot 0 ∷ given_up 0 ∷ []) (first_registration ∷ second_registration ∷ [])
 
 -- two tickets were given, and callbacks asked for this
 abbrev pub that_answers : Book → Asks (Unit {0}) (Unit {0}) → (handed : List ℕ) → SmallWorld
@@ -360,7 +360,7 @@ adapters = record (still (λ s v deed t. t ≡ s)) { role = λ s. Adapter }
 abbrev pub with_two_adapters : Book → SmallWorld
 with_two_adapters name =
     record {
-      slots = used 0 ∷ used 0 ∷ [];
+      slots = full_slot 0 ∷ full_slot 0 ∷ [];
       poll = untouched_poll name;
       held = untouched_held;
       handed = [];
@@ -384,7 +384,7 @@ abbrev pub begins : Book → (first second : ℕ) → List SmallChange
 begins name first second =
     Counting 0
     ∷ Holds Cleared
-    ∷ Watching (noted (Marked (two_marked first second)) (record { name = name; notes = Counted 0 ∷ [] }))
+    ∷ Watching (with_note (Marked (two_marked first second)) (record { name = name; notes = Counted 0 ∷ [] }))
     ∷ []
 
 abbrev pub behind_a_settling : Book → (first second : ℕ) → List (List SmallChange)
@@ -392,7 +392,7 @@ behind_a_settling name first second =
     []
     ∷ []
     ∷ (Polling tt
-    ∷ Watching (noted (Looked false) (record { name = name; notes = Counted 0 ∷ Marked (two_marked first second) ∷ [] }))
+    ∷ Watching (with_note (Looked false) (record { name = name; notes = Counted 0 ∷ Marked (two_marked first second) ∷ [] }))
     ∷ [])
     ∷ (Gathered [] [] 5 ∷ [])
     ∷ []

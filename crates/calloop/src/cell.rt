@@ -51,7 +51,7 @@ pub type SharedCell<K> = Arc<Locked<Cell<K>>, Global>;
 
 impl<K: CellCore> Cell<K> {
     /// A cell without a key, under its lock.
-    pub fn locked(alloc: Global, core: K, tag: &K::Tag) -> Result<Locked<Cell<K>>, AllocError>
+    pub fn new_locked(alloc: Global, core: K, tag: &K::Tag) -> Result<Locked<Cell<K>>, AllocError>
         requires fits { K.fits tag.now core }
         requires place { K.place_of core ≡ None }
         ensures { IfOk result (λ made. made.slot ≡ tag.now) }
@@ -60,7 +60,7 @@ impl<K: CellCore> Cell<K> {
     }
 
     /// The debt with the board on which it is settled, outside the lock.
-    pub(crate) fn owed<R: Wait>(&self, rt: &R, debt: Option<Debt>) -> Option<(Debt, SharedHub)>
+    pub(crate) fn with_hub<R: Wait>(&self, rt: &R, debt: Option<Debt>) -> Option<(Debt, SharedHub)>
         requires { IfSome debt (λ d. option_map arc_value self.now.hub ≡ Some d.board) }
         ensures { IfSome result (λ owed. owed.0.board ≡ arc_value owed.1) }
     {
@@ -130,7 +130,7 @@ pub fn drop_sender<K: CellCore, R: Wait>(rt: &R, shared: &Locked<Cell<K>>, sende
     let mut held = shared.lock(rt);
     let cell = held.core();
     let debt = cell.core.drop_sender(sender);
-    let owed = cell.owed(rt, debt);
+    let owed = cell.with_hub(rt, debt);
     held.unlock();
     settle(rt, owed);
 }
@@ -154,7 +154,7 @@ pub fn attach<K: CellCore, R: Wait>(
     let cell = held.core();
     let old = cell.hub.replace(mine);
     let (debt, leave) = cell.core.set_key(pass, twin);
-    let owed = cell.owed(rt, debt);
+    let owed = cell.with_hub(rt, debt);
     held.unlock();
     close_place(rt, &old, leave);
     settle(rt, owed);

@@ -3,8 +3,8 @@ ghost use Rattle.std.specs.Prelude.{◌≡◌, ◌<◌, None, Some, Err, IfOk, I
 ghost use Rattle.calloop_wake.specs.Cells.{fresh_twin};
 ghost use Rattle.std.specs.Arc.{arc_value};
 ghost use Rattle.calloop_wake.specs.declared.error.Error.TheVariants.{OutOfMemory, NoRendezvous};
-ghost use Rattle.calloop.specs.Channels.{received};
-ghost use Rattle.calloop.specs.Sends.{unsent, IsDisconnected, untried};
+ghost use Rattle.calloop.specs.Channels.{with_message};
+ghost use Rattle.calloop.specs.Sends.{unsent, IsDisconnected, message_back};
 
 use crate::cell::{SharedCell, abandon, add_sender, drop_sender, receiver};
 use crate::ping::PingError;
@@ -22,7 +22,7 @@ mod cell;
 mod errors;
 mod source;
 
-pub use calloop_wake::wake::covered;
+pub use calloop_wake::wake::nothing_is_lost;
 pub use errors::{RecvError, SendError, TryRecvError, TrySendError};
 
 /// What a channel's callback is called with.
@@ -135,7 +135,7 @@ impl<T: Drop, R: Wait + Drop> SyncSender<T, R> {
     /// Appends a message, where there is room. Where there is none, the channel is pinged. It takes no memory.
     pub fn try_send(&self, message: T) -> Result<Receipt, TrySendError<T>>
         ensures ok { IfOk result (λ r. r.name ≡ self.now.name) }
-        ensures err { IfErr result (λ e. untried e ≡ message) }
+        ensures err { IfErr result (λ e. message_back e ≡ message) }
     {
         match cell::put(&self.rt, &self.shared, message) {
             Ok(receipt) => Ok(receipt),
@@ -210,7 +210,7 @@ impl<T: Drop, R: Wait + Drop> Drop for Channel<T, R> {
 impl<T: Drop, R: Wait + Drop> Channel<T, R> {
     /// The first message. It waits while there is none and a sender is there.
     pub fn recv(&mut self) -> Result<T, RecvError>
-        ensures ok { IfOk result (λ _. self.new ≡ received self.old) }
+        ensures ok { IfOk result (λ _. self.new ≡ with_message self.old) }
         ensures err { IfErr result (λ _. self.new ≡ self.old) }
     {
         cell::take_waiting(&self.rt, &self.shared, &mut self.twin)
@@ -218,7 +218,7 @@ impl<T: Drop, R: Wait + Drop> Channel<T, R> {
 
     /// The first message, where there is one.
     pub fn try_recv(&mut self) -> Result<T, TryRecvError>
-        ensures ok { IfOk result (λ _. self.new ≡ received self.old) }
+        ensures ok { IfOk result (λ _. self.new ≡ with_message self.old) }
         ensures err { IfErr result (λ _. self.new ≡ self.old) }
     {
         cell::take(&self.rt, &self.shared, &mut self.twin)
@@ -246,7 +246,7 @@ fn ends<T: Drop, R: Wait + Clone + Drop>(
 {
     let of_sender = rt.clone()?;
     let of_channel = rt.clone()?;
-    let (locked, right) = cell::locked(alloc, bound)?;
+    let (locked, right) = cell::new_locked(alloc, bound)?;
     let shared = Arc::new(alloc, locked)?;
     let again = share(rt, &shared);
     let sender = add_sender(rt, &shared)?;
@@ -262,7 +262,7 @@ fn ends<T: Drop, R: Wait + Clone + Drop>(
 /// A sender and its channel, which holds any number of messages and is registered nowhere. `rt` is the runtime by which they lock
 /// what they share. Calloop has it under the name `channel`.
 ///
-/// Want of memory is `OutOfMemory`.
+/// Running out of memory is `OutOfMemory`.
 pub fn make_channel<T: Drop, R: Wait + Clone + Drop>(
     rt: &R,
     alloc: Global,
@@ -278,7 +278,7 @@ pub fn make_channel<T: Drop, R: Wait + Clone + Drop>(
 /// A sender and its channel, which holds at most `bound` messages and is registered nowhere. The queue has room for them from the
 /// beginning.
 ///
-/// A bound of 0, which would hand over messages without a queue, is `NoRendezvous`, and want of memory `OutOfMemory`.
+/// A bound of 0, which would hand over messages without a queue, is `NoRendezvous`, and running out of memory `OutOfMemory`.
 pub fn sync_channel<T: Drop, R: Wait + Clone + Drop>(
     rt: &R,
     alloc: Global,

@@ -25,7 +25,7 @@ mod scheduler;
 mod source;
 mod task;
 
-pub use calloop_wake::wake::covered;
+pub use calloop_wake::wake::nothing_is_lost;
 pub use errors::{ExecutorDestroyed, ExecutorError, ScheduleError};
 pub use scheduler::Scheduler;
 pub(crate) use task::Blocked;
@@ -59,7 +59,7 @@ impl<Fut: Drop, R: Wait + Drop> Model for Executor<Fut, R> {
 /// An executor, which is registered nowhere, and a scheduler that hands it futures. `rt` is the runtime by which they lock what they
 /// share. Calloop has it under the name `executor`.
 ///
-/// Want of memory is `OutOfMemory`.
+/// Running out of memory is `OutOfMemory`.
 pub fn make_executor<Fut: Future<R>, R: Wait + Clone + Drop>(
     rt: &R,
     alloc: Global,
@@ -69,7 +69,7 @@ pub fn make_executor<Fut: Future<R>, R: Wait + Clone + Drop>(
 {
     let of_executor = rt.clone()?;
     let of_scheduler = rt.clone()?;
-    let (locked, right, keeping) = cell::locked(alloc)?;
+    let (locked, right, keeping) = cell::new_locked(alloc)?;
     let (homes, of_homes) = Homes::new(alloc, keeping);
     let homes = Arc::new(alloc, Locked::new(alloc, homes, &of_homes)?)?;
     let shared = Arc::new(alloc, locked)?;

@@ -7,7 +7,7 @@ ghost use Rattle.std.specs.Io.{ReadsAtMost, WritesAtMost};
 ghost use Rattle.calloop_wake.specs.declared.error.Error.TheVariants.{OutOfMemory};
 ghost use Rattle.calloop.specs.Polled.{IfReady};
 ghost use Rattle.calloop.specs.Refusals.{IsAnswer};
-ghost use Rattle.calloop.specs.AdapterNotes.{polled};
+ghost use Rattle.calloop.specs.AdapterNotes.{with_poll_note};
 ghost use Rattle.calloop.specs.AsyncPolls.{WaitsFor, AnswersWith, Polls, to_read, to_write};
 ghost use Rattle.calloop.specs.declared.io.notes.PollNote.TheVariants.{Waits, Tried, Flushed};
 
@@ -55,7 +55,7 @@ impl<P: Poller, R: Wait + Drop> Drop for Async<P, R> {
     }
 }
 
-// Both ends of an adapter that is in no loop yet, without its socket. Want of memory is `OutOfMemory`.
+// Both ends of an adapter that is in no loop yet, without its socket. Running out of memory is `OutOfMemory`.
 pub(crate) fn make_ends<P: Poller, R: Wait + Clone + Drop>(
     rt: &R,
     alloc: Global,
@@ -130,10 +130,10 @@ impl<P: Poller, R: Wait + Clone + Drop> Async<P, R> {
 
     // It waits for this.
     fn wait(&mut self, waker: &Waker<R>, wanted: Interest) -> LoopResult<()>
-        ensures ok { OnOk result (self.new ≡ polled (Waits wanted) self.old) }
+        ensures ok { OnOk result (self.new ≡ with_poll_note (Waits wanted) self.old) }
         ensures err { IfErr result (λ e. (e ≡ OutOfMemory)
             × ((self.new ≡ self.old)
-            ⊎ (self.new ≡ polled (Waits wanted) self.old))) }
+            ⊎ (self.new ≡ with_poll_note (Waits wanted) self.old))) }
     {
         let waker = waker.clone()?;
         self.end.wait(wanted, waker)?;

@@ -38,8 +38,9 @@ mod warnings;
 
 pub use asks::{Answer, Idle, Requests, Ticket};
 pub use laws::{
-    busy_runs_that_there_are, once, once_where_nothing_is_asked, run_that_there_is,
-    runs_that_go_wrong_late, served, unserved_dispatches_are_ruled_out, wrong_runs_are_ruled_out,
+    busy_runs_that_there_are, each_dispatch_serves_all, once, once_where_nothing_is_asked,
+    run_that_there_is, runs_that_go_wrong_late, unserved_dispatches_are_ruled_out,
+    wrong_runs_are_ruled_out,
 };
 pub use loops::{ScriptLoop, SystemLoop};
 pub use signal::LoopSignal;

@@ -15,7 +15,7 @@ use std::sync::{Arc, Wait};
 pub(crate) mod cell;
 pub(crate) mod source;
 
-pub use calloop_wake::wake::covered;
+pub use calloop_wake::wake::nothing_is_lost;
 pub use source::{PingError, is_registered_by_its_calls};
 
 /// Rings its source, from any thread. As many as are cloned ring the same source, and the drop of the last one closes it.
@@ -64,7 +64,7 @@ impl<R: Wait + Drop> Model for PingSource<R> {
 
 /// A ping that nobody rang, and its source, which is registered nowhere. `rt` is the runtime by which they lock what they share.
 ///
-/// Want of memory is `OutOfMemory`.
+/// Running out of memory is `OutOfMemory`.
 pub fn make_ping<R: Wait + Clone + Drop>(
     rt: &R,
     alloc: Global,
@@ -74,7 +74,7 @@ pub fn make_ping<R: Wait + Clone + Drop>(
 {
     let of_ping = rt.clone()?;
     let of_source = rt.clone()?;
-    let (locked, right) = cell::locked(alloc)?;
+    let (locked, right) = cell::new_locked(alloc)?;
     let shared = Arc::new(alloc, locked)?;
     let again = share(rt, &shared);
     let sender = add_sender(rt, &shared)?;

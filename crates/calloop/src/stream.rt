@@ -51,16 +51,16 @@ impl<S: Stream<R>, R: Wait + Drop> Model for StreamSource<S, R> {
 impl<S: Stream<R>, R: Wait + Clone + Drop> StreamSource<S, R> {
     /// A source of what the stream gives, which is registered nowhere. It is polled in the first turn after its registration.
     ///
-    /// Want of memory is `OutOfMemory`, and hands the stream back.
+    /// Running out of memory is `OutOfMemory`, and hands the stream back.
     pub fn new(rt: &R, alloc: Global, stream: S) -> Result<StreamSource<S, R>, InsertError<S>>
         ensures ok { IfOk result (λ made. made ≡ fresh_stream stream made.twin.name) }
         ensures err { IfErr result (λ e. (e.inserted ≡ stream) × (e.error ≡ OutOfMemory)) }
     {
         let Ok((ping, source)) = make_ping(rt, alloc) else {
-            return Err(refused(stream));
+            return Err(refusal(stream));
         };
         let Ok(own) = ping.clone() else {
-            return Err(refused(stream));
+            return Err(refusal(stream));
         };
         let _first = ping.ping();
         Ok(StreamSource {
@@ -75,7 +75,7 @@ impl<S: Stream<R>, R: Wait + Clone + Drop> StreamSource<S, R> {
     }
 }
 
-fn refused<S>(stream: S) -> InsertError<S>
+fn refusal<S>(stream: S) -> InsertError<S>
     ensures { (result.inserted ≡ stream) × (result.error ≡ OutOfMemory) }
 {
     InsertError {

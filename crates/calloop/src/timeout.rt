@@ -197,7 +197,7 @@ pub struct TimeoutFuture<C: Clock, R: Wait + Drop> {
 
 impl<C: Clock, R: Wait + Clone + Drop> TimeoutFuture<C, R> {
     // A future of this moment, and what is to wake it.
-    fn unarmed(
+    fn unarm(
         clock: &C,
         rt: &R,
         alloc: Global,
@@ -245,7 +245,7 @@ impl<C: Clock, R: Wait + Clone + Drop> TimeoutFuture<C, R> {
             (λ e. HasNoTimer D.means D.Idle.runs P.outside D.placed
             deadline e handle.old handle.new) }
     {
-        let (future, wakes) = TimeoutFuture::unarmed(handle.clock(), rt, alloc, Some(deadline))?;
+        let (future, wakes) = TimeoutFuture::unarm(handle.clock(), rt, alloc, Some(deadline))?;
         let timer = TimeoutTimer {
             timer: Dispatcher::new(Timer::from_deadline(deadline), wakes),
         };
@@ -275,7 +275,7 @@ impl<C: Clock, R: Wait + Clone + Drop> TimeoutFuture<C, R> {
         match handle.clock().now().checked_add(duration) {
             Some(deadline) => TimeoutFuture::from_deadline(handle, rt, alloc, deadline),
             None => {
-                let (future, _wakes) = TimeoutFuture::unarmed(handle.clock(), rt, alloc, None)?;
+                let (future, _wakes) = TimeoutFuture::unarm(handle.clock(), rt, alloc, None)?;
                 Ok(future)
             }
         }

@@ -167,7 +167,7 @@ where
     let mut table: Table<D, R> = Table {
         rt: rt.clone().ok()?,
         alloc,
-        event_loop: ScriptLoop::scripted(rt, alloc).ok()?,
+        event_loop: ScriptLoop::with_script(rt, alloc).ok()?,
         told: Told {
             numbers: Vec::new(alloc),
             given: None,

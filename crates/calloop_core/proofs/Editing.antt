@@ -12,7 +12,7 @@ use Rattle.calloop_wake.specs.declared.error.Error.{Error}
 use Rattle.calloop_wake.specs.declared.error.Error.TheVariants.{IoError, OutOfMemory}
 use Rattle.calloop_core.specs.declared.sys.Watched.{Watched}
 use Rattle.calloop_core.specs.Pollers.{Outside, Sockets, PollerCall}
-use Rattle.calloop_core.specs.Tables.{Table, Edit, unless_in, cannot, grows, call_of, edited, Called, CalledFor, with_key, without_key, watched_at}
+use Rattle.calloop_core.specs.Tables.{Table, Edit, unless_in, cannot, grows, call_of, after_edit, Called, CalledFor, with_key, without_key, watched_at}
 use Rattle.calloop_core.specs.Polls.{PollView, IsOfKind, Socket, Fault, polling}
 use Rattle.calloop_core.specs.Registering.{DidEdit, IsFaulted, TriedUnless}
 
@@ -36,7 +36,7 @@ module _ {P I : Type 0} (O : Outside P) (sockets : Sockets P I) (v : PollView P)
   faulted cause after io' w can called out to = faulted_by (call_of edit v.table) cause after io' w refl can called out to
 
   pub made : (after : P) (io' : I) (w : PollView P) → cannot edit v.table ≡ None → CalledFor sockets v.poller io (call_of edit v.table) (Ok tt) after io' → Called O v.poller (call_of edit v.table) (Ok tt) after
-      → w ≡ record v { poller = after; table = edited edit v.table } → DidEdit O sockets edit v io (Ok tt) w io'
+      → w ≡ record v { poller = after; table = after_edit edit v.table } → DidEdit O sockets edit v io (Ok tt) w io'
   made after io' w can called out is =
       (Socket edit after ∷ [], subst (λ (k : Option ErrorKind). TriedUnless k sockets v edit io (Ok tt) (Socket edit after ∷ []) io') (sym can) (after, called, refl), (((can, out), tt), is))
 

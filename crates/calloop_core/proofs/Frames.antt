@@ -5,17 +5,17 @@ use Rattle.std.specs.Ordering.{nat_cmp, is_eq, match_ordering}
 use Rattle.calloop_wake.specs.declared.token.RegistrationToken.{RegistrationToken}
 use Rattle.calloop_wake.specs.Tokens.{key_of}
 use Rattle.calloop_core.specs.declared.sys.Watched.{Watched}
-use Rattle.calloop_core.specs.Tables.{Table, Edit, Enter, Change, Leave, Discard, edited, with_key, without_key, watched_at, moved_to}
+use Rattle.calloop_core.specs.Tables.{Table, Edit, Enter, Change, Leave, Discard, after_edit, with_key, without_key, watched_at, moved_to}
 use Rattle.calloop_core.specs.Polls.{PollView, PollStep, TakePass, PutBack, Arm, ArmAgain, Cancel, Call, ReadClock, Socket, Fault, poll_after, polls_after}
 use Rattle.calloop_core.specs.Keys.{IsKeyOf, EditsFor, AllActFor}
 
 other_key : (q k : ℕ) → k ≢ q → is_eq (nat_cmp q k) ≡ false
 other_key q k apart = elim (nat_cmp q k) as (λ o. nat_cmp q k ≡ o → is_eq o ≡ false) [ Less ↦ λ e. refl | Equal ↦ λ e. absurd (apart (grind (arith))) | Greater ↦ λ e. refl ] refl
 
-equal_keys : (k q : ℕ) → nat_cmp k q ≡ Equal → k ≡ q
+pub equal_keys : (k q : ℕ) → nat_cmp k q ≡ Equal → k ≡ q
 equal_keys k q e = grind (arith)
 
-entered_elsewhere : (k q : ℕ) (w : Watched) (t : Table) → k ≢ q → watched_at q (with_key k w t) ≡ watched_at q t
+pub entered_elsewhere : (k q : ℕ) (w : Watched) (t : Table) → k ≢ q → watched_at q (with_key k w t) ≡ watched_at q t
 entered_elsewhere k q w [] apart = ap (λ b. if b then Some w else None) (other_key q k apart)
 entered_elsewhere k q w (e ∷ es) apart =
     elim (nat_cmp k e.0) as (λ o. nat_cmp k e.0 ≡ o → watched_at q (match_ordering o ((k, w) ∷ e ∷ es) ((e.0, w) ∷ es) (e ∷ with_key k w es)) ≡ watched_at q (e ∷ es)) [
@@ -24,7 +24,7 @@ entered_elsewhere k q w (e ∷ es) apart =
       | Greater ↦ λ is. ap (λ o. if is_eq (nat_cmp q e.0) then Some e.1 else o) (entered_elsewhere k q w es apart)
     ] refl
 
-left_elsewhere : (k q : ℕ) (t : Table) → k ≢ q → watched_at q (without_key k t) ≡ watched_at q t
+pub left_elsewhere : (k q : ℕ) (t : Table) → k ≢ q → watched_at q (without_key k t) ≡ watched_at q t
 left_elsewhere k q [] apart = refl
 left_elsewhere k q (e ∷ es) apart =
     elim (nat_cmp k e.0) as (λ o. nat_cmp k e.0 ≡ o → watched_at q (if is_eq o then es else e ∷ without_key k es) ≡ watched_at q (e ∷ es)) [
@@ -41,7 +41,7 @@ moved_elsewhere before key q w t one other =
 apart_from : (r : RegistrationToken) (key own : ℕ) → ¬ IsKeyOf r key → IsKeyOf r own → own ≢ key
 apart_from r key own away of is = away (subst (λ (k : ℕ). IsKeyOf r k) is of)
 
-edited_elsewhere : (r : RegistrationToken) (key : ℕ) (edit : Edit) (t : Table) → ¬ IsKeyOf r key → EditsFor r edit → watched_at key (edited edit t) ≡ watched_at key t
+edited_elsewhere : (r : RegistrationToken) (key : ℕ) (edit : Edit) (t : Table) → ¬ IsKeyOf r key → EditsFor r edit → watched_at key (after_edit edit t) ≡ watched_at key t
 edited_elsewhere r key (Enter token w) t away of = entered_elsewhere (key_of token) key w t (apart_from r key _ away of)
 edited_elsewhere r key (Change before token w) t away of = moved_elsewhere (key_of before) (key_of token) key w t (apart_from r key _ away of.0) (apart_from r key _ away of.1)
 edited_elsewhere r key (Leave token) t away of = left_elsewhere (key_of token) key t (apart_from r key _ away of)

@@ -1,9 +1,9 @@
 -- The keys of the passes that an unpost gave, and of the events that a gathering appends.
-use Rattle.std.proofs.Common.{◌≡◌, ℕ, zero, suc, ◌<◌, ◌-◌, ◌^◌, get_or, arith, List, [], ◌∷◌, ◌++◌, length, map, filter, drop, refl, ap, sym, append-nil, ◌∙◌}
+use Rattle.std.proofs.Common.{◌≡◌, ℕ, zero, suc, ◌<◌, ◌-◌, ◌^◌, get_or, ◌≤◌, arith, List, [], ◌∷◌, ◌++◌, length, length-append, map, filter, drop, refl, ap, sym, append-nil, ◌∙◌}
 use Rattle.std.proofs.lemmas.List.{map-append}
 use Rattle.std.proofs.lemmas.List.Elements.{filter-append}
 use Rattle.std.proofs.Math.Seq.{drop-append_seam}
-use Rattle.calloop_wake.specs.Boards.{taken, AllGreater, IsRising}
+use Rattle.calloop_wake.specs.Boards.{fresh_pass, AllGreater, IsRising}
 use Rattle.logbook.specs.Pages.{Book}
 use Rattle.calloop_wake.specs.Passes.{Taken}
 use Rattle.calloop_wake.specs.Tokens.{key_of, token_of}
@@ -11,17 +11,17 @@ use Rattle.calloop_wake.specs.declared.wheel.Entry.{Entry}
 use Rattle.calloop_wake.specs.declared.token.Token.{Token}
 use Rattle.calloop_core.specs.declared.sys.Readiness.{Readiness}
 use Rattle.calloop_core.specs.declared.sys.poll.Pending.{Pending}
-use Rattle.calloop_core.specs.Batches.{key_of_pass, posted_keys, IsInStep}
+use Rattle.calloop_core.specs.Batches.{key_of_pass, posted_keys, last_polled, IsInStep}
 use Rattle.calloop_core.specs.Polls.{posted_events, own_events, polled_event, polled_events, timer_events, is_for_a_token}
 
-keys-taken : (board : Book) (keys : List ℕ) → map key_of_pass (map (taken board) keys) ≡ keys
+keys-taken : (board : Book) (keys : List ℕ) → map key_of_pass (map (fresh_pass board) keys) ≡ keys
 keys-taken board [] = refl
 keys-taken board (k ∷ ks) = ap (λ l. k ∷ l) (keys-taken board ks)
 
 -- behind the passes that were there before, the new ones have the keys that were posted
-pub keys-new : (board : Book) (before after : List Taken) (keys : List ℕ) (n : ℕ) → n ≡ length before → after ≡ before ++ map (taken board) keys → map key_of_pass (drop n after) ≡ keys
+pub keys-new : (board : Book) (before after : List Taken) (keys : List ℕ) (n : ℕ) → n ≡ length before → after ≡ before ++ map (fresh_pass board) keys → map key_of_pass (drop n after) ≡ keys
 keys-new board before after keys n first is =
-    ap (λ k. map key_of_pass (drop k after)) first ∙ ap (λ l. map key_of_pass (drop (length before) l)) is ∙ ap (λ l. map key_of_pass l) (drop-append_seam before (map (taken board) keys)) ∙ keys-taken board keys
+    ap (λ k. map key_of_pass (drop k after)) first ∙ ap (λ l. map key_of_pass (drop (length before) l)) is ∙ ap (λ l. map key_of_pass l) (drop-append_seam before (map (fresh_pass board) keys)) ∙ keys-taken board keys
 
 below-own : (k : ℕ) (ks : List ℕ) → AllGreater k ks → k < 2 ^ 64 - 1
 below-own k [] h = h
@@ -55,9 +55,9 @@ none-of-timers (e ∷ es) = none-of-timers es
 
 -- a gathering appends a pass for each posted event, in their order
 pub step-gathered : (board : Book) (events : List Pending) (passes : List Taken) (keys : List ℕ) (given : List (ℕ × Readiness)) (entries : List Entry)
-    → IsInStep events passes → IsInStep (((events ++ posted_events keys) ++ polled_events given) ++ timer_events entries) (passes ++ map (taken board) keys)
+    → IsInStep events passes → IsInStep (((events ++ posted_events keys) ++ polled_events given) ++ timer_events entries) (passes ++ map (fresh_pass board) keys)
 step-gathered board events passes keys given entries h =
-    map-append key_of_pass passes (map (taken board) keys)
+    map-append key_of_pass passes (map (fresh_pass board) keys)
     ∙ rw (
       h,
       keys-taken board keys,
@@ -73,11 +73,21 @@ step-gathered board events passes keys given entries h =
 
 -- the events that the three parts of a gathering append, of keys whose passes were appended
 pub events-gathered : (board : Book) (e₀ e₁ e₂ e₃ : List Pending) (before after : List Taken) (keys : List ℕ) (n : ℕ) (given : List (ℕ × Readiness)) (entries : List Entry) → n ≡ length before
-    → after ≡ before ++ map (taken board) keys → e₁ ≡ e₀ ++ posted_events (map key_of_pass (drop n after)) → e₂ ≡ e₁ ++ polled_events given → e₃ ≡ e₂ ++ timer_events entries
+    → after ≡ before ++ map (fresh_pass board) keys → e₁ ≡ e₀ ++ posted_events (map key_of_pass (drop n after)) → e₂ ≡ e₁ ++ polled_events given → e₃ ≡ e₂ ++ timer_events entries
     → e₃ ≡ ((e₀ ++ posted_events keys) ++ polled_events given) ++ timer_events entries
 events-gathered board e₀ e₁ e₂ e₃ before after keys n given entries first is one two three =
     let posted = keys-new board before after keys n first is in
     rw (three, two, one, posted) refl
+
+-- and those up to the last one of the poller
+pub events-polled : (board : Book) (e₀ e₁ e₂ : List Pending) (before after : List Taken) (keys : List ℕ) (n : ℕ) (given : List (ℕ × Readiness)) → n ≡ length before → after ≡ before ++ map (fresh_pass board) keys
+    → e₁ ≡ e₀ ++ posted_events (map key_of_pass (drop n after)) → e₂ ≡ e₁ ++ polled_events given → e₂ ≡ (e₀ ++ posted_events keys) ++ polled_events given
+events-polled board e₀ e₁ e₂ before after keys n given first is one two = let posted = keys-new board before after keys n first is in rw (two, one, posted) refl
+
+-- which is among those that wait
+pub last_within : (before : ℕ) (given : List (ℕ × Readiness)) (events posted polled due : List Pending) → before ≤ length events → last_polled before given (length ((events ++ posted) ++ polled)) ≤ length (((events ++ posted) ++ polled) ++ due)
+last_within before [] events posted polled due h = rw (length-append ((events ++ posted) ++ polled) due, length-append (events ++ posted) polled, length-append events posted) (omega arith)
+last_within before (g ∷ gs) events posted polled due h = rw (length-append ((events ++ posted) ++ polled) due) (omega arith)
 
 -- no event for which a source asks is posted
 own_posts_none : (given : List (Readiness × Token)) → posted_keys (own_events given) ≡ []

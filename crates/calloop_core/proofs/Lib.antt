@@ -3,6 +3,7 @@ pub mod Editing
 pub mod Found
 pub mod Frames
 pub mod Gathering
+pub mod Index
 pub mod Scripted
 pub mod Stepping
 pub mod Waiting

@@ -12,7 +12,7 @@ use Rattle.calloop_core.specs.declared.both.Both.{Both}
 use Rattle.calloop_core.specs.Actions.{either}
 use Rattle.calloop_core.specs.Polls.{PollView, PollStep, polls_after}
 use Rattle.calloop_core.specs.Calls.{IsOfSource}
-use Rattle.calloop_core.specs.Deeds.{Deed, Registered, Reregistered, Unregistered, Turned, Slept, Noticed, Lent, lent}
+use Rattle.calloop_core.specs.Deeds.{Deed, Registered, Reregistered, Unregistered, Turned, Slept, Noticed, Lent, lend}
 use Rattle.calloop_core.specs.Lawful.{silent}
 use Rattle.calloop_core.specs.Holdings.{IsBelow, Keeps}
 use Rattle.calloop_core.specs.Keys.{IsFactoryOf, AllActFor}
@@ -288,7 +288,7 @@ module _ {A B P X Q : Type 0} (m : Meaning A P (Lent X Q)) (n : Meaning B P (Len
       → reaches turn.asked_before turn.asked_after
   asks_turn reaches goes_on x y (Ok action) s t v readiness token one turn second l by h =
       let first = x s.first t.first v readiness token one h.one h.does in
-      let other = lent one.after one.asked_after by.0 turn.after turn.asked_after in
+      let other = lend one.after one.asked_after by.0 turn.after turn.asked_after in
       let may : MayDo n s.second (polls_after v h.one) (Some (Turned readiness token other)) h.more t.second =
       rw (sym by.1) h.may in
       let then = y s.second t.second (polls_after v h.one) readiness token other h.more may in
@@ -307,7 +307,7 @@ module _ {A B P X Q : Type 0} (m : Meaning A P (Lent X Q)) (n : Meaning B P (Len
       → TurnedBy readiness token one told turn second → AsksBoth m n (Turned readiness token one) second s v l t
       → (e : Error) → turn.answer ≡ Err e → IsOfSource e
   fails_turn x y (Ok action) s t v readiness token one turn second l was by h e is =
-      let other = lent one.after one.asked_after by.0 turn.after turn.asked_after in
+      let other = lend one.after one.asked_after by.0 turn.after turn.asked_after in
       let may : MayDo n s.second (polls_after v h.one) (Some (Turned readiness token other)) h.more t.second =
       rw (sym by.1) h.may in
       y s.second t.second (polls_after v h.one) readiness token other h.more may e

@@ -11,7 +11,7 @@ use Rattle.calloop_core.specs.declared.sources.source.PostAction.{PostAction}
 use Rattle.calloop_core.specs.declared.both.Both.{Both}
 use Rattle.calloop_core.specs.Actions.{either}
 use Rattle.calloop_core.specs.Polls.{PollView, PollStep, polls_after}
-use Rattle.calloop_core.specs.Deeds.{Deed, Registered, Reregistered, Unregistered, Turned, SaysNothing, Slept, Noticed, Lent, lent}
+use Rattle.calloop_core.specs.Deeds.{Deed, Registered, Reregistered, Unregistered, Turned, SaysNothing, Slept, Noticed, Lent, lend}
 use Rattle.calloop_core.specs.Holdings.{Holding}
 use Rattle.calloop_core.specs.declared.sources.dispatch.Role.TheVariants.{Caller}
 use Rattle.calloop_core.specs.Meanings.{Meaning}
@@ -56,7 +56,7 @@ abbrev pub TurnedBy : {X Q : Type 0} → Readiness → Token → Lent X Q → Re
     → Option (Deed (Lent X Q)) → Type 0
 TurnedBy {X} {Q} readiness token one (Ok action) turn second =
     (answer : Result PostAction Error)
-    × (second ≡ Some (Turned readiness token (lent one.after one.asked_after answer turn.after turn.asked_after)))
+    × (second ≡ Some (Turned readiness token (lend one.after one.asked_after answer turn.after turn.asked_after)))
     × JoinedAs action answer turn.answer × (turn.before ≡ one.before) × (turn.asked_before ≡ one.asked_before)
 TurnedBy readiness token one (Err e) turn second = (second ≡ None) × (turn ≡ one)
 

@@ -44,7 +44,7 @@ Went {F} {E} {M} {T} {X} {Q} may reaches f x q (c ∷ cs) g y r =
 abbrev pub IsOther : Error → Type 0
 IsOther e = (cause : Cause) × (e ≡ OtherError cause)
 
--- an error that is of a source: its own failure, or want of memory. calloop has `OtherError` alone, since it aborts
+-- an error that is of a source: its own failure, or running out of memory. calloop has `OtherError` alone, since it aborts
 -- there.
 abbrev pub IsOfSource : Error → Type 0
 IsOfSource e = IsOther e ⊎ (e ≡ OutOfMemory)

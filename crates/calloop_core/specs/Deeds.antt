@@ -40,5 +40,5 @@ pub record Lent (X Q : Type 0) : Type 0 where
   pub after : X
   pub asked_after : Q
 
-abbrev pub lent : {X Q : Type 0} → X → Q → Result PostAction Error → X → Q → Lent X Q
-lent x q answer y r = record { before = x; asked_before = q; answer = answer; after = y; asked_after = r }
+abbrev pub lend : {X Q : Type 0} → X → Q → Result PostAction Error → X → Q → Lent X Q
+lend x q answer y r = record { before = x; asked_before = q; answer = answer; after = y; asked_after = r }

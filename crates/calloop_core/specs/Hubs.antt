@@ -2,8 +2,8 @@
 -- answered stands in its watch.
 use Rattle.std.specs.Prelude.{◌≡◌, ℕ, ◌+◌, ◌≤◌, List, ◌++◌, map, length}
 use Rattle.calloop_wake.specs.Passes.{Taken}
-use Rattle.calloop_wake.specs.Boards.{taken, IsRising}
-use Rattle.calloop_wake.specs.Watches.{noted}
+use Rattle.calloop_wake.specs.Boards.{fresh_pass, IsRising}
+use Rattle.calloop_wake.specs.Watches.{with_note}
 use Rattle.calloop_wake.specs.declared.wake.watch.Watch.{Watch}
 use Rattle.calloop_wake.specs.declared.wake.notes.Note.TheVariants.{Unposted}
 
@@ -14,6 +14,6 @@ pub record HasUnposted (room : ℕ) (watch watch' : Watch) (before after : List 
   pub posted : List ℕ
   pub rising : IsRising posted
   pub few : length posted ≤ room
-  pub seen : watch' ≡ noted (Unposted room posted) watch
-  pub appended : after ≡ before ++ map (taken watch.name) posted
+  pub seen : watch' ≡ with_note (Unposted room posted) watch
+  pub appended : after ≡ before ++ map (fresh_pass watch.name) posted
   pub counted : len_after ≡ len_before + length posted

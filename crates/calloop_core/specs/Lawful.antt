@@ -36,7 +36,7 @@ use Rattle.calloop_core.specs.Deeds.{Heard, Lent}
 use Rattle.calloop_core.specs.Keys.{IsKeyOf, IsFactoryOf, AllActFor}
 use Rattle.calloop_core.specs.Meanings.{Meaning, IsKeeping, KeepsCounters, KeepsHome, KeepsLimit, IsAsking, FailsAsSource, IsHeld}
 use Rattle.calloop_core.specs.Meanings.{IsAtHome, BeginsIn}
-use Rattle.calloop_core.specs.Meanings.{with_callback, dispatched, on_both, one_of, seen_as, in_role, still, attentive, attentive_to}
+use Rattle.calloop_core.specs.Meanings.{with_callback, dispatcher_means, on_both, one_of, seen_as, in_role, still, attentive, attentive_to}
 
 -- Of an error of a source.
 
@@ -167,7 +167,7 @@ home_with_callback m may reaches becomes k registration s t v (Turned r j turn) 
 limit_with_callback : {S F P E M T Cause X Q : Type 0} (m : Meaning S P (Heard E M T Cause))
     (may : Calling F E M T X Q) (reaches : Q → Q → Type 0) (becomes : Cause → Error → Type 0) → KeepsLimit m
     → (s t : Dispatcher S F) (v : PollView P) (deed : Deed (Lent X Q)) (steps : List (PollStep P))
-    → dispatched m may reaches becomes s v deed steps t → m.limit t.source ≡ m.limit s.source
+    → dispatcher_means m may reaches becomes s v deed steps t → m.limit t.source ≡ m.limit s.source
 limit_with_callback m may reaches becomes k s t v (Registered f a g) steps h =
     k.same s.source t.source v (Registered f a g) steps h.0
 limit_with_callback m may reaches becomes k s t v (Reregistered f a g) steps h =

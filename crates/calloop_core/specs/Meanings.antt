@@ -133,20 +133,20 @@ pub record IsTurned
   pub told : Becomes becomes inner.answer lent.answer
 
 -- a source with its callback, which is called in turns alone
-abbrev pub dispatched : {S F P E M T Cause X Q : Type 0}
+abbrev pub dispatcher_means : {S F P E M T Cause X Q : Type 0}
     → Meaning S P (Heard E M T Cause) → Calling F E M T X Q → (Q → Q → Type 0) → (Cause → Error → Type 0)
     → Dispatcher S F → PollView P → Deed (Lent X Q) → List (PollStep P) → Dispatcher S F → Type 0
-dispatched m may reaches becomes s v (Registered f answer g) steps t =
+dispatcher_means m may reaches becomes s v (Registered f answer g) steps t =
     m.does s.source v (Registered f answer g) steps t.source × (t.callback ≡ s.callback)
-dispatched m may reaches becomes s v (Reregistered f answer g) steps t =
+dispatcher_means m may reaches becomes s v (Reregistered f answer g) steps t =
     m.does s.source v (Reregistered f answer g) steps t.source × (t.callback ≡ s.callback)
-dispatched m may reaches becomes s v (Unregistered answer) steps t =
+dispatcher_means m may reaches becomes s v (Unregistered answer) steps t =
     m.does s.source v (Unregistered answer) steps t.source × (t.callback ≡ s.callback)
-dispatched m may reaches becomes s v (Slept given answer) steps t =
+dispatcher_means m may reaches becomes s v (Slept given answer) steps t =
     m.does s.source v (Slept given answer) steps t.source × (t.callback ≡ s.callback)
-dispatched m may reaches becomes s v (Noticed events) steps t =
+dispatcher_means m may reaches becomes s v (Noticed events) steps t =
     m.does s.source v (Noticed events) steps t.source × (t.callback ≡ s.callback)
-dispatched m may reaches becomes s v (Turned readiness token turn) steps t =
+dispatcher_means m may reaches becomes s v (Turned readiness token turn) steps t =
     IsTurned (λ inner. m.does s.source v (Turned readiness token inner) steps t.source) may reaches becomes
     s.callback turn t.callback
 
@@ -161,7 +161,7 @@ with_callback m may reaches becomes =
       needs = λ s. m.needs s.source;
       limit = λ s. m.limit s.source;
       role = λ s. Caller;
-      does = dispatched m may reaches becomes;
+      does = dispatcher_means m may reaches becomes;
     }
 
 -- what is true of the one that is there

@@ -46,22 +46,22 @@ use Rattle.calloop_wake.specs.Deadlines.{
   with_new,
   with_again,
   with_entries,
-  cancelled,
+  after_cancel,
   is_armed,
   due,
   not_due,
 }
 use Rattle.calloop_wake.specs.Tokens.{token_of, key_of}
 use Rattle.calloop_wake.specs.Passes.{Taken}
-use Rattle.calloop_wake.specs.Boards.{taken}
-use Rattle.calloop_wake.specs.Watches.{noted}
+use Rattle.calloop_wake.specs.Boards.{fresh_pass}
+use Rattle.calloop_wake.specs.Watches.{with_note}
 use Rattle.calloop_wake.specs.declared.wake.watch.Watch.{Watch}
 use Rattle.calloop_wake.specs.declared.wake.notes.Note.TheVariants.{Counted, Unposted, Marked}
 use Rattle.calloop_core.specs.declared.sys.Readiness.{Readiness}
 use Rattle.calloop_core.specs.declared.sys.poll.Pending.{Pending}
 use Rattle.calloop_core.specs.declared.sys.poll.Poll.{Poll}
 use Rattle.calloop_core.specs.Pollers.{Outside, PollerCall, events_per_wait}
-use Rattle.calloop_core.specs.Tables.{Table, Edit, edited, cannot, call_of, Called}
+use Rattle.calloop_core.specs.Tables.{Table, Edit, after_edit, cannot, call_of, Called}
 use Rattle.calloop_core.specs.Batches.{key_of_pass}
 
 -- the poller, the table of sockets, the armed deadlines, the events that wait for their turn, the passes of the posted
@@ -82,7 +82,7 @@ abbrev pub poll_view : {P C R : Type 0} → Poll P C R → PollView P
 poll_view p =
     record {
       poller = p.poller;
-      table = p.table.entries;
+      table = p.table;
       deadlines = p.wheel;
       batch = p.batch.events;
       passes = p.batch.passes;
@@ -105,12 +105,12 @@ abbrev pub watching : {P : Type 0} → Watch → PollView P → PollView P
 watching w v = record v { watch = w }
 
 -- the places on the board are counted
-abbrev pub counted : {P : Type 0} → (places : ℕ) → PollView P → PollView P
-counted places v = record v { places = places; watch = noted (Counted places) v.watch }
+abbrev pub after_count : {P : Type 0} → (places : ℕ) → PollView P → PollView P
+after_count places v = record v { places = places; watch = with_note (Counted places) v.watch }
 
 -- these marks were taken, in the order in which they had been set
 abbrev pub marks_taken : {P : Type 0} → List RegistrationToken → PollView P → PollView P
-marks_taken taken v = record v { watch = noted (Marked taken) v.watch }
+marks_taken taken v = record v { watch = with_note (Marked taken) v.watch }
 
 -- what a source can do; what it does under the locks of the board and of a ping's cell isn't seen
 pub data PollStep (P : Type 0) : Type 0 where
@@ -133,10 +133,10 @@ poll_after v TakePass = record v { pass = None }
 poll_after v (PutBack pass) = with_pass (Some pass) v
 poll_after v (Arm deadline token) = with_deadlines (with_new deadline token v.deadlines) v
 poll_after v (ArmAgain counter deadline token) = with_deadlines (with_again counter deadline token v.deadlines) v
-poll_after v (Cancel counter) = with_deadlines (cancelled counter v.deadlines) v
+poll_after v (Cancel counter) = with_deadlines (after_cancel counter v.deadlines) v
 poll_after v (Call counter deadline) = v
 poll_after v (ReadClock now after) = polling after v
-poll_after v (Socket edit after) = record v { poller = after; table = edited edit v.table }
+poll_after v (Socket edit after) = record v { poller = after; table = after_edit edit v.table }
 poll_after v (Fault call cause after) = polling after v
 
 abbrev pub polls_after : {P : Type 0} → PollView P → List (PollStep P) → PollView P
@@ -208,19 +208,19 @@ abbrev pub joining : {P : Type 0} → List (Readiness × Token) → PollView P �
 joining given v = record v { batch = v.batch ++ own_events given }
 
 -- this event waits for its turn after those that wait
-abbrev pub appended : {P : Type 0} → Pending → PollView P → PollView P
-appended e v = record v { batch = v.batch ++ e ∷ [] }
+abbrev pub with_event : {P : Type 0} → Pending → PollView P → PollView P
+with_event e v = record v { batch = v.batch ++ e ∷ [] }
 
 -- the posted keys, as far as there is room, and the deadlines that are due are taken, and the batch is what was left
 -- over, then the posted keys, then what the poller gave, then the timers; calloop's Poll::poll gives the last two
-abbrev pub gathered : {P : Type 0} → (posted : List ℕ) → (given : List (ℕ × Readiness)) → (now : ℕ) → PollView P
+abbrev pub after_gather : {P : Type 0} → (posted : List ℕ) → (given : List (ℕ × Readiness)) → (now : ℕ) → PollView P
     → PollView P
-gathered posted given now v =
+after_gather posted given now v =
     record v {
       deadlines = with_entries (not_due now v.deadlines.entries) v.deadlines;
       batch = ((v.batch ++ posted_events posted) ++ polled_events given) ++ timer_events (due now v.deadlines.entries);
-      passes = v.passes ++ map (taken v.watch.name) posted;
-      watch = noted (Unposted v.places posted) v.watch;
+      passes = v.passes ++ map (fresh_pass v.watch.name) posted;
+      watch = with_note (Unposted v.places posted) v.watch;
     }
 
 abbrev pub is_filled : {A : Type 0} → List A → Bool
@@ -236,8 +236,8 @@ head_of [] = None
 head_of (x ∷ xs) = Some x
 
 -- the event leaves the batch for its turn, a posted one with its pass
-abbrev pub begun : {P : Type 0} → Pending → PollView P → PollView P
-begun e v =
+abbrev pub with_turn_of : {P : Type 0} → Pending → PollView P → PollView P
+with_turn_of e v =
     if e.posted
     then record (with_pass (head_of v.passes) v) { batch = tail_of v.batch; passes = tail_of v.passes }
     else record (with_pass None v) { batch = tail_of v.batch }
@@ -245,7 +245,7 @@ begun e v =
 -- the first event is cut from the batch
 abbrev pub cut_from : {P : Type 0} → List Pending → PollView P → PollView P
 cut_from [] v = v
-cut_from (e ∷ es) v = begun e v
+cut_from (e ∷ es) v = with_turn_of e v
 
 abbrev pub cut : {P : Type 0} → PollView P → PollView P
 cut v = cut_from v.batch v

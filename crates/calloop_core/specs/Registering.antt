@@ -1,5 +1,5 @@
 -- What the three calls of `Poll` for a socket do. calloop's poller is called at once and refuses by descriptor; here
--- the table refuses first, by key, then want of memory, then the poller; after a refusal the table is as it was.
+-- the table refuses first, by key, then running out of memory, then the poller; after a refusal the table is as it was.
 use Rattle.std.specs.Prelude.{◌≡◌, ◌⊎◌, ◌∷◌, [], List, true, Option, None, Some, Result, Ok, Err}
 use Rattle.std.specs.declared.io.Error.{Error as Cause}
 use Rattle.std.specs.declared.io.ErrorKind.{ErrorKind}
@@ -8,6 +8,11 @@ use Rattle.calloop_wake.specs.declared.error.Error.TheVariants.{IoError, OutOfMe
 use Rattle.calloop_core.specs.Pollers.{Outside, Sockets, PollerCall}
 use Rattle.calloop_core.specs.Tables.{Edit, cannot, grows, call_of, CalledFor}
 use Rattle.calloop_core.specs.Polls.{PollView, PollStep, Socket, Fault, AllStepped, IsOfKind}
+
+-- a call's fault as an error of the loop
+abbrev pub as_loop : Result (Unit {0}) Cause → Result (Unit {0}) Error
+as_loop (Ok u) = Ok u
+as_loop (Err cause) = Err (IoError cause)
 
 -- the poller refused its call, which is the one step
 pub record IsFaulted

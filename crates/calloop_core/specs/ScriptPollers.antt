@@ -36,9 +36,9 @@ use Rattle.calloop_core.specs.ScriptCalls.{shown_call, kind_of, is_to_fail, with
 use Rattle.calloop_core.specs.Scripts.{kept_waits}
 
 -- the clock after a wait with no answer left
-abbrev pub moved : ℕ → (asked : Option ℕ) → ℕ
-moved moment None = moment
-moved moment (Some nanos) = min (moment + nanos) (2 ^ 64 - 1)
+abbrev pub clock_after : ℕ → (asked : Option ℕ) → ℕ
+clock_after moment None = moment
+clock_after moment (Some nanos) = min (moment + nanos) (2 ^ 64 - 1)
 
 -- what a wait answers and gives, by how its script ends it
 abbrev pub Ended : ScriptEnd → Result (Unit {0}) IoError → (given : List (ℕ × Readiness)) → Type 0
@@ -52,7 +52,7 @@ Ended Fault answer given = (cause : IoError) × (answer ≡ Err cause) × (error
 abbrev pub WaitAnswered : List ScriptAnswer → ℕ → (asked : Option ℕ) → Result (Unit {0}) IoError
     → (given : List (ℕ × Readiness)) → ℕ → List ScriptAnswer → Type 0
 WaitAnswered [] moment asked answer given after left =
-    (answer ≡ Ok tt) × (given ≡ []) × (after ≡ moved moment asked) × (left ≡ [])
+    (answer ≡ Ok tt) × (given ≡ []) × (after ≡ clock_after moment asked) × (left ≡ [])
 WaitAnswered (first ∷ answers) moment asked answer given after left =
     Ended first.end answer given × (after ≡ first.moment.nanos) × (left ≡ answers)
 

@@ -4,6 +4,8 @@ use Rattle.std.specs.Prelude.{
   ◌≡◌,
   ℕ,
   ◌+◌,
+  ◌*◌,
+  ◌/◌,
   List,
   Bool,
   true,
@@ -18,6 +20,7 @@ use Rattle.std.specs.Prelude.{
   is_some,
   Result,
   Ok,
+  slice_index_or,
 }
 use Rattle.std.specs.Ordering.{nat_cmp}
 use Rattle.std.specs.BTreeMap.{insert_entry, is_at}
@@ -27,8 +30,10 @@ use Rattle.std.specs.declared.io.ErrorKind.{ErrorKind}
 use Rattle.std.specs.declared.io.ErrorKind.TheVariants.{AlreadyExists, NotFound}
 use Rattle.calloop_wake.specs.declared.token.Token.{Token}
 use Rattle.calloop_wake.specs.Tokens.{key_of}
+use Rattle.calloop_wake.specs.Widths.{versions, parts}
 use Rattle.calloop_core.specs.declared.sys.Interest.{Interest}
 use Rattle.calloop_core.specs.declared.sys.Watched.{Watched}
+use Rattle.calloop_core.specs.declared.sys.poll.socket_table.Indexed.{Indexed}
 use Rattle.calloop_core.specs.Pollers.{Outside, Sockets, PollerCall, Add, Modify, Delete, asks, faults_of}
 
 -- the keys ascend, each stands once
@@ -47,6 +52,20 @@ with_key key watched table = insert_entry nat_cmp table key watched
 abbrev pub without_key : (key : ℕ) → Table → Table
 without_key key table = remove_entry (is_at (nat_cmp key)) table
 
+-- the slot of a key's token
+abbrev pub slot_of_key : ℕ → ℕ
+slot_of_key key = key / (versions * parts)
+
+-- what an index has at a slot
+abbrev pub indexed_at : (slot : ℕ) → List (Option Indexed) → Option Indexed
+indexed_at slot index = slice_index_or index slot None
+
+-- an index by slot: what it has of a key at that key's slot stands in the table
+abbrev pub IsIndexOf : List (Option Indexed) → Table → Type 0
+IsIndexOf index table =
+    (key : ℕ) (watched : Watched) → indexed_at (slot_of_key key) index ≡ Some (record { key = key; watched = watched })
+    → watched_at key table ≡ Some watched
+
 -- what is asked of the table for a socket: it enters under a token; from one token to another, or the same; it leaves; and what
 -- stands there under a token is dropped, of which no poller is told. The first three are calloop's register, reregister
 -- and unregister of `Poll`.
@@ -60,11 +79,11 @@ abbrev pub moved_to : (before key : ℕ) → Watched → Table → Table
 moved_to before key watched table =
     if nat_eq before key then with_key key watched table else without_key before (with_key key watched table)
 
-abbrev pub edited : Edit → Table → Table
-edited (Enter token watched) table = with_key (key_of token) watched table
-edited (Change before token watched) table = moved_to (key_of before) (key_of token) watched table
-edited (Leave token) table = without_key (key_of token) table
-edited (Discard token) table = without_key (key_of token) table
+abbrev pub after_edit : Edit → Table → Table
+after_edit (Enter token watched) table = with_key (key_of token) watched table
+after_edit (Change before token watched) table = moved_to (key_of before) (key_of token) watched table
+after_edit (Leave token) table = without_key (key_of token) table
+after_edit (Discard token) table = without_key (key_of token) table
 
 -- why the table refuses, before any memory is taken and before the poller is called
 abbrev pub unless_in : Bool → Option ErrorKind
@@ -80,7 +99,7 @@ cannot (Change before token watched) table =
 cannot (Leave token) table = if is_in (key_of token) table then None else Some NotFound
 cannot (Discard token) table = None
 
--- whether it brings a key that wasn't there, for which memory may be wanting
+-- whether it brings a key that wasn't there, for which memory may run out
 abbrev pub grows : Edit → Bool
 grows (Enter token watched) = true
 grows (Change before token watched) = not (nat_eq (key_of before) (key_of token))

@@ -25,15 +25,15 @@ use Rattle.calloop_core.specs.Meanings.{Meaning}
 use Rattle.calloop_core.specs.Polls.{PollView, PollStep, Arm, ArmAgain, Cancel, Call, ReadClock}
 
 -- a timer without a registration
-abbrev pub unarmed : (deadline : Option Instant) → Timer
-unarmed deadline = record { registration = None; deadline = deadline }
+abbrev pub fresh_timer : (deadline : Option Instant) → Timer
+fresh_timer deadline = record { registration = None; deadline = deadline }
 
 abbrev pub registered_as : Registration → (deadline : Option Instant) → Timer
 registered_as r deadline = record { registration = Some r; deadline = deadline }
 
 -- its arming was called for
-abbrev pub spent : Registration → Registration
-spent r = record r { spent = true }
+abbrev pub with_call : Registration → Registration
+with_call r = record r { spent = true }
 
 -- armed again under the same counter
 abbrev pub armed_for : (deadline : Instant) → Registration → Registration
@@ -73,12 +73,12 @@ RefusedTimer f next e g =
 -- armed for its deadline under the next counter, where it has one
 abbrev pub Armed : {P : Type 0} → (deadline : Option Instant) → (next : ℕ) → TokenFactory
     → Result (Unit {0}) Error → List (PollStep P) → Timer → TokenFactory → Type 0
-Armed None next f answer steps t g = (answer ≡ Ok tt) × (steps ≡ []) × (t ≡ unarmed None) × (g ≡ f)
+Armed None next f answer steps t g = (answer ≡ Ok tt) × (steps ≡ []) × (t ≡ fresh_timer None) × (g ≡ f)
 Armed (Some at) next f (Ok u) steps t g =
     (steps ≡ Arm at (next_token f) ∷ [])
     × (t ≡ registered_as (record { token = next_token f; counter = next; armed = at; spent = false }) (Some at))
     × (g ≡ after_token f)
-Armed (Some at) next f (Err e) steps t g = (steps ≡ []) × (t ≡ unarmed (Some at)) × RefusedTimer f next e g
+Armed (Some at) next f (Err e) steps t g = (steps ≡ []) × (t ≡ fresh_timer (Some at)) × RefusedTimer f next e g
 
 -- the older arming is taken back, then it is armed; calloop's register leaves the older one armed
 abbrev pub IsTimerReg : {P : Type 0} → Timer → PollView P → TokenFactory
@@ -88,25 +88,25 @@ IsTimerReg {P} s v f answer steps t g =
     × Armed s.deadline v.deadlines.next f answer more t g
 
 abbrev pub IsTimerUnreg : {P : Type 0} → Timer → Result (Unit {0}) Error → List (PollStep P) → Timer → Type 0
-IsTimerUnreg s answer steps t = (answer ≡ Ok tt) × (steps ≡ releases s.registration) × (t ≡ unarmed s.deadline)
+IsTimerUnreg s answer steps t = (answer ≡ Ok tt) × (steps ≡ releases s.registration) × (t ≡ fresh_timer s.deadline)
 
 -- armed again under its counter, or refused for memory: then it is unarmed, with the asked deadline
 abbrev pub ArmedAgain : {P : Type 0} → Registration → (deadline : Instant)
     → Result PostAction TimerError → List (PollStep P) → Timer → Type 0
 ArmedAgain r at (Ok action) steps t =
     (action ≡ Continue) × (steps ≡ ArmAgain r.counter at r.token ∷ []) × (t ≡ registered_as (armed_for at r) (Some at))
-ArmedAgain r at (Err e) steps t = (steps ≡ []) × (t ≡ unarmed (Some at))
+ArmedAgain r at (Err e) steps t = (steps ≡ []) × (t ≡ fresh_timer (Some at))
 
 -- armed again for this moment, or removed without a deadline where there is none
 abbrev pub ArmedFor : {P : Type 0} → Registration → (moment : Option Instant)
     → Result PostAction TimerError → List (PollStep P) → Timer → Type 0
 ArmedFor r (Some at) answer steps t = ArmedAgain r at answer steps t
-ArmedFor r None answer steps t = (answer ≡ Ok Remove) × (steps ≡ []) × (t ≡ registered_as (spent r) None)
+ArmedFor r None answer steps t = (answer ≡ Ok Remove) × (steps ≡ []) × (t ≡ registered_as (with_call r) None)
 
 -- what follows from the answer of a call
 abbrev pub FollowsFrom : {P : Type 0} → Timer → Registration → TimeoutAction
     → Result PostAction TimerError → List (PollStep P) → Timer → Type 0
-FollowsFrom s r Drop answer steps t = (answer ≡ Ok Remove) × (steps ≡ []) × (t ≡ registered_as (spent r) s.deadline)
+FollowsFrom s r Drop answer steps t = (answer ≡ Ok Remove) × (steps ≡ []) × (t ≡ registered_as (with_call r) s.deadline)
 FollowsFrom s r (ToInstant at) answer steps t = ArmedAgain r at answer steps t
 FollowsFrom {P} s r (ToDuration time) answer steps t =
     (now : Instant) × (after : P) × (more : List (PollStep P)) × (steps ≡ ReadClock now.nanos after ∷ more)

@@ -29,12 +29,12 @@ use Rattle.std.specs.declared.io.ErrorKind.TheVariants.{Interrupted}
 use Rattle.std.specs.IoError.{error_kind}
 use Rattle.calloop_wake.specs.declared.wheel.Entry.{Entry}
 use Rattle.calloop_core.specs.Batches.{ArePosted}
-use Rattle.calloop_wake.specs.Watches.{noted}
+use Rattle.calloop_wake.specs.Watches.{with_note}
 use Rattle.calloop_wake.specs.declared.wake.watch.Watch.{Watch}
 use Rattle.calloop_wake.specs.declared.wake.notes.Note.TheVariants.{Looked}
 use Rattle.calloop_core.specs.declared.sys.Readiness.{Readiness}
 use Rattle.calloop_core.specs.Pollers.{Outside, faults_of}
-use Rattle.calloop_core.specs.Polls.{PollView, polling, watching, gathered, is_filled}
+use Rattle.calloop_core.specs.Polls.{PollView, polling, watching, after_gather, is_filled}
 
 -- what is left of the caller's timeout, counted from the start; differences stop at zero
 abbrev pub time_left : (timeout : Option ℕ) → (start now : ℕ) → Option ℕ
@@ -89,9 +89,9 @@ Waits O v timeout start asked p (i ∷ is) answer given q =
     (Waits O v timeout start (asked_for v i.posted timeout start i.now) i.read is answer given q)
 
 -- the watch after a look for each interruption
-abbrev pub looked : {P : Type 0} → List (Interruption P) → Watch → Watch
-looked [] w = w
-looked (i ∷ is) w = looked is (noted (Looked i.posted) w)
+abbrev pub after_looks : {P : Type 0} → List (Interruption P) → Watch → Watch
+after_looks [] w = w
+after_looks (i ∷ is) w = after_looks is (with_note (Looked i.posted) w)
 
 -- a whole wait: the clock is read once at the start, and the board is looked at; the watch notes this look and one for
 -- each interruption, and no more; a fault is one more in the poller's count, and nothing else is
@@ -100,7 +100,7 @@ abbrev pub Waited : {P : Type 0} → Outside P → PollView P → (timeout : Opt
 Waited {P} O v timeout answer given q w =
     (start : ℕ) × (p : P) × O.reads v.poller start p × (posted : Bool) × (interruptions : List (Interruption P))
     × Waits O v timeout start (asked_for v posted timeout start start) p interruptions answer given q
-    × (w ≡ looked interruptions (noted (Looked posted) v.watch)) × (O.faults q ≡ O.faults v.poller + faults_of answer)
+    × (w ≡ after_looks interruptions (with_note (Looked posted) v.watch)) × (O.faults q ≡ O.faults v.poller + faults_of answer)
 
 -- a wait and, where it had no fault, the gathering, of the keys that the board then gives, ascending; calloop's
 -- Poll::poll, and the loop around it in dispatch_events
@@ -108,7 +108,7 @@ abbrev pub Polled : {P : Type 0} → Outside P → (timeout : Option ℕ) → Re
     → Type 0
 Polled {P} O timeout (Ok u) v v' =
     (now : ℕ) × (given : List (ℕ × Readiness)) × (p : P) × (w : Watch) × Waited O v timeout (Ok now) given p w
-    × (posted : List ℕ) × ArePosted v.places posted × (v' ≡ gathered posted given now (watching w (polling p v)))
+    × (posted : List ℕ) × ArePosted v.places posted × (v' ≡ after_gather posted given now (watching w (polling p v)))
 Polled {P} O timeout (Err cause) v v' =
     (given : List (ℕ × Readiness)) × (p : P) × (w : Watch) × Waited O v timeout (Err cause) given p w
     × (v' ≡ watching w (polling p v))

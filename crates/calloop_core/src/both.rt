@@ -40,7 +40,7 @@ pub struct Both<A, B> {
 fn count_fits(factory: &TokenFactory)
     ensures { factory.now.given < parts }
 {
-    let _given = factory.given();
+    let _given = factory.tokens_given();
 }
 
 // Both are registered anew, up to the first error.

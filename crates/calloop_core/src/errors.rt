@@ -28,7 +28,7 @@ impl IntoError for Error {
 
     ghost of_source = { as_of_source };
 
-    /// An `OtherError` and want of memory stay what they are. Each other one, which is the loop's own, becomes an `OtherError`
+    /// An `OtherError` and running out of memory stay what they are. Each other one, which is the loop's own, becomes an `OtherError`
     /// with its text.
     fn into_error(self) -> Error {
         match self {

@@ -182,9 +182,9 @@ impl<P: Poller, E: From<io::Error>> Generic<P, E> {
         if self.mode != Mode::Level {
             return Ok(action);
         }
-        match poll.reregister(&mut self.io.io, token, self.interest, self.mode, token) {
+        match poll.rearm(&mut self.io.io, self.interest, self.mode, token) {
             Ok(()) => Ok(action),
-            Err(refusal) => Err(E::from(io::Error::from(refusal))),
+            Err(cause) => Err(E::from(cause)),
         }
     }
 }

@@ -200,7 +200,7 @@ pub trait Poller: Drop {
         ensures room { vec_capacity events.old ≤ vec_capacity events.new }
         ensures faults { IsCounted (outside.faults self.old) result (outside.faults self.new) };
 
-    /// What ends its wait from another thread. No contract says that it does; want of memory is `OutOfMemory`.
+    /// What ends its wait from another thread. No contract says that it does; running out of memory is `OutOfMemory`.
     fn notifier(&self) -> LoopResult<Notifier>
         ensures { IfErr result (λ e. e ≡ OutOfMemory) };
 }

@@ -6,7 +6,7 @@ ghost use Rattle.calloop_wake.specs.Deadlines.{is_armed, moment_after};
 ghost use Rattle.calloop_core.specs.Polls.{PollView, PollStep, poll_view, AllStepped};
 ghost use Rattle.calloop_core.specs.Calls.{CallbackCall, Went};
 ghost use Rattle.calloop_core.specs.declared.timer.TimeoutAction.{TimeoutAction};
-ghost use Rattle.calloop_core.specs.Timers.{unarmed, releases, Armed, ArmedAgain, FollowsFrom, timer_holds, IsTimerReg, IsTimerUnreg, IsTimerTurn};
+ghost use Rattle.calloop_core.specs.Timers.{fresh_timer, releases, Armed, ArmedAgain, FollowsFrom, timer_holds, IsTimerReg, IsTimerUnreg, IsTimerTurn};
 
 use crate::sources::{Asking, Callback, EventSource, IntoError, PostAction};
 use crate::sys::events::EventIterator;
@@ -75,7 +75,8 @@ pub struct Timer {
 impl Timer {
     /// Due at once, by this clock.
     pub fn immediate<C: Clock>(clock: &C) -> Timer
-        ensures { (now : Instant) × C.shows clock.now now.nanos × (result ≡ unarmed (Some now)) }
+        ensures { (now : Instant) × C.shows clock.now now.nanos
+            × (result ≡ fresh_timer (Some now)) }
     {
         Timer::from_deadline(clock.now())
     }
@@ -83,7 +84,7 @@ impl Timer {
     /// Due so much later than this clock shows. Past 2^64 - 1 nanoseconds it has no deadline.
     pub fn from_duration<C: Clock>(clock: &C, duration: Duration) -> Timer
         ensures { (now : Instant) × C.shows clock.now now.nanos
-            × (result ≡ unarmed (moment_after now duration)) }
+            × (result ≡ fresh_timer (moment_after now duration)) }
     {
         Timer {
             registration: None,
@@ -93,7 +94,7 @@ impl Timer {
 
     /// Due at this moment.
     pub fn from_deadline(deadline: Instant) -> Timer
-        ensures { result ≡ unarmed (Some deadline) }
+        ensures { result ≡ fresh_timer (Some deadline) }
     {
         Timer {
             registration: None,
@@ -126,7 +127,7 @@ impl Timer {
 
     // Takes the older arming back.
     fn release<P: Poller, C, R: Wait + Drop>(&mut self, poll: &mut Poll<P, C, R>)
-        ensures timer { self.new ≡ unarmed self.old.deadline }
+        ensures timer { self.new ≡ fresh_timer self.old.deadline }
         ensures steps { AllStepped P.outside (poll_view poll.old)
             (releases self.old.registration) (poll_view poll.new) }
         ensures next { (poll_view poll.new).deadlines.next ≡ (poll_view poll.old).deadlines.next }
@@ -143,7 +144,7 @@ impl Timer {
         poll: &mut Poll<P, C, R>,
         factory: &mut TokenFactory,
     ) -> LoopResult<()>
-        requires { self.old ≡ unarmed self.old.deadline }
+        requires { self.old ≡ fresh_timer self.old.deadline }
         ensures { (steps : List (PollStep P))
             × Armed self.old.deadline (poll_view poll.old).deadlines.next factory.old result steps
             self.new factory.new

@@ -52,7 +52,7 @@ pub struct TransientSource<T> {
 }
 
 // It leaves for good, where it is registered after being unregistered.
-fn removed<P: Poller, C, R: Wait + Drop, T>(
+fn remove_state<P: Poller, C, R: Wait + Drop, T>(
     mut source: T,
     registered: bool,
     poll: &mut Poll<P, C, R>,
@@ -73,7 +73,7 @@ where
 }
 
 // It is registered, and stays.
-fn kept<T>(source: T) -> (State<T>, LoopResult<()>)
+fn keep_state<T>(source: T) -> (State<T>, LoopResult<()>)
     ensures { result ≡ (Keep source true, Ok tt) }
 {
     let state = State::Keep {
@@ -84,7 +84,7 @@ fn kept<T>(source: T) -> (State<T>, LoopResult<()>)
 }
 
 // The new source is registered, where the old one isn't.
-fn entered<P: Poller, C, R: Wait + Drop, T>(
+fn enter_state<P: Poller, C, R: Wait + Drop, T>(
     mut new: T,
     old: T,
     poll: &mut Poll<P, C, R>,
@@ -97,7 +97,7 @@ where
         result.0 (poll_view poll.new) }
 {
     match new.register(poll, factory) {
-        Ok(()) => kept(new),
+        Ok(()) => keep_state(new),
         Err(refusal) => (
             State::Replace {
                 new,
@@ -110,7 +110,7 @@ where
 }
 
 // The old source is unregistered, and then the new one registered.
-fn replaced<P: Poller, C, R: Wait + Drop, T>(
+fn replace_state<P: Poller, C, R: Wait + Drop, T>(
     new: T,
     mut old: T,
     poll: &mut Poll<P, C, R>,
@@ -123,7 +123,7 @@ where
         result.0 (poll_view poll.new) }
 {
     match old.unregister(poll) {
-        Ok(()) => entered(new, old, poll, factory),
+        Ok(()) => enter_state(new, old, poll, factory),
         Err(refusal) => (
             State::Replace {
                 new,
@@ -136,7 +136,7 @@ where
 }
 
 // A registration of the whole.
-fn registered<P: Poller, C, R: Wait + Drop, T>(
+fn register_state<P: Poller, C, R: Wait + Drop, T>(
     state: State<T>,
     poll: &mut Poll<P, C, R>,
     factory: &mut TokenFactory,
@@ -151,30 +151,30 @@ where
             mut source,
             registered,
         } => match source.register(poll, factory) {
-            Ok(()) => kept(source),
+            Ok(()) => keep_state(source),
             Err(refusal) => (State::Keep { source, registered }, Err(refusal)),
         },
         State::Register(mut source) => match source.register(poll, factory) {
-            Ok(()) => kept(source),
+            Ok(()) => keep_state(source),
             Err(refusal) => (State::Register(source), Err(refusal)),
         },
         State::Disable {
             mut source,
             registered,
         } => match source.register(poll, factory) {
-            Ok(()) => kept(source),
+            Ok(()) => keep_state(source),
             Err(refusal) => (State::Disable { source, registered }, Err(refusal)),
         },
-        State::Remove { source, registered } => removed(source, registered, poll),
+        State::Remove { source, registered } => remove_state(source, registered, poll),
         State::Replace {
             new,
             old,
             registered,
         } => {
             if registered {
-                replaced(new, old, poll, factory)
+                replace_state(new, old, poll, factory)
             } else {
-                entered(new, old, poll, factory)
+                enter_state(new, old, poll, factory)
             }
         }
         State::Empty => (State::Empty, Ok(())),
@@ -182,7 +182,7 @@ where
 }
 
 // A registration anew.
-fn reregistered<P: Poller, C, R: Wait + Drop, T>(
+fn reregister_state<P: Poller, C, R: Wait + Drop, T>(
     state: State<T>,
     poll: &mut Poll<P, C, R>,
     factory: &mut TokenFactory,
@@ -197,16 +197,16 @@ where
             mut source,
             registered,
         } => match source.reregister(poll, factory) {
-            Ok(()) => kept(source),
+            Ok(()) => keep_state(source),
             Err(refusal) => (State::Keep { source, registered }, Err(refusal)),
         },
-        State::Disable { source, registered } => disabled(source, registered, poll),
-        state => registered(state, poll, factory),
+        State::Disable { source, registered } => disable_state(source, registered, poll),
+        state => register_state(state, poll, factory),
     }
 }
 
 // It rests.
-fn disabled<P: Poller, C, R: Wait + Drop, T>(
+fn disable_state<P: Poller, C, R: Wait + Drop, T>(
     mut source: T,
     registered: bool,
     poll: &mut Poll<P, C, R>,
@@ -233,7 +233,7 @@ where
 }
 
 // The registration of the whole is taken back.
-fn unregistered<P: Poller, C, R: Wait + Drop, T>(
+fn unregister_state<P: Poller, C, R: Wait + Drop, T>(
     state: State<T>,
     poll: &mut Poll<P, C, R>,
 ) -> (State<T>, LoopResult<()>)
@@ -262,8 +262,8 @@ where
                 Err(refusal),
             ),
         },
-        State::Disable { source, registered } => disabled(source, registered, poll),
-        State::Remove { source, registered } => removed(source, registered, poll),
+        State::Disable { source, registered } => disable_state(source, registered, poll),
+        State::Remove { source, registered } => remove_state(source, registered, poll),
         State::Replace {
             new,
             mut old,
@@ -521,7 +521,7 @@ where
     /// unregistered. One that is to leave is unregistered, where it is registered.
     fn register(&mut self, poll: &mut Poll<P, C, R>, factory: &mut TokenFactory) -> LoopResult<()> {
         let state = mem::replace(&mut self.state, State::Empty);
-        let (state, answer) = registered(state, poll, factory);
+        let (state, answer) = register_state(state, poll, factory);
         self.state = state;
         answer
     }
@@ -533,7 +533,7 @@ where
         factory: &mut TokenFactory,
     ) -> LoopResult<()> {
         let state = mem::replace(&mut self.state, State::Empty);
-        let (state, answer) = reregistered(state, poll, factory);
+        let (state, answer) = reregister_state(state, poll, factory);
         self.state = state;
         answer
     }
@@ -542,7 +542,7 @@ where
     /// place is there.
     fn unregister(&mut self, poll: &mut Poll<P, C, R>) -> LoopResult<()> {
         let state = mem::replace(&mut self.state, State::Empty);
-        let (state, answer) = unregistered(state, poll);
+        let (state, answer) = unregister_state(state, poll);
         self.state = state;
         answer
     }

@@ -81,7 +81,7 @@ fn part_of(bell: Noted<()>, first: Noted<Instant>, second: Noted<Instant>) -> Op
 fn count_fits(factory: &TokenFactory)
     ensures { factory.now.given < parts }
 {
-    let _given = factory.given();
+    let _given = factory.tokens_given();
 }
 
 // Calls back, where a part had an event.

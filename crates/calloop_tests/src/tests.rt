@@ -1,6 +1,7 @@
 use calloop::loop_logic::{
-    busy_runs_that_there_are, once, once_where_nothing_is_asked, run_that_there_is,
-    runs_that_go_wrong_late, served, unserved_dispatches_are_ruled_out, wrong_runs_are_ruled_out,
+    busy_runs_that_there_are, each_dispatch_serves_all, once, once_where_nothing_is_asked,
+    run_that_there_is, runs_that_go_wrong_late, unserved_dispatches_are_ruled_out,
+    wrong_runs_are_ruled_out,
 };
 use calloop::{Instant, PostAction};
 use calloop_core::sys::script::{ScriptClock, ScriptPoller};
@@ -402,7 +403,7 @@ fn the_law_of_all_runs_rules_wrong_runs_out(_rt: HostRuntime) {
 
 #[test]
 fn the_law_of_what_a_dispatch_has_done_rules_wrong_dispatches_out(_rt: HostRuntime) {
-    served::<Source<HostRuntime>, ScriptPoller, ScriptClock, HostRuntime>();
+    each_dispatch_serves_all::<Source<HostRuntime>, ScriptPoller, ScriptClock, HostRuntime>();
     unserved_dispatches_are_ruled_out();
 }
 

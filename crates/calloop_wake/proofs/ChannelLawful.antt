@@ -3,7 +3,7 @@
 use Rattle.std.proofs.Common.{◌≡◌, ℕ, ◌+◌, ◌<◌, ◌≤◌, Bool, true, false, ◌&&◌, ◌||◌, not, List, [], ◌∷◌, ◌++◌, length, Option, Some, None, IfSome, refl, sym, ◌∙◌, ap, subst, arith, ltb-true, length-append, append_assoc, append-nil}
 use Rattle.std.proofs.Math.Bool.{or-true}
 use Rattle.calloop_wake.specs.Cells.{Cell, one, is_own, after_close, after_set_key, after_clear_key}
-use Rattle.calloop_wake.specs.Bells.{after_ping, ended}
+use Rattle.calloop_wake.specs.Bells.{after_ping, after_end}
 use Rattle.calloop_wake.specs.Channels.{ChannelCell, fresh_channel, with_bell, is_below, pops, after_put, after_pop_of, after_take_of, popped_of, tells, is_close, is_early, after_end_turn, IsPingedIfDue, IsLitChannel, IsSoundChannel, IsStandingChannel}
 use Rattle.calloop_wake.specs.ChannelKind.{Telling, ChannelPast, unused_channel, ChannelStep, Ring, Close, Pop, Take, EndTurn, Put, behind_pop, channel_kind, item_of, told_by, AllOfEmpty, IsStandingPast}
 use Rattle.calloop_wake.proofs.Lawful.{own-is, and-left}
@@ -45,7 +45,7 @@ lit-same b c pinged draining closed told l =
     record { at_rest = λ h. quiet (l.at_rest (sym draining ∙ h)); in_turn = λ h. quiet (l.in_turn h) }
 
 quiet-ended : (c : ChannelCell ℕ) (early : Bool) → is_early c.last ≡ early → IsLitChannel c
-    → IsPingedIfDue {T = ℕ} (record { cell = ended early c.cell; queue = c.queue; bound = c.bound; last = c.last })
+    → IsPingedIfDue {T = ℕ} (record { cell = after_end early c.cell; queue = c.queue; bound = c.bound; last = c.last })
 quiet-ended c true is l = record { queue = λ _. refl; close = λ _. refl }
 quiet-ended c false is l = let q = l.in_turn is in record { queue = q.queue; close = q.close }
 

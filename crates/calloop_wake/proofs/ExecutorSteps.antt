@@ -9,9 +9,9 @@ use Rattle.calloop_wake.specs.declared.wake.tasks.Phase.TheVariants.{Idle, Queue
 use Rattle.calloop_wake.specs.declared.wake.tasks.Task.{Task}
 use Rattle.calloop_wake.specs.declared.wake.tasks.TaskKey.{TaskKey}
 use Rattle.calloop_wake.specs.Cells.{is_own}
-use Rattle.calloop_wake.specs.Tasks.{phase_if, phase_at, stepped, is_idle, is_woken, is_awake, in_poll, woken_phase, settled_phase, slot_if}
+use Rattle.calloop_wake.specs.Tasks.{phase_if, phase_at, after_step, is_idle, is_woken, is_awake, in_poll, woken_phase, settled_phase, slot_if}
 use Rattle.calloop_wake.specs.ExecutorKind.{ExecutorStep, Put, Wake, Pop, EndTurn, executor_needs, executor_after}
-use Rattle.calloop_wake.specs.Executors.{ExecutorCell, IsAwake, fresh_executor, with_slot, after_put, after_wake, after_settle, settled_at, taken_of, after_pop, ended, after_end_turn, opens, in_turn, after_clear_key, is_empty, AreQueued, ArePolled, AreSorted, IsKeepingTasks, IsStandingExecutor, polling, key_in}
+use Rattle.calloop_wake.specs.Executors.{ExecutorCell, IsAwake, fresh_executor, with_slot, after_put, after_wake, after_settle, settled_at, taken_of, after_pop, after_end, after_end_turn, opens, in_turn, after_clear_key, is_empty, AreQueued, ArePolled, AreSorted, IsKeepingTasks, IsStandingExecutor, polling, key_in}
 use Rattle.calloop_wake.proofs.Sorted.{with_slot_cases, numbered-kept, numbered-gone, numbered-new, queued-add, queued-keep, queued-take, polled-keep, polled-mark, polled-settle, polled-take}
 
 -- writing what is there changes nothing
@@ -21,22 +21,22 @@ with_slot-same slot o tasks e = fun_ext (λ other.
 
 -- a key that names a task, in words: which task it names, or that a step on it changes nothing
 pub data Found (key : TaskKey) (tasks : ℕ → Option Task) : Type 0 where
-  Nobody : phase_at key tasks ≡ None → ((f : Phase → Phase) → stepped f key.number (tasks key.slot) ≡ tasks key.slot) → Found key tasks
+  Nobody : phase_at key tasks ≡ None → ((f : Phase → Phase) → after_step f key.number (tasks key.slot) ≡ tasks key.slot) → Found key tasks
   Somebody : (task : Task) → tasks key.slot ≡ Some task → task.number ≡ key.number → phase_at key tasks ≡ Some task.phase
-      → ((f : Phase → Phase) → stepped f key.number (tasks key.slot) ≡ Some (record task { phase = f task.phase })) → Found key tasks
+      → ((f : Phase → Phase) → after_step f key.number (tasks key.slot) ≡ Some (record task { phase = f task.phase })) → Found key tasks
 
 pub found : (key : TaskKey) (tasks : ℕ → Option Task) → Found key tasks
 found key tasks =
     elim (tasks key.slot) as (λ o. tasks key.slot ≡ o → Found key tasks) [
-      | None ↦ λ e. Nobody (ap (phase_if key.number) e) (λ f. ap (stepped f key.number) e ∙ sym e)
+      | None ↦ λ e. Nobody (ap (phase_if key.number) e) (λ f. ap (after_step f key.number) e ∙ sym e)
       | Some task ↦ λ e.
           elim (eqb_tells task.number key.number) [
             | inl h ↦ Somebody task e h.1
                 (ap (phase_if key.number) e ∙ ap (λ (b : Bool). if b then Some task.phase else None) h.0)
-                (λ f. ap (stepped f key.number) e ∙ ap (λ (b : Bool). if b then Some (record task { phase = f task.phase }) else Some task) h.0)
+                (λ f. ap (after_step f key.number) e ∙ ap (λ (b : Bool). if b then Some (record task { phase = f task.phase }) else Some task) h.0)
             | inr h ↦ Nobody
                 (ap (phase_if key.number) e ∙ ap (λ (b : Bool). if b then Some task.phase else None) h.0)
-                (λ f. ap (stepped f key.number) e ∙ ap (λ (b : Bool). if b then Some (record task { phase = f task.phase }) else Some task) h.0 ∙ sym e)
+                (λ f. ap (after_step f key.number) e ∙ ap (λ (b : Bool). if b then Some (record task { phase = f task.phase }) else Some task) h.0 ∙ sym e)
           ]
     ] refl
 
@@ -98,10 +98,10 @@ resorted c d t q n p s =
     }
 
 -- a wake that changes no task
-wake-same : (key : TaskKey) (c : ExecutorCell) → stepped woken_phase key.number (c.tasks key.slot) ≡ c.tasks key.slot
+wake-same : (key : TaskKey) (c : ExecutorCell) → after_step woken_phase key.number (c.tasks key.slot) ≡ c.tasks key.slot
     → is_idle (phase_at key c.tasks) ≡ false → IsKeepingTasks c → IsKeepingTasks (after_wake key c)
 wake-same key c same quiet k =
-    let tasks : with_slot key.slot (stepped woken_phase key.number (c.tasks key.slot)) c.tasks ≡ c.tasks = with_slot-same key.slot _ c.tasks same in
+    let tasks : with_slot key.slot (after_step woken_phase key.number (c.tasks key.slot)) c.tasks ≡ c.tasks = with_slot-same key.slot _ c.tasks same in
     let queue : c.queue ++ slot_if (is_idle (phase_at key c.tasks)) key.slot ≡ c.queue = ap (λ (b : Bool). c.queue ++ slot_if b key.slot) quiet ∙ append-nil c.queue in
     let pinged : (is_idle (phase_at key c.tasks) || c.pinged) ≡ c.pinged = ap (λ (b : Bool). b || c.pinged) quiet in
     record {
@@ -111,10 +111,10 @@ wake-same key c same quiet k =
     }
 
 -- the same, seen of the whole cell
-wake-nothing : (key : TaskKey) (c : ExecutorCell) → stepped woken_phase key.number (c.tasks key.slot) ≡ c.tasks key.slot
+wake-nothing : (key : TaskKey) (c : ExecutorCell) → after_step woken_phase key.number (c.tasks key.slot) ≡ c.tasks key.slot
     → is_idle (phase_at key c.tasks) ≡ false → after_wake key c ≡ c
 wake-nothing key c same quiet =
-    let tasks : with_slot key.slot (stepped woken_phase key.number (c.tasks key.slot)) c.tasks ≡ c.tasks = with_slot-same key.slot _ c.tasks same in
+    let tasks : with_slot key.slot (after_step woken_phase key.number (c.tasks key.slot)) c.tasks ≡ c.tasks = with_slot-same key.slot _ c.tasks same in
     let queue : c.queue ++ slot_if (is_idle (phase_at key c.tasks)) key.slot ≡ c.queue = ap (λ (b : Bool). c.queue ++ slot_if b key.slot) quiet ∙ append-nil c.queue in
     let pinged : (is_idle (phase_at key c.tasks) || c.pinged) ≡ c.pinged = ap (λ (b : Bool). b || c.pinged) quiet in
     ap (λ (t : ℕ → Option Task). record c { tasks = t; queue = c.queue ++ slot_if (is_idle (phase_at key c.tasks)) key.slot; pinged = is_idle (phase_at key c.tasks) || c.pinged }) tasks
@@ -147,7 +147,7 @@ awake key c k due slot = let other : TaskKey = record { slot = slot; number = ke
     ]
 
 wake-idle : (key : TaskKey) (c : ExecutorCell) (task : Task) → c.tasks key.slot ≡ Some task → task.phase ≡ Idle
-    → stepped woken_phase key.number (c.tasks key.slot) ≡ Some (record task { phase = woken_phase task.phase })
+    → after_step woken_phase key.number (c.tasks key.slot) ≡ Some (record task { phase = woken_phase task.phase })
     → is_idle (phase_at key c.tasks) ≡ true → IsKeepingTasks c → IsKeepingTasks (after_wake key c)
 wake-idle key c task is idle step due k =
     let that : Task = record task { phase = woken_phase task.phase } in
@@ -170,7 +170,7 @@ wake-idle key c task is idle step due k =
     }
 
 wake-polled : (key : TaskKey) (c : ExecutorCell) (task : Task) → c.tasks key.slot ≡ Some task → task.phase ≡ Polling
-    → stepped woken_phase key.number (c.tasks key.slot) ≡ Some (record task { phase = woken_phase task.phase })
+    → after_step woken_phase key.number (c.tasks key.slot) ≡ Some (record task { phase = woken_phase task.phase })
     → is_idle (phase_at key c.tasks) ≡ false → IsKeepingTasks c → IsKeepingTasks (after_wake key c)
 wake-polled key c task is polled step quiet k =
     let that : Task = record task { phase = woken_phase task.phase } in
@@ -212,9 +212,9 @@ wake-keeps key c k =
 -- where the task is that a turn has popped
 pub data InPoll (key : TaskKey) (tasks : ℕ → Option Task) : Type 0 where
   IsPolled : (task : Task) → tasks key.slot ≡ Some task → task.number ≡ key.number → task.phase ≡ Polling → phase_at key tasks ≡ Some Polling
-      → stepped settled_phase key.number (tasks key.slot) ≡ Some (record task { phase = settled_phase task.phase }) → InPoll key tasks
+      → after_step settled_phase key.number (tasks key.slot) ≡ Some (record task { phase = settled_phase task.phase }) → InPoll key tasks
   WasWoken : (task : Task) → tasks key.slot ≡ Some task → task.number ≡ key.number → task.phase ≡ Woken → phase_at key tasks ≡ Some Woken
-      → stepped settled_phase key.number (tasks key.slot) ≡ Some (record task { phase = settled_phase task.phase }) → InPoll key tasks
+      → after_step settled_phase key.number (tasks key.slot) ≡ Some (record task { phase = settled_phase task.phase }) → InPoll key tasks
 
 pub in_poll-cases : (key : TaskKey) (tasks : ℕ → Option Task) → in_poll (phase_at key tasks) ≡ true → InPoll key tasks
 in_poll-cases key tasks h =
@@ -265,7 +265,7 @@ finish-settles key c is k =
 
 pend-idle : (key : TaskKey) (c : ExecutorCell) (task : Task) → c.progress.polled ≡ Some key → c.tasks key.slot ≡ Some task → task.phase ≡ Polling
     → is_woken (phase_at key c.tasks) ≡ false
-    → stepped settled_phase key.number (c.tasks key.slot) ≡ Some (record task { phase = settled_phase task.phase })
+    → after_step settled_phase key.number (c.tasks key.slot) ≡ Some (record task { phase = settled_phase task.phase })
     → IsKeepingTasks c → IsKeepingTasks (settled_at (Some key) false c)
 pend-idle key c task is at phase quiet step k =
     let polled : ArePolled c.tasks (Some key) = subst (ArePolled c.tasks) is k.sorted.polled in
@@ -287,7 +287,7 @@ pend-idle key c task is at phase quiet step k =
 
 pend-queued : (key : TaskKey) (c : ExecutorCell) (task : Task) → c.progress.polled ≡ Some key → c.tasks key.slot ≡ Some task → task.phase ≡ Woken
     → is_woken (phase_at key c.tasks) ≡ true
-    → stepped settled_phase key.number (c.tasks key.slot) ≡ Some (record task { phase = settled_phase task.phase })
+    → after_step settled_phase key.number (c.tasks key.slot) ≡ Some (record task { phase = settled_phase task.phase })
     → IsKeepingTasks c → IsKeepingTasks (settled_at (Some key) false c)
 pend-queued key c task is at phase due step k =
     let polled : ArePolled c.tasks (Some key) = subst (ArePolled c.tasks) is k.sorted.polled in
@@ -378,7 +378,7 @@ end-keeps finished c k =
     let s = settles finished c k in
     let d : ExecutorCell = after_settle finished c in
     record {
-      sorted = resorted d (ended d) refl refl refl (sym s.polled) s.keeps.sorted;
+      sorted = resorted d (after_end d) refl refl refl (sym s.polled) s.keeps.sorted;
       lit = λ h. ends d.pinged d.draining d.progress.dry (s.keeps.lit h);
       running = λ other e. not-polled other e;
     }

@@ -4,7 +4,7 @@ use Rattle.calloop_wake.specs.declared.wake.tasks.Phase.TheVariants.{Queued, Pol
 use Rattle.calloop_wake.specs.declared.wake.tasks.Task.{Task}
 use Rattle.calloop_wake.specs.declared.wake.tasks.TaskKey.{TaskKey}
 use Rattle.calloop_wake.specs.declared.wake.executor.Progress.{Progress}
-use Rattle.calloop_wake.specs.Tasks.{TaskTable, task_at, phase_at, stepped, is_idle, is_woken, in_poll, woken_phase, settled_phase, slot_if}
+use Rattle.calloop_wake.specs.Tasks.{TaskTable, task_at, phase_at, after_step, is_idle, is_woken, in_poll, woken_phase, settled_phase, slot_if}
 use Rattle.calloop_wake.specs.Cells.{Cell}
 use Rattle.calloop_wake.specs.Executors.{with_slot, inside_cell, IsKeepingTasks, ExecutorCell, AreQueued, ArePolled, AreNumbered, polling, key_in}
 use Rattle.calloop_wake.proofs.ExecutorSteps.{wake-keeps, put-keeps, settles-at, take-none, take-some}
@@ -42,7 +42,7 @@ module _ (o : Option TaskTable) (old new : TaskTable) (next results : ℕ) (ping
       (subst (λ (x : List ℕ). IsKeepingTasks (record { tasks = tasks; queue = x; next = next; results = results; pinged = pinged; draining = draining; gone = false; progress = progress; key = k; senders = senders })) (sym q) kept)
 
   pub inside-wake : (key : TaskKey) (b after : Bool) → after ≡ (b || pinged) → b ≡ is_idle (phase_at key (task_at old))
-      → task_at new ≡ with_slot key.slot (stepped woken_phase key.number (task_at old key.slot)) (task_at old)
+      → task_at new ≡ with_slot key.slot (after_step woken_phase key.number (task_at old key.slot)) (task_at old)
       → new.queue ≡ old.queue ++ slot_if b key.slot
       → IsKeepingTasks (inside_cell (Some new) next results after draining progress k senders)
   inside-wake key b after p e t q =
@@ -69,7 +69,7 @@ module _ (o : Option TaskTable) (old new : TaskTable) (next results : ℕ) (ping
       (settles-at (Some key) true (inside_cell (Some old) next results pinged draining progress k senders) polled there).keeps)
 
   pub inside-pend : (key : TaskKey) → progress.polled ≡ Some key
-      → task_at new ≡ with_slot key.slot (stepped settled_phase key.number (task_at old key.slot)) (task_at old)
+      → task_at new ≡ with_slot key.slot (after_step settled_phase key.number (task_at old key.slot)) (task_at old)
       → new.queue ≡ old.queue ++ slot_if (is_woken (phase_at key (task_at old))) key.slot
       → IsKeepingTasks (inside_cell (Some new) next results pinged draining (record progress { polled = None }) k senders)
   inside-pend key polled t q =

@@ -10,7 +10,7 @@ use Rattle.std.proofs.lemmas.Nat.Bits.{bit_at-zero, bit_at-trailing_zeros, bit_a
 use Rattle.std.specs.Int.{w64, bit_at, bit_not, trailing_zeros}
 use Rattle.std.specs.Int.Bits.{bit_and, bit_or}
 use Rattle.calloop_wake.specs.Widths.{most_slots, most_words}
-use Rattle.calloop_wake.specs.Vacancies.{word_at, is_set, is_filled, said, place, AreLevels, HasBits, Takes, IsFirst, AreEnough, with_slot}
+use Rattle.calloop_wake.specs.Vacancies.{word_at, is_set, is_filled, bit_above, place, AreLevels, HasBits, Takes, IsFirst, AreEnough, with_slot}
 use Rattle.calloop_wake.specs.declared.vacancies.Taken.{Taken}
 
 -- A word that is written.
@@ -144,7 +144,7 @@ takes-level : (vacant : ℕ → Bool) (ws ws' : List ℕ) (p bit : ℕ) (t : Tak
     → ((i : ℕ) → is_set ws' i ≡ with_slot bit (not t.emptied) (is_set ws) i) → ((q : ℕ) → is_filled ws' q ≡ with_slot p (not e) (is_filled ws) q)
     → Takes vacant bit t below below' → Takes vacant p (record { slot = t.slot; emptied = e }) (ws ∷ below) (ws' ∷ below')
 takes-level vacant ws ws' p bit t e below below' are filled is least bits words T =
-    let here : said vacant below bit ≡ true = sym (are.0 bit) ∙ is in
+    let here : bit_above vacant below bit ≡ true = sym (are.0 bit) ∙ is in
     record {
       there = λ h. filled;
       found = λ h. T.found here;
@@ -210,22 +210,22 @@ takes-cleared vacant ls ws ws' p w t below below' is word h some fits wrote empt
 
 -- a word that isn't 0 has a bit that is set, and something below it
 pub takes-none : (ls : List (List ℕ)) (ws : List ℕ) (p w : ℕ) (below below' : List (List ℕ)) → ls ≡ ws ∷ below → w ≡ word_at ws p → 0 < w → w < 2 ^ 64
-    → (below' ≡ below) × ((vacant : ℕ → Bool) → AreLevels vacant below → said vacant below (p * 64 + trailing_zeros w64 w) ≡ false)
-    → (ws ∷ below' ≡ ls) × ((vacant : ℕ → Bool) → AreLevels vacant ls → said vacant ls p ≡ false)
+    → (below' ≡ below) × ((vacant : ℕ → Bool) → AreLevels vacant below → bit_above vacant below (p * 64 + trailing_zeros w64 w) ≡ false)
+    → (ws ∷ below' ≡ ls) × ((vacant : ℕ → Bool) → AreLevels vacant ls → bit_above vacant ls p ≡ false)
 takes-none ls ws p w below below' is word some fits h =
     let some' : 0 < word_at ws p = omega arith in
     let fits' : word_at ws p < 2 ^ 64 = omega arith in (
       ap (λ l. ws ∷ l) h.0 ∙ sym is,
       λ vacant are. (
           let are' : AreLevels vacant (ws ∷ below) = subst (λ (l : List (List ℕ)). AreLevels vacant l) is are in
-          let none : said vacant below (least_bit ws p) ≡ false = subst (λ (x : ℕ). said vacant below (p * 64 + trailing_zeros w64 x) ≡ false) word (h.1 vacant are'.1) in
+          let none : bit_above vacant below (least_bit ws p) ≡ false = subst (λ (x : ℕ). bit_above vacant below (p * 64 + trailing_zeros w64 x) ≡ false) word (h.1 vacant are'.1) in
           let both : true ≡ false = sym (least_bit-set ws p some' fits') ∙ are'.0 (least_bit ws p) ∙ none in
           absurd (cc)
           ),
     )
 
 -- no word of the highest level is left
-none-below : (vacant : ℕ → Bool) (ls : List (List ℕ)) → AreLevels vacant ls → ((i : ℕ) → said vacant ls i ≡ false) → (i : ℕ) → vacant i ≡ false
+none-below : (vacant : ℕ → Bool) (ls : List (List ℕ)) → AreLevels vacant ls → ((i : ℕ) → bit_above vacant ls i ≡ false) → (i : ℕ) → vacant i ≡ false
 none-below vacant [] are h = h
 none-below vacant (ws ∷ below) are h = none-below vacant below are.1 (λ i. sym (are.0 i) ∙ zero-unset ws i (empty-zero ws (i / 64) (h (i / 64))))
 
@@ -233,7 +233,7 @@ none-above : (ws : List ℕ) → length ws ≤ 1 → is_filled ws 0 ≡ false �
 none-above ws h e zero = e
 none-above ws h e (suc i) = ap (λ x. not (nat_eq x 0)) (get_or_past ws (suc i) 0 (omega arith))
 
-pub none_vacant : (vacant : ℕ → Bool) (ls : List (List ℕ)) → AreEnough ls → said vacant ls 0 ≡ false → AreLevels vacant ls → (i : ℕ) → vacant i ≡ false
+pub none_vacant : (vacant : ℕ → Bool) (ls : List (List ℕ)) → AreEnough ls → bit_above vacant ls 0 ≡ false → AreLevels vacant ls → (i : ℕ) → vacant i ≡ false
 none_vacant vacant [] enough h are = absurd (omega (arith, enough.0))
 none_vacant vacant (ws ∷ below) enough h are = none-below vacant (ws ∷ below) are (none-above ws enough.1.0 h)
 
@@ -290,7 +290,7 @@ has-rest slot ls ws below is h = (subst (λ (l : List (List ℕ)). HasBits l slo
 
 pub marked-levels : (slot : ℕ) (ls : List (List ℕ)) (ws ws' : List ℕ) (below below' : List (List ℕ)) → ls ≡ ws ∷ below
     → ((i : ℕ) → is_set ws' i ≡ with_slot (slot / 2 ^ (6 * length below)) true (is_set ws) i)
-    → ((vacant : ℕ → Bool) (q : ℕ) → said (with_slot slot true vacant) below' q ≡ with_slot (place below slot) true (said vacant below) q)
+    → ((vacant : ℕ → Bool) (q : ℕ) → bit_above (with_slot slot true vacant) below' q ≡ with_slot (place below slot) true (bit_above vacant below) q)
     → ((vacant : ℕ → Bool) → AreLevels vacant below → AreLevels (with_slot slot true vacant) below')
     → (vacant : ℕ → Bool) → AreLevels vacant ls → AreLevels (with_slot slot true vacant) (ws' ∷ below')
 marked-levels slot ls ws ws' below below' is bits above rest vacant are =
@@ -299,7 +299,7 @@ marked-levels slot ls ws ws' below below' is bits above rest vacant are =
 
 pub marked-above : (slot : ℕ) (ls : List (List ℕ)) (ws ws' : List ℕ) (below : List (List ℕ)) → ls ≡ ws ∷ below
     → ((i : ℕ) → is_filled ws' i ≡ with_slot (slot / 2 ^ (6 * length below) / 64) true (is_filled ws) i)
-    → (vacant : ℕ → Bool) (q : ℕ) → is_filled ws' q ≡ with_slot (place ls slot) true (said vacant ls) q
+    → (vacant : ℕ → Bool) (q : ℕ) → is_filled ws' q ≡ with_slot (place ls slot) true (bit_above vacant ls) q
 marked-above slot ls ws ws' below is words vacant q =
     words q ∙ ap (λ k. with_slot k true (is_filled ws) q) (place-step (length below) slot)
-    ∙ subst (λ (l : List (List ℕ)). with_slot (place (ws ∷ below) slot) true (is_filled ws) q ≡ with_slot (place l slot) true (said vacant l) q) (sym is) refl
+    ∙ subst (λ (l : List (List ℕ)). with_slot (place (ws ∷ below) slot) true (is_filled ws) q ≡ with_slot (place l slot) true (bit_above vacant l) q) (sym is) refl

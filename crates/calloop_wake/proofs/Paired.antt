@@ -6,7 +6,7 @@ use Rattle.std.specs.declared.cmp.Ordering.TheVariants.{Less, Equal, Greater}
 use Rattle.std.specs.Ordering.{nat_cmp, is_eq, match_ordering, ordering_then}
 use Rattle.std.specs.BTreeMap.{insert_entry, is_at}
 use Rattle.std.specs.Map.{lookup, remove_entry}
-use Rattle.calloop_wake.specs.Deadlines.{is_before, inserted, has_counter, without_counter, IsAhead, IsSorted}
+use Rattle.calloop_wake.specs.Deadlines.{is_before, after_insert, has_counter, without_counter, IsAhead, IsSorted}
 use Rattle.calloop_wake.specs.Wheels.{entry_at, entries_of, deadline_of, NameTheSame, HaveTheSame}
 use Rattle.calloop_wake.specs.declared.token.Token.{Token}
 use Rattle.calloop_wake.specs.declared.wheel.Due.{Due}
@@ -30,28 +30,28 @@ same_due k d e f = grind (arith, nat_tests)
 
 -- What a new pair does.
 
-insert_at : (k : Due) (t : Token) (p : Due × Token) (ps : List (Due × Token)) → nat_eq p.0.counter k.counter ≡ false → entries_of (insert_entry due_cmp ps k t) ≡ inserted (entry_at (k, t)) (entries_of ps)
-    → entries_of (insert_entry due_cmp (p ∷ ps) k t) ≡ inserted (entry_at (k, t)) (entries_of (p ∷ ps))
+insert_at : (k : Due) (t : Token) (p : Due × Token) (ps : List (Due × Token)) → nat_eq p.0.counter k.counter ≡ false → entries_of (insert_entry due_cmp ps k t) ≡ after_insert (entry_at (k, t)) (entries_of ps)
+    → entries_of (insert_entry due_cmp (p ∷ ps) k t) ≡ after_insert (entry_at (k, t)) (entries_of (p ∷ ps))
 insert_at k t p ps apart rest =
-    elim (due_cmp k p.0) as (λ o. due_cmp k p.0 ≡ o → entries_of (match_ordering o ((k, t) ∷ p ∷ ps) ((p.0, t) ∷ ps) (p ∷ insert_entry due_cmp ps k t)) ≡ inserted (entry_at (k, t)) (entry_at p ∷ entries_of ps)) [
-      | Less ↦ λ is. sym (ap (λ b. if b then entry_at p ∷ inserted (entry_at (k, t)) (entries_of ps) else entry_at (k, t) ∷ entry_at p ∷ entries_of ps) (not_before k p.0 t p.1 is))
+    elim (due_cmp k p.0) as (λ o. due_cmp k p.0 ≡ o → entries_of (match_ordering o ((k, t) ∷ p ∷ ps) ((p.0, t) ∷ ps) (p ∷ insert_entry due_cmp ps k t)) ≡ after_insert (entry_at (k, t)) (entry_at p ∷ entries_of ps)) [
+      | Less ↦ λ is. sym (ap (λ b. if b then entry_at p ∷ after_insert (entry_at (k, t)) (entries_of ps) else entry_at (k, t) ∷ entry_at p ∷ entries_of ps) (not_before k p.0 t p.1 is))
       | Equal ↦ λ is. (let e : p.0.counter ≡ k.counter = sym (same_counter k p.0 is) in absurd (grind (arith, nat_tests)))
-      | Greater ↦ λ is. ap (λ l. entry_at p ∷ l) rest ∙ sym (ap (λ b. if b then entry_at p ∷ inserted (entry_at (k, t)) (entries_of ps) else entry_at (k, t) ∷ entry_at p ∷ entries_of ps) (is_behind k p.0 t p.1 is))
+      | Greater ↦ λ is. ap (λ l. entry_at p ∷ l) rest ∙ sym (ap (λ b. if b then entry_at p ∷ after_insert (entry_at (k, t)) (entries_of ps) else entry_at (k, t) ∷ entry_at p ∷ entries_of ps) (is_behind k p.0 t p.1 is))
     ] refl
 
-pub entries_of-insert : (k : Due) (t : Token) (ps : List (Due × Token)) → has_counter k.counter (entries_of ps) ≡ false → entries_of (insert_entry due_cmp ps k t) ≡ inserted (entry_at (k, t)) (entries_of ps)
+pub entries_of-insert : (k : Due) (t : Token) (ps : List (Due × Token)) → has_counter k.counter (entries_of ps) ≡ false → entries_of (insert_entry due_cmp ps k t) ≡ after_insert (entry_at (k, t)) (entries_of ps)
 entries_of-insert k t [] free = refl
 entries_of-insert k t (p ∷ ps) free =
     let apart : nat_eq p.0.counter k.counter ≡ false = grind (arith, nat_tests) in
     let rest : has_counter k.counter (entries_of ps) ≡ false = grind (arith, nat_tests) in
     insert_at k t p ps apart (entries_of-insert k t ps rest)
 
-pub deadline_of-inserted : (q : ℕ) (e : Entry) (xs : List Entry) → has_counter e.counter xs ≡ false → deadline_of q (inserted e xs) ≡ (if nat_eq e.counter q then Some e.deadline else deadline_of q xs)
+pub deadline_of-inserted : (q : ℕ) (e : Entry) (xs : List Entry) → has_counter e.counter xs ≡ false → deadline_of q (after_insert e xs) ≡ (if nat_eq e.counter q then Some e.deadline else deadline_of q xs)
 deadline_of-inserted q e [] free = refl
 deadline_of-inserted q e (x ∷ xs) free =
     let rest : has_counter e.counter xs ≡ false = grind (arith, nat_tests) in
-    let more : deadline_of q (inserted e xs) ≡ (if nat_eq e.counter q then Some e.deadline else deadline_of q xs) = deadline_of-inserted q e xs rest in
-    elim (is_before x e) as (λ b. deadline_of q (if b then x ∷ inserted e xs else e ∷ x ∷ xs) ≡ (if nat_eq e.counter q then Some e.deadline else if nat_eq x.counter q then Some x.deadline else deadline_of q xs)) [
+    let more : deadline_of q (after_insert e xs) ≡ (if nat_eq e.counter q then Some e.deadline else deadline_of q xs) = deadline_of-inserted q e xs rest in
+    elim (is_before x e) as (λ b. deadline_of q (if b then x ∷ after_insert e xs else e ∷ x ∷ xs) ≡ (if nat_eq e.counter q then Some e.deadline else if nat_eq x.counter q then Some x.deadline else deadline_of q xs)) [
       | true ↦ grind (arith, nat_tests)
       | false ↦ refl
     ]
@@ -90,7 +90,7 @@ abbrev at : (q : ℕ) → List (ℕ × Instant) → Option Instant
 at q m = lookup (nat_eq q) m
 
 pub same-entered : (m n : List (ℕ × Instant)) (e : Entry) (xs : List Entry) → has_counter e.counter xs ≡ false → NameTheSame xs m
-    → ((q : ℕ) → at q n ≡ cond (nat_eq e.counter q) (Some e.deadline) (at q m)) → NameTheSame (inserted e xs) n
+    → ((q : ℕ) → at q n ≡ cond (nat_eq e.counter q) (Some e.deadline) (at q m)) → NameTheSame (after_insert e xs) n
 same-entered m n e xs free same updates q =
     updates q ∙ ap (λ o. if nat_eq e.counter q then Some e.deadline else o) (same q) ∙ sym (deadline_of-inserted q e xs free)
 
@@ -103,7 +103,7 @@ same-left m n c xs same updates q =
 pub same-trimmed : (xs : List Entry) (m n : List (ℕ × Instant)) → HaveTheSame m n → NameTheSame xs m → NameTheSame xs n
 same-trimmed xs m n trimmed same q = trimmed q ∙ same q
 
-free_inserted : (e : Entry) (xs : List Entry) → has_counter e.counter xs ≡ false → without_counter e.counter (inserted e xs) ≡ xs
+free_inserted : (e : Entry) (xs : List Entry) → has_counter e.counter xs ≡ false → without_counter e.counter (after_insert e xs) ≡ xs
 free_inserted e [] free = let r : nat_eq e.counter e.counter ≡ true = grind arith in ap (λ b. cond (not b) (e ∷ []) []) r
 free_inserted e (x ∷ xs) free =
     let apart : nat_eq x.counter e.counter ≡ false = grind (arith, nat_tests) in
@@ -111,8 +111,8 @@ free_inserted e (x ∷ xs) free =
     let rest : has_counter e.counter xs ≡ false = grind (arith, nat_tests) in
     let h = free_inserted e xs rest in
     let k = without_none e.counter xs rest in
-    elim (is_before x e) as (λ b. without_counter e.counter (if b then x ∷ inserted e xs else e ∷ x ∷ xs) ≡ x ∷ xs) [
-      | true ↦ ap (λ b. cond (not b) (x ∷ without_counter e.counter (inserted e xs)) (without_counter e.counter (inserted e xs))) apart ∙ ap (λ l. x ∷ l) h
+    elim (is_before x e) as (λ b. without_counter e.counter (if b then x ∷ after_insert e xs else e ∷ x ∷ xs) ≡ x ∷ xs) [
+      | true ↦ ap (λ b. cond (not b) (x ∷ without_counter e.counter (after_insert e xs)) (without_counter e.counter (after_insert e xs))) apart ∙ ap (λ l. x ∷ l) h
       | false ↦ ap (λ b. cond (not b) (e ∷ without_counter e.counter (x ∷ xs)) (without_counter e.counter (x ∷ xs))) r
           ∙ ap (λ b. cond (not b) (x ∷ without_counter e.counter xs) (without_counter e.counter xs)) apart ∙ ap (λ l. x ∷ l) k
     ]
@@ -122,7 +122,7 @@ pub same-back : (m n o : List (ℕ × Instant)) (e : Entry) (xs : List Entry) �
     → ((q : ℕ) → at q n ≡ cond (nat_eq e.counter q) (Some e.deadline) (at q m))
     → ((q : ℕ) → at q o ≡ cond (nat_eq e.counter q) None (at q n)) → NameTheSame xs o
 same-back m n o e xs free same entered left q =
-    same-left n o e.counter (inserted e xs) (same-entered m n e xs free same entered) left q ∙ ap (λ l. deadline_of q l) (free_inserted e xs free)
+    same-left n o e.counter (after_insert e xs) (same-entered m n e xs free same entered) left q ∙ ap (λ l. deadline_of q l) (free_inserted e xs free)
 
 -- What leaves the first map.
 

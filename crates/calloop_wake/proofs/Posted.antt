@@ -16,8 +16,8 @@ use Rattle.std.proofs.lemmas.List.Folds.{list_any-append}
 use Rattle.std.proofs.lemmas.Map.Steps.{length-le_from_keys}
 use Rattle.std.proofs.lemmas.Map.Keys.{IsDistinct-from_apart, IsStrictlyIncreasing-from_distinct, sorted_from_strictly_increasing, IsDistinct-IsPermutation, IsDistinct-head, IsDistinct-tail, IsDistinct-push}
 use Rattle.calloop_wake.proofs.Places.{none_marked, keys-rising, is_marked-after_close, is_marked-after_open, is_marked-after_post, IsAscending-open, IsAscending-filter}
-use Rattle.calloop_wake.specs.Boards.{bound, keys_within, taken_keys, is_taken, unmarked, after_unpost, place, is_open, is_marked, any_marked, wakes, after_open_place, after_close_place, after_post, AllAbove, IsAscending, AllGreater, IsRising}
-use Rattle.calloop_wake.specs.Posts.{place_at, places_of, standing_at, posted_keys, Changes, is_quiet, posted_at, index_of, left_at, renumbered, IsBoard}
+use Rattle.calloop_wake.specs.Boards.{bound, keys_within, taken_keys, is_taken, without_mark, after_unpost, place, is_open, is_marked, any_marked, wakes, after_open_place, after_close_place, after_post, AllAbove, IsAscending, AllGreater, IsRising}
+use Rattle.calloop_wake.specs.Posts.{place_at, places_of, standing_at, posted_keys, Changes, is_quiet, posted_at, index_of, left_at, place_after, IsBoard}
 use Rattle.calloop_wake.specs.declared.wake.board.Place.{Place}
 
 pub at_eq : (c q : ℕ) → is_at (nat_cmp c) q ≡ nat_eq c q
@@ -547,18 +547,18 @@ fresh_at (x ∷ xs) (suc i) d h lt =
 
 -- one more is noted
 pub noted_more : (gone i q d : ℕ) (at : Option ℕ) (xs : List ℕ) (before : Option (Option ℕ)) → IsDistinct nat_eq xs → i < length xs → at ≡ left_at gone i
-    → (if nat_eq (get_or xs i d) q then Some at else renumbered gone (index_of q (take i xs)) before) ≡ renumbered gone (index_of q (take (i + 1) xs)) before
+    → (if nat_eq (get_or xs i d) q then Some at else place_after gone (index_of q (take i xs)) before) ≡ place_after gone (index_of q (take (i + 1) xs)) before
 noted_more gone i q d at xs before once lt is =
     let k = get_or xs i d in
     let len : length (take i xs) ≡ i = length-take-le i xs (omega arith) in
     let more : index_of q (take (i + 1) xs) ≡ found_or (index_of q (take i xs)) (if nat_eq (get_or xs i d) q then Some i else None) =
     ap (λ l. index_of q l) (take_more xs i d lt) ∙ index_of-push q k (take i xs) ∙ ap (λ n. found_or (index_of q (take i xs)) (if nat_eq (get_or xs i d) q then Some n else None)) len in
-    elim (nat_eq (get_or xs i d) q) as (λ b. nat_eq (get_or xs i d) q ≡ b → (if b then Some at else renumbered gone (index_of q (take i xs)) before) ≡ renumbered gone (found_or (index_of q (take i xs)) (if b then Some i else None)) before) [
+    elim (nat_eq (get_or xs i d) q) as (λ b. nat_eq (get_or xs i d) q ≡ b → (if b then Some at else place_after gone (index_of q (take i xs)) before) ≡ place_after gone (found_or (index_of q (take i xs)) (if b then Some i else None)) before) [
       | true ↦ λ e. (let same : get_or xs i d ≡ q = grind (arith, nat_tests) in
           let none : index_of q (take i xs) ≡ None = ap (λ n. index_of n (take i xs)) (sym same) ∙ fresh_at xs i d once lt in
-          ap (λ o. Some o) is ∙ sym (ap (λ o. renumbered gone (found_or o (Some i)) before) none))
-      | false ↦ λ e. ap (λ o. renumbered gone o before) (found_none (index_of q (take i xs)))
-    ] refl ∙ sym (ap (λ o. renumbered gone o before) more)
+          ap (λ o. Some o) is ∙ sym (ap (λ o. place_after gone (found_or o (Some i)) before) none))
+      | false ↦ λ e. ap (λ o. place_after gone o before) (found_none (index_of q (take i xs)))
+    ] refl ∙ sym (ap (λ o. place_after gone o before) more)
 
 pub left_by : (r : Option ℕ) (gone i : ℕ) → SomeIff r (gone ≤ i) (i - gone) → r ≡ left_at gone i
 left_by None gone i h = (let lt : nat_lt i gone ≡ true = lt-ltb i gone (omega (arith, h)) in sym (ap (λ b. if b then None else Some (i - gone)) lt))
@@ -590,7 +590,7 @@ none_unmarked b [] h = refl
 none_unmarked b (p ∷ ps) h =
     let rest = none_unmarked b ps h.1 in
     let high : nat_lt p.key b ≡ false = le-ltb p.key b (omega (arith, h.0)) in
-    ap (λ (q : Place). q ∷ after_unpost b ps) (same_place (unmarked b p) p refl (ap (λ t. p.marked && not t) high ∙ and_true p.marked)) ∙ ap (λ l. p ∷ l) rest
+    ap (λ (q : Place). q ∷ after_unpost b ps) (same_place (without_mark b p) p refl (ap (λ t. p.marked && not t) high ∙ and_true p.marked)) ∙ ap (λ l. p ∷ l) rest
 
 first_taken : (b k : ℕ) (m : Bool) (ps : List Place) → (m && nat_lt k b) ≡ true → taken_keys b (record { key = k; marked = m } ∷ ps) ≡ k ∷ taken_keys b ps
 first_taken b k m ps h = ap (λ t. map (λ (q : Place). q.key) (cond t (record { key = k; marked = m } ∷ filter (is_taken b) ps) (filter (is_taken b) ps))) h
@@ -699,12 +699,12 @@ any_dropped q (suc n) (k ∷ ks) h =
       | false ↦ λ is. rest ∙ sym (left_mapped n (index_of q ks))
     ] refl
 
-standing_left : (gone : ℕ) (o : Option ℕ) (before : Option (Option ℕ)) → (o ≡ None → is_standing before ≡ false) → is_standing (renumbered gone o before) ≡ is_left gone o
+standing_left : (gone : ℕ) (o : Option ℕ) (before : Option (Option ℕ)) → (o ≡ None → is_standing before ≡ false) → is_standing (place_after gone o before) ≡ is_left gone o
 standing_left gone None before h = h refl
 standing_left gone (Some i) before h = elim (nat_lt i gone) as (λ b. is_some (if b then None else Some (i - gone)) ≡ not b) [ true ↦ refl | false ↦ refl ]
 
 stands_left : (gone q j : ℕ) (o : Option ℕ) (before : Option (Option ℕ)) (ks : List ℕ) → ((i d : ℕ) → o ≡ Some i → (i < length ks) × (get_or ks i d ≡ q)) → (o ≡ None → is_standing before ≡ false)
-    → renumbered gone o before ≡ Some (Some j) → (j < length (drop gone ks)) × ((d : ℕ) → get_or (drop gone ks) j d ≡ q)
+    → place_after gone o before ≡ Some (Some j) → (j < length (drop gone ks)) × ((d : ℕ) → get_or (drop gone ks) j d ≡ q)
 stands_left gone q j None before ks found never h = absurd (let n : is_standing before ≡ false = never refl in let y : is_standing before ≡ true = ap (λ o. is_standing o) h in cc)
 stands_left gone q j (Some i) before ks found never h =
     elim (nat_lt i gone) as (λ b. nat_lt i gone ≡ b → Some (if b then None else Some (i - gone)) ≡ Some (Some j) → (j < length (drop gone ks)) × ((d : ℕ) → get_or (drop gone ks) j d ≡ q)) [
@@ -718,7 +718,7 @@ keys_unposted b [] = refl
 keys_unposted b (p ∷ ps) = ap (λ l. p.key ∷ l) (keys_unposted b ps)
 
 pub unposted : (room gone : ℕ) (es fs : List (ℕ × Option ℕ)) (ps s : List ℕ) (cap : ℕ) → IsBoard es ps cap → IsPermutation ps s → IsSorted nat_cmp s
-    → ((q : ℕ) → standing_at q fs ≡ renumbered gone (index_of q s) (standing_at q es)) → keys_of fs ≡ keys_of es → gone ≡ min room (length s)
+    → ((q : ℕ) → standing_at q fs ≡ place_after gone (index_of q s) (standing_at q es)) → keys_of fs ≡ keys_of es → gone ≡ min room (length s)
     → (places_of fs ≡ after_unpost (bound room (places_of es)) (places_of es)) × IsBoard fs (drop gone s) cap
 unposted room gone es fs ps s cap b moves sorted standing keys is =
     let once = sorted_once es ps s cap b moves in

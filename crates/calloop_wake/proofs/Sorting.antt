@@ -1,7 +1,7 @@
 -- The order of the wheel is kept.
 use Rattle.std.proofs.Common.{◌≡◌, ◌≢◌, ℕ, ◌<◌, ◌≤◌, Bool, true, false, cond, if◌then◌else◌, List, [], ◌∷◌, filter, refl, sym, arith}
 use Rattle.std.proofs.lemmas.Bool.Decides.{nat_tests}
-use Rattle.calloop_wake.specs.Deadlines.{is_before, inserted, has_counter, is_due, after_first_due, IsAhead, IsSorted, AllBelow}
+use Rattle.calloop_wake.specs.Deadlines.{is_before, after_insert, has_counter, is_due, after_first_due, IsAhead, IsSorted, AllBelow}
 use Rattle.calloop_wake.specs.declared.wheel.Entry.{Entry}
 
 before-trans : (x y z : Entry) → is_before x y ≡ true → is_before y z ≡ true → is_before x z ≡ true
@@ -11,10 +11,10 @@ before-trans x y z h k = grind (arith, nat_tests)
 before-other : (x e : Entry) → is_before x e ≡ false → e.counter ≢ x.counter → is_before e x ≡ true
 before-other x e h ne = grind (arith, nat_tests)
 
-pub AllBelow-inserted : (n : ℕ) (e : Entry) (xs : List Entry) → e.counter < n → AllBelow n xs → AllBelow n (inserted e xs)
+pub AllBelow-inserted : (n : ℕ) (e : Entry) (xs : List Entry) → e.counter < n → AllBelow n xs → AllBelow n (after_insert e xs)
 AllBelow-inserted n e [] lt h = (lt, tt)
 AllBelow-inserted n e (x ∷ xs) lt h =
-    elim (is_before x e) as (λ b. AllBelow n (if b then x ∷ inserted e xs else e ∷ x ∷ xs)) [
+    elim (is_before x e) as (λ b. AllBelow n (if b then x ∷ after_insert e xs else e ∷ x ∷ xs)) [
       | true ↦ (h.0, AllBelow-inserted n e xs lt h.1)
       | false ↦ (lt, (h.0, h.1))
     ]
@@ -47,10 +47,10 @@ IsSorted-filter t (x ∷ xs) h =
       | false ↦ IsSorted-filter t xs h.1
     ]
 
-IsAhead-inserted : (y e : Entry) (xs : List Entry) → is_before y e ≡ true → y.counter ≢ e.counter → IsAhead y xs → IsAhead y (inserted e xs)
+IsAhead-inserted : (y e : Entry) (xs : List Entry) → is_before y e ≡ true → y.counter ≢ e.counter → IsAhead y xs → IsAhead y (after_insert e xs)
 IsAhead-inserted y e [] b ne h = (b, ne, tt)
 IsAhead-inserted y e (x ∷ xs) b ne h =
-    elim (is_before x e) as (λ c. IsAhead y (if c then x ∷ inserted e xs else e ∷ x ∷ xs)) [
+    elim (is_before x e) as (λ c. IsAhead y (if c then x ∷ after_insert e xs else e ∷ x ∷ xs)) [
       | true ↦ (h.0, h.1, IsAhead-inserted y e xs b ne h.2)
       | false ↦ (b, ne, (h.0, h.1, h.2))
     ]
@@ -68,12 +68,12 @@ sorted-at e x xs rest false is ne free ahead sorted more kept =
     let lt : is_before e x ≡ true = before-other x e is ne in
     ((lt, ne, IsAhead-over e x xs lt ahead free), (ahead, sorted))
 
-pub IsSorted-inserted : (e : Entry) (xs : List Entry) → has_counter e.counter xs ≡ false → IsSorted xs → IsSorted (inserted e xs)
+pub IsSorted-inserted : (e : Entry) (xs : List Entry) → has_counter e.counter xs ≡ false → IsSorted xs → IsSorted (after_insert e xs)
 IsSorted-inserted e [] free h = (tt, tt)
 IsSorted-inserted e (x ∷ xs) free h =
     let ne : e.counter ≢ x.counter = λ same. grind (arith, nat_tests) in
     let rest : has_counter e.counter xs ≡ false = grind (arith, nat_tests) in
-    sorted-at e x xs (inserted e xs) (is_before x e) refl ne rest h.0 h.1 (λ b. IsAhead-inserted x e xs b (λ same. ne (sym same)) h.0)
+    sorted-at e x xs (after_insert e xs) (is_before x e) refl ne rest h.0 h.1 (λ b. IsAhead-inserted x e xs b (λ same. ne (sym same)) h.0)
     (IsSorted-inserted e xs rest h.1)
 
 pub AllBelow-free : (n : ℕ) (xs : List Entry) → AllBelow n xs → has_counter n xs ≡ false

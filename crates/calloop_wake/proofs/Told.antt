@@ -13,8 +13,8 @@ use Rattle.calloop_wake.specs.declared.list.Content.{Content}
 use Rattle.calloop_wake.specs.declared.list.Content.TheVariants.{Vacant, InTurn}
 use Rattle.calloop_wake.specs.declared.list.Slot.{Slot}
 use Rattle.calloop_wake.specs.declared.token.RegistrationToken.{RegistrationToken}
-use Rattle.calloop_wake.specs.Slots.{changed, with_content, named, is_empty, is_vacant, first_vacant, claimed, taken_up}
-use Rattle.calloop_wake.specs.Vacancies.{word_at, is_set, said, place, AreLevels, HasBits, IsFirst, with_slot, extended, grown, is_vacant_in, no_words, TellVacant}
+use Rattle.calloop_wake.specs.Slots.{with_change, with_content, content_at, is_empty, is_vacant, first_vacant, after_claim, taken_up}
+use Rattle.calloop_wake.specs.Vacancies.{word_at, is_set, bit_above, place, AreLevels, HasBits, IsFirst, with_slot, with_place, grown, is_vacant_in, no_words, TellVacant}
 use Rattle.calloop_wake.proofs.Indexed.{length-changed}
 use Rattle.calloop_wake.proofs.Named.{named_slot, named_within}
 use Rattle.calloop_wake.proofs.Vacancy.{claimed_within}
@@ -45,11 +45,11 @@ vacant-at [] i s h = cc
 vacant-at (r ∷ ss) zero s h = let same : r ≡ s = cc in ap (λ x. is_vacant x) same
 vacant-at (r ∷ ss) (suc i) s h = vacant-at ss i s h
 
-named-filled : {S : Type 0} (ss : List (Slot S)) (t : RegistrationToken) → is_empty (named ss t) ≡ false → is_vacant_in ss t.slot ≡ false
+named-filled : {S : Type 0} (ss : List (Slot S)) (t : RegistrationToken) → is_empty (content_at ss t) ≡ false → is_vacant_in ss t.slot ≡ false
 named-filled ss t h = let n = named_slot ss t h in vacant-at ss t.slot n.0 n.1 ∙ ap (λ c. is_empty c) (sym n.3) ∙ h
 
 vacant-changed : {S : Type 0} (f : Slot S → Slot S) (v : Bool) (ss : List (Slot S)) (i : ℕ) → ((s : Slot S) → is_vacant (f s) ≡ v) → i < length ss
-    → (j : ℕ) → is_vacant_in (changed f ss i) j ≡ with_slot i v (is_vacant_in ss) j
+    → (j : ℕ) → is_vacant_in (with_change f ss i) j ≡ with_slot i v (is_vacant_in ss) j
 vacant-changed f v [] i h lt j = absurd (omega arith)
 vacant-changed f v (s ∷ ss) zero h lt zero = h s
 vacant-changed f v (s ∷ ss) zero h lt (suc j) =
@@ -75,7 +75,7 @@ without-filled f k h i =
 
 -- What the levels say.
 
-said-same : (f g : ℕ → Bool) (ls : List (List ℕ)) → ((i : ℕ) → f i ≡ g i) → (i : ℕ) → said f ls i ≡ said g ls i
+said-same : (f g : ℕ → Bool) (ls : List (List ℕ)) → ((i : ℕ) → f i ≡ g i) → (i : ℕ) → bit_above f ls i ≡ bit_above g ls i
 said-same f g [] h i = h i
 said-same f g (ws ∷ below) h i = refl
 
@@ -93,13 +93,13 @@ word-appended ws i false e =
     let le : length ws ≤ i = grind (arith, nat_tests) in
     get_or-append_right ws (0 ∷ []) i 0 le ∙ last-zero (i - length ws) ∙ sym (get_or_past ws i 0 le)
 
-word-extended : (p : ℕ) (ws : List ℕ) (i : ℕ) → word_at (extended p ws) i ≡ word_at ws i
+word-extended : (p : ℕ) (ws : List ℕ) (i : ℕ) → word_at (with_place p ws) i ≡ word_at ws i
 word-extended p ws i = elim (nat_lt p (length ws)) as (λ b. word_at (if b then ws else ws ++ 0 ∷ []) i ≡ word_at ws i) [ true ↦ refl | false ↦ word-appended ws i (nat_lt i (length ws)) refl ]
 
-is_set-extended : (p : ℕ) (ws : List ℕ) (i : ℕ) → is_set (extended p ws) i ≡ is_set ws i
+is_set-extended : (p : ℕ) (ws : List ℕ) (i : ℕ) → is_set (with_place p ws) i ≡ is_set ws i
 is_set-extended p ws i = ap (λ x. nat_eq (bit_at x (i % 64)) 1) (word-extended p ws (i / 64))
 
-said-grown : (f : ℕ → Bool) (n : ℕ) (ls : List (List ℕ)) (i : ℕ) → said f (grown n ls) i ≡ said f ls i
+said-grown : (f : ℕ → Bool) (n : ℕ) (ls : List (List ℕ)) (i : ℕ) → bit_above f (grown n ls) i ≡ bit_above f ls i
 said-grown f n [] i = refl
 said-grown f n (ws ∷ below) i = ap (λ x. not (nat_eq x 0)) (word-extended (place (ws ∷ below) n) ws i)
 
@@ -115,10 +115,10 @@ length-grown n (ws ∷ below) = ap suc (length-grown n below)
 place-grown : (n i : ℕ) (ls : List (List ℕ)) → place (grown n ls) i ≡ place ls i
 place-grown n i ls = ap (λ k. i / 2 ^ (6 * k)) (length-grown n ls)
 
-extended-long : (p : ℕ) (ws : List ℕ) → length ws ≤ length (extended p ws)
+extended-long : (p : ℕ) (ws : List ℕ) → length ws ≤ length (with_place p ws)
 extended-long p ws = elim (nat_lt p (length ws)) as (λ b. length ws ≤ length (if b then ws else ws ++ 0 ∷ [])) [ true ↦ omega arith | false ↦ omega (arith, length-append ws (0 ∷ [])) ]
 
-extended-enough : (p : ℕ) (ws : List ℕ) → p ≤ length ws → p < length (extended p ws)
+extended-enough : (p : ℕ) (ws : List ℕ) → p ≤ length ws → p < length (with_place p ws)
 extended-enough p ws h =
     elim (nat_lt p (length ws)) as (λ b. nat_lt p (length ws) ≡ b → p < length (if b then ws else ws ++ 0 ∷ [])) [
       | true ↦ λ e. grind (arith, nat_tests)
@@ -158,7 +158,7 @@ added-bits ss ls T i false e le =
 
 -- What each call of the list does.
 
-none-said : (S : Type 0) (n i : ℕ) → said (is_vacant_in {S = S} []) (no_words n) i ≡ false
+none-said : (S : Type 0) (n i : ℕ) → bit_above (is_vacant_in {S = S} []) (no_words n) i ≡ false
 none-said S zero i = refl
 none-said S (suc n) i = refl
 
@@ -174,7 +174,7 @@ told-by ss ss' ls ls' T long bits told =
     let few : length ss ≤ most_slots = T.few in
     record { few = omega arith; bits = λ i lt. bits i (T.bits i (omega arith)); told = told }
 
-pub claimed-long : {S : Type 0} (ss : List (Slot S)) (i : ℕ) → IsFirst (is_vacant_in ss) i → length (claimed ss) ≡ length ss
+pub claimed-long : {S : Type 0} (ss : List (Slot S)) (i : ℕ) → IsFirst (is_vacant_in ss) i → length (after_claim ss) ≡ length ss
 claimed-long ss i first =
     let at : i ≡ first_vacant ss = first-is ss i first in
     let within : i < length ss = first-within ss i first in
@@ -182,13 +182,13 @@ claimed-long ss i first =
 
 -- the first vacant slot is taken up
 pub told-taken_up : {S : Type 0} (ss : List (Slot S)) (ls ls' : List (List ℕ)) (i : ℕ) → TellVacant ss ls → IsFirst (is_vacant_in ss) i → ((j : ℕ) → HasBits ls j → HasBits ls' j)
-    → AreLevels (with_slot i false (is_vacant_in ss)) ls' → TellVacant (claimed ss) ls'
+    → AreLevels (with_slot i false (is_vacant_in ss)) ls' → TellVacant (after_claim ss) ls'
 told-taken_up ss ls ls' i T first bits are =
     let at : i ≡ first_vacant ss = first-is ss i first in
     let within : i < length ss = first-within ss i first in
-    let is : claimed ss ≡ changed taken_up ss i = claimed_within ss (omega arith) ∙ ap (λ k. changed taken_up ss k) (sym at) in
-    told-by ss (claimed ss) ls ls' T (ap (λ l. length l) is ∙ length-changed taken_up ss i) bits
-    (levels-same (with_slot i false (is_vacant_in ss)) (is_vacant_in (claimed ss)) ls' (λ j. sym (ap (λ l. is_vacant_in l j) is ∙ vacant-changed taken_up false ss i (λ s. refl) within j)) are)
+    let is : after_claim ss ≡ with_change taken_up ss i = claimed_within ss (omega arith) ∙ ap (λ k. with_change taken_up ss k) (sym at) in
+    told-by ss (after_claim ss) ls ls' T (ap (λ l. length l) is ∙ length-changed taken_up ss i) bits
+    (levels-same (with_slot i false (is_vacant_in ss)) (is_vacant_in (after_claim ss)) ls' (λ j. sym (ap (λ l. is_vacant_in l j) is ∙ vacant-changed taken_up false ss i (λ s. refl) within j)) are)
 
 -- a slot is added
 pub told-added : {S : Type 0} (ss : List (Slot S)) (ls : List (List ℕ)) → TellVacant ss ls → length ss < most_slots → TellVacant (ss ++ record { version = 0; content = InTurn } ∷ []) (grown (length ss) ls)
@@ -202,18 +202,18 @@ told-added {S} ss ls T h =
     }
 
 -- a slot that isn't vacant changes, and isn't vacant then
-pub told-kept : {S : Type 0} (ss : List (Slot S)) (ls : List (List ℕ)) (c : Content S) (t : RegistrationToken) → TellVacant ss ls → is_empty (named ss t) ≡ false → is_empty c ≡ false
-    → TellVacant (changed (with_content c) ss t.slot) ls
+pub told-kept : {S : Type 0} (ss : List (Slot S)) (ls : List (List ℕ)) (c : Content S) (t : RegistrationToken) → TellVacant ss ls → is_empty (content_at ss t) ≡ false → is_empty c ≡ false
+    → TellVacant (with_change (with_content c) ss t.slot) ls
 told-kept ss ls c t T filled h =
     let within : t.slot < length ss = named_within ss t filled in
-    told-by ss (changed (with_content c) ss t.slot) ls ls T (length-changed (with_content c) ss t.slot) (λ i b. b)
-    (levels-same (is_vacant_in ss) (is_vacant_in (changed (with_content c) ss t.slot)) ls
+    told-by ss (with_change (with_content c) ss t.slot) ls ls T (length-changed (with_content c) ss t.slot) (λ i b. b)
+    (levels-same (is_vacant_in ss) (is_vacant_in (with_change (with_content c) ss t.slot)) ls
     (λ j. without-filled (is_vacant_in ss) t.slot (named-filled ss t filled) j ∙ sym (vacant-changed (with_content c) false ss t.slot (λ s. h) within j)) T.told)
 
 -- a slot becomes vacant
-pub told-vacated : {S : Type 0} (ss : List (Slot S)) (ls ls' : List (List ℕ)) (t : RegistrationToken) → TellVacant ss ls → is_empty (named ss t) ≡ false → ((i : ℕ) → HasBits ls i → HasBits ls' i)
-    → AreLevels (with_slot t.slot true (is_vacant_in ss)) ls' → TellVacant (changed (with_content Vacant) ss t.slot) ls'
+pub told-vacated : {S : Type 0} (ss : List (Slot S)) (ls ls' : List (List ℕ)) (t : RegistrationToken) → TellVacant ss ls → is_empty (content_at ss t) ≡ false → ((i : ℕ) → HasBits ls i → HasBits ls' i)
+    → AreLevels (with_slot t.slot true (is_vacant_in ss)) ls' → TellVacant (with_change (with_content Vacant) ss t.slot) ls'
 told-vacated ss ls ls' t T filled bits are =
     let within : t.slot < length ss = named_within ss t filled in
-    told-by ss (changed (with_content Vacant) ss t.slot) ls ls' T (length-changed (with_content Vacant) ss t.slot) bits
-    (levels-same (with_slot t.slot true (is_vacant_in ss)) (is_vacant_in (changed (with_content Vacant) ss t.slot)) ls' (λ j. sym (vacant-changed (with_content Vacant) true ss t.slot (λ s. refl) within j)) are)
+    told-by ss (with_change (with_content Vacant) ss t.slot) ls ls' T (length-changed (with_content Vacant) ss t.slot) bits
+    (levels-same (with_slot t.slot true (is_vacant_in ss)) (is_vacant_in (with_change (with_content Vacant) ss t.slot)) ls' (λ j. sym (vacant-changed (with_content Vacant) true ss t.slot (λ s. refl) within j)) are)

@@ -8,13 +8,13 @@ use Rattle.calloop_wake.specs.Channels.{after_pop_of, has_room, is_below}
 use Rattle.calloop_wake.specs.ChannelKind as channel
 use Rattle.calloop_wake.specs.ChannelKind.{ChannelPast, ChannelStep, channel_kind, channel_needs, channel_after}
 use Rattle.calloop_wake.specs.Executors.{ExecutorCell, settled_at, taken_of, after_take, after_pop, after_wake, key_in, polling}
-use Rattle.calloop_wake.specs.Tasks.{is_woken, is_idle, phase_if, stepped, settled_phase, woken_phase, slot_if}
+use Rattle.calloop_wake.specs.Tasks.{is_woken, is_idle, phase_if, after_step, settled_phase, woken_phase, slot_if}
 use Rattle.calloop_wake.specs.ExecutorKind as executor
 use Rattle.calloop_wake.specs.ExecutorKind.{ExecutorPast, ExecutorStep, executor_kind, executor_needs, past_after}
 use Rattle.calloop_wake.specs.PingKind.{ping_kind}
 use Rattle.calloop_wake.specs.Kinds.{First, Second, either_kind, either_needs, either_after, every_kind}
 use Rattle.calloop_wake.specs.Wakes.{WakeWorld, WakeStep, At, Needs, after, IsSchedule}
-use Rattle.calloop_wake.specs.ExampleSchedules.{repeated}
+use Rattle.calloop_wake.specs.ExampleSchedules.{repeat}
 
 -- A step of the channel, or of the executor, that is cell 0.
 
@@ -61,7 +61,7 @@ room_behind n p h = (
 )
 
 pub rounds_of_pops : (n : ℕ) (w : WakeWorld every_kind.Cell) (p : ChannelPast) → w.cells 0 ≡ Second (First p) → HasFive n p
-    → IsSchedule every_kind w (repeated n (At 0 (Second (First channel.Pop)) ∷ At 0 (Second (First (channel.Put 5))) ∷ []) (At 0 (Second (First channel.EndTurn)) ∷ []))
+    → IsSchedule every_kind w (repeat n (At 0 (Second (First channel.Pop)) ∷ At 0 (Second (First (channel.Put 5))) ∷ []) (At 0 (Second (First channel.EndTurn)) ∷ []))
 rounds_of_pops zero w p is h = (channel_met w p channel.EndTurn is (h.draining, inl h.left_are), tt)
 rounds_of_pops (suc n) w p is h =
     let popped : ChannelPast = channel_after channel.Pop p in
@@ -96,7 +96,7 @@ popped_again m c h =
     let same : after_pop false c ≡ taken_of settled.queue settled = ap (λ o. after_take (settled_at o false c)) h.polled in
     let queued : settled.queue ≡ 3 ∷ [] =
     ap (λ q. q ++ slot_if (is_woken (phase_if 0 (c.tasks 3))) 3) h.queue ∙ ap (λ (t : Option Task). slot_if (is_woken (phase_if 0 t)) 3) h.task in
-    let there : settled.tasks 3 ≡ Some (record { number = 0; phase = Queued; home = 0 }) = ap (λ (t : Option Task). stepped settled_phase 0 t) h.task in
+    let there : settled.tasks 3 ≡ Some (record { number = 0; phase = Queued; home = 0 }) = ap (λ (t : Option Task). after_step settled_phase 0 t) h.task in
     let taken : ExecutorCell = taken_of (3 ∷ []) settled in
     let is : after_pop false c ≡ taken = same ∙ ap (λ q. taken_of q settled) queued in
     let running : taken.tasks 3 ≡ Some (record { number = 0; phase = Polling; home = 0 }) = ap polling there in
@@ -107,12 +107,12 @@ popped_again m c h =
       pops_are = ap (λ n. n + 1) h.pops_are;
       queue = ap (λ (t : Option Task). slot_if (is_idle (phase_if 0 t)) 3) running;
       polled = ap (λ (t : Option Task). key_in 3 t) there;
-      task = ap (λ (t : Option Task). stepped woken_phase 0 t) running;
+      task = ap (λ (t : Option Task). after_step woken_phase 0 t) running;
     })
 
 pub rounds_of_polls : (n m : ℕ) (w : WakeWorld every_kind.Cell) (p : ExecutorPast) → n + m ≡ 1024 → w.cells 0 ≡ Second (Second p) → IsPolled m p.now
     → IsSchedule every_kind w
-    (repeated n (At 0 (Second (Second (executor.Pop false))) ∷ At 0 (Second (Second (executor.Wake (record { slot = 3; number = 0 })))) ∷ []) (At 0 (Second (Second (executor.EndTurn true))) ∷ []))
+    (repeat n (At 0 (Second (Second (executor.Pop false))) ∷ At 0 (Second (Second (executor.Wake (record { slot = 3; number = 0 })))) ∷ []) (At 0 (Second (Second (executor.EndTurn true))) ∷ []))
 rounds_of_polls zero m w p all is h =
     let done : p.now.progress.pops ≡ 1024 = (let e = h.pops_are in omega arith) in
     (executor_met w p (executor.EndTurn true) is (h.draining, inr done, λ _. subst (λ (o : Option TaskKey). IsSome o) (sym h.polled) refl), tt)

@@ -2,7 +2,7 @@
 -- those of every cell, of which `rung` is a ping's alone.
 use Rattle.std.specs.Prelude.{ℕ, Bool, true, false, ◌||◌, if◌then◌else◌, Option, None}
 use Rattle.logbook.specs.Pages.{Book}
-use Rattle.calloop_wake.specs.Cells.{Cell, owed}
+use Rattle.calloop_wake.specs.Cells.{Cell, debt_of}
 
 -- a bell, with the name of its cell and the name of the board of its key
 pub record BellView : Type 0 where
@@ -20,16 +20,16 @@ abbrev pub after_ping : Cell → Cell
 after_ping c = record c { pinged = true }
 
 -- a turn stands open; calloop's PingSource reads the descriptor empty
-abbrev pub drained : Cell → Cell
-drained c = record c { pinged = false; draining = true }
+abbrev pub after_drain : Cell → Cell
+after_drain c = record c { pinged = false; draining = true }
 
 -- the turn is over, and pings where it stopped early; calloop's Channel rings its own Ping
-abbrev pub ended : (early : Bool) → Cell → Cell
-ended early c = record c { draining = false; pinged = early || c.pinged }
+abbrev pub after_end : (early : Bool) → Cell → Cell
+after_end early c = record c { draining = false; pinged = early || c.pinged }
 
 -- the debt that the end of a turn gives
 abbrev pub owed_if : (early : Bool) → Cell → Option ℕ
-owed_if early c = if early then owed c else None
+owed_if early c = if early then debt_of c else None
 
 -- a close is told
 abbrev pub telling : Cell → Cell

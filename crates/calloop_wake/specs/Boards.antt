@@ -70,12 +70,12 @@ abbrev pub is_taken : (below : ℕ) → Place → Bool
 is_taken below p = p.marked && nat_lt p.key below
 
 -- the place, with no mark where its key is taken
-abbrev pub unmarked : (below : ℕ) → Place → Place
-unmarked below p = record { key = p.key; marked = p.marked && not (nat_lt p.key below) }
+abbrev pub without_mark : (below : ℕ) → Place → Place
+without_mark below p = record { key = p.key; marked = p.marked && not (nat_lt p.key below) }
 
 -- no place below this bound is marked; calloop's poller takes the events likewise
 abbrev pub after_unpost : (below : ℕ) → List Place → List Place
-after_unpost below ps = map (unmarked below) ps
+after_unpost below ps = map (without_mark below) ps
 
 -- the marked keys below this bound, ascending; the kernel gives its events in no promised order
 abbrev pub taken_keys : (below : ℕ) → List Place → List ℕ
@@ -93,8 +93,8 @@ abbrev pub keys_within : (room : ℕ) → List Place → List ℕ
 keys_within room ps = taken_keys (bound room ps) ps
 
 -- the pass of a key that was taken just now from the board of this name
-abbrev pub taken : Book → ℕ → Taken
-taken board k = record { key = k; board = board; refused = None }
+abbrev pub fresh_pass : Book → ℕ → Taken
+fresh_pass board k = record { key = k; board = board; refused = None }
 
 -- each key is above this one, and below the poller's own, which no token has
 abbrev pub AllAbove : ℕ → List Place → Type 0

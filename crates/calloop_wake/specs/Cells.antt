@@ -78,8 +78,8 @@ abbrev pub IsTold : Cell → Type 0
 IsTold c = c.told ≡ true → c.closed ≡ true
 
 -- the debt that pinging the cell gives: of its key, where it was not pinged
-abbrev pub owed : Cell → Option ℕ
-owed c = if c.pinged then None else c.key
+abbrev pub debt_of : Cell → Option ℕ
+debt_of c = if c.pinged then None else c.key
 
 -- calloop's Ping::ping writes to the descriptor
 abbrev pub after_ring : Cell → Cell
@@ -103,7 +103,7 @@ after_drop_sender c = if has_others c then record c { senders = c.senders - 1 } 
 
 -- the debt that a sender's drop gives
 abbrev pub owed_by_drop : Cell → Option ℕ
-owed_by_drop c = if has_others c then None else owed c
+owed_by_drop c = if has_others c then None else debt_of c
 
 -- calloop registers the descriptor under the key
 abbrev pub after_set_key : ℕ → Cell → Cell

@@ -3,8 +3,8 @@
 -- open has come, what was put and handed out, and each telling of the close.
 use Rattle.std.specs.Prelude.{◌≡◌, ℕ, ◌-◌, ◌<◌, ◌≤◌, ◌⊎◌, not, Bool, true, false, Option, List, [], ◌∷◌, ◌++◌, length}
 use Rattle.calloop_wake.specs.Cells.{Cell, after_close, after_set_key, after_clear_key, opens}
-use Rattle.calloop_wake.specs.Bells.{after_ping, drained}
-use Rattle.calloop_wake.specs.Channels.{ChannelCell, fresh_channel, with_bell, has_room, pops, after_put, popped, after_pop, after_take, is_item, is_close, after_end_turn, IsStandingChannel, IsSoundChannel}
+use Rattle.calloop_wake.specs.Bells.{after_ping, after_drain}
+use Rattle.calloop_wake.specs.Channels.{ChannelCell, fresh_channel, with_bell, has_room, pops, after_put, pop_answer, after_pop, after_take, is_item, is_close, after_end_turn, IsStandingChannel, IsSoundChannel}
 use Rattle.calloop_wake.specs.Wakes.{Kind}
 use Rattle.calloop_wake.specs.declared.wake.channel.LastPop.TheVariants.{NoPop}
 use Rattle.calloop_wake.specs.declared.wake.channel.Popped.{Popped}
@@ -80,13 +80,13 @@ channel_after Close p = past_with_bell (after_close p.now.cell) p
 channel_after Pop p =
     record {
       now = after_pop p.now;
-      turn = behind_pop (popped p.now) p.turn;
+      turn = behind_pop (pop_answer p.now) p.turn;
       taken = p.taken;
-      given = p.given ++ item_of (popped p.now);
-      tellings = p.tellings ++ told_by (is_close (popped p.now)) p.now;
+      given = p.given ++ item_of (pop_answer p.now);
+      tellings = p.tellings ++ told_by (is_close (pop_answer p.now)) p.now;
     }
 -- it tells no close
-channel_after Take p = record p { now = after_take p.now; given = p.given ++ item_of (popped p.now) }
+channel_after Take p = record p { now = after_take p.now; given = p.given ++ item_of (pop_answer p.now) }
 channel_after EndTurn p = past_with (after_end_turn p.now) p
 channel_after (Put x) p = record p { now = after_put x p.now; taken = p.taken ++ x ∷ [] }
 
@@ -127,7 +127,7 @@ channel_kind =
       opens = λ k p. opens k p.now.cell;
       opened = λ p.
           record p {
-            now = record { cell = drained p.now.cell; queue = p.now.queue; bound = p.now.bound; last = NoPop };
+            now = record { cell = after_drain p.now.cell; queue = p.now.queue; bound = p.now.bound; last = NoPop };
             turn = at_start p.now.bound;
           };
       draining = λ p. p.now.cell.draining;

@@ -32,7 +32,7 @@ use Rattle.std.specs.Prelude.{
 use Rattle.logbook.specs.Pages.{Book}
 use Rattle.calloop_wake.specs.Passes.{Taken, Keyed}
 use Rattle.calloop_wake.specs.Cells.{Cell, fresh, one, opens, after_set_key}
-use Rattle.calloop_wake.specs.Bells.{BellView, after_ping, drained, ended, telling}
+use Rattle.calloop_wake.specs.Bells.{BellView, after_ping, after_drain, after_end, telling}
 use Rattle.calloop_wake.specs.declared.wake.Receipt.{Receipt}
 use Rattle.calloop_wake.specs.declared.wake.Twin.{Twin}
 use Rattle.calloop_wake.specs.declared.wake.ChannelTurn.{ChannelTurn}
@@ -77,7 +77,7 @@ handed_back (Gone x) = x
 handed_back (Full x) = x
 handed_back (OutOfMemory x) = x
 
--- only a channel with a bound is full, and memory is wanting only in one without
+-- only a channel with a bound is full, and memory can run out only in one without
 abbrev pub FitsBound : {T : Type 0} → Option ℕ → PutError T → Type 0
 FitsBound bound (Gone x) = Unit {0}
 FitsBound bound (Full x) = IsSome bound
@@ -91,7 +91,7 @@ pops (Some bound) = min (bound + 1) 1024
 -- a pass of this key opens a turn
 abbrev pub after_open_turn : {T : Type 0} → ℕ → ChannelCell T → ChannelCell T
 after_open_turn k c =
-    if opens k c.cell then record { cell = drained c.cell; queue = c.queue; bound = c.bound; last = NoPop } else c
+    if opens k c.cell then record { cell = after_drain c.cell; queue = c.queue; bound = c.bound; last = NoPop } else c
 
 -- the close is told by a pop that finds nothing
 abbrev pub tells : Cell → Bool
@@ -102,8 +102,8 @@ popped_of (x ∷ xs) tells = Item x
 popped_of [] tells = if tells then Closed else Empty
 
 -- what a pop gives
-abbrev pub popped : {T : Type 0} → ChannelCell T → Popped T
-popped c = popped_of c.queue (tells c.cell)
+abbrev pub pop_answer : {T : Type 0} → ChannelCell T → Popped T
+pop_answer c = popped_of c.queue (tells c.cell)
 
 abbrev pub after_pop_of : {T : Type 0} → List T → ChannelCell T → ChannelCell T
 after_pop_of (x ∷ xs) c = record { cell = c.cell; queue = xs; bound = c.bound; last = AnItem }
@@ -141,7 +141,7 @@ is_early AnItem = true
 is_early NoItem = false
 
 abbrev pub after_end_turn : {T : Type 0} → ChannelCell T → ChannelCell T
-after_end_turn c = record { cell = ended (is_early c.last) c.cell; queue = c.queue; bound = c.bound; last = c.last }
+after_end_turn c = record { cell = after_end (is_early c.last) c.cell; queue = c.queue; bound = c.bound; last = c.last }
 
 -- there is nothing to be handed out or told, or it is pinged
 pub record IsPingedIfDue {T : Type 0} (c : ChannelCell T) : Type 0 where
@@ -233,7 +233,7 @@ view_after_pop c =
       name = c.name;
       board = c.board;
       puts = c.puts;
-      given = c.given + one (is_item (popped c.state));
+      given = c.given + one (is_item (pop_answer c.state));
     }
 
 abbrev pub is_there : {T : Type 0} → List T → Bool

@@ -74,8 +74,8 @@ behind_front passes [] = []
 behind_front passes (x ∷ xs) = if passes x then behind_front passes xs else x ∷ xs
 
 -- with one more, in its place
-abbrev pub inserted : Entry → List Entry → List Entry
-inserted e entries = put_behind (λ x. is_before x e) e entries
+abbrev pub after_insert : Entry → List Entry → List Entry
+after_insert e entries = put_behind (λ x. is_before x e) e entries
 
 abbrev pub entry_of : (counter : ℕ) → (deadline : Instant) → Token → Entry
 entry_of counter deadline token = record { deadline = deadline; counter = counter; token = token }
@@ -85,11 +85,11 @@ with_entries entries d = record { entries = entries; next = d.next }
 
 -- with one more, under a new counter, as calloop's insert
 abbrev pub with_new : (deadline : Instant) → Token → Deadlines → Deadlines
-with_new deadline token d = record { entries = inserted (entry_of d.next deadline token) d.entries; next = d.next + 1 }
+with_new deadline token d = record { entries = after_insert (entry_of d.next deadline token) d.entries; next = d.next + 1 }
 
 -- with one more, under a counter that was given before, as calloop's insert_reuse
 abbrev pub with_again : (counter : ℕ) → (deadline : Instant) → Token → Deadlines → Deadlines
-with_again counter deadline token d = with_entries (inserted (entry_of counter deadline token) d.entries) d
+with_again counter deadline token d = with_entries (after_insert (entry_of counter deadline token) d.entries) d
 
 abbrev pub is_other : (counter : ℕ) → Entry → Bool
 is_other counter e = not (nat_eq e.counter counter)
@@ -98,8 +98,8 @@ abbrev pub without_counter : (counter : ℕ) → List Entry → List Entry
 without_counter counter entries = filter (is_other counter) entries
 
 -- without the entries of this counter; where the first entry is one, calloop's cancel takes out that alone
-abbrev pub cancelled : (counter : ℕ) → Deadlines → Deadlines
-cancelled counter d = with_entries (without_counter counter d.entries) d
+abbrev pub after_cancel : (counter : ℕ) → Deadlines → Deadlines
+after_cancel counter d = with_entries (without_counter counter d.entries) d
 
 abbrev pub is_of : (counter : ℕ) → Entry → Bool
 is_of counter e = nat_eq e.counter counter

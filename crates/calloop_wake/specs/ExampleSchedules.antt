@@ -400,9 +400,9 @@ second_task_in_a_slot =
     ∷ []
 
 -- these steps so many times over, and then those
-abbrev pub repeated : ℕ → Schedule → Schedule → Schedule
-repeated zero round rest = rest
-repeated (suc n) round rest = round ++ repeated n round rest
+abbrev pub repeat : ℕ → Schedule → Schedule → Schedule
+repeat zero round rest = rest
+repeat (suc n) round rest = round ++ repeat n round rest
 
 -- a turn of a channel is opened; a turn of an executor is, and its first task was polled, and woken in its poll
 abbrev pub opens_channel : Schedule
@@ -413,12 +413,12 @@ opens_executor = OpenPlace 7 ∷ SetKey 0 7 ∷ schedules ∷ Post 7 ∷ Unpost 
 
 -- behind each message that a turn hands out another one is sent: so it ends after its 1,024th pop
 abbrev pub turn_of_1024_pops : Schedule
-turn_of_1024_pops = opens_channel ++ repeated 1024 (pops ∷ puts 5 ∷ []) (ends_pops ∷ [])
+turn_of_1024_pops = opens_channel ++ repeat 1024 (pops ∷ puts 5 ∷ []) (ends_pops ∷ [])
 
 -- the same of tasks: one is woken in each of its polls, and gives its result in the last
 abbrev pub turn_of_1024_polls : Schedule
 turn_of_1024_polls =
-    opens_executor ++ repeated 1023 (pops_task ∷ wakes ∷ []) (At 0 (Second (Second (executor.EndTurn true))) ∷ [])
+    opens_executor ++ repeat 1023 (pops_task ∷ wakes ∷ []) (At 0 (Second (Second (executor.EndTurn true))) ∷ [])
 
 -- every cell is a channel's that holds one message
 abbrev pub of_bounded_channels : WakeWorld every_kind.Cell

@@ -8,7 +8,7 @@ use Rattle.calloop_wake.specs.declared.wake.tasks.Task.{Task}
 use Rattle.calloop_wake.specs.declared.wake.tasks.TaskKey.{TaskKey}
 use Rattle.calloop_wake.specs.declared.wake.executor.Progress.{Progress}
 use Rattle.calloop_wake.specs.Cells.{is_own}
-use Rattle.calloop_wake.specs.Tasks.{TaskTable, no_tasks, task_at, count, phase_at, stepped, is_idle, is_woken, in_poll, woken_phase, settled_phase, slot_if}
+use Rattle.calloop_wake.specs.Tasks.{TaskTable, no_tasks, task_at, count, phase_at, after_step, is_idle, is_woken, in_poll, woken_phase, settled_phase, slot_if}
 
 -- a turn that popped nothing yet
 abbrev pub at_start : Progress
@@ -72,7 +72,7 @@ after_put slot home c =
 abbrev pub after_wake : TaskKey → ExecutorCell → ExecutorCell
 after_wake key c =
     record c {
-      tasks = with_slot key.slot (stepped woken_phase key.number (c.tasks key.slot)) c.tasks;
+      tasks = with_slot key.slot (after_step woken_phase key.number (c.tasks key.slot)) c.tasks;
       queue = c.queue ++ slot_if (is_idle (phase_at key c.tasks)) key.slot;
       pinged = is_idle (phase_at key c.tasks) || c.pinged;
     }
@@ -93,7 +93,7 @@ settled_at (Some key) true c =
     }
 settled_at (Some key) false c =
     record c {
-      tasks = with_slot key.slot (stepped settled_phase key.number (c.tasks key.slot)) c.tasks;
+      tasks = with_slot key.slot (after_step settled_phase key.number (c.tasks key.slot)) c.tasks;
       queue = c.queue ++ slot_if (is_woken (phase_at key c.tasks)) key.slot;
       progress = record c.progress { polled = None };
     }
@@ -131,12 +131,12 @@ abbrev pub after_pop : (finished : Bool) → ExecutorCell → ExecutorCell
 after_pop finished c = after_take (after_settle finished c)
 
 -- the turn is over, and pings where its last pop gave a task; calloop's process_events rings its own Ping after 1,024
-abbrev pub ended : ExecutorCell → ExecutorCell
-ended c = record c { draining = false; pinged = c.pinged || not c.progress.dry; progress = at_start }
+abbrev pub after_end : ExecutorCell → ExecutorCell
+after_end c = record c { draining = false; pinged = c.pinged || not c.progress.dry; progress = at_start }
 
 -- the end of a turn, which first settles the task that was popped last
 abbrev pub after_end_turn : (finished : Bool) → ExecutorCell → ExecutorCell
-after_end_turn finished c = ended (after_settle finished c)
+after_end_turn finished c = after_end (after_settle finished c)
 
 -- a pass of this key opens a turn; calloop's PingSource compares the token of the event with its own
 abbrev pub opens : ℕ → ExecutorCell → Bool
@@ -218,8 +218,8 @@ pub record IsStandingExecutor (c : ExecutorCell) : Type 0 where
   pub sorted : AreSorted c
 
 -- the debt of a step that leads from this cell to that: of the key, where the step pings anew
-abbrev pub owed : (before after : ExecutorCell) → Option ℕ
-owed c d = if c.pinged then None else if d.pinged then d.key else None
+abbrev pub debt_between : (before after : ExecutorCell) → Option ℕ
+debt_between c d = if c.pinged then None else if d.pinged then d.key else None
 
 -- the debt that setting the key gives
 abbrev pub owed_at : ℕ → ExecutorCell → Option ℕ

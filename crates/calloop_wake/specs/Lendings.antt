@@ -8,7 +8,7 @@ use Rattle.calloop_wake.specs.declared.list.Content.TheVariants.{Source}
 use Rattle.calloop_wake.specs.declared.list.Slot.{Slot}
 use Rattle.calloop_wake.specs.contracts.list.Content as content
 use Rattle.calloop_wake.specs.contracts.list.SourceList as list
-use Rattle.calloop_wake.specs.Slots.{changed, with_content}
+use Rattle.calloop_wake.specs.Slots.{with_change, with_content}
 
 module _ (S : RattleType) where
   -- once the borrow r ends, the content is the last source written through r, and after a refusal it is as it was
@@ -17,4 +17,4 @@ module _ (S : RattleType) where
 
   -- the same of the slot that the token names; calloop lends the whole entry
   abbrev pub LendsNamed : MutBor (List (Slot S.Denot)) → RegistrationToken → Result (MutBor S.Denot) Error → Fml
-  LendsNamed l t r = LendsIfOk (list.the_row S) S l r (λ w. changed (with_content (Source w)) l.now t.slot) l.now
+  LendsNamed l t r = LendsIfOk (list.the_row S) S l r (λ w. with_change (with_content (Source w)) l.now t.slot) l.now

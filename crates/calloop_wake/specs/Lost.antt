@@ -1,4 +1,4 @@
--- Small states in which something is lost, which `covered` rules out.
+-- Small states in which something is lost, which `nothing_is_lost` rules out.
 use Rattle.std.specs.Prelude.{ℕ, List, [], ◌∷◌, Bool, true, false, if◌then◌else◌, Option, Some, None}
 use Rattle.calloop_wake.specs.Cells.{Cell, fresh}
 use Rattle.calloop_wake.specs.Channels.{fresh_channel}

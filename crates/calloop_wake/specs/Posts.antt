@@ -80,6 +80,6 @@ abbrev pub left_at : (gone i : ℕ) → Option ℕ
 left_at gone i = if nat_lt i gone then None else Some (i - gone)
 
 -- what stands at a place once so many of the first are gone, by where its key stood
-abbrev pub renumbered : (gone : ℕ) → Option ℕ → Option (Option ℕ) → Option (Option ℕ)
-renumbered gone None before = before
-renumbered gone (Some i) before = Some (left_at gone i)
+abbrev pub place_after : (gone : ℕ) → Option ℕ → Option (Option ℕ) → Option (Option ℕ)
+place_after gone None before = before
+place_after gone (Some i) before = Some (left_at gone i)

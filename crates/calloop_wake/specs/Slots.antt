@@ -44,10 +44,10 @@ use Rattle.calloop_wake.specs.declared.list.Content.TheVariants.{Vacant, Source,
 use Rattle.calloop_wake.specs.declared.list.Slot.{Slot}
 
 -- the list with f of the element at this index in its place
-abbrev pub changed : {A : Type 0} → (A → A) → List A → ℕ → List A
-changed f [] i = []
-changed f (x ∷ xs) zero = f x ∷ xs
-changed f (x ∷ xs) (suc i) = x ∷ changed f xs i
+abbrev pub with_change : {A : Type 0} → (A → A) → List A → ℕ → List A
+with_change f [] i = []
+with_change f (x ∷ xs) zero = f x ∷ xs
+with_change f (x ∷ xs) (suc i) = x ∷ with_change f xs i
 
 -- the slot with this in it: calloop sets the entry's Option, where a source in its turn stays
 abbrev pub with_content : {S : Type 0} → Content S → Slot S → Slot S
@@ -59,8 +59,8 @@ content_under version None = Vacant
 content_under version (Some s) = if nat_eq s.version version then s.content else Vacant
 
 -- what stands in the slot that the token names: calloop's get compares the versions likewise, and answers an error
-abbrev pub named : {S : Type 0} → List (Slot S) → RegistrationToken → Content S
-named slots token = content_under token.version (slice_get slots token.slot)
+abbrev pub content_at : {S : Type 0} → List (Slot S) → RegistrationToken → Content S
+content_at slots token = content_under token.version (slice_get slots token.slot)
 
 -- the source, where it is not in its turn
 abbrev pub source_of : {S : Type 0} → Content S → Option S
@@ -105,12 +105,12 @@ taken_up s = record { version = (s.version + 1) % versions; content = InTurn }
 
 -- the list after calloop's vacant_entry: the first vacant slot is used again, or a new one is added, for a source that
 -- is registered meanwhile; calloop puts the source there first
-abbrev pub claimed : {S : Type 0} → List (Slot S) → List (Slot S)
-claimed ss = first_changed is_vacant taken_up (record { version = 0; content = InTurn }) ss
+abbrev pub after_claim : {S : Type 0} → List (Slot S) → List (Slot S)
+after_claim ss = first_changed is_vacant taken_up (record { version = 0; content = InTurn }) ss
 
 -- the list where a turn is over: this goes into the slot, where it is still in its turn under this version
 abbrev pub after_turn : {S : Type 0} → Content S → RegistrationToken → List (Slot S) → List (Slot S)
-after_turn content token ss = if is_in_turn (named ss token) then changed (with_content content) ss token.slot else ss
+after_turn content token ss = if is_in_turn (content_at ss token) then with_change (with_content content) ss token.slot else ss
 
 -- the name of the slot that is claimed next: in calloop the token that vacant_entry leaves in the entry
 abbrev pub next_registration : {S : Type 0} → List (Slot S) → RegistrationToken

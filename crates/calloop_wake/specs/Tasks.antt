@@ -83,9 +83,9 @@ abbrev pub phase_at : TaskKey → (ℕ → Option Task) → Option Phase
 phase_at key tasks = phase_if key.number (tasks key.slot)
 
 -- the slot's task after a step on the task of this number
-abbrev pub stepped : (Phase → Phase) → ℕ → Option Task → Option Task
-stepped f number None = None
-stepped f number (Some task) = if nat_eq task.number number then Some (record task { phase = f task.phase }) else Some task
+abbrev pub after_step : (Phase → Phase) → ℕ → Option Task → Option Task
+after_step f number None = None
+after_step f number (Some task) = if nat_eq task.number number then Some (record task { phase = f task.phase }) else Some task
 
 -- the slot, where this holds
 abbrev pub slot_if : Bool → ℕ → List ℕ

@@ -44,14 +44,14 @@ abbrev pub is_filled : List ℕ → ℕ → Bool
 is_filled words i = not (nat_eq (word_at words i) 0)
 
 -- what bit i above these levels says: that word i of the highest isn't 0, or above none that slot i is vacant
-abbrev pub said : (vacant : ℕ → Bool) → List (List ℕ) → ℕ → Bool
-said vacant [] i = vacant i
-said vacant (words ∷ below) i = is_filled words i
+abbrev pub bit_above : (vacant : ℕ → Bool) → List (List ℕ) → ℕ → Bool
+bit_above vacant [] i = vacant i
+bit_above vacant (words ∷ below) i = is_filled words i
 
 -- bit i of the lowest level is set where slot i is vacant, and bit i of another where word i of the level below isn't 0
 abbrev pub AreLevels : (vacant : ℕ → Bool) → List (List ℕ) → Type 0
 AreLevels vacant [] = Unit {0}
-AreLevels vacant (words ∷ below) = ((i : ℕ) → is_set words i ≡ said vacant below i) × AreLevels vacant below
+AreLevels vacant (words ∷ below) = ((i : ℕ) → is_set words i ≡ bit_above vacant below i) × AreLevels vacant below
 
 -- which word of the highest level is over a slot; of no level, the slot
 abbrev pub place : List (List ℕ) → (slot : ℕ) → ℕ
@@ -67,23 +67,23 @@ abbrev pub with_slot : (slot : ℕ) → Bool → (ℕ → Bool) → ℕ → Bool
 with_slot slot b vacant i = if nat_eq i slot then b else vacant i
 
 -- the words with one more, which is 0, where they end at this place or before
-abbrev pub extended : (place : ℕ) → List ℕ → List ℕ
-extended place words = if nat_lt place (length words) then words else words ++ 0 ∷ []
+abbrev pub with_place : (place : ℕ) → List ℕ → List ℕ
+with_place place words = if nat_lt place (length words) then words else words ++ 0 ∷ []
 
 -- the levels with the word over this slot in each
 abbrev pub grown : (slot : ℕ) → List (List ℕ) → List (List ℕ)
 grown slot [] = []
-grown slot (words ∷ below) = extended (place (words ∷ below) slot) words ∷ grown slot below
+grown slot (words ∷ below) = with_place (place (words ∷ below) slot) words ∷ grown slot below
 
 -- what is so where the first vacant slot below the word at a place is taken out of the levels, if that word isn't 0:
 -- it was vacant, none before it was where all words before are 0, and the levels and the word tell of the others then
 pub record Takes (vacant : ℕ → Bool) (at : ℕ) (taken : Taken) (old new : List (List ℕ)) : Type 0 where
-  pub there : 0 < length old → said vacant old at ≡ true
-  pub found : said vacant old at ≡ true → vacant taken.slot ≡ true
-  pub least : ((q : ℕ) → q < at → said vacant old q ≡ false) → (j : ℕ) → j < taken.slot → vacant j ≡ false
-  pub levels : said vacant old at ≡ true → AreLevels (with_slot taken.slot false vacant) new
-  pub above : said vacant old at ≡ true → (q : ℕ)
-      → said (with_slot taken.slot false vacant) new q ≡ with_slot at (not taken.emptied) (said vacant old) q
+  pub there : 0 < length old → bit_above vacant old at ≡ true
+  pub found : bit_above vacant old at ≡ true → vacant taken.slot ≡ true
+  pub least : ((q : ℕ) → q < at → bit_above vacant old q ≡ false) → (j : ℕ) → j < taken.slot → vacant j ≡ false
+  pub levels : bit_above vacant old at ≡ true → AreLevels (with_slot taken.slot false vacant) new
+  pub above : bit_above vacant old at ≡ true → (q : ℕ)
+      → bit_above (with_slot taken.slot false vacant) new q ≡ with_slot at (not taken.emptied) (bit_above vacant old) q
 
 -- the first slot that is vacant
 pub record IsFirst (vacant : ℕ → Bool) (slot : ℕ) : Type 0 where

@@ -16,5 +16,5 @@ abbrev pub with_places : List Place → Watched → Watched
 with_places places w = record w { places = places }
 
 -- the watch with one note more
-abbrev pub noted : Note → Watch → Watch
-noted note w = record w { notes = w.notes ++ note ∷ [] }
+abbrev pub with_note : Note → Watch → Watch
+with_note note w = record w { notes = w.notes ++ note ∷ [] }

@@ -1,6 +1,6 @@
 //! The slots of the loop's sources, told apart by their versions. From calloop's `list.rs`.
 ghost use Rattle.std.specs.Prelude.{◌≡◌, ◌↔◌, ◌+◌, ◌<◌, ◌≤◌, List, [], length, slice_get, is_some, if◌then◌else◌, Some, None, IfOk, IfErr, IsErr, IsErrOf, IsNone, IfSome, OnSome};
-ghost use Rattle.calloop_wake.specs.Slots.{named, changed, with_content, source_of, is_in_turn, first_vacant, next_registration, claimed, after_turn, claim_error, CannotClaim};
+ghost use Rattle.calloop_wake.specs.Slots.{content_at, with_change, with_content, source_of, is_in_turn, first_vacant, next_registration, after_claim, after_turn, claim_error, CannotClaim};
 ghost use Rattle.calloop_wake.specs.Vacancies.{TellVacant};
 ghost use Rattle.calloop_wake.specs.Widths.{most_slots, level_count};
 ghost use Rattle.std.specs.Borrow.{sem};
@@ -98,7 +98,7 @@ impl<S> Model for SourceList<S> {
 
 // Whether the token names a source that is not in its turn.
 fn has_source<S>(slots: &[Slot<S>], token: RegistrationToken) -> bool
-    ensures { result ≡ is_some (source_of (named slots.now token)) }
+    ensures { result ≡ is_some (source_of (content_at slots.now token)) }
 {
     match slots.get(token.slot() as usize) {
         Some(slot) => slot.version == token.version() && matches!(slot.content, Content::Source(_)),
@@ -108,7 +108,7 @@ fn has_source<S>(slots: &[Slot<S>], token: RegistrationToken) -> bool
 
 // Whether the source of the slot that the token names is taken out.
 fn is_in_turn<S>(slots: &[Slot<S>], token: RegistrationToken) -> bool
-    ensures { result ≡ is_in_turn (named slots.now token) }
+    ensures { result ≡ is_in_turn (content_at slots.now token) }
 {
     match slots.get(token.slot() as usize) {
         Some(slot) => slot.version == token.version() && matches!(slot.content, Content::InTurn),
@@ -121,7 +121,7 @@ fn take_up<S: Drop>(slots: &mut Vec<Slot<S>>, place: usize) -> RegistrationToken
     requires first { place ≡ first_vacant slots.old.items }
     requires within { (place < length slots.old.items) × (place < most_slots) }
     ensures value { result ≡ next_registration slots.old.items }
-    ensures slots { slots.new.items ≡ claimed slots.old.items }
+    ensures slots { slots.new.items ≡ after_claim slots.old.items }
 {
     let slot = &mut slots[place];
     slot.version = ((slot.version as u64 + 1) % VERSIONS) as u32;
@@ -137,7 +137,7 @@ fn add<S: Drop>(
     requires full { first_vacant slots.old.items ≡ length slots.old.items }
     requires told { TellVacant slots.old.items vacancies.old }
     ensures ok { IfOk result (λ t. (t ≡ next_registration slots.old.items)
-        × (slots.new.items ≡ claimed slots.old.items)) }
+        × (slots.new.items ≡ after_claim slots.old.items)) }
     ensures within { IfOk result (λ t. (t.slot < length slots.new.items) × (t.slot < most_slots)) }
     ensures full { IsErrOf result TooManySources ↔ (most_slots ≤ first_vacant slots.old.items) }
     ensures err { IfErr result (λ e. (slots.new.items ≡ slots.old.items)
@@ -170,7 +170,7 @@ fn claim<S: Drop>(
     requires fresh { steps.old ≡ 0 }
     requires told { TellVacant slots.old.items vacancies.old }
     ensures ok { IfOk result (λ t. (t ≡ next_registration slots.old.items)
-        × (slots.new.items ≡ claimed slots.old.items)) }
+        × (slots.new.items ≡ after_claim slots.old.items)) }
     ensures within { IfOk result (λ t. (t.slot < length slots.new.items) × (t.slot < most_slots)) }
     ensures full { IsErrOf result TooManySources ↔ (most_slots ≤ first_vacant slots.old.items) }
     ensures err { IfErr result (λ e. (slots.new.items ≡ slots.old.items)
@@ -188,7 +188,7 @@ fn claim<S: Drop>(
 // Puts this into the slot, and gives what stood there.
 fn put<S>(slots: &mut Vec<Slot<S>>, place: usize, content: Content<S>) -> Content<S>
     requires { place < length slots.old.items }
-    ensures items { slots.new.items ≡ changed (with_content content) slots.old.items place }
+    ensures items { slots.new.items ≡ with_change (with_content content) slots.old.items place }
     ensures value { (s : Slot S) → slice_get slots.old.items place ≡ Some s → result ≡ s.content }
 {
     let slot = &mut slots[place];
@@ -232,8 +232,8 @@ impl<S: Drop> SourceList<S> {
 
     /// The source that the token names: none, as after it was removed, or while it is in its turn.
     pub fn get(&self, token: RegistrationToken) -> Option<&S>
-        ensures some { IfSome result (λ s. named self.now token ≡ Source s.now) }
-        ensures none { IsNone result ↔ (source_of (named self.now token) ≡ None) }
+        ensures some { IfSome result (λ s. content_at self.now token ≡ Source s.now) }
+        ensures none { IsNone result ↔ (source_of (content_at self.now token) ≡ None) }
     {
         match self.slots.get(token.slot() as usize) {
             Some(slot) if slot.version == token.version() => source(&slot.content),
@@ -246,8 +246,8 @@ impl<S: Drop> SourceList<S> {
     /// It refuses with `InvalidToken` exactly where `get` gives none, and the list is then as it was.
     pub fn get_mut(&mut self, token: RegistrationToken) -> Result<&mut S>
         ensures* writes_back { sem 𝓛 (LendsNamed S.row self.entry token result) }
-        ensures ok { IfOk result (λ s. named self.old token ≡ Source s.now) }
-        ensures refuses { IsErr result ↔ (source_of (named self.old token) ≡ None) }
+        ensures ok { IfOk result (λ s. content_at self.old token ≡ Source s.now) }
+        ensures refuses { IsErr result ↔ (source_of (content_at self.old token) ≡ None) }
         ensures err { IfErr result (λ e. e ≡ InvalidToken) }
     {
         if !has_source(&self.slots, token) {
@@ -270,7 +270,7 @@ impl<S: Drop> SourceList<S> {
     ) -> std::result::Result<RegistrationToken, ClaimRefusal>
         requires { steps.old ≡ 0 }
         ensures ok { IfOk result (λ t. (t ≡ next_registration self.old)
-            × (self.new ≡ claimed self.old)) }
+            × (self.new ≡ after_claim self.old)) }
         ensures within { IfOk result (λ t. (t.slot < length self.new) × (t.slot < most_slots)) }
         ensures full { IsErrOf result TooManySources ↔ (most_slots ≤ first_vacant self.old) }
         ensures err { IfErr result (λ e. (self.new ≡ self.old)
@@ -284,9 +284,9 @@ impl<S: Drop> SourceList<S> {
     ///
     /// It gives `None`, and the list stays as it is, where the token names none, or where the source is in its turn.
     pub fn begin_turn(&mut self, token: RegistrationToken) -> Option<S>
-        ensures value { result ≡ source_of (named self.old token) }
+        ensures value { result ≡ source_of (content_at self.old token) }
         ensures list { self.new ≡ (if is_some result
-            then changed (with_content InTurn) self.old token.slot else self.old) }
+            then with_change (with_content InTurn) self.old token.slot else self.old) }
         ensures within { OnSome result (token.slot < length self.new) }
     {
         if !has_source(&self.slots, token) {
@@ -302,7 +302,8 @@ impl<S: Drop> SourceList<S> {
     ///
     /// Where the slot isn't in its turn under this version, it hands the source back, and the list stays as it is.
     pub fn end_turn(&mut self, token: RegistrationToken, source: S) -> Option<S>
-        ensures value { result ≡ (if is_in_turn (named self.old token) then None else Some source) }
+        ensures value { result ≡ (if is_in_turn (content_at self.old token)
+            then None else Some source) }
         ensures list { self.new ≡ after_turn (Source source) token self.old }
     {
         if !is_in_turn(&self.slots, token) {
@@ -318,7 +319,7 @@ impl<S: Drop> SourceList<S> {
 
     /// Whether the source of the slot that the token names is taken out, for its turn.
     pub fn is_in_turn(&self, token: RegistrationToken) -> bool
-        ensures { result ≡ is_in_turn (named self.now token) }
+        ensures { result ≡ is_in_turn (content_at self.now token) }
     {
         is_in_turn(&self.slots, token)
     }

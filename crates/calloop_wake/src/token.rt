@@ -143,7 +143,7 @@ impl TokenFactory {
     }
 
     /// How many tokens it gave, at most 65,535.
-    pub fn given(&self) -> u16
+    pub fn tokens_given(&self) -> u16
         ensures { result ≡ self.now.given }
     {
         self.given

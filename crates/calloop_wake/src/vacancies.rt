@@ -1,6 +1,6 @@
 //! The set of the vacant slots. Its least one is found without a walk.
 ghost use Rattle.std.specs.Prelude.{ℕ, Bool, ◌≡◌, ◌+◌, ◌-◌, ◌*◌, ◌/◌, ◌%◌, ◌^◌, ◌<◌, ◌≤◌, List, [], ◌∷◌, ◌++◌, map, length, not, true, false, nat_lt, None, OnOk, OnErr, IfOk, IfSome, IfNone};
-ghost use Rattle.calloop_wake.specs.Vacancies.{word_at, is_set, is_filled, said, place, AreLevels, HasBits, Takes, with_slot, extended, grown, IsFirst, AreEnough, no_words};
+ghost use Rattle.calloop_wake.specs.Vacancies.{word_at, is_set, is_filled, bit_above, place, AreLevels, HasBits, Takes, with_slot, with_place, grown, IsFirst, AreEnough, no_words};
 ghost use Rattle.calloop_wake.specs.Widths.{most_slots, most_words, level_count};
 ghost use Rattle.std.proofs.Math.ListN.{set};
 
@@ -68,7 +68,7 @@ impl Words {
     fn extend(&mut self, place: usize) -> Result<bool, AllocError>
         requires { place < most_words }
         ensures ok { IfOk result (λ b. (b ≡ not (nat_lt place (length self.old)))
-            × (self.new ≡ extended place self.old)) }
+            × (self.new ≡ with_place place self.old)) }
         ensures err { OnErr result (self.new ≡ self.old) }
     {
         if place < self.words.len() {
@@ -110,7 +110,7 @@ fn take(levels: &mut [Words], place: usize, steps: &mut Steps) -> Option<Taken>
     requires { steps.old + length levels.old < 2 ^ 64 }
     ensures none { IfNone result ((levels.new ≡ levels.old)
         × ((vacant : ℕ → Bool) → AreLevels vacant levels.old
-        → said vacant levels.old place ≡ false)) }
+        → bit_above vacant levels.old place ≡ false)) }
     ensures some { IfSome result (λ t. (vacant : ℕ → Bool) → AreLevels vacant levels.old
         → Takes vacant place t levels.old levels.new) }
     ensures len { map length levels.new ≡ map length levels.old }
@@ -147,8 +147,9 @@ fn mark(levels: &mut [Words], slot: usize)
     requires bits { HasBits levels.old slot }
     ensures levels { (vacant : ℕ → Bool) → AreLevels vacant levels.old
         → AreLevels (with_slot slot true vacant) levels.new }
-    ensures above { (vacant : ℕ → Bool) (q : ℕ) → said (with_slot slot true vacant) levels.new q
-        ≡ with_slot (place levels.old slot) true (said vacant levels.old) q }
+    ensures above { (vacant : ℕ → Bool) (q : ℕ)
+        → bit_above (with_slot slot true vacant) levels.new q
+        ≡ with_slot (place levels.old slot) true (bit_above vacant levels.old) q }
     ensures len { map length levels.new ≡ map length levels.old }
 {
     if let Some((level, below)) = levels.split_first_mut() {

@@ -30,7 +30,7 @@ pub mod tasks;
 pub mod watch;
 
 pub use laws::{
-    can_be_delivered, covered, lost_is_not_covered, out_of_reach,
+    can_be_delivered, lost_is_not_covered, nothing_is_lost, out_of_reach,
     schedules_of_one_board_that_there_are, schedules_of_queues_that_there_are,
     schedules_that_there_are, schedules_that_there_are_not, steps_are_the_machines,
     turns_that_end_at_their_bound,

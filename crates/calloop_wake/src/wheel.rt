@@ -1,7 +1,7 @@
 //! Moments of the loop's clock, and the deadlines that are armed. From calloop's `TimerWheel` in `timer.rs`.
 ghost use Rattle.std.specs.Prelude.{◌≡◌, ◌↔◌, ◌+◌, ◌-◌, ◌*◌, ◌^◌, ◌≤◌, ◌<◌, min, [], ◌∷◌, false, true, length, IfSome, IfNone, IfOk, IfErr, OnOk, OnErr, IsErrOf};
 ghost use Rattle.std.specs.Duration.{as_nanos};
-ghost use Rattle.calloop_wake.specs.Deadlines.{moment_after, inserted, has_counter, without_counter, with_new, with_again, cancelled, is_armed, first_deadline, first_due, after_first_due, with_entries, IsOrdered, IsSorted, arm_error, CannotArm, CannotArmAgain};
+ghost use Rattle.calloop_wake.specs.Deadlines.{moment_after, after_insert, has_counter, without_counter, with_new, with_again, after_cancel, is_armed, first_deadline, first_due, after_first_due, with_entries, IsOrdered, IsSorted, arm_error, CannotArm, CannotArmAgain};
 ghost use Rattle.calloop_wake.specs.Wheels.{entry_at, entries_of, first_key, NameTheSame, HaveTheSame};
 ghost use Rattle.calloop_wake.specs.declared.wheel.ArmRefusal.TheVariants.{TooManyTimers};
 
@@ -146,7 +146,7 @@ fn enter(
     requires free { has_counter due.counter (entries_of by_due.old.entries) ≡ false }
     requires same { NameTheSame (entries_of by_due.old.entries) by_counter.old.entries }
     ensures ok { OnOk result (entries_of by_due.new.entries
-        ≡ inserted (entry_at (due, token)) (entries_of by_due.old.entries)) }
+        ≡ after_insert (entry_at (due, token)) (entries_of by_due.old.entries)) }
     ensures err { OnErr result (by_due.new.entries ≡ by_due.old.entries) }
     ensures same { NameTheSame (entries_of by_due.new.entries) by_counter.new.entries }
 {
@@ -287,7 +287,7 @@ impl TimerWheel {
 
     /// Takes out the deadline of this counter, where it has one.
     pub fn cancel(&mut self, counter: u64)
-        ensures { self.new ≡ cancelled counter self.old }
+        ensures { self.new ≡ after_cancel counter self.old }
     {
         leave(&mut self.by_due, &mut self.by_counter, counter);
     }

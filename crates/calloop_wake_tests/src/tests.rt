@@ -16,7 +16,7 @@ use calloop_wake::wake::ping::{OpenedTurn, PingCore};
 use calloop_wake::wake::watch::{Watch, WatchedBoard};
 use calloop_wake::wake::{
     Debt, Last, LeaveToClose, Notify, OpenedPass, PingTurn, Sender, TakenPass, Twin,
-    can_be_delivered, covered, lost_is_not_covered, out_of_reach,
+    can_be_delivered, lost_is_not_covered, nothing_is_lost, out_of_reach,
     schedules_of_one_board_that_there_are, schedules_of_queues_that_there_are,
     schedules_that_there_are, schedules_that_there_are_not, steps_are_the_machines,
     turns_that_end_at_their_bound,
@@ -166,7 +166,7 @@ fn two_tokens_of_a_factory_differ(rt: HostRuntime) {
     assert_eq!(rt; factory.registration(), RegistrationToken::new(1, 2));
     let first = factory.token().expect(&rt, "a token");
     let second = factory.token().expect(&rt, "another token");
-    assert_eq!(rt; factory.given(), 2);
+    assert_eq!(rt; factory.tokens_given(), 2);
     assert!(rt; first != second);
     assert_eq!(rt;
         (first.key(), second.key()),
@@ -311,7 +311,7 @@ fn a_cell_stands_before_a_ring_and_after_it(rt: HostRuntime) {
 
 #[test]
 fn the_law_of_all_schedules_rules_some_states_out(_rt: HostRuntime) {
-    covered();
+    nothing_is_lost();
     lost_is_not_covered();
     schedules_that_there_are();
     schedules_of_queues_that_there_are();

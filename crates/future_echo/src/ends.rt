@@ -35,7 +35,7 @@ impl<R: Wait + Clock + Clone + Drop> End<R> {
         End::Server(io, Vec::new(alloc))
     }
 
-    /// Want of memory is an error.
+    /// Running out of memory is an error.
     pub fn client(io: Socket<R>, alloc: Global) -> Result<End<R>> {
         let mut lines = Vec::new(alloc);
         lines.extend_from_slice(LINES)?;

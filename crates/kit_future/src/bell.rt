@@ -15,7 +15,7 @@ use std::random::RandomSource;
 use std::sync::Wait;
 
 /// What polls one future, and the socket that a wake of this future makes readable.
-pub fn belled<R: Net + RandomSource + AllocGlobal>(rt: &R) -> io::Result<(Solo, UnixStream)> {
+pub fn new_bell<R: Net + RandomSource + AllocGlobal>(rt: &R) -> io::Result<(Solo, UnixStream)> {
     let (heard, rung) = UnixStream::pair(rt)?;
     let solo = Solo::new(rt, Doorbell::from_event_fd(OwnedFd::from(rung)))?;
     Ok((solo, heard))

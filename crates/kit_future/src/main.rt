@@ -1,7 +1,7 @@
 //! A future of the kit's crate `futures` beside a loop: a thread sends a number by the kit's `oneshot`, and the loop's callback says it.
 #![tactic(auto)]
 
-use bell::{Resting, Says, belled, say};
+use bell::{Resting, Says, new_bell, say};
 use calloop::{
     Dispatcher, Error, Generic, Interest, MioIo, MioPoller, Mode, Result, Sources, SystemClock,
     SystemLoop,
@@ -62,7 +62,7 @@ where
         + 'static,
 {
     let mut said = String::new(alloc);
-    let (solo, heard) = belled(rt)?;
+    let (solo, heard) = new_bell(rt)?;
     let (sender, receiver) = channel(alloc)?;
     match Resting::begin(rt, &solo, receiver) {
         Ok(output) => say(&mut said, output)?,

@@ -367,7 +367,7 @@ where
         ensures nanoseconds { self.new.nanoseconds ≡ self.old.nanoseconds }
     {
         for i in 0..size {
-            self.insert_timer(scattered(from, i))?;
+            self.insert_timer(scatter(from, i))?;
         }
         Ok(())
     }
@@ -377,7 +377,7 @@ where
 pub const SCATTER: u64 = 1 << 20;
 
 /// The moment of this number among 2^20 that are a nanosecond apart, in an order that goes to and fro. Further numbers give them again.
-pub fn scattered(from: Instant, number: u32) -> Instant
+pub fn scatter(from: Instant, number: u32) -> Instant
     ensures { result.nanos ≡ min (from.nanos + number * 489905 % 2 ^ 20) (2 ^ 64 - 1) }
 {
     let nanoseconds = u64::from(number) * 489_905 % SCATTER;

@@ -61,7 +61,7 @@ fn row<'a>(kind: &'a str, count: &'a str, size: &'a str) -> Result<Row, Unreadab
         (λ row. IsRow kind.now count.now size.now row)
         (λ _. (row : Row) → ¬ IsRow kind.now count.now size.now row) }
 {
-    let Some(named) = Kind::named(kind) else {
+    let Some(named) = Kind::from_name(kind) else {
         return Err(Unreadable::Row(kind));
     };
     let count = number(count)?;

@@ -108,7 +108,7 @@ impl Kind {
     }
 
     /// The kind of this name.
-    pub fn named(name: &str) -> Option<Kind>
+    pub fn from_name(name: &str) -> Option<Kind>
         ensures first { result ≡ find (is_named name.now) Self.ALL }
         ensures named { IfSome result (λ kind. name_of kind ≡ name.now) }
     {

@@ -1,6 +1,6 @@
 //! Runs the rows. What is set up before isn't measured.
 use crate::bench::{
-    Bench, Counts, Fifth, Fourth, Held, Reads, SCATTER, Second, Seventh, Sixth, Third, scattered,
+    Bench, Counts, Fifth, Fourth, Held, Reads, SCATTER, Second, Seventh, Sixth, Third, scatter,
 };
 use crate::measured::{Measured, ReadsByte};
 use crate::row::{Kind, Row};
@@ -142,7 +142,7 @@ where
         let far = self.insert_far_timers(size)?;
         let began = self.start()?;
         for i in 0..count {
-            let token = self.insert_timer(scattered(far, size.wrapping_add(i)))?;
+            let token = self.insert_timer(scatter(far, size.wrapping_add(i)))?;
             let removed = self.event_loop.handle().remove(token);
             ensure!(removed.is_some(), "a timer is gone");
         }
@@ -367,7 +367,7 @@ where
         from: Instant,
     ) -> Result<()> {
         for i in 0..size {
-            let timeout = self.make_timeout(scattered(from, i))?;
+            let timeout = self.make_timeout(scatter(from, i))?;
             let scheduled = scheduler.schedule(Task::Lasts(timeout));
             ensure!(scheduled.is_ok(), "a future is refused");
         }

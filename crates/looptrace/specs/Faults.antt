@@ -5,9 +5,9 @@ use Rattle.std.specs.IoError.{error_kind}
 use Rattle.std.specs.declared.io.ErrorKind.TheVariants.{OutOfMemory}
 
 -- a call that fails counts one
-abbrev pub counted : {A : Type 0} → Result A Error → ℕ → ℕ
-counted (Ok a) n = n
-counted (Err e) n = n + 1
+abbrev pub with_fault : {A : Type 0} → Result A Error → ℕ → ℕ
+with_fault (Ok a) n = n
+with_fault (Err e) n = n + 1
 
 -- why a run ends with an error: it wants memory, or just now a call of the reader or of a writer failed
 abbrev pub IsCause : Error → (before after : ℕ) → Type 0

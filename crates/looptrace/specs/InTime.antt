@@ -6,7 +6,7 @@ use Rattle.calloop.specs.declared.loop_logic.LoopCall.{LoopCall}
 use Rattle.calloop.specs.declared.loop_logic.LoopCall.TheVariants.{Insert, Exchange}
 use Rattle.looptrace.specs.Sources.{Source}
 use Rattle.calloop.specs.declared.loop_logic.LoopAnswer.{LoopAnswer}
-use Rattle.calloop.specs.Machine.{World, View, IsNew, seen}
+use Rattle.calloop.specs.Machine.{World, View, IsNew, visible}
 use Rattle.calloop.specs.Rules.{Run, RunLeads}
 use Rattle.calloop.specs.Laws.{IsLedgerOf}
 use Rattle.calloop.specs.EveryRun.{LoopRun}
@@ -45,10 +45,10 @@ pub record Asks (old new : View Source (Unit {0}) ScriptPoller) : Type 0 where
 -- then holds, in which no timer is called early, nor twice for one arming.
 abbrev pub LeadsInTime : (old new : View Source (Unit {0}) ScriptPoller) → Type 0
 LeadsInTime old new =
-    (u : World Source (Unit {0}) ScriptPoller) → IsNew u → seen u ≡ old
+    (u : World Source (Unit {0}) ScriptPoller) → IsNew u → visible u ≡ old
     → (r : LoopRun Source (Unit {0}) ScriptPoller (Option (List ℕ)))
     × Run source_meaning no_idles script_outside r.calls r.answers r.changes r.began r.ended
-    × (r.began ≡ u) × (seen r.ended ≡ new) × IsLedgerOf r.ended.ledger r.ended.poll
+    × (r.began ≡ u) × (visible r.ended ≡ new) × IsLedgerOf r.ended.ledger r.ended.poll
 
 -- the lines of a script may write this, and what they do to the loop is such a run
 abbrev pub MayWriteInTime : List ℕ → Written → Type 0

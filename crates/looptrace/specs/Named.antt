@@ -28,5 +28,5 @@ abbrev pub with_source : (name : List ℕ) → (ping : Option Book) → List Nam
 with_source name ping ss = insert_entry (slice_cmp nat_cmp) ss name ping
 
 -- the source of this name has no open ping any more; its name stays
-abbrev pub closed : (name : List ℕ) → List Named → List Named
-closed name ss = set_value (is_at (slice_cmp nat_cmp name)) ss None
+abbrev pub without_ping : (name : List ℕ) → List Named → List Named
+without_ping name ss = set_value (is_at (slice_cmp nat_cmp name)) ss None

@@ -30,13 +30,13 @@ use Rattle.calloop_core.specs.declared.sys.script.ScriptPoller.{ScriptPoller}
 use Rattle.calloop_core.specs.Pollers.{nanos_of, events_per_wait}
 use Rattle.calloop_core.specs.Polls.{is_filled}
 use Rattle.calloop_core.specs.ScriptPollers.{script_outside}
-use Rattle.calloop_core.specs.Timers.{unarmed}
+use Rattle.calloop_core.specs.Timers.{fresh_timer}
 use Rattle.calloop.specs.declared.loop_logic.LoopCall.{LoopCall}
 use Rattle.calloop.specs.declared.loop_logic.LoopCall.TheVariants.{Insert, Remove as RemoveCall}
 use Rattle.calloop.specs.declared.loop_logic.LoopCall.TheVariants.{Dispatch as DispatchCall, Poller as NewPoller}
 use Rattle.calloop.specs.declared.loop_logic.LoopAnswer.{LoopAnswer}
 use Rattle.calloop.specs.declared.loop_logic.LoopAnswer.TheVariants.{Inserted, Removed, Dispatched, Poller as OldPoller}
-use Rattle.calloop.specs.Machine.{World, View, IsNew, seen, view_of}
+use Rattle.calloop.specs.Machine.{World, View, IsNew, visible, view_of}
 use Rattle.calloop.specs.Rules.{Case, Did}
 use Rattle.looptrace.specs.declared.command.Command.{Command}
 use Rattle.looptrace.specs.declared.command.Command.TheVariants.{Nothing, Ping, Ring, Close, Remove}
@@ -45,7 +45,7 @@ use Rattle.calloop_core.specs.declared.sources.choice.OneOf.{OneOf}
 use Rattle.calloop_core.specs.declared.sources.choice.OneOf.TheVariants.{First, Other}
 use Rattle.looptrace.specs.declared.runner.PendingAnswer.{PendingAnswer}
 use Rattle.looptrace.specs.declared.runner.ScriptLoop.{ScriptLoop}
-use Rattle.looptrace.specs.Named.{Named, is_taken, ping_named, with_source, closed}
+use Rattle.looptrace.specs.Named.{Named, is_taken, ping_named, with_source, without_ping}
 use Rattle.looptrace.specs.Lines.{lines_of}
 use Rattle.looptrace.specs.Traces.{Written, Writes}
 use Rattle.looptrace.specs.Commands.{command_of}
@@ -84,7 +84,7 @@ state_of s =
 pub record IsStart (s : State) : Type 0 where
   pub world : World Source (Unit {0}) ScriptPoller
   pub new : IsNew world
-  pub agrees : seen world ≡ s.loop
+  pub agrees : visible world ≡ s.loop
   pub moment : s.loop.poll.poller.moment.nanos ≡ 0
   pub answers : s.loop.poll.poller.answers.items ≡ []
   pub sources : s.sources ≡ []
@@ -155,7 +155,7 @@ IsNewPing name s ping = IsPingOf name s.held ping
 -- a timer with a deadline, with a callback that says its name and the deadline
 abbrev pub new_timer : List ℕ → (deadline : ℕ) → Source
 new_timer name deadline =
-    timer_in (record { source = unarmed (Some (record { nanos = deadline })); callback = record { name = name } })
+    timer_in (record { source = fresh_timer (Some (record { nanos = deadline })); callback = record { name = name } })
 
 -- such a timer, without a ping
 abbrev pub IsNewTimer : List ℕ → (deadline : ℕ) → Source → Option Book → Type 0
@@ -171,7 +171,7 @@ RingLine s name (Some (t, said)) = IsSome (ping_named name s.sources) × (t ≡ 
 abbrev pub CloseLine : State → List ℕ → Option (State × List ℕ) → Type 0
 CloseLine s name None = ping_named name s.sources ≡ None
 CloseLine s name (Some (t, said)) =
-    IsSome (ping_named name s.sources) × (t ≡ record s { sources = closed name s.sources }) × (said ≡ [])
+    IsSome (ping_named name s.sources) × (t ≡ record s { sources = without_ping name s.sources }) × (said ≡ [])
 
 -- the token of these numbers, where a token can hold them
 abbrev pub token_with : (slot version : ℕ) → Option RegistrationToken

@@ -230,7 +230,7 @@ fn parse_other(line: &[u8]) -> Option<Command>
 }
 
 /// The command of a line without its line feed. `None` where the line can't be read.
-/// An `Err` is want of memory.
+/// An `Err` says that memory ran out.
 pub fn parse(alloc: Global, line: &[u8]) -> Result<Option<Command>, AllocError>
     ensures { IfOk result (λ command. command ≡ command_of line.now) }
 {

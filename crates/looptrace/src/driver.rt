@@ -23,7 +23,7 @@ pub trait Runner {
     ghost step: { Self → List ℕ → Option (Self × List ℕ) → Type 0 };
 
     /// Carries out one line without its line feed, and appends what it prints to `text`.
-    /// False where the line can't be read. An `Err` is want of memory, and then nothing is known of `text`.
+    /// False where the line can't be read. An `Err` says that memory ran out, and then nothing is known of `text`.
     fn line<Q: Wait + Log>(&mut self, rt: &Q, line: &[u8], text: &mut Vec<u8>) -> io::Result<bool>
         ensures read { IfOk result (λ read. MatchBool read
             ((said : List ℕ) × (text.new.items ≡ text.old.items ++ said)
@@ -36,7 +36,7 @@ pub trait Runner {
 /// 0 at the end of the input, and 2 at the first line that can't be read, which the errors then name by its number.
 /// That number stays at 2^64 - 1 from there on.
 ///
-/// An `Err` is a fault of reading or writing, or want of memory. What was carried out and written before it stays.
+/// An `Err` is a fault of reading or writing, or says that memory ran out. What was carried out and written before it stays.
 pub fn drive<Q: Wait + Log, L: Runner, R: BufRead, W: Write, E: Write>(
     rt: &Q,
     alloc: Global,

@@ -21,7 +21,7 @@ impl Model for SourceName {
 }
 
 impl SourceName {
-    /// A copy of these bytes. An `Err` is want of memory.
+    /// A copy of these bytes. An `Err` says that memory ran out.
     pub fn new(alloc: Global, bytes: &[u8]) -> Result<SourceName, AllocError>
         ensures { IfOk result (λ name. name ≡ bytes.now) }
     {

@@ -1,7 +1,7 @@
 //! The sources of a script under their names, with the pings that ring them.
 ghost use Rattle.std.specs.Prelude.{◌≡◌, [], OnOk, OnErr, None, is_some};
 ghost use Rattle.std.specs.Option.{option_map};
-ghost use Rattle.looptrace.specs.Named.{is_taken, ping_named, with_source, closed};
+ghost use Rattle.looptrace.specs.Named.{is_taken, ping_named, with_source, without_ping};
 
 use crate::name::SourceName;
 use calloop::ping::Ping;
@@ -103,7 +103,7 @@ impl<R: Wait + Drop> Names<R> {
     /// Drops the ping of this name. A name that no source has changes nothing.
     #[tactic(auto, using(crate::proofs::NameLemmas::set_value_absent))]
     pub fn close(&mut self, name: &SourceName)
-        ensures { self.new ≡ closed name.now self.old }
+        ensures { self.new ≡ without_ping name.now self.old }
     {
         if let Some(named) = self.by_name.get_mut(name) {
             named.close();

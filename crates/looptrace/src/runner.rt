@@ -236,7 +236,7 @@ fn pending_after(stands: bool, fault: bool, pending: Option<PendingAnswer>) -> O
 }
 
 impl<R: Wait + Clone + Drop> ScriptLoop<R> {
-    /// A loop with the clock at 0 and without sources. An `Err` is want of memory.
+    /// A loop with the clock at 0 and without sources. An `Err` says that memory ran out.
     pub fn new(rt: &R, alloc: Global) -> io::Result<ScriptLoop<R>>
         ensures ok { IfOk result (λ made. IsStart (state_of made)) }
         ensures err { IfErr result (λ e. error_kind e ≡ OutOfMemory) }

@@ -13,7 +13,7 @@ use calloop::{
 use std::alloc::Global;
 use std::marker::Model;
 
-/// What the callbacks of a dispatch said. Want of memory for it is remembered, and then nothing is known of it.
+/// What the callbacks of a dispatch said. Running out of memory for it is remembered, and then nothing is known of it.
 #[derive(Drop)]
 pub struct Said {
     text: Vec<u8>,
@@ -39,7 +39,7 @@ impl Said {
         }
     }
 
-    /// What was said, or nothing where memory was wanting.
+    /// What was said, or nothing where memory ran out.
     pub fn text(&self) -> Option<&[u8]>
         ensures { option_copied result ≡ self.now }
     {

@@ -2,7 +2,7 @@
 ghost use Rattle.std.specs.Prelude.{◌≡◌, ℕ, [], ◌∷◌, true, false, Some, IfOk, IfSome, OnOk};
 ghost use Rattle.std.specs.Io.BufRead.{drop_through};
 ghost use Rattle.std.specs.Io.KnownBytes.{Appends};
-ghost use Rattle.looptrace.specs.Faults.{counted};
+ghost use Rattle.looptrace.specs.Faults.{with_fault};
 ghost use Rattle.looptrace.specs.Lines.{lines_of, first_of};
 ghost use Rattle.looptrace.specs.Texts.{error_text};
 
@@ -43,7 +43,7 @@ impl<R, W, E> Streams<R, W, E> {
         ensures streams { (self.new.input ≡ self.old.input)
             × (self.new.output ≡ self.old.output)
             × (self.new.errors ≡ self.old.errors) }
-        ensures faults { self.new.faults.count ≡ counted answer self.old.faults.count }
+        ensures faults { self.new.faults.count ≡ with_fault answer self.old.faults.count }
     {
         if answer.is_err() {
             self.faults = FaultCount::after(&self.faults);
@@ -62,7 +62,7 @@ impl<R: BufRead, W: Write, E: Write> Streams<R, W, E> {
             × (R.remaining self.new.input ≡ Some (drop_through 10 xs)))) }
         ensures writers { (self.new.output ≡ self.old.output)
             × (self.new.errors ≡ self.old.errors) }
-        ensures faults { self.new.faults.count ≡ counted result self.old.faults.count }
+        ensures faults { self.new.faults.count ≡ with_fault result self.old.faults.count }
     {
         let answer = lines::read_line(&mut self.input, line);
         self.note(answer)
@@ -73,7 +73,7 @@ impl<R: BufRead, W: Write, E: Write> Streams<R, W, E> {
         ensures bytes { OnOk result
             (Appends (W.contents self.old.output) (W.contents self.new.output) text.now) }
         ensures others { (self.new.input ≡ self.old.input) × (self.new.errors ≡ self.old.errors) }
-        ensures faults { self.new.faults.count ≡ counted result self.old.faults.count }
+        ensures faults { self.new.faults.count ≡ with_fault result self.old.faults.count }
     {
         let answer = self.output.write_all(text);
         self.note(answer)
@@ -84,7 +84,7 @@ impl<R: BufRead, W: Write, E: Write> Streams<R, W, E> {
         ensures bytes { OnOk result (Appends (E.contents self.old.errors)
             (E.contents self.new.errors) (error_text number)) }
         ensures others { (self.new.input ≡ self.old.input) × (self.new.output ≡ self.old.output) }
-        ensures faults { self.new.faults.count ≡ counted result self.old.faults.count }
+        ensures faults { self.new.faults.count ≡ with_fault result self.old.faults.count }
     {
         let answer = writeln!(self.errors, "error line {number}");
         self.note(answer)

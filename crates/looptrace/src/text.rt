@@ -12,7 +12,7 @@ fn append_number(out: &mut Vec<u8>, number: u64) -> Result<(), AllocError>
     out.extend_from_slice(digits.as_bytes())
 }
 
-/// Appends `insert NAME SLOT VERSION` and a line feed. An `Err` is want of memory, and a part of it may be appended then.
+/// Appends `insert NAME SLOT VERSION` and a line feed. An `Err` says that memory ran out, and a part of it may be appended then.
 pub fn append_insert(
     out: &mut Vec<u8>,
     name: &[u8],
@@ -41,7 +41,7 @@ fn append_timeout(out: &mut Vec<u8>, asked: Option<u64>) -> Result<(), AllocErro
     }
 }
 
-/// Appends `wait N`, in nanoseconds, or `wait -`, and a line feed. An `Err` is want of memory, and a part of it may be appended then.
+/// Appends `wait N`, in nanoseconds, or `wait -`, and a line feed. An `Err` says that memory ran out, and a part of it may be appended then.
 pub fn append_wait(out: &mut Vec<u8>, asked: Option<u64>) -> Result<(), AllocError>
     ensures ok { OnOk result (out.new.items ≡ out.old.items ++ wait_text asked) }
     ensures err { OnErr result (BeginsWith out.new.items out.old.items) }
@@ -59,7 +59,7 @@ fn append_called(out: &mut Vec<u8>, name: &[u8]) -> Result<(), AllocError>
     out.extend_from_slice(name)
 }
 
-/// Appends `call NAME` and a line feed. An `Err` is want of memory, and a part of it may be appended then.
+/// Appends `call NAME` and a line feed. An `Err` says that memory ran out, and a part of it may be appended then.
 pub fn append_call(out: &mut Vec<u8>, name: &[u8]) -> Result<(), AllocError>
     ensures ok { OnOk result (out.new.items ≡ out.old.items ++ call_text name.now) }
     ensures err { OnErr result (BeginsWith out.new.items out.old.items) }
@@ -68,7 +68,7 @@ pub fn append_call(out: &mut Vec<u8>, name: &[u8]) -> Result<(), AllocError>
     out.extend_from_slice(b"\n")
 }
 
-/// Appends `call NAME AT`, in nanoseconds, and a line feed. An `Err` is want of memory, and a part of it may be appended then.
+/// Appends `call NAME AT`, in nanoseconds, and a line feed. An `Err` says that memory ran out, and a part of it may be appended then.
 pub fn append_alarm(out: &mut Vec<u8>, name: &[u8], at: u64) -> Result<(), AllocError>
     ensures ok { OnOk result (out.new.items ≡ out.old.items ++ alarm_text name.now at) }
     ensures err { OnErr result (BeginsWith out.new.items out.old.items) }
@@ -79,7 +79,7 @@ pub fn append_alarm(out: &mut Vec<u8>, name: &[u8], at: u64) -> Result<(), Alloc
     out.extend_from_slice(b"\n")
 }
 
-/// Appends `refused WORD` and a line feed. An `Err` is want of memory, and a part of it may be appended then.
+/// Appends `refused WORD` and a line feed. An `Err` says that memory ran out, and a part of it may be appended then.
 pub fn append_refused(out: &mut Vec<u8>, word: &str) -> Result<(), AllocError>
     ensures ok { OnOk result (out.new.items ≡ out.old.items ++ refused_text word.now) }
     ensures err { OnErr result (BeginsWith out.new.items out.old.items) }

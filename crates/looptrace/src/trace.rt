@@ -20,7 +20,7 @@ use std::sync::Wait;
 /// the first line that can't be read. What the loop does goes to the output, and that line's number to the errors.
 ///
 /// The loop begins with the clock at 0, without sources, and with a poller that gives no events. What it warns of goes to the
-/// log of `rt`. What is written is of a run of the loop's machine in which no timer is called early, nor twice for one arming. An `Err` is a fault of reading or writing, or want of memory; what was written before it stays.
+/// log of `rt`. What is written is of a run of the loop's machine in which no timer is called early, nor twice for one arming. An `Err` is a fault of reading or writing, or says that memory ran out; what was written before it stays.
 pub fn trace<Q: Wait + Log + Clone + Drop, R: BufRead, W: Write, E: Write>(
     rt: &Q,
     alloc: Global,

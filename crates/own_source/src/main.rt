@@ -29,7 +29,7 @@ type Held = Sources<Dispatcher<Numbers, Add>, u64>;
 
 // The sums after each of four dispatches.
 fn sums<R: Wait + Clone + Drop>(rt: &R, alloc: Global) -> Result<[u64; 4]> {
-    let mut event_loop: ScriptLoop<Held, R> = ScriptLoop::scripted(rt, alloc)?;
+    let mut event_loop: ScriptLoop<Held, R> = ScriptLoop::with_script(rt, alloc)?;
     event_loop.handle().insert_source(Numbers::up_to(3), Add)?;
 
     let mut sum = 0u64;

@@ -99,7 +99,7 @@ type Held<R> = Sources<
 
 // Three dispatches of a loop: what the callbacks said.
 fn run<R: Wait + Clone + Drop>(rt: &R, alloc: Global) -> Result<String> {
-    let mut event_loop: ScriptLoop<Held<R>, R> = ScriptLoop::scripted(rt, alloc)?;
+    let mut event_loop: ScriptLoop<Held<R>, R> = ScriptLoop::with_script(rt, alloc)?;
     let (ping, source) = make_ping(rt, alloc)?;
     let mut handle = event_loop.handle();
     let token = handle

@@ -3,7 +3,7 @@ use Rattle.std.proofs.Common.{◌≡◌, ℕ, List, [], ◌∷◌, ◌++◌, Som
 use Rattle.calloop_wake.specs.declared.error.InsertError.{InsertError}
 use Rattle.calloop_core.specs.declared.sources.dispatch.Dispatcher.{Dispatcher}
 use Rattle.calloop_core.specs.declared.timer.Timer.{Timer}
-use Rattle.calloop_core.specs.Timers.{unarmed}
+use Rattle.calloop_core.specs.Timers.{fresh_timer}
 use Rattle.calloop.specs.declared.loop_logic.asks.Ticket.{Ticket}
 use Rattle.calloop_wake.specs.declared.token.Token.{Token}
 use Rattle.calloop_wake.specs.declared.wheel.Instant.{Instant}
@@ -22,7 +22,7 @@ use Rattle.timer_chain.specs.declared.Again.{Again}
 use Rattle.timer_chain.specs.Chains.{IsOfTimer, AreOfTimers, AsksForTimers, Chain, in_chain, chain_meaning}
 
 -- one such request was written, or none was
-pub one_timer : {D F : Type 0} (held : Dispatcher Timer F → D) (result : Result Ticket (InsertError Timer)) (source : Timer) (at : Instant) (callback : F) (q r : Asks D (Unit {0})) → source ≡ unarmed (Some at)
+pub one_timer : {D F : Type 0} (held : Dispatcher Timer F → D) (result : Result Ticket (InsertError Timer)) (source : Timer) (at : Instant) (callback : F) (q r : Asks D (Unit {0})) → source ≡ fresh_timer (Some at)
     → IfOk result (λ t. IsAsked (Insert (held (record { source = source; callback = callback }))) t.number q r)
     → IfErr result (λ e. (e.inserted ≡ source) × CannotAsk q e.error × (r ≡ q)) → AsksForTimers held q r
 one_timer held (Ok t) source at callback q r is ok err = (

@@ -6,7 +6,7 @@ use Rattle.calloop_core.specs.declared.sources.dispatch.Dispatcher.{Dispatcher}
 use Rattle.calloop_core.specs.declared.timer.Timer.{Timer}
 use Rattle.calloop_core.specs.Deeds.{Lent}
 use Rattle.calloop_core.specs.Meanings.{Meaning, with_callback, seen_as}
-use Rattle.calloop_core.specs.Timers.{timer_meaning, unarmed}
+use Rattle.calloop_core.specs.Timers.{timer_meaning, fresh_timer}
 use Rattle.calloop.specs.declared.loop_logic.Sources.{Sources}
 use Rattle.calloop.specs.declared.loop_logic.asks.Request.{Request}
 use Rattle.calloop.specs.declared.loop_logic.asks.Request.TheVariants.{Insert}
@@ -17,7 +17,7 @@ use Rattle.timer_chain.specs.declared.Again.{Again}
 -- what is asked for, if it is an insertion, is one of a timer that was never registered
 abbrev pub IsOfTimer : {D I F : Type 0} → (Dispatcher Timer F → D) → Request D I → Type 0
 IsOfTimer {D} {I} {F} held (Insert d) =
-    (at : Option Instant) × (callback : F) × (d ≡ held (record { source = unarmed at; callback = callback }))
+    (at : Option Instant) × (callback : F) × (d ≡ held (record { source = fresh_timer at; callback = callback }))
 IsOfTimer held request = Unit {0}
 
 abbrev pub AreOfTimers : {D I F : Type 0} → (Dispatcher Timer F → D) → List (AskStep D I) → Type 0

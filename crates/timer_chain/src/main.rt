@@ -70,7 +70,7 @@ pub fn no_timer_is_early<P: Poller, C: Clock, R: Wait + Drop>()
 
 // Three dispatches of a loop with a chain of three timers: how often they called.
 fn run<R: Wait + Clone + Drop>(rt: &R, alloc: Global) -> Result<u64> {
-    let mut event_loop: ScriptLoop<Chain, R> = ScriptLoop::scripted(rt, alloc)?;
+    let mut event_loop: ScriptLoop<Chain, R> = ScriptLoop::with_script(rt, alloc)?;
     let timer = Timer::from_deadline(Instant::from_millis(0));
     event_loop
         .handle()

@@ -25,7 +25,7 @@ pub(crate) fn is_mine(twin: &Twin, token: Token) -> bool
 /// Registers the cell under the factory's next token. What stands in it is posted at once.
 ///
 /// Where it is registered already the answer is `IoError` of kind `AlreadyExists`; a factory without tokens is `TooManyTokens`,
-/// and want of memory `OutOfMemory`. A refusal leaves the cell and the board as they were.
+/// and running out of memory `OutOfMemory`. A refusal leaves the cell and the board as they were.
 pub(crate) fn register<K: CellCore, P: Poller, C, R: Wait + Drop>(
     rt: &R,
     shared: &Locked<Cell<K>>,
@@ -48,7 +48,7 @@ pub(crate) fn register<K: CellCore, P: Poller, C, R: Wait + Drop>(
 /// the new key.
 ///
 /// Where it isn't registered the answer is `IoError` of kind `NotFound`; a factory without tokens is `TooManyTokens`, an open place
-/// of the new key `IoError` of kind `AlreadyExists`, and want of memory `OutOfMemory`. A refusal leaves the cell and the board as
+/// of the new key `IoError` of kind `AlreadyExists`, and running out of memory `OutOfMemory`. A refusal leaves the cell and the board as
 /// they were.
 pub(crate) fn reregister<K: CellCore, P: Poller, C, R: Wait + Drop>(
     rt: &R,

@@ -19,7 +19,7 @@ use std::sync::Wait;
 pub type ChannelCell<T> = Cell<ChannelCore<T>>;
 
 /// A cell to which nothing has happened yet, under its lock, and the right to its receiving end.
-pub fn locked<T: Drop>(
+pub fn new_locked<T: Drop>(
     alloc: Global,
     bound: Option<usize>,
 ) -> LoopResult<(Locked<ChannelCell<T>>, ReceivingRight)>
@@ -28,7 +28,7 @@ pub fn locked<T: Drop>(
     ensures err { IfErr result (λ e. e ≡ OutOfMemory) }
 {
     let (core, label, right) = ChannelCore::new(alloc, bound)?;
-    Ok((Cell::locked(alloc, core, &label)?, right))
+    Ok((Cell::new_locked(alloc, core, &label)?, right))
 }
 
 /// Appends a message. Where there is no room, the channel is pinged.
@@ -45,7 +45,7 @@ pub fn put<T: Drop, R: Wait>(
     let cell = held.core();
     match cell.core.put(message) {
         Ok((receipt, debt)) => {
-            let owed = cell.owed(rt, debt);
+            let owed = cell.with_hub(rt, debt);
             held.unlock();
             shared.tell_all(Awaited::Content);
             settle(rt, owed);
@@ -53,7 +53,7 @@ pub fn put<T: Drop, R: Wait>(
         }
         Err(PutError::Full(message)) => {
             let debt = cell.core.ring();
-            let owed = cell.owed(rt, debt);
+            let owed = cell.with_hub(rt, debt);
             held.unlock();
             settle(rt, owed);
             Err(PutError::Full(message))
@@ -82,7 +82,7 @@ pub fn put_waiting<T: Drop, R: Wait>(
         let cell = held.core();
         match cell.core.put(message) {
             Ok((receipt, debt)) => {
-                let owed = cell.owed(rt, debt);
+                let owed = cell.with_hub(rt, debt);
                 held.unlock();
                 shared.tell_all(Awaited::Content);
                 settle(rt, owed);
@@ -203,7 +203,7 @@ pub fn end_turn<T: Drop, R: Wait>(rt: &R, shared: &Locked<ChannelCell<T>>, turn:
     let mut held = shared.lock(rt);
     let cell = held.core();
     let debt = cell.core.end_turn(turn);
-    let owed = cell.owed(rt, debt);
+    let owed = cell.with_hub(rt, debt);
     held.unlock();
     settle(rt, owed);
 }

@@ -5,7 +5,7 @@ ghost use Rattle.calloop_wake.specs.Cells.{is_own};
 ghost use Rattle.calloop_wake.specs.Channels.{turn_after_pop, twin_after_pop, is_close};
 ghost use Rattle.calloop_wake.specs.declared.wake.channel.Popped.{Popped};
 ghost use Rattle.calloop_core.specs.Calls.{Went};
-ghost use Rattle.calloop.specs.Channels.{call_of, begun, label_of, opened, turn_after, IsOver, Handed};
+ghost use Rattle.calloop.specs.Channels.{call_of, fresh_turn, label_of, with_turn, turn_after, IsOver, Handed};
 
 use super::cell::{self, ChannelCell};
 use super::{Channel, ChannelError, Event};
@@ -117,7 +117,7 @@ impl<T: Drop, R: Wait + Drop> Channel<T, R> {
     // Opens a turn of its cell. The pass comes back as refused where it opens none.
     fn open_turn(&mut self, pass: TakenPass) -> Result<ChannelTurn, TakenPass>
         ensures ok { IfOk result (λ turn.
-            (turn ≡ begun (label_of self.old)) × (self.new ≡ opened self.old)) }
+            (turn ≡ fresh_turn (label_of self.old)) × (self.new ≡ with_turn self.old)) }
         ensures err { IfErr result (λ refused.
             (refused ≡ record pass { refused = Some self.old.twin.name }) × (self.new ≡ self.old)) }
     {
@@ -204,7 +204,7 @@ impl<T: Drop, P: Poller, C, R: Wait + Drop> EventSource<P, C, R> for Channel<T, 
     /// Registers the channel under the factory's next token. One that holds a message or was closed before is posted at once.
     ///
     /// Where it is registered already the answer is `IoError` of kind `AlreadyExists`; a factory without tokens is
-    /// `TooManyTokens`, and want of memory `OutOfMemory`. A refusal leaves the channel and the board as they were.
+    /// `TooManyTokens`, and running out of memory `OutOfMemory`. A refusal leaves the channel and the board as they were.
     fn register(&mut self, poll: &mut Poll<P, C, R>, factory: &mut TokenFactory) -> LoopResult<()> {
         register(&self.rt, &self.shared, &mut self.twin, poll, factory)
     }
@@ -213,7 +213,7 @@ impl<T: Drop, P: Poller, C, R: Wait + Drop> EventSource<P, C, R> for Channel<T, 
     /// under the new key.
     ///
     /// Where the channel isn't registered the answer is `IoError` of kind `NotFound`; a factory without tokens is
-    /// `TooManyTokens`, an open place of the new key `IoError` of kind `AlreadyExists`, and want of memory `OutOfMemory`.
+    /// `TooManyTokens`, an open place of the new key `IoError` of kind `AlreadyExists`, and running out of memory `OutOfMemory`.
     /// A refusal leaves the channel and the board as they were.
     fn reregister(
         &mut self,

@@ -22,13 +22,13 @@ use std::sync::Wait;
 pub type TaskCell = Cell<ExecutorCore>;
 
 /// A cell without tasks, under its lock, and the rights to its receiving end and to the places of its futures.
-pub fn locked(alloc: Global) -> LoopResult<(Locked<TaskCell>, ReceivingRight, KeepingRight)>
+pub fn new_locked(alloc: Global) -> LoopResult<(Locked<TaskCell>, ReceivingRight, KeepingRight)>
     ensures right { IfOk result (λ made. made.1.name ≡ made.0.slot) }
     ensures keeping { IfOk result (λ made. made.2.name ≡ made.0.slot) }
     ensures err { IfErr result (λ e. e ≡ OutOfMemory) }
 {
     let (core, name, right, keeping) = ExecutorCore::new(alloc)?;
-    Ok((Cell::locked(alloc, core, &name)?, right, keeping))
+    Ok((Cell::new_locked(alloc, core, &name)?, right, keeping))
 }
 
 /// A new task, which is queued, and what gives its receipt once its future is kept.
@@ -44,7 +44,7 @@ pub fn put<R: Wait>(
     match cell.core.put(home) {
         Ok(put) => {
             let PutTask { key, due, debt } = put;
-            let owed = cell.owed(rt, debt);
+            let owed = cell.with_hub(rt, debt);
             held.unlock();
             settle(rt, owed);
             Ok((key, due))
@@ -64,7 +64,7 @@ pub fn wake<R: Wait>(rt: &R, shared: &Locked<TaskCell>, key: TaskKey) {
     let mut held = shared.lock(rt);
     let cell = held.core();
     let debt = cell.core.wake(key);
-    let owed = cell.owed(rt, debt);
+    let owed = cell.with_hub(rt, debt);
     if cell.core.is_awake(key) {
         held.unlock_with_hint(key.number);
     } else {
@@ -158,7 +158,7 @@ pub fn end_turn<R: Wait>(
     let mut held = lock_at(rt, shared, &turn);
     let cell = held.core();
     let debt = cell.core.end_turn(turn, twin, finished);
-    let owed = cell.owed(rt, debt);
+    let owed = cell.with_hub(rt, debt);
     held.unlock();
     settle(rt, owed);
 }

@@ -40,7 +40,7 @@ impl<Fut: Drop, R: Wait + Drop> Model for Scheduler<Fut, R> {
 }
 
 // Why a future isn't scheduled.
-fn refused<Fut>(future: Fut, why: PutRefusal) -> ScheduleError<Fut>
+fn refusal<Fut>(future: Fut, why: PutRefusal) -> ScheduleError<Fut>
 where
     Fut: Drop,
     ensures memory { why ≡ PutRefusal.OutOfMemory → result ≡ ScheduleError.OutOfMemory future }
@@ -76,7 +76,7 @@ impl<Fut: Drop, R: Wait + Drop> Scheduler<Fut, R> {
 impl<Fut: Future<R>, R: Wait + Clone + Drop> Scheduler<Fut, R> {
     /// Hands a future over, which is polled in a later turn of the executor. The receipt is of a task of this very executor.
     ///
-    /// Where the executor is gone, the answer is `Destroyed`, and the future is dropped. Want of memory hands it back; later wakes
+    /// Where the executor is gone, the answer is `Destroyed`, and the future is dropped. Running out of memory hands it back; later wakes
     /// of the task take none.
     pub fn schedule(&self, future: Fut) -> Result<Receipt, ScheduleError<Fut>>
         ensures ok { IfOk result (λ r. r.name ≡ self.now) }
@@ -87,7 +87,7 @@ impl<Fut: Future<R>, R: Wait + Clone + Drop> Scheduler<Fut, R> {
         };
         let home = match homes::reserve(&self.rt, &self.homes) {
             Ok(home) => home,
-            Err(why) => return Err(refused(future, why)),
+            Err(why) => return Err(refusal(future, why)),
         };
         match cell::put(&self.rt, &self.shared, home) {
             Ok((key, due)) => {
@@ -101,7 +101,7 @@ impl<Fut: Future<R>, R: Wait + Clone + Drop> Scheduler<Fut, R> {
             }
             Err(why) => {
                 homes::free(&self.rt, &self.homes, home);
-                Err(refused(future, why))
+                Err(refusal(future, why))
             }
         }
     }

@@ -217,7 +217,7 @@ impl<Fut: Future<R>, P: Poller, C, R: Wait + Drop> EventSource<P, C, R> for Exec
     /// Registers the executor under the factory's next token. One with queued tasks is posted at once.
     ///
     /// Where it is registered already the answer is `IoError` of kind `AlreadyExists`; a factory without tokens is
-    /// `TooManyTokens`, and want of memory `OutOfMemory`. A refusal leaves the executor and the board as they were.
+    /// `TooManyTokens`, and running out of memory `OutOfMemory`. A refusal leaves the executor and the board as they were.
     fn register(&mut self, poll: &mut Poll<P, C, R>, factory: &mut TokenFactory) -> LoopResult<()> {
         register(&self.rt, &self.shared, &mut self.twin, poll, factory)
     }
@@ -226,7 +226,7 @@ impl<Fut: Future<R>, P: Poller, C, R: Wait + Drop> EventSource<P, C, R> for Exec
     /// under the new key.
     ///
     /// Where the executor isn't registered the answer is `IoError` of kind `NotFound`; a factory without tokens is
-    /// `TooManyTokens`, an open place of the new key `IoError` of kind `AlreadyExists`, and want of memory `OutOfMemory`.
+    /// `TooManyTokens`, an open place of the new key `IoError` of kind `AlreadyExists`, and running out of memory `OutOfMemory`.
     /// A refusal leaves the executor and the board as they were.
     fn reregister(
         &mut self,

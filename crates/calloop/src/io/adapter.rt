@@ -148,7 +148,7 @@ impl<P: Poller, C, R: Wait + Drop, X, Q: Asking> Dispatch<P, C, R, X, Q> for Ada
     /// It gets its token, and room for its mark; no poller is called. What was polled until then is taken up by the next dispatch.
     ///
     /// Where it is in a loop already the answer is `IoError` of kind `AlreadyExists`; a factory without tokens is `TooManyTokens`,
-    /// and want of memory `OutOfMemory`. A refusal leaves all as it was.
+    /// and running out of memory `OutOfMemory`. A refusal leaves all as it was.
     fn register(
         &mut self,
         poll: &mut Poll<P, C, R>,

@@ -7,7 +7,7 @@ ghost use Rattle.calloop_wake.specs.declared.error.Error.TheVariants.{OutOfMemor
 ghost use Rattle.calloop_core.specs.Polls.{poll_view, IsReady};
 ghost use Rattle.calloop_core.specs.Registering.{DidEdit};
 ghost use Rattle.calloop.specs.TakingUp.{taking_up};
-ghost use Rattle.calloop.specs.AdapterNotes.{polled, slotted};
+ghost use Rattle.calloop.specs.AdapterNotes.{with_poll_note, with_slot_note};
 ghost use Rattle.calloop.specs.declared.io.notes.PollNote.TheVariants.{Answered, Refused, Waits, Tried, Flushed};
 ghost use Rattle.calloop.specs.declared.io.notes.SlotNote.TheVariants.{Heard, Settled as SettledSo, Kept, Asked, Reached};
 ghost use Rattle.calloop.specs.Refusals.{IsAnswer, of_registration};
@@ -73,7 +73,7 @@ impl<P: Poller, R: Wait + Drop> Model for SlotEnd<P, R> {
     ghost invariant = { λ e. e.twin.name ≡ (arc_value e.shared).state.slot };
 }
 
-/// Both ends of an adapter that is in no loop yet, without its socket. Want of memory is `OutOfMemory`.
+/// Both ends of an adapter that is in no loop yet, without its socket. Running out of memory is `OutOfMemory`.
 pub(crate) fn make_ends<P: Poller, R: Wait + Clone + Drop>(
     rt: &R,
     alloc: Global,
@@ -132,7 +132,7 @@ fn take_refusal<R: Wait + Drop>(
 ) -> Option<Error>
     requires { twin.old.name ≡ state.now.slot }
     ensures refused { IfSome result (λ e. of_registration e ≡ true) }
-    ensures twin { twin.new ≡ polled (Refused result) twin.old }
+    ensures twin { twin.new ≡ with_poll_note (Refused result) twin.old }
 {
     let mut held = state.lock(rt);
     let error = held.core().take_refusal(twin);
@@ -148,7 +148,7 @@ fn answer<R: Wait + Drop>(
 ) -> Option<LoopResult<()>>
     requires { twin.old.name ≡ state.now.slot }
     ensures refused { IfSome result IsAnswer }
-    ensures some { IfSome result (λ a. twin.new ≡ polled (Answered a) twin.old) }
+    ensures some { IfSome result (λ a. twin.new ≡ with_poll_note (Answered a) twin.old) }
     ensures none { IfNone result (twin.new ≡ twin.old) }
 {
     let mut held = state.lock(rt);
@@ -165,7 +165,7 @@ fn wait<R: Wait + Drop>(
     waker: Waker<R>,
 ) -> Result<(), AllocError>
     requires { twin.old.name ≡ state.now.slot }
-    ensures { twin.new ≡ polled (Waits wanted) twin.old }
+    ensures { twin.new ≡ with_poll_note (Waits wanted) twin.old }
 {
     let mut held = state.lock(rt);
     let Waiting { older, debt } = held.core().wait(rt, twin, wanted, waker);
@@ -184,10 +184,10 @@ fn answer_or_wait<R: Wait + Drop>(
     requires { twin.old.name ≡ state.now.slot }
     ensures refused { IfOk result (λ answer. IfSome answer IsAnswer) }
     ensures some { IfOk result (λ answer. IfSome answer
-        (λ a. twin.new ≡ polled (Answered a) twin.old)) }
+        (λ a. twin.new ≡ with_poll_note (Answered a) twin.old)) }
     ensures none { IfOk result (λ answer. IfNone answer
-        (twin.new ≡ polled (Waits wanted) twin.old)) }
-    ensures err { OnErr result (twin.new ≡ polled (Waits wanted) twin.old) }
+        (twin.new ≡ with_poll_note (Waits wanted) twin.old)) }
+    ensures err { OnErr result (twin.new ≡ with_poll_note (Waits wanted) twin.old) }
 {
     let mut held = state.lock(rt);
     let answer = held.core().answer(twin, wanted);
@@ -238,7 +238,7 @@ fn try_read<Io: Read + Drop, R: Wait>(
     buf: &mut [u8],
 ) -> io::Result<usize>
     ensures bound { ReadsAtMost result buf.new }
-    ensures twin { twin.new ≡ polled (Tried result) twin.old }
+    ensures twin { twin.new ≡ with_poll_note (Tried result) twin.old }
 {
     let mut held = io.lock(rt);
     twin.try_read(&mut *held, buf)
@@ -251,7 +251,7 @@ fn try_write<Io: Write + Drop, R: Wait>(
     buf: &[u8],
 ) -> io::Result<usize>
     ensures bound { WritesAtMost result buf.now }
-    ensures twin { twin.new ≡ polled (Tried result) twin.old }
+    ensures twin { twin.new ≡ with_poll_note (Tried result) twin.old }
 {
     let mut held = io.lock(rt);
     twin.try_write(&mut *held, buf)
@@ -262,7 +262,7 @@ fn try_flush<Io: Write + Drop, R: Wait>(
     io: &Mutex<Option<Io>>,
     twin: &mut PollTwin,
 ) -> io::Result<()>
-    ensures twin { twin.new ≡ polled (Flushed result) twin.old }
+    ensures twin { twin.new ≡ with_poll_note (Flushed result) twin.old }
 {
     let mut held = io.lock(rt);
     twin.try_flush(&mut *held)
@@ -277,7 +277,7 @@ impl<P: Poller, R: Wait + Drop> PollEnd<P, R> {
     /// A refusal that is kept, once.
     pub(crate) fn take_refusal(&mut self) -> Option<Error>
         ensures refused { IfSome result (λ e. of_registration e ≡ true) }
-        ensures twin { self.new ≡ polled (Refused result) self.old }
+        ensures twin { self.new ≡ with_poll_note (Refused result) self.old }
     {
         take_refusal(&self.rt, &self.shared.state, &mut self.twin)
     }
@@ -290,17 +290,17 @@ impl<P: Poller, R: Wait + Drop> PollEnd<P, R> {
     ) -> Result<Option<LoopResult<()>>, AllocError>
         ensures refused { IfOk result (λ answer. IfSome answer IsAnswer) }
         ensures some { IfOk result (λ answer. IfSome answer
-            (λ a. self.new ≡ polled (Answered a) self.old)) }
+            (λ a. self.new ≡ with_poll_note (Answered a) self.old)) }
         ensures none { IfOk result (λ answer. IfNone answer
-            (self.new ≡ polled (Waits wanted) self.old)) }
-        ensures err { OnErr result (self.new ≡ polled (Waits wanted) self.old) }
+            (self.new ≡ with_poll_note (Waits wanted) self.old)) }
+        ensures err { OnErr result (self.new ≡ with_poll_note (Waits wanted) self.old) }
     {
         answer_or_wait(&self.rt, &self.shared.state, &mut self.twin, wanted, waker)
     }
 
     /// A poll waits, and the loop is nudged.
     pub(crate) fn wait(&mut self, wanted: Interest, waker: Waker<R>) -> Result<(), AllocError>
-        ensures { self.new ≡ polled (Waits wanted) self.old }
+        ensures { self.new ≡ with_poll_note (Waits wanted) self.old }
     {
         wait(&self.rt, &self.shared.state, &mut self.twin, wanted, waker)
     }
@@ -310,7 +310,7 @@ impl<P: Poller, R: Wait + Drop> PollEnd<P, R> {
     where
         P::Io: Read,
         ensures bound { ReadsAtMost result buf.new }
-        ensures twin { self.new ≡ polled (Tried result) self.old }
+        ensures twin { self.new ≡ with_poll_note (Tried result) self.old }
     {
         try_read(&self.rt, &self.shared.io, &mut self.twin, buf)
     }
@@ -320,7 +320,7 @@ impl<P: Poller, R: Wait + Drop> PollEnd<P, R> {
     where
         P::Io: Write,
         ensures bound { WritesAtMost result buf.now }
-        ensures twin { self.new ≡ polled (Tried result) self.old }
+        ensures twin { self.new ≡ with_poll_note (Tried result) self.old }
     {
         try_write(&self.rt, &self.shared.io, &mut self.twin, buf)
     }
@@ -329,7 +329,7 @@ impl<P: Poller, R: Wait + Drop> PollEnd<P, R> {
     pub(crate) fn try_flush(&mut self) -> io::Result<()>
     where
         P::Io: Write,
-        ensures twin { self.new ≡ polled (Flushed result) self.old }
+        ensures twin { self.new ≡ with_poll_note (Flushed result) self.old }
     {
         try_flush(&self.rt, &self.shared.io, &mut self.twin)
     }
@@ -372,7 +372,7 @@ fn leave<R: Wait + Drop>(rt: &R, state: &Locked<State<R>>, twin: &SlotTwin)
 
 fn is_leaving<R: Wait + Drop>(rt: &R, state: &Locked<State<R>>, twin: &mut SlotTwin) -> bool
     requires { twin.old.name ≡ state.now.slot }
-    ensures { twin.new ≡ slotted (Asked result) twin.old }
+    ensures { twin.new ≡ with_slot_note (Asked result) twin.old }
 {
     let mut held = state.lock(rt);
     let leaving = held.core().is_leaving(twin);
@@ -382,7 +382,7 @@ fn is_leaving<R: Wait + Drop>(rt: &R, state: &Locked<State<R>>, twin: &mut SlotT
 
 fn settle<R: Wait + Drop>(rt: &R, state: &Locked<State<R>>, twin: &mut SlotTwin) -> Settled
     requires { twin.old.name ≡ state.now.slot }
-    ensures { twin.new ≡ slotted (SettledSo result) twin.old }
+    ensures { twin.new ≡ with_slot_note (SettledSo result) twin.old }
 {
     let mut held = state.lock(rt);
     let settled = held.core().settle(twin);
@@ -392,7 +392,7 @@ fn settle<R: Wait + Drop>(rt: &R, state: &Locked<State<R>>, twin: &mut SlotTwin)
 
 fn refuse<R: Wait + Drop>(rt: &R, state: &Locked<State<R>>, twin: &mut SlotTwin, refusal: Refusal)
     requires { twin.old.name ≡ state.now.slot }
-    ensures { twin.new ≡ slotted (Kept refusal.error) twin.old }
+    ensures { twin.new ≡ with_slot_note (Kept refusal.error) twin.old }
 {
     let mut held = state.lock(rt);
     let waking = held.core().refuse(twin, refusal);
@@ -402,7 +402,7 @@ fn refuse<R: Wait + Drop>(rt: &R, state: &Locked<State<R>>, twin: &mut SlotTwin,
 
 fn hear<R: Wait + Drop>(rt: &R, state: &Locked<State<R>>, twin: &mut SlotTwin, found: Readiness)
     requires { twin.old.name ≡ state.now.slot }
-    ensures { twin.new ≡ slotted (Heard found) twin.old }
+    ensures { twin.new ≡ with_slot_note (Heard found) twin.old }
 {
     let mut held = state.lock(rt);
     let waking = held.core().hear(twin, found);
@@ -420,7 +420,7 @@ fn register<P: Poller, C, R: Wait + Drop>(
     interest: Interest,
     poll: &mut Poll<P, C, R>,
 ) -> Option<LoopResult<()>>
-    ensures twin { twin.new ≡ slotted (Reached (is_some result)) twin.old }
+    ensures twin { twin.new ≡ with_slot_note (Reached (is_some result)) twin.old }
     ensures none { IfNone result (poll_view poll.new ≡ poll_view poll.old) }
     ensures some { IfSome result (λ told. (socket : P.Io) × (after : P.Io)
         × DidEdit P.outside P.sockets (taking_up token entered interest)
@@ -446,7 +446,7 @@ impl<P: Poller, R: Wait + Drop> SlotEnd<P, R> {
         interest: Interest,
         poll: &mut Poll<P, C, R>,
     ) -> Option<LoopResult<()>>
-        ensures twin { self.new ≡ slotted (Reached (is_some result)) self.old }
+        ensures twin { self.new ≡ with_slot_note (Reached (is_some result)) self.old }
         ensures none { IfNone result (poll_view poll.new ≡ poll_view poll.old) }
         ensures some { IfSome result (λ told. (socket : P.Io) × (after : P.Io)
             × DidEdit P.outside P.sockets (taking_up token entered interest)
@@ -470,7 +470,7 @@ impl<P: Poller, R: Wait + Drop> SlotEnd<P, R> {
         self.shared.io.lock(&self.rt)
     }
 
-    /// Makes room for its mark in this loop. Want of memory changes nothing.
+    /// Makes room for its mark in this loop. Running out of memory changes nothing.
     pub(crate) fn open_mark(&self, hub: &SharedHub) -> Result<(), AllocError> {
         hub.open_mark(&self.rt)
     }
@@ -496,28 +496,28 @@ impl<P: Poller, R: Wait + Drop> SlotEnd<P, R> {
 
     /// Whether it is being given back.
     pub(crate) fn is_leaving(&mut self) -> bool
-        ensures { self.new ≡ slotted (Asked result) self.old }
+        ensures { self.new ≡ with_slot_note (Asked result) self.old }
     {
         is_leaving(&self.rt, &self.shared.state, &mut self.twin)
     }
 
     /// What the loop is to do with it.
     pub(crate) fn settle(&mut self) -> Settled
-        ensures { self.new ≡ slotted (SettledSo result) self.old }
+        ensures { self.new ≡ with_slot_note (SettledSo result) self.old }
     {
         settle(&self.rt, &self.shared.state, &mut self.twin)
     }
 
     /// Keeps a refusal, and wakes who waits.
     pub(crate) fn refuse(&mut self, refusal: Refusal)
-        ensures { self.new ≡ slotted (Kept refusal.error) self.old }
+        ensures { self.new ≡ with_slot_note (Kept refusal.error) self.old }
     {
         refuse(&self.rt, &self.shared.state, &mut self.twin, refusal);
     }
 
     /// Keeps what was found, and wakes who waits.
     pub(crate) fn hear(&mut self, found: Readiness)
-        ensures { self.new ≡ slotted (Heard found) self.old }
+        ensures { self.new ≡ with_slot_note (Heard found) self.old }
     {
         hear(&self.rt, &self.shared.state, &mut self.twin, found);
     }

@@ -3,7 +3,7 @@
 ghost use Rattle.std.specs.Prelude.{◌≡◌, ◌++◌, ◌∷◌, [], None, Some, true, false, is_some, not, ◌&&◌, ◌||◌, IfSome, IfNone, option_map};
 ghost use Rattle.std.specs.Io.{ReadsAtMost, WritesAtMost};
 ghost use Rattle.calloop.specs.AdapterStates.{suits, fresh_state, error_of, answer_of, after_answer, after_wait, after_coming, after_drop, settled_by};
-ghost use Rattle.calloop.specs.AdapterNotes.{polled, slotted};
+ghost use Rattle.calloop.specs.AdapterNotes.{with_poll_note, with_slot_note};
 ghost use Rattle.calloop.specs.declared.io.notes.PollNote.TheVariants.{Answered, Refused, Waits, Tried, Flushed};
 ghost use Rattle.calloop.specs.declared.io.notes.SlotNote.TheVariants.{Heard, Settled as SettledSo, Kept, Asked, Reached};
 ghost use Rattle.calloop.specs.Refusals.{IsAnswer, of_registration};
@@ -188,7 +188,7 @@ impl PollTwin {
         buf: &mut [u8],
     ) -> io::Result<usize>
         ensures bound { ReadsAtMost result buf.new }
-        ensures twin { self.new ≡ polled (Tried result) self.old }
+        ensures twin { self.new ≡ with_poll_note (Tried result) self.old }
     {
         let answer = match io {
             Some(io) => io.read(buf),
@@ -205,7 +205,7 @@ impl PollTwin {
         buf: &[u8],
     ) -> io::Result<usize>
         ensures bound { WritesAtMost result buf.now }
-        ensures twin { self.new ≡ polled (Tried result) self.old }
+        ensures twin { self.new ≡ with_poll_note (Tried result) self.old }
     {
         let answer = match io {
             Some(io) => io.write(buf),
@@ -217,7 +217,7 @@ impl PollTwin {
 
     /// Flushes the socket, where it is there, and notes the answer.
     pub(crate) fn try_flush<Io: Write>(&mut self, io: &mut Option<Io>) -> io::Result<()>
-        ensures twin { self.new ≡ polled (Flushed result) self.old }
+        ensures twin { self.new ≡ with_poll_note (Flushed result) self.old }
     {
         let answer = match io {
             Some(io) => io.flush(),
@@ -231,7 +231,7 @@ impl PollTwin {
 impl SlotTwin {
     /// Notes whether the socket is there.
     pub(crate) fn reach<Io>(&mut self, io: &Option<Io>)
-        ensures { self.new ≡ slotted (Reached (is_some io.now)) self.old }
+        ensures { self.new ≡ with_slot_note (Reached (is_some io.now)) self.old }
     {
         let there = io.is_some();
         self.notes = self.notes.and_reached(&there);
@@ -268,7 +268,7 @@ impl<R: Wait + Drop> State<R> {
         ensures gives { result ≡ option_map error_of self.old.refusal }
         ensures state { self.new ≡ record self.old { refusal = None } }
         ensures refused { IfSome result (λ e. of_registration e ≡ true) }
-        ensures twin { twin.new ≡ polled (Refused result) twin.old }
+        ensures twin { twin.new ≡ with_poll_note (Refused result) twin.old }
     {
         let error = match self.refusal.take() {
             Some(refusal) => Some(refusal.into_error()),
@@ -301,7 +301,7 @@ impl<R: Wait + Drop> State<R> {
         ensures answer { result ≡ answer_of self.old.refusal wanted self.old.readiness }
         ensures refused { IfSome result IsAnswer }
         ensures state { self.new ≡ after_answer self.old }
-        ensures some { IfSome result (λ a. twin.new ≡ polled (Answered a) twin.old) }
+        ensures some { IfSome result (λ a. twin.new ≡ with_poll_note (Answered a) twin.old) }
         ensures none { IfNone result (twin.new ≡ twin.old) }
     {
         let answer = self.answer_to(wanted)?;
@@ -341,7 +341,7 @@ impl<R: Wait + Drop> State<R> {
         ensures older { result.older ≡ self.old.waker }
         ensures owes { is_some result.debt ≡ (is_some self.old.home && not self.old.marked) }
         ensures state { self.new ≡ after_wait wanted waker self.old }
-        ensures twin { twin.new ≡ polled (Waits wanted) twin.old }
+        ensures twin { twin.new ≡ with_poll_note (Waits wanted) twin.old }
     {
         twin.notes = twin.notes.and_waits(&wanted);
         self.interest = Some(wanted);
@@ -396,7 +396,7 @@ impl<R: Wait + Drop> State<R> {
         requires { twin.old.name ≡ self.old.name }
         ensures settled { result ≡ settled_by self.old.marked self.old.dropped self.old.interest }
         ensures state { self.new ≡ record self.old { marked = false } }
-        ensures twin { twin.new ≡ slotted (SettledSo result) twin.old }
+        ensures twin { twin.new ≡ with_slot_note (SettledSo result) twin.old }
     {
         let settled = self.to_settle();
         self.marked = false;
@@ -425,7 +425,7 @@ impl<R: Wait + Drop> State<R> {
         ensures wakes { result.waker ≡ self.old.waker }
         ensures state { self.new
             ≡ record self.old { refusal = Some refusal; interest = None; waker = None } }
-        ensures twin { twin.new ≡ slotted (Kept refusal.error) twin.old }
+        ensures twin { twin.new ≡ with_slot_note (Kept refusal.error) twin.old }
     {
         twin.notes = twin.notes.and_kept(refusal.error());
         self.refusal = Some(refusal);
@@ -441,7 +441,7 @@ impl<R: Wait + Drop> State<R> {
         ensures wakes { result.waker ≡ self.old.waker }
         ensures state { self.new
             ≡ record self.old { readiness = found; interest = None; waker = None } }
-        ensures twin { twin.new ≡ slotted (Heard found) twin.old }
+        ensures twin { twin.new ≡ with_slot_note (Heard found) twin.old }
     {
         twin.notes = twin.notes.and_heard(&found);
         self.readiness = found;
@@ -464,7 +464,7 @@ impl<R: Wait + Drop> State<R> {
     pub(crate) fn is_leaving(&self, twin: &mut SlotTwin) -> bool
         requires { twin.old.name ≡ self.now.name }
         ensures answer { result ≡ self.now.leaving }
-        ensures twin { twin.new ≡ slotted (Asked result) twin.old }
+        ensures twin { twin.new ≡ with_slot_note (Asked result) twin.old }
     {
         let leaving = self.leaving;
         twin.notes = twin.notes.and_asked(&leaving);

@@ -4,7 +4,7 @@ ghost use Rattle.std.specs.Prelude.{◌≡◌, ◌⊎◌, ◌+◌, ◌-◌, ◌^
 ghost use Rattle.std.specs.VecDeque.{deque_len, deque_capacity};
 ghost use Rattle.calloop_wake.specs.declared.error.Error.TheVariants.{OutOfMemory, TooManyTickets};
 ghost use Rattle.calloop.specs.declared.loop_logic.asks.Request.TheVariants.{Insert, Enable, Update, Disable, Remove, Idle as IdleOf, Cancel};
-ghost use Rattle.calloop.specs.Askings.{IsAsked, CannotAsk, OnlyAsks, StandsAt, Take, ask_after, begun, cleared, found, idle_begun, is_other_idle, is_since, no_asks, of_turn, owing, paid, request_of, running_of, taken_up, told, with_idle, with_new_idle, without, without_idle};
+ghost use Rattle.calloop.specs.Askings.{IsAsked, CannotAsk, OnlyAsks, StandsAt, Take, ask_after, after_begin, without_old, answer_under, idle_begun, is_other_idle, is_since, no_asks, of_turn, owing, with_owed_answer, request_of, running_of, taken_up, with_answer, with_idle, with_new_idle, without, without_idle};
 
 use calloop_core::sources::{Asking, Choice, Dispatcher};
 use calloop_wake::error::{Error, InsertError, Result};
@@ -93,7 +93,7 @@ pub(super) struct Idling<I> {
 /// What the callbacks of a loop over `D` ask for, and the answers that were not handed out. What is asked for in a turn is
 /// carried out in order when the turn ends. `I` is what the loop can be asked to do once.
 ///
-/// Each call takes the room for its answer first, so that nothing fails for want of memory later. It is refused with
+/// Each call takes the room for its answer first, so that nothing fails for lack of memory later. It is refused with
 /// `OutOfMemory` where there is none, and with `TooManyTickets` where 2^64 - 1 tickets were given; then nothing is asked for.
 #[derive(Drop)]
 pub struct Requests<D, I = ()> {
@@ -345,7 +345,7 @@ impl<D, I> Requests<D, I> {
     /// after the idles that were asked for beside it were taken up: the next one, or a later one where dispatches fail before their
     /// idles or where an idle asked for it. In calloop a call of the handle answers at once.
     pub fn answer(&mut self, ticket: Ticket) -> Option<Answer<D>>
-        ensures value { result ≡ found ticket.number self.old.answers }
+        ensures value { result ≡ answer_under ticket.number self.old.answers }
         ensures rest { self.new ≡ ask_after self.old (Take ticket.number) }
         ensures asks { OnlyAsks self.old self.new }
     {
@@ -408,7 +408,7 @@ impl<D, I> Requests<D, I> {
     // The first request, which is carried out from now on.
     pub(super) fn begin(&mut self) -> Option<Request<D, I>>
         ensures first { result ≡ request_of self.old.written }
-        ensures asks { self.new ≡ begun self.old }
+        ensures asks { self.new ≡ after_begin self.old }
     {
         let asked = self.written.pop_front()?;
         self.serving = Some(asked.ticket);
@@ -419,7 +419,7 @@ impl<D, I> Requests<D, I> {
     pub(super) fn tell(&mut self, answer: Answer<D>)
     where
         D: Drop,
-        ensures { self.new ≡ told answer self.old }
+        ensures { self.new ≡ with_answer answer self.old }
     {
         if let Some(ticket) = self.serving {
             self.serving = None;
@@ -439,7 +439,7 @@ impl<D, I> Requests<D, I> {
     pub(super) fn pay(&mut self, answer: Answer<D>)
     where
         D: Drop,
-        ensures { self.new ≡ paid answer self.old }
+        ensures { self.new ≡ with_owed_answer answer self.old }
     {
         if let Some(ticket) = self.owed {
             self.owed = None;
@@ -451,7 +451,7 @@ impl<D, I> Requests<D, I> {
     pub(super) fn clear_answers(&mut self)
     where
         D: Drop,
-        ensures { self.new ≡ cleared self.old }
+        ensures { self.new ≡ without_old self.old }
     {
         drop_before(&mut self.answers, self.taken_up_at);
     }
@@ -610,7 +610,7 @@ fn drop_before<D: Drop>(answers: &mut Vec<Answered<D>>, ticket: u64)
 // Where the answer under this ticket stands.
 fn place_of<D>(answers: &[Answered<D>], ticket: u64) -> Option<usize>
     ensures some { IfSome result (λ place. StandsAt ticket place answers.now) }
-    ensures none { IfNone result ((found ticket answers.now ≡ None)
+    ensures none { IfNone result ((answer_under ticket answers.now ≡ None)
         × (without ticket answers.now ≡ answers.now)) }
 {
     for (place, answered) in answers.iter().enumerate() {
@@ -622,7 +622,7 @@ fn place_of<D>(answers: &[Answered<D>], ticket: u64) -> Option<usize>
 }
 
 fn take<D>(answers: &mut Vec<Answered<D>>, ticket: u64) -> Option<Answer<D>>
-    ensures value { result ≡ found ticket answers.old.items }
+    ensures value { result ≡ answer_under ticket answers.old.items }
     ensures rest { answers.new.items ≡ without ticket answers.old.items }
     ensures room { (vec_len answers.new ≤ vec_len answers.old)
         × (vec_capacity answers.new ≡ vec_capacity answers.old) }

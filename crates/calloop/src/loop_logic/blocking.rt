@@ -40,7 +40,7 @@ where
 
 impl<D: EventDispatcher<P, C, R>, P: Poller, C: Clock, R: Wait + Drop> EventLoop<D, P, C, R> {
     // A waker that ends this loop's wait, and what it marks.
-    fn blocked(&self, alloc: Global) -> Result<(Arc<Blocked, Global>, Waker<R>)>
+    fn new_waker(&self, alloc: Global) -> Result<(Arc<Blocked, Global>, Waker<R>)>
         ensures { IfErr result (λ e. e ≡ OutOfMemory) }
     {
         let blocked = Arc::new(alloc, Blocked::new(self.get_signal()?))?;
@@ -85,7 +85,7 @@ impl<D: EventDispatcher<P, C, R>, P: Poller, C: Clock, R: Wait + Drop> EventLoop
     /// before the first dispatch, and later once for each wake, or for several that came meanwhile; a wake ends the loop's wait. The
     /// answer is what it gives, or `None` where the loop is stopped. A stop of before is forgotten.
     ///
-    /// The first error of a dispatch ends it, without a call behind that. Want of memory at its beginning is `OutOfMemory`, and changes
+    /// The first error of a dispatch ends it, without a call behind that. Running out of memory at its beginning is `OutOfMemory`, and changes
     /// nothing.
     pub fn block_on<Q: Wait, Fut: Future<R>, F: FnMut(&mut D::Data)>(
         &mut self,
@@ -102,7 +102,7 @@ impl<D: EventDispatcher<P, C, R>, P: Poller, C: Clock, R: Wait + Drop> EventLoop
             Fut.polls future callback «data».old
             (view_of self.old) result «data».new (view_of self.new) }
     {
-        let woken = self.blocked(alloc)?;
+        let woken = self.new_waker(alloc)?;
         self.block_rounds(rt, future, woken, data, callback)
     }
 }

@@ -30,7 +30,7 @@ use std::sync::Wait;
 use std::time::Duration;
 
 impl<D: EventDispatcher<P, C, R>, P: Poller, C: Clock, R: Wait + Drop> EventLoop<D, P, C, R> {
-    /// A loop over this poller and this clock, without sources. Want of memory is `OutOfMemory`.
+    /// A loop over this poller and this clock, without sources. Running out of memory is `OutOfMemory`.
     pub fn try_new(rt: &R, alloc: Global, poller: P, clock: C) -> LoopResult<EventLoop<D, P, C, R>>
     where
         R: Clone,
@@ -64,7 +64,7 @@ impl<D: EventDispatcher<P, C, R>, P: Poller, C: Clock, R: Wait + Drop> EventLoop
     /// Waits for events, at most for `timeout`, without one until the first deadline, and for ever where there is none,
     /// and gives each source its turn.
     ///
-    /// Want of memory for the batch changes nothing. A fault of the wait is `IoError`, and leaves posted keys
+    /// Running out of memory for the batch changes nothing. A fault of the wait is `IoError`, and leaves posted keys
     /// posted. The error of a turn ends the dispatch; the rest of the batch comes first in the next one. After its turn a
     /// source is registered anew, unregistered, or leaves its slot, as it answered; a refusal of the first two is an error
     /// of the turn. One that left its slot is unregistered last; a failure of that is a warning.

@@ -3,7 +3,7 @@ ghost use Rattle.std.specs.Prelude.{◌≡◌, ◌↔◌, None, Ok, Err, IfOk, I
 ghost use Rattle.calloop_wake.specs.declared.error.Error.TheVariants.{InvalidToken};
 ghost use Rattle.calloop_wake.specs.declared.list.Content.TheVariants.{Source};
 ghost use Rattle.calloop_wake.specs.declared.list.Content.TheVariants.{InTurn, Vacant};
-ghost use Rattle.calloop_wake.specs.Slots.{named as named_by, source_of, changed, with_content, next_registration};
+ghost use Rattle.calloop_wake.specs.Slots.{content_at as named_by, source_of, with_change, with_content, next_registration};
 ghost use Rattle.std.specs.Prelude.{is_some, if◌then◌else◌};
 ghost use Rattle.calloop.specs.Roles.{only, is_callers};
 ghost use Rattle.std.specs.Borrow.{Lends, LendsIfOk, sem};
@@ -43,7 +43,7 @@ impl<D: EventDispatcher<P, C, R>, P: Poller, C: Clock, R: Wait + Drop> EventLoop
         ensures value { result
             ≡ source_of (only (is_callers D.means) (named_by sources.old token)) }
         ensures list { sources.new ≡ (if is_some result
-            then changed (with_content InTurn) sources.old token.slot else sources.old) }
+            then with_change (with_content InTurn) sources.old token.slot else sources.old) }
     {
         if !Self::is_callers(sources, token) {
             return None;
@@ -189,7 +189,8 @@ impl<D: EventDispatcher<P, C, R>, P: Poller, C: Clock, R: Wait + Drop> EventLoop
         ensures none { (result ≡ None)
             ↔ (source_of (only (is_callers D.means) (named_by self.old.sources token)) ≡ None) }
         ensures slots { self.new.sources ≡ (if is_some result
-            then changed (with_content Vacant) self.old.sources token.slot else self.old.sources) }
+            then with_change (with_content Vacant) self.old.sources token.slot
+            else self.old.sources) }
     {
         let mut source = Self::take_out(&mut self.sources, token)?;
         self.sources.vacate(token);
@@ -214,7 +215,7 @@ impl<D: EventDispatcher<P, C, R>, P: Poller, C: Clock, R: Wait + Drop> EventLoop
 impl<D: EventDispatcher<P, C, R>, P: Poller, C: Clock, R: Wait + Drop> LoopHandle<'_, D, P, C, R> {
     /// Registers a source in the first vacant slot, with a callback for its events.
     ///
-    /// A refusal hands the source back: `TooManySources` and want of memory for a new slot leave everything as it
+    /// A refusal hands the source back: `TooManySources` and running out of memory for a new slot leave everything as it
     /// was; where the registration is refused, the slot is vacant again, under its new version.
     pub fn insert_source<S, F, N>(
         &mut self,
@@ -342,7 +343,7 @@ impl<D: EventDispatcher<P, C, R>, P: Poller, C: Clock, R: Wait + Drop> LoopHandl
         ensures same { HasTheSameLoop self.old self.new }
         ensures none { (result ≡ None) ↔ NamesNone D.means token self.old }
         ensures slots { slots_by self.new ≡ (if is_some result
-            then changed (with_content Vacant) (slots_by self.old) token.slot
+            then with_change (with_content Vacant) (slots_by self.old) token.slot
             else slots_by self.old) }
         ensures case { IsCase D.means D.Idle.runs P.outside
             (Remove token) (Removed result) self.old self.new }

@@ -8,7 +8,7 @@ ghost use Rattle.calloop.specs.Homes.{AllAtHome};
 ghost use Rattle.calloop.specs.Served.{IsAccountOf, OverEveryDispatch, NothingIsLeft, AllAreCut, NoneIsLate, DueAreCut, IdlesRan, DeadlinesStaySorted};
 ghost use Rattle.calloop.specs.Unserved.{SmallAccount, two_wait, cuts_one, cuts_two, cuts_three, cuts_before, gathers_nothing, gathers_twice, takes_no_round, runs_no_idle, idle_waits, in_another_order, first_stays, second_stays, before_its_dispatch, account_of_it};
 ghost use Rattle.calloop.specs.ExampleRun.{of_the_dispatch};
-ghost use Rattle.calloop.specs.Laws.{joined};
+ghost use Rattle.calloop.specs.Laws.{flatten};
 ghost use Rattle.calloop.specs.EveryRun.{OverEveryRun, FromTheStart, EventsReachTheirSource, ArmingsAreKept, ArmingsAreKeptOfFresh, SourcesKeepToTheirSlots, WhoIsToldStandsOnce, TicketsAreOfOneAnswer};
 ghost use Rattle.calloop.specs.Laws.{IsLedgerOf, IsSound, AllFresh, changes_of, IsTold, IsTicketed, GoesRight, NamesLater, StaysGone, OnTime};
 ghost use Rattle.calloop.specs.Freshness.{AsksFresh, RunsFresh, AllFreshCalls, AllKeepKeys};
@@ -19,14 +19,14 @@ ghost use Rattle.logbook.specs.Pages.{Book};
 ghost use Rattle.calloop_core.specs.Meanings.{IsKeeping};
 ghost use Rattle.calloop.specs.Rules.{all_traced};
 ghost use Rattle.calloop.specs.WrongRuns.{IsOutOfTime, second_event_goes_wrong, second_event_is_lost, ends_under_an_earlier_use, goes_back_to_an_earlier_use, ends_with_what_was_given_up, goes_back_to_what_was_given_up, that_ends, that_notes, second_waits_early, second_is_cut_early, second_call_differs, second_is_called_twice, second_is_twice, second_is_nowhere, with_one_deadline, with_one_event, keys_alone, second_is_elsewhere, second_is_told_twice, second_is_told_when_gone, second_is_answered_twice, second_is_asked_twice, second_is_handed_out_twice, adapters, with_two_adapters, of_a_settling, one_dispatch, one_answer, idle_never};
-ghost use Rattle.calloop.specs.WrongRuns.{untouched};
+ghost use Rattle.calloop.specs.WrongRuns.{idle_world};
 ghost use Rattle.calloop.specs.BusyRun.{anything, giving_poller, for_reading, busy_calls, busy_answers, busy_changes, behind_the_failure, two_found_but_one, busy_end};
 ghost use Rattle.calloop.specs.RearmedRun.{again, rearmed_calls, rearmed_answers, rearmed_changes, rearmed_end, call_at_ten};
 ghost use Rattle.calloop.specs.declared.loop_logic.asks.Answer.TheVariants.{Done};
 ghost use Rattle.calloop_core.specs.Polls.{polled_events};
 ghost use Rattle.calloop_core.specs.Tables.{watched_at};
 ghost use Rattle.calloop_wake.specs.Tokens.{key_of};
-ghost use Rattle.calloop.specs.Wrong.{KeepsTheLastAlone, KeepsOfAFailure, TellsInTheOrderOfSlots, second_registration, first_token, first_registration, used, given_up, early, in_two_places, called_twice, called_early, called_from_nowhere, called_with_another_deadline, in_no_place, armed_once, gathered_once, asked_twice, first_call, unmoved, arms_elsewhere, used_with_an_old_key, answered_twice, one_ticket};
+ghost use Rattle.calloop.specs.Wrong.{KeepsTheLastAlone, KeepsOfAFailure, TellsInTheOrderOfSlots, second_registration, first_token, first_registration, full_slot, given_up, early, in_two_places, called_twice, called_early, called_from_nowhere, called_with_another_deadline, in_no_place, armed_once, gathered_once, asked_twice, first_call, still_meaning, arms_elsewhere, used_with_an_old_key, answered_twice, one_ticket};
 
 use super::{EventDispatcher, Requests};
 use calloop_core::callbacks::QuietDispatch;
@@ -69,7 +69,7 @@ pub fn once<D: EventDispatcher<P, C, R>, P: Poller, C: Clock, R: Wait + Drop>()
 /// round of idles, once, each of which has begun or was cancelled.
 ///
 /// So a timer that is due when a dispatch gathers is cut in this same dispatch, or the dispatch answers an error.
-pub fn served<D: EventDispatcher<P, C, R>, P: Poller, C: Clock, R: Wait + Drop>()
+pub fn each_dispatch_serves_all<D: EventDispatcher<P, C, R>, P: Poller, C: Clock, R: Wait + Drop>()
     ensures nothing_left { OverEveryDispatch D.means D.Idle.runs P.outside NothingIsLeft }
     ensures all_cut { OverEveryDispatch D.means D.Idle.runs P.outside AllAreCut }
     ensures none_is_late { OverEveryDispatch D.means D.Idle.runs P.outside NoneIsLate }
@@ -78,7 +78,7 @@ pub fn served<D: EventDispatcher<P, C, R>, P: Poller, C: Clock, R: Wait + Drop>(
     ensures sorted { OverEveryRun D.means D.Idle.runs P.outside (FromTheStart DeadlinesStaySorted) }
 {}
 
-/// What `served` rules out, each by its own definitions: a dispatch that cuts one event of two and ends; one that cuts both and one more that
+/// What `each_dispatch_serves_all` rules out, each by its own definitions: a dispatch that cuts one event of two and ends; one that cuts both and one more that
 /// joined them behind the gathering; one that cuts an event before it gathers, that doesn't gather, that gathers twice, or that begins no round of
 /// idles, of which there is no account; one that ends with an idle of its round; an account of two events in another order, which isn't
 /// one of the dispatch that cut them; and one in which a timer for the very moment of the gathering stays armed, as the first of two or
@@ -87,7 +87,7 @@ pub fn served<D: EventDispatcher<P, C, R>, P: Poller, C: Clock, R: Wait + Drop>(
 pub fn unserved_dispatches_are_ruled_out()
     ensures there_is { (name : Book)
         → IsAccountOf (account_of_it name) (before_its_dispatch name)
-        (joined (of_the_dispatch name))
+        (flatten (of_the_dispatch name))
         × AllAreCut (account_of_it name) }
     ensures one_left { (name : Book) (a : SmallAccount) → IsAccountOf a (two_wait name) cuts_one
         → (¬ NothingIsLeft a) × (¬ AllAreCut a) }
@@ -169,13 +169,13 @@ pub fn run_that_there_is()
 /// has a key of an earlier use of its slot, one that keeps its key where it is registered under another, and one that arms a deadline
 /// under a token of another registration; two requests or two answers under one ticket, and an answer that was handed out twice.
 pub fn wrong_runs_are_ruled_out()
-    ensures wrong_slot { ¬ GoesRight (used 0 ∷ used 0 ∷ []) first_token (Some 1) }
-    ensures later_registration { ¬ GoesRight (used 1 ∷ []) first_token (Some 0) }
-    ensures lost_event { ¬ GoesRight (used 0 ∷ []) first_token None }
+    ensures wrong_slot { ¬ GoesRight (full_slot 0 ∷ full_slot 0 ∷ []) first_token (Some 1) }
+    ensures later_registration { ¬ GoesRight (full_slot 1 ∷ []) first_token (Some 0) }
+    ensures lost_event { ¬ GoesRight (full_slot 0 ∷ []) first_token None }
     ensures earlier_registration { (w w' : World (Unit {0}) (Unit {0}) (Unit {0}))
-        → w.slots ≡ used versions ∷ [] → w'.slots ≡ used 0 ∷ [] → ¬ NamesLater w w' }
+        → w.slots ≡ full_slot versions ∷ [] → w'.slots ≡ full_slot 0 ∷ [] → ¬ NamesLater w w' }
     ensures there_again { (w w' : World (Unit {0}) (Unit {0}) (Unit {0}))
-        → w.slots ≡ given_up 0 ∷ [] → w'.slots ≡ used 0 ∷ [] → ¬ StaysGone w w' }
+        → w.slots ≡ given_up 0 ∷ [] → w'.slots ≡ full_slot 0 ∷ [] → ¬ StaysGone w w' }
     ensures early_event { ¬ OnTime early }
     ensures two_places { (v : PollView (Unit {0})) → ¬ IsLedgerOf in_two_places v }
     ensures two_calls { (v : PollView (Unit {0})) → ¬ IsLedgerOf called_twice v }
@@ -185,8 +185,8 @@ pub fn wrong_runs_are_ruled_out()
     ensures told_when_gone { (w : World (Unit {0}) (Unit {0}) (Unit {0}))
         → w.held.lifecycle ≡ first_registration ∷ [] → w.slots ≡ given_up 0 ∷ [] → ¬ IsTold w }
     ensures old_key { (w : World ℕ (Unit {0}) (Unit {0})) → w.slots ≡ used_with_an_old_key ∷ []
-        → ¬ AllAtHome unmoved w }
-    ensures kept_key { (v : PollView (Unit {0})) → ¬ IsKeeping unmoved }
+        → ¬ AllAtHome still_meaning w }
+    ensures kept_key { (v : PollView (Unit {0})) → ¬ IsKeeping still_meaning }
     ensures armed_elsewhere { (v : PollView (Unit {0})) → ¬ IsKeeping arms_elsewhere }
     ensures answered_twice { (w : World (Unit {0}) (Unit {0}) (Unit {0}))
         → w.held.asks ≡ answered_twice → ¬ IsTicketed w }
@@ -214,7 +214,7 @@ pub fn wrong_runs_are_ruled_out()
 /// again by its callback, and called once for each of its armings, of which the premises of the law of armings are proved.
 pub fn busy_runs_that_there_are()
     ensures run { (name : Book) → Run anything idle_never giving_poller busy_calls busy_answers
-        (busy_changes name) (untouched name) (busy_end name) }
+        (busy_changes name) (idle_world name) (busy_end name) }
     ensures rest { (name : Book)
         → (behind_the_failure name).poll.batch ≡ polled_events two_found_but_one }
     ensures answered { (name : Book) → (behind_the_failure name).held.asks.answers

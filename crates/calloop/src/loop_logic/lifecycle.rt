@@ -1,6 +1,6 @@
 //! The registrations whose sources are told of waits.
 ghost use Rattle.std.specs.Prelude.{◌≡◌, ◌<◌, ◌&&◌, not, [], true, false, Some, OnErr, OnOk, filter, slice_get, vec_len, if◌then◌else◌};
-ghost use Rattle.calloop.specs.Held.{is_another, is_listed, listed};
+ghost use Rattle.calloop.specs.Held.{is_another, is_listed, with_listing};
 ghost use Rattle.calloop.specs.Rooms.{HasRoom};
 
 use calloop_wake::token::RegistrationToken;
@@ -67,7 +67,7 @@ impl Lifecycle {
     pub(super) fn enter(&mut self, needed: bool, token: RegistrationToken)
         requires { HasRoom (needed && not (is_listed token self.old.tokens.items)) self.old }
         ensures { self.new.tokens.items
-            ≡ (if needed then listed token self.old.tokens.items else self.old.tokens.items) }
+            ≡ (if needed then with_listing token self.old.tokens.items else self.old.tokens.items) }
     {
         if needed && !self.contains(token) {
             self.tokens.push_reserved(token);

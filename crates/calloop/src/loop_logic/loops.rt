@@ -48,7 +48,7 @@ where
     /// A loop over the poller and the clock of the machine, without sources. The clock shows 0 now, and timers that are made with
     /// `clock` count from there.
     ///
-    /// What the machine refuses is `IoError`, and want of memory is `OutOfMemory`.
+    /// What the machine refuses is `IoError`, and running out of memory is `OutOfMemory`.
     pub fn system(rt: &R, alloc: Global) -> Result<SystemLoop<D, R>>
         ensures new { IfOk result BeginsAnew }
         ensures poller { IfOk result (λ made. IsFaultless (poller_of made)) }
@@ -68,8 +68,8 @@ where
     R: Wait + Clone + Drop,
 {
     /// A loop over a scripted poller and its clock, without sources. The clock shows 0, and nothing is scripted yet: `poller_mut` of the
-    /// handle lends the poller. Want of memory is `OutOfMemory`.
-    pub fn scripted(rt: &R, alloc: Global) -> Result<ScriptLoop<D, R>>
+    /// handle lends the poller. Running out of memory is `OutOfMemory`.
+    pub fn with_script(rt: &R, alloc: Global) -> Result<ScriptLoop<D, R>>
         ensures new { IfOk result BeginsAnew }
         ensures poller { IfOk result (λ made. IsUnscripted (poller_of made)) }
         ensures err { IfErr result (λ e. e ≡ OutOfMemory) }

@@ -2,12 +2,12 @@
 ghost use Rattle.std.specs.Prelude.{◌≡◌, ◌<◌, OnOk, IfOk, IfErr};
 ghost use Rattle.calloop_wake.specs.Widths.{most_slots};
 ghost use Rattle.calloop_wake.specs.Failures.{with_error};
-ghost use Rattle.calloop_wake.specs.Slots.{claimed, next_registration, claim_error};
+ghost use Rattle.calloop_wake.specs.Slots.{after_claim, next_registration, claim_error};
 ghost use Rattle.calloop_core.specs.Deeds.{Registered, Reregistered, Unregistered};
 ghost use Rattle.calloop.specs.Machine.{view_of};
 ghost use Rattle.calloop.specs.Held.{is_listed};
 ghost use Rattle.calloop.specs.Rooms.{HasRoom};
-ghost use Rattle.calloop.specs.Rules.{CannotInsert, ByOne, RegisteredBy, entered, left};
+ghost use Rattle.calloop.specs.Rules.{CannotInsert, ByOne, RegisteredBy, listing_of, unlisting_of};
 
 use super::{EventDispatcher, EventLoop};
 use calloop_core::sys::{Clock, Poller};
@@ -21,7 +21,7 @@ impl<D: EventDispatcher<P, C, R>, P: Poller, C: Clock, R: Wait + Drop> EventLoop
     // Claims a slot, where there is room for the entry that is needed.
     pub(super) fn claim(&mut self, needed: bool) -> Result<RegistrationToken, ClaimRefusal>
         ensures ok { IfOk result (λ token. (token ≡ next_registration self.old.sources)
-            × (token.slot < most_slots) × (self.new.sources ≡ claimed self.old.sources)) }
+            × (token.slot < most_slots) × (self.new.sources ≡ after_claim self.old.sources)) }
         ensures room { OnOk result (HasRoom needed self.new.lifecycle) }
         ensures err { IfErr result (λ e. CannotInsert self.old.sources needed (claim_error e)
             × (self.new.sources ≡ self.old.sources)) }
@@ -45,7 +45,7 @@ impl<D: EventDispatcher<P, C, R>, P: Poller, C: Clock, R: Wait + Drop> EventLoop
         ensures { ByOne P.outside
             (RegisteredBy D.means Registered token
             (is_listed token (view_of self.old).held.lifecycle) (view_of self.old).poll)
-            (entered D.means token)
+            (listing_of D.means token)
             source.old (with_error result failure.new) source.new
             (view_of self.old) (view_of self.new) }
     {
@@ -70,7 +70,7 @@ impl<D: EventDispatcher<P, C, R>, P: Poller, C: Clock, R: Wait + Drop> EventLoop
         ensures { ByOne P.outside
             (RegisteredBy D.means Reregistered token
             (is_listed token (view_of self.old).held.lifecycle) (view_of self.old).poll)
-            (entered D.means token)
+            (listing_of D.means token)
             source.old (with_error result failure.new) source.new
             (view_of self.old) (view_of self.new) }
     {
@@ -95,7 +95,7 @@ impl<D: EventDispatcher<P, C, R>, P: Poller, C: Clock, R: Wait + Drop> EventLoop
         ensures deed { ByOne P.outside
             (λ d answer steps e.
             D.means.does d (view_of self.old).poll (Unregistered answer) steps e)
-            (left token) source.old (with_error result failure.new) source.new
+            (unlisting_of token) source.old (with_error result failure.new) source.new
             (view_of self.old) (view_of self.new) }
         ensures slots { self.new.sources ≡ self.old.sources }
     {

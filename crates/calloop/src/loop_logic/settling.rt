@@ -2,7 +2,7 @@
 ghost use Rattle.std.specs.Prelude.{◌≡◌, ℕ, ◌<◌, ◌≤◌, ◌∷◌, List, slice_get, vec_len, Option, Some, is_some, length, if◌then◌else◌};
 ghost use Rattle.calloop_wake.specs.declared.token.RegistrationToken.{RegistrationToken};
 ghost use Rattle.calloop_wake.specs.declared.list.Content.TheVariants.{InTurn};
-ghost use Rattle.calloop_wake.specs.Slots.{named as named_by, source_of, changed, with_content};
+ghost use Rattle.calloop_wake.specs.Slots.{content_at as named_by, source_of, with_change, with_content};
 ghost use Rattle.calloop_core.specs.Polls.{IsReady};
 ghost use Rattle.calloop.specs.Limits.{all_limits};
 ghost use Rattle.calloop.specs.Machine.{view_of, taking};
@@ -45,7 +45,7 @@ impl<D: EventDispatcher<P, C, R>, P: Poller, C: Clock, R: Wait + Drop> EventLoop
         ensures value { result
             ≡ source_of (only (is_adapter D.means) (named_by sources.old token)) }
         ensures list { sources.new ≡ (if is_some result
-            then changed (with_content InTurn) sources.old token.slot else sources.old) }
+            then with_change (with_content InTurn) sources.old token.slot else sources.old) }
     {
         if !Self::is_adapter(sources, token) {
             return None;

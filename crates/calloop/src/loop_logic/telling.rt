@@ -3,7 +3,7 @@ ghost use Rattle.std.specs.Prelude.{◌≡◌, ℕ, ◌+◌, ◌≤◌, ◌^◌,
 ghost use Rattle.calloop_wake.specs.declared.token.RegistrationToken.{RegistrationToken};
 ghost use Rattle.calloop_core.specs.Polls.{IsReady};
 ghost use Rattle.calloop_wake.specs.Failures.{with_error};
-ghost use Rattle.calloop_wake.specs.Slots.{named};
+ghost use Rattle.calloop_wake.specs.Slots.{content_at};
 ghost use Rattle.calloop.specs.Limits.{limit_in, all_limits};
 ghost use Rattle.calloop.specs.Machine.{view_of};
 ghost use Rattle.calloop.specs.Rules.{Goes, Sleeping, Noticing, Cutting, after_telling, after_all_told};
@@ -17,7 +17,7 @@ use std::sync::Wait;
 impl<D: EventDispatcher<P, C, R>, P: Poller, C: Clock, R: Wait + Drop> EventLoop<D, P, C, R> {
     // For how many events the source of this registration may ask.
     fn limit_of(&self, token: RegistrationToken) -> u16
-        ensures { result ≡ limit_in D.means (named self.now.sources token) }
+        ensures { result ≡ limit_in D.means (content_at self.now.sources token) }
     {
         match self.sources.get(token) {
             Some(source) => source.synthetic_limit(),
@@ -50,14 +50,16 @@ impl<D: EventDispatcher<P, C, R>, P: Poller, C: Clock, R: Wait + Drop> EventLoop
         token: RegistrationToken,
         failure: &mut Error,
     ) -> Result<(), Failed>
-        requires ready { IsReady (limit_in D.means (named self.old.sources token)) self.old.poll }
-        requires room { limit_in D.means (named self.old.sources token) ≤ self.old.synthetic.room }
+        requires ready { IsReady (limit_in D.means (content_at self.old.sources token))
+            self.old.poll }
+        requires room { limit_in D.means (content_at self.old.sources token)
+            ≤ self.old.synthetic.room }
         ensures machine { (timeout : Option ℕ) (later : List RegistrationToken) (x : D.Data)
             → Goes D.means D.Idle.runs P.outside (Sleeping timeout (token ∷ later) x)
             (after_telling timeout later (with_error result failure.new) x)
             (view_of self.old) (view_of self.new) }
         ensures ready { (more : ℕ)
-            → IsReady (limit_in D.means (named self.old.sources token) + more) self.old.poll
+            → IsReady (limit_in D.means (content_at self.old.sources token) + more) self.old.poll
             → IsReady more self.new.poll }
         ensures limits { (tokens : List RegistrationToken)
             → all_limits D.means self.new.sources tokens

@@ -1,6 +1,6 @@
 //! What went wrong where nothing could be answered: a source that left the loop failed to take its registration back.
 ghost use Rattle.std.specs.Prelude.{◌≡◌, [], Bool};
-ghost use Rattle.calloop.specs.Held.{warned};
+ghost use Rattle.calloop.specs.Held.{with_warning};
 
 use calloop_wake::error::{Error, Result};
 use std::alloc::Global;
@@ -23,7 +23,7 @@ impl Warnings {
     // Keeps the error of what was told, where it failed.
     pub(super) fn note(&mut self, told: Result<()>)
         ensures { (kept : Bool)
-            × (self.new.errors.items ≡ warned kept told self.old.errors.items) }
+            × (self.new.errors.items ≡ with_warning kept told self.old.errors.items) }
     {
         if let Err(failure) = told {
             let _ = self.errors.push(failure);

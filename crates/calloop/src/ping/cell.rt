@@ -15,12 +15,12 @@ use std::sync::Wait;
 pub type PingCell = Cell<PingCore>;
 
 /// A cell to which nothing has happened yet, under its lock, and the right to its receiving end.
-pub fn locked(alloc: Global) -> LoopResult<(Locked<PingCell>, ReceivingRight)>
+pub fn new_locked(alloc: Global) -> LoopResult<(Locked<PingCell>, ReceivingRight)>
     ensures right { IfOk result (λ made. made.1.name ≡ made.0.slot) }
     ensures err { IfErr result (λ e. e ≡ OutOfMemory) }
 {
     let (core, name, right) = PingCore::new();
-    Ok((Cell::locked(alloc, core, &name)?, right))
+    Ok((Cell::new_locked(alloc, core, &name)?, right))
 }
 
 /// Rings the cell.
@@ -30,7 +30,7 @@ pub fn ring<R: Wait>(rt: &R, shared: &Locked<PingCell>) -> Receipt
     let mut held = shared.lock(rt);
     let cell = held.core();
     let (receipt, debt) = cell.core.ring();
-    let owed = cell.owed(rt, debt);
+    let owed = cell.with_hub(rt, debt);
     held.unlock();
     settle(rt, owed);
     receipt
@@ -66,7 +66,7 @@ pub fn take_turn<R: Wait>(
         }
         Err(pass) => (Err(pass), None),
     };
-    let owed = cell.owed(rt, debt);
+    let owed = cell.with_hub(rt, debt);
     held.unlock();
     settle(rt, owed);
     taken

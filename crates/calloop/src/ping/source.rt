@@ -141,7 +141,7 @@ impl<P: Poller, C, R: Wait + Drop> EventSource<P, C, R> for PingSource<R> {
     /// Registers the ping under the factory's next token. One that was rung or closed before is posted at once.
     ///
     /// Where it is registered already the answer is `IoError` of kind `AlreadyExists`; a factory without tokens is
-    /// `TooManyTokens`, and want of memory `OutOfMemory`. A refusal leaves the ping and the board as they were.
+    /// `TooManyTokens`, and running out of memory `OutOfMemory`. A refusal leaves the ping and the board as they were.
     fn register(&mut self, poll: &mut Poll<P, C, R>, factory: &mut TokenFactory) -> LoopResult<()> {
         register(&self.rt, &self.shared, &mut self.twin, poll, factory)
     }
@@ -150,7 +150,7 @@ impl<P: Poller, C, R: Wait + Drop> EventSource<P, C, R> for PingSource<R> {
     /// under the new key.
     ///
     /// Where the ping isn't registered the answer is `IoError` of kind `NotFound`; a factory without tokens is
-    /// `TooManyTokens`, an open place of the new key `IoError` of kind `AlreadyExists`, and want of memory `OutOfMemory`.
+    /// `TooManyTokens`, an open place of the new key `IoError` of kind `AlreadyExists`, and running out of memory `OutOfMemory`.
     /// A refusal leaves the ping and the board as they were.
     fn reregister(
         &mut self,

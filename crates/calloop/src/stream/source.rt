@@ -4,7 +4,7 @@ ghost use Rattle.calloop_wake.specs.Tokens.{key_of};
 ghost use Rattle.calloop_wake.specs.Cells.{is_own};
 ghost use Rattle.calloop_core.specs.Calls.{Went};
 ghost use Rattle.calloop.specs.StreamReads.{ReadsTo, left_by};
-ghost use Rattle.calloop.specs.Streams.{StreamCalls, calls_of, action_of, opened, EndsSo, RingsItself, ReadsSo};
+ghost use Rattle.calloop.specs.Streams.{StreamCalls, calls_of, action_of, with_stream_turn, EndsSo, RingsItself, ReadsSo};
 ghost use Rattle.calloop.specs.declared.stream.reading.Readable.{Readable};
 ghost use Rattle.std.specs.Option.{option_map};
 ghost use Rattle.calloop.specs.declared.stream.reading.Ending.{Ending};
@@ -96,7 +96,7 @@ impl<S: Stream<R>, R: Wait + Drop> StreamSource<S, R> {
     // A turn of its ping's cell. The pass comes back as refused where it opens none.
     fn take_turn(&mut self, pass: TakenPass) -> Result<Due, TakenPass>
         ensures name { self.new.twin.name ≡ self.old.twin.name }
-        ensures ok { IfOk result (λ due. self.new ≡ opened due.rung due.told self.old) }
+        ensures ok { IfOk result (λ due. self.new ≡ with_stream_turn due.rung due.told self.old) }
         ensures err { IfErr result (λ refused.
             (refused ≡ record pass { refused = Some self.old.twin.name }) × (self.new ≡ self.old)) }
     {

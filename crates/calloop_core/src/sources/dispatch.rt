@@ -79,7 +79,7 @@ pub trait Dispatch<P: Poller, C, R: Wait + Drop, X, Q: Asking> {
     ghost use Rattle.calloop_core.specs.Polls.{PollView, IsReady, poll_view};
     ghost use Rattle.calloop_core.specs.Events.{events_left};
     ghost use Rattle.calloop_core.specs.Synthetics.{IsLent};
-    ghost use Rattle.calloop_core.specs.Deeds.{Registered, Reregistered, Unregistered, Turned, Slept, Noticed, Lent, lent};
+    ghost use Rattle.calloop_core.specs.Deeds.{Registered, Reregistered, Unregistered, Turned, Slept, Noticed, Lent, lend};
     ghost use Rattle.calloop_core.specs.Meanings.{Meaning, Does, Settles, IsKeeping, IsAsking, FailsAsSource};
     ghost use Rattle.calloop_wake.specs.Failures.{with_error};
 
@@ -124,7 +124,7 @@ pub trait Dispatch<P: Poller, C, R: Wait + Drop, X, Q: Asking> {
     ) -> Result<PostAction, Failed>
         ensures { Does P.outside means self.old (poll_view poll.old)
             (Turned readiness token
-            (lent «data».old requests.old (with_error result failure.new) «data».new requests.new))
+            (lend «data».old requests.old (with_error result failure.new) «data».new requests.new))
             self.new (poll_view poll.new) };
 
     /// Whether the source is told of waits.
@@ -152,7 +152,7 @@ pub trait Dispatch<P: Poller, C, R: Wait + Drop, X, Q: Asking> {
 
     /// The source is told of the wait that comes, and may ask for events.
     fn before_sleep(&mut self, out: &mut Synthetic) -> LoopResult<()>
-        ensures lent { out.new ≡ record out.old { given = out.new.given } }
+        ensures lend { out.new ≡ record out.old { given = out.new.given } }
         ensures slept { (v : PollView P) → IsLent (means.limit self.old) out.old
             → means.does self.old v (Slept out.new.given result) [] self.new };
 

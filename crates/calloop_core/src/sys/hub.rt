@@ -3,7 +3,7 @@ ghost use Rattle.std.specs.Prelude.{◌≡◌, ◌≢◌, ◌+◌, ◌-◌, ◌^
 ghost use Rattle.std.specs.Arc.{arc_value};
 ghost use Rattle.std.specs.VecDeque.{deque_len, deque_capacity};
 ghost use Rattle.calloop_wake.specs.Tokens.{key_of};
-ghost use Rattle.calloop_wake.specs.Watches.{noted};
+ghost use Rattle.calloop_wake.specs.Watches.{with_note};
 ghost use Rattle.calloop_wake.specs.declared.wake.notes.Note.TheVariants.{Counted, Looked, Unposted, Marked};
 ghost use Rattle.calloop_wake.specs.declared.error.Error.TheVariants.{OutOfMemory as MemoryError};
 ghost use Rattle.calloop_core.specs.Hubs.{HasUnposted};
@@ -78,7 +78,7 @@ impl Hub {
         Ok((hub, watch))
     }
 
-    /// Opens the place of a token's key. An open one is `IoError` of kind `AlreadyExists`, and want of memory is
+    /// Opens the place of a token's key. An open one is `IoError` of kind `AlreadyExists`, and running out of memory is
     /// `OutOfMemory`; after a refusal the board is as it was.
     pub fn open_place<R: Wait>(&self, rt: &R, token: Token) -> Result<OpenedPass>
         requires { key_of token ≢ 2 ^ 64 - 1 }
@@ -124,7 +124,7 @@ impl Hub {
     /// Looks whether a key is posted: the leave to sleep, where none is.
     pub fn look<R: Wait>(&self, rt: &R, watch: &mut Watch) -> Option<LeaveToSleep>
         requires { watch.old.name ≡ self.now }
-        ensures { watch.new ≡ noted (Looked (is_none result)) watch.old }
+        ensures { watch.new ≡ with_note (Looked (is_none result)) watch.old }
     {
         let mut held = self.board.lock(rt);
         let leave = held.core().look(watch);
@@ -145,7 +145,8 @@ impl Hub {
     /// Where no key is posted, has the watch note that none was taken, with room for so many. Else nothing changes.
     pub fn unpost_none<R: Wait>(&self, rt: &R, room: usize, watch: &mut Watch) -> bool
         requires { watch.old.name ≡ self.now }
-        ensures { watch.new ≡ (if result then noted (Unposted room []) watch.old else watch.old) }
+        ensures { watch.new ≡ (if result
+            then with_note (Unposted room []) watch.old else watch.old) }
     {
         let mut held = self.board.lock(rt);
         let none = held.core().unpost_none(room, watch);
@@ -153,7 +154,7 @@ impl Hub {
         none
     }
 
-    /// Makes room for the mark of one adapter more. Want of memory changes nothing.
+    /// Makes room for the mark of one adapter more. Running out of memory changes nothing.
     pub fn open_mark<R: Wait>(&self, rt: &R) -> std::result::Result<(), AllocError> {
         let mut held = self.marks.lock(rt);
         let opened = held.core().open();
@@ -185,7 +186,7 @@ impl Hub {
     // Where nothing is marked, has the watch note that nothing was taken. Else nothing changes.
     fn take_no_marks<R: Wait>(&self, rt: &R, watch: &mut Watch) -> bool
         requires { watch.old.name ≡ self.now }
-        ensures none { result ≡ true → watch.new ≡ noted (Marked []) watch.old }
+        ensures none { result ≡ true → watch.new ≡ with_note (Marked []) watch.old }
         ensures some { result ≡ false → watch.new ≡ watch.old }
     {
         let mut held = self.marks.lock(rt);
@@ -197,8 +198,9 @@ impl Hub {
     /// Takes the marks, in the order in which they were set, and has the watch note them.
     pub fn take_marks<R: Wait>(&self, rt: &R, watch: &mut Watch) -> Option<Vec<RegistrationToken>>
         requires { watch.old.name ≡ self.now }
-        ensures none { IfNone result (watch.new ≡ noted (Marked []) watch.old) }
-        ensures some { IfSome result (λ taken. watch.new ≡ noted (Marked taken.items) watch.old) }
+        ensures none { IfNone result (watch.new ≡ with_note (Marked []) watch.old) }
+        ensures some { IfSome result
+            (λ taken. watch.new ≡ with_note (Marked taken.items) watch.old) }
     {
         if self.take_no_marks(rt, watch) {
             return None;
@@ -259,7 +261,7 @@ impl Model for WatchedHub {
 }
 
 impl WatchedHub {
-    /// With an empty board. Want of memory is `OutOfMemory`.
+    /// With an empty board. Running out of memory is `OutOfMemory`.
     pub fn new(alloc: Global, notifier: Notifier) -> Result<WatchedHub>
         ensures ok { IfOk result (λ made. made.notes ≡ []) }
         ensures err { IfErr result (λ e. e ≡ MemoryError) }
@@ -282,7 +284,7 @@ impl WatchedHub {
 
     /// Looks whether a key is posted: the leave to sleep, where none is.
     pub fn look<R: Wait>(&mut self, rt: &R) -> Option<LeaveToSleep>
-        ensures { self.new ≡ noted (Looked (is_none result)) self.old }
+        ensures { self.new ≡ with_note (Looked (is_none result)) self.old }
     {
         let leave = self.hub.look(rt, &mut self.watch);
         self.found = leave.is_none();
@@ -299,15 +301,15 @@ impl WatchedHub {
     /// Notes a count of the places.
     pub fn note_count(&mut self, places: OpenPlaces)
         requires { places.name ≡ self.old.name }
-        ensures { self.new ≡ noted (Counted places.number) self.old }
+        ensures { self.new ≡ with_note (Counted places.number) self.old }
     {
         self.watch.note_count(places);
     }
 
     /// Takes the marks, in the order in which they were set.
     pub fn take_marks<R: Wait>(&mut self, rt: &R) -> Option<Vec<RegistrationToken>>
-        ensures none { IfNone result (self.new ≡ noted (Marked []) self.old) }
-        ensures some { IfSome result (λ taken. self.new ≡ noted (Marked taken.items) self.old) }
+        ensures none { IfNone result (self.new ≡ with_note (Marked []) self.old) }
+        ensures some { IfSome result (λ taken. self.new ≡ with_note (Marked taken.items) self.old) }
     {
         self.hub.take_marks(rt, &mut self.watch)
     }

@@ -4,7 +4,7 @@ ghost use Rattle.std.specs.Borrow.{Lends, sem};
 ghost use Rattle.calloop_wake.specs.declared.error.Error.TheVariants.{OutOfMemory};
 ghost use Rattle.calloop_core.specs.Batches.{ArePosted};
 ghost use Rattle.calloop_core.specs.Pollers.{events_per_wait};
-ghost use Rattle.calloop_core.specs.Polls.{PollView, PollStep, TakePass, PutBack, poll_view, poll_after, with_pass, IsPassOf, IsReady, cut, head_of, gathered, counted, joining, marks_taken};
+ghost use Rattle.calloop_core.specs.Polls.{PollView, PollStep, TakePass, PutBack, poll_view, poll_after, with_pass, IsPassOf, IsReady, cut, head_of, after_gather, after_count, joining, marks_taken};
 ghost use Rattle.calloop_core.specs.Events.{events_left, events_of};
 ghost use Rattle.calloop_core.specs.Marking.{HasTaken};
 ghost use Rattle.calloop_core.specs.SlotOrder.{IsInSlotOrder};
@@ -14,17 +14,18 @@ ghost use Rattle.calloop_core.specs.contracts.sys.poll.Poll.{the_row};
 
 use super::events::EventIterator;
 use super::hub::{SharedHub, WatchedHub};
-use super::{EVENTS_PER_WAIT, Poller, Readiness, Watched};
+use super::{EVENTS_PER_WAIT, Poller, Readiness};
 use batch::Batch;
 use calloop_wake::error::Result;
 use calloop_wake::token::{RegistrationToken, Token};
 use calloop_wake::wake::TakenPass;
 use calloop_wake::wheel::{Instant, TimerWheel};
+use socket_table::SocketTable;
 use std::alloc::{AllocError, Global};
-use std::collections::BTreeMap;
 use std::sync::{Arc, Wait};
 
 mod batch;
+mod socket_table;
 pub mod table;
 mod timers;
 mod waiting;
@@ -44,7 +45,7 @@ pub struct Poll<P, C, R: Wait + Drop> {
     rt: R,
     poller: P,
     clock: C,
-    table: BTreeMap<u64, Watched>,
+    table: SocketTable,
     batch: Batch,
     wheel: TimerWheel,
     // How many keys had places when they were counted last, to reserve room for what they give.
@@ -79,7 +80,7 @@ fn by_slot(marked: Vec<RegistrationToken>) -> Vec<RegistrationToken>
 }
 
 impl<P: Poller, C: Drop, R: Wait + Drop> Poll<P, C, R> {
-    /// Over this poller, with no socket, an empty board, no deadline and an empty batch. Want of memory is `OutOfMemory`.
+    /// Over this poller, with no socket, an empty board, no deadline and an empty batch. Running out of memory is `OutOfMemory`.
     pub fn new(rt: R, alloc: Global, poller: P, clock: C) -> Result<Poll<P, C, R>>
         ensures ok { IfOk result (λ made. poll_view made ≡ record {
           poller = poller;
@@ -99,7 +100,7 @@ impl<P: Poller, C: Drop, R: Wait + Drop> Poll<P, C, R> {
             rt,
             poller,
             clock,
-            table: BTreeMap::new(alloc),
+            table: SocketTable::new(alloc),
             batch: Batch::new(alloc, hub),
             wheel: TimerWheel::new(alloc),
             places: 0,
@@ -179,11 +180,11 @@ impl<P: Poller, C, R: Wait + Drop> Poll<P, C, R> {
             .checked_add(more)
     }
 
-    /// Counts the places on the board, and reserves what one `poll` can gather, and `more` events besides. Want of memory changes
+    /// Counts the places on the board, and reserves what one `poll` can gather, and `more` events besides. Running out of memory changes
     /// nothing.
     pub fn reserve(&mut self, more: usize) -> std::result::Result<(), AllocError>
         ensures ok { OnOk result ((places : ℕ)
-            × (poll_view self.new ≡ counted places (poll_view self.old))) }
+            × (poll_view self.new ≡ after_count places (poll_view self.old))) }
         ensures ready { OnOk result (IsReady more self.new) }
         ensures err { OnErr result (poll_view self.new ≡ poll_view self.old) }
     {
@@ -248,7 +249,7 @@ impl<P: Poller, C, R: Wait + Drop> Poll<P, C, R> {
         requires events { vec_len self.old.events ≤ events_per_wait }
         ensures { (posted : List ℕ) × ArePosted self.old.places posted
             × (poll_view self.new
-            ≡ gathered posted self.old.events.items now.nanos (poll_view self.old)) }
+            ≡ after_gather posted self.old.events.items now.nanos (poll_view self.old)) }
     {
         self.batch
             .gather(&self.rt, self.places, &self.events, &mut self.wheel, now);

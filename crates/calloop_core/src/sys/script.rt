@@ -206,7 +206,7 @@ impl ScriptPoller {
         first
     }
 
-    /// Empties the list of asked waits, and makes room for `n` at least. Want of memory leaves the list as it was;
+    /// Empties the list of asked waits, and makes room for `n` at least. Running out of memory leaves the list as it was;
     /// where there is room for `n` already, it takes no memory.
     pub fn keep_waits(&mut self, n: usize) -> Result<(), AllocError>
         ensures waits { self.new.waits.items ≡ (if is_ok result then [] else self.old.waits.items) }

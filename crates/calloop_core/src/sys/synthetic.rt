@@ -37,7 +37,7 @@ impl Synthetic {
         }
     }
 
-    /// Makes room for so many events, and takes none. Want of memory leaves the room as it was.
+    /// Makes room for so many events, and takes none. Running out of memory leaves the room as it was.
     pub fn reserve(&mut self, events: usize) -> Result<(), AllocError>
         ensures ok { OnOk result (events ≤ self.new.room) }
         ensures others { self.new ≡ record { given = []; limit = 0; room = self.new.room } }

@@ -57,7 +57,7 @@ pub struct MioPoller<C> {
 }
 
 impl<C: Drop> MioPoller<C> {
-    /// Over this clock, with no socket. What the machine refuses is `IoError`, and want of memory is `OutOfMemory`.
+    /// Over this clock, with no socket. What the machine refuses is `IoError`, and running out of memory is `OutOfMemory`.
     pub fn new<R: Net>(rt: &R, alloc: Global, clock: C) -> LoopResult<MioPoller<C>>
         ensures ok { IfOk result (λ made. (made.clock ≡ clock) × (made.faults.count ≡ 0)
             × (made.precision ≡ Microseconds)) }
@@ -97,7 +97,7 @@ impl<C> MioPoller<C> {
     }
 
     // A refusal is one more fault.
-    fn counted(&mut self, answer: io::Result<()>) -> io::Result<()>
+    fn note_fault(&mut self, answer: io::Result<()>) -> io::Result<()>
         ensures same { result ≡ answer }
         ensures poller { self.new ≡ record self.old { faults = self.new.faults } }
         ensures faults { self.new.faults.count ≡ self.old.faults.count + faults_of result }
@@ -159,7 +159,7 @@ impl<C: Clock> MioPoller<C> {
         }
         self.found.wait(&mut self.poll, portion.waiting)?;
         if self.found.is_empty() && !self.is_over(start, timeout) {
-            return Err(self.found.interrupted());
+            return Err(self.found.interruption());
         }
         Ok(())
     }
@@ -175,7 +175,7 @@ impl<C: Clock> MioPoller<C> {
 }
 
 // The interest as `mio` has it, where it is one in anything.
-fn asked(interest: Interest) -> Option<mio::Interest>
+fn mio_interest(interest: Interest) -> Option<mio::Interest>
     ensures some { is_some result ≡ asks interest }
     ensures value { IfSome result (λ asked. (is_readable asked ≡ interest.readable)
         × (is_writable asked ≡ interest.writable) × (is_priority asked ≡ false)) }
@@ -206,33 +206,33 @@ impl<C: Clock> Poller for MioPoller<C> {
     /// An empty interest is refused with an error of kind `InvalidInput`, and counted.
     fn add(&mut self, io: &mut MioIo, key: u64, interest: Interest) -> io::Result<()> {
         self.levels.clear(io.as_raw_fd());
-        let answer = match asked(interest) {
+        let answer = match mio_interest(interest) {
             Some(asked) => self
                 .poll
                 .registry()
                 .register(io, Token(key as usize), asked),
             None => Err(no_interest()),
         };
-        self.counted(answer)
+        self.note_fault(answer)
     }
 
     /// An empty interest is refused with an error of kind `InvalidInput`, and counted; the socket stays as it was added.
     fn modify(&mut self, io: &mut MioIo, key: u64, interest: Interest) -> io::Result<()> {
         self.levels.clear(io.as_raw_fd());
-        let answer = match asked(interest) {
+        let answer = match mio_interest(interest) {
             Some(asked) => self
                 .poll
                 .registry()
                 .reregister(io, Token(key as usize), asked),
             None => Err(no_interest()),
         };
-        self.counted(answer)
+        self.note_fault(answer)
     }
 
     /// An empty interest is refused as by `add`.
     fn add_level(&mut self, io: &mut MioIo, key: u64, interest: Interest) -> io::Result<()> {
         let answer = self.register_level(Registering::First, io, key, interest);
-        self.counted(answer)
+        self.note_fault(answer)
     }
 
     /// An empty interest is refused as by `modify`. Where the socket is registered so already, the system isn't called.
@@ -241,13 +241,13 @@ impl<C: Clock> Poller for MioPoller<C> {
             return Ok(());
         }
         let answer = self.register_level(Registering::Again, io, key, interest);
-        self.counted(answer)
+        self.note_fault(answer)
     }
 
     fn delete(&mut self, io: &mut MioIo) -> io::Result<()> {
         self.levels.clear(io.as_raw_fd());
         let answer = self.poll.registry().deregister(io);
-        self.counted(answer)
+        self.note_fault(answer)
     }
 
     fn now(&mut self) -> Instant {

@@ -4,6 +4,7 @@ use calloop_core::sys::poll::table::{other_keys_stay, wrong_steps_are_ruled_out}
 use calloop_core::sys::script::{ScriptIo, ScriptKind, ScriptPoller};
 use calloop_core::sys::{Interest, Mode};
 use calloop_wake::error::Error;
+use calloop_wake::token::{RegistrationToken, TokenFactory};
 use std::io::ErrorKind;
 use std::sync::Wait;
 
@@ -20,6 +21,40 @@ fn a_key_that_was_discarded_is_free_and_all_others_stay(rt: HostRuntime) {
     assert!(rt; enters(&mut poll, 3, 1).is_ok());
     assert_eq!(rt; kind_of(enters(&mut poll, 4, 2)), taken);
     assert_eq!(rt; kind_of(enters(&mut poll, 4, 1)), taken);
+}
+
+#[test]
+fn two_sockets_of_one_slot_are_found_each_by_its_key(rt: HostRuntime) {
+    let mut poll = new_poll(&rt, rt.alloc());
+    let mut factory = TokenFactory::new(RegistrationToken::new(1, 0));
+    let first = factory.token().expect(&rt, "a token");
+    let second = factory.token().expect(&rt, "another token");
+    let (mut one, mut other) = (ScriptIo { number: 1 }, ScriptIo { number: 2 });
+    assert!(rt;
+        poll.register(&mut one, Interest::READ, Mode::Level, first)
+            .is_ok()
+    );
+    assert!(rt;
+        poll.register(&mut other, Interest::READ, Mode::Level, second)
+            .is_ok()
+    );
+    assert!(rt;
+        poll.reregister(&mut one, first, Interest::WRITE, Mode::Edge, first)
+            .is_ok()
+    );
+    assert!(rt;
+        poll.rearm(&mut other, Interest::WRITE, Mode::Level, second)
+            .is_ok()
+    );
+    assert!(rt; poll.unregister(&mut other, second).is_ok());
+    assert!(rt;
+        poll.rearm(&mut other, Interest::WRITE, Mode::Level, second)
+            .is_err()
+    );
+    let gone = Some(ErrorKind::NotFound);
+    assert_eq!(rt; kind_of(poll.unregister(&mut other, second)), gone);
+    assert!(rt; poll.unregister(&mut one, first).is_ok());
+    assert_eq!(rt; kind_of(poll.unregister(&mut one, first)), gone);
 }
 
 #[test]

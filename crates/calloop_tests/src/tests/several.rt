@@ -137,7 +137,7 @@ enum Act<'a> {
     Asked(&'a [Option<u64>]),
     /// The source was told of so many waits, and so many events were handed back to it.
     Counts(usize, u32, u32),
-    /// A dispatch is refused for want of memory, before anything else; or it isn't, and the source is to ask for these again.
+    /// A dispatch is refused for lack of memory, before anything else; or it isn't, and the source is to ask for these again.
     PerhapsRefused(usize, &'a [u64]),
     /// In each of 39 dispatches, what it asks for is said as far as it may ask for it.
     AnyLists(usize),

@@ -27,7 +27,7 @@ where
 {
     /// Its poller keeps eight waits.
     pub fn new(rt: &R, alloc: Global) -> Option<Table<D, R>> {
-        let mut event_loop: ScriptLoop<D, R> = ScriptLoop::scripted(rt, alloc).ok()?;
+        let mut event_loop: ScriptLoop<D, R> = ScriptLoop::with_script(rt, alloc).ok()?;
         event_loop.handle().poller_mut().keep_waits(8).ok()?;
         let rt = rt.clone().ok()?;
         Some(Table {

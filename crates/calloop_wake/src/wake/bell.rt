@@ -1,7 +1,7 @@
 //! The bell of a cell: what each kind of cell has of a ping.
 ghost use Rattle.std.specs.Prelude.{◌≡◌, ◌+◌, ◌-◌, ◌<◌, ◌^◌, ◌&&◌, ◌||◌, not, true, false, None, Some, IfOk, IfErr, if◌then◌else◌};
-ghost use Rattle.calloop_wake.specs.Cells.{fresh_twin, fresh, one, opens, owed, owed_at, owed_by_drop, after_close, after_add_sender, after_drop_sender, after_set_key, after_clear_key};
-ghost use Rattle.calloop_wake.specs.Bells.{bell_with, after_ping, drained, ended, owed_if, telling};
+ghost use Rattle.calloop_wake.specs.Cells.{fresh_twin, fresh, one, opens, debt_of, owed_at, owed_by_drop, after_close, after_add_sender, after_drop_sender, after_set_key, after_clear_key};
+ghost use Rattle.calloop_wake.specs.Bells.{bell_with, after_ping, after_drain, after_end, owed_if, telling};
 ghost use Rattle.calloop_wake.specs.Passes.{on};
 
 use super::ghosts::Name;
@@ -98,8 +98,8 @@ impl Bell {
     }
 
     // The debt that pinging gives.
-    fn owed(&self) -> Option<Debt>
-        ensures { result ≡ on self.now.board (owed self.now.cell) }
+    fn debt(&self) -> Option<Debt>
+        ensures { result ≡ on self.now.board (debt_of self.now.cell) }
     {
         if self.pinged {
             return None;
@@ -116,9 +116,9 @@ impl Bell {
     /// Its key is posted, or is to be.
     pub(super) fn ping(&mut self) -> Option<Debt>
         ensures bell { self.new ≡ bell_with (after_ping self.old.cell) self.old }
-        ensures gives { result ≡ on self.old.board (owed self.old.cell) }
+        ensures gives { result ≡ on self.old.board (debt_of self.old.cell) }
     {
-        let debt = self.owed();
+        let debt = self.debt();
         self.pinged = true;
         debt
     }
@@ -126,9 +126,9 @@ impl Bell {
     // The last sender is gone.
     fn close(&mut self) -> Option<Debt>
         ensures bell { self.new ≡ bell_with (after_close self.old.cell) self.old }
-        ensures gives { result ≡ on self.old.board (owed self.old.cell) }
+        ensures gives { result ≡ on self.old.board (debt_of self.old.cell) }
     {
-        let debt = self.owed();
+        let debt = self.debt();
         self.senders = 0;
         self.closed = true;
         self.pinged = true;
@@ -246,7 +246,7 @@ impl Bell {
 
     /// A turn stands open.
     pub(super) fn open(&mut self)
-        ensures { self.new ≡ bell_with (drained self.old.cell) self.old }
+        ensures { self.new ≡ bell_with (after_drain self.old.cell) self.old }
     {
         self.pinged = false;
         self.draining = true;
@@ -264,7 +264,7 @@ impl Bell {
 
     /// The turn is over, and pings where it stopped early.
     pub(super) fn end(&mut self, early: bool) -> Option<Debt>
-        ensures bell { self.new ≡ bell_with (ended early self.old.cell) self.old }
+        ensures bell { self.new ≡ bell_with (after_end early self.old.cell) self.old }
         ensures gives { result ≡ on self.old.board (owed_if early self.old.cell) }
     {
         self.draining = false;

@@ -2,10 +2,10 @@
 ghost use Rattle.std.specs.Prelude.{ℕ, nat_eq, IsSome, drop, ◌≡◌, ◌≤◌, ◌+◌, ◌++◌, ◌∷◌, ◌<◌, ◌-◌, ◌^◌, [], false, true, not, map, length, is_ok, is_some, Err, OnOk, IfErr, if◌then◌else◌};
 ghost use Rattle.std.specs.VecDeque.{deque_len, deque_capacity};
 ghost use Rattle.std.specs.Vec.{vec_capacity};
-ghost use Rattle.calloop_wake.specs.Posts.{places_of, posted_keys, standing_at, index_of, renumbered, IsBoard};
+ghost use Rattle.calloop_wake.specs.Posts.{places_of, posted_keys, standing_at, index_of, place_after, IsBoard};
 ghost use Rattle.std.specs.List.{list_any, IsDistinct};
 ghost use Rattle.std.specs.Map.{keys_of};
-ghost use Rattle.calloop_wake.specs.Boards.{place, is_open, any_marked, wakes, marked_at, after_open_place, after_close_place, after_post, after_unpost, is_taken, unmarked, bound, keys_within, taken, taken_keys, IsRising};
+ghost use Rattle.calloop_wake.specs.Boards.{place, is_open, any_marked, wakes, marked_at, after_open_place, after_close_place, after_post, after_unpost, is_taken, without_mark, bound, keys_within, fresh_pass, taken_keys, IsRising};
 ghost use Rattle.calloop_wake.specs.declared.wake.board.OpenRefusal.TheVariants.{AlreadyExists, OutOfMemory};
 
 use super::ghosts::Name;
@@ -106,7 +106,7 @@ fn renumber(places: &mut Places, posted: &[u64], gone: usize, steps: &mut Steps)
         → IsSome (standing_at key places.old) }
     requires once { IsDistinct nat_eq posted.now }
     ensures standing { (key : ℕ) → standing_at key places.new
-        ≡ renumbered gone (index_of key posted.now) (standing_at key places.old) }
+        ≡ place_after gone (index_of key posted.now) (standing_at key places.old) }
     ensures keys { keys_of places.new ≡ keys_of places.old }
     ensures steps { steps.new ≡ length posted.now }
 {
@@ -118,7 +118,7 @@ fn renumber(places: &mut Places, posted: &[u64], gone: usize, steps: &mut Steps)
 // Appends a pass of the board of this name for each key.
 fn give(keys: &[u64], name: &Name, passes: &mut VecDeque<TakenPass>)
     requires { deque_len passes.old + length keys.now ≤ deque_capacity passes.old }
-    ensures items { passes.new.items ≡ passes.old.items ++ map (taken name.now) keys.now }
+    ensures items { passes.new.items ≡ passes.old.items ++ map (fresh_pass name.now) keys.now }
     ensures len { deque_len passes.new ≡ deque_len passes.old + length keys.now }
     ensures capacity { deque_capacity passes.new ≡ deque_capacity passes.old }
 {
@@ -231,7 +231,7 @@ impl Board {
         requires fresh { steps.old ≡ 0 }
         ensures board { self.new ≡ after_unpost (bound room self.old) self.old }
         ensures gives { passes.new.items
-            ≡ passes.old.items ++ map (taken name.now) (keys_within room self.old) }
+            ≡ passes.old.items ++ map (fresh_pass name.now) (keys_within room self.old) }
         ensures len { deque_len passes.new
             ≡ deque_len passes.old + length (keys_within room self.old) }
         ensures capacity { deque_capacity passes.new ≡ deque_capacity passes.old }

@@ -1,8 +1,8 @@
 //! The cell of a channel, which its ends share.
 ghost use Rattle.std.specs.Prelude.{◌≡◌, ◌≤◌, ◌<◌, ◌+◌, ◌^◌, ◌⊎◌, IfSome, IfOk, IfErr, MatchResult, is_ok, true, false, None, Some, Err, [], if◌then◌else◌};
-ghost use Rattle.calloop_wake.specs.Cells.{owed, owed_at, owed_by_drop, after_add_sender, after_drop_sender, after_clear_key};
+ghost use Rattle.calloop_wake.specs.Cells.{debt_of, owed_at, owed_by_drop, after_add_sender, after_drop_sender, after_clear_key};
 ghost use Rattle.calloop_wake.specs.Bells.{after_ping, owed_if};
-ghost use Rattle.calloop_wake.specs.Channels.{fresh_channel, has_room, with_bell, view_with, view_after_put, receipt_of, view_after_set_key, after_open_turn, twin_after_open, turn_of, view_after_pop, after_pop_of, tells, popped, handed_back, FitsBound, twin_after_pop, turn_after_pop, front, view_after_take, twin_after_take, is_early, after_end_turn, pops, IsStandingChannel, IsSoundChannel};
+ghost use Rattle.calloop_wake.specs.Channels.{fresh_channel, has_room, with_bell, view_with, view_after_put, receipt_of, view_after_set_key, after_open_turn, twin_after_open, turn_of, view_after_pop, after_pop_of, tells, pop_answer, handed_back, FitsBound, twin_after_pop, turn_after_pop, front, view_after_take, twin_after_take, is_early, after_end_turn, pops, IsStandingChannel, IsSoundChannel};
 ghost use Rattle.calloop_wake.specs.Passes.{on};
 ghost use Rattle.calloop_wake.specs.declared.wake.channel.PutError.TheVariants.{Gone, Full, OutOfMemory};
 
@@ -148,12 +148,13 @@ impl<T> ChannelCore<T> {
         ensures put { self.old.state.cell.gone ≡ false → has_room self.old.state ≡ true
             → MatchResult result
             (λ put. (put.0 ≡ receipt_of self.old)
-            × (put.1 ≡ on self.old.board (owed self.old.state.cell)))
+            × (put.1 ≡ on self.old.board (debt_of self.old.state.cell)))
             (λ e. (e ≡ OutOfMemory message) × (self.old.state.bound ≡ None)) }
         ensures err { IfErr result (λ e. (handed_back e ≡ message)
             × FitsBound self.old.state.bound e) }
         ensures ok { IfOk result (λ put. put.0 ≡ receipt_of self.old) }
-        ensures owes { IfOk result (λ put. put.1 ≡ on self.old.board (owed self.old.state.cell)) }
+        ensures owes { IfOk result
+            (λ put. put.1 ≡ on self.old.board (debt_of self.old.state.cell)) }
     {
         if self.bell.is_gone() {
             return Err(PutError::Gone(message));
@@ -177,7 +178,7 @@ impl<T> ChannelCore<T> {
         ensures core { self.new
             ≡ (if is_ok result then view_after_put message self.old else self.old) }
         ensures answer { MatchResult result
-            (λ debt. debt ≡ on self.old.board (owed self.old.state.cell))
+            (λ debt. debt ≡ on self.old.board (debt_of self.old.state.cell))
             (λ back. (back ≡ message) × (self.old.state.bound ≡ None)) }
     {
         match self.queue.put(message) {
@@ -190,7 +191,7 @@ impl<T> ChannelCore<T> {
     pub fn ring(&mut self) -> Option<Debt>
         ensures core { self.new
             ≡ view_with (with_bell (after_ping self.old.state.cell) self.old.state) self.old }
-        ensures gives { result ≡ on self.old.board (owed self.old.state.cell) }
+        ensures gives { result ≡ on self.old.board (debt_of self.old.state.cell) }
     {
         self.bell.ping()
     }
@@ -263,7 +264,7 @@ impl<T> ChannelCore<T> {
         requires turn { turn.old.name ≡ self.old.name }
         requires twin { twin.old.name ≡ self.old.name }
         ensures core { self.new ≡ view_after_pop self.old }
-        ensures gives { result ≡ popped self.old.state }
+        ensures gives { result ≡ pop_answer self.old.state }
         ensures turn { turn.new ≡ turn_after_pop result turn.old }
         ensures twin { twin.new ≡ twin_after_pop result twin.old }
     {

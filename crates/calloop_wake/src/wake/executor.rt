@@ -3,7 +3,7 @@ ghost use Rattle.std.specs.Prelude.{if◌then◌else◌, ◌≡◌, nat_lt, Err,
 ghost use Rattle.calloop_wake.specs.Cells.{one};
 ghost use Rattle.calloop_wake.specs.Passes.{on};
 ghost use Rattle.calloop_wake.specs.Tasks.{no_tasks, task_at, phase_at, is_awake};
-ghost use Rattle.calloop_wake.specs.Executors.{cell_of, at_start, owed, owed_at, after_put, after_wake, after_pop, after_end_turn, after_clear_key, after_settle, settled_at, after_take, ended, in_turn, opens, most_tasks, IsAwake, IsKeepingTasks, IsBalanced};
+ghost use Rattle.calloop_wake.specs.Executors.{cell_of, at_start, debt_between, owed_at, after_put, after_wake, after_pop, after_end_turn, after_clear_key, after_settle, settled_at, after_take, after_end, in_turn, opens, most_tasks, IsAwake, IsKeepingTasks, IsBalanced};
 
 use super::bell::Bell;
 use super::cell::CellCore;
@@ -198,7 +198,7 @@ impl ExecutorCore {
         ensures due { IfOk result (λ put. put.due
             ≡ record { name = self.old.name; number = self.old.next; key = put.key; home = home }) }
         ensures gives { IfOk result (λ put.
-            put.debt ≡ on self.old.board (owed (cell_of self.old) (cell_of self.new))) }
+            put.debt ≡ on self.old.board (debt_between (cell_of self.old) (cell_of self.new))) }
         ensures gone { self.old.gone ≡ true → result ≡ Err PutRefusal.Gone }
         ensures there { self.old.gone ≡ false → IfErr result (λ e. e ≡ PutRefusal.OutOfMemory) }
         ensures refused { OnErr result (cell_of self.new ≡ cell_of self.old) }
@@ -237,7 +237,8 @@ impl ExecutorCore {
     pub fn wake(&mut self, key: TaskKey) -> Option<Debt>
         ensures cell { cell_of self.new ≡ after_wake key (cell_of self.old) }
         ensures names { (self.new.name ≡ self.old.name) × (self.new.board ≡ self.old.board) }
-        ensures gives { result ≡ on self.old.board (owed (cell_of self.old) (cell_of self.new)) }
+        ensures gives { result
+            ≡ on self.old.board (debt_between (cell_of self.old) (cell_of self.new)) }
     {
         let Some(tasks) = &mut self.tasks else {
             return None;
@@ -435,7 +436,8 @@ impl ExecutorCore {
         requires finishes { finished ≡ true → IsSome turn.progress.polled }
         ensures cell { cell_of self.new ≡ after_end_turn finished (cell_of self.old) }
         ensures twin { twin.new ≡ record twin.old { number = twin.old.number + one finished } }
-        ensures gives { result ≡ on self.old.board (owed (cell_of self.old) (cell_of self.new)) }
+        ensures gives { result
+            ≡ on self.old.board (debt_between (cell_of self.old) (cell_of self.new)) }
         ensures names { (self.new.name ≡ self.old.name) × (self.new.board ≡ self.old.board) }
     {
         let TaskTurn {
@@ -449,8 +451,9 @@ impl ExecutorCore {
 
     fn close_turn(&mut self) -> Option<Debt>
         requires { self.old.progress.polled ≡ None }
-        ensures cell { cell_of self.new ≡ ended (cell_of self.old) }
-        ensures gives { result ≡ on self.old.board (owed (cell_of self.old) (cell_of self.new)) }
+        ensures cell { cell_of self.new ≡ after_end (cell_of self.old) }
+        ensures gives { result
+            ≡ on self.old.board (debt_between (cell_of self.old) (cell_of self.new)) }
         ensures names { (self.new.name ≡ self.old.name) × (self.new.board ≡ self.old.board) }
     {
         let is_early = !self.progress.dry;

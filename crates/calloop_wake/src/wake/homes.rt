@@ -129,7 +129,7 @@ impl<F: Drop> Homes<F> {
         (homes, name)
     }
 
-    /// A place for a future that is to come. It is refused where the executor is gone, or for want of memory.
+    /// A place for a future that is to come. It is refused where the executor is gone, or for lack of memory.
     pub fn reserve(&mut self) -> Option<Result<usize, AllocError>>
         ensures gone { (result ≡ None) → (self.old.gone ≡ true) }
         ensures place { IfSome result (λ answer. IfOk answer (λ home.

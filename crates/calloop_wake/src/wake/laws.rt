@@ -1,11 +1,11 @@
 //! What holds of every schedule of the wake machine.
 ghost use Rattle.std.specs.Prelude.{◌≡◌, ◌+◌, ◌&&◌, nat_lt, ℕ, List, Bool, true, None, Some, if◌then◌else◌};
-ghost use Rattle.calloop_wake.specs.Cells.{Cell, fresh, one, opens, owed, owed_at, after_ring, after_close, after_set_key, after_clear_key, after_open_turn, after_end_turn};
+ghost use Rattle.calloop_wake.specs.Cells.{Cell, fresh, one, opens, debt_of, owed_at, after_ring, after_close, after_set_key, after_clear_key, after_open_turn, after_end_turn};
 ghost use Rattle.calloop_wake.specs.Boards.{is_marked, any_marked, wakes, after_open_place, after_close_place, after_post, after_unpost};
 ghost use Rattle.calloop_wake.specs.Bells.{after_ping, owed_if};
 ghost use Rattle.calloop_wake.specs.Channels.{after_put, after_pop, after_take, with_bell, is_early};
 ghost use Rattle.calloop_wake.specs.Channels.{after_open_turn as channel_after_open_turn, after_end_turn as channel_after_end_turn};
-ghost use Rattle.calloop_wake.specs.Executors.{owed as owed_by_step, after_open_turn as executor_after_open_turn};
+ghost use Rattle.calloop_wake.specs.Executors.{debt_between as owed_by_step, after_open_turn as executor_after_open_turn};
 ghost use Rattle.calloop_wake.specs.Executors.{after_set_key as executor_after_set_key, after_clear_key as executor_after_clear_key};
 ghost use Rattle.calloop_wake.specs.ExecutorKind as executor;
 ghost use Rattle.calloop_wake.specs.ExecutorKind.{ExecutorPast, executor_kind};
@@ -30,7 +30,7 @@ ghost use Rattle.calloop_wake.specs.ExampleSchedules.{turn_that_stops, turn_with
 /// told at most once, and only where it is closed and empty; its turn pops as often as it may, and ends where its last pop found no
 /// message, or where it may pop no more. And each task of an executor is idle, queued once, in a poll, or
 /// finished; its result is handed out at most once, and then it is in no queue.
-pub fn covered()
+pub fn nothing_is_lost()
     ensures { (born : ℕ → Born) (steps : List (WakeStep every_kind.Own))
         → IsSchedule every_kind (start (λ n. new_cell (born n))) steps
         → IsCovered every_kind (after_all every_kind (start (λ n. new_cell (born n))) steps) }
@@ -57,7 +57,7 @@ pub fn out_of_reach()
     ensures sleeper { ¬ CanBeDelivered every_kind with_a_sleeper_left_alone 0 7 }
 {}
 
-/// Small states that `covered` rules out: a ring, a close or a message that no mark shows, a pinged cell whose key is nowhere, a
+/// Small states that `nothing_is_lost` rules out: a ring, a close or a message that no mark shows, a pinged cell whose key is nowhere, a
 /// posted key of which nobody tells a loop past its look, a message that is lost or handed out of order, a close that is told
 /// twice, before the last message, or of an open channel; a message past the bound, and a turn that may pop past it; a task that no mark
 /// shows, which is queued or was woken in its poll, one that is queued twice or though it is finished, or in a poll of nobody, or has
@@ -183,9 +183,9 @@ pub fn schedules_that_there_are_not()
 /// to close a place. And what a step of the board gives: its places after it, the nudge of a post, the leave to sleep of a look, the passes that are taken.
 pub fn steps_are_the_machines()
     ensures ring { (w : WakeWorld Cell) (n : ℕ) → after ping_kind w (At n Ring)
-        ≡ with_step n (after_ring (w.cells n)) (owed (w.cells n)) w }
+        ≡ with_step n (after_ring (w.cells n)) (debt_of (w.cells n)) w }
     ensures close { (w : WakeWorld Cell) (n : ℕ) → after ping_kind w (At n Close)
-        ≡ with_step n (after_close (w.cells n)) (owed (w.cells n)) w }
+        ≡ with_step n (after_close (w.cells n)) (debt_of (w.cells n)) w }
     ensures end_turn { (w : WakeWorld Cell) (n : ℕ) → after ping_kind w (At n EndTurn)
         ≡ with_step n (after_end_turn (w.cells n)) None w }
     ensures set_key { (w : WakeWorld Cell) (n k : ℕ) → after ping_kind w (SetKey n k)
@@ -201,15 +201,15 @@ pub fn steps_are_the_machines()
     ensures channel_ring { (w : WakeWorld ChannelPast) (n : ℕ)
         → after channel_kind w (At n channel.Ring)
         ≡ with_step n (channel.past_with_bell (after_ping (w.cells n).now.cell) (w.cells n))
-        (owed (w.cells n).now.cell) w }
+        (debt_of (w.cells n).now.cell) w }
     ensures channel_close { (w : WakeWorld ChannelPast) (n : ℕ)
         → after channel_kind w (At n channel.Close)
         ≡ with_step n (channel.past_with_bell (after_close (w.cells n).now.cell) (w.cells n))
-        (owed (w.cells n).now.cell) w }
+        (debt_of (w.cells n).now.cell) w }
     ensures put { (w : WakeWorld ChannelPast) (n message : ℕ)
         → after channel_kind w (At n (channel.Put message))
         ≡ with_step n (channel.channel_after (channel.Put message) (w.cells n))
-        (owed (w.cells n).now.cell) w }
+        (debt_of (w.cells n).now.cell) w }
     ensures put_now { (p : ChannelPast) (message : ℕ)
         → (channel.channel_after (channel.Put message) p).now ≡ after_put message p.now }
     ensures pop { (w : WakeWorld ChannelPast) (n : ℕ) → after channel_kind w (At n channel.Pop)

@@ -124,7 +124,7 @@ impl<X: Core> Slot<X> {
         }
     }
 
-    fn shared(&self) -> &Shared<X, X::Tag, X::Tag, Keeps<X>>
+    fn as_shared(&self) -> &Shared<X, X::Tag, X::Tag, Keeps<X>>
         ensures { (result.now.key ≡ self.now) × HasOneSlot result.now.table_id }
     {
         &self.table.shared
@@ -203,7 +203,7 @@ impl<X: Core> Locked<X> {
             × HasOneSlot result.shared.now.table_id
             × IsTaken (X.fits result.shared.now.key) result.seat.me.1 }
     {
-        lock(rt, self.slot.shared(), &self.queues)
+        lock(rt, self.slot.as_shared(), &self.queues)
     }
 
     /// Whether who gave the lock up last left this number as a hint of its content, and nobody has had it since.
@@ -213,7 +213,7 @@ impl<X: Core> Locked<X> {
     pub fn has_hint(&self, number: u64) -> bool
         ensures { result ≡ true → WasHinted (X.fits self.now.slot) X.hints number }
     {
-        let shared = self.slot.shared();
+        let shared = self.slot.as_shared();
         let Some(word) = number.checked_add(FIRST_HINT) else {
             return false;
         };
@@ -302,7 +302,7 @@ fn take_late<'a, X: Core, R: Wait>(
 {
     queues.entering.join();
     for _ in rt.forever() {
-        let told = queues.entering.told();
+        let told = queues.entering.calls();
         if let Some(held) = take_soon(shared, queues) {
             queues.entering.leave();
             return held;
@@ -379,7 +379,7 @@ impl<'a, X: Core> Held<'a, X> {
         let queues = self.queues;
         let waiting = queues.of(awaited);
         waiting.join();
-        let told = waiting.told();
+        let told = waiting.calls();
         self.unlock();
         waiting.sleep(rt, told);
         waiting.leave();

@@ -1,7 +1,7 @@
 //! The marks of a loop's adapters: which of them ask to be settled. They lie under a lock that has the name of the loop's board, so each
 //! taking of them is noted in its watch.
 ghost use Rattle.std.specs.Prelude.{◌≡◌, ◌++◌, ◌∷◌, [], OnOk, OnErr, if◌then◌else◌, true};
-ghost use Rattle.calloop_wake.specs.Watches.{noted};
+ghost use Rattle.calloop_wake.specs.Watches.{with_note};
 ghost use Rattle.calloop_wake.specs.declared.wake.notes.Note.TheVariants.{Marked};
 
 use super::ghosts::Name;
@@ -78,7 +78,7 @@ impl Marks {
         (marks, name)
     }
 
-    /// Makes room for the mark of one adapter more. Want of memory leaves the marks as they were.
+    /// Makes room for the mark of one adapter more. Running out of memory leaves the marks as they were.
     pub fn open(&mut self) -> Result<(), AllocError>
         ensures { self.new ≡ self.old }
     {
@@ -115,7 +115,7 @@ impl Marks {
         requires { watch.old.name ≡ self.now.name }
         ensures none { result ≡ true → self.now.marked ≡ [] }
         ensures watch { watch.new
-            ≡ (if result then noted (Marked self.now.marked) watch.old else watch.old) }
+            ≡ (if result then with_note (Marked self.now.marked) watch.old else watch.old) }
     {
         let none = self.marked.is_empty();
         if none {
@@ -129,7 +129,7 @@ impl Marks {
         requires { watch.old.name ≡ self.old.name }
         ensures gives { result.items ≡ self.old.marked }
         ensures marks { self.new ≡ record self.old { marked = [] } }
-        ensures watch { watch.new ≡ noted (Marked self.old.marked) watch.old }
+        ensures watch { watch.new ≡ with_note (Marked self.old.marked) watch.old }
     {
         watch.notes = watch.notes.and_marked(&self.marked);
         let spare = mem::replace(&mut self.spare, Vec::new(self.alloc));

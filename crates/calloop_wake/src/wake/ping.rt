@@ -1,6 +1,6 @@
 //! The cell of a ping, which its ends share.
 ghost use Rattle.std.specs.Prelude.{◌≡◌, ◌+◌, ◌<◌, ◌^◌, ◌&&◌, not, true, false, None, Some, IfOk, IfErr};
-ghost use Rattle.calloop_wake.specs.Cells.{fresh, one, opens, IsLit, IsStanding, IsTold, IsSince, owed, owed_at, owed_by_drop, after_add_sender, after_drop_sender, after_clear_key, after_end_turn, in_turn, core_with, core_after_set_key, core_after_ring, core_after_open_turn, twin_after_open_turn, receipt_of, turn_of};
+ghost use Rattle.calloop_wake.specs.Cells.{fresh, one, opens, IsLit, IsStanding, IsTold, IsSince, debt_of, owed_at, owed_by_drop, after_add_sender, after_drop_sender, after_clear_key, after_end_turn, in_turn, core_with, core_after_set_key, core_after_ring, core_after_open_turn, twin_after_open_turn, receipt_of, turn_of};
 ghost use Rattle.calloop_wake.specs.Passes.{on};
 
 use super::bell::Bell;
@@ -117,7 +117,7 @@ impl PingCore {
     pub fn ring(&mut self) -> (Receipt, Option<Debt>)
         ensures core { self.new ≡ core_after_ring self.old }
         ensures receipt { result.0 ≡ receipt_of self.old }
-        ensures gives { result.1 ≡ on self.old.board (owed self.old.cell) }
+        ensures gives { result.1 ≡ on self.old.board (debt_of self.old.cell) }
     {
         let receipt = Receipt {
             name: self.bell.name(),

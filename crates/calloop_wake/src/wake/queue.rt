@@ -89,7 +89,7 @@ impl<T> Queue<T> {
         }
     }
 
-    /// Appends a message where it finds room. Without a bound that can fail for want of memory, and then nothing changes.
+    /// Appends a message where it finds room. Without a bound that can fail for lack of memory, and then nothing changes.
     pub(super) fn put(&mut self, message: T) -> Result<(), AllocFailed<T>>
         requires { is_below (length self.old.items) self.old.bound ≡ true }
         ensures queue { self.new

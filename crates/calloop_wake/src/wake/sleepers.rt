@@ -31,7 +31,7 @@ impl Sleepers {
     }
 
     /// How often they were told, up to now.
-    pub(crate) fn told(&self) -> u64 {
+    pub(crate) fn calls(&self) -> u64 {
         self.told.load(Ordering::SeqCst)
     }
 

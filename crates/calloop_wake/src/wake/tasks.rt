@@ -3,7 +3,7 @@
 ghost use Rattle.std.specs.Prelude.{◌≡◌, ◌≢◌, ℕ, ◌+◌, ◌<◌, ◌++◌, ◌∷◌, [], true, false, Some, None, option_map, IsSome, IsNone, IfSome, IfNone, IfOk, OnErr, is_some, count_by};
 ghost use Rattle.slab.specs.Slab.{ContainsKey, Updates, get as value_at};
 ghost use Rattle.futures.specs.LinkedLists.{list_of, list_count, key_limit, items, IsApart, IsIn};
-ghost use Rattle.calloop_wake.specs.Tasks.{TaskTable, no_tasks, task_at, place_of, phase_at, is_idle, is_woken, is_awake, in_poll, woken_phase, settled_phase, with_phase, stepped, slot_if, count};
+ghost use Rattle.calloop_wake.specs.Tasks.{TaskTable, no_tasks, task_at, place_of, phase_at, is_idle, is_woken, is_awake, in_poll, woken_phase, settled_phase, with_phase, after_step, slot_if, count};
 ghost use Rattle.calloop_wake.specs.Executors.{with_slot};
 ghost use Rattle.calloop_wake.specs.declared.wake.tasks.Task.{Task};
 
@@ -128,7 +128,7 @@ impl Tasks {
     pub fn wake(&mut self, key: TaskKey) -> bool
         ensures result { result ≡ is_idle (phase_at key (task_at self.old)) }
         ensures tasks { task_at self.new ≡ with_slot key.slot
-            (stepped woken_phase key.number (task_at self.old key.slot)) (task_at self.old) }
+            (after_step woken_phase key.number (task_at self.old key.slot)) (task_at self.old) }
         ensures line { self.new.queue ≡ self.old.queue ++ slot_if result key.slot }
         ensures count { count self.new ≡ count self.old }
     {
@@ -146,7 +146,7 @@ impl Tasks {
         }
     }
 
-    /// A new task, queued last. Want of memory changes nothing.
+    /// A new task, queued last. Running out of memory changes nothing.
     #[tactic(auto, using(crate::proofs::Written::written, crate::proofs::Written::unwritten))]
     pub fn put(&mut self, number: u64, home: usize) -> Result<usize, AllocError>
         ensures vacant { IfOk result (λ slot. task_at self.old slot ≡ None) }
@@ -175,7 +175,7 @@ impl Tasks {
     #[tactic(auto, using(crate::proofs::Written::written, crate::proofs::Written::unwritten))]
     pub fn settle(&mut self, key: TaskKey)
         ensures tasks { task_at self.new ≡ with_slot key.slot
-            (stepped settled_phase key.number (task_at self.old key.slot)) (task_at self.old) }
+            (after_step settled_phase key.number (task_at self.old key.slot)) (task_at self.old) }
         ensures line { self.new.queue
             ≡ self.old.queue ++ slot_if (is_woken (phase_at key (task_at self.old))) key.slot }
         ensures count { count self.new ≡ count self.old }

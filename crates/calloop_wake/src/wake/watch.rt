@@ -1,9 +1,9 @@
 //! The board under the name of its watch, in which each look at the board and each taking of its keys is noted.
 ghost use Rattle.std.specs.Prelude.{◌≡◌, ◌≤◌, ◌+◌, ◌++◌, ◌∷◌, ◌<◌, ◌-◌, ◌^◌, [], not, map, length, is_ok, is_some, Err, MatchResult, if◌then◌else◌, true, false};
 ghost use Rattle.std.specs.VecDeque.{deque_len, deque_capacity};
-ghost use Rattle.calloop_wake.specs.Boards.{is_open, any_marked, wakes, after_open_place, after_close_place, after_post, after_unpost, bound, taken, keys_within, IsRising};
+ghost use Rattle.calloop_wake.specs.Boards.{is_open, any_marked, wakes, after_open_place, after_close_place, after_post, after_unpost, bound, fresh_pass, keys_within, IsRising};
 ghost use Rattle.calloop_wake.specs.Posts.{posted_keys};
-ghost use Rattle.calloop_wake.specs.Watches.{noted, with_places};
+ghost use Rattle.calloop_wake.specs.Watches.{with_note, with_places};
 ghost use Rattle.calloop_wake.specs.declared.wake.board.OpenRefusal.TheVariants.{AlreadyExists, OutOfMemory};
 ghost use Rattle.calloop_wake.specs.declared.wake.notes.Note.TheVariants.{Counted, Looked, Unposted};
 
@@ -31,7 +31,7 @@ impl Watch {
     /// Notes how many places were open when they were counted.
     pub fn note_count(&mut self, places: OpenPlaces)
         requires { places.name ≡ self.old.name }
-        ensures { self.new ≡ noted (Counted places.number) self.old }
+        ensures { self.new ≡ with_note (Counted places.number) self.old }
     {
         self.notes = self.notes.and_counted(places.number);
     }
@@ -157,7 +157,7 @@ impl WatchedBoard {
     pub fn look(&self, watch: &mut Watch) -> Option<LeaveToSleep>
         requires { watch.old.name ≡ self.now.name }
         ensures gives { is_some result ≡ not (any_marked self.now.places) }
-        ensures watch { watch.new ≡ noted (Looked (any_marked self.now.places)) watch.old }
+        ensures watch { watch.new ≡ with_note (Looked (any_marked self.now.places)) watch.old }
     {
         watch.notes = watch.notes.and_looked(&self.board);
         self.board.look()
@@ -168,7 +168,7 @@ impl WatchedBoard {
         requires { watch.old.name ≡ self.now.name }
         ensures gives { result ≡ not (any_marked self.now.places) }
         ensures watch { watch.new
-            ≡ (if result then noted (Unposted room []) watch.old else watch.old) }
+            ≡ (if result then with_note (Unposted room []) watch.old else watch.old) }
     {
         let none = !self.board.any_marked();
         if none {
@@ -192,9 +192,10 @@ impl WatchedBoard {
         ensures board { self.new
             ≡ with_places (after_unpost (bound room self.old.places) self.old.places) self.old }
         ensures watch { watch.new
-            ≡ noted (Unposted room (keys_within room self.old.places)) watch.old }
+            ≡ with_note (Unposted room (keys_within room self.old.places)) watch.old }
         ensures gives { passes.new.items
-            ≡ passes.old.items ++ map (taken self.old.name) (keys_within room self.old.places) }
+            ≡ passes.old.items
+            ++ map (fresh_pass self.old.name) (keys_within room self.old.places) }
         ensures len { deque_len passes.new
             ≡ deque_len passes.old + length (keys_within room self.old.places) }
         ensures capacity { deque_capacity passes.new ≡ deque_capacity passes.old }

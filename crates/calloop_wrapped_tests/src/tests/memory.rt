@@ -1,4 +1,4 @@
-//! Sources made of sources where memory is wanting.
+//! Sources made of sources where memory runs out.
 //!
 //! The kit's unproved run has one allocation refused: `rt try --test --fail-alloc N`.
 use calloop::transient::TransientSource;
@@ -122,8 +122,8 @@ where
     D: EventDispatcher<ScriptPoller, ScriptClock, R, Data = Vec<u32>>,
     R: Wait + Clone + Drop,
 {
-    match ScriptLoop::scripted(rt, alloc) {
-        Err(Error::OutOfMemory) => ScriptLoop::scripted(rt, alloc).ok(),
+    match ScriptLoop::with_script(rt, alloc) {
+        Err(Error::OutOfMemory) => ScriptLoop::with_script(rt, alloc).ok(),
         made => made.ok(),
     }
 }

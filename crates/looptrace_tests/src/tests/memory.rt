@@ -1,4 +1,4 @@
-//! A run over a script where memory is wanting: it ends with that, or a line says that its call was refused; and what was written up to there
+//! A run over a script where memory runs out: it ends with that, or a line says that its call was refused; and what was written up to there
 //! is what would have been written.
 //!
 //! `checks/memory` runs this with each allocation refused in turn.
@@ -36,7 +36,7 @@ fn begins<Q: Wait + Log + Clone + Drop>(rt: &Q, alloc: Global, output: Vec<u8>) 
     }
 }
 
-// Whether a line says that memory is wanting, behind what would have been said.
+// Whether a line says that memory runs out, behind what would have been said.
 fn is_refused(said: &[u8]) -> bool {
     for place in 0..said.len() {
         if said[place..].starts_with(REFUSED) {

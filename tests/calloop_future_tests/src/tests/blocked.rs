@@ -64,7 +64,7 @@ where
     D: EventDispatcher<ScriptPoller, ScriptClock, R, Data = Vec<u32>>,
     R: Wait + Clone + Drop,
 {
-    let mut event_loop: ScriptLoop<D, R> = ScriptLoop::scripted(rt, alloc).ok()?;
+    let mut event_loop: ScriptLoop<D, R> = ScriptLoop::with_script(rt, alloc).ok()?;
     event_loop.handle().poller_mut().keep_waits(4).ok()?;
     let signal = event_loop.get_signal().ok()?;
     let mut said = Vec::new(alloc);
@@ -101,7 +101,7 @@ where
     D: EventDispatcher<ScriptPoller, ScriptClock, R, Data = Vec<u32>>,
     R: Wait + Clone + Drop,
 {
-    let mut event_loop: ScriptLoop<D, R> = ScriptLoop::scripted(rt, alloc).ok()?;
+    let mut event_loop: ScriptLoop<D, R> = ScriptLoop::with_script(rt, alloc).ok()?;
     let signal = event_loop.get_signal().ok()?;
     let outbox = Arc::new(alloc, Outbox::new(rt.clone().ok()?)).ok()?;
     let job = Job::Waits(Arc::try_clone(&outbox).ok()?, 7);

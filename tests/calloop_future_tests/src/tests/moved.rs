@@ -48,7 +48,7 @@ where
     D: Keep<TimeoutTimer<R>, ScriptPoller, ScriptClock, R, Vec<u32>, Requests<D>, There<Here>>,
     R: Wait + Clone + Drop,
 {
-    let mut event_loop: ScriptLoop<D, R> = ScriptLoop::scripted(rt, alloc).ok()?;
+    let mut event_loop: ScriptLoop<D, R> = ScriptLoop::with_script(rt, alloc).ok()?;
     let (executor, scheduler) = make_executor(rt, alloc).ok()?;
     let held = D::hold(Dispatcher::new(executor, Reader));
     event_loop.handle().register_dispatcher(held).ok()?;

@@ -89,7 +89,7 @@ where
     D: Choice<Executor<Task, R>, Repeats<R>, Here>,
     R: Wait + Clone + Drop,
 {
-    let mut event_loop: ScriptLoop<D, R> = ScriptLoop::scripted(rt, alloc).ok()?;
+    let mut event_loop: ScriptLoop<D, R> = ScriptLoop::with_script(rt, alloc).ok()?;
     let (executor, scheduler) = make_executor(rt, alloc).ok()?;
     let again = scheduler.clone().ok()?;
     let held = D::hold(Dispatcher::new(executor, Repeats { scheduler: again }));
@@ -128,7 +128,7 @@ where
     D: Choice<Executor<Task, R>, Reader, Here>,
     R: Threads + Wait + Clone + Drop + Send + Sync + 'static,
 {
-    let mut event_loop: ScriptLoop<D, R> = ScriptLoop::scripted(rt, alloc).ok()?;
+    let mut event_loop: ScriptLoop<D, R> = ScriptLoop::with_script(rt, alloc).ok()?;
     let scheduler = inserted(rt, alloc, &mut event_loop)?;
     let ended = Arc::new(alloc, AtomicU32::new(0)).ok()?;
     let of_spinner = Arc::try_clone(&ended).ok()?;

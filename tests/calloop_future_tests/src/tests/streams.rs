@@ -116,7 +116,7 @@ where
     D: Choice<StreamSource<Numbers<R>, R>, Reader, Here>,
 {
     fn new(rt: &R, alloc: Global, end: u32, rests_before: Option<u32>) -> Option<Desk<D, R>> {
-        let mut event_loop: ScriptLoop<D, R> = ScriptLoop::scripted(rt, alloc).ok()?;
+        let mut event_loop: ScriptLoop<D, R> = ScriptLoop::with_script(rt, alloc).ok()?;
         event_loop.handle().poller_mut().keep_waits(4).ok()?;
         let outbox = Arc::new(alloc, Outbox::new(rt.clone().ok()?)).ok()?;
         let numbers = Numbers {

@@ -77,7 +77,7 @@ where
     R: Wait + Clone + Drop,
 {
     fn new(rt: &R, alloc: Global) -> Option<Bedroom<D, R>> {
-        let mut event_loop: ScriptLoop<D, R> = ScriptLoop::scripted(rt, alloc).ok()?;
+        let mut event_loop: ScriptLoop<D, R> = ScriptLoop::with_script(rt, alloc).ok()?;
         event_loop.handle().poller_mut().keep_waits(8).ok()?;
         let (executor, scheduler) = make_executor(rt, alloc).ok()?;
         let held = D::hold(Dispatcher::new(executor, Reader));

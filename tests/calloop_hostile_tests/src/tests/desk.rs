@@ -139,7 +139,7 @@ where
 {
     // Its poller keeps eight waits.
     fn new(rt: &R, alloc: Global) -> Option<Desk<D, R>> {
-        let mut event_loop: ScriptLoop<D, R> = ScriptLoop::scripted(rt, alloc).ok()?;
+        let mut event_loop: ScriptLoop<D, R> = ScriptLoop::with_script(rt, alloc).ok()?;
         event_loop.handle().poller_mut().keep_waits(8).ok()?;
         Some(Desk {
             rt: rt.clone().ok()?,

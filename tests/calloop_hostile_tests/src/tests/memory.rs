@@ -94,8 +94,8 @@ where
     D: EventDispatcher<ScriptPoller, ScriptClock, R, Data = Vec<u32>>,
     R: Wait + Clone + Drop,
 {
-    let mut event_loop: ScriptLoop<D, R> = match ScriptLoop::scripted(rt, alloc) {
-        Err(Error::OutOfMemory) => ScriptLoop::scripted(rt, alloc).ok()?,
+    let mut event_loop: ScriptLoop<D, R> = match ScriptLoop::with_script(rt, alloc) {
+        Err(Error::OutOfMemory) => ScriptLoop::with_script(rt, alloc).ok()?,
         made => made.ok()?,
     };
     if event_loop.handle().poller_mut().keep_waits(4).is_err() {

@@ -57,7 +57,7 @@ where
     D: Choice<PingSource<R>, Asker<R>, Here>,
     R: Wait + Clone + Drop,
 {
-    let mut event_loop: ScriptLoop<D, R> = ScriptLoop::scripted(rt, alloc).ok()?;
+    let mut event_loop: ScriptLoop<D, R> = ScriptLoop::with_script(rt, alloc).ok()?;
     let mut given = Given {
         ticket: None,
         io: None,

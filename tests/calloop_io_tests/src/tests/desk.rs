@@ -221,7 +221,7 @@ where
     R: Wait + Clone + Drop,
 {
     fn new(rt: &R, alloc: Global) -> Option<Desk<D, R>> {
-        let event_loop: ScriptLoop<D, R> = ScriptLoop::scripted(rt, alloc).ok()?;
+        let event_loop: ScriptLoop<D, R> = ScriptLoop::with_script(rt, alloc).ok()?;
         let (executor, scheduler) = make_executor(rt, alloc).ok()?;
         let mut desk = Desk {
             rt: rt.clone().ok()?,

@@ -114,7 +114,7 @@ where
     D: Choice<Executor<Hands<R>, R>, Counts, There<There<Here>>>,
     R: Wait + Clone + Drop,
 {
-    let mut event_loop: ScriptLoop<D, R> = ScriptLoop::scripted(rt, alloc).ok()?;
+    let mut event_loop: ScriptLoop<D, R> = ScriptLoop::with_script(rt, alloc).ok()?;
     let handed: Handed<R> = Arc::new(alloc, Mutex::new(None)).ok()?;
     let (ping, source) = make_ping(rt, alloc).ok()?;
     let asker = Asker {

@@ -105,8 +105,8 @@ where
     D: EventDispatcher<ScriptPoller, ScriptClock, R, Data = Back<R>>,
     R: Wait + Clone + Drop,
 {
-    match ScriptLoop::scripted(rt, alloc) {
-        Err(Error::OutOfMemory) => ScriptLoop::scripted(rt, alloc).ok(),
+    match ScriptLoop::with_script(rt, alloc) {
+        Err(Error::OutOfMemory) => ScriptLoop::with_script(rt, alloc).ok(),
         made => made.ok(),
     }
 }

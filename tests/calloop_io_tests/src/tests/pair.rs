@@ -64,7 +64,7 @@ where
     >,
     R: Wait + Clone + Drop,
 {
-    let mut event_loop: ScriptLoop<D, R> = ScriptLoop::scripted(rt, alloc).ok()?;
+    let mut event_loop: ScriptLoop<D, R> = ScriptLoop::with_script(rt, alloc).ok()?;
     let first = event_loop
         .handle()
         .adapt_io(rt, alloc, ScriptIo { number: 1 });

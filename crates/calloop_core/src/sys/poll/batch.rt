@@ -2,12 +2,12 @@
 ghost use Rattle.std.specs.Prelude.{◌≡◌, ℕ, ◌+◌, ◌-◌, ◌≤◌, ◌++◌, [], ◌∷◌, List, Some, None, not, map, drop, length, OnOk, IfSome, IfNone, MatchOption, is_none, true, if◌then◌else◌};
 ghost use Rattle.std.specs.VecDeque.{deque_len, deque_capacity};
 ghost use Rattle.std.specs.Arc.{arc_value};
-ghost use Rattle.calloop_wake.specs.Boards.{IsRising, taken};
+ghost use Rattle.calloop_wake.specs.Boards.{IsRising, fresh_pass};
 ghost use Rattle.calloop_wake.specs.Passes.{AreOf};
 ghost use Rattle.calloop_wake.specs.Deadlines.{due, not_due, with_entries};
-ghost use Rattle.calloop_wake.specs.Watches.{noted};
+ghost use Rattle.calloop_wake.specs.Watches.{with_note};
 ghost use Rattle.calloop_wake.specs.declared.wake.notes.Note.TheVariants.{Counted, Looked, Unposted, Marked};
-ghost use Rattle.calloop_core.specs.Batches.{key_of_pass, ArePosted};
+ghost use Rattle.calloop_core.specs.Batches.{key_of_pass, last_polled, ArePosted};
 ghost use Rattle.calloop_core.specs.Events.{events_left, events_of};
 ghost use Rattle.calloop_core.specs.Polls.{posted_event, posted_events, polled_event, polled_events, timer_event, timer_events, own_events, IsPassOf, head_of, tail_of, is_filled, own_key};
 
@@ -50,12 +50,14 @@ impl Model for Batch {
       events = b.events.items;
       passes = b.passes.items;
       pass = b.pass;
+      polled = b.polled;
       watch = b.hub;
       room = deque_capacity b.events - deque_len b.events;
       pass_room = deque_capacity b.passes - deque_len b.passes;
     } };
 
-    ghost invariant = { λ b. IsBatchOf b.hub.name b.events.items b.passes.items b.pass };
+    ghost invariant = { λ b. IsBatchOf b.hub.name b.events.items b.passes.items b.pass
+        b.polled };
 }
 
 // Posts the keys of these passes again.
@@ -160,7 +162,9 @@ fn append_due(batch: &mut VecDeque<Pending>, wheel: &mut TimerWheel, now: Instan
 }
 
 // Up to where the events of the poller go, once these are in the batch.
-fn last_polled(before: usize, given: &[(u64, Readiness)], batch: &VecDeque<Pending>) -> usize {
+fn last_polled(before: usize, given: &[(u64, Readiness)], batch: &VecDeque<Pending>) -> usize
+    ensures { result ≡ last_polled before given.now (length batch.now.items) }
+{
     if given.is_empty() {
         before
     } else {
@@ -175,6 +179,7 @@ impl Batch {
           events = [];
           passes = [];
           pass = None;
+          polled = 0;
           watch = hub;
           room = result.room;
           pass_room = result.pass_room;
@@ -212,7 +217,10 @@ impl Batch {
     }
 
     /// How many events wait, up to the last one that the poller gave.
-    pub fn polled(&self) -> usize {
+    pub fn polled(&self) -> usize
+        ensures value { result ≡ self.now.polled }
+        ensures within { result ≤ length self.now.events }
+    {
         self.polled
     }
 
@@ -251,7 +259,7 @@ impl Batch {
 
     /// Looks whether a key is posted: the leave to sleep, where none is.
     pub fn look<R: Wait>(&mut self, rt: &R) -> Option<LeaveToSleep>
-        ensures watch { self.new.watch ≡ noted (Looked (is_none result)) self.old.watch }
+        ensures watch { self.new.watch ≡ with_note (Looked (is_none result)) self.old.watch }
         ensures others { self.new ≡ record self.old { watch = self.new.watch } }
     {
         self.hub.look(rt)
@@ -268,7 +276,7 @@ impl Batch {
     pub fn note_count(&mut self, places: OpenPlaces)
         requires { places.name ≡ self.old.watch.name }
         ensures { self.new ≡ record self.old {
-          watch = noted (Counted places.number) self.old.watch;
+          watch = with_note (Counted places.number) self.old.watch;
         } }
     {
         self.hub.note_count(places);
@@ -277,14 +285,14 @@ impl Batch {
     /// Takes the marks, in the order in which they were set.
     pub fn take_marks<R: Wait>(&mut self, rt: &R) -> Option<Vec<RegistrationToken>>
         ensures none { IfNone result
-            (self.new ≡ record self.old { watch = noted (Marked []) self.old.watch }) }
+            (self.new ≡ record self.old { watch = with_note (Marked []) self.old.watch }) }
         ensures some { IfSome result (λ taken.
-            self.new ≡ record self.old { watch = noted (Marked taken.items) self.old.watch }) }
+            self.new ≡ record self.old { watch = with_note (Marked taken.items) self.old.watch }) }
     {
         self.hub.take_marks(rt)
     }
 
-    /// Makes room for so many more events and passes. Want of memory leaves the events and the passes as they were.
+    /// Makes room for so many more events and passes. Running out of memory leaves the events and the passes as they were.
     pub fn reserve(&mut self, events: usize, passes: usize) -> Result<(), AllocError>
         ensures room { OnOk result (events ≤ self.new.room) }
         ensures pass_room { OnOk result (passes ≤ self.new.pass_room) }
@@ -324,6 +332,7 @@ impl Batch {
           events = tail_of self.old.events;
           passes = if e.posted then tail_of self.old.passes else self.old.passes;
           pass = if e.posted then head_of self.old.passes else None;
+          polled = self.old.polled - 1;
           room = self.new.room;
           pass_room = self.new.pass_room;
         }) }
@@ -356,8 +365,10 @@ impl Batch {
         ensures batch { (posted : List ℕ) × ArePosted places posted × (self.new ≡ record self.old {
           events = ((self.old.events ++ posted_events posted) ++ polled_events given.now)
               ++ timer_events (due now.nanos wheel.old.entries);
-          passes = self.old.passes ++ map (taken self.old.watch.name) posted;
-          watch = noted (Unposted places posted) self.old.watch;
+          passes = self.old.passes ++ map (fresh_pass self.old.watch.name) posted;
+          polled = last_polled self.old.polled given.now
+              (length ((self.old.events ++ posted_events posted) ++ polled_events given.now));
+          watch = with_note (Unposted places posted) self.old.watch;
           room = self.new.room;
           pass_room = self.new.pass_room;
         }) }

@@ -1,12 +1,9 @@
 //! The table of sockets.
 ghost use Rattle.std.specs.Prelude.{◌≡◌, ◌+◌, ◌∷◌, true, false, nat_eq, ℕ, List, [], Some};
-ghost use Rattle.std.specs.Map.{keys_of};
-ghost use Rattle.std.specs.Ordering.{nat_cmp};
-ghost use Rattle.std.specs.List.Sorted.{IsStrictlySortedBy};
 ghost use Rattle.calloop_wake.specs.Tokens.{key_of};
 ghost use Rattle.calloop_core.specs.Tables.{Called, CalledFor, call_for, is_known, watched_at, is_in, Enter, Change, Leave, Discard};
 ghost use Rattle.calloop_core.specs.Polls.{poll_view, IsReady};
-ghost use Rattle.calloop_core.specs.Registering.{DidEdit};
+ghost use Rattle.calloop_core.specs.Registering.{DidEdit, as_loop};
 ghost use Rattle.calloop_wake.specs.declared.token.RegistrationToken.{RegistrationToken};
 ghost use Rattle.calloop_core.specs.Polls.{PollView, PollStep, Socket, AllStepped, polls_after};
 ghost use Rattle.calloop_core.specs.Keys.{IsKeyOf, AllActFor};
@@ -16,11 +13,11 @@ use super::Poll;
 use crate::sys::{Interest, Mode, Poller, Watched};
 use calloop_wake::error::{Error, Result};
 use calloop_wake::token::Token;
-use std::collections::BTreeMap;
 use std::io;
 use std::sync::Wait;
 
 // Tells the poller of a socket, where it knows it or is to know it.
+#[inline(always)]
 fn tell<P: Poller>(
     poller: &mut P,
     io: &mut P::Io,
@@ -48,15 +45,6 @@ fn tell<P: Poller>(
     }
 }
 
-// What is waited for under a key. The keys of a table ascend.
-fn watched_at(table: &BTreeMap<u64, Watched>, key: u64) -> Option<Watched>
-    ensures value { result ≡ watched_at key table.now.entries }
-    ensures ordered { IsStrictlySortedBy nat_cmp (keys_of table.now.entries) }
-{
-    let _ = table.len();
-    table.get(&key).copied()
-}
-
 impl<P: Poller, C, R: Wait + Drop> Poll<P, C, R> {
     /// Enters a socket under the key of this token, and adds it to the poller, unless the interest is empty. Refusals, in this
     /// order: `IoError` of kind `AlreadyExists`, where the key is in the table; `OutOfMemory`; and `IoError` with the poller's
@@ -74,7 +62,7 @@ impl<P: Poller, C, R: Wait + Drop> Poll<P, C, R> {
         ensures ready { (more : ℕ) → IsReady more self.old → IsReady more self.new }
     {
         let key = token.key();
-        if self.table.contains_key(&key) {
+        if self.table.contains_key(key) {
             return Err(Error::IoError(io::Error::from(io::ErrorKind::AlreadyExists)));
         }
         let watched = Watched { interest, mode };
@@ -82,39 +70,36 @@ impl<P: Poller, C, R: Wait + Drop> Poll<P, C, R> {
         match tell(&mut self.poller, io, false, key, watched) {
             Ok(()) => Ok(()),
             Err(cause) => {
-                self.table.remove(&key);
+                self.table.remove(key);
                 Err(Error::IoError(cause))
             }
         }
     }
 
-    // Under the key that it has, with which this stands there. What isn't another isn't entered again.
+    // Under the key that it has.
+    #[inline(always)]
     fn change(
         &mut self,
         io: &mut P::Io,
-        stood: Watched,
+        known: bool,
         before: Token,
         token: Token,
         watched: Watched,
-    ) -> Result<()>
+    ) -> io::Result<()>
         requires same { key_of before ≡ key_of token }
-        requires there { watched_at (key_of before) (poll_view self.old).table ≡ Some stood }
-        requires ordered { IsStrictlySortedBy nat_cmp (keys_of (poll_view self.old).table) }
+        requires there { is_in (key_of before) (poll_view self.old).table ≡ true }
+        requires known { is_known (watched_at (key_of before) (poll_view self.old).table) ≡ known }
         ensures edit { DidEdit P.outside P.sockets (Change before token watched)
-            (poll_view self.old) io.old result (poll_view self.new) io.new }
+            (poll_view self.old) io.old (as_loop result) (poll_view self.new) io.new }
         ensures ready { (more : ℕ) → IsReady more self.old → IsReady more self.new }
     {
         let same = token.key();
-        let known = stood.interest.asks();
         match tell(&mut self.poller, io, known, same, watched) {
             Ok(()) => {
-                if watched != stood {
-                    // The key is there, so it takes no memory.
-                    self.table.insert(same, watched)?;
-                }
+                self.table.replace(same, watched);
                 Ok(())
             }
-            Err(fault) => Err(Error::IoError(fault)),
+            Err(fault) => Err(fault),
         }
     }
 
@@ -139,11 +124,11 @@ impl<P: Poller, C, R: Wait + Drop> Poll<P, C, R> {
         self.table.insert(key, watched)?;
         match tell(&mut self.poller, io, known, key, watched) {
             Ok(()) => {
-                self.table.remove(&before.key());
+                self.table.remove(before.key());
                 Ok(())
             }
             Err(cause) => {
-                self.table.remove(&key);
+                self.table.remove(key);
                 Err(Error::IoError(cause))
             }
         }
@@ -168,17 +153,42 @@ impl<P: Poller, C, R: Wait + Drop> Poll<P, C, R> {
     {
         let key = token.key();
         let old = before.key();
-        let Some(stood) = watched_at(&self.table, old) else {
+        let Some(stood) = self.table.get(old) else {
             return Err(Error::IoError(io::Error::from(io::ErrorKind::NotFound)));
         };
+        let known = stood.interest.asks();
         let watched = Watched { interest, mode };
         if old == key {
-            return self.change(io, stood, before, token, watched);
+            return match self.change(io, known, before, token, watched) {
+                Ok(()) => Ok(()),
+                Err(cause) => Err(Error::IoError(cause)),
+            };
         }
-        if self.table.contains_key(&key) {
+        if self.table.contains_key(key) {
             return Err(Error::IoError(io::Error::from(io::ErrorKind::AlreadyExists)));
         }
-        self.change_key(io, stood.interest.asks(), before, token, watched)
+        self.change_key(io, known, before, token, watched)
+    }
+
+    /// The same for the token that the socket was registered with: a fault alone is answered, of kind `NotFound` where the key
+    /// isn't in the table, or the poller's. Each leaves the table as it was.
+    pub fn rearm(
+        &mut self,
+        io: &mut P::Io,
+        interest: Interest,
+        mode: Mode,
+        token: Token,
+    ) -> io::Result<()>
+        ensures edit { DidEdit P.outside P.sockets
+            (Change token token (record { interest = interest; mode = mode }))
+            (poll_view self.old) io.old (as_loop result) (poll_view self.new) io.new }
+        ensures ready { (more : ℕ) → IsReady more self.old → IsReady more self.new }
+    {
+        let Some(stood) = self.table.get(token.key()) else {
+            return Err(io::Error::from(io::ErrorKind::NotFound));
+        };
+        let known = stood.interest.asks();
+        self.change(io, known, token, token, Watched { interest, mode })
     }
 
     /// Takes a socket out, and from the poller, unless its interest is empty. A token whose key isn't in the table is refused
@@ -189,9 +199,8 @@ impl<P: Poller, C, R: Wait + Drop> Poll<P, C, R> {
         ensures ready { (more : ℕ) → IsReady more self.old → IsReady more self.new }
     {
         let key = token.key();
-        let stood = match self.table.get(&key) {
-            Some(watched) => *watched,
-            None => return Err(Error::IoError(io::Error::from(io::ErrorKind::NotFound))),
+        let Some(stood) = self.table.get(key) else {
+            return Err(Error::IoError(io::Error::from(io::ErrorKind::NotFound)));
         };
         let nothing = Watched {
             interest: Interest::EMPTY,
@@ -199,7 +208,7 @@ impl<P: Poller, C, R: Wait + Drop> Poll<P, C, R> {
         };
         match tell(&mut self.poller, io, stood.interest.asks(), key, nothing) {
             Ok(()) => {
-                self.table.remove(&key);
+                self.table.remove(key);
                 Ok(())
             }
             Err(cause) => Err(Error::IoError(cause)),
@@ -213,7 +222,7 @@ impl<P: Poller, C, R: Wait + Drop> Poll<P, C, R> {
             (Socket (Discard token) (poll_view self.old).poller ∷ []) (poll_view self.new) }
         ensures ready { (more : ℕ) → IsReady more self.old → IsReady more self.new }
     {
-        self.table.remove(&token.key());
+        self.table.remove(token.key());
     }
 }
 

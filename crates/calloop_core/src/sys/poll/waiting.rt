@@ -55,7 +55,7 @@ impl<P, C, R: Wait + Drop> Poll<P, C, R> {
     }
 
     // How long to wait. It spends the leave to sleep, without which a posted key stands and the wait is zero.
-    fn asked(
+    fn timeout_for(
         &self,
         leave: Option<LeaveToSleep>,
         timeout: Option<Duration>,
@@ -99,7 +99,7 @@ impl<P: Poller, C, R: Wait + Drop> Poll<P, C, R> {
     {
         let start = self.poller.now();
         let leave = self.batch.look(rt);
-        let mut asked = self.asked(leave, timeout, start, start);
+        let mut asked = self.timeout_for(leave, timeout, start, start);
         for _ in rt.forever() {
             let left = self.batch.polled();
             let answer = self.poller.wait(asked, left, &mut self.events);
@@ -112,7 +112,7 @@ impl<P: Poller, C, R: Wait + Drop> Poll<P, C, R> {
             self.events.clear();
             let now = self.poller.now();
             let again = self.batch.look(rt);
-            asked = self.asked(again, timeout, start, now);
+            asked = self.timeout_for(again, timeout, start, now);
             if is_zero(asked) {
                 return Ok(now);
             }

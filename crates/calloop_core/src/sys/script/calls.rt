@@ -167,7 +167,7 @@ impl ScriptPoller {
         Err(cause)
     }
 
-    // Notes a call, and answers it. Want of memory is a fault of kind `OutOfMemory`.
+    // Notes a call, and answers it. Running out of memory is a fault of kind `OutOfMemory`.
     pub(super) fn call(&mut self, call: ScriptCall) -> io::Result<()>
         ensures called { ScriptCalled self.old call result self.new }
         ensures faults { self.new.faults.count ≡ self.old.faults.count + faults_of result }

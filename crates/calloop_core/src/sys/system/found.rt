@@ -63,7 +63,7 @@ impl Found {
     }
 
     /// A wait that found nothing was interrupted: its error, whose kind is kept.
-    pub fn interrupted(&mut self) -> io::Error
+    pub fn interruption(&mut self) -> io::Error
         ensures kind { error_kind result ≡ Interrupted }
         ensures failed { self.new ≡ record self.old { failed = Some Interrupted } }
     {

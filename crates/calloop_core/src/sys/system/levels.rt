@@ -53,7 +53,7 @@ impl Levels {
         }
     }
 
-    /// It is registered so. Want of memory notes nothing.
+    /// It is registered so. Running out of memory notes nothing.
     pub fn note(
         &mut self,
         descriptor: RawFd,

@@ -78,7 +78,7 @@ where
     R: Wait + Clone + Drop,
 {
     fn new(rt: &R, alloc: Global) -> Option<Desk<D, R>> {
-        let mut event_loop: ScriptLoop<D, R> = ScriptLoop::scripted(rt, alloc).ok()?;
+        let mut event_loop: ScriptLoop<D, R> = ScriptLoop::with_script(rt, alloc).ok()?;
         let (ping, source) = make_ping(rt, alloc).ok()?;
         let held = <D as Choice<PingSource<R>, Teller, Here>>::hold(Dispatcher::new(
             source,

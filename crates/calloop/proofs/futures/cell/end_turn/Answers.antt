@@ -15,8 +15,8 @@ end_turn-debt-requires-clause-names g c =
 pub end_turn-debt-requires-clause-at : goal.end_turn-debt-requires-clause-at
 end_turn-debt-requires-clause-at g c = (of_content _ _ _ c.core-cell.ensures.value c.lock_at-held.ensures.taken.1).1
 
-pub owed-owed-requires : goal.owed-owed-requires
-owed-owed-requires g c =
+pub with_hub-owed-requires : goal.with_hub-owed-requires
+with_hub-owed-requires g c =
     let facts = of_content _ _ _ c.core-cell.ensures.value c.lock_at-held.ensures.taken.1 in
     let cell = c.core-cell.result.now in
     let old = cell.core in

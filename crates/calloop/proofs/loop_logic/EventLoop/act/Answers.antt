@@ -7,7 +7,7 @@ use Rattle.calloop_wake.specs.declared.error.Failed.{Failed}
 use Rattle.calloop_wake.specs.Failures.{with_error}
 use Rattle.calloop.specs.Machine.{View, view_of}
 use Rattle.calloop.specs.Held.{is_listed}
-use Rattle.calloop.specs.Rules.{RegisteredBy, action_of, entered, left}
+use Rattle.calloop.specs.Rules.{RegisteredBy, action_of, listing_of, unlisting_of}
 use Rattle.calloop.proofs.Going.{acted, acted_with, acted_leaving, batch-stepped}
 use Rattle.calloop.proofs.loop_logic.EventLoop.act.Goals as goal
 
@@ -25,7 +25,7 @@ returns-in-Ok-Reregister-clause-machine g c x =
     let t = c.args.token in
     let action : c.in-Ok-Reregister.field-0 ≡ Reregister = rw c.in-Ok-Reregister.is at c.in-Ok-Reregister.field-0-is in
     let is : action_of (with_error c.args.answer c.args.failure.now) c.args.self.now.pending ≡ Ok Reregister = sym (c.action_of-action.ensures c.args.failure.now) ∙ ap (λ (r : Result PostAction Failed). with_error r c.args.failure.now) c.in-Ok-Reregister.is ∙ ap (λ (a : PostAction). Ok a) action in
-    acted_with M g.D.Idle.IdleCallback.runs g.P.Poller.outside (RegisteredBy M Reregistered t (is_listed t v.held.lifecycle) v.poll) (entered M t) t v (view_of c.reregister.new.self) c.args.source.now c.reregister.new.source (with_error c.args.answer c.args.failure.now) (with_error c.reregister.result c.reregister.new.failure) x
+    acted_with M g.D.Idle.IdleCallback.runs g.P.Poller.outside (RegisteredBy M Reregistered t (is_listed t v.held.lifecycle) v.poll) (listing_of M t) t v (view_of c.reregister.new.self) c.args.source.now c.reregister.new.source (with_error c.args.answer c.args.failure.now) (with_error c.reregister.result c.reregister.new.failure) x
     (λ steps h. rw is (steps, h, refl)) c.reregister.ensures
 
 pub returns-in-Ok-Reregister-clause-batch : goal.returns-in-Ok-Reregister-clause-batch
@@ -39,7 +39,7 @@ returns-in-Ok-Disable-clause-machine g c x =
     let t = c.args.token in
     let action : c.in-Ok-Disable.field-0 ≡ Disable = rw c.in-Ok-Disable.is at c.in-Ok-Disable.field-0-is in
     let is : action_of (with_error c.args.answer c.args.failure.now) c.args.self.now.pending ≡ Ok Disable = sym (c.action_of-action.ensures c.args.failure.now) ∙ ap (λ (r : Result PostAction Failed). with_error r c.args.failure.now) c.in-Ok-Disable.is ∙ ap (λ (a : PostAction). Ok a) action in
-    acted_with M g.D.Idle.IdleCallback.runs g.P.Poller.outside (λ f a steps e. M.does f v.poll (Unregistered a) steps e) (left t) t v (view_of c.unregister.new.self) c.args.source.now c.unregister.new.source (with_error c.args.answer c.args.failure.now) (with_error c.unregister.result c.unregister.new.failure) x
+    acted_with M g.D.Idle.IdleCallback.runs g.P.Poller.outside (λ f a steps e. M.does f v.poll (Unregistered a) steps e) (unlisting_of t) t v (view_of c.unregister.new.self) c.args.source.now c.unregister.new.source (with_error c.args.answer c.args.failure.now) (with_error c.unregister.result c.unregister.new.failure) x
     (λ steps h. rw is (steps, h, refl)) c.unregister.ensures.deed
 
 pub returns-in-Ok-Disable-clause-batch : goal.returns-in-Ok-Disable-clause-batch

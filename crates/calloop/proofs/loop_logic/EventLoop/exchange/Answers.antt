@@ -1,5 +1,5 @@
 use Rattle.std.proofs.Common.{refl, sym, ◌∙◌}
-use Rattle.calloop_wake.specs.Slots.{named}
+use Rattle.calloop_wake.specs.Slots.{content_at}
 use Rattle.calloop.specs.Machine.{view_of}
 use Rattle.calloop.specs.Roles.{is_callers}
 use Rattle.calloop.proofs.Roles.{seen_there, unseen, none_seen}
@@ -9,15 +9,15 @@ use Rattle.calloop.proofs.loop_logic.EventLoop.exchange.Goals as goal
 pub returns-then-not-is_callers : goal.returns-then-not-is_callers
 returns-then-not-is_callers g c =
     not_exchanged g.D.Dispatch.means g.D.Idle.IdleCallback.runs g.P.Poller.outside (view_of c.args.self.now) c.args.token c.args.dispatcher
-    (unseen (is_callers g.D.Dispatch.means) (named c.args.self.now.sources c.args.token) (sym c.if-not-is_callers.true ∙ c.is_callers.ensures))
+    (unseen (is_callers g.D.Dispatch.means) (content_at c.args.self.now.sources c.args.token) (sym c.if-not-is_callers.true ∙ c.is_callers.ensures))
 
 pub returns-in-Ok : goal.returns-in-Ok
 returns-in-Ok g c =
     rw (c.replace.ensures.after, c.replace.ensures.value)
     (exchanged g.D.Dispatch.means g.D.Idle.IdleCallback.runs g.P.Poller.outside (view_of c.args.self.now) c.args.token c.in-Ok.held.now c.args.dispatcher
-    (seen_there (is_callers g.D.Dispatch.means) (named c.args.self.now.sources c.args.token) c.in-Ok.held.now (sym c.if-not-is_callers.false ∙ c.is_callers.ensures) c.in-Ok.ensures.ok))
+    (seen_there (is_callers g.D.Dispatch.means) (content_at c.args.self.now.sources c.args.token) c.in-Ok.held.now (sym c.if-not-is_callers.false ∙ c.is_callers.ensures) c.in-Ok.ensures.ok))
 
 pub returns-in-Err : goal.returns-in-Err
 returns-in-Err g c =
     not_exchanged g.D.Dispatch.means g.D.Idle.IdleCallback.runs g.P.Poller.outside (view_of c.args.self.now) c.args.token c.args.dispatcher
-    (none_seen (is_callers g.D.Dispatch.means) (named c.args.self.now.sources c.args.token) (c.in-Err.ensures.refuses.0 refl))
+    (none_seen (is_callers g.D.Dispatch.means) (content_at c.args.self.now.sources c.args.token) (c.in-Err.ensures.refuses.0 refl))

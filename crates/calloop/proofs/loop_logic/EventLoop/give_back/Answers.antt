@@ -1,5 +1,5 @@
 use Rattle.std.proofs.Common.{◌≡◌, ap, ◌∙◌}
-use Rattle.calloop_wake.specs.Slots.{named, is_in_turn}
+use Rattle.calloop_wake.specs.Slots.{content_at, is_in_turn}
 use Rattle.calloop_wake.specs.Failures.{with_error}
 use Rattle.calloop_core.specs.Polls.{poll_view}
 use Rattle.calloop.specs.Machine.{View, view_of}
@@ -9,13 +9,13 @@ use Rattle.calloop.proofs.loop_logic.EventLoop.give_back.Goals as goal
 pub returns-in_default-clause-machine : goal.returns-in_default-clause-machine
 returns-in_default-clause-machine g c told x =
     let ss = c.args.self.now.sources in
-    let here = was_in_turn (is_in_turn (named ss c.args.token)) c.args.source c.in_default.ensures.value in
+    let here = was_in_turn (is_in_turn (content_at ss c.args.token)) c.args.source c.in_default.ensures.value in
     rw (c.in_default.ensures.list, here) (returned g.D.Dispatch.means g.D.Idle.IdleCallback.runs g.P.Poller.outside c.args.token (view_of c.args.self.now) c.args.source told x here)
 
 pub returns-clause-machine : goal.returns-clause-machine
 returns-clause-machine g c told x =
     let ss = c.args.self.now.sources in
-    let there = not_in_turn (is_in_turn (named ss c.args.token)) c.args.source c.in-Some.left c.in-Some.ensures.value in
+    let there = not_in_turn (is_in_turn (content_at ss c.args.token)) c.args.source c.in-Some.left c.in-Some.ensures.value in
     let ss' : c.end_turn.new.self ≡ ss = rw there.0 at c.in-Some.ensures.list in
     rw c.pay.ensures
     (gone g.D.Dispatch.means g.D.Idle.IdleCallback.runs g.P.Poller.outside c.args.token (view_of c.args.self.now) (view_of c.unregister-told.new.self) c.args.source c.unregister-told.new.source told (with_error c.unregister-told.result c.unregister-told.new.failure) c.note.ensures.0

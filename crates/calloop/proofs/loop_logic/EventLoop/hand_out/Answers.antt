@@ -2,13 +2,13 @@ use Rattle.std.proofs.Common.{◌≡◌, length, ◌∙◌, ap, subst, arith, No
 use Rattle.calloop_wake.specs.declared.list.Content.TheVariants.{InTurn}
 use Rattle.calloop_wake.specs.declared.token.RegistrationToken.{RegistrationToken}
 use Rattle.calloop_wake.specs.declared.list.Slot.{Slot}
-use Rattle.calloop_wake.specs.Slots.{changed, with_content, named, source_of}
+use Rattle.calloop_wake.specs.Slots.{with_change, with_content, content_at, source_of}
 use Rattle.calloop_wake.specs.Tokens.{registration_of}
 use Rattle.calloop_core.specs.Polls.{PollView, poll_view, cut, with_pass}
 use Rattle.calloop_wake.specs.Failures.{with_error}
 use Rattle.calloop.specs.Machine.{View, view_of}
 use Rattle.calloop.specs.Rules.{Goes, Cutting, Serving, Ending, Idling, after_hand_out}
-use Rattle.calloop_core.specs.Deeds.{lent}
+use Rattle.calloop_core.specs.Deeds.{lend}
 use Rattle.calloop.specs.Askings.{Asks, of_turn}
 use Rattle.calloop.proofs.Serving.{all_steady}
 use Rattle.calloop.proofs.Going.{goes_to, goes_on, no_event, cut_none, turned, turn_served, length-cut, batch-stepped}
@@ -26,7 +26,7 @@ returns-in_default-begin_turn-clause-machine g c =
     let v : View g.row.D.Denot g.row.D-Idle.Denot g.row.P.Denot = view_of c.args.self.now in
     let M = g.D.Dispatch.means in
     let polls : poll_view c.end_event.new.self ≡ with_pass None (cut v.poll) = c.end_event.ensures ∙ ap (λ (p : PollView g.row.P.Denot). with_pass None p) c.next_event.ensures.view in
-    let none : None ≡ source_of (named v.slots (registration_of c.in-Some.event.token)) = c.in_default-begin_turn.ensures.value ∙ ap (λ (t : RegistrationToken). source_of (named v.slots t)) c.registration-token.ensures in
+    let none : None ≡ source_of (content_at v.slots (registration_of c.in-Some.event.token)) = c.in_default-begin_turn.ensures.value ∙ ap (λ (t : RegistrationToken). source_of (content_at v.slots t)) c.registration-token.ensures in
     goes_to M g.D.Idle.IdleCallback.runs g.P.Poller.outside (Cutting c.args.«data».now) (Cutting c.args.«data».now) v (record v { poll = with_pass None (cut v.poll) }) _
     (ap (λ (s : List (Slot g.row.D.Denot)). record v { slots = s; poll = poll_view c.end_event.new.self }) c.in_default-begin_turn.ensures.list ∙ ap (λ (p : PollView g.row.P.Denot). record v { poll = p }) polls)
     (cut_none M g.D.Idle.IdleCallback.runs g.P.Poller.outside c.in-Some.event v c.args.«data».now c.in-Some.ensures.event none)
@@ -49,12 +49,12 @@ returns-clause-machine g c =
     let x = c.args.«data».now in
     let y = c.process_events-answer.new.«data» in
     let own : c.registration-token.result.slot ≡ e.token.slot = ap (λ (t : RegistrationToken). t.slot) c.registration-token.ensures in
-    let found : Some c.in-Some-begin_turn.source ≡ source_of (named v.slots (registration_of e.token)) = c.in-Some-begin_turn.ensures.value ∙ ap (λ (t : RegistrationToken). source_of (named v.slots t)) c.registration-token.ensures in
-    let slots : c.begin_turn.new.self ≡ changed (with_content InTurn) v.slots e.token.slot = c.in-Some-begin_turn.ensures.list ∙ ap (λ n. changed (with_content InTurn) v.slots n) own in
+    let found : Some c.in-Some-begin_turn.source ≡ source_of (content_at v.slots (registration_of e.token)) = c.in-Some-begin_turn.ensures.value ∙ ap (λ (t : RegistrationToken). source_of (content_at v.slots t)) c.registration-token.ensures in
+    let slots : c.begin_turn.new.self ≡ with_change (with_content InTurn) v.slots e.token.slot = c.in-Some-begin_turn.ensures.list ∙ ap (λ n. with_change (with_content InTurn) v.slots n) own in
     let held : View g.row.D.Denot g.row.D-Idle.Denot g.row.P.Denot = record v { slots = c.begin_turn.new.self; poll = polls; held = record v.held { asks = back } } in
     let served = view_of c.serve_all.new.self in
     let after = after_hand_out (with_error c.end_turn.result c.end_turn.new.failure) y in
-    let asks = g.met.D.Dispatch.asks c.in-Some-begin_turn.source d (poll_view c.next_event.new.self) e.readiness e.token (lent x given answer y asked) c.process_events-answer.ensures.0 c.process_events-answer.ensures.1 in
+    let asks = g.met.D.Dispatch.asks c.in-Some-begin_turn.source d (poll_view c.next_event.new.self) e.readiness e.token (lend x given answer y asked) c.process_events-answer.ensures.0 c.process_events-answer.ensures.1 in
     goes_on M R O (Cutting x) (Serving (registration_of e.token) d answer y) after v held (view_of c.end_turn.new.self)
     (rw (slots, c.end_event-2.ensures) (turned M R O e v c.in-Some-begin_turn.source d answer (poll_view c.next_event.new.self) (poll_view c.process_events-answer.new.poll) x y given asked back c.in-Some.ensures.event found c.next_event.ensures.view begun ended c.process_events-answer.ensures asks))
     (goes_on M R O (Serving (registration_of e.token) d answer y) (Ending (registration_of e.token) d answer y) after held served (view_of c.end_turn.new.self)

@@ -1,7 +1,7 @@
 use Rattle.std.proofs.Common.{◌≡◌, List, refl, ap, sym, ◌∙◌}
 use Rattle.calloop_wake.specs.declared.list.Content.TheVariants.{Source}
 use Rattle.calloop_wake.specs.declared.list.Slot.{Slot}
-use Rattle.calloop_wake.specs.Slots.{after_turn, claimed, claim_error}
+use Rattle.calloop_wake.specs.Slots.{after_turn, after_claim, claim_error}
 use Rattle.std.specs.Arc.{arc_value}
 use Rattle.calloop_core.specs.Polls.{poll_view}
 use Rattle.calloop.specs.declared.loop_logic.signal.LoopSignal.{LoopSignal}
@@ -23,10 +23,10 @@ returns-in-Ok-register-clause-case g c =
     let v : View g.row.D.Denot g.row.D-Idle.Denot g.row.P.Denot = view_of c.args.self.now in
     let others = c.in-Ok.ensures.others in
     let needs = sym (g.met.D.Hold.held_means.needs (record { source = c.args.source; callback = c.args.callback }) ∙ c.needs_extra_lifecycle_events-needed.ensures c.args.source) in
-    let slots : c.end_turn-none.new.self ≡ after_turn (Source (g.D.Choice.held (record { source = c.register.new.self; callback = c.args.callback }))) c.in-Ok.token (claimed v.slots) =
+    let slots : c.end_turn-none.new.self ≡ after_turn (Source (g.D.Choice.held (record { source = c.register.new.self; callback = c.args.callback }))) c.in-Ok.token (after_claim v.slots) =
     c.end_turn-none.ensures.list
     ∙ ap (λ (s : List (Slot g.row.D.Denot)). after_turn (Source c.hold-held.result) c.in-Ok.token s) c.in-Ok.ensures.ok.2
-    ∙ ap (λ (d : g.row.D.Denot). after_turn (Source d) c.in-Ok.token (claimed v.slots)) c.hold-held.ensures in
+    ∙ ap (λ (d : g.row.D.Denot). after_turn (Source d) c.in-Ok.token (after_claim v.slots)) c.hold-held.ensures in
     rw (slots, c.enter.ensures, needs, others.1, others.2, others.3)
     (registered g.D.Dispatch.means g.D.Idle.IdleCallback.runs g.P.Poller.outside (view_of c.args.self.now) (g.D.Choice.held (record { source = c.args.source; callback = c.args.callback })) (g.D.Choice.held (record { source = c.register.new.self; callback = c.args.callback }))
     c.in-Ok.token c.register.new.factory (poll_view c.register.new.poll)

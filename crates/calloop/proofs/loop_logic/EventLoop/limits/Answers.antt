@@ -1,5 +1,5 @@
 use Rattle.std.proofs.Common.{◌≡◌, ◌+◌, ◌≤◌, ◌^◌, ◌∷◌, drop, arith}
-use Rattle.calloop_wake.specs.Slots.{named}
+use Rattle.calloop_wake.specs.Slots.{content_at}
 use Rattle.calloop.specs.Limits.{limit_in, all_limits}
 use Rattle.calloop.proofs.Limits.{not_less}
 use Rattle.calloop.proofs.Telling.{rest_from}
@@ -10,7 +10,7 @@ returns-in_default-clause-none g c none =
     let M = g.D.Dispatch.means in
     let tokens = c.args.self.now.lifecycle.tokens.items in
     let rest : drop c.loop-place.place tokens ≡ c.at-token.result ∷ drop (c.loop-place.place + 1) tokens = rest_from tokens c.loop-place.place c.at-token.result c.at-token.ensures in
-    let so_far : c.loop-place.sum + (limit_in M (named c.args.self.now.sources c.at-token.result) + all_limits M c.args.self.now.sources (drop (c.loop-place.place + 1) tokens)) ≡ all_limits M c.args.self.now.sources tokens = rw rest at c.loop-place.invariant in
+    let so_far : c.loop-place.sum + (limit_in M (content_at c.args.self.now.sources c.at-token.result) + all_limits M c.args.self.now.sources (drop (c.loop-place.place + 1) tokens)) ≡ all_limits M c.args.self.now.sources tokens = rw rest at c.loop-place.invariant in
     let full : 2 ^ 64 ≤ c.loop-place.sum + c.from-limit.result = not_less (c.loop-place.sum + c.from-limit.result) (2 ^ 64) c.in_default.ensures in
     omega (arith, full, so_far, c.from-limit.ensures, c.limit_of.ensures)
 
@@ -19,6 +19,6 @@ loop-place-preserved g c =
     let M = g.D.Dispatch.means in
     let tokens = c.args.self.now.lifecycle.tokens.items in
     let rest : drop c.loop-place.place tokens ≡ c.at-token.result ∷ drop (c.loop-place.place + 1) tokens = rest_from tokens c.loop-place.place c.at-token.result c.at-token.ensures in
-    let so_far : c.loop-place.sum + (limit_in M (named c.args.self.now.sources c.at-token.result) + all_limits M c.args.self.now.sources (drop (c.loop-place.place + 1) tokens)) ≡ all_limits M c.args.self.now.sources tokens = rw rest at c.loop-place.invariant in
+    let so_far : c.loop-place.sum + (limit_in M (content_at c.args.self.now.sources c.at-token.result) + all_limits M c.args.self.now.sources (drop (c.loop-place.place + 1) tokens)) ≡ all_limits M c.args.self.now.sources tokens = rw rest at c.loop-place.invariant in
     let now : c.in-Some.more + all_limits M c.args.self.now.sources (drop (c.loop-place.place + 1) tokens) ≡ all_limits M c.args.self.now.sources tokens = omega (arith, so_far, c.from-limit.ensures, c.limit_of.ensures, c.in-Some.ensures.1) in
     now

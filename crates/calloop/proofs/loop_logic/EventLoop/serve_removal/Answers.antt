@@ -1,6 +1,6 @@
 use Rattle.std.proofs.Common.{[], ◌∷◌, refl, sym, ◌∙◌}
 use Rattle.calloop_wake.specs.declared.list.Content.TheVariants.{Vacant}
-use Rattle.calloop_wake.specs.Slots.{named}
+use Rattle.calloop_wake.specs.Slots.{content_at}
 use Rattle.calloop.specs.declared.loop_logic.asks.Answer.TheVariants.{Removed}
 use Rattle.calloop.specs.Held.{Unlisted, Owe}
 use Rattle.calloop.specs.Machine.{Put, Holds, view_of}
@@ -14,8 +14,8 @@ returns-then-is_in_turn g c =
     let ss = c.args.self.now.sources in
     let mine = sym c.is_in_turn.ensures ∙ c.if-is_in_turn.true in (
       Put c.args.token.slot Vacant ∷ Holds (Unlisted c.args.token) ∷ Holds Owe ∷ [],
-      own_is _ (named ss c.args.token) mine refl,
-      (full_named ss c.args.token (turn_full (named ss c.args.token) mine), (tt, (tt, tt))),
+      own_is _ (content_at ss c.args.token) mine refl,
+      (full_named ss c.args.token (turn_full (content_at ss c.args.token) mine), (tt, (tt, tt))),
       rw (c.vacate.ensures, c.leave.ensures, c.owe.ensures, mine) refl,
     )
 
@@ -25,4 +25,4 @@ returns g c =
     let other = sym c.is_in_turn.ensures ∙ c.if-is_in_turn.false in
     let R = RemovedBy g.D.Dispatch.means c.args.token c.remove-answer.result in
     let d = closed g.P.Poller.outside R (view_of c.args.self.now) (view_of c.remove-answer.new.self) (Removed c.remove-answer.result) (one_done g.P.Poller.outside R (view_of c.args.self.now) (view_of c.remove-answer.new.self) c.remove-answer.ensures.case) in
-    rw c.tell.ensures (_, other_is _ (named ss c.args.token) other (c.remove-answer.result, d.0, d.1, refl), d.2, d.3)
+    rw c.tell.ensures (_, other_is _ (content_at ss c.args.token) other (c.remove-answer.result, d.0, d.1, refl), d.2, d.3)

@@ -1,6 +1,6 @@
 use Rattle.std.proofs.Common.{◌≡◌, sym, arith, filter}
 use Rattle.calloop_wake.specs.declared.list.Content.TheVariants.{Source, Vacant}
-use Rattle.calloop_wake.specs.Slots.{named}
+use Rattle.calloop_wake.specs.Slots.{content_at}
 use Rattle.calloop_wake.proofs.Named.{source_is}
 use Rattle.calloop_core.specs.Polls.{poll_view}
 use Rattle.calloop.specs.Machine.{view_of}
@@ -17,14 +17,14 @@ returns-in_default-clause-machine g c timeout later x =
 
 pub returns-in-Some-settle-clause-machine : goal.returns-in-Some-settle-clause-machine
 returns-in-Some-settle-clause-machine g c timeout later x =
-    let ss = only (is_adapter g.D.Dispatch.means) (named c.args.self.now.sources c.args.token) in
+    let ss = only (is_adapter g.D.Dispatch.means) (content_at c.args.self.now.sources c.args.token) in
     let is : ss ≡ Source c.in-Some.source = source_is ss c.in-Some.source (sym c.in-Some.ensures.value) in
     rw (c.vacate.ensures, c.leave.ensures, c.in-Some.ensures.list)
     (gone g.D.Dispatch.means g.D.Idle.IdleCallback.runs g.P.Poller.outside timeout c.args.token later (view_of c.args.self.now) x c.in-Some.source c.settle.new.self c.in-Some-settle.told (poll_view c.settle.new.poll) c.note.ensures.0 c.note.new.self.errors.items is c.note.ensures.1 c.in-Some-settle.ensures.settles)
 
 pub returns-in-None-clause-machine : goal.returns-in-None-clause-machine
 returns-in-None-clause-machine g c timeout later x =
-    let ss = only (is_adapter g.D.Dispatch.means) (named c.args.self.now.sources c.args.token) in
+    let ss = only (is_adapter g.D.Dispatch.means) (content_at c.args.self.now.sources c.args.token) in
     let is : ss ≡ Source c.in-Some.source = source_is ss c.in-Some.source (sym c.in-Some.ensures.value) in
     rw (c.end_turn-none.ensures.list, c.in-Some.ensures.list)
     (kept g.D.Dispatch.means g.D.Idle.IdleCallback.runs g.P.Poller.outside timeout c.args.token later (view_of c.args.self.now) x c.in-Some.source c.settle.new.self (poll_view c.settle.new.poll) is c.in-None.ensures.settles)
@@ -38,8 +38,8 @@ returns-in-Some-settle-clause-limits g c =
     let d = c.in-Some.source in
     let old = c.args.self.now.sources in
     let tokens = c.args.self.now.lifecycle.tokens.items in
-    let ss = only (is_adapter M) (named old c.args.token) in
-    let is : named old c.args.token ≡ Source d = only_source (is_adapter M) (named old c.args.token) d (source_is ss d (sym c.in-Some.ensures.value)) in
+    let ss = only (is_adapter M) (content_at old c.args.token) in
+    let is : content_at old c.args.token ≡ Source d = only_source (is_adapter M) (content_at old c.args.token) d (source_is ss d (sym c.in-Some.ensures.value)) in
     let gone = ended_limits M old c.args.token d Vacant is (omega arith) (filter (is_another c.args.token) tokens) in
     rw (c.vacate.ensures, c.leave.ensures, c.in-Some.ensures.list)
     (omega (arith, gone, filtered_limits M (is_another c.args.token) old tokens))
@@ -51,8 +51,8 @@ returns-in-None-clause-limits g c =
     let e = c.settle.new.self in
     let old = c.args.self.now.sources in
     let tokens = c.args.self.now.lifecycle.tokens.items in
-    let ss = only (is_adapter M) (named old c.args.token) in
-    let is : named old c.args.token ≡ Source d = only_source (is_adapter M) (named old c.args.token) d (source_is ss d (sym c.in-Some.ensures.value)) in
+    let ss = only (is_adapter M) (content_at old c.args.token) in
+    let is : content_at old c.args.token ≡ Source d = only_source (is_adapter M) (content_at old c.args.token) d (source_is ss d (sym c.in-Some.ensures.value)) in
     let same = settled_limit M g.P.Poller.outside g.met.D.Dispatch.keeps.limit (M.role d) c.args.token d e (poll_view c.args.self.now.poll) (poll_view c.settle.new.poll) c.in-None.ensures.settles in
     rw (c.end_turn-none.ensures.list, c.in-Some.ensures.list)
     (ended_limits M old c.args.token d (Source e) is (omega (arith, same)) tokens)

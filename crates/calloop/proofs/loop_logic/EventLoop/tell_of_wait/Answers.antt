@@ -1,7 +1,7 @@
 use Rattle.std.proofs.Common.{◌≡◌, ◌+◌, ◌≤◌, [], ◌∷◌, Err, drop, ◌∙◌, arith}
 use Rattle.std.proofs.lemmas.List.{drop_all}
 use Rattle.std.proofs.lemmas.Result.{err_from_is_err_and}
-use Rattle.calloop_wake.specs.Slots.{named}
+use Rattle.calloop_wake.specs.Slots.{content_at}
 use Rattle.calloop.specs.Limits.{limit_in, all_limits}
 use Rattle.calloop.specs.Machine.{view_of}
 use Rattle.calloop.specs.Rules.{Sleeping, Waiting, Leaving}
@@ -30,7 +30,7 @@ loop-place-preserved g c =
     let before = all_limits M c.loop-place.self.sources later in
     let after = all_limits M c.tell_one_of_wait.new.self.sources later in
     let fewer : after ≤ before = c.in_ok-tell_one_of_wait.ensures.limits later in
-    let room : limit_in M (named c.loop-place.self.sources c.at-token.result) + before ≤ c.loop-place.self.synthetic.room = rw rest at c.loop-place.invariant.room in
+    let room : limit_in M (content_at c.loop-place.self.sources c.at-token.result) + before ≤ c.loop-place.self.synthetic.room = rw rest at c.loop-place.invariant.room in
     record {
       machine = λ timeout x.
           goes_on g.D.Dispatch.means g.D.Idle.IdleCallback.runs g.P.Poller.outside (Sleeping timeout tokens x) (Sleeping timeout (c.at-token.result ∷ later) x) (Sleeping timeout later x) (view_of c.args.self.now) (view_of c.loop-place.self) (view_of c.tell_one_of_wait.new.self)
@@ -53,7 +53,7 @@ tell_one_of_wait-requires-clause-ready g c =
     let tokens = c.args.self.now.lifecycle.tokens.items in
     let later = drop (c.loop-place.place + 1) tokens in
     let rest : drop c.loop-place.place tokens ≡ c.at-token.result ∷ later = rest_from tokens c.loop-place.place c.at-token.result (rw c.loop-place.invariant.entries at c.at-token.ensures) in
-    let here = limit_in M (named c.loop-place.self.sources c.at-token.result) in
+    let here = limit_in M (content_at c.loop-place.self.sources c.at-token.result) in
     ready_less c.loop-place.self.poll (here + all_limits M c.loop-place.self.sources later) here (omega arith) (rw rest at c.loop-place.invariant.ready)
 
 pub tell_one_of_wait-requires-clause-room : goal.tell_one_of_wait-requires-clause-room
@@ -62,5 +62,5 @@ tell_one_of_wait-requires-clause-room g c =
     let tokens = c.args.self.now.lifecycle.tokens.items in
     let later = drop (c.loop-place.place + 1) tokens in
     let rest : drop c.loop-place.place tokens ≡ c.at-token.result ∷ later = rest_from tokens c.loop-place.place c.at-token.result (rw c.loop-place.invariant.entries at c.at-token.ensures) in
-    let room : limit_in M (named c.loop-place.self.sources c.at-token.result) + all_limits M c.loop-place.self.sources later ≤ c.loop-place.self.synthetic.room = rw rest at c.loop-place.invariant.room in
+    let room : limit_in M (content_at c.loop-place.self.sources c.at-token.result) + all_limits M c.loop-place.self.sources later ≤ c.loop-place.self.synthetic.room = rw rest at c.loop-place.invariant.room in
     omega (arith, room)

@@ -1,6 +1,6 @@
 use Rattle.std.proofs.Common.{◌≡◌, sym}
 use Rattle.calloop_wake.specs.declared.list.Content.TheVariants.{Source}
-use Rattle.calloop_wake.specs.Slots.{named}
+use Rattle.calloop_wake.specs.Slots.{content_at}
 use Rattle.calloop_wake.proofs.Named.{source_is}
 use Rattle.calloop_core.specs.Polls.{poll_view}
 use Rattle.calloop.specs.Machine.{view_of}
@@ -13,7 +13,7 @@ returns-in_default-clause-machine g c later x =
 
 pub returns-clause-machine : goal.returns-clause-machine
 returns-clause-machine g c later x =
-    let is : named c.args.self.now.sources c.args.token ≡ Source c.in-Some.source = source_is (named c.args.self.now.sources c.args.token) c.in-Some.source (sym c.in-Some.ensures.value) in
+    let is : content_at c.args.self.now.sources c.args.token ≡ Source c.in-Some.source = source_is (content_at c.args.self.now.sources c.args.token) c.in-Some.source (sym c.in-Some.ensures.value) in
     rw (c.end_turn-none.ensures.list, c.in-Some.ensures.list)
     (noticed g.D.Dispatch.means g.D.Idle.IdleCallback.runs g.P.Poller.outside c.args.from c.args.token later (view_of c.args.self.now) x c.in-Some.source c.before_handle_events.new.self is
     (rw c.events.ensures at (c.before_handle_events.ensures (poll_view c.args.self.now.poll))))

@@ -1,7 +1,7 @@
 use Rattle.std.proofs.Common.{◌≡◌, ◌+◌, [], sym, ap, arith, length, ◌∙◌}
 use Rattle.std.proofs.lemmas.Result.{err_from_is_err_and}
 use Rattle.calloop_wake.specs.declared.list.Content.TheVariants.{Source}
-use Rattle.calloop_wake.specs.Slots.{named}
+use Rattle.calloop_wake.specs.Slots.{content_at}
 use Rattle.calloop_wake.proofs.Named.{source_is}
 use Rattle.calloop_core.specs.Polls.{poll_view}
 use Rattle.calloop_core.specs.Synthetics.{IsLent}
@@ -18,7 +18,7 @@ returns-in_default-clause-machine g c timeout later x =
 
 pub returns-in_default-clause-ready : goal.returns-in_default-clause-ready
 returns-in_default-clause-ready g c more h =
-    ready_less c.args.self.now.poll (limit_in g.D.Dispatch.means (named c.args.self.now.sources c.args.token) + more) more (omega arith) h
+    ready_less c.args.self.now.poll (limit_in g.D.Dispatch.means (content_at c.args.self.now.sources c.args.token) + more) more (omega arith) h
 
 pub returns-in_default-clause-limits : goal.returns-in_default-clause-limits
 returns-in_default-clause-limits g c tokens = rw c.in_default.ensures.list (omega arith)
@@ -26,7 +26,7 @@ returns-in_default-clause-limits g c tokens = rw c.in_default.ensures.list (omeg
 pub lend-requires : goal.lend-requires
 lend-requires g c =
     let M = g.D.Dispatch.means in
-    let is : named c.args.self.now.sources c.args.token ≡ Source c.in-Some.source = source_is (named c.args.self.now.sources c.args.token) c.in-Some.source (sym c.in-Some.ensures.value) in
+    let is : content_at c.args.self.now.sources c.args.token ≡ Source c.in-Some.source = source_is (content_at c.args.self.now.sources c.args.token) c.in-Some.source (sym c.in-Some.ensures.value) in
     omega (arith, c.requires.room, ap (limit_in M) is, c.synthetic_limit.ensures)
 
 pub returns-in_err-leave-clause-machine : goal.returns-in_err-leave-clause-machine
@@ -36,7 +36,7 @@ returns-in_err-leave-clause-machine g c timeout later x =
     let e = c.before_sleep-answer.new.self in
     let given = c.before_sleep-answer.new.out.given in
     let error = c.leave.new.failure in
-    let is : named c.args.self.now.sources c.args.token ≡ Source d = source_is (named c.args.self.now.sources c.args.token) d (sym c.in-Some.ensures.value) in
+    let is : content_at c.args.self.now.sources c.args.token ≡ Source d = source_is (content_at c.args.self.now.sources c.args.token) d (sym c.in-Some.ensures.value) in
     let lent : IsLent (M.limit d) c.lend.new.self = record { limit_is = ap (λ s. s.limit) c.lend.ensures ∙ c.synthetic_limit.ensures; empty = ap (λ s. s.given) c.lend.ensures } in
     let p = err_from_is_err_and c.from_residual.result c.from_residual.ensures.1 in
     rw (p.1, c.end_turn-none.ensures.list, c.in-Some.ensures.list)
@@ -45,7 +45,7 @@ returns-in_err-leave-clause-machine g c timeout later x =
 
 pub returns-in_err-leave-clause-ready : goal.returns-in_err-leave-clause-ready
 returns-in_err-leave-clause-ready g c more h =
-    ready_less c.args.self.now.poll (limit_in g.D.Dispatch.means (named c.args.self.now.sources c.args.token) + more) more (omega arith) h
+    ready_less c.args.self.now.poll (limit_in g.D.Dispatch.means (content_at c.args.self.now.sources c.args.token) + more) more (omega arith) h
 
 pub returns-in_err-leave-clause-limits : goal.returns-in_err-leave-clause-limits
 returns-in_err-leave-clause-limits g c tokens =
@@ -53,7 +53,7 @@ returns-in_err-leave-clause-limits g c tokens =
     let d = c.in-Some.source in
     let e = c.before_sleep-answer.new.self in
     let given = c.before_sleep-answer.new.out.given in
-    let is : named c.args.self.now.sources c.args.token ≡ Source d = source_is (named c.args.self.now.sources c.args.token) d (sym c.in-Some.ensures.value) in
+    let is : content_at c.args.self.now.sources c.args.token ≡ Source d = source_is (content_at c.args.self.now.sources c.args.token) d (sym c.in-Some.ensures.value) in
     let lent : IsLent (M.limit d) c.lend.new.self = record { limit_is = ap (λ s. s.limit) c.lend.ensures ∙ c.synthetic_limit.ensures; empty = ap (λ s. s.given) c.lend.ensures } in
     let same = g.met.D.Dispatch.keeps.limit.same d e _ _ [] (c.before_sleep-answer.ensures.slept (poll_view c.args.self.now.poll) lent) in
     rw (c.end_turn-none.ensures.list, c.in-Some.ensures.list)
@@ -63,10 +63,10 @@ pub join-requires : goal.join-requires
 join-requires g c =
     let M = g.D.Dispatch.means in
     let d = c.in-Some.source in
-    let is : named c.args.self.now.sources c.args.token ≡ Source d = source_is (named c.args.self.now.sources c.args.token) d (sym c.in-Some.ensures.value) in
+    let is : content_at c.args.self.now.sources c.args.token ≡ Source d = source_is (content_at c.args.self.now.sources c.args.token) d (sym c.in-Some.ensures.value) in
     let lent : IsLent (M.limit d) c.lend.new.self = record { limit_is = ap (λ s. s.limit) c.lend.ensures ∙ c.synthetic_limit.ensures; empty = ap (λ s. s.given) c.lend.ensures } in
     let within = g.met.D.Dispatch.keeps.limit.within d c.before_sleep-answer.new.self _ _ _ [] (c.before_sleep-answer.ensures.slept (poll_view c.args.self.now.poll) lent) in
-    ready_less c.args.self.now.poll (limit_in M (named c.args.self.now.sources c.args.token)) (length c.events.result.now) (omega (arith, within, ap (λ l. length l) c.events.ensures, ap (limit_in M) is)) c.requires.ready
+    ready_less c.args.self.now.poll (limit_in M (content_at c.args.self.now.sources c.args.token)) (length c.events.result.now) (omega (arith, within, ap (λ l. length l) c.events.ensures, ap (limit_in M) is)) c.requires.ready
 
 pub returns-clause-machine : goal.returns-clause-machine
 returns-clause-machine g c timeout later x =
@@ -74,7 +74,7 @@ returns-clause-machine g c timeout later x =
     let d = c.in-Some.source in
     let e = c.before_sleep-answer.new.self in
     let given = c.before_sleep-answer.new.out.given in
-    let is : named c.args.self.now.sources c.args.token ≡ Source d = source_is (named c.args.self.now.sources c.args.token) d (sym c.in-Some.ensures.value) in
+    let is : content_at c.args.self.now.sources c.args.token ≡ Source d = source_is (content_at c.args.self.now.sources c.args.token) d (sym c.in-Some.ensures.value) in
     let lent : IsLent (M.limit d) c.lend.new.self = record { limit_is = ap (λ s. s.limit) c.lend.ensures ∙ c.synthetic_limit.ensures; empty = ap (λ s. s.given) c.lend.ensures } in
     rw (c.join.ensures.view, c.events.ensures, c.end_turn-none.ensures.list, c.in-Some.ensures.list)
     (slept_well M g.D.Idle.IdleCallback.runs g.P.Poller.outside timeout c.args.token later (view_of c.args.self.now) x d e given is
@@ -84,17 +84,17 @@ pub returns-clause-ready : goal.returns-clause-ready
 returns-clause-ready g c more h =
     let M = g.D.Dispatch.means in
     let d = c.in-Some.source in
-    let is : named c.args.self.now.sources c.args.token ≡ Source d = source_is (named c.args.self.now.sources c.args.token) d (sym c.in-Some.ensures.value) in
+    let is : content_at c.args.self.now.sources c.args.token ≡ Source d = source_is (content_at c.args.self.now.sources c.args.token) d (sym c.in-Some.ensures.value) in
     let lent : IsLent (M.limit d) c.lend.new.self = record { limit_is = ap (λ s. s.limit) c.lend.ensures ∙ c.synthetic_limit.ensures; empty = ap (λ s. s.given) c.lend.ensures } in
     let within = g.met.D.Dispatch.keeps.limit.within d c.before_sleep-answer.new.self _ _ _ [] (c.before_sleep-answer.ensures.slept (poll_view c.args.self.now.poll) lent) in
-    c.join.ensures.ready more (ready_less c.args.self.now.poll (limit_in M (named c.args.self.now.sources c.args.token) + more) (length c.events.result.now + more) (omega (arith, within, ap (λ l. length l) c.events.ensures, ap (limit_in M) is)) h)
+    c.join.ensures.ready more (ready_less c.args.self.now.poll (limit_in M (content_at c.args.self.now.sources c.args.token) + more) (length c.events.result.now + more) (omega (arith, within, ap (λ l. length l) c.events.ensures, ap (limit_in M) is)) h)
 
 pub returns-clause-limits : goal.returns-clause-limits
 returns-clause-limits g c tokens =
     let M = g.D.Dispatch.means in
     let d = c.in-Some.source in
     let e = c.before_sleep-answer.new.self in
-    let is : named c.args.self.now.sources c.args.token ≡ Source d = source_is (named c.args.self.now.sources c.args.token) d (sym c.in-Some.ensures.value) in
+    let is : content_at c.args.self.now.sources c.args.token ≡ Source d = source_is (content_at c.args.self.now.sources c.args.token) d (sym c.in-Some.ensures.value) in
     let lent : IsLent (M.limit d) c.lend.new.self = record { limit_is = ap (λ s. s.limit) c.lend.ensures ∙ c.synthetic_limit.ensures; empty = ap (λ s. s.given) c.lend.ensures } in
     let same = g.met.D.Dispatch.keeps.limit.same d e _ _ [] (c.before_sleep-answer.ensures.slept (poll_view c.args.self.now.poll) lent) in
     rw (c.end_turn-none.ensures.list, c.in-Some.ensures.list)

@@ -1,5 +1,5 @@
 use Rattle.std.proofs.Common.{rules, sym, ◌∙◌, IsErr}
-use Rattle.calloop_wake.specs.Slots.{named}
+use Rattle.calloop_wake.specs.Slots.{content_at}
 use Rattle.calloop.specs.Machine.{view_of}
 use Rattle.calloop.specs.Roles.{is_callers}
 use Rattle.calloop.proofs.Roles.{lent_there, refused_there}
@@ -9,7 +9,7 @@ use Rattle.calloop.proofs.loop_logic.LoopHandle.dispatcher_mut.Goals as goal
 pub returns : goal.returns
 returns g c =
     let p = is_callers g.D.Dispatch.means in
-    let there = named c.args.self.now.inner.now.sources c.args.token.now in
+    let there = content_at c.args.self.now.inner.now.sources c.args.token.now in
     let seen = sym c.if-not-is_callers.false ∙ c.is_callers.ensures in (
       search rules,
       record {

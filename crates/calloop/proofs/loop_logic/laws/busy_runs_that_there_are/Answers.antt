@@ -4,10 +4,10 @@ use Rattle.calloop_wake.specs.declared.error.Error.TheVariants.{OutOfMemory}
 use Rattle.calloop_wake.specs.declared.list.Content.TheVariants.{Source, InTurn}
 use Rattle.calloop_wake.specs.declared.token.RegistrationToken.{RegistrationToken}
 use Rattle.calloop_wake.specs.Tokens.{after_token, registration_of}
-use Rattle.calloop_wake.specs.Watches.{noted}
+use Rattle.calloop_wake.specs.Watches.{with_note}
 use Rattle.calloop_wake.specs.declared.wake.notes.Note.TheVariants.{Counted, Looked, Marked}
 use Rattle.calloop_core.specs.declared.sources.source.PostAction.TheVariants.{Continue, Reregister}
-use Rattle.calloop_core.specs.Polls.{Socket, counted, marks_taken}
+use Rattle.calloop_core.specs.Polls.{Socket, after_count, marks_taken}
 use Rattle.calloop_core.specs.SlotOrder.{IsInSlotOrder}
 use Rattle.calloop_core.specs.Tables.{Enter}
 use Rattle.calloop.specs.declared.loop_logic.asks.Answer.TheVariants.{Done}
@@ -51,7 +51,7 @@ returns-clause-run c = λ name. (
               tt,
               (
                 Gathering 5 two_found tt,
-                (Ok 5, two_found, tt, noted (Looked false) (record { name = name; notes = Counted 0 ∷ Marked [] ∷ [] }), (0, tt, tt, false, [], (tt, refl, tt), refl, refl), refl, refl),
+                (Ok 5, two_found, tt, with_note (Looked false) (record { name = name; notes = Counted 0 ∷ Marked [] ∷ [] }), (0, tt, tt, false, [], (tt, refl, tt), refl, refl), refl, refl),
                 (tt, (tt, tt)),
                 (
                   Noticing 0 [] tt,
@@ -109,7 +109,7 @@ returns-clause-run c = λ name. (
             tt,
             (
               Gathering 6 [] tt,
-              (Ok 6, [], tt, noted (Looked false) (marks_taken [] (counted 0 (behind_the_failure name).poll)).watch, (0, tt, tt, false, [], (tt, refl, tt), refl, refl), refl, refl),
+              (Ok 6, [], tt, with_note (Looked false) (marks_taken [] (after_count 0 (behind_the_failure name).poll)).watch, (0, tt, tt, false, [], (tt, refl, tt), refl, refl), refl, refl),
               (tt, (tt, tt)),
               (
                 Noticing 1 [] tt,
@@ -202,7 +202,7 @@ returns-clause-settled c = λ name. (
                 tt,
                 (
                   Gathering 5 [] tt,
-                  (Ok 5, [], tt, noted (Looked false) (record { name = name; notes = Counted 0 ∷ Marked (first_registration ∷ second_registration ∷ []) ∷ [] }), (0, tt, tt, false, [], (tt, (refl, refl), tt), refl, refl), refl, refl),
+                  (Ok 5, [], tt, with_note (Looked false) (record { name = name; notes = Counted 0 ∷ Marked (first_registration ∷ second_registration ∷ []) ∷ [] }), (0, tt, tt, false, [], (tt, (refl, refl), tt), refl, refl), refl, refl),
                   (tt, (tt, tt)),
                   (
                     Noticing 0 [] tt,
@@ -262,7 +262,7 @@ returns-clause-rearmed c = λ name. (
               tt,
               (
                 Gathering 5 [] tt,
-                (Ok 5, [], tt, noted (Looked false) (record { name = name; notes = Counted 0 ∷ Marked [] ∷ [] }), (0, tt, tt, false, [], (tt, (refl, refl), tt), refl, refl), refl, refl),
+                (Ok 5, [], tt, with_note (Looked false) (record { name = name; notes = Counted 0 ∷ Marked [] ∷ [] }), (0, tt, tt, false, [], (tt, (refl, refl), tt), refl, refl), refl, refl),
                 (tt, (tt, tt)),
                 (
                   Noticing 0 [] tt,
@@ -344,7 +344,7 @@ returns-clause-rearmed c = λ name. (
             tt,
             (
               Gathering 10 [] tt,
-              (Ok 10, [], tt, noted (Looked false) (marks_taken [] (counted 0 (behind_the_first_call name).poll)).watch, (0, tt, tt, false, [], (tt, (refl, refl), tt), refl, refl), refl, refl),
+              (Ok 10, [], tt, with_note (Looked false) (marks_taken [] (after_count 0 (behind_the_first_call name).poll)).watch, (0, tt, tt, false, [], (tt, (refl, refl), tt), refl, refl), refl, refl),
               (tt, (tt, tt)),
               (
                 Noticing 0 [] tt,

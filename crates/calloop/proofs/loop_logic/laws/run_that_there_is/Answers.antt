@@ -2,7 +2,7 @@ use Rattle.std.proofs.Common.{rules, refl, [], ◌∷◌, None, Ok, inl, inr, tr
 use Rattle.std.proofs.lemmas.List.Sorted.{IsPermutation-refl}
 use Rattle.calloop_wake.specs.declared.list.Content.TheVariants.{Source, InTurn}
 use Rattle.calloop_wake.specs.Tokens.{after_token, registration_of}
-use Rattle.calloop_wake.specs.Watches.{noted}
+use Rattle.calloop_wake.specs.Watches.{with_note}
 use Rattle.calloop_wake.specs.declared.wake.notes.Note.TheVariants.{Counted, Looked, Marked}
 use Rattle.calloop_core.specs.declared.sources.source.PostAction.TheVariants.{Remove}
 use Rattle.calloop_core.specs.declared.timer.TimeoutAction.TheVariants.{Drop}
@@ -55,7 +55,7 @@ returns-clause-run c = λ name. (
             tt,
             (
               Gathering 5 [] tt,
-              (Ok 5, [], tt, noted (Looked false) (record { name = name; notes = Counted 0 ∷ Marked [] ∷ [] }), (0, tt, tt, false, [], (tt, (refl, refl), tt), refl, refl), refl, refl),
+              (Ok 5, [], tt, with_note (Looked false) (record { name = name; notes = Counted 0 ∷ Marked [] ∷ [] }), (0, tt, tt, false, [], (tt, (refl, refl), tt), refl, refl), refl, refl),
               (tt, (tt, tt)),
               (
                 Noticing 0 [] tt,

@@ -12,10 +12,10 @@ use Rattle.calloop_core.specs.SlotOrder.{IsInSlotOrder}
 use Rattle.calloop.specs.ExampleRun.{quiet_poller}
 use Rattle.calloop.specs.Laws.{IsLedgerOf}
 use Rattle.calloop.specs.Ledgers.{Arming}
-use Rattle.calloop.specs.Machine.{View, Put, IsNew, seen, all_viewed}
+use Rattle.calloop.specs.Machine.{View, Put, IsNew, visible, all_viewed}
 use Rattle.calloop.specs.Rules.{Doing, Settling, Leaving, Steps, SettledIn}
-use Rattle.calloop.specs.Wrong.{first_token, used, given_up}
-use Rattle.calloop.specs.WrongRuns.{SmallWorld, SmallChange, IsOutOfTime, untouched, that_ends, with_ledger, second_arming, second_waits_early, second_is_cut_early, second_call_differs, second_is_called_twice, second_is_twice, second_is_nowhere, with_one_deadline, with_one_event, adapters, idle_never, with_two_adapters, begins, settles, behind_a_settling}
+use Rattle.calloop.specs.Wrong.{first_token, full_slot, given_up}
+use Rattle.calloop.specs.WrongRuns.{SmallWorld, SmallChange, IsOutOfTime, idle_world, that_ends, with_ledger, second_arming, second_waits_early, second_is_cut_early, second_call_differs, second_is_called_twice, second_is_twice, second_is_nowhere, with_one_deadline, with_one_event, adapters, idle_never, with_two_adapters, begins, settles, behind_a_settling}
 use Rattle.calloop.proofs.loop_logic.laws.runs_that_go_wrong_late.Goals as goal
 
 zero_one : ◌≡◌ {A = ℕ} 0 1 → ⊥
@@ -30,7 +30,7 @@ two_one e = omega arith
 false_true : ◌≡◌ {A = Bool} false true → ⊥
 false_true e = cc
 
-is_untouched : {D : Type 0} (name : Book) → IsNew (untouched {D = D} name)
+is_untouched : {D : Type 0} (name : Book) → IsNew (idle_world {D = D} name)
 is_untouched name =
     record { slots = refl; table = refl; deadlines = refl; batch = refl; passes = refl; pass = refl; places = refl; unwatched = refl; held = refl; handed = refl; ledger = refl }
 
@@ -41,21 +41,21 @@ pub returns-clause-wrong_slot : goal.returns-clause-wrong_slot
 returns-clause-wrong_slot c = λ name h. one_zero (h.reaches.1.0.0)
 
 pub returns-clause-lost_event : goal.returns-clause-lost_event
-returns-clause-lost_event c = λ name h. h.reaches.1.0 (used 0) refl refl (tt, refl)
+returns-clause-lost_event c = λ name h. h.reaches.1.0 (full_slot 0) refl refl (tt, refl)
 
 pub returns-clause-earlier_at_the_end : goal.returns-clause-earlier_at_the_end
 returns-clause-earlier_at_the_end c = λ name h.
-    elim (h.stale.0.1.0 first_token (used versions) (used 0) (refl, refl) (refl, refl)) [ inl e ↦ absurd (omega (arith, e)) | inr k ↦ absurd (omega (arith, k.1, k.2)) ]
+    elim (h.stale.0.1.0 first_token (full_slot versions) (full_slot 0) (refl, refl) (refl, refl)) [ inl e ↦ absurd (omega (arith, e)) | inr k ↦ absurd (omega (arith, k.1, k.2)) ]
 
 pub returns-clause-earlier_later : goal.returns-clause-earlier_later
 returns-clause-earlier_later c = λ name h.
-    elim (h.stale.1.0.0 first_token (used versions) (used 0) (refl, refl) (refl, refl)) [ inl e ↦ absurd (omega (arith, e)) | inr k ↦ absurd (omega (arith, k.1, k.2)) ]
+    elim (h.stale.1.0.0 first_token (full_slot versions) (full_slot 0) (refl, refl) (refl, refl)) [ inl e ↦ absurd (omega (arith, e)) | inr k ↦ absurd (omega (arith, k.1, k.2)) ]
 
 pub returns-clause-there_at_the_end : goal.returns-clause-there_at_the_end
-returns-clause-there_at_the_end c = λ name h. false_true (h.gone.0.1.0 0 (given_up 0) (used 0) refl refl refl refl)
+returns-clause-there_at_the_end c = λ name h. false_true (h.gone.0.1.0 0 (given_up 0) (full_slot 0) refl refl refl refl)
 
 pub returns-clause-there_later : goal.returns-clause-there_later
-returns-clause-there_later c = λ name h. false_true (h.gone.1.0.0 0 (given_up 0) (used 0) refl refl refl refl)
+returns-clause-there_later c = λ name h. false_true (h.gone.1.0.0 0 (given_up 0) (full_slot 0) refl refl refl refl)
 
 pub returns-clause-waits_early : goal.returns-clause-waits_early
 returns-clause-waits_early c = λ name. out_of_time name (with_ledger name second_waits_early) (λ k. absurd (omega (arith, k.batch_on_time.1.0)))
@@ -130,7 +130,7 @@ returns-clause-settled_backwards c = λ name h.
     elim h.0 [
       | inl g ↦ (let e = g.2 in cc)
       | inr s ↦ (let begun = s.1 in
-          let after : View (Unit {0}) (Unit {0}) (Unit {0}) = all_viewed (seen (with_two_adapters name)) (begins name 1 0) in
+          let after : View (Unit {0}) (Unit {0}) (Unit {0}) = all_viewed (visible (with_two_adapters name)) (begins name 1 0) in
           let css : List (List SmallChange) = settles 1 ∷ settles 0 ∷ behind_a_settling name 1 0 in
           backwards begun.1 after (behind_a_settling name 1 0) (Leaving (Ok tt) tt) begun.3.order
           (subst (λ (d : Doing (Unit {0}) (Unit {0})). Steps adapters idle_never quiet_poller after d css (Leaving (Ok tt) tt)) begun.5 s.3))

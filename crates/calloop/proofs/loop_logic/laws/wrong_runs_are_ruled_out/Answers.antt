@@ -1,6 +1,6 @@
 use Rattle.std.proofs.Common.{◌≡◌, inl, inr, ℕ, Bool, true, false, List, [], ◌∷◌, Ok, refl, sym, ap, ◌∙◌, ◌%◌, ◌+◌, ◌≤◌, nat_lt, if◌then◌else◌, arith, slice_get, length}
 use Rattle.calloop_wake.specs.Widths.{versions}
-use Rattle.calloop.specs.Laws.{standing, counted, is_number}
+use Rattle.calloop.specs.Laws.{standing, how_many, is_number}
 use Rattle.calloop.specs.Machine.{Registration}
 use Rattle.calloop_wake.specs.declared.token.RegistrationToken.{RegistrationToken}
 use Rattle.calloop_wake.specs.Tokens.{key_of}
@@ -11,7 +11,7 @@ use Rattle.calloop_wake.specs.declared.wheel.Entry.{Entry}
 use Rattle.calloop_wake.specs.declared.wheel.Instant.{Instant}
 use Rattle.calloop_core.specs.declared.sys.poll.Pending.{Pending}
 use Rattle.calloop.specs.Ledgers.{Arming}
-use Rattle.calloop.specs.Wrong.{first_arming, first_token, first_registration, used, given_up, used_with_an_old_key}
+use Rattle.calloop.specs.Wrong.{first_arming, first_token, first_registration, full_slot, given_up, used_with_an_old_key}
 use Rattle.calloop.proofs.loop_logic.laws.wrong_runs_are_ruled_out.Goals as goal
 
 zero_one : ◌≡◌ {A = ℕ} 0 1 → ⊥
@@ -39,23 +39,23 @@ returns-clause-wrong_slot c = λ h. one_zero h.0
 
 pub returns-clause-later_registration : goal.returns-clause-later_registration
 returns-clause-later_registration c = λ h.
-    let e : used 1 ≡ h.1 = (let f = h.2 in cc) in
+    let e : full_slot 1 ≡ h.1 = (let f = h.2 in cc) in
     let one : h.1.reuse ≡ 1 = sym (ap (λ (r : Registration (Unit {0})). r.reuse) e) in
     one_zero (sym (ap (λ n. n % versions) one) ∙ h.3)
 
 pub returns-clause-lost_event : goal.returns-clause-lost_event
-returns-clause-lost_event c = λ h. h (used 0) refl refl (tt, refl)
+returns-clause-lost_event c = λ h. h (full_slot 0) refl refl (tt, refl)
 
 pub returns-clause-earlier_registration : goal.returns-clause-earlier_registration
 returns-clause-earlier_registration c = λ w w' s s' h.
-    elim (h first_token (used versions) (used 0) (ap (λ (l : List (Registration (Unit {0}))). slice_get l 0) s, refl) (ap (λ (l : List (Registration (Unit {0}))). slice_get l 0) s', refl)) [
+    elim (h first_token (full_slot versions) (full_slot 0) (ap (λ (l : List (Registration (Unit {0}))). slice_get l 0) s, refl) (ap (λ (l : List (Registration (Unit {0}))). slice_get l 0) s', refl)) [
       | inl e ↦ absurd (omega arith)
       | inr k ↦ absurd (omega (arith, k.1, k.2))
     ]
 
 pub returns-clause-there_again : goal.returns-clause-there_again
 returns-clause-there_again c = λ w w' s s' h.
-    false_true (h 0 (given_up 0) (used 0) (ap (λ (l : List (Registration (Unit {0}))). slice_get l 0) s) (ap (λ (l : List (Registration (Unit {0}))). slice_get l 0) s') refl refl)
+    false_true (h 0 (given_up 0) (full_slot 0) (ap (λ (l : List (Registration (Unit {0}))). slice_get l 0) s) (ap (λ (l : List (Registration (Unit {0}))). slice_get l 0) s') refl refl)
 
 pub returns-clause-early_event : goal.returns-clause-early_event
 returns-clause-early_event c = λ h. absurd (omega (arith, h))
@@ -97,13 +97,13 @@ returns-clause-armed_elsewhere c = λ v h.
     absurd (omega (arith, own.2))
 
 pub returns-clause-answered_twice : goal.returns-clause-answered_twice
-returns-clause-answered_twice c = λ w is h. (let g : standing 0 w.held.asks + counted (is_number 0) w.handed ≤ (if nat_lt 0 w.held.asks.next then 1 else 0) = h 0 in absurd (omega (arith, rw is at g)))
+returns-clause-answered_twice c = λ w is h. (let g : standing 0 w.held.asks + how_many (is_number 0) w.handed ≤ (if nat_lt 0 w.held.asks.next then 1 else 0) = h 0 in absurd (omega (arith, rw is at g)))
 
 pub returns-clause-handed_out_twice : goal.returns-clause-handed_out_twice
-returns-clause-handed_out_twice c = λ w is handed h. (let g : standing 0 w.held.asks + counted (is_number 0) w.handed ≤ (if nat_lt 0 w.held.asks.next then 1 else 0) = h 0 in absurd (omega (arith, rw (is, handed) at g)))
+returns-clause-handed_out_twice c = λ w is handed h. (let g : standing 0 w.held.asks + how_many (is_number 0) w.handed ≤ (if nat_lt 0 w.held.asks.next then 1 else 0) = h 0 in absurd (omega (arith, rw (is, handed) at g)))
 
 pub returns-clause-asked_twice : goal.returns-clause-asked_twice
-returns-clause-asked_twice c = λ w is h. (let g : standing 0 w.held.asks + counted (is_number 0) w.handed ≤ (if nat_lt 0 w.held.asks.next then 1 else 0) = h 0 in absurd (omega (arith, rw is at g)))
+returns-clause-asked_twice c = λ w is h. (let g : standing 0 w.held.asks + how_many (is_number 0) w.handed ≤ (if nat_lt 0 w.held.asks.next then 1 else 0) = h 0 in absurd (omega (arith, rw is at g)))
 
 pub returns-clause-other_deadline : goal.returns-clause-other_deadline
 returns-clause-other_deadline c = λ v h.

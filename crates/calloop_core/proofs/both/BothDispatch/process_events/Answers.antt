@@ -1,7 +1,7 @@
 use Rattle.std.proofs.Common.{refl, ap, Some, None, Ok}
 use Rattle.calloop_wake.specs.Failures.{with_error}
 use Rattle.calloop_core.specs.Polls.{poll_view}
-use Rattle.calloop_core.specs.Deeds.{Turned, lent}
+use Rattle.calloop_core.specs.Deeds.{Turned, lend}
 use Rattle.calloop_core.proofs.Asked.{both_asked, first_asked}
 use Rattle.calloop_core.proofs.both.BothDispatch.process_events.Goals as goal
 
@@ -9,8 +9,8 @@ pub returns-in-Ok-process_events : goal.returns-in-Ok-process_events
 returns-in-Ok-process_events g c =
     let one = c.process_events in
     let other = c.process_events-in-Ok in
-    let first = lent c.args.«data».now c.args.requests.now (with_error one.result one.new.failure) one.new.«data» one.new.requests in
-    let second = lent one.new.«data» one.new.requests (with_error other.result other.new.failure) other.new.«data» other.new.requests in
+    let first = lend c.args.«data».now c.args.requests.now (with_error one.result one.new.failure) one.new.«data» one.new.requests in
+    let second = lend one.new.«data» one.new.requests (with_error other.result other.new.failure) other.new.«data» other.new.requests in
     let x = both_asked g.P.Poller.outside g.A.Dispatch.means g.B.Dispatch.means
     (Turned c.args.readiness c.args.token first) (Turned c.args.readiness c.args.token second) c.args.self.now
     (record { first = one.new.self; second = other.new.self }) (poll_view c.args.poll.now) (poll_view one.new.poll)
@@ -29,8 +29,8 @@ pub returns-in-Err-process_events : goal.returns-in-Err-process_events
 returns-in-Err-process_events g c =
     let one = c.process_events in
     let other = c.process_events-in-Ok in
-    let first = lent c.args.«data».now c.args.requests.now (with_error one.result one.new.failure) one.new.«data» one.new.requests in
-    let second = lent one.new.«data» one.new.requests (with_error other.result other.new.failure) other.new.«data» other.new.requests in
+    let first = lend c.args.«data».now c.args.requests.now (with_error one.result one.new.failure) one.new.«data» one.new.requests in
+    let second = lend one.new.«data» one.new.requests (with_error other.result other.new.failure) other.new.«data» other.new.requests in
     let x = both_asked g.P.Poller.outside g.A.Dispatch.means g.B.Dispatch.means
     (Turned c.args.readiness c.args.token first) (Turned c.args.readiness c.args.token second) c.args.self.now
     (record { first = one.new.self; second = other.new.self }) (poll_view c.args.poll.now) (poll_view one.new.poll)
@@ -48,7 +48,7 @@ returns-in-Err-process_events g c =
 pub returns-in-Err : goal.returns-in-Err
 returns-in-Err g c =
     let one = c.process_events in
-    let first = lent c.args.«data».now c.args.requests.now (with_error one.result one.new.failure) one.new.«data» one.new.requests in
+    let first = lend c.args.«data».now c.args.requests.now (with_error one.result one.new.failure) one.new.«data» one.new.requests in
     let x = first_asked g.P.Poller.outside g.A.Dispatch.means g.B.Dispatch.means
     (Turned c.args.readiness c.args.token first) c.args.self.now
     (record { first = one.new.self; second = c.args.self.now.second }) (poll_view c.args.poll.now)

@@ -2,6 +2,7 @@ use Rattle.std.proofs.Common.{◌≡◌, [], List, true, false, Result, Ok, Err,
 use Rattle.std.specs.declared.io.Error.{Error as Cause}
 use denote.Enum.Bare.{sameb}
 use mathlib.Core.Bool.{not}
+use Rattle.calloop_wake.specs.declared.error.Error.TheVariants.{IoError}
 use Rattle.calloop_wake.specs.declared.token.Token.{Token}
 use Rattle.calloop_core.specs.declared.sys.Mode.{Mode}
 use Rattle.calloop_core.specs.declared.sys.Mode.TheVariants.{OneShot, Level, Edge}
@@ -34,7 +35,7 @@ pub returns-in-Ok : goal.returns-in-Ok
 returns-in-Ok g c = (
   c.in-Ok.ensures.edit.0,
   armed g.P.Poller.sockets g.E.From.from_gives _ c.args.token c.args.self.now _ (poll_view c.args.poll.now) c.args.action _ _ c.if-ne.ensures
-      (Ok tt, c.reregister.new.io, c.in-Ok.ensures.edit.1, refl, refl),
+      (Ok tt, c.rearm.new.io, c.in-Ok.ensures.edit.1, refl, refl),
   c.in-Ok.ensures.edit.2,
 )
 
@@ -42,6 +43,6 @@ pub returns-in-Err : goal.returns-in-Err
 returns-in-Err g c = (
   c.in-Err.ensures.edit.0,
   armed g.P.Poller.sockets g.E.From.from_gives _ c.args.token c.args.self.now _ (poll_view c.args.poll.now) c.args.action _ _ c.if-ne.ensures
-      (Err c.in-Err.refusal, c.reregister.new.io, c.in-Err.ensures.edit.1, refl, (c.from.result, c.from-in-Err.result, c.from.ensures, c.from-in-Err.ensures, refl)),
+      (Err (IoError c.in-Err.cause), c.rearm.new.io, c.in-Err.ensures.edit.1, refl, (c.in-Err.cause, c.from.result, refl, c.from.ensures, refl)),
   c.in-Err.ensures.edit.2,
 )

@@ -3,7 +3,7 @@ use Rattle.calloop_wake.specs.declared.wheel.Instant.{Instant}
 use Rattle.calloop_wake.specs.Deadlines.{moment_after}
 use Rattle.calloop_core.specs.declared.sources.source.PostAction.TheVariants.{Remove}
 use Rattle.calloop_core.specs.Polls.{ReadClock, poll_view}
-use Rattle.calloop_core.specs.Timers.{ArmedFor, registered_as, spent}
+use Rattle.calloop_core.specs.Timers.{ArmedFor, registered_as, with_call}
 use Rattle.calloop_core.proofs.Stepping.{stepped_first}
 use Rattle.calloop_core.proofs.timer.Timer.call.Goals as goal
 
@@ -34,7 +34,7 @@ returns-in-None g c =
         c.now.ensures.0,
         [],
         refl,
-        subst (λ (m : Option Instant). ArmedFor {P = g.row.P.Denot} c.args.registration m (Ok Remove) [] (registered_as (spent c.args.registration) None)) moment (refl, refl, refl),
+        subst (λ (m : Option Instant). ArmedFor {P = g.row.P.Denot} c.args.registration m (Ok Remove) [] (registered_as (with_call c.args.registration) None)) moment (refl, refl, refl),
       ),
       ((c.now.ensures.1, tt), c.now.ensures.2),
       (c.call.new.self, c.call.new.«data», c.call.new.requests, c.call.ensures.may, c.call.ensures.asks, (refl, refl, refl)),

@@ -3,7 +3,7 @@ use Rattle.std.proofs.Common.{◌≡◌, ◌<◌, ◌↔◌, length, get_or, tru
 use Rattle.std.proofs.Math.ListN.{set}
 use Rattle.std.proofs.lemmas.List.{set-get_or}
 use Rattle.std.specs.Borrow.{name_if_ok}
-use Rattle.calloop_wake.specs.Slots.{named, source_of, with_content, is_empty}
+use Rattle.calloop_wake.specs.Slots.{content_at, source_of, with_content, is_empty}
 use Rattle.calloop_wake.specs.declared.list.Slot.{Slot}
 use Rattle.calloop_wake.specs.declared.token.RegistrationToken.{RegistrationToken}
 use Rattle.calloop_wake.specs.declared.list.Content.{Content}
@@ -13,15 +13,15 @@ use Rattle.calloop_wake.proofs.Told.{told-kept}
 use Rattle.calloop_wake.proofs.Named.{named_within, named_at, source_filled}
 use Rattle.calloop_wake.proofs.list.SourceList.get_mut.Goals as goal
 
-filled : {S : Type 0} (xs ys : List (Slot S)) (token : RegistrationToken) (b : Bool) → ys ≡ xs → b ≡ is_some (source_of (named ys token)) → b ≡ true → is_empty (named xs token) ≡ false
-filled xs ys token b same is there = source_filled (named xs token) (sym (ap (λ l. is_some (source_of (named l token))) same) ∙ sym is ∙ there)
+filled : {S : Type 0} (xs ys : List (Slot S)) (token : RegistrationToken) (b : Bool) → ys ≡ xs → b ≡ is_some (source_of (content_at ys token)) → b ≡ true → is_empty (content_at xs token) ≡ false
+filled xs ys token b same is there = source_filled (content_at xs token) (sym (ap (λ l. is_some (source_of (content_at l token))) same) ∙ sym is ∙ there)
 
 pub invariant_of-self-lent : goal.invariant_of-self-lent
 invariant_of-self-lent g c =
     let xs = c.self.inside.slots.items in
     let x = c.index_mut-slot.result.now in
     let token = c.args.token in
-    let full : is_empty (named xs token) ≡ false = filled xs c.deref.result.now token c.has_source.result c.deref.ensures.value c.has_source.ensures c.if-not-has_source.false in
+    let full : is_empty (content_at xs token) ≡ false = filled xs c.deref.result.now token c.has_source.result c.deref.ensures.value c.has_source.ensures c.if-not-has_source.false in
     let within : token.slot < length xs = named_within xs token full in
     let at : x ≡ get_or xs token.slot x = subst (λ i. x ≡ get_or xs i x) c.slot.ensures c.index_mut-slot.ensures.value in
     λ _. (
@@ -34,11 +34,11 @@ returns g c =
     let xs = c.self.inside.slots.items in
     let x = c.index_mut-slot.result.now in
     let token = c.args.token in
-    let there : is_some (source_of (named xs token)) ≡ true = sym (ap (λ ys. is_some (source_of (named ys token))) c.deref.ensures.value) ∙ sym c.has_source.ensures ∙ c.if-not-has_source.false in
-    let filled = source_filled (named xs token) there in
+    let there : is_some (source_of (content_at xs token)) ≡ true = sym (ap (λ ys. is_some (source_of (content_at ys token))) c.deref.ensures.value) ∙ sym c.has_source.ensures ∙ c.if-not-has_source.false in
+    let filled = source_filled (content_at xs token) there in
     let within : token.slot < length xs = named_within xs token filled in
     let at : x ≡ get_or xs token.slot x = subst (λ i. x ≡ get_or xs i x) c.slot.ensures c.index_mut-slot.ensures.value in
-    let here : named xs token ≡ x.content = named_at xs token x filled at in
+    let here : content_at xs token ≡ x.content = named_at xs token x filled at in
     rw (← c.self.view_is) (
       λ t. read_of (name_if_ok (λ y. y.ghost_name) c.source_mut.result) (λ (w : g.row.S.Denot). (ap (λ i. set xs i (with_content (Source w) x)) c.slot.ensures ∙ changed-set (with_content (Source w)) xs token.slot x at within) t) ((ap (λ i. set xs i x) c.slot.ensures ∙ ap (λ y. set xs token.slot y) at ∙ set-get_or xs token.slot x) t),
       record {

@@ -1,7 +1,7 @@
 use Rattle.std.proofs.Common.{◌<◌, [], ◌∷◌, true, false, refl, arith}
 use Rattle.calloop_wake.specs.ChannelKind as channel
 use Rattle.calloop_wake.specs.ExecutorKind as executor
-use Rattle.calloop_wake.specs.ExampleSchedules.{opens_channel, opens_executor, repeated}
+use Rattle.calloop_wake.specs.ExampleSchedules.{opens_channel, opens_executor, repeat}
 use Rattle.calloop_wake.specs.Kinds.{First, Second, every_kind}
 use Rattle.calloop_wake.specs.Lost.{of_channels, of_executors}
 use Rattle.calloop_wake.specs.Wakes.{At, IsSchedule, after_all}
@@ -21,13 +21,13 @@ polls_met = (refl, (one_more, ((refl, refl), (one_more, (tt, (one_more, ((refl, 
 pub returns-clause-pops : goal.returns-clause-pops
 returns-clause-pops c =
     schedule-append every_kind of_channels opens_channel
-    (repeated 1024 (At 0 (Second (First channel.Pop)) ∷ At 0 (Second (First (channel.Put 5))) ∷ []) (At 0 (Second (First channel.EndTurn)) ∷ [])) opens_met
+    (repeat 1024 (At 0 (Second (First channel.Pop)) ∷ At 0 (Second (First (channel.Put 5))) ∷ []) (At 0 (Second (First channel.EndTurn)) ∷ [])) opens_met
     (rounds_of_pops 1024 (after_all every_kind of_channels opens_channel) _ refl (record { draining = refl; gone = refl; queue = refl; bound = refl; left_are = refl }))
 
 pub returns-clause-polls : goal.returns-clause-polls
 returns-clause-polls c =
     schedule-append every_kind of_executors opens_executor
-    (repeated 1023 (At 0 (Second (Second (executor.Pop false))) ∷ At 0 (Second (Second (executor.Wake (record { slot = 3; number = 0 })))) ∷ [])
+    (repeat 1023 (At 0 (Second (Second (executor.Pop false))) ∷ At 0 (Second (Second (executor.Wake (record { slot = 3; number = 0 })))) ∷ [])
     (At 0 (Second (Second (executor.EndTurn true))) ∷ [])) polls_met
     (rounds_of_polls 1023 1 (after_all every_kind of_executors opens_executor) _ (omega arith) refl
     (record { draining = refl; dry = refl; pops_are = refl; queue = refl; polled = refl; task = refl }))

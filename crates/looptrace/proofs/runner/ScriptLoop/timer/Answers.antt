@@ -1,6 +1,6 @@
 use Rattle.std.proofs.Common.{◌≡◌, ℕ, List, ◌∙◌, sym, ap, Some, None, refl}
 use Rattle.calloop_core.specs.declared.timer.Timer.{Timer}
-use Rattle.calloop_core.specs.Timers.{unarmed}
+use Rattle.calloop_core.specs.Timers.{fresh_timer}
 use Rattle.std.specs.Option.{option_map}
 use Rattle.calloop.specs.Machine.{view_of}
 use Rattle.looptrace.specs.Sources.{Source, timer_in}
@@ -8,7 +8,7 @@ use Rattle.looptrace.specs.Runs.{IsNewTimer, new_timer, pending_of}
 use Rattle.looptrace.proofs.InsertLemmas.{line_is}
 use Rattle.looptrace.proofs.runner.ScriptLoop.timer.Goals as goal
 
-new_is : (timer : Timer) (deadline : ℕ) (name : List ℕ) (asked : List ℕ) → timer ≡ unarmed (Some (record { nanos = deadline })) → name ≡ asked → ◌≡◌ {A = Source} (timer_in (record { source = timer; callback = record { name = name } })) (new_timer asked deadline)
+new_is : (timer : Timer) (deadline : ℕ) (name : List ℕ) (asked : List ℕ) → timer ≡ fresh_timer (Some (record { nanos = deadline })) → name ≡ asked → ◌≡◌ {A = Source} (timer_in (record { source = timer; callback = record { name = name } })) (new_timer asked deadline)
 new_is timer deadline name asked is_unarmed same =
     ap (λ (timer : Timer). timer_in (record { source = timer; callback = record { name = name } })) is_unarmed ∙ ap (λ (name : List ℕ). new_timer name deadline) same
 

@@ -5,7 +5,7 @@ use Rattle.calloop_wake.specs.Tokens.{key_of}
 use Rattle.calloop_wake.specs.Cells.{is_own}
 use Rattle.calloop_wake.specs.declared.wake.ChannelTurn.{ChannelTurn}
 use Rattle.calloop.specs.Pings.{action_of}
-use Rattle.calloop.specs.Channels.{calls_of, Opened, Refused, label_of, ArePops, IsOver, begun, turn_after, twin_after}
+use Rattle.calloop.specs.Channels.{calls_of, Opened, Refused, label_of, ArePops, IsOver, fresh_turn, turn_after, twin_after}
 use Rattle.calloop.proofs.Receiving.{turn_of_another, turn_without, turn_answered}
 use Rattle.calloop.proofs.channel.source.ChannelEventSource.process_events.Goals as goal
 
@@ -27,7 +27,7 @@ returns-in-Ok g c =
     let own : is_own (key_of c.args.token) s.twin.key ≡ true = sym c.is_own.ensures ∙ c.if-not-is_own.false in
     let ok = c.in-Ok.ensures.ok in
     let h = c.hand_out-told.ensures.handed in
-    let t : c.in-Ok.turn ≡ begun (label_of s) = ok.0 in (
+    let t : c.in-Ok.turn ≡ fresh_turn (label_of s) = ok.0 in (
       calls_of h.0,
       (
         TakePass ∷ [],

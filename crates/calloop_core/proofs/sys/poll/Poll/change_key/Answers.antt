@@ -14,5 +14,5 @@ pub returns-in-Err-clause-edit : goal.returns-in-Err-clause-edit
 returns-in-Err-clause-edit g c =
     let can : cannot (Change c.args.before c.args.token c.args.watched) (poll_view c.args.self.now).table ≡ None = can_change _ _ c.requires.there (search rules) in
     let absent : watched_at (key_of c.args.token) (poll_view c.args.self.now).table ≡ None = search rules in
-    let same : c.remove-in-Err.new.self.entries ≡ (poll_view c.args.self.now).table = search (rules, left_again (key_of c.args.token) c.args.watched (poll_view c.args.self.now).table absent) in
+    let same : c.remove-in-Err.new.self ≡ (poll_view c.args.self.now).table = search (rules, left_again (key_of c.args.token) c.args.watched (poll_view c.args.self.now).table absent) in
     faulted g.P.Poller.outside g.P.Poller.sockets (poll_view c.args.self.now) (Change c.args.before c.args.token c.args.watched) c.args.io.now c.in-Err.cause c.tell.new.poller c.tell.new.io _ can (search rules) (search rules) (search rules)

@@ -1,6 +1,6 @@
 use Rattle.std.proofs.Common.{ap, subst, ◌∙◌}
 use Rattle.calloop_core.specs.Batches.{ArePosted}
-use Rattle.calloop_core.specs.Polls.{poll_view, gathered}
+use Rattle.calloop_core.specs.Polls.{poll_view, after_gather}
 use Rattle.calloop_core.specs.declared.sys.poll.Poll.{Poll}
 use Rattle.calloop_core.proofs.sys.poll.Poll.poll.Goals as goal
 
@@ -16,5 +16,5 @@ returns g c =
       c.in_ok-now.ensures.ok,
       posted,
       subst (λ (p : Poll g.row.P.Denot g.row.C.Denot g.row.R.Denot). ArePosted p.places posted) c.in_ok-now.ensures.others c.gather.ensures.1,
-      c.gather.ensures.2 ∙ ap (λ (p : Poll g.row.P.Denot g.row.C.Denot g.row.R.Denot). gathered posted polled.events.items now (poll_view p)) c.in_ok-now.ensures.others,
+      c.gather.ensures.2 ∙ ap (λ (p : Poll g.row.P.Denot g.row.C.Denot g.row.R.Denot). after_gather posted polled.events.items now (poll_view p)) c.in_ok-now.ensures.others,
     )

@@ -15,5 +15,5 @@ returns-then-contains_key-clause-edit g c =
 pub returns-in_default-clause-edit : goal.returns-in_default-clause-edit
 returns-in_default-clause-edit g c =
     let there : is_in (key_of c.args.before) (poll_view c.args.self.now).table ≡ false =
-    ap (λ k. is_in k (poll_view c.args.self.now).table) (sym c.key-old.ensures) ∙ ap is_some (sym c.watched_at.ensures.value ∙ c.in_default.is) in
+    ap (λ k. is_in k (poll_view c.args.self.now).table) (sym c.key-old.ensures) ∙ ap is_some (sym c.get.ensures ∙ c.in_default.is) in
     refused g.P.Poller.outside g.P.Poller.sockets (poll_view c.args.self.now) (Change c.args.before c.args.token (record { interest = c.args.interest; mode = c.args.mode })) c.args.io.now NotFound _ (ap (λ b. if b then unless_in (not (nat_eq (key_of c.args.before) (key_of c.args.token)) && is_in (key_of c.args.token) (poll_view c.args.self.now).table) else Some NotFound) there) (c.from.result, refl, c.from.ensures)

@@ -42,7 +42,7 @@ returns-then-is_zero-clause-ok g c =
     let later = c.now-now.result.nanos in
     let posted = is_none c.look-again.result in
     let w = c.in-Err.ensures.waits in
-    let again : nanos_of c.asked-asked-in-loop.result ≡ asked_for v posted t start later = c.asked-asked-in-loop.ensures ∙ ap (λ (b : BatchView). asked_for (poll_view (record c.loop.self { batch = b })) posted t start later) c.look-again.ensures.others
+    let again : nanos_of c.timeout_for-asked-in-loop.result ≡ asked_for v posted t start later = c.timeout_for-asked-in-loop.ensures ∙ ap (λ (b : BatchView). asked_for (poll_view (record c.loop.self { batch = b })) posted t start later) c.look-again.ensures.others
     ∙ ap (λ (s : Poll g.row.P.Denot g.row.C.Denot g.row.R.Denot). asked_for (poll_view s) posted t start later) c.loop.invariant.others in
     let zero : is_zero (asked_for v posted t start later) ≡ true = sym (ap is_zero again) ∙ sym c.is_zero.ensures ∙ c.if-is_zero.true in
     rw (c.clear.ensures.items, c.look-again.ensures.watch)
@@ -59,7 +59,7 @@ loop-preserved g c =
     let later = c.now-now.result.nanos in
     let posted = is_none c.look-again.result in
     let w = c.in-Err.ensures.waits in
-    let again : nanos_of c.asked-asked-in-loop.result ≡ asked_for v posted t start later = c.asked-asked-in-loop.ensures ∙ ap (λ (b : BatchView). asked_for (poll_view (record c.loop.self { batch = b })) posted t start later) c.look-again.ensures.others
+    let again : nanos_of c.timeout_for-asked-in-loop.result ≡ asked_for v posted t start later = c.timeout_for-asked-in-loop.ensures ∙ ap (λ (b : BatchView). asked_for (poll_view (record c.loop.self { batch = b })) posted t start later) c.look-again.ensures.others
     ∙ ap (λ (s : Poll g.row.P.Denot g.row.C.Denot g.row.R.Denot). asked_for (poll_view s) posted t start later) c.loop.invariant.others in
     let zero : is_zero (asked_for v posted t start later) ≡ false = sym (ap is_zero again) ∙ sym c.is_zero.ensures ∙ c.if-is_zero.false in
     record {

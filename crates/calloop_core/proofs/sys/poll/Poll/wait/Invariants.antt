@@ -3,7 +3,7 @@ use Rattle.std.specs.declared.io.Error.{Error as Cause}
 use Rattle.calloop_core.specs.declared.sys.Readiness.{Readiness}
 use Rattle.calloop_core.specs.Pollers.{nanos_of}
 use Rattle.calloop_core.specs.Polls.{poll_view}
-use Rattle.calloop_core.specs.Waits.{Interruption, Waits, Waited, looked}
+use Rattle.calloop_core.specs.Waits.{Interruption, Waits, Waited, after_looks}
 use Rattle.calloop_core.specs.Pollers.{faults_of}
 use Rattle.calloop_core.proofs.sys.poll.Poll.wait.Given as goal
 
@@ -15,7 +15,7 @@ invariant-loop g l = record {
   leads : (is : List (Interruption g.row.P.Denot)) (answer : Result ℕ Cause) (given : List (ℕ × Readiness)) (q : g.row.P.Denot)
       → Waits g.P.Poller.outside (poll_view l.fn.self) (nanos_of l.timeout) l.start.nanos (nanos_of l.asked) l.self.poller is answer given q
       → g.P.Poller.outside.faults q ≡ g.P.Poller.outside.faults l.fn.self.poller + faults_of answer
-      → Waited g.P.Poller.outside (poll_view l.fn.self) (nanos_of l.timeout) answer given q (looked is l.self.batch.watch);
+      → Waited g.P.Poller.outside (poll_view l.fn.self) (nanos_of l.timeout) answer given q (after_looks is l.self.batch.watch);
   others : l.self ≡ record l.fn.self { poller = l.self.poller; batch = record l.fn.self.batch { watch = l.self.batch.watch }; events = l.self.events };
   faults : g.P.Poller.outside.faults l.self.poller ≡ g.P.Poller.outside.faults l.fn.self.poller;
   events : l.self.events.items ≡ [];

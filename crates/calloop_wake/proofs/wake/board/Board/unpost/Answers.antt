@@ -1,7 +1,7 @@
 use Rattle.std.proofs.Common.{◌≡◌, ◌∙◌, sym, ap, subst, List, ℕ, min, length, take, map, ◌++◌, ◌+◌, deque_len}
 use Rattle.std.specs.Ordering.{nat_cmp}
 use Rattle.std.specs.List.Sorted.{IsPermutation, IsSorted}
-use Rattle.calloop_wake.specs.Boards.{bound, after_unpost, keys_within, taken}
+use Rattle.calloop_wake.specs.Boards.{bound, after_unpost, keys_within, fresh_pass}
 use Rattle.calloop_wake.specs.Posts.{places_of, posted_keys}
 use Rattle.calloop_wake.specs.declared.wake.board.Place.{Place}
 use Rattle.calloop_wake.proofs.Places.{taken_keys-rising, keys-within}
@@ -47,7 +47,7 @@ returns-clause-gives c =
     let keys : take c.min-gone.result c.deref-2.result.now ≡ keys_within c.args.room c.args.self.now =
     ap (λ (l : List ℕ). take c.min-gone.result l) (c.deref-2.ensures.value ∙ sym c.deref.ensures.value)
     ∙ taken_are c.args.room c.min-gone.result c.self.inside.places c.self.inside.posted.items s _ c.self.invariant moves sorted gone ∙ ap (λ (l : List Place). keys_within c.args.room l) c.self.view_is in
-    c.give.ensures.items ∙ ap (λ (l : List ℕ). c.args.passes.now.items ++ map (taken c.args.name.now) l) keys
+    c.give.ensures.items ∙ ap (λ (l : List ℕ). c.args.passes.now.items ++ map (fresh_pass c.args.name.now) l) keys
 
 pub returns-clause-len : goal.returns-clause-len
 returns-clause-len c =

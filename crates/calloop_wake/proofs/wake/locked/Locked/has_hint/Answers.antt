@@ -4,12 +4,12 @@ use Rattle.calloop_wake.proofs.Locking.{looks, looks_again}
 use Rattle.calloop_wake.proofs.wake.locked.Locked.has_hint.Goals as goal
 
 pub load_new_seat-found-requires : goal.load_new_seat-found-requires
-load_new_seat-found-requires g c = (search rules, looks _ _ _ c.shared-shared.result.now.key)
+load_new_seat-found-requires g c = (search rules, looks _ _ _ c.as_shared-shared.result.now.key)
 
 pub compare_exchange-requires : goal.compare_exchange-requires
 compare_exchange-requires g c =
     let seat = c.load_new_seat-found.result.1 in
-    (search rules, search rules, looks_again g.X.Fits.fits g.X.Core.hints _ seat.id c.in-Some.word seat.me c.shared-shared.result.now.key (search rules))
+    (search rules, search rules, looks_again g.X.Fits.fits g.X.Core.hints _ seat.id c.in-Some.word seat.me c.as_shared-shared.result.now.key (search rules))
 
 pub returns : goal.returns
 returns g c eq =

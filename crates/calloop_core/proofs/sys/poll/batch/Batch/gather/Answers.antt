@@ -4,7 +4,7 @@ use Rattle.calloop_wake.specs.Boards.{IsRising}
 use Rattle.calloop_core.specs.Polls.{posted_events, polled_events, timer_events}
 use Rattle.calloop_core.specs.Batches.{BatchView}
 use Rattle.calloop_wake.proofs.Keyed.{are_of-taken}
-use Rattle.calloop_core.proofs.Gathering.{keys-new, events-gathered, step-gathered}
+use Rattle.calloop_core.proofs.Gathering.{keys-new, events-gathered, events-polled, last_within, step-gathered}
 use Rattle.calloop_core.proofs.sys.poll.batch.Batch.gather.Goals as goal
 
 pub append_posted-requires-clause-room : goal.append_posted-requires-clause-room
@@ -32,10 +32,14 @@ invariant_of-self g c =
     events-gathered c.self.inside.hub.name c.self.inside.events.items c.append_posted.new.batch.items c.append_polled.new.batch.items c.append_due.new.batch.items c.self.inside.passes.items c.unpost.new.passes.items
     keys c.len-first.result c.args.given.now entries (omega (arith, c.len-first.ensures, c.self.inside.passes.ok.0)) c.unpost.ensures.keys.appended c.append_posted.ensures.items
     c.append_polled.ensures.items c.append_due.ensures.items in
-    rw (all, c.unpost.ensures.keys.appended, c.unpost.ensures.keys.seen) (record {
+    let polled : c.append_polled.new.batch.items ≡ (c.self.inside.events.items ++ posted_events keys) ++ polled_events c.args.given.now =
+    events-polled c.self.inside.hub.name c.self.inside.events.items c.append_posted.new.batch.items c.append_polled.new.batch.items c.self.inside.passes.items c.unpost.new.passes.items keys c.len-first.result c.args.given.now
+    (omega (arith, c.len-first.ensures, c.self.inside.passes.ok.0)) c.unpost.ensures.keys.appended c.append_posted.ensures.items c.append_polled.ensures.items in
+    rw (c.last_polled-self-inside.ensures, polled, all, c.unpost.ensures.keys.appended, c.unpost.ensures.keys.seen) (record {
       in_step = step-gathered c.self.inside.hub.name c.self.inside.events.items c.self.inside.passes.items keys c.args.given.now entries c.self.invariant.in_step;
       own = are_of-taken c.self.inside.hub.name c.self.inside.passes.items keys c.self.invariant.own;
       own_turn = c.self.invariant.own_turn;
+      within = last_within c.self.inside.polled c.args.given.now c.self.inside.events.items (posted_events keys) (polled_events c.args.given.now) (timer_events entries) c.self.invariant.within;
     })
 
 pub returns-clause-batch : goal.returns-clause-batch
@@ -46,4 +50,7 @@ returns-clause-batch g c =
     events-gathered c.self.inside.hub.name c.self.inside.events.items c.append_posted.new.batch.items c.append_polled.new.batch.items c.append_due.new.batch.items c.self.inside.passes.items c.unpost.new.passes.items
     keys c.len-first.result c.args.given.now entries (omega (arith, c.len-first.ensures, c.self.inside.passes.ok.0)) c.unpost.ensures.keys.appended c.append_posted.ensures.items
     c.append_polled.ensures.items c.append_due.ensures.items in
-    (keys, (c.unpost.ensures.keys.rising, c.unpost.ensures.keys.few), rw (← c.self.view_is, all, c.unpost.ensures.keys.appended, c.unpost.ensures.keys.seen) refl)
+    let polled : c.append_polled.new.batch.items ≡ (c.self.inside.events.items ++ posted_events keys) ++ polled_events c.args.given.now =
+    events-polled c.self.inside.hub.name c.self.inside.events.items c.append_posted.new.batch.items c.append_polled.new.batch.items c.self.inside.passes.items c.unpost.new.passes.items keys c.len-first.result c.args.given.now
+    (omega (arith, c.len-first.ensures, c.self.inside.passes.ok.0)) c.unpost.ensures.keys.appended c.append_posted.ensures.items c.append_polled.ensures.items in
+    (keys, (c.unpost.ensures.keys.rising, c.unpost.ensures.keys.few), rw (← c.self.view_is, c.last_polled-self-inside.ensures, polled, all, c.unpost.ensures.keys.appended, c.unpost.ensures.keys.seen) refl)

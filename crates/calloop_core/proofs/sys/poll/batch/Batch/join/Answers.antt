@@ -1,3 +1,5 @@
+use Rattle.std.proofs.Common.{length-append, arith}
+use Rattle.calloop_core.specs.Polls.{own_events}
 use Rattle.calloop_core.proofs.Gathering.{joined_in_step}
 use Rattle.calloop_core.proofs.sys.poll.batch.Batch.join.Goals as goal
 
@@ -8,4 +10,5 @@ invariant_of-self c =
       in_step = joined_in_step c.self.inside.events.items c.self.inside.passes.items c.args.given.now c.self.invariant.in_step;
       own = c.self.invariant.own;
       own_turn = c.self.invariant.own_turn;
+      within = rw (length-append c.self.inside.events.items (own_events c.args.given.now)) (omega (arith, c.self.invariant.within));
     })

@@ -6,6 +6,6 @@ pub returns-clause-others : goal.returns-clause-others
 returns-clause-others g c =
     elim c.if-event.branch [
       | then-event+in-Some w ↦
-          rw (c.replace_pass.ensures, w.self-is, w.pass-is, w.if-event.true, ← c.self.view_is, c.in_ok-event.ensures.items, w.in-Some.ensures.items) refl
-      | else-event w ↦ rw (c.replace_pass.ensures, w.self-is, w.pass-is, w.if-event.false, ← c.self.view_is, c.in_ok-event.ensures.items) refl
+          rw (c.replace_pass.ensures, w.self-is, c.saturating_sub-self-inside.ensures, w.pass-is, w.if-event.true, ← c.self.view_is, c.in_ok-event.ensures.items, w.in-Some.ensures.items) refl
+      | else-event w ↦ rw (c.replace_pass.ensures, w.self-is, c.saturating_sub-self-inside.ensures, w.pass-is, w.if-event.false, ← c.self.view_is, c.in_ok-event.ensures.items) refl
     ]

@@ -1,12 +1,12 @@
 use Rattle.std.proofs.Common.{refl, ◌++◌}
 use Rattle.calloop_core.specs.Polls.{poll_view}
 use Rattle.calloop_core.proofs.Stepping.{stepped-append}
-use Rattle.calloop_core.proofs.transient.replaced.Goals as goal
+use Rattle.calloop_core.proofs.transient.replace_state.Goals as goal
 
 pub returns-in-Ok : goal.returns-in-Ok
 returns-in-Ok g c =
     let left = c.unregister.ensures in
-    let came = c.entered.ensures in (
+    let came = c.enter_state.ensures in (
       left.0 ++ came.0,
       record {
         told = c.unregister.result;
@@ -17,6 +17,6 @@ returns-in-Ok g c =
         then = rw (c.in-Ok.is, ← left.2.1) came.1;
         steps_are = refl;
       },
-      stepped-append g.P.Poller.outside (poll_view c.args.poll.now) (poll_view c.unregister.new.poll) (poll_view c.entered.new.poll)
+      stepped-append g.P.Poller.outside (poll_view c.args.poll.now) (poll_view c.unregister.new.poll) (poll_view c.enter_state.new.poll)
           left.0 came.0 left.2 came.2,
     )

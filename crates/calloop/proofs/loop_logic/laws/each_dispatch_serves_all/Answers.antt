@@ -1,5 +1,5 @@
 use Rattle.calloop.proofs.Served.{served_all, run_sorted, new_sorted}
-use Rattle.calloop.proofs.loop_logic.laws.served.Goals as goal
+use Rattle.calloop.proofs.loop_logic.laws.each_dispatch_serves_all.Goals as goal
 
 pub returns : goal.returns
 returns g c =
