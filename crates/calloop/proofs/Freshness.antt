@@ -25,7 +25,7 @@ use Rattle.calloop.specs.declared.loop_logic.asks.Idling.{Idling as Waiter}
 use Rattle.calloop.specs.declared.loop_logic.asks.Request.{Request}
 use Rattle.calloop.specs.declared.loop_logic.asks.Request.TheVariants.{Insert as AskInsert, Enable as AskEnable, Update as AskUpdate, Disable as AskDisable, Remove as AskRemove, Idle as AskIdle, Cancel as AskCancel}
 use Rattle.calloop.specs.Askings.{Asks, Runs, begun_from}
-use Rattle.calloop.specs.Machine.{World, View, IsNew, Change, Holds, visible, slot_of, done, all_done, Appended}
+use Rattle.calloop.specs.Machine.{World, View, IsNew, Change, Holds, visible, slot_of, world_after, world_after_all, Appended}
 use Rattle.calloop.proofs.Roles.{left_removed}
 use Rattle.calloop.specs.Roles.{only, is_callers, is_adapter}
 use Rattle.calloop.specs.Rules.{Doing, Beginning, Settling, Sleeping, Waiting, Gathering, Noticing, Cutting, Serving, Ending, Returning, Idling, RunningIdles, ServingIdle, Leaving, Outcome, Step, Steps, SleptAs, SleptBy, NoticedBy, told_in, CutTo, CutFrom, ActedBy, ReturnedTo, vacate, Case, Run, InsertedBy, AskedIn, SettledIn, TakesUp, as_listed, RemovedIn, EnabledBy, UpdatedBy, DisabledBy, RemovedBy, ReleasedBy, ExchangedIn, ExchangedBy, IdleInsertedBy, OwnOr, Served, ServedAs, ServedFrom, RunFrom, action_of, Once, all_traced, appends}
@@ -55,9 +55,9 @@ module _ {D I P X : Type 0} (C : D → Type 0) (S : D → D → Type 0) (M : Mea
 
   -- nor do these changes, which leave it so
   abbrev Fresh : World D I P → List (Change D I P) → Type 0
-  Fresh w cs = AllBring C S cs × Asked' (all_done w cs)
+  Fresh w cs = AllBring C S cs × Asked' (world_after_all w cs)
 
-  on-append : (w : World D I P) (cs ds : List (Change D I P)) → Fresh w cs → (Asked' (all_done w cs) → Fresh (all_done w cs) ds) → Fresh w (cs ++ ds)
+  on-append : (w : World D I P) (cs ds : List (Change D I P)) → Fresh w cs → (Asked' (world_after_all w cs) → Fresh (world_after_all w cs) ds) → Fresh w (cs ++ ds)
   on-append w cs ds h f = (let k = f h.1 in (fresh-append C S cs ds h.0 k.0, subst (λ (u : World D I P). Asked' u) (sym (done-append w cs ds)) k.1))
 
   cut_fresh : (w : World D I P) (e : Pending) (x : X) (cs : List (Change D I P)) (b : Doing D X) (c : Content D) → CutTo M e c (visible w) x cs b → Asked' w → Fresh w cs
@@ -78,7 +78,7 @@ module _ {D I P X : Type 0} (C : D → Type 0) (S : D → D → Type 0) (M : Mea
   acted_fresh w token d (Ok Continue) cs e told h k = rw h.0 ((tt, tt), k)
   acted_fresh w token d (Ok Reregister) cs e told h k = rw h.2 ((tt, (tt, (tt, tt))), k)
   acted_fresh w token d (Ok DisableIt) cs e told h k = rw h.2 ((tt, (tt, (tt, tt))), k)
-  acted_fresh w token d (Ok Remove) cs e told h k = rw h.0 (let g = emptied_fresh (done w (Holds (Pend Continue))) token (content_at (map slot_of w.slots) token) k in ((tt, g.0), g.1))
+  acted_fresh w token d (Ok Remove) cs e told h k = rw h.0 (let g = emptied_fresh (world_after w (Holds (Pend Continue))) token (content_at (map slot_of w.slots) token) k in ((tt, g.0), g.1))
   acted_fresh w token d (Err error) cs e told h k = rw h.0 ((tt, tt), k)
 
   returned_fresh : (w : World D I P) (token : RegistrationToken) (d : D) (c : Content D) (cs : List (Change D I P)) → ReturnedTo M token d c (visible w) cs → Asked' w → Fresh w cs
@@ -88,7 +88,7 @@ module _ {D I P X : Type 0} (C : D → Type 0) (S : D → D → Type 0) (M : Mea
 
   appends_fresh : (given : List (Readiness × Token)) (w : World D I P) → Asked' w → Fresh w (appends given)
   appends_fresh [] w k = (tt, k)
-  appends_fresh (e ∷ es) w k = (let r = appends_fresh es (done w (Appended (own_event e))) k in ((tt, r.0), r.1))
+  appends_fresh (e ∷ es) w k = (let r = appends_fresh es (world_after w (Appended (own_event e))) k in ((tt, r.0), r.1))
 
   slept_as : (w : World D I P) (timeout : Option ℕ) (later : List RegistrationToken) (given : List (Readiness × Token)) (answer : Result (Unit {0}) Error) (x : X) (cs : List (Change D I P)) (b : Doing D X) → SleptAs timeout later given answer x cs b → Asked' w → Fresh w cs
   slept_as w timeout later given (Ok u) x cs b h k = rw h.0 (appends_fresh given w k)
@@ -97,7 +97,7 @@ module _ {D I P X : Type 0} (C : D → Type 0) (S : D → D → Type 0) (M : Mea
   slept_fresh : (w : World D I P) (timeout : Option ℕ) (token : RegistrationToken) (later : List RegistrationToken) (x : X) (cs : List (Change D I P)) (b : Doing D X) (c : Content D) → SleptBy M timeout token later c (visible w) x cs b → Asked' w → Fresh w cs
   slept_fresh w timeout token later x cs b Vacant h k = rw h.0 (tt, k)
   slept_fresh w timeout token later x cs b InTurn h k = rw h.0 (tt, k)
-  slept_fresh w timeout token later x cs b (Source d) h k = rw h.6 (let g = slept_as (all_done w (told_in token h.0)) timeout later h.1 h.2 x h.3 b h.5 k in ((tt, (tt, (tt, g.0))), g.1))
+  slept_fresh w timeout token later x cs b (Source d) h k = rw h.6 (let g = slept_as (world_after_all w (told_in token h.0)) timeout later h.1 h.2 x h.3 b h.5 k in ((tt, (tt, (tt, g.0))), g.1))
 
   noticed_fresh : (w : World D I P) (from : ℕ) (token : RegistrationToken) (later : List RegistrationToken) (x : X) (cs : List (Change D I P)) (b : Doing D X) (c : Content D) → NoticedBy M from token later c (visible w) x cs b → Asked' w → Fresh w cs
   noticed_fresh w from token later x cs b Vacant h k = rw h.0 (tt, k)
@@ -109,7 +109,7 @@ module _ {D I P X : Type 0} (C : D → Type 0) (S : D → D → Type 0) (M : Mea
   inserted_fresh w d (Err refused) cs n h k = elim h [ inl g ↦ rw g.2 (tt, k) | inr g ↦ rw g.4 ((n, (tt, (tt, tt))), k) ]
 
   asked_fresh : (w : World D I P) (R : D → Outcome → List (PollStep P) → D → Type 0) (noted : D → Outcome → HeldStep D I) (token : RegistrationToken) (c : Content D) (answer : Outcome) (cs : List (Change D I P))
-      → ((d : D) (a : Outcome) → Asked' w → Asked' (done w (Holds (noted d a)))) → AskedIn R noted token c answer cs → Asked' w → Fresh w cs
+      → ((d : D) (a : Outcome) → Asked' w → Asked' (world_after w (Holds (noted d a)))) → AskedIn R noted token c answer cs → Asked' w → Fresh w cs
   asked_fresh w R noted token Vacant answer cs f h k = rw h.1 (tt, k)
   asked_fresh w R noted token InTurn answer cs f h k = rw h.1 (tt, k)
   asked_fresh w R noted token (Source d) answer cs f h k = rw h.3 ((tt, (tt, (tt, (tt, tt)))), f d answer k)
@@ -120,8 +120,8 @@ module _ {D I P X : Type 0} (C : D → Type 0) (S : D → D → Type 0) (M : Mea
   removed_fresh w token (Source d) answer cs h k = rw h.6 ((tt, (tt, (tt, (tt, tt)))), k)
 
   -- a request, and its answer behind it
-  told_fresh : (w : World D I P) (ds cs : List (Change D I P)) (step : HeldStep D I) → ((u : World D I P) → Asked' u → Asked' (done u (Holds step))) → cs ≡ ds ++ Holds step ∷ [] → Fresh w ds → Fresh w cs
-  told_fresh w ds cs step f is h = rw is (on-append w ds (Holds step ∷ []) h (λ k. ((tt, tt), f (all_done w ds) k)))
+  told_fresh : (w : World D I P) (ds cs : List (Change D I P)) (step : HeldStep D I) → ((u : World D I P) → Asked' u → Asked' (world_after u (Holds step))) → cs ≡ ds ++ Holds step ∷ [] → Fresh w ds → Fresh w cs
+  told_fresh w ds cs step f is h = rw is (on-append w ds (Holds step ∷ []) h (λ k. ((tt, tt), f (world_after_all w ds) k)))
 
   served_as_fresh : (w : World D I P) (request : Request D I) (answer : Outcome) (cs : List (Change D I P)) → ServedAs M request answer (visible w) cs → Asked' w → Fresh w cs
   served_as_fresh w (AskEnable token) answer cs h k = own_or (content_at (map slot_of w.slots) token) (λ g. rw g.1 (tt, k)) (λ g. asked_fresh w _ _ token (only (is_callers M) (content_at (map slot_of w.slots) token)) answer cs (λ d a l. l) g k) h
@@ -145,7 +145,7 @@ module _ {D I P X : Type 0} (C : D → Type 0) (S : D → D → Type 0) (M : Mea
   served_from_fresh : (w : World D I P) (asked : List (Asked D I)) (on next b : Doing D X) (cs : List (Change D I P)) → ServedFrom M asked on next b (visible w) cs → AreOnly C asked → Asked' w → Fresh w cs
   served_from_fresh w [] on next b cs h l k = rw h.0 (tt, k)
   served_from_fresh w (a ∷ as') on next b cs h l k =
-      rw h.2 (let g = served_fresh (done w (Holds Begun)) a.request h.0 l.0 h.1 (fresh_begun C w.held.asks w.held.asks.written refl k) in ((tt, g.0), g.1))
+      rw h.2 (let g = served_fresh (world_after w (Holds Begun)) a.request h.0 l.0 h.1 (fresh_begun C w.held.asks w.held.asks.written refl k) in ((tt, g.0), g.1))
 
   run_from_fresh : (w : World D I P) (is : List (Waiter I)) (x : X) (cs : List (Change D I P)) (b : Doing D X) → RunFrom runs is (visible w) x cs b → Asked' w → Fresh w cs
   run_from_fresh w [] x cs b h k = rw h.0 (tt, k)
@@ -183,7 +183,7 @@ module _ {D I P X : Type 0} (C : D → Type 0) (S : D → D → Type 0) (M : Mea
   steps_fresh : (w : World D I P) (a b : Doing D X) (css : List (List (Change D I P))) → Steps M runs O (visible w) a css b → Asked' w → Fresh w (flatten css)
   steps_fresh w a b [] h k = (tt, k)
   steps_fresh w a b (cs ∷ css) h k =
-      on-append w cs (flatten css) (step_fresh w a h.0 cs h.1 k) (steps_fresh (all_done w cs) h.0 b css (subst (λ (v : View D I P). Steps M runs O v h.0 css b) (sym (seen-all_done w cs)) h.3))
+      on-append w cs (flatten css) (step_fresh w a h.0 cs h.1 k) (steps_fresh (world_after_all w cs) h.0 b css (subst (λ (v : View D I P). Steps M runs O v h.0 css b) (sym (seen-all_done w cs)) h.3))
 
   exchanged_fresh : (w : World D I P) (token : RegistrationToken) (new : D) (c : Content D) (answer : Result D D) (cs : List (Change D I P)) → CallBrings {I = I} {P = P} {X = X} C S (Exchange token new) (Exchanged answer) → ExchangedIn token new c answer cs → Asked' w → Fresh w cs
   exchanged_fresh w token new Vacant answer cs n h k = rw h.1 (tt, k)

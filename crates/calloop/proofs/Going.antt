@@ -18,7 +18,7 @@ use Rattle.calloop_core.specs.declared.sys.Readiness.{Readiness}
 use Rattle.calloop_core.specs.Pollers.{Outside}
 use Rattle.calloop_core.specs.Waits.{Polled}
 use Rattle.calloop_core.specs.Events.{events_of}
-use Rattle.calloop_core.specs.Polls.{PollView, PollStep, polling, watching, after_count, with_pass, cut, cut_from, with_turn_of, tail_of, head_of, poll_after, polls_after, TakePass, PutBack, Arm, ArmAgain, Cancel, Call, ReadClock, Socket, Fault, own_event, own_events, joining}
+use Rattle.calloop_core.specs.Polls.{PollView, PollStep, with_new_poller, with_watch, after_count, with_pass, after_cut, cut_from, with_turn_of, tail_of, head_of, poll_after, polls_after, TakePass, PutBack, Arm, ArmAgain, Cancel, Call, ReadClock, Socket, Fault, own_event, own_events, with_events}
 use Rattle.calloop_core.specs.Deeds.{Turned, Unregistered, Slept, Noticed, Lent, lend}
 use Rattle.calloop_core.specs.Meanings.{Meaning, Does}
 use Rattle.calloop.specs.declared.loop_logic.asks.Answer.TheVariants.{Removed as RemovedAnswer}
@@ -26,7 +26,7 @@ use Rattle.calloop.specs.declared.loop_logic.asks.Asked.{Asked}
 use Rattle.calloop.specs.declared.loop_logic.asks.Idling.{Idling as Waiter}
 use Rattle.calloop.specs.Held.{HeldStep, Unlisted, Pend, Asking, Paid, Cleared, Warned, with_warning, IdlesTaken, IdleBegun, held_after}
 use Rattle.calloop.specs.Askings.{Asks, AskStep, Write, Take, Runs, Reaches, ask_after, asks_after, of_turn, without_old, idle_begun, running_of}
-use Rattle.calloop.specs.Machine.{taking, View, Change, Put, Polls, Polling, Watching, Counting, Holds, Gathered, Cut, Ended, all_viewed, AllFit, IsFull, Appended, after_change}
+use Rattle.calloop.specs.Machine.{with_marks_taken, View, Change, Put, Polls, Polling, Watching, Counting, Holds, Gathered, Cut, Ended, all_viewed, AllFit, IsFull, Appended, after_change}
 use Rattle.calloop_core.specs.Marking.{AreTaken}
 use Rattle.calloop_wake.specs.Watches.{with_note}
 use Rattle.calloop_wake.specs.declared.wake.notes.Note.TheVariants.{Counted, Marked}
@@ -66,7 +66,7 @@ length-begun {P} e v rest is =
     let left : (with_turn_of e v).batch ≡ tail_of v.batch = elim e.posted as (λ b. (if b then record (with_pass (head_of v.passes) v) { batch = tail_of v.batch; passes = tail_of v.passes } else record (with_pass None v) { batch = tail_of v.batch }).batch ≡ tail_of v.batch) [ true ↦ refl | false ↦ refl ] in
     omega (arith, ap length left, ap (λ es. length (tail_of es)) is)
 
-pub length-cut : {P : Type 0} (v : PollView P) (e : Pending) → Some e ≡ head_of v.batch → length (cut v).batch + 1 ≡ length v.batch
+pub length-cut : {P : Type 0} (v : PollView P) (e : Pending) → Some e ≡ head_of v.batch → length (after_cut v).batch + 1 ≡ length v.batch
 length-cut v e first =
     let f = cons_of_head v.batch e first in
     ap (λ es. length (cut_from es v).batch + 1) f.1 ∙ length-begun e v f.0 f.1 ∙ sym (ap length f.1)
@@ -144,19 +144,19 @@ module _ {D I P X : Type 0} (M : Meaning D P (Lent X (Asks D I))) (runs : Runs D
   abbrev pub ready : (places : ℕ) → View D I P → View D I P
   ready places v = record v { poll = after_count places v.poll; held = held_after v.held Cleared }
 
-  pub begun_with : (v : View D I P) (places : ℕ) (marked taken : List RegistrationToken) → AreTaken taken marked → (timeout : Option ℕ) (x : X) → Goes M runs O (Beginning timeout x) (Settling timeout marked x) v (taking taken (ready places v))
-  begun_with v places marked taken are timeout x = goes_by (Beginning timeout x) (Settling timeout marked x) (Counting places ∷ Holds Cleared ∷ Watching (with_note (Marked taken) (with_note (Counted places) v.poll.watch)) ∷ []) v (taking taken (ready places v)) (places, marked, taken, are, refl, refl) (tt, (tt, (tt, tt))) refl
+  pub begun_with : (v : View D I P) (places : ℕ) (marked taken : List RegistrationToken) → AreTaken taken marked → (timeout : Option ℕ) (x : X) → Goes M runs O (Beginning timeout x) (Settling timeout marked x) v (with_marks_taken taken (ready places v))
+  begun_with v places marked taken are timeout x = goes_by (Beginning timeout x) (Settling timeout marked x) (Counting places ∷ Holds Cleared ∷ Watching (with_note (Marked taken) (with_note (Counted places) v.poll.watch)) ∷ []) v (with_marks_taken taken (ready places v)) (places, marked, taken, are, refl, refl) (tt, (tt, (tt, tt))) refl
 
   -- and what follows
   pub begun_then : (v u : View D I P) (places : ℕ) (p' : PollView P) (asked : Asks D I) (es : List Error) (marked taken : List RegistrationToken) (are : AreTaken taken marked) (timeout : Option ℕ) (x : X) (b : Doing D X) → p' ≡ after_count places v.poll → asked ≡ without_old v.held.asks → es ≡ []
-      → Goes M runs O (Settling timeout marked x) b (taking taken (record v { poll = p'; held = record v.held { asks = asked; warnings = es } })) u → Goes M runs O (Beginning timeout x) b v u
+      → Goes M runs O (Settling timeout marked x) b (with_marks_taken taken (record v { poll = p'; held = record v.held { asks = asked; warnings = es } })) u → Goes M runs O (Beginning timeout x) b v u
   begun_then v u places p' asked es marked taken are timeout x b polls asks none h =
       let a : Doing D X = Settling timeout marked x in
-      let now : View D I P = taking taken (record v { poll = p'; held = record v.held { asks = asked; warnings = es } }) in
+      let now : View D I P = with_marks_taken taken (record v { poll = p'; held = record v.held { asks = asked; warnings = es } }) in
       goes_on (Beginning timeout x) a b v now u
-      (goes_to (Beginning timeout x) a v (taking taken (ready places v)) now
-      (ap (λ (q : PollView P). taking taken (record v { poll = q; held = record v.held { asks = asked; warnings = es } })) polls ∙ ap (λ (r : Asks D I). taking taken (record v { poll = after_count places v.poll; held = record v.held { asks = r; warnings = es } })) asks
-      ∙ ap (λ (l : List Error). taking taken (record v { poll = after_count places v.poll; held = record v.held { asks = without_old v.held.asks; warnings = l } })) none) (begun_with v places marked taken are timeout x)) h
+      (goes_to (Beginning timeout x) a v (with_marks_taken taken (ready places v)) now
+      (ap (λ (q : PollView P). with_marks_taken taken (record v { poll = q; held = record v.held { asks = asked; warnings = es } })) polls ∙ ap (λ (r : Asks D I). with_marks_taken taken (record v { poll = after_count places v.poll; held = record v.held { asks = r; warnings = es } })) asks
+      ∙ ap (λ (l : List Error). with_marks_taken taken (record v { poll = after_count places v.poll; held = record v.held { asks = without_old v.held.asks; warnings = l } })) none) (begun_with v places marked taken are timeout x)) h
 
   -- the wait and the gathering
   pub polled : (v : View D I P) (p' : PollView P) (timeout : Option ℕ) (x : X) → Polled O timeout (Ok tt) v.poll p' → Goes M runs O (Waiting timeout x) (Noticing (length v.poll.batch) v.held.lifecycle x) v (record v { poll = p' })
@@ -165,7 +165,7 @@ module _ {D I P X : Type 0} (M : Meaning D P (Lent X (Asks D I))) (runs : Runs D
       let given = h.1 in
       let p = h.2 in
       let w = h.3 in
-      let u : View D I P = record v { poll = watching w (polling p v.poll) } in
+      let u : View D I P = record v { poll = with_watch w (with_new_poller p v.poll) } in
       let told : Doing D X = Noticing (length v.poll.batch) v.held.lifecycle x in
       goes_on (Waiting timeout x) (Gathering now given x) told v u (record v { poll = p' })
       (goes_by (Waiting timeout x) (Gathering now given x) (Polling p ∷ Watching w ∷ []) v u (Ok now, given, p, w, h.4, refl, refl) (tt, (tt, tt)) refl)
@@ -178,10 +178,10 @@ module _ {D I P X : Type 0} (M : Meaning D P (Lent X (Asks D I))) (runs : Runs D
       (ap (λ (q : PollView P). record v { poll = q }) h.4)
 
   -- a batch without events
-  pub no_event : (v : View D I P) (x : X) → None ≡ head_of v.poll.batch → Goes M runs O (Cutting x) (Idling x) v (record v { poll = cut v.poll })
+  pub no_event : (v : View D I P) (x : X) → None ≡ head_of v.poll.batch → Goes M runs O (Cutting x) (Idling x) v (record v { poll = after_cut v.poll })
   no_event v x none =
       let nil : v.poll.batch ≡ [] = nil_of_head v.poll.batch none in
-      goes_by (Cutting x) (Idling x) [] v (record v { poll = cut v.poll }) (rw nil (refl, refl)) tt (ap (λ es. record v { poll = cut_from es v.poll }) nil)
+      goes_by (Cutting x) (Idling x) [] v (record v { poll = after_cut v.poll }) (rw nil (refl, refl)) tt (ap (λ es. record v { poll = cut_from es v.poll }) nil)
 
   from_cons : (es rest : List Pending) (e : Pending) (v : View D I P) (x : X) (cs : List (Change D I P)) (b : Doing D X) → es ≡ e ∷ rest → CutTo M e (content_at v.slots (registration_of e.token)) v x cs b → CutFrom M es v x cs b
   from_cons es rest e v x cs b is h = rw is h
@@ -193,14 +193,14 @@ module _ {D I P X : Type 0} (M : Meaning D P (Lent X (Asks D I))) (runs : Runs D
 
   -- an event whose token names no source
   pub cut_none : (e : Pending) (v : View D I P) (x : X) → Some e ≡ head_of v.poll.batch → None ≡ source_of (content_at v.slots (registration_of e.token))
-      → Goes M runs O (Cutting x) (Cutting x) v (record v { poll = with_pass None (cut v.poll) })
+      → Goes M runs O (Cutting x) (Cutting x) v (record v { poll = with_pass None (after_cut v.poll) })
   cut_none e v x first none =
       let f = cons_of_head v.poll.batch e first in
-      goes_by (Cutting x) (Cutting x) (Cut None ∷ Ended ∷ []) v (record v { poll = with_pass None (cut v.poll) })
+      goes_by (Cutting x) (Cutting x) (Cut None ∷ Ended ∷ []) v (record v { poll = with_pass None (after_cut v.poll) })
       (from_cons v.poll.batch f.0 e v x (Cut None ∷ Ended ∷ []) (Cutting x) f.1 (none_named e v x (content_at v.slots (registration_of e.token)) none)) (tt, (tt, tt)) refl
 
   -- an event whose token names a source has its turn
-  pub turned : (e : Pending) (v : View D I P) (d d' : D) (answer : Result PostAction Error) (q p' : PollView P) (x x' : X) (given asked back : Asks D I) → Some e ≡ head_of v.poll.batch → Some d ≡ source_of (content_at v.slots (registration_of e.token)) → q ≡ cut v.poll
+  pub turned : (e : Pending) (v : View D I P) (d d' : D) (answer : Result PostAction Error) (q p' : PollView P) (x x' : X) (given asked back : Asks D I) → Some e ≡ head_of v.poll.batch → Some d ≡ source_of (content_at v.slots (registration_of e.token)) → q ≡ after_cut v.poll
       → given ≡ of_turn (registration_of e.token) v.held.asks → back ≡ record asked { turn = v.held.asks.turn }
       → Does O M d q (Turned e.readiness e.token (lend x given answer x' asked)) d' p' → Reaches given asked
       → Goes M runs O (Cutting x) (Serving (registration_of e.token) d' answer x') v (record v { slots = with_change (with_content InTurn) v.slots e.token.slot; poll = with_pass None p'; held = record v.held { asks = back } })
@@ -213,8 +213,8 @@ module _ {D I P X : Type 0} (M : Meaning D P (Lent X (Asks D I))) (runs : Runs D
       let became : asked ≡ of_turn token (asks_after v.held.asks asks.steps) = asks.is ∙ ap (λ (r : Asks D I). asks_after r asks.steps) begun ∙ turn_passes token v.held.asks asks.steps in
       let kept : back ≡ asks_after v.held.asks asks.steps = ended ∙ ap (λ (r : Asks D I). record r { turn = v.held.asks.turn }) became ∙ turn_kept v.held.asks asks.steps in
       let cs : List (Change D I P) = Cut (Some e.token.slot) ∷ Put e.token.slot InTurn ∷ Polls t.0 ∷ Ended ∷ Holds (Asking asks.steps) ∷ [] in
-      let does = subst (λ (r : Asks D I). M.does d (cut v.poll) (Turned e.readiness e.token (lend x r answer x' (of_turn token (asks_after v.held.asks asks.steps)))) t.0 d') begun
-      (subst (λ (r : Asks D I). M.does d (cut v.poll) (Turned e.readiness e.token (lend x given answer x' r)) t.0 d') became t.1) in
+      let does = subst (λ (r : Asks D I). M.does d (after_cut v.poll) (Turned e.readiness e.token (lend x r answer x' (of_turn token (asks_after v.held.asks asks.steps)))) t.0 d') begun
+      (subst (λ (r : Asks D I). M.does d (after_cut v.poll) (Turned e.readiness e.token (lend x given answer x' r)) t.0 d') became t.1) in
       goes_by (Cutting x) a cs v (record v { slots = with_change (with_content InTurn) v.slots e.token.slot; poll = with_pass None p'; held = record v.held { asks = back } })
       (from_cons v.poll.batch f.0 e v x cs a f.1 (rw full (d', answer, t.0, x', asks.steps, does, refl, refl)))
       (tt, (full_named v.slots (registration_of e.token) (ap is_empty full), (t.2.0, (tt, (tt, tt)))))
@@ -340,7 +340,7 @@ module _ {D I P X : Type 0} (M : Meaning D P (Lent X (Asks D I))) (runs : Runs D
   appends_fit [] u = tt
   appends_fit (e ∷ es) u = (refl, appends_fit es (after_change u (Appended (own_event e))))
 
-  appends_viewed : (given : List (Readiness × Token)) (u : View D I P) → record u { poll = joining given u.poll } ≡ all_viewed u (appends given)
+  appends_viewed : (given : List (Readiness × Token)) (u : View D I P) → record u { poll = with_events given u.poll } ≡ all_viewed u (appends given)
   appends_viewed [] u = ap (λ (es : List Pending). record u { poll = record u.poll { batch = es } }) (append-nil u.poll.batch)
   appends_viewed (e ∷ es) u =
       ap (λ (all : List Pending). record u { poll = record u.poll { batch = all } }) (sym (append_assoc u.poll.batch (own_event e ∷ []) (own_events es)))
@@ -348,7 +348,7 @@ module _ {D I P X : Type 0} (M : Meaning D P (Lent X (Asks D I))) (runs : Runs D
 
   pub slept_well : (timeout : Option ℕ) (token : RegistrationToken) (later : List RegistrationToken) (v : View D I P) (x : X) (d e : D) (given : List (Readiness × Token))
       → content_at v.slots token ≡ Source d → M.does d v.poll (Slept given (Ok tt)) [] e
-      → Goes M runs O (Sleeping timeout (token ∷ later) x) (Sleeping timeout later x) v (record (told token e v) { poll = joining given v.poll })
+      → Goes M runs O (Sleeping timeout (token ∷ later) x) (Sleeping timeout later x) v (record (told token e v) { poll = with_events given v.poll })
   slept_well timeout token later v x d e given is does =
       subst (λ (u : View D I P). Goes M runs O (Sleeping timeout (token ∷ later) x) (Sleeping timeout later x) v u) (sym (appends_viewed given (told token e v)))
       (slept timeout token later v x d e given (Ok tt) (appends given) (Sleeping timeout later x) is does (refl, refl) (appends_fit given))

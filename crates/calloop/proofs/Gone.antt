@@ -11,7 +11,7 @@ use Rattle.calloop.specs.declared.loop_logic.LoopCall.TheVariants.{Insert, Enabl
 use Rattle.calloop.specs.declared.loop_logic.LoopAnswer.{LoopAnswer}
 use Rattle.calloop.specs.declared.loop_logic.LoopAnswer.TheVariants.{Inserted, Enabled, Updated, Disabled, Removed, Released, Exchanged, Dispatched, IdleInserted, Cancelled, Answered, StopForgotten, Stopped, Poller as OldPoller}
 use Rattle.calloop.specs.Askings.{Asks, Runs}
-use Rattle.calloop.specs.Machine.{World, View, Registration, Change, Put, Claim, Swapped, Polls, Polling, Watching, Counting, Holds, Appended, Gathered, Cut, Ended, Fits, AllFit, IsFull, holding, next_use, is_free, with_claim, slot_of, visible, after_change, all_viewed, done, all_done}
+use Rattle.calloop.specs.Machine.{World, View, Registration, Change, Put, Claim, Swapped, Polls, Polling, Watching, Counting, Holds, Appended, Gathered, Cut, Ended, Fits, AllFit, IsFull, slot_with, next_use, is_free, with_claim, slot_of, visible, after_change, all_viewed, world_after, world_after_all}
 use Rattle.calloop.specs.Rules.{Doing, Steps, Case, Run, Once, InsertedBy, EnabledBy, UpdatedBy, DisabledBy, RemovedBy, ReleasedBy, ExchangedBy, IdleInsertedBy, after_changes, all_traced}
 use Rattle.calloop.specs.Laws.{StaysGone, flatten, changes_of}
 use Rattle.calloop.proofs.Seen.{seen-done, seen-all_done, seen-all_traced}
@@ -20,13 +20,13 @@ use Rattle.calloop.proofs.Seen.{seen-done, seen-all_done, seen-all_traced}
 abbrev Left : {D : Type 0} → List (Registration D) → (i n : ℕ) → Type 0
 Left {D} rs i n = (r : Registration D) × (slice_get rs i ≡ Some r) × (((r.reuse ≡ n) × (is_free r ≡ true)) ⊎ (n < r.reuse))
 
-left_put : {D : Type 0} (c : Content D) (rs : List (Registration D)) (k i n : ℕ) → IsFull (map slot_of rs) k → Left rs i n → Left (with_change (holding c) rs k) i n
+left_put : {D : Type 0} (c : Content D) (rs : List (Registration D)) (k i n : ℕ) → IsFull (map slot_of rs) k → Left rs i n → Left (with_change (slot_with c) rs k) i n
 left_put c [] k i n full h = h
 left_put {D} c (x ∷ xs) zero zero n full h =
     let e : x ≡ h.0 = (let f = h.1 in cc) in
     let s : slot_of x ≡ full.0 = (let f = full.1 in cc) in
     let taken : is_empty x.content ≡ false = ap (λ t. is_empty t.content) s ∙ full.2 in
-    (holding c x, refl, inr (elim h.2 [ inl u ↦ absurd (let f : is_empty x.content ≡ true = ap (λ (y : Registration D). is_free y) e ∙ u.1 in cc) | inr lt ↦ rw e lt ]))
+    (slot_with c x, refl, inr (elim h.2 [ inl u ↦ absurd (let f : is_empty x.content ≡ true = ap (λ (y : Registration D). is_free y) e ∙ u.1 in cc) | inr lt ↦ rw e lt ]))
 left_put c (x ∷ xs) zero (suc i) n full h = h
 left_put c (x ∷ xs) (suc k) zero n full h = h
 left_put c (x ∷ xs) (suc k) (suc i) n full h = left_put c xs k i n full h
@@ -41,7 +41,7 @@ left_claim {D} (x ∷ xs) (suc i) n h =
     elim (is_empty x.content) as (λ b. Left (if b then next_use x ∷ xs else x ∷ with_claim xs) (suc i) n) [ true ↦ h | false ↦ left_claim xs i n h ]
 
 module _ {D I P : Type 0} (O : Outside P) where
-  left_done : (w : World D I P) (c : Change D I P) (i n : ℕ) → Fits O (visible w) c → Left w.slots i n → Left (done w c).slots i n
+  left_done : (w : World D I P) (c : Change D I P) (i n : ℕ) → Fits O (visible w) c → Left w.slots i n → Left (world_after w c).slots i n
   left_done w (Put slot content) i n fit h = left_put content w.slots slot i n fit h
   left_done w (Swapped slot old new) i n fit h = left_put (Source new) w.slots slot i n (fit.0, fit.1, ap is_empty fit.2) h
   left_done w (Claim source) i n fit h = left_claim w.slots i n h
@@ -55,11 +55,11 @@ module _ {D I P : Type 0} (O : Outside P) where
   left_done w (Cut slot) i n fit h = h
   left_done w Ended i n fit h = h
 
-  left_all : (w : World D I P) (cs : List (Change D I P)) (i n : ℕ) → AllFit O (visible w) cs → Left w.slots i n → Left (all_done w cs).slots i n
+  left_all : (w : World D I P) (cs : List (Change D I P)) (i n : ℕ) → AllFit O (visible w) cs → Left w.slots i n → Left (world_after_all w cs).slots i n
   left_all w [] i n fit h = h
-  left_all w (c ∷ cs) i n fit h = left_all (done w c) cs i n (subst (λ (v : View D I P). AllFit O v cs) (sym (seen-done w c)) fit.1) (left_done w c i n fit.0 h)
+  left_all w (c ∷ cs) i n fit h = left_all (world_after w c) cs i n (subst (λ (v : View D I P). AllFit O v cs) (sym (seen-done w c)) fit.1) (left_done w c i n fit.0 h)
 
-  stays : (w : World D I P) (cs : List (Change D I P)) → AllFit O (visible w) cs → StaysGone w (all_done w cs)
+  stays : (w : World D I P) (cs : List (Change D I P)) → AllFit O (visible w) cs → StaysGone w (world_after_all w cs)
   stays w cs fit i r r' here there same free =
       let g = left_all w cs i r.reuse fit (r, here, inl (refl, free)) in
       let e : g.0 ≡ r' = (let f : Some g.0 ≡ Some r' = sym g.1 ∙ there in cc) in
@@ -78,11 +78,11 @@ module _ {D I P : Type 0} (O : Outside P) where
   fit_rest v (c ∷ cs) ds h = fit_rest (after_change v c) cs ds h.1
 
   pub stay_gone : (w : World D I P) (cs : List (Change D I P)) → AllFit O (visible w) cs → (before between after : List (Change D I P)) → cs ≡ before ++ (between ++ after)
-      → StaysGone (all_done w before) (all_done (all_done w before) between)
+      → StaysGone (world_after_all w before) (world_after_all (world_after_all w before) between)
   stay_gone w cs fit before between after is =
       let all = subst (λ (l : List (Change D I P)). AllFit O (visible w) l) is fit in
       let rest = fit_first (all_viewed (visible w) before) between after (fit_rest (visible w) before (between ++ after) all) in
-      stays (all_done w before) between (subst (λ (v : View D I P). AllFit O v between) (sym (seen-all_done w before)) rest)
+      stays (world_after_all w before) between (subst (λ (v : View D I P). AllFit O v between) (sym (seen-all_done w before)) rest)
 
 module _ {D I P X : Type 0} (M : Meaning D P (Lent X (Asks D I))) (runs : Runs D I X) (O : Outside P) where
   viewed-append : (v : View D I P) (cs ds : List (Change D I P)) → all_viewed v (cs ++ ds) ≡ all_viewed (all_viewed v cs) ds

@@ -22,7 +22,7 @@ use Rattle.calloop_core.specs.declared.sys.poll.Pending.{Pending}
 use Rattle.calloop_core.specs.declared.sources.source.PostAction.{PostAction}
 use Rattle.calloop_core.specs.declared.sources.source.PostAction.TheVariants.{Continue, Reregister, Disable as DisableIt, Remove}
 use Rattle.calloop_core.specs.Pollers.{Outside, nanos_of}
-use Rattle.calloop_core.specs.Polls.{PollView, PollStep, cut, own_event}
+use Rattle.calloop_core.specs.Polls.{PollView, PollStep, after_cut, own_event}
 use Rattle.calloop_core.specs.Keys.{IsFactoryOf}
 use Rattle.calloop_core.specs.Deeds.{Registered, Reregistered, Unregistered, Turned, Slept, Lent, lend}
 use Rattle.calloop_core.specs.Meanings.{Meaning, IsAtHome, BeginsIn, KeepsHome}
@@ -175,7 +175,7 @@ module _ {D I P X : Type 0} (M : Meaning D P (Lent X (Asks D I))) (runs : Runs D
   cut_homely v e x cs b InTurn is h k = rw (h.0, h.1) (k, tt)
   cut_homely v e x cs b (Source d) is h k =
       let token = registration_of e.token in
-      let home = (law token d h.0 (cut v.poll) (Turned e.readiness e.token (lend x (of_turn (registration_of e.token) v.held.asks) h.1 h.3 (of_turn (registration_of e.token) (asks_after v.held.asks h.4)))) h.2 (home_named v.slots token d is k) h.5).0 in
+      let home = (law token d h.0 (after_cut v.poll) (Turned e.readiness e.token (lend x (of_turn (registration_of e.token) v.held.asks) h.1 h.3 (of_turn (registration_of e.token) (asks_after v.held.asks h.4)))) h.2 (home_named v.slots token d is k) h.5).0 in
       rw (h.6, h.7) (homely_without v.slots e.token.slot InTurn (λ d e. cc) k, home)
 
   from_homely : (v : View D I P) (es : List Pending) (x : X) (cs : List (Change D I P)) (b : Doing D X) → CutFrom M es v x cs b → Homely v.slots → Homely (all_viewed v cs).slots × AsideHomely b

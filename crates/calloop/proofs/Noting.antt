@@ -8,7 +8,7 @@ use Rattle.calloop_wake.specs.Deadlines.{is_armed, entry_of, after_insert, witho
 use Rattle.calloop_core.specs.declared.sys.Readiness.{Readiness}
 use Rattle.calloop_core.specs.declared.sys.poll.Pending.{Pending}
 use Rattle.calloop_core.specs.Pollers.{Outside}
-use Rattle.calloop_core.specs.Polls.{PollView, PollStep, TakePass, PutBack, Arm, ArmAgain, Cancel, Call, ReadClock, Socket, Fault, poll_after, polls_after, AllAllowed, after_gather, with_event, posted_events, polled_events, cut, cut_from, with_turn_of, tail_of, head_of, with_pass}
+use Rattle.calloop_core.specs.Polls.{PollView, PollStep, TakePass, PutBack, Arm, ArmAgain, Cancel, Call, ReadClock, Socket, Fault, poll_after, polls_after, AllAllowed, after_gather, with_event, posted_events, polled_events, after_cut, cut_from, with_turn_of, tail_of, head_of, with_pass}
 use Rattle.calloop_core.specs.Holdings.{Holding, Free, Spent, Standing, with_hold, IsWithin, Keeps}
 use Rattle.calloop.specs.Ledgers.{Ledger, Arming, NumberedEntry, TimerCall, latest, arm, step_noted, steps_noted, gathering_noted, appended_noted, cut_noted, is_under, number_of, from_elsewhere, from_deadline, due_in}
 use Rattle.calloop.specs.Laws.{IsLedgerOf, one, how_many, is_armed_as, waits_as, is_number, is_call_as, came_timely, timely, event_of}
@@ -280,10 +280,10 @@ cut_as : {P : Type 0} (es : List Pending) (v : PollView P) → v.batch ≡ es �
 cut_as [] v is = (rw is refl, refl)
 cut_as (e ∷ es) v is = cut_begun e v
 
-pub cut_deadlines : {P : Type 0} (v : PollView P) → (cut v).deadlines ≡ v.deadlines
+pub cut_deadlines : {P : Type 0} (v : PollView P) → (after_cut v).deadlines ≡ v.deadlines
 cut_deadlines v = (cut_as v.batch v refl).1
 
-pub noted_cut : {P : Type 0} (l : Ledger) (v : PollView P) → IsNoted l v → IsNoted (cut_noted l) (cut v)
+pub noted_cut : {P : Type 0} (l : Ledger) (v : PollView P) → IsNoted l v → IsNoted (cut_noted l) (after_cut v)
 noted_cut l v h =
     let c = cut_as v.batch v refl in
     record {

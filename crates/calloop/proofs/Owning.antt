@@ -19,7 +19,7 @@ use Rattle.calloop_core.specs.declared.sys.poll.Pending.{Pending}
 use Rattle.calloop_core.specs.declared.sources.source.PostAction.{PostAction}
 use Rattle.calloop_core.specs.declared.sources.source.PostAction.TheVariants.{Continue, Reregister, Disable as DisableIt, Remove}
 use Rattle.calloop_core.specs.Pollers.{Outside, nanos_of}
-use Rattle.calloop_core.specs.Polls.{PollView, PollStep, AllAllowed, cut, own_event}
+use Rattle.calloop_core.specs.Polls.{PollView, PollStep, AllAllowed, after_cut, own_event}
 use Rattle.calloop_core.specs.Holdings.{Holding, Free, Spent, Standing, Keeps, IsBelow, IsWithin}
 use Rattle.calloop_core.specs.Deeds.{Deed, Registered, Reregistered, Unregistered, Turned, Slept, Noticed, Lent, lend}
 use Rattle.calloop_core.specs.Meanings.{Meaning, KeepsCounters}
@@ -28,7 +28,7 @@ use Rattle.calloop.specs.declared.loop_logic.asks.Idling.{Idling as Waiter}
 use Rattle.calloop.specs.declared.loop_logic.asks.Request.{Request}
 use Rattle.calloop.specs.declared.loop_logic.asks.Request.TheVariants.{Insert as AskInsert, Enable as AskEnable, Update as AskUpdate, Disable as AskDisable, Remove as AskRemove, Idle as AskIdle, Cancel as AskCancel}
 use Rattle.calloop.specs.Askings.{Asks, Runs, Take, asks_after, of_turn}
-use Rattle.calloop.specs.Machine.{World, View, IsNew, Registration, Change, Put, Claim, Swapped, Polls, Polling, Watching, Counting, Holds, Appended, Gathered, Cut, Ended, holding, next_use, with_claim, done, all_done, visible, slot_of, after_change, AllFit}
+use Rattle.calloop.specs.Machine.{World, View, IsNew, Registration, Change, Put, Claim, Swapped, Polls, Polling, Watching, Counting, Holds, Appended, Gathered, Cut, Ended, slot_with, next_use, with_claim, world_after, world_after_all, visible, slot_of, after_change, AllFit}
 use Rattle.calloop.specs.declared.loop_logic.LoopCall.{LoopCall}
 use Rattle.calloop.specs.declared.loop_logic.LoopCall.TheVariants.{Insert, Enable, Update, Disable, Remove as RemoveCall, Release, Exchange, Dispatch, InsertIdle, Cancel, Answer as AnswerOf, ForgetStop, LookForStop, Poller as NewPoller}
 use Rattle.calloop.specs.declared.loop_logic.LoopAnswer.{LoopAnswer}
@@ -52,7 +52,7 @@ use Rattle.calloop.proofs.Noting.{IsNoted, IsGood, IsApart, apart_sym, noted_ali
 abbrev pub At : {D : Type 0} → List (Registration D) → ℕ → D → Type 0
 At {D} slots i d = (r : Registration D) × (slice_get slots i ≡ Some r) × (r.content ≡ Source d)
 
-at_put : {D : Type 0} (slots : List (Registration D)) (k i : ℕ) (content : Content D) (d : D) → At (with_change (holding content) slots k) i d → ((i ≡ k) × (content ≡ Source d)) ⊎ ((i ≢ k) × At slots i d)
+at_put : {D : Type 0} (slots : List (Registration D)) (k i : ℕ) (content : Content D) (d : D) → At (with_change (slot_with content) slots k) i d → ((i ≡ k) × (content ≡ Source d)) ⊎ ((i ≢ k) × At slots i d)
 at_put [] k i content d h = let e = h.1 in cc
 at_put (x ∷ xs) zero zero content d h = let e = h.1 in let f = h.2 in inl (refl, cc)
 at_put (x ∷ xs) zero (suc i) content d h = inr (λ e. cc, (h.0, h.1, h.2))
@@ -100,7 +100,7 @@ module _ {D I P X : Type 0} (M : Meaning D P (Lent X (Asks D I))) (O : Outside P
         among = h.among;
       }
 
-  owned_gathered : (w : World D I P) (aside : List D) (posted : List ℕ) (given : List (ℕ × Readiness)) (now : ℕ) → IsOwned M w aside → IsOwned M (done w (Gathered posted given now)) aside
+  owned_gathered : (w : World D I P) (aside : List D) (posted : List ℕ) (given : List (ℕ × Readiness)) (now : ℕ) → IsOwned M w aside → IsOwned M (world_after w (Gathered posted given now)) aside
   owned_gathered w aside posted given now h =
       record {
         noted = noted_gathered w.ledger w.poll posted given now h.noted;
@@ -111,7 +111,7 @@ module _ {D I P X : Type 0} (M : Meaning D P (Lent X (Asks D I))) (O : Outside P
         among = h.among;
       }
 
-  owned_cut : (w : World D I P) (aside : List D) (place : Option ℕ) → IsOwned M w aside → IsOwned M (done w (Cut place)) aside
+  owned_cut : (w : World D I P) (aside : List D) (place : Option ℕ) → IsOwned M w aside → IsOwned M (world_after w (Cut place)) aside
   owned_cut w aside place h =
       record {
         noted = noted_cut w.ledger w.poll h.noted;
@@ -122,7 +122,7 @@ module _ {D I P X : Type 0} (M : Meaning D P (Lent X (Asks D I))) (O : Outside P
         among = h.among;
       }
 
-  owned_appended : (w : World D I P) (aside : List D) (e : Pending) → IsOwned M w aside → IsOwned M (done w (Appended e)) aside
+  owned_appended : (w : World D I P) (aside : List D) (e : Pending) → IsOwned M w aside → IsOwned M (world_after w (Appended e)) aside
   owned_appended w aside e h =
       record {
         noted = noted_appended w.ledger w.poll e h.noted;
@@ -133,10 +133,10 @@ module _ {D I P X : Type 0} (M : Meaning D P (Lent X (Asks D I))) (O : Outside P
         among = h.among;
       }
 
-  owned_listed : (w : World D I P) (step : HeldStep D I) (aside : List D) → IsOwned M w aside → IsOwned M (done w (Holds step)) aside
-  owned_listed w step aside h = owned_same w (done w (Holds step)) aside refl refl refl refl h
+  owned_listed : (w : World D I P) (step : HeldStep D I) (aside : List D) → IsOwned M w aside → IsOwned M (world_after w (Holds step)) aside
+  owned_listed w step aside h = owned_same w (world_after w (Holds step)) aside refl refl refl refl h
 
-  owned_claim : (w : World D I P) (source : D) (aside : List D) → IsOwned M w aside → IsOwned M (done w (Claim source)) aside
+  owned_claim : (w : World D I P) (source : D) (aside : List D) → IsOwned M w aside → IsOwned M (world_after w (Claim source)) aside
   owned_claim w source aside h =
       record {
         noted = h.noted;
@@ -148,9 +148,9 @@ module _ {D I P X : Type 0} (M : Meaning D P (Lent X (Asks D I))) (O : Outside P
       }
 
   -- what is no source is put into a slot
-  owned_emptied : (w : World D I P) (aside : List D) (k : ℕ) (content : Content D) → ((d : D) → content ≡ Source d → ⊥) → IsOwned M w aside → IsOwned M (done w (Put k content)) aside
+  owned_emptied : (w : World D I P) (aside : List D) (k : ℕ) (content : Content D) → ((d : D) → content ≡ Source d → ⊥) → IsOwned M w aside → IsOwned M (world_after w (Put k content)) aside
   owned_emptied w aside k content none h =
-      let back : (i : ℕ) (d : D) → At (with_change (holding content) w.slots k) i d → At w.slots i d = λ i d is. elim (at_put w.slots k i content d is) [ inl e ↦ absurd (none d e.1) | inr e ↦ e.1 ] in
+      let back : (i : ℕ) (d : D) → At (with_change (slot_with content) w.slots k) i d → At w.slots i d = λ i d is. elim (at_put w.slots k i content d is) [ inl e ↦ absurd (none d e.1) | inr e ↦ e.1 ] in
       record {
         noted = h.noted;
         good = λ i d is. h.good i d (back i d is);
@@ -161,7 +161,7 @@ module _ {D I P X : Type 0} (M : Meaning D P (Lent X (Asks D I))) (O : Outside P
       }
 
   -- a source is taken out of its slot
-  owned_without : (w : World D I P) (rest : List D) (k : ℕ) (content : Content D) (d : D) → ((e : D) → content ≡ Source e → ⊥) → At w.slots k d → IsOwned M w rest → IsOwned M (done w (Put k content)) (d ∷ rest)
+  owned_without : (w : World D I P) (rest : List D) (k : ℕ) (content : Content D) (d : D) → ((e : D) → content ≡ Source e → ⊥) → At w.slots k d → IsOwned M w rest → IsOwned M (world_after w (Put k content)) (d ∷ rest)
   owned_without w rest k content d none here h =
       let others = owned_emptied w rest k content none h in
       record {
@@ -181,11 +181,11 @@ module _ {D I P X : Type 0} (M : Meaning D P (Lent X (Asks D I))) (O : Outside P
       }
 
   -- for its turn
-  owned_out : (w : World D I P) (rest : List D) (k : ℕ) (d : D) → At w.slots k d → IsOwned M w rest → IsOwned M (done w (Put k InTurn)) (d ∷ rest)
+  owned_out : (w : World D I P) (rest : List D) (k : ℕ) (d : D) → At w.slots k d → IsOwned M w rest → IsOwned M (world_after w (Put k InTurn)) (d ∷ rest)
   owned_out w rest k d here h = owned_without w rest k InTurn d (λ e is. cc) here h
 
   -- it goes back to a slot
-  owned_back : (w : World D I P) (rest : List D) (k : ℕ) (d : D) → IsOwned M w (d ∷ rest) → IsOwned M (done w (Put k (Source d))) rest
+  owned_back : (w : World D I P) (rest : List D) (k : ℕ) (d : D) → IsOwned M w (d ∷ rest) → IsOwned M (world_after w (Put k (Source d))) rest
   owned_back w rest k d h =
       record {
         noted = h.noted;
@@ -237,7 +237,7 @@ module _ {D I P X : Type 0} (M : Meaning D P (Lent X (Asks D I))) (O : Outside P
       }
 
   -- the steps of the first of them
-  owned_polls : (w : World D I P) (rest : List D) (d d' : D) (steps : List (PollStep P)) → AllAllowed O w.poll steps → (M.fits d → IsBelow w.poll.deadlines.next (M.holds d) → M.fits d' × Keeps (M.holds d) w.poll.deadlines.next steps (M.holds d')) → IsOwned M w (d ∷ rest) → IsOwned M (done w (Polls steps)) (d' ∷ rest)
+  owned_polls : (w : World D I P) (rest : List D) (d d' : D) (steps : List (PollStep P)) → AllAllowed O w.poll steps → (M.fits d → IsBelow w.poll.deadlines.next (M.holds d) → M.fits d' × Keeps (M.holds d) w.poll.deadlines.next steps (M.holds d')) → IsOwned M w (d ∷ rest) → IsOwned M (world_after w (Polls steps)) (d' ∷ rest)
   owned_polls w rest d d' steps allowed keeps h =
       let own = h.own 0 d refl in
       let kept = keeps own.1 own.0.below in
@@ -247,7 +247,7 @@ module _ {D I P X : Type 0} (M : Meaning D P (Lent X (Asks D I))) (O : Outside P
         noted = x.noted;
         good = λ i e is. ((x.others (M.holds e) (h.alone 0 d e i refl is) (h.good i e is).0).0, (h.good i e is).1);
         apart = h.apart;
-        own = front rest d' (λ _ e. IsWell M (done w (Polls steps)).ledger (done w (Polls steps)).poll.deadlines.next e) (x.good, kept.0) (λ j e is. ((beside j e is).0, (h.own (suc j) e is).1));
+        own = front rest d' (λ _ e. IsWell M (world_after w (Polls steps)).ledger (world_after w (Polls steps)).poll.deadlines.next e) (x.good, kept.0) (λ j e is. ((beside j e is).0, (h.own (suc j) e is).1));
         alone = λ j e f i is at.
             front rest d' (λ _ y. IsApart (M.holds y) (M.holds f)) (x.others (M.holds f) (h.alone 0 d f i refl at) (h.good i f at).0).1 (λ n y there. h.alone (suc n) y f i there at) j e is;
         among = λ j l e f differ is other.
@@ -258,7 +258,7 @@ module _ {D I P X : Type 0} (M : Meaning D P (Lent X (Asks D I))) (O : Outside P
       }
 
 -- what is put into a slot last stands there
-put_twice : {D : Type 0} (c e : Content D) (slots : List (Registration D)) (i : ℕ) → with_change (holding c) (with_change (holding e) slots i) i ≡ with_change (holding c) slots i
+put_twice : {D : Type 0} (c e : Content D) (slots : List (Registration D)) (i : ℕ) → with_change (slot_with c) (with_change (slot_with e) slots i) i ≡ with_change (slot_with c) slots i
 put_twice c e [] i = refl
 put_twice c e (r ∷ rs) zero = refl
 put_twice c e (r ∷ rs) (suc i) = ap (λ ss. r ∷ ss) (put_twice c e rs i)
@@ -310,130 +310,130 @@ module _ {D I P X : Type 0} (M : Meaning D P (Lent X (Asks D I))) (runs : Runs D
   registered_keeps deed token v d e answer steps (inr h) fits below = law d e v (deed (factory_of token) answer h.0) steps fits below h.1
 
   -- a source is told of a wait
-  told_owned : (w : World D I P) (token : RegistrationToken) (d e : D) (deed : Deed (Lent X (Asks D I))) → content_at (map slot_of w.slots) token ≡ Source d → M.does d w.poll deed [] e → IsOwned M w [] → IsOwned M (all_done w (told_in token e)) []
+  told_owned : (w : World D I P) (token : RegistrationToken) (d e : D) (deed : Deed (Lent X (Asks D I))) → content_at (map slot_of w.slots) token ≡ Source d → M.does d w.poll deed [] e → IsOwned M w [] → IsOwned M (world_after_all w (told_in token e)) []
   told_owned w token d e deed is does k =
-      let out : World D I P = done w (Put token.slot InTurn) in
-      owned_back M O law (done out (Polls [])) [] token.slot e
+      let out : World D I P = world_after w (Put token.slot InTurn) in
+      owned_back M O law (world_after out (Polls [])) [] token.slot e
       (owned_polls M O law out [] d e [] tt (λ fits below. law d e w.poll deed [] fits below does) (owned_out M O law w [] token.slot d (at_named w.slots token d is) k))
 
-  appends_owned : (given : List (Readiness × Token)) (w : World D I P) → IsOwned M w [] → IsOwned M (all_done w (appends given)) []
+  appends_owned : (given : List (Readiness × Token)) (w : World D I P) → IsOwned M w [] → IsOwned M (world_after_all w (appends given)) []
   appends_owned [] w k = k
-  appends_owned (e ∷ es) w k = appends_owned es (done w (Appended (own_event e))) (owned_appended M O law w [] (own_event e) k)
+  appends_owned (e ∷ es) w k = appends_owned es (world_after w (Appended (own_event e))) (owned_appended M O law w [] (own_event e) k)
 
-  slept_as : (w : World D I P) (timeout : Option ℕ) (later : List RegistrationToken) (given : List (Readiness × Token)) (answer : Result (Unit {0}) Error) (x : X) (cs : List (Change D I P)) (b : Doing D X) → SleptAs timeout later given answer x cs b → IsOwned M w [] → IsOwned M (all_done w cs) (aside_of b)
+  slept_as : (w : World D I P) (timeout : Option ℕ) (later : List RegistrationToken) (given : List (Readiness × Token)) (answer : Result (Unit {0}) Error) (x : X) (cs : List (Change D I P)) (b : Doing D X) → SleptAs timeout later given answer x cs b → IsOwned M w [] → IsOwned M (world_after_all w cs) (aside_of b)
   slept_as w timeout later given (Ok u) x cs b h k = rw (h.0, h.1) (appends_owned given w k)
   slept_as w timeout later given (Err e) x cs b h k = rw (h.0, h.1) k
 
-  slept_owned : (w : World D I P) (timeout : Option ℕ) (token : RegistrationToken) (later : List RegistrationToken) (x : X) (cs : List (Change D I P)) (b : Doing D X) (c : Content D) → content_at (map slot_of w.slots) token ≡ c → SleptBy M timeout token later c (visible w) x cs b → IsOwned M w [] → IsOwned M (all_done w cs) (aside_of b)
+  slept_owned : (w : World D I P) (timeout : Option ℕ) (token : RegistrationToken) (later : List RegistrationToken) (x : X) (cs : List (Change D I P)) (b : Doing D X) (c : Content D) → content_at (map slot_of w.slots) token ≡ c → SleptBy M timeout token later c (visible w) x cs b → IsOwned M w [] → IsOwned M (world_after_all w cs) (aside_of b)
   slept_owned w timeout token later x cs b Vacant is h k = rw (h.0, h.1) k
   slept_owned w timeout token later x cs b InTurn is h k = rw (h.0, h.1) k
   slept_owned w timeout token later x cs b (Source d) is h k =
-      rw h.6 (slept_as (all_done w (told_in token h.0)) timeout later h.1 h.2 x h.3 b h.5 (told_owned w token d h.0 (Slept h.1 h.2) is h.4 k))
+      rw h.6 (slept_as (world_after_all w (told_in token h.0)) timeout later h.1 h.2 x h.3 b h.5 (told_owned w token d h.0 (Slept h.1 h.2) is h.4 k))
 
-  noticed_owned : (w : World D I P) (from : ℕ) (token : RegistrationToken) (later : List RegistrationToken) (x : X) (cs : List (Change D I P)) (b : Doing D X) (c : Content D) → content_at (map slot_of w.slots) token ≡ c → NoticedBy M from token later c (visible w) x cs b → IsOwned M w [] → IsOwned M (all_done w cs) (aside_of b)
+  noticed_owned : (w : World D I P) (from : ℕ) (token : RegistrationToken) (later : List RegistrationToken) (x : X) (cs : List (Change D I P)) (b : Doing D X) (c : Content D) → content_at (map slot_of w.slots) token ≡ c → NoticedBy M from token later c (visible w) x cs b → IsOwned M w [] → IsOwned M (world_after_all w cs) (aside_of b)
   noticed_owned w from token later x cs b Vacant is h k = rw (h.0, h.1) k
   noticed_owned w from token later x cs b InTurn is h k = rw (h.0, h.1) k
   noticed_owned w from token later x cs b (Source d) is h k = rw (h.2, h.3) (told_owned w token d h.0 (Noticed _) is h.1 k)
 
-  cut_owned : (w : World D I P) (e : Pending) (x : X) (cs : List (Change D I P)) (b : Doing D X) (c : Content D) → content_at (map slot_of w.slots) (registration_of e.token) ≡ c → CutTo M e c (visible w) x cs b → AllFit O (visible w) cs → IsOwned M w [] → IsOwned M (all_done w cs) (aside_of b)
-  cut_owned w e x cs b Vacant is h fit k = rw (h.0, h.1) (owned_same M O law (done w (Cut None)) (done (done w (Cut None)) Ended) [] refl refl refl refl (owned_cut M O law w [] None k))
-  cut_owned w e x cs b InTurn is h fit k = rw (h.0, h.1) (owned_same M O law (done w (Cut None)) (done (done w (Cut None)) Ended) [] refl refl refl refl (owned_cut M O law w [] None k))
+  cut_owned : (w : World D I P) (e : Pending) (x : X) (cs : List (Change D I P)) (b : Doing D X) (c : Content D) → content_at (map slot_of w.slots) (registration_of e.token) ≡ c → CutTo M e c (visible w) x cs b → AllFit O (visible w) cs → IsOwned M w [] → IsOwned M (world_after_all w cs) (aside_of b)
+  cut_owned w e x cs b Vacant is h fit k = rw (h.0, h.1) (owned_same M O law (world_after w (Cut None)) (world_after (world_after w (Cut None)) Ended) [] refl refl refl refl (owned_cut M O law w [] None k))
+  cut_owned w e x cs b InTurn is h fit k = rw (h.0, h.1) (owned_same M O law (world_after w (Cut None)) (world_after (world_after w (Cut None)) Ended) [] refl refl refl refl (owned_cut M O law w [] None k))
   cut_owned w e x cs b (Source d) is h fit k =
-      let begun : World D I P = done w (Cut (Some e.token.slot)) in
-      let out : World D I P = done begun (Put e.token.slot InTurn) in
-      let allowed : AllAllowed O (cut w.poll) h.2 = (rw h.6 at fit).1.1.0 in
-      let polled : World D I P = done out (Polls h.2) in
+      let begun : World D I P = world_after w (Cut (Some e.token.slot)) in
+      let out : World D I P = world_after begun (Put e.token.slot InTurn) in
+      let allowed : AllAllowed O (after_cut w.poll) h.2 = (rw h.6 at fit).1.1.0 in
+      let polled : World D I P = world_after out (Polls h.2) in
       let own : IsOwned M polled (h.0 ∷ []) =
-      owned_polls M O law out [] d h.0 h.2 allowed (λ fits below. law d h.0 (cut w.poll) (Turned e.readiness e.token (lend x (of_turn (registration_of e.token) w.held.asks) h.1 h.3 (of_turn (registration_of e.token) (asks_after w.held.asks h.4)))) h.2 fits below h.5)
+      owned_polls M O law out [] d h.0 h.2 allowed (λ fits below. law d h.0 (after_cut w.poll) (Turned e.readiness e.token (lend x (of_turn (registration_of e.token) w.held.asks) h.1 h.3 (of_turn (registration_of e.token) (asks_after w.held.asks h.4)))) h.2 fits below h.5)
       (owned_out M O law begun [] e.token.slot d (at_named w.slots (registration_of e.token) d is) (owned_cut M O law w [] (Some e.token.slot) k)) in
-      rw (h.6, h.7) (owned_listed M O law (done polled Ended) (Asking h.4) (h.0 ∷ []) (owned_same M O law polled (done polled Ended) (h.0 ∷ []) refl refl refl refl own))
+      rw (h.6, h.7) (owned_listed M O law (world_after polled Ended) (Asking h.4) (h.0 ∷ []) (owned_same M O law polled (world_after polled Ended) (h.0 ∷ []) refl refl refl refl own))
 
-  from_owned : (w : World D I P) (es : List Pending) (x : X) (cs : List (Change D I P)) (b : Doing D X) → CutFrom M es (visible w) x cs b → AllFit O (visible w) cs → IsOwned M w [] → IsOwned M (all_done w cs) (aside_of b)
+  from_owned : (w : World D I P) (es : List Pending) (x : X) (cs : List (Change D I P)) (b : Doing D X) → CutFrom M es (visible w) x cs b → AllFit O (visible w) cs → IsOwned M w [] → IsOwned M (world_after_all w cs) (aside_of b)
   from_owned w [] x cs b h fit k = rw (h.0, h.1) k
   from_owned w (e ∷ es) x cs b h fit k = cut_owned w e x cs b (content_at (map slot_of w.slots) (registration_of e.token)) refl h fit k
 
-  emptied_owned : (w : World D I P) (token : RegistrationToken) (c : Content D) (aside : List D) → IsOwned M w aside → IsOwned M (all_done w (vacate token c)) aside
+  emptied_owned : (w : World D I P) (token : RegistrationToken) (c : Content D) (aside : List D) → IsOwned M w aside → IsOwned M (world_after_all w (vacate token c)) aside
   emptied_owned w token Vacant aside k = k
   emptied_owned w token (Source d) aside k = k
   emptied_owned w token InTurn aside k = owned_emptied M O law w aside token.slot Vacant (λ e is. cc) k
 
-  acted_owned : (w : World D I P) (token : RegistrationToken) (d : D) (answer : Result PostAction Error) (cs : List (Change D I P)) (e : D) (told : Result (Unit {0}) Error) → ActedBy M token d answer (visible w) cs e told → AllFit O (visible w) cs → IsOwned M w (d ∷ []) → IsOwned M (all_done w cs) (e ∷ [])
+  acted_owned : (w : World D I P) (token : RegistrationToken) (d : D) (answer : Result PostAction Error) (cs : List (Change D I P)) (e : D) (told : Result (Unit {0}) Error) → ActedBy M token d answer (visible w) cs e told → AllFit O (visible w) cs → IsOwned M w (d ∷ []) → IsOwned M (world_after_all w cs) (e ∷ [])
   acted_owned w token d (Ok Continue) cs e told h fit k = rw (h.0, h.1) (owned_listed M O law w (Pend Continue) (d ∷ []) k)
   acted_owned w token d (Ok Reregister) cs e told h fit k =
       let allowed : AllAllowed O w.poll h.0 = (rw h.2 at fit).1.0 in
       rw h.2
-      (owned_listed M O law (done (done w (Holds (Pend Continue))) (Polls h.0)) (listing_of M token d told) (e ∷ [])
-      (owned_polls M O law (done w (Holds (Pend Continue))) [] d e h.0 allowed (registered_keeps Reregistered token w.poll d e told h.0 h.1)
+      (owned_listed M O law (world_after (world_after w (Holds (Pend Continue))) (Polls h.0)) (listing_of M token d told) (e ∷ [])
+      (owned_polls M O law (world_after w (Holds (Pend Continue))) [] d e h.0 allowed (registered_keeps Reregistered token w.poll d e told h.0 h.1)
       (owned_listed M O law w (Pend Continue) (d ∷ []) k)))
   acted_owned w token d (Ok DisableIt) cs e told h fit k =
       let allowed : AllAllowed O w.poll h.0 = (rw h.2 at fit).1.0 in
       rw h.2
-      (owned_listed M O law (done (done w (Holds (Pend Continue))) (Polls h.0)) (Unlisted token) (e ∷ [])
-      (owned_polls M O law (done w (Holds (Pend Continue))) [] d e h.0 allowed (λ fits below. law d e w.poll (Unregistered told) h.0 fits below h.1)
+      (owned_listed M O law (world_after (world_after w (Holds (Pend Continue))) (Polls h.0)) (Unlisted token) (e ∷ [])
+      (owned_polls M O law (world_after w (Holds (Pend Continue))) [] d e h.0 allowed (λ fits below. law d e w.poll (Unregistered told) h.0 fits below h.1)
       (owned_listed M O law w (Pend Continue) (d ∷ []) k)))
   acted_owned w token d (Ok Remove) cs e told h fit k =
-      rw (h.0, h.1) (emptied_owned (done w (Holds (Pend Continue))) token (content_at (map slot_of w.slots) token) (d ∷ []) (owned_listed M O law w (Pend Continue) (d ∷ []) k))
+      rw (h.0, h.1) (emptied_owned (world_after w (Holds (Pend Continue))) token (content_at (map slot_of w.slots) token) (d ∷ []) (owned_listed M O law w (Pend Continue) (d ∷ []) k))
   acted_owned w token d (Err error) cs e told h fit k = rw (h.0, h.1) (owned_listed M O law w (Pend Continue) (d ∷ []) k)
 
-  gone_owned : (w : World D I P) (token : RegistrationToken) (d : D) (cs : List (Change D I P)) → (h : (e : D) × (answer : Outcome) × (kept : Bool) × (steps : List (PollStep P)) × M.does d w.poll (Unregistered answer) steps e × (cs ≡ Polls steps ∷ Holds (Unlisted token) ∷ Holds (Warned kept answer) ∷ Holds (Paid (RemovedAnswer (Some e))) ∷ [])) → AllFit O (visible w) cs → IsOwned M w (d ∷ []) → IsOwned M (all_done w cs) []
+  gone_owned : (w : World D I P) (token : RegistrationToken) (d : D) (cs : List (Change D I P)) → (h : (e : D) × (answer : Outcome) × (kept : Bool) × (steps : List (PollStep P)) × M.does d w.poll (Unregistered answer) steps e × (cs ≡ Polls steps ∷ Holds (Unlisted token) ∷ Holds (Warned kept answer) ∷ Holds (Paid (RemovedAnswer (Some e))) ∷ [])) → AllFit O (visible w) cs → IsOwned M w (d ∷ []) → IsOwned M (world_after_all w cs) []
   gone_owned w token d cs h fit k =
       let allowed : AllAllowed O w.poll h.3 = (rw h.5 at fit).0 in
-      let out : World D I P = done (done w (Polls h.3)) (Holds (Unlisted token)) in
+      let out : World D I P = world_after (world_after w (Polls h.3)) (Holds (Unlisted token)) in
       rw h.5
-      (owned_listed M O law (done out (Holds (Warned h.2 h.1))) (Paid (RemovedAnswer (Some h.0))) []
+      (owned_listed M O law (world_after out (Holds (Warned h.2 h.1))) (Paid (RemovedAnswer (Some h.0))) []
       (owned_listed M O law out (Warned h.2 h.1) []
-      (owned_listed M O law (done w (Polls h.3)) (Unlisted token) []
-      (owned_dropped M O law (done w (Polls h.3)) [] h.0 (owned_polls M O law w [] d h.0 h.3 allowed (λ fits below. law d h.0 w.poll (Unregistered h.1) h.3 fits below h.4) k)))))
+      (owned_listed M O law (world_after w (Polls h.3)) (Unlisted token) []
+      (owned_dropped M O law (world_after w (Polls h.3)) [] h.0 (owned_polls M O law w [] d h.0 h.3 allowed (λ fits below. law d h.0 w.poll (Unregistered h.1) h.3 fits below h.4) k)))))
 
-  returned_owned : (w : World D I P) (token : RegistrationToken) (d : D) (c : Content D) (cs : List (Change D I P)) → ReturnedTo M token d c (visible w) cs → AllFit O (visible w) cs → IsOwned M w (d ∷ []) → IsOwned M (all_done w cs) []
+  returned_owned : (w : World D I P) (token : RegistrationToken) (d : D) (c : Content D) (cs : List (Change D I P)) → ReturnedTo M token d c (visible w) cs → AllFit O (visible w) cs → IsOwned M w (d ∷ []) → IsOwned M (world_after_all w cs) []
   returned_owned w token d InTurn cs h fit k = rw h (owned_back M O law w [] token.slot d k)
   returned_owned w token d Vacant cs h fit k = gone_owned w token d cs h fit k
   returned_owned w token d (Source f) cs h fit k = gone_owned w token d cs h fit k
 
-  inserted_owned : (w : World D I P) (rest : List D) (d : D) (answer : Result RegistrationToken (InsertError D)) (cs : List (Change D I P)) → AllFresh M cs → InsertedBy M d answer (visible w) cs → AllFit O (visible w) cs → IsOwned M w rest → IsOwned M (all_done w cs) rest
+  inserted_owned : (w : World D I P) (rest : List D) (d : D) (answer : Result RegistrationToken (InsertError D)) (cs : List (Change D I P)) → AllFresh M cs → InsertedBy M d answer (visible w) cs → AllFit O (visible w) cs → IsOwned M w rest → IsOwned M (world_after_all w cs) rest
   inserted_owned w rest d (Ok token) cs fresh h fit k =
-      let claimed : World D I P = done w (Claim d) in
+      let claimed : World D I P = world_after w (Claim d) in
       let allowed : AllAllowed O w.poll h.4 = (rw h.6 at fit).1.0 in
       let free : HoldsNone M d × M.fits d = (rw h.6 at fresh).0 in
       rw h.6
-      (owned_back M O law (done (done claimed (Polls h.4)) (Holds (Listed (M.needs d) token))) rest token.slot h.2
-      (owned_listed M O law (done claimed (Polls h.4)) (Listed (M.needs d) token) (h.2 ∷ rest)
+      (owned_back M O law (world_after (world_after claimed (Polls h.4)) (Holds (Listed (M.needs d) token))) rest token.slot h.2
+      (owned_listed M O law (world_after claimed (Polls h.4)) (Listed (M.needs d) token) (h.2 ∷ rest)
       (owned_polls M O law claimed rest d h.2 h.4 allowed (λ fits below. law d h.2 w.poll (Registered (factory_of token) (Ok tt) h.3) h.4 fits below h.5) (owned_fresh M O law claimed rest d free (owned_claim M O law w d rest k)))))
   inserted_owned w rest d (Err refused) cs fresh (inl h) fit k = rw h.2 k
   inserted_owned w rest d (Err refused) cs fresh (inr h) fit k =
-      let claimed : World D I P = done w (Claim d) in
+      let claimed : World D I P = world_after w (Claim d) in
       let allowed : AllAllowed O w.poll h.2 = (rw h.4 at fit).1.0 in
       let free : HoldsNone M d × M.fits d = (rw h.4 at fresh).0 in
-      let polled : World D I P = done claimed (Polls h.2) in
+      let polled : World D I P = world_after claimed (Polls h.2) in
       let place = first_vacant (map slot_of w.slots) in
       rw h.4
-      (owned_dropped M O law (done polled (Put place Vacant)) rest refused.inserted
+      (owned_dropped M O law (world_after polled (Put place Vacant)) rest refused.inserted
       (owned_emptied M O law polled (refused.inserted ∷ rest) place Vacant (λ e is. cc)
       (owned_polls M O law claimed rest d refused.inserted h.2 allowed (λ fits below. law d refused.inserted w.poll (Registered (factory_of (next_registration (map slot_of w.slots))) (Err refused.error) h.1) h.2 fits below h.3) (owned_fresh M O law claimed rest d free (owned_claim M O law w d rest k)))))
 
   asked_owned : (w : World D I P) (rest : List D) (R : D → Result (Unit {0}) Error → List (PollStep P) → D → Type 0) (entry : D → Outcome → HeldStep D I) (token : RegistrationToken) (answer : Result (Unit {0}) Error) (cs : List (Change D I P)) (c : Content D)
       → ((d e : D) (l : List (PollStep P)) → R d answer l e → M.fits d → IsBelow w.poll.deadlines.next (M.holds d) → M.fits e × Keeps (M.holds d) w.poll.deadlines.next l (M.holds e))
-      → Shows (map slot_of w.slots) token c → AskedIn R entry token c answer cs → AllFit O (visible w) cs → IsOwned M w rest → IsOwned M (all_done w cs) rest
+      → Shows (map slot_of w.slots) token c → AskedIn R entry token c answer cs → AllFit O (visible w) cs → IsOwned M w rest → IsOwned M (world_after_all w cs) rest
   asked_owned w rest R entry token answer cs Vacant keeps is h fit k = rw h.1 k
   asked_owned w rest R entry token answer cs InTurn keeps is h fit k = rw h.1 k
   asked_owned w rest R entry token answer cs (Source d) keeps is h fit k =
-      let out : World D I P = done w (Put token.slot InTurn) in
+      let out : World D I P = world_after w (Put token.slot InTurn) in
       let allowed : AllAllowed O w.poll h.1 = (rw h.3 at fit).1.0 in
       rw h.3
-      (owned_back M O law (done (done out (Polls h.1)) (Holds (entry d answer))) rest token.slot h.0
-      (owned_listed M O law (done out (Polls h.1)) (entry d answer) (h.0 ∷ rest)
+      (owned_back M O law (world_after (world_after out (Polls h.1)) (Holds (entry d answer))) rest token.slot h.0
+      (owned_listed M O law (world_after out (Polls h.1)) (entry d answer) (h.0 ∷ rest)
       (owned_polls M O law out rest d h.0 h.1 allowed (keeps d h.0 h.1 h.2) (owned_out M O law w rest token.slot d (at_named w.slots token d (is d refl)) k))))
 
-  removed_owned : (w : World D I P) (rest : List D) (token : RegistrationToken) (answer : Option D) (cs : List (Change D I P)) (c : Content D) → Shows (map slot_of w.slots) token c → RemovedIn M token c answer (visible w) cs → AllFit O (visible w) cs → IsOwned M w rest → IsOwned M (all_done w cs) rest
+  removed_owned : (w : World D I P) (rest : List D) (token : RegistrationToken) (answer : Option D) (cs : List (Change D I P)) (c : Content D) → Shows (map slot_of w.slots) token c → RemovedIn M token c answer (visible w) cs → AllFit O (visible w) cs → IsOwned M w rest → IsOwned M (world_after_all w cs) rest
   removed_owned w rest token answer cs Vacant is h fit k = rw h.1 k
   removed_owned w rest token answer cs InTurn is h fit k = rw h.1 k
   removed_owned w rest token answer cs (Source d) is h fit k =
-      let out : World D I P = done w (Put token.slot Vacant) in
+      let out : World D I P = world_after w (Put token.slot Vacant) in
       let allowed : AllAllowed O w.poll h.3 = (rw h.6 at fit).1.0 in
       rw h.6
-      (owned_listed M O law (done (done out (Polls h.3)) (Holds (Unlisted token))) (Warned h.2 h.1) rest
-      (owned_listed M O law (done out (Polls h.3)) (Unlisted token) rest
-      (owned_dropped M O law (done out (Polls h.3)) rest h.0
+      (owned_listed M O law (world_after (world_after out (Polls h.3)) (Holds (Unlisted token))) (Warned h.2 h.1) rest
+      (owned_listed M O law (world_after out (Polls h.3)) (Unlisted token) rest
+      (owned_dropped M O law (world_after out (Polls h.3)) rest h.0
       (owned_polls M O law out rest d h.0 h.3 allowed (λ fits below. law d h.0 w.poll (Unregistered h.1) h.3 fits below h.4) (owned_without M O law w rest token.slot Vacant d (λ e is. cc) (at_named w.slots token d (is d refl)) k)))))
 
   fresh_first : (cs ds : List (Change D I P)) → AllFresh M (cs ++ ds) → AllFresh M cs
@@ -446,19 +446,19 @@ module _ {D I P X : Type 0} (M : Meaning D P (Lent X (Asks D I))) (runs : Runs D
 
   -- the changes of a request, and its answer behind them
   told_owned_by : (w : World D I P) (rest : List D) (ds cs : List (Change D I P)) (answer : Answer D) → cs ≡ ds ++ Holds (Told answer) ∷ [] → AllFresh M cs → AllFit O (visible w) cs
-      → (AllFresh M ds → AllFit O (visible w) ds → IsOwned M (all_done w ds) rest) → IsOwned M (all_done w cs) rest
+      → (AllFresh M ds → AllFit O (visible w) ds → IsOwned M (world_after_all w ds) rest) → IsOwned M (world_after_all w cs) rest
   told_owned_by w rest ds cs answer is fresh fit f =
       let step : Change D I P = Holds (Told answer) in
       let some : AllFresh M ds = fresh_first ds (step ∷ []) (subst (λ (l : List (Change D I P)). AllFresh M l) is fresh) in
       let fits : AllFit O (visible w) ds = fit_first O (visible w) ds (step ∷ []) (subst (λ (l : List (Change D I P)). AllFit O (visible w) l) is fit) in
-      rw (is, done-append w ds (step ∷ [])) (owned_listed M O law (all_done w ds) (Told answer) rest (f some fits))
+      rw (is, done-append w ds (step ∷ [])) (owned_listed M O law (world_after_all w ds) (Told answer) rest (f some fits))
 
   own_or : {A B G : Type 0} (c : Content D) → (c ≡ InTurn → A → G) → (B → G) → OwnOr c A B → G
   own_or InTurn f g h = f refl h
   own_or Vacant f g h = g h
   own_or (Source d) f g h = g h
 
-  served_as_owned : (w : World D I P) (rest : List D) (request : Request D I) (answer : Outcome) (cs : List (Change D I P)) → ServedAs M request answer (visible w) cs → AllFit O (visible w) cs → IsOwned M w rest → IsOwned M (all_done w cs) rest
+  served_as_owned : (w : World D I P) (rest : List D) (request : Request D I) (answer : Outcome) (cs : List (Change D I P)) → ServedAs M request answer (visible w) cs → AllFit O (visible w) cs → IsOwned M w rest → IsOwned M (world_after_all w cs) rest
   served_as_owned w rest (AskEnable token) answer cs h fit k =
       own_or (content_at (map slot_of w.slots) token) (λ _ o. rw o.1 k)
       (λ o. asked_owned w rest _ _ token answer cs (only (is_callers M) (content_at (map slot_of w.slots) token)) (λ d e l u. registered_keeps Registered token w.poll d e answer l u) (only_is (is_callers M) (map slot_of w.slots) token) o fit k) h
@@ -473,52 +473,52 @@ module _ {D I P X : Type 0} (M : Meaning D P (Lent X (Asks D I))) (runs : Runs D
   served_as_owned w rest (AskIdle idle) answer cs h fit k = absurd h
   served_as_owned w rest (AskCancel ticket) answer cs h fit k = absurd h
 
-  served_owned : (w : World D I P) (rest : List D) (request : Request D I) (cs : List (Change D I P)) → AllFresh M cs → Served M request (visible w) cs → AllFit O (visible w) cs → IsOwned M w rest → IsOwned M (all_done w cs) rest
+  served_owned : (w : World D I P) (rest : List D) (request : Request D I) (cs : List (Change D I P)) → AllFresh M cs → Served M request (visible w) cs → AllFit O (visible w) cs → IsOwned M w rest → IsOwned M (world_after_all w cs) rest
   served_owned w rest (AskInsert d) cs fresh h fit k = told_owned_by w rest h.1 cs _ h.3 fresh fit (λ some fits. inserted_owned w rest d h.0 h.1 some h.2 fits k)
   served_owned w rest (AskEnable token) cs fresh h fit k = told_owned_by w rest h.1 cs _ h.3 fresh fit (λ some fits. served_as_owned w rest (AskEnable token) h.0 h.1 h.2 fits k)
   served_owned w rest (AskUpdate token) cs fresh h fit k = told_owned_by w rest h.1 cs _ h.3 fresh fit (λ some fits. served_as_owned w rest (AskUpdate token) h.0 h.1 h.2 fits k)
   served_owned w rest (AskDisable token) cs fresh h fit k = told_owned_by w rest h.1 cs _ h.3 fresh fit (λ some fits. served_as_owned w rest (AskDisable token) h.0 h.1 h.2 fits k)
   served_owned w rest (AskRemove token) cs fresh h fit k =
-      let out : World D I P = done w (Put token.slot Vacant) in
+      let out : World D I P = world_after w (Put token.slot Vacant) in
       own_or (content_at (map slot_of w.slots) token)
-      (λ _ o. rw o (owned_listed M O law (done out (Holds (Unlisted token))) Owe rest (owned_listed M O law out (Unlisted token) rest (owned_emptied M O law w rest token.slot Vacant (λ e is. cc) k))))
+      (λ _ o. rw o (owned_listed M O law (world_after out (Holds (Unlisted token))) Owe rest (owned_listed M O law out (Unlisted token) rest (owned_emptied M O law w rest token.slot Vacant (λ e is. cc) k))))
       (λ o. told_owned_by w rest o.1 cs _ o.3 fresh fit (λ some fits. removed_owned w rest token o.0 o.1 (only (is_callers M) (content_at (map slot_of w.slots) token)) (only_is (is_callers M) (map slot_of w.slots) token) o.2 fits k)) h
   served_owned w rest (AskIdle idle) cs fresh h fit k = rw h (owned_listed M O law w (IdleIn idle) rest k)
-  served_owned w rest (AskCancel ticket) cs fresh h fit k = rw h (owned_listed M O law (done w (Holds (IdleOut ticket))) (Told Done) rest (owned_listed M O law w (IdleOut ticket) rest k))
+  served_owned w rest (AskCancel ticket) cs fresh h fit k = rw h (owned_listed M O law (world_after w (Holds (IdleOut ticket))) (Told Done) rest (owned_listed M O law w (IdleOut ticket) rest k))
 
   served_from_owned : (w : World D I P) (asked : List (Asked D I)) (on next b : Doing D X) (cs : List (Change D I P)) → AllFresh M cs → ServedFrom M asked on next b (visible w) cs → AllFit O (visible w) cs → aside_of next ≡ aside_of on
-      → IsOwned M w (aside_of on) → IsOwned M (all_done w cs) (aside_of b)
+      → IsOwned M w (aside_of on) → IsOwned M (world_after_all w cs) (aside_of b)
   served_from_owned w [] on next b cs fresh h fit same k = rw (h.0, h.1, same) k
   served_from_owned w (a ∷ as') on next b cs fresh h fit same k =
       let some : AllFresh M h.0 = (rw h.2 at fresh).1 in
       let fits : AllFit O (after_change (visible w) (Holds Begun)) h.0 = (rw h.2 at fit).1 in
-      rw (h.2, h.3) (served_owned (done w (Holds Begun)) (aside_of on) a.request h.0 some h.1 fits (owned_listed M O law w Begun (aside_of on) k))
+      rw (h.2, h.3) (served_owned (world_after w (Holds Begun)) (aside_of on) a.request h.0 some h.1 fits (owned_listed M O law w Begun (aside_of on) k))
 
-  run_from_owned : (w : World D I P) (idles : List (Waiter I)) (x : X) (cs : List (Change D I P)) (b : Doing D X) → RunFrom runs idles (visible w) x cs b → IsOwned M w [] → IsOwned M (all_done w cs) (aside_of b)
+  run_from_owned : (w : World D I P) (idles : List (Waiter I)) (x : X) (cs : List (Change D I P)) (b : Doing D X) → RunFrom runs idles (visible w) x cs b → IsOwned M w [] → IsOwned M (world_after_all w cs) (aside_of b)
   run_from_owned w [] x cs b h k = rw (h.0, h.1) k
-  run_from_owned w (i ∷ is) x cs b h k = rw (h.3, h.4) (owned_listed M O law (done w (Holds IdleBegun)) (Asking h.1) [] (owned_listed M O law w IdleBegun [] k))
+  run_from_owned w (i ∷ is) x cs b h k = rw (h.3, h.4) (owned_listed M O law (world_after w (Holds IdleBegun)) (Asking h.1) [] (owned_listed M O law w IdleBegun [] k))
 
-  released_owned : (w : World D I P) (token : RegistrationToken) (answer : Outcome) (cs : List (Change D I P)) → ReleasedBy M token answer (visible w) cs → AllFit O (visible w) cs → IsOwned M w [] → IsOwned M (all_done w cs) []
+  released_owned : (w : World D I P) (token : RegistrationToken) (answer : Outcome) (cs : List (Change D I P)) → ReleasedBy M token answer (visible w) cs → AllFit O (visible w) cs → IsOwned M w [] → IsOwned M (world_after_all w cs) []
   released_owned w token (Ok u) cs h fit k = (let r = left_removed M token (only (is_adapter M) (content_at (map slot_of w.slots) token)) (visible w) cs h in removed_owned w [] token r.0 cs (only (is_adapter M) (content_at (map slot_of w.slots) token)) (only_is (is_adapter M) (map slot_of w.slots) token) r.1 fit k)
   released_owned w token (Err e) cs h fit k = asked_owned w [] _ _ token (Err e) cs (only (is_adapter M) (content_at (map slot_of w.slots) token)) (λ d f l u fits below. law d f w.poll (Unregistered (Err e)) l fits below u) (only_is (is_adapter M) (map slot_of w.slots) token) h fit k
 
-  settled_owned : (w : World D I P) (token : RegistrationToken) (c : Content D) (cs : List (Change D I P)) → Shows (map slot_of w.slots) token c → SettledIn M token c (visible w) cs → AllFit O (visible w) cs → IsOwned M w [] → IsOwned M (all_done w cs) []
+  settled_owned : (w : World D I P) (token : RegistrationToken) (c : Content D) (cs : List (Change D I P)) → Shows (map slot_of w.slots) token c → SettledIn M token c (visible w) cs → AllFit O (visible w) cs → IsOwned M w [] → IsOwned M (world_after_all w cs) []
   settled_owned w token Vacant cs is h fit k = rw h k
   settled_owned w token InTurn cs is h fit k = rw h k
   settled_owned w token (Source d) cs is (inl h) fit k =
       asked_owned w [] (TakesUp M token w.poll) (as_listed token) token (Ok tt) cs (Source d) (λ d e l u fits below. law d e w.poll (Reregistered (factory_of token) (Ok tt) u.0) l fits below u.1) is h fit k
   settled_owned w token (Source d) cs is (inr h) fit k = removed_owned w [] token h.0 cs (Source d) is h.1 fit k
 
-  step_owned : (w : World D I P) (a b : Doing D X) (cs : List (Change D I P)) → AllFresh M cs → Step M runs O (visible w) a cs b → AllFit O (visible w) cs → IsOwned M w (aside_of a) → IsOwned M (all_done w cs) (aside_of b)
+  step_owned : (w : World D I P) (a b : Doing D X) (cs : List (Change D I P)) → AllFresh M cs → Step M runs O (visible w) a cs b → AllFit O (visible w) cs → IsOwned M w (aside_of a) → IsOwned M (world_after_all w cs) (aside_of b)
   step_owned w (Settling timeout [] x) b cs fresh h fit k = rw (h.0, h.1) k
   step_owned w (Settling timeout (t ∷ later) x) b cs fresh h fit k = rw h.1 (settled_owned w t (only (is_adapter M) (content_at (map slot_of w.slots) t)) cs (only_is (is_adapter M) (map slot_of w.slots) t) h.0 fit k)
   step_owned w (Beginning timeout x) b cs fresh h fit k = (
-      let cleared = done (done w (Counting h.0)) (Holds Cleared) in
-      rw (h.4, h.5) (owned_same M O law cleared (done cleared (Watching (with_note (Marked h.2) (with_note (Counted h.0) w.poll.watch)))) [] refl refl refl refl
-      (owned_listed M O law (done w (Counting h.0)) Cleared [] (owned_same M O law w (done w (Counting h.0)) [] refl refl refl refl k))))
+      let cleared = world_after (world_after w (Counting h.0)) (Holds Cleared) in
+      rw (h.4, h.5) (owned_same M O law cleared (world_after cleared (Watching (with_note (Marked h.2) (with_note (Counted h.0) w.poll.watch)))) [] refl refl refl refl
+      (owned_listed M O law (world_after w (Counting h.0)) Cleared [] (owned_same M O law w (world_after w (Counting h.0)) [] refl refl refl refl k))))
   step_owned w (Sleeping timeout [] x) b cs fresh h fit k = rw (h.0, h.1) k
   step_owned w (Sleeping timeout (t ∷ later) x) b cs fresh h fit k = slept_owned w timeout t later x cs b (content_at (map slot_of w.slots) t) refl h k
-  step_owned w (Waiting timeout x) b cs fresh h fit k = rw (h.5, h.6, aside_wait h.0 h.1 x) (owned_same M O law w (done (done w (Polling h.2)) (Watching h.3)) [] refl refl refl refl k)
+  step_owned w (Waiting timeout x) b cs fresh h fit k = rw (h.5, h.6, aside_wait h.0 h.1 x) (owned_same M O law w (world_after (world_after w (Polling h.2)) (Watching h.3)) [] refl refl refl refl k)
   step_owned w (Gathering now given x) b cs fresh h fit k = rw (h.1, h.2) (owned_gathered M O law w [] h.0 given now k)
   step_owned w (Noticing from [] x) b cs fresh h fit k = rw (h.0, h.1) k
   step_owned w (Noticing from (t ∷ later) x) b cs fresh h fit k = noticed_owned w from t later x cs b (content_at (map slot_of w.slots) t) refl h k
@@ -534,24 +534,24 @@ module _ {D I P X : Type 0} (M : Meaning D P (Lent X (Asks D I))) (runs : Runs D
   steps_owned : (w : World D I P) (a b : Doing D X) (css : List (List (Change D I P))) → AllFresh M (flatten css) → Steps M runs O (visible w) a css b → IsOwned M w (aside_of a) → IsOwned M (all_traced w css) (aside_of b)
   steps_owned w a b [] fresh h k = rw h k
   steps_owned w a b (cs ∷ css) fresh h k =
-      steps_owned (all_done w cs) h.0 b css (fresh_rest cs (flatten css) fresh) (subst (λ (v : View D I P). Steps M runs O v h.0 css b) (sym (seen-all_done w cs)) h.3) (step_owned w a h.0 cs (fresh_first cs (flatten css) fresh) h.1 h.2 k)
+      steps_owned (world_after_all w cs) h.0 b css (fresh_rest cs (flatten css) fresh) (subst (λ (v : View D I P). Steps M runs O v h.0 css b) (sym (seen-all_done w cs)) h.3) (step_owned w a h.0 cs (fresh_first cs (flatten css) fresh) h.1 h.2 k)
 
   -- another source takes the place of one: that goes out of its slot, and this comes in
-  owned_swapped : (w : World D I P) (k : ℕ) (old new : D) → At w.slots k old → HoldsNoMore M old new × M.fits new → IsOwned M w [] → IsOwned M (done w (Swapped k old new)) []
+  owned_swapped : (w : World D I P) (k : ℕ) (old new : D) → At w.slots k old → HoldsNoMore M old new × M.fits new → IsOwned M w [] → IsOwned M (world_after w (Swapped k old new)) []
   owned_swapped w k old new here less h =
-      let out : World D I P = done w (Put k InTurn) in
-      let same : with_change (holding (Source new)) (with_change (holding InTurn) w.slots k) k ≡ with_change (holding (Source new)) w.slots k = put_twice (Source new) InTurn w.slots k in
+      let out : World D I P = world_after w (Put k InTurn) in
+      let same : with_change (slot_with (Source new)) (with_change (slot_with InTurn) w.slots k) k ≡ with_change (slot_with (Source new)) w.slots k = put_twice (Source new) InTurn w.slots k in
       subst (λ (slots : List (Registration D)). IsOwned M (record w { slots = slots }) []) same
       (owned_back M O law out [] k new (owned_polls M O law out [] old new [] tt (λ fits below. (less.1, less.0)) (owned_out M O law w [] k old here h)))
 
-  exchanged_owned : (w : World D I P) (token : RegistrationToken) (new : D) (answer : Result D D) (cs : List (Change D I P)) (c : Content D) → Shows (map slot_of w.slots) token c → AllFresh M cs → ExchangedIn token new c answer cs → IsOwned M w [] → IsOwned M (all_done w cs) []
+  exchanged_owned : (w : World D I P) (token : RegistrationToken) (new : D) (answer : Result D D) (cs : List (Change D I P)) (c : Content D) → Shows (map slot_of w.slots) token c → AllFresh M cs → ExchangedIn token new c answer cs → IsOwned M w [] → IsOwned M (world_after_all w cs) []
   exchanged_owned w token new answer cs Vacant is fresh h k = rw h.1 k
   exchanged_owned w token new answer cs InTurn is fresh h k = rw h.1 k
   exchanged_owned w token new answer cs (Source d) is fresh h k =
       let less : HoldsNoMore M d new × M.fits new = (rw h.1 at fresh).0 in
       rw h.1 (owned_swapped w token.slot d new (at_named w.slots token d (is d refl)) less k)
 
-  once_owned : (w : World D I P) (R : View D I P → List (Change D I P) → Type 0) (css : List (List (Change D I P))) → AllFresh M (flatten css) → Once O R (visible w) css → ((cs : List (Change D I P)) → AllFresh M cs → R (visible w) cs → AllFit O (visible w) cs → IsOwned M (all_done w cs) []) → IsOwned M (all_traced w css) []
+  once_owned : (w : World D I P) (R : View D I P → List (Change D I P) → Type 0) (css : List (List (Change D I P))) → AllFresh M (flatten css) → Once O R (visible w) css → ((cs : List (Change D I P)) → AllFresh M cs → R (visible w) cs → AllFit O (visible w) cs → IsOwned M (world_after_all w cs) []) → IsOwned M (all_traced w css) []
   once_owned w R [] fresh h f = absurd h
   once_owned w R (cs ∷ []) fresh h f = f cs (fresh_first cs [] fresh) h.0 h.1
   once_owned w R (cs ∷ ds ∷ css) fresh h f = absurd h
@@ -579,7 +579,7 @@ module _ {D I P X : Type 0} (M : Meaning D P (Lent X (Asks D I))) (runs : Runs D
   case_owned w (AnswerOf ticket) (Answered answer) css free h k = rw h.1 (owned_listed M O law w (Asking (Take ticket.number ∷ [])) [] k)
   case_owned w ForgetStop StopForgotten css free h k = rw h (owned_listed M O law w (StopNoted Forgot) [] k)
   case_owned w LookForStop (Stopped found) css free h k = rw h (owned_listed M O law w (StopNoted (Looked found)) [] k)
-  case_owned w (NewPoller p) (OldPoller q) css free h k = rw h.1 (owned_same M O law w (done w (Polling p)) [] refl refl refl refl k)
+  case_owned w (NewPoller p) (OldPoller q) css free h k = rw h.1 (owned_same M O law w (world_after w (Polling p)) [] refl refl refl refl k)
   case_owned w call answer css free h k = absurd h
 
   pub run_owned : (calls : List (LoopCall D P X I)) (answers : List (LoopAnswer D P X I)) (csss : List (List (List (Change D I P)))) (w w' : World D I P) → AllFresh M (changes_of csss) → Run M runs O calls answers csss w w' → IsOwned M w [] → IsOwned M w' []

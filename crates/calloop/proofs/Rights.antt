@@ -29,7 +29,7 @@ use Rattle.calloop.specs.declared.loop_logic.asks.Idling.{Idling as Waiter}
 use Rattle.calloop.specs.declared.loop_logic.asks.Request.{Request}
 use Rattle.calloop.specs.declared.loop_logic.asks.Request.TheVariants.{Insert as AskInsert, Enable as AskEnable, Update as AskUpdate, Disable as AskDisable, Remove as AskRemove, Idle as AskIdle, Cancel as AskCancel}
 use Rattle.calloop.specs.Askings.{Asks, Runs}
-use Rattle.calloop.specs.Machine.{World, View, Registration, Change, Holds, visible, slot_of, done, all_done, Appended}
+use Rattle.calloop.specs.Machine.{World, View, Registration, Change, Holds, visible, slot_of, world_after, world_after_all, Appended}
 use Rattle.calloop.specs.Roles.{only, is_callers, is_adapter}
 use Rattle.calloop.proofs.Roles.{left_removed}
 use Rattle.calloop.specs.Rules.{Doing, Beginning, Settling, Sleeping, Waiting, Gathering, Noticing, Cutting, Serving, Ending, Returning, Idling, RunningIdles, ServingIdle, Leaving, Outcome, Step, Steps, SleptAs, SleptBy, NoticedBy, told_in, CutTo, CutFrom, ActedBy, ReturnedTo, vacate, Case, Run, InsertedBy, AskedIn, SettledIn, TakesUp, as_listed, RemovedIn, EnabledBy, UpdatedBy, DisabledBy, RemovedBy, ReleasedBy, ExchangedIn, ExchangedBy, IdleInsertedBy, OwnOr, Served, ServedAs, ServedFrom, RunFrom, action_of, Once, all_traced, appends}
@@ -70,7 +70,7 @@ module _ {D I P X : Type 0} (M : Meaning D P (Lent X (Asks D I))) (runs : Runs D
   acted_right w token d (Ok Continue) cs e told h = rw h.0 (tt, tt)
   acted_right w token d (Ok Reregister) cs e told h = rw h.2 (tt, (tt, (tt, tt)))
   acted_right w token d (Ok DisableIt) cs e told h = rw h.2 (tt, (tt, (tt, tt)))
-  acted_right w token d (Ok Remove) cs e told h = rw h.0 (tt, emptied_right (done w (Holds (Pend Continue))) token (content_at (map slot_of w.slots) token))
+  acted_right w token d (Ok Remove) cs e told h = rw h.0 (tt, emptied_right (world_after w (Holds (Pend Continue))) token (content_at (map slot_of w.slots) token))
   acted_right w token d (Err error) cs e told h = rw h.0 (tt, tt)
 
   returned_right : (w : World D I P) (token : RegistrationToken) (d : D) (c : Content D) (cs : List (Change D I P)) → ReturnedTo M token d c (visible w) cs → AllRight w cs
@@ -80,7 +80,7 @@ module _ {D I P X : Type 0} (M : Meaning D P (Lent X (Asks D I))) (runs : Runs D
 
   appends_right : (given : List (Readiness × Token)) (w : World D I P) → AllRight w (appends given)
   appends_right [] w = tt
-  appends_right (e ∷ es) w = (tt, appends_right es (done w (Appended (own_event e))))
+  appends_right (e ∷ es) w = (tt, appends_right es (world_after w (Appended (own_event e))))
 
   slept_as : (w : World D I P) (timeout : Option ℕ) (later : List RegistrationToken) (given : List (Readiness × Token)) (answer : Result (Unit {0}) Error) (x : X) (cs : List (Change D I P)) (b : Doing D X) → SleptAs timeout later given answer x cs b → AllRight w cs
   slept_as w timeout later given (Ok u) x cs b h = rw h.0 (appends_right given w)
@@ -89,20 +89,20 @@ module _ {D I P X : Type 0} (M : Meaning D P (Lent X (Asks D I))) (runs : Runs D
   slept_right : (w : World D I P) (timeout : Option ℕ) (token : RegistrationToken) (later : List RegistrationToken) (x : X) (cs : List (Change D I P)) (b : Doing D X) (c : Content D) → SleptBy M timeout token later c (visible w) x cs b → AllRight w cs
   slept_right w timeout token later x cs b Vacant h = rw h.0 tt
   slept_right w timeout token later x cs b InTurn h = rw h.0 tt
-  slept_right w timeout token later x cs b (Source d) h = rw h.6 (tt, (tt, (tt, slept_as (all_done w (told_in token h.0)) timeout later h.1 h.2 x h.3 b h.5)))
+  slept_right w timeout token later x cs b (Source d) h = rw h.6 (tt, (tt, (tt, slept_as (world_after_all w (told_in token h.0)) timeout later h.1 h.2 x h.3 b h.5)))
 
   noticed_right : (w : World D I P) (from : ℕ) (token : RegistrationToken) (later : List RegistrationToken) (x : X) (cs : List (Change D I P)) (b : Doing D X) (c : Content D) → NoticedBy M from token later c (visible w) x cs b → AllRight w cs
   noticed_right w from token later x cs b Vacant h = rw h.0 tt
   noticed_right w from token later x cs b InTurn h = rw h.0 tt
   noticed_right w from token later x cs b (Source d) h = rw h.2 (tt, (tt, (tt, tt)))
 
-  pub right-append : (w : World D I P) (cs ds : List (Change D I P)) → AllRight w cs → AllRight (all_done w cs) ds → AllRight w (cs ++ ds)
+  pub right-append : (w : World D I P) (cs ds : List (Change D I P)) → AllRight w cs → AllRight (world_after_all w cs) ds → AllRight w (cs ++ ds)
   right-append w [] ds h k = k
-  right-append w (c ∷ cs) ds h k = (h.0, right-append (done w c) cs ds h.1 k)
+  right-append w (c ∷ cs) ds h k = (h.0, right-append (world_after w c) cs ds h.1 k)
 
-  pub done-joined : (w : World D I P) (css : List (List (Change D I P))) → all_done w (flatten css) ≡ all_traced w css
+  pub done-joined : (w : World D I P) (css : List (List (Change D I P))) → world_after_all w (flatten css) ≡ all_traced w css
   done-joined w [] = refl
-  done-joined w (cs ∷ css) = done-append w cs (flatten css) ∙ done-joined (all_done w cs) css
+  done-joined w (cs ∷ css) = done-append w cs (flatten css) ∙ done-joined (world_after_all w cs) css
 
   inserted_right : (w : World D I P) (d : D) (answer : Result RegistrationToken (InsertError D)) (cs : List (Change D I P)) → InsertedBy M d answer (visible w) cs → AllRight w cs
   inserted_right w d (Ok token) cs h = rw h.6 (tt, (tt, (tt, (tt, tt))))
@@ -148,7 +148,7 @@ module _ {D I P X : Type 0} (M : Meaning D P (Lent X (Asks D I))) (runs : Runs D
 
   served_from_right : (w : World D I P) (asked : List (Asked D I)) (on next b : Doing D X) (cs : List (Change D I P)) → ServedFrom M asked on next b (visible w) cs → AllRight w cs
   served_from_right w [] on next b cs h = rw h.0 tt
-  served_from_right w (a ∷ as') on next b cs h = rw h.2 (tt, served_right (done w (Holds Begun)) a.request h.0 h.1)
+  served_from_right w (a ∷ as') on next b cs h = rw h.2 (tt, served_right (world_after w (Holds Begun)) a.request h.0 h.1)
 
   run_from_right : (w : World D I P) (idles : List (Waiter I)) (x : X) (cs : List (Change D I P)) (b : Doing D X) → RunFrom runs idles (visible w) x cs b → AllRight w cs
   run_from_right w [] x cs b h = rw h.0 tt
@@ -186,7 +186,7 @@ module _ {D I P X : Type 0} (M : Meaning D P (Lent X (Asks D I))) (runs : Runs D
   steps_right : (w : World D I P) (a b : Doing D X) (css : List (List (Change D I P))) → Steps M runs O (visible w) a css b → AllRight w (flatten css)
   steps_right w a b [] h = tt
   steps_right w a b (cs ∷ css) h =
-      right-append w cs (flatten css) (step_right w a h.0 cs h.1) (steps_right (all_done w cs) h.0 b css (subst (λ (v : View D I P). Steps M runs O v h.0 css b) (sym (seen-all_done w cs)) h.3))
+      right-append w cs (flatten css) (step_right w a h.0 cs h.1) (steps_right (world_after_all w cs) h.0 b css (subst (λ (v : View D I P). Steps M runs O v h.0 css b) (sym (seen-all_done w cs)) h.3))
 
   exchanged_right : (w : World D I P) (token : RegistrationToken) (new : D) (c : Content D) (answer : Result D D) (cs : List (Change D I P)) → ExchangedIn token new c answer cs → AllRight w cs
   exchanged_right w token new Vacant answer cs h = rw h.1 tt

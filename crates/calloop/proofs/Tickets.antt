@@ -10,16 +10,16 @@ use Rattle.calloop.specs.declared.loop_logic.asks.Answer.{Answer}
 use Rattle.calloop.specs.declared.loop_logic.asks.Answer.TheVariants.{Done}
 use Rattle.calloop.specs.declared.loop_logic.asks.Answered.{Answered}
 use Rattle.calloop.specs.declared.loop_logic.asks.Asked.{Asked}
-use Rattle.calloop.specs.Askings.{Asks, AskStep, Write, Take, Runs, ask_after, asks_after, all_handed, handed_by, without, taken_from, answering, begun_from, is_since}
+use Rattle.calloop.specs.Askings.{Asks, AskStep, Write, Take, Runs, ask_after, asks_after, all_handed, handed_by, without, taken_from, answers_to, begun_from, is_since}
 use Rattle.calloop.specs.Held.{Held, HeldStep, Listed, Unlisted, Pend, Asking, Begun, Told, Owe, Paid, Cleared, Warned, StopNoted, IdleIn, IdleNew, IdleOut, IdlesTaken, IdleBegun, held_after}
-use Rattle.calloop.specs.Machine.{World, IsNew, Change, Put, Claim, Swapped, Polls, Polling, Watching, Counting, Gathered, Appended, Holds, Cut, Ended, done, all_done, handed_in}
+use Rattle.calloop.specs.Machine.{World, IsNew, Change, Put, Claim, Swapped, Polls, Polling, Watching, Counting, Gathered, Appended, Holds, Cut, Ended, world_after, world_after_all, handed_in}
 use Rattle.calloop.specs.Rules.{Run, all_traced}
-use Rattle.calloop.specs.Laws.{how_many, is_number, is_asked_as, is_answered_as, stands_as, standing, IsTicketed}
+use Rattle.calloop.specs.Laws.{how_many, is_number, is_asked_as, is_answered_as, stands_as, times_standing, IsTicketed}
 use Rattle.calloop.proofs.Counting.{counted-append, counted-filter, next_number}
 
 -- with as many handed out
 abbrev pub IsTallied : {D I : Type 0} → Asks D I → List ℕ → Type 0
-IsTallied q handed = (n : ℕ) → standing n q + how_many (is_number n) handed ≤ (if nat_lt n q.next then 1 else 0)
+IsTallied q handed = (n : ℕ) → times_standing n q + how_many (is_number n) handed ≤ (if nat_lt n q.next then 1 else 0)
 
 counted-without : {D : Type 0} (n ticket : ℕ) (as' : List (Answered D)) → how_many (is_answered_as n) as' ≡ how_many (is_answered_as n) (without ticket as') + how_many (is_number n) (taken_from ticket as')
 counted-without n ticket [] = refl
@@ -27,7 +27,7 @@ counted-without {D} n ticket (a ∷ as') =
     elim (nat_eq a.ticket ticket) as (λ b. nat_eq a.ticket ticket ≡ b → how_many (is_answered_as n) (a ∷ as') ≡ how_many (is_answered_as n) (if b then as' else a ∷ without ticket as') + how_many (is_number n) (if b then ticket ∷ [] else taken_from ticket as'))
     [ true ↦ λ e. (let same : a.ticket ≡ ticket = grind (arith, nat_tests) in rw (← same) (omega arith)) | false ↦ λ e. omega (arith, counted-without n ticket as') ] refl
 
-counted-answering : {D : Type 0} (n : ℕ) (o : Option ℕ) (answer : Answer D) → how_many (is_answered_as n) (answering o answer) ≡ stands_as n o
+counted-answering : {D : Type 0} (n : ℕ) (o : Option ℕ) (answer : Answer D) → how_many (is_answered_as n) (answers_to o answer) ≡ stands_as n o
 counted-answering n None answer = refl
 counted-answering n (Some ticket) answer = omega arith
 
@@ -58,19 +58,19 @@ tallied_step k handed (Listed needed token) h = rw (append_nil handed) h
 tallied_step k handed (Unlisted token) h = rw (append_nil handed) h
 tallied_step k handed (Pend action) h = rw (append_nil handed) h
 tallied_step k handed Begun h = rw (append_nil handed) (tallied_begun k.asks k.asks.written handed refl h)
-tallied_step k handed (Told answer) h = rw (append_nil handed) (λ n. omega (arith, h n, counted-append (is_answered_as n) k.asks.answers (answering k.asks.serving answer), counted-answering n k.asks.serving answer))
+tallied_step k handed (Told answer) h = rw (append_nil handed) (λ n. omega (arith, h n, counted-append (is_answered_as n) k.asks.answers (answers_to k.asks.serving answer), counted-answering n k.asks.serving answer))
 tallied_step k handed Owe h = rw (append_nil handed) (λ n. omega (arith, h n))
-tallied_step k handed (Paid answer) h = rw (append_nil handed) (λ n. omega (arith, h n, counted-append (is_answered_as n) k.asks.answers (answering k.asks.owed answer), counted-answering n k.asks.owed answer))
+tallied_step k handed (Paid answer) h = rw (append_nil handed) (λ n. omega (arith, h n, counted-append (is_answered_as n) k.asks.answers (answers_to k.asks.owed answer), counted-answering n k.asks.owed answer))
 tallied_step k handed Cleared h = rw (append_nil handed) (λ n. omega (arith, h n, counted-filter (is_answered_as n) (is_since k.asks.taken_up_at) k.asks.answers))
 tallied_step k handed (Warned kept told) h = rw (append_nil handed) h
 tallied_step k handed (StopNoted note) h = rw (append_nil handed) h
-tallied_step {D} k handed (IdleIn idle) h = rw (append_nil handed) (λ n. omega (arith, h n, counted-append (is_answered_as n) k.asks.answers (answering k.asks.serving Done), counted-answering {D = D} n k.asks.serving Done))
+tallied_step {D} k handed (IdleIn idle) h = rw (append_nil handed) (λ n. omega (arith, h n, counted-append (is_answered_as n) k.asks.answers (answers_to k.asks.serving Done), counted-answering {D = D} n k.asks.serving Done))
 tallied_step k handed (IdleNew idle) h = rw (append_nil handed) (λ n. omega (arith, h n, next_number n k.asks.next))
 tallied_step k handed (IdleOut ticket) h = rw (append_nil handed) h
 tallied_step k handed IdlesTaken h = rw (append_nil handed) h
 tallied_step k handed IdleBegun h = rw (append_nil handed) h
 
-ticketed_done : {D I P : Type 0} (w : World D I P) (c : Change D I P) → IsTicketed w → IsTicketed (done w c)
+ticketed_done : {D I P : Type 0} (w : World D I P) (c : Change D I P) → IsTicketed w → IsTicketed (world_after w c)
 ticketed_done w (Put slot content) h = h
 ticketed_done w (Swapped slot old new) h = h
 ticketed_done w (Claim source) h = h
@@ -84,13 +84,13 @@ ticketed_done w (Holds step) h = tallied_step w.held w.handed step h
 ticketed_done w (Cut slot) h = h
 ticketed_done w Ended h = h
 
-ticketed_all : {D I P : Type 0} (w : World D I P) (cs : List (Change D I P)) → IsTicketed w → IsTicketed (all_done w cs)
+ticketed_all : {D I P : Type 0} (w : World D I P) (cs : List (Change D I P)) → IsTicketed w → IsTicketed (world_after_all w cs)
 ticketed_all w [] h = h
-ticketed_all w (c ∷ cs) h = ticketed_all (done w c) cs (ticketed_done w c h)
+ticketed_all w (c ∷ cs) h = ticketed_all (world_after w c) cs (ticketed_done w c h)
 
 ticketed_traced : {D I P : Type 0} (w : World D I P) (css : List (List (Change D I P))) → IsTicketed w → IsTicketed (all_traced w css)
 ticketed_traced w [] h = h
-ticketed_traced w (cs ∷ css) h = ticketed_traced (all_done w cs) css (ticketed_all w cs h)
+ticketed_traced w (cs ∷ css) h = ticketed_traced (world_after_all w cs) css (ticketed_all w cs h)
 
 module _ {D I P X : Type 0} (M : Meaning D P (Lent X (Asks D I))) (runs : Runs D I X) (O : Outside P) where
   pub run_ticketed : (calls : List (LoopCall D P X I)) (answers : List (LoopAnswer D P X I)) (csss : List (List (List (Change D I P)))) (w w' : World D I P) → Run M runs O calls answers csss w w' → IsTicketed w → IsTicketed w'

@@ -131,20 +131,20 @@ abbrev pub request_of : {D I : Type 0} → List (Asked D I) → Option (Request 
 request_of [] = None
 request_of (a ∷ as') = Some a.request
 
-abbrev pub answering : {D : Type 0} → Option ℕ → Answer D → List (Answered D)
-answering None answer = []
-answering (Some ticket) answer = record { ticket = ticket; answer = answer } ∷ []
+abbrev pub answers_to : {D : Type 0} → Option ℕ → Answer D → List (Answered D)
+answers_to None answer = []
+answers_to (Some ticket) answer = record { ticket = ticket; answer = answer } ∷ []
 
 -- its answer
 abbrev pub with_answer : {D I : Type 0} → Answer D → Asks D I → Asks D I
-with_answer answer q = record q { answers = q.answers ++ answering q.serving answer; serving = None }
+with_answer answer q = record q { answers = q.answers ++ answers_to q.serving answer; serving = None }
 
 -- its answer is owed until the turn is over; and what is owed is answered
-abbrev pub owing : {D I : Type 0} → Asks D I → Asks D I
-owing q = record q { owed = q.serving; serving = None }
+abbrev pub with_answer_owed : {D I : Type 0} → Asks D I → Asks D I
+with_answer_owed q = record q { owed = q.serving; serving = None }
 
 abbrev pub with_owed_answer : {D I : Type 0} → Answer D → Asks D I → Asks D I
-with_owed_answer answer q = record q { answers = q.answers ++ answering q.owed answer; owed = None }
+with_owed_answer answer q = record q { answers = q.answers ++ answers_to q.owed answer; owed = None }
 
 abbrev pub is_since : {D : Type 0} → (ticket : ℕ) → Answered D → Bool
 is_since ticket a = nat_le ticket a.ticket

@@ -45,14 +45,14 @@ with_message c = record c { twin = record c.twin { number = c.twin.number + 1 } 
 abbrev pub ChannelCalls : Type 0 → Type 0
 ChannelCalls T = List (CallbackCall (Event T) (Unit {0}) (Unit {0}))
 
-abbrev pub calling : {T : Type 0} → Event T → ChannelCalls T
-calling e = record { event = e; before = tt; after = tt; answer = tt } ∷ []
+abbrev pub calls_with : {T : Type 0} → Event T → ChannelCalls T
+calls_with e = record { event = e; before = tt; after = tt; answer = tt } ∷ []
 
 -- what a pop's answer is called with: a message, the close, or nothing
 abbrev pub call_of : {T : Type 0} → Popped T → ChannelCalls T
-call_of (Item x) = calling (Msg x)
+call_of (Item x) = calls_with (Msg x)
 call_of Empty = []
-call_of NoMore = calling Closed
+call_of NoMore = calls_with Closed
 
 abbrev pub calls_of : {T : Type 0} → List (Popped T) → ChannelCalls T
 calls_of [] = []

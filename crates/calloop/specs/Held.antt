@@ -33,7 +33,7 @@ use Rattle.calloop.specs.Askings.{
   after_begin,
   without_old,
   idle_begun,
-  owing,
+  with_answer_owed,
   with_owed_answer,
   taken_up,
   with_answer,
@@ -110,7 +110,7 @@ held_after h (Pend action) = record h { pending = action }
 held_after h (Asking steps) = record h { asks = asks_after h.asks steps }
 held_after h Begun = record h { asks = after_begin h.asks }
 held_after h (Told answer) = record h { asks = with_answer answer h.asks }
-held_after h Owe = record h { asks = owing h.asks }
+held_after h Owe = record h { asks = with_answer_owed h.asks }
 held_after h (Paid answer) = record h { asks = with_owed_answer answer h.asks }
 held_after h Cleared = record h { asks = without_old h.asks; warnings = [] }
 held_after h (Warned kept told) = record h { warnings = with_warning kept told h.warnings }

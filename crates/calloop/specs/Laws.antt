@@ -42,7 +42,7 @@ use Rattle.calloop.specs.declared.loop_logic.asks.Asked.{Asked}
 use Rattle.calloop.specs.declared.loop_logic.asks.Answered.{Answered}
 use Rattle.calloop.specs.Askings.{Asks}
 use Rattle.calloop.specs.Held.{is_listed}
-use Rattle.calloop.specs.Machine.{World, Registration, Change, Claim, Swapped, Cut, done, is_free, slot_of}
+use Rattle.calloop.specs.Machine.{World, Registration, Change, Claim, Swapped, Cut, world_after, is_free, slot_of}
 
 -- a source stands there that isn't in its turn
 abbrev pub IsSource : {D : Type 0} → Content D → Type 0
@@ -69,7 +69,7 @@ IsRight w change = Unit {0}
 -- each event that is cut in these changes goes right at its moment
 abbrev pub AllRight : {D I P : Type 0} → World D I P → List (Change D I P) → Type 0
 AllRight w [] = Unit {0}
-AllRight w (c ∷ cs) = IsRight w c × AllRight (done w c) cs
+AllRight w (c ∷ cs) = IsRight w c × AllRight (world_after w c) cs
 
 abbrev pub flatten : {A : Type 0} → List (List A) → List A
 flatten [] = []
@@ -94,7 +94,7 @@ NamesLater {D} {I} {P} w w' =
 -- the state before these changes, and after each of them
 abbrev pub moments_of : {D I P : Type 0} → World D I P → List (Change D I P) → List (World D I P)
 moments_of w [] = w ∷ []
-moments_of w (c ∷ cs) = w ∷ moments_of (done w c) cs
+moments_of w (c ∷ cs) = w ∷ moments_of (world_after w c) cs
 
 -- between this moment and each of these
 abbrev pub AllBehind : {W : Type 0} → (W → W → Type 0) → W → List W → Type 0
@@ -269,15 +269,15 @@ stands_as n (Some ticket) = one (is_number n) ticket
 
 -- how often a ticket stands: over a request that wasn't carried out yet, that is carried out, or whose answer is owed,
 -- or over an answer
-abbrev pub standing : {D I : Type 0} → (ticket : ℕ) → Asks D I → ℕ
-standing n q =
+abbrev pub times_standing : {D I : Type 0} → (ticket : ℕ) → Asks D I → ℕ
+times_standing n q =
     how_many (is_asked_as n) q.written +
     (stands_as n q.serving + (stands_as n q.owed + how_many (is_answered_as n) q.answers))
 
 -- a ticket that was given stands at most once, or its answer was handed out, once; no other ticket stands anywhere
 abbrev pub IsTicketed : {D I P : Type 0} → World D I P → Type 0
 IsTicketed w =
-    (n : ℕ) → standing n w.held.asks + how_many (is_number n) w.handed ≤ (if nat_lt n w.held.asks.next then 1 else 0)
+    (n : ℕ) → times_standing n w.held.asks + how_many (is_number n) w.handed ≤ (if nat_lt n w.held.asks.next then 1 else 0)
 
 -- of these changes, and of the states between them
 pub record IsSound {D I P : Type 0} (w : World D I P) (cs : List (Change D I P)) (moments : List (World D I P)) : Type 0 where

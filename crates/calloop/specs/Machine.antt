@@ -23,12 +23,12 @@ use Rattle.calloop_core.specs.Polls.{
   AllAllowed,
   after_gather,
   with_event,
-  polling,
-  watching,
+  with_new_poller,
+  with_watch,
   after_count,
   with_pass,
   marks_taken,
-  cut,
+  after_cut,
 }
 use Rattle.calloop.specs.Held.{Held, HeldStep, Asking, held_after}
 use Rattle.calloop.specs.Askings.{all_handed, no_asks}
@@ -83,8 +83,8 @@ view_of l =
     }
 
 -- these marks were taken
-abbrev pub taking : {D I P : Type 0} → List RegistrationToken → View D I P → View D I P
-taking taken v = record v { poll = marks_taken taken v.poll }
+abbrev pub with_marks_taken : {D I P : Type 0} → List RegistrationToken → View D I P → View D I P
+with_marks_taken taken v = record v { poll = marks_taken taken v.poll }
 
 -- every change of the state is one of these
 pub data Change (D I P : Type 0) : Type 0 where
@@ -120,13 +120,13 @@ after_change v (Put slot content) = record v { slots = with_change (with_content
 after_change v (Swapped slot old new) = record v { slots = with_change (with_content (Source new)) v.slots slot }
 after_change v (Claim source) = record v { slots = after_claim v.slots }
 after_change v (Polls steps) = record v { poll = polls_after v.poll steps }
-after_change v (Polling poller) = record v { poll = polling poller v.poll }
-after_change v (Watching watch) = record v { poll = watching watch v.poll }
+after_change v (Polling poller) = record v { poll = with_new_poller poller v.poll }
+after_change v (Watching watch) = record v { poll = with_watch watch v.poll }
 after_change v (Counting places) = record v { poll = after_count places v.poll }
 after_change v (Holds step) = record v { held = held_after v.held step }
 after_change v (Appended event) = record v { poll = with_event event v.poll }
 after_change v (Gathered posted given now) = record v { poll = after_gather posted given now v.poll }
-after_change v (Cut slot) = record v { poll = cut v.poll }
+after_change v (Cut slot) = record v { poll = after_cut v.poll }
 after_change v Ended = record v { poll = with_pass None v.poll }
 
 abbrev pub all_viewed : {D I P : Type 0} → View D I P → List (Change D I P) → View D I P
@@ -140,8 +140,8 @@ abbrev pub handed_in : {D I : Type 0} → Held D I → HeldStep D I → List ℕ
 handed_in h (Asking steps) = all_handed h.asks steps
 handed_in h step = []
 
-abbrev pub holding : {D : Type 0} → Content D → Registration D → Registration D
-holding c r = record { reuse = r.reuse; content = c }
+abbrev pub slot_with : {D : Type 0} → Content D → Registration D → Registration D
+slot_with c r = record { reuse = r.reuse; content = c }
 
 abbrev pub next_use : {D : Type 0} → Registration D → Registration D
 next_use r = record { reuse = r.reuse + 1; content = InTurn }
@@ -153,24 +153,24 @@ is_free r = is_empty r.content
 abbrev pub with_claim : {D : Type 0} → List (Registration D) → List (Registration D)
 with_claim rs = first_changed is_free next_use (record { reuse = 0; content = InTurn }) rs
 
-abbrev pub done : {D I P : Type 0} → World D I P → Change D I P → World D I P
-done w (Put slot content) = record w { slots = with_change (holding content) w.slots slot }
-done w (Swapped slot old new) = record w { slots = with_change (holding (Source new)) w.slots slot }
-done w (Claim source) = record w { slots = with_claim w.slots }
-done w (Polls steps) = record w { poll = polls_after w.poll steps; ledger = steps_noted w.ledger w.poll steps }
-done w (Polling poller) = record w { poll = polling poller w.poll }
-done w (Watching watch) = record w { poll = watching watch w.poll }
-done w (Counting places) = record w { poll = after_count places w.poll }
-done w (Holds step) = record w { held = held_after w.held step; handed = w.handed ++ handed_in w.held step }
-done w (Appended event) = record w { poll = with_event event w.poll; ledger = appended_noted w.ledger event }
-done w (Gathered posted given now) =
+abbrev pub world_after : {D I P : Type 0} → World D I P → Change D I P → World D I P
+world_after w (Put slot content) = record w { slots = with_change (slot_with content) w.slots slot }
+world_after w (Swapped slot old new) = record w { slots = with_change (slot_with (Source new)) w.slots slot }
+world_after w (Claim source) = record w { slots = with_claim w.slots }
+world_after w (Polls steps) = record w { poll = polls_after w.poll steps; ledger = steps_noted w.ledger w.poll steps }
+world_after w (Polling poller) = record w { poll = with_new_poller poller w.poll }
+world_after w (Watching watch) = record w { poll = with_watch watch w.poll }
+world_after w (Counting places) = record w { poll = after_count places w.poll }
+world_after w (Holds step) = record w { held = held_after w.held step; handed = w.handed ++ handed_in w.held step }
+world_after w (Appended event) = record w { poll = with_event event w.poll; ledger = appended_noted w.ledger event }
+world_after w (Gathered posted given now) =
     record w { poll = after_gather posted given now w.poll; ledger = gathering_noted w.ledger posted given now }
-done w (Cut slot) = record w { poll = cut w.poll; ledger = cut_noted w.ledger }
-done w Ended = record w { poll = with_pass None w.poll }
+world_after w (Cut slot) = record w { poll = after_cut w.poll; ledger = cut_noted w.ledger }
+world_after w Ended = record w { poll = with_pass None w.poll }
 
-abbrev pub all_done : {D I P : Type 0} → World D I P → List (Change D I P) → World D I P
-all_done w [] = w
-all_done w (c ∷ cs) = all_done (done w c) cs
+abbrev pub world_after_all : {D I P : Type 0} → World D I P → List (Change D I P) → World D I P
+world_after_all w [] = w
+world_after_all w (c ∷ cs) = world_after_all (world_after w c) cs
 
 -- something stands in this slot, or its source is taken out
 abbrev pub IsFull : {D : Type 0} → List (Slot D) → ℕ → Type 0

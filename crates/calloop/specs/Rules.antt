@@ -53,7 +53,7 @@ use Rattle.calloop_core.specs.Deeds.{Deed, Registered, Reregistered, Unregistere
 use Rattle.calloop_core.specs.Meanings.{Meaning}
 use Rattle.calloop_core.specs.Pollers.{Outside, nanos_of}
 use Rattle.calloop_core.specs.Events.{events_of}
-use Rattle.calloop_core.specs.Polls.{PollView, PollStep, AllAllowed, own_event, cut}
+use Rattle.calloop_core.specs.Polls.{PollView, PollStep, AllAllowed, own_event, after_cut}
 use Rattle.calloop_core.specs.Waits.{Waited}
 use Rattle.calloop_core.specs.Marking.{AreTaken}
 use Rattle.calloop_wake.specs.Watches.{with_note}
@@ -155,7 +155,7 @@ use Rattle.calloop.specs.Machine.{
   AllFit,
   after_change,
   all_viewed,
-  all_done,
+  world_after_all,
   visible,
 }
 
@@ -393,7 +393,7 @@ CutTo M e InTurn v x cs b = (cs ≡ Cut None ∷ Ended ∷ []) × (b ≡ Cutting
 CutTo {D} {I} {P} {X} M e (Source d) v x cs b =
     (d' : D) × (answer : Result PostAction Error) × (steps : List (PollStep P)) × (x' : X)
     × (asked : List (AskStep D I))
-    × M.does d (cut v.poll)
+    × M.does d (after_cut v.poll)
     (Turned e.readiness e.token
     (lend x (of_turn (registration_of e.token) v.held.asks) answer x'
     (of_turn (registration_of e.token) (asks_after v.held.asks asked)))) steps d'
@@ -557,7 +557,7 @@ after_changes v (cs ∷ css) = after_changes (all_viewed v cs) css
 
 abbrev pub all_traced : {D I P : Type 0} → World D I P → List (List (Change D I P)) → World D I P
 all_traced w [] = w
-all_traced w (cs ∷ css) = all_traced (all_done w cs) css
+all_traced w (cs ∷ css) = all_traced (world_after_all w cs) css
 
 -- a case of one step
 abbrev pub Once : {D I P : Type 0} → Outside P → (View D I P → List (Change D I P) → Type 0) → View D I P

@@ -38,7 +38,7 @@ use Rattle.calloop.specs.Machine.{
   Holds,
   Gathered,
   Cut,
-  all_done,
+  world_after_all,
 }
 use Rattle.calloop.specs.Wrong.{
   first_token,
@@ -100,7 +100,7 @@ of_changes cs w =
       changes = (cs ∷ []) ∷ [];
       moments = moments_of w cs;
       began = w;
-      ended = all_done w cs;
+      ended = world_after_all w cs;
     }
 
 -- two sources, and two events of the first of them

@@ -13,7 +13,7 @@ use Rattle.calloop_wake.specs.declared.error.Error.TheVariants.{IoError, OutOfMe
 use Rattle.calloop_core.specs.declared.sys.Watched.{Watched}
 use Rattle.calloop_core.specs.Pollers.{Outside, Sockets, PollerCall}
 use Rattle.calloop_core.specs.Tables.{Table, Edit, unless_in, cannot, grows, call_of, after_edit, Called, CalledFor, with_key, without_key, watched_at}
-use Rattle.calloop_core.specs.Polls.{PollView, IsOfKind, Socket, Fault, polling}
+use Rattle.calloop_core.specs.Polls.{PollView, IsOfKind, Socket, Fault, with_new_poller}
 use Rattle.calloop_core.specs.Registering.{DidEdit, IsFaulted, TriedUnless}
 
 module _ {P I : Type 0} (O : Outside P) (sockets : Sockets P I) (v : PollView P) (edit : Edit) (io : I) where
@@ -24,7 +24,7 @@ module _ {P I : Type 0} (O : Outside P) (sockets : Sockets P I) (v : PollView P)
   no_room is more = ([], rw is (inl (more, refl, refl, refl)), (tt, refl))
 
   faulted_by : (wanted : Option PollerCall) (cause : Cause) (after : P) (io' : I) (w : PollView P) → call_of edit v.table ≡ wanted → cannot edit v.table ≡ None → CalledFor sockets v.poller io wanted (Err cause) after io' → Called O v.poller wanted (Err cause) after
-      → w ≡ polling after v → DidEdit O sockets edit v io (Err (IoError cause)) w io'
+      → w ≡ with_new_poller after v → DidEdit O sockets edit v io (Err (IoError cause)) w io'
   faulted_by None cause after io' w is can called out to = (let e = called.0 in cc)
   faulted_by (Some c) cause after io' w is can called out to =
       let f : IsFaulted sockets v edit io (IoError cause) (Fault c cause after ∷ []) io' =
@@ -32,7 +32,7 @@ module _ {P I : Type 0} (O : Outside P) (sockets : Sockets P I) (v : PollView P)
       (Fault c cause after ∷ [], subst (λ (k : Option ErrorKind). TriedUnless k sockets v edit io (Err (IoError cause)) (Fault c cause after ∷ []) io') (sym can) (inr f), ((out, tt), to))
 
   pub faulted : (cause : Cause) (after : P) (io' : I) (w : PollView P) → cannot edit v.table ≡ None → CalledFor sockets v.poller io (call_of edit v.table) (Err cause) after io' → Called O v.poller (call_of edit v.table) (Err cause) after
-      → w ≡ polling after v → DidEdit O sockets edit v io (Err (IoError cause)) w io'
+      → w ≡ with_new_poller after v → DidEdit O sockets edit v io (Err (IoError cause)) w io'
   faulted cause after io' w can called out to = faulted_by (call_of edit v.table) cause after io' w refl can called out to
 
   pub made : (after : P) (io' : I) (w : PollView P) → cannot edit v.table ≡ None → CalledFor sockets v.poller io (call_of edit v.table) (Ok tt) after io' → Called O v.poller (call_of edit v.table) (Ok tt) after

@@ -29,8 +29,8 @@ pub record Heard (E M T Cause : Type 0) : Type 0 where
   pub calls : List (CallbackCall E M T)
   pub answer : Result PostAction Cause
 
-abbrev pub heard : {E M T Cause : Type 0} → List (CallbackCall E M T) → Result PostAction Cause → Heard E M T Cause
-heard calls answer = record { calls = calls; answer = answer }
+abbrev pub new_heard : {E M T Cause : Type 0} → List (CallbackCall E M T) → Result PostAction Cause → Heard E M T Cause
+new_heard calls answer = record { calls = calls; answer = answer }
 
 -- the turn of a dispatcher: the data and the requests that were lent, before and after it, and its answer
 pub record Lent (X Q : Type 0) : Type 0 where

@@ -98,11 +98,11 @@ with_pass pass v = record v { pass = pass }
 abbrev pub with_deadlines : {P : Type 0} → Deadlines → PollView P → PollView P
 with_deadlines d v = record v { deadlines = d }
 
-abbrev pub polling : {P : Type 0} → P → PollView P → PollView P
-polling p v = record v { poller = p }
+abbrev pub with_new_poller : {P : Type 0} → P → PollView P → PollView P
+with_new_poller p v = record v { poller = p }
 
-abbrev pub watching : {P : Type 0} → Watch → PollView P → PollView P
-watching w v = record v { watch = w }
+abbrev pub with_watch : {P : Type 0} → Watch → PollView P → PollView P
+with_watch w v = record v { watch = w }
 
 -- the places on the board are counted
 abbrev pub after_count : {P : Type 0} → (places : ℕ) → PollView P → PollView P
@@ -135,9 +135,9 @@ poll_after v (Arm deadline token) = with_deadlines (with_new deadline token v.de
 poll_after v (ArmAgain counter deadline token) = with_deadlines (with_again counter deadline token v.deadlines) v
 poll_after v (Cancel counter) = with_deadlines (after_cancel counter v.deadlines) v
 poll_after v (Call counter deadline) = v
-poll_after v (ReadClock now after) = polling after v
+poll_after v (ReadClock now after) = with_new_poller after v
 poll_after v (Socket edit after) = record v { poller = after; table = after_edit edit v.table }
-poll_after v (Fault call cause after) = polling after v
+poll_after v (Fault call cause after) = with_new_poller after v
 
 abbrev pub polls_after : {P : Type 0} → PollView P → List (PollStep P) → PollView P
 polls_after v [] = v
@@ -204,8 +204,8 @@ abbrev pub own_events : List (Readiness × Token) → List Pending
 own_events given = map own_event given
 
 -- these events, for which a source asks before a wait, wait for their turn after those that wait, each in its place
-abbrev pub joining : {P : Type 0} → List (Readiness × Token) → PollView P → PollView P
-joining given v = record v { batch = v.batch ++ own_events given }
+abbrev pub with_events : {P : Type 0} → List (Readiness × Token) → PollView P → PollView P
+with_events given v = record v { batch = v.batch ++ own_events given }
 
 -- this event waits for its turn after those that wait
 abbrev pub with_event : {P : Type 0} → Pending → PollView P → PollView P
@@ -247,8 +247,8 @@ abbrev pub cut_from : {P : Type 0} → List Pending → PollView P → PollView 
 cut_from [] v = v
 cut_from (e ∷ es) v = with_turn_of e v
 
-abbrev pub cut : {P : Type 0} → PollView P → PollView P
-cut v = cut_from v.batch v
+abbrev pub after_cut : {P : Type 0} → PollView P → PollView P
+after_cut v = cut_from v.batch v
 
 -- a posted event's pass is there, and of the key of its token
 abbrev pub IsPassOf : Pending → Option Taken → Type 0

@@ -17,7 +17,7 @@ use Rattle.calloop_core.specs.declared.sources.source.PostAction.TheVariants.{
 use Rattle.calloop_core.specs.declared.transient.State.{State}
 use Rattle.calloop_core.specs.declared.transient.State.TheVariants.{Keep, Register, Disable, Remove, Replace, Empty}
 use Rattle.calloop_core.specs.Polls.{PollView, PollStep, polls_after}
-use Rattle.calloop_core.specs.Deeds.{Deed, Registered, Reregistered, Unregistered, Turned, Slept, Noticed, Heard, heard}
+use Rattle.calloop_core.specs.Deeds.{Deed, Registered, Reregistered, Unregistered, Turned, Slept, Noticed, Heard, new_heard}
 use Rattle.calloop_core.specs.Holdings.{Holding, holds_none, IsBelow, Keeps}
 use Rattle.calloop_core.specs.Keys.{IsKeyOf, IsFactoryOf, AllActFor}
 use Rattle.calloop_core.specs.Meanings.{Meaning, IsKeeping, KeepsCounters, KeepsHome, IsAtHome, BeginsIn}
@@ -245,7 +245,7 @@ module _ {S P E M T Cause : Type 0} (m : Meaning S P (Heard E M T Cause)) (k : I
       → state_fits m state → IsBelow v.deadlines.next (state_holds m state)
       → TurnedAs m state v readiness token turn l t → Counted (state_holds m state) v l t
   turned_counted (Keep s b) t v readiness token turn l fits below h =
-      did_counted s h.1 t v (Turned readiness token (heard turn.calls h.0)) l (kept_of h.0 h.1 b turn.answer t h.3)
+      did_counted s h.1 t v (Turned readiness token (new_heard turn.calls h.0)) l (kept_of h.0 h.1 b turn.answer t h.3)
       fits below h.2
   turned_counted (Register s) t v readiness token turn l fits below h =
       ignores_counted (Register s) t v turn l fits h
@@ -442,7 +442,7 @@ module _ {S P E M T Cause : Type 0} (m : Meaning S P (Heard E M T Cause)) (k : I
         (turn : Heard E M T Cause) (l : List (PollStep P)) → HomeAs state
         → TurnedAs m state v readiness token turn l t → HomeAs t × AllActFor r l
     turned_home (Keep s b) t v readiness token turn l home h =
-        let x = k.home r s h.1 v (Turned readiness token (heard turn.calls h.0)) l home h.2 in
+        let x = k.home r s h.1 v (Turned readiness token (new_heard turn.calls h.0)) l home h.2 in
         (of_home h.1 t (kept_of h.0 h.1 b turn.answer t h.3) x.0, x.1 home)
     turned_home (Register s) t v readiness token turn l home h = ignores_home (Register s) t turn l home h
     turned_home (Disable s b) t v readiness token turn l home h = ignores_home (Disable s b) t turn l home h

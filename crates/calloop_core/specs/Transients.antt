@@ -16,7 +16,7 @@ use Rattle.calloop_core.specs.declared.transient.State.{State}
 use Rattle.calloop_core.specs.declared.transient.State.TheVariants.{Keep, Register, Disable, Remove, Replace, Empty}
 use Rattle.calloop_core.specs.declared.transient.TransientSource.{TransientSource}
 use Rattle.calloop_core.specs.Polls.{PollView, PollStep, polls_after}
-use Rattle.calloop_core.specs.Deeds.{Deed, Registered, Reregistered, Unregistered, Turned, SaysNothing, Slept, Noticed, Heard, heard}
+use Rattle.calloop_core.specs.Deeds.{Deed, Registered, Reregistered, Unregistered, Turned, SaysNothing, Slept, Noticed, Heard, new_heard}
 use Rattle.calloop_core.specs.Holdings.{Holding, holds_none}
 use Rattle.calloop_core.specs.Keys.{no_key}
 use Rattle.calloop_core.specs.Beside.{IsApart, beside}
@@ -127,7 +127,7 @@ module _ {S P E M T Cause : Type 0} (m : Meaning S P (Heard E M T Cause)) where
       → Type 0
   TurnedAs (Keep s marked) v readiness token turn steps t =
       (inner : Result PostAction Cause) × (s' : S)
-      × m.does s v (Turned readiness token (heard turn.calls inner)) steps s' × KeptBy inner s' marked turn.answer t
+      × m.does s v (Turned readiness token (new_heard turn.calls inner)) steps s' × KeptBy inner s' marked turn.answer t
   TurnedAs (Register s) v readiness token turn steps t = Ignores (Register s) turn steps t
   TurnedAs (Disable s marked) v readiness token turn steps t = Ignores (Disable s marked) turn steps t
   TurnedAs (Remove s marked) v readiness token turn steps t = Ignores (Remove s marked) turn steps t

@@ -34,7 +34,7 @@ use Rattle.calloop_wake.specs.declared.wake.watch.Watch.{Watch}
 use Rattle.calloop_wake.specs.declared.wake.notes.Note.TheVariants.{Looked}
 use Rattle.calloop_core.specs.declared.sys.Readiness.{Readiness}
 use Rattle.calloop_core.specs.Pollers.{Outside, faults_of}
-use Rattle.calloop_core.specs.Polls.{PollView, polling, watching, after_gather, is_filled}
+use Rattle.calloop_core.specs.Polls.{PollView, with_new_poller, with_watch, after_gather, is_filled}
 
 -- what is left of the caller's timeout, counted from the start; differences stop at zero
 abbrev pub time_left : (timeout : Option ℕ) → (start now : ℕ) → Option ℕ
@@ -108,7 +108,7 @@ abbrev pub Polled : {P : Type 0} → Outside P → (timeout : Option ℕ) → Re
     → Type 0
 Polled {P} O timeout (Ok u) v v' =
     (now : ℕ) × (given : List (ℕ × Readiness)) × (p : P) × (w : Watch) × Waited O v timeout (Ok now) given p w
-    × (posted : List ℕ) × ArePosted v.places posted × (v' ≡ after_gather posted given now (watching w (polling p v)))
+    × (posted : List ℕ) × ArePosted v.places posted × (v' ≡ after_gather posted given now (with_watch w (with_new_poller p v)))
 Polled {P} O timeout (Err cause) v v' =
     (given : List (ℕ × Readiness)) × (p : P) × (w : Watch) × Waited O v timeout (Err cause) given p w
-    × (v' ≡ watching w (polling p v))
+    × (v' ≡ with_watch w (with_new_poller p v))

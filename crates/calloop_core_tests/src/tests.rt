@@ -114,7 +114,7 @@ fn posted_events_come_first_and_in_the_order_of_their_keys(rt: HostRuntime) {
     assert!(rt;
         gives(
             &mut desk.poll,
-            &[posted(CELL), posted(OTHER), polled(FREE), polled(OTHER)]
+            &[posted_event(CELL), posted_event(OTHER), polled_event(FREE), polled_event(OTHER)]
         )
     );
 }
@@ -124,7 +124,7 @@ fn a_pass_opens_one_turn(rt: HostRuntime) {
     let mut desk = Desk::new(&rt, rt.alloc());
     ring(&rt, &desk.cell);
     assert!(rt; polls(&rt, &mut desk.poll, None));
-    assert_eq!(rt; next(&mut desk.poll), Some(posted(CELL)));
+    assert_eq!(rt; next(&mut desk.poll), Some(posted_event(CELL)));
     assert_eq!(rt; turn(&rt, &mut desk.poll, &mut desk.cell), Some(true));
     assert_eq!(rt; turn(&rt, &mut desk.poll, &mut desk.cell), None);
     desk.poll.end_event();
@@ -137,11 +137,11 @@ fn a_pass_that_another_cell_refuses_comes_again(rt: HostRuntime) {
     let mut desk = Desk::new(&rt, rt.alloc());
     ring(&rt, &desk.other);
     assert!(rt; polls(&rt, &mut desk.poll, None));
-    assert_eq!(rt; next(&mut desk.poll), Some(posted(OTHER)));
+    assert_eq!(rt; next(&mut desk.poll), Some(posted_event(OTHER)));
     assert_eq!(rt; turn(&rt, &mut desk.poll, &mut desk.cell), None);
     desk.poll.end_event();
     assert!(rt; polls(&rt, &mut desk.poll, None));
-    assert_eq!(rt; next(&mut desk.poll), Some(posted(OTHER)));
+    assert_eq!(rt; next(&mut desk.poll), Some(posted_event(OTHER)));
     assert_eq!(rt; turn(&rt, &mut desk.poll, &mut desk.other), Some(true));
 }
 
@@ -150,7 +150,7 @@ fn a_polled_event_has_no_pass(rt: HostRuntime) {
     let mut desk = Desk::new(&rt, rt.alloc());
     assert!(rt; scripts(desk.poll.poller_mut(), rt.alloc(), 1, &[CELL]));
     assert!(rt; polls(&rt, &mut desk.poll, None));
-    assert_eq!(rt; next(&mut desk.poll), Some(polled(CELL)));
+    assert_eq!(rt; next(&mut desk.poll), Some(polled_event(CELL)));
     assert_eq!(rt; turn(&rt, &mut desk.poll, &mut desk.cell), None);
 }
 
@@ -159,10 +159,10 @@ fn a_wait_beside_a_mark_is_asked_as_0(rt: HostRuntime) {
     let mut desk = Desk::new(&rt, rt.alloc());
     ring(&rt, &desk.cell);
     assert!(rt; polls(&rt, &mut desk.poll, None));
-    assert_eq!(rt; next(&mut desk.poll), Some(posted(CELL)));
+    assert_eq!(rt; next(&mut desk.poll), Some(posted_event(CELL)));
     assert_eq!(rt; turn(&rt, &mut desk.poll, &mut desk.cell), Some(true));
     assert!(rt; polls(&rt, &mut desk.poll, nanos(9)));
-    assert!(rt; asked(&mut desk.poll, &[nanos(0), nanos(9)]));
+    assert!(rt; was_asked(&mut desk.poll, &[nanos(0), nanos(9)]));
 }
 
 #[test]
@@ -172,11 +172,11 @@ fn passes_that_are_unspent_come_again(rt: HostRuntime) {
     ring(&rt, &desk.other);
     for _ in 0..2 {
         assert!(rt; polls(&rt, &mut desk.poll, None));
-        assert!(rt; gives(&mut desk.poll, &[posted(CELL), posted(OTHER)]));
+        assert!(rt; gives(&mut desk.poll, &[posted_event(CELL), posted_event(OTHER)]));
         desk.poll.end_event();
     }
     assert!(rt; polls(&rt, &mut desk.poll, None));
-    assert_eq!(rt; next(&mut desk.poll), Some(posted(CELL)));
+    assert_eq!(rt; next(&mut desk.poll), Some(posted_event(CELL)));
     assert_eq!(rt; turn(&rt, &mut desk.poll, &mut desk.cell), Some(true));
 }
 
@@ -186,13 +186,13 @@ fn left_over_events_come_before_a_new_batch(rt: HostRuntime) {
     assert!(rt; scripts(desk.poll.poller_mut(), rt.alloc(), 1, &[FREE, OTHER]));
     assert!(rt; scripts(desk.poll.poller_mut(), rt.alloc(), 1, &[OTHER, u64::MAX]));
     assert!(rt; polls(&rt, &mut desk.poll, None));
-    assert_eq!(rt; next(&mut desk.poll), Some(polled(FREE)));
+    assert_eq!(rt; next(&mut desk.poll), Some(polled_event(FREE)));
     ring(&rt, &desk.cell);
     assert!(rt; polls(&rt, &mut desk.poll, None));
     assert!(rt;
         gives(
             &mut desk.poll,
-            &[polled(OTHER), posted(CELL), polled(OTHER)]
+            &[polled_event(OTHER), posted_event(CELL), polled_event(OTHER)]
         )
     );
 }
@@ -202,11 +202,11 @@ fn a_wait_beside_a_left_over_event_is_asked_as_0(rt: HostRuntime) {
     let mut poll = new_poll(&rt, rt.alloc());
     assert!(rt; scripts(poll.poller_mut(), rt.alloc(), 1, &[FREE, OTHER]));
     assert!(rt; polls(&rt, &mut poll, None));
-    assert_eq!(rt; next(&mut poll), Some(polled(FREE)));
+    assert_eq!(rt; next(&mut poll), Some(polled_event(FREE)));
     assert!(rt; polls(&rt, &mut poll, None));
-    assert!(rt; gives(&mut poll, &[polled(OTHER)]));
+    assert!(rt; gives(&mut poll, &[polled_event(OTHER)]));
     assert!(rt; polls(&rt, &mut poll, nanos(9)));
-    assert!(rt; asked(&mut poll, &[None, nanos(0), nanos(9)]));
+    assert!(rt; was_asked(&mut poll, &[None, nanos(0), nanos(9)]));
 }
 
 #[test]
@@ -224,7 +224,7 @@ fn a_pass_that_is_unspent_nudges_the_poller(rt: HostRuntime) {
     let mut desk = Desk::new(&rt, rt.alloc());
     ring(&rt, &desk.cell);
     assert!(rt; polls(&rt, &mut desk.poll, None));
-    assert_eq!(rt; next(&mut desk.poll), Some(posted(CELL)));
+    assert_eq!(rt; next(&mut desk.poll), Some(posted_event(CELL)));
     assert!(rt; !desk.poll.poller_mut().is_nudged());
     desk.poll.end_event();
     assert!(rt; desk.poll.poller_mut().is_nudged());
@@ -244,7 +244,7 @@ fn a_cell_that_moves_leaves_its_key_to_another(rt: HostRuntime) {
     assert!(rt; register(&rt, &mut desk.cell, token(0)).is_ok());
     assert!(rt; register(&rt, &mut desk.other, token(2)).is_ok());
     assert!(rt; polls(&rt, &mut desk.poll, None));
-    assert_eq!(rt; next(&mut desk.poll), Some(posted(FREE)));
+    assert_eq!(rt; next(&mut desk.poll), Some(posted_event(FREE)));
     assert_eq!(rt; turn(&rt, &mut desk.poll, &mut desk.cell), Some(true));
     assert!(rt; gives(&mut desk.poll, &[]));
 }
@@ -261,7 +261,7 @@ fn a_poll_that_fails_gathers_nothing(rt: HostRuntime) {
     assert_eq!(rt; kind_of(refused), Some(io::ErrorKind::PermissionDenied));
     assert!(rt; gives(&mut poll, &[]));
     assert!(rt; polls(&rt, &mut poll, None));
-    assert!(rt; gives(&mut poll, &[posted(CELL)]));
+    assert!(rt; gives(&mut poll, &[posted_event(CELL)]));
 }
 
 #[test]
@@ -284,7 +284,7 @@ fn a_wait_that_is_interrupted_goes_on_with_what_is_left(rt: HostRuntime) {
         (&[100], &[100]),
     ];
     for (moments, wanted) in table {
-        let mut poll = interrupted(&rt, rt.alloc(), moments);
+        let mut poll = new_interrupted(&rt, rt.alloc(), moments);
         assert!(rt; has_asked(&mut poll, wanted));
         assert!(rt; gives(&mut poll, &[]));
     }
@@ -309,13 +309,13 @@ fn a_fault_of_the_script_keeps_left_over_event_mark_and_timer(rt: HostRuntime) {
     assert!(rt; scripts(desk.poll.poller_mut(), rt.alloc(), 0, &[FREE, OTHER]));
     assert!(rt; ends_so(&mut desk.poll, 10, ScriptEnd::Fault));
     assert!(rt; polls(&rt, &mut desk.poll, None));
-    assert_eq!(rt; next(&mut desk.poll), Some(polled(FREE)));
+    assert_eq!(rt; next(&mut desk.poll), Some(polled_event(FREE)));
     ring(&rt, &desk.cell);
     let refused = poll_once(&rt, &mut desk.poll, None);
     assert_eq!(rt; kind_of(refused), Some(io::ErrorKind::Other));
-    assert!(rt; gives(&mut desk.poll, &[polled(OTHER)]));
+    assert!(rt; gives(&mut desk.poll, &[polled_event(OTHER)]));
     assert!(rt; polls(&rt, &mut desk.poll, None));
-    assert!(rt; gives(&mut desk.poll, &[posted(CELL), due(1)]));
+    assert!(rt; gives(&mut desk.poll, &[posted_event(CELL), due(1)]));
 }
 
 #[test]
@@ -325,7 +325,7 @@ fn a_batch_is_posted_then_polled_then_due_events(rt: HostRuntime) {
     assert!(rt; desk.poll.insert_timer(at(5), token(0)).is_ok());
     assert!(rt; scripts(desk.poll.poller_mut(), rt.alloc(), 5_000_000, &[CELL]));
     assert!(rt; polls(&rt, &mut desk.poll, None));
-    assert!(rt; gives(&mut desk.poll, &[posted(OTHER), polled(CELL), due(0)]));
+    assert!(rt; gives(&mut desk.poll, &[posted_event(OTHER), polled_event(CELL), due(0)]));
 }
 
 #[test]
@@ -402,12 +402,12 @@ const OTHER: u64 = 0x300_0000_0000;
 // What is seen of an event: its key, whether it is ready to be read, and whether it was posted.
 type Seen = (u64, bool, bool);
 
-fn posted(key: u64) -> Seen {
+fn posted_event(key: u64) -> Seen {
     (key, true, true)
 }
 
 // One that the scripted poller gave.
-fn polled(key: u64) -> Seen {
+fn polled_event(key: u64) -> Seen {
     (key, false, false)
 }
 
@@ -495,7 +495,7 @@ fn shows<R: Wait + Drop>(poll: &Scripted<R>, nanos: u64) -> bool {
 }
 
 // Whether just these waits were asked.
-fn asked<R: Wait + Drop>(poll: &mut Scripted<R>, wanted: &[Option<Duration>]) -> bool {
+fn was_asked<R: Wait + Drop>(poll: &mut Scripted<R>, wanted: &[Option<Duration>]) -> bool {
     poll.poller_mut().waits() == wanted
 }
 
@@ -519,7 +519,7 @@ fn ends_so<R: Wait + Drop>(poll: &mut Scripted<R>, millis: u64, end: ScriptEnd) 
 }
 
 // A wait of 100 ms that is interrupted at these moments.
-fn interrupted<R: Wait + Clone + Drop + Abort>(
+fn new_interrupted<R: Wait + Clone + Drop + Abort>(
     rt: &R,
     alloc: Global,
     moments: &[u64],

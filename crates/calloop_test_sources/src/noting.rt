@@ -71,7 +71,7 @@ impl Notebook {
     }
 
     /// Whether this was asked, in this order, since this was called last.
-    pub fn asked(&self, wanted: &[(u32, Asked)]) -> bool {
+    pub fn was_asked(&self, wanted: &[(u32, Asked)]) -> bool {
         match self.notes.asked.try_borrow_mut() {
             Ok(mut asked) => {
                 let same = asked.as_slice() == wanted;

@@ -8,7 +8,7 @@ use Rattle.calloop_wake.specs.declared.wake.tasks.Task.{Task}
 use Rattle.calloop_wake.specs.declared.wake.tasks.TaskKey.{TaskKey}
 use Rattle.calloop_wake.specs.Cells.{is_own}
 use Rattle.calloop_wake.specs.Tasks.{phase_at, after_step, in_poll, woken_phase, settled_phase}
-use Rattle.calloop_wake.specs.Executors.{ExecutorCell, with_slot, after_settle, after_pop, settled_at, taken_of, after_clear_key, polling, AreNumbered, IsKeepingTasks}
+use Rattle.calloop_wake.specs.Executors.{ExecutorCell, with_slot, after_settle, after_pop, settled_at, taken_of, after_clear_key, in_its_poll, AreNumbered, IsKeepingTasks}
 use Rattle.calloop_wake.specs.ExecutorKind.{ExecutorPast, unused_executor, ExecutorStep, Put, Wake, Pop, EndTurn, executor_needs, executor_after, given_of, given_by, past_after, IsStandingPast, executor_kind}
 use Rattle.calloop_wake.proofs.Schedules.{IsLawful, IsFresh}
 use Rattle.calloop_wake.proofs.Lawful.{own-is, and-left}
@@ -76,7 +76,7 @@ same-stepped f n (Some that) task e = elim (eqb_tells that.number n) [
   | inr h ↦ (that, refl, ap (λ (t : Task). t.number) (same_Some _ task (sym (ap (λ (b : Bool). if b then Some (record that { phase = f that.phase }) else Some that) h.0) ∙ e)))
 ]
 
-same-polling : (was : Option Task) → IsSameIn was (polling was)
+same-polling : (was : Option Task) → IsSameIn was (in_its_poll was)
 same-polling None task e = absurd (none-some task e)
 same-polling (Some that) task e = (that, refl, ap (λ (t : Task). t.number) (same_Some _ task e))
 

@@ -11,7 +11,7 @@ use Rattle.calloop_wake.specs.declared.wake.tasks.TaskKey.{TaskKey}
 use Rattle.calloop_wake.specs.Cells.{is_own}
 use Rattle.calloop_wake.specs.Tasks.{phase_if, phase_at, after_step, is_idle, is_woken, is_awake, in_poll, woken_phase, settled_phase, slot_if}
 use Rattle.calloop_wake.specs.ExecutorKind.{ExecutorStep, Put, Wake, Pop, EndTurn, executor_needs, executor_after}
-use Rattle.calloop_wake.specs.Executors.{ExecutorCell, IsAwake, fresh_executor, with_slot, after_put, after_wake, after_settle, settled_at, taken_of, after_pop, after_end, after_end_turn, opens, in_turn, after_clear_key, is_empty, AreQueued, ArePolled, AreSorted, IsKeepingTasks, IsStandingExecutor, polling, key_in}
+use Rattle.calloop_wake.specs.Executors.{ExecutorCell, IsAwake, fresh_executor, with_slot, after_put, after_wake, after_settle, settled_at, taken_of, after_pop, after_end, after_end_turn, opens, in_turn, after_clear_key, is_empty, AreQueued, ArePolled, AreSorted, IsKeepingTasks, IsStandingExecutor, in_its_poll, key_in}
 use Rattle.calloop_wake.proofs.Sorted.{with_slot_cases, numbered-kept, numbered-gone, numbered-new, queued-add, queued-keep, queued-take, polled-keep, polled-mark, polled-settle, polled-take}
 
 -- writing what is there changes nothing
@@ -339,7 +339,7 @@ pub take-some : (slot : ℕ) (rest : List ℕ) (c : ExecutorCell) (task : Task) 
     → c.draining ≡ true → IsKeepingTasks c → IsKeepingTasks (taken_of (slot ∷ rest) c)
 take-some slot rest c task first at none opened k =
     let that : Task = record task { phase = Polling } in
-    let now : polling (c.tasks slot) ≡ Some that = ap polling at in
+    let now : in_its_poll (c.tasks slot) ≡ Some that = ap in_its_poll at in
     let named : key_in slot (c.tasks slot) ≡ Some (record { slot = slot; number = task.number }) = ap (key_in slot) at in
     let queued : AreQueued c.tasks (slot ∷ rest) = subst (AreQueued c.tasks) first k.sorted.queued in
     let polled : ArePolled c.tasks None = subst (ArePolled c.tasks) none k.sorted.polled in
@@ -355,7 +355,7 @@ take-some slot rest c task first at none opened k =
           let same : record { slot = slot; number = task.number } ≡ other = same_Some _ other (sym named ∙ e) in (
             opened,
             refl,
-            subst (λ (k : TaskKey). in_poll (phase_at k (with_slot slot (polling (c.tasks slot)) c.tasks)) ≡ true) same
+            subst (λ (k : TaskKey). in_poll (phase_at k (with_slot slot (in_its_poll (c.tasks slot)) c.tasks)) ≡ true) same
                 (rw now (with_slot_cases (λ x. in_poll (phase_if task.number x) ≡ true) slot slot (Some that) c.tasks
                 (λ here. in_poll-of task.number that refl refl)
                 (λ there. absurd (there refl)))),

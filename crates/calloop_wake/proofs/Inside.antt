@@ -6,7 +6,7 @@ use Rattle.calloop_wake.specs.declared.wake.tasks.TaskKey.{TaskKey}
 use Rattle.calloop_wake.specs.declared.wake.executor.Progress.{Progress}
 use Rattle.calloop_wake.specs.Tasks.{TaskTable, task_at, phase_at, after_step, is_idle, is_woken, in_poll, woken_phase, settled_phase, slot_if}
 use Rattle.calloop_wake.specs.Cells.{Cell}
-use Rattle.calloop_wake.specs.Executors.{with_slot, inside_cell, IsKeepingTasks, ExecutorCell, AreQueued, ArePolled, AreNumbered, polling, key_in}
+use Rattle.calloop_wake.specs.Executors.{with_slot, inside_cell, IsKeepingTasks, ExecutorCell, AreQueued, ArePolled, AreNumbered, in_its_poll, key_in}
 use Rattle.calloop_wake.proofs.ExecutorSteps.{wake-keeps, put-keeps, settles-at, take-none, take-some}
 
 -- the same with what a bell has of it, whatever its key and its senders are
@@ -109,13 +109,13 @@ inside-take o old new next results pops pinged draining progress k senders key h
     let there = subst (λ (x : Option TaskTable). IsKeepingTasks (inside_cell x next results pinged draining progress k senders)) is h in
     let task : Task = record { number = key.number; home = home; phase = Queued } in
     let kept = take-some key.slot new.queue (inside_cell (Some old) next results pinged draining progress k senders) task first at settled opened there in
-    let now : polling (task_at old key.slot) ≡ Some (record { number = key.number; home = home; phase = Polling }) = ap polling at in
+    let now : in_its_poll (task_at old key.slot) ≡ Some (record { number = key.number; home = home; phase = Polling }) = ap in_its_poll at in
     let named : key_in key.slot (task_at old key.slot) ≡ Some key = ap (key_in key.slot) at in
-    let made : task_at new ≡ with_slot key.slot (polling (task_at old key.slot)) (task_at old) = t ∙ ap (λ (x : Option Task). with_slot key.slot x (task_at old)) (sym now) in
+    let made : task_at new ≡ with_slot key.slot (in_its_poll (task_at old key.slot)) (task_at old) = t ∙ ap (λ (x : Option Task). with_slot key.slot x (task_at old)) (sym now) in
     record {
       sorted = record {
         queued = subst (λ (x : ℕ → Option Task). AreQueued x new.queue) (sym made) kept.sorted.queued;
-        polled = subst (λ (x : ℕ → Option Task). ArePolled x (Some key)) (sym made) (subst (ArePolled (with_slot key.slot (polling (task_at old key.slot)) (task_at old))) named kept.sorted.polled);
+        polled = subst (λ (x : ℕ → Option Task). ArePolled x (Some key)) (sym made) (subst (ArePolled (with_slot key.slot (in_its_poll (task_at old key.slot)) (task_at old))) named kept.sorted.polled);
         numbered = subst (λ (x : ℕ → Option Task). AreNumbered x next) (sym made) kept.sorted.numbered;
       };
       lit = kept.lit;

@@ -7,7 +7,7 @@ use Rattle.calloop_wake.specs.declared.wake.tasks.TaskKey.{TaskKey}
 use Rattle.calloop_wake.specs.Channels.{after_pop_of, has_room, is_below}
 use Rattle.calloop_wake.specs.ChannelKind as channel
 use Rattle.calloop_wake.specs.ChannelKind.{ChannelPast, ChannelStep, channel_kind, channel_needs, channel_after}
-use Rattle.calloop_wake.specs.Executors.{ExecutorCell, settled_at, taken_of, after_take, after_pop, after_wake, key_in, polling}
+use Rattle.calloop_wake.specs.Executors.{ExecutorCell, settled_at, taken_of, after_take, after_pop, after_wake, key_in, in_its_poll}
 use Rattle.calloop_wake.specs.Tasks.{is_woken, is_idle, phase_if, after_step, settled_phase, woken_phase, slot_if}
 use Rattle.calloop_wake.specs.ExecutorKind as executor
 use Rattle.calloop_wake.specs.ExecutorKind.{ExecutorPast, ExecutorStep, executor_kind, executor_needs, past_after}
@@ -99,7 +99,7 @@ popped_again m c h =
     let there : settled.tasks 3 ≡ Some (record { number = 0; phase = Queued; home = 0 }) = ap (λ (t : Option Task). after_step settled_phase 0 t) h.task in
     let taken : ExecutorCell = taken_of (3 ∷ []) settled in
     let is : after_pop false c ≡ taken = same ∙ ap (λ q. taken_of q settled) queued in
-    let running : taken.tasks 3 ≡ Some (record { number = 0; phase = Polling; home = 0 }) = ap polling there in
+    let running : taken.tasks 3 ≡ Some (record { number = 0; phase = Polling; home = 0 }) = ap in_its_poll there in
     subst (λ (d : ExecutorCell). IsPolled (m + 1) (after_wake (record { slot = 3; number = 0 }) d)) (sym is)
     (record {
       draining = h.draining;

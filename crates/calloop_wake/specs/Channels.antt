@@ -32,7 +32,7 @@ use Rattle.std.specs.Prelude.{
 use Rattle.logbook.specs.Pages.{Book}
 use Rattle.calloop_wake.specs.Passes.{Taken, Keyed}
 use Rattle.calloop_wake.specs.Cells.{Cell, fresh, one, opens, after_set_key}
-use Rattle.calloop_wake.specs.Bells.{BellView, after_ping, after_drain, after_end, telling}
+use Rattle.calloop_wake.specs.Bells.{BellView, after_ping, after_drain, after_end, after_tell}
 use Rattle.calloop_wake.specs.declared.wake.Receipt.{Receipt}
 use Rattle.calloop_wake.specs.declared.wake.Twin.{Twin}
 use Rattle.calloop_wake.specs.declared.wake.ChannelTurn.{ChannelTurn}
@@ -107,7 +107,7 @@ pop_answer c = popped_of c.queue (tells c.cell)
 
 abbrev pub after_pop_of : {T : Type 0} → List T → ChannelCell T → ChannelCell T
 after_pop_of (x ∷ xs) c = record { cell = c.cell; queue = xs; bound = c.bound; last = AnItem }
-after_pop_of [] c = record { cell = telling c.cell; queue = []; bound = c.bound; last = NoItem }
+after_pop_of [] c = record { cell = after_tell c.cell; queue = []; bound = c.bound; last = NoItem }
 
 abbrev pub after_pop : {T : Type 0} → ChannelCell T → ChannelCell T
 after_pop c = after_pop_of c.queue c

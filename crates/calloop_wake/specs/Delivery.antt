@@ -44,8 +44,8 @@ AllOwed K n k [] = Unit {0}
 AllOwed K n k (s ∷ ss) = IsOwed K n k s × AllOwed K n k ss
 
 -- the loop's own steps then: its wait returns, the posted keys up to this one are taken, and the pass of this one opens a turn
-abbrev pub taking : (K : Kind) → (cell key : ℕ) → List (WakeStep K.Own)
-taking K n k = Return ∷ Unpost (k + 1) ∷ OpenTurn n k ∷ []
+abbrev pub steps_to_a_turn : (K : Kind) → (cell key : ℕ) → List (WakeStep K.Own)
+steps_to_a_turn K n k = Return ∷ Unpost (k + 1) ∷ OpenTurn n k ∷ []
 
 -- from here on a turn of this cell can be opened under this key
 pub record CanBeDelivered (K : Kind) (w : WakeWorld K.Cell) (n k : ℕ) : Type 0 where
@@ -57,6 +57,6 @@ pub record CanBeDelivered (K : Kind) (w : WakeWorld K.Cell) (n k : ℕ) : Type 0
   -- behind which the loop is awake, or its wait is told
   pub told : ((after_all K w owed).loop ≡ Awake) ⊎ ((after_all K w owed).signal ≡ true)
   -- and by the loop's own
-  pub taken : IsSchedule K (after_all K w owed) (taking K n k)
+  pub taken : IsSchedule K (after_all K w owed) (steps_to_a_turn K n k)
   pub opens : K.opens k ((after_all K w owed).cells n) ≡ true
-  pub opened : K.draining ((after_all K (after_all K w owed) (taking K n k)).cells n) ≡ true
+  pub opened : K.draining ((after_all K (after_all K w owed) (steps_to_a_turn K n k)).cells n) ≡ true

@@ -108,16 +108,16 @@ key_in slot None = None
 key_in slot (Some task) = Some (record { slot = slot; number = task.number })
 
 -- the task, in its poll
-abbrev pub polling : Option Task → Option Task
-polling None = None
-polling (Some task) = Some (record task { phase = Polling })
+abbrev pub in_its_poll : Option Task → Option Task
+in_its_poll None = None
+in_its_poll (Some task) = Some (record task { phase = Polling })
 
 -- the first task of the queue is polled from now on, where there is one
 abbrev pub taken_of : List ℕ → ExecutorCell → ExecutorCell
 taken_of [] c = record c { progress = record { pops = c.progress.pops + 1; dry = true; polled = None } }
 taken_of (slot ∷ rest) c =
     record c {
-      tasks = with_slot slot (polling (c.tasks slot)) c.tasks;
+      tasks = with_slot slot (in_its_poll (c.tasks slot)) c.tasks;
       queue = rest;
       progress = record { pops = c.progress.pops + 1; dry = false; polled = key_in slot (c.tasks slot) };
     }

@@ -81,7 +81,7 @@ fn a_refusal_has_the_kind_of_its_io_error(rt: HostRuntime) {
 
 #[test]
 fn a_cause_is_shown_after_what_it_refused(rt: HostRuntime) {
-    let cause = gone();
+    let cause = not_found();
     assert!(rt; shows(rt.alloc(), &cause, "underlying IO error: gone"));
     let refused = InsertError {
         inserted: 5u8,
@@ -95,7 +95,7 @@ fn a_cause_is_shown_after_what_it_refused(rt: HostRuntime) {
 fn a_refused_insertion_keeps_the_kind_of_its_cause(rt: HostRuntime) {
     let refused = InsertError {
         inserted: 5u8,
-        error: gone(),
+        error: not_found(),
     };
     let made = io::Error::from(Error::from(refused));
     assert_eq!(rt; made.kind(), io::ErrorKind::NotFound);
@@ -498,7 +498,7 @@ fn shows<T: Display>(alloc: Global, shown: &T, text: &str) -> bool {
 }
 
 // A refusal by the system.
-fn gone() -> Error {
+fn not_found() -> Error {
     Error::from(io::Error::new(io::ErrorKind::NotFound, "gone"))
 }
 

@@ -293,13 +293,13 @@ fn what_is_refused_stands_as_far_as_it_came(rt: HostRuntime) {
         ),
     ];
     for (before, (number, asked), call, after) in TABLE {
-        let refused = refused(&rt, rt.alloc(), before, (number, asked), call);
+        let refused = shape_after_refusal(&rt, rt.alloc(), before, (number, asked), call);
         assert_eq!(rt; refused, Some(after));
     }
 }
 
 // The state after a call that a source refuses. None where it succeeds.
-fn refused<R: Wait + Clone + Drop>(
+fn shape_after_refusal<R: Wait + Clone + Drop>(
     rt: &R,
     alloc: Global,
     before: Shape,
@@ -328,7 +328,7 @@ fn replaced_twice<R: Wait + Clone + Drop>(rt: &R, alloc: Global) -> Option<Shape
         return None;
     }
     bench.asks(Call::Reregister)?;
-    let asked = bench.asked(&[(1, Asked::Unregister), (3, Asked::Register)]);
+    let asked = bench.was_asked(&[(1, Asked::Unregister), (3, Asked::Register)]);
     if !asked || bench.sources() != 1 {
         return None;
     }
@@ -576,16 +576,16 @@ fn wrapped_pings_keep_the_laws(rt: HostRuntime) {
 fn a_batch_goes_in_its_order_up_to_the_first_error(rt: HostRuntime) {
     for asked in [Asked::Register, Asked::Reregister, Asked::Unregister] {
         let all = [(1, asked), (2, asked), (3, asked)];
-        let none = batched(&rt, rt.alloc(), asked, None, &all);
+        let none = run_batch(&rt, rt.alloc(), asked, None, &all);
         assert_eq!(rt; none, Some(true));
         let two = [(1, asked), (2, asked)];
-        let second = batched(&rt, rt.alloc(), asked, Some((2, asked)), &two);
+        let second = run_batch(&rt, rt.alloc(), asked, Some((2, asked)), &two);
         assert_eq!(rt; second, Some(false));
     }
 }
 
 // Whether a batch of three of which this is refused answers `Ok`, where just this was asked.
-fn batched<R: Wait + Clone + Drop>(
+fn run_batch<R: Wait + Clone + Drop>(
     rt: &R,
     alloc: Global,
     call: Asked,
@@ -604,5 +604,5 @@ fn batched<R: Wait + Clone + Drop>(
         Asked::Reregister => batch.reregister(&mut poll, &mut factory),
         _ => batch.unregister(&mut poll),
     };
-    notebook.asked(wanted).then_some(answer.is_ok())
+    notebook.was_asked(wanted).then_some(answer.is_ok())
 }

@@ -53,7 +53,7 @@ impl<R: Wait + Clock + Clone + Drop> End<R> {
     }
 
     // What it gives, once it is done.
-    fn done(&mut self, moved: usize) -> Option<Done> {
+    fn outcome(&mut self, moved: usize) -> Option<Done> {
         match self {
             End::Server(_, _) if moved == 0 => Some(Done::Served),
             End::Client(_, _, heard) if heard.len() >= LINES.len() => {
@@ -105,7 +105,7 @@ impl<R: Wait + Clock + Clone + Drop> Future<R> for End<R> {
                 Poll::Ready(Err(cause)) => return Poll::Ready(Done::Failed(cause)),
                 Poll::Pending => return Poll::Pending,
             };
-            if let Some(done) = self.done(moved) {
+            if let Some(done) = self.outcome(moved) {
                 return Poll::Ready(done);
             }
         }

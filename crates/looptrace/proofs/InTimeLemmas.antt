@@ -25,7 +25,7 @@ use Rattle.looptrace.specs.declared.command.Command.TheVariants.{Answer as Event
 use Rattle.looptrace.specs.declared.source.Teller.{Teller}
 use Rattle.looptrace.specs.declared.source.Alarm.{Alarm}
 use Rattle.looptrace.specs.Sources.{Source, source_meaning, no_idles}
-use Rattle.looptrace.specs.Runs.{State, Calls, Carried, IsPingOf, IsNewPing, IsNewTimer, token_with, RemoveOf, showing, DispatchLine, InsertLine, AnswerLine, RingLine, CloseLine, ClockLine, trace_step, MayWrite}
+use Rattle.looptrace.specs.Runs.{State, Calls, Carried, IsPingOf, IsNewPing, IsNewTimer, token_with, RemoveOf, with_moment, DispatchLine, InsertLine, AnswerLine, RingLine, CloseLine, ClockLine, trace_step, MayWrite}
 use Rattle.looptrace.specs.Commands.{command_of}
 use Rattle.looptrace.specs.Lines.{lines_of}
 use Rattle.looptrace.specs.Texts.{next_number}
@@ -115,7 +115,7 @@ asks_close : (s t : State) (said : List ℕ) (name : List ℕ) → CloseLine s n
 asks_close s t said name h = asks_same s t (ap (λ (u : State). u.loop) h.1)
 
 asks_clock : (s t : State) (moment : ℕ) → ClockLine s moment t → Asks s.loop t.loop
-asks_clock s t moment h = asks_once (NewPoller (showing moment s.loop.poll.poller)) (OldPoller s.loop.poll.poller) s.loop t.loop tt h.changed
+asks_clock s t moment h = asks_once (NewPoller (with_moment moment s.loop.poll.poller)) (OldPoller s.loop.poll.poller) s.loop t.loop tt h.changed
 
 asks_fault : (s t : State) (said : List ℕ) → ◌≡◌ {A = Option (State × List ℕ)} (Some (t, said)) (Some (record s { fault = true }, [])) → Asks s.loop t.loop
 asks_fault s t said h = asks_same s t (ap (λ (u : State). u.loop) (state_of_some t (record s { fault = true }) said [] h))

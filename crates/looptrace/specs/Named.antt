@@ -12,16 +12,16 @@ abbrev pub Named : Type 0
 Named = List ℕ × Option Book
 
 -- what stands under this name
-abbrev pub standing : (name : List ℕ) → List Named → Option (Option Book)
-standing name ss = lookup (is_at (slice_cmp nat_cmp name)) ss
+abbrev pub stands_under : (name : List ℕ) → List Named → Option (Option Book)
+stands_under name ss = lookup (is_at (slice_cmp nat_cmp name)) ss
 
 -- some source has the name
 abbrev pub is_taken : (name : List ℕ) → List Named → Bool
-is_taken name ss = is_some (standing name ss)
+is_taken name ss = is_some (stands_under name ss)
 
 -- the cell of the open ping of this name
 abbrev pub ping_named : (name : List ℕ) → List Named → Option Book
-ping_named name ss = option_and_then (λ ping. ping) (standing name ss)
+ping_named name ss = option_and_then (λ ping. ping) (stands_under name ss)
 
 -- the sources with this one under its name
 abbrev pub with_source : (name : List ℕ) → (ping : Option Book) → List Named → List Named

@@ -194,12 +194,12 @@ abbrev pub RemoveLine : State → (slot version : ℕ) → State → List ℕ �
 RemoveLine s slot version t said = RemoveOf s (token_with slot version) t said
 
 -- a poller that shows another moment
-abbrev pub showing : (moment : ℕ) → ScriptPoller → ScriptPoller
-showing moment p = record p { moment = record { nanos = moment } }
+abbrev pub with_moment : (moment : ℕ) → ScriptPoller → ScriptPoller
+with_moment moment p = record p { moment = record { nanos = moment } }
 
 -- the clock is set, and nothing else changes
 pub record ClockLine (s : State) (moment : ℕ) (t : State) : Type 0 where
-  pub changed : Calls (NewPoller (showing moment s.loop.poll.poller)) (OldPoller s.loop.poll.poller) s.loop t.loop
+  pub changed : Calls (NewPoller (with_moment moment s.loop.poll.poller)) (OldPoller s.loop.poll.poller) s.loop t.loop
   pub sources : t.sources ≡ s.sources
   pub fault : t.fault ≡ s.fault
   pub pending : t.pending ≡ s.pending

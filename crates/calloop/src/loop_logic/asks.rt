@@ -4,7 +4,7 @@ ghost use Rattle.std.specs.Prelude.{◌≡◌, ◌⊎◌, ◌+◌, ◌-◌, ◌^
 ghost use Rattle.std.specs.VecDeque.{deque_len, deque_capacity};
 ghost use Rattle.calloop_wake.specs.declared.error.Error.TheVariants.{OutOfMemory, TooManyTickets};
 ghost use Rattle.calloop.specs.declared.loop_logic.asks.Request.TheVariants.{Insert, Enable, Update, Disable, Remove, Idle as IdleOf, Cancel};
-ghost use Rattle.calloop.specs.Askings.{IsAsked, CannotAsk, OnlyAsks, StandsAt, Take, ask_after, after_begin, without_old, answer_under, idle_begun, is_other_idle, is_since, no_asks, of_turn, owing, with_owed_answer, request_of, running_of, taken_up, with_answer, with_idle, with_new_idle, without, without_idle};
+ghost use Rattle.calloop.specs.Askings.{IsAsked, CannotAsk, OnlyAsks, StandsAt, Take, ask_after, after_begin, without_old, answer_under, idle_begun, is_other_idle, is_since, no_asks, of_turn, with_answer_owed, with_owed_answer, request_of, running_of, taken_up, with_answer, with_idle, with_new_idle, without, without_idle};
 
 use calloop_core::sources::{Asking, Choice, Dispatcher};
 use calloop_wake::error::{Error, InsertError, Result};
@@ -429,7 +429,7 @@ impl<D, I> Requests<D, I> {
 
     // Its answer is owed from now on.
     pub(super) fn owe(&mut self)
-        ensures { self.new ≡ owing self.old }
+        ensures { self.new ≡ with_answer_owed self.old }
     {
         self.owed = self.serving;
         self.serving = None;

@@ -110,7 +110,7 @@ impl<D: EventDispatcher<P, C, R>, P: Poller, C: Clock, R: Wait + Drop> EventLoop
         self.warnings.clear();
         self.settle_marked();
         self.tell_of_wait(failure)?;
-        let from = self.poll.waiting();
+        let from = self.poll.events_waiting();
         if let Err(cause) = self.poll.poll(rt, timeout) {
             *failure = Error::IoError(cause);
             return Err(Failed);

@@ -5,7 +5,7 @@ ghost use Rattle.calloop_wake.specs.declared.list.Content.TheVariants.{InTurn};
 ghost use Rattle.calloop_wake.specs.Slots.{content_at as named_by, source_of, with_change, with_content};
 ghost use Rattle.calloop_core.specs.Polls.{IsReady};
 ghost use Rattle.calloop.specs.Limits.{all_limits};
-ghost use Rattle.calloop.specs.Machine.{view_of, taking};
+ghost use Rattle.calloop.specs.Machine.{view_of, with_marks_taken};
 ghost use Rattle.calloop.specs.Roles.{only, is_adapter};
 ghost use Rattle.calloop_core.specs.Marking.{AreTaken};
 ghost use Rattle.calloop.specs.declared.loop_logic.LoopCall.TheVariants.{Release};
@@ -102,7 +102,7 @@ impl<D: EventDispatcher<P, C, R>, P: Poller, C: Clock, R: Wait + Drop> EventLoop
             × AreTaken taken marked × ((timeout : Option ℕ) (x : D.Data)
             → Goes D.means D.Idle.runs P.outside (Settling timeout marked x)
             (Sleeping timeout self.new.lifecycle.tokens.items x)
-            (taking taken (view_of self.old)) (view_of self.new)) }
+            (with_marks_taken taken (view_of self.old)) (view_of self.new)) }
         ensures ready { (more : ℕ) → IsReady more self.old.poll → IsReady more self.new.poll }
         ensures limits { all_limits D.means self.new.sources self.new.lifecycle.tokens.items
             ≤ all_limits D.means self.old.sources self.old.lifecycle.tokens.items }

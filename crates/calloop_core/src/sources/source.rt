@@ -87,7 +87,7 @@ pub trait EventSource<P: Poller, C, R: Wait + Drop> {
     ghost use Rattle.calloop_core.specs.Events.{events_left};
     ghost use Rattle.calloop_core.specs.Calls.{CallbackCall, Went};
     ghost use Rattle.calloop_core.specs.Synthetics.{IsLent};
-    ghost use Rattle.calloop_core.specs.Deeds.{Registered, Reregistered, Unregistered, Turned, Slept, Noticed, Heard, heard};
+    ghost use Rattle.calloop_core.specs.Deeds.{Registered, Reregistered, Unregistered, Turned, Slept, Noticed, Heard, new_heard};
     ghost use Rattle.calloop_core.specs.Meanings.{Meaning, Does, IsKeeping};
 
     /// What its callback is called with.
@@ -119,7 +119,7 @@ pub trait EventSource<P: Poller, C, R: Wait + Drop> {
         F: Callback<Self::Event, Self::Metadata, Self::Ret, X, Q>,
         ensures { (calls : List (CallbackCall Self.Event Self.Metadata Self.Ret))
             × Does P.outside means self.old (poll_view poll.old)
-            (Turned readiness token (heard calls result)) self.new (poll_view poll.new)
+            (Turned readiness token (new_heard calls result)) self.new (poll_view poll.new)
             × Went F.may Q.reaches callback.old «data».old requests.old calls
             callback.new «data».new requests.new };
 

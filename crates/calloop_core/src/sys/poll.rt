@@ -4,7 +4,7 @@ ghost use Rattle.std.specs.Borrow.{Lends, sem};
 ghost use Rattle.calloop_wake.specs.declared.error.Error.TheVariants.{OutOfMemory};
 ghost use Rattle.calloop_core.specs.Batches.{ArePosted};
 ghost use Rattle.calloop_core.specs.Pollers.{events_per_wait};
-ghost use Rattle.calloop_core.specs.Polls.{PollView, PollStep, TakePass, PutBack, poll_view, poll_after, with_pass, IsPassOf, IsReady, cut, head_of, after_gather, after_count, joining, marks_taken};
+ghost use Rattle.calloop_core.specs.Polls.{PollView, PollStep, TakePass, PutBack, poll_view, poll_after, with_pass, IsPassOf, IsReady, after_cut, head_of, after_gather, after_count, with_events, marks_taken};
 ghost use Rattle.calloop_core.specs.Events.{events_left, events_of};
 ghost use Rattle.calloop_core.specs.Marking.{HasTaken};
 ghost use Rattle.calloop_core.specs.SlotOrder.{IsInSlotOrder};
@@ -204,7 +204,7 @@ impl<P: Poller, C, R: Wait + Drop> Poll<P, C, R> {
     /// The events that a source asks for before a wait join the batch in their order, in the room that was reserved besides.
     pub fn join(&mut self, given: &[(Readiness, Token)])
         requires { IsReady (length given.now) self.old }
-        ensures view { poll_view self.new ≡ joining given.now (poll_view self.old) }
+        ensures view { poll_view self.new ≡ with_events given.now (poll_view self.old) }
         ensures ready { (more : ℕ) → IsReady (length given.now + more) self.old
             → IsReady more self.new }
     {
@@ -212,7 +212,7 @@ impl<P: Poller, C, R: Wait + Drop> Poll<P, C, R> {
     }
 
     /// How many events wait for their turn.
-    pub fn waiting(&self) -> usize
+    pub fn events_waiting(&self) -> usize
         ensures { result ≡ length (poll_view self.now).batch }
     {
         self.batch.len()
@@ -230,7 +230,7 @@ impl<P: Poller, C, R: Wait + Drop> Poll<P, C, R> {
     pub fn next_event(&mut self) -> Option<Pending>
         ensures event { result ≡ head_of (poll_view self.old).batch }
         ensures pass { IfSome result (λ e. IsPassOf e (poll_view self.new).pass) }
-        ensures view { poll_view self.new ≡ cut (poll_view self.old) }
+        ensures view { poll_view self.new ≡ after_cut (poll_view self.old) }
     {
         self.batch.next_event(&self.rt)
     }

@@ -19,7 +19,7 @@ fn what_is_written_is_read_at_the_other_end(rt: HostRuntime) {
 
 #[test]
 fn a_stream_over_tcp_is_read_and_written(rt: HostRuntime) {
-    let (mut near, mut far) = connected(&rt);
+    let (mut near, mut far) = connect(&rt);
     assert!(rt; writes(&mut near, b"there") && reads(&mut far, b"there"));
     assert!(rt; writes(&mut far, b"and back") && reads(&mut near, b"and back"));
     assert_eq!(rt;
@@ -99,7 +99,7 @@ fn any_port() -> SocketAddr {
 }
 
 // Two ends of a connection over TCP.
-pub(super) fn connected<R: Net + Abort>(rt: &R) -> (MioIo, MioIo) {
+pub(super) fn connect<R: Net + Abort>(rt: &R) -> (MioIo, MioIo) {
     let listener = TcpListener::bind(rt, any_port()).expect(rt, "a listener");
     let address = listener.local_addr().expect(rt, "an address");
     let near = TcpStream::connect(rt, address).expect(rt, "a stream");

@@ -1,5 +1,5 @@
 //! The poller of the operating system, over two streams that are connected.
-use super::streams::connected;
+use super::streams::connect;
 use calloop_core::sys::system::{MioIo, MioPoller, Precision, SystemClock};
 use calloop_core::sys::{Clock, EVENTS_PER_WAIT, Interest, Poller, Readiness};
 use calloop_wake::wake::Notify;
@@ -158,7 +158,7 @@ fn what_the_machine_refuses_of_a_level_socket_is_answered(rt: HostRuntime) {
 
 #[test]
 fn a_level_socket_over_tcp_is_told_of_in_each_wait(rt: HostRuntime) {
-    let mut desk = Desk::over(&rt, connected(&rt));
+    let mut desk = Desk::over(&rt, connect(&rt));
     assert!(rt; desk.add_level(KEY, Interest::READ).is_ok());
     assert!(rt; desk.writes() && desk.comes_to_tell(&[(KEY, true, false)]));
     assert!(rt; desk.tells(&[(KEY, true, false)]));
@@ -251,7 +251,7 @@ fn an_empty_interest_of_a_level_socket_is_refused(rt: HostRuntime) {
 
 #[test]
 fn a_listener_is_told_of_until_all_are_accepted(rt: HostRuntime) {
-    let (mut listener, address) = listening(&rt);
+    let (mut listener, address) = new_listener(&rt);
     let mut desk = Desk::new(&rt);
     assert!(rt;
         desk.poller
@@ -404,7 +404,7 @@ impl<R: MachineClock + Clone + Drop> Desk<R> {
 }
 
 // A listener and where it listens.
-fn listening<R: Net + Abort>(rt: &R) -> (MioIo, SocketAddr) {
+fn new_listener<R: Net + Abort>(rt: &R) -> (MioIo, SocketAddr) {
     let any = SocketAddr::from((Ipv4Addr::LOCALHOST, 0));
     let listener = TcpListener::bind(rt, any).expect(rt, "a listener");
     let address = listener.local_addr().expect(rt, "an address");

@@ -136,9 +136,9 @@ where
             Act::Script(millis, keys) => self.script(millis, keys),
             Act::Says(timeout, numbers) => self.dispatch(timeout, numbers) == Some(true),
             Act::Fails(numbers) => self.dispatch(None, numbers) == Some(false),
-            Act::Asked(waits) => self.asked(waits),
+            Act::Asked(waits) => self.was_asked(waits),
             Act::Told(place, answers) => self.all_told(place, answers),
-            Act::Untold(place) => self.told(place).is_none(),
+            Act::Untold(place) => self.answer_at(place).is_none(),
             Act::Counts(named, registered, left) => {
                 self.counts(token_of(named)) == Some((registered, left))
             },
@@ -237,7 +237,7 @@ where
             return None;
         };
         let (word, given) = wanted;
-        Some(told(&answer?) == (word, named(given)))
+        Some(words_of(&answer?) == (word, token_named(given)))
     }
 
     fn ring(&mut self, place: usize) -> bool {
@@ -278,23 +278,23 @@ where
         }
     }
 
-    fn asked(&mut self, waits: &[Option<u64>]) -> bool {
+    fn was_asked(&mut self, waits: &[Option<u64>]) -> bool {
         let mut handle = self.event_loop.handle();
         let poller = handle.poller_mut();
         let same = are_waits(poller.waits(), waits);
         poller.keep_waits(8).is_ok() && same
     }
 
-    fn told(&mut self, place: usize) -> Option<(&'static str, Option<RegistrationToken>)> {
+    fn answer_at(&mut self, place: usize) -> Option<(&'static str, Option<RegistrationToken>)> {
         let ticket = *self.said.tickets.get(place)?;
         let answer = self.event_loop.handle().answer(ticket)?;
-        Some(told(&answer))
+        Some(words_of(&answer))
     }
 
     fn all_told(&mut self, place: usize, answers: &[Told]) -> bool {
         for (i, answer) in answers.iter().enumerate() {
             let (word, given) = *answer;
-            if self.told(place.saturating_add(i)) != Some((word, named(given))) {
+            if self.answer_at(place.saturating_add(i)) != Some((word, token_named(given))) {
                 return false;
             }
         }
@@ -372,11 +372,11 @@ fn are_waits(noted: &[Option<Duration>], waits: &[Option<u64>]) -> bool {
             .all(|(one, other)| *one == time(*other))
 }
 
-fn named(given: Option<Named>) -> Option<RegistrationToken> {
+fn token_named(given: Option<Named>) -> Option<RegistrationToken> {
     Some(token_of(given?))
 }
 
-fn told<D>(answer: &Answer<D>) -> (&'static str, Option<RegistrationToken>) {
+fn words_of<D>(answer: &Answer<D>) -> (&'static str, Option<RegistrationToken>) {
     match answer {
         Answer::Done => ("done", None),
         Answer::Inserted(token) => ("inserted", Some(*token)),

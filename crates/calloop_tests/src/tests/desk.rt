@@ -131,13 +131,13 @@ pub enum Call {
 /// What tests look for in a source with its callback.
 pub trait Seen {
     // How often a counter was registered and unregistered.
-    fn counted(&self) -> Option<(u32, u32)>;
+    fn counts(&self) -> Option<(u32, u32)>;
 
     // What a ping says.
     fn number(&self) -> Option<u32>;
 
     // An attendant's waits, and the events that it was told of.
-    fn attended(&self) -> Option<(u32, u32)>;
+    fn attendance(&self) -> Option<(u32, u32)>;
 
     // Whether it is a timer, whose deadline is set.
     fn postpones(&mut self, deadline: Instant) -> bool;
@@ -189,7 +189,7 @@ where
             Act::AlarmNever => self.alarm_in(Duration::MAX),
             Act::AlarmNow => self.alarm_now(),
             Act::Counter(limit, ends) => self.counter(limit, ends),
-            Act::Guarded(failures, is_stuck) => self.guarded(failures, is_stuck),
+            Act::Guarded(failures, is_stuck) => self.registers_guarded(failures, is_stuck),
             Act::Trio => self.trio(),
             _ => self.attends(act),
         }
@@ -198,8 +198,8 @@ where
     fn attends(&mut self, act: Act<'_>) -> bool {
         match act {
             Act::Attendant(asks) => self.attendant(Attendant::new(asks)),
-            Act::LeavingAttendant => self.attendant(leaving()),
-            Act::FailingAttendant => self.attendant(failing()),
+            Act::LeavingAttendant => self.attendant(leaving_attendant()),
+            Act::FailingAttendant => self.attendant(failing_attendant()),
             Act::AttendantsDispatcher => self.attendants_dispatcher(),
             Act::HandsCounterBack => self.hands_counter_back(),
             Act::HandsAttendantBack => self.hands_attendant_back(),
@@ -219,7 +219,7 @@ where
                     .says(Some(Duration::from_micros(micros)), numbers)
             }
             Act::Fails(timeout, numbers, kind) => self.table.fails(time(timeout), numbers, kind),
-            Act::Asked(waits) => self.table.asked(waits),
+            Act::Asked(waits) => self.table.was_asked(waits),
             Act::AskedMicros(waits) => self.table.asked_micros(waits),
             Act::Warns(kinds) => self.table.warns_of(kinds),
             Act::Answers(calls, wanted) => self.answers(calls, wanted),
@@ -386,7 +386,7 @@ where
         }
     }
 
-    fn guarded(&mut self, failures: u32, is_stuck: bool) -> bool {
+    fn registers_guarded(&mut self, failures: u32, is_stuck: bool) -> bool {
         let Some(ping) = self.makes() else {
             return false;
         };
@@ -454,7 +454,7 @@ where
     fn waits_of(&mut self, place: usize) -> Option<u32> {
         let token = self.token(place)?;
         let handle = self.table.event_loop.handle();
-        Some(handle.dispatcher(&token).ok()?.attended()?.0)
+        Some(handle.dispatcher(&token).ok()?.attendance()?.0)
     }
 
     fn took_ping(&self, number: u32) -> bool {
@@ -466,14 +466,14 @@ where
 
     fn took_counter(&self, counted: (u32, u32)) -> bool {
         match &self.taken {
-            Some(held) => held.counted() == Some(counted),
+            Some(held) => held.counts() == Some(counted),
             None => false,
         }
     }
 
     fn took_attendant(&self, told: u32) -> bool {
         match &self.taken {
-            Some(held) => held.attended().is_some_and(|found| found.1 == told),
+            Some(held) => held.attendance().is_some_and(|found| found.1 == told),
             None => false,
         }
     }
@@ -556,7 +556,7 @@ type Held<R> = Sources<
 >;
 
 impl<R: Wait + Drop> Seen for Held<R> {
-    fn counted(&self) -> Option<(u32, u32)> {
+    fn counts(&self) -> Option<(u32, u32)> {
         match &self.held {
             OneOf::Other(OneOf::Other(OneOf::Other(OneOf::First(held)))) => {
                 Some((held.source.registrations, held.source.unregistrations))
@@ -572,7 +572,7 @@ impl<R: Wait + Drop> Seen for Held<R> {
         }
     }
 
-    fn attended(&self) -> Option<(u32, u32)> {
+    fn attendance(&self) -> Option<(u32, u32)> {
         match &self.held {
             OneOf::Other(OneOf::Other(OneOf::First(held))) => {
                 Some((held.source.waits, held.source.told))
@@ -600,14 +600,14 @@ fn says_5() -> Waker {
     }
 }
 
-fn leaving() -> Attendant {
+fn leaving_attendant() -> Attendant {
     Attendant {
         ends: PostAction::Remove,
         ..Attendant::new(2)
     }
 }
 
-fn failing() -> Attendant {
+fn failing_attendant() -> Attendant {
     Attendant {
         fails_at: 1,
         ..Attendant::new(0)
@@ -656,7 +656,7 @@ fn is_handed_back<D: Seen>(answer: &Answer<D>) -> bool {
                     error: Error::IoError(cause),
                 },
             ),
-        ) => inserted.counted() == Some((0, 0)) && cause.kind() == ErrorKind::NotFound,
+        ) => inserted.counts() == Some((0, 0)) && cause.kind() == ErrorKind::NotFound,
         _ => false,
     }
 }
@@ -671,7 +671,7 @@ fn is_refused_as(answer: &calloop::Result<()>, kind: ErrorKind) -> bool {
 
 fn are_answers<D>(answers: &[Answer<D>], wanted: &[(&str, bool)]) -> bool {
     for (answer, wanted) in answers.iter().zip(wanted) {
-        if told(answer) != *wanted {
+        if words_of(answer) != *wanted {
             return false;
         }
     }
@@ -680,7 +680,7 @@ fn are_answers<D>(answers: &[Answer<D>], wanted: &[(&str, bool)]) -> bool {
 
 // Of which call it is the answer, and whether that succeeded: the first slot was given, a dispatch called nothing, and the
 // poller before was asked for one wait, of 0.
-fn told<D>(answer: &Answer<D>) -> (&'static str, bool) {
+fn words_of<D>(answer: &Answer<D>) -> (&'static str, bool) {
     match answer {
         LoopAnswer::Inserted(token) => ("inserted", is_first(token)),
         LoopAnswer::Enabled(answer) => told_as("enabled", answer),

@@ -104,7 +104,7 @@ where
         Ok(held) => held.postpones(),
         Err(_) => return None,
     }
-    Some(table.says(time(Some(200)), &[100]) && table.asked(&[Some(100)]))
+    Some(table.says(time(Some(200)), &[100]) && table.was_asked(&[Some(100)]))
 }
 
 // A timer whose deadline is set to 300 milliseconds.

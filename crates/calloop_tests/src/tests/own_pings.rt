@@ -62,7 +62,7 @@ where
     let said = [[1].as_slice(), &[2], &[]]
         .into_iter()
         .all(|numbers| table.says(timeout, numbers));
-    Some(said && table.is_gone(token) && table.asked(&[Some(0), Some(0), Some(0)]))
+    Some(said && table.is_gone(token) && table.was_asked(&[Some(0), Some(0), Some(0)]))
 }
 
 #[test]
@@ -116,5 +116,5 @@ where
     first.ping();
     let timeout = time(Some(100));
     let said = table.says(timeout, &[1]) && table.says(timeout, &[2]);
-    Some(said && table.asked(&[Some(0), Some(0)]))
+    Some(said && table.was_asked(&[Some(0), Some(0)]))
 }

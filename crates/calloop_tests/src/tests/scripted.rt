@@ -110,11 +110,11 @@ where
     let ran = table
         .event_loop
         .block_on(&table.rt, alloc, Seven, &mut said, |_| {});
-    Some(ran.ok()? == Some(7) && table.asked(&[]))
+    Some(ran.ok()? == Some(7) && table.was_asked(&[]))
 }
 
 // A ping of the loop, which says 1.
-fn ringing<D, R>(table: &mut Table<D, R>) -> Option<(RegistrationToken, Ping<R>)>
+fn insert_ping<D, R>(table: &mut Table<D, R>) -> Option<(RegistrationToken, Ping<R>)>
 where
     D: EventDispatcher<ScriptPoller, ScriptClock, R, Data = Vec<u32>>,
     D: Choice<PingSource<R>, Teller, Here>,
@@ -133,13 +133,13 @@ where
     D: Choice<PingSource<R>, Teller, Here>,
     R: Threads + Wait + Clone + Drop + Send + Sync + 'static,
 {
-    let (_, ping) = ringing(&mut table)?;
+    let (_, ping) = insert_ping(&mut table)?;
     let again = ping.clone().ok()?;
     let child = spawn(rt, move || rings_once(again)).ok()?;
     let is_joined = child.join(rt);
     let timeout = time(Some(100));
     let is_said = table.says(timeout, &[1]) && table.says(timeout, &[]);
-    Some(is_joined && is_said && table.asked(&[Some(0), Some(100)]))
+    Some(is_joined && is_said && table.was_asked(&[Some(0), Some(100)]))
 }
 
 // Whether as many rings are at least one call, and the source leaves after some waits, and the next dispatch waits.
@@ -149,7 +149,7 @@ where
     D: Choice<PingSource<R>, Teller, Here>,
     R: Threads + Wait + Clone + Drop + Send + Sync + 'static,
 {
-    let (token, ping) = ringing(&mut table)?;
+    let (token, ping) = insert_ping(&mut table)?;
     let child = spawn(rt, move || rings_by_clones(ping)).ok()?;
     let mut calls = 0usize;
     for _ in 0..1000u32 {
@@ -157,8 +157,8 @@ where
     }
     let is_joined = child.join(rt);
     calls = calls.saturating_add(calls_in(&mut table));
-    let is_closed = table.is_gone(token) && !table.asked(&[]) && table.says(time(Some(100)), &[]);
-    Some(is_joined && is_closed && calls >= 1 && calls <= 1000 && table.asked(&[Some(100)]))
+    let is_closed = table.is_gone(token) && !table.was_asked(&[]) && table.says(time(Some(100)), &[]);
+    Some(is_joined && is_closed && calls >= 1 && calls <= 1000 && table.was_asked(&[Some(100)]))
 }
 
 fn calls_in<D, R>(table: &mut Table<D, R>) -> usize
@@ -227,7 +227,7 @@ where
     D: Choice<PingSource<R>, Teller, Here>,
     R: Wait + Clone + Drop,
 {
-    let (_, ping) = ringing(&mut table)?;
+    let (_, ping) = insert_ping(&mut table)?;
     ping.ping();
     let is_said = table.says(time(Some(0)), &[1]);
     drop(table);

@@ -181,7 +181,7 @@ where
         match act {
             Act::Three(keys) => self.three(keys),
             Act::One(keys) => self.one(keys, false),
-            Act::Nothing(keys) => self.nothing(keys),
+            Act::Nothing(keys) => self.registers_none(keys),
             Act::FailingOne(keys) => self.one(keys, true),
             Act::RungPing(number) => self.rung_ping(number),
             Act::DueAlarm => Some(self.due_alarm()),
@@ -197,7 +197,7 @@ where
             Act::Disable(place) => self.disable(place),
             Act::Says(timeout, numbers) => Some(self.table.says(time(timeout), numbers)),
             Act::Fails(timeout, numbers) => Some(self.table.fails(time(timeout), numbers, None)),
-            Act::Asked(waits) => Some(self.table.asked(waits)),
+            Act::Asked(waits) => Some(self.table.was_asked(waits)),
             Act::Counts(place, waits, back) => Some(self.counts(place)? == (waits, back)),
             Act::PerhapsRefused(place, keys) => self.perhaps_refused(place, keys),
             Act::AnyLists(place) => self.any_lists(place),
@@ -242,7 +242,7 @@ where
         Some(self.registers(D::hold(Dispatcher::new(source, Listener))))
     }
 
-    fn nothing(&mut self, keys: &[u64]) -> Option<bool> {
+    fn registers_none(&mut self, keys: &[u64]) -> Option<bool> {
         let source: Several<0> = Several::new(self.events(keys)?);
         Some(self.registers(D::hold(Dispatcher::new(source, Listener))))
     }
@@ -309,9 +309,9 @@ where
         let (answer, said) = self.table.dispatch(time(Some(100)));
         if matches!(answer, Err(Error::OutOfMemory)) {
             let is_untold = said.is_empty() && self.counts(place)? == (0, 0);
-            return Some(is_untold && self.table.asked(&[]));
+            return Some(is_untold && self.table.was_asked(&[]));
         }
-        let was_asked = self.table.asked(&[Some(0)]);
+        let was_asked = self.table.was_asked(&[Some(0)]);
         Some(self.changes(place, keys)? && was_asked)
     }
 

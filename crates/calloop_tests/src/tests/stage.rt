@@ -79,7 +79,7 @@ where
     }
 
     /// Whether the poller was asked for these waits, in milliseconds, since this was last called.
-    pub fn asked(&mut self, waits: &[Option<u64>]) -> bool {
+    pub fn was_asked(&mut self, waits: &[Option<u64>]) -> bool {
         let mut handle = self.event_loop.handle();
         let poller = handle.poller_mut();
         let are_these = are_waits(poller.waits(), waits);

@@ -1,7 +1,7 @@
 //! The bell of a cell: what each kind of cell has of a ping.
 ghost use Rattle.std.specs.Prelude.{◌≡◌, ◌+◌, ◌-◌, ◌<◌, ◌^◌, ◌&&◌, ◌||◌, not, true, false, None, Some, IfOk, IfErr, if◌then◌else◌};
 ghost use Rattle.calloop_wake.specs.Cells.{fresh_twin, fresh, one, opens, debt_of, owed_at, owed_by_drop, after_close, after_add_sender, after_drop_sender, after_set_key, after_clear_key};
-ghost use Rattle.calloop_wake.specs.Bells.{bell_with, after_ping, after_drain, after_end, owed_if, telling};
+ghost use Rattle.calloop_wake.specs.Bells.{bell_with, after_ping, after_drain, after_end, owed_if, after_tell};
 ghost use Rattle.calloop_wake.specs.Passes.{on};
 
 use super::ghosts::Name;
@@ -254,7 +254,7 @@ impl Bell {
 
     /// A close is told, and whether it was not before.
     pub(super) fn tell(&mut self) -> bool
-        ensures bell { self.new ≡ bell_with (telling self.old.cell) self.old }
+        ensures bell { self.new ≡ bell_with (after_tell self.old.cell) self.old }
         ensures gives { result ≡ (self.old.cell.closed && not self.old.cell.told) }
     {
         let tells = self.closed && !self.told;

@@ -73,7 +73,7 @@ impl<R: Wait + Clone + Drop> Bench<R> {
             notebook,
         };
         bench.brings(shape)?;
-        let _known = bench.notebook.asked(&[]);
+        let _known = bench.notebook.was_asked(&[]);
         Some(bench)
     }
 
@@ -155,8 +155,8 @@ impl<R: Wait + Clone + Drop> Bench<R> {
     }
 
     /// Whether this was asked of its sources, in this order, since this was called last.
-    pub fn asked(&mut self, wanted: &[(u32, Asked)]) -> bool {
-        self.notebook.asked(wanted)
+    pub fn was_asked(&mut self, wanted: &[(u32, Asked)]) -> bool {
+        self.notebook.was_asked(wanted)
     }
 
     /// From now on this is refused.
@@ -177,9 +177,9 @@ impl<R: Wait + Clone + Drop> Bench<R> {
         }
         let sources = self.sources();
         let mapped = self.wrapped.map(|source| source.number);
-        let _known = self.notebook.asked(&[]);
+        let _known = self.notebook.was_asked(&[]);
         let _turn = self.turn(PostAction::Continue);
-        if !self.notebook.asked(&[]) {
+        if !self.notebook.was_asked(&[]) {
             return self.kept_shape();
         }
         self.asks(Call::Reregister)?;
@@ -231,6 +231,6 @@ fn is_as<R: Wait + Clone + Drop>(
 ) -> Option<bool> {
     let mut bench = Bench::new(rt, alloc, before)?;
     bench.asks(call)?;
-    let same = bench.asked(asked);
+    let same = bench.was_asked(asked);
     Some(same && bench.shape() == Some(after))
 }

@@ -41,7 +41,7 @@ where
         notebook.refuses(row.refused);
         notebook.ends(row.ends);
         let answer = answer(&mut both, &mut poll, row.call);
-        if answer != row.answer || !notebook.asked(row.asked) {
+        if answer != row.answer || !notebook.was_asked(row.asked) {
             return Some(place);
         }
     }

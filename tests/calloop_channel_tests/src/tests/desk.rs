@@ -166,7 +166,7 @@ where
             Act::SaysAll(timeout, first, end) => {
                 self.dispatch(timeout) && are_all(&self.said, first..end)
             }
-            Act::Asked(waits) => self.asked(waits),
+            Act::Asked(waits) => self.was_asked(waits),
             Act::Disable => self.disable() == Some(true),
             Act::Enable => self.enable() == Some(true),
             Act::Names(names) => self.disable() == Some(names),
@@ -226,7 +226,7 @@ where
         &self.said
     }
 
-    fn asked(&mut self, waits: &[Option<u64>]) -> bool {
+    fn was_asked(&mut self, waits: &[Option<u64>]) -> bool {
         let mut handle = self.event_loop.handle();
         let poller = handle.poller_mut();
         let same = are_waits(poller.waits(), waits);

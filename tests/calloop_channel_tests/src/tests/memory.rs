@@ -12,7 +12,7 @@ fn want_of_memory_loses_no_message(rt: HostRuntime) {
 }
 
 // A channel, where the first or the second try makes one.
-fn made<R: Wait + Clone + Drop>(
+fn make<R: Wait + Clone + Drop>(
     rt: &R,
     alloc: Global,
 ) -> Option<(Sender<u32, R>, Channel<u32, R>)> {
@@ -35,7 +35,7 @@ fn made_bounded<R: Wait + Clone + Drop>(
 
 // Whether all numbers below forty go through, each by one of two tries.
 fn sends_all<R: Wait + Clone + Drop>(rt: &R, alloc: Global) -> Option<bool> {
-    let (sender, mut channel) = made(rt, alloc)?;
+    let (sender, mut channel) = make(rt, alloc)?;
     for number in 0..40u32 {
         match sender.send(number) {
             Ok(_) => {}

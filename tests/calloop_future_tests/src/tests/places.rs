@@ -104,7 +104,7 @@ where
 }
 
 // An executor in a loop.
-fn inserted<D, R>(
+fn insert_executor<D, R>(
     rt: &R,
     alloc: Global,
     event_loop: &mut ScriptLoop<D, R>,
@@ -129,7 +129,7 @@ where
     R: Threads + Wait + Clone + Drop + Send + Sync + 'static,
 {
     let mut event_loop: ScriptLoop<D, R> = ScriptLoop::with_script(rt, alloc).ok()?;
-    let scheduler = inserted(rt, alloc, &mut event_loop)?;
+    let scheduler = insert_executor(rt, alloc, &mut event_loop)?;
     let ended = Arc::new(alloc, AtomicU32::new(0)).ok()?;
     let of_spinner = Arc::try_clone(&ended).ok()?;
     scheduler.schedule(Task::Spins(of_spinner)).ok()?;

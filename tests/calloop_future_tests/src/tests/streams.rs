@@ -145,7 +145,7 @@ where
             .is_ok()
     }
 
-    fn asked(&mut self, millis: &[u64]) -> bool {
+    fn was_asked(&mut self, millis: &[u64]) -> bool {
         let mut handle = self.event_loop.handle();
         let waits = handle.poller_mut().waits();
         waits.len() == millis.len()
@@ -169,7 +169,7 @@ where
     let first = desk.goes_on(rt, 100) && are_all(&desk.said, 0..1_024);
     let stays = !desk.is_gone();
     let second = desk.goes_on(rt, 100) && are_all_and_end(&desk.said, end);
-    Some(first && stays && second && desk.asked(&[0, 0]) && desk.is_gone())
+    Some(first && stays && second && desk.was_asked(&[0, 0]) && desk.is_gone())
 }
 
 fn is_woken<D, R>(rt: &R, alloc: Global) -> Option<bool>
@@ -185,7 +185,7 @@ where
     let is_woken = desk.outbox.wakes(2);
     let last = desk.goes_on(rt, 100) && desk.said.as_slice() == [2, 3, ENDED].as_slice();
     let outlives = desk.outbox.wakes(1) && desk.goes_on(rt, 100) && desk.said.is_empty();
-    Some(first && rests && is_woken && last && outlives && desk.asked(&[0, 100, 0, 100]))
+    Some(first && rests && is_woken && last && outlives && desk.was_asked(&[0, 100, 0, 100]))
 }
 
 // Whether these are the numbers from 1,024 up to the end, and then that this was told.

@@ -120,7 +120,7 @@ where
                     .dispatch(&self.rt, time(timeout), &mut self.said);
                 (answer.is_ok() && self.said.as_slice() == numbers).then_some(())
             }
-            Act::Asked(waits) => self.asked(waits),
+            Act::Asked(waits) => self.expect_asked(waits),
         }
     }
 
@@ -173,7 +173,7 @@ where
             && handle.remove(token).is_none()
     }
 
-    fn asked(&mut self, waits: &[Option<u64>]) -> Option<()> {
+    fn expect_asked(&mut self, waits: &[Option<u64>]) -> Option<()> {
         let mut handle = self.event_loop.handle();
         let poller = handle.poller_mut();
         let same = are_waits(poller.waits(), waits);

@@ -178,7 +178,7 @@ where
             }
             Act::Says(timeout, numbers) => so(self.dispatch(timeout, numbers)? == None),
             Act::Fails(timeout, numbers, why) => so(self.dispatch(timeout, numbers)? == Some(why)),
-            Act::Asked(waits) => self.asked(waits),
+            Act::Asked(waits) => self.expect_asked(waits),
             Act::Calls(calls) => so(self.event_loop.handle().poller_mut().calls() == calls),
             _ => self.names(act),
         }
@@ -323,7 +323,7 @@ where
         }
     }
 
-    fn asked(&mut self, waits: &[u64]) -> Option<()> {
+    fn expect_asked(&mut self, waits: &[u64]) -> Option<()> {
         let mut handle = self.event_loop.handle();
         let poller = handle.poller_mut();
         let same = are_waits(poller.waits(), waits);

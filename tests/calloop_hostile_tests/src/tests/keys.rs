@@ -58,7 +58,7 @@ type Number = Arc<AtomicU32, Global>;
 
 type Machine<R> = MioPoller<SystemClock<R>>;
 
-fn shared(alloc: Global) -> Option<(Number, Number)> {
+fn shared_number(alloc: Global) -> Option<(Number, Number)> {
     let number = Arc::new(alloc, AtomicU32::new(0)).ok()?;
     let again = Arc::try_clone(&number).ok()?;
     Some((number, again))
@@ -125,7 +125,7 @@ where
     R: Net + MachineClock + Threads + Wait + Clone + Drop + Send + Sync + 'static,
 {
     let mut event_loop: SystemLoop<D, R> = SystemLoop::system(rt, alloc).ok()?;
-    let (number, raised) = shared(alloc)?;
+    let (number, raised) = shared_number(alloc)?;
     let (ping, source) = make_ping(rt, alloc).ok()?;
     let held = D::hold(Dispatcher::new(Shifting::new(source), Reads(number)));
     let token = event_loop.handle().register_dispatcher(held).ok()?;

@@ -89,7 +89,7 @@ type Third = There<Second>;
 type Fourth = There<Third>;
 
 // A loop whose poller keeps four waits, and room for what is said.
-fn made<D, R>(rt: &R, alloc: Global) -> Option<(ScriptLoop<D, R>, Vec<u32>)>
+fn make_loop<D, R>(rt: &R, alloc: Global) -> Option<(ScriptLoop<D, R>, Vec<u32>)>
 where
     D: EventDispatcher<ScriptPoller, ScriptClock, R, Data = Vec<u32>>,
     R: Wait + Clone + Drop,
@@ -108,7 +108,7 @@ where
     Some((event_loop, said))
 }
 
-fn pinged<R: Wait + Clone + Drop>(rt: &R, alloc: Global) -> Option<(Ping<R>, PingSource<R>)> {
+fn make_a_ping<R: Wait + Clone + Drop>(rt: &R, alloc: Global) -> Option<(Ping<R>, PingSource<R>)> {
     match make_ping(rt, alloc) {
         Err(Error::OutOfMemory) => make_ping(rt, alloc).ok(),
         made => made.ok(),
@@ -201,8 +201,8 @@ where
     D: Choice<Shifting<PingSource<R>>, Teller, Here>,
     R: Wait + Clone + Drop,
 {
-    let (mut event_loop, mut said) = made::<D, R>(rt, alloc)?;
-    let (ping, source) = pinged(rt, alloc)?;
+    let (mut event_loop, mut said) = make_loop::<D, R>(rt, alloc)?;
+    let (ping, source) = make_a_ping(rt, alloc)?;
     let dispatcher = Dispatcher::new(Shifting::new(source), Teller { number: 7 });
     let _receipt = ping.ping();
     let token = insert(&mut event_loop, D::hold(dispatcher))?;
@@ -229,7 +229,7 @@ where
     D: Choice<Timer, Waker, Second>,
     R: Wait + Clone + Drop,
 {
-    let (mut event_loop, mut said) = made::<D, R>(rt, alloc)?;
+    let (mut event_loop, mut said) = make_loop::<D, R>(rt, alloc)?;
     let waker = Waker {
         number: 5,
         action: TimeoutAction::Drop,
@@ -257,7 +257,7 @@ where
     D: Choice<Timer, Waker, Second>,
     R: Wait + Clone + Drop,
 {
-    let (mut event_loop, mut said) = made::<D, R>(rt, alloc)?;
+    let (mut event_loop, mut said) = make_loop::<D, R>(rt, alloc)?;
     let waker = Waker {
         number: 5,
         action: TimeoutAction::ToInstant(Instant::from_millis(40)),
@@ -293,7 +293,7 @@ where
     D: Choice<Generic<ScriptPoller>, Visitor, Third>,
     R: Wait + Clone + Drop,
 {
-    let (mut event_loop, _said) = made::<D, R>(rt, alloc)?;
+    let (mut event_loop, _said) = make_loop::<D, R>(rt, alloc)?;
     let held = held_socket::<D, R>();
     let token = match event_loop.handle().register_dispatcher(held) {
         Ok(token) => token,
@@ -325,7 +325,7 @@ where
     D: Keep<TimeoutTimer<R>, ScriptPoller, ScriptClock, R, Vec<u32>, Requests<D, D::Idle>, Fourth>,
     R: Wait + Clone + Drop,
 {
-    let (mut event_loop, mut said) = made::<D, R>(rt, alloc)?;
+    let (mut event_loop, mut said) = make_loop::<D, R>(rt, alloc)?;
     let deadline = Instant::from_millis(30);
     let made = TimeoutFuture::from_deadline(&mut event_loop.handle(), rt, alloc, deadline);
     if let Err(error) = made {
@@ -349,7 +349,7 @@ where
     D: Choice<Generic<ScriptPoller>, Visitor, Third>,
     R: Wait + Clone + Drop,
 {
-    let (mut event_loop, mut said) = made::<D, R>(rt, alloc)?;
+    let (mut event_loop, mut said) = make_loop::<D, R>(rt, alloc)?;
     let token = insert(&mut event_loop, held_socket::<D, R>())?;
     event_loop.handle().poller_mut().fail(ScriptKind::Delete);
     let removed = event_loop.handle().remove(token)?;

@@ -90,7 +90,7 @@ pub struct Looker<R: Wait + Drop> {
 }
 
 // One poll of the socket.
-fn polled<R: Wait + Clone + Drop>(
+fn poll_once<R: Wait + Clone + Drop>(
     how: How,
     io: &mut Async<ScriptPoller, R>,
     cx: &mut Context<'_, R>,
@@ -145,7 +145,7 @@ impl<R: Wait + Clone + Drop> Future<R> for Looker<R> {
             let Some(io) = &mut self.told.io else {
                 break;
             };
-            let word = match polled(self.how, io, cx) {
+            let word = match poll_once(self.how, io, cx) {
                 Poll::Ready(word) => word,
                 Poll::Pending => {
                     self.how = self.then;

@@ -40,7 +40,7 @@ enum Cause {
 type Held<R> = Sources<OneOf<Adapter<ScriptPoller, R>, Dispatcher<Timer, Silent>>, ()>;
 
 // A loop with one adapter in its first slot, whose socket is registered.
-fn registered<D, R>(rt: &R, alloc: Global) -> Option<(ScriptLoop<D, R>, Async<ScriptPoller, R>)>
+fn register_new<D, R>(rt: &R, alloc: Global) -> Option<(ScriptLoop<D, R>, Async<ScriptPoller, R>)>
 where
     D: EventDispatcher<ScriptPoller, ScriptClock, R, Data = ()>,
     D: Keep<
@@ -120,7 +120,7 @@ where
     >,
     R: Wait + Clone + Drop,
 {
-    let (mut event_loop, io): (ScriptLoop<D, R>, _) = registered(rt, alloc)?;
+    let (mut event_loop, io): (ScriptLoop<D, R>, _) = register_new(rt, alloc)?;
     let mut io = io;
     let socket = io.get_mut().take()?;
     let Err(refused) = event_loop.handle().into_inner(io) else {
@@ -152,7 +152,7 @@ where
     D: Choice<Timer, Silent, There<Here>>,
     R: Wait + Clone + Drop,
 {
-    let (mut event_loop, mut io): (ScriptLoop<D, R>, _) = registered(rt, alloc)?;
+    let (mut event_loop, mut io): (ScriptLoop<D, R>, _) = register_new(rt, alloc)?;
     match cause {
         Cause::Fault => event_loop.handle().poller_mut().fail(ScriptKind::Delete),
         Cause::NoSocket => drop(io.get_mut().take()),

@@ -70,8 +70,8 @@ where
     >,
     R: Wait + Clone + Drop,
 {
-    let (mut here, first): Adapted<D, R> = adapted(rt, alloc, 1)?;
-    let (mut there, second): Adapted<D, R> = adapted(rt, alloc, 2)?;
+    let (mut here, first): Adapted<D, R> = new_adapted(rt, alloc, 1)?;
+    let (mut there, second): Adapted<D, R> = new_adapted(rt, alloc, 2)?;
     let kept = after(rt, &mut here, alloc, first, own)?;
     let Err(refused) = here.handle().into_inner(second) else {
         return Some(false);
@@ -86,7 +86,7 @@ where
 }
 
 // A loop with one adapter, in its first slot.
-fn adapted<D, R>(rt: &R, alloc: Global, number: u32) -> Option<Adapted<D, R>>
+fn new_adapted<D, R>(rt: &R, alloc: Global, number: u32) -> Option<Adapted<D, R>>
 where
     D: EventDispatcher<ScriptPoller, ScriptClock, R, Data = ()>,
     D: Keep<
@@ -119,7 +119,7 @@ where
 {
     match own {
         Own::Stays => Some(Some(io)),
-        Own::IsKept => Some(Some(kept(rt, event_loop, alloc, io)?)),
+        Own::IsKept => Some(Some(kept_on(rt, event_loop, alloc, io)?)),
         Own::IsDropped => {
             drop(io);
             Some(None)
@@ -128,7 +128,7 @@ where
 }
 
 // An adapter whose socket is registered, and that the poller fails to give back.
-fn kept<D, R>(
+fn kept_on<D, R>(
     rt: &R,
     event_loop: &mut ScriptLoop<D, R>,
     alloc: Global,

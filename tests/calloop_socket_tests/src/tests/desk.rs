@@ -131,8 +131,8 @@ where
 
     fn looks_for(&mut self, act: Act<'_>) -> Option<bool> {
         match act {
-            Act::Called(calls) => Some(self.called(calls)),
-            Act::Asked(waits) => Some(self.asked(waits)),
+            Act::Called(calls) => Some(self.was_called(calls)),
+            Act::Asked(waits) => Some(self.was_asked(waits)),
             Act::Fail(kind) => {
                 self.table.event_loop.handle().poller_mut().fail(kind);
                 Some(true)
@@ -263,11 +263,11 @@ where
         matches!(answer, Err(Error::OtherError(_))) && said.as_slice() == numbers
     }
 
-    fn called(&mut self, calls: &[ScriptCall]) -> bool {
+    fn was_called(&mut self, calls: &[ScriptCall]) -> bool {
         self.table.event_loop.handle().poller_mut().calls() == calls
     }
 
-    fn asked(&mut self, waits: &[u64]) -> bool {
+    fn was_asked(&mut self, waits: &[u64]) -> bool {
         are_waits(self.table.event_loop.handle().poller_mut().waits(), waits)
     }
 

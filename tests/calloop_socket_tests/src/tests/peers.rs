@@ -155,7 +155,7 @@ struct APeerThatResetsIsAnErrorAndThenAnEnd;
 impl<R: Net + Wait + Drop + Abort> Scene<R> for APeerThatResetsIsAnErrorAndThenAnEnd {
     fn play<S: Square<R> + Drop>(self, rt: &R, alloc: Global) {
         let mut square = S::new(rt, alloc);
-        let (mut near, far) = connected(rt);
+        let (mut near, far) = connect(rt);
         assert!(rt; near.write_all(&[1]).is_ok());
         let token = square.insert(MioIo::from(near), Interest::READ, Mode::Level);
         let (_, mut other) = square.stream(Mode::Level);
@@ -208,7 +208,7 @@ fn any_port() -> SocketAddr {
 }
 
 // Two ends of a connection.
-fn connected<R: Net + Abort>(rt: &R) -> (TcpStream, TcpStream) {
+fn connect<R: Net + Abort>(rt: &R) -> (TcpStream, TcpStream) {
     let listener = TcpListener::bind(rt, any_port()).expect(rt, "a listener");
     let address = listener.local_addr().expect(rt, "an address");
     let near = TcpStream::connect(rt, address).expect(rt, "a stream");

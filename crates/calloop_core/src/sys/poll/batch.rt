@@ -217,7 +217,7 @@ impl Batch {
     }
 
     /// How many events wait, up to the last one that the poller gave.
-    pub fn polled(&self) -> usize
+    pub fn polled_end(&self) -> usize
         ensures value { result ≡ self.now.polled }
         ensures within { result ≤ length self.now.events }
     {

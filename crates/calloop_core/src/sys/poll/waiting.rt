@@ -101,7 +101,7 @@ impl<P: Poller, C, R: Wait + Drop> Poll<P, C, R> {
         let leave = self.batch.look(rt);
         let mut asked = self.timeout_for(leave, timeout, start, start);
         for _ in rt.forever() {
-            let left = self.batch.polled();
+            let left = self.batch.polled_end();
             let answer = self.poller.wait(asked, left, &mut self.events);
             let Err(cause) = answer else {
                 return Ok(self.poller.now());

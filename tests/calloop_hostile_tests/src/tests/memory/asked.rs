@@ -2,7 +2,7 @@
 ghost use Rattle.calloop.specs.Askings.{OnlyAsks};
 
 use super::super::desk::Note;
-use super::{made, pinged, so, wants_memory};
+use super::{make_a_ping, make_loop, so, wants_memory};
 use calloop::{
     Answer, Callback, Choice, Dispatcher, Error, EventDispatcher, Here, Idle, OneOf, Ping,
     PingSource, RegistrationToken, Requests, ScriptLoop, Sources, There, Ticket,
@@ -183,8 +183,8 @@ where
     D: Choice<PingSource<R>, Asker<R>, Here>,
     R: Wait + Clone + Drop,
 {
-    let (mut event_loop, said) = made::<D, R>(rt, alloc)?;
-    let (other, source) = pinged(rt, alloc)?;
+    let (mut event_loop, said) = make_loop::<D, R>(rt, alloc)?;
+    let (other, source) = make_a_ping(rt, alloc)?;
     let ticket = match Rc::new(alloc, Cell::new(None)) {
         Ok(ticket) => ticket,
         Err(_) => Rc::new(alloc, Cell::new(None)).ok()?,
@@ -193,7 +193,7 @@ where
         source: Some(source),
         ticket: ticket.clone().ok()?,
     };
-    let (ping, source) = pinged(rt, alloc)?;
+    let (ping, source) = make_a_ping(rt, alloc)?;
     let held = <D as Choice<PingSource<R>, Asker<R>, Here>>::hold(Dispatcher::new(source, asker));
     if let Err(refused) = event_loop.handle().register_dispatcher(held) {
         so(wants_memory(&refused.error))?;
@@ -269,7 +269,7 @@ where
     desk.said.clear();
     // So many that the next dispatch needs more room.
     for _ in 0..40u32 {
-        let (ping, source) = pinged(rt, alloc)?;
+        let (ping, source) = make_a_ping(rt, alloc)?;
         drop(ping);
         let held = <D as Choice<PingSource<R>, Teller, There<Here>>>::hold(Dispatcher::new(
             source,

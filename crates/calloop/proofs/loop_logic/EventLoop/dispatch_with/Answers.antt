@@ -4,7 +4,7 @@ use Rattle.calloop_wake.specs.declared.error.Error.TheVariants.{IoError}
 use Rattle.calloop_core.specs.Pollers.{nanos_of}
 use Rattle.calloop_core.specs.Polls.{poll_view}
 use Rattle.calloop.specs.Limits.{all_limits}
-use Rattle.calloop.specs.Machine.{View, view_of, taking}
+use Rattle.calloop.specs.Machine.{View, view_of, with_marks_taken}
 use Rattle.calloop.specs.Rules.{Goes, Settling, Sleeping, Waiting, Noticing, Cutting, Idling, Leaving}
 use Rattle.calloop.proofs.Going.{dispatched, begun_then, polled, not_polled, goes_on}
 use Rattle.calloop.proofs.Settling.{ready_less}
@@ -28,7 +28,7 @@ returns-in_err-tell_of_wait g c =
     rw p.1
     (dispatched M R O v u t x x (Err e)
     (begun_then M R O v u room.0 (poll_view c.reserve-2.new.self) c.clear_answers.new.self c.clear.new.self.errors.items marked.0 marked.1 marked.2 t x (Leaving (Err e) x) room.1 c.clear_answers.ensures c.clear.ensures
-    (goes_on M R O (Settling t marked.0 x) (Sleeping t c.settle_marked.new.self.lifecycle.tokens.items x) (Leaving (Err e) x) (taking marked.1 ready) s u (marked.3 t x) (c.in_err-tell_of_wait.ensures.machine t x))))
+    (goes_on M R O (Settling t marked.0 x) (Sleeping t c.settle_marked.new.self.lifecycle.tokens.items x) (Leaving (Err e) x) (with_marks_taken marked.1 ready) s u (marked.3 t x) (c.in_err-tell_of_wait.ensures.machine t x))))
 
 pub returns-in-Err : goal.returns-in-Err
 returns-in-Err g c =
@@ -47,7 +47,7 @@ returns-in-Err g c =
     let w : View g.row.D.Denot g.row.D-Idle.Denot g.row.P.Denot = record u { poll = poll_view c.poll.new.self } in
     (dispatched M R O v w t x x (Err e)
     (begun_then M R O v w room.0 (poll_view c.reserve-2.new.self) c.clear_answers.new.self c.clear.new.self.errors.items marked.0 marked.1 marked.2 t x (Leaving (Err e) x) room.1 c.clear_answers.ensures c.clear.ensures
-    (goes_on M R O (Settling t marked.0 x) (Sleeping t c.settle_marked.new.self.lifecycle.tokens.items x) (Leaving (Err e) x) (taking marked.1 ready) (view_of c.settle_marked.new.self) w (marked.3 t x)
+    (goes_on M R O (Settling t marked.0 x) (Sleeping t c.settle_marked.new.self.lifecycle.tokens.items x) (Leaving (Err e) x) (with_marks_taken marked.1 ready) (view_of c.settle_marked.new.self) w (marked.3 t x)
     (goes_on M R O (Sleeping t c.settle_marked.new.self.lifecycle.tokens.items x) (Waiting t x) (Leaving (Err e) x) (view_of c.settle_marked.new.self) u w (c.in_ok-tell_of_wait.ensures.machine t x)
     (not_polled M R O u (poll_view c.poll.new.self) t x cause c.in-Err.ensures)))))
 
@@ -72,11 +72,11 @@ returns-in_err-hand_out_all g c =
     rw p.1
     (dispatched M R O v all t x y (Err e)
     (begun_then M R O v all room.0 (poll_view c.reserve-2.new.self) c.clear_answers.new.self c.clear.new.self.errors.items marked.0 marked.1 marked.2 t x (Leaving (Err e) y) room.1 c.clear_answers.ensures c.clear.ensures
-    (goes_on M R O (Settling t marked.0 x) (Sleeping t c.settle_marked.new.self.lifecycle.tokens.items x) (Leaving (Err e) y) (taking marked.1 ready) (view_of c.settle_marked.new.self) all (marked.3 t x)
+    (goes_on M R O (Settling t marked.0 x) (Sleeping t c.settle_marked.new.self.lifecycle.tokens.items x) (Leaving (Err e) y) (with_marks_taken marked.1 ready) (view_of c.settle_marked.new.self) all (marked.3 t x)
     (goes_on M R O (Sleeping t c.settle_marked.new.self.lifecycle.tokens.items x) (Waiting t x) (Leaving (Err e) y) (view_of c.settle_marked.new.self) u all (c.in_ok-tell_of_wait.ensures.machine t x)
     (goes_on M R O (Waiting t x) (Noticing (length u.poll.batch) u.held.lifecycle x) (Leaving (Err e) y) u w all (polled M R O u (poll_view c.poll.new.self) t x c.in_default-poll.ensures)
     (goes_on M R O (Noticing (length u.poll.batch) u.held.lifecycle x) (Cutting x) (Leaving (Err e) y) w told all
-    (subst (λ n. Goes M R O (Noticing n u.held.lifecycle x) (Cutting x) w told) c.waiting-from.ensures (c.tell_of_events.ensures.machine x)) c.in_err-hand_out_all.ensures))))))
+    (subst (λ n. Goes M R O (Noticing n u.held.lifecycle x) (Cutting x) w told) c.events_waiting-from.ensures (c.tell_of_events.ensures.machine x)) c.in_err-hand_out_all.ensures))))))
 
 pub returns : goal.returns
 returns g c =
@@ -98,11 +98,11 @@ returns g c =
     let ran = view_of c.run_idles.new.self in
     dispatched M R O v ran t x z (Ok tt)
     (begun_then M R O v ran room.0 (poll_view c.reserve-2.new.self) c.clear_answers.new.self c.clear.new.self.errors.items marked.0 marked.1 marked.2 t x (Leaving (Ok tt) z) room.1 c.clear_answers.ensures c.clear.ensures
-    (goes_on M R O (Settling t marked.0 x) (Sleeping t c.settle_marked.new.self.lifecycle.tokens.items x) (Leaving (Ok tt) z) (taking marked.1 ready) (view_of c.settle_marked.new.self) ran (marked.3 t x)
+    (goes_on M R O (Settling t marked.0 x) (Sleeping t c.settle_marked.new.self.lifecycle.tokens.items x) (Leaving (Ok tt) z) (with_marks_taken marked.1 ready) (view_of c.settle_marked.new.self) ran (marked.3 t x)
     (goes_on M R O (Sleeping t c.settle_marked.new.self.lifecycle.tokens.items x) (Waiting t x) (Leaving (Ok tt) z) (view_of c.settle_marked.new.self) u ran (c.in_ok-tell_of_wait.ensures.machine t x)
     (goes_on M R O (Waiting t x) (Noticing (length u.poll.batch) u.held.lifecycle x) (Leaving (Ok tt) z) u w ran (polled M R O u (poll_view c.poll.new.self) t x c.in_default-poll.ensures)
     (goes_on M R O (Noticing (length u.poll.batch) u.held.lifecycle x) (Cutting x) (Leaving (Ok tt) z) w told ran
-    (subst (λ n. Goes M R O (Noticing n u.held.lifecycle x) (Cutting x) w told) c.waiting-from.ensures (c.tell_of_events.ensures.machine x))
+    (subst (λ n. Goes M R O (Noticing n u.held.lifecycle x) (Cutting x) w told) c.events_waiting-from.ensures (c.tell_of_events.ensures.machine x))
     (goes_on M R O (Cutting x) (Idling y) (Leaving (Ok tt) z) told all ran c.in_ok-hand_out_all.ensures c.run_idles.ensures))))))
 
 pub tell_of_wait-requires-clause-ready : goal.tell_of_wait-requires-clause-ready

@@ -4,7 +4,7 @@ use Rattle.calloop_wake.specs.declared.token.RegistrationToken.{RegistrationToke
 use Rattle.calloop_wake.specs.declared.list.Slot.{Slot}
 use Rattle.calloop_wake.specs.Slots.{with_change, with_content, content_at, source_of}
 use Rattle.calloop_wake.specs.Tokens.{registration_of}
-use Rattle.calloop_core.specs.Polls.{PollView, poll_view, cut, with_pass}
+use Rattle.calloop_core.specs.Polls.{PollView, poll_view, after_cut, with_pass}
 use Rattle.calloop_wake.specs.Failures.{with_error}
 use Rattle.calloop.specs.Machine.{View, view_of}
 use Rattle.calloop.specs.Rules.{Goes, Cutting, Serving, Ending, Idling, after_hand_out}
@@ -18,16 +18,16 @@ pub returns-in_default-clause-machine : goal.returns-in_default-clause-machine
 returns-in_default-clause-machine g c =
     let v : View g.row.D.Denot g.row.D-Idle.Denot g.row.P.Denot = view_of c.args.self.now in
     let M = g.D.Dispatch.means in
-    goes_to M g.D.Idle.IdleCallback.runs g.P.Poller.outside (Cutting c.args.«data».now) (Idling c.args.«data».now) v (record v { poll = cut v.poll }) _ (ap (λ (p : PollView g.row.P.Denot). record v { poll = p }) c.next_event.ensures.view)
+    goes_to M g.D.Idle.IdleCallback.runs g.P.Poller.outside (Cutting c.args.«data».now) (Idling c.args.«data».now) v (record v { poll = after_cut v.poll }) _ (ap (λ (p : PollView g.row.P.Denot). record v { poll = p }) c.next_event.ensures.view)
     (no_event M g.D.Idle.IdleCallback.runs g.P.Poller.outside v c.args.«data».now c.in_default.ensures.event)
 
 pub returns-in_default-begin_turn-clause-machine : goal.returns-in_default-begin_turn-clause-machine
 returns-in_default-begin_turn-clause-machine g c =
     let v : View g.row.D.Denot g.row.D-Idle.Denot g.row.P.Denot = view_of c.args.self.now in
     let M = g.D.Dispatch.means in
-    let polls : poll_view c.end_event.new.self ≡ with_pass None (cut v.poll) = c.end_event.ensures ∙ ap (λ (p : PollView g.row.P.Denot). with_pass None p) c.next_event.ensures.view in
+    let polls : poll_view c.end_event.new.self ≡ with_pass None (after_cut v.poll) = c.end_event.ensures ∙ ap (λ (p : PollView g.row.P.Denot). with_pass None p) c.next_event.ensures.view in
     let none : None ≡ source_of (content_at v.slots (registration_of c.in-Some.event.token)) = c.in_default-begin_turn.ensures.value ∙ ap (λ (t : RegistrationToken). source_of (content_at v.slots t)) c.registration-token.ensures in
-    goes_to M g.D.Idle.IdleCallback.runs g.P.Poller.outside (Cutting c.args.«data».now) (Cutting c.args.«data».now) v (record v { poll = with_pass None (cut v.poll) }) _
+    goes_to M g.D.Idle.IdleCallback.runs g.P.Poller.outside (Cutting c.args.«data».now) (Cutting c.args.«data».now) v (record v { poll = with_pass None (after_cut v.poll) }) _
     (ap (λ (s : List (Slot g.row.D.Denot)). record v { slots = s; poll = poll_view c.end_event.new.self }) c.in_default-begin_turn.ensures.list ∙ ap (λ (p : PollView g.row.P.Denot). record v { poll = p }) polls)
     (cut_none M g.D.Idle.IdleCallback.runs g.P.Poller.outside c.in-Some.event v c.args.«data».now c.in-Some.ensures.event none)
 
@@ -66,7 +66,7 @@ returns-clause-shorter g c =
     let v = poll_view c.args.self.now.poll in
     let turn = c.process_events-answer.ensures in
     let served = all_steady g.D.Dispatch.means g.P.Poller.outside _ c.serve_all.ensures.0 c.serve_all.ensures.1 in
-    let batch : c.end_turn.new.self.poll.batch.events ≡ (cut v).batch =
+    let batch : c.end_turn.new.self.poll.batch.events ≡ (after_cut v).batch =
     c.end_turn.ensures.batch ∙ ap (λ (u : View g.row.D.Denot g.row.D-Idle.Denot g.row.P.Denot). u.poll.batch) c.serve_all.ensures.2 ∙ served.0 ∙ ap (λ (p : PollView g.row.P.Denot). p.batch) c.end_event-2.ensures
     ∙ ap (λ (p : PollView g.row.P.Denot). p.batch) turn.2.1 ∙ batch-stepped (poll_view c.next_event.new.self) turn.0 ∙ ap (λ (p : PollView g.row.P.Denot). p.batch) c.next_event.ensures.view in
     λ _. omega (arith, ap length batch, length-cut v c.in-Some.event c.in-Some.ensures.event)

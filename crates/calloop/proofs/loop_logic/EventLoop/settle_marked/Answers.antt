@@ -1,6 +1,6 @@
 use Rattle.std.proofs.Common.{[], sym}
 use Rattle.std.proofs.lemmas.List.Sorted.{IsPermutation-refl}
-use Rattle.calloop.specs.Machine.{view_of, taking}
+use Rattle.calloop.specs.Machine.{view_of, with_marks_taken}
 use Rattle.calloop.proofs.Settling.{all_settled}
 use Rattle.calloop.proofs.loop_logic.EventLoop.settle_marked.Goals as goal
 
@@ -10,7 +10,7 @@ returns-in_default-clause-machine g c = (
   [],
   record { same = IsPermutation-refl []; order = λ place t u first second. cc },
   λ timeout x.
-      rw c.in_default.ensures.none (all_settled g.D.Dispatch.means g.D.Idle.IdleCallback.runs g.P.Poller.outside timeout (taking [] (view_of c.args.self.now)) x),
+      rw c.in_default.ensures.none (all_settled g.D.Dispatch.means g.D.Idle.IdleCallback.runs g.P.Poller.outside timeout (with_marks_taken [] (view_of c.args.self.now)) x),
 )
 
 pub returns-clause-machine : goal.returns-clause-machine

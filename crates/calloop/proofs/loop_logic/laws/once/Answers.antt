@@ -1,4 +1,4 @@
-use Rattle.calloop.specs.Machine.{all_done}
+use Rattle.calloop.specs.Machine.{world_after_all}
 use Rattle.calloop.proofs.Rights.{run_right}
 use Rattle.calloop.proofs.Reuse.{names_later}
 use Rattle.calloop.specs.Laws.{NamesLater, StaysGone, changes_of, IsFresh, IsNoMore, Any, HasNoMoreKeys}
@@ -17,7 +17,7 @@ returns g c =
       sound = λ r run at.
           record {
             reaches = run_right g.D.Dispatch.means g.D.Idle.IdleCallback.runs g.P.Poller.outside r.calls r.answers r.changes r.began r.ended run;
-            stale = rw at (any_two NamesLater r.began (changes_of r.changes) (λ before between after is. names_later (all_done r.began before) between));
+            stale = rw at (any_two NamesLater r.began (changes_of r.changes) (λ before between after is. names_later (world_after_all r.began before) between));
             gone = rw at (any_two StaysGone r.began (changes_of r.changes) (stay_gone g.P.Poller.outside r.began (changes_of r.changes) (run_fits g.D.Dispatch.means g.D.Idle.IdleCallback.runs g.P.Poller.outside r.calls r.answers r.changes r.began r.ended run)));
           };
       brought = λ r run at new fresh.

@@ -1,6 +1,6 @@
 use Rattle.std.proofs.Common.{◌≡◌, inl, inr, ℕ, Bool, true, false, List, [], ◌∷◌, Ok, refl, sym, ap, ◌∙◌, ◌%◌, ◌+◌, ◌≤◌, nat_lt, if◌then◌else◌, arith, slice_get, length}
 use Rattle.calloop_wake.specs.Widths.{versions}
-use Rattle.calloop.specs.Laws.{standing, how_many, is_number}
+use Rattle.calloop.specs.Laws.{times_standing, how_many, is_number}
 use Rattle.calloop.specs.Machine.{Registration}
 use Rattle.calloop_wake.specs.declared.token.RegistrationToken.{RegistrationToken}
 use Rattle.calloop_wake.specs.Tokens.{key_of}
@@ -97,13 +97,13 @@ returns-clause-armed_elsewhere c = λ v h.
     absurd (omega (arith, own.2))
 
 pub returns-clause-answered_twice : goal.returns-clause-answered_twice
-returns-clause-answered_twice c = λ w is h. (let g : standing 0 w.held.asks + how_many (is_number 0) w.handed ≤ (if nat_lt 0 w.held.asks.next then 1 else 0) = h 0 in absurd (omega (arith, rw is at g)))
+returns-clause-answered_twice c = λ w is h. (let g : times_standing 0 w.held.asks + how_many (is_number 0) w.handed ≤ (if nat_lt 0 w.held.asks.next then 1 else 0) = h 0 in absurd (omega (arith, rw is at g)))
 
 pub returns-clause-handed_out_twice : goal.returns-clause-handed_out_twice
-returns-clause-handed_out_twice c = λ w is handed h. (let g : standing 0 w.held.asks + how_many (is_number 0) w.handed ≤ (if nat_lt 0 w.held.asks.next then 1 else 0) = h 0 in absurd (omega (arith, rw (is, handed) at g)))
+returns-clause-handed_out_twice c = λ w is handed h. (let g : times_standing 0 w.held.asks + how_many (is_number 0) w.handed ≤ (if nat_lt 0 w.held.asks.next then 1 else 0) = h 0 in absurd (omega (arith, rw (is, handed) at g)))
 
 pub returns-clause-asked_twice : goal.returns-clause-asked_twice
-returns-clause-asked_twice c = λ w is h. (let g : standing 0 w.held.asks + how_many (is_number 0) w.handed ≤ (if nat_lt 0 w.held.asks.next then 1 else 0) = h 0 in absurd (omega (arith, rw is at g)))
+returns-clause-asked_twice c = λ w is h. (let g : times_standing 0 w.held.asks + how_many (is_number 0) w.handed ≤ (if nat_lt 0 w.held.asks.next then 1 else 0) = h 0 in absurd (omega (arith, rw is at g)))
 
 pub returns-clause-other_deadline : goal.returns-clause-other_deadline
 returns-clause-other_deadline c = λ v h.

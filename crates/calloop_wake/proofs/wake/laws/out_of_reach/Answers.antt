@@ -6,7 +6,7 @@ use Rattle.calloop_wake.specs.ChannelKind.{channel_kind}
 use Rattle.calloop_wake.specs.ExecutorKind.{executor_kind}
 use Rattle.calloop_wake.specs.Kinds.{First, Second, either_kind, either_needs, every_kind}
 use Rattle.calloop_wake.specs.Lost.{with_a_key_forgotten, with_a_sleeper_left_alone}
-use Rattle.calloop_wake.specs.Delivery.{IsOwed, AllOwed, taking}
+use Rattle.calloop_wake.specs.Delivery.{IsOwed, AllOwed, steps_to_a_turn}
 use Rattle.calloop_wake.specs.Wakes.{WakeWorld, WakeStep, Awake, At, ClearKey, SetKey, OpenTurn, OpenPlace, ClosePlace, Post, Back, Unpost, Look, Nudge, Sleep, Return, Needs, IsSchedule, after_all}
 use Rattle.calloop_wake.proofs.wake.laws.out_of_reach.Goals as goal
 
@@ -59,8 +59,8 @@ sleeper_is = record { cell = _; cells = λ m. refl; quiet = refl; debts = λ j. 
 pub returns-clause-key : goal.returns-clause-key
 returns-clause-key c = λ d.
     let none = nothing_owed with_a_key_forgotten forgotten_is d.owed d.are_owed d.met in
-    let taken : IsSchedule every_kind with_a_key_forgotten (taking every_kind 0 7) =
-    subst (λ ss. IsSchedule every_kind (after_all every_kind with_a_key_forgotten ss) (taking every_kind 0 7)) none d.taken in
+    let taken : IsSchedule every_kind with_a_key_forgotten (steps_to_a_turn every_kind 0 7) =
+    subst (λ ss. IsSchedule every_kind (after_all every_kind with_a_key_forgotten ss) (steps_to_a_turn every_kind 0 7)) none d.taken in
     none_less (taken.1.1.0)
 
 pub returns-clause-sleeper : goal.returns-clause-sleeper
