@@ -1,6 +1,6 @@
 -- The polls of an executor's turn, one after the other.
 use Rattle.std.proofs.Common.{◌≡◌, ℕ, ◌+◌, Bool, true, false, Option, Some, None, IfSome, if◌then◌else◌, Ok, List, [], ◌∷◌, ◌++◌, length, refl, sym, ap, subst, arith, ◌∙◌, append_assoc, append-nil, length-append}
-use Rattle.calloop_wake.specs.declared.wake.Twin.{Twin}
+use Rattle.calloop_wake.specs.declared.wake.Tally.{Tally}
 use Rattle.calloop_wake.specs.declared.token.Token.{Token}
 use Rattle.calloop_wake.specs.Tokens.{key_of}
 use Rattle.calloop_wake.specs.Cells.{one, is_own}
@@ -64,16 +64,16 @@ module _ {F O X Q : Type 0} (given : OfPop O → Type 0) (may : Calling F O (Uni
   }
 
 -- an event of another token
-pub turn_of_another : (P O : Type 0) (given : OfPop O → Type 0) (twin : Twin) (token : Token) (pass : Option Taken) → is_own (key_of token) twin.key ≡ false → ExecutorTurns {P = P} given twin token pass [] (Ok Continue) [] twin
-turn_of_another P O given twin token pass other = rw other (refl, refl, refl, refl)
+pub turn_of_another : (P O : Type 0) (given : OfPop O → Type 0) (tally : Tally) (token : Token) (pass : Option Taken) → is_own (key_of token) tally.key ≡ false → ExecutorTurns {P = P} given tally token pass [] (Ok Continue) [] tally
+turn_of_another P O given tally token pass other = rw other (refl, refl, refl, refl)
 
-module _ (P O : Type 0) (given : OfPop O → Type 0) (twin : Twin) (token : Token) (pass : Option Taken) (own : is_own (key_of token) twin.key ≡ true) where
+module _ (P O : Type 0) (given : OfPop O → Type 0) (tally : Tally) (token : Token) (pass : Option Taken) (own : is_own (key_of token) tally.key ≡ true) where
   -- an event without a pass
-  pub turn_without : pass ≡ None → ExecutorTurns {P = P} given twin token pass [] (Ok Continue) (TakePass ∷ []) twin
+  pub turn_without : pass ≡ None → ExecutorTurns {P = P} given tally token pass [] (Ok Continue) (TakePass ∷ []) tally
   turn_without none = rw (own, none) (refl, refl, refl, refl)
 
   -- an event with one
-  pub turn_answered : (p : Taken) (answered : PassAnswer O) (calls : ResultCalls O) (action : PostAction) (steps : List (PollStep P)) (after : Twin) → pass ≡ Some p → AnsweredSo given answered p twin calls action steps after → ExecutorTurns given twin token pass calls (Ok action) steps after
+  pub turn_answered : (p : Taken) (answered : PassAnswer O) (calls : ResultCalls O) (action : PostAction) (steps : List (PollStep P)) (after : Tally) → pass ≡ Some p → AnsweredSo given answered p tally calls action steps after → ExecutorTurns given tally token pass calls (Ok action) steps after
   turn_answered p answered calls action steps after some h = rw (own, some) (answered, h)
 
 -- The steps of a turn leave the cell its key.

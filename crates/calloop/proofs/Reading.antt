@@ -4,7 +4,7 @@ use Rattle.calloop_core.specs.Calls.{CallbackCall, Calling, Went}
 use Rattle.calloop_core.proofs.Calling.{went_on}
 use Rattle.calloop.specs.declared.stream.reading.Ending.{Ending}
 use Rattle.calloop.specs.declared.stream.reading.Ending.TheVariants.{AtPending, AtEnd, AtLimit}
-use Rattle.calloop_wake.specs.declared.wake.Twin.{Twin}
+use Rattle.calloop_wake.specs.declared.wake.Tally.{Tally}
 use Rattle.calloop_wake.specs.declared.token.Token.{Token}
 use Rattle.calloop_wake.specs.Tokens.{key_of}
 use Rattle.calloop_wake.specs.Cells.{is_own}
@@ -62,15 +62,15 @@ module _ {F S I X Q : Type 0} (polls : Polls S I) (may : Calling F (Option I) (U
       subst (λ (cs : List (CallbackCall (Option I) (Unit {0}) (Unit {0}))). Went may reaches f x q cs h z w) (sym (calls_ended items ending)) (went_on may reaches f g h x y z q r w (calls_of items AtLimit) (end_calls ending) so.went went)
 
 -- an event of another token
-pub turn_of_another : (P S I : Type 0) (polls : Polls S I) (twin : Twin) (before : Reading S) (token : Token) (pass : Option Taken) → is_own (key_of token) twin.key ≡ false → StreamTurns {P = P} polls twin before token pass [] (Ok Continue) [] twin before
-turn_of_another P S I polls twin before token pass other = rw other (refl, refl, refl, refl, refl)
+pub turn_of_another : (P S I : Type 0) (polls : Polls S I) (tally : Tally) (before : Reading S) (token : Token) (pass : Option Taken) → is_own (key_of token) tally.key ≡ false → StreamTurns {P = P} polls tally before token pass [] (Ok Continue) [] tally before
+turn_of_another P S I polls tally before token pass other = rw other (refl, refl, refl, refl, refl)
 
-module _ (P S I : Type 0) (polls : Polls S I) (twin : Twin) (before : Reading S) (token : Token) (pass : Option Taken) (own : is_own (key_of token) twin.key ≡ true) where
+module _ (P S I : Type 0) (polls : Polls S I) (tally : Tally) (before : Reading S) (token : Token) (pass : Option Taken) (own : is_own (key_of token) tally.key ≡ true) where
   -- an event without a pass
-  pub turn_without : pass ≡ None → StreamTurns {P = P} polls twin before token pass [] (Ok Continue) (TakePass ∷ []) twin before
+  pub turn_without : pass ≡ None → StreamTurns {P = P} polls tally before token pass [] (Ok Continue) (TakePass ∷ []) tally before
   turn_without none = rw (own, none) (refl, refl, refl, refl, refl)
 
   -- an event with one
-  pub turn_answered : (p : Taken) (answered : PassAnswer I) (calls : StreamCalls I) (action : PostAction) (steps : List (PollStep P)) (twin' : Twin) (after : Reading S) → pass ≡ Some p
-      → AnsweredSo polls answered p twin before calls action steps twin' after → StreamTurns polls twin before token pass calls (Ok action) steps twin' after
-  turn_answered p answered calls action steps twin' after some h = rw (own, some) (answered, h)
+  pub turn_answered : (p : Taken) (answered : PassAnswer I) (calls : StreamCalls I) (action : PostAction) (steps : List (PollStep P)) (tally' : Tally) (after : Reading S) → pass ≡ Some p
+      → AnsweredSo polls answered p tally before calls action steps tally' after → StreamTurns polls tally before token pass calls (Ok action) steps tally' after
+  turn_answered p answered calls action steps tally' after some h = rw (own, some) (answered, h)

@@ -2,10 +2,10 @@
 use Rattle.std.proofs.Common.{◌≡◌, ℕ, zero, suc, nat_lt, ◌<◌, Bool, true, false, Option, Some, None, Ok, ◌||◌, ◌&&◌, not, ◌⊎◌, inl, inr, List, [], ◌∷◌, ◌++◌, refl, sym, ap, subst, arith, ◌∙◌, append_assoc, append-nil, ltb-true}
 use Rattle.std.proofs.Math.Bool.{and-true}
 use Rattle.std.proofs.lemmas.Bool.Decides.{nat_tests}
-use Rattle.calloop_wake.specs.declared.wake.Twin.{Twin}
+use Rattle.calloop_wake.specs.declared.wake.Tally.{Tally}
 use Rattle.calloop_wake.specs.declared.wake.ChannelTurn.{ChannelTurn}
 use Rattle.calloop_wake.specs.declared.wake.channel.Popped.{Popped}
-use Rattle.calloop_wake.specs.Channels.{LabelView, is_close, turn_after_pop, twin_after_pop}
+use Rattle.calloop_wake.specs.Channels.{LabelView, is_close, turn_after_pop, tally_after_pop}
 use Rattle.calloop_wake.specs.declared.token.Token.{Token}
 use Rattle.calloop_wake.specs.Tokens.{key_of}
 use Rattle.calloop_wake.specs.Cells.{is_own}
@@ -16,7 +16,7 @@ use Rattle.calloop_core.specs.Calls.{CallbackCall, Calling, Went}
 use Rattle.calloop_core.proofs.Calling.{went_on}
 use Rattle.calloop_core.specs.Polls.{PollStep, TakePass}
 use Rattle.calloop.specs.declared.channel.Event.{Event}
-use Rattle.calloop.specs.Channels.{call_of, calls_of, turn_after, twin_after, told_in, ArePops, Handed, ChannelCalls, ChannelTurns, PassAnswer, AnsweredSo}
+use Rattle.calloop.specs.Channels.{call_of, calls_of, turn_after, tally_after, told_in, ArePops, Handed, ChannelCalls, ChannelTurns, PassAnswer, AnsweredSo}
 
 or_false : (b : Bool) → (b || false) ≡ b
 or_false true = refl
@@ -35,9 +35,9 @@ module _ {T : Type 0} where
   turn_more [] p turn = refl
   turn_more (o ∷ ps) p turn = turn_more ps p (turn_after_pop o turn)
 
-  twin_more : (ps : List (Popped T)) (p : Popped T) (twin : Twin) → twin_after (ps ++ p ∷ []) twin ≡ twin_after_pop p (twin_after ps twin)
-  twin_more [] p twin = refl
-  twin_more (o ∷ ps) p twin = twin_more ps p (twin_after_pop o twin)
+  tally_more : (ps : List (Popped T)) (p : Popped T) (tally : Tally) → tally_after (ps ++ p ∷ []) tally ≡ tally_after_pop p (tally_after ps tally)
+  tally_more [] p tally = refl
+  tally_more (o ∷ ps) p tally = tally_more ps p (tally_after_pop o tally)
 
   told_more : (ps : List (Popped T)) (p : Popped T) → told_in (ps ++ p ∷ []) ≡ (told_in ps || is_close p)
   told_more [] p = or_false (is_close p)
@@ -51,20 +51,20 @@ module _ {T : Type 0} where
   name_kept [] turn = refl
   name_kept (p ∷ ps) turn = name_kept ps (turn_after_pop p turn)
 
-module _ {F T X Q : Type 0} (may : Calling F (Event T) (Unit {0}) (Unit {0}) X Q) (reaches : Q → Q → Type 0) (turn : ChannelTurn) (twin : Twin) (f : F) (x : X) (q : Q) where
+module _ {F T X Q : Type 0} (may : Calling F (Event T) (Unit {0}) (Unit {0}) X Q) (reaches : Q → Q → Type 0) (turn : ChannelTurn) (tally : Tally) (f : F) (x : X) (q : Q) where
   -- a turn that made no pop yet
-  pub handed_none : Handed {T = T} may reaches turn twin f x q [] turn twin false f x q
-  handed_none = record { are = tt; turn_is = refl; twin_is = refl; told_is = refl; went = (refl, refl, refl) }
+  pub handed_none : Handed {T = T} may reaches turn tally f x q [] turn tally false f x q
+  handed_none = record { are = tt; turn_is = refl; tally_is = refl; told_is = refl; went = (refl, refl, refl) }
 
   -- one pop more
-  pub handed_more : (ps : List (Popped T)) (p : Popped T) (turn' turn'' : ChannelTurn) (twin' twin'' : Twin) (told told' : Bool) (g h : F) (y z : X) (r s : Q)
-      → Handed may reaches turn twin f x q ps turn' twin' told g y r → 0 < turn'.left → turn'.done ≡ false
-      → turn'' ≡ turn_after_pop p turn' → twin'' ≡ twin_after_pop p twin' → told' ≡ (told || is_close p) → Went may reaches g y r (call_of p) h z s
-      → Handed may reaches turn twin f x q (ps ++ p ∷ []) turn'' twin'' told' h z s
-  handed_more ps p turn' turn'' twin' twin'' told told' g h y z r s so left done is_turn is_twin is_told went = record {
+  pub handed_more : (ps : List (Popped T)) (p : Popped T) (turn' turn'' : ChannelTurn) (tally' tally'' : Tally) (told told' : Bool) (g h : F) (y z : X) (r s : Q)
+      → Handed may reaches turn tally f x q ps turn' tally' told g y r → 0 < turn'.left → turn'.done ≡ false
+      → turn'' ≡ turn_after_pop p turn' → tally'' ≡ tally_after_pop p tally' → told' ≡ (told || is_close p) → Went may reaches g y r (call_of p) h z s
+      → Handed may reaches turn tally f x q (ps ++ p ∷ []) turn'' tally'' told' h z s
+  handed_more ps p turn' turn'' tally' tally'' told told' g h y z r s so left done is_turn is_tally is_told went = record {
     are = are_more ps p turn so.are (subst (λ (t : ChannelTurn). 0 < t.left) so.turn_is left) (ap (λ t. t.done) (sym so.turn_is) ∙ done);
     turn_is = is_turn ∙ (ap (turn_after_pop p) so.turn_is ∙ sym (turn_more ps p turn));
-    twin_is = is_twin ∙ (ap (twin_after_pop p) so.twin_is ∙ sym (twin_more ps p twin));
+    tally_is = is_tally ∙ (ap (tally_after_pop p) so.tally_is ∙ sym (tally_more ps p tally));
     told_is = is_told ∙ (ap (λ b. b || is_close p) so.told_is ∙ sym (told_more ps p));
     went = subst (λ (cs : List (CallbackCall (Event T) (Unit {0}) (Unit {0}))). Went may reaches f x q cs h z s) (sym (calls_more ps p)) (went_on may reaches f g h x y z q r s (calls_of ps) (call_of p) so.went went);
   }
@@ -95,14 +95,14 @@ over (suc left) false h =
     let e : nat_lt 0 (suc left) ≡ false = sym (and-true (nat_lt 0 (suc left))) ∙ h in absurd (grind (arith, nat_tests))
 
 -- an event of another token
-pub turn_of_another : (P T : Type 0) (label : LabelView) (twin : Twin) (token : Token) (pass : Option Taken) → is_own (key_of token) twin.key ≡ false → ChannelTurns {P = P} {T = T} label twin token pass [] (Ok Continue) [] twin
-turn_of_another P T label twin token pass other = rw other (refl, refl, refl, refl)
+pub turn_of_another : (P T : Type 0) (label : LabelView) (tally : Tally) (token : Token) (pass : Option Taken) → is_own (key_of token) tally.key ≡ false → ChannelTurns {P = P} {T = T} label tally token pass [] (Ok Continue) [] tally
+turn_of_another P T label tally token pass other = rw other (refl, refl, refl, refl)
 
-module _ (P T : Type 0) (label : LabelView) (twin : Twin) (token : Token) (pass : Option Taken) (own : is_own (key_of token) twin.key ≡ true) where
+module _ (P T : Type 0) (label : LabelView) (tally : Tally) (token : Token) (pass : Option Taken) (own : is_own (key_of token) tally.key ≡ true) where
   -- an event without a pass
-  pub turn_without : pass ≡ None → ChannelTurns {P = P} {T = T} label twin token pass [] (Ok Continue) (TakePass ∷ []) twin
+  pub turn_without : pass ≡ None → ChannelTurns {P = P} {T = T} label tally token pass [] (Ok Continue) (TakePass ∷ []) tally
   turn_without none = rw (own, none) (refl, refl, refl, refl)
 
   -- an event with one
-  pub turn_answered : (p : Taken) (answered : PassAnswer T) (calls : ChannelCalls T) (action : PostAction) (steps : List (PollStep P)) (after : Twin) → pass ≡ Some p → AnsweredSo label answered p twin calls action steps after → ChannelTurns label twin token pass calls (Ok action) steps after
+  pub turn_answered : (p : Taken) (answered : PassAnswer T) (calls : ChannelCalls T) (action : PostAction) (steps : List (PollStep P)) (after : Tally) → pass ≡ Some p → AnsweredSo label answered p tally calls action steps after → ChannelTurns label tally token pass calls (Ok action) steps after
   turn_answered p answered calls action steps after some h = rw (own, some) (answered, h)

@@ -1,21 +1,21 @@
 -- The receiving end of a cell is registered by its registrations, and by nothing else.
 use Rattle.std.specs.Prelude.{Ok, Err, is_some}
 use Rattle.std.proofs.Common.{ap}
-use Rattle.calloop_wake.specs.declared.wake.Twin.{Twin}
+use Rattle.calloop_wake.specs.declared.wake.Tally.{Tally}
 use Rattle.calloop_core.specs.Deeds.{Registered, Reregistered, Unregistered, Turned, Slept, Noticed, Heard}
 use Rattle.calloop_core.specs.Marks.{IsRegisteredBy}
 use Rattle.calloop.specs.CellSources.{CellTurns, cell_meaning}
 use Rattle.calloop.specs.CellKeeping.{TurnsQuietly}
 
-module _ {S P E M T Cause : Type 0} (twin : S → Twin) (Same : S → S → Type 0) (Turns : CellTurns S P (Heard E M T Cause))
-    (quiet : TurnsQuietly twin Turns) where
-  pub cell_is_registered : IsRegisteredBy (cell_meaning twin Same Turns) (λ s. is_some (twin s).key)
+module _ {S P E M T Cause : Type 0} (tally : S → Tally) (Same : S → S → Type 0) (Turns : CellTurns S P (Heard E M T Cause))
+    (quiet : TurnsQuietly tally Turns) where
+  pub cell_is_registered : IsRegisteredBy (cell_meaning tally Same Turns) (λ s. is_some (tally s).key)
   cell_is_registered s t v (Registered f (Ok u) g) l ok h = ap (λ x. is_some x.key) h.0.2
   cell_is_registered s t v (Registered f (Err e) g) l ok h = (let no = ok in cc)
   cell_is_registered s t v (Reregistered f (Ok u) g) l ok h = ap (λ x. is_some x.key) h.0.2
   cell_is_registered s t v (Reregistered f (Err e) g) l ok h = (let no = ok in cc)
   cell_is_registered s t v (Unregistered (Ok u)) l ok h = ap (λ x. is_some x.key) h.0.2
   cell_is_registered s t v (Unregistered (Err e)) l ok h = (let no = ok in cc)
-  cell_is_registered s t v (Slept gs a) l ok h = ap (λ (x : S). is_some (twin x).key) h.2
-  cell_is_registered s t v (Noticed es) l ok h = ap (λ (x : S). is_some (twin x).key) h.1
-  cell_is_registered s t v (Turned r k turn) l ok h = ap (λ x. is_some x) (quiet s v k turn l (twin t) h.0).key
+  cell_is_registered s t v (Slept gs a) l ok h = ap (λ (x : S). is_some (tally x).key) h.2
+  cell_is_registered s t v (Noticed es) l ok h = ap (λ (x : S). is_some (tally x).key) h.1
+  cell_is_registered s t v (Turned r k turn) l ok h = ap (λ x. is_some x) (quiet s v k turn l (tally t) h.0).key

@@ -11,7 +11,7 @@ use Rattle.calloop_core.specs.Pollers.{Outside}
 use Rattle.calloop.specs.declared.loop_logic.LoopHandle.{LoopHandle}
 use Rattle.calloop.specs.declared.loop_logic.LoopCall.TheVariants.{Insert, Release}
 use Rattle.calloop.specs.declared.loop_logic.LoopAnswer.TheVariants.{Inserted, Released}
-use Rattle.calloop.specs.declared.io.state.PollTwin.{PollTwin}
+use Rattle.calloop.specs.declared.io.state.PollTally.{PollTally}
 use Rattle.calloop.specs.declared.io.adapter.Adapter.{Adapter}
 use Rattle.calloop.specs.declared.loop_logic.asks.Request.TheVariants.{Insert as AskInsert}
 use Rattle.calloop.specs.Askings.{Asks, Runs, IsAsked}
@@ -23,7 +23,7 @@ pub record IsInNoLoop {P R I : Type 0} (adapter : Adapter P R I) : Type 0 where
   pub entered : adapter.entered ≡ false
 
 -- the other end of this one is asked to be inserted, under this ticket
-abbrev pub IsAskedToAdapt : {D P R I S : Type 0} → (placed : Adapter P R S → D) → PollTwin → (ticket : ℕ)
+abbrev pub IsAskedToAdapt : {D P R I S : Type 0} → (placed : Adapter P R S → D) → PollTally → (ticket : ℕ)
     → Asks D I → Asks D I → Type 0
 IsAskedToAdapt {D} {P} {R} {I} {S} placed made ticket old new =
     (adapter : Adapter P R S) × IsInNoLoop adapter × (adapter.end.name ≡ made.name)
@@ -31,7 +31,7 @@ IsAskedToAdapt {D} {P} {R} {I} {S} placed made ticket old new =
 
 module _ {D P C R X I S : Type 0} (M : Meaning D P (Lent X (Asks D I))) (runs : Runs D I X) (O : Outside P) where
   -- the other end of this one was inserted
-  abbrev pub IsAdapted : (placed : Adapter P R S → D) → PollTwin → LoopHandle D P C R X I S → LoopHandle D P C R X I S
+  abbrev pub IsAdapted : (placed : Adapter P R S → D) → PollTally → LoopHandle D P C R X I S → LoopHandle D P C R X I S
       → Type 0
   IsAdapted placed made old new =
       (adapter : Adapter P R S) × (token : RegistrationToken) × IsInNoLoop adapter

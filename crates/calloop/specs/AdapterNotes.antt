@@ -2,12 +2,12 @@
 use Rattle.std.specs.Prelude.{◌++◌, ◌∷◌, []}
 use Rattle.calloop.specs.declared.io.notes.PollNote.{PollNote}
 use Rattle.calloop.specs.declared.io.notes.SlotNote.{SlotNote}
-use Rattle.calloop.specs.declared.io.state.PollTwin.{PollTwin}
-use Rattle.calloop.specs.declared.io.state.SlotTwin.{SlotTwin}
+use Rattle.calloop.specs.declared.io.state.PollTally.{PollTally}
+use Rattle.calloop.specs.declared.io.state.SlotTally.{SlotTally}
 
 -- with one note more
-abbrev pub with_poll_note : PollNote → PollTwin → PollTwin
-with_poll_note note twin = record twin { notes = twin.notes ++ note ∷ [] }
+abbrev pub with_poll_note : PollNote → PollTally → PollTally
+with_poll_note note tally = record tally { notes = tally.notes ++ note ∷ [] }
 
-abbrev pub with_slot_note : SlotNote → SlotTwin → SlotTwin
-with_slot_note note twin = record twin { notes = twin.notes ++ note ∷ [] }
+abbrev pub with_slot_note : SlotNote → SlotTally → SlotTally
+with_slot_note note tally = record tally { notes = tally.notes ++ note ∷ [] }

@@ -93,7 +93,7 @@ module _ {P R I : Type 0} (sockets : Sockets P I) where
   SettlesTo (RegistersFor interest) s v steps t = Registers interest s.token s v steps t
   SettlesTo IsToLeave s v steps t = ⊥
 
-  -- it is settled: what that found is what its state holds, as the twin notes
+  -- it is settled: what that found is what its state holds, as the tally notes
   abbrev pub SettlesSo : Adapter P R I → PollView P → List (PollStep P) → Adapter P R I → Type 0
   SettlesSo s v steps t = (found : Settled) × SettlesTo found (and_did (SettledSo found) s) v steps t
 

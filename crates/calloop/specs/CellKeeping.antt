@@ -7,7 +7,7 @@ use Rattle.calloop_wake.specs.declared.error.Error.{Error}
 use Rattle.calloop_wake.specs.declared.token.Token.{Token}
 use Rattle.calloop_wake.specs.declared.token.TokenFactory.{TokenFactory}
 use Rattle.calloop_wake.specs.declared.token.RegistrationToken.{RegistrationToken}
-use Rattle.calloop_wake.specs.declared.wake.Twin.{Twin}
+use Rattle.calloop_wake.specs.declared.wake.Tally.{Tally}
 use Rattle.calloop_wake.specs.Tokens.{key_of, next_token}
 use Rattle.calloop_core.specs.Deeds.{Registered, Reregistered, Unregistered, Turned, Slept, Noticed}
 use Rattle.calloop_core.specs.Keys.{IsKeyOf, IsFactoryOf, AllActFor}
@@ -17,57 +17,57 @@ use Rattle.calloop_core.specs.Polls.{PollView, PollStep}
 use Rattle.calloop_core.specs.Holdings.{Keeps, holds_none}
 use Rattle.calloop.specs.CellSources.{Registers, RegistersAnew, Unregisters, CellTurns, cell_keys, cell_meaning}
 
--- a turn leaves the twin's key as it is, holds no counter, and acts for whatever registration is asked
-pub record IsQuietTurn {P : Type 0} (before after : Twin) (steps : List (PollStep P)) : Type 0 where
+-- a turn leaves the tally's key as it is, holds no counter, and acts for whatever registration is asked
+pub record IsQuietTurn {P : Type 0} (before after : Tally) (steps : List (PollStep P)) : Type 0 where
   pub key : after.key ≡ before.key
   pub counters : (next : ℕ) → Keeps holds_none next steps holds_none
   pub own : (r : RegistrationToken) → AllActFor r steps
 
-abbrev pub TurnsQuietly : {S P T : Type 0} → (twin : S → Twin) → CellTurns S P T → Type 0
-TurnsQuietly {S} {P} {T} twin Turns =
-    (s : S) (v : PollView P) (token : Token) (turn : T) (steps : List (PollStep P)) (after : Twin)
-    → Turns s v token turn steps after → IsQuietTurn (twin s) after steps
+abbrev pub TurnsQuietly : {S P T : Type 0} → (tally : S → Tally) → CellTurns S P T → Type 0
+TurnsQuietly {S} {P} {T} tally Turns =
+    (s : S) (v : PollView P) (token : Token) (turn : T) (steps : List (PollStep P)) (after : Tally)
+    → Turns s v token turn steps after → IsQuietTurn (tally s) after steps
 
-module _ {S P T : Type 0} (twin : S → Twin) (Same : S → S → Type 0) (Turns : CellTurns S P T) (quiet : TurnsQuietly twin Turns) where
-  reg_keeps : (s t : Twin) (next : ℕ) (f g : TokenFactory) (a : Result (Unit {0}) Error) (l : List (PollStep P))
+module _ {S P T : Type 0} (tally : S → Tally) (Same : S → S → Type 0) (Turns : CellTurns S P T) (quiet : TurnsQuietly tally Turns) where
+  reg_keeps : (s t : Tally) (next : ℕ) (f g : TokenFactory) (a : Result (Unit {0}) Error) (l : List (PollStep P))
       → Registers s f a l t g → Keeps holds_none next l holds_none
   reg_keeps s t next f g (Ok u) l h = rw h.1 (λ counter. tt)
   reg_keeps s t next f g (Err e) l h = rw h.0 (λ counter. tt)
 
-  rereg_keeps : (s t : Twin) (next : ℕ) (f g : TokenFactory) (a : Result (Unit {0}) Error) (l : List (PollStep P))
+  rereg_keeps : (s t : Tally) (next : ℕ) (f g : TokenFactory) (a : Result (Unit {0}) Error) (l : List (PollStep P))
       → RegistersAnew s f a l t g → Keeps holds_none next l holds_none
   rereg_keeps s t next f g (Ok u) l h = rw h.1 (λ counter. tt)
   rereg_keeps s t next f g (Err e) l h = rw h.0 (λ counter. tt)
 
-  unreg_keeps : (s t : Twin) (next : ℕ) (a : Result (Unit {0}) Error) (l : List (PollStep P)) → Unregisters s a l t
+  unreg_keeps : (s t : Tally) (next : ℕ) (a : Result (Unit {0}) Error) (l : List (PollStep P)) → Unregisters s a l t
       → Keeps holds_none next l holds_none
   unreg_keeps s t next (Ok u) l h = rw h.1 (λ counter. tt)
   unreg_keeps s t next (Err e) l h = rw h.2 (λ counter. tt)
 
-  cell_counts : KeepsCounters (cell_meaning twin Same Turns)
-  cell_counts s t v (Registered f a g) l fits below h = (tt, reg_keeps (twin s) (twin t) v.deadlines.next f g a l h.0)
-  cell_counts s t v (Reregistered f a g) l fits below h = (tt, rereg_keeps (twin s) (twin t) v.deadlines.next f g a l h.0)
-  cell_counts s t v (Unregistered a) l fits below h = (tt, unreg_keeps (twin s) (twin t) v.deadlines.next a l h.0)
+  cell_counts : KeepsCounters (cell_meaning tally Same Turns)
+  cell_counts s t v (Registered f a g) l fits below h = (tt, reg_keeps (tally s) (tally t) v.deadlines.next f g a l h.0)
+  cell_counts s t v (Reregistered f a g) l fits below h = (tt, rereg_keeps (tally s) (tally t) v.deadlines.next f g a l h.0)
+  cell_counts s t v (Unregistered a) l fits below h = (tt, unreg_keeps (tally s) (tally t) v.deadlines.next a l h.0)
   cell_counts s t v (Slept gs a) l fits below h = (tt, rw h.1 (λ counter. tt))
   cell_counts s t v (Noticed es) l fits below h = (tt, rw h.0 (λ counter. tt))
   cell_counts s t v (Turned r k turn) l fits below h =
-      (tt, (quiet s v k turn l (twin t) h.0).counters v.deadlines.next)
+      (tt, (quiet s v k turn l (tally t) h.0).counters v.deadlines.next)
 
   abbrev Home : RegistrationToken → S → Type 0
-  Home r s = (key : ℕ) → cell_keys twin s key → IsKeyOf r key
+  Home r s = (key : ℕ) → cell_keys tally s key → IsKeyOf r key
 
   home_next : (r : RegistrationToken) (f : TokenFactory) (t : S) → IsFactoryOf r f
-      → (twin t).key ≡ Some (key_of (next_token f)) → Home r t
+      → (tally t).key ≡ Some (key_of (next_token f)) → Home r t
   home_next r f t is held key e =
       next_is_own f r key is (let same : Some (key_of (next_token f)) ≡ Some key = sym held ∙ e in cc)
 
-  home_same : (r : RegistrationToken) (s t : S) → Home r s → (twin t).key ≡ (twin s).key → Home r t
+  home_same : (r : RegistrationToken) (s t : S) → Home r s → (tally t).key ≡ (tally s).key → Home r t
   home_same r s t home same key e = home key (sym same ∙ e)
 
-  home_none : (r : RegistrationToken) (t : S) → (twin t).key ≡ None → Home r t
+  home_none : (r : RegistrationToken) (t : S) → (tally t).key ≡ None → Home r t
   home_none r t none key e = let same : None ≡ Some key = sym none ∙ e in cc
 
-  cell_stays : StaysHome (cell_meaning twin Same Turns)
+  cell_stays : StaysHome (cell_meaning tally Same Turns)
   cell_stays r s t v (Registered f (Ok u) g) l begins h =
       (home_next r f t begins (ap (λ x. x.key) h.0.2), rw h.0.1 tt)
   cell_stays r s t v (Registered f (Err e) g) l begins h =
@@ -79,15 +79,15 @@ module _ {S P T : Type 0} (twin : S → Twin) (Same : S → S → Type 0) (Turns
   cell_stays r s t v (Unregistered (Ok u)) l home h = (home_none r t (ap (λ x. x.key) h.0.2), rw h.0.1 tt)
   cell_stays r s t v (Unregistered (Err e)) l home h =
       (home_same r s t home (ap (λ x. x.key) h.0.3), rw h.0.2 tt)
-  cell_stays r s t v (Slept gs a) l home h = (home_same r s t home (ap (λ (x : S). (twin x).key) h.2), rw h.1 tt)
-  cell_stays r s t v (Noticed es) l home h = (home_same r s t home (ap (λ (x : S). (twin x).key) h.1), rw h.0 tt)
+  cell_stays r s t v (Slept gs a) l home h = (home_same r s t home (ap (λ (x : S). (tally x).key) h.2), rw h.1 tt)
+  cell_stays r s t v (Noticed es) l home h = (home_same r s t home (ap (λ (x : S). (tally x).key) h.1), rw h.0 tt)
   cell_stays r s t v (Turned readiness k turn) l home h =
-      let x = quiet s v k turn l (twin t) h.0 in (home_same r s t home x.key, x.own r)
+      let x = quiet s v k turn l (tally t) h.0 in (home_same r s t home x.key, x.own r)
 
-  pub cell_keeps : IsKeeping (cell_meaning twin Same Turns)
+  pub cell_keeps : IsKeeping (cell_meaning tally Same Turns)
   cell_keeps =
       record {
         counters = cell_counts;
-        home = stays_home (cell_meaning twin Same Turns) cell_stays;
-        limit = silent (cell_meaning twin Same Turns) (λ s. refl) (λ s t v given answer steps h. h.0.0);
+        home = stays_home (cell_meaning tally Same Turns) cell_stays;
+        limit = silent (cell_meaning tally Same Turns) (λ s. refl) (λ s t v given answer steps h. h.0.0);
       }

@@ -1,13 +1,13 @@
 -- The receiving end of a cell as a source: what registers, moves and takes back the cell's key, for every kind of cell. calloop
 -- registers a descriptor with its poller; here a place is opened on the board under one lock, and the cell gets its key under
--- another. What is seen of a source is its twin, which has the key that it gave the cell.
+-- another. What is seen of a source is its tally, which has the key that it gave the cell.
 use Rattle.std.specs.Prelude.{◌≡◌, ℕ, List, [], false, Option, Some, None, IsSome, Result, Ok, Err}
 use Rattle.std.specs.declared.io.ErrorKind.TheVariants.{AlreadyExists, NotFound}
 use Rattle.calloop_wake.specs.declared.error.Error.{Error}
 use Rattle.calloop_wake.specs.declared.error.Error.TheVariants.{TooManyTokens}
 use Rattle.calloop_wake.specs.declared.token.Token.{Token}
 use Rattle.calloop_wake.specs.declared.token.TokenFactory.{TokenFactory}
-use Rattle.calloop_wake.specs.declared.wake.Twin.{Twin}
+use Rattle.calloop_wake.specs.declared.wake.Tally.{Tally}
 use Rattle.calloop_wake.specs.Tokens.{key_of, next_token, after_token, most_tokens}
 use Rattle.calloop_wake.specs.Cells.{is_own}
 use Rattle.calloop_core.specs.Deeds.{Deed, Registered, Reregistered, Unregistered, Turned, SaysNothing, Slept, Noticed}
@@ -24,12 +24,12 @@ pub data RefusedCell (own : Option ℕ) (f : TokenFactory) (e : Error) (g : Toke
   NoPlace : own ≡ None → CannotOpen e → g ≡ after_token f → RefusedCell own f e g
 
 -- the place of its token is opened, the key is set, and what stood is posted
-abbrev pub Registers : {P : Type 0} → Twin → TokenFactory → Result (Unit {0}) Error → List (PollStep P) → Twin
+abbrev pub Registers : {P : Type 0} → Tally → TokenFactory → Result (Unit {0}) Error → List (PollStep P) → Tally
     → TokenFactory → Type 0
-Registers twin f (Ok u) steps after g =
-    (twin.key ≡ None) × (steps ≡ []) × (after ≡ record twin { key = Some (key_of (next_token f)) })
+Registers tally f (Ok u) steps after g =
+    (tally.key ≡ None) × (steps ≡ []) × (after ≡ record tally { key = Some (key_of (next_token f)) })
     × (g ≡ after_token f)
-Registers twin f (Err e) steps after g = (steps ≡ []) × (after ≡ twin) × RefusedCell twin.key f e g
+Registers tally f (Err e) steps after g = (steps ≡ []) × (after ≡ tally) × RefusedCell tally.key f e g
 
 -- why a registration anew is refused: it isn't registered, the factory has no more tokens, or the place of another
 -- key can't be opened
@@ -42,45 +42,45 @@ pub data RefusedAnew (own : Option ℕ) (f : TokenFactory) (e : Error) (g : Toke
 -- A cell that is registered moves to its next token: the place of that is opened, the key is set, the old key's
 -- place is closed, and what stood is posted. Under the same key nothing is done. calloop's poller changes the
 -- descriptor's key in one step.
-abbrev pub RegistersAnew : {P : Type 0} → Twin → TokenFactory → Result (Unit {0}) Error → List (PollStep P) → Twin
+abbrev pub RegistersAnew : {P : Type 0} → Tally → TokenFactory → Result (Unit {0}) Error → List (PollStep P) → Tally
     → TokenFactory → Type 0
-RegistersAnew twin f (Ok u) steps after g =
-    IsSome twin.key × (steps ≡ []) × (after ≡ record twin { key = Some (key_of (next_token f)) })
+RegistersAnew tally f (Ok u) steps after g =
+    IsSome tally.key × (steps ≡ []) × (after ≡ record tally { key = Some (key_of (next_token f)) })
     × (g ≡ after_token f)
-RegistersAnew twin f (Err e) steps after g = (steps ≡ []) × (after ≡ twin) × RefusedAnew twin.key f e g
+RegistersAnew tally f (Err e) steps after g = (steps ≡ []) × (after ≡ tally) × RefusedAnew tally.key f e g
 
 -- the key is cleared and its place is closed; what stands stays
-abbrev pub Unregisters : {P : Type 0} → Twin → Result (Unit {0}) Error → List (PollStep P) → Twin → Type 0
-Unregisters twin (Ok u) steps after = IsSome twin.key × (steps ≡ []) × (after ≡ record twin { key = None })
-Unregisters twin (Err e) steps after = (twin.key ≡ None) × IsOfKind NotFound e × (steps ≡ []) × (after ≡ twin)
+abbrev pub Unregisters : {P : Type 0} → Tally → Result (Unit {0}) Error → List (PollStep P) → Tally → Type 0
+Unregisters tally (Ok u) steps after = IsSome tally.key × (steps ≡ []) × (after ≡ record tally { key = None })
+Unregisters tally (Err e) steps after = (tally.key ≡ None) × IsOfKind NotFound e × (steps ≡ []) × (after ≡ tally)
 
--- a turn: the source and the view before it, its token, what it took and gave, its steps, and the twin after it
+-- a turn: the source and the view before it, its token, what it took and gave, its steps, and the tally after it
 abbrev pub CellTurns : (S P T : Type 0) → Type 1
-CellTurns S P T = S → PollView P → Token → T → List (PollStep P) → Twin → Type 0
+CellTurns S P T = S → PollView P → Token → T → List (PollStep P) → Tally → Type 0
 
--- a source that is a cell's receiving end, with this twin; `Same` says that its cell stays the same one
-abbrev pub IsCell : {S P T : Type 0} → (twin : S → Twin) → (Same : S → S → Type 0) → CellTurns S P T → S → PollView P
+-- a source that is a cell's receiving end, with this tally; `Same` says that its cell stays the same one
+abbrev pub IsCell : {S P T : Type 0} → (tally : S → Tally) → (Same : S → S → Type 0) → CellTurns S P T → S → PollView P
     → Deed T → List (PollStep P) → S → Type 0
-IsCell twin Same Turns s v (Registered f answer g) steps t = Registers (twin s) f answer steps (twin t) g × Same s t
-IsCell twin Same Turns s v (Reregistered f answer g) steps t =
-    RegistersAnew (twin s) f answer steps (twin t) g × Same s t
-IsCell twin Same Turns s v (Unregistered answer) steps t = Unregisters (twin s) answer steps (twin t) × Same s t
-IsCell twin Same Turns s v (Slept given answer) steps t = SaysNothing given answer × (steps ≡ []) × (t ≡ s)
-IsCell twin Same Turns s v (Noticed events) steps t = (steps ≡ []) × (t ≡ s)
-IsCell twin Same Turns s v (Turned readiness token turn) steps t = Turns s v token turn steps (twin t) × Same s t
+IsCell tally Same Turns s v (Registered f answer g) steps t = Registers (tally s) f answer steps (tally t) g × Same s t
+IsCell tally Same Turns s v (Reregistered f answer g) steps t =
+    RegistersAnew (tally s) f answer steps (tally t) g × Same s t
+IsCell tally Same Turns s v (Unregistered answer) steps t = Unregisters (tally s) answer steps (tally t) × Same s t
+IsCell tally Same Turns s v (Slept given answer) steps t = SaysNothing given answer × (steps ≡ []) × (t ≡ s)
+IsCell tally Same Turns s v (Noticed events) steps t = (steps ≡ []) × (t ≡ s)
+IsCell tally Same Turns s v (Turned readiness token turn) steps t = Turns s v token turn steps (tally t) × Same s t
 
 -- the key that it gave its cell
-abbrev pub cell_keys : {S : Type 0} → (twin : S → Twin) → S → (key : ℕ) → Type 0
-cell_keys twin s key = (twin s).key ≡ Some key
+abbrev pub cell_keys : {S : Type 0} → (tally : S → Tally) → S → (key : ℕ) → Type 0
+cell_keys tally s key = (tally s).key ≡ Some key
 
-abbrev pub cell_meaning : {S P T : Type 0} → (twin : S → Twin) → (Same : S → S → Type 0) → CellTurns S P T → Meaning S P T
-cell_meaning twin Same Turns =
+abbrev pub cell_meaning : {S P T : Type 0} → (tally : S → Tally) → (Same : S → S → Type 0) → CellTurns S P T → Meaning S P T
+cell_meaning tally Same Turns =
     record {
       holds = λ s. holds_none;
-      keys = cell_keys twin;
+      keys = cell_keys tally;
       fits = λ s. Unit {0};
       needs = λ s. false;
       limit = λ s. 0;
       role = λ s. Caller;
-      does = IsCell twin Same Turns;
+      does = IsCell tally Same Turns;
     }

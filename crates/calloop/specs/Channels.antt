@@ -2,7 +2,7 @@
 use Rattle.std.specs.Prelude.{◌≡◌, ℕ, ◌+◌, ◌<◌, ◌⊎◌, Bool, true, false, ◌||◌, List, [], ◌∷◌, ◌++◌, Option, None, Some, Result, Ok, Err}
 use Rattle.logbook.specs.Pages.{Book}
 use Rattle.calloop_wake.specs.declared.token.Token.{Token}
-use Rattle.calloop_wake.specs.declared.wake.Twin.{Twin}
+use Rattle.calloop_wake.specs.declared.wake.Tally.{Tally}
 use Rattle.calloop_wake.specs.declared.wake.ChannelTurn.{ChannelTurn}
 use Rattle.calloop_wake.specs.declared.wake.channel.Label.{Label}
 use Rattle.calloop_wake.specs.declared.wake.channel.Popped.{Popped}
@@ -10,7 +10,7 @@ use Rattle.calloop_wake.specs.declared.wake.channel.Popped.TheVariants.{Item, Em
 use Rattle.calloop_wake.specs.Tokens.{key_of}
 use Rattle.calloop_wake.specs.Passes.{Taken}
 use Rattle.calloop_wake.specs.Cells.{is_own}
-use Rattle.calloop_wake.specs.Channels.{LabelView, pops, is_close, turn_after_pop, twin_after_pop}
+use Rattle.calloop_wake.specs.Channels.{LabelView, pops, is_close, turn_after_pop, tally_after_pop}
 use Rattle.calloop_core.specs.declared.sources.source.PostAction.{PostAction}
 use Rattle.calloop_core.specs.declared.sources.source.PostAction.TheVariants.{Continue}
 use Rattle.calloop_core.specs.Calls.{CallbackCall, Calling, Went}
@@ -23,9 +23,9 @@ use Rattle.calloop.specs.declared.channel.ChannelError.{ChannelError}
 use Rattle.calloop.specs.CellSources.{CellTurns, cell_meaning}
 use Rattle.calloop.specs.Pings.{action_of}
 
--- what is seen of a channel: its twin, and how many messages it holds at most
+-- what is seen of a channel: its tally, and how many messages it holds at most
 pub record ReceivingEnd : Type 0 where
-  pub twin : Twin
+  pub tally : Tally
   pub bound : Option ℕ
 
 -- what is seen of a sender whose channel has a bound: the name of the cell to which it sends, and the bound
@@ -35,11 +35,11 @@ pub record BoundedEnd : Type 0 where
 
 -- a turn more was opened
 abbrev pub with_turn : ReceivingEnd → ReceivingEnd
-with_turn c = record c { twin = record c.twin { turns = c.twin.turns + 1 } }
+with_turn c = record c { tally = record c.tally { turns = c.tally.turns + 1 } }
 
 -- one message more was handed out
 abbrev pub with_message : ReceivingEnd → ReceivingEnd
-with_message c = record c { twin = record c.twin { number = c.twin.number + 1 } }
+with_message c = record c { tally = record c.tally { number = c.tally.number + 1 } }
 
 -- the calls of a channel's callback
 abbrev pub ChannelCalls : Type 0 → Type 0
@@ -67,9 +67,9 @@ abbrev pub turn_after : {T : Type 0} → List (Popped T) → ChannelTurn → Cha
 turn_after [] turn = turn
 turn_after (p ∷ ps) turn = turn_after ps (turn_after_pop p turn)
 
-abbrev pub twin_after : {T : Type 0} → List (Popped T) → Twin → Twin
-twin_after [] twin = twin
-twin_after (p ∷ ps) twin = twin_after ps (twin_after_pop p twin)
+abbrev pub tally_after : {T : Type 0} → List (Popped T) → Tally → Tally
+tally_after [] tally = tally
+tally_after (p ∷ ps) tally = tally_after ps (tally_after_pop p tally)
 
 -- each pop is made by a turn that may make one more, and whose last one found a message
 abbrev pub ArePops : {T : Type 0} → List (Popped T) → ChannelTurn → Type 0
@@ -85,18 +85,18 @@ abbrev pub told_in : {T : Type 0} → List (Popped T) → Bool
 told_in [] = false
 told_in (p ∷ ps) = is_close p || told_in ps
 
--- what a turn did: the pops that it made and what they gave, what became of it and of the twin, whether the close was told, and
+-- what a turn did: the pops that it made and what they gave, what became of it and of the tally, whether the close was told, and
 -- that the callback was called for just these
 pub record Handed
     {F T X Q : Type 0}
     (may : Calling F (Event T) (Unit {0}) (Unit {0}) X Q)
     (reaches : Q → Q → Type 0)
-    (turn : ChannelTurn) (twin : Twin) (f : F) (x : X) (q : Q)
+    (turn : ChannelTurn) (tally : Tally) (f : F) (x : X) (q : Q)
     (popped : List (Popped T))
-    (turn' : ChannelTurn) (twin' : Twin) (told : Bool) (g : F) (y : X) (r : Q) : Type 0 where
+    (turn' : ChannelTurn) (tally' : Tally) (told : Bool) (g : F) (y : X) (r : Q) : Type 0 where
   pub are : ArePops popped turn
   pub turn_is : turn' ≡ turn_after popped turn
-  pub twin_is : twin' ≡ twin_after popped twin
+  pub tally_is : tally' ≡ tally_after popped tally
   pub told_is : told ≡ told_in popped
   pub went : Went may reaches f x q (calls_of popped) g y r
 
@@ -112,50 +112,50 @@ pub data PassAnswer (T : Type 0) : Type 0 where
   Refused : PassAnswer T
 
 -- The callback is called with the messages of the turn's pops in order, and then with the close where it is told, which removes
--- the source; the twin counts just these. A turn goes on to a pop that finds no message, or makes all that it may. calloop's
+-- the source; the tally counts just these. A turn goes on to a pop that finds no message, or makes all that it may. calloop's
 -- process_events is this loop over its queue.
-abbrev pub AnsweredSo : {P T : Type 0} → LabelView → PassAnswer T → Taken → Twin → ChannelCalls T → PostAction
-    → List (PollStep P) → Twin → Type 0
-AnsweredSo label (Opened popped) p twin calls action steps after =
+abbrev pub AnsweredSo : {P T : Type 0} → LabelView → PassAnswer T → Taken → Tally → ChannelCalls T → PostAction
+    → List (PollStep P) → Tally → Type 0
+AnsweredSo label (Opened popped) p tally calls action steps after =
     ArePops popped (fresh_turn label) × IsOver (turn_after popped (fresh_turn label))
     × (calls ≡ calls_of popped) × (action ≡ action_of (told_in popped)) × (steps ≡ TakePass ∷ [])
-    × (after ≡ twin_after popped (record twin { turns = twin.turns + 1 }))
-AnsweredSo label Refused p twin calls action steps after =
+    × (after ≡ tally_after popped (record tally { turns = tally.turns + 1 }))
+AnsweredSo label Refused p tally calls action steps after =
     (calls ≡ []) × (action ≡ Continue)
-    × (steps ≡ TakePass ∷ PutBack (record p { refused = Some twin.name }) ∷ []) × (after ≡ twin)
+    × (steps ≡ TakePass ∷ PutBack (record p { refused = Some tally.name }) ∷ []) × (after ≡ tally)
 
-abbrev pub ChannelTurnWith : {P T : Type 0} → LabelView → Option Taken → Twin → ChannelCalls T → PostAction
-    → List (PollStep P) → Twin → Type 0
-ChannelTurnWith label None twin calls action steps after =
-    (calls ≡ []) × (action ≡ Continue) × (steps ≡ TakePass ∷ []) × (after ≡ twin)
-ChannelTurnWith {P} {T} label (Some p) twin calls action steps after =
-    (answered : PassAnswer T) × AnsweredSo label answered p twin calls action steps after
+abbrev pub ChannelTurnWith : {P T : Type 0} → LabelView → Option Taken → Tally → ChannelCalls T → PostAction
+    → List (PollStep P) → Tally → Type 0
+ChannelTurnWith label None tally calls action steps after =
+    (calls ≡ []) × (action ≡ Continue) × (steps ≡ TakePass ∷ []) × (after ≡ tally)
+ChannelTurnWith {P} {T} label (Some p) tally calls action steps after =
+    (answered : PassAnswer T) × AnsweredSo label answered p tally calls action steps after
 
-abbrev pub ChannelTurnFor : {P T : Type 0} → LabelView → (is_own : Bool) → Option Taken → Twin → ChannelCalls T
-    → PostAction → List (PollStep P) → Twin → Type 0
-ChannelTurnFor label true pass twin calls action steps after =
-    ChannelTurnWith label pass twin calls action steps after
-ChannelTurnFor label false pass twin calls action steps after =
-    (calls ≡ []) × (action ≡ Continue) × (steps ≡ []) × (after ≡ twin)
+abbrev pub ChannelTurnFor : {P T : Type 0} → LabelView → (is_own : Bool) → Option Taken → Tally → ChannelCalls T
+    → PostAction → List (PollStep P) → Tally → Type 0
+ChannelTurnFor label true pass tally calls action steps after =
+    ChannelTurnWith label pass tally calls action steps after
+ChannelTurnFor label false pass tally calls action steps after =
+    (calls ≡ []) × (action ≡ Continue) × (steps ≡ []) × (after ≡ tally)
 
 -- a turn, which never fails
-abbrev pub ChannelTurns : {P T : Type 0} → LabelView → Twin → Token → Option Taken → ChannelCalls T
-    → Result PostAction ChannelError → List (PollStep P) → Twin → Type 0
-ChannelTurns label twin token pass calls (Ok action) steps after =
-    ChannelTurnFor label (is_own (key_of token) twin.key) pass twin calls action steps after
-ChannelTurns label twin token pass calls (Err e) steps after = ⊥
+abbrev pub ChannelTurns : {P T : Type 0} → LabelView → Tally → Token → Option Taken → ChannelCalls T
+    → Result PostAction ChannelError → List (PollStep P) → Tally → Type 0
+ChannelTurns label tally token pass calls (Ok action) steps after =
+    ChannelTurnFor label (is_own (key_of token) tally.key) pass tally calls action steps after
+ChannelTurns label tally token pass calls (Err e) steps after = ⊥
 
 -- what never changes of a channel's cell
 abbrev pub label_of : ReceivingEnd → LabelView
-label_of c = record { name = c.twin.name; bound = c.bound }
+label_of c = record { name = c.tally.name; bound = c.bound }
 
 -- a turn of a channel
 abbrev pub ChannelTakes : {P T : Type 0} → CellTurns ReceivingEnd P (Heard (Event T) (Unit {0}) (Unit {0}) ChannelError)
 ChannelTakes c v token turn steps after =
-    ChannelTurns (label_of c) c.twin token v.pass turn.calls turn.answer steps after
+    ChannelTurns (label_of c) c.tally token v.pass turn.calls turn.answer steps after
 
-abbrev pub channel_twin : ReceivingEnd → Twin
-channel_twin c = c.twin
+abbrev pub channel_tally : ReceivingEnd → Tally
+channel_tally c = c.tally
 
 -- its cell stays the same one
 abbrev pub SameChannel : (before after : ReceivingEnd) → Type 0
@@ -163,4 +163,4 @@ SameChannel before after = label_of after ≡ label_of before
 
 abbrev pub channel_meaning : {P T : Type 0}
     → Meaning ReceivingEnd P (Heard (Event T) (Unit {0}) (Unit {0}) ChannelError)
-channel_meaning = cell_meaning channel_twin SameChannel ChannelTakes
+channel_meaning = cell_meaning channel_tally SameChannel ChannelTakes

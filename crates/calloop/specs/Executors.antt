@@ -1,7 +1,7 @@
 -- What an executor means as a source. Its registrations are those of every cell.
 use Rattle.std.specs.Prelude.{◌≡◌, ℕ, ◌+◌, ◌≤◌, Bool, true, false, List, [], ◌∷◌, ◌++◌, length, Option, None, Some, Result, Ok, Err}
 use Rattle.calloop_wake.specs.declared.token.Token.{Token}
-use Rattle.calloop_wake.specs.declared.wake.Twin.{Twin}
+use Rattle.calloop_wake.specs.declared.wake.Tally.{Tally}
 use Rattle.calloop_wake.specs.Tokens.{key_of}
 use Rattle.calloop_wake.specs.Passes.{Taken}
 use Rattle.calloop_wake.specs.Cells.{one, is_own}
@@ -80,51 +80,51 @@ pub data PassAnswer (O : Type 0) : Type 0 where
   Refused : PassAnswer O
 
 -- At most 1,024 tasks are polled, in queue order, and the callback is called with each result, one that some future of the executor's type
--- may give; the twin counts just these. The source always goes on. calloop's process_events is this loop over its runnables.
-abbrev pub AnsweredSo : {P O : Type 0} → (given : OfPop O → Type 0) → PassAnswer O → Taken → Twin → ResultCalls O → PostAction
-    → List (PollStep P) → Twin → Type 0
-AnsweredSo given (Opened polled) p twin calls action steps after =
+-- may give; the tally counts just these. The source always goes on. calloop's process_events is this loop over its runnables.
+abbrev pub AnsweredSo : {P O : Type 0} → (given : OfPop O → Type 0) → PassAnswer O → Taken → Tally → ResultCalls O → PostAction
+    → List (PollStep P) → Tally → Type 0
+AnsweredSo given (Opened polled) p tally calls action steps after =
     (length polled ≤ most_tasks) × (calls ≡ calls_of polled) × (action ≡ Continue) × (steps ≡ TakePass ∷ [])
-    × (after ≡ record twin { turns = twin.turns + 1; number = twin.number + results_of polled; misses = twin.misses + misses_of polled })
+    × (after ≡ record tally { turns = tally.turns + 1; number = tally.number + results_of polled; misses = tally.misses + misses_of polled })
     × AllGiven given polled
-AnsweredSo given Refused p twin calls action steps after =
+AnsweredSo given Refused p tally calls action steps after =
     (calls ≡ []) × (action ≡ Continue)
-    × (steps ≡ TakePass ∷ PutBack (record p { refused = Some twin.name }) ∷ []) × (after ≡ twin)
+    × (steps ≡ TakePass ∷ PutBack (record p { refused = Some tally.name }) ∷ []) × (after ≡ tally)
 
-abbrev pub ExecutorTurnWith : {P O : Type 0} → (given : OfPop O → Type 0) → Option Taken → Twin → ResultCalls O → PostAction
-    → List (PollStep P) → Twin → Type 0
-ExecutorTurnWith given None twin calls action steps after =
-    (calls ≡ []) × (action ≡ Continue) × (steps ≡ TakePass ∷ []) × (after ≡ twin)
-ExecutorTurnWith {P} {O} given (Some p) twin calls action steps after =
-    (answered : PassAnswer O) × AnsweredSo given answered p twin calls action steps after
+abbrev pub ExecutorTurnWith : {P O : Type 0} → (given : OfPop O → Type 0) → Option Taken → Tally → ResultCalls O → PostAction
+    → List (PollStep P) → Tally → Type 0
+ExecutorTurnWith given None tally calls action steps after =
+    (calls ≡ []) × (action ≡ Continue) × (steps ≡ TakePass ∷ []) × (after ≡ tally)
+ExecutorTurnWith {P} {O} given (Some p) tally calls action steps after =
+    (answered : PassAnswer O) × AnsweredSo given answered p tally calls action steps after
 
-abbrev pub ExecutorTurnFor : {P O : Type 0} → (given : OfPop O → Type 0) → (is_own : Bool) → Option Taken → Twin → ResultCalls O
-    → PostAction → List (PollStep P) → Twin → Type 0
-ExecutorTurnFor given true pass twin calls action steps after = ExecutorTurnWith given pass twin calls action steps after
-ExecutorTurnFor given false pass twin calls action steps after =
-    (calls ≡ []) × (action ≡ Continue) × (steps ≡ []) × (after ≡ twin)
+abbrev pub ExecutorTurnFor : {P O : Type 0} → (given : OfPop O → Type 0) → (is_own : Bool) → Option Taken → Tally → ResultCalls O
+    → PostAction → List (PollStep P) → Tally → Type 0
+ExecutorTurnFor given true pass tally calls action steps after = ExecutorTurnWith given pass tally calls action steps after
+ExecutorTurnFor given false pass tally calls action steps after =
+    (calls ≡ []) × (action ≡ Continue) × (steps ≡ []) × (after ≡ tally)
 
 -- a turn, which never fails: under another token nothing, without a pass nothing, else by what the cell answers to the pass
-abbrev pub ExecutorTurns : {P O : Type 0} → (given : OfPop O → Type 0) → Twin → Token → Option Taken → ResultCalls O
-    → Result PostAction ExecutorError → List (PollStep P) → Twin → Type 0
-ExecutorTurns given twin token pass calls (Ok action) steps after =
-    ExecutorTurnFor given (is_own (key_of token) twin.key) pass twin calls action steps after
-ExecutorTurns given twin token pass calls (Err e) steps after = ⊥
+abbrev pub ExecutorTurns : {P O : Type 0} → (given : OfPop O → Type 0) → Tally → Token → Option Taken → ResultCalls O
+    → Result PostAction ExecutorError → List (PollStep P) → Tally → Type 0
+ExecutorTurns given tally token pass calls (Ok action) steps after =
+    ExecutorTurnFor given (is_own (key_of token) tally.key) pass tally calls action steps after
+ExecutorTurns given tally token pass calls (Err e) steps after = ⊥
 
 -- a turn of an executor
 abbrev pub ExecutorTakes : {P O : Type 0} → (given : OfPop O → Type 0)
-    → CellTurns Twin P (Heard O (Unit {0}) (Unit {0}) ExecutorError)
-ExecutorTakes given twin v token turn steps after =
-    ExecutorTurns given twin token v.pass turn.calls turn.answer steps after
+    → CellTurns Tally P (Heard O (Unit {0}) (Unit {0}) ExecutorError)
+ExecutorTakes given tally v token turn steps after =
+    ExecutorTurns given tally token v.pass turn.calls turn.answer steps after
 
--- an executor is seen as its twin
-abbrev pub executor_twin : Twin → Twin
-executor_twin twin = twin
+-- an executor is seen as its tally
+abbrev pub executor_tally : Tally → Tally
+executor_tally tally = tally
 
 -- its cell stays the same one
-abbrev pub SameExecutor : (before after : Twin) → Type 0
+abbrev pub SameExecutor : (before after : Tally) → Type 0
 SameExecutor before after = after.name ≡ before.name
 
 abbrev pub executor_meaning : {P O : Type 0} → (given : OfPop O → Type 0)
-    → Meaning Twin P (Heard O (Unit {0}) (Unit {0}) ExecutorError)
-executor_meaning given = cell_meaning executor_twin SameExecutor (ExecutorTakes given)
+    → Meaning Tally P (Heard O (Unit {0}) (Unit {0}) ExecutorError)
+executor_meaning given = cell_meaning executor_tally SameExecutor (ExecutorTakes given)

@@ -1,10 +1,10 @@
 -- A ping as a source: its registration and its turn. calloop's ping is a file that is written and read; here it is a
 -- cell under its lock and a place on the board under another, so what they hold isn't seen: what the cell answers to
--- a pass comes from outside. What is seen of a source is its twin, which has the key that it gave the cell.
+-- a pass comes from outside. What is seen of a source is its tally, which has the key that it gave the cell.
 use Rattle.std.specs.Prelude.{◌≡◌, ℕ, ◌+◌, List, [], ◌∷◌, Bool, true, false, if◌then◌else◌, Option, Some, None}
 use Rattle.std.specs.Prelude.{Result, Ok, Err}
 use Rattle.calloop_wake.specs.declared.token.Token.{Token}
-use Rattle.calloop_wake.specs.declared.wake.Twin.{Twin}
+use Rattle.calloop_wake.specs.declared.wake.Tally.{Tally}
 use Rattle.calloop_wake.specs.Tokens.{key_of}
 use Rattle.calloop_wake.specs.Passes.{Taken}
 use Rattle.calloop_wake.specs.Cells.{one, is_own}
@@ -38,62 +38,62 @@ pub data PassAnswer : Type 0 where
   -- no turn: the pass is of another key, or a turn stands open
   Refused : PassAnswer
 
--- the twin of a source, after a turn was opened that took this ring and told this close
-abbrev pub twin_opened : (rung told : Bool) → Twin → Twin
-twin_opened rung told twin =
-    record twin { turns = twin.turns + 1; number = twin.number + one rung; closes = twin.closes + one told }
+-- the tally of a source, after a turn was opened that took this ring and told this close
+abbrev pub tally_opened : (rung told : Bool) → Tally → Tally
+tally_opened rung told tally =
+    record tally { turns = tally.turns + 1; number = tally.number + one rung; closes = tally.closes + one told }
 
--- The twin counts the turn that the pass opened; the source is called as often as the twin's number of rings grows
+-- The tally counts the turn that the pass opened; the source is called as often as the tally's number of rings grows
 -- by, and removed where its number of closes does. A pass that the source's own cell refused is put back.
-abbrev pub ServedSo : {P : Type 0} → PassAnswer → Taken → Twin → PingCalls → PostAction → List (PollStep P) → Twin → Type 0
-ServedSo (Opened rung told) p twin calls action steps after =
+abbrev pub ServedSo : {P : Type 0} → PassAnswer → Taken → Tally → PingCalls → PostAction → List (PollStep P) → Tally → Type 0
+ServedSo (Opened rung told) p tally calls action steps after =
     (calls ≡ calls_of rung) × (action ≡ action_of told) × (steps ≡ TakePass ∷ [])
-    × (after ≡ twin_opened rung told twin)
-ServedSo Refused p twin calls action steps after =
+    × (after ≡ tally_opened rung told tally)
+ServedSo Refused p tally calls action steps after =
     (calls ≡ []) × (action ≡ Continue)
-    × (steps ≡ TakePass ∷ PutBack (record p { refused = Some twin.name }) ∷ []) × (after ≡ twin)
+    × (steps ≡ TakePass ∷ PutBack (record p { refused = Some tally.name }) ∷ []) × (after ≡ tally)
 
-abbrev pub PingTurnWith : {P : Type 0} → Option Taken → Twin → PingCalls → PostAction → List (PollStep P) → Twin
+abbrev pub PingTurnWith : {P : Type 0} → Option Taken → Tally → PingCalls → PostAction → List (PollStep P) → Tally
     → Type 0
-PingTurnWith None twin calls action steps after =
-    (calls ≡ []) × (action ≡ Continue) × (steps ≡ TakePass ∷ []) × (after ≡ twin)
-PingTurnWith (Some p) twin calls action steps after =
-    (served : PassAnswer) × ServedSo served p twin calls action steps after
+PingTurnWith None tally calls action steps after =
+    (calls ≡ []) × (action ≡ Continue) × (steps ≡ TakePass ∷ []) × (after ≡ tally)
+PingTurnWith (Some p) tally calls action steps after =
+    (served : PassAnswer) × ServedSo served p tally calls action steps after
 
-abbrev pub PingTurnFor : {P : Type 0} → (is_own : Bool) → Option Taken → Twin → PingCalls → PostAction
+abbrev pub PingTurnFor : {P : Type 0} → (is_own : Bool) → Option Taken → Tally → PingCalls → PostAction
     → List (PollStep P)
-    → Twin → Type 0
-PingTurnFor true pass twin calls action steps after = PingTurnWith pass twin calls action steps after
-PingTurnFor false pass twin calls action steps after =
-    (calls ≡ []) × (action ≡ Continue) × (steps ≡ []) × (after ≡ twin)
+    → Tally → Type 0
+PingTurnFor true pass tally calls action steps after = PingTurnWith pass tally calls action steps after
+PingTurnFor false pass tally calls action steps after =
+    (calls ≡ []) × (action ≡ Continue) × (steps ≡ []) × (after ≡ tally)
 
 -- a turn, which never fails: under another token nothing, without a pass nothing, else by what the cell answers to
 -- the pass
-abbrev pub TurnsBy : {P : Type 0} → Twin → Token → Option Taken → PingCalls → Result PostAction PingError
-    → List (PollStep P) → Twin → Type 0
-TurnsBy twin token pass calls (Ok action) steps after =
-    PingTurnFor (is_own (key_of token) twin.key) pass twin calls action steps after
-TurnsBy twin token pass calls (Err e) steps after = ⊥
+abbrev pub TurnsBy : {P : Type 0} → Tally → Token → Option Taken → PingCalls → Result PostAction PingError
+    → List (PollStep P) → Tally → Type 0
+TurnsBy tally token pass calls (Ok action) steps after =
+    PingTurnFor (is_own (key_of token) tally.key) pass tally calls action steps after
+TurnsBy tally token pass calls (Err e) steps after = ⊥
 
 -- a turn of a ping's source
-abbrev pub PingTurns : {P : Type 0} → CellTurns Twin P (Heard (Unit {0}) (Unit {0}) (Unit {0}) PingError)
-PingTurns twin v token turn steps after = TurnsBy twin token v.pass turn.calls turn.answer steps after
+abbrev pub PingTurns : {P : Type 0} → CellTurns Tally P (Heard (Unit {0}) (Unit {0}) (Unit {0}) PingError)
+PingTurns tally v token turn steps after = TurnsBy tally token v.pass turn.calls turn.answer steps after
 
--- a ping's source is seen as its twin
-abbrev pub ping_twin : Twin → Twin
-ping_twin twin = twin
+-- a ping's source is seen as its tally
+abbrev pub ping_tally : Tally → Tally
+ping_tally tally = tally
 
 -- its cell stays the same one
-abbrev pub SamePing : (before after : Twin) → Type 0
+abbrev pub SamePing : (before after : Tally) → Type 0
 SamePing before after = after.name ≡ before.name
 
-abbrev pub IsPing : {P : Type 0} → Twin → PollView P → Deed (Heard (Unit {0}) (Unit {0}) (Unit {0}) PingError)
-    → List (PollStep P) → Twin → Type 0
-IsPing before v deed steps after = IsCell ping_twin SamePing PingTurns before v deed steps after
+abbrev pub IsPing : {P : Type 0} → Tally → PollView P → Deed (Heard (Unit {0}) (Unit {0}) (Unit {0}) PingError)
+    → List (PollStep P) → Tally → Type 0
+IsPing before v deed steps after = IsCell ping_tally SamePing PingTurns before v deed steps after
 
 -- the key that it gave its cell
-abbrev pub ping_keys : Twin → (key : ℕ) → Type 0
-ping_keys twin key = cell_keys ping_twin twin key
+abbrev pub ping_keys : Tally → (key : ℕ) → Type 0
+ping_keys tally key = cell_keys ping_tally tally key
 
-abbrev pub ping_meaning : {P : Type 0} → Meaning Twin P (Heard (Unit {0}) (Unit {0}) (Unit {0}) PingError)
-ping_meaning = cell_meaning ping_twin SamePing PingTurns
+abbrev pub ping_meaning : {P : Type 0} → Meaning Tally P (Heard (Unit {0}) (Unit {0}) (Unit {0}) PingError)
+ping_meaning = cell_meaning ping_tally SamePing PingTurns

@@ -6,10 +6,10 @@ use Rattle.std.proofs.Common.{ap}
 use Rattle.logbook.specs.Pages.{Book}
 use Rattle.calloop_wake.specs.declared.token.Token.{Token}
 use Rattle.calloop_wake.specs.declared.wake.Receipt.{Receipt}
-use Rattle.calloop_wake.specs.declared.wake.Twin.{Twin}
+use Rattle.calloop_wake.specs.declared.wake.Tally.{Tally}
 use Rattle.calloop_wake.specs.Tokens.{key_of}
 use Rattle.calloop_wake.specs.Passes.{Taken}
-use Rattle.calloop_wake.specs.Cells.{fresh_twin, is_own}
+use Rattle.calloop_wake.specs.Cells.{fresh_tally, is_own}
 use Rattle.calloop_core.specs.declared.sources.source.PostAction.{PostAction}
 use Rattle.calloop_core.specs.declared.sources.source.PostAction.TheVariants.{Continue, Remove}
 use Rattle.calloop_core.specs.Calls.{CallbackCall}
@@ -19,7 +19,7 @@ use Rattle.calloop_core.specs.Holdings.{holds_none}
 use Rattle.calloop_core.specs.declared.sources.dispatch.Role.TheVariants.{Caller}
 use Rattle.calloop_core.specs.Meanings.{Meaning, IsKeeping}
 use Rattle.calloop_core.specs.Polls.{PollView, PollStep, TakePass, PutBack}
-use Rattle.calloop.specs.Pings.{twin_opened}
+use Rattle.calloop.specs.Pings.{tally_opened}
 use Rattle.calloop.specs.declared.stream.reading.Ending.{Ending}
 use Rattle.calloop.specs.declared.stream.reading.Ending.TheVariants.{AtPending, AtEnd, AtLimit}
 use Rattle.std.specs.Option.{option_map}
@@ -75,18 +75,18 @@ pub record Reading (S : Type 0) : Type 0 where
   pub stream : Option S
   pub own : Option Receipt
 
--- what is seen of a stream's source: its twin, as that of a ping, and what it reads
+-- what is seen of a stream's source: its tally, as that of a ping, and what it reads
 pub record StreamEnd (S : Type 0) : Type 0 where
-  pub twin : Twin
+  pub tally : Tally
   pub reading : Reading S
 
 -- one that is registered nowhere and wasn't polled
 abbrev pub fresh_stream : {S : Type 0} → S → (name : Book) → StreamEnd S
-fresh_stream stream name = record { twin = fresh_twin name; reading = record { stream = Some stream; own = None } }
+fresh_stream stream name = record { tally = fresh_tally name; reading = record { stream = Some stream; own = None } }
 
 -- a turn was opened that took this ring and told this close
 abbrev pub with_stream_turn : {S : Type 0} → (rung told : Bool) → StreamEnd S → StreamEnd S
-with_stream_turn rung told s = record s { twin = twin_opened rung told s.twin }
+with_stream_turn rung told s = record s { tally = tally_opened rung told s.tally }
 
 -- the same by the parts
 abbrev pub reading_of : {S R I : Type 0} → Option (Readable S R I) → Option Receipt → Reading S
@@ -110,56 +110,56 @@ pub data PassAnswer (I : Type 0) : Type 0 where
   -- no turn: the pass is of another key, or a turn stands open
   Refused : PassAnswer I
 
-abbrev pub AnsweredSo : {P S I : Type 0} → Polls S I → PassAnswer I → Taken → Twin → Reading S → StreamCalls I → PostAction
-    → List (PollStep P) → Twin → Reading S → Type 0
-AnsweredSo polls (Opened rung told items ending) p twin before calls action steps twin' after =
-    ReadsSo polls twin.name rung before.stream items ending before calls action after × (steps ≡ TakePass ∷ [])
-    × (twin' ≡ twin_opened rung told twin)
-AnsweredSo polls Refused p twin before calls action steps twin' after =
-    (calls ≡ []) × (action ≡ Continue) × (steps ≡ TakePass ∷ PutBack (record p { refused = Some twin.name }) ∷ [])
-    × (twin' ≡ twin) × (after ≡ before)
+abbrev pub AnsweredSo : {P S I : Type 0} → Polls S I → PassAnswer I → Taken → Tally → Reading S → StreamCalls I → PostAction
+    → List (PollStep P) → Tally → Reading S → Type 0
+AnsweredSo polls (Opened rung told items ending) p tally before calls action steps tally' after =
+    ReadsSo polls tally.name rung before.stream items ending before calls action after × (steps ≡ TakePass ∷ [])
+    × (tally' ≡ tally_opened rung told tally)
+AnsweredSo polls Refused p tally before calls action steps tally' after =
+    (calls ≡ []) × (action ≡ Continue) × (steps ≡ TakePass ∷ PutBack (record p { refused = Some tally.name }) ∷ [])
+    × (tally' ≡ tally) × (after ≡ before)
 
-abbrev pub StreamTurnWith : {P S I : Type 0} → Polls S I → Option Taken → Twin → Reading S → StreamCalls I → PostAction
-    → List (PollStep P) → Twin → Reading S → Type 0
-StreamTurnWith polls None twin before calls action steps twin' after =
-    (calls ≡ []) × (action ≡ Continue) × (steps ≡ TakePass ∷ []) × (twin' ≡ twin) × (after ≡ before)
-StreamTurnWith {P} {S} {I} polls (Some p) twin before calls action steps twin' after =
-    (answered : PassAnswer I) × AnsweredSo polls answered p twin before calls action steps twin' after
+abbrev pub StreamTurnWith : {P S I : Type 0} → Polls S I → Option Taken → Tally → Reading S → StreamCalls I → PostAction
+    → List (PollStep P) → Tally → Reading S → Type 0
+StreamTurnWith polls None tally before calls action steps tally' after =
+    (calls ≡ []) × (action ≡ Continue) × (steps ≡ TakePass ∷ []) × (tally' ≡ tally) × (after ≡ before)
+StreamTurnWith {P} {S} {I} polls (Some p) tally before calls action steps tally' after =
+    (answered : PassAnswer I) × AnsweredSo polls answered p tally before calls action steps tally' after
 
-abbrev pub StreamTurnFor : {P S I : Type 0} → Polls S I → (is_own : Bool) → Option Taken → Twin → Reading S → StreamCalls I → PostAction
-    → List (PollStep P) → Twin → Reading S → Type 0
-StreamTurnFor polls true pass twin before calls action steps twin' after =
-    StreamTurnWith polls pass twin before calls action steps twin' after
-StreamTurnFor polls false pass twin before calls action steps twin' after =
-    (calls ≡ []) × (action ≡ Continue) × (steps ≡ []) × (twin' ≡ twin) × (after ≡ before)
+abbrev pub StreamTurnFor : {P S I : Type 0} → Polls S I → (is_own : Bool) → Option Taken → Tally → Reading S → StreamCalls I → PostAction
+    → List (PollStep P) → Tally → Reading S → Type 0
+StreamTurnFor polls true pass tally before calls action steps tally' after =
+    StreamTurnWith polls pass tally before calls action steps tally' after
+StreamTurnFor polls false pass tally before calls action steps tally' after =
+    (calls ≡ []) × (action ≡ Continue) × (steps ≡ []) × (tally' ≡ tally) × (after ≡ before)
 
 -- a turn, which never fails: under another token nothing, without a pass nothing, else by what the cell answers to the pass
-abbrev pub StreamTurns : {P S I : Type 0} → Polls S I → Twin → Reading S → Token → Option Taken → StreamCalls I
-    → Result PostAction StreamError → List (PollStep P) → Twin → Reading S → Type 0
-StreamTurns polls twin before token pass calls (Ok action) steps twin' after =
-    StreamTurnFor polls (is_own (key_of token) twin.key) pass twin before calls action steps twin' after
-StreamTurns polls twin before token pass calls (Err e) steps twin' after = ⊥
+abbrev pub StreamTurns : {P S I : Type 0} → Polls S I → Tally → Reading S → Token → Option Taken → StreamCalls I
+    → Result PostAction StreamError → List (PollStep P) → Tally → Reading S → Type 0
+StreamTurns polls tally before token pass calls (Ok action) steps tally' after =
+    StreamTurnFor polls (is_own (key_of token) tally.key) pass tally before calls action steps tally' after
+StreamTurns polls tally before token pass calls (Err e) steps tally' after = ⊥
 
-module _ {S P A I : Type 0} (polls : Polls A I) (twin : S → Twin) (reading : S → Reading A) (Same : S → S → Type 0) where
+module _ {S P A I : Type 0} (polls : Polls A I) (tally : S → Tally) (reading : S → Reading A) (Same : S → S → Type 0) where
   -- all but a turn are those of its ping, and leave the rest as it is
   abbrev pub IsStream : S → PollView P → Deed (Heard (Option I) (Unit {0}) (Unit {0}) StreamError) → List (PollStep P) → S
       → Type 0
   IsStream s v (Registered f answer g) steps t =
-      Registers (twin s) f answer steps (twin t) g × Same s t × (reading t ≡ reading s)
+      Registers (tally s) f answer steps (tally t) g × Same s t × (reading t ≡ reading s)
   IsStream s v (Reregistered f answer g) steps t =
-      RegistersAnew (twin s) f answer steps (twin t) g × Same s t × (reading t ≡ reading s)
+      RegistersAnew (tally s) f answer steps (tally t) g × Same s t × (reading t ≡ reading s)
   IsStream s v (Unregistered answer) steps t =
-      Unregisters (twin s) answer steps (twin t) × Same s t × (reading t ≡ reading s)
+      Unregisters (tally s) answer steps (tally t) × Same s t × (reading t ≡ reading s)
   IsStream s v (Slept given answer) steps t = SaysNothing given answer × (steps ≡ []) × (t ≡ s)
   IsStream s v (Noticed events) steps t = (steps ≡ []) × (t ≡ s)
   IsStream s v (Turned readiness token turn) steps t =
-      StreamTurns polls (twin s) (reading s) token v.pass turn.calls turn.answer steps (twin t) (reading t) × Same s t
+      StreamTurns polls (tally s) (reading s) token v.pass turn.calls turn.answer steps (tally t) (reading t) × Same s t
 
   abbrev pub stream_meaning : Meaning S P (Heard (Option I) (Unit {0}) (Unit {0}) StreamError)
   stream_meaning =
       record {
         holds = λ s. holds_none;
-        keys = cell_keys twin;
+        keys = cell_keys tally;
         fits = λ s. Unit {0};
         needs = λ s. false;
         limit = λ s. 0;
@@ -169,58 +169,58 @@ module _ {S P A I : Type 0} (polls : Polls A I) (twin : S → Twin) (reading : S
 
 -- Its turn leaves its key as it is, and makes no step of a timer. The impl cites these proofs, so they stand here.
 
-answered_quiet : {P S I : Type 0} (polls : Polls S I) (answered : PassAnswer I) (p : Taken) (twin twin' : Twin) (before after : Reading S)
+answered_quiet : {P S I : Type 0} (polls : Polls S I) (answered : PassAnswer I) (p : Taken) (tally tally' : Tally) (before after : Reading S)
     (cs : StreamCalls I) (action : PostAction) (l : List (PollStep P))
-    → AnsweredSo polls answered p twin before cs action l twin' after → IsQuietTurn twin twin' l
-answered_quiet polls (Opened rung told items ending) p twin twin' before after cs action l h =
+    → AnsweredSo polls answered p tally before cs action l tally' after → IsQuietTurn tally tally' l
+answered_quiet polls (Opened rung told items ending) p tally tally' before after cs action l h =
     record { key = ap (λ x. x.key) h.2; counters = λ next. rw h.1 (λ counter. tt); own = λ r. rw h.1 (tt, tt) }
-answered_quiet polls Refused p twin twin' before after cs action l h =
+answered_quiet polls Refused p tally tally' before after cs action l h =
     record { key = ap (λ x. x.key) h.3; counters = λ next. rw h.2 (λ counter. tt); own = λ r. rw h.2 (tt, (tt, tt)) }
 
-with_quiet : {P S I : Type 0} (polls : Polls S I) (pass : Option Taken) (twin twin' : Twin) (before after : Reading S) (cs : StreamCalls I)
-    (action : PostAction) (l : List (PollStep P)) → StreamTurnWith polls pass twin before cs action l twin' after
-    → IsQuietTurn twin twin' l
-with_quiet polls None twin twin' before after cs action l h =
+with_quiet : {P S I : Type 0} (polls : Polls S I) (pass : Option Taken) (tally tally' : Tally) (before after : Reading S) (cs : StreamCalls I)
+    (action : PostAction) (l : List (PollStep P)) → StreamTurnWith polls pass tally before cs action l tally' after
+    → IsQuietTurn tally tally' l
+with_quiet polls None tally tally' before after cs action l h =
     record { key = ap (λ x. x.key) h.3; counters = λ next. rw h.2 (λ counter. tt); own = λ r. rw h.2 (tt, tt) }
-with_quiet polls (Some p) twin twin' before after cs action l h =
-    answered_quiet polls h.0 p twin twin' before after cs action l h.1
+with_quiet polls (Some p) tally tally' before after cs action l h =
+    answered_quiet polls h.0 p tally tally' before after cs action l h.1
 
-for_quiet : {P S I : Type 0} (polls : Polls S I) (is_own : Bool) (pass : Option Taken) (twin twin' : Twin) (before after : Reading S)
+for_quiet : {P S I : Type 0} (polls : Polls S I) (is_own : Bool) (pass : Option Taken) (tally tally' : Tally) (before after : Reading S)
     (cs : StreamCalls I) (action : PostAction) (l : List (PollStep P))
-    → StreamTurnFor polls is_own pass twin before cs action l twin' after → IsQuietTurn twin twin' l
-for_quiet polls true pass twin twin' before after cs action l h = with_quiet polls pass twin twin' before after cs action l h
-for_quiet polls false pass twin twin' before after cs action l h =
+    → StreamTurnFor polls is_own pass tally before cs action l tally' after → IsQuietTurn tally tally' l
+for_quiet polls true pass tally tally' before after cs action l h = with_quiet polls pass tally tally' before after cs action l h
+for_quiet polls false pass tally tally' before after cs action l h =
     record { key = ap (λ x. x.key) h.3; counters = λ next. rw h.2 (λ counter. tt); own = λ r. rw h.2 tt }
 
-turn_quiet : {P S I : Type 0} (polls : Polls S I) (k : Token) (pass : Option Taken) (twin twin' : Twin) (before after : Reading S)
+turn_quiet : {P S I : Type 0} (polls : Polls S I) (k : Token) (pass : Option Taken) (tally tally' : Tally) (before after : Reading S)
     (cs : StreamCalls I) (a : Result PostAction StreamError) (l : List (PollStep P))
-    → StreamTurns polls twin before k pass cs a l twin' after → IsQuietTurn twin twin' l
-turn_quiet polls k pass twin twin' before after cs (Ok action) l h =
-    for_quiet polls (is_own (key_of k) twin.key) pass twin twin' before after cs action l h
-turn_quiet polls k pass twin twin' before after cs (Err e) l h = absurd h
+    → StreamTurns polls tally before k pass cs a l tally' after → IsQuietTurn tally tally' l
+turn_quiet polls k pass tally tally' before after cs (Ok action) l h =
+    for_quiet polls (is_own (key_of k) tally.key) pass tally tally' before after cs action l h
+turn_quiet polls k pass tally tally' before after cs (Err e) l h = absurd h
 
-module _ {S P A I : Type 0} (polls : Polls A I) (twin : S → Twin) (reading : S → Reading A) (Same : S → S → Type 0) where
+module _ {S P A I : Type 0} (polls : Polls A I) (tally : S → Tally) (reading : S → Reading A) (Same : S → S → Type 0) where
   abbrev Quietly : CellTurns S P (Heard (Option I) (Unit {0}) (Unit {0}) StreamError)
-  Quietly s v token turn steps after = IsQuietTurn (twin s) after steps
+  Quietly s v token turn steps after = IsQuietTurn (tally s) after steps
 
   -- what a stream does is what a cell with such turns does
   as_cell : (s t : S) (v : PollView P) (deed : Deed (Heard (Option I) (Unit {0}) (Unit {0}) StreamError))
-      (l : List (PollStep P)) → (stream_meaning polls twin reading Same).does s v deed l t
-      → (cell_meaning twin Same Quietly).does s v deed l t
+      (l : List (PollStep P)) → (stream_meaning polls tally reading Same).does s v deed l t
+      → (cell_meaning tally Same Quietly).does s v deed l t
   as_cell s t v (Registered f a g) l h = (h.0, h.1)
   as_cell s t v (Reregistered f a g) l h = (h.0, h.1)
   as_cell s t v (Unregistered a) l h = (h.0, h.1)
   as_cell s t v (Slept gs a) l h = h
   as_cell s t v (Noticed es) l h = h
   as_cell s t v (Turned readiness token turn) l h =
-      (turn_quiet polls token v.pass (twin s) (twin t) (reading s) (reading t) turn.calls turn.answer l h.0, h.1)
+      (turn_quiet polls token v.pass (tally s) (tally t) (reading s) (reading t) turn.calls turn.answer l h.0, h.1)
 
-  quiet_keeps : IsKeeping (cell_meaning twin Same Quietly)
-  quiet_keeps = cell_keeps twin Same Quietly (λ s v token turn steps after h. h)
+  quiet_keeps : IsKeeping (cell_meaning tally Same Quietly)
+  quiet_keeps = cell_keeps tally Same Quietly (λ s v token turn steps after h. h)
 
-  pub stream_keeps : IsKeeping (stream_meaning {P = P} polls twin reading Same)
+  pub stream_keeps : IsKeeping (stream_meaning {P = P} polls tally reading Same)
   stream_keeps = record {
     counters = λ s t v deed l fits below h. quiet_keeps.counters s t v deed l fits below (as_cell s t v deed l h);
     home = λ r s t v deed l begins h. quiet_keeps.home r s t v deed l begins (as_cell s t v deed l h);
-    limit = silent (stream_meaning polls twin reading Same) (λ s. refl) (λ s t v given answer steps h. h.0.0);
+    limit = silent (stream_meaning polls tally reading Same) (λ s. refl) (λ s t v given answer steps h. h.0.0);
   }

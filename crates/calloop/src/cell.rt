@@ -1,7 +1,7 @@
 //! A cell with the board of its key, under one lock, and the sections of that lock that every kind of cell has. No other lock
 //! is taken and nobody is called within one: what a section owes to the board is settled after it.
 ghost use Rattle.std.specs.Prelude.{◌≡◌, ◌≢◌, ◌-◌, ◌^◌, None, Some, IfOk, IfErr, IfSome};
-ghost use Rattle.calloop_wake.specs.Cells.{fresh_twin};
+ghost use Rattle.calloop_wake.specs.Cells.{fresh_tally};
 ghost use Rattle.std.specs.Option.{option_map};
 ghost use Rattle.std.specs.Arc.{arc_value};
 ghost use Rattle.calloop_wake.specs.Tokens.{key_of};
@@ -12,7 +12,7 @@ use calloop_wake::error::Result as LoopResult;
 use calloop_wake::token::Token;
 use calloop_wake::wake::cell::CellCore;
 use calloop_wake::wake::locked::{Core, Locked};
-use calloop_wake::wake::{Debt, Last, LeaveToClose, ReceivingRight, Sender, Twin};
+use calloop_wake::wake::{Debt, Last, LeaveToClose, ReceivingRight, Sender, Tally};
 use counted_slot::Fits;
 use std::alloc::{AllocError, Global};
 use std::sync::{Arc, Wait};
@@ -99,14 +99,14 @@ pub fn receiver<K: CellCore, R: Wait>(
     rt: &R,
     shared: &Locked<Cell<K>>,
     right: ReceivingRight,
-) -> Twin
+) -> Tally
     requires { right.name ≡ K.named_by shared.now.slot }
-    ensures { result ≡ fresh_twin (K.named_by shared.now.slot) }
+    ensures { result ≡ fresh_tally (K.named_by shared.now.slot) }
 {
     let mut held = shared.lock(rt);
-    let twin = held.core().core.receiver(right);
+    let tally = held.core().core.receiver(right);
     held.unlock();
-    twin
+    tally
 }
 
 /// One sender more. There can be 2^64 - 1.
@@ -139,21 +139,21 @@ pub fn drop_sender<K: CellCore, R: Wait>(rt: &R, shared: &Locked<Cell<K>>, sende
 pub fn attach<K: CellCore, R: Wait>(
     rt: &R,
     shared: &Locked<Cell<K>>,
-    twin: &mut Twin,
+    tally: &mut Tally,
     hub: &SharedHub,
     token: Token,
 ) -> LoopResult<()>
-    requires name { twin.old.name ≡ K.named_by shared.now.slot }
+    requires name { tally.old.name ≡ K.named_by shared.now.slot }
     requires key { key_of token ≢ 2 ^ 64 - 1 }
-    ensures ok { IfOk result (λ _. twin.new ≡ record twin.old { key = Some (key_of token) }) }
-    ensures err { IfErr result (λ e. CannotOpen e × (twin.new ≡ twin.old)) }
+    ensures ok { IfOk result (λ _. tally.new ≡ record tally.old { key = Some (key_of token) }) }
+    ensures err { IfErr result (λ e. CannotOpen e × (tally.new ≡ tally.old)) }
 {
     let pass = hub.open_place(rt, token)?;
     let mine = share(rt, hub);
     let mut held = shared.lock(rt);
     let cell = held.core();
     let old = cell.hub.replace(mine);
-    let (debt, leave) = cell.core.set_key(pass, twin);
+    let (debt, leave) = cell.core.set_key(pass, tally);
     let owed = cell.with_hub(rt, debt);
     held.unlock();
     close_place(rt, &old, leave);
@@ -162,25 +162,25 @@ pub fn attach<K: CellCore, R: Wait>(
 }
 
 /// Clears the cell's key, and then closes its place.
-pub fn detach<K: CellCore, R: Wait>(rt: &R, shared: &Locked<Cell<K>>, twin: &mut Twin)
-    requires { twin.old.name ≡ K.named_by shared.now.slot }
-    ensures { twin.new ≡ record twin.old { key = None } }
+pub fn detach<K: CellCore, R: Wait>(rt: &R, shared: &Locked<Cell<K>>, tally: &mut Tally)
+    requires { tally.old.name ≡ K.named_by shared.now.slot }
+    ensures { tally.new ≡ record tally.old { key = None } }
 {
     let mut held = shared.lock(rt);
     let cell = held.core();
-    let leave = cell.core.clear_key(twin);
+    let leave = cell.core.clear_key(tally);
     let hub = cell.hub.take();
     held.unlock();
     close_place(rt, &hub, leave);
 }
 
 /// The receiving end goes: its key is cleared, and then the place of that is closed.
-pub fn abandon<K: CellCore, R: Wait>(rt: &R, shared: &Locked<Cell<K>>, twin: Twin)
-    requires { twin.name ≡ K.named_by shared.now.slot }
+pub fn abandon<K: CellCore, R: Wait>(rt: &R, shared: &Locked<Cell<K>>, tally: Tally)
+    requires { tally.name ≡ K.named_by shared.now.slot }
 {
     let mut held = shared.lock(rt);
     let cell = held.core();
-    let leave = cell.core.abandon(twin);
+    let leave = cell.core.abandon(tally);
     let hub = cell.hub.take();
     held.unlock();
     close_place(rt, &hub, leave);

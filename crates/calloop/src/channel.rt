@@ -1,6 +1,6 @@
 //! Channels: messages that are sent from any thread, as a source.
 ghost use Rattle.std.specs.Prelude.{◌≡◌, ◌<◌, None, Some, Err, IfOk, IfErr};
-ghost use Rattle.calloop_wake.specs.Cells.{fresh_twin};
+ghost use Rattle.calloop_wake.specs.Cells.{fresh_tally};
 ghost use Rattle.std.specs.Arc.{arc_value};
 ghost use Rattle.calloop_wake.specs.declared.error.Error.TheVariants.{OutOfMemory, NoRendezvous};
 ghost use Rattle.calloop.specs.Channels.{with_message};
@@ -12,7 +12,7 @@ use calloop_core::sys::hub::share;
 use calloop_wake::error::{Error, Result as LoopResult};
 use calloop_wake::wake::channel::{ChannelCore, PutError};
 use calloop_wake::wake::locked::Awaited;
-use calloop_wake::wake::{Receipt, Twin};
+use calloop_wake::wake::{Receipt, Tally};
 use std::alloc::{AllocError, Global};
 use std::marker::Model;
 use std::sync::{Arc, Wait};
@@ -88,11 +88,11 @@ impl<T: Drop, R: Wait + Drop> Model for SyncSender<T, R> {
 ///
 /// Its drop, as by the drop of the loop that it is registered with, takes its registration back.
 ///
-/// In a clause it is its twin, as a `PingSource` is, and how many messages it holds at most.
+/// In a clause it is its tally, as a `PingSource` is, and how many messages it holds at most.
 pub struct Channel<T: Drop, R: Wait + Drop> {
     rt: R,
     shared: SharedCell<ChannelCore<T>>,
-    twin: Twin,
+    tally: Tally,
 }
 
 impl<T: Drop, R: Wait + Drop> Model for Channel<T, R> {
@@ -102,9 +102,9 @@ impl<T: Drop, R: Wait + Drop> Model for Channel<T, R> {
 
     ghost Value = { ReceivingEnd };
 
-    ghost view = { λ c. record { twin = c.twin; bound = (arc_value c.shared).slot.bound } };
+    ghost view = { λ c. record { tally = c.tally; bound = (arc_value c.shared).slot.bound } };
 
-    ghost invariant = { λ c. c.twin.name ≡ (arc_value c.shared).slot.name };
+    ghost invariant = { λ c. c.tally.name ≡ (arc_value c.shared).slot.name };
 }
 
 impl<T: Drop, R: Wait + Drop> Sender<T, R> {
@@ -201,8 +201,8 @@ impl<T: Drop, R: Wait + Drop> Drop for SyncSender<T, R> {
 
 impl<T: Drop, R: Wait + Drop> Drop for Channel<T, R> {
     fn drop(self) {
-        let Channel { rt, shared, twin } = self;
-        abandon(&rt, &shared, twin);
+        let Channel { rt, shared, tally } = self;
+        abandon(&rt, &shared, tally);
         shared.tell_all(Awaited::Room);
     }
 }
@@ -213,7 +213,7 @@ impl<T: Drop, R: Wait + Drop> Channel<T, R> {
         ensures ok { IfOk result (λ _. self.new ≡ with_message self.old) }
         ensures err { IfErr result (λ _. self.new ≡ self.old) }
     {
-        cell::take_waiting(&self.rt, &self.shared, &mut self.twin)
+        cell::take_waiting(&self.rt, &self.shared, &mut self.tally)
     }
 
     /// The first message, where there is one.
@@ -221,7 +221,7 @@ impl<T: Drop, R: Wait + Drop> Channel<T, R> {
         ensures ok { IfOk result (λ _. self.new ≡ with_message self.old) }
         ensures err { IfErr result (λ _. self.new ≡ self.old) }
     {
-        cell::take(&self.rt, &self.shared, &mut self.twin)
+        cell::take(&self.rt, &self.shared, &mut self.tally)
     }
 }
 
@@ -241,7 +241,7 @@ fn ends<T: Drop, R: Wait + Clone + Drop>(
     ensures sender { IfOk result (λ made. made.2.name ≡ (arc_value made.1).slot.name) }
     ensures bound { IfOk result (λ made. (arc_value made.1).slot.bound ≡ bound) }
     ensures channel { IfOk result (λ made.
-        made.3 ≡ record { twin = fresh_twin (arc_value made.1).slot.name; bound = bound }) }
+        made.3 ≡ record { tally = fresh_tally (arc_value made.1).slot.name; bound = bound }) }
     ensures err { IfErr result (λ e. e ≡ OutOfMemory) }
 {
     let of_sender = rt.clone()?;
@@ -250,11 +250,11 @@ fn ends<T: Drop, R: Wait + Clone + Drop>(
     let shared = Arc::new(alloc, locked)?;
     let again = share(rt, &shared);
     let sender = add_sender(rt, &shared)?;
-    let twin = receiver(rt, &shared, right);
+    let tally = receiver(rt, &shared, right);
     let channel = Channel {
         rt: of_channel,
         shared: again,
-        twin,
+        tally,
     };
     Ok((of_sender, shared, sender, channel))
 }
@@ -268,7 +268,7 @@ pub fn make_channel<T: Drop, R: Wait + Clone + Drop>(
     alloc: Global,
 ) -> LoopResult<(Sender<T, R>, Channel<T, R>)>
     ensures ok { IfOk result (λ made.
-        made.1 ≡ record { twin = fresh_twin made.0; bound = None }) }
+        made.1 ≡ record { tally = fresh_tally made.0; bound = None }) }
     ensures err { IfErr result (λ e. e ≡ OutOfMemory) }
 {
     let (rt, shared, sender, channel) = ends(rt, alloc, None)?;
@@ -285,7 +285,7 @@ pub fn sync_channel<T: Drop, R: Wait + Clone + Drop>(
     bound: usize,
 ) -> LoopResult<(SyncSender<T, R>, Channel<T, R>)>
     ensures channel { IfOk result (λ made.
-        made.1 ≡ record { twin = fresh_twin made.0.name; bound = Some bound }) }
+        made.1 ≡ record { tally = fresh_tally made.0.name; bound = Some bound }) }
     ensures sender { IfOk result (λ made. made.0.bound ≡ bound) }
     ensures none { bound ≡ 0 → result ≡ Err NoRendezvous }
     ensures err { 0 < bound → IfErr result (λ e. e ≡ OutOfMemory) }

@@ -3,13 +3,13 @@
 //! From calloop's `sources/futures.rs`. Its futures are those of the standard library; these are of this module, since a wake is a
 //! step of the executor's own cell.
 ghost use Rattle.std.specs.Prelude.{◌≡◌, None, IfOk, IfErr};
-ghost use Rattle.calloop_wake.specs.Cells.{fresh_twin};
+ghost use Rattle.calloop_wake.specs.Cells.{fresh_tally};
 ghost use Rattle.calloop_wake.specs.declared.error.Error.TheVariants.{OutOfMemory};
 
 use crate::cell::{SharedCell, abandon, add_sender, receiver};
 use calloop_core::sys::hub::share;
 use calloop_wake::error::Result as LoopResult;
-use calloop_wake::wake::Twin;
+use calloop_wake::wake::Tally;
 use calloop_wake::wake::executor::ExecutorCore;
 use calloop_wake::wake::homes::Homes;
 use calloop_wake::wake::locked::Locked;
@@ -35,24 +35,24 @@ pub use task::{Context, Future, Poll, Waker};
 ///
 /// Its drop, as by the drop of the loop that it is registered with, takes its registration back and drops its futures.
 ///
-/// In a clause it is its twin, as a `PingSource` is.
+/// In a clause it is its tally, as a `PingSource` is.
 pub struct Executor<Fut: Drop, R: Wait + Drop> {
     rt: R,
     shared: SharedCell<ExecutorCore>,
     homes: SharedHomes<Fut, R>,
-    twin: Twin,
+    tally: Tally,
 }
 
 impl<Fut: Drop, R: Wait + Drop> Model for Executor<Fut, R> {
     ghost use Rattle.std.specs.Prelude.{◌≡◌};
     ghost use Rattle.std.specs.Arc.{arc_value};
-    ghost use Rattle.calloop_wake.specs.declared.wake.Twin.{Twin};
+    ghost use Rattle.calloop_wake.specs.declared.wake.Tally.{Tally};
 
-    ghost Value = { Twin };
+    ghost Value = { Tally };
 
-    ghost view = { λ e. e.twin };
+    ghost view = { λ e. e.tally };
 
-    ghost invariant = { λ e. (e.twin.name ≡ (arc_value e.shared).slot)
+    ghost invariant = { λ e. (e.tally.name ≡ (arc_value e.shared).slot)
         × ((arc_value e.homes).slot ≡ (arc_value e.shared).slot) };
 }
 
@@ -64,7 +64,7 @@ pub fn make_executor<Fut: Future<R>, R: Wait + Clone + Drop>(
     rt: &R,
     alloc: Global,
 ) -> LoopResult<(Executor<Fut, R>, Scheduler<Fut, R>)>
-    ensures ok { IfOk result (λ made. made.0 ≡ fresh_twin made.1) }
+    ensures ok { IfOk result (λ made. made.0 ≡ fresh_tally made.1) }
     ensures err { IfErr result (λ e. e ≡ OutOfMemory) }
 {
     let of_executor = rt.clone()?;
@@ -74,12 +74,12 @@ pub fn make_executor<Fut: Future<R>, R: Wait + Clone + Drop>(
     let homes = Arc::new(alloc, Locked::new(alloc, homes, &of_homes)?)?;
     let shared = Arc::new(alloc, locked)?;
     let sender = add_sender(rt, &shared)?;
-    let twin = receiver(rt, &shared, right);
+    let tally = receiver(rt, &shared, right);
     let executor = Executor {
         rt: of_executor,
         shared: share(rt, &shared),
         homes: share(rt, &homes),
-        twin,
+        tally,
     };
     Ok((executor, Scheduler::of(of_scheduler, shared, homes, sender)))
 }
@@ -90,9 +90,9 @@ impl<Fut: Drop, R: Wait + Drop> Drop for Executor<Fut, R> {
             rt,
             shared,
             homes,
-            twin,
+            tally,
         } = self;
-        abandon(&rt, &shared, twin);
+        abandon(&rt, &shared, tally);
         homes::close(&rt, &homes);
     }
 }

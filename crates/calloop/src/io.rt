@@ -35,15 +35,15 @@ pub use ready::{Readable, Writable};
 /// A socket that is polled as a future, with its end in a loop. Its drop takes the adapter out of the loop, at the beginning of the next
 /// dispatch; `LoopHandle::into_inner` does so at once, and hands the socket back.
 ///
-/// In a clause it is its twin: the name of its adapter, and what it did. Each poll adds its notes, and nothing else makes one.
+/// In a clause it is its tally: the name of its adapter, and what it did. Each poll adds its notes, and nothing else makes one.
 pub struct Async<P: Poller, R: Wait + Drop> {
     end: PollEnd<P, R>,
 }
 
 impl<P: Poller, R: Wait + Drop> Model for Async<P, R> {
-    ghost use Rattle.calloop.specs.declared.io.state.PollTwin.{PollTwin};
+    ghost use Rattle.calloop.specs.declared.io.state.PollTally.{PollTally};
 
-    ghost Value = { PollTwin };
+    ghost Value = { PollTally };
 
     ghost view = { λ a. a.end };
 }

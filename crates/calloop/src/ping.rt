@@ -1,13 +1,13 @@
 //! Pings: a source that is woken by hand, from any thread.
 ghost use Rattle.std.specs.Prelude.{◌≡◌, None, IfOk, IfErr};
-ghost use Rattle.calloop_wake.specs.Cells.{fresh_twin};
+ghost use Rattle.calloop_wake.specs.Cells.{fresh_tally};
 ghost use Rattle.calloop_wake.specs.declared.error.Error.TheVariants.{OutOfMemory};
 
 use crate::cell::{SharedCell, abandon, add_sender, drop_sender, receiver};
 use calloop_core::sys::hub::share;
 use calloop_wake::error::Result as LoopResult;
 use calloop_wake::wake::ping::PingCore;
-use calloop_wake::wake::{Receipt, Sender, Twin};
+use calloop_wake::wake::{Receipt, Sender, Tally};
 use std::alloc::{AllocError, Global};
 use std::marker::Model;
 use std::sync::{Arc, Wait};
@@ -43,23 +43,23 @@ impl<R: Wait + Drop> Model for Ping<R> {
 ///
 /// Its drop, as by the drop of the loop that it is registered with, takes its registration back.
 ///
-/// In a clause it is the twin: the name of its cell, the key that it gave that, and what was counted.
+/// In a clause it is the tally: the name of its cell, the key that it gave that, and what was counted.
 pub struct PingSource<R: Wait + Drop> {
     pub(crate) rt: R,
     pub(crate) shared: SharedCell<PingCore>,
-    pub(crate) twin: Twin,
+    pub(crate) tally: Tally,
 }
 
 impl<R: Wait + Drop> Model for PingSource<R> {
     ghost use Rattle.std.specs.Prelude.{◌≡◌};
     ghost use Rattle.std.specs.Arc.{arc_value};
-    ghost use Rattle.calloop_wake.specs.declared.wake.Twin.{Twin};
+    ghost use Rattle.calloop_wake.specs.declared.wake.Tally.{Tally};
 
-    ghost Value = { Twin };
+    ghost Value = { Tally };
 
-    ghost view = { λ s. s.twin };
+    ghost view = { λ s. s.tally };
 
-    ghost invariant = { λ s. s.twin.name ≡ (arc_value s.shared).slot };
+    ghost invariant = { λ s. s.tally.name ≡ (arc_value s.shared).slot };
 }
 
 /// A ping that nobody rang, and its source, which is registered nowhere. `rt` is the runtime by which they lock what they share.
@@ -69,7 +69,7 @@ pub fn make_ping<R: Wait + Clone + Drop>(
     rt: &R,
     alloc: Global,
 ) -> LoopResult<(Ping<R>, PingSource<R>)>
-    ensures ok { IfOk result (λ made. made.1 ≡ fresh_twin made.0) }
+    ensures ok { IfOk result (λ made. made.1 ≡ fresh_tally made.0) }
     ensures err { IfErr result (λ e. e ≡ OutOfMemory) }
 {
     let of_ping = rt.clone()?;
@@ -78,7 +78,7 @@ pub fn make_ping<R: Wait + Clone + Drop>(
     let shared = Arc::new(alloc, locked)?;
     let again = share(rt, &shared);
     let sender = add_sender(rt, &shared)?;
-    let twin = receiver(rt, &shared, right);
+    let tally = receiver(rt, &shared, right);
     let ping = Ping {
         rt: of_ping,
         shared,
@@ -87,7 +87,7 @@ pub fn make_ping<R: Wait + Clone + Drop>(
     let source = PingSource {
         rt: of_source,
         shared: again,
-        twin,
+        tally,
     };
     Ok((ping, source))
 }
@@ -125,7 +125,7 @@ impl<R: Wait + Drop> Drop for Ping<R> {
 
 impl<R: Wait + Drop> Drop for PingSource<R> {
     fn drop(self) {
-        let PingSource { rt, shared, twin } = self;
-        abandon(&rt, &shared, twin);
+        let PingSource { rt, shared, tally } = self;
+        abandon(&rt, &shared, tally);
     }
 }

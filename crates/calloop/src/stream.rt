@@ -26,7 +26,7 @@ pub use reading::Stream;
 ///
 /// Its drop, as by the drop of the loop that it is registered with, takes its registration back and drops the stream.
 ///
-/// In a clause it is its twin, as a `PingSource` is, and what it reads.
+/// In a clause it is its tally, as a `PingSource` is, and what it reads.
 #[derive(Drop)]
 pub struct StreamSource<S: Stream<R>, R: Wait + Drop> {
     source: PingSource<R>,
@@ -43,7 +43,7 @@ impl<S: Stream<R>, R: Wait + Drop> Model for StreamSource<S, R> {
 
     ghost Value = { StreamEnd S };
 
-    ghost view = { λ s. record { twin = s.source; reading = reading_of s.stream s.own } };
+    ghost view = { λ s. record { tally = s.source; reading = reading_of s.stream s.own } };
 
     ghost invariant = { λ s. s.ping ≡ s.source.name };
 }
@@ -53,7 +53,7 @@ impl<S: Stream<R>, R: Wait + Clone + Drop> StreamSource<S, R> {
     ///
     /// Running out of memory is `OutOfMemory`, and hands the stream back.
     pub fn new(rt: &R, alloc: Global, stream: S) -> Result<StreamSource<S, R>, InsertError<S>>
-        ensures ok { IfOk result (λ made. made ≡ fresh_stream stream made.twin.name) }
+        ensures ok { IfOk result (λ made. made ≡ fresh_stream stream made.tally.name) }
         ensures err { IfErr result (λ e. (e.inserted ≡ stream) × (e.error ≡ OutOfMemory)) }
     {
         let Ok((ping, source)) = make_ping(rt, alloc) else {

@@ -16,7 +16,7 @@ use calloop_wake::wake::cell::CellCore;
 use calloop_wake::wake::ghosts::Name;
 use calloop_wake::wake::locked::{Core, Locked};
 use calloop_wake::wake::ping::{OpenedTurn, PingCore};
-use calloop_wake::wake::{Debt, Last, OpenedPass, PingTurn, ReceivingRight, TakenPass, Twin};
+use calloop_wake::wake::{Debt, Last, OpenedPass, PingTurn, ReceivingRight, TakenPass, Tally};
 use calloop_wake::wheel::Instant;
 use calloop_wake::widths::MOST_SLOTS;
 use counted_slot::Fits;
@@ -114,7 +114,12 @@ fn posted_events_come_first_and_in_the_order_of_their_keys(rt: HostRuntime) {
     assert!(rt;
         gives(
             &mut desk.poll,
-            &[posted_event(CELL), posted_event(OTHER), polled_event(FREE), polled_event(OTHER)]
+            &[
+                posted_event(CELL),
+                posted_event(OTHER),
+                polled_event(FREE),
+                polled_event(OTHER)
+            ]
         )
     );
 }
@@ -210,24 +215,24 @@ fn a_wait_beside_a_left_over_event_is_asked_as_0(rt: HostRuntime) {
 }
 
 #[test]
-fn a_post_nudges_the_poller(rt: HostRuntime) {
+fn a_post_wakes_the_poller(rt: HostRuntime) {
     let mut desk = Desk::new(&rt, rt.alloc());
-    assert!(rt; !desk.poll.poller_mut().is_nudged());
+    assert!(rt; !desk.poll.poller_mut().is_woken());
     ring(&rt, &desk.cell);
-    assert!(rt; desk.poll.poller_mut().is_nudged());
+    assert!(rt; desk.poll.poller_mut().is_woken());
     assert!(rt; polls(&rt, &mut desk.poll, None));
-    assert!(rt; !desk.poll.poller_mut().is_nudged());
+    assert!(rt; !desk.poll.poller_mut().is_woken());
 }
 
 #[test]
-fn a_pass_that_is_unspent_nudges_the_poller(rt: HostRuntime) {
+fn a_pass_that_is_unspent_wakes_the_poller(rt: HostRuntime) {
     let mut desk = Desk::new(&rt, rt.alloc());
     ring(&rt, &desk.cell);
     assert!(rt; polls(&rt, &mut desk.poll, None));
     assert_eq!(rt; next(&mut desk.poll), Some(posted_event(CELL)));
-    assert!(rt; !desk.poll.poller_mut().is_nudged());
+    assert!(rt; !desk.poll.poller_mut().is_woken());
     desk.poll.end_event();
-    assert!(rt; desk.poll.poller_mut().is_nudged());
+    assert!(rt; desk.poll.poller_mut().is_woken());
 }
 
 #[test]
@@ -325,7 +330,12 @@ fn a_batch_is_posted_then_polled_then_due_events(rt: HostRuntime) {
     assert!(rt; desk.poll.insert_timer(at(5), token(0)).is_ok());
     assert!(rt; scripts(desk.poll.poller_mut(), rt.alloc(), 5_000_000, &[CELL]));
     assert!(rt; polls(&rt, &mut desk.poll, None));
-    assert!(rt; gives(&mut desk.poll, &[posted_event(OTHER), polled_event(CELL), due(0)]));
+    assert!(rt;
+        gives(
+            &mut desk.poll,
+            &[posted_event(OTHER), polled_event(CELL), due(0)]
+        )
+    );
 }
 
 #[test]
@@ -559,8 +569,8 @@ struct Bell<R: Wait + Drop> {
     rt: R,
     hub: SharedHub,
     lock: Locked<BellCell>,
-    twin: Twin,
-    ghost tied: { twin.name ≡ lock.slot },
+    tally: Tally,
+    ghost tied: { tally.name ≡ lock.slot },
 }
 
 impl<R: Wait + Clone + Drop> Bell<R> {
@@ -577,12 +587,12 @@ impl<R: Wait + Clone + Drop> Bell<R> {
             hub: share(rt, &hub),
         };
         let lock = Locked::new(alloc, cell, &name)?;
-        let twin = receiver(rt, &lock, right);
+        let tally = receiver(rt, &lock, right);
         Ok(Bell {
             rt: its_rt,
             hub,
             lock,
-            twin,
+            tally,
         })
     }
 }
@@ -593,28 +603,28 @@ impl<R: Wait + Drop> Drop for Bell<R> {
             rt,
             hub: _,
             lock,
-            twin,
+            tally,
         } = self;
-        abandon(&rt, &lock, twin);
+        abandon(&rt, &lock, tally);
     }
 }
 
-fn receiver<Q: Wait>(rt: &Q, lock: &Locked<BellCell>, right: ReceivingRight) -> Twin
+fn receiver<Q: Wait>(rt: &Q, lock: &Locked<BellCell>, right: ReceivingRight) -> Tally
     requires { right.name ≡ lock.now.slot }
     ensures { result.name ≡ lock.now.slot }
 {
     let mut held = lock.lock(rt);
-    let twin = held.core().core.receiver(right);
+    let tally = held.core().core.receiver(right);
     held.unlock();
-    twin
+    tally
 }
 
-fn abandon<Q: Wait>(rt: &Q, lock: &Locked<BellCell>, twin: Twin)
-    requires { twin.name ≡ lock.now.slot }
+fn abandon<Q: Wait>(rt: &Q, lock: &Locked<BellCell>, tally: Tally)
+    requires { tally.name ≡ lock.now.slot }
 {
     let mut held = lock.lock(rt);
     let cell = held.core();
-    let leave = cell.core.abandon(twin);
+    let leave = cell.core.abandon(tally);
     let hub = share(rt, &cell.hub);
     held.unlock();
     if let Some(leave) = leave {
@@ -653,19 +663,19 @@ fn settle<Q: Wait>(rt: &Q, hub: &Hub, debt: Option<Debt>)
 fn set_key<Q: Wait>(
     rt: &Q,
     lock: &Locked<BellCell>,
-    twin: &mut Twin,
+    tally: &mut Tally,
     hub: &SharedHub,
     pass: OpenedPass,
 )
-    requires twin { twin.old.name ≡ lock.now.slot }
+    requires tally { tally.old.name ≡ lock.now.slot }
     requires board { pass.board ≡ arc_value hub.now }
-    ensures { twin.new.name ≡ lock.now.slot }
+    ensures { tally.new.name ≡ lock.now.slot }
 {
     let mine = share(rt, hub);
     let mut held = lock.lock(rt);
     let cell = held.core();
     let old = mem::replace(&mut cell.hub, mine);
-    let (debt, leave) = cell.core.set_key(pass, twin);
+    let (debt, leave) = cell.core.set_key(pass, tally);
     held.unlock();
     settle(rt, hub, debt);
     if let Some(leave) = leave {
@@ -678,7 +688,7 @@ fn register<Q: Wait, R: Wait + Drop>(rt: &Q, bell: &mut Bell<R>, token: Token) -
     requires { key_of token ≢ 2 ^ 64 - 1 }
 {
     let pass = bell.hub.open_place(rt, token)?;
-    set_key(rt, &bell.lock, &mut bell.twin, &bell.hub, pass);
+    set_key(rt, &bell.lock, &mut bell.tally, &bell.hub, pass);
     Ok(())
 }
 
@@ -695,17 +705,17 @@ fn ring<Q: Wait, R: Wait + Drop>(rt: &Q, bell: &Bell<R>) {
 fn open_turn<Q: Wait>(
     rt: &Q,
     lock: &Locked<BellCell>,
-    twin: &mut Twin,
+    tally: &mut Tally,
     pass: TakenPass,
 ) -> Result<OpenedTurn, TakenPass>
-    requires { twin.old.name ≡ lock.now.slot }
-    ensures name { twin.new.name ≡ lock.now.slot }
+    requires { tally.old.name ≡ lock.now.slot }
+    ensures name { tally.new.name ≡ lock.now.slot }
     ensures turn { IfOk result (λ o. o.turn.name ≡ lock.now.slot) }
     ensures refused { IfErr result (λ refused. refused.board ≡ pass.board) }
 {
     let mut held = lock.lock(rt);
     let cell = held.core();
-    let opened = cell.core.open_turn(pass, twin);
+    let opened = cell.core.open_turn(pass, tally);
     held.unlock();
     opened
 }
@@ -763,7 +773,7 @@ fn turn<Q: Wait, P: Poller, C, R: Wait + Drop>(
     bell: &mut Bell<R>,
 ) -> Option<bool> {
     let pass = poll.take_pass()?;
-    match open_turn(rt, &bell.lock, &mut bell.twin, pass) {
+    match open_turn(rt, &bell.lock, &mut bell.tally, pass) {
         Ok(
             OpenedTurn {
                 turn,

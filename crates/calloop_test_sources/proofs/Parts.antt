@@ -7,7 +7,7 @@ use Rattle.calloop_wake.specs.declared.wheel.Instant.{Instant}
 use Rattle.calloop_core.specs.declared.timer.Timer.{Timer}
 use Rattle.calloop_core.specs.Deeds.{Registered, Reregistered}
 use Rattle.calloop_core.specs.Timers.{Armed}
-use Rattle.calloop_wake.specs.declared.wake.Twin.{Twin}
+use Rattle.calloop_wake.specs.declared.wake.Tally.{Tally}
 use Rattle.calloop.specs.CellSources.{RefusedCell, AlreadyRegistered, NoToken, NoPlace, RefusedAnew, NotRegistered, NoTokenAnew, NoPlaceAnew}
 use Rattle.calloop_core.specs.Pollers.{Outside}
 use Rattle.calloop_core.specs.Polls.{PollView, PollStep, AllStepped}
@@ -112,12 +112,12 @@ refused_anew own f g e (NotRegistered a b is) = same_registration f g f is refl
 refused_anew own f g e (NoTokenAnew a b c is) = same_registration f g f is refl
 refused_anew own f g e (NoPlaceAnew a b c is) = ap (λ x. x.registration) is
 
-pub bell_passes : {P : Type 0} (s t : Twin) (v : PollView P) (f g : TokenFactory) (a : Result (Unit {0}) Error) (l : List (PollStep P))
+pub bell_passes : {P : Type 0} (s t : Tally) (v : PollView P) (f g : TokenFactory) (a : Result (Unit {0}) Error) (l : List (PollStep P))
     → ping_meaning.does s v (Registered f a g) l t → Passed f g
 bell_passes s t v f g (Ok u) l h = ap (λ x. x.registration) h.0.3
 bell_passes s t v f g (Err e) l h = refused_ping s.key f g e h.0.2
 
-pub bell_passes_anew : {P : Type 0} (s t : Twin) (v : PollView P) (f g : TokenFactory) (a : Result (Unit {0}) Error) (l : List (PollStep P))
+pub bell_passes_anew : {P : Type 0} (s t : Tally) (v : PollView P) (f g : TokenFactory) (a : Result (Unit {0}) Error) (l : List (PollStep P))
     → ping_meaning.does s v (Reregistered f a g) l t → Passed f g
 bell_passes_anew s t v f g (Ok u) l h = ap (λ x. x.registration) h.0.3
 bell_passes_anew s t v f g (Err e) l h = refused_anew s.key f g e h.0.2

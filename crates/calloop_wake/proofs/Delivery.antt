@@ -4,7 +4,7 @@ use Rattle.std.proofs.lemmas.Bool.Decides.{nat_tests}
 use Rattle.std.proofs.Math.Bool.{or-true}
 use Rattle.calloop_wake.specs.Cells.{one}
 use Rattle.calloop_wake.specs.Boards.{is_open, is_marked}
-use Rattle.calloop_wake.specs.Wakes.{Kind, Loop, Awake, Looked, Asleep, WakeWorld, WakeStep, At, Post, Back, Nudge, with_cell, after, IsSchedule, after_all}
+use Rattle.calloop_wake.specs.Wakes.{Kind, Loop, Awake, Looked, Asleep, WakeWorld, WakeStep, At, Post, Back, Wakeup, with_cell, after, IsSchedule, after_all}
 use Rattle.calloop_wake.specs.Delivery.{AllOwed, CanBeDelivered}
 use Rattle.calloop_wake.proofs.Places.{is_marked-after_post}
 use Rattle.calloop_wake.proofs.Schedules.{IsLawful, IsKept, kept-after_all}
@@ -180,15 +180,15 @@ module _ (K : Kind) (law : IsLawful K) (more : IsDelivered K law) where
   told_loop : (n k : ℕ) (w : WakeWorld K.Cell) → w.loop ≢ Awake → IsPosted n k w → Leads n k 1 w (IsTold n k)
   told_loop n k w away h =
       elim (h.idle.rung.kept.heard k away h.marked) [
-        | inl nudges ↦ record {
-          steps = Nudge ∷ [];
+        | inl wakeups ↦ record {
+          steps = Wakeup ∷ [];
           are_owed = (tt, tt);
           few = omega arith;
-          met = (nudges, tt);
+          met = (wakeups, tt);
           so = record {
             posted = record {
               idle = record {
-                rung = record { kept = kept-after_all K law w (Nudge ∷ []) (nudges, tt) h.idle.rung.kept; pinged = h.idle.rung.pinged; key = h.idle.rung.key };
+                rung = record { kept = kept-after_all K law w (Wakeup ∷ []) (wakeups, tt) h.idle.rung.kept; pinged = h.idle.rung.pinged; key = h.idle.rung.key };
                 quiet = h.idle.quiet;
               };
               marked = h.marked;

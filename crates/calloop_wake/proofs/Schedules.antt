@@ -4,7 +4,7 @@ use Rattle.std.proofs.lemmas.Bool.Decides.{nat_tests, eqb_tells}
 use Rattle.std.proofs.Math.Bool.{and-true, or-true, or-false}
 use Rattle.calloop_wake.specs.Cells.{one}
 use Rattle.calloop_wake.specs.Boards.{is_open, is_marked, any_marked, after_open_place, after_close_place, after_post, after_unpost}
-use Rattle.calloop_wake.specs.Wakes.{Bag, and_one, and_any, less_one, Loop, Awake, Looked, WakeWorld, start, WakeStep, At, Kind, owed_by, owed_at, ClearKey, SetKey, OpenTurn, OpenPlace, ClosePlace, Post, Back, Look, Unpost, Nudge, Sleep, Return, with_cell, Needs, after, IsSchedule, after_all, IsCovered}
+use Rattle.calloop_wake.specs.Wakes.{Bag, and_one, and_any, less_one, Loop, Awake, Looked, WakeWorld, start, WakeStep, At, Kind, owed_by, owed_at, ClearKey, SetKey, OpenTurn, OpenPlace, ClosePlace, Post, Back, Look, Unpost, Wakeup, Sleep, Return, with_cell, Needs, after, IsSchedule, after_all, IsCovered}
 use Rattle.calloop_wake.specs.declared.wake.board.Place.{Place}
 use Rattle.calloop_wake.proofs.Places.{is_open-after_open, is_marked-after_open, is_open-after_close, is_marked-after_close, is_open-after_post, is_marked-after_post, is_open-after_unpost, is_marked-after_unpost, marked-after_post, none_marked}
 
@@ -44,7 +44,7 @@ IsPingedKnown K cells board debts passes = (n k : ℕ) → (K.pinged (cells n)) 
 
 -- where the loop has looked, a mark is heard
 abbrev pub IsHeard : List Place → ℕ → Bool → Loop → Type 0
-IsHeard board nudges signal loop = (k : ℕ) → loop ≢ Awake → is_marked k board ≡ true → (0 < nudges) ⊎ (signal ≡ true)
+IsHeard board wakeups signal loop = (k : ℕ) → loop ≢ Awake → is_marked k board ≡ true → (0 < wakeups) ⊎ (signal ≡ true)
 
 -- each open place has at most one holder: the cell with its key, the pass of the opened place, or the leave to close it. Nothing else is held
 pub record IsPlaced (K : Kind) (cells : ℕ → K.Cell) (board : List Place) (opened leaves : Bag) : Type 0 where
@@ -56,7 +56,7 @@ pub record IsPlaced (K : Kind) (cells : ℕ → K.Cell) (board : List Place) (op
 pub record IsKept (K : Kind) (law : IsLawful K) (w : WakeWorld K.Cell) : Type 0 where
   pub lit : (n : ℕ) → law.IsLit (w.cells n)
   pub known : IsPingedKnown K w.cells w.board w.debts w.passes
-  pub heard : IsHeard w.board w.nudges w.signal w.loop
+  pub heard : IsHeard w.board w.wakeups w.signal w.loop
   pub placed : IsPlaced K w.cells w.board w.opened w.leaves
 
 -- Bags.
@@ -392,7 +392,7 @@ module _ (K : Kind) (law : IsLawful K) where
       kept-opened w n k (K.opened (w.cells n)) (law.opened_lit k (w.cells n) is (h.lit n)) (law.opened_key (w.cells n)) (law.opened_pinged (w.cells n)) (law.opens_own k (w.cells n) is) h
   kept-open_turn w n k false is h = kept-cell w n (w.cells n) None (λ l. l) refl (λ p. inl (p, refl)) h
 
-  pub heard-look : (w : WakeWorld K.Cell) (b : Bool) → any_marked w.board ≡ b → IsHeard w.board w.nudges w.signal (if b then Awake else Looked)
+  pub heard-look : (w : WakeWorld K.Cell) (b : Bool) → any_marked w.board ≡ b → IsHeard w.board w.wakeups w.signal (if b then Awake else Looked)
   heard-look w true is x a m = absurd (a refl)
   heard-look w false is x a m = absurd (true≢false (sym m ∙ none_marked x w.board is))
 
@@ -451,7 +451,7 @@ module _ (K : Kind) (law : IsLawful K) where
     heard = λ x a m. h.heard x a (and-left (is_marked x w.board) (not (nat_lt x b)) (sym (is_marked-after_unpost x b w.board) ∙ m));
     placed = placed-unpost w b h.placed;
   }
-  kept-after w Nudge need h = record { lit = h.lit; known = h.known; heard = λ x a m. inr refl; placed = h.placed }
+  kept-after w Wakeup need h = record { lit = h.lit; known = h.known; heard = λ x a m. inr refl; placed = h.placed }
   kept-after w Sleep need h = record { lit = h.lit; known = h.known; heard = λ x a m. h.heard x (λ e. absurd (cc)) m; placed = h.placed }
   kept-after w Return need h = record { lit = h.lit; known = h.known; heard = λ x a m. absurd (a refl); placed = h.placed }
 

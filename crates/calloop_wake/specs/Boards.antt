@@ -61,7 +61,7 @@ abbrev pub after_post : ℕ → List Place → List Place
 after_post k ps = map (marked_at k) ps
 
 -- posting this key sets a mark anew: it has a place without a mark. In calloop a write wakes the kernel's wait, which
--- tells of the descriptor; here the post gives a nudge that wakes it
+-- tells of the descriptor; here the post gives a wakeup that wakes it
 abbrev pub wakes : ℕ → List Place → Bool
 wakes k ps = list_any (λ p. nat_eq p.key k && not p.marked) ps
 

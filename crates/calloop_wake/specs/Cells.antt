@@ -25,7 +25,7 @@ use Rattle.std.specs.Prelude.{
 use Rattle.logbook.specs.Pages.{Book}
 use Rattle.calloop_wake.specs.Passes.{Taken, Keyed}
 use Rattle.calloop_wake.specs.declared.wake.Receipt.{Receipt}
-use Rattle.calloop_wake.specs.declared.wake.Twin.{Twin}
+use Rattle.calloop_wake.specs.declared.wake.Tally.{Tally}
 use Rattle.calloop_wake.specs.declared.wake.ping.OpenedTurn.{OpenedTurn}
 
 -- what the ends of a ping share; in calloop's ping.rs it is the state of an eventfd or a pipe
@@ -196,20 +196,20 @@ tells k c = one (opens k c && (c.closed && not c.told))
 
 -- the receiving end of the cell of this name, which gave it no key yet and counted nothing; its misses, the tasks that
 -- were popped before their futures came, are an executor's alone
-abbrev pub fresh_twin : Book → Twin
-fresh_twin name = record { name = name; key = None; turns = 0; number = 0; closes = 0; misses = 0 }
+abbrev pub fresh_tally : Book → Tally
+fresh_tally name = record { name = name; key = None; turns = 0; number = 0; closes = 0; misses = 0 }
 
 -- a receiving end that gave its cell no key yet, and opened no turn
-abbrev pub twin_of : CoreView → Twin
-twin_of c = fresh_twin c.name
+abbrev pub tally_of : CoreView → Tally
+tally_of c = fresh_tally c.name
 
 -- the receiving end counts the turns that it opened, the rings that they took, and the closes that they told
-abbrev pub twin_after_open_turn : ℕ → CoreView → Twin → Twin
-twin_after_open_turn k c twin =
-    record twin {
-      turns = twin.turns + one (opens k c.cell);
-      number = twin.number + takes k c.cell;
-      closes = twin.closes + tells k c.cell;
+abbrev pub tally_after_open_turn : ℕ → CoreView → Tally → Tally
+tally_after_open_turn k c tally =
+    record tally {
+      turns = tally.turns + one (opens k c.cell);
+      number = tally.number + takes k c.cell;
+      closes = tally.closes + tells k c.cell;
     }
 
 -- what opening a turn gives: the turn of this cell with what was due, or the pass back, marked as refused by it

@@ -34,7 +34,7 @@ use Rattle.calloop_wake.specs.Passes.{Taken, Keyed}
 use Rattle.calloop_wake.specs.Cells.{Cell, fresh, one, opens, after_set_key}
 use Rattle.calloop_wake.specs.Bells.{BellView, after_ping, after_drain, after_end, after_tell}
 use Rattle.calloop_wake.specs.declared.wake.Receipt.{Receipt}
-use Rattle.calloop_wake.specs.declared.wake.Twin.{Twin}
+use Rattle.calloop_wake.specs.declared.wake.Tally.{Tally}
 use Rattle.calloop_wake.specs.declared.wake.ChannelTurn.{ChannelTurn}
 use Rattle.calloop_wake.specs.declared.wake.channel.LastPop.{LastPop}
 use Rattle.calloop_wake.specs.declared.wake.channel.LastPop.TheVariants.{NoPop, AnItem, NoItem}
@@ -251,16 +251,16 @@ view_after_take c =
     }
 
 -- the receiving end counts the messages that it was handed, and the closes that it was told
-abbrev pub twin_after_pop : {T : Type 0} → Popped T → Twin → Twin
-twin_after_pop p twin =
-    record twin { number = twin.number + one (is_item p); closes = twin.closes + one (is_close p) }
+abbrev pub tally_after_pop : {T : Type 0} → Popped T → Tally → Tally
+tally_after_pop p tally =
+    record tally { number = tally.number + one (is_item p); closes = tally.closes + one (is_close p) }
 
-abbrev pub twin_after_take : {T : Type 0} → ChannelCell T → Twin → Twin
-twin_after_take c twin = record twin { number = twin.number + one (is_there c.queue) }
+abbrev pub tally_after_take : {T : Type 0} → ChannelCell T → Tally → Tally
+tally_after_take c tally = record tally { number = tally.number + one (is_there c.queue) }
 
 -- it counts the turns that it opened
-abbrev pub twin_after_open : ℕ → Cell → Twin → Twin
-twin_after_open k c twin = record twin { turns = twin.turns + one (opens k c) }
+abbrev pub tally_after_open : ℕ → Cell → Tally → Tally
+tally_after_open k c tally = record tally { turns = tally.turns + one (opens k c) }
 
 -- the turn after a pop
 abbrev pub turn_after_pop : {T : Type 0} → Popped T → ChannelTurn → ChannelTurn

@@ -15,7 +15,7 @@ use Rattle.calloop_wake.specs.Wakes.{
   Back,
   Unpost,
   Look,
-  Nudge,
+  Wakeup,
   Sleep,
   Return,
   IsSchedule,
@@ -23,12 +23,12 @@ use Rattle.calloop_wake.specs.Wakes.{
 }
 
 -- Steps that somebody owes, for a turn of this cell under this key: the turn that stands open goes on, or ends; a pass of the key goes
--- back, a debt of it is posted, a nudge is spent. None of them rings, puts, wakes, or moves a key.
+-- back, a debt of it is posted, a wakeup is spent. None of them rings, puts, wakes, or moves a key.
 abbrev pub IsOwed : (K : Kind) → (cell key : ℕ) → WakeStep K.Own → Type 0
 IsOwed K n k (At m s) = (m ≡ n) × K.OfTurn s
 IsOwed K n k (Back j) = j ≡ k
 IsOwed K n k (Post j) = j ≡ k
-IsOwed K n k Nudge = Unit {0}
+IsOwed K n k Wakeup = Unit {0}
 IsOwed K n k (ClearKey m by_drop) = ⊥
 IsOwed K n k (SetKey m j) = ⊥
 IsOwed K n k (OpenTurn m j) = ⊥

@@ -24,7 +24,7 @@ use Rattle.calloop_wake.specs.Wakes.{
   Back,
   Unpost,
   Look,
-  Nudge,
+  Wakeup,
   Sleep,
   Return,
 }
@@ -82,12 +82,12 @@ ends_tasks = At 0 (Second (Second (executor.EndTurn false)))
 -- a ring that comes while the loop waits is posted and told of, and the wait returns; then its key is taken, and a turn opened
 abbrev pub ring_in_a_wait : Schedule
 ring_in_a_wait =
-    OpenPlace 7 ∷ SetKey 0 7 ∷ Look ∷ Sleep ∷ rings ∷ Post 7 ∷ Nudge ∷ Return ∷ Unpost 8 ∷ OpenTurn 0 7 ∷ []
+    OpenPlace 7 ∷ SetKey 0 7 ∷ Look ∷ Sleep ∷ rings ∷ Post 7 ∷ Wakeup ∷ Return ∷ Unpost 8 ∷ OpenTurn 0 7 ∷ []
 
 -- a key is posted behind a look that found none, before the sleep
 abbrev pub post_between_look_and_sleep : Schedule
 post_between_look_and_sleep =
-    OpenPlace 7 ∷ SetKey 0 7 ∷ Look ∷ rings ∷ Post 7 ∷ Sleep ∷ Nudge ∷ Return ∷ Unpost 8 ∷ OpenTurn 0 7 ∷ ends ∷ []
+    OpenPlace 7 ∷ SetKey 0 7 ∷ Look ∷ rings ∷ Post 7 ∷ Sleep ∷ Wakeup ∷ Return ∷ Unpost 8 ∷ OpenTurn 0 7 ∷ ends ∷ []
 
 -- a ring comes while a turn stands open: it is for the next turn
 abbrev pub ring_in_a_turn : Schedule
@@ -460,7 +460,7 @@ two_turns_at_once =
     ∷ Post 7
     ∷ []
 
--- One of two posted keys is taken, and a turn of it is over; the look then finds the other, and that is taken. The nudges are
+-- One of two posted keys is taken, and a turn of it is over; the look then finds the other, and that is taken. The wakeups are
 -- spent while the loop is awake.
 abbrev pub unpost_in_part : Schedule
 unpost_in_part =
@@ -472,11 +472,11 @@ unpost_in_part =
     ∷ puts_there 5
     ∷ Post 9
     ∷ Post 7
-    ∷ Nudge
+    ∷ Wakeup
     ∷ Unpost 8
     ∷ OpenTurn 0 7
     ∷ ends
-    ∷ Nudge
+    ∷ Wakeup
     ∷ Look
     ∷ Unpost 10
     ∷ OpenTurn 1 9
@@ -496,7 +496,7 @@ unpost_in_a_wait =
     ∷ Post 7
     ∷ Sleep
     ∷ Unpost 8
-    ∷ Nudge
+    ∷ Wakeup
     ∷ Return
     ∷ OpenTurn 0 7
     ∷ []

@@ -103,9 +103,9 @@ pub record WakeWorld (C : Type 0) : Type 0 where
   pub opened : Bag
   -- keys whose cells have another key now
   pub leaves : Bag
-  -- nudges that are owed
-  pub nudges : ℕ
-  -- a nudge reached the poller since its last wait; in calloop the poller keeps what `Notifier::notify` tells it
+  -- wakeups that are owed
+  pub wakeups : ℕ
+  -- a wakeup reached the poller since its last wait; in calloop the poller keeps what `Notifier::notify` tells it
   pub signal : Bool
   pub loop : Loop
 
@@ -119,13 +119,13 @@ start fresh =
       passes = no_value;
       opened = no_value;
       leaves = no_value;
-      nudges = 0;
+      wakeups = 0;
       signal = false;
       loop = Awake;
     }
 
 -- A step of any party. A ping's own steps, set key, clear key and open turn are calloop's writes to a descriptor, its
--- registration, the taking back of it, and process_events; place, post, look and unpost are the kernel's poller; nudge,
+-- registration, the taking back of it, and process_events; place, post, look and unpost are the kernel's poller; wakeup,
 -- sleep and return are the wait.
 pub data WakeStep (O : Type 0) : Type 0 where
   -- one of the steps that only this kind has
@@ -135,7 +135,7 @@ pub data WakeStep (O : Type 0) : Type 0 where
   OpenPlace ClosePlace Post Back : (key : ℕ) → WakeStep O
   -- the posted keys below this bound are taken
   Unpost : (below : ℕ) → WakeStep O
-  Look Nudge Sleep Return : WakeStep O
+  Look Wakeup Sleep Return : WakeStep O
 
 -- the cells, with this one in the place of the cell of that number
 abbrev pub with_cell : {C : Type 0} → ℕ → C → (ℕ → C) → ℕ → C
@@ -156,7 +156,7 @@ Needs K w (Post k) = 0 < w.debts k
 Needs K w (Back k) = 0 < w.passes k
 Needs K w Look = w.loop ≢ Asleep
 Needs K w (Unpost below) = Unit {0}
-Needs K w Nudge = 0 < w.nudges
+Needs K w Wakeup = 0 < w.wakeups
 Needs K w Sleep = w.loop ≡ Looked
 Needs K w Return = Unit {0}
 
@@ -187,9 +187,9 @@ after K w (OpenTurn n k) =
     }
 after K w (OpenPlace k) = record w { board = after_open_place k w.board; opened = and_one k w.opened }
 after K w (ClosePlace k) = record w { board = after_close_place k w.board; leaves = less_one k w.leaves }
--- a mark that is set anew owes a nudge
+-- a mark that is set anew owes a wakeup
 after K w (Post k) =
-    record w { board = after_post k w.board; debts = less_one k w.debts; nudges = w.nudges + one (wakes k w.board) }
+    record w { board = after_post k w.board; debts = less_one k w.debts; wakeups = w.wakeups + one (wakes k w.board) }
 after K w (Back k) = record w { passes = less_one k w.passes; debts = and_one k w.debts }
 -- the leave to sleep is given where no key is marked
 after K w Look = record w { loop = if any_marked w.board then Awake else Looked }
@@ -198,7 +198,7 @@ after K w (Unpost below) =
       board = after_unpost below w.board;
       passes = λ j. w.passes j + one (is_marked j w.board && nat_lt j below);
     }
-after K w Nudge = record w { nudges = w.nudges - 1; signal = true }
+after K w Wakeup = record w { wakeups = w.wakeups - 1; signal = true }
 after K w Sleep = record w { loop = Asleep }
 -- the wait returns, and takes the signal with it
 after K w Return = record w { signal = false; loop = Awake }
@@ -223,5 +223,5 @@ pub record IsCovered (K : Kind) (w : WakeWorld K.Cell) : Type 0 where
   pub standing : (n : ℕ) → K.IsStanding (w.cells n)
   -- a pinged cell's key is known
   pub pinged : (n k : ℕ) → K.pinged (w.cells n) ≡ true → K.key (w.cells n) ≡ Some k → IsKnown w k
-  -- a key that is posted behind a look that found none is told: a nudge is owed, or the signal stands
-  pub told : (k : ℕ) → w.loop ≢ Awake → is_marked k w.board ≡ true → (0 < w.nudges) ⊎ (w.signal ≡ true)
+  -- a key that is posted behind a look that found none is told: a wakeup is owed, or the signal stands
+  pub told : (k : ℕ) → w.loop ≢ Awake → is_marked k w.board ≡ true → (0 < w.wakeups) ⊎ (w.signal ≡ true)

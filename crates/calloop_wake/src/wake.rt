@@ -5,7 +5,7 @@
 //! The values of this module have no `Drop`, but for a receipt and the right to a receiving end: who has one has to hand it on or to
 //! spend it.
 ghost use Rattle.std.specs.Prelude.{◌≡◌, ◌&&◌, not, nat_lt, is_some, None};
-ghost use Rattle.calloop_wake.specs.Cells.{fresh_twin};
+ghost use Rattle.calloop_wake.specs.Cells.{fresh_tally};
 ghost use Rattle.calloop_wake.specs.Passes.{given_back};
 
 use ghosts::{Count, Name};
@@ -177,7 +177,7 @@ pub struct ReceivingRight {
 /// and, in `number`, how many of a ping's turns took a ring, or how many messages of a channel or results of tasks were handed out. It is spent where the
 /// cell is abandoned.
 #[must_use]
-pub struct Twin {
+pub struct Tally {
     pub(crate) name: Name,
     pub(crate) key: Option<u64>,
     pub(crate) turns: Count,
@@ -187,12 +187,12 @@ pub struct Twin {
     pub(crate) misses: Count,
 }
 
-impl Twin {
+impl Tally {
     // A receiving end that gave its cell no key yet and opened no turn.
-    fn new(right: ReceivingRight) -> Twin
-        ensures { result ≡ fresh_twin right.name }
+    fn new(right: ReceivingRight) -> Tally
+        ensures { result ≡ fresh_tally right.name }
     {
-        Twin {
+        Tally {
             name: right.name,
             key: None,
             turns: Count::zero(),
@@ -203,7 +203,7 @@ impl Twin {
     }
 
     fn end(self) {
-        let Twin {
+        let Tally {
             name: _,
             key: _,
             turns: _,
@@ -236,7 +236,7 @@ impl Last {
 
 /// A loop that must be woken where it waits, since a mark was set anew on its board.
 #[must_use]
-pub struct Nudge {
+pub struct Wakeup {
     of_wake: (),
 }
 
@@ -246,10 +246,10 @@ pub trait Notify {
     fn notify(&self);
 }
 
-impl Nudge {
-    /// Spends the nudge: the notifier is notified once. No contract sees what that makes of it.
+impl Wakeup {
+    /// Spends the wakeup: the notifier is notified once. No contract sees what that makes of it.
     pub fn spend<N: Notify>(self, notifier: &N) {
-        let Nudge { of_wake: _ } = self;
+        let Wakeup { of_wake: _ } = self;
         notifier.notify();
     }
 }

@@ -15,7 +15,7 @@ use calloop_wake::wake::locked::{Core, Locked};
 use calloop_wake::wake::ping::{OpenedTurn, PingCore};
 use calloop_wake::wake::watch::{Watch, WatchedBoard};
 use calloop_wake::wake::{
-    Debt, Last, LeaveToClose, Notify, OpenedPass, PingTurn, Sender, TakenPass, Twin,
+    Debt, Last, LeaveToClose, Notify, OpenedPass, PingTurn, Sender, TakenPass, Tally,
     can_be_delivered, lost_is_not_covered, nothing_is_lost, out_of_reach,
     schedules_of_one_board_that_there_are, schedules_of_queues_that_there_are,
     schedules_that_there_are, schedules_that_there_are_not, steps_are_the_machines,
@@ -343,7 +343,7 @@ fn a_late_debt_marks_the_next_cell_of_its_key(rt: HostRuntime) {
 }
 
 #[test]
-fn a_late_debt_of_a_closed_place_nudges_nobody(rt: HostRuntime) {
+fn a_late_debt_of_a_closed_place_wakes_nobody(rt: HostRuntime) {
     let mut desk = Desk::new(&rt, rt.alloc());
     let mut cell = Ends::new(&rt, rt.alloc(), &desk);
     assert!(rt; cell.registers(&rt, 5));
@@ -371,9 +371,9 @@ fn a_ring_without_a_key_is_posted_with_the_next_one(rt: HostRuntime) {
 fn an_end_that_is_gone_leaves_no_place(rt: HostRuntime) {
     let mut desk = Desk::new(&rt, rt.alloc());
     let mut cell = Ends::new(&rt, rt.alloc(), &desk);
-    assert_eq!(rt; cell.twin.key(), None);
+    assert_eq!(rt; cell.tally.key(), None);
     assert!(rt; cell.registers(&rt, 7));
-    assert_eq!(rt; cell.twin.key(), Some(7));
+    assert_eq!(rt; cell.tally.key(), Some(7));
     let (had_key, rings) = cell.abandon(&rt);
     assert!(rt; had_key && !rings);
     assert_eq!(rt; desk.places(&rt), 0);
@@ -560,9 +560,9 @@ impl Core for OneBoard {
 // A ping's cell under its lock, its receiving end, and the board of its keys. It has to leave before the test ends.
 struct Ends {
     lock: SharedLock,
-    twin: Twin,
+    tally: Tally,
     board: SharedBoard,
-    ghost tied: { twin.name ≡ (arc_value lock).slot.cell },
+    ghost tied: { tally.name ≡ (arc_value lock).slot.cell },
     ghost own: { (arc_value lock).slot.board ≡ (arc_value board).slot },
 }
 
@@ -668,9 +668,9 @@ impl Ends {
         .expect(rt, "a cell");
         let mut held = lock.lock(rt);
         let cell = held.core();
-        let twin = cell.core.receiver(right);
+        let tally = cell.core.receiver(right);
         held.unlock();
-        Ends { lock, twin, board }
+        Ends { lock, tally, board }
     }
 
     // One that rings, for another thread.
@@ -719,7 +719,7 @@ impl Ends {
         let opened = board.open_place(key);
         held.unlock();
         let pass = opened?;
-        let (debt, leave) = set_key(rt, &self.lock, &mut self.twin, pass);
+        let (debt, leave) = set_key(rt, &self.lock, &mut self.tally, pass);
         post(rt, &self.board, debt);
         close(rt, &self.board, leave);
         Ok(())
@@ -727,7 +727,7 @@ impl Ends {
 
     // Takes the cell's key back, and closes its place: whether it had one.
     fn unregister<R: Wait>(&mut self, rt: &R) -> bool {
-        let leave = clear_key(rt, &self.lock, &mut self.twin);
+        let leave = clear_key(rt, &self.lock, &mut self.tally);
         close(rt, &self.board, leave)
     }
 
@@ -748,20 +748,20 @@ impl Ends {
 
     // The receiving end goes, and its place is closed: whether it had one, and whether a ring after it sets a mark.
     fn abandon<R: Wait>(self, rt: &R) -> (bool, bool) {
-        let Ends { lock, twin, board } = self;
-        let had_key = close(rt, &board, abandon(rt, &lock, twin));
+        let Ends { lock, tally, board } = self;
+        let had_key = close(rt, &board, abandon(rt, &lock, tally));
         (had_key, post(rt, &board, ring(rt, &lock)))
     }
 
     fn leave<R: Wait>(self, rt: &R) {
-        let Ends { lock, twin, board } = self;
-        close(rt, &board, abandon(rt, &lock, twin));
+        let Ends { lock, tally, board } = self;
+        close(rt, &board, abandon(rt, &lock, tally));
     }
 
     // Whether this comes of the marked keys.
     fn serves<R: Wait>(&mut self, rt: &R, alloc: Global, desk: &mut Desk, wanted: &[Turn]) -> bool {
         is_all(
-            serve_all(rt, alloc, desk, &self.lock, &mut self.twin),
+            serve_all(rt, alloc, desk, &self.lock, &mut self.tally),
             wanted,
         )
     }
@@ -775,7 +775,7 @@ impl Ends {
         wanted: &[Turn],
     ) -> bool {
         is_all(
-            serve_within(rt, alloc, desk, &self.board, &self.lock, &mut self.twin),
+            serve_within(rt, alloc, desk, &self.board, &self.lock, &mut self.tally),
             wanted,
         )
     }
@@ -820,41 +820,41 @@ fn drop_sender<R: Wait>(rt: &R, lock: &Locked<OneBoard>, sender: Sender) -> Opti
 fn set_key<R: Wait>(
     rt: &R,
     lock: &Locked<OneBoard>,
-    twin: &mut Twin,
+    tally: &mut Tally,
     pass: OpenedPass,
 ) -> (Option<Debt>, Option<LeaveToClose>)
-    requires twin { twin.old.name ≡ lock.now.slot.cell }
+    requires tally { tally.old.name ≡ lock.now.slot.cell }
     requires board { pass.board ≡ lock.now.slot.board }
-    ensures twin { twin.new.name ≡ lock.now.slot.cell }
+    ensures tally { tally.new.name ≡ lock.now.slot.cell }
     ensures debt { IfSome result.0 (λ debt. debt.board ≡ lock.now.slot.board) }
     ensures leave { IfSome result.1 (λ leave. leave.board ≡ lock.now.slot.board) }
 {
     let mut held = lock.lock(rt);
     let cell = held.core();
-    let (debt, leave) = cell.core.set_key(pass, twin);
+    let (debt, leave) = cell.core.set_key(pass, tally);
     held.unlock();
     (debt, leave)
 }
 
-fn clear_key<R: Wait>(rt: &R, lock: &Locked<OneBoard>, twin: &mut Twin) -> Option<LeaveToClose>
-    requires { twin.old.name ≡ lock.now.slot.cell }
-    ensures twin { twin.new.name ≡ lock.now.slot.cell }
+fn clear_key<R: Wait>(rt: &R, lock: &Locked<OneBoard>, tally: &mut Tally) -> Option<LeaveToClose>
+    requires { tally.old.name ≡ lock.now.slot.cell }
+    ensures tally { tally.new.name ≡ lock.now.slot.cell }
     ensures leave { IfSome result (λ leave. leave.board ≡ lock.now.slot.board) }
 {
     let mut held = lock.lock(rt);
     let cell = held.core();
-    let leave = cell.core.clear_key(twin);
+    let leave = cell.core.clear_key(tally);
     held.unlock();
     leave
 }
 
-fn abandon<R: Wait>(rt: &R, lock: &Locked<OneBoard>, twin: Twin) -> Option<LeaveToClose>
-    requires { twin.name ≡ lock.now.slot.cell }
+fn abandon<R: Wait>(rt: &R, lock: &Locked<OneBoard>, tally: Tally) -> Option<LeaveToClose>
+    requires { tally.name ≡ lock.now.slot.cell }
     ensures { IfSome result (λ leave. leave.board ≡ lock.now.slot.board) }
 {
     let mut held = lock.lock(rt);
     let cell = held.core();
-    let leave = cell.core.abandon(twin);
+    let leave = cell.core.abandon(tally);
     held.unlock();
     leave
 }
@@ -897,10 +897,10 @@ fn post<R: Wait>(rt: &R, board: &Locked<WatchedBoard>, debt: Option<Debt>) -> bo
     };
     let mut held = board.lock(rt);
     let at = held.core();
-    let nudge = at.post(debt);
+    let wakeup = at.post(debt);
     held.unlock();
-    if let Some(nudge) = nudge {
-        nudge.spend(&signal);
+    if let Some(wakeup) = wakeup {
+        wakeup.spend(&signal);
     }
     signal.raised.load(Ordering::SeqCst)
 }
@@ -908,17 +908,17 @@ fn post<R: Wait>(rt: &R, board: &Locked<WatchedBoard>, debt: Option<Debt>) -> bo
 fn open<R: Wait>(
     rt: &R,
     lock: &Locked<OneBoard>,
-    twin: &mut Twin,
+    tally: &mut Tally,
     pass: TakenPass,
 ) -> Result<OpenedTurn, TakenPass>
-    requires { twin.old.name ≡ lock.now.slot.cell }
-    ensures name { twin.new.name ≡ lock.now.slot.cell }
+    requires { tally.old.name ≡ lock.now.slot.cell }
+    ensures name { tally.new.name ≡ lock.now.slot.cell }
     ensures turn { IfOk result (λ o. o.turn.name ≡ lock.now.slot.cell) }
     ensures refused { IfErr result (λ refused. refused.board ≡ pass.board) }
 {
     let mut held = lock.lock(rt);
     let cell = held.core();
-    let opened = cell.core.open_turn(pass, twin);
+    let opened = cell.core.open_turn(pass, tally);
     held.unlock();
     opened
 }
@@ -940,14 +940,14 @@ fn serve<R: Wait>(
     rt: &R,
     board: &Locked<WatchedBoard>,
     lock: &Locked<OneBoard>,
-    twin: &mut Twin,
+    tally: &mut Tally,
     pass: TakenPass,
 ) -> Turn
-    requires twin { twin.old.name ≡ lock.now.slot.cell }
+    requires tally { tally.old.name ≡ lock.now.slot.cell }
     requires pass { pass.board ≡ board.now.slot }
-    ensures { twin.new.name ≡ lock.now.slot.cell }
+    ensures { tally.new.name ≡ lock.now.slot.cell }
 {
-    match open(rt, lock, twin, pass) {
+    match open(rt, lock, tally, pass) {
         Ok(OpenedTurn { turn, rung, told }) => {
             post(rt, board, end(rt, lock, turn));
             Turn::Opened { rung, told }
@@ -966,17 +966,17 @@ fn serve_all<R: Wait>(
     alloc: Global,
     desk: &mut Desk,
     lock: &Locked<OneBoard>,
-    twin: &mut Twin,
+    tally: &mut Tally,
 ) -> Result<Vec<Turn>, AllocError>
-    requires { twin.old.name ≡ lock.now.slot.cell }
-    ensures twin { twin.new.name ≡ lock.now.slot.cell }
+    requires { tally.old.name ≡ lock.now.slot.cell }
+    ensures tally { tally.new.name ≡ lock.now.slot.cell }
     ensures desk { (arc_value desk.new.board).slot ≡ (arc_value desk.old.board).slot }
 {
     let mut turns = Vec::with_capacity(alloc, desk.places(rt))?;
     let mut passes = desk.take_passes(rt, alloc, &mut Steps::new())?;
     let board = &desk.board;
     while let Some(pass) = passes.pop_front() {
-        let turn = serve(rt, board, lock, twin, pass);
+        let turn = serve(rt, board, lock, tally, pass);
         let _ = turns.push(turn);
     }
     passes.destroy_empty();
@@ -991,16 +991,16 @@ fn serve_within<R: Wait>(
     desk: &mut Desk,
     board: &Locked<WatchedBoard>,
     lock: &Locked<OneBoard>,
-    twin: &mut Twin,
+    tally: &mut Tally,
 ) -> Result<Vec<Turn>, AllocError>
-    requires twin { twin.old.name ≡ lock.now.slot.cell }
+    requires tally { tally.old.name ≡ lock.now.slot.cell }
     requires board { lock.now.slot.board ≡ board.now.slot }
-    ensures { twin.new.name ≡ lock.now.slot.cell }
+    ensures { tally.new.name ≡ lock.now.slot.cell }
 {
     let mut within = Ok(Vec::new(alloc));
     let mut passes = desk.take_passes(rt, alloc, &mut Steps::new())?;
     while let Some(pass) = passes.pop_front() {
-        match open(rt, lock, twin, pass) {
+        match open(rt, lock, tally, pass) {
             Ok(
                 OpenedTurn {
                     turn,
@@ -1009,7 +1009,7 @@ fn serve_within<R: Wait>(
                 },
             ) => {
                 post(rt, board, ring(rt, lock));
-                within = serve_all(rt, alloc, desk, lock, twin);
+                within = serve_all(rt, alloc, desk, lock, tally);
                 post(rt, board, end(rt, lock, turn));
             }
             Err(pass) => {

@@ -2,7 +2,7 @@
 use Rattle.std.proofs.Common.{◌≡◌, inl, inr, ℕ, List, [], ◌∷◌, ◌++◌, Option, Some, None, Result, Ok, Err, IfOk, IfSome, true, refl, sym, subst, ap, ◌∙◌}
 use Rattle.logbook.specs.Pages.{Book}
 use Rattle.calloop_wake.specs.declared.token.RegistrationToken.{RegistrationToken}
-use Rattle.calloop_wake.specs.declared.wake.Twin.{Twin}
+use Rattle.calloop_wake.specs.declared.wake.Tally.{Tally}
 use Rattle.calloop_core.specs.declared.sys.script.ScriptPoller.{ScriptPoller}
 use Rattle.calloop_core.specs.declared.sys.Readiness.{Readiness}
 use Rattle.calloop_core.specs.declared.sources.dispatch.Dispatcher.{Dispatcher}
@@ -32,7 +32,7 @@ use Rattle.looptrace.specs.Texts.{next_number}
 use Rattle.looptrace.specs.Traces.{Written, Writes, WritesTo}
 use Rattle.looptrace.specs.InTime.{ScriptCall, ScriptAnswerOf, IsScripted, AllScripted, Asks, LeadsInTime, MayWriteInTime}
 
-fresh_ping : (name : List ℕ) (held : OneOf (Dispatcher Twin Teller) (Dispatcher TimerSource Alarm)) (s : Source) (ping : Option Book) → s.held ≡ held → IsPingOf name held ping
+fresh_ping : (name : List ℕ) (held : OneOf (Dispatcher Tally Teller) (Dispatcher TimerSource Alarm)) (s : Source) (ping : Option Book) → s.held ≡ held → IsPingOf name held ping
     → IsFresh (source_meaning {P = ScriptPoller}) s
 fresh_ping name (First d) s ping is h = rw is ((λ counter. refl), tt)
 fresh_ping name (Other d) s ping is h = absurd h

@@ -21,7 +21,7 @@ use Rattle.calloop_wake.specs.declared.error.InsertError.{InsertError}
 use Rattle.calloop_wake.specs.declared.token.RegistrationToken.{RegistrationToken}
 use Rattle.logbook.specs.Pages.{Book}
 use Rattle.calloop_wake.specs.declared.wheel.Instant.{Instant}
-use Rattle.calloop_wake.specs.declared.wake.Twin.{Twin}
+use Rattle.calloop_wake.specs.declared.wake.Tally.{Tally}
 use Rattle.calloop_core.specs.declared.sys.Readiness.{Readiness}
 use Rattle.calloop_core.specs.declared.sys.script.ScriptAnswer.{ScriptAnswer}
 use Rattle.calloop_core.specs.declared.sys.script.ScriptEvents.{ScriptEvents}
@@ -142,7 +142,7 @@ InsertLine s name made (Some (t, said)) =
 
 -- a source of a cell that no turn took a ring of, registered nowhere, with a callback that says its name, and the
 -- cell's ping
-abbrev pub IsPingOf : List ℕ → OneOf (Dispatcher Twin Teller) (Dispatcher TimerSource Alarm)
+abbrev pub IsPingOf : List ℕ → OneOf (Dispatcher Tally Teller) (Dispatcher TimerSource Alarm)
     → Option Book → Type 0
 IsPingOf name (First d) ping =
     (d.source.key ≡ None) × (d.source.number ≡ 0) × (d.callback ≡ record { name = name })

@@ -2,7 +2,7 @@
 use Rattle.std.specs.Prelude.{◌≡◌, ℕ, List, Option}
 use Rattle.calloop_wake.specs.declared.error.Error.TheVariants.{OutOfMemory}
 use Rattle.calloop_wake.specs.declared.wheel.Instant.{Instant}
-use Rattle.calloop_wake.specs.declared.wake.Twin.{Twin}
+use Rattle.calloop_wake.specs.declared.wake.Tally.{Tally}
 use Rattle.calloop_core.specs.declared.sources.dispatch.Dispatcher.{Dispatcher}
 use Rattle.calloop_core.specs.declared.timer.Timer.{Timer}
 use Rattle.calloop_core.specs.declared.timer.TimeoutAction.{TimeoutAction}
@@ -35,9 +35,9 @@ tells_deadline alarm deadline metadata said asked answer after metadata' said' a
 
 -- the sources of a script: a ping with its teller, or a timer with its alarm
 abbrev pub Source : Type 0
-Source = Sources (OneOf (Dispatcher Twin Teller) (Dispatcher Timer Alarm)) (Option (List ℕ)) (Unit {0})
+Source = Sources (OneOf (Dispatcher Tally Teller) (Dispatcher Timer Alarm)) (Option (List ℕ)) (Unit {0})
 
-abbrev pub ping_in : Dispatcher Twin Teller → Source
+abbrev pub ping_in : Dispatcher Tally Teller → Source
 ping_in d = with_data (First d)
 
 abbrev pub timer_in : Dispatcher Timer Alarm → Source

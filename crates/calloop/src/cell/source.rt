@@ -9,17 +9,17 @@ use calloop_core::sys::Poller;
 use calloop_core::sys::poll::Poll;
 use calloop_wake::error::{Error, Result as LoopResult};
 use calloop_wake::token::{Token, TokenFactory};
-use calloop_wake::wake::Twin;
+use calloop_wake::wake::Tally;
 use calloop_wake::wake::cell::CellCore;
 use calloop_wake::wake::locked::Locked;
 use std::io;
 use std::sync::Wait;
 
 /// Whether the cell has the key of this token.
-pub(crate) fn is_mine(twin: &Twin, token: Token) -> bool
-    ensures { result ≡ is_own (key_of token) twin.now.key }
+pub(crate) fn is_mine(tally: &Tally, token: Token) -> bool
+    ensures { result ≡ is_own (key_of token) tally.now.key }
 {
-    twin.key() == Some(token.key())
+    tally.key() == Some(token.key())
 }
 
 /// Registers the cell under the factory's next token. What stands in it is posted at once.
@@ -29,19 +29,19 @@ pub(crate) fn is_mine(twin: &Twin, token: Token) -> bool
 pub(crate) fn register<K: CellCore, P: Poller, C, R: Wait + Drop>(
     rt: &R,
     shared: &Locked<Cell<K>>,
-    twin: &mut Twin,
+    tally: &mut Tally,
     poll: &Poll<P, C, R>,
     factory: &mut TokenFactory,
 ) -> LoopResult<()>
-    requires { twin.old.name ≡ K.named_by shared.now.slot }
-    ensures { Registers {P = P} twin.old factory.old result [] twin.new factory.new }
+    requires { tally.old.name ≡ K.named_by shared.now.slot }
+    ensures { Registers {P = P} tally.old factory.old result [] tally.new factory.new }
 {
-    if twin.key().is_some() {
+    if tally.key().is_some() {
         let cause = io::Error::from(io::ErrorKind::AlreadyExists);
         return Err(Error::IoError(cause));
     }
     let token = factory.token()?;
-    attach(rt, shared, twin, poll.hub(), token)
+    attach(rt, shared, tally, poll.hub(), token)
 }
 
 /// Moves the registration to the factory's next token; under the same key it does nothing. What stands in the cell is posted under
@@ -53,22 +53,22 @@ pub(crate) fn register<K: CellCore, P: Poller, C, R: Wait + Drop>(
 pub(crate) fn reregister<K: CellCore, P: Poller, C, R: Wait + Drop>(
     rt: &R,
     shared: &Locked<Cell<K>>,
-    twin: &mut Twin,
+    tally: &mut Tally,
     poll: &Poll<P, C, R>,
     factory: &mut TokenFactory,
 ) -> LoopResult<()>
-    requires { twin.old.name ≡ K.named_by shared.now.slot }
-    ensures { RegistersAnew {P = P} twin.old factory.old result [] twin.new factory.new }
+    requires { tally.old.name ≡ K.named_by shared.now.slot }
+    ensures { RegistersAnew {P = P} tally.old factory.old result [] tally.new factory.new }
 {
-    if twin.key().is_none() {
+    if tally.key().is_none() {
         let cause = io::Error::from(io::ErrorKind::NotFound);
         return Err(Error::IoError(cause));
     }
     let next = factory.token()?;
-    if is_mine(twin, next) {
+    if is_mine(tally, next) {
         return Ok(());
     }
-    attach(rt, shared, twin, poll.hub(), next)
+    attach(rt, shared, tally, poll.hub(), next)
 }
 
 /// Takes the registration back. What stands in the cell is told after the next registration. Where it isn't registered the answer is
@@ -76,16 +76,16 @@ pub(crate) fn reregister<K: CellCore, P: Poller, C, R: Wait + Drop>(
 pub(crate) fn unregister<K: CellCore, P: Poller, C, R: Wait + Drop>(
     rt: &R,
     shared: &Locked<Cell<K>>,
-    twin: &mut Twin,
+    tally: &mut Tally,
     _poll: &Poll<P, C, R>,
 ) -> LoopResult<()>
-    requires { twin.old.name ≡ K.named_by shared.now.slot }
-    ensures { Unregisters {P = P} twin.old result [] twin.new }
+    requires { tally.old.name ≡ K.named_by shared.now.slot }
+    ensures { Unregisters {P = P} tally.old result [] tally.new }
 {
-    if twin.key().is_none() {
+    if tally.key().is_none() {
         let cause = io::Error::from(io::ErrorKind::NotFound);
         return Err(Error::IoError(cause));
     }
-    detach(rt, shared, twin);
+    detach(rt, shared, tally);
     Ok(())
 }

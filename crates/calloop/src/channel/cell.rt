@@ -1,7 +1,7 @@
 //! The sections of the lock of a channel's cell that no other kind of cell has.
 ghost use Rattle.std.specs.Prelude.{◌≡◌, ◌⊎◌, ◌<◌, ◌+◌, true, false, None, Some, IfOk, IfErr};
 ghost use Rattle.calloop_wake.specs.Cells.{one};
-ghost use Rattle.calloop_wake.specs.Channels.{handed_back, FitsBound, turn_after_pop, twin_after_pop};
+ghost use Rattle.calloop_wake.specs.Channels.{handed_back, FitsBound, turn_after_pop, tally_after_pop};
 ghost use Rattle.calloop.specs.Channels.{turn_at_start};
 ghost use Rattle.calloop.specs.Sends.{unsent, IsDisconnected};
 ghost use Rattle.calloop_wake.specs.declared.error.Error.TheVariants.{OutOfMemory};
@@ -11,7 +11,7 @@ use crate::cell::{Cell, settle};
 use calloop_wake::error::Result as LoopResult;
 use calloop_wake::wake::channel::{ChannelCore, Popped, PutError};
 use calloop_wake::wake::locked::{Awaited, Locked};
-use calloop_wake::wake::{ChannelTurn, Receipt, ReceivingRight, TakenPass, Twin};
+use calloop_wake::wake::{ChannelTurn, Receipt, ReceivingRight, TakenPass, Tally};
 use std::alloc::Global;
 use std::sync::Wait;
 
@@ -104,15 +104,15 @@ pub fn put_waiting<T: Drop, R: Wait>(
 pub fn take<T: Drop, R: Wait>(
     rt: &R,
     shared: &Locked<ChannelCell<T>>,
-    twin: &mut Twin,
+    tally: &mut Tally,
 ) -> Result<T, TryRecvError>
-    requires { twin.old.name ≡ shared.now.slot.name }
-    ensures ok { IfOk result (λ _. twin.new ≡ record twin.old { number = twin.old.number + 1 }) }
-    ensures err { IfErr result (λ _. twin.new ≡ twin.old) }
+    requires { tally.old.name ≡ shared.now.slot.name }
+    ensures ok { IfOk result (λ _. tally.new ≡ record tally.old { number = tally.old.number + 1 }) }
+    ensures err { IfErr result (λ _. tally.new ≡ tally.old) }
 {
     let mut held = shared.lock(rt);
     let cell = held.core();
-    let message = cell.core.take(twin);
+    let message = cell.core.take(tally);
     let closed = cell.core.is_closed();
     held.unlock();
     match message {
@@ -129,16 +129,16 @@ pub fn take<T: Drop, R: Wait>(
 pub fn take_waiting<T: Drop, R: Wait>(
     rt: &R,
     shared: &Locked<ChannelCell<T>>,
-    twin: &mut Twin,
+    tally: &mut Tally,
 ) -> Result<T, RecvError>
-    requires { twin.old.name ≡ shared.now.slot.name }
-    ensures ok { IfOk result (λ _. twin.new ≡ record twin.old { number = twin.old.number + 1 }) }
-    ensures err { IfErr result (λ _. twin.new ≡ twin.old) }
+    requires { tally.old.name ≡ shared.now.slot.name }
+    ensures ok { IfOk result (λ _. tally.new ≡ record tally.old { number = tally.old.number + 1 }) }
+    ensures err { IfErr result (λ _. tally.new ≡ tally.old) }
 {
     let mut held = shared.lock(rt);
     for _ in rt.forever() {
         let cell = held.core();
-        if let Some(message) = cell.core.take(twin) {
+        if let Some(message) = cell.core.take(tally) {
             held.unlock();
             shared.tell_one(Awaited::Room);
             return Ok(message);
@@ -156,18 +156,18 @@ pub fn take_waiting<T: Drop, R: Wait>(
 pub fn open_turn<T: Drop, R: Wait>(
     rt: &R,
     shared: &Locked<ChannelCell<T>>,
-    twin: &mut Twin,
+    tally: &mut Tally,
     pass: TakenPass,
 ) -> Result<ChannelTurn, TakenPass>
-    requires { twin.old.name ≡ shared.now.slot.name }
+    requires { tally.old.name ≡ shared.now.slot.name }
     ensures ok { IfOk result (λ turn. (turn ≡ turn_at_start shared.now.slot)
-        × (twin.new ≡ record twin.old { turns = twin.old.turns + 1 })) }
-    ensures err { IfErr result (λ refused. (refused ≡ record pass { refused = Some twin.old.name })
-        × (twin.new ≡ twin.old)) }
+        × (tally.new ≡ record tally.old { turns = tally.old.turns + 1 })) }
+    ensures err { IfErr result (λ refused. (refused ≡ record pass { refused = Some tally.old.name })
+        × (tally.new ≡ tally.old)) }
 {
     let mut held = shared.lock(rt);
     let cell = held.core();
-    let opened = cell.core.open_turn(pass, twin);
+    let opened = cell.core.open_turn(pass, tally);
     held.unlock();
     opened
 }
@@ -176,18 +176,18 @@ pub fn open_turn<T: Drop, R: Wait>(
 pub fn pop<T: Drop, R: Wait>(
     rt: &R,
     shared: &Locked<ChannelCell<T>>,
-    twin: &mut Twin,
+    tally: &mut Tally,
     turn: &mut ChannelTurn,
 ) -> Popped<T>
     requires left { 0 < turn.old.left }
     requires turn { turn.old.name ≡ shared.now.slot.name }
-    requires twin { twin.old.name ≡ shared.now.slot.name }
+    requires tally { tally.old.name ≡ shared.now.slot.name }
     ensures turn { turn.new ≡ turn_after_pop result turn.old }
-    ensures twin { twin.new ≡ twin_after_pop result twin.old }
+    ensures tally { tally.new ≡ tally_after_pop result tally.old }
 {
     let mut held = shared.lock(rt);
     let cell = held.core();
-    let popped = cell.core.pop(turn, twin);
+    let popped = cell.core.pop(turn, tally);
     held.unlock();
     if matches!(popped, Popped::Item(_)) {
         shared.tell_one(Awaited::Room);

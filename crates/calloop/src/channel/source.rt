@@ -2,7 +2,7 @@
 ghost use Rattle.std.specs.Prelude.{◌≡◌, ◌<◌, List, Some, IfOk, IfErr};
 ghost use Rattle.calloop_wake.specs.Tokens.{key_of};
 ghost use Rattle.calloop_wake.specs.Cells.{is_own};
-ghost use Rattle.calloop_wake.specs.Channels.{turn_after_pop, twin_after_pop, is_close};
+ghost use Rattle.calloop_wake.specs.Channels.{turn_after_pop, tally_after_pop, is_close};
 ghost use Rattle.calloop_wake.specs.declared.wake.channel.Popped.{Popped};
 ghost use Rattle.calloop_core.specs.Calls.{Went};
 ghost use Rattle.calloop.specs.Channels.{call_of, fresh_turn, label_of, with_turn, turn_after, IsOver, Handed};
@@ -20,7 +20,7 @@ use calloop_wake::error::{Error, Result as LoopResult};
 use calloop_wake::token::{Token, TokenFactory};
 use calloop_wake::wake::channel::Popped;
 use calloop_wake::wake::locked::Locked;
-use calloop_wake::wake::{ChannelTurn, TakenPass, Twin};
+use calloop_wake::wake::{ChannelTurn, TakenPass, Tally};
 use std::sync::Wait;
 
 impl IntoError for ChannelError {
@@ -42,7 +42,7 @@ impl IntoError for ChannelError {
 fn step<T, R, F, X, Q>(
     rt: &R,
     shared: &Locked<ChannelCell<T>>,
-    twin: &mut Twin,
+    tally: &mut Tally,
     turn: &mut ChannelTurn,
     callback: &mut F,
     data: &mut X,
@@ -55,13 +55,13 @@ where
     F: Callback<Event<T>, (), (), X, Q>,
     requires left { 0 < turn.old.left }
     requires turn { turn.old.name ≡ shared.now.slot.name }
-    requires twin { twin.old.name ≡ shared.now.slot.name }
+    requires tally { tally.old.name ≡ shared.now.slot.name }
     ensures { (p : Popped T) × (turn.new ≡ turn_after_pop p turn.old)
-        × (twin.new ≡ twin_after_pop p twin.old) × (result ≡ is_close p)
+        × (tally.new ≡ tally_after_pop p tally.old) × (result ≡ is_close p)
         × Went F.may Q.reaches callback.old «data».old requests.old (call_of p)
         callback.new «data».new requests.new }
 {
-    match cell::pop(rt, shared, twin, turn) {
+    match cell::pop(rt, shared, tally, turn) {
         Popped::Item(message) => {
             callback.call(Event::Msg(message), &mut (), data, requests);
             false
@@ -78,7 +78,7 @@ where
 fn hand_out<T, R, F, X, Q>(
     rt: &R,
     shared: &Locked<ChannelCell<T>>,
-    twin: &mut Twin,
+    tally: &mut Tally,
     turn: ChannelTurn,
     callback: &mut F,
     data: &mut X,
@@ -90,16 +90,16 @@ where
     Q: Asking,
     F: Callback<Event<T>, (), (), X, Q>,
     requires turn { turn.name ≡ shared.now.slot.name }
-    requires twin { twin.old.name ≡ shared.now.slot.name }
-    ensures name { twin.new.name ≡ twin.old.name }
+    requires tally { tally.old.name ≡ shared.now.slot.name }
+    ensures name { tally.new.name ≡ tally.old.name }
     ensures handed { (ps : List (Popped T)) × IsOver (turn_after ps turn)
-        × Handed F.may Q.reaches turn twin.old callback.old «data».old requests.old ps
-        (turn_after ps turn) twin.new result callback.new «data».new requests.new }
+        × Handed F.may Q.reaches turn tally.old callback.old «data».old requests.old ps
+        (turn_after ps turn) tally.new result callback.new «data».new requests.new }
 {
     let mut turn = turn;
     let mut told = false;
     'pops: while turn.goes_on() {
-        let tells = step(rt, shared, twin, &mut turn, callback, data, requests);
+        let tells = step(rt, shared, tally, &mut turn, callback, data, requests);
         told = told || tells;
     }
     cell::end_turn(rt, shared, turn);
@@ -109,9 +109,9 @@ where
 impl<T: Drop, R: Wait + Drop> Channel<T, R> {
     // Whether the token is that under which it is registered.
     fn is_own(&self, token: Token) -> bool
-        ensures { result ≡ is_own (key_of token) self.now.twin.key }
+        ensures { result ≡ is_own (key_of token) self.now.tally.key }
     {
-        is_mine(&self.twin, token)
+        is_mine(&self.tally, token)
     }
 
     // Opens a turn of its cell. The pass comes back as refused where it opens none.
@@ -119,9 +119,10 @@ impl<T: Drop, R: Wait + Drop> Channel<T, R> {
         ensures ok { IfOk result (λ turn.
             (turn ≡ fresh_turn (label_of self.old)) × (self.new ≡ with_turn self.old)) }
         ensures err { IfErr result (λ refused.
-            (refused ≡ record pass { refused = Some self.old.twin.name }) × (self.new ≡ self.old)) }
+            (refused ≡ record pass { refused = Some self.old.tally.name })
+            × (self.new ≡ self.old)) }
     {
-        cell::open_turn(&self.rt, &self.shared, &mut self.twin, pass)
+        cell::open_turn(&self.rt, &self.shared, &mut self.tally, pass)
     }
 
     // The pops of a turn. Whether the close was told.
@@ -135,16 +136,16 @@ impl<T: Drop, R: Wait + Drop> Channel<T, R> {
     where
         Q: Asking,
         F: Callback<Event<T>, (), (), X, Q>,
-        requires { turn.name ≡ self.old.twin.name }
+        requires { turn.name ≡ self.old.tally.name }
         ensures label { label_of self.new ≡ label_of self.old }
         ensures handed { (ps : List (Popped T)) × IsOver (turn_after ps turn)
-            × Handed F.may Q.reaches turn self.old.twin callback.old «data».old requests.old ps
-            (turn_after ps turn) self.new.twin result callback.new «data».new requests.new }
+            × Handed F.may Q.reaches turn self.old.tally callback.old «data».old requests.old ps
+            (turn_after ps turn) self.new.tally result callback.new «data».new requests.new }
     {
         hand_out(
             &self.rt,
             &self.shared,
-            &mut self.twin,
+            &mut self.tally,
             turn,
             callback,
             data,
@@ -206,7 +207,7 @@ impl<T: Drop, P: Poller, C, R: Wait + Drop> EventSource<P, C, R> for Channel<T, 
     /// Where it is registered already the answer is `IoError` of kind `AlreadyExists`; a factory without tokens is
     /// `TooManyTokens`, and running out of memory `OutOfMemory`. A refusal leaves the channel and the board as they were.
     fn register(&mut self, poll: &mut Poll<P, C, R>, factory: &mut TokenFactory) -> LoopResult<()> {
-        register(&self.rt, &self.shared, &mut self.twin, poll, factory)
+        register(&self.rt, &self.shared, &mut self.tally, poll, factory)
     }
 
     /// Moves the registration to the factory's next token; under the same key it does nothing. What stands is posted
@@ -220,13 +221,13 @@ impl<T: Drop, P: Poller, C, R: Wait + Drop> EventSource<P, C, R> for Channel<T, 
         poll: &mut Poll<P, C, R>,
         factory: &mut TokenFactory,
     ) -> LoopResult<()> {
-        reregister(&self.rt, &self.shared, &mut self.twin, poll, factory)
+        reregister(&self.rt, &self.shared, &mut self.tally, poll, factory)
     }
 
     /// Takes the registration back. What stands is told after the next registration. Where the channel isn't registered
     /// the answer is `IoError` of kind `NotFound`, and nothing changes.
     fn unregister(&mut self, poll: &mut Poll<P, C, R>) -> LoopResult<()> {
-        unregister(&self.rt, &self.shared, &mut self.twin, poll)
+        unregister(&self.rt, &self.shared, &mut self.tally, poll)
     }
 
     /// It isn't told of waits.

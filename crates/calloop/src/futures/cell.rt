@@ -14,7 +14,7 @@ use calloop_wake::wake::executor::{ExecutorCore, PutRefusal, PutTask, TaskTurn};
 use calloop_wake::wake::homes::{DueReceipt, KeepingRight, PoppedTask};
 use calloop_wake::wake::locked::{Held, Locked};
 use calloop_wake::wake::tasks::TaskKey;
-use calloop_wake::wake::{ReceivingRight, TakenPass, Twin};
+use calloop_wake::wake::{ReceivingRight, TakenPass, Tally};
 use std::alloc::Global;
 use std::sync::Wait;
 
@@ -77,19 +77,19 @@ pub fn wake<R: Wait>(rt: &R, shared: &Locked<TaskCell>, key: TaskKey) {
 pub fn open_turn<R: Wait>(
     rt: &R,
     shared: &Locked<TaskCell>,
-    twin: &mut Twin,
+    tally: &mut Tally,
     pass: TakenPass,
 ) -> Result<TaskTurn, TakenPass>
-    requires { twin.old.name ≡ shared.now.slot }
+    requires { tally.old.name ≡ shared.now.slot }
     ensures ok { IfOk result
         (λ turn. (turn ≡ record { name = shared.now.slot; progress = at_start })
-        × (twin.new ≡ record twin.old { turns = twin.old.turns + 1 })) }
-    ensures err { IfErr result (λ refused. (refused ≡ record pass { refused = Some twin.old.name })
-        × (twin.new ≡ twin.old)) }
+        × (tally.new ≡ record tally.old { turns = tally.old.turns + 1 })) }
+    ensures err { IfErr result (λ refused. (refused ≡ record pass { refused = Some tally.old.name })
+        × (tally.new ≡ tally.old)) }
 {
     let mut held = shared.lock(rt);
     let cell = held.core();
-    let opened = cell.core.open_turn(pass, twin);
+    let opened = cell.core.open_turn(pass, tally);
     held.unlock();
     opened
 }
@@ -120,11 +120,11 @@ fn lock_at<'a, R: Wait>(rt: &R, shared: &'a Locked<TaskCell>, turn: &TaskTurn) -
 pub fn pop<R: Wait>(
     rt: &R,
     shared: &Locked<TaskCell>,
-    twin: &mut Twin,
+    tally: &mut Tally,
     turn: &mut TaskTurn,
     finished: bool,
 ) -> Option<PoppedTask>
-    requires names { (turn.old.name ≡ shared.now.slot) × (twin.old.name ≡ shared.now.slot) }
+    requires names { (turn.old.name ≡ shared.now.slot) × (tally.old.name ≡ shared.now.slot) }
     requires more { (turn.old.progress.dry ≡ false) × (turn.old.progress.pops < most_tasks) }
     requires finishes { finished ≡ true → IsSome turn.old.progress.polled }
     ensures name { turn.new.name ≡ turn.old.name }
@@ -133,11 +133,11 @@ pub fn pop<R: Wait>(
         × (turn.new.progress.dry ≡ false)) }
     ensures popped { IfSome result (λ popped. popped.name ≡ shared.now.slot) }
     ensures none { IfNone result (turn.new.progress.dry ≡ true) }
-    ensures twin { twin.new ≡ record twin.old { number = twin.old.number + one finished } }
+    ensures tally { tally.new ≡ record tally.old { number = tally.old.number + one finished } }
 {
     let mut held = lock_at(rt, shared, turn);
     let cell = held.core();
-    let popped = cell.core.pop(turn, twin, finished);
+    let popped = cell.core.pop(turn, tally, finished);
     held.unlock();
     popped
 }
@@ -146,18 +146,18 @@ pub fn pop<R: Wait>(
 pub fn end_turn<R: Wait>(
     rt: &R,
     shared: &Locked<TaskCell>,
-    twin: &mut Twin,
+    tally: &mut Tally,
     turn: TaskTurn,
     finished: bool,
 )
-    requires names { (turn.name ≡ shared.now.slot) × (twin.old.name ≡ shared.now.slot) }
+    requires names { (turn.name ≡ shared.now.slot) × (tally.old.name ≡ shared.now.slot) }
     requires over { (turn.progress.dry ≡ true) ⊎ (turn.progress.pops ≡ most_tasks) }
     requires finishes { finished ≡ true → IsSome turn.progress.polled }
-    ensures twin { twin.new ≡ record twin.old { number = twin.old.number + one finished } }
+    ensures tally { tally.new ≡ record tally.old { number = tally.old.number + one finished } }
 {
     let mut held = lock_at(rt, shared, &turn);
     let cell = held.core();
-    let debt = cell.core.end_turn(turn, twin, finished);
+    let debt = cell.core.end_turn(turn, tally, finished);
     let owed = cell.with_hub(rt, debt);
     held.unlock();
     settle(rt, owed);

@@ -6,7 +6,7 @@ use super::task::Pollable;
 use calloop_wake::wake::executor::PutRefusal;
 use calloop_wake::wake::homes::{DueReceipt, Homes, Place, PoppedTask, TakenFuture};
 use calloop_wake::wake::locked::Locked;
-use calloop_wake::wake::{Receipt, Twin};
+use calloop_wake::wake::{Receipt, Tally};
 use std::alloc::Global;
 use std::sync::{Arc, Wait};
 
@@ -50,20 +50,20 @@ pub(crate) fn keep<Fut: Drop, R: Wait + Drop>(
     (receipt, missed)
 }
 
-/// Takes the future of a task that was popped, for its poll. Where it is still to come, its scheduler is told so by `keep`, and the twin counts
+/// Takes the future of a task that was popped, for its poll. Where it is still to come, its scheduler is told so by `keep`, and the tally counts
 /// that.
 pub(crate) fn take<Fut: Drop, R: Wait + Drop>(
     rt: &R,
     homes: &Locked<Homes<Pollable<Fut, R>>>,
-    twin: &mut Twin,
+    tally: &mut Tally,
     popped: PoppedTask,
 ) -> Option<TakenFuture<Pollable<Fut, R>>>
-    requires { (popped.name ≡ homes.now.slot) × (twin.old.name ≡ homes.now.slot) }
-    ensures some { IfSome result (λ taken. (taken.task ≡ popped) × (twin.new ≡ twin.old)) }
-    ensures none { IfNone result (twin.new ≡ record twin.old { misses = twin.old.misses + 1 }) }
+    requires { (popped.name ≡ homes.now.slot) × (tally.old.name ≡ homes.now.slot) }
+    ensures some { IfSome result (λ taken. (taken.task ≡ popped) × (tally.new ≡ tally.old)) }
+    ensures none { IfNone result (tally.new ≡ record tally.old { misses = tally.old.misses + 1 }) }
 {
     let mut places = homes.lock(rt);
-    let taken = places.core().take(popped, twin);
+    let taken = places.core().take(popped, tally);
     places.unlock();
     taken
 }

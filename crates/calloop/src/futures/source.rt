@@ -21,7 +21,7 @@ use calloop_wake::token::{Token, TokenFactory};
 use calloop_wake::wake::executor::TaskTurn;
 use calloop_wake::wake::homes::{Homes, PoppedTask, TakenFuture};
 use calloop_wake::wake::locked::Locked;
-use calloop_wake::wake::{TakenPass, Twin};
+use calloop_wake::wake::{TakenPass, Tally};
 use std::sync::Wait;
 
 impl IntoError for ExecutorError {
@@ -43,7 +43,7 @@ impl IntoError for ExecutorError {
 fn poll_task<Fut, R, F, X, Q>(
     rt: &R,
     homes: &Locked<Homes<Pollable<Fut, R>>>,
-    twin: &mut Twin,
+    tally: &mut Tally,
     popped: PoppedTask,
     callback: &mut F,
     data: &mut X,
@@ -54,14 +54,14 @@ where
     Fut: Future<R>,
     Q: Asking,
     F: Callback<Fut::Output, (), (), X, Q>,
-    requires { (popped.name ≡ homes.now.slot) × (twin.old.name ≡ homes.now.slot) }
+    requires { (popped.name ≡ homes.now.slot) × (tally.old.name ≡ homes.now.slot) }
     ensures { (polled : OfPop Fut.Output) × (result ≡ gave polled)
         × ComesOf Fut.gives Fut.polls polled
-        × (twin.new ≡ record twin.old { misses = twin.old.misses + one (lacks polled) })
+        × (tally.new ≡ record tally.old { misses = tally.old.misses + one (lacks polled) })
         × Went F.may Q.reaches callback.old «data».old requests.old (call_of polled)
         callback.new «data».new requests.new }
 {
-    let Some(taken) = homes::take(rt, homes, twin, popped) else {
+    let Some(taken) = homes::take(rt, homes, tally, popped) else {
         return false;
     };
     let TakenFuture { future, task } = taken;
@@ -83,7 +83,7 @@ fn run_tasks<Fut, R, F, X, Q>(
     rt: &R,
     shared: &Locked<TaskCell>,
     homes: &Locked<Homes<Pollable<Fut, R>>>,
-    twin: &mut Twin,
+    tally: &mut Tally,
     turn: TaskTurn,
     callback: &mut F,
     data: &mut X,
@@ -95,12 +95,12 @@ where
     Q: Asking,
     F: Callback<Fut::Output, (), (), X, Q>,
     requires turn { turn ≡ record { name = shared.now.slot; progress = at_start } }
-    requires twin { twin.old.name ≡ shared.now.slot }
+    requires tally { tally.old.name ≡ shared.now.slot }
     requires homes { homes.now.slot ≡ shared.now.slot }
     ensures { (polled : List (OfPop Fut.Output)) × (length polled ≤ most_tasks)
-        × (twin.new ≡ record twin.old {
-          number = twin.old.number + results_of polled;
-          misses = twin.old.misses + misses_of polled;
+        × (tally.new ≡ record tally.old {
+          number = tally.old.number + results_of polled;
+          misses = tally.old.misses + misses_of polled;
         })
         × AllGiven (ComesOf Fut.gives Fut.polls) polled
         × Went F.may Q.reaches callback.old «data».old requests.old (calls_of polled)
@@ -109,12 +109,12 @@ where
     let mut turn = turn;
     let mut finished = false;
     'pops: while turn.goes_on() {
-        finished = match cell::pop(rt, shared, twin, &mut turn, finished) {
-            Some(popped) => poll_task(rt, homes, twin, popped, callback, data, requests),
+        finished = match cell::pop(rt, shared, tally, &mut turn, finished) {
+            Some(popped) => poll_task(rt, homes, tally, popped, callback, data, requests),
             None => false,
         };
     }
-    cell::end_turn(rt, shared, twin, turn, finished);
+    cell::end_turn(rt, shared, tally, turn, finished);
 }
 
 impl<Fut: Future<R>, R: Wait + Drop> Executor<Fut, R> {
@@ -122,7 +122,7 @@ impl<Fut: Future<R>, R: Wait + Drop> Executor<Fut, R> {
     fn is_own(&self, token: Token) -> bool
         ensures { result ≡ is_own (key_of token) self.now.key }
     {
-        is_mine(&self.twin, token)
+        is_mine(&self.tally, token)
     }
 
     // Opens a turn of its cell. The pass comes back as refused where it opens none.
@@ -133,7 +133,7 @@ impl<Fut: Future<R>, R: Wait + Drop> Executor<Fut, R> {
         ensures err { IfErr result (λ refused.
             (refused ≡ record pass { refused = Some self.old.name }) × (self.new ≡ self.old)) }
     {
-        cell::open_turn(&self.rt, &self.shared, &mut self.twin, pass)
+        cell::open_turn(&self.rt, &self.shared, &mut self.tally, pass)
     }
 
     // The pops of a turn, each with its poll.
@@ -161,7 +161,7 @@ impl<Fut: Future<R>, R: Wait + Drop> Executor<Fut, R> {
             &self.rt,
             &self.shared,
             &self.homes,
-            &mut self.twin,
+            &mut self.tally,
             turn,
             callback,
             data,
@@ -219,7 +219,7 @@ impl<Fut: Future<R>, P: Poller, C, R: Wait + Drop> EventSource<P, C, R> for Exec
     /// Where it is registered already the answer is `IoError` of kind `AlreadyExists`; a factory without tokens is
     /// `TooManyTokens`, and running out of memory `OutOfMemory`. A refusal leaves the executor and the board as they were.
     fn register(&mut self, poll: &mut Poll<P, C, R>, factory: &mut TokenFactory) -> LoopResult<()> {
-        register(&self.rt, &self.shared, &mut self.twin, poll, factory)
+        register(&self.rt, &self.shared, &mut self.tally, poll, factory)
     }
 
     /// Moves the registration to the factory's next token; under the same key it does nothing. What is queued is posted
@@ -233,13 +233,13 @@ impl<Fut: Future<R>, P: Poller, C, R: Wait + Drop> EventSource<P, C, R> for Exec
         poll: &mut Poll<P, C, R>,
         factory: &mut TokenFactory,
     ) -> LoopResult<()> {
-        reregister(&self.rt, &self.shared, &mut self.twin, poll, factory)
+        reregister(&self.rt, &self.shared, &mut self.tally, poll, factory)
     }
 
     /// Takes the registration back. What is queued is polled after the next registration. Where the executor isn't registered
     /// the answer is `IoError` of kind `NotFound`, and nothing changes.
     fn unregister(&mut self, poll: &mut Poll<P, C, R>) -> LoopResult<()> {
-        unregister(&self.rt, &self.shared, &mut self.twin, poll)
+        unregister(&self.rt, &self.shared, &mut self.tally, poll)
     }
 
     /// It isn't told of waits.

@@ -1,5 +1,5 @@
 //! What the two ends of an adapter share: its state and its socket, each under a lock of its own, of which none is taken within
-//! the other. Each end has its own twin with it, which notes what it did.
+//! the other. Each end has its own tally with it, which notes what it did.
 ghost use Rattle.std.specs.Prelude.{◌≡◌, [], ℕ, true, is_some, IfOk, IfErr, IfSome, IfNone, OnErr};
 ghost use Rattle.std.specs.Io.{ReadsAtMost, WritesAtMost};
 ghost use Rattle.std.specs.Arc.{arc_value};
@@ -14,7 +14,7 @@ ghost use Rattle.calloop.specs.Refusals.{IsAnswer, of_registration};
 
 use super::notes::Settled;
 use super::refusal::Refusal;
-use super::state::{Home, MarkDebt, PollTwin, SlotTwin, State, Waiting};
+use super::state::{Home, MarkDebt, PollTally, SlotTally, State, Waiting};
 use crate::futures::Waker;
 use calloop_core::sys::hub::{SharedHub, share};
 use calloop_core::sys::poll::Poll;
@@ -34,43 +34,43 @@ pub(crate) struct Shared<P: Poller, R: Wait + Drop> {
     io: Mutex<Option<P::Io>>,
 }
 
-/// What an `Async` has of its adapter. In a clause it is the twin.
+/// What an `Async` has of its adapter. In a clause it is the tally.
 pub(crate) struct PollEnd<P: Poller, R: Wait + Drop> {
     rt: R,
     shared: Arc<Shared<P, R>, Global>,
-    twin: PollTwin,
+    tally: PollTally,
 }
 
 impl<P: Poller, R: Wait + Drop> Model for PollEnd<P, R> {
     ghost use Rattle.std.specs.Prelude.{◌≡◌};
     ghost use Rattle.std.specs.Arc.{arc_value};
-    ghost use Rattle.calloop.specs.declared.io.state.PollTwin.{PollTwin};
+    ghost use Rattle.calloop.specs.declared.io.state.PollTally.{PollTally};
 
-    ghost Value = { PollTwin };
+    ghost Value = { PollTally };
 
-    ghost view = { λ e. e.twin };
+    ghost view = { λ e. e.tally };
 
-    ghost invariant = { λ e. e.twin.name ≡ (arc_value e.shared).state.slot };
+    ghost invariant = { λ e. e.tally.name ≡ (arc_value e.shared).state.slot };
 }
 
-/// What the end in a slot has of its adapter. In a clause it is the twin.
+/// What the end in a slot has of its adapter. In a clause it is the tally.
 #[derive(Drop)]
 pub(crate) struct SlotEnd<P: Poller, R: Wait + Drop> {
     rt: R,
     shared: Arc<Shared<P, R>, Global>,
-    twin: SlotTwin,
+    tally: SlotTally,
 }
 
 impl<P: Poller, R: Wait + Drop> Model for SlotEnd<P, R> {
     ghost use Rattle.std.specs.Prelude.{◌≡◌};
     ghost use Rattle.std.specs.Arc.{arc_value};
-    ghost use Rattle.calloop.specs.declared.io.state.SlotTwin.{SlotTwin};
+    ghost use Rattle.calloop.specs.declared.io.state.SlotTally.{SlotTally};
 
-    ghost Value = { SlotTwin };
+    ghost Value = { SlotTally };
 
-    ghost view = { λ e. e.twin };
+    ghost view = { λ e. e.tally };
 
-    ghost invariant = { λ e. e.twin.name ≡ (arc_value e.shared).state.slot };
+    ghost invariant = { λ e. e.tally.name ≡ (arc_value e.shared).state.slot };
 }
 
 /// Both ends of an adapter that is in no loop yet, without its socket. Running out of memory is `OutOfMemory`.
@@ -93,12 +93,12 @@ pub(crate) fn make_ends<P: Poller, R: Wait + Clone + Drop>(
     let slot = SlotEnd {
         rt: of_slot,
         shared: again,
-        twin: slot.into_twin(),
+        tally: slot.into_tally(),
     };
     let poll = PollEnd {
         rt: of_poll,
         shared,
-        twin: poll.into_twin(),
+        tally: poll.into_tally(),
     };
     Ok((slot, poll))
 }
@@ -128,14 +128,14 @@ fn put_mark<R: Wait + Drop>(
 fn take_refusal<R: Wait + Drop>(
     rt: &R,
     state: &Locked<State<R>>,
-    twin: &mut PollTwin,
+    tally: &mut PollTally,
 ) -> Option<Error>
-    requires { twin.old.name ≡ state.now.slot }
+    requires { tally.old.name ≡ state.now.slot }
     ensures refused { IfSome result (λ e. of_registration e ≡ true) }
-    ensures twin { twin.new ≡ with_poll_note (Refused result) twin.old }
+    ensures tally { tally.new ≡ with_poll_note (Refused result) tally.old }
 {
     let mut held = state.lock(rt);
-    let error = held.core().take_refusal(twin);
+    let error = held.core().take_refusal(tally);
     held.unlock();
     error
 }
@@ -143,16 +143,16 @@ fn take_refusal<R: Wait + Drop>(
 fn answer<R: Wait + Drop>(
     rt: &R,
     state: &Locked<State<R>>,
-    twin: &mut PollTwin,
+    tally: &mut PollTally,
     wanted: Interest,
 ) -> Option<LoopResult<()>>
-    requires { twin.old.name ≡ state.now.slot }
+    requires { tally.old.name ≡ state.now.slot }
     ensures refused { IfSome result IsAnswer }
-    ensures some { IfSome result (λ a. twin.new ≡ with_poll_note (Answered a) twin.old) }
-    ensures none { IfNone result (twin.new ≡ twin.old) }
+    ensures some { IfSome result (λ a. tally.new ≡ with_poll_note (Answered a) tally.old) }
+    ensures none { IfNone result (tally.new ≡ tally.old) }
 {
     let mut held = state.lock(rt);
-    let answer = held.core().answer(twin, wanted);
+    let answer = held.core().answer(tally, wanted);
     held.unlock();
     answer
 }
@@ -160,15 +160,15 @@ fn answer<R: Wait + Drop>(
 fn wait<R: Wait + Drop>(
     rt: &R,
     state: &Locked<State<R>>,
-    twin: &mut PollTwin,
+    tally: &mut PollTally,
     wanted: Interest,
     waker: Waker<R>,
 ) -> Result<(), AllocError>
-    requires { twin.old.name ≡ state.now.slot }
-    ensures { twin.new ≡ with_poll_note (Waits wanted) twin.old }
+    requires { tally.old.name ≡ state.now.slot }
+    ensures { tally.new ≡ with_poll_note (Waits wanted) tally.old }
 {
     let mut held = state.lock(rt);
-    let Waiting { older, debt } = held.core().wait(rt, twin, wanted, waker);
+    let Waiting { older, debt } = held.core().wait(rt, tally, wanted, waker);
     held.unlock();
     drop(older);
     put_mark(rt, state, debt)
@@ -177,25 +177,25 @@ fn wait<R: Wait + Drop>(
 fn answer_or_wait<R: Wait + Drop>(
     rt: &R,
     state: &Locked<State<R>>,
-    twin: &mut PollTwin,
+    tally: &mut PollTally,
     wanted: Interest,
     waker: Waker<R>,
 ) -> Result<Option<LoopResult<()>>, AllocError>
-    requires { twin.old.name ≡ state.now.slot }
+    requires { tally.old.name ≡ state.now.slot }
     ensures refused { IfOk result (λ answer. IfSome answer IsAnswer) }
     ensures some { IfOk result (λ answer. IfSome answer
-        (λ a. twin.new ≡ with_poll_note (Answered a) twin.old)) }
+        (λ a. tally.new ≡ with_poll_note (Answered a) tally.old)) }
     ensures none { IfOk result (λ answer. IfNone answer
-        (twin.new ≡ with_poll_note (Waits wanted) twin.old)) }
-    ensures err { OnErr result (twin.new ≡ with_poll_note (Waits wanted) twin.old) }
+        (tally.new ≡ with_poll_note (Waits wanted) tally.old)) }
+    ensures err { OnErr result (tally.new ≡ with_poll_note (Waits wanted) tally.old) }
 {
     let mut held = state.lock(rt);
-    let answer = held.core().answer(twin, wanted);
+    let answer = held.core().answer(tally, wanted);
     if let Some(answer) = answer {
         held.unlock();
         return Ok(Some(answer));
     }
-    let Waiting { older, debt } = held.core().wait(rt, twin, wanted, waker);
+    let Waiting { older, debt } = held.core().wait(rt, tally, wanted, waker);
     held.unlock();
     drop(older);
     put_mark(rt, state, debt)?;
@@ -206,24 +206,24 @@ fn answer_or_wait<R: Wait + Drop>(
 fn set_leaving<R: Wait + Drop>(
     rt: &R,
     state: &Locked<State<R>>,
-    twin: &PollTwin,
+    tally: &PollTally,
     leaving: bool,
 ) -> Option<RegistrationToken>
-    requires { twin.now.name ≡ state.now.slot }
+    requires { tally.now.name ≡ state.now.slot }
 {
     let mut held = state.lock(rt);
     let state = held.core();
     let token = state.registration();
-    state.set_leaving(twin, leaving && token.is_some());
+    state.set_leaving(tally, leaving && token.is_some());
     held.unlock();
     token
 }
 
-fn let_go<R: Wait + Drop>(rt: &R, state: &Locked<State<R>>, twin: PollTwin)
-    requires { twin.name ≡ state.now.slot }
+fn let_go<R: Wait + Drop>(rt: &R, state: &Locked<State<R>>, tally: PollTally)
+    requires { tally.name ≡ state.now.slot }
 {
     let mut held = state.lock(rt);
-    let debt = held.core().let_go(rt, twin);
+    let debt = held.core().let_go(rt, tally);
     held.unlock();
     // Where there is no memory for the mark, the adapter leaves with its loop.
     let _failed = put_mark(rt, state, debt);
@@ -234,38 +234,38 @@ fn let_go<R: Wait + Drop>(rt: &R, state: &Locked<State<R>>, twin: PollTwin)
 fn try_read<Io: Read + Drop, R: Wait>(
     rt: &R,
     io: &Mutex<Option<Io>>,
-    twin: &mut PollTwin,
+    tally: &mut PollTally,
     buf: &mut [u8],
 ) -> io::Result<usize>
     ensures bound { ReadsAtMost result buf.new }
-    ensures twin { twin.new ≡ with_poll_note (Tried result) twin.old }
+    ensures tally { tally.new ≡ with_poll_note (Tried result) tally.old }
 {
     let mut held = io.lock(rt);
-    twin.try_read(&mut *held, buf)
+    tally.try_read(&mut *held, buf)
 }
 
 fn try_write<Io: Write + Drop, R: Wait>(
     rt: &R,
     io: &Mutex<Option<Io>>,
-    twin: &mut PollTwin,
+    tally: &mut PollTally,
     buf: &[u8],
 ) -> io::Result<usize>
     ensures bound { WritesAtMost result buf.now }
-    ensures twin { twin.new ≡ with_poll_note (Tried result) twin.old }
+    ensures tally { tally.new ≡ with_poll_note (Tried result) tally.old }
 {
     let mut held = io.lock(rt);
-    twin.try_write(&mut *held, buf)
+    tally.try_write(&mut *held, buf)
 }
 
 fn try_flush<Io: Write + Drop, R: Wait>(
     rt: &R,
     io: &Mutex<Option<Io>>,
-    twin: &mut PollTwin,
+    tally: &mut PollTally,
 ) -> io::Result<()>
-    ensures twin { twin.new ≡ with_poll_note (Flushed result) twin.old }
+    ensures tally { tally.new ≡ with_poll_note (Flushed result) tally.old }
 {
     let mut held = io.lock(rt);
-    twin.try_flush(&mut *held)
+    tally.try_flush(&mut *held)
 }
 
 impl<P: Poller, R: Wait + Drop> PollEnd<P, R> {
@@ -277,12 +277,12 @@ impl<P: Poller, R: Wait + Drop> PollEnd<P, R> {
     /// A refusal that is kept, once.
     pub(crate) fn take_refusal(&mut self) -> Option<Error>
         ensures refused { IfSome result (λ e. of_registration e ≡ true) }
-        ensures twin { self.new ≡ with_poll_note (Refused result) self.old }
+        ensures tally { self.new ≡ with_poll_note (Refused result) self.old }
     {
-        take_refusal(&self.rt, &self.shared.state, &mut self.twin)
+        take_refusal(&self.rt, &self.shared.state, &mut self.tally)
     }
 
-    /// What a poll is answered; else it waits, and the loop is nudged.
+    /// What a poll is answered; else it waits, and the loop is woken.
     pub(crate) fn answer_or_wait(
         &mut self,
         wanted: Interest,
@@ -295,14 +295,14 @@ impl<P: Poller, R: Wait + Drop> PollEnd<P, R> {
             (self.new ≡ with_poll_note (Waits wanted) self.old)) }
         ensures err { OnErr result (self.new ≡ with_poll_note (Waits wanted) self.old) }
     {
-        answer_or_wait(&self.rt, &self.shared.state, &mut self.twin, wanted, waker)
+        answer_or_wait(&self.rt, &self.shared.state, &mut self.tally, wanted, waker)
     }
 
-    /// A poll waits, and the loop is nudged.
+    /// A poll waits, and the loop is woken.
     pub(crate) fn wait(&mut self, wanted: Interest, waker: Waker<R>) -> Result<(), AllocError>
         ensures { self.new ≡ with_poll_note (Waits wanted) self.old }
     {
-        wait(&self.rt, &self.shared.state, &mut self.twin, wanted, waker)
+        wait(&self.rt, &self.shared.state, &mut self.tally, wanted, waker)
     }
 
     /// Reads the socket.
@@ -310,9 +310,9 @@ impl<P: Poller, R: Wait + Drop> PollEnd<P, R> {
     where
         P::Io: Read,
         ensures bound { ReadsAtMost result buf.new }
-        ensures twin { self.new ≡ with_poll_note (Tried result) self.old }
+        ensures tally { self.new ≡ with_poll_note (Tried result) self.old }
     {
-        try_read(&self.rt, &self.shared.io, &mut self.twin, buf)
+        try_read(&self.rt, &self.shared.io, &mut self.tally, buf)
     }
 
     /// Writes to the socket.
@@ -320,92 +320,92 @@ impl<P: Poller, R: Wait + Drop> PollEnd<P, R> {
     where
         P::Io: Write,
         ensures bound { WritesAtMost result buf.now }
-        ensures twin { self.new ≡ with_poll_note (Tried result) self.old }
+        ensures tally { self.new ≡ with_poll_note (Tried result) self.old }
     {
-        try_write(&self.rt, &self.shared.io, &mut self.twin, buf)
+        try_write(&self.rt, &self.shared.io, &mut self.tally, buf)
     }
 
     /// Flushes the socket.
     pub(crate) fn try_flush(&mut self) -> io::Result<()>
     where
         P::Io: Write,
-        ensures twin { self.new ≡ with_poll_note (Flushed result) self.old }
+        ensures tally { self.new ≡ with_poll_note (Flushed result) self.old }
     {
-        try_flush(&self.rt, &self.shared.io, &mut self.twin)
+        try_flush(&self.rt, &self.shared.io, &mut self.tally)
     }
 
     /// Its registration, where it is in a loop, from where it may be taken out now.
     pub(crate) fn begin_leaving(&self) -> Option<RegistrationToken> {
-        set_leaving(&self.rt, &self.shared.state, &self.twin, true)
+        set_leaving(&self.rt, &self.shared.state, &self.tally, true)
     }
 
     /// It stays in its loop, if it is in one.
     pub(crate) fn stay(&self) {
-        let _token = set_leaving(&self.rt, &self.shared.state, &self.twin, false);
+        let _token = set_leaving(&self.rt, &self.shared.state, &self.tally, false);
     }
 
     /// The `Async` is gone.
     pub(crate) fn let_go(self) {
-        let PollEnd { rt, shared, twin } = self;
-        let_go(&rt, &shared.state, twin);
+        let PollEnd { rt, shared, tally } = self;
+        let_go(&rt, &shared.state, tally);
     }
 }
 
 // The sections that the end in a slot has.
 
-fn come_into<R: Wait + Drop>(rt: &R, state: &Locked<State<R>>, twin: &SlotTwin, home: Home)
-    requires { twin.now.name ≡ state.now.slot }
+fn come_into<R: Wait + Drop>(rt: &R, state: &Locked<State<R>>, tally: &SlotTally, home: Home)
+    requires { tally.now.name ≡ state.now.slot }
 {
     let mut held = state.lock(rt);
-    let debt = held.core().come_into(rt, twin, home);
+    let debt = held.core().come_into(rt, tally, home);
     held.unlock();
     let _failed = put_mark(rt, state, debt);
 }
 
-fn leave<R: Wait + Drop>(rt: &R, state: &Locked<State<R>>, twin: &SlotTwin)
-    requires { twin.now.name ≡ state.now.slot }
+fn leave<R: Wait + Drop>(rt: &R, state: &Locked<State<R>>, tally: &SlotTally)
+    requires { tally.now.name ≡ state.now.slot }
 {
     let mut held = state.lock(rt);
-    held.core().leave(twin);
+    held.core().leave(tally);
     held.unlock();
 }
 
-fn is_leaving<R: Wait + Drop>(rt: &R, state: &Locked<State<R>>, twin: &mut SlotTwin) -> bool
-    requires { twin.old.name ≡ state.now.slot }
-    ensures { twin.new ≡ with_slot_note (Asked result) twin.old }
+fn is_leaving<R: Wait + Drop>(rt: &R, state: &Locked<State<R>>, tally: &mut SlotTally) -> bool
+    requires { tally.old.name ≡ state.now.slot }
+    ensures { tally.new ≡ with_slot_note (Asked result) tally.old }
 {
     let mut held = state.lock(rt);
-    let leaving = held.core().is_leaving(twin);
+    let leaving = held.core().is_leaving(tally);
     held.unlock();
     leaving
 }
 
-fn settle<R: Wait + Drop>(rt: &R, state: &Locked<State<R>>, twin: &mut SlotTwin) -> Settled
-    requires { twin.old.name ≡ state.now.slot }
-    ensures { twin.new ≡ with_slot_note (SettledSo result) twin.old }
+fn settle<R: Wait + Drop>(rt: &R, state: &Locked<State<R>>, tally: &mut SlotTally) -> Settled
+    requires { tally.old.name ≡ state.now.slot }
+    ensures { tally.new ≡ with_slot_note (SettledSo result) tally.old }
 {
     let mut held = state.lock(rt);
-    let settled = held.core().settle(twin);
+    let settled = held.core().settle(tally);
     held.unlock();
     settled
 }
 
-fn refuse<R: Wait + Drop>(rt: &R, state: &Locked<State<R>>, twin: &mut SlotTwin, refusal: Refusal)
-    requires { twin.old.name ≡ state.now.slot }
-    ensures { twin.new ≡ with_slot_note (Kept refusal.error) twin.old }
+fn refuse<R: Wait + Drop>(rt: &R, state: &Locked<State<R>>, tally: &mut SlotTally, refusal: Refusal)
+    requires { tally.old.name ≡ state.now.slot }
+    ensures { tally.new ≡ with_slot_note (Kept refusal.error) tally.old }
 {
     let mut held = state.lock(rt);
-    let waking = held.core().refuse(twin, refusal);
+    let waking = held.core().refuse(tally, refusal);
     held.unlock();
     waking.wake();
 }
 
-fn hear<R: Wait + Drop>(rt: &R, state: &Locked<State<R>>, twin: &mut SlotTwin, found: Readiness)
-    requires { twin.old.name ≡ state.now.slot }
-    ensures { twin.new ≡ with_slot_note (Heard found) twin.old }
+fn hear<R: Wait + Drop>(rt: &R, state: &Locked<State<R>>, tally: &mut SlotTally, found: Readiness)
+    requires { tally.old.name ≡ state.now.slot }
+    ensures { tally.new ≡ with_slot_note (Heard found) tally.old }
 {
     let mut held = state.lock(rt);
-    let waking = held.core().hear(twin, found);
+    let waking = held.core().hear(tally, found);
     held.unlock();
     waking.wake();
 }
@@ -414,13 +414,13 @@ fn hear<R: Wait + Drop>(rt: &R, state: &Locked<State<R>>, twin: &mut SlotTwin, f
 fn register<P: Poller, C, R: Wait + Drop>(
     rt: &R,
     io: &Mutex<Option<P::Io>>,
-    twin: &mut SlotTwin,
+    tally: &mut SlotTally,
     entered: bool,
     token: Token,
     interest: Interest,
     poll: &mut Poll<P, C, R>,
 ) -> Option<LoopResult<()>>
-    ensures twin { twin.new ≡ with_slot_note (Reached (is_some result)) twin.old }
+    ensures tally { tally.new ≡ with_slot_note (Reached (is_some result)) tally.old }
     ensures none { IfNone result (poll_view poll.new ≡ poll_view poll.old) }
     ensures some { IfSome result (λ told. (socket : P.Io) × (after : P.Io)
         × DidEdit P.outside P.sockets (taking_up token entered interest)
@@ -429,7 +429,7 @@ fn register<P: Poller, C, R: Wait + Drop>(
     ensures ready { (more : ℕ) → IsReady more poll.old → IsReady more poll.new }
 {
     let mut held = io.lock(rt);
-    twin.reach(&*held);
+    tally.reach(&*held);
     match &mut *held {
         Some(io) if entered => Some(poll.reregister(io, token, interest, Mode::OneShot, token)),
         Some(io) => Some(poll.register(io, interest, Mode::OneShot, token)),
@@ -446,7 +446,7 @@ impl<P: Poller, R: Wait + Drop> SlotEnd<P, R> {
         interest: Interest,
         poll: &mut Poll<P, C, R>,
     ) -> Option<LoopResult<()>>
-        ensures twin { self.new ≡ with_slot_note (Reached (is_some result)) self.old }
+        ensures tally { self.new ≡ with_slot_note (Reached (is_some result)) self.old }
         ensures none { IfNone result (poll_view poll.new ≡ poll_view poll.old) }
         ensures some { IfSome result (λ told. (socket : P.Io) × (after : P.Io)
             × DidEdit P.outside P.sockets (taking_up token entered interest)
@@ -457,7 +457,7 @@ impl<P: Poller, R: Wait + Drop> SlotEnd<P, R> {
         register(
             &self.rt,
             &self.shared.io,
-            &mut self.twin,
+            &mut self.tally,
             entered,
             token,
             interest,
@@ -486,39 +486,39 @@ impl<P: Poller, R: Wait + Drop> SlotEnd<P, R> {
             hub: share(&self.rt, hub),
             token,
         };
-        come_into(&self.rt, &self.shared.state, &self.twin, home);
+        come_into(&self.rt, &self.shared.state, &self.tally, home);
     }
 
     /// It leaves its loop.
     pub(crate) fn leave(&self) {
-        leave(&self.rt, &self.shared.state, &self.twin);
+        leave(&self.rt, &self.shared.state, &self.tally);
     }
 
     /// Whether it is being given back.
     pub(crate) fn is_leaving(&mut self) -> bool
         ensures { self.new ≡ with_slot_note (Asked result) self.old }
     {
-        is_leaving(&self.rt, &self.shared.state, &mut self.twin)
+        is_leaving(&self.rt, &self.shared.state, &mut self.tally)
     }
 
     /// What the loop is to do with it.
     pub(crate) fn settle(&mut self) -> Settled
         ensures { self.new ≡ with_slot_note (SettledSo result) self.old }
     {
-        settle(&self.rt, &self.shared.state, &mut self.twin)
+        settle(&self.rt, &self.shared.state, &mut self.tally)
     }
 
     /// Keeps a refusal, and wakes who waits.
     pub(crate) fn refuse(&mut self, refusal: Refusal)
         ensures { self.new ≡ with_slot_note (Kept refusal.error) self.old }
     {
-        refuse(&self.rt, &self.shared.state, &mut self.twin, refusal);
+        refuse(&self.rt, &self.shared.state, &mut self.tally, refusal);
     }
 
     /// Keeps what was found, and wakes who waits.
     pub(crate) fn hear(&mut self, found: Readiness)
         ensures { self.new ≡ with_slot_note (Heard found) self.old }
     {
-        hear(&self.rt, &self.shared.state, &mut self.twin, found);
+        hear(&self.rt, &self.shared.state, &mut self.tally, found);
     }
 }

@@ -1,5 +1,5 @@
 //! What the two ends of an adapter know of it, beside its socket, under a lock with its name. What an end does there it notes in a value that
-//! nobody else has, its twin: so its contracts say what it did.
+//! nobody else has, its tally: so its contracts say what it did.
 ghost use Rattle.std.specs.Prelude.{◌≡◌, ◌++◌, ◌∷◌, [], None, Some, true, false, is_some, not, ◌&&◌, ◌||◌, IfSome, IfNone, option_map};
 ghost use Rattle.std.specs.Io.{ReadsAtMost, WritesAtMost};
 ghost use Rattle.calloop.specs.AdapterStates.{suits, fresh_state, error_of, answer_of, after_answer, after_wait, after_coming, after_drop, settled_by};
@@ -33,14 +33,14 @@ pub(crate) struct Home {
 
 /// What the `Async` of the adapter of this name did. There is one for each adapter, and it is spent where the `Async` is let go.
 #[must_use]
-pub struct PollTwin {
+pub struct PollTally {
     name: Name,
     notes: PollNotes,
 }
 
 /// What the end in a slot of the adapter of this name did. There is one for each adapter.
 #[derive(Drop)]
-pub struct SlotTwin {
+pub struct SlotTally {
     name: Name,
     notes: SlotNotes,
 }
@@ -155,12 +155,12 @@ fn not_there() -> io::Error {
 }
 
 impl PollRight {
-    /// The twin, which did nothing yet.
-    pub(crate) fn into_twin(self) -> PollTwin
+    /// The tally, which did nothing yet.
+    pub(crate) fn into_tally(self) -> PollTally
         ensures { result ≡ record { name = self.name; notes = [] } }
     {
         let PollRight { name } = self;
-        PollTwin {
+        PollTally {
             name,
             notes: PollNotes::none(),
         }
@@ -168,19 +168,19 @@ impl PollRight {
 }
 
 impl SlotRight {
-    /// The twin, which did nothing yet.
-    pub(crate) fn into_twin(self) -> SlotTwin
+    /// The tally, which did nothing yet.
+    pub(crate) fn into_tally(self) -> SlotTally
         ensures { result ≡ record { name = self.name; notes = [] } }
     {
         let SlotRight { name } = self;
-        SlotTwin {
+        SlotTally {
             name,
             notes: SlotNotes::none(),
         }
     }
 }
 
-impl PollTwin {
+impl PollTally {
     /// Reads the socket, where it is there, and notes the answer.
     pub(crate) fn try_read<Io: Read>(
         &mut self,
@@ -188,7 +188,7 @@ impl PollTwin {
         buf: &mut [u8],
     ) -> io::Result<usize>
         ensures bound { ReadsAtMost result buf.new }
-        ensures twin { self.new ≡ with_poll_note (Tried result) self.old }
+        ensures tally { self.new ≡ with_poll_note (Tried result) self.old }
     {
         let answer = match io {
             Some(io) => io.read(buf),
@@ -205,7 +205,7 @@ impl PollTwin {
         buf: &[u8],
     ) -> io::Result<usize>
         ensures bound { WritesAtMost result buf.now }
-        ensures twin { self.new ≡ with_poll_note (Tried result) self.old }
+        ensures tally { self.new ≡ with_poll_note (Tried result) self.old }
     {
         let answer = match io {
             Some(io) => io.write(buf),
@@ -217,7 +217,7 @@ impl PollTwin {
 
     /// Flushes the socket, where it is there, and notes the answer.
     pub(crate) fn try_flush<Io: Write>(&mut self, io: &mut Option<Io>) -> io::Result<()>
-        ensures twin { self.new ≡ with_poll_note (Flushed result) self.old }
+        ensures tally { self.new ≡ with_poll_note (Flushed result) self.old }
     {
         let answer = match io {
             Some(io) => io.flush(),
@@ -228,7 +228,7 @@ impl PollTwin {
     }
 }
 
-impl SlotTwin {
+impl SlotTally {
     /// Notes whether the socket is there.
     pub(crate) fn reach<Io>(&mut self, io: &Option<Io>)
         ensures { self.new ≡ with_slot_note (Reached (is_some io.now)) self.old }
@@ -263,18 +263,18 @@ impl<R: Wait + Drop> State<R> {
     }
 
     /// The refusal that is kept, once.
-    pub(crate) fn take_refusal(&mut self, twin: &mut PollTwin) -> Option<Error>
-        requires { twin.old.name ≡ self.old.name }
+    pub(crate) fn take_refusal(&mut self, tally: &mut PollTally) -> Option<Error>
+        requires { tally.old.name ≡ self.old.name }
         ensures gives { result ≡ option_map error_of self.old.refusal }
         ensures state { self.new ≡ record self.old { refusal = None } }
         ensures refused { IfSome result (λ e. of_registration e ≡ true) }
-        ensures twin { twin.new ≡ with_poll_note (Refused result) twin.old }
+        ensures tally { tally.new ≡ with_poll_note (Refused result) tally.old }
     {
         let error = match self.refusal.take() {
             Some(refusal) => Some(refusal.into_error()),
             None => None,
         };
-        twin.notes = twin.notes.and_refused(&error);
+        tally.notes = tally.notes.and_refused(&error);
         error
     }
 
@@ -296,16 +296,20 @@ impl<R: Wait + Drop> State<R> {
     }
 
     /// What a poll that waits for this is answered, once: a kept refusal first, and then what was found.
-    pub(crate) fn answer(&mut self, twin: &mut PollTwin, wanted: Interest) -> Option<LoopResult<()>>
-        requires { twin.old.name ≡ self.old.name }
+    pub(crate) fn answer(
+        &mut self,
+        tally: &mut PollTally,
+        wanted: Interest,
+    ) -> Option<LoopResult<()>>
+        requires { tally.old.name ≡ self.old.name }
         ensures answer { result ≡ answer_of self.old.refusal wanted self.old.readiness }
         ensures refused { IfSome result IsAnswer }
         ensures state { self.new ≡ after_answer self.old }
-        ensures some { IfSome result (λ a. twin.new ≡ with_poll_note (Answered a) twin.old) }
-        ensures none { IfNone result (twin.new ≡ twin.old) }
+        ensures some { IfSome result (λ a. tally.new ≡ with_poll_note (Answered a) tally.old) }
+        ensures none { IfNone result (tally.new ≡ tally.old) }
     {
         let answer = self.answer_to(wanted)?;
-        twin.notes = twin.notes.and_answered(&answer);
+        tally.notes = tally.notes.and_answered(&answer);
         Some(answer)
     }
 
@@ -333,17 +337,17 @@ impl<R: Wait + Drop> State<R> {
     pub(crate) fn wait(
         &mut self,
         rt: &R,
-        twin: &mut PollTwin,
+        tally: &mut PollTally,
         wanted: Interest,
         waker: Waker<R>,
     ) -> Waiting<R>
-        requires { twin.old.name ≡ self.old.name }
+        requires { tally.old.name ≡ self.old.name }
         ensures older { result.older ≡ self.old.waker }
         ensures owes { is_some result.debt ≡ (is_some self.old.home && not self.old.marked) }
         ensures state { self.new ≡ after_wait wanted waker self.old }
-        ensures twin { twin.new ≡ with_poll_note (Waits wanted) twin.old }
+        ensures tally { tally.new ≡ with_poll_note (Waits wanted) tally.old }
     {
-        twin.notes = twin.notes.and_waits(&wanted);
+        tally.notes = tally.notes.and_waits(&wanted);
         self.interest = Some(wanted);
         let older = mem::replace(&mut self.waker, Some(waker));
         let debt = self.mark(rt);
@@ -370,37 +374,37 @@ impl<R: Wait + Drop> State<R> {
     }
 
     /// It comes into a loop, where what was asked of it until then is taken up.
-    pub(crate) fn come_into(&mut self, rt: &R, twin: &SlotTwin, home: Home) -> Option<MarkDebt>
-        requires { twin.now.name ≡ self.old.name }
+    pub(crate) fn come_into(&mut self, rt: &R, tally: &SlotTally, home: Home) -> Option<MarkDebt>
+        requires { tally.now.name ≡ self.old.name }
         ensures owes { is_some result ≡ true }
         ensures state { self.new ≡ after_coming home self.old }
     {
-        let _ = twin;
+        let _ = tally;
         self.home = Some(home);
         self.marked = false;
         self.mark(rt)
     }
 
     /// It leaves its loop.
-    pub(crate) fn leave(&mut self, twin: &SlotTwin)
-        requires { twin.now.name ≡ self.old.name }
+    pub(crate) fn leave(&mut self, tally: &SlotTally)
+        requires { tally.now.name ≡ self.old.name }
         ensures { self.new ≡ record self.old { home = None; marked = false } }
     {
-        let _ = twin;
+        let _ = tally;
         self.home = None;
         self.marked = false;
     }
 
     /// It was taken from the marks: what the loop is to do.
-    pub(crate) fn settle(&mut self, twin: &mut SlotTwin) -> Settled
-        requires { twin.old.name ≡ self.old.name }
+    pub(crate) fn settle(&mut self, tally: &mut SlotTally) -> Settled
+        requires { tally.old.name ≡ self.old.name }
         ensures settled { result ≡ settled_by self.old.marked self.old.dropped self.old.interest }
         ensures state { self.new ≡ record self.old { marked = false } }
-        ensures twin { twin.new ≡ with_slot_note (SettledSo result) twin.old }
+        ensures tally { tally.new ≡ with_slot_note (SettledSo result) tally.old }
     {
         let settled = self.to_settle();
         self.marked = false;
-        twin.notes = twin.notes.and_settled(&settled);
+        tally.notes = tally.notes.and_settled(&settled);
         settled
     }
 
@@ -420,14 +424,14 @@ impl<R: Wait + Drop> State<R> {
     }
 
     /// Its registration was refused. Who waits is to be woken.
-    pub(crate) fn refuse(&mut self, twin: &mut SlotTwin, refusal: Refusal) -> Waking<R>
-        requires { twin.old.name ≡ self.old.name }
+    pub(crate) fn refuse(&mut self, tally: &mut SlotTally, refusal: Refusal) -> Waking<R>
+        requires { tally.old.name ≡ self.old.name }
         ensures wakes { result.waker ≡ self.old.waker }
         ensures state { self.new
             ≡ record self.old { refusal = Some refusal; interest = None; waker = None } }
-        ensures twin { twin.new ≡ with_slot_note (Kept refusal.error) twin.old }
+        ensures tally { tally.new ≡ with_slot_note (Kept refusal.error) tally.old }
     {
-        twin.notes = twin.notes.and_kept(refusal.error());
+        tally.notes = tally.notes.and_kept(refusal.error());
         self.refusal = Some(refusal);
         self.interest = None;
         Waking {
@@ -436,14 +440,14 @@ impl<R: Wait + Drop> State<R> {
     }
 
     /// An event came. Who waits is to be woken.
-    pub(crate) fn hear(&mut self, twin: &mut SlotTwin, found: Readiness) -> Waking<R>
-        requires { twin.old.name ≡ self.old.name }
+    pub(crate) fn hear(&mut self, tally: &mut SlotTally, found: Readiness) -> Waking<R>
+        requires { tally.old.name ≡ self.old.name }
         ensures wakes { result.waker ≡ self.old.waker }
         ensures state { self.new
             ≡ record self.old { readiness = found; interest = None; waker = None } }
-        ensures twin { twin.new ≡ with_slot_note (Heard found) twin.old }
+        ensures tally { tally.new ≡ with_slot_note (Heard found) tally.old }
     {
-        twin.notes = twin.notes.and_heard(&found);
+        tally.notes = tally.notes.and_heard(&found);
         self.readiness = found;
         self.interest = None;
         Waking {
@@ -452,32 +456,32 @@ impl<R: Wait + Drop> State<R> {
     }
 
     /// It is being given back, or that was refused.
-    pub(crate) fn set_leaving(&mut self, twin: &PollTwin, leaving: bool)
-        requires { twin.now.name ≡ self.old.name }
+    pub(crate) fn set_leaving(&mut self, tally: &PollTally, leaving: bool)
+        requires { tally.now.name ≡ self.old.name }
         ensures { self.new ≡ record self.old { leaving = leaving } }
     {
-        let _ = twin;
+        let _ = tally;
         self.leaving = leaving;
     }
 
     /// Whether it is being given back.
-    pub(crate) fn is_leaving(&self, twin: &mut SlotTwin) -> bool
-        requires { twin.old.name ≡ self.now.name }
+    pub(crate) fn is_leaving(&self, tally: &mut SlotTally) -> bool
+        requires { tally.old.name ≡ self.now.name }
         ensures answer { result ≡ self.now.leaving }
-        ensures twin { twin.new ≡ with_slot_note (Asked result) twin.old }
+        ensures tally { tally.new ≡ with_slot_note (Asked result) tally.old }
     {
         let leaving = self.leaving;
-        twin.notes = twin.notes.and_asked(&leaving);
+        tally.notes = tally.notes.and_asked(&leaving);
         leaving
     }
 
-    /// Its other end is gone, whose twin is spent.
-    pub(crate) fn let_go(&mut self, rt: &R, twin: PollTwin) -> Option<MarkDebt>
-        requires { twin.name ≡ self.old.name }
+    /// Its other end is gone, whose tally is spent.
+    pub(crate) fn let_go(&mut self, rt: &R, tally: PollTally) -> Option<MarkDebt>
+        requires { tally.name ≡ self.old.name }
         ensures owes { is_some result ≡ (is_some self.old.home && not self.old.marked) }
         ensures state { self.new ≡ after_drop self.old }
     {
-        let PollTwin { name: _, notes: _ } = twin;
+        let PollTally { name: _, notes: _ } = tally;
         self.dropped = true;
         self.mark(rt)
     }

@@ -1,13 +1,13 @@
 //! The sections of the lock of a ping's cell that no other kind of cell has.
 ghost use Rattle.std.specs.Prelude.{◌≡◌, None, Some, IfOk, IfErr};
 ghost use Rattle.calloop_wake.specs.declared.error.Error.TheVariants.{OutOfMemory};
-ghost use Rattle.calloop.specs.Pings.{twin_opened};
+ghost use Rattle.calloop.specs.Pings.{tally_opened};
 
 use crate::cell::{Cell, settle};
 use calloop_wake::error::Result as LoopResult;
 use calloop_wake::wake::locked::Locked;
 use calloop_wake::wake::ping::{OpenedTurn, PingCore};
-use calloop_wake::wake::{Receipt, ReceivingRight, TakenPass, Twin};
+use calloop_wake::wake::{Receipt, ReceivingRight, TakenPass, Tally};
 use std::alloc::Global;
 use std::sync::Wait;
 
@@ -49,18 +49,18 @@ pub struct Due {
 pub fn take_turn<R: Wait>(
     rt: &R,
     shared: &Locked<PingCell>,
-    twin: &mut Twin,
+    tally: &mut Tally,
     pass: TakenPass,
 ) -> Result<Due, TakenPass>
-    requires { twin.old.name ≡ shared.now.slot }
-    ensures name { twin.new.name ≡ twin.old.name }
-    ensures ok { IfOk result (λ due. twin.new ≡ twin_opened due.rung due.told twin.old) }
-    ensures err { IfErr result (λ refused. (refused ≡ record pass { refused = Some twin.old.name })
-        × (twin.new ≡ twin.old)) }
+    requires { tally.old.name ≡ shared.now.slot }
+    ensures name { tally.new.name ≡ tally.old.name }
+    ensures ok { IfOk result (λ due. tally.new ≡ tally_opened due.rung due.told tally.old) }
+    ensures err { IfErr result (λ refused. (refused ≡ record pass { refused = Some tally.old.name })
+        × (tally.new ≡ tally.old)) }
 {
     let mut held = shared.lock(rt);
     let cell = held.core();
-    let (taken, debt) = match cell.core.open_turn(pass, twin) {
+    let (taken, debt) = match cell.core.open_turn(pass, tally) {
         Ok(OpenedTurn { turn, rung, told }) => {
             (Ok(Due { rung, told }), cell.core.end_turn(turn))
         }

@@ -4,7 +4,7 @@ ghost use Rattle.calloop_wake.specs.Tokens.{key_of};
 ghost use Rattle.calloop_wake.specs.Cells.{is_own};
 ghost use Rattle.calloop_core.specs.Calls.{Went};
 ghost use Rattle.calloop_core.specs.Marks.{IsRegisteredBy};
-ghost use Rattle.calloop.specs.Pings.{calls_of, action_of, twin_opened, ping_meaning};
+ghost use Rattle.calloop.specs.Pings.{calls_of, action_of, tally_opened, ping_meaning};
 
 use super::PingSource;
 use super::cell::{self, Due};
@@ -66,10 +66,10 @@ pub(crate) fn action_of(told: bool) -> PostAction
     }
 }
 
-/// A ping is registered from a registration that succeeds until one is taken back, as its twin's key shows. So the law
+/// A ping is registered from a registration that succeeds until one is taken back, as its tally's key shows. So the law
 /// `at_most_one_is_registered` holds of a wrapper of pings.
 pub fn is_registered_by_its_calls<P: Poller, R: Wait + Drop>()
-    ensures { IsRegisteredBy (ping_meaning {P = P}) (λ twin. is_some twin.key) }
+    ensures { IsRegisteredBy (ping_meaning {P = P}) (λ tally. is_some tally.key) }
 {}
 
 impl<R: Wait + Drop> PingSource<R> {
@@ -77,17 +77,17 @@ impl<R: Wait + Drop> PingSource<R> {
     pub(crate) fn is_own(&self, token: Token) -> bool
         ensures { result ≡ is_own (key_of token) self.now.key }
     {
-        is_mine(&self.twin, token)
+        is_mine(&self.tally, token)
     }
 
     // A turn of its cell. The pass comes back as refused where it opens none.
     pub(crate) fn take_turn(&mut self, pass: TakenPass) -> Result<Due, TakenPass>
         ensures name { self.new.name ≡ self.old.name }
-        ensures ok { IfOk result (λ due. self.new ≡ twin_opened due.rung due.told self.old) }
+        ensures ok { IfOk result (λ due. self.new ≡ tally_opened due.rung due.told self.old) }
         ensures err { IfErr result (λ refused.
             (refused ≡ record pass { refused = Some self.old.name }) × (self.new ≡ self.old)) }
     {
-        cell::take_turn(&self.rt, &self.shared, &mut self.twin, pass)
+        cell::take_turn(&self.rt, &self.shared, &mut self.tally, pass)
     }
 }
 
@@ -143,7 +143,7 @@ impl<P: Poller, C, R: Wait + Drop> EventSource<P, C, R> for PingSource<R> {
     /// Where it is registered already the answer is `IoError` of kind `AlreadyExists`; a factory without tokens is
     /// `TooManyTokens`, and running out of memory `OutOfMemory`. A refusal leaves the ping and the board as they were.
     fn register(&mut self, poll: &mut Poll<P, C, R>, factory: &mut TokenFactory) -> LoopResult<()> {
-        register(&self.rt, &self.shared, &mut self.twin, poll, factory)
+        register(&self.rt, &self.shared, &mut self.tally, poll, factory)
     }
 
     /// Moves the registration to the factory's next token; under the same key it does nothing. What stands is posted
@@ -157,13 +157,13 @@ impl<P: Poller, C, R: Wait + Drop> EventSource<P, C, R> for PingSource<R> {
         poll: &mut Poll<P, C, R>,
         factory: &mut TokenFactory,
     ) -> LoopResult<()> {
-        reregister(&self.rt, &self.shared, &mut self.twin, poll, factory)
+        reregister(&self.rt, &self.shared, &mut self.tally, poll, factory)
     }
 
     /// Takes the registration back. What stands is told after the next registration. Where the ping isn't registered
     /// the answer is `IoError` of kind `NotFound`, and nothing changes.
     fn unregister(&mut self, poll: &mut Poll<P, C, R>) -> LoopResult<()> {
-        unregister(&self.rt, &self.shared, &mut self.twin, poll)
+        unregister(&self.rt, &self.shared, &mut self.tally, poll)
     }
 
     /// It isn't told of waits.

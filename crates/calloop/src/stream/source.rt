@@ -88,17 +88,18 @@ fn action_of(ending: Ending) -> PostAction
 impl<S: Stream<R>, R: Wait + Drop> StreamSource<S, R> {
     // Whether the token is that under which it is registered.
     fn is_own(&self, token: Token) -> bool
-        ensures { result ≡ is_own (key_of token) self.now.twin.key }
+        ensures { result ≡ is_own (key_of token) self.now.tally.key }
     {
         self.source.is_own(token)
     }
 
     // A turn of its ping's cell. The pass comes back as refused where it opens none.
     fn take_turn(&mut self, pass: TakenPass) -> Result<Due, TakenPass>
-        ensures name { self.new.twin.name ≡ self.old.twin.name }
+        ensures name { self.new.tally.name ≡ self.old.tally.name }
         ensures ok { IfOk result (λ due. self.new ≡ with_stream_turn due.rung due.told self.old) }
         ensures err { IfErr result (λ refused.
-            (refused ≡ record pass { refused = Some self.old.twin.name }) × (self.new ≡ self.old)) }
+            (refused ≡ record pass { refused = Some self.old.tally.name })
+            × (self.new ≡ self.old)) }
     {
         self.source.take_turn(pass)
     }
@@ -114,9 +115,9 @@ impl<S: Stream<R>, R: Wait + Drop> StreamSource<S, R> {
     where
         Q: Asking,
         F: Callback<Option<S::Item>, (), (), X, Q>,
-        ensures twin { self.new.twin ≡ self.old.twin }
+        ensures tally { self.new.tally ≡ self.old.tally }
         ensures reads { (items : List S.Item) × (ending : Ending) × (calls : StreamCalls S.Item)
-            × ReadsSo S.polls self.old.twin.name rung self.old.reading.stream items ending
+            × ReadsSo S.polls self.old.tally.name rung self.old.reading.stream items ending
             self.old.reading calls result self.new.reading
             × Went F.may Q.reaches callback.old «data».old requests.old calls
             callback.new «data».new requests.new }
@@ -146,7 +147,7 @@ impl<S: Stream<R>, P: Poller, C, R: Wait + Drop> EventSource<P, C, R> for Stream
 
     type Error = StreamError;
 
-    ghost means = { stream_meaning S.polls (λ s. s.twin) (λ s. s.reading) (λ s t. t.twin.name ≡ s.twin.name) };
+    ghost means = { stream_meaning S.polls (λ s. s.tally) (λ s. s.reading) (λ s t. t.tally.name ≡ s.tally.name) };
 
     /// Its turn: where its ping stands, polls the stream and calls back with each item, until it is pending, or at most 1,024 times; then
     /// it asks for another turn. The end is called back as `None`, once, and removes the source. An event of another token, or without a
@@ -184,7 +185,7 @@ impl<S: Stream<R>, P: Poller, C, R: Wait + Drop> EventSource<P, C, R> for Stream
     /// The refusals are those of `PingSource::register`; each leaves the stream and the board as they were.
     fn register(&mut self, poll: &mut Poll<P, C, R>, factory: &mut TokenFactory) -> LoopResult<()> {
         let source = &mut self.source;
-        register(&source.rt, &source.shared, &mut source.twin, poll, factory)
+        register(&source.rt, &source.shared, &mut source.tally, poll, factory)
     }
 
     /// Moves the registration to the factory's next token; under the same key it does nothing. What stands is posted
@@ -197,14 +198,14 @@ impl<S: Stream<R>, P: Poller, C, R: Wait + Drop> EventSource<P, C, R> for Stream
         factory: &mut TokenFactory,
     ) -> LoopResult<()> {
         let source = &mut self.source;
-        reregister(&source.rt, &source.shared, &mut source.twin, poll, factory)
+        reregister(&source.rt, &source.shared, &mut source.tally, poll, factory)
     }
 
     /// Takes the registration back. A wake that stands is told after the next registration. Where the stream isn't registered
     /// the answer is `IoError` of kind `NotFound`, and nothing changes.
     fn unregister(&mut self, poll: &mut Poll<P, C, R>) -> LoopResult<()> {
         let source = &mut self.source;
-        unregister(&source.rt, &source.shared, &mut source.twin, poll)
+        unregister(&source.rt, &source.shared, &mut source.tally, poll)
     }
 
     /// It isn't told of waits.
@@ -222,5 +223,5 @@ impl<S: Stream<R>, P: Poller, C, R: Wait + Drop> EventSource<P, C, R> for Stream
 
     fn before_handle_events(&mut self, _events: EventIterator<'_>) {}
 
-    ghost keeps = { stream_keeps S.polls (λ s. s.twin) (λ s. s.reading) (λ s t. t.twin.name ≡ s.twin.name) };
+    ghost keeps = { stream_keeps S.polls (λ s. s.tally) (λ s. s.reading) (λ s t. t.tally.name ≡ s.tally.name) };
 }

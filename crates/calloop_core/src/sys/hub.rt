@@ -108,16 +108,16 @@ impl Hub {
         held.unlock();
     }
 
-    /// Posts the key of a debt to this board, and spends the nudge that this gives, outside the lock. It takes no memory.
+    /// Posts the key of a debt to this board, and spends the wakeup that this gives, outside the lock. It takes no memory.
     pub fn settle<R: Wait>(&self, rt: &R, debt: Debt)
         requires { debt.board ≡ self.now }
     {
         let mut held = self.board.lock(rt);
         let board = held.core();
-        let nudge = board.post(debt);
+        let wakeup = board.post(debt);
         held.unlock();
-        if let Some(nudge) = nudge {
-            nudge.spend(&self.notifier);
+        if let Some(wakeup) = wakeup {
+            wakeup.spend(&self.notifier);
         }
     }
 
@@ -169,7 +169,7 @@ impl Hub {
         held.unlock();
     }
 
-    /// Marks an adapter, which is to be settled before the next wait, and spends the nudge that this gives, outside the lock. Want of
+    /// Marks an adapter, which is to be settled before the next wait, and spends the wakeup that this gives, outside the lock. Running out of
     /// memory marks nothing.
     pub fn mark<R: Wait>(
         &self,

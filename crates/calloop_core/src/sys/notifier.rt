@@ -59,7 +59,7 @@ impl LazyWaker {
 }
 
 /// Wakes the poller that it is of, from any thread: a wait of the machine's ends, or else its next one does at once. A scripted one
-/// only notes it, as `ScriptPoller::is_nudged` shows.
+/// only notes it, as `ScriptPoller::is_woken` shows.
 #[derive(Drop)]
 pub enum Notifier {
     /// That of a scripted poller: its signal.

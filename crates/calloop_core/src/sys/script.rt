@@ -233,8 +233,8 @@ impl ScriptPoller {
         self.waits.as_slice()
     }
 
-    /// Whether a nudge came since the last wait.
-    pub fn is_nudged(&self) -> bool {
+    /// Whether a wakeup came since the last wait.
+    pub fn is_woken(&self) -> bool {
         self.signal.load(Ordering::SeqCst)
     }
 

@@ -36,13 +36,13 @@ fn what_was_settled_does_not_come_again(rt: HostRuntime) {
 }
 
 #[test]
-fn each_mark_nudges_the_loop(rt: HostRuntime) {
+fn each_mark_wakes_the_loop(rt: HostRuntime) {
     let mut bell = Bell::new(&rt);
-    assert!(rt; !bell.is_nudged());
-    assert!(rt; bell.marks_as(1) && bell.is_nudged());
-    assert!(rt; bell.marks_as(2) && bell.is_nudged());
-    assert!(rt; bell.takes(&[1, 2]) && !bell.is_nudged());
-    assert!(rt; bell.marks_as(1) && bell.is_nudged());
+    assert!(rt; !bell.is_woken());
+    assert!(rt; bell.marks_as(1) && bell.is_woken());
+    assert!(rt; bell.marks_as(2) && bell.is_woken());
+    assert!(rt; bell.takes(&[1, 2]) && !bell.is_woken());
+    assert!(rt; bell.marks_as(1) && bell.is_woken());
 }
 
 #[test]
@@ -119,20 +119,20 @@ impl<R: Wait + Drop> Desk<R> {
     }
 }
 
-// A hub with room for four marks, whose nudges are noted.
+// A hub with room for four marks, whose wakeups are noted.
 #[derive(Drop)]
 struct Bell<R: Wait + Drop> {
     rt: R,
     hub: Hub,
     watch: Watch,
-    nudged: Arc<AtomicBool, Global>,
+    woken: Arc<AtomicBool, Global>,
     ghost own: { watch.name ≡ hub },
 }
 
 impl<R: AllocGlobal + Wait + Clone + Drop + Abort> Bell<R> {
     fn new(rt: &R) -> Bell<R> {
-        let nudged = Arc::new(rt.alloc(), AtomicBool::new(false)).expect(rt, "a signal");
-        let again = Arc::try_clone(&nudged).expect(rt, "a signal");
+        let woken = Arc::new(rt.alloc(), AtomicBool::new(false)).expect(rt, "a signal");
+        let again = Arc::try_clone(&woken).expect(rt, "a signal");
         let (hub, watch) = Hub::new(rt.alloc(), Notifier::Script(again)).expect(rt, "a hub");
         for _ in 0..4u32 {
             hub.open_mark(rt).expect(rt, "room");
@@ -141,7 +141,7 @@ impl<R: AllocGlobal + Wait + Clone + Drop + Abort> Bell<R> {
             rt: rt.clone().expect(rt, "a runtime"),
             hub,
             watch,
-            nudged,
+            woken,
         }
     }
 }
@@ -162,9 +162,9 @@ impl<R: Wait + Drop> Bell<R> {
         are_these
     }
 
-    // Whether the loop was nudged since this was asked before.
-    fn is_nudged(&self) -> bool {
-        self.nudged.swap(false, Ordering::SeqCst)
+    // Whether the loop was woken since this was asked before.
+    fn is_woken(&self) -> bool {
+        self.woken.swap(false, Ordering::SeqCst)
     }
 }
 

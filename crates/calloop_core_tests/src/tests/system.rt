@@ -92,7 +92,7 @@ fn a_socket_whose_peer_hung_up_is_ready_for_both(rt: HostRuntime) {
 }
 
 #[test]
-fn a_nudge_ends_a_wait_without_an_event(rt: HostRuntime) {
+fn a_wakeup_ends_a_wait_without_an_event(rt: HostRuntime) {
     let mut desk = Desk::new(&rt);
     let notifier = desk.poller.notifier().expect(&rt, "a notifier");
     notifier.notify();

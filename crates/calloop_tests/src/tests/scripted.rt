@@ -157,7 +157,9 @@ where
     }
     let is_joined = child.join(rt);
     calls = calls.saturating_add(calls_in(&mut table));
-    let is_closed = table.is_gone(token) && !table.was_asked(&[]) && table.says(time(Some(100)), &[]);
+    let is_closed = table.is_gone(token)
+        && !table.was_asked(&[])
+        && table.says(time(Some(100)), &[]);
     Some(is_joined && is_closed && calls >= 1 && calls <= 1000 && table.was_asked(&[Some(100)]))
 }
 

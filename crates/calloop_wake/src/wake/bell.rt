@@ -1,11 +1,11 @@
 //! The bell of a cell: what each kind of cell has of a ping.
 ghost use Rattle.std.specs.Prelude.{◌≡◌, ◌+◌, ◌-◌, ◌<◌, ◌^◌, ◌&&◌, ◌||◌, not, true, false, None, Some, IfOk, IfErr, if◌then◌else◌};
-ghost use Rattle.calloop_wake.specs.Cells.{fresh_twin, fresh, one, opens, debt_of, owed_at, owed_by_drop, after_close, after_add_sender, after_drop_sender, after_set_key, after_clear_key};
+ghost use Rattle.calloop_wake.specs.Cells.{fresh_tally, fresh, one, opens, debt_of, owed_at, owed_by_drop, after_close, after_add_sender, after_drop_sender, after_set_key, after_clear_key};
 ghost use Rattle.calloop_wake.specs.Bells.{bell_with, after_ping, after_drain, after_end, owed_if, after_tell};
 ghost use Rattle.calloop_wake.specs.Passes.{on};
 
 use super::ghosts::Name;
-use super::{Debt, LeaveToClose, OpenedPass, ReceivingRight, Sender, Twin};
+use super::{Debt, LeaveToClose, OpenedPass, ReceivingRight, Sender, Tally};
 use std::alloc::AllocError;
 use std::marker::Model;
 
@@ -135,10 +135,10 @@ impl Bell {
         debt
     }
 
-    pub(super) fn receiver(&self, right: ReceivingRight) -> Twin
-        ensures { result ≡ fresh_twin right.name }
+    pub(super) fn receiver(&self, right: ReceivingRight) -> Tally
+        ensures { result ≡ fresh_tally right.name }
     {
-        Twin::new(right)
+        Tally::new(right)
     }
 
     pub(super) fn add_sender(&mut self) -> Result<Sender, AllocError>
@@ -185,9 +185,9 @@ impl Bell {
     pub(super) fn set_key(
         &mut self,
         pass: OpenedPass,
-        twin: &mut Twin,
+        tally: &mut Tally,
     ) -> (Option<Debt>, Option<LeaveToClose>)
-        ensures twin { twin.new ≡ record twin.old { key = Some pass.key } }
+        ensures tally { tally.new ≡ record tally.old { key = Some pass.key } }
         ensures bell { self.new ≡ record {
           cell = after_set_key pass.key self.old.cell;
           name = self.old.name;
@@ -200,7 +200,7 @@ impl Bell {
         let leave = self.take_key();
         self.key = Some(key);
         self.board = board.again();
-        twin.key = Some(key);
+        tally.key = Some(key);
         if self.pinged {
             (Some(Debt { key, board }), leave)
         } else {
@@ -219,20 +219,20 @@ impl Bell {
         })
     }
 
-    pub(super) fn clear_key(&mut self, twin: &mut Twin) -> Option<LeaveToClose>
-        ensures twin { twin.new ≡ record twin.old { key = None } }
+    pub(super) fn clear_key(&mut self, tally: &mut Tally) -> Option<LeaveToClose>
+        ensures tally { tally.new ≡ record tally.old { key = None } }
         ensures bell { self.new ≡ bell_with (after_clear_key false self.old.cell) self.old }
         ensures leaves { result ≡ on self.old.board self.old.cell.key }
     {
-        twin.key = None;
+        tally.key = None;
         self.take_key()
     }
 
-    pub(super) fn abandon(&mut self, twin: Twin) -> Option<LeaveToClose>
+    pub(super) fn abandon(&mut self, tally: Tally) -> Option<LeaveToClose>
         ensures bell { self.new ≡ bell_with (after_clear_key true self.old.cell) self.old }
         ensures leaves { result ≡ on self.old.board self.old.cell.key }
     {
-        twin.end();
+        tally.end();
         self.gone = true;
         self.take_key()
     }

@@ -10,7 +10,7 @@ ghost use Rattle.calloop_wake.specs.declared.wake.board.OpenRefusal.TheVariants.
 
 use super::ghosts::Name;
 use super::places::Places;
-use super::{LeaveToSleep, Nudge, TakenPass};
+use super::{LeaveToSleep, TakenPass, Wakeup};
 use crate::steps::Steps;
 use std::alloc::Global;
 use std::collections::VecDeque;
@@ -188,13 +188,13 @@ impl Board {
         close(&mut self.places, &mut self.posted, key);
     }
 
-    /// Marks a key, where its place is open, and gives a nudge exactly where that set a mark anew.
-    pub(crate) fn post(&mut self, key: u64) -> Option<Nudge>
+    /// Marks a key, where its place is open, and gives a wakeup exactly where that set a mark anew.
+    pub(crate) fn post(&mut self, key: u64) -> Option<Wakeup>
         ensures board { self.new ≡ after_post key self.old }
-        ensures nudges { is_some result ≡ wakes key self.old }
+        ensures wakeups { is_some result ≡ wakes key self.old }
     {
         if mark(&mut self.places, &mut self.posted, key) {
-            Some(Nudge { of_wake: () })
+            Some(Wakeup { of_wake: () })
         } else {
             None
         }

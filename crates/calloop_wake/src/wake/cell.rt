@@ -1,11 +1,11 @@
 //! What every kind of cell can do.
 ghost use Rattle.std.specs.Prelude.{◌≡◌, Option, None, Some, IfOk, IfSome};
-ghost use Rattle.calloop_wake.specs.Cells.{fresh_twin};
+ghost use Rattle.calloop_wake.specs.Cells.{fresh_tally};
 ghost use Rattle.logbook.specs.Pages.{Book};
 ghost use Rattle.calloop_wake.specs.Passes.{Keyed};
 
 use super::locked::Core;
-use super::{Debt, LeaveToClose, OpenedPass, ReceivingRight, Sender, Twin};
+use super::{Debt, LeaveToClose, OpenedPass, ReceivingRight, Sender, Tally};
 use std::alloc::AllocError;
 
 /// The core of a cell: its senders, its receiving end, and the key under which its loop is told of it. A kind of cell has steps
@@ -21,9 +21,9 @@ pub trait CellCore: Core {
     ghost named_by: { Self.Tag → Book };
 
     /// The receiving end, which gave the cell no key yet and opened no turn.
-    fn receiver(&self, right: ReceivingRight) -> Twin
+    fn receiver(&self, right: ReceivingRight) -> Tally
         requires { right.name ≡ name_of self.now }
-        ensures { result ≡ fresh_twin (name_of self.now) };
+        ensures { result ≡ fresh_tally (name_of self.now) };
 
     /// One sender more. It is refused exactly where there are 2^64 - 1, and then nothing changes.
     fn add_sender(&mut self) -> Result<Sender, AllocError>
@@ -40,9 +40,13 @@ pub trait CellCore: Core {
 
     /// Gives the cell the key of a place that was opened, as calloop registers the descriptor under a token. First comes what is owed
     /// under the new key, and then the leave to close the place of the key that it had.
-    fn set_key(&mut self, pass: OpenedPass, twin: &mut Twin) -> (Option<Debt>, Option<LeaveToClose>)
-        requires { twin.old.name ≡ name_of self.old }
-        ensures twin { twin.new ≡ record twin.old { key = Some pass.key } }
+    fn set_key(
+        &mut self,
+        pass: OpenedPass,
+        tally: &mut Tally,
+    ) -> (Option<Debt>, Option<LeaveToClose>)
+        requires { tally.old.name ≡ name_of self.old }
+        ensures tally { tally.new ≡ record tally.old { key = Some pass.key } }
         ensures fits { (tag : Self.Tag) → Self.fits tag self.old → Self.fits tag self.new }
         ensures place { place_of self.new ≡ Some pass }
         ensures owes { IfSome result.0 (λ debt. debt ≡ pass) }
@@ -50,16 +54,16 @@ pub trait CellCore: Core {
 
     /// Takes the cell's key back, as calloop takes the descriptor out of the poller. What is due stays so. It gives the leave to close
     /// the place of the key, where the cell had one.
-    fn clear_key(&mut self, twin: &mut Twin) -> Option<LeaveToClose>
-        requires { twin.old.name ≡ name_of self.old }
-        ensures twin { twin.new ≡ record twin.old { key = None } }
+    fn clear_key(&mut self, tally: &mut Tally) -> Option<LeaveToClose>
+        requires { tally.old.name ≡ name_of self.old }
+        ensures tally { tally.new ≡ record tally.old { key = None } }
         ensures fits { (tag : Self.Tag) → Self.fits tag self.old → Self.fits tag self.new }
         ensures place { place_of self.new ≡ None }
         ensures leaves { result ≡ place_of self.old };
 
     /// The receiving end goes: the same, and nobody will take what is due.
-    fn abandon(&mut self, twin: Twin) -> Option<LeaveToClose>
-        requires { twin.name ≡ name_of self.old }
+    fn abandon(&mut self, tally: Tally) -> Option<LeaveToClose>
+        requires { tally.name ≡ name_of self.old }
         ensures fits { (tag : Self.Tag) → Self.fits tag self.old → Self.fits tag self.new }
         ensures place { place_of self.new ≡ None }
         ensures leaves { result ≡ place_of self.old };

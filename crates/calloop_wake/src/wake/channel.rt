@@ -2,7 +2,7 @@
 ghost use Rattle.std.specs.Prelude.{◌≡◌, ◌≤◌, ◌<◌, ◌+◌, ◌^◌, ◌⊎◌, IfSome, IfOk, IfErr, MatchResult, is_ok, true, false, None, Some, Err, [], if◌then◌else◌};
 ghost use Rattle.calloop_wake.specs.Cells.{debt_of, owed_at, owed_by_drop, after_add_sender, after_drop_sender, after_clear_key};
 ghost use Rattle.calloop_wake.specs.Bells.{after_ping, owed_if};
-ghost use Rattle.calloop_wake.specs.Channels.{fresh_channel, has_room, with_bell, view_with, view_after_put, receipt_of, view_after_set_key, after_open_turn, twin_after_open, turn_of, view_after_pop, after_pop_of, tells, pop_answer, handed_back, FitsBound, twin_after_pop, turn_after_pop, front, view_after_take, twin_after_take, is_early, after_end_turn, pops, IsStandingChannel, IsSoundChannel};
+ghost use Rattle.calloop_wake.specs.Channels.{fresh_channel, has_room, with_bell, view_with, view_after_put, receipt_of, view_after_set_key, after_open_turn, tally_after_open, turn_of, view_after_pop, after_pop_of, tells, pop_answer, handed_back, FitsBound, tally_after_pop, turn_after_pop, front, view_after_take, tally_after_take, is_early, after_end_turn, pops, IsStandingChannel, IsSoundChannel};
 ghost use Rattle.calloop_wake.specs.Passes.{on};
 ghost use Rattle.calloop_wake.specs.declared.wake.channel.PutError.TheVariants.{Gone, Full, OutOfMemory};
 
@@ -13,7 +13,7 @@ use super::locked::Core;
 use super::queue::Queue;
 use super::{
     ChannelTurn, Debt, Last, LeaveToClose, OpenedPass, Receipt, ReceivingRight, Sender, TakenPass,
-    Twin,
+    Tally,
 };
 use counted_slot::Fits;
 use std::alloc::{AllocError, Global};
@@ -203,15 +203,19 @@ impl<T> ChannelCore<T> {
         self.bell.is_closed()
     }
 
-    /// Opens a turn with a pass of the cell's own key; the twin counts it. The turn may make as many pops as the bound, and one
+    /// Opens a turn with a pass of the cell's own key; the tally counts it. The turn may make as many pops as the bound, and one
     /// more, and at most 1,024.
     ///
     /// It refuses a pass of another key, and any pass while a turn stands open: the pass comes back marked as
     /// refused by this cell, and the cell stays as it is.
-    pub fn open_turn(&mut self, pass: TakenPass, twin: &mut Twin) -> Result<ChannelTurn, TakenPass>
-        requires { twin.old.name ≡ self.old.name }
+    pub fn open_turn(
+        &mut self,
+        pass: TakenPass,
+        tally: &mut Tally,
+    ) -> Result<ChannelTurn, TakenPass>
+        requires { tally.old.name ≡ self.old.name }
         ensures core { self.new ≡ view_with (after_open_turn pass.key self.old.state) self.old }
-        ensures twin { twin.new ≡ twin_after_open pass.key self.old.state.cell twin.old }
+        ensures tally { tally.new ≡ tally_after_open pass.key self.old.state.cell tally.old }
         ensures gives { result ≡ turn_of pass self.old }
     {
         let TakenPass {
@@ -228,7 +232,7 @@ impl<T> ChannelCore<T> {
             });
         }
         self.begin();
-        twin.turns = twin.turns.next();
+        tally.turns = tally.turns.next();
         Ok(ChannelTurn {
             name: self.bell.name(),
             left: self.pops(),
@@ -259,17 +263,17 @@ impl<T> ChannelCore<T> {
     }
 
     /// A pop of a turn, which counts it: the first message; or that there is none now; or, once, that none will come.
-    pub fn pop(&mut self, turn: &mut ChannelTurn, twin: &mut Twin) -> Popped<T>
+    pub fn pop(&mut self, turn: &mut ChannelTurn, tally: &mut Tally) -> Popped<T>
         requires left { 0 < turn.old.left }
         requires turn { turn.old.name ≡ self.old.name }
-        requires twin { twin.old.name ≡ self.old.name }
+        requires tally { tally.old.name ≡ self.old.name }
         ensures core { self.new ≡ view_after_pop self.old }
         ensures gives { result ≡ pop_answer self.old.state }
         ensures turn { turn.new ≡ turn_after_pop result turn.old }
-        ensures twin { twin.new ≡ twin_after_pop result twin.old }
+        ensures tally { tally.new ≡ tally_after_pop result tally.old }
     {
         turn.left -= 1;
-        match self.take(twin) {
+        match self.take(tally) {
             Some(message) => {
                 turn.done = false;
                 Popped::Item(message)
@@ -277,7 +281,7 @@ impl<T> ChannelCore<T> {
             None => {
                 turn.done = true;
                 let tells = self.stop();
-                twin.closes = twin.closes.and_one_if(tells);
+                tally.closes = tally.closes.and_one_if(tells);
                 if tells { Popped::Closed } else { Popped::Empty }
             }
         }
@@ -294,15 +298,15 @@ impl<T> ChannelCore<T> {
     }
 
     /// The first message, where there is one, outside of a turn. It never tells the close.
-    pub fn take(&mut self, twin: &mut Twin) -> Option<T>
-        requires { twin.old.name ≡ self.old.name }
+    pub fn take(&mut self, tally: &mut Tally) -> Option<T>
+        requires { tally.old.name ≡ self.old.name }
         ensures core { self.new ≡ view_after_take self.old }
         ensures gives { result ≡ front self.old.state.queue }
-        ensures twin { twin.new ≡ twin_after_take self.old.state twin.old }
+        ensures tally { tally.new ≡ tally_after_take self.old.state tally.old }
     {
         let message = self.queue.pop()?;
         self.last = LastPop::AnItem;
-        twin.number = twin.number.next();
+        tally.number = tally.number.next();
         Some(message)
     }
 
@@ -337,7 +341,7 @@ impl<T: Drop> CellCore for ChannelCore<T> {
 
     ghost named_by = { λ tag. tag.name };
 
-    fn receiver(&self, right: ReceivingRight) -> Twin {
+    fn receiver(&self, right: ReceivingRight) -> Tally {
         self.bell.receiver(right)
     }
 
@@ -360,33 +364,37 @@ impl<T: Drop> CellCore for ChannelCore<T> {
         self.bell.drop_sender(sender)
     }
 
-    fn set_key(&mut self, pass: OpenedPass, twin: &mut Twin) -> (Option<Debt>, Option<LeaveToClose>)
-        requires { twin.old.name ≡ self.old.name }
-        ensures twin { twin.new ≡ record twin.old { key = Some pass.key } }
+    fn set_key(
+        &mut self,
+        pass: OpenedPass,
+        tally: &mut Tally,
+    ) -> (Option<Debt>, Option<LeaveToClose>)
+        requires { tally.old.name ≡ self.old.name }
+        ensures tally { tally.new ≡ record tally.old { key = Some pass.key } }
         ensures core { self.new ≡ view_after_set_key pass self.old }
         ensures owes { result.0 ≡ on pass.board (owed_at pass.key self.old.state.cell) }
         ensures leaves { result.1 ≡ on self.old.board self.old.state.cell.key }
     {
-        self.bell.set_key(pass, twin)
+        self.bell.set_key(pass, tally)
     }
 
-    fn clear_key(&mut self, twin: &mut Twin) -> Option<LeaveToClose>
-        requires { twin.old.name ≡ self.old.name }
-        ensures twin { twin.new ≡ record twin.old { key = None } }
+    fn clear_key(&mut self, tally: &mut Tally) -> Option<LeaveToClose>
+        requires { tally.old.name ≡ self.old.name }
+        ensures tally { tally.new ≡ record tally.old { key = None } }
         ensures core { self.new ≡ view_with
             (with_bell (after_clear_key false self.old.state.cell) self.old.state) self.old }
         ensures leaves { result ≡ on self.old.board self.old.state.cell.key }
     {
-        self.bell.clear_key(twin)
+        self.bell.clear_key(tally)
     }
 
-    fn abandon(&mut self, twin: Twin) -> Option<LeaveToClose>
-        requires { twin.name ≡ self.old.name }
+    fn abandon(&mut self, tally: Tally) -> Option<LeaveToClose>
+        requires { tally.name ≡ self.old.name }
         ensures core { self.new ≡ view_with
             (with_bell (after_clear_key true self.old.state.cell) self.old.state) self.old }
         ensures leaves { result ≡ on self.old.board self.old.state.cell.key }
     {
-        self.bell.abandon(twin)
+        self.bell.abandon(tally)
     }
 
     ghost is_named = { λ tag core fits. fits.0 };

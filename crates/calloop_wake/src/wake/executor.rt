@@ -11,7 +11,7 @@ use super::ghosts::{Count, Name};
 use super::homes::{DueReceipt, KeepingRight, PoppedTask};
 use super::locked::Core;
 use super::tasks::{TaskKey, Tasks};
-use super::{Debt, Last, LeaveToClose, OpenedPass, ReceivingRight, Sender, TakenPass, Twin};
+use super::{Debt, Last, LeaveToClose, OpenedPass, ReceivingRight, Sender, TakenPass, Tally};
 use counted_slot::Fits;
 use std::alloc::{AllocError, Global};
 use std::marker::Model;
@@ -343,22 +343,22 @@ impl ExecutorCore {
         Some((key, home))
     }
 
-    /// Opens a turn with a pass of the cell's own key; the twin counts it.
+    /// Opens a turn with a pass of the cell's own key; the tally counts it.
     ///
     /// It refuses a pass of another key, and any pass while a turn stands open: the pass comes back marked as
     /// refused by this cell, and the cell stays as it is.
-    pub fn open_turn(&mut self, pass: TakenPass, twin: &mut Twin) -> Result<TaskTurn, TakenPass>
-        requires { twin.old.name ≡ self.old.name }
+    pub fn open_turn(&mut self, pass: TakenPass, tally: &mut Tally) -> Result<TaskTurn, TakenPass>
+        requires { tally.old.name ≡ self.old.name }
         ensures ok { IfOk result (λ turn.
             (turn ≡ record { name = self.old.name; progress = at_start })
             × (opens pass.key (cell_of self.old) ≡ true)
             × (cell_of self.new ≡ in_turn (cell_of self.old))
-            × (twin.new ≡ record twin.old { turns = twin.old.turns + 1 })) }
+            × (tally.new ≡ record tally.old { turns = tally.old.turns + 1 })) }
         ensures err { IfErr result (λ refused.
             (refused ≡ record pass { refused = Some self.old.name })
             × (opens pass.key (cell_of self.old) ≡ false)
             × (self.new ≡ self.old)
-            × (twin.new ≡ twin.old)) }
+            × (tally.new ≡ tally.old)) }
         ensures names { (self.new.name ≡ self.old.name) × (self.new.board ≡ self.old.board) }
     {
         let TakenPass {
@@ -375,7 +375,7 @@ impl ExecutorCore {
             });
         }
         self.begin_turn(key);
-        twin.turns = twin.turns.next();
+        tally.turns = tally.turns.next();
         Ok(TaskTurn {
             name: self.bell.name(),
             progress: AT_START,
@@ -394,20 +394,20 @@ impl ExecutorCore {
 
     /// A pop of the turn. The task that was popped before is settled: it is finished, where its poll gave the result, and else it
     /// is idle, or queued last where it was woken meanwhile. Then the first of the queue is polled from now on, where there is
-    /// one, and told with where its future is. The twin counts a result that was handed out.
+    /// one, and told with where its future is. The tally counts a result that was handed out.
     pub fn pop(
         &mut self,
         turn: &mut TaskTurn,
-        twin: &mut Twin,
+        tally: &mut Tally,
         finished: bool,
     ) -> Option<PoppedTask>
-        requires names { (turn.old.name ≡ self.old.name) × (twin.old.name ≡ self.old.name) }
+        requires names { (turn.old.name ≡ self.old.name) × (tally.old.name ≡ self.old.name) }
         requires at { (self.old.draining ≡ true) × (turn.old.progress ≡ self.old.progress) }
         requires more { (turn.old.progress.dry ≡ false) × (turn.old.progress.pops < most_tasks) }
         requires finishes { finished ≡ true → IsSome turn.old.progress.polled }
         ensures cell { cell_of self.new ≡ after_pop finished (cell_of self.old) }
         ensures turn { turn.new ≡ record turn.old { progress = self.new.progress } }
-        ensures twin { twin.new ≡ record twin.old { number = twin.old.number + one finished } }
+        ensures tally { tally.new ≡ record tally.old { number = tally.old.number + one finished } }
         ensures some { IfSome result (λ popped. (self.new.progress.polled ≡ Some popped.key)
             × (self.new.progress.dry ≡ false)) }
         ensures name { IfSome result (λ popped. popped.name ≡ self.old.name) }
@@ -416,7 +416,7 @@ impl ExecutorCore {
         ensures names { (self.new.name ≡ self.old.name) × (self.new.board ≡ self.old.board) }
     {
         self.settle(finished);
-        twin.number = twin.number.and_one_if(finished);
+        tally.number = tally.number.and_one_if(finished);
         let popped = self.take();
         turn.progress = self.progress;
         let (key, home) = popped?;
@@ -429,13 +429,13 @@ impl ExecutorCore {
 
     /// Ends the turn, whose last pop gave no task or was its 1,024th: the task that was popped last is settled, and after 1,024
     /// the cell pings itself.
-    pub fn end_turn(&mut self, turn: TaskTurn, twin: &mut Twin, finished: bool) -> Option<Debt>
-        requires names { (turn.name ≡ self.old.name) × (twin.old.name ≡ self.old.name) }
+    pub fn end_turn(&mut self, turn: TaskTurn, tally: &mut Tally, finished: bool) -> Option<Debt>
+        requires names { (turn.name ≡ self.old.name) × (tally.old.name ≡ self.old.name) }
         requires at { (self.old.draining ≡ true) × (turn.progress ≡ self.old.progress) }
         requires over { (turn.progress.dry ≡ true) ⊎ (turn.progress.pops ≡ most_tasks) }
         requires finishes { finished ≡ true → IsSome turn.progress.polled }
         ensures cell { cell_of self.new ≡ after_end_turn finished (cell_of self.old) }
-        ensures twin { twin.new ≡ record twin.old { number = twin.old.number + one finished } }
+        ensures tally { tally.new ≡ record tally.old { number = tally.old.number + one finished } }
         ensures gives { result
             ≡ on self.old.board (debt_between (cell_of self.old) (cell_of self.new)) }
         ensures names { (self.new.name ≡ self.old.name) × (self.new.board ≡ self.old.board) }
@@ -445,7 +445,7 @@ impl ExecutorCore {
             progress: _,
         } = turn;
         self.settle(finished);
-        twin.number = twin.number.and_one_if(finished);
+        tally.number = tally.number.and_one_if(finished);
         self.close_turn()
     }
 
@@ -471,7 +471,7 @@ impl CellCore for ExecutorCore {
 
     ghost named_by = { λ tag. tag };
 
-    fn receiver(&self, right: ReceivingRight) -> Twin {
+    fn receiver(&self, right: ReceivingRight) -> Tally {
         self.bell.receiver(right)
     }
 
@@ -493,35 +493,39 @@ impl CellCore for ExecutorCore {
         None
     }
 
-    fn set_key(&mut self, pass: OpenedPass, twin: &mut Twin) -> (Option<Debt>, Option<LeaveToClose>)
-        requires { twin.old.name ≡ self.old.name }
-        ensures twin { twin.new ≡ record twin.old { key = Some pass.key } }
+    fn set_key(
+        &mut self,
+        pass: OpenedPass,
+        tally: &mut Tally,
+    ) -> (Option<Debt>, Option<LeaveToClose>)
+        requires { tally.old.name ≡ self.old.name }
+        ensures tally { tally.new ≡ record tally.old { key = Some pass.key } }
         ensures core { self.new ≡ record self.old { key = Some pass.key; board = pass.board } }
         ensures owes { result.0 ≡ on pass.board (owed_at pass.key (cell_of self.old)) }
         ensures leaves { result.1 ≡ on self.old.board self.old.key }
     {
-        self.bell.set_key(pass, twin)
+        self.bell.set_key(pass, tally)
     }
 
-    fn clear_key(&mut self, twin: &mut Twin) -> Option<LeaveToClose>
-        requires { twin.old.name ≡ self.old.name }
-        ensures twin { twin.new ≡ record twin.old { key = None } }
+    fn clear_key(&mut self, tally: &mut Tally) -> Option<LeaveToClose>
+        requires { tally.old.name ≡ self.old.name }
+        ensures tally { tally.new ≡ record tally.old { key = None } }
         ensures core { self.new ≡ record self.old { key = None } }
         ensures leaves { result ≡ on self.old.board self.old.key }
     {
-        self.bell.clear_key(twin)
+        self.bell.clear_key(tally)
     }
 
     // Every task is finished, and nothing is queued. The futures are dropped after this section.
-    fn abandon(&mut self, twin: Twin) -> Option<LeaveToClose>
-        requires { twin.name ≡ self.old.name }
+    fn abandon(&mut self, tally: Tally) -> Option<LeaveToClose>
+        requires { tally.name ≡ self.old.name }
         ensures cell { cell_of self.new ≡ after_clear_key true (cell_of self.old) }
         ensures name { self.new.name ≡ self.old.name }
         ensures leaves { result ≡ on self.old.board self.old.key }
     {
         self.tasks = None;
         self.progress.polled = None;
-        self.bell.abandon(twin)
+        self.bell.abandon(tally)
     }
 
     ghost is_named = { λ tag core fits. fits };

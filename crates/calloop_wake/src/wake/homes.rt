@@ -8,7 +8,7 @@ ghost use Rattle.calloop_wake.specs.declared.wake.homes.Place.TheVariants.{Empty
 use super::ghosts::{Count, Name};
 use super::locked::Core;
 use super::tasks::TaskKey;
-use super::{Last, Receipt, Twin};
+use super::{Last, Receipt, Tally};
 use counted_slot::Fits;
 use slab::Slab;
 use std::alloc::{AllocError, Global};
@@ -185,14 +185,15 @@ impl<F: Drop> Homes<F> {
     }
 
     /// Takes the future of a task that was popped out of its place, for its poll. Where it is still to come, its place keeps that a turn has
-    /// looked for it, and the twin counts that.
-    pub fn take(&mut self, popped: PoppedTask, twin: &mut Twin) -> Option<TakenFuture<F>>
-        requires { (popped.name ≡ self.old.name) × (twin.old.name ≡ self.old.name) }
+    /// looked for it, and the tally counts that.
+    pub fn take(&mut self, popped: PoppedTask, tally: &mut Tally) -> Option<TakenFuture<F>>
+        requires { (popped.name ≡ self.old.name) × (tally.old.name ≡ self.old.name) }
         ensures some { IfSome result (λ taken.
             (place_in self.old popped.home ≡ Some (Here popped.key taken.future))
             × (taken.task ≡ popped)) }
-        ensures same { IfSome result (λ _. twin.new ≡ twin.old) }
-        ensures none { IfNone result (twin.new ≡ record twin.old { misses = twin.old.misses + 1 }) }
+        ensures same { IfSome result (λ _. tally.new ≡ tally.old) }
+        ensures none { IfNone result
+            (tally.new ≡ record tally.old { misses = tally.old.misses + 1 }) }
         ensures others { (other : ℕ) → other ≢ popped.home
             → place_in self.new other ≡ place_in self.old other }
         ensures name { self.new.name ≡ self.old.name }
@@ -209,23 +210,23 @@ impl<F: Drop> Homes<F> {
                         task: popped,
                     });
                 }
-                self.miss(popped, twin);
+                self.miss(popped, tally);
                 None
             }
             Place::Missed => {
-                self.miss(popped, twin);
+                self.miss(popped, tally);
                 None
             }
             Place::Empty => {
-                self.miss(popped, twin);
+                self.miss(popped, tally);
                 None
             }
         }
     }
 
     // The future of a task that was popped is still to come.
-    fn miss(&mut self, popped: PoppedTask, twin: &mut Twin)
-        ensures twin { twin.new ≡ record twin.old { misses = twin.old.misses + 1 } }
+    fn miss(&mut self, popped: PoppedTask, tally: &mut Tally)
+        ensures tally { tally.new ≡ record tally.old { misses = tally.old.misses + 1 } }
         ensures others { (other : ℕ) → other ≢ popped.home
             → place_in self.new other ≡ place_in self.old other }
         ensures name { self.new.name ≡ self.old.name }
@@ -237,7 +238,7 @@ impl<F: Drop> Homes<F> {
         } = popped;
         let before = self.put(home, Place::Missed);
         drop(before);
-        twin.misses = twin.misses.next();
+        tally.misses = tally.misses.next();
     }
 
     /// Puts a future back into its place after a poll that was pending. Where the executor is gone, it comes back.

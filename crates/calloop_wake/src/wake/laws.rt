@@ -26,7 +26,7 @@ ghost use Rattle.calloop_wake.specs.ExampleSchedules.{turn_that_stops, turn_with
 /// Over every schedule of the wake machine, by any number of cells of pings, channels and executors, from the state in which nothing
 /// has happened: what mustn't be lost, a ring, a message, a close that no turn told or a wake, is pinged or a turn stands open; a
 /// pinged cell's key is posted, owed or held as a pass; where the loop has looked and found no mark, a posted key is told to it by a
-/// nudge that is owed or by the signal. And a channel's messages are handed out in the order in which they were put, its close is
+/// wakeup that is owed or by the signal. And a channel's messages are handed out in the order in which they were put, its close is
 /// told at most once, and only where it is closed and empty; its turn pops as often as it may, and ends where its last pop found no
 /// message, or where it may pop no more. And each task of an executor is idle, queued once, in a poll, or
 /// finished; its result is handed out at most once, and then it is in no queue.
@@ -180,7 +180,7 @@ pub fn schedules_that_there_are_not()
 {}
 
 /// What the core of a ping, of a channel or of an executor gives by a step is what the machine's step gives: the cell after it, the debt, and the leave
-/// to close a place. And what a step of the board gives: its places after it, the nudge of a post, the leave to sleep of a look, the passes that are taken.
+/// to close a place. And what a step of the board gives: its places after it, the wakeup of a post, the leave to sleep of a look, the passes that are taken.
 pub fn steps_are_the_machines()
     ensures ring { (w : WakeWorld Cell) (n : ℕ) → after ping_kind w (At n Ring)
         ≡ with_step n (after_ring (w.cells n)) (debt_of (w.cells n)) w }
@@ -253,7 +253,7 @@ pub fn steps_are_the_machines()
         ≡ record w {
           board = after_post k w.board;
           debts = less_one k w.debts;
-          nudges = w.nudges + one (wakes k w.board);
+          wakeups = w.wakeups + one (wakes k w.board);
         } }
     ensures look { (w : WakeWorld Cell) → after ping_kind w Look
         ≡ record w { loop = if any_marked w.board then Awake else Looked } }

@@ -7,7 +7,7 @@ ghost use Rattle.calloop_wake.specs.declared.wake.notes.Note.TheVariants.{Marked
 use super::ghosts::Name;
 use super::locked::Core;
 use super::watch::Watch;
-use super::{Last, Nudge};
+use super::{Last, Wakeup};
 use crate::token::RegistrationToken;
 use counted_slot::Fits;
 use std::alloc::{AllocError, Global};
@@ -98,14 +98,14 @@ impl Marks {
     }
 
     /// Marks an adapter, behind those that are marked. Where each adapter is marked once until it is taken, there is room; else want of
-    /// memory is possible, and marks nothing. It gives a nudge.
-    pub fn mark(&mut self, token: RegistrationToken) -> Result<Nudge, AllocError>
+    /// memory is possible, and marks nothing. It gives a wakeup.
+    pub fn mark(&mut self, token: RegistrationToken) -> Result<Wakeup, AllocError>
         ensures ok { OnOk result
             (self.new ≡ record self.old { marked = self.old.marked ++ token ∷ [] }) }
         ensures err { OnErr result (self.new ≡ self.old) }
     {
         match self.marked.push(token) {
-            Ok(()) => Ok(Nudge { of_wake: () }),
+            Ok(()) => Ok(Wakeup { of_wake: () }),
             Err(_) => Err(AllocError),
         }
     }

@@ -1,6 +1,6 @@
 //! The cell of a ping, which its ends share.
 ghost use Rattle.std.specs.Prelude.{◌≡◌, ◌+◌, ◌<◌, ◌^◌, ◌&&◌, not, true, false, None, Some, IfOk, IfErr};
-ghost use Rattle.calloop_wake.specs.Cells.{fresh, one, opens, IsLit, IsStanding, IsTold, IsSince, debt_of, owed_at, owed_by_drop, after_add_sender, after_drop_sender, after_clear_key, after_end_turn, in_turn, core_with, core_after_set_key, core_after_ring, core_after_open_turn, twin_after_open_turn, receipt_of, turn_of};
+ghost use Rattle.calloop_wake.specs.Cells.{fresh, one, opens, IsLit, IsStanding, IsTold, IsSince, debt_of, owed_at, owed_by_drop, after_add_sender, after_drop_sender, after_clear_key, after_end_turn, in_turn, core_with, core_after_set_key, core_after_ring, core_after_open_turn, tally_after_open_turn, receipt_of, turn_of};
 ghost use Rattle.calloop_wake.specs.Passes.{on};
 
 use super::bell::Bell;
@@ -9,7 +9,7 @@ use super::ghosts::{Count, Name};
 use super::locked::Core;
 use super::{
     Debt, Last, LeaveToClose, OpenedPass, PingTurn, Receipt, ReceivingRight, Sender, TakenPass,
-    Twin,
+    Tally,
 };
 use counted_slot::Fits;
 use std::alloc::AllocError;
@@ -128,14 +128,14 @@ impl PingCore {
         (receipt, self.bell.ping())
     }
 
-    /// Opens a turn with a pass of the cell's own key, and takes what is due; the twin counts it.
+    /// Opens a turn with a pass of the cell's own key, and takes what is due; the tally counts it.
     ///
     /// It refuses a pass of another key, and any pass while a turn stands open: the pass comes back marked as
     /// refused by this cell, and the cell stays as it is.
-    pub fn open_turn(&mut self, pass: TakenPass, twin: &mut Twin) -> Result<OpenedTurn, TakenPass>
-        requires { twin.old.name ≡ self.old.name }
+    pub fn open_turn(&mut self, pass: TakenPass, tally: &mut Tally) -> Result<OpenedTurn, TakenPass>
+        requires { tally.old.name ≡ self.old.name }
         ensures core { self.new ≡ core_after_open_turn pass.key self.old }
-        ensures twin { twin.new ≡ twin_after_open_turn pass.key self.old twin.old }
+        ensures tally { tally.new ≡ tally_after_open_turn pass.key self.old tally.old }
         ensures gives { result ≡ turn_of pass self.old }
     {
         let TakenPass {
@@ -151,20 +151,20 @@ impl PingCore {
                 refused,
             });
         }
-        Ok(self.begin_turn(twin))
+        Ok(self.begin_turn(tally))
     }
 
     // Nothing is due any more; the turn, a ring that it takes and a close that it tells are counted.
-    fn begin_turn(&mut self, twin: &mut Twin) -> OpenedTurn
+    fn begin_turn(&mut self, tally: &mut Tally) -> OpenedTurn
         ensures core { self.new ≡ record self.old {
           cell = in_turn self.old.cell;
           seen = self.old.rings;
           taken = self.old.taken + one self.old.cell.rung;
         } }
-        ensures twin { twin.new ≡ record twin.old {
-          turns = twin.old.turns + 1;
-          number = twin.old.number + one self.old.cell.rung;
-          closes = twin.old.closes + one (self.old.cell.closed && not self.old.cell.told);
+        ensures tally { tally.new ≡ record tally.old {
+          turns = tally.old.turns + 1;
+          number = tally.old.number + one self.old.cell.rung;
+          closes = tally.old.closes + one (self.old.cell.closed && not self.old.cell.told);
         } }
         ensures turn { result ≡ record {
           turn = record { name = self.old.name };
@@ -181,9 +181,9 @@ impl PingCore {
         self.rung = false;
         self.seen = self.rings.again();
         self.taken = self.taken.and_one_if(rung);
-        twin.turns = twin.turns.next();
-        twin.number = twin.number.and_one_if(rung);
-        twin.closes = twin.closes.and_one_if(told);
+        tally.turns = tally.turns.next();
+        tally.number = tally.number.and_one_if(rung);
+        tally.closes = tally.closes.and_one_if(told);
         OpenedTurn { turn, rung, told }
     }
 
@@ -207,7 +207,7 @@ impl CellCore for PingCore {
 
     ghost named_by = { λ tag. tag };
 
-    fn receiver(&self, right: ReceivingRight) -> Twin {
+    fn receiver(&self, right: ReceivingRight) -> Tally {
         self.bell.receiver(right)
     }
 
@@ -228,31 +228,35 @@ impl CellCore for PingCore {
         self.bell.drop_sender(sender)
     }
 
-    fn set_key(&mut self, pass: OpenedPass, twin: &mut Twin) -> (Option<Debt>, Option<LeaveToClose>)
-        requires { twin.old.name ≡ self.old.name }
-        ensures twin { twin.new ≡ record twin.old { key = Some pass.key } }
+    fn set_key(
+        &mut self,
+        pass: OpenedPass,
+        tally: &mut Tally,
+    ) -> (Option<Debt>, Option<LeaveToClose>)
+        requires { tally.old.name ≡ self.old.name }
+        ensures tally { tally.new ≡ record tally.old { key = Some pass.key } }
         ensures core { self.new ≡ core_after_set_key pass self.old }
         ensures owes { result.0 ≡ on pass.board (owed_at pass.key self.old.cell) }
         ensures leaves { result.1 ≡ on self.old.board self.old.cell.key }
     {
-        self.bell.set_key(pass, twin)
+        self.bell.set_key(pass, tally)
     }
 
-    fn clear_key(&mut self, twin: &mut Twin) -> Option<LeaveToClose>
-        requires { twin.old.name ≡ self.old.name }
-        ensures twin { twin.new ≡ record twin.old { key = None } }
+    fn clear_key(&mut self, tally: &mut Tally) -> Option<LeaveToClose>
+        requires { tally.old.name ≡ self.old.name }
+        ensures tally { tally.new ≡ record tally.old { key = None } }
         ensures core { self.new ≡ core_with (after_clear_key false self.old.cell) self.old }
         ensures leaves { result ≡ on self.old.board self.old.cell.key }
     {
-        self.bell.clear_key(twin)
+        self.bell.clear_key(tally)
     }
 
-    fn abandon(&mut self, twin: Twin) -> Option<LeaveToClose>
-        requires { twin.name ≡ self.old.name }
+    fn abandon(&mut self, tally: Tally) -> Option<LeaveToClose>
+        requires { tally.name ≡ self.old.name }
         ensures core { self.new ≡ core_with (after_clear_key true self.old.cell) self.old }
         ensures leaves { result ≡ on self.old.board self.old.cell.key }
     {
-        self.bell.abandon(twin)
+        self.bell.abandon(tally)
     }
 
     ghost is_named = { λ tag core fits. fits };

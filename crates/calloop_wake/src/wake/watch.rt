@@ -12,7 +12,7 @@ use super::ghosts::Name;
 use super::locked::Core;
 use super::marking::MarkingRight;
 use super::notes::Notes;
-use super::{Debt, Last, LeaveToClose, LeaveToSleep, Nudge, OpenedPass, TakenPass};
+use super::{Debt, Last, LeaveToClose, LeaveToSleep, OpenedPass, TakenPass, Wakeup};
 use crate::steps::Steps;
 use counted_slot::Fits;
 use std::alloc::Global;
@@ -142,12 +142,12 @@ impl WatchedBoard {
         self.board.close_place(key);
     }
 
-    /// Marks the key of a debt to this board, where its place is open, and gives a nudge exactly where that set a mark anew.
+    /// Marks the key of a debt to this board, where its place is open, and gives a wakeup exactly where that set a mark anew.
     /// The debt of a key with no place is spent all the same.
-    pub fn post(&mut self, debt: Debt) -> Option<Nudge>
+    pub fn post(&mut self, debt: Debt) -> Option<Wakeup>
         requires { debt.board ≡ self.old.name }
         ensures board { self.new ≡ with_places (after_post debt.key self.old.places) self.old }
-        ensures nudges { is_some result ≡ wakes debt.key self.old.places }
+        ensures wakeups { is_some result ≡ wakes debt.key self.old.places }
     {
         let Debt { key, board: _ } = debt;
         self.board.post(key)

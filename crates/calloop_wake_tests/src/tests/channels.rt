@@ -8,7 +8,7 @@ use calloop_wake::wake::cell::CellCore;
 use calloop_wake::wake::channel::{ChannelCore, Label, Popped, PutError};
 use calloop_wake::wake::locked::{Awaited, Core, Locked};
 use calloop_wake::wake::watch::WatchedBoard;
-use calloop_wake::wake::{ChannelTurn, Debt, Last, TakenPass, Twin};
+use calloop_wake::wake::{ChannelTurn, Debt, Last, TakenPass, Tally};
 use counted_slot::Fits;
 use std::alloc::Global;
 use std::ops::Range;
@@ -209,11 +209,11 @@ enum Got {
 // A channel's cell, its receiving end, and the board of its keys. It has to leave before the test ends.
 struct Mail {
     core: ChannelCore<u64>,
-    twin: Twin,
+    tally: Tally,
     label: Label,
     board: SharedBoard,
     alloc: Global,
-    ghost tied: { twin.name ≡ core.name },
+    ghost tied: { tally.name ≡ core.name },
     ghost named: { core.name ≡ label.name },
     ghost bounded: { core.state.bound ≡ label.bound },
     ghost own: { is_some core.state.cell.key ≡ true → core.board ≡ (arc_value board).slot },
@@ -223,10 +223,10 @@ impl Mail {
     fn new<R: Abort>(rt: &R, alloc: Global, desk: &Desk, bound: Option<usize>) -> Mail {
         let board = Arc::try_clone(&desk.board).expect(rt, "a board");
         let (core, label, right) = ChannelCore::<u64>::new(alloc, bound).expect(rt, "a cell");
-        let twin = core.receiver(right);
+        let tally = core.receiver(right);
         Mail {
             core,
-            twin,
+            tally,
             label,
             board,
             alloc,
@@ -251,7 +251,7 @@ impl Mail {
 
     // Takes a message outside of a turn.
     fn take(&mut self) -> Option<u64> {
-        self.core.take(&mut self.twin)
+        self.core.take(&mut self.tally)
     }
 
     // Rings, and posts what is owed: whether that set a mark anew.
@@ -272,7 +272,7 @@ impl Mail {
         held.unlock();
         match opened {
             Ok(pass) => {
-                let (debt, leave) = self.core.set_key(pass, &mut self.twin);
+                let (debt, leave) = self.core.set_key(pass, &mut self.tally);
                 post(rt, &self.board, debt);
                 close(rt, &self.board, leave);
                 true
@@ -283,7 +283,7 @@ impl Mail {
 
     // Takes the cell's key back, and closes its place: whether it had one.
     fn unregisters<R: Wait>(&mut self, rt: &R) -> bool {
-        let leave = self.core.clear_key(&mut self.twin);
+        let leave = self.core.clear_key(&mut self.tally);
         close(rt, &self.board, leave)
     }
 
@@ -305,7 +305,7 @@ impl Mail {
         ensures turn { turn.new.name ≡ self.new.core.name }
         ensures same { self.new.core.name ≡ self.old.core.name }
     {
-        match self.core.pop(turn, &mut self.twin) {
+        match self.core.pop(turn, &mut self.tally) {
             Popped::Item(message) => Got::Message(message),
             Popped::Empty => Got::Nothing,
             Popped::Closed => Got::Closed,
@@ -339,7 +339,7 @@ impl Mail {
         requires { pass.board ≡ at.now.slot }
         ensures { self.new.core.name ≡ self.old.core.name }
     {
-        match self.core.open_turn(pass, &mut self.twin) {
+        match self.core.open_turn(pass, &mut self.tally) {
             Ok(turn) => self.pop_all(rt, turn, got),
             Err(pass) => put_back(rt, at, pass, got),
         }
@@ -443,7 +443,7 @@ impl Mail {
             post(rt, &desk.board, Some(pass.back()));
         }
         passes.destroy_empty();
-        match self.core.open_turn(first?, &mut self.twin) {
+        match self.core.open_turn(first?, &mut self.tally) {
             Ok(turn) => Some(turn),
             Err(pass) => {
                 post(rt, &desk.board, Some(pass.back()));
@@ -456,12 +456,12 @@ impl Mail {
     fn put_when_gone<R: Wait>(self, rt: &R, message: u64) -> Put {
         let Mail {
             mut core,
-            twin,
+            tally,
             label,
             board,
             alloc,
         } = self;
-        close(rt, &board, core.abandon(twin));
+        close(rt, &board, core.abandon(tally));
         let put = match core.put(message) {
             Ok((_receipt, debt)) => {
                 post(rt, &board, debt);
@@ -476,12 +476,12 @@ impl Mail {
     fn leave<R: Wait>(self, rt: &R) {
         let Mail {
             mut core,
-            twin,
+            tally,
             label,
             board,
             alloc,
         } = self;
-        close(rt, &board, core.abandon(twin));
+        close(rt, &board, core.abandon(tally));
         drop(Locked::new(alloc, core, &label));
     }
 }
@@ -506,12 +506,12 @@ fn put_back<R: Wait>(rt: &R, at: &Locked<WatchedBoard>, pass: TakenPass, got: &m
 // What a channel of texts hands on of this one.
 fn hand_on<R: Wait + Abort>(rt: &R, alloc: Global, desk: &Desk, text: String) -> Option<String> {
     let (mut core, label, right) = ChannelCore::<String>::new(alloc, Some(1)).expect(rt, "a cell");
-    let mut twin = core.receiver(right);
+    let mut tally = core.receiver(right);
     if let Ok((_receipt, debt)) = core.put(text) {
         post(rt, &desk.board, debt);
     }
-    let taken = core.take(&mut twin);
-    close(rt, &desk.board, core.abandon(twin));
+    let taken = core.take(&mut tally);
+    close(rt, &desk.board, core.abandon(tally));
     drop(Locked::new(alloc, core, &label));
     taken
 }
@@ -541,9 +541,9 @@ type SharedLock = Arc<Locked<Keyless>, Global>;
 // The receiving end of a channel without a key.
 struct Inbox {
     lock: SharedLock,
-    twin: Twin,
+    tally: Tally,
     board: SharedBoard,
-    ghost tied: { twin.name ≡ (arc_value lock).slot.name },
+    ghost tied: { tally.name ≡ (arc_value lock).slot.name },
 }
 
 // Where messages are put into it.
@@ -556,7 +556,7 @@ struct Slit {
 impl Inbox {
     fn new<R: Abort>(rt: &R, alloc: Global, desk: &Desk) -> (Inbox, Slit) {
         let (core, label, right) = ChannelCore::<u64>::new(alloc, Some(2)).expect(rt, "a cell");
-        let twin = core.receiver(right);
+        let tally = core.receiver(right);
         let lock = Arc::new(
             alloc,
             Locked::new(alloc, Keyless { core }, &label).expect(rt, "a lock"),
@@ -567,32 +567,32 @@ impl Inbox {
             board: Arc::try_clone(&desk.board).expect(rt, "a board"),
         };
         let board = Arc::try_clone(&desk.board).expect(rt, "a board");
-        (Inbox { lock, twin, board }, slit)
+        (Inbox { lock, tally, board }, slit)
     }
 
     // Waits for the next message.
     fn receive<R: Wait>(&mut self, rt: &R) -> u64 {
-        receive(rt, &self.lock, &mut self.twin)
+        receive(rt, &self.lock, &mut self.tally)
     }
 
     fn leave<R: Wait>(self, rt: &R) {
-        let Inbox { lock, twin, board } = self;
+        let Inbox { lock, tally, board } = self;
         let mut held = lock.lock(rt);
         let cell = held.core();
-        let leave = cell.core.abandon(twin);
+        let leave = cell.core.abandon(tally);
         held.unlock();
         close(rt, &board, leave);
     }
 }
 
 // Waits for the next message, and tells that it is gone.
-fn receive<R: Wait>(rt: &R, lock: &Locked<Keyless>, twin: &mut Twin) -> u64
-    requires { twin.old.name ≡ lock.now.slot.name }
-    ensures { twin.new.name ≡ lock.now.slot.name }
+fn receive<R: Wait>(rt: &R, lock: &Locked<Keyless>, tally: &mut Tally) -> u64
+    requires { tally.old.name ≡ lock.now.slot.name }
+    ensures { tally.new.name ≡ lock.now.slot.name }
 {
     let mut held = lock.lock(rt);
     for _ in rt.forever() {
-        if let Some(message) = held.core().core.take(twin) {
+        if let Some(message) = held.core().core.take(tally) {
             held.unlock();
             lock.tell_one(Awaited::Room);
             return message;

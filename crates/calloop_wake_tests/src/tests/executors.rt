@@ -4,7 +4,7 @@ ghost use Rattle.std.specs.Arc.{arc_value};
 
 use super::{Desk, SharedBoard, close, post};
 use calloop_wake::steps::Steps;
-use calloop_wake::wake::Twin;
+use calloop_wake::wake::Tally;
 use calloop_wake::wake::cell::CellCore;
 use calloop_wake::wake::executor::{ExecutorCore, PutRefusal, PutTask, TaskTurn};
 use calloop_wake::wake::ghosts::Name;
@@ -156,12 +156,12 @@ struct Put {
 // An executor's cell, its receiving end, and the board of its keys. It has to leave before the test ends.
 struct Crew {
     core: ExecutorCore,
-    twin: Twin,
+    tally: Tally,
     name: Name,
     board: SharedBoard,
     alloc: Global,
     homes: Homes<()>,
-    ghost tied: { twin.name ≡ core.name },
+    ghost tied: { tally.name ≡ core.name },
     ghost named: { core.name ≡ name },
     ghost housed: { homes.name ≡ core.name },
     ghost own: { is_some core.key ≡ true → core.board ≡ (arc_value board).slot },
@@ -172,10 +172,10 @@ impl Crew {
         let board = Arc::try_clone(&desk.board).expect(rt, "a board");
         let (core, name, right, keeping) = ExecutorCore::new(alloc).expect(rt, "a cell");
         let (homes, _name) = Homes::new(alloc, keeping);
-        let twin = core.receiver(right);
+        let tally = core.receiver(right);
         Crew {
             core,
-            twin,
+            tally,
             name,
             board,
             alloc,
@@ -226,7 +226,7 @@ impl Crew {
         held.unlock();
         match opened {
             Ok(pass) => {
-                let (debt, leave) = self.core.set_key(pass, &mut self.twin);
+                let (debt, leave) = self.core.set_key(pass, &mut self.tally);
                 post(rt, &self.board, debt);
                 close(rt, &self.board, leave);
                 true
@@ -237,7 +237,7 @@ impl Crew {
 
     // Takes the cell's key back, and closes its place: whether it had one.
     fn unregisters<R: Wait>(&mut self, rt: &R) -> bool {
-        let leave = self.core.clear_key(&mut self.twin);
+        let leave = self.core.clear_key(&mut self.tally);
         close(rt, &self.board, leave)
     }
 
@@ -274,7 +274,7 @@ impl Crew {
             post(rt, &desk.board, Some(pass.back()));
         }
         passes.destroy_empty();
-        match self.core.open_turn(first?, &mut self.twin) {
+        match self.core.open_turn(first?, &mut self.tally) {
             Ok(turn) => Some(turn),
             Err(pass) => {
                 post(rt, &desk.board, Some(pass.back()));
@@ -298,7 +298,7 @@ impl Crew {
         let mut finished = false;
         while turn.goes_on() {
             assert!(rt; self.core.is_at(&turn));
-            finished = match self.core.pop(&mut turn, &mut self.twin, finished) {
+            finished = match self.core.pop(&mut turn, &mut self.tally, finished) {
                 Some(popped) => {
                     let home = popped.home();
                     let _none = self.homes.finish(popped);
@@ -310,7 +310,7 @@ impl Crew {
             };
         }
         assert!(rt; self.core.is_at(&turn));
-        let debt = self.core.end_turn(turn, &mut self.twin, finished);
+        let debt = self.core.end_turn(turn, &mut self.tally, finished);
         post(rt, &self.board, debt)
     }
 
@@ -359,13 +359,13 @@ impl Crew {
     fn goes<R: Wait>(self, rt: &R, key: TaskKey) -> bool {
         let Crew {
             mut core,
-            twin,
+            tally,
             name,
             board,
             alloc,
             homes,
         } = self;
-        close(rt, &board, core.abandon(twin));
+        close(rt, &board, core.abandon(tally));
         let woken = core.wake(key);
         let marked = post(rt, &board, woken);
         let refused = match core.put(1) {
@@ -388,13 +388,13 @@ impl Crew {
     fn leave<R: Wait>(self, rt: &R) {
         let Crew {
             mut core,
-            twin,
+            tally,
             name,
             board,
             alloc,
             homes,
         } = self;
-        close(rt, &board, core.abandon(twin));
+        close(rt, &board, core.abandon(tally));
         drop(Locked::new(alloc, core, &name));
         drop(Locked::new(alloc, homes, &name));
     }

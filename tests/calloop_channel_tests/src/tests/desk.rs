@@ -80,7 +80,7 @@ impl<R: Wait + Clone + Drop> End<R> {
         }
     }
 
-    /// What came of a try to send, which never waits. Want of memory is none.
+    /// What came of a try to send, which never waits. Running out of memory is none.
     pub fn tries(&self, number: u32) -> Option<Tried> {
         match self {
             End::Unbounded(sender) => match sender.send(number) {

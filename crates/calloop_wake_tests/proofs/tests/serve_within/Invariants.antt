@@ -5,7 +5,7 @@ use Rattle.calloop_wake_tests.proofs.tests.serve_within.Given as goal
 
 abbrev pub invariant-loop-pass : goal.invariant-loop-pass
 invariant-loop-pass g l = record {
-  twin : l.twin.name ≡ l.lock.slot.cell;
+  tally : l.tally.name ≡ l.lock.slot.cell;
   own : AreOf (arc_value l.desk.board).slot l.passes.items;
 }
 

@@ -142,7 +142,7 @@ where
         event_loop.handle().cancel(idle);
         signal.stop();
         signal.wakeup();
-        let is_nudged = event_loop.handle().poller_mut().is_nudged();
+        let is_woken = event_loop.handle().poller_mut().is_woken();
         drop(event_loop);
         let _receipt = ping.ping();
         drop(ping);
@@ -151,6 +151,6 @@ where
         drop(sender);
         let is_last = channel.recv() == Ok(3) && channel.recv().is_err();
         drop(channel);
-        are_sent && are_received && is_nudged && is_last
+        are_sent && are_received && is_woken && is_last
     }
 }

@@ -4,4 +4,4 @@ use Rattle.calloop.proofs.Pinging.{own_by_equal}
 use Rattle.calloop.proofs.cell.source.is_mine.Goals as goal
 
 pub returns : goal.returns
-returns c = rw (c.key.ensures, c.key-2.ensures) at c.eq.ensures ∙ own_by_equal (key_of c.args.token) c.args.twin.now.key
+returns c = rw (c.key.ensures, c.key-2.ensures) at c.eq.ensures ∙ own_by_equal (key_of c.args.token) c.args.tally.now.key

@@ -6,7 +6,7 @@ use Rattle.calloop.proofs.cell.source.register.Goals as goal
 pub returns : goal.returns
 returns g c =
     let ok = c.in_ok-token.ensures.ok in
-    registers _ c.args.twin.now c.args.factory.now c.token.new.self c.in_ok-token.token c.attach.result c.attach.new.twin ok.0 ok.1 c.attach.ensures.ok c.attach.ensures.err (search rules)
+    registers _ c.args.tally.now c.args.factory.now c.token.new.self c.in_ok-token.token c.attach.result c.attach.new.tally ok.0 ok.1 c.attach.ensures.ok c.attach.ensures.err (search rules)
 
 pub returns-then-is_some : goal.returns-then-is_some
 returns-then-is_some g c = (refl, refl, AlreadyRegistered (search rules) (c.from-cause.result, refl, c.from-cause.ensures) refl)

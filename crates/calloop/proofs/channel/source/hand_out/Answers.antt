@@ -7,7 +7,7 @@ use Rattle.calloop.proofs.channel.source.hand_out.Goals as goal
 
 pub pops-init : goal.pops-init
 pops-init g c =
-    (c.requires.turn, c.requires.twin, ([], handed_none g.F.Callback.may g.Q.Asking.reaches c.args.turn c.args.twin.now c.args.callback.now c.args.data.now c.args.requests.now))
+    (c.requires.turn, c.requires.tally, ([], handed_none g.F.Callback.may g.Q.Asking.reaches c.args.turn c.args.tally.now c.args.callback.now c.args.data.now c.args.requests.now))
 
 pub pops-preserved-then-told : goal.pops-preserved-then-told
 pops-preserved-then-told g c =
@@ -18,7 +18,7 @@ pops-preserved-then-told g c =
       ap (λ t. t.name) s.2 ∙ so.1,
       (
         so.2.0 ++ s.0 ∷ [],
-        handed_more g.F.Callback.may g.Q.Asking.reaches c.args.turn c.args.twin.now c.args.callback.now c.args.data.now c.args.requests.now
+        handed_more g.F.Callback.may g.Q.Asking.reaches c.args.turn c.args.tally.now c.args.callback.now c.args.data.now c.args.requests.now
             so.2.0 s.0 _ _ _ _ _ _ _ _ _ _ _ _ so.2.1 (goes_left _ _ goes) (goes_done _ _ goes) s.1 s.2 (c.if-told.true ∙ ap (λ b. b || is_close s.0) (sym c.if-told.true)) s.4,
       ),
     )
@@ -32,7 +32,7 @@ pops-preserved g c =
       ap (λ t. t.name) s.2 ∙ so.1,
       (
         so.2.0 ++ s.0 ∷ [],
-        handed_more g.F.Callback.may g.Q.Asking.reaches c.args.turn c.args.twin.now c.args.callback.now c.args.data.now c.args.requests.now
+        handed_more g.F.Callback.may g.Q.Asking.reaches c.args.turn c.args.tally.now c.args.callback.now c.args.data.now c.args.requests.now
             so.2.0 s.0 _ _ _ _ _ _ _ _ _ _ _ _ so.2.1 (goes_left _ _ goes) (goes_done _ _ goes) s.1 s.2 (s.3 ∙ ap (λ b. b || is_close s.0) (sym c.if-told.false)) s.4,
       ),
     )
@@ -44,5 +44,5 @@ returns-clause-handed g c =
     let h = so.2.1 in (
       so.2.0,
       subst (λ (t : ChannelTurn). IsOver t) h.turn_is (over _ _ ends),
-      record { are = h.are; turn_is = refl; twin_is = h.twin_is; told_is = h.told_is; went = h.went },
+      record { are = h.are; turn_is = refl; tally_is = h.tally_is; told_is = h.told_is; went = h.went },
     )

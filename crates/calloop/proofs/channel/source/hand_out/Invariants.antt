@@ -5,8 +5,8 @@ use Rattle.calloop.proofs.channel.source.hand_out.Given as goal
 
 abbrev pub invariant-pops : goal.invariant-pops
 invariant-pops g l =
-    (l.turn.name ≡ l.shared.slot.name) × (l.twin.name ≡ l.shared.slot.name)
-    × ((ps : List (Popped g.row.T.Denot)) × Handed g.F.Callback.may g.Q.Asking.reaches l.fn.turn l.fn.twin l.fn.callback l.fn.«data» l.fn.requests ps l.turn l.twin l.told l.callback l.«data» l.requests)
+    (l.turn.name ≡ l.shared.slot.name) × (l.tally.name ≡ l.shared.slot.name)
+    × ((ps : List (Popped g.row.T.Denot)) × Handed g.F.Callback.may g.Q.Asking.reaches l.fn.turn l.fn.tally l.fn.callback l.fn.«data» l.fn.requests ps l.turn l.tally l.told l.callback l.«data» l.requests)
 
 abbrev pub decreases-pops : goal.decreases-pops
 decreases-pops g l = l.turn.left

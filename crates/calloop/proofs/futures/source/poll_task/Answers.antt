@@ -4,10 +4,10 @@ use Rattle.calloop.proofs.futures.source.poll_task.Goals as goal
 
 pub returns-in-Ok : goal.returns-in-Ok
 returns-in-Ok g c =
-    let none : c.args.twin.now.misses ≡ c.args.twin.now.misses + 0 = omega arith in (
+    let none : c.args.tally.now.misses ≡ c.args.tally.now.misses + 0 = omega arith in (
       Gave c.in-Ok.output,
       refl,
       (c.in-Some.taken.future.future, c.in-Ok.ensures.ready.0, c.in-Ok.ensures.ready.1, c.in-Ok.ensures.gives),
-      c.in-Some.ensures.some.1 ∙ ap (λ (m : ℕ). record c.args.twin.now { misses = m }) none,
+      c.in-Some.ensures.some.1 ∙ ap (λ (m : ℕ). record c.args.tally.now { misses = m }) none,
       (c.call.new.self, c.call.new.data, c.call.new.requests, c.call.ensures.may, c.call.ensures.asks, (refl, refl, refl)),
     )

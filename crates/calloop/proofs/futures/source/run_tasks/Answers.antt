@@ -1,5 +1,5 @@
 use Rattle.std.proofs.Common.{◌≡◌, ◌+◌, ◌<◌, ℕ, Option, IsSome, refl, [], ◌∷◌, ◌++◌, sym, ◌∙◌, ap, subst, arith}
-use Rattle.calloop_wake.specs.declared.wake.Twin.{Twin}
+use Rattle.calloop_wake.specs.declared.wake.Tally.{Tally}
 use Rattle.calloop_wake.specs.declared.wake.executor.TaskTurn.{TaskTurn}
 use Rattle.calloop_wake.specs.declared.wake.tasks.TaskKey.{TaskKey}
 use Rattle.calloop_wake.specs.Cells.{one}
@@ -14,7 +14,7 @@ pops-init g c =
     let pops : c.args.turn.progress.pops ≡ 0 = ap (λ (t : TaskTurn). t.progress.pops) c.requires.turn in
     let dry : one c.args.turn.progress.dry ≡ 0 = ap (λ (t : TaskTurn). one t.progress.dry) c.requires.turn in (
       ap (λ (t : TaskTurn). t.name) c.requires.turn,
-      c.requires.twin,
+      c.requires.tally,
       omega (arith, pops),
       λ e. absurd (cc),
       refl,
@@ -41,23 +41,23 @@ pops-preserved-in-Some g c =
     let popped = c.in-Some.ensures.some in
     let still : one c.pop.new.turn.progress.dry ≡ 0 = ap one popped.1 in
     let count : c.pop.new.turn.progress.pops ≡ c.pops.turn.progress.pops + 1 = c.pop.ensures.pops in
-    let number : c.pop.new.twin.number ≡ c.pops.twin.number + one c.pops.finished = ap (λ (t : Twin). t.number) c.pop.ensures.twin in
+    let number : c.pop.new.tally.number ≡ c.pops.tally.number + one c.pops.finished = ap (λ (t : Tally). t.number) c.pop.ensures.tally in
     let s = c.poll_task-finished.ensures in
     let done : one c.poll_task-finished.result ≡ one (gave s.0) = ap one s.1 in
     let so_far = so.4 in
     let numbers = so.5 in
     let missed = so.6 in
-    let kept : c.pop.new.twin.misses ≡ c.pops.twin.misses = ap (λ (t : Twin). t.misses) c.pop.ensures.twin in
-    let after : c.poll_task-finished.new.twin.number ≡ c.pop.new.twin.number = ap (λ (t : Twin). t.number) s.3 in
-    let more_missed : c.poll_task-finished.new.twin.misses ≡ c.pop.new.twin.misses + one (lacks s.0) = ap (λ (t : Twin). t.misses) s.3 in (
+    let kept : c.pop.new.tally.misses ≡ c.pops.tally.misses = ap (λ (t : Tally). t.misses) c.pop.ensures.tally in
+    let after : c.poll_task-finished.new.tally.number ≡ c.pop.new.tally.number = ap (λ (t : Tally). t.number) s.3 in
+    let more_missed : c.poll_task-finished.new.tally.misses ≡ c.pop.new.tally.misses + one (lacks s.0) = ap (λ (t : Tally). t.misses) s.3 in (
       c.pop.ensures.name ∙ inv.0,
-      ap (λ (t : Twin). t.name) s.3 ∙ ap (λ (t : Twin). t.name) c.pop.ensures.twin ∙ inv.1,
+      ap (λ (t : Tally). t.name) s.3 ∙ ap (λ (t : Tally). t.name) c.pop.ensures.tally ∙ inv.1,
       omega (arith, count, more),
       λ e. subst (λ (o : Option TaskKey). IsSome o) (sym popped.0) refl,
-      s.3 ∙ ap (λ (t : Twin). record t { misses = t.misses + one (lacks s.0) }) c.pop.ensures.twin
-          ∙ ap (λ (t : Twin). record t { number = c.pops.twin.number + one c.pops.finished; misses = c.pops.twin.misses + one (lacks s.0) }) inv.4
-          ∙ ap (λ (n : ℕ). record c.args.twin.now { number = n; misses = c.pops.twin.misses + one (lacks s.0) }) (sym (after ∙ number))
-          ∙ ap (λ (n : ℕ). record c.args.twin.now { number = c.poll_task-finished.new.twin.number; misses = n }) (sym (more_missed ∙ ap (λ n. n + one (lacks s.0)) kept)),
+      s.3 ∙ ap (λ (t : Tally). record t { misses = t.misses + one (lacks s.0) }) c.pop.ensures.tally
+          ∙ ap (λ (t : Tally). record t { number = c.pops.tally.number + one c.pops.finished; misses = c.pops.tally.misses + one (lacks s.0) }) inv.4
+          ∙ ap (λ (n : ℕ). record c.args.tally.now { number = n; misses = c.pops.tally.misses + one (lacks s.0) }) (sym (after ∙ number))
+          ∙ ap (λ (n : ℕ). record c.args.tally.now { number = c.poll_task-finished.new.tally.number; misses = n }) (sym (more_missed ∙ ap (λ n. n + one (lacks s.0)) kept)),
       (
         so.0 ++ s.0 ∷ [],
         so.1 + 1,
@@ -80,9 +80,9 @@ returns g c =
     let count = so.8.count_is in (
       so.0,
       omega (arith, bound, so_far, count),
-      c.end_turn.ensures.twin ∙ ap (λ (t : Twin). record t { number = c.pops.twin.number + one c.pops.finished }) inv.4
-          ∙ ap (λ (n : ℕ). record c.args.twin.now { number = n; misses = c.pops.twin.misses }) (so.5 ∙ ap (λ n. c.args.twin.now.number + n) so.8.results_is)
-          ∙ ap (λ (n : ℕ). record c.args.twin.now { number = c.args.twin.now.number + results_of so.0; misses = n }) (so.6 ∙ ap (λ n. c.args.twin.now.misses + n) so.8.misses_is),
+      c.end_turn.ensures.tally ∙ ap (λ (t : Tally). record t { number = c.pops.tally.number + one c.pops.finished }) inv.4
+          ∙ ap (λ (n : ℕ). record c.args.tally.now { number = n; misses = c.pops.tally.misses }) (so.5 ∙ ap (λ n. c.args.tally.now.number + n) so.8.results_is)
+          ∙ ap (λ (n : ℕ). record c.args.tally.now { number = c.args.tally.now.number + results_of so.0; misses = n }) (so.6 ∙ ap (λ n. c.args.tally.now.misses + n) so.8.misses_is),
       so.8.all_given,
       so.8.went,
     )

@@ -7,12 +7,12 @@ use Rattle.calloop.proofs.futures.source.run_tasks.Given as goal
 
 abbrev pub invariant-pops : goal.invariant-pops
 invariant-pops g l =
-    (l.turn.name ≡ l.shared.slot) × (l.twin.name ≡ l.shared.slot) × (l.turn.progress.pops ≤ most_tasks)
+    (l.turn.name ≡ l.shared.slot) × (l.tally.name ≡ l.shared.slot) × (l.turn.progress.pops ≤ most_tasks)
     × (l.finished ≡ true → IsSome l.turn.progress.polled)
-    × (l.twin ≡ record l.fn.twin { number = l.twin.number; misses = l.twin.misses })
+    × (l.tally ≡ record l.fn.tally { number = l.tally.number; misses = l.tally.misses })
     × ((ps : List (OfPop g.row.Fut-Output.Denot)) × (count : ℕ) × (results : ℕ) × (misses : ℕ)
     × (count + one l.turn.progress.dry ≡ l.turn.progress.pops)
-    × (l.twin.number + one l.finished ≡ l.fn.twin.number + results) × (l.twin.misses ≡ l.fn.twin.misses + misses)
+    × (l.tally.number + one l.finished ≡ l.fn.tally.number + results) × (l.tally.misses ≡ l.fn.tally.misses + misses)
     × (l.homes.slot ≡ l.shared.slot)
     × Polled (ComesOf g.Fut.Future.gives g.Fut.Future.polls) g.F.Callback.may g.Q.Asking.reaches l.fn.callback l.fn.«data» l.fn.requests ps count results misses l.callback l.«data» l.requests)
 

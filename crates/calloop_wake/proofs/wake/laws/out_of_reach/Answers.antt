@@ -7,7 +7,7 @@ use Rattle.calloop_wake.specs.ExecutorKind.{executor_kind}
 use Rattle.calloop_wake.specs.Kinds.{First, Second, either_kind, either_needs, every_kind}
 use Rattle.calloop_wake.specs.Lost.{with_a_key_forgotten, with_a_sleeper_left_alone}
 use Rattle.calloop_wake.specs.Delivery.{IsOwed, AllOwed, steps_to_a_turn}
-use Rattle.calloop_wake.specs.Wakes.{WakeWorld, WakeStep, Awake, At, ClearKey, SetKey, OpenTurn, OpenPlace, ClosePlace, Post, Back, Unpost, Look, Nudge, Sleep, Return, Needs, IsSchedule, after_all}
+use Rattle.calloop_wake.specs.Wakes.{WakeWorld, WakeStep, Awake, At, ClearKey, SetKey, OpenTurn, OpenPlace, ClosePlace, Post, Back, Unpost, Look, Wakeup, Sleep, Return, Needs, IsSchedule, after_all}
 use Rattle.calloop_wake.proofs.wake.laws.out_of_reach.Goals as goal
 
 not_true : ◌≡◌ {A = Bool} false true → ⊥
@@ -23,7 +23,7 @@ record IsStuck (w : WakeWorld every_kind.Cell) : Type 0 where
   pub quiet : cell.draining ≡ false
   pub debts : (j : ℕ) → w.debts j ≡ 0
   pub passes : (j : ℕ) → w.passes j ≡ 0
-  pub nudges : w.nudges ≡ 0
+  pub wakeups : w.wakeups ≡ 0
 
 module _ (w : WakeWorld every_kind.Cell) (h : IsStuck w) where
   no_step : (s : WakeStep every_kind.Own) → IsOwed every_kind 0 7 s → Needs every_kind w s → ⊥
@@ -42,7 +42,7 @@ module _ (w : WakeWorld every_kind.Cell) (h : IsStuck w) where
   no_step (Back j) o need = (let e = h.passes j in omega arith)
   no_step (Unpost below) o need = o
   no_step Look o need = o
-  no_step Nudge o need = (let e = h.nudges in omega arith)
+  no_step Wakeup o need = (let e = h.wakeups in omega arith)
   no_step Sleep o need = o
   no_step Return o need = o
 
@@ -51,10 +51,10 @@ module _ (w : WakeWorld every_kind.Cell) (h : IsStuck w) where
   nothing_owed (s ∷ ss) o met = absurd (no_step s o.0 met.0)
 
 forgotten_is : IsStuck with_a_key_forgotten
-forgotten_is = record { cell = _; cells = λ m. refl; quiet = refl; debts = λ j. refl; passes = λ j. refl; nudges = refl }
+forgotten_is = record { cell = _; cells = λ m. refl; quiet = refl; debts = λ j. refl; passes = λ j. refl; wakeups = refl }
 
 sleeper_is : IsStuck with_a_sleeper_left_alone
-sleeper_is = record { cell = _; cells = λ m. refl; quiet = refl; debts = λ j. refl; passes = λ j. refl; nudges = refl }
+sleeper_is = record { cell = _; cells = λ m. refl; quiet = refl; debts = λ j. refl; passes = λ j. refl; wakeups = refl }
 
 pub returns-clause-key : goal.returns-clause-key
 returns-clause-key c = λ d.

@@ -8,5 +8,5 @@ invariant-loop g l = record {
   seat : l.held.seat.table_id ≡ l.held.shared.now.table_id;
   slot : HasOneSlot l.held.shared.now.table_id;
   taken : IsTaken (λ cell. (cell.core.name ≡ l.held.shared.now.key.name) × (cell.core.state.cell.key ≡ None)) l.held.seat.me.1;
-  twin : l.twin.name ≡ l.lock.slot.name;
+  tally : l.tally.name ≡ l.lock.slot.name;
 }

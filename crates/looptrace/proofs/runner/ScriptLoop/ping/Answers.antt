@@ -1,6 +1,6 @@
 use Rattle.std.proofs.Common.{◌≡◌, ℕ, List, ◌∙◌, sym, ap, Some}
 use Rattle.std.specs.Option.{option_map}
-use Rattle.calloop_wake.specs.declared.wake.Twin.{Twin}
+use Rattle.calloop_wake.specs.declared.wake.Tally.{Tally}
 use Rattle.calloop.specs.Machine.{view_of}
 use Rattle.looptrace.specs.Sources.{ping_in}
 use Rattle.looptrace.specs.declared.source.Teller.{Teller}
@@ -20,6 +20,6 @@ returns-clause-ok g c =
       says.1,
       line_is (λ d. ping_in d) teller c.insert_source-answer.result name c.in_ok-kept.kept (Some c.in-Ok.ping) (ping_in (record { source = c.in-Ok.source; callback = teller })) (IsNewPing name)
           _ (view_of c.args.self.now.event_loop) _ c.args.self.now.sources _ c.args.self.now.fault (option_map pending_of c.args.self.now.pending) says.0
-          none (ap (λ (t : Twin). t.key) made, ap (λ (t : Twin). t.number) made, ap (λ (n : List ℕ). record { name = n }) (c.in_ok-new.ensures ∙ c.as_slice.ensures), sym (ap (λ (t : Twin). Some t.name) made))
+          none (ap (λ (t : Tally). t.key) made, ap (λ (t : Tally). t.number) made, ap (λ (n : List ℕ). record { name = n }) (c.in_ok-new.ensures ∙ c.as_slice.ensures), sym (ap (λ (t : Tally). Some t.name) made))
           (ap view_of c.handle.ensures.value) kept c.insert_source-answer.ensures.case says.2,
     )

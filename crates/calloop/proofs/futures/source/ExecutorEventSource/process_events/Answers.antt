@@ -1,7 +1,7 @@
 use Rattle.std.proofs.Common.{◌≡◌, ◌+◌, refl, sym, ◌∙◌, ap, true, false, [], ◌∷◌}
 use Rattle.calloop_core.specs.declared.sources.source.PostAction.TheVariants.{Continue}
 use Rattle.calloop_core.specs.Polls.{TakePass, PutBack, PollView, poll_after}
-use Rattle.calloop_wake.specs.declared.wake.Twin.{Twin}
+use Rattle.calloop_wake.specs.declared.wake.Tally.{Tally}
 use Rattle.calloop_wake.specs.Tokens.{key_of}
 use Rattle.calloop_wake.specs.Cells.{is_own}
 use Rattle.calloop.specs.Executors.{ComesOf, calls_of, results_of, misses_of, Opened, Refused}
@@ -35,7 +35,7 @@ returns-in-Ok g c =
             refl,
             refl,
             refl,
-            h.2 ∙ ap (λ (t : Twin). record t { number = t.number + results_of h.0; misses = t.misses + misses_of h.0 }) ok.1,
+            h.2 ∙ ap (λ (t : Tally). record t { number = t.number + results_of h.0; misses = t.misses + misses_of h.0 }) ok.1,
             h.3,
           ),
           ap (λ x. x.name) h.2 ∙ ap (λ x. x.name) ok.1,
