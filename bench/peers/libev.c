@@ -50,7 +50,7 @@ static ev_timer *timers_of(uint32_t size) {
 
 // Starts a timer for a scattered moment, so many seconds from now on.
 static void start(ev_timer *timer, double from, uint32_t number) {
-    ev_timer_set(timer, from + (double)scattered(number) * 1e-9, 0.);
+    ev_timer_set(timer, from + (double)scatter(number) * 1e-9, 0.);
     ev_timer_start(loop, timer);
 }
 

@@ -63,7 +63,7 @@ static struct event *timers_of(uint32_t size) {
 
 // Starts a timer for a scattered moment, so many seconds from now on. The moments lie a microsecond apart, which is the resolution.
 static void start(struct event *timer, long from, uint32_t number) {
-    const struct timeval in = {from, (long)(scattered(number) / 1000)};
+    const struct timeval in = {from, (long)(scatter(number) / 1000)};
     if (evtimer_add(timer, &in) != 0)
         fail("starting a timer");
 }

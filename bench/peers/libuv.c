@@ -52,7 +52,7 @@ static uv_timer_t *timers_of(uint32_t size) {
 
 // Starts a timer for a scattered moment, so many seconds from now on. The moments lie a millisecond apart, which is the resolution.
 static void start(uv_timer_t *timer, uint64_t from, uint32_t number) {
-    if (uv_timer_start(timer, fired, from * 1000 + scattered(number) / 1024, 0) != 0)
+    if (uv_timer_start(timer, fired, from * 1000 + scatter(number) / 1024, 0) != 0)
         fail("starting a timer");
 }
 

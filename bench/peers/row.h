@@ -35,7 +35,7 @@ static void pass(uint64_t nanoseconds) {
 }
 
 // How many nanoseconds this moment lies behind the first one: they are in an order that goes to and fro.
-static uint64_t scattered(uint32_t number) {
+static uint64_t scatter(uint32_t number) {
     return (uint64_t)number * 489905 % SCATTER;
 }
 

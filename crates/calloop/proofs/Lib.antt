@@ -26,6 +26,7 @@ pub mod Telling
 pub mod Listing
 pub mod Homes
 pub mod Freshness
+pub mod Failing
 pub mod Registered
 pub mod Blocking
 pub mod Adapting

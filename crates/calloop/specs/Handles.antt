@@ -1,5 +1,5 @@
 -- The calls of a loop's handle as calls of the machine. Calloop's handle reaches its loop through a cell; this one is lent it.
-use Rattle.std.specs.Prelude.{◌≡◌, List, None}
+use Rattle.std.specs.Prelude.{◌≡◌, ℕ, List, None}
 use Rattle.calloop_wake.specs.declared.token.RegistrationToken.{RegistrationToken}
 use Rattle.calloop_wake.specs.declared.list.Slot.{Slot}
 use Rattle.calloop_wake.specs.Slots.{content_at, source_of}
@@ -30,9 +30,13 @@ NamesNone M token h = source_of (only (is_callers M) (content_at (held_by h).slo
 abbrev pub loop_by : {D P C R X I S : Type 0} → LoopHandle D P C R X I S → EventLoop D P C R X I S
 loop_by h = h.inner.now
 
+-- the name of the borrow by which it is lent that
+abbrev pub lent_by : {D P C R X I S : Type 0} → LoopHandle D P C R X I S → ℕ
+lent_by h = h.inner.ghost_name
+
 -- it is lent the very loop that it was lent before
 abbrev pub HasTheSameLoop : {D P C R X I S : Type 0} → LoopHandle D P C R X I S → LoopHandle D P C R X I S → Type 0
-HasTheSameLoop old new = new.inner.ghost_name ≡ old.inner.ghost_name
+HasTheSameLoop old new = lent_by new ≡ lent_by old
 
 -- what its loop holds in its slots
 abbrev pub slots_by : {D P C R X I S : Type 0} → LoopHandle D P C R X I S → List (Slot D)

@@ -15,7 +15,7 @@ use Rattle.calloop_core.specs.declared.sources.source.PostAction.TheVariants.{
 use Rattle.calloop_core.specs.declared.transient.State.{State}
 use Rattle.calloop_core.specs.declared.transient.State.TheVariants.{Keep, Register, Disable, Remove, Replace, Empty}
 use Rattle.calloop_core.specs.Polls.{PollView, PollStep, polls_after}
-use Rattle.calloop_core.specs.Deeds.{Deed, Registered, Reregistered, Unregistered, Turned, Slept, Noticed, Heard, heard}
+use Rattle.calloop_core.specs.Deeds.{Deed, Registered, Reregistered, Unregistered, Turned, Slept, Noticed, Heard, new_heard}
 use Rattle.calloop_core.specs.Meanings.{Meaning}
 use Rattle.calloop_core.specs.Marks.{Succeeds, IsRegisteredBy, IsMarked, as_many, registered_within}
 use Rattle.calloop_core.specs.Transients.{
@@ -130,7 +130,7 @@ module _ {S P E M T Cause : Type 0} (m : Meaning S P (Heard E M T Cause)) (regis
   turned_marked (Keep s b) t v readiness token turn l action is ok h =
       let inner = told_of h.0 h.1 b turn.answer t action ok h.3 in
       kept_marked h.0 h.1 b turn.answer t
-      (law s h.1 v (Turned readiness token (heard turn.calls h.0)) l inner h.2 ∙ is) h.3
+      (law s h.1 v (Turned readiness token (new_heard turn.calls h.0)) l inner h.2 ∙ is) h.3
   turned_marked (Register s) t v readiness token turn l action is ok h = rw h.3 is
   turned_marked (Disable s b) t v readiness token turn l action is ok h = rw h.3 is
   turned_marked (Remove s b) t v readiness token turn l action is ok h = rw h.3 is

@@ -15,7 +15,7 @@ use Rattle.calloop_wake.specs.declared.token.Token.{Token}
 use Rattle.calloop_core.specs.declared.sys.Readiness.{Readiness}
 use Rattle.calloop_core.specs.declared.sources.source.PostAction.TheVariants.{Continue}
 use Rattle.calloop_core.specs.Calls.{CallbackCall, Went}
-use Rattle.calloop_core.specs.Deeds.{Deed, Turned, heard}
+use Rattle.calloop_core.specs.Deeds.{Deed, Turned, new_heard}
 use Rattle.calloop_core.specs.Meanings.{Meaning, Does}
 use Rattle.calloop_core.specs.Timers.{timer_meaning}
 use Rattle.calloop_core.proofs.Stepping.{stepped-append}
@@ -71,12 +71,12 @@ noted event reaches s t x y q r (c ∷ cs) h =
 
 pub failed : {P R : Type 0} (O : Outside P) (readiness : Readiness) (token : Token) (cause : Broken) (s t : Trio R)
     (v u w x : PollView P)
-    → DidPart O (Turned readiness token (heard [] (Err cause))) ping_meaning s.bell v t.bell u
-    → DidPart O (Turned readiness token (heard [] (Err cause))) timer_meaning s.first u t.first w
-    → DidPart O (Turned readiness token (heard [] (Err cause))) timer_meaning s.second w t.second x
-    → Does O trio_meaning s v (Turned readiness token (heard [] (Err cause))) t x
+    → DidPart O (Turned readiness token (new_heard [] (Err cause))) ping_meaning s.bell v t.bell u
+    → DidPart O (Turned readiness token (new_heard [] (Err cause))) timer_meaning s.first u t.first w
+    → DidPart O (Turned readiness token (new_heard [] (Err cause))) timer_meaning s.second w t.second x
+    → Does O trio_meaning s v (Turned readiness token (new_heard [] (Err cause))) t x
 failed O readiness token cause s t v u w x b f g =
-    let did = asked O (Turned readiness token (heard [] (Err cause))) s t v u w x b f g in
+    let did = asked O (Turned readiness token (new_heard [] (Err cause))) s t v u w x b f g in
     (did.0, (did.1, refl), did.2)
 
 pub served : {P R : Type 0} (O : Outside P) (readiness : Readiness) (token : Token) (b : OfBell) (f g : OfTimer) (s t : Trio R)
@@ -85,9 +85,9 @@ pub served : {P R : Type 0} (O : Outside P) (readiness : Readiness) (token : Tok
     → Does O timer_meaning s.first u (Turned readiness token f) t.first w
     → Does O timer_meaning s.second w (Turned readiness token g) t.second x
     → part ≡ part_heard (after_calls None b.calls) (after_calls None f.calls) (after_calls None g.calls)
-    → Does O trio_meaning s v (Turned readiness token (heard (calls_of part) (Ok Continue))) t x
+    → Does O trio_meaning s v (Turned readiness token (new_heard (calls_of part) (Ok Continue))) t x
 served O readiness token b f g s t v u w x part bell first second is =
-    let whole : Deed OfTrio = Turned readiness token (heard (calls_of part) (Ok Continue)) in
+    let whole : Deed OfTrio = Turned readiness token (new_heard (calls_of part) (Ok Continue)) in
     let did = asked O whole s t v u w x
     (reached O whole ping_meaning s.bell t.bell v u (Turned readiness token b) (refl, refl) bell)
     (reached O whole timer_meaning s.first t.first u w (Turned readiness token f) (refl, refl) first)

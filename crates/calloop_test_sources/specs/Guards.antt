@@ -5,7 +5,7 @@ use Rattle.std.proofs.Common.{inl, inr}
 use Rattle.calloop_core.specs.declared.sources.source.PostAction.{PostAction}
 use Rattle.calloop_core.specs.Polls.{PollView, PollStep}
 use Rattle.calloop_core.specs.Lawful.{silent}
-use Rattle.calloop_core.specs.Deeds.{Deed, Registered, Reregistered, Unregistered, Turned, SaysNothing, Slept, Noticed, Heard, heard}
+use Rattle.calloop_core.specs.Deeds.{Deed, Registered, Reregistered, Unregistered, Turned, SaysNothing, Slept, Noticed, Heard, new_heard}
 use Rattle.calloop_core.specs.Holdings.{holds_none}
 use Rattle.calloop_core.specs.declared.sources.dispatch.Role.TheVariants.{Caller}
 use Rattle.calloop_core.specs.Meanings.{Meaning, IsKeeping, KeepsCounters, KeepsHome}
@@ -26,7 +26,7 @@ Guards s v (Slept given answer) steps t = SaysNothing given answer × (steps ≡
 Guards s v (Noticed events) steps t = (steps ≡ []) × (t ≡ s)
 Guards s v (Turned readiness token turn) steps t =
     ((answer : Result PostAction PingError)
-    × IsPing s.ping v (Turned readiness token (heard turn.calls answer)) steps t.ping)
+    × IsPing s.ping v (Turned readiness token (new_heard turn.calls answer)) steps t.ping)
     ⊎ (IsErr turn.answer × (turn.calls ≡ []) × (steps ≡ []) × (t.ping ≡ s.ping))
 
 abbrev pub guarded_meaning : {P R : Type 0}
@@ -55,7 +55,7 @@ guarded_counts s t v (Unregistered a) l fits below (inr h) = (tt, rw h.0 (λ cou
 guarded_counts s t v (Slept gs a) l fits below h = (tt, rw h.1 (λ counter. tt))
 guarded_counts s t v (Noticed es) l fits below h = (tt, rw h.0 (λ counter. tt))
 guarded_counts s t v (Turned r k turn) l fits below (inl h) =
-    ping_keeps.counters s.ping t.ping v (Turned r k (heard turn.calls h.0)) l fits below h.1
+    ping_keeps.counters s.ping t.ping v (Turned r k (new_heard turn.calls h.0)) l fits below h.1
 guarded_counts s t v (Turned r k turn) l fits below (inr h) = (tt, rw h.2 (λ counter. tt))
 
 guarded_stays : {P R : Type 0} → KeepsHome (guarded_meaning {P = P} {R = R})
@@ -70,7 +70,7 @@ guarded_stays r s t v (Unregistered a) l home (inr h) = rw (h.0, h.1) (home, λ 
 guarded_stays r s t v (Slept gs a) l home h = rw (h.1, h.2) (home, λ at. tt)
 guarded_stays r s t v (Noticed es) l home h = rw (h.0, h.1) (home, λ at. tt)
 guarded_stays r s t v (Turned readiness k turn) l home (inl h) =
-    ping_keeps.home r s.ping t.ping v (Turned readiness k (heard turn.calls h.0)) l home h.1
+    ping_keeps.home r s.ping t.ping v (Turned readiness k (new_heard turn.calls h.0)) l home h.1
 guarded_stays r s t v (Turned readiness k turn) l home (inr h) = rw (h.2, h.3) (home, λ at. tt)
 
 pub guarded_keeps : {P R : Type 0} → IsKeeping (guarded_meaning {P = P} {R = R})

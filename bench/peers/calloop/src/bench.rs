@@ -93,7 +93,7 @@ impl Bench {
         let far = self.insert_far_timers(size)?;
         let began = Instant::now();
         for number in 0..count {
-            let token = self.insert_timer(scattered(far, size.wrapping_add(number)))?;
+            let token = self.insert_timer(scatter(far, size.wrapping_add(number)))?;
             self.handle.remove(token);
         }
         self.stop(began);
@@ -177,14 +177,14 @@ impl Bench {
     /// Arms so many timers, for the scattered moments from this one on.
     fn insert_timers(&self, size: u32, from: Instant) -> Result<(), Failure> {
         for number in 0..size {
-            self.insert_timer(scattered(from, number))?;
+            self.insert_timer(scatter(from, number))?;
         }
         Ok(())
     }
 
     fn insert_timer(&self, deadline: Instant) -> Result<RegistrationToken, Failure> {
         let timer = Timer::from_deadline(deadline);
-        Ok(self.handle.insert_source(timer, fired)?)
+        Ok(self.handle.insert_source(timer, count_call)?)
     }
 
     /// Puts so many sockets into the loop, each with a byte to be read: their peers.
@@ -207,7 +207,7 @@ fn rung(_: (), _: &mut (), calls: &mut u64) {
     *calls += 1;
 }
 
-fn fired(_deadline: Instant, _: &mut (), calls: &mut u64) -> TimeoutAction {
+fn count_call(_deadline: Instant, _: &mut (), calls: &mut u64) -> TimeoutAction {
     *calls += 1;
     TimeoutAction::Drop
 }
@@ -226,6 +226,6 @@ fn come_to(moment: Instant) {
 }
 
 /// The moment of this number among 2^20 that are a nanosecond apart, in an order that goes to and fro.
-fn scattered(from: Instant, number: u32) -> Instant {
+fn scatter(from: Instant, number: u32) -> Instant {
     from + Duration::from_nanos(u64::from(number) * 489_905 % SCATTER)
 }

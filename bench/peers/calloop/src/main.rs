@@ -27,7 +27,7 @@ impl Asked {
             [row, count, size] => Ok(Asked {
                 count: number(count)?,
                 size: number(size)?,
-                row: Row::named(row).ok_or_else(|| format!("no row has the name \"{row}\""))?,
+                row: Row::by_name(row).ok_or_else(|| format!("no row has the name \"{row}\""))?,
             }),
             _ => Err("usage: calloop ROW COUNT SIZE".to_owned()),
         }

@@ -23,7 +23,7 @@ const ROWS: [Row; 6] = [
 ];
 
 impl Row {
-    pub fn named(name: &str) -> Option<Row> {
+    pub fn by_name(name: &str) -> Option<Row> {
         ROWS.into_iter().find(|row| row.name() == name)
     }
 

@@ -2,7 +2,8 @@
 ghost use Rattle.std.specs.Prelude.{◌≡◌, ◌<◌, length, Ok, Err, IfOk, IfErr, true};
 ghost use Rattle.calloop_wake.specs.declared.error.Error.TheVariants.{OutOfMemory};
 ghost use Rattle.calloop_core.specs.Pollers.{nanos_of};
-ghost use Rattle.calloop.specs.Handles.{loop_by};
+ghost use Rattle.calloop.specs.DispatchErrors.{IsOfDispatch};
+ghost use Rattle.calloop.specs.Handles.{loop_by, lent_by};
 ghost use Rattle.calloop.specs.declared.loop_logic.LoopCall.TheVariants.{Dispatch};
 ghost use Rattle.calloop.specs.declared.loop_logic.LoopAnswer.TheVariants.{Dispatched};
 ghost use Rattle.calloop.specs.Machine.{BeginsAnew, view_of};
@@ -55,7 +56,7 @@ impl<D: EventDispatcher<P, C, R>, P: Poller, C: Clock, R: Wait + Drop> EventLoop
 
     /// Lends the calls that act at once.
     pub fn handle(&mut self) -> LoopHandle<'_, D, P, C, R>
-        ensures same { result.inner.ghost_name ≡ self.entry.ghost_name }
+        ensures same { lent_by result ≡ self.entry.ghost_name }
         ensures value { loop_by result ≡ self.old }
     {
         LoopHandle { inner: self }
@@ -83,6 +84,7 @@ impl<D: EventDispatcher<P, C, R>, P: Poller, C: Clock, R: Wait + Drop> EventLoop
             (Dispatched result «data».new)) (view_of self.old) (view_of self.new) }
         ensures machine { Leads (Case D.means D.Idle.runs P.outside (Dispatch timeout «data».old)
             (Dispatched result «data».new)) (view_of self.old) (view_of self.new) }
+        ensures errors { IfErr result (IsOfDispatch D.means P.outside) }
     {
         let mut failure = Error::OutOfMemory;
         let answer = self.dispatch_with(rt, timeout, data, &mut failure);

@@ -16,6 +16,7 @@ struct Indexed {
 }
 
 /// What is waited for under which key, in the order of the keys. The one of each slot that came last is found without a search.
+/// For that there is an index up to the highest slot that had a socket so far. It never shrinks.
 #[derive(Drop)]
 pub struct SocketTable {
     by_key: BTreeMap<u64, Watched>,

@@ -1,6 +1,6 @@
 use Rattle.std.proofs.Common.{◌≡◌, ◌∙◌, ap, refl, [], None}
 use Rattle.calloop_core.specs.Polls.{poll_view}
-use Rattle.calloop_core.specs.Deeds.{Turned, heard}
+use Rattle.calloop_core.specs.Deeds.{Turned, new_heard}
 use Rattle.calloop_core.specs.Timers.{timer_meaning}
 use Rattle.calloop.specs.Pings.{ping_meaning}
 use Rattle.calloop_test_sources.specs.Trios.{calls_of, part_heard, after_calls}
@@ -14,10 +14,10 @@ returns-then-is_err-2 g c =
       failed O _ _ _ _ _ (poll_view c.args.poll.now) (poll_view c.process_events-rang.new.poll)
           (poll_view c.process_events-came.new.poll) (poll_view c.process_events-came.new.poll)
           (reached O _ ping_meaning _ _ _ _
-          (Turned c.args.readiness c.args.token (heard c.process_events-rang.ensures.0 c.process_events-rang.result)) (refl, refl)
+          (Turned c.args.readiness c.args.token (new_heard c.process_events-rang.ensures.0 c.process_events-rang.result)) (refl, refl)
           c.process_events-rang.ensures.1)
           (reached O _ timer_meaning _ _ _ _
-          (Turned c.args.readiness c.args.token (heard c.process_events-came.ensures.0 c.process_events-came.result)) (refl, refl)
+          (Turned c.args.readiness c.args.token (new_heard c.process_events-came.ensures.0 c.process_events-came.result)) (refl, refl)
           c.process_events-came.ensures.1)
           (unreached O _ timer_meaning _ _ tt),
       (refl, refl, refl),
@@ -30,13 +30,13 @@ returns-then-is_err-3 g c =
       failed O _ _ _ _ _ (poll_view c.args.poll.now) (poll_view c.process_events-rang.new.poll)
           (poll_view c.process_events-came.new.poll) (poll_view c.process_events-came-2.new.poll)
           (reached O _ ping_meaning _ _ _ _
-          (Turned c.args.readiness c.args.token (heard c.process_events-rang.ensures.0 c.process_events-rang.result)) (refl, refl)
+          (Turned c.args.readiness c.args.token (new_heard c.process_events-rang.ensures.0 c.process_events-rang.result)) (refl, refl)
           c.process_events-rang.ensures.1)
           (reached O _ timer_meaning _ _ _ _
-          (Turned c.args.readiness c.args.token (heard c.process_events-came.ensures.0 c.process_events-came.result)) (refl, refl)
+          (Turned c.args.readiness c.args.token (new_heard c.process_events-came.ensures.0 c.process_events-came.result)) (refl, refl)
           c.process_events-came.ensures.1)
           (reached O _ timer_meaning _ _ _ _
-          (Turned c.args.readiness c.args.token (heard c.process_events-came-2.ensures.0 c.process_events-came-2.result)) (refl, refl)
+          (Turned c.args.readiness c.args.token (new_heard c.process_events-came-2.ensures.0 c.process_events-came-2.result)) (refl, refl)
           c.process_events-came-2.ensures.1),
       (refl, refl, refl),
     )
@@ -56,8 +56,8 @@ returns g c =
     ∙ ap (λ o. part_heard (after_calls None rang.ensures.0) o came_too.new.callback.event) first
     ∙ ap (λ o. part_heard (after_calls None rang.ensures.0) (after_calls None came.ensures.0) o) second in (
       calls_of c.part_of.result,
-      served O _ _ (heard rang.ensures.0 rang.result) (heard came.ensures.0 came.result)
-          (heard came_too.ensures.0 came_too.result) _ _ (poll_view c.args.poll.now) (poll_view rang.new.poll)
+      served O _ _ (new_heard rang.ensures.0 rang.result) (new_heard came.ensures.0 came.result)
+          (new_heard came_too.ensures.0 came_too.result) _ _ (poll_view c.args.poll.now) (poll_view rang.new.poll)
           (poll_view came.new.poll) (poll_view came_too.new.poll) c.part_of.result rang.ensures.1 came.ensures.1
           came_too.ensures.1 is,
       c.call_if.ensures,
