@@ -42,11 +42,11 @@ of_action F (Ok Remove) pending k = tt
 of_action F (Err e) pending k = k
 
 module _ {D I P X : Type 0} (M : Meaning D P (Lent X (Asks D I))) (runs : Runs D I X) (O : Outside P) where
-  From : Error → Type 0
+  abbrev From : Error → Type 0
   From e = IsOfDispatch M O e
 
   -- where an error is on its way out, it comes from there
-  IsFounded : Doing D X → Type 0
+  abbrev IsFounded : Doing D X → Type 0
   IsFounded (Serving token d answer x) = IfErr answer From
   IsFounded (Ending token d answer x) = IfErr answer From
   IsFounded (Returning token d told x) = IfErr told From
@@ -140,6 +140,6 @@ module _ {D I P X : Type 0} (M : Meaning D P (Lent X (Asks D I))) (runs : Runs D
   steps_founded v a b (cs ∷ css) h k = steps_founded (all_viewed v cs) h.0 b css h.3 (step_founded v a h.0 cs h.1 k)
 
   -- the error of a dispatch
-  pub dispatch_founded : (v : View D I P) (timeout : Option ℕ) (x x' : X) (answer : Outcome) (css : List (List (Change D I P))) → DispatchedBy M runs O timeout x answer x' v css → IfErr answer From
+  pub dispatch_founded : (v : View D I P) (timeout : Option ℕ) (x x' : X) (answer : Outcome) (css : List (List (Change D I P))) → DispatchedBy M runs O timeout x answer x' v css → IfErr answer (IsOfDispatch M O)
   dispatch_founded v timeout x x' answer css (inl h) = rw h.0 (inl refl)
   dispatch_founded v timeout x x' answer css (inr h) = steps_founded v (Beginning timeout x) (Leaving answer x') css h tt
