@@ -99,7 +99,7 @@ module _ {D I P X : Type 0} (M : Meaning D P (Lent X (Asks D I))) (runs : Runs D
   registered_founded : (v : PollView P) (token : RegistrationToken) (listed : Bool) (d e : D) (told : Outcome) (steps : List (PollStep P)) → RegisteredBy M Reregistered token listed v d told steps e → IfErr told From
   registered_founded v token listed d e told steps h =
       of_error From told (λ cause is.
-        elim h [ inl k ↦ (let same : Err OutOfMemory ≡ Err cause = sym k.1 ∙ is in inl (cc)) | inr k ↦ of_source d e v _ steps cause k.1 is ])
+      elim h [ inl k ↦ (let same : Err OutOfMemory ≡ Err cause = sym k.1 ∙ is in inl (cc)) | inr k ↦ of_source d e v _ steps cause k.1 is ])
 
   acted_founded : (v : View D I P) (token : RegistrationToken) (d : D) (answer : Result PostAction Error) (cs : List (Change D I P)) (e : D) (told : Outcome) → ActedBy M token d answer v cs e told → IfErr answer From → IfErr told From
   acted_founded v token d (Ok Continue) cs e told h k = rw h.2 tt

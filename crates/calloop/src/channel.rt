@@ -182,7 +182,7 @@ impl<T: Drop, R: Wait + Drop> Drop for Sender<T, R> {
     fn drop(self) {
         let Sender { rt, shared, sender } = self;
         drop_sender(&rt, &shared, sender);
-        shared.tell_all(Awaited::Content);
+        shared.notify_all(Awaited::Content);
     }
 }
 
@@ -195,7 +195,7 @@ impl<T: Drop, R: Wait + Drop> Drop for SyncSender<T, R> {
             limit: _,
         } = self;
         drop_sender(&rt, &shared, sender);
-        shared.tell_all(Awaited::Content);
+        shared.notify_all(Awaited::Content);
     }
 }
 
@@ -203,7 +203,7 @@ impl<T: Drop, R: Wait + Drop> Drop for Channel<T, R> {
     fn drop(self) {
         let Channel { rt, shared, tally } = self;
         abandon(&rt, &shared, tally);
-        shared.tell_all(Awaited::Room);
+        shared.notify_all(Awaited::Room);
     }
 }
 

@@ -47,7 +47,7 @@ pub fn put<T: Drop, R: Wait>(
         Ok((receipt, debt)) => {
             let owed = cell.with_hub(rt, debt);
             held.unlock();
-            shared.tell_all(Awaited::Content);
+            shared.notify_all(Awaited::Content);
             settle(rt, owed);
             Ok(receipt)
         }
@@ -84,7 +84,7 @@ pub fn put_waiting<T: Drop, R: Wait>(
             Ok((receipt, debt)) => {
                 let owed = cell.with_hub(rt, debt);
                 held.unlock();
-                shared.tell_all(Awaited::Content);
+                shared.notify_all(Awaited::Content);
                 settle(rt, owed);
                 return Ok(receipt);
             }
@@ -117,7 +117,7 @@ pub fn take<T: Drop, R: Wait>(
     held.unlock();
     match message {
         Some(message) => {
-            shared.tell_one(Awaited::Room);
+            shared.notify_one(Awaited::Room);
             Ok(message)
         }
         None if closed => Err(TryRecvError::Disconnected),
@@ -140,7 +140,7 @@ pub fn take_waiting<T: Drop, R: Wait>(
         let cell = held.core();
         if let Some(message) = cell.core.take(tally) {
             held.unlock();
-            shared.tell_one(Awaited::Room);
+            shared.notify_one(Awaited::Room);
             return Ok(message);
         }
         if cell.core.is_closed() {
@@ -190,7 +190,7 @@ pub fn pop<T: Drop, R: Wait>(
     let popped = cell.core.pop(turn, tally);
     held.unlock();
     if matches!(popped, Popped::Item(_)) {
-        shared.tell_one(Awaited::Room);
+        shared.notify_one(Awaited::Room);
     }
     popped
 }

@@ -224,15 +224,15 @@ impl<X: Core> Locked<X> {
         shared.compare_exchange::<Looks<X>>(&mut seat, 0, word, word) == word
     }
 
-    /// Tells one of those that wait for this that it has come. Who changed the core so has given the lock up before. It is enough where
+    /// Wakes one of those that wait for this: it has come. Who changed the core so has given the lock up before. It is enough where
     /// what came is for one of them.
-    pub fn tell_one(&self, awaited: Awaited) {
-        self.queues.of(awaited).tell_one();
+    pub fn notify_one(&self, awaited: Awaited) {
+        self.queues.of(awaited).notify_one();
     }
 
-    /// Tells all that wait for this that it has come. Who changed the core so has given the lock up before.
-    pub fn tell_all(&self, awaited: Awaited) {
-        self.queues.of(awaited).tell_all();
+    /// Wakes all that wait for this: it has come. Who changed the core so has given the lock up before.
+    pub fn notify_all(&self, awaited: Awaited) {
+        self.queues.of(awaited).notify_all();
     }
 }
 
@@ -346,7 +346,7 @@ impl<'a, X: Core> Held<'a, X> {
             queues,
         } = self;
         shared.store::<GivesBack>(&mut seat, 0, FREE);
-        queues.entering.tell_one();
+        queues.entering.notify_one();
     }
 
     /// Gives the lock up, and leaves this number as a hint of what lies under it, which is so. The highest two numbers leave none.
@@ -362,7 +362,7 @@ impl<'a, X: Core> Held<'a, X> {
             queues,
         } = self;
         shared.store::<GivesBack>(&mut seat, 0, with_hint(number));
-        queues.entering.tell_one();
+        queues.entering.notify_one();
     }
 
     /// Gives the lock up, and waits until it is told that this has come, or for less. Then it has the lock again.

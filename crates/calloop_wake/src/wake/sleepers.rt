@@ -40,15 +40,15 @@ impl Sleepers {
         self.told.park(rt, (told & 0xffff_ffff) as u32);
     }
 
-    /// Tells one of them.
-    pub(crate) fn tell_one(&self) {
+    /// Wakes one of them.
+    pub(crate) fn notify_one(&self) {
         if self.count() {
             self.told.wake_one();
         }
     }
 
-    /// Tells all of them.
-    pub(crate) fn tell_all(&self) {
+    /// Wakes all of them.
+    pub(crate) fn notify_all(&self) {
         if self.count() {
             self.told.wake_all();
         }

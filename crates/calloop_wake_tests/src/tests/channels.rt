@@ -594,7 +594,7 @@ fn receive<R: Wait>(rt: &R, lock: &Locked<Keyless>, tally: &mut Tally) -> u64
     for _ in rt.forever() {
         if let Some(message) = held.core().core.take(tally) {
             held.unlock();
-            lock.tell_one(Awaited::Room);
+            lock.notify_one(Awaited::Room);
             return message;
         }
         held = held.wait(rt, Awaited::Content);
@@ -611,7 +611,7 @@ fn put_message<R: Wait>(rt: &R, lock: &Locked<Keyless>, message: u64) -> Option<
     for _ in rt.forever() {
         if let Ok((_receipt, debt)) = held.core().core.put(message) {
             held.unlock();
-            lock.tell_all(Awaited::Content);
+            lock.notify_all(Awaited::Content);
             return debt;
         }
         held = held.wait(rt, Awaited::Room);

@@ -128,7 +128,7 @@ fn take_turn<R: Wait>(rt: &R, lock: &Locked<Tally>, odd: u64) {
         if tally.count % 2 == odd {
             tally.count = tally.count.wrapping_add(1);
             held.unlock();
-            lock.tell_all(Awaited::Content);
+            lock.notify_all(Awaited::Content);
             return;
         }
         held = held.wait(rt, Awaited::Content);
