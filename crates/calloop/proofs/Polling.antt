@@ -5,7 +5,7 @@ use Rattle.calloop_wake.specs.declared.token.Token.{Token}
 use Rattle.calloop_wake.specs.Tokens.{key_of}
 use Rattle.calloop_wake.specs.Cells.{one, is_own}
 use Rattle.calloop_wake.specs.Passes.{Taken, Keyed, on}
-use Rattle.calloop_wake.specs.Executors.{ExecutorCell, settled_at, after_settle, taken_of, after_pop, after_end_turn, debt_between}
+use Rattle.calloop_wake.specs.Executors.{ExecutorCell, after_poll_of, after_poll, taken_of, after_pop, after_end_turn, debt_between}
 use Rattle.calloop_wake.specs.declared.wake.tasks.TaskKey.{TaskKey}
 use Rattle.logbook.specs.Pages.{Book}
 use Rattle.calloop_core.specs.declared.sources.source.PostAction.{PostAction}
@@ -77,20 +77,20 @@ module _ (P O : Type 0) (given : OfPop O → Type 0) (tally : Tally) (token : To
   turn_answered p answered calls action steps after some h = rw (own, some) (answered, h)
 
 -- The steps of a turn leave the cell its key.
-settled_key : (o : Option TaskKey) (finished : Bool) (c : ExecutorCell) → (settled_at o finished c).key ≡ c.key
-settled_key None finished c = refl
-settled_key (Some key) true c = refl
-settled_key (Some key) false c = refl
+after_poll_key : (o : Option TaskKey) (finished : Bool) (c : ExecutorCell) → (after_poll_of o finished c).key ≡ c.key
+after_poll_key None finished c = refl
+after_poll_key (Some key) true c = refl
+after_poll_key (Some key) false c = refl
 
 taken_key : (queue : List ℕ) (c : ExecutorCell) → (taken_of queue c).key ≡ c.key
 taken_key [] c = refl
 taken_key (slot ∷ rest) c = refl
 
 pub pop_key : (finished : Bool) (c : ExecutorCell) → (after_pop finished c).key ≡ c.key
-pop_key finished c = taken_key (after_settle finished c).queue (after_settle finished c) ∙ settled_key c.progress.polled finished c
+pop_key finished c = taken_key (after_poll finished c).queue (after_poll finished c) ∙ after_poll_key c.progress.polled finished c
 
 pub end_key : (finished : Bool) (c : ExecutorCell) → (after_end_turn finished c).key ≡ c.key
-end_key finished c = settled_key c.progress.polled finished c
+end_key finished c = after_poll_key c.progress.polled finished c
 
 some_of : (o : Option Keyed) (P : Keyed → Type 0) → ((place : Keyed) → o ≡ Some place → P place) → IfSome o P
 some_of None P h = tt

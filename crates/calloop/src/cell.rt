@@ -12,7 +12,7 @@ use calloop_wake::error::Result as LoopResult;
 use calloop_wake::token::Token;
 use calloop_wake::wake::cell::CellCore;
 use calloop_wake::wake::locked::{Core, Locked};
-use calloop_wake::wake::{Debt, Last, LeaveToClose, ReceivingRight, Sender, Tally};
+use calloop_wake::wake::{ClosePermit, Debt, Last, ReceivingRight, Sender, Tally};
 use counted_slot::Fits;
 use std::alloc::{AllocError, Global};
 use std::sync::{Arc, Wait};
@@ -46,7 +46,7 @@ impl<K: CellCore> Core for Cell<K> {
     }
 }
 
-/// What the ends of a cell share, under its lock. In a clause `slot` is the tag of its core.
+/// What the ends of a cell share, under its lock. In a clause `tag` is that of its core.
 pub type SharedCell<K> = Arc<Locked<Cell<K>>, Global>;
 
 impl<K: CellCore> Cell<K> {
@@ -54,7 +54,7 @@ impl<K: CellCore> Cell<K> {
     pub fn new_locked(alloc: Global, core: K, tag: &K::Tag) -> Result<Locked<Cell<K>>, AllocError>
         requires fits { K.fits tag.now core }
         requires place { K.place_of core ≡ None }
-        ensures { IfOk result (λ made. made.slot ≡ tag.now) }
+        ensures { IfOk result (λ made. made.tag ≡ tag.now) }
     {
         Locked::new(alloc, Cell { core, hub: None }, tag)
     }
@@ -73,23 +73,23 @@ impl<K: CellCore> Cell<K> {
 }
 
 /// Posts the key of a debt, where there is one.
-pub(crate) fn settle<R: Wait>(rt: &R, owed: Option<(Debt, SharedHub)>)
+pub(crate) fn post<R: Wait>(rt: &R, owed: Option<(Debt, SharedHub)>)
     requires { IfSome owed (λ owed. owed.0.board ≡ arc_value owed.1) }
 {
     if let Some((debt, hub)) = owed {
-        hub.settle(rt, debt);
+        hub.post(rt, debt);
     }
 }
 
 // Closes the place of a key that the cell has no more.
-fn close_place<R: Wait>(rt: &R, hub: &Option<SharedHub>, leave: Option<LeaveToClose>)
-    requires { IfSome leave (λ l. option_map arc_value hub.now ≡ Some l.board) }
+fn close_place<R: Wait>(rt: &R, hub: &Option<SharedHub>, permit: Option<ClosePermit>)
+    requires { IfSome permit (λ l. option_map arc_value hub.now ≡ Some l.board) }
 {
-    let Some(leave) = leave else {
+    let Some(permit) = permit else {
         return;
     };
     match hub {
-        Some(hub) => hub.close_place(rt, leave),
+        Some(hub) => hub.close_place(rt, permit),
         None => unreachable!(),
     }
 }
@@ -100,8 +100,8 @@ pub fn receiver<K: CellCore, R: Wait>(
     shared: &Locked<Cell<K>>,
     right: ReceivingRight,
 ) -> Tally
-    requires { right.name ≡ K.named_by shared.now.slot }
-    ensures { result ≡ fresh_tally (K.named_by shared.now.slot) }
+    requires { right.name ≡ K.named_by shared.now.tag }
+    ensures { result ≡ fresh_tally (K.named_by shared.now.tag) }
 {
     let mut held = shared.lock(rt);
     let tally = held.core().core.receiver(right);
@@ -114,7 +114,7 @@ pub fn add_sender<K: CellCore, R: Wait>(
     rt: &R,
     shared: &Locked<Cell<K>>,
 ) -> Result<Sender, AllocError>
-    ensures { IfOk result (λ sender. sender.name ≡ K.named_by shared.now.slot) }
+    ensures { IfOk result (λ sender. sender.name ≡ K.named_by shared.now.tag) }
 {
     let mut held = shared.lock(rt);
     let cell = held.core();
@@ -125,14 +125,14 @@ pub fn add_sender<K: CellCore, R: Wait>(
 
 /// One sender less. The last one closes the cell.
 pub fn drop_sender<K: CellCore, R: Wait>(rt: &R, shared: &Locked<Cell<K>>, sender: Sender)
-    requires { sender.name ≡ K.named_by shared.now.slot }
+    requires { sender.name ≡ K.named_by shared.now.tag }
 {
     let mut held = shared.lock(rt);
     let cell = held.core();
     let debt = cell.core.drop_sender(sender);
     let owed = cell.with_hub(rt, debt);
     held.unlock();
-    settle(rt, owed);
+    post(rt, owed);
 }
 
 /// Opens the place of the token, gives the cell its key, and then closes the place of the key that it had.
@@ -143,7 +143,7 @@ pub fn attach<K: CellCore, R: Wait>(
     hub: &SharedHub,
     token: Token,
 ) -> LoopResult<()>
-    requires name { tally.old.name ≡ K.named_by shared.now.slot }
+    requires name { tally.old.name ≡ K.named_by shared.now.tag }
     requires key { key_of token ≢ 2 ^ 64 - 1 }
     ensures ok { IfOk result (λ _. tally.new ≡ record tally.old { key = Some (key_of token) }) }
     ensures err { IfErr result (λ e. CannotOpen e × (tally.new ≡ tally.old)) }
@@ -153,35 +153,35 @@ pub fn attach<K: CellCore, R: Wait>(
     let mut held = shared.lock(rt);
     let cell = held.core();
     let old = cell.hub.replace(mine);
-    let (debt, leave) = cell.core.set_key(pass, tally);
+    let (debt, permit) = cell.core.set_key(pass, tally);
     let owed = cell.with_hub(rt, debt);
     held.unlock();
-    close_place(rt, &old, leave);
-    settle(rt, owed);
+    close_place(rt, &old, permit);
+    post(rt, owed);
     Ok(())
 }
 
 /// Clears the cell's key, and then closes its place.
 pub fn detach<K: CellCore, R: Wait>(rt: &R, shared: &Locked<Cell<K>>, tally: &mut Tally)
-    requires { tally.old.name ≡ K.named_by shared.now.slot }
+    requires { tally.old.name ≡ K.named_by shared.now.tag }
     ensures { tally.new ≡ record tally.old { key = None } }
 {
     let mut held = shared.lock(rt);
     let cell = held.core();
-    let leave = cell.core.clear_key(tally);
+    let permit = cell.core.clear_key(tally);
     let hub = cell.hub.take();
     held.unlock();
-    close_place(rt, &hub, leave);
+    close_place(rt, &hub, permit);
 }
 
 /// The receiving end goes: its key is cleared, and then the place of that is closed.
 pub fn abandon<K: CellCore, R: Wait>(rt: &R, shared: &Locked<Cell<K>>, tally: Tally)
-    requires { tally.name ≡ K.named_by shared.now.slot }
+    requires { tally.name ≡ K.named_by shared.now.tag }
 {
     let mut held = shared.lock(rt);
     let cell = held.core();
-    let leave = cell.core.abandon(tally);
+    let permit = cell.core.abandon(tally);
     let hub = cell.hub.take();
     held.unlock();
-    close_place(rt, &hub, leave);
+    close_place(rt, &hub, permit);
 }

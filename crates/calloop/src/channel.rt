@@ -55,10 +55,10 @@ impl<T: Drop, R: Wait + Drop> Model for Sender<T, R> {
 
     ghost Value = { Book };
 
-    ghost view = { λ s. (arc_value s.shared).slot.name };
+    ghost view = { λ s. (arc_value s.shared).tag.name };
 
-    ghost invariant = { λ s. (s.sender.name ≡ (arc_value s.shared).slot.name)
-        × ((arc_value s.shared).slot.bound ≡ None) };
+    ghost invariant = { λ s. (s.sender.name ≡ (arc_value s.shared).tag.name)
+        × ((arc_value s.shared).tag.bound ≡ None) };
 }
 
 /// Sends to its channel, which holds as many messages as its bound says. A send can wait for room.
@@ -78,10 +78,10 @@ impl<T: Drop, R: Wait + Drop> Model for SyncSender<T, R> {
 
     ghost Value = { BoundedEnd };
 
-    ghost view = { λ s. record { name = (arc_value s.shared).slot.name; bound = s.limit } };
+    ghost view = { λ s. record { name = (arc_value s.shared).tag.name; bound = s.limit } };
 
-    ghost invariant = { λ s. (s.sender.name ≡ (arc_value s.shared).slot.name)
-        × ((arc_value s.shared).slot.bound ≡ Some s.limit) };
+    ghost invariant = { λ s. (s.sender.name ≡ (arc_value s.shared).tag.name)
+        × ((arc_value s.shared).tag.bound ≡ Some s.limit) };
 }
 
 /// The receiving end of a channel, and its source. Each message is an event.
@@ -102,9 +102,9 @@ impl<T: Drop, R: Wait + Drop> Model for Channel<T, R> {
 
     ghost Value = { ReceivingEnd };
 
-    ghost view = { λ c. record { tally = c.tally; bound = (arc_value c.shared).slot.bound } };
+    ghost view = { λ c. record { tally = c.tally; bound = (arc_value c.shared).tag.bound } };
 
-    ghost invariant = { λ c. c.tally.name ≡ (arc_value c.shared).slot.name };
+    ghost invariant = { λ c. c.tally.name ≡ (arc_value c.shared).tag.name };
 }
 
 impl<T: Drop, R: Wait + Drop> Sender<T, R> {
@@ -238,10 +238,10 @@ fn ends<T: Drop, R: Wait + Clone + Drop>(
         Channel<T, R>,
     ),
 >
-    ensures sender { IfOk result (λ made. made.2.name ≡ (arc_value made.1).slot.name) }
-    ensures bound { IfOk result (λ made. (arc_value made.1).slot.bound ≡ bound) }
+    ensures sender { IfOk result (λ made. made.2.name ≡ (arc_value made.1).tag.name) }
+    ensures bound { IfOk result (λ made. (arc_value made.1).tag.bound ≡ bound) }
     ensures channel { IfOk result (λ made.
-        made.3 ≡ record { tally = fresh_tally (arc_value made.1).slot.name; bound = bound }) }
+        made.3 ≡ record { tally = fresh_tally (arc_value made.1).tag.name; bound = bound }) }
     ensures err { IfErr result (λ e. e ≡ OutOfMemory) }
 {
     let of_sender = rt.clone()?;

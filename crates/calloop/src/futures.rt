@@ -52,8 +52,8 @@ impl<Fut: Drop, R: Wait + Drop> Model for Executor<Fut, R> {
 
     ghost view = { λ e. e.tally };
 
-    ghost invariant = { λ e. (e.tally.name ≡ (arc_value e.shared).slot)
-        × ((arc_value e.homes).slot ≡ (arc_value e.shared).slot) };
+    ghost invariant = { λ e. (e.tally.name ≡ (arc_value e.shared).tag)
+        × ((arc_value e.homes).tag ≡ (arc_value e.shared).tag) };
 }
 
 /// An executor, which is registered nowhere, and a scheduler that hands it futures. `rt` is the runtime by which they lock what they

@@ -34,9 +34,9 @@ impl<R: Wait + Drop> Model for Ping<R> {
 
     ghost Value = { Book };
 
-    ghost view = { λ p. (arc_value p.shared).slot };
+    ghost view = { λ p. (arc_value p.shared).tag };
 
-    ghost invariant = { λ p. p.sender.name ≡ (arc_value p.shared).slot };
+    ghost invariant = { λ p. p.sender.name ≡ (arc_value p.shared).tag };
 }
 
 /// The source of a ping. Any number of rings before its turn are one event.
@@ -59,7 +59,7 @@ impl<R: Wait + Drop> Model for PingSource<R> {
 
     ghost view = { λ s. s.tally };
 
-    ghost invariant = { λ s. s.tally.name ≡ (arc_value s.shared).slot };
+    ghost invariant = { λ s. s.tally.name ≡ (arc_value s.shared).tag };
 }
 
 /// A ping that nobody rang, and its source, which is registered nowhere. `rt` is the runtime by which they lock what they share.

@@ -1,12 +1,13 @@
 -- The index by slot follows the table.
-use Rattle.std.proofs.Common.{◌≡◌, ◌≢◌, ◌∷◌, [], List, ℕ, zero, suc, true, false, nat_eq, if◌then◌else◌, Option, None, Some, get_or, set, refl, sym, ◌∙◌, ap, subst, arith, eqb-true, false-eqb}
+use Rattle.std.proofs.Common.{◌≡◌, ◌≢◌, ◌∷◌, [], List, ℕ, zero, suc, true, false, nat_eq, if◌then◌else◌, Option, None, Some, set, refl, sym, ◌∙◌, ap, subst, arith, eqb-true, false-eqb}
 use Rattle.std.proofs.lemmas.List.{get_or-set_other}
 use Rattle.std.specs.declared.cmp.Ordering.TheVariants.{Less, Equal, Greater}
 use Rattle.std.specs.Ordering.{nat_cmp, is_eq, match_ordering}
 use Rattle.calloop_core.specs.declared.sys.Watched.{Watched}
 use Rattle.calloop_core.specs.declared.sys.poll.socket_table.Indexed.{Indexed}
-use Rattle.calloop_core.specs.Tables.{Table, with_key, without_key, watched_at, slot_of_key, indexed_at, IsIndexOf}
-use Rattle.calloop_core.proofs.Frames.{entered_elsewhere, left_elsewhere, equal_keys}
+use Rattle.calloop_core.specs.Tables.{Table, with_key, without_key, watched_at, indexed_at, IsIndexOf}
+use Rattle.calloop_wake.specs.Tokens.{slot_of_key}
+use Rattle.calloop_core.proofs.Frames.{entered_elsewhere, left_elsewhere}
 
 own_key : (k : ℕ) → is_eq (nat_cmp k k) ≡ true
 own_key k = elim (nat_cmp k k) as (λ o. nat_cmp k k ≡ o → is_eq o ≡ true) [ Less ↦ λ e. absurd (grind (arith)) | Equal ↦ λ e. refl | Greater ↦ λ e. absurd (grind (arith)) ] refl

@@ -4,8 +4,6 @@ use Rattle.std.specs.Prelude.{
   ◌≡◌,
   ℕ,
   ◌+◌,
-  ◌*◌,
-  ◌/◌,
   List,
   Bool,
   true,
@@ -29,8 +27,7 @@ use Rattle.std.specs.declared.io.Error.{Error as Cause}
 use Rattle.std.specs.declared.io.ErrorKind.{ErrorKind}
 use Rattle.std.specs.declared.io.ErrorKind.TheVariants.{AlreadyExists, NotFound}
 use Rattle.calloop_wake.specs.declared.token.Token.{Token}
-use Rattle.calloop_wake.specs.Tokens.{key_of}
-use Rattle.calloop_wake.specs.Widths.{versions, parts}
+use Rattle.calloop_wake.specs.Tokens.{key_of, slot_of_key}
 use Rattle.calloop_core.specs.declared.sys.Interest.{Interest}
 use Rattle.calloop_core.specs.declared.sys.Watched.{Watched}
 use Rattle.calloop_core.specs.declared.sys.poll.socket_table.Indexed.{Indexed}
@@ -51,10 +48,6 @@ with_key key watched table = insert_entry nat_cmp table key watched
 
 abbrev pub without_key : (key : ℕ) → Table → Table
 without_key key table = remove_entry (is_at (nat_cmp key)) table
-
--- the slot of a key's token
-abbrev pub slot_of_key : ℕ → ℕ
-slot_of_key key = key / (versions * parts)
 
 -- what an index has at a slot
 abbrev pub indexed_at : (slot : ℕ) → List (Option Indexed) → Option Indexed

@@ -15,17 +15,17 @@ pub trait On<E, X, T> {
 /// and `T` what the source is told.
 pub trait OnWith<E, M, X, T> {
     /// What the metadata may be after a call. One without a relation of its own may do anything to it.
-    ghost leaves: { M → M → Type 0 } = { λ _ _. Unit {0} };
+    ghost changes: { M → M → Type 0 } = { λ _ _. Unit {0} };
 
     /// Called with an event.
     fn on_with(&mut self, event: E, metadata: &mut M, data: &mut X) -> T
-        ensures { leaves metadata.old metadata.new };
+        ensures { changes metadata.old metadata.new };
 }
 
 impl<E, M: Drop, T, X, F: On<E, X, T>> OnWith<E, M, X, T> for F {
     ghost use Rattle.std.specs.Prelude.{◌≡◌};
 
-    ghost leaves = { λ m n. n ≡ m };
+    ghost changes = { λ m n. n ≡ m };
 
     fn on_with(&mut self, event: E, _metadata: &mut M, data: &mut X) -> T {
         self.on(event, data)
@@ -35,7 +35,7 @@ impl<E, M: Drop, T, X, F: On<E, X, T>> OnWith<E, M, X, T> for F {
 impl<E, M: Drop, T, X, Q: Asking, F: OnWith<E, M, X, T>> Callback<E, M, T, X, Q> for F {
     ghost use Rattle.std.specs.Prelude.{◌≡◌};
 
-    ghost may = { λ f e m x q t g n y r. F.leaves m n × (r ≡ q) };
+    ghost may = { λ f e m x q t g n y r. F.changes m n × (r ≡ q) };
 
     fn call(&mut self, event: E, metadata: &mut M, data: &mut X, _requests: &mut Q) -> T {
         self.on_with(event, metadata, data)

@@ -168,6 +168,7 @@ impl<P: Poller, E> Generic<P, E> {
 
 impl<P: Poller, E: From<io::Error>> Generic<P, E> {
     // Under `Level` the poller is asked to tell of the socket again.
+    #[inline(always)]
     fn arm_again<C, R: Wait + Drop>(
         &mut self,
         token: Token,

@@ -570,7 +570,7 @@ struct Bell<R: Wait + Drop> {
     hub: SharedHub,
     lock: Locked<BellCell>,
     tally: Tally,
-    ghost tied: { tally.name ≡ lock.slot },
+    ghost tied: { tally.name ≡ lock.tag },
 }
 
 impl<R: Wait + Clone + Drop> Bell<R> {
@@ -610,8 +610,8 @@ impl<R: Wait + Drop> Drop for Bell<R> {
 }
 
 fn receiver<Q: Wait>(rt: &Q, lock: &Locked<BellCell>, right: ReceivingRight) -> Tally
-    requires { right.name ≡ lock.now.slot }
-    ensures { result.name ≡ lock.now.slot }
+    requires { right.name ≡ lock.now.tag }
+    ensures { result.name ≡ lock.now.tag }
 {
     let mut held = lock.lock(rt);
     let tally = held.core().core.receiver(right);
@@ -620,15 +620,15 @@ fn receiver<Q: Wait>(rt: &Q, lock: &Locked<BellCell>, right: ReceivingRight) -> 
 }
 
 fn abandon<Q: Wait>(rt: &Q, lock: &Locked<BellCell>, tally: Tally)
-    requires { tally.name ≡ lock.now.slot }
+    requires { tally.name ≡ lock.now.tag }
 {
     let mut held = lock.lock(rt);
     let cell = held.core();
-    let leave = cell.core.abandon(tally);
+    let permit = cell.core.abandon(tally);
     let hub = share(rt, &cell.hub);
     held.unlock();
-    if let Some(leave) = leave {
-        hub.close_place(rt, leave);
+    if let Some(permit) = permit {
+        hub.close_place(rt, permit);
     }
 }
 
@@ -652,11 +652,11 @@ impl<R: Wait + Clone + Drop + Abort> Desk<R> {
 }
 
 // Posts what is owed.
-fn settle<Q: Wait>(rt: &Q, hub: &Hub, debt: Option<Debt>)
+fn post<Q: Wait>(rt: &Q, hub: &Hub, debt: Option<Debt>)
     requires { IfSome debt (λ debt. debt.board ≡ hub.now) }
 {
     if let Some(debt) = debt {
-        hub.settle(rt, debt);
+        hub.post(rt, debt);
     }
 }
 
@@ -667,19 +667,19 @@ fn set_key<Q: Wait>(
     hub: &SharedHub,
     pass: OpenedPass,
 )
-    requires tally { tally.old.name ≡ lock.now.slot }
+    requires tally { tally.old.name ≡ lock.now.tag }
     requires board { pass.board ≡ arc_value hub.now }
-    ensures { tally.new.name ≡ lock.now.slot }
+    ensures { tally.new.name ≡ lock.now.tag }
 {
     let mine = share(rt, hub);
     let mut held = lock.lock(rt);
     let cell = held.core();
     let old = mem::replace(&mut cell.hub, mine);
-    let (debt, leave) = cell.core.set_key(pass, tally);
+    let (debt, permit) = cell.core.set_key(pass, tally);
     held.unlock();
-    settle(rt, hub, debt);
-    if let Some(leave) = leave {
-        old.close_place(rt, leave);
+    post(rt, hub, debt);
+    if let Some(permit) = permit {
+        old.close_place(rt, permit);
     }
 }
 
@@ -699,7 +699,7 @@ fn ring<Q: Wait, R: Wait + Drop>(rt: &Q, bell: &Bell<R>) {
     let (_receipt, debt) = cell.core.ring();
     let hub = share(rt, &cell.hub);
     held.unlock();
-    settle(rt, &hub, debt);
+    post(rt, &hub, debt);
 }
 
 fn open_turn<Q: Wait>(
@@ -708,9 +708,9 @@ fn open_turn<Q: Wait>(
     tally: &mut Tally,
     pass: TakenPass,
 ) -> Result<OpenedTurn, TakenPass>
-    requires { tally.old.name ≡ lock.now.slot }
-    ensures name { tally.new.name ≡ lock.now.slot }
-    ensures turn { IfOk result (λ o. o.turn.name ≡ lock.now.slot) }
+    requires { tally.old.name ≡ lock.now.tag }
+    ensures name { tally.new.name ≡ lock.now.tag }
+    ensures turn { IfOk result (λ o. o.turn.name ≡ lock.now.tag) }
     ensures refused { IfErr result (λ refused. refused.board ≡ pass.board) }
 {
     let mut held = lock.lock(rt);
@@ -722,7 +722,7 @@ fn open_turn<Q: Wait>(
 
 // Ends a turn, after which nothing is owed.
 fn end_turn<Q: Wait>(rt: &Q, lock: &Locked<BellCell>, turn: PingTurn) -> Option<Debt>
-    requires { turn.name ≡ lock.now.slot }
+    requires { turn.name ≡ lock.now.tag }
     ensures { result ≡ None }
 {
     let mut held = lock.lock(rt);
@@ -781,7 +781,7 @@ fn turn<Q: Wait, P: Poller, C, R: Wait + Drop>(
                 told: _,
             },
         ) => {
-            settle(rt, poll.hub(), end_turn(rt, &bell.lock, turn));
+            post(rt, poll.hub(), end_turn(rt, &bell.lock, turn));
             Some(rung)
         }
         Err(pass) => {

@@ -4,7 +4,7 @@ use Rattle.std.proofs.Common.{◌≡◌, ℕ, ◌+◌, ◌<◌, ◌≤◌, Bool,
 use Rattle.std.proofs.Math.Bool.{or-true}
 use Rattle.calloop_wake.specs.Cells.{Cell, one, is_own, after_close, after_set_key, after_clear_key}
 use Rattle.calloop_wake.specs.Bells.{after_ping, after_end}
-use Rattle.calloop_wake.specs.Channels.{ChannelCell, fresh_channel, with_bell, is_below, pops, after_put, after_pop_of, after_take_of, popped_of, tells, is_close, is_early, after_end_turn, IsPingedIfDue, IsLitChannel, IsSoundChannel, IsStandingChannel}
+use Rattle.calloop_wake.specs.Channels.{ChannelCell, fresh_channel, with_bell, is_below, pops, after_put, after_pop_of, after_take_of, popped_of, tells_close, is_close, is_early, after_end_turn, IsPingedIfDue, IsLitChannel, IsSoundChannel, IsStandingChannel}
 use Rattle.calloop_wake.specs.ChannelKind.{Telling, ChannelPast, unused_channel, ChannelStep, Ring, Close, Pop, Take, EndTurn, Put, behind_pop, channel_kind, item_of, told_by, AllOfEmpty, IsStandingPast}
 use Rattle.calloop_wake.proofs.Lawful.{own-is, and-left}
 use Rattle.calloop_wake.proofs.Schedules.{IsLawful, IsFresh}
@@ -131,7 +131,7 @@ lit-found p x xs told is l = record {
   bounded = let b = l.bounded in omega arith;
 }
 
-lit-empty : (p : ChannelPast) (is : Bool) → p.now.queue ≡ [] → tells p.now.cell ≡ is → IsLitPast p → IsLitPast (popped_from [] is p)
+lit-empty : (p : ChannelPast) (is : Bool) → p.now.queue ≡ [] → tells_close p.now.cell ≡ is → IsLitPast p → IsLitPast (popped_from [] is p)
 lit-empty p true none is l = record {
   lit = record { at_rest = λ _. quiet-empty p.now; in_turn = λ _. quiet-empty p.now };
   sound = sound-empty p.now l.sound;
@@ -157,7 +157,7 @@ lit-empty p false none is l = record {
   bounded = let b = l.bounded in omega arith;
 }
 
-lit-popped : (p : ChannelPast) (queue : List ℕ) (is : Bool) → p.now.queue ≡ queue → tells p.now.cell ≡ is → IsLitPast p → IsLitPast (popped_from queue is p)
+lit-popped : (p : ChannelPast) (queue : List ℕ) (is : Bool) → p.now.queue ≡ queue → tells_close p.now.cell ≡ is → IsLitPast p → IsLitPast (popped_from queue is p)
 lit-popped p [] is none told l = lit-empty p is none told l
 lit-popped p (x ∷ xs) is some told l = lit-found p x xs is some l
 
@@ -187,8 +187,8 @@ own_key (Put x) p = refl
 own_lit : (s : ChannelStep) (p : ChannelPast) → channel_kind.Needs s p → IsLitPast p → IsLitPast (channel_kind.after s p)
 own_lit Ring p need l = lit-bell (after_ping p.now.cell) p (lit-pinged (with_bell (after_ping p.now.cell) p.now) refl) l.sound.told refl l
 own_lit Close p need l = lit-bell (after_close p.now.cell) p (lit-pinged (with_bell (after_close p.now.cell) p.now) refl) (λ _. refl) refl l
-own_lit Pop p need l = lit-popped p p.now.queue (tells p.now.cell) refl refl l
-own_lit Take p need l = lit-taken p p.now.queue (tells p.now.cell) refl need l
+own_lit Pop p need l = lit-popped p p.now.queue (tells_close p.now.cell) refl refl l
+own_lit Take p need l = lit-taken p p.now.queue (tells_close p.now.cell) refl need l
 own_lit EndTurn p need l = lit-ended p l
 own_lit (Put x) p need l = lit-put x p need.1 l
 

@@ -4,7 +4,7 @@ use Rattle.std.proofs.Math.Bool.{or-true}
 use Rattle.calloop_wake.specs.declared.wake.tasks.TaskKey.{TaskKey}
 use Rattle.calloop_wake.specs.Cells.{Cell, is_own}
 use Rattle.calloop_wake.specs.Channels.{ChannelCell, after_pop_of, after_take_of, is_early, pops}
-use Rattle.calloop_wake.specs.Executors.{ExecutorCell, settled_at, taken_of, after_settle}
+use Rattle.calloop_wake.specs.Executors.{ExecutorCell, after_poll_of, taken_of, after_poll}
 use Rattle.calloop_wake.specs.Tasks.{is_idle, phase_at}
 use Rattle.calloop_wake.specs.Wakes.{Kind, WakeStep, start, after_all, IsSchedule}
 use Rattle.calloop_wake.specs.PingKind as ping
@@ -92,15 +92,15 @@ channel_delivered = record {
 
 -- Executors.
 
-settled-pinged : (o : Option TaskKey) (finished : Bool) (c : ExecutorCell) → (settled_at o finished c).pinged ≡ c.pinged
-settled-pinged None finished c = refl
-settled-pinged (Some key) true c = refl
-settled-pinged (Some key) false c = refl
+after_poll-pinged : (o : Option TaskKey) (finished : Bool) (c : ExecutorCell) → (after_poll_of o finished c).pinged ≡ c.pinged
+after_poll-pinged None finished c = refl
+after_poll-pinged (Some key) true c = refl
+after_poll-pinged (Some key) false c = refl
 
-settled-draining : (o : Option TaskKey) (finished : Bool) (c : ExecutorCell) → (settled_at o finished c).draining ≡ c.draining
-settled-draining None finished c = refl
-settled-draining (Some key) true c = refl
-settled-draining (Some key) false c = refl
+after_poll-draining : (o : Option TaskKey) (finished : Bool) (c : ExecutorCell) → (after_poll_of o finished c).draining ≡ c.draining
+after_poll-draining None finished c = refl
+after_poll-draining (Some key) true c = refl
+after_poll-draining (Some key) false c = refl
 
 taken-pinged : (q : List ℕ) (c : ExecutorCell) → (taken_of q c).pinged ≡ c.pinged
 taken-pinged [] c = refl
@@ -113,9 +113,9 @@ taken-draining (slot ∷ rest) c = refl
 executor_pinged : (s : ExecutorStep) (c : ExecutorCell) → c.pinged ≡ true → (executor_after s c).pinged ≡ true
 executor_pinged (executor.Put slot home) c h = refl
 executor_pinged (executor.Wake key) c h = ap (λ b. is_idle (phase_at key c.tasks) || b) h ∙ or-true (is_idle (phase_at key c.tasks))
-executor_pinged (executor.Pop finished) c h = taken-pinged _ (after_settle finished c) ∙ (settled-pinged c.progress.polled finished c ∙ h)
+executor_pinged (executor.Pop finished) c h = taken-pinged _ (after_poll finished c) ∙ (after_poll-pinged c.progress.polled finished c ∙ h)
 executor_pinged (executor.EndTurn finished) c h =
-    ap (λ b. b || not (after_settle finished c).progress.dry) (settled-pinged c.progress.polled finished c ∙ h)
+    ap (λ b. b || not (after_poll finished c).progress.dry) (after_poll-pinged c.progress.polled finished c ∙ h)
 
 executor_ends : (n : ℕ) (p : ExecutorPast) → n + p.now.progress.pops ≡ 1024 → p.now.draining ≡ true → CanEnd executor_kind (suc n) p
 executor_ends zero p all stands =
@@ -127,7 +127,7 @@ executor_ends (suc n) p all stands =
       | false ↦ λ wet.
           more_steps executor_kind (executor.Pop false) p (suc n) tt (stands, wet, omega arith, λ e. absurd (cc))
           (executor_ends n (past_after (executor.Pop false) p) (let e = pop-pops false p.now in omega arith)
-          (taken-draining _ (after_settle false p.now) ∙ (settled-draining p.now.progress.polled false p.now ∙ stands)))
+          (taken-draining _ (after_poll false p.now) ∙ (after_poll-draining p.now.progress.polled false p.now ∙ stands)))
     ] refl
 
 executor_delivered : IsDelivered executor_kind executor_lawful

@@ -7,8 +7,8 @@ use Rattle.calloop_wake.specs.declared.wake.tasks.Phase.{Phase}
 use Rattle.calloop_wake.specs.declared.wake.tasks.Task.{Task}
 use Rattle.calloop_wake.specs.declared.wake.tasks.TaskKey.{TaskKey}
 use Rattle.calloop_wake.specs.Cells.{is_own}
-use Rattle.calloop_wake.specs.Tasks.{phase_at, after_step, in_poll, woken_phase, settled_phase}
-use Rattle.calloop_wake.specs.Executors.{ExecutorCell, with_slot, after_settle, after_pop, settled_at, taken_of, after_clear_key, in_its_poll, AreNumbered, IsKeepingTasks}
+use Rattle.calloop_wake.specs.Tasks.{phase_at, after_step, in_poll, woken_phase, phase_after_pending}
+use Rattle.calloop_wake.specs.Executors.{ExecutorCell, with_slot, after_poll, after_pop, after_poll_of, taken_of, after_clear_key, in_its_poll, AreNumbered, IsKeepingTasks}
 use Rattle.calloop_wake.specs.ExecutorKind.{ExecutorPast, unused_executor, ExecutorStep, Put, Wake, Pop, EndTurn, executor_needs, executor_after, given_of, given_by, past_after, IsStandingPast, executor_kind}
 use Rattle.calloop_wake.proofs.Schedules.{IsLawful, IsFresh}
 use Rattle.calloop_wake.proofs.Lawful.{own-is, and-left}
@@ -87,16 +87,16 @@ polled-is key tasks h = elim (in_poll-cases key tasks h) [
   | WasWoken task at number phase rest step ↦ (task, at, number)
 ]
 
-given-settled : (o : Option TaskKey) (finished : Bool) (given : List ℕ) (c : ExecutorCell) → c.progress.polled ≡ o → IsKeepingTasks c → AreGiven given c.tasks c.next
-    → AreGiven (given ++ given_of o finished) (settled_at o finished c).tasks (settled_at o finished c).next
-given-settled None finished given c is k g = given-nothing given c.tasks c.next g
-given-settled (Some key) true given c is k g =
+given-after_poll : (o : Option TaskKey) (finished : Bool) (given : List ℕ) (c : ExecutorCell) → c.progress.polled ≡ o → IsKeepingTasks c → AreGiven given c.tasks c.next
+    → AreGiven (given ++ given_of o finished) (after_poll_of o finished c).tasks (after_poll_of o finished c).next
+given-after_poll None finished given c is k g = given-nothing given c.tasks c.next g
+given-after_poll (Some key) true given c is k g =
     let that = polled-is key c.tasks (k.running key is).2 in
     subst (λ n. AreGiven (given ++ n ∷ []) (with_slot key.slot None c.tasks) c.next) that.2
     (given-finished given c.tasks c.next g key.slot that.0 that.1 k.sorted.numbered)
-given-settled (Some key) false given c is k g =
-    given-nothing given (settled_at (Some key) false c).tasks c.next
-    (given-kept given c.tasks c.next g key.slot _ (same-stepped settled_phase key.number (c.tasks key.slot)))
+given-after_poll (Some key) false given c is k g =
+    given-nothing given (after_poll_of (Some key) false c).tasks c.next
+    (given-kept given c.tasks c.next g key.slot _ (same-stepped phase_after_pending key.number (c.tasks key.slot)))
 
 given-taken : (q : List ℕ) (given : List ℕ) (c : ExecutorCell) → AreGiven given c.tasks c.next → AreGiven given (taken_of q c).tasks (taken_of q c).next
 given-taken [] given c g = g
@@ -108,8 +108,8 @@ own-given (Put slot home) given c k g = given-nothing given _ _ (given-put given
 own-given (Wake key) given c k g =
     given-nothing given _ _ (given-kept given c.tasks c.next g key.slot _ (same-stepped woken_phase key.number (c.tasks key.slot)))
 own-given (Pop finished) given c k g =
-    given-taken (after_settle finished c).queue _ (after_settle finished c) (given-settled c.progress.polled finished given c refl k g)
-own-given (EndTurn finished) given c k g = given-settled c.progress.polled finished given c refl k g
+    given-taken (after_poll finished c).queue _ (after_poll finished c) (given-after_poll c.progress.polled finished given c refl k g)
+own-given (EndTurn finished) given c k g = given-after_poll c.progress.polled finished given c refl k g
 
 -- what holds of an executor's cell and its past, whenever nobody is within a step
 pub record IsLitPast (p : ExecutorPast) : Type 0 where
@@ -118,17 +118,17 @@ pub record IsLitPast (p : ExecutorPast) : Type 0 where
   -- a turn pops no more often than it may
   pub few : p.now.progress.pops ≤ 1024
 
-pub settled-pops : (o : Option TaskKey) (finished : Bool) (c : ExecutorCell) → (settled_at o finished c).progress.pops ≡ c.progress.pops
-settled-pops None finished c = refl
-settled-pops (Some key) true c = refl
-settled-pops (Some key) false c = refl
+pub after_poll-pops : (o : Option TaskKey) (finished : Bool) (c : ExecutorCell) → (after_poll_of o finished c).progress.pops ≡ c.progress.pops
+after_poll-pops None finished c = refl
+after_poll-pops (Some key) true c = refl
+after_poll-pops (Some key) false c = refl
 
 pub taken-pops : (q : List ℕ) (c : ExecutorCell) → (taken_of q c).progress.pops ≡ c.progress.pops + 1
 taken-pops [] c = refl
 taken-pops (slot ∷ rest) c = refl
 
 pub pop-pops : (finished : Bool) (c : ExecutorCell) → (after_pop finished c).progress.pops ≡ c.progress.pops + 1
-pop-pops finished c = taken-pops (after_settle finished c).queue (after_settle finished c) ∙ ap (λ n. n + 1) (settled-pops c.progress.polled finished c)
+pop-pops finished c = taken-pops (after_poll finished c).queue (after_poll finished c) ∙ ap (λ n. n + 1) (after_poll-pops c.progress.polled finished c)
 
 own_few : (s : ExecutorStep) (c : ExecutorCell) → executor_needs s c → c.progress.pops ≤ 1024 → (executor_after s c).progress.pops ≤ 1024
 own_few (Put slot home) c need h = h
@@ -147,10 +147,10 @@ unkeyed_lit true p l = record {
   few = l.few;
 }
 
-settled-key : (o : Option TaskKey) (finished : Bool) (c : ExecutorCell) → (settled_at o finished c).key ≡ c.key
-settled-key None finished c = refl
-settled-key (Some key) true c = refl
-settled-key (Some key) false c = refl
+after_poll-key : (o : Option TaskKey) (finished : Bool) (c : ExecutorCell) → (after_poll_of o finished c).key ≡ c.key
+after_poll-key None finished c = refl
+after_poll-key (Some key) true c = refl
+after_poll-key (Some key) false c = refl
 
 taken-key : (q : List ℕ) (c : ExecutorCell) → (taken_of q c).key ≡ c.key
 taken-key [] c = refl
@@ -159,8 +159,8 @@ taken-key (slot ∷ rest) c = refl
 own-key : (s : ExecutorStep) (c : ExecutorCell) → (executor_after s c).key ≡ c.key
 own-key (Put slot home) c = refl
 own-key (Wake key) c = refl
-own-key (Pop finished) c = taken-key _ (after_settle finished c) ∙ settled-key c.progress.polled finished c
-own-key (EndTurn finished) c = settled-key c.progress.polled finished c
+own-key (Pop finished) c = taken-key _ (after_poll finished c) ∙ after_poll-key c.progress.polled finished c
+own-key (EndTurn finished) c = after_poll-key c.progress.polled finished c
 
 unkeyed-key : (by_drop : Bool) (c : ExecutorCell) → (after_clear_key by_drop c).key ≡ None
 unkeyed-key true c = refl

@@ -9,10 +9,10 @@ use Rattle.calloop_wake.specs.declared.wake.tasks.Phase.TheVariants.{Idle, Queue
 use Rattle.calloop_wake.specs.declared.wake.tasks.Task.{Task}
 use Rattle.calloop_wake.specs.declared.wake.tasks.TaskKey.{TaskKey}
 use Rattle.calloop_wake.specs.Cells.{is_own}
-use Rattle.calloop_wake.specs.Tasks.{phase_if, phase_at, after_step, is_idle, is_woken, is_awake, in_poll, woken_phase, settled_phase, slot_if}
+use Rattle.calloop_wake.specs.Tasks.{phase_if, phase_at, after_step, is_idle, is_woken, is_awake, in_poll, woken_phase, phase_after_pending, slot_if}
 use Rattle.calloop_wake.specs.ExecutorKind.{ExecutorStep, Put, Wake, Pop, EndTurn, executor_needs, executor_after}
-use Rattle.calloop_wake.specs.Executors.{ExecutorCell, IsAwake, fresh_executor, with_slot, after_put, after_wake, after_settle, settled_at, taken_of, after_pop, after_end, after_end_turn, opens, in_turn, after_clear_key, is_empty, AreQueued, ArePolled, AreSorted, IsKeepingTasks, IsStandingExecutor, in_its_poll, key_in}
-use Rattle.calloop_wake.proofs.Sorted.{with_slot_cases, numbered-kept, numbered-gone, numbered-new, queued-add, queued-keep, queued-take, polled-keep, polled-mark, polled-settle, polled-take}
+use Rattle.calloop_wake.specs.Executors.{ExecutorCell, IsAwake, fresh_executor, with_slot, after_put, after_wake, after_poll, after_poll_of, taken_of, after_pop, after_end, after_end_turn, opens, in_turn, after_clear_key, is_empty, AreQueued, ArePolled, AreSorted, IsKeepingTasks, IsStandingExecutor, in_its_poll, key_in}
+use Rattle.calloop_wake.proofs.Sorted.{with_slot_cases, numbered-kept, numbered-gone, numbered-new, queued-add, queued-keep, queued-take, polled-keep, polled-mark, polled-pend, polled-take}
 
 -- writing what is there changes nothing
 with_slot-same : (slot : ℕ) (o : Option Task) (tasks : ℕ → Option Task) → o ≡ tasks slot → with_slot slot o tasks ≡ tasks
@@ -212,9 +212,9 @@ wake-keeps key c k =
 -- where the task is that a turn has popped
 pub data InPoll (key : TaskKey) (tasks : ℕ → Option Task) : Type 0 where
   IsPolled : (task : Task) → tasks key.slot ≡ Some task → task.number ≡ key.number → task.phase ≡ Polling → phase_at key tasks ≡ Some Polling
-      → after_step settled_phase key.number (tasks key.slot) ≡ Some (record task { phase = settled_phase task.phase }) → InPoll key tasks
+      → after_step phase_after_pending key.number (tasks key.slot) ≡ Some (record task { phase = phase_after_pending task.phase }) → InPoll key tasks
   WasWoken : (task : Task) → tasks key.slot ≡ Some task → task.number ≡ key.number → task.phase ≡ Woken → phase_at key tasks ≡ Some Woken
-      → after_step settled_phase key.number (tasks key.slot) ≡ Some (record task { phase = settled_phase task.phase }) → InPoll key tasks
+      → after_step phase_after_pending key.number (tasks key.slot) ≡ Some (record task { phase = phase_after_pending task.phase }) → InPoll key tasks
 
 pub in_poll-cases : (key : TaskKey) (tasks : ℕ → Option Task) → in_poll (phase_at key tasks) ≡ true → InPoll key tasks
 in_poll-cases key tasks h =
@@ -224,13 +224,13 @@ in_poll-cases key tasks h =
           elim task.phase as (λ p. task.phase ≡ p → InPoll key tasks) [
             | Idle ↦ λ e. absurd (true≢false (sym h ∙ ap in_poll phase ∙ ap (λ (p : Phase). in_poll (Some p)) e))
             | Queued ↦ λ e. absurd (true≢false (sym h ∙ ap in_poll phase ∙ ap (λ (p : Phase). in_poll (Some p)) e))
-            | Polling ↦ λ e. IsPolled task is number e (phase ∙ ap Some e) (step settled_phase)
-            | Woken ↦ λ e. WasWoken task is number e (phase ∙ ap Some e) (step settled_phase)
+            | Polling ↦ λ e. IsPolled task is number e (phase ∙ ap Some e) (step phase_after_pending)
+            | Woken ↦ λ e. WasWoken task is number e (phase ∙ ap Some e) (step phase_after_pending)
           ] refl
     ]
 
 -- what the end of a poll leaves besides what the cell keeps
-pub record Settles (c d : ExecutorCell) : Type 0 where
+pub record EndsPoll (c d : ExecutorCell) : Type 0 where
   pub keeps : IsKeepingTasks d
   pub polled : d.progress.polled ≡ None
   pub draining : d.draining ≡ c.draining
@@ -239,8 +239,8 @@ pub record Settles (c d : ExecutorCell) : Type 0 where
 not-polled : {A : Type 0} (key : TaskKey) → ◌≡◌ {A = Option TaskKey} None (Some key) → A
 not-polled key e = absurd (none-some key e)
 
-finish-settles : (key : TaskKey) (c : ExecutorCell) → c.progress.polled ≡ Some key → IsKeepingTasks c → Settles c (settled_at (Some key) true c)
-finish-settles key c is k =
+finish-ends_poll : (key : TaskKey) (c : ExecutorCell) → c.progress.polled ≡ Some key → IsKeepingTasks c → EndsPoll c (after_poll_of (Some key) true c)
+finish-ends_poll key c is k =
     let polled : ArePolled c.tasks (Some key) = subst (ArePolled c.tasks) is k.sorted.polled in
     let gone : (t : Task) → ◌≡◌ {A = Option Task} None (Some t) → t.phase ≢ Queued = λ t e p. absurd (none-some t e) in
     let out : (t : Task) → c.tasks key.slot ≡ Some t → t.phase ≢ Queued =
@@ -252,7 +252,7 @@ finish-settles key c is k =
       keeps = record {
         sorted = record {
           queued = queued-keep c.tasks c.queue key.slot None out gone k.sorted.queued;
-          polled = polled-settle c.tasks key None (λ t e i. absurd (none-some t e)) polled;
+          polled = polled-pend c.tasks key None (λ t e i. absurd (none-some t e)) polled;
           numbered = numbered-gone c.tasks c.next key.slot k.sorted.numbered;
         };
         lit = k.lit;
@@ -265,12 +265,12 @@ finish-settles key c is k =
 
 pend-idle : (key : TaskKey) (c : ExecutorCell) (task : Task) → c.progress.polled ≡ Some key → c.tasks key.slot ≡ Some task → task.phase ≡ Polling
     → is_woken (phase_at key c.tasks) ≡ false
-    → after_step settled_phase key.number (c.tasks key.slot) ≡ Some (record task { phase = settled_phase task.phase })
-    → IsKeepingTasks c → IsKeepingTasks (settled_at (Some key) false c)
+    → after_step phase_after_pending key.number (c.tasks key.slot) ≡ Some (record task { phase = phase_after_pending task.phase })
+    → IsKeepingTasks c → IsKeepingTasks (after_poll_of (Some key) false c)
 pend-idle key c task is at phase quiet step k =
     let polled : ArePolled c.tasks (Some key) = subst (ArePolled c.tasks) is k.sorted.polled in
-    let that : Task = record task { phase = settled_phase task.phase } in
-    let idle : that.phase ≡ Idle = ap settled_phase phase in
+    let that : Task = record task { phase = phase_after_pending task.phase } in
+    let idle : that.phase ≡ Idle = ap phase_after_pending phase in
     let out : (t : Task) → c.tasks key.slot ≡ Some t → t.phase ≢ Queued = λ t e p. absurd (cc) in
     let still : (t : Task) → ◌≡◌ {A = Option Task} (Some that) (Some t) → t.phase ≢ Queued = λ t e p. absurd (cc) in
     let rests : (t : Task) → ◌≡◌ {A = Option Task} (Some that) (Some t) → in_poll (Some t.phase) ≢ true = λ t e p. absurd (cc) in
@@ -278,7 +278,7 @@ pend-idle key c task is at phase quiet step k =
     record {
       sorted = record {
         queued = rw (step, queue) (queued-keep c.tasks c.queue key.slot (Some that) out still k.sorted.queued);
-        polled = rw step (polled-settle c.tasks key (Some that) rests polled);
+        polled = rw step (polled-pend c.tasks key (Some that) rests polled);
         numbered = rw step (numbered-kept c.tasks c.next key.slot task that at refl k.sorted.numbered);
       };
       lit = rw queue k.lit;
@@ -287,27 +287,27 @@ pend-idle key c task is at phase quiet step k =
 
 pend-queued : (key : TaskKey) (c : ExecutorCell) (task : Task) → c.progress.polled ≡ Some key → c.tasks key.slot ≡ Some task → task.phase ≡ Woken
     → is_woken (phase_at key c.tasks) ≡ true
-    → after_step settled_phase key.number (c.tasks key.slot) ≡ Some (record task { phase = settled_phase task.phase })
-    → IsKeepingTasks c → IsKeepingTasks (settled_at (Some key) false c)
+    → after_step phase_after_pending key.number (c.tasks key.slot) ≡ Some (record task { phase = phase_after_pending task.phase })
+    → IsKeepingTasks c → IsKeepingTasks (after_poll_of (Some key) false c)
 pend-queued key c task is at phase due step k =
     let polled : ArePolled c.tasks (Some key) = subst (ArePolled c.tasks) is k.sorted.polled in
-    let that : Task = record task { phase = settled_phase task.phase } in
-    let queued : that.phase ≡ Queued = ap settled_phase phase in
+    let that : Task = record task { phase = phase_after_pending task.phase } in
+    let queued : that.phase ≡ Queued = ap phase_after_pending phase in
     let out : (t : Task) → c.tasks key.slot ≡ Some t → t.phase ≢ Queued = λ t e p. absurd (cc) in
     let rests : (t : Task) → ◌≡◌ {A = Option Task} (Some that) (Some t) → in_poll (Some t.phase) ≢ true = λ t e p. absurd (cc) in
     let run = k.running key is in
     record {
       sorted = record {
         queued = rw (step, due) (queued-add c.tasks c.queue key.slot that out queued k.sorted.queued);
-        polled = rw step (polled-settle c.tasks key (Some that) rests polled);
+        polled = rw step (polled-pend c.tasks key (Some that) rests polled);
         numbered = rw step (numbered-kept c.tasks c.next key.slot task that at refl k.sorted.numbered);
       };
       lit = λ h. ap (λ (b : Bool). c.pinged || (b && not c.progress.dry)) run.0 ∙ ap (λ (b : Bool). c.pinged || (true && not b)) run.1 ∙ or-last c.pinged;
       running = λ other e. not-polled other e;
     }
 
-pend-settles : (key : TaskKey) (c : ExecutorCell) → c.progress.polled ≡ Some key → IsKeepingTasks c → Settles c (settled_at (Some key) false c)
-pend-settles key c is k =
+pend-ends_poll : (key : TaskKey) (c : ExecutorCell) → c.progress.polled ≡ Some key → IsKeepingTasks c → EndsPoll c (after_poll_of (Some key) false c)
+pend-ends_poll key c is k =
     record {
       keeps = elim (in_poll-cases key c.tasks (k.running key is).2) [
         | IsPolled task at number phase rest step ↦ pend-idle key c task is at phase (ap is_woken rest) step k
@@ -318,13 +318,13 @@ pend-settles key c is k =
       dry = refl;
     }
 
-pub settles-at : (o : Option TaskKey) (finished : Bool) (c : ExecutorCell) → c.progress.polled ≡ o → IsKeepingTasks c → Settles c (settled_at o finished c)
-settles-at None finished c is k = record { keeps = k; polled = is; draining = refl; dry = refl }
-settles-at (Some key) true c is k = finish-settles key c is k
-settles-at (Some key) false c is k = pend-settles key c is k
+pub ends_poll-at : (o : Option TaskKey) (finished : Bool) (c : ExecutorCell) → c.progress.polled ≡ o → IsKeepingTasks c → EndsPoll c (after_poll_of o finished c)
+ends_poll-at None finished c is k = record { keeps = k; polled = is; draining = refl; dry = refl }
+ends_poll-at (Some key) true c is k = finish-ends_poll key c is k
+ends_poll-at (Some key) false c is k = pend-ends_poll key c is k
 
-pub settles : (finished : Bool) (c : ExecutorCell) → IsKeepingTasks c → Settles c (after_settle finished c)
-settles finished c k = settles-at c.progress.polled finished c refl k
+pub ends_poll : (finished : Bool) (c : ExecutorCell) → IsKeepingTasks c → EndsPoll c (after_poll finished c)
+ends_poll finished c k = ends_poll-at c.progress.polled finished c refl k
 
 -- a pop of an empty queue
 pub take-none : (c : ExecutorCell) → c.queue ≡ [] → c.progress.polled ≡ None → IsKeepingTasks c → IsKeepingTasks (taken_of [] c)
@@ -370,13 +370,13 @@ take-at (slot ∷ rest) c is none opened k =
 
 pub pop-keeps : (finished : Bool) (c : ExecutorCell) → c.draining ≡ true → IsKeepingTasks c → IsKeepingTasks (after_pop finished c)
 pop-keeps finished c opened k =
-    let s = settles finished c k in
-    take-at (after_settle finished c).queue (after_settle finished c) refl s.polled (s.draining ∙ opened) s.keeps
+    let s = ends_poll finished c k in
+    take-at (after_poll finished c).queue (after_poll finished c) refl s.polled (s.draining ∙ opened) s.keeps
 
 pub end-keeps : (finished : Bool) (c : ExecutorCell) → IsKeepingTasks c → IsKeepingTasks (after_end_turn finished c)
 end-keeps finished c k =
-    let s = settles finished c k in
-    let d : ExecutorCell = after_settle finished c in
+    let s = ends_poll finished c k in
+    let d : ExecutorCell = after_poll finished c in
     record {
       sorted = resorted d (after_end d) refl refl refl (sym s.polled) s.keeps.sorted;
       lit = λ h. ends d.pinged d.draining d.progress.dry (s.keeps.lit h);

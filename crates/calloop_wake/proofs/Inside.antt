@@ -4,10 +4,10 @@ use Rattle.calloop_wake.specs.declared.wake.tasks.Phase.TheVariants.{Queued, Pol
 use Rattle.calloop_wake.specs.declared.wake.tasks.Task.{Task}
 use Rattle.calloop_wake.specs.declared.wake.tasks.TaskKey.{TaskKey}
 use Rattle.calloop_wake.specs.declared.wake.executor.Progress.{Progress}
-use Rattle.calloop_wake.specs.Tasks.{TaskTable, task_at, phase_at, after_step, is_idle, is_woken, in_poll, woken_phase, settled_phase, slot_if}
+use Rattle.calloop_wake.specs.Tasks.{TaskTable, task_at, phase_at, after_step, is_idle, is_woken, in_poll, woken_phase, phase_after_pending, slot_if}
 use Rattle.calloop_wake.specs.Cells.{Cell}
 use Rattle.calloop_wake.specs.Executors.{with_slot, inside_cell, IsKeepingTasks, ExecutorCell, AreQueued, ArePolled, AreNumbered, in_its_poll, key_in}
-use Rattle.calloop_wake.proofs.ExecutorSteps.{wake-keeps, put-keeps, settles-at, take-none, take-some}
+use Rattle.calloop_wake.proofs.ExecutorSteps.{wake-keeps, put-keeps, ends_poll-at, take-none, take-some}
 
 -- the same with what a bell has of it, whatever its key and its senders are
 pub of-bell : (o : Option TaskTable) (next results : ℕ) (pinged draining : Bool) (progress : Progress) (k : Option ℕ) (senders : ℕ) (bell : Cell)
@@ -66,15 +66,15 @@ module _ (o : Option TaskTable) (old new : TaskTable) (next results : ℕ) (ping
   inside-finish key after more polled t q =
       subst (λ (n : ℕ). IsKeepingTasks (inside_cell (Some new) next n pinged draining (record progress { polled = None }) k senders)) (sym more)
       (fields _ _ next (results + 1) pinged (record progress { polled = None }) t q
-      (settles-at (Some key) true (inside_cell (Some old) next results pinged draining progress k senders) polled there).keeps)
+      (ends_poll-at (Some key) true (inside_cell (Some old) next results pinged draining progress k senders) polled there).keeps)
 
   pub inside-pend : (key : TaskKey) → progress.polled ≡ Some key
-      → task_at new ≡ with_slot key.slot (after_step settled_phase key.number (task_at old key.slot)) (task_at old)
+      → task_at new ≡ with_slot key.slot (after_step phase_after_pending key.number (task_at old key.slot)) (task_at old)
       → new.queue ≡ old.queue ++ slot_if (is_woken (phase_at key (task_at old))) key.slot
       → IsKeepingTasks (inside_cell (Some new) next results pinged draining (record progress { polled = None }) k senders)
   inside-pend key polled t q =
       fields _ _ next results pinged (record progress { polled = None }) t q
-      (settles-at (Some key) false (inside_cell (Some old) next results pinged draining progress k senders) polled there).keeps
+      (ends_poll-at (Some key) false (inside_cell (Some old) next results pinged draining progress k senders) polled there).keeps
 
   pub polled-there : (key : TaskKey) → progress.polled ≡ Some key → in_poll (phase_at key (task_at old)) ≡ true
   polled-there key polled = (there.running key polled).2
@@ -88,10 +88,10 @@ gone-polled o next results pinged draining progress k senders key none polled h 
 pub inside-gone : (o : Option TaskTable) (next results pops : ℕ) (pinged draining : Bool) (progress : Progress) (k : Option ℕ) (senders : ℕ)
     → o ≡ None → progress.polled ≡ None → IsKeepingTasks (inside_cell o next results pinged draining progress k senders)
     → IsKeepingTasks (inside_cell o next results pinged draining (record { pops = pops; dry = true; polled = None }) k senders)
-inside-gone o next results pops pinged draining progress k senders none settled h =
+inside-gone o next results pops pinged draining progress k senders none ended h =
     let there = subst (λ (t : Option TaskTable). IsKeepingTasks (inside_cell t next results pinged draining progress k senders)) none h in
     subst (λ (t : Option TaskTable). IsKeepingTasks (inside_cell t next results pinged draining (record { pops = pops; dry = true; polled = None }) k senders)) (sym none)
-    (let kept = take-none (inside_cell None next results pinged draining progress k senders) refl settled there in
+    (let kept = take-none (inside_cell None next results pinged draining progress k senders) refl ended there in
     record {
       sorted = record { queued = kept.sorted.queued; polled = kept.sorted.polled; numbered = kept.sorted.numbered };
       lit = λ e. absurd (true≢false e);
@@ -105,10 +105,10 @@ pub inside-take : (o : Option TaskTable) (old new : TaskTable) (next results pop
     → task_at new ≡ with_slot key.slot (Some (record { number = key.number; home = home; phase = Polling })) (task_at old)
     → IsKeepingTasks (inside_cell o next results pinged draining progress k senders)
     → IsKeepingTasks (inside_cell (Some new) next results pinged draining (record { pops = pops; dry = false; polled = Some key }) k senders)
-inside-take o old new next results pops pinged draining progress k senders key home is opened settled first at t h =
+inside-take o old new next results pops pinged draining progress k senders key home is opened ended first at t h =
     let there = subst (λ (x : Option TaskTable). IsKeepingTasks (inside_cell x next results pinged draining progress k senders)) is h in
     let task : Task = record { number = key.number; home = home; phase = Queued } in
-    let kept = take-some key.slot new.queue (inside_cell (Some old) next results pinged draining progress k senders) task first at settled opened there in
+    let kept = take-some key.slot new.queue (inside_cell (Some old) next results pinged draining progress k senders) task first at ended opened there in
     let now : in_its_poll (task_at old key.slot) ≡ Some (record { number = key.number; home = home; phase = Polling }) = ap in_its_poll at in
     let named : key_in key.slot (task_at old key.slot) ≡ Some key = ap (key_in key.slot) at in
     let made : task_at new ≡ with_slot key.slot (in_its_poll (task_at old key.slot)) (task_at old) = t ∙ ap (λ (x : Option Task). with_slot key.slot x (task_at old)) (sym now) in

@@ -46,18 +46,18 @@ IsPingedKnown K cells board debts passes = (n k : ℕ) → (K.pinged (cells n)) 
 abbrev pub IsHeard : List Place → ℕ → Bool → Loop → Type 0
 IsHeard board wakeups signal loop = (k : ℕ) → loop ≢ Awake → is_marked k board ≡ true → (0 < wakeups) ⊎ (signal ≡ true)
 
--- each open place has at most one holder: the cell with its key, the pass of the opened place, or the leave to close it. Nothing else is held
-pub record IsPlaced (K : Kind) (cells : ℕ → K.Cell) (board : List Place) (opened leaves : Bag) : Type 0 where
+-- each open place has at most one holder: the cell with its key, the pass of the opened place, or the permit to close it. Nothing else is held
+pub record IsPlaced (K : Kind) (cells : ℕ → K.Cell) (board : List Place) (opened permits : Bag) : Type 0 where
   pub alone : (m n k : ℕ) → (K.key (cells m)) ≡ Some k → (K.key (cells n)) ≡ Some k → m ≡ n
-  pub only : (n k : ℕ) → (K.key (cells n)) ≡ Some k → opened k + leaves k ≡ 0
+  pub only : (n k : ℕ) → (K.key (cells n)) ≡ Some k → opened k + permits k ≡ 0
   pub place : (n k : ℕ) → (K.key (cells n)) ≡ Some k → is_open k board ≡ true
-  pub waits : (k : ℕ) → opened k + leaves k ≤ one (is_open k board)
+  pub waits : (k : ℕ) → opened k + permits k ≤ one (is_open k board)
 
 pub record IsKept (K : Kind) (law : IsLawful K) (w : WakeWorld K.Cell) : Type 0 where
   pub lit : (n : ℕ) → law.IsLit (w.cells n)
   pub known : IsPingedKnown K w.cells w.board w.debts w.passes
   pub heard : IsHeard w.board w.wakeups w.signal w.loop
-  pub placed : IsPlaced K w.cells w.board w.opened w.leaves
+  pub placed : IsPlaced K w.cells w.board w.opened w.permits
 
 -- Bags.
 
@@ -156,7 +156,7 @@ module _ (K : Kind) (law : IsLawful K) where
   marked-after_close x k ps d = is_marked-after_close x k ps ∙ (ap (λ b. is_marked x ps && not b) (ne_eqb x k d) ∙ and-true (is_marked x ps))
 
   -- a key of a cell is open, so a debt of it that is posted is marked
-  pub known-post : (w : WakeWorld K.Cell) (k : ℕ) → 0 < w.debts k → IsPlaced K w.cells w.board w.opened w.leaves → IsPingedKnown K w.cells w.board w.debts w.passes
+  pub known-post : (w : WakeWorld K.Cell) (k : ℕ) → 0 < w.debts k → IsPlaced K w.cells w.board w.opened w.permits → IsPingedKnown K w.cells w.board w.debts w.passes
       → IsPingedKnown K w.cells (after_post k w.board) (less_one k w.debts) w.passes
   known-post w k held placed known n x p q =
       let m = is_marked-after_post x k w.board in
@@ -196,29 +196,29 @@ module _ (K : Kind) (law : IsLawful K) where
 
   -- Places.
 
-  pub placed-same : (cells cells' : ℕ → K.Cell) (board : List Place) (opened leaves : Bag) → ((j : ℕ) → (K.key (cells' j)) ≡ (K.key (cells j)))
-      → IsPlaced K cells board opened leaves → IsPlaced K cells' board opened leaves
-  placed-same cells cells' board opened leaves same p = record {
+  pub placed-same : (cells cells' : ℕ → K.Cell) (board : List Place) (opened permits : Bag) → ((j : ℕ) → (K.key (cells' j)) ≡ (K.key (cells j)))
+      → IsPlaced K cells board opened permits → IsPlaced K cells' board opened permits
+  placed-same cells cells' board opened permits same p = record {
     alone = λ m n k h i. p.alone m n k (sym (same m) ∙ h) (sym (same n) ∙ i);
     only = λ n k h. p.only n k (sym (same n) ∙ h);
     place = λ n k h. p.place n k (sym (same n) ∙ h);
     waits = p.waits;
   }
 
-  pub placed-cell : (w : WakeWorld K.Cell) (n : ℕ) (c : K.Cell) → (K.key c) ≡ (K.key (w.cells n)) → IsPlaced K w.cells w.board w.opened w.leaves → IsPlaced K (with_cell n c w.cells) w.board w.opened w.leaves
+  pub placed-cell : (w : WakeWorld K.Cell) (n : ℕ) (c : K.Cell) → (K.key c) ≡ (K.key (w.cells n)) → IsPlaced K w.cells w.board w.opened w.permits → IsPlaced K (with_cell n c w.cells) w.board w.opened w.permits
   placed-cell w n c same p =
-      placed-same w.cells (with_cell n c w.cells) w.board w.opened w.leaves
+      placed-same w.cells (with_cell n c w.cells) w.board w.opened w.permits
       (λ j. let P : K.Cell → Type 0 = λ d. (K.key d) ≡ (K.key (w.cells j)) in
       with_cell_cases P n j c w.cells (λ e. same ∙ ap (λ m. (K.key (w.cells m))) (sym e)) (λ _. refl))
       p
 
-  -- the cell's key is cleared, and the leave to close its place given
-  pub placed-clear : (w : WakeWorld K.Cell) (n : ℕ) (c : K.Cell) → (K.key c) ≡ None → IsPlaced K w.cells w.board w.opened w.leaves
-      → IsPlaced K (with_cell n c w.cells) w.board w.opened (and_any (K.key (w.cells n)) w.leaves)
+  -- the cell's key is cleared, and the permit to close its place given
+  pub placed-clear : (w : WakeWorld K.Cell) (n : ℕ) (c : K.Cell) → (K.key c) ≡ None → IsPlaced K w.cells w.board w.opened w.permits
+      → IsPlaced K (with_cell n c w.cells) w.board w.opened (and_any (K.key (w.cells n)) w.permits)
   placed-clear w n c none p =
       let not_here : (k : ℕ) → (K.key c) ≢ Some k = λ k h. absurd (cc (none, h)) in
-      let other : (j k : ℕ) → j ≢ n → (K.key (w.cells j)) ≡ Some k → and_any (K.key (w.cells n)) w.leaves k ≡ w.leaves k =
-      λ j k d h. and_any-other (K.key (w.cells n)) w.leaves k (λ e. d (p.alone j n k h e)) in
+      let other : (j k : ℕ) → j ≢ n → (K.key (w.cells j)) ≡ Some k → and_any (K.key (w.cells n)) w.permits k ≡ w.permits k =
+      λ j k d h. and_any-other (K.key (w.cells n)) w.permits k (λ e. d (p.alone j n k h e)) in
       record {
         alone = λ a b k.
             let Q : K.Cell → Type 0 = λ d. (K.key d) ≡ Some k → (K.key (with_cell n c w.cells b)) ≡ Some k → a ≡ b in
@@ -227,25 +227,25 @@ module _ (K : Kind) (law : IsLawful K) where
             let R : K.Cell → Type 0 = λ d. (K.key d) ≡ Some k → a ≡ b in
             with_cell_cases R n b c w.cells (λ _ i. absurd (not_here k i)) (λ _ i. p.alone a b k h i));
         only = λ j k.
-            let Q : K.Cell → Type 0 = λ d. (K.key d) ≡ Some k → w.opened k + and_any (K.key (w.cells n)) w.leaves k ≡ 0 in
+            let Q : K.Cell → Type 0 = λ d. (K.key d) ≡ Some k → w.opened k + and_any (K.key (w.cells n)) w.permits k ≡ 0 in
             with_cell_cases Q n j c w.cells (λ _ h. absurd (not_here k h)) (λ d h. let e = other j k d h in let f = p.only j k h in omega arith);
         place = λ j k.
             let Q : K.Cell → Type 0 = λ d. (K.key d) ≡ Some k → is_open k w.board ≡ true in
             with_cell_cases Q n j c w.cells (λ _ h. absurd (not_here k h)) (λ d h. p.place j k h);
         waits = λ k.
             let h = p.waits k in
-            elim (and_any-cases (K.key (w.cells n)) w.leaves k) [
+            elim (and_any-cases (K.key (w.cells n)) w.permits k) [
               | inl e ↦ let o = p.only n k e.0 in let i = p.place n k e.0 in let m : one (is_open k w.board) ≡ 1 = ap one i in omega arith
               | inr e ↦ omega arith
             ];
       }
 
   -- a cell without a key takes the key of a place that was opened
-  pub placed-fill : (cells : ℕ → K.Cell) (board : List Place) (opened leaves : Bag) (n k : ℕ) (c : K.Cell) → (K.key c) ≡ Some k → (K.key (cells n)) ≡ None → 0 < opened k
-      → IsPlaced K cells board opened leaves → IsPlaced K (with_cell n c cells) board (less_one k opened) leaves
-  placed-fill cells board opened leaves n k c is none held p =
+  pub placed-fill : (cells : ℕ → K.Cell) (board : List Place) (opened permits : Bag) (n k : ℕ) (c : K.Cell) → (K.key c) ≡ Some k → (K.key (cells n)) ≡ None → 0 < opened k
+      → IsPlaced K cells board opened permits → IsPlaced K (with_cell n c cells) board (less_one k opened) permits
+  placed-fill cells board opened permits n k c is none held p =
       let free : (j x : ℕ) → (K.key (cells j)) ≡ Some x → x ≢ k =
-      λ j x h e. let z = p.only j x h in let z' : opened k + leaves k ≡ 0 = subst (λ (y : ℕ). opened y + leaves y ≡ 0) e z in absurd (omega arith) in
+      λ j x h e. let z = p.only j x h in let z' : opened k + permits k ≡ 0 = subst (λ (y : ℕ). opened y + permits y ≡ 0) e z in absurd (omega arith) in
       let own : (x : ℕ) → (K.key c) ≡ Some x → x ≡ k = λ x h. cc in
       let full : one (is_open k board) ≡ 1 = one-pos (is_open k board) (let h = p.waits k in omega arith) in
       record {
@@ -259,9 +259,9 @@ module _ (K : Kind) (law : IsLawful K) where
             let R : K.Cell → Type 0 = λ d. (K.key d) ≡ Some x → a ≡ b in
             with_cell_cases R n b c cells (λ _ i. absurd (free a x h (own x i))) (λ _ i. p.alone a b x h i));
         only = λ j x.
-            let Q : K.Cell → Type 0 = λ d. (K.key d) ≡ Some x → less_one k opened x + leaves x ≡ 0 in
+            let Q : K.Cell → Type 0 = λ d. (K.key d) ≡ Some x → less_one k opened x + permits x ≡ 0 in
             with_cell_cases Q n j c cells
-            (λ _ h. let e = own x h in let R : ℕ → Type 0 = λ y. less_one k opened y + leaves y ≡ 0 in
+            (λ _ h. let e = own x h in let R : ℕ → Type 0 = λ y. less_one k opened y + permits y ≡ 0 in
             subst R (sym e) (let s = less_one-same k opened in let g = p.waits k in omega arith))
             (λ _ h. let o = less_one-other k x opened (free j x h) in let z = p.only j x h in omega arith);
         place = λ j x.
@@ -272,24 +272,24 @@ module _ (K : Kind) (law : IsLawful K) where
         waits = λ x. let h = p.waits x in let l = less_one-le k opened x in omega arith;
       }
 
-  pub placed-set : (w : WakeWorld K.Cell) (n k : ℕ) (c : K.Cell) → (K.key c) ≡ Some k → 0 < w.opened k → IsPlaced K w.cells w.board w.opened w.leaves
-      → IsPlaced K (with_cell n c w.cells) w.board (less_one k w.opened) (and_any (K.key (w.cells n)) w.leaves)
+  pub placed-set : (w : WakeWorld K.Cell) (n k : ℕ) (c : K.Cell) → (K.key c) ≡ Some k → 0 < w.opened k → IsPlaced K w.cells w.board w.opened w.permits
+      → IsPlaced K (with_cell n c w.cells) w.board (less_one k w.opened) (and_any (K.key (w.cells n)) w.permits)
   placed-set w n k c is held p =
       let cleared : K.Cell = K.unkeyed false (w.cells n) in
       let cells : ℕ → K.Cell = with_cell n cleared w.cells in
       let none : (K.key (cells n)) ≡ None =
       let P : K.Cell → Type 0 = λ d. (K.key d) ≡ None in with_cell_cases P n n cleared w.cells (λ _. law.unkeyed_key false (w.cells n)) (λ d. absurd (d refl)) in
-      placed-same (with_cell n c cells) (with_cell n c w.cells) w.board (less_one k w.opened) (and_any (K.key (w.cells n)) w.leaves)
+      placed-same (with_cell n c cells) (with_cell n c w.cells) w.board (less_one k w.opened) (and_any (K.key (w.cells n)) w.permits)
       (λ j.
       elim (eqb_tells j n) [
         | inl h ↦ let Q : Bool → Type 0 = λ b. (K.key (if b then c else w.cells j)) ≡ (K.key (if b then c else (if b then cleared else w.cells j))) in subst Q (sym h.0) refl
         | inr h ↦ let Q : Bool → Type 0 = λ b. (K.key (if b then c else w.cells j)) ≡ (K.key (if b then c else (if b then cleared else w.cells j))) in subst Q (sym h.0) refl
       ])
-      (placed-fill cells w.board w.opened (and_any (K.key (w.cells n)) w.leaves) n k c is none held (placed-clear w n cleared (law.unkeyed_key false (w.cells n)) p))
+      (placed-fill cells w.board w.opened (and_any (K.key (w.cells n)) w.permits) n k c is none held (placed-clear w n cleared (law.unkeyed_key false (w.cells n)) p))
 
   -- a place that nobody holds is opened
-  pub placed-open : (w : WakeWorld K.Cell) (k : ℕ) → is_open k w.board ≡ false → IsPlaced K w.cells w.board w.opened w.leaves
-      → IsPlaced K w.cells (after_open_place k w.board) (and_one k w.opened) w.leaves
+  pub placed-open : (w : WakeWorld K.Cell) (k : ℕ) → is_open k w.board ≡ false → IsPlaced K w.cells w.board w.opened w.permits
+      → IsPlaced K w.cells (after_open_place k w.board) (and_one k w.opened) w.permits
   placed-open w k shut p =
       let free : (j x : ℕ) → (K.key (w.cells j)) ≡ Some x → x ≢ k =
       λ j x h e. absurd (true≢false (sym (p.place j x h) ∙ (ap (λ y. is_open y w.board) e ∙ shut))) in
@@ -315,34 +315,34 @@ module _ (K : Kind) (law : IsLawful K) where
             ];
       }
 
-  -- a place is closed by its leave
-  pub placed-close : (w : WakeWorld K.Cell) (k : ℕ) → 0 < w.leaves k → IsPlaced K w.cells w.board w.opened w.leaves
-      → IsPlaced K w.cells (after_close_place k w.board) w.opened (less_one k w.leaves)
+  -- a place is closed by its permit
+  pub placed-close : (w : WakeWorld K.Cell) (k : ℕ) → 0 < w.permits k → IsPlaced K w.cells w.board w.opened w.permits
+      → IsPlaced K w.cells (after_close_place k w.board) w.opened (less_one k w.permits)
   placed-close w k held p =
       let free : (j x : ℕ) → (K.key (w.cells j)) ≡ Some x → x ≢ k =
-      λ j x h e. let z = p.only j x h in let z' : w.opened k + w.leaves k ≡ 0 = subst (λ (y : ℕ). w.opened y + w.leaves y ≡ 0) e z in absurd (omega arith) in
+      λ j x h e. let z = p.only j x h in let z' : w.opened k + w.permits k ≡ 0 = subst (λ (y : ℕ). w.opened y + w.permits y ≡ 0) e z in absurd (omega arith) in
       let kept : (x : ℕ) → x ≢ k → is_open x (after_close_place k w.board) ≡ is_open x w.board =
       λ x d. is_open-after_close x k w.board ∙ (ap (λ b. is_open x w.board && not b) (ne_eqb x k d) ∙ and-true (is_open x w.board)) in
       record {
         alone = p.alone;
-        only = λ j x h. let z = p.only j x h in let l = less_one-le k w.leaves x in omega arith;
+        only = λ j x h. let z = p.only j x h in let l = less_one-le k w.permits x in omega arith;
         place = λ j x h. kept x (free j x h) ∙ p.place j x h;
         waits = λ x.
             let h = p.waits x in
             elim (eqb_tells x k) [
               | inl y ↦
-                  let l : less_one k w.leaves x ≡ w.leaves x - 1 = ap (λ z. w.leaves x - one z) y.0 in
+                  let l : less_one k w.permits x ≡ w.permits x - 1 = ap (λ z. w.permits x - one z) y.0 in
                   let o = one-le (is_open x w.board) in
-                  let i : 0 < w.leaves x = subst (λ (z : ℕ). 0 < w.leaves z) (sym y.1) held in
+                  let i : 0 < w.permits x = subst (λ (z : ℕ). 0 < w.permits z) (sym y.1) held in
                   omega arith
               | inr y ↦
-                  let l = less_one-other k x w.leaves y.1 in
+                  let l = less_one-other k x w.permits y.1 in
                   let o = ap one (kept x y.1) in
                   omega arith
             ];
       }
 
-  pub placed-post : (w : WakeWorld K.Cell) (k : ℕ) → IsPlaced K w.cells w.board w.opened w.leaves → IsPlaced K w.cells (after_post k w.board) w.opened w.leaves
+  pub placed-post : (w : WakeWorld K.Cell) (k : ℕ) → IsPlaced K w.cells w.board w.opened w.permits → IsPlaced K w.cells (after_post k w.board) w.opened w.permits
   placed-post w k p = record {
     alone = p.alone;
     only = p.only;
@@ -350,7 +350,7 @@ module _ (K : Kind) (law : IsLawful K) where
     waits = λ x. let h = p.waits x in let e = ap one (is_open-after_post x k w.board) in omega arith;
   }
 
-  pub placed-unpost : (w : WakeWorld K.Cell) (b : ℕ) → IsPlaced K w.cells w.board w.opened w.leaves → IsPlaced K w.cells (after_unpost b w.board) w.opened w.leaves
+  pub placed-unpost : (w : WakeWorld K.Cell) (b : ℕ) → IsPlaced K w.cells w.board w.opened w.permits → IsPlaced K w.cells (after_unpost b w.board) w.opened w.permits
   placed-unpost w b p = record {
     alone = p.alone;
     only = p.only;
@@ -423,7 +423,7 @@ module _ (K : Kind) (law : IsLawful K) where
     lit = h.lit;
     known = known-board w (after_close_place k w.board)
         (λ n x q.
-        let d : x ≢ k = λ e. let z = h.placed.only n x q in let z' : w.opened k + w.leaves k ≡ 0 = subst (λ (y : ℕ). w.opened y + w.leaves y ≡ 0) e z in absurd (omega arith) in
+        let d : x ≢ k = λ e. let z = h.placed.only n x q in let z' : w.opened k + w.permits k ≡ 0 = subst (λ (y : ℕ). w.opened y + w.permits y ≡ 0) e z in absurd (omega arith) in
         let m = ap one (marked-after_close x k w.board d) in omega arith) h.known;
     heard = λ x a m. h.heard x a (and-left (is_marked x w.board) (not (nat_eq x k)) (sym (is_marked-after_close x k w.board) ∙ m));
     placed = placed-close w k need h.placed;

@@ -181,10 +181,10 @@ module _ (tasks : ℕ → Option Task) where
       (λ there e i. p s t e i)
 
   -- the polled task is polled no more
-  pub polled-settle : (key : TaskKey) (o : Option Task)
+  pub polled-pend : (key : TaskKey) (o : Option Task)
       → ((task : Task) → o ≡ Some task → in_poll (Some task.phase) ≢ true)
       → ArePolled tasks (Some key) → ArePolled (with_slot key.slot o tasks) None
-  polled-settle key o out p = λ s t.
+  polled-pend key o out p = λ s t.
       with_slot_cases (λ o. o ≡ Some t → in_poll (Some t.phase) ≡ true → ◌≡◌ {A = Option TaskKey} None (Some (record { slot = s; number = t.number }))) key.slot s o tasks
       (λ here e i. absurd (out t e i))
       (λ there e i. absurd (there (sym (ap (λ (k : TaskKey). k.slot) (same_Some key _ (p s t e i))))))

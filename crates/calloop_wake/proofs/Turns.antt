@@ -7,8 +7,8 @@ use Rattle.calloop_wake.specs.declared.wake.tasks.TaskKey.{TaskKey}
 use Rattle.calloop_wake.specs.Channels.{after_pop_of, has_room, is_below}
 use Rattle.calloop_wake.specs.ChannelKind as channel
 use Rattle.calloop_wake.specs.ChannelKind.{ChannelPast, ChannelStep, channel_kind, channel_needs, channel_after}
-use Rattle.calloop_wake.specs.Executors.{ExecutorCell, settled_at, taken_of, after_take, after_pop, after_wake, key_in, in_its_poll}
-use Rattle.calloop_wake.specs.Tasks.{is_woken, is_idle, phase_if, after_step, settled_phase, woken_phase, slot_if}
+use Rattle.calloop_wake.specs.Executors.{ExecutorCell, after_poll_of, taken_of, after_take, after_pop, after_wake, key_in, in_its_poll}
+use Rattle.calloop_wake.specs.Tasks.{is_woken, is_idle, phase_if, after_step, phase_after_pending, woken_phase, slot_if}
 use Rattle.calloop_wake.specs.ExecutorKind as executor
 use Rattle.calloop_wake.specs.ExecutorKind.{ExecutorPast, ExecutorStep, executor_kind, executor_needs, past_after}
 use Rattle.calloop_wake.specs.PingKind.{ping_kind}
@@ -92,13 +92,13 @@ pub record IsPolled (pops : ℕ) (c : ExecutorCell) : Type 0 where
 -- the task is queued again, and popped
 popped_again : (m : ℕ) (c : ExecutorCell) → IsPolled m c → IsPolled (m + 1) (after_wake (record { slot = 3; number = 0 }) (after_pop false c))
 popped_again m c h =
-    let settled : ExecutorCell = settled_at (Some (record { slot = 3; number = 0 })) false c in
-    let same : after_pop false c ≡ taken_of settled.queue settled = ap (λ o. after_take (settled_at o false c)) h.polled in
-    let queued : settled.queue ≡ 3 ∷ [] =
+    let ended : ExecutorCell = after_poll_of (Some (record { slot = 3; number = 0 })) false c in
+    let same : after_pop false c ≡ taken_of ended.queue ended = ap (λ o. after_take (after_poll_of o false c)) h.polled in
+    let queued : ended.queue ≡ 3 ∷ [] =
     ap (λ q. q ++ slot_if (is_woken (phase_if 0 (c.tasks 3))) 3) h.queue ∙ ap (λ (t : Option Task). slot_if (is_woken (phase_if 0 t)) 3) h.task in
-    let there : settled.tasks 3 ≡ Some (record { number = 0; phase = Queued; home = 0 }) = ap (λ (t : Option Task). after_step settled_phase 0 t) h.task in
-    let taken : ExecutorCell = taken_of (3 ∷ []) settled in
-    let is : after_pop false c ≡ taken = same ∙ ap (λ q. taken_of q settled) queued in
+    let there : ended.tasks 3 ≡ Some (record { number = 0; phase = Queued; home = 0 }) = ap (λ (t : Option Task). after_step phase_after_pending 0 t) h.task in
+    let taken : ExecutorCell = taken_of (3 ∷ []) ended in
+    let is : after_pop false c ≡ taken = same ∙ ap (λ q. taken_of q ended) queued in
     let running : taken.tasks 3 ≡ Some (record { number = 0; phase = Polling; home = 0 }) = ap in_its_poll there in
     subst (λ (d : ExecutorCell). IsPolled (m + 1) (after_wake (record { slot = 3; number = 0 }) d)) (sym is)
     (record {

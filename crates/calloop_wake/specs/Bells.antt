@@ -32,5 +32,5 @@ abbrev pub owed_if : (early : Bool) → Cell → Option ℕ
 owed_if early c = if early then debt_of c else None
 
 -- a close is told
-abbrev pub after_tell : Cell → Cell
-after_tell c = record c { told = c.closed || c.told }
+abbrev pub after_tell_close : Cell → Cell
+after_tell_close c = record c { told = c.closed || c.told }

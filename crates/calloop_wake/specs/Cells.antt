@@ -191,8 +191,8 @@ core_after_open_turn k c =
     }
 
 -- a pass of this key opens a turn that tells the close
-abbrev pub tells : ℕ → Cell → ℕ
-tells k c = one (opens k c && (c.closed && not c.told))
+abbrev pub closes_by_turn : ℕ → Cell → ℕ
+closes_by_turn k c = one (opens k c && (c.closed && not c.told))
 
 -- the receiving end of the cell of this name, which gave it no key yet and counted nothing; its misses, the tasks that
 -- were popped before their futures came, are an executor's alone
@@ -209,7 +209,7 @@ tally_after_open_turn k c tally =
     record tally {
       turns = tally.turns + one (opens k c.cell);
       number = tally.number + takes k c.cell;
-      closes = tally.closes + tells k c.cell;
+      closes = tally.closes + closes_by_turn k c.cell;
     }
 
 -- what opening a turn gives: the turn of this cell with what was due, or the pass back, marked as refused by it

@@ -32,7 +32,7 @@ use Rattle.std.specs.Prelude.{
 use Rattle.logbook.specs.Pages.{Book}
 use Rattle.calloop_wake.specs.Passes.{Taken, Keyed}
 use Rattle.calloop_wake.specs.Cells.{Cell, fresh, one, opens, after_set_key}
-use Rattle.calloop_wake.specs.Bells.{BellView, after_ping, after_drain, after_end, after_tell}
+use Rattle.calloop_wake.specs.Bells.{BellView, after_ping, after_drain, after_end, after_tell_close}
 use Rattle.calloop_wake.specs.declared.wake.Receipt.{Receipt}
 use Rattle.calloop_wake.specs.declared.wake.Tally.{Tally}
 use Rattle.calloop_wake.specs.declared.wake.ChannelTurn.{ChannelTurn}
@@ -94,8 +94,8 @@ after_open_turn k c =
     if opens k c.cell then record { cell = after_drain c.cell; queue = c.queue; bound = c.bound; last = NoPop } else c
 
 -- the close is told by a pop that finds nothing
-abbrev pub tells : Cell → Bool
-tells c = c.closed && not c.told
+abbrev pub tells_close : Cell → Bool
+tells_close c = c.closed && not c.told
 
 abbrev pub popped_of : {T : Type 0} → List T → (tells : Bool) → Popped T
 popped_of (x ∷ xs) tells = Item x
@@ -103,11 +103,11 @@ popped_of [] tells = if tells then Closed else Empty
 
 -- what a pop gives
 abbrev pub pop_answer : {T : Type 0} → ChannelCell T → Popped T
-pop_answer c = popped_of c.queue (tells c.cell)
+pop_answer c = popped_of c.queue (tells_close c.cell)
 
 abbrev pub after_pop_of : {T : Type 0} → List T → ChannelCell T → ChannelCell T
 after_pop_of (x ∷ xs) c = record { cell = c.cell; queue = xs; bound = c.bound; last = AnItem }
-after_pop_of [] c = record { cell = after_tell c.cell; queue = []; bound = c.bound; last = NoItem }
+after_pop_of [] c = record { cell = after_tell_close c.cell; queue = []; bound = c.bound; last = NoItem }
 
 abbrev pub after_pop : {T : Type 0} → ChannelCell T → ChannelCell T
 after_pop c = after_pop_of c.queue c
@@ -146,7 +146,7 @@ after_end_turn c = record { cell = after_end (is_early c.last) c.cell; queue = c
 -- there is nothing to be handed out or told, or it is pinged
 pub record IsPingedIfDue {T : Type 0} (c : ChannelCell T) : Type 0 where
   pub queue : 0 < length c.queue → c.cell.pinged ≡ true
-  pub close : tells c.cell ≡ true → c.cell.pinged ≡ true
+  pub close : tells_close c.cell ≡ true → c.cell.pinged ≡ true
 
 -- What mustn't be lost is pinged, at rest, and in a turn whose last pop found nothing. Calloop has no word for it: a turn
 -- that stops early rings its own ping.
@@ -162,7 +162,7 @@ pub record IsSoundChannel {T : Type 0} (c : ChannelCell T) : Type 0 where
 -- no message and no close is lost: it is pinged, or a turn stands open
 pub record IsStandingChannel {T : Type 0} (c : ChannelCell T) : Type 0 where
   pub queue : 0 < length c.queue → (c.cell.pinged || c.cell.draining) ≡ true
-  pub close : tells c.cell ≡ true → (c.cell.pinged || c.cell.draining) ≡ true
+  pub close : tells_close c.cell ≡ true → (c.cell.pinged || c.cell.draining) ≡ true
 
 -- a channel's messages, and how many were put and handed out in all
 pub record QueueView (T : Type 0) : Type 0 where

@@ -8,7 +8,7 @@ use Rattle.calloop_wake.specs.declared.wake.tasks.Task.{Task}
 use Rattle.calloop_wake.specs.declared.wake.tasks.TaskKey.{TaskKey}
 use Rattle.calloop_wake.specs.declared.wake.executor.Progress.{Progress}
 use Rattle.calloop_wake.specs.Cells.{is_own}
-use Rattle.calloop_wake.specs.Tasks.{TaskTable, no_tasks, task_at, count, phase_at, after_step, is_idle, is_woken, in_poll, woken_phase, settled_phase, slot_if}
+use Rattle.calloop_wake.specs.Tasks.{TaskTable, no_tasks, task_at, count, phase_at, after_step, is_idle, is_woken, in_poll, woken_phase, phase_after_pending, slot_if}
 
 -- a turn that popped nothing yet
 abbrev pub at_start : Progress
@@ -83,24 +83,24 @@ abbrev pub IsAwake : ℕ → ExecutorCell → Type 0
 IsAwake number c = (slot : ℕ) → after_wake (record { slot = slot; number = number }) c ≡ c
 
 -- the task that was popped last is finished, or idle, or queued last where it was woken in its poll
-abbrev pub settled_at : Option TaskKey → (finished : Bool) → ExecutorCell → ExecutorCell
-settled_at None finished c = c
-settled_at (Some key) true c =
+abbrev pub after_poll_of : Option TaskKey → (finished : Bool) → ExecutorCell → ExecutorCell
+after_poll_of None finished c = c
+after_poll_of (Some key) true c =
     record c {
       tasks = with_slot key.slot None c.tasks;
       results = c.results + 1;
       progress = record c.progress { polled = None };
     }
-settled_at (Some key) false c =
+after_poll_of (Some key) false c =
     record c {
-      tasks = with_slot key.slot (after_step settled_phase key.number (c.tasks key.slot)) c.tasks;
+      tasks = with_slot key.slot (after_step phase_after_pending key.number (c.tasks key.slot)) c.tasks;
       queue = c.queue ++ slot_if (is_woken (phase_at key c.tasks)) key.slot;
       progress = record c.progress { polled = None };
     }
 
 -- the same of the task that the turn popped last
-abbrev pub after_settle : (finished : Bool) → ExecutorCell → ExecutorCell
-after_settle finished c = settled_at c.progress.polled finished c
+abbrev pub after_poll : (finished : Bool) → ExecutorCell → ExecutorCell
+after_poll finished c = after_poll_of c.progress.polled finished c
 
 -- the key of the task in this slot
 abbrev pub key_in : ℕ → Option Task → Option TaskKey
@@ -126,17 +126,17 @@ taken_of (slot ∷ rest) c =
 abbrev pub after_take : ExecutorCell → ExecutorCell
 after_take c = taken_of c.queue c
 
--- A pop, which first settles the task that was popped before; calloop's process_events takes the next runnable
+-- A pop, which first ends the poll of the task that was popped before; calloop's process_events takes the next runnable
 abbrev pub after_pop : (finished : Bool) → ExecutorCell → ExecutorCell
-after_pop finished c = after_take (after_settle finished c)
+after_pop finished c = after_take (after_poll finished c)
 
 -- the turn is over, and pings where its last pop gave a task; calloop's process_events rings its own Ping after 1,024
 abbrev pub after_end : ExecutorCell → ExecutorCell
 after_end c = record c { draining = false; pinged = c.pinged || not c.progress.dry; progress = at_start }
 
--- the end of a turn, which first settles the task that was popped last
+-- the end of a turn, which first ends the poll of the task that was popped last
 abbrev pub after_end_turn : (finished : Bool) → ExecutorCell → ExecutorCell
-after_end_turn finished c = after_end (after_settle finished c)
+after_end_turn finished c = after_end (after_poll finished c)
 
 -- a pass of this key opens a turn; calloop's PingSource compares the token of the event with its own
 abbrev pub opens : ℕ → ExecutorCell → Bool

@@ -1,5 +1,5 @@
 -- What holds of a lock between any two steps, and what who has taken it has. A lock is a table with one word and one slot.
--- The `slot` of a Locked is seen as the tag that it was made under.
+-- The `tag` of a Locked is seen as the tag that it was made under.
 use Rattle.std.specs.Prelude.{◌≡◌, ℕ, ◌+◌, ◌∷◌, [], List, slice_index, length}
 use mathlib.Core.Option.{some}
 use lib.ListN.{get_elem?}

@@ -3,7 +3,7 @@
 use Rattle.std.specs.Prelude.{◌≡◌, ℕ, List, [], ◌∷◌, Option, Some, None}
 use Rattle.logbook.specs.Pages.{Book}
 
--- a Debt, an OpenedPass or a LeaveToClose: a key of the board of this name; calloop's poller alone knows its
+-- a Debt, an OpenedPass or a ClosePermit: a key of the board of this name; calloop's poller alone knows its
 -- descriptors' keys
 pub record Keyed : Type 0 where
   pub key : ℕ

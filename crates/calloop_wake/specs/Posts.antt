@@ -1,5 +1,6 @@
--- How a board holds its places: in a map from the key to where it stands in a list of the posted keys, if it is posted.
--- calloop has the kernel's poller here, which keeps a tree of descriptors and a list of those that are ready.
+-- How a board holds its places: in a map from the key to where it stands in a list of the posted keys, if it is posted,
+-- and of one key a slot by that slot. calloop has the kernel's poller here, which keeps a tree of descriptors and a list of
+-- those that are ready.
 use Rattle.std.specs.Prelude.{
   ◌≡◌,
   ℕ,
@@ -7,6 +8,7 @@ use Rattle.std.specs.Prelude.{
   ◌-◌,
   ◌≤◌,
   Bool,
+  true,
   false,
   not,
   List,
@@ -31,7 +33,9 @@ use Rattle.std.specs.BTreeMap.{is_at}
 use Rattle.std.specs.Map.{lookup}
 use Rattle.std.specs.List.{list_any, IsDistinct}
 use Rattle.calloop_wake.specs.declared.wake.board.Place.{Place}
+use Rattle.calloop_wake.specs.declared.wake.places.SlotKey.{SlotKey}
 use Rattle.calloop_wake.specs.Boards.{is_marked, IsAscending}
+use Rattle.calloop_wake.specs.Tokens.{slot_of_key}
 
 abbrev pub place_at : ℕ × Option ℕ → Place
 place_at e = record { key = e.0; marked = is_some e.1 }
@@ -42,6 +46,31 @@ places_of entries = map place_at entries
 -- what stands at the place of a key
 abbrev pub standing_at : (key : ℕ) → List (ℕ × Option ℕ) → Option (Option ℕ)
 standing_at key entries = lookup (is_at (nat_cmp key)) entries
+
+-- what a key has at its slot, where it is the one there
+abbrev pub of_key : (key : ℕ) → Option SlotKey → Option (Option ℕ)
+of_key key None = None
+of_key key (Some here) = if nat_eq here.key key then Some here.at else None
+
+abbrev pub by_slot_at : (key : ℕ) → List (Option SlotKey) → Option (Option ℕ)
+by_slot_at key slots = of_key key (slice_index_or slots (slot_of_key key) None)
+
+-- what stands at the place of a key: what its slot has of it, or else what the map has
+abbrev pub or_by_map : Option (Option ℕ) → Option ℕ → Option ℕ
+or_by_map None at = at
+or_by_map (Some here) at = here
+
+-- the map, with what the slots have
+abbrev pub with_slots : List (Option SlotKey) → List (ℕ × Option ℕ) → List (ℕ × Option ℕ)
+with_slots slots entries = map (λ e. (e.0, or_by_map (by_slot_at e.0 slots) e.1)) entries
+
+-- the slot of a key has no other one
+abbrev pub IsFree : (key : ℕ) → List (Option SlotKey) → Type 0
+IsFree key slots = (q : ℕ) → nat_eq q key ≡ false → slot_of_key q ≡ slot_of_key key → by_slot_at q slots ≡ None
+
+-- each key of a slot is open
+abbrev pub AreOpen : List (Option SlotKey) → List (ℕ × Option ℕ) → Type 0
+AreOpen slots entries = (key : ℕ) → is_some (by_slot_at key slots) ≡ true → is_some (standing_at key entries) ≡ true
 
 -- the key has a place, and isn't posted
 abbrev pub is_quiet : Option (Option ℕ) → Bool

@@ -6,9 +6,9 @@ use Rattle.calloop_wake.specs.Wakes.{WakeWorld, and_any, less_one, with_cell}
 abbrev pub with_step : {C : Type 0} → ℕ → C → Option ℕ → WakeWorld C → WakeWorld C
 with_step n c debt w = record w { cells = with_cell n c w.cells; debts = and_any debt w.debts }
 
--- and this leave to close
-abbrev pub with_leave : {C : Type 0} → Option ℕ → WakeWorld C → WakeWorld C
-with_leave leave w = record w { leaves = and_any leave w.leaves }
+-- and this permit to close
+abbrev pub with_permit : {C : Type 0} → Option ℕ → WakeWorld C → WakeWorld C
+with_permit permit w = record w { permits = and_any permit w.permits }
 
 -- the place of this key is taken
 abbrev pub with_place_taken : {C : Type 0} → ℕ → WakeWorld C → WakeWorld C

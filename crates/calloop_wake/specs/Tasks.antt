@@ -63,11 +63,11 @@ woken_phase Queued = Queued
 woken_phase Woken = Woken
 
 -- what the end of a pending poll makes of a phase
-abbrev pub settled_phase : Phase → Phase
-settled_phase Polling = Idle
-settled_phase Woken = Queued
-settled_phase Idle = Idle
-settled_phase Queued = Queued
+abbrev pub phase_after_pending : Phase → Phase
+phase_after_pending Polling = Idle
+phase_after_pending Woken = Queued
+phase_after_pending Idle = Idle
+phase_after_pending Queued = Queued
 
 -- the task in this phase
 abbrev pub with_phase : Phase → Task → Task

@@ -13,6 +13,10 @@ key_of t = t.slot * (versions * parts) + t.version * parts + t.sub_id
 abbrev pub token_of : ℕ → Token
 token_of key = record { slot = key / (versions * parts); version = key / parts % versions; sub_id = key % parts }
 
+-- the slot of the token of a word
+abbrev pub slot_of_key : ℕ → ℕ
+slot_of_key key = key / (versions * parts)
+
 -- its numbers fit their widths; the types of calloop's TokenInner say so
 pub record IsToken (t : Token) : Type 0 where
   pub slot : t.slot < most_slots

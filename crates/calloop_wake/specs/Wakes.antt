@@ -102,7 +102,7 @@ pub record WakeWorld (C : Type 0) : Type 0 where
   -- keys of places that were opened, and that no cell has yet
   pub opened : Bag
   -- keys whose cells have another key now
-  pub leaves : Bag
+  pub permits : Bag
   -- wakeups that are owed
   pub wakeups : ℕ
   -- a wakeup reached the poller since its last wait; in calloop the poller keeps what `Notifier::notify` tells it
@@ -118,7 +118,7 @@ start fresh =
       debts = no_value;
       passes = no_value;
       opened = no_value;
-      leaves = no_value;
+      permits = no_value;
       wakeups = 0;
       signal = false;
       loop = Awake;
@@ -151,7 +151,7 @@ Needs K w (SetKey n k) = 0 < w.opened k
 Needs K w (OpenTurn n k) = 0 < w.passes k
 Needs K w (ClearKey n by_drop) = Unit {0}
 Needs K w (OpenPlace k) = is_open k w.board ≡ false
-Needs K w (ClosePlace k) = 0 < w.leaves k
+Needs K w (ClosePlace k) = 0 < w.permits k
 Needs K w (Post k) = 0 < w.debts k
 Needs K w (Back k) = 0 < w.passes k
 Needs K w Look = w.loop ≢ Asleep
@@ -172,12 +172,12 @@ after K w (SetKey n k) =
       cells = with_cell n (K.keyed k (w.cells n)) w.cells;
       opened = less_one k w.opened;
       debts = and_any (owed_at K k (w.cells n)) w.debts;
-      leaves = and_any (K.key (w.cells n)) w.leaves;
+      permits = and_any (K.key (w.cells n)) w.permits;
     }
 after K w (ClearKey n by_drop) =
     record w {
       cells = with_cell n (K.unkeyed by_drop (w.cells n)) w.cells;
-      leaves = and_any (K.key (w.cells n)) w.leaves;
+      permits = and_any (K.key (w.cells n)) w.permits;
     }
 -- a pass that is refused stays where it is
 after K w (OpenTurn n k) =
@@ -186,12 +186,12 @@ after K w (OpenTurn n k) =
       passes = if K.opens k (w.cells n) then less_one k w.passes else w.passes;
     }
 after K w (OpenPlace k) = record w { board = after_open_place k w.board; opened = and_one k w.opened }
-after K w (ClosePlace k) = record w { board = after_close_place k w.board; leaves = less_one k w.leaves }
+after K w (ClosePlace k) = record w { board = after_close_place k w.board; permits = less_one k w.permits }
 -- a mark that is set anew owes a wakeup
 after K w (Post k) =
     record w { board = after_post k w.board; debts = less_one k w.debts; wakeups = w.wakeups + one (wakes k w.board) }
 after K w (Back k) = record w { passes = less_one k w.passes; debts = and_one k w.debts }
--- the leave to sleep is given where no key is marked
+-- the permit to sleep is given where no key is marked
 after K w Look = record w { loop = if any_marked w.board then Awake else Looked }
 after K w (Unpost below) =
     record w {

@@ -125,7 +125,7 @@ impl From<AllocError> for Failed {
 }
 
 /// Leaves the error of an answer in this place, which stays as it is where there is none.
-pub fn leave<T>(answer: Result<T>, failure: &mut Error) -> std::result::Result<T, Failed>
+pub fn store_error<T>(answer: Result<T>, failure: &mut Error) -> std::result::Result<T, Failed>
     ensures answer { with_error result failure.new ≡ answer }
     ensures same { OnOk result (failure.new ≡ failure.old) }
 {

@@ -1,7 +1,7 @@
 //! The names of registrations and of their parts. From calloop's `token.rs`, and its `TokenFactory`.
 ghost use Rattle.std.specs.Prelude.{◌≡◌, ◌≢◌, ◌↔◌, ℕ, ◌-◌, ◌^◌, ◌<◌, IfOk, IfErr, IsErr};
 ghost use Rattle.calloop_wake.specs.Widths.{most_slots, versions};
-ghost use Rattle.calloop_wake.specs.Tokens.{IsToken, key_of, token_of, registration_of, next_token, after_token, most_tokens};
+ghost use Rattle.calloop_wake.specs.Tokens.{IsToken, key_of, token_of, slot_of_key, registration_of, next_token, after_token, most_tokens};
 ghost use Rattle.calloop_wake.specs.declared.error.Error.TheVariants.{TooManyTokens};
 ghost use Rattle.calloop_wake.specs.declared.token.Token.{Token};
 ghost use Rattle.calloop_wake.specs.declared.token.TokenFactory.{TokenFactory};
@@ -15,6 +15,13 @@ const MOST_TOKENS: u16 = (PARTS - 1) as u16;
 
 // What one slot counts in a key.
 const PER_SLOT: u64 = VERSIONS * PARTS;
+
+/// The slot of the token of a word.
+pub fn slot_of_key(key: u64) -> usize
+    ensures { result ≡ slot_of_key key }
+{
+    (key / PER_SLOT) as usize
+}
 
 /// Which registration an event is for, and which part of its source.
 #[derive(Clone, Copy, Debug, PartialEq, Eq)]

@@ -70,13 +70,13 @@ impl Model for OpenedPass {
 
 /// A key that its cell gave up, so that the place on its board may be closed.
 #[must_use]
-pub struct LeaveToClose {
+pub struct ClosePermit {
     key: u64,
     // The board of the key.
     board: Name,
 }
 
-impl Model for LeaveToClose {
+impl Model for ClosePermit {
     ghost use Rattle.calloop_wake.specs.Passes.{Keyed};
 
     ghost Value = { Keyed };
@@ -254,15 +254,15 @@ impl Wakeup {
     }
 }
 
-/// The leave to wait once, of a loop on whose board no key was marked.
+/// The permit to wait once, of a loop on whose board no key was marked.
 #[must_use]
-pub struct LeaveToSleep {
+pub struct SleepPermit {
     of_wake: (),
 }
 
-impl LeaveToSleep {
-    /// Spends the leave, by the wait that it allows.
+impl SleepPermit {
+    /// Spends the permit, by the wait that it allows.
     pub fn spend(self) {
-        let LeaveToSleep { of_wake: _ } = self;
+        let SleepPermit { of_wake: _ } = self;
     }
 }

@@ -6,7 +6,7 @@ use calloop_wake::error::{Error, InsertError};
 use calloop_wake::list::SourceList;
 use calloop_wake::steps::Steps;
 use calloop_wake::token::{
-    RegistrationToken, Token, TokenFactory, factory_tokens_differ, keys_differ,
+    RegistrationToken, Token, TokenFactory, factory_tokens_differ, keys_differ, slot_of_key,
 };
 use calloop_wake::wake::board::OpenRefusal;
 use calloop_wake::wake::cell::CellCore;
@@ -15,7 +15,7 @@ use calloop_wake::wake::locked::{Core, Locked};
 use calloop_wake::wake::ping::{OpenedTurn, PingCore};
 use calloop_wake::wake::watch::{Watch, WatchedBoard};
 use calloop_wake::wake::{
-    Debt, Last, LeaveToClose, Notify, OpenedPass, PingTurn, Sender, TakenPass, Tally,
+    ClosePermit, Debt, Last, Notify, OpenedPass, PingTurn, Sender, TakenPass, Tally,
     can_be_delivered, lost_is_not_covered, nothing_is_lost, out_of_reach,
     schedules_of_one_board_that_there_are, schedules_of_queues_that_there_are,
     schedules_that_there_are, schedules_that_there_are_not, steps_are_the_machines,
@@ -123,6 +123,7 @@ fn a_key_holds_slot_version_and_sub_id(rt: HostRuntime) {
         let token = Token::from_key(key);
         assert_eq!(rt; token.key(), key);
         assert_eq!(rt; token.registration(), registration(slot, version));
+        assert_eq!(rt; slot_of_key(key), slot as usize);
     }
 }
 
@@ -524,8 +525,8 @@ struct Desk {
     board: SharedBoard,
     name: Name,
     watch: Watch,
-    ghost tied: { watch.name ≡ (arc_value board).slot },
-    ghost named: { name ≡ (arc_value board).slot },
+    ghost tied: { watch.name ≡ (arc_value board).tag },
+    ghost named: { name ≡ (arc_value board).tag },
 }
 
 type SharedBoard = Arc<Locked<WatchedBoard>, Global>;
@@ -562,8 +563,8 @@ struct Ends {
     lock: SharedLock,
     tally: Tally,
     board: SharedBoard,
-    ghost tied: { tally.name ≡ (arc_value lock).slot.cell },
-    ghost own: { (arc_value lock).slot.board ≡ (arc_value board).slot },
+    ghost tied: { tally.name ≡ (arc_value lock).tag.cell },
+    ghost own: { (arc_value lock).tag.board ≡ (arc_value board).tag },
 }
 
 type SharedLock = Arc<Locked<OneBoard>, Global>;
@@ -573,7 +574,7 @@ type SharedLock = Arc<Locked<OneBoard>, Global>;
 struct Button {
     lock: SharedLock,
     board: SharedBoard,
-    ghost own: { (arc_value lock).slot.board ≡ (arc_value board).slot },
+    ghost own: { (arc_value lock).tag.board ≡ (arc_value board).tag },
 }
 
 // What came of a pass.
@@ -621,11 +622,11 @@ impl Desk {
     fn is_quiet<R: Wait>(&mut self, rt: &R) -> bool {
         let mut held = self.board.lock(rt);
         let board = held.core();
-        let leave = board.look(&mut self.watch);
+        let permit = board.look(&mut self.watch);
         held.unlock();
-        match leave {
-            Some(leave) => {
-                leave.spend();
+        match permit {
+            Some(permit) => {
+                permit.spend();
                 true
             }
             None => false,
@@ -640,8 +641,8 @@ impl Desk {
         steps: &mut Steps,
     ) -> Result<VecDeque<TakenPass>, AllocError>
         requires { steps.old ≡ 0 }
-        ensures same { (arc_value self.new.board).slot ≡ (arc_value self.old.board).slot }
-        ensures own { IfOk result (λ passes. AreOf (arc_value self.old.board).slot passes.items) }
+        ensures same { (arc_value self.new.board).tag ≡ (arc_value self.old.board).tag }
+        ensures own { IfOk result (λ passes. AreOf (arc_value self.old.board).tag passes.items) }
     {
         let places = self.places(rt);
         let mut passes = VecDeque::with_capacity(alloc, places)?;
@@ -694,7 +695,7 @@ impl Ends {
     }
 
     fn add_sender<R: Wait>(&self, rt: &R) -> Result<Sender, AllocError>
-        ensures { IfOk result (λ sender. sender.name ≡ (arc_value self.now.lock).slot.cell) }
+        ensures { IfOk result (λ sender. sender.name ≡ (arc_value self.now.lock).tag.cell) }
     {
         let mut held = self.lock.lock(rt);
         let cell = held.core();
@@ -704,7 +705,7 @@ impl Ends {
     }
 
     fn drop_sender<R: Wait>(&self, rt: &R, sender: Sender) -> bool
-        requires { sender.name ≡ (arc_value self.now.lock).slot.cell }
+        requires { sender.name ≡ (arc_value self.now.lock).tag.cell }
     {
         post(rt, &self.board, drop_sender(rt, &self.lock, sender))
     }
@@ -719,16 +720,16 @@ impl Ends {
         let opened = board.open_place(key);
         held.unlock();
         let pass = opened?;
-        let (debt, leave) = set_key(rt, &self.lock, &mut self.tally, pass);
+        let (debt, permit) = set_key(rt, &self.lock, &mut self.tally, pass);
         post(rt, &self.board, debt);
-        close(rt, &self.board, leave);
+        close(rt, &self.board, permit);
         Ok(())
     }
 
     // Takes the cell's key back, and closes its place: whether it had one.
     fn unregister<R: Wait>(&mut self, rt: &R) -> bool {
-        let leave = clear_key(rt, &self.lock, &mut self.tally);
-        close(rt, &self.board, leave)
+        let permit = clear_key(rt, &self.lock, &mut self.tally);
+        close(rt, &self.board, permit)
     }
 
     // Its only sender comes and goes: whether that set a mark anew.
@@ -797,7 +798,7 @@ fn is_all(turns: Result<Vec<Turn>, AllocError>, wanted: &[Turn]) -> bool {
 
 // Rings, and drops the receipt: what is owed.
 fn ring<R: Wait>(rt: &R, lock: &Locked<OneBoard>) -> Option<Debt>
-    ensures { IfSome result (λ debt. debt.board ≡ lock.now.slot.board) }
+    ensures { IfSome result (λ debt. debt.board ≡ lock.now.tag.board) }
 {
     let mut held = lock.lock(rt);
     let cell = held.core();
@@ -807,8 +808,8 @@ fn ring<R: Wait>(rt: &R, lock: &Locked<OneBoard>) -> Option<Debt>
 }
 
 fn drop_sender<R: Wait>(rt: &R, lock: &Locked<OneBoard>, sender: Sender) -> Option<Debt>
-    requires { sender.name ≡ lock.now.slot.cell }
-    ensures { IfSome result (λ debt. debt.board ≡ lock.now.slot.board) }
+    requires { sender.name ≡ lock.now.tag.cell }
+    ensures { IfSome result (λ debt. debt.board ≡ lock.now.tag.board) }
 {
     let mut held = lock.lock(rt);
     let cell = held.core();
@@ -822,53 +823,53 @@ fn set_key<R: Wait>(
     lock: &Locked<OneBoard>,
     tally: &mut Tally,
     pass: OpenedPass,
-) -> (Option<Debt>, Option<LeaveToClose>)
-    requires tally { tally.old.name ≡ lock.now.slot.cell }
-    requires board { pass.board ≡ lock.now.slot.board }
-    ensures tally { tally.new.name ≡ lock.now.slot.cell }
-    ensures debt { IfSome result.0 (λ debt. debt.board ≡ lock.now.slot.board) }
-    ensures leave { IfSome result.1 (λ leave. leave.board ≡ lock.now.slot.board) }
+) -> (Option<Debt>, Option<ClosePermit>)
+    requires tally { tally.old.name ≡ lock.now.tag.cell }
+    requires board { pass.board ≡ lock.now.tag.board }
+    ensures tally { tally.new.name ≡ lock.now.tag.cell }
+    ensures debt { IfSome result.0 (λ debt. debt.board ≡ lock.now.tag.board) }
+    ensures permit { IfSome result.1 (λ permit. permit.board ≡ lock.now.tag.board) }
 {
     let mut held = lock.lock(rt);
     let cell = held.core();
-    let (debt, leave) = cell.core.set_key(pass, tally);
+    let (debt, permit) = cell.core.set_key(pass, tally);
     held.unlock();
-    (debt, leave)
+    (debt, permit)
 }
 
-fn clear_key<R: Wait>(rt: &R, lock: &Locked<OneBoard>, tally: &mut Tally) -> Option<LeaveToClose>
-    requires { tally.old.name ≡ lock.now.slot.cell }
-    ensures tally { tally.new.name ≡ lock.now.slot.cell }
-    ensures leave { IfSome result (λ leave. leave.board ≡ lock.now.slot.board) }
+fn clear_key<R: Wait>(rt: &R, lock: &Locked<OneBoard>, tally: &mut Tally) -> Option<ClosePermit>
+    requires { tally.old.name ≡ lock.now.tag.cell }
+    ensures tally { tally.new.name ≡ lock.now.tag.cell }
+    ensures permit { IfSome result (λ permit. permit.board ≡ lock.now.tag.board) }
 {
     let mut held = lock.lock(rt);
     let cell = held.core();
-    let leave = cell.core.clear_key(tally);
+    let permit = cell.core.clear_key(tally);
     held.unlock();
-    leave
+    permit
 }
 
-fn abandon<R: Wait>(rt: &R, lock: &Locked<OneBoard>, tally: Tally) -> Option<LeaveToClose>
-    requires { tally.name ≡ lock.now.slot.cell }
-    ensures { IfSome result (λ leave. leave.board ≡ lock.now.slot.board) }
+fn abandon<R: Wait>(rt: &R, lock: &Locked<OneBoard>, tally: Tally) -> Option<ClosePermit>
+    requires { tally.name ≡ lock.now.tag.cell }
+    ensures { IfSome result (λ permit. permit.board ≡ lock.now.tag.board) }
 {
     let mut held = lock.lock(rt);
     let cell = held.core();
-    let leave = cell.core.abandon(tally);
+    let permit = cell.core.abandon(tally);
     held.unlock();
-    leave
+    permit
 }
 
 // Closes the place of a key that was taken back: whether there was one.
-fn close<R: Wait>(rt: &R, board: &Locked<WatchedBoard>, leave: Option<LeaveToClose>) -> bool
-    requires { IfSome leave (λ leave. leave.board ≡ board.now.slot) }
+fn close<R: Wait>(rt: &R, board: &Locked<WatchedBoard>, permit: Option<ClosePermit>) -> bool
+    requires { IfSome permit (λ permit. permit.board ≡ board.now.tag) }
 {
-    let Some(leave) = leave else {
+    let Some(permit) = permit else {
         return false;
     };
     let mut held = board.lock(rt);
     let at = held.core();
-    at.close_place(leave);
+    at.close_place(permit);
     held.unlock();
     true
 }
@@ -887,7 +888,7 @@ impl Notify for Signal {
 
 // Posts what is owed, and says whether that set a mark anew.
 fn post<R: Wait>(rt: &R, board: &Locked<WatchedBoard>, debt: Option<Debt>) -> bool
-    requires { IfSome debt (λ debt. debt.board ≡ board.now.slot) }
+    requires { IfSome debt (λ debt. debt.board ≡ board.now.tag) }
 {
     let Some(debt) = debt else {
         return false;
@@ -911,9 +912,9 @@ fn open<R: Wait>(
     tally: &mut Tally,
     pass: TakenPass,
 ) -> Result<OpenedTurn, TakenPass>
-    requires { tally.old.name ≡ lock.now.slot.cell }
-    ensures name { tally.new.name ≡ lock.now.slot.cell }
-    ensures turn { IfOk result (λ o. o.turn.name ≡ lock.now.slot.cell) }
+    requires { tally.old.name ≡ lock.now.tag.cell }
+    ensures name { tally.new.name ≡ lock.now.tag.cell }
+    ensures turn { IfOk result (λ o. o.turn.name ≡ lock.now.tag.cell) }
     ensures refused { IfErr result (λ refused. refused.board ≡ pass.board) }
 {
     let mut held = lock.lock(rt);
@@ -925,7 +926,7 @@ fn open<R: Wait>(
 
 // Ends a turn, after which nothing is owed.
 fn end<R: Wait>(rt: &R, lock: &Locked<OneBoard>, turn: PingTurn) -> Option<Debt>
-    requires { turn.name ≡ lock.now.slot.cell }
+    requires { turn.name ≡ lock.now.tag.cell }
     ensures { result ≡ None }
 {
     let mut held = lock.lock(rt);
@@ -943,9 +944,9 @@ fn serve<R: Wait>(
     tally: &mut Tally,
     pass: TakenPass,
 ) -> Turn
-    requires tally { tally.old.name ≡ lock.now.slot.cell }
-    requires pass { pass.board ≡ board.now.slot }
-    ensures { tally.new.name ≡ lock.now.slot.cell }
+    requires tally { tally.old.name ≡ lock.now.tag.cell }
+    requires pass { pass.board ≡ board.now.tag }
+    ensures { tally.new.name ≡ lock.now.tag.cell }
 {
     match open(rt, lock, tally, pass) {
         Ok(OpenedTurn { turn, rung, told }) => {
@@ -968,9 +969,9 @@ fn serve_all<R: Wait>(
     lock: &Locked<OneBoard>,
     tally: &mut Tally,
 ) -> Result<Vec<Turn>, AllocError>
-    requires { tally.old.name ≡ lock.now.slot.cell }
-    ensures tally { tally.new.name ≡ lock.now.slot.cell }
-    ensures desk { (arc_value desk.new.board).slot ≡ (arc_value desk.old.board).slot }
+    requires { tally.old.name ≡ lock.now.tag.cell }
+    ensures tally { tally.new.name ≡ lock.now.tag.cell }
+    ensures desk { (arc_value desk.new.board).tag ≡ (arc_value desk.old.board).tag }
 {
     let mut turns = Vec::with_capacity(alloc, desk.places(rt))?;
     let mut passes = desk.take_passes(rt, alloc, &mut Steps::new())?;
@@ -993,9 +994,9 @@ fn serve_within<R: Wait>(
     lock: &Locked<OneBoard>,
     tally: &mut Tally,
 ) -> Result<Vec<Turn>, AllocError>
-    requires tally { tally.old.name ≡ lock.now.slot.cell }
-    requires board { lock.now.slot.board ≡ board.now.slot }
-    ensures { tally.new.name ≡ lock.now.slot.cell }
+    requires tally { tally.old.name ≡ lock.now.tag.cell }
+    requires board { lock.now.tag.board ≡ board.now.tag }
+    ensures { tally.new.name ≡ lock.now.tag.cell }
 {
     let mut within = Ok(Vec::new(alloc));
     let mut passes = desk.take_passes(rt, alloc, &mut Steps::new())?;

@@ -33,7 +33,7 @@ pub(crate) fn register<K: CellCore, P: Poller, C, R: Wait + Drop>(
     poll: &Poll<P, C, R>,
     factory: &mut TokenFactory,
 ) -> LoopResult<()>
-    requires { tally.old.name ≡ K.named_by shared.now.slot }
+    requires { tally.old.name ≡ K.named_by shared.now.tag }
     ensures { Registers {P = P} tally.old factory.old result [] tally.new factory.new }
 {
     if tally.key().is_some() {
@@ -57,7 +57,7 @@ pub(crate) fn reregister<K: CellCore, P: Poller, C, R: Wait + Drop>(
     poll: &Poll<P, C, R>,
     factory: &mut TokenFactory,
 ) -> LoopResult<()>
-    requires { tally.old.name ≡ K.named_by shared.now.slot }
+    requires { tally.old.name ≡ K.named_by shared.now.tag }
     ensures { RegistersAnew {P = P} tally.old factory.old result [] tally.new factory.new }
 {
     if tally.key().is_none() {
@@ -79,7 +79,7 @@ pub(crate) fn unregister<K: CellCore, P: Poller, C, R: Wait + Drop>(
     tally: &mut Tally,
     _poll: &Poll<P, C, R>,
 ) -> LoopResult<()>
-    requires { tally.old.name ≡ K.named_by shared.now.slot }
+    requires { tally.old.name ≡ K.named_by shared.now.tag }
     ensures { Unregisters {P = P} tally.old result [] tally.new }
 {
     if tally.key().is_none() {

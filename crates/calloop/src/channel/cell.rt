@@ -7,7 +7,7 @@ ghost use Rattle.calloop.specs.Sends.{unsent, IsDisconnected};
 ghost use Rattle.calloop_wake.specs.declared.error.Error.TheVariants.{OutOfMemory};
 
 use super::{RecvError, SendError, TryRecvError};
-use crate::cell::{Cell, settle};
+use crate::cell::{Cell, post};
 use calloop_wake::error::Result as LoopResult;
 use calloop_wake::wake::channel::{ChannelCore, Popped, PutError};
 use calloop_wake::wake::locked::{Awaited, Locked};
@@ -23,8 +23,8 @@ pub fn new_locked<T: Drop>(
     alloc: Global,
     bound: Option<usize>,
 ) -> LoopResult<(Locked<ChannelCell<T>>, ReceivingRight)>
-    ensures right { IfOk result (λ made. made.1.name ≡ made.0.slot.name) }
-    ensures bound { IfOk result (λ made. made.0.slot.bound ≡ bound) }
+    ensures right { IfOk result (λ made. made.1.name ≡ made.0.tag.name) }
+    ensures bound { IfOk result (λ made. made.0.tag.bound ≡ bound) }
     ensures err { IfErr result (λ e. e ≡ OutOfMemory) }
 {
     let (core, label, right) = ChannelCore::new(alloc, bound)?;
@@ -37,9 +37,9 @@ pub fn put<T: Drop, R: Wait>(
     shared: &Locked<ChannelCell<T>>,
     message: T,
 ) -> Result<Receipt, PutError<T>>
-    ensures ok { IfOk result (λ r. r.name ≡ shared.now.slot.name) }
+    ensures ok { IfOk result (λ r. r.name ≡ shared.now.tag.name) }
     ensures err { IfErr result (λ e. (handed_back e ≡ message)
-        × FitsBound shared.now.slot.bound e) }
+        × FitsBound shared.now.tag.bound e) }
 {
     let mut held = shared.lock(rt);
     let cell = held.core();
@@ -48,14 +48,14 @@ pub fn put<T: Drop, R: Wait>(
             let owed = cell.with_hub(rt, debt);
             held.unlock();
             shared.notify_all(Awaited::Content);
-            settle(rt, owed);
+            post(rt, owed);
             Ok(receipt)
         }
         Err(PutError::Full(message)) => {
             let debt = cell.core.ring();
             let owed = cell.with_hub(rt, debt);
             held.unlock();
-            settle(rt, owed);
+            post(rt, owed);
             Err(PutError::Full(message))
         }
         Err(refused) => {
@@ -72,8 +72,8 @@ pub fn put_waiting<T: Drop, R: Wait>(
     message: T,
     limit: usize,
 ) -> Result<Receipt, SendError<T>>
-    requires { shared.now.slot.bound ≡ Some limit }
-    ensures ok { IfOk result (λ r. r.name ≡ shared.now.slot.name) }
+    requires { shared.now.tag.bound ≡ Some limit }
+    ensures ok { IfOk result (λ r. r.name ≡ shared.now.tag.name) }
     ensures err { IfErr result (λ e. (unsent e ≡ message) × IsDisconnected e) }
 {
     let mut held = shared.lock(rt);
@@ -85,7 +85,7 @@ pub fn put_waiting<T: Drop, R: Wait>(
                 let owed = cell.with_hub(rt, debt);
                 held.unlock();
                 shared.notify_all(Awaited::Content);
-                settle(rt, owed);
+                post(rt, owed);
                 return Ok(receipt);
             }
             Err(PutError::Gone(refused)) => {
@@ -106,7 +106,7 @@ pub fn take<T: Drop, R: Wait>(
     shared: &Locked<ChannelCell<T>>,
     tally: &mut Tally,
 ) -> Result<T, TryRecvError>
-    requires { tally.old.name ≡ shared.now.slot.name }
+    requires { tally.old.name ≡ shared.now.tag.name }
     ensures ok { IfOk result (λ _. tally.new ≡ record tally.old { number = tally.old.number + 1 }) }
     ensures err { IfErr result (λ _. tally.new ≡ tally.old) }
 {
@@ -131,7 +131,7 @@ pub fn take_waiting<T: Drop, R: Wait>(
     shared: &Locked<ChannelCell<T>>,
     tally: &mut Tally,
 ) -> Result<T, RecvError>
-    requires { tally.old.name ≡ shared.now.slot.name }
+    requires { tally.old.name ≡ shared.now.tag.name }
     ensures ok { IfOk result (λ _. tally.new ≡ record tally.old { number = tally.old.number + 1 }) }
     ensures err { IfErr result (λ _. tally.new ≡ tally.old) }
 {
@@ -159,8 +159,8 @@ pub fn open_turn<T: Drop, R: Wait>(
     tally: &mut Tally,
     pass: TakenPass,
 ) -> Result<ChannelTurn, TakenPass>
-    requires { tally.old.name ≡ shared.now.slot.name }
-    ensures ok { IfOk result (λ turn. (turn ≡ turn_at_start shared.now.slot)
+    requires { tally.old.name ≡ shared.now.tag.name }
+    ensures ok { IfOk result (λ turn. (turn ≡ turn_at_start shared.now.tag)
         × (tally.new ≡ record tally.old { turns = tally.old.turns + 1 })) }
     ensures err { IfErr result (λ refused. (refused ≡ record pass { refused = Some tally.old.name })
         × (tally.new ≡ tally.old)) }
@@ -180,8 +180,8 @@ pub fn pop<T: Drop, R: Wait>(
     turn: &mut ChannelTurn,
 ) -> Popped<T>
     requires left { 0 < turn.old.left }
-    requires turn { turn.old.name ≡ shared.now.slot.name }
-    requires tally { tally.old.name ≡ shared.now.slot.name }
+    requires turn { turn.old.name ≡ shared.now.tag.name }
+    requires tally { tally.old.name ≡ shared.now.tag.name }
     ensures turn { turn.new ≡ turn_after_pop result turn.old }
     ensures tally { tally.new ≡ tally_after_pop result tally.old }
 {
@@ -197,7 +197,7 @@ pub fn pop<T: Drop, R: Wait>(
 
 /// Ends a turn of the cell.
 pub fn end_turn<T: Drop, R: Wait>(rt: &R, shared: &Locked<ChannelCell<T>>, turn: ChannelTurn)
-    requires name { turn.name ≡ shared.now.slot.name }
+    requires name { turn.name ≡ shared.now.tag.name }
     requires over { (turn.left ≡ 0) ⊎ (turn.done ≡ true) }
 {
     let mut held = shared.lock(rt);
@@ -205,5 +205,5 @@ pub fn end_turn<T: Drop, R: Wait>(rt: &R, shared: &Locked<ChannelCell<T>>, turn:
     let debt = cell.core.end_turn(turn);
     let owed = cell.with_hub(rt, debt);
     held.unlock();
-    settle(rt, owed);
+    post(rt, owed);
 }

@@ -54,8 +54,8 @@ where
     Q: Asking,
     F: Callback<Event<T>, (), (), X, Q>,
     requires left { 0 < turn.old.left }
-    requires turn { turn.old.name ≡ shared.now.slot.name }
-    requires tally { tally.old.name ≡ shared.now.slot.name }
+    requires turn { turn.old.name ≡ shared.now.tag.name }
+    requires tally { tally.old.name ≡ shared.now.tag.name }
     ensures { (p : Popped T) × (turn.new ≡ turn_after_pop p turn.old)
         × (tally.new ≡ tally_after_pop p tally.old) × (result ≡ is_close p)
         × Went F.may Q.reaches callback.old «data».old requests.old (call_of p)
@@ -89,8 +89,8 @@ where
     R: Wait,
     Q: Asking,
     F: Callback<Event<T>, (), (), X, Q>,
-    requires turn { turn.name ≡ shared.now.slot.name }
-    requires tally { tally.old.name ≡ shared.now.slot.name }
+    requires turn { turn.name ≡ shared.now.tag.name }
+    requires tally { tally.old.name ≡ shared.now.tag.name }
     ensures name { tally.new.name ≡ tally.old.name }
     ensures handed { (ps : List (Popped T)) × IsOver (turn_after ps turn)
         × Handed F.may Q.reaches turn tally.old callback.old «data».old requests.old ps

@@ -8,7 +8,7 @@ ghost use Rattle.calloop_wake.specs.Cells.{one};
 ghost use Rattle.calloop_wake.specs.Executors.{at_start, most_tasks};
 ghost use Rattle.calloop_wake.specs.declared.error.Error.TheVariants.{OutOfMemory};
 
-use crate::cell::{Cell, settle};
+use crate::cell::{Cell, post};
 use calloop_wake::error::Result as LoopResult;
 use calloop_wake::wake::executor::{ExecutorCore, PutRefusal, PutTask, TaskTurn};
 use calloop_wake::wake::homes::{DueReceipt, KeepingRight, PoppedTask};
@@ -23,8 +23,8 @@ pub type TaskCell = Cell<ExecutorCore>;
 
 /// A cell without tasks, under its lock, and the rights to its receiving end and to the places of its futures.
 pub fn new_locked(alloc: Global) -> LoopResult<(Locked<TaskCell>, ReceivingRight, KeepingRight)>
-    ensures right { IfOk result (λ made. made.1.name ≡ made.0.slot) }
-    ensures keeping { IfOk result (λ made. made.2.name ≡ made.0.slot) }
+    ensures right { IfOk result (λ made. made.1.name ≡ made.0.tag) }
+    ensures keeping { IfOk result (λ made. made.2.name ≡ made.0.tag) }
     ensures err { IfErr result (λ e. e ≡ OutOfMemory) }
 {
     let (core, name, right, keeping) = ExecutorCore::new(alloc)?;
@@ -37,7 +37,7 @@ pub fn put<R: Wait>(
     shared: &Locked<TaskCell>,
     home: usize,
 ) -> Result<(TaskKey, DueReceipt), PutRefusal>
-    ensures { IfOk result (λ put. put.1.name ≡ shared.now.slot) }
+    ensures { IfOk result (λ put. put.1.name ≡ shared.now.tag) }
 {
     let mut held = shared.lock(rt);
     let cell = held.core();
@@ -46,7 +46,7 @@ pub fn put<R: Wait>(
             let PutTask { key, due, debt } = put;
             let owed = cell.with_hub(rt, debt);
             held.unlock();
-            settle(rt, owed);
+            post(rt, owed);
             Ok((key, due))
         }
         Err(refusal) => {
@@ -70,7 +70,7 @@ pub fn wake<R: Wait>(rt: &R, shared: &Locked<TaskCell>, key: TaskKey) {
     } else {
         held.unlock();
     }
-    settle(rt, owed);
+    post(rt, owed);
 }
 
 /// Opens a turn of the cell with the pass, which comes back as refused where it opens none.
@@ -80,9 +80,9 @@ pub fn open_turn<R: Wait>(
     tally: &mut Tally,
     pass: TakenPass,
 ) -> Result<TaskTurn, TakenPass>
-    requires { tally.old.name ≡ shared.now.slot }
+    requires { tally.old.name ≡ shared.now.tag }
     ensures ok { IfOk result
-        (λ turn. (turn ≡ record { name = shared.now.slot; progress = at_start })
+        (λ turn. (turn ≡ record { name = shared.now.tag; progress = at_start })
         × (tally.new ≡ record tally.old { turns = tally.old.turns + 1 })) }
     ensures err { IfErr result (λ refused. (refused ≡ record pass { refused = Some tally.old.name })
         × (tally.new ≡ tally.old)) }
@@ -96,10 +96,10 @@ pub fn open_turn<R: Wait>(
 
 // Takes the lock, once the turn is the one that stands open in the cell. It is so at once: who has the turn alone moves it on.
 fn lock_at<'a, R: Wait>(rt: &R, shared: &'a Locked<TaskCell>, turn: &TaskTurn) -> Held<'a, TaskCell>
-    ensures lock { (result.shared.now.key ≡ shared.now.slot)
+    ensures lock { (result.shared.now.key ≡ shared.now.tag)
         × (result.seat.table_id ≡ result.shared.now.table_id)
         × HasOneSlot result.shared.now.table_id }
-    ensures taken { IsTaken (λ cell. (cell.core.name ≡ shared.now.slot)
+    ensures taken { IsTaken (λ cell. (cell.core.name ≡ shared.now.tag)
         × ((cell.core.draining ≡ true) × (turn.now.progress ≡ cell.core.progress))
         × ((place : Keyed) → on cell.core.board cell.core.key ≡ Some place
         → option_map arc_value cell.hub ≡ Some place.board))
@@ -124,14 +124,14 @@ pub fn pop<R: Wait>(
     turn: &mut TaskTurn,
     finished: bool,
 ) -> Option<PoppedTask>
-    requires names { (turn.old.name ≡ shared.now.slot) × (tally.old.name ≡ shared.now.slot) }
+    requires names { (turn.old.name ≡ shared.now.tag) × (tally.old.name ≡ shared.now.tag) }
     requires more { (turn.old.progress.dry ≡ false) × (turn.old.progress.pops < most_tasks) }
     requires finishes { finished ≡ true → IsSome turn.old.progress.polled }
     ensures name { turn.new.name ≡ turn.old.name }
     ensures pops { turn.new.progress.pops ≡ turn.old.progress.pops + 1 }
     ensures some { IfSome result (λ popped. (turn.new.progress.polled ≡ Some popped.key)
         × (turn.new.progress.dry ≡ false)) }
-    ensures popped { IfSome result (λ popped. popped.name ≡ shared.now.slot) }
+    ensures popped { IfSome result (λ popped. popped.name ≡ shared.now.tag) }
     ensures none { IfNone result (turn.new.progress.dry ≡ true) }
     ensures tally { tally.new ≡ record tally.old { number = tally.old.number + one finished } }
 {
@@ -150,7 +150,7 @@ pub fn end_turn<R: Wait>(
     turn: TaskTurn,
     finished: bool,
 )
-    requires names { (turn.name ≡ shared.now.slot) × (tally.old.name ≡ shared.now.slot) }
+    requires names { (turn.name ≡ shared.now.tag) × (tally.old.name ≡ shared.now.tag) }
     requires over { (turn.progress.dry ≡ true) ⊎ (turn.progress.pops ≡ most_tasks) }
     requires finishes { finished ≡ true → IsSome turn.progress.polled }
     ensures tally { tally.new ≡ record tally.old { number = tally.old.number + one finished } }
@@ -160,5 +160,5 @@ pub fn end_turn<R: Wait>(
     let debt = cell.core.end_turn(turn, tally, finished);
     let owed = cell.with_hub(rt, debt);
     held.unlock();
-    settle(rt, owed);
+    post(rt, owed);
 }

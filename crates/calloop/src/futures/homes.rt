@@ -10,7 +10,7 @@ use calloop_wake::wake::{Receipt, Tally};
 use std::alloc::Global;
 use std::sync::{Arc, Wait};
 
-/// The places of an executor's futures, under their lock. In a clause `slot` is the name of its cell.
+/// The places of an executor's futures, under their lock. In a clause `tag` is the name of its cell.
 pub(crate) type SharedHomes<Fut, R> = Arc<Locked<Homes<Pollable<Fut, R>>>, Global>;
 
 /// A place for a future that is to come.
@@ -36,8 +36,8 @@ pub(crate) fn keep<Fut: Drop, R: Wait + Drop>(
     due: DueReceipt,
     held: Pollable<Fut, R>,
 ) -> (Receipt, bool)
-    requires { due.name ≡ homes.now.slot }
-    ensures { result.0.name ≡ homes.now.slot }
+    requires { due.name ≡ homes.now.tag }
+    ensures { result.0.name ≡ homes.now.tag }
 {
     let mut places = homes.lock(rt);
     let (receipt, before) = places.core().keep(due, held);
@@ -58,7 +58,7 @@ pub(crate) fn take<Fut: Drop, R: Wait + Drop>(
     tally: &mut Tally,
     popped: PoppedTask,
 ) -> Option<TakenFuture<Pollable<Fut, R>>>
-    requires { (popped.name ≡ homes.now.slot) × (tally.old.name ≡ homes.now.slot) }
+    requires { (popped.name ≡ homes.now.tag) × (tally.old.name ≡ homes.now.tag) }
     ensures some { IfSome result (λ taken. (taken.task ≡ popped) × (tally.new ≡ tally.old)) }
     ensures none { IfNone result (tally.new ≡ record tally.old { misses = tally.old.misses + 1 }) }
 {
@@ -74,7 +74,7 @@ pub(crate) fn put_back<Fut: Drop, R: Wait + Drop>(
     homes: &Locked<Homes<Pollable<Fut, R>>>,
     taken: TakenFuture<Pollable<Fut, R>>,
 )
-    requires { taken.task.name ≡ homes.now.slot }
+    requires { taken.task.name ≡ homes.now.tag }
 {
     let mut places = homes.lock(rt);
     let before = places.core().put_back(taken);
@@ -88,7 +88,7 @@ pub(crate) fn finish<Fut: Drop, R: Wait + Drop>(
     homes: &Locked<Homes<Pollable<Fut, R>>>,
     task: PoppedTask,
 )
-    requires { task.name ≡ homes.now.slot }
+    requires { task.name ≡ homes.now.tag }
 {
     let mut places = homes.lock(rt);
     let before = places.core().finish(task);

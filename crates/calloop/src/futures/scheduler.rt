@@ -33,10 +33,10 @@ impl<Fut: Drop, R: Wait + Drop> Model for Scheduler<Fut, R> {
 
     ghost Value = { Book };
 
-    ghost view = { λ s. (arc_value s.shared).slot };
+    ghost view = { λ s. (arc_value s.shared).tag };
 
-    ghost invariant = { λ s. (s.sender.name ≡ (arc_value s.shared).slot)
-        × ((arc_value s.homes).slot ≡ (arc_value s.shared).slot) };
+    ghost invariant = { λ s. (s.sender.name ≡ (arc_value s.shared).tag)
+        × ((arc_value s.homes).tag ≡ (arc_value s.shared).tag) };
 }
 
 // Why a future isn't scheduled.
@@ -60,9 +60,9 @@ impl<Fut: Drop, R: Wait + Drop> Scheduler<Fut, R> {
         homes: SharedHomes<Fut, R>,
         sender: Sender,
     ) -> Scheduler<Fut, R>
-        requires sender { sender.name ≡ (arc_value shared).slot }
-        requires homes { (arc_value homes).slot ≡ (arc_value shared).slot }
-        ensures { result ≡ (arc_value shared).slot }
+        requires sender { sender.name ≡ (arc_value shared).tag }
+        requires homes { (arc_value homes).tag ≡ (arc_value shared).tag }
+        ensures { result ≡ (arc_value shared).tag }
     {
         Scheduler {
             rt,

@@ -54,7 +54,7 @@ where
     Fut: Future<R>,
     Q: Asking,
     F: Callback<Fut::Output, (), (), X, Q>,
-    requires { (popped.name ≡ homes.now.slot) × (tally.old.name ≡ homes.now.slot) }
+    requires { (popped.name ≡ homes.now.tag) × (tally.old.name ≡ homes.now.tag) }
     ensures { (polled : OfPop Fut.Output) × (result ≡ gave polled)
         × ComesOf Fut.gives Fut.polls polled
         × (tally.new ≡ record tally.old { misses = tally.old.misses + one (lacks polled) })
@@ -94,9 +94,9 @@ where
     Fut: Future<R>,
     Q: Asking,
     F: Callback<Fut::Output, (), (), X, Q>,
-    requires turn { turn ≡ record { name = shared.now.slot; progress = at_start } }
-    requires tally { tally.old.name ≡ shared.now.slot }
-    requires homes { homes.now.slot ≡ shared.now.slot }
+    requires turn { turn ≡ record { name = shared.now.tag; progress = at_start } }
+    requires tally { tally.old.name ≡ shared.now.tag }
+    requires homes { homes.now.tag ≡ shared.now.tag }
     ensures { (polled : List (OfPop Fut.Output)) × (length polled ≤ most_tasks)
         × (tally.new ≡ record tally.old {
           number = tally.old.number + results_of polled;

@@ -13,7 +13,7 @@ use calloop_core::sys::hub::SharedHub;
 use calloop_core::sys::poll::Poll;
 use calloop_core::sys::synthetic::Synthetic;
 use calloop_core::sys::{Interest, Poller, Readiness};
-use calloop_wake::error::{Error, Failed, Result as LoopResult, leave};
+use calloop_wake::error::{Error, Failed, Result as LoopResult, store_error};
 use calloop_wake::token::{RegistrationToken, Token, TokenFactory};
 use std::io;
 use std::sync::Wait;
@@ -192,7 +192,7 @@ impl<P: Poller, C, R: Wait + Drop, X, Q: Asking> Dispatch<P, C, R, X, Q> for Ada
     /// Takes its socket out, where it is being given back. Any other refuses with `InvalidToken`, and one that is in no
     /// loop with `IoError` of kind `NotFound`. A fault of the poller is `IoError`, and leaves it registered as it was.
     fn unregister(&mut self, poll: &mut Poll<P, C, R>, failure: &mut Error) -> Result<(), Failed> {
-        leave(self.give_back(poll), failure)
+        store_error(self.give_back(poll), failure)
     }
 
     /// Keeps what was found, where the token is its own, and wakes who waits for it. No poller is called.

@@ -50,7 +50,7 @@ impl<P: Poller, R: Wait + Drop> Model for PollEnd<P, R> {
 
     ghost view = { λ e. e.tally };
 
-    ghost invariant = { λ e. e.tally.name ≡ (arc_value e.shared).state.slot };
+    ghost invariant = { λ e. e.tally.name ≡ (arc_value e.shared).state.tag };
 }
 
 /// What the end in a slot has of its adapter. In a clause it is the tally.
@@ -70,7 +70,7 @@ impl<P: Poller, R: Wait + Drop> Model for SlotEnd<P, R> {
 
     ghost view = { λ e. e.tally };
 
-    ghost invariant = { λ e. e.tally.name ≡ (arc_value e.shared).state.slot };
+    ghost invariant = { λ e. e.tally.name ≡ (arc_value e.shared).state.tag };
 }
 
 /// Both ends of an adapter that is in no loop yet, without its socket. Running out of memory is `OutOfMemory`.
@@ -112,7 +112,7 @@ fn put_mark<R: Wait + Drop>(
     let Some(debt) = debt else {
         return Ok(());
     };
-    match debt.settle(rt) {
+    match debt.mark(rt) {
         Ok(()) => Ok(()),
         Err(failed) => {
             let mut held = state.lock(rt);
@@ -130,7 +130,7 @@ fn take_refusal<R: Wait + Drop>(
     state: &Locked<State<R>>,
     tally: &mut PollTally,
 ) -> Option<Error>
-    requires { tally.old.name ≡ state.now.slot }
+    requires { tally.old.name ≡ state.now.tag }
     ensures refused { IfSome result (λ e. of_registration e ≡ true) }
     ensures tally { tally.new ≡ with_poll_note (Refused result) tally.old }
 {
@@ -146,7 +146,7 @@ fn answer<R: Wait + Drop>(
     tally: &mut PollTally,
     wanted: Interest,
 ) -> Option<LoopResult<()>>
-    requires { tally.old.name ≡ state.now.slot }
+    requires { tally.old.name ≡ state.now.tag }
     ensures refused { IfSome result IsAnswer }
     ensures some { IfSome result (λ a. tally.new ≡ with_poll_note (Answered a) tally.old) }
     ensures none { IfNone result (tally.new ≡ tally.old) }
@@ -164,7 +164,7 @@ fn wait<R: Wait + Drop>(
     wanted: Interest,
     waker: Waker<R>,
 ) -> Result<(), AllocError>
-    requires { tally.old.name ≡ state.now.slot }
+    requires { tally.old.name ≡ state.now.tag }
     ensures { tally.new ≡ with_poll_note (Waits wanted) tally.old }
 {
     let mut held = state.lock(rt);
@@ -181,7 +181,7 @@ fn answer_or_wait<R: Wait + Drop>(
     wanted: Interest,
     waker: Waker<R>,
 ) -> Result<Option<LoopResult<()>>, AllocError>
-    requires { tally.old.name ≡ state.now.slot }
+    requires { tally.old.name ≡ state.now.tag }
     ensures refused { IfOk result (λ answer. IfSome answer IsAnswer) }
     ensures some { IfOk result (λ answer. IfSome answer
         (λ a. tally.new ≡ with_poll_note (Answered a) tally.old)) }
@@ -209,7 +209,7 @@ fn set_leaving<R: Wait + Drop>(
     tally: &PollTally,
     leaving: bool,
 ) -> Option<RegistrationToken>
-    requires { tally.now.name ≡ state.now.slot }
+    requires { tally.now.name ≡ state.now.tag }
 {
     let mut held = state.lock(rt);
     let state = held.core();
@@ -220,7 +220,7 @@ fn set_leaving<R: Wait + Drop>(
 }
 
 fn let_go<R: Wait + Drop>(rt: &R, state: &Locked<State<R>>, tally: PollTally)
-    requires { tally.name ≡ state.now.slot }
+    requires { tally.name ≡ state.now.tag }
 {
     let mut held = state.lock(rt);
     let debt = held.core().let_go(rt, tally);
@@ -354,7 +354,7 @@ impl<P: Poller, R: Wait + Drop> PollEnd<P, R> {
 // The sections that the end in a slot has.
 
 fn come_into<R: Wait + Drop>(rt: &R, state: &Locked<State<R>>, tally: &SlotTally, home: Home)
-    requires { tally.now.name ≡ state.now.slot }
+    requires { tally.now.name ≡ state.now.tag }
 {
     let mut held = state.lock(rt);
     let debt = held.core().come_into(rt, tally, home);
@@ -363,7 +363,7 @@ fn come_into<R: Wait + Drop>(rt: &R, state: &Locked<State<R>>, tally: &SlotTally
 }
 
 fn leave<R: Wait + Drop>(rt: &R, state: &Locked<State<R>>, tally: &SlotTally)
-    requires { tally.now.name ≡ state.now.slot }
+    requires { tally.now.name ≡ state.now.tag }
 {
     let mut held = state.lock(rt);
     held.core().leave(tally);
@@ -371,7 +371,7 @@ fn leave<R: Wait + Drop>(rt: &R, state: &Locked<State<R>>, tally: &SlotTally)
 }
 
 fn is_leaving<R: Wait + Drop>(rt: &R, state: &Locked<State<R>>, tally: &mut SlotTally) -> bool
-    requires { tally.old.name ≡ state.now.slot }
+    requires { tally.old.name ≡ state.now.tag }
     ensures { tally.new ≡ with_slot_note (Asked result) tally.old }
 {
     let mut held = state.lock(rt);
@@ -381,7 +381,7 @@ fn is_leaving<R: Wait + Drop>(rt: &R, state: &Locked<State<R>>, tally: &mut Slot
 }
 
 fn settle<R: Wait + Drop>(rt: &R, state: &Locked<State<R>>, tally: &mut SlotTally) -> Settled
-    requires { tally.old.name ≡ state.now.slot }
+    requires { tally.old.name ≡ state.now.tag }
     ensures { tally.new ≡ with_slot_note (SettledSo result) tally.old }
 {
     let mut held = state.lock(rt);
@@ -391,7 +391,7 @@ fn settle<R: Wait + Drop>(rt: &R, state: &Locked<State<R>>, tally: &mut SlotTall
 }
 
 fn refuse<R: Wait + Drop>(rt: &R, state: &Locked<State<R>>, tally: &mut SlotTally, refusal: Refusal)
-    requires { tally.old.name ≡ state.now.slot }
+    requires { tally.old.name ≡ state.now.tag }
     ensures { tally.new ≡ with_slot_note (Kept refusal.error) tally.old }
 {
     let mut held = state.lock(rt);
@@ -401,7 +401,7 @@ fn refuse<R: Wait + Drop>(rt: &R, state: &Locked<State<R>>, tally: &mut SlotTall
 }
 
 fn hear<R: Wait + Drop>(rt: &R, state: &Locked<State<R>>, tally: &mut SlotTally, found: Readiness)
-    requires { tally.old.name ≡ state.now.slot }
+    requires { tally.old.name ≡ state.now.tag }
     ensures { tally.new ≡ with_slot_note (Heard found) tally.old }
 {
     let mut held = state.lock(rt);

@@ -71,7 +71,7 @@ pub(crate) struct NotMarked {
 
 impl MarkDebt {
     /// Spends it: the adapter is among the marks of its loop, which is woken.
-    pub(crate) fn settle<R: Wait>(self, rt: &R) -> Result<(), NotMarked> {
+    pub(crate) fn mark<R: Wait>(self, rt: &R) -> Result<(), NotMarked> {
         let MarkDebt { home } = self;
         match home.hub.mark(rt, home.token) {
             Ok(()) => Ok(()),

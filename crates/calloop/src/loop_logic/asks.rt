@@ -416,7 +416,7 @@ impl<D, I> Requests<D, I> {
     }
 
     // The answer of the request that is carried out.
-    pub(super) fn tell(&mut self, answer: Answer<D>)
+    pub(super) fn put_answer(&mut self, answer: Answer<D>)
     where
         D: Drop,
         ensures { self.new ≡ with_answer answer self.old }

@@ -1,5 +1,5 @@
 //! A dispatch: the wait, the batch, and the turns of its events.
-ghost use Rattle.std.specs.Prelude.{◌≡◌, ◌<◌, length, Ok, Err, IfOk, IfErr, true};
+ghost use Rattle.std.specs.Prelude.{◌≡◌, ◌<◌, length, Ok, Err, IfOk, IfErr, true, false};
 ghost use Rattle.calloop_wake.specs.declared.error.Error.TheVariants.{OutOfMemory};
 ghost use Rattle.calloop_core.specs.Pollers.{nanos_of};
 ghost use Rattle.calloop.specs.DispatchErrors.{IsOfDispatch};
@@ -10,6 +10,7 @@ ghost use Rattle.calloop.specs.Machine.{BeginsAnew, view_of};
 ghost use Rattle.calloop.specs.Loops.{poller_of, clock_of};
 ghost use Rattle.calloop_wake.specs.declared.error.Error.{Error};
 ghost use Rattle.calloop_wake.specs.Failures.{with_error};
+ghost use Rattle.calloop_wake.specs.Slots.{content_at, is_in_turn};
 ghost use Rattle.calloop.specs.Rules.{Case, DispatchedBy, Did, Leads, Goes, Cutting, Ending, Returning, Idling, RunningIdles, Leaving, Outcome, action_of, after_batch, after_idle, after_turn, after_hand_out};
 
 use super::asks::{Answer, Requests};
@@ -158,7 +159,7 @@ impl<D: EventDispatcher<P, C, R>, P: Poller, C: Clock, R: Wait + Drop> EventLoop
     fn end_turn(
         &mut self,
         token: RegistrationToken,
-        source: D,
+        mut source: D,
         answer: Result<PostAction, Failed>,
         failure: &mut Error,
     ) -> Result<bool, Failed>
@@ -168,7 +169,6 @@ impl<D: EventDispatcher<P, C, R>, P: Poller, C: Clock, R: Wait + Drop> EventLoop
             (view_of self.old) (view_of self.new) }
         ensures batch { self.new.poll.batch.events ≡ self.old.poll.batch.events }
     {
-        let mut source = source;
         let told = self.act(token, &mut source, answer, failure);
         self.give_back(token, source);
         match told {
@@ -185,9 +185,21 @@ impl<D: EventDispatcher<P, C, R>, P: Poller, C: Clock, R: Wait + Drop> EventLoop
             (view_of self.old) (view_of self.new) }
         ensures batch { self.new.poll.batch.events ≡ self.old.poll.batch.events }
     {
-        let Some(mut left) = self.sources.end_turn(token, source) else {
-            return;
-        };
+        if let Some(left) = self.sources.end_turn(token, source) {
+            self.unregister_left(token, left);
+        }
+    }
+
+    // Unregisters a source that left its slot in its turn, and drops it or hands it back; a failure is a warning. A function of its
+    // own, so that the turns of sources that stay need no room for an error.
+    #[inline(never)]
+    fn unregister_left(&mut self, token: RegistrationToken, mut left: D)
+        requires { is_in_turn (content_at (view_of self.old).slots token) ≡ false }
+        ensures machine { (told : Outcome) (x : D.Data)
+            → Goes D.means D.Idle.runs P.outside (Returning token left told x) (after_turn told x)
+            (view_of self.old) (view_of self.new) }
+        ensures batch { self.new.poll.batch.events ≡ self.old.poll.batch.events }
+    {
         let mut failure = Error::OutOfMemory;
         let told = self.unregister(token, &mut left, &mut failure);
         self.warnings.note(with_error(told, failure));

@@ -33,31 +33,32 @@ impl<D: EventDispatcher<P, C, R>, P: Poller, C: Clock, R: Wait + Drop> EventLoop
         true
     }
 
+    #[inline(never)]
     fn serve(&mut self, request: Request<D, D::Idle>)
         ensures { Serves D.means P.outside request (view_of self.old) (view_of self.new) }
     {
         match request {
             Request::Insert(dispatcher) => {
                 let answer = self.insert(dispatcher);
-                self.requests.tell(inserted_answer(answer));
+                self.requests.put_answer(inserted_answer(answer));
             }
             Request::Enable(token) => {
                 let answer = self.serve_enable(token);
-                self.requests.tell(done_answer(answer));
+                self.requests.put_answer(done_answer(answer));
             }
             Request::Update(token) => {
                 let answer = self.serve_update(token);
-                self.requests.tell(done_answer(answer));
+                self.requests.put_answer(done_answer(answer));
             }
             Request::Disable(token) => {
                 let answer = self.serve_disable(token);
-                self.requests.tell(done_answer(answer));
+                self.requests.put_answer(done_answer(answer));
             }
             Request::Remove(token) => self.serve_removal(token),
             Request::Idle(idle) => self.requests.put_idle(idle),
             Request::Cancel(ticket) => {
                 self.requests.take_out_idle(ticket);
-                self.requests.tell(Answer::Done);
+                self.requests.put_answer(Answer::Done);
             }
         }
     }
@@ -105,7 +106,7 @@ impl<D: EventDispatcher<P, C, R>, P: Poller, C: Clock, R: Wait + Drop> EventLoop
             return;
         }
         let answer = self.remove(token);
-        self.requests.tell(Answer::Removed(answer));
+        self.requests.put_answer(Answer::Removed(answer));
     }
 }
 

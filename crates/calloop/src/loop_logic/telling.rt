@@ -10,7 +10,7 @@ ghost use Rattle.calloop.specs.Rules.{Goes, Sleeping, Noticing, Cutting, after_t
 
 use super::{EventDispatcher, EventLoop};
 use calloop_core::sys::{Clock, Poller};
-use calloop_wake::error::{Error, Failed, leave};
+use calloop_wake::error::{Error, Failed, store_error};
 use calloop_wake::token::RegistrationToken;
 use std::sync::Wait;
 
@@ -73,7 +73,7 @@ impl<D: EventDispatcher<P, C, R>, P: Poller, C: Clock, R: Wait + Drop> EventLoop
         self.synthetic.lend(source.synthetic_limit());
         let answer = source.before_sleep(&mut self.synthetic);
         let _none = self.sources.end_turn(token, source);
-        leave(answer, failure)?;
+        store_error(answer, failure)?;
         self.poll.join(self.synthetic.events());
         Ok(())
     }

@@ -3,7 +3,7 @@ ghost use Rattle.std.specs.Prelude.{◌≡◌, None, Some, IfOk, IfErr};
 ghost use Rattle.calloop_wake.specs.declared.error.Error.TheVariants.{OutOfMemory};
 ghost use Rattle.calloop.specs.Pings.{tally_opened};
 
-use crate::cell::{Cell, settle};
+use crate::cell::{Cell, post};
 use calloop_wake::error::Result as LoopResult;
 use calloop_wake::wake::locked::Locked;
 use calloop_wake::wake::ping::{OpenedTurn, PingCore};
@@ -16,7 +16,7 @@ pub type PingCell = Cell<PingCore>;
 
 /// A cell to which nothing has happened yet, under its lock, and the right to its receiving end.
 pub fn new_locked(alloc: Global) -> LoopResult<(Locked<PingCell>, ReceivingRight)>
-    ensures right { IfOk result (λ made. made.1.name ≡ made.0.slot) }
+    ensures right { IfOk result (λ made. made.1.name ≡ made.0.tag) }
     ensures err { IfErr result (λ e. e ≡ OutOfMemory) }
 {
     let (core, name, right) = PingCore::new();
@@ -25,14 +25,14 @@ pub fn new_locked(alloc: Global) -> LoopResult<(Locked<PingCell>, ReceivingRight
 
 /// Rings the cell.
 pub fn ring<R: Wait>(rt: &R, shared: &Locked<PingCell>) -> Receipt
-    ensures { result.name ≡ shared.now.slot }
+    ensures { result.name ≡ shared.now.tag }
 {
     let mut held = shared.lock(rt);
     let cell = held.core();
     let (receipt, debt) = cell.core.ring();
     let owed = cell.with_hub(rt, debt);
     held.unlock();
-    settle(rt, owed);
+    post(rt, owed);
     receipt
 }
 
@@ -52,7 +52,7 @@ pub fn take_turn<R: Wait>(
     tally: &mut Tally,
     pass: TakenPass,
 ) -> Result<Due, TakenPass>
-    requires { tally.old.name ≡ shared.now.slot }
+    requires { tally.old.name ≡ shared.now.tag }
     ensures name { tally.new.name ≡ tally.old.name }
     ensures ok { IfOk result (λ due. tally.new ≡ tally_opened due.rung due.told tally.old) }
     ensures err { IfErr result (λ refused. (refused ≡ record pass { refused = Some tally.old.name })
@@ -68,6 +68,6 @@ pub fn take_turn<R: Wait>(
     };
     let owed = cell.with_hub(rt, debt);
     held.unlock();
-    settle(rt, owed);
+    post(rt, owed);
     taken
 }

@@ -7,7 +7,7 @@ use crate::sys::events::EventIterator;
 use crate::sys::poll::Poll;
 use crate::sys::synthetic::Synthetic;
 use crate::sys::{Poller, Readiness};
-use calloop_wake::error::{Error, Failed, Result as LoopResult, leave};
+use calloop_wake::error::{Error, Failed, Result as LoopResult, store_error};
 use calloop_wake::token::{RegistrationToken, Token, TokenFactory};
 use std::sync::Wait;
 
@@ -188,7 +188,7 @@ where
         factory: &mut TokenFactory,
         failure: &mut Error,
     ) -> Result<(), Failed> {
-        leave(self.source.register(poll, factory), failure)
+        store_error(self.source.register(poll, factory), failure)
     }
 
     fn reregister(
@@ -197,11 +197,11 @@ where
         factory: &mut TokenFactory,
         failure: &mut Error,
     ) -> Result<(), Failed> {
-        leave(self.source.reregister(poll, factory), failure)
+        store_error(self.source.reregister(poll, factory), failure)
     }
 
     fn unregister(&mut self, poll: &mut Poll<P, C, R>, failure: &mut Error) -> Result<(), Failed> {
-        leave(self.source.unregister(poll), failure)
+        store_error(self.source.unregister(poll), failure)
     }
 
     fn process_events(

@@ -17,7 +17,7 @@ use calloop_wake::wake::board::OpenRefusal;
 use calloop_wake::wake::locked::Locked;
 use calloop_wake::wake::marking::Marks;
 use calloop_wake::wake::watch::{OpenPlaces, Watch, WatchedBoard};
-use calloop_wake::wake::{Debt, LeaveToClose, LeaveToSleep, OpenedPass, TakenPass};
+use calloop_wake::wake::{ClosePermit, Debt, OpenedPass, SleepPermit, TakenPass};
 use std::alloc::{AllocError, Global};
 use std::collections::VecDeque;
 use std::io;
@@ -42,9 +42,9 @@ impl Model for Hub {
 
     ghost Value = { Book };
 
-    ghost view = { λ h. h.board.slot };
+    ghost view = { λ h. h.board.tag };
 
-    ghost invariant = { λ h. h.marks.slot ≡ h.board.slot };
+    ghost invariant = { λ h. h.marks.tag ≡ h.board.tag };
 }
 
 /// A hub with several owners.
@@ -99,17 +99,17 @@ impl Hub {
     }
 
     /// Closes the place of a key of this board that no cell has any more.
-    pub fn close_place<R: Wait>(&self, rt: &R, leave: LeaveToClose)
-        requires { leave.board ≡ self.now }
+    pub fn close_place<R: Wait>(&self, rt: &R, permit: ClosePermit)
+        requires { permit.board ≡ self.now }
     {
         let mut held = self.board.lock(rt);
         let board = held.core();
-        board.close_place(leave);
+        board.close_place(permit);
         held.unlock();
     }
 
     /// Posts the key of a debt to this board, and spends the wakeup that this gives, outside the lock. It takes no memory.
-    pub fn settle<R: Wait>(&self, rt: &R, debt: Debt)
+    pub fn post<R: Wait>(&self, rt: &R, debt: Debt)
         requires { debt.board ≡ self.now }
     {
         let mut held = self.board.lock(rt);
@@ -121,15 +121,15 @@ impl Hub {
         }
     }
 
-    /// Looks whether a key is posted: the leave to sleep, where none is.
-    pub fn look<R: Wait>(&self, rt: &R, watch: &mut Watch) -> Option<LeaveToSleep>
+    /// Looks whether a key is posted: the permit to sleep, where none is.
+    pub fn look<R: Wait>(&self, rt: &R, watch: &mut Watch) -> Option<SleepPermit>
         requires { watch.old.name ≡ self.now }
         ensures { watch.new ≡ with_note (Looked (is_none result)) watch.old }
     {
         let mut held = self.board.lock(rt);
-        let leave = held.core().look(watch);
+        let permit = held.core().look(watch);
         held.unlock();
-        leave
+        permit
     }
 
     /// How many places are open now.
@@ -282,13 +282,13 @@ impl WatchedHub {
         &self.hub
     }
 
-    /// Looks whether a key is posted: the leave to sleep, where none is.
-    pub fn look<R: Wait>(&mut self, rt: &R) -> Option<LeaveToSleep>
+    /// Looks whether a key is posted: the permit to sleep, where none is.
+    pub fn look<R: Wait>(&mut self, rt: &R) -> Option<SleepPermit>
         ensures { self.new ≡ with_note (Looked (is_none result)) self.old }
     {
-        let leave = self.hub.look(rt, &mut self.watch);
-        self.found = leave.is_none();
-        leave
+        let permit = self.hub.look(rt, &mut self.watch);
+        self.found = permit.is_none();
+        permit
     }
 
     /// How many places are open now.

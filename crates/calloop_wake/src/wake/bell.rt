@@ -1,11 +1,11 @@
 //! The bell of a cell: what each kind of cell has of a ping.
 ghost use Rattle.std.specs.Prelude.{◌≡◌, ◌+◌, ◌-◌, ◌<◌, ◌^◌, ◌&&◌, ◌||◌, not, true, false, None, Some, IfOk, IfErr, if◌then◌else◌};
 ghost use Rattle.calloop_wake.specs.Cells.{fresh_tally, fresh, one, opens, debt_of, owed_at, owed_by_drop, after_close, after_add_sender, after_drop_sender, after_set_key, after_clear_key};
-ghost use Rattle.calloop_wake.specs.Bells.{bell_with, after_ping, after_drain, after_end, owed_if, after_tell};
+ghost use Rattle.calloop_wake.specs.Bells.{bell_with, after_ping, after_drain, after_end, owed_if, after_tell_close};
 ghost use Rattle.calloop_wake.specs.Passes.{on};
 
 use super::ghosts::Name;
-use super::{Debt, LeaveToClose, OpenedPass, ReceivingRight, Sender, Tally};
+use super::{ClosePermit, Debt, OpenedPass, ReceivingRight, Sender, Tally};
 use std::alloc::AllocError;
 use std::marker::Model;
 
@@ -186,7 +186,7 @@ impl Bell {
         &mut self,
         pass: OpenedPass,
         tally: &mut Tally,
-    ) -> (Option<Debt>, Option<LeaveToClose>)
+    ) -> (Option<Debt>, Option<ClosePermit>)
         ensures tally { tally.new ≡ record tally.old { key = Some pass.key } }
         ensures bell { self.new ≡ record {
           cell = after_set_key pass.key self.old.cell;
@@ -194,43 +194,43 @@ impl Bell {
           board = pass.board;
         } }
         ensures owes { result.0 ≡ on pass.board (owed_at pass.key self.old.cell) }
-        ensures leaves { result.1 ≡ on self.old.board self.old.cell.key }
+        ensures permit { result.1 ≡ on self.old.board self.old.cell.key }
     {
         let OpenedPass { key, board } = pass;
-        let leave = self.take_key();
+        let permit = self.take_key();
         self.key = Some(key);
         self.board = board.again();
         tally.key = Some(key);
         if self.pinged {
-            (Some(Debt { key, board }), leave)
+            (Some(Debt { key, board }), permit)
         } else {
-            (None, leave)
+            (None, permit)
         }
     }
 
-    fn take_key(&mut self) -> Option<LeaveToClose>
+    fn take_key(&mut self) -> Option<ClosePermit>
         ensures bell { self.new ≡ bell_with (after_clear_key false self.old.cell) self.old }
-        ensures leaves { result ≡ on self.old.board self.old.cell.key }
+        ensures permit { result ≡ on self.old.board self.old.cell.key }
     {
         let key = self.key.take()?;
-        Some(LeaveToClose {
+        Some(ClosePermit {
             key,
             board: self.board.again(),
         })
     }
 
-    pub(super) fn clear_key(&mut self, tally: &mut Tally) -> Option<LeaveToClose>
+    pub(super) fn clear_key(&mut self, tally: &mut Tally) -> Option<ClosePermit>
         ensures tally { tally.new ≡ record tally.old { key = None } }
         ensures bell { self.new ≡ bell_with (after_clear_key false self.old.cell) self.old }
-        ensures leaves { result ≡ on self.old.board self.old.cell.key }
+        ensures permit { result ≡ on self.old.board self.old.cell.key }
     {
         tally.key = None;
         self.take_key()
     }
 
-    pub(super) fn abandon(&mut self, tally: Tally) -> Option<LeaveToClose>
+    pub(super) fn abandon(&mut self, tally: Tally) -> Option<ClosePermit>
         ensures bell { self.new ≡ bell_with (after_clear_key true self.old.cell) self.old }
-        ensures leaves { result ≡ on self.old.board self.old.cell.key }
+        ensures permit { result ≡ on self.old.board self.old.cell.key }
     {
         tally.end();
         self.gone = true;
@@ -253,8 +253,8 @@ impl Bell {
     }
 
     /// A close is told, and whether it was not before.
-    pub(super) fn tell(&mut self) -> bool
-        ensures bell { self.new ≡ bell_with (after_tell self.old.cell) self.old }
+    pub(super) fn tell_close(&mut self) -> bool
+        ensures bell { self.new ≡ bell_with (after_tell_close self.old.cell) self.old }
         ensures gives { result ≡ (self.old.cell.closed && not self.old.cell.told) }
     {
         let tells = self.closed && !self.told;

@@ -10,7 +10,7 @@ ghost use Rattle.calloop_wake.specs.declared.wake.board.OpenRefusal.TheVariants.
 
 use super::ghosts::Name;
 use super::places::Places;
-use super::{LeaveToSleep, TakenPass, Wakeup};
+use super::{SleepPermit, TakenPass, Wakeup};
 use crate::steps::Steps;
 use std::alloc::Global;
 use std::collections::VecDeque;
@@ -207,14 +207,14 @@ impl Board {
         !self.posted.is_empty()
     }
 
-    /// Gives the leave to sleep where no key is marked.
-    pub(crate) fn look(&self) -> Option<LeaveToSleep>
+    /// Gives the permit to sleep where no key is marked.
+    pub(crate) fn look(&self) -> Option<SleepPermit>
         ensures { is_some result ≡ not (any_marked self.now) }
     {
         if self.any_marked() {
             None
         } else {
-            Some(LeaveToSleep { of_wake: () })
+            Some(SleepPermit { of_wake: () })
         }
     }
 

@@ -5,7 +5,7 @@ ghost use Rattle.logbook.specs.Pages.{Book};
 ghost use Rattle.calloop_wake.specs.Passes.{Keyed};
 
 use super::locked::Core;
-use super::{Debt, LeaveToClose, OpenedPass, ReceivingRight, Sender, Tally};
+use super::{ClosePermit, Debt, OpenedPass, ReceivingRight, Sender, Tally};
 use std::alloc::AllocError;
 
 /// The core of a cell: its senders, its receiving end, and the key under which its loop is told of it. A kind of cell has steps
@@ -39,34 +39,34 @@ pub trait CellCore: Core {
         ensures owes { IfSome result (λ debt. place_of self.old ≡ Some debt) };
 
     /// Gives the cell the key of a place that was opened, as calloop registers the descriptor under a token. First comes what is owed
-    /// under the new key, and then the leave to close the place of the key that it had.
+    /// under the new key, and then the permit to close the place of the key that it had.
     fn set_key(
         &mut self,
         pass: OpenedPass,
         tally: &mut Tally,
-    ) -> (Option<Debt>, Option<LeaveToClose>)
+    ) -> (Option<Debt>, Option<ClosePermit>)
         requires { tally.old.name ≡ name_of self.old }
         ensures tally { tally.new ≡ record tally.old { key = Some pass.key } }
         ensures fits { (tag : Self.Tag) → Self.fits tag self.old → Self.fits tag self.new }
         ensures place { place_of self.new ≡ Some pass }
         ensures owes { IfSome result.0 (λ debt. debt ≡ pass) }
-        ensures leaves { result.1 ≡ place_of self.old };
+        ensures permit { result.1 ≡ place_of self.old };
 
-    /// Takes the cell's key back, as calloop takes the descriptor out of the poller. What is due stays so. It gives the leave to close
+    /// Takes the cell's key back, as calloop takes the descriptor out of the poller. What is due stays so. It gives the permit to close
     /// the place of the key, where the cell had one.
-    fn clear_key(&mut self, tally: &mut Tally) -> Option<LeaveToClose>
+    fn clear_key(&mut self, tally: &mut Tally) -> Option<ClosePermit>
         requires { tally.old.name ≡ name_of self.old }
         ensures tally { tally.new ≡ record tally.old { key = None } }
         ensures fits { (tag : Self.Tag) → Self.fits tag self.old → Self.fits tag self.new }
         ensures place { place_of self.new ≡ None }
-        ensures leaves { result ≡ place_of self.old };
+        ensures permit { result ≡ place_of self.old };
 
     /// The receiving end goes: the same, and nobody will take what is due.
-    fn abandon(&mut self, tally: Tally) -> Option<LeaveToClose>
+    fn abandon(&mut self, tally: Tally) -> Option<ClosePermit>
         requires { tally.name ≡ name_of self.old }
         ensures fits { (tag : Self.Tag) → Self.fits tag self.old → Self.fits tag self.new }
         ensures place { place_of self.new ≡ None }
-        ensures leaves { result ≡ place_of self.old };
+        ensures permit { result ≡ place_of self.old };
 
     ghost is_named: { (tag : Self.Tag) (core : Self) → Self.Core.fits tag core → name_of core ≡ named_by tag };
 }

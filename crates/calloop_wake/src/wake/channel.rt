@@ -2,7 +2,7 @@
 ghost use Rattle.std.specs.Prelude.{◌≡◌, ◌≤◌, ◌<◌, ◌+◌, ◌^◌, ◌⊎◌, IfSome, IfOk, IfErr, MatchResult, is_ok, true, false, None, Some, Err, [], if◌then◌else◌};
 ghost use Rattle.calloop_wake.specs.Cells.{debt_of, owed_at, owed_by_drop, after_add_sender, after_drop_sender, after_clear_key};
 ghost use Rattle.calloop_wake.specs.Bells.{after_ping, owed_if};
-ghost use Rattle.calloop_wake.specs.Channels.{fresh_channel, has_room, with_bell, view_with, view_after_put, receipt_of, view_after_set_key, after_open_turn, tally_after_open, turn_of, view_after_pop, after_pop_of, tells, pop_answer, handed_back, FitsBound, tally_after_pop, turn_after_pop, front, view_after_take, tally_after_take, is_early, after_end_turn, pops, IsStandingChannel, IsSoundChannel};
+ghost use Rattle.calloop_wake.specs.Channels.{fresh_channel, has_room, with_bell, view_with, view_after_put, receipt_of, view_after_set_key, after_open_turn, tally_after_open, turn_of, view_after_pop, after_pop_of, tells_close, pop_answer, handed_back, FitsBound, tally_after_pop, turn_after_pop, front, view_after_take, tally_after_take, is_early, after_end_turn, pops, IsStandingChannel, IsSoundChannel};
 ghost use Rattle.calloop_wake.specs.Passes.{on};
 ghost use Rattle.calloop_wake.specs.declared.wake.channel.PutError.TheVariants.{Gone, Full, OutOfMemory};
 
@@ -12,7 +12,7 @@ use super::ghosts::Name;
 use super::locked::Core;
 use super::queue::Queue;
 use super::{
-    ChannelTurn, Debt, Last, LeaveToClose, OpenedPass, Receipt, ReceivingRight, Sender, TakenPass,
+    ChannelTurn, ClosePermit, Debt, Last, OpenedPass, Receipt, ReceivingRight, Sender, TakenPass,
     Tally,
 };
 use counted_slot::Fits;
@@ -291,10 +291,10 @@ impl<T> ChannelCore<T> {
     fn stop(&mut self) -> bool
         requires { self.old.state.queue ≡ [] }
         ensures core { self.new ≡ view_with (after_pop_of [] self.old.state) self.old }
-        ensures gives { result ≡ tells self.old.state.cell }
+        ensures gives { result ≡ tells_close self.old.state.cell }
     {
         self.last = LastPop::NoItem;
-        self.bell.tell()
+        self.bell.tell_close()
     }
 
     /// The first message, where there is one, outside of a turn. It never tells the close.
@@ -368,31 +368,31 @@ impl<T: Drop> CellCore for ChannelCore<T> {
         &mut self,
         pass: OpenedPass,
         tally: &mut Tally,
-    ) -> (Option<Debt>, Option<LeaveToClose>)
+    ) -> (Option<Debt>, Option<ClosePermit>)
         requires { tally.old.name ≡ self.old.name }
         ensures tally { tally.new ≡ record tally.old { key = Some pass.key } }
         ensures core { self.new ≡ view_after_set_key pass self.old }
         ensures owes { result.0 ≡ on pass.board (owed_at pass.key self.old.state.cell) }
-        ensures leaves { result.1 ≡ on self.old.board self.old.state.cell.key }
+        ensures permit { result.1 ≡ on self.old.board self.old.state.cell.key }
     {
         self.bell.set_key(pass, tally)
     }
 
-    fn clear_key(&mut self, tally: &mut Tally) -> Option<LeaveToClose>
+    fn clear_key(&mut self, tally: &mut Tally) -> Option<ClosePermit>
         requires { tally.old.name ≡ self.old.name }
         ensures tally { tally.new ≡ record tally.old { key = None } }
         ensures core { self.new ≡ view_with
             (with_bell (after_clear_key false self.old.state.cell) self.old.state) self.old }
-        ensures leaves { result ≡ on self.old.board self.old.state.cell.key }
+        ensures permit { result ≡ on self.old.board self.old.state.cell.key }
     {
         self.bell.clear_key(tally)
     }
 
-    fn abandon(&mut self, tally: Tally) -> Option<LeaveToClose>
+    fn abandon(&mut self, tally: Tally) -> Option<ClosePermit>
         requires { tally.name ≡ self.old.name }
         ensures core { self.new ≡ view_with
             (with_bell (after_clear_key true self.old.state.cell) self.old.state) self.old }
-        ensures leaves { result ≡ on self.old.board self.old.state.cell.key }
+        ensures permit { result ≡ on self.old.board self.old.state.cell.key }
     {
         self.bell.abandon(tally)
     }

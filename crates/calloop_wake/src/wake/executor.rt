@@ -3,7 +3,7 @@ ghost use Rattle.std.specs.Prelude.{if◌then◌else◌, ◌≡◌, nat_lt, Err,
 ghost use Rattle.calloop_wake.specs.Cells.{one};
 ghost use Rattle.calloop_wake.specs.Passes.{on};
 ghost use Rattle.calloop_wake.specs.Tasks.{no_tasks, task_at, phase_at, is_awake};
-ghost use Rattle.calloop_wake.specs.Executors.{cell_of, at_start, debt_between, owed_at, after_put, after_wake, after_pop, after_end_turn, after_clear_key, after_settle, settled_at, after_take, after_end, in_turn, opens, most_tasks, IsAwake, IsKeepingTasks, IsBalanced};
+ghost use Rattle.calloop_wake.specs.Executors.{cell_of, at_start, debt_between, owed_at, after_put, after_wake, after_pop, after_end_turn, after_clear_key, after_poll, after_poll_of, after_take, after_end, in_turn, opens, most_tasks, IsAwake, IsKeepingTasks, IsBalanced};
 
 use super::bell::Bell;
 use super::cell::CellCore;
@@ -11,7 +11,7 @@ use super::ghosts::{Count, Name};
 use super::homes::{DueReceipt, KeepingRight, PoppedTask};
 use super::locked::Core;
 use super::tasks::{TaskKey, Tasks};
-use super::{Debt, Last, LeaveToClose, OpenedPass, ReceivingRight, Sender, TakenPass, Tally};
+use super::{ClosePermit, Debt, Last, OpenedPass, ReceivingRight, Sender, TakenPass, Tally};
 use counted_slot::Fits;
 use std::alloc::{AllocError, Global};
 use std::marker::Model;
@@ -26,7 +26,7 @@ pub struct Progress {
     pub pops: u32,
     /// Its last pop gave no task.
     pub dry: bool,
-    /// The task that it popped last, until that is settled.
+    /// The task that it popped last, until its poll is over.
     pub polled: Option<TaskKey>,
 }
 
@@ -270,9 +270,9 @@ impl ExecutorCore {
     }
 
     // The task that was popped last is finished, or idle, or queued last where it was woken meanwhile.
-    fn settle(&mut self, finished: bool)
+    fn end_poll(&mut self, finished: bool)
         requires { finished ≡ true → IsSome self.old.progress.polled }
-        ensures cell { cell_of self.new ≡ after_settle finished (cell_of self.old) }
+        ensures cell { cell_of self.new ≡ after_poll finished (cell_of self.old) }
         ensures names { (self.new.name ≡ self.old.name) × (self.new.board ≡ self.old.board) }
     {
         match self.progress.polled {
@@ -284,7 +284,7 @@ impl ExecutorCore {
 
     fn finish(&mut self, key: TaskKey)
         requires { self.old.progress.polled ≡ Some key }
-        ensures cell { cell_of self.new ≡ settled_at (Some key) true (cell_of self.old) }
+        ensures cell { cell_of self.new ≡ after_poll_of (Some key) true (cell_of self.old) }
         ensures names { (self.new.name ≡ self.old.name) × (self.new.board ≡ self.old.board) }
     {
         let Some(tasks) = &mut self.tasks else {
@@ -297,19 +297,19 @@ impl ExecutorCore {
 
     fn pend(&mut self, key: TaskKey)
         requires { self.old.progress.polled ≡ Some key }
-        ensures cell { cell_of self.new ≡ settled_at (Some key) false (cell_of self.old) }
+        ensures cell { cell_of self.new ≡ after_poll_of (Some key) false (cell_of self.old) }
         ensures names { (self.new.name ≡ self.old.name) × (self.new.board ≡ self.old.board) }
     {
         let Some(tasks) = &mut self.tasks else {
             unreachable!()
         };
-        tasks.settle(key);
+        tasks.pend(key);
         self.progress.polled = None;
     }
 
     // The first of the queue is polled from now on.
     fn take(&mut self) -> Option<(TaskKey, usize)>
-        requires settled { self.old.progress.polled ≡ None }
+        requires ended { self.old.progress.polled ≡ None }
         requires opened { self.old.draining ≡ true }
         requires more { self.old.progress.pops < most_tasks }
         ensures cell { cell_of self.new ≡ after_take (cell_of self.old) }
@@ -392,7 +392,7 @@ impl ExecutorCore {
         self.progress = AT_START;
     }
 
-    /// A pop of the turn. The task that was popped before is settled: it is finished, where its poll gave the result, and else it
+    /// A pop of the turn. The poll of the task that was popped before is over: it is finished, where its poll gave the result, and else it
     /// is idle, or queued last where it was woken meanwhile. Then the first of the queue is polled from now on, where there is
     /// one, and told with where its future is. The tally counts a result that was handed out.
     pub fn pop(
@@ -415,7 +415,7 @@ impl ExecutorCore {
         ensures pops { self.new.progress.pops ≡ turn.old.progress.pops + 1 }
         ensures names { (self.new.name ≡ self.old.name) × (self.new.board ≡ self.old.board) }
     {
-        self.settle(finished);
+        self.end_poll(finished);
         tally.number = tally.number.and_one_if(finished);
         let popped = self.take();
         turn.progress = self.progress;
@@ -427,7 +427,7 @@ impl ExecutorCore {
         })
     }
 
-    /// Ends the turn, whose last pop gave no task or was its 1,024th: the task that was popped last is settled, and after 1,024
+    /// Ends the turn, whose last pop gave no task or was its 1,024th: the poll of the task that was popped last is over, and after 1,024
     /// the cell pings itself.
     pub fn end_turn(&mut self, turn: TaskTurn, tally: &mut Tally, finished: bool) -> Option<Debt>
         requires names { (turn.name ≡ self.old.name) × (tally.old.name ≡ self.old.name) }
@@ -444,7 +444,7 @@ impl ExecutorCore {
             name: _,
             progress: _,
         } = turn;
-        self.settle(finished);
+        self.end_poll(finished);
         tally.number = tally.number.and_one_if(finished);
         self.close_turn()
     }
@@ -497,31 +497,31 @@ impl CellCore for ExecutorCore {
         &mut self,
         pass: OpenedPass,
         tally: &mut Tally,
-    ) -> (Option<Debt>, Option<LeaveToClose>)
+    ) -> (Option<Debt>, Option<ClosePermit>)
         requires { tally.old.name ≡ self.old.name }
         ensures tally { tally.new ≡ record tally.old { key = Some pass.key } }
         ensures core { self.new ≡ record self.old { key = Some pass.key; board = pass.board } }
         ensures owes { result.0 ≡ on pass.board (owed_at pass.key (cell_of self.old)) }
-        ensures leaves { result.1 ≡ on self.old.board self.old.key }
+        ensures permit { result.1 ≡ on self.old.board self.old.key }
     {
         self.bell.set_key(pass, tally)
     }
 
-    fn clear_key(&mut self, tally: &mut Tally) -> Option<LeaveToClose>
+    fn clear_key(&mut self, tally: &mut Tally) -> Option<ClosePermit>
         requires { tally.old.name ≡ self.old.name }
         ensures tally { tally.new ≡ record tally.old { key = None } }
         ensures core { self.new ≡ record self.old { key = None } }
-        ensures leaves { result ≡ on self.old.board self.old.key }
+        ensures permit { result ≡ on self.old.board self.old.key }
     {
         self.bell.clear_key(tally)
     }
 
     // Every task is finished, and nothing is queued. The futures are dropped after this section.
-    fn abandon(&mut self, tally: Tally) -> Option<LeaveToClose>
+    fn abandon(&mut self, tally: Tally) -> Option<ClosePermit>
         requires { tally.name ≡ self.old.name }
         ensures cell { cell_of self.new ≡ after_clear_key true (cell_of self.old) }
         ensures name { self.new.name ≡ self.old.name }
-        ensures leaves { result ≡ on self.old.board self.old.key }
+        ensures permit { result ≡ on self.old.board self.old.key }
     {
         self.tasks = None;
         self.progress.polled = None;

@@ -15,7 +15,7 @@ ghost use Rattle.calloop_wake.specs.ChannelKind as channel;
 ghost use Rattle.calloop_wake.specs.ChannelKind.{ChannelPast, channel_kind};
 ghost use Rattle.calloop_wake.specs.Kinds.{First, Second, every_kind, Born, new_cell};
 ghost use Rattle.calloop_wake.specs.Delivery.{CanBeDelivered};
-ghost use Rattle.calloop_wake.specs.StepsOfCores.{with_step, with_leave, with_place_taken};
+ghost use Rattle.calloop_wake.specs.StepsOfCores.{with_step, with_permit, with_place_taken};
 ghost use Rattle.calloop_wake.specs.Lost.{of_pings, of_channels, with_a_ring_unseen, with_a_close_unseen, with_a_key_forgotten, with_nobody_told, with_nobody_told_in_a_wait, with_a_sleeper_left_alone, with_a_message_unseen, with_a_message_lost, with_messages_out_of_order, with_a_close_told_twice, with_a_close_told_early, with_a_close_told_of_an_open_channel, with_a_message_too_many, with_too_long_a_turn, of_executors, with_a_task_unseen, with_a_task_queued_twice, with_a_finished_task_queued, with_a_result_twice, with_a_result_of_a_task_that_runs, with_a_woken_task_unseen, with_a_task_polled_by_nobody, with_a_number_twice, with_the_next_number};
 ghost use Rattle.calloop_wake.specs.ExampleSchedules.{ring_in_a_wait, post_between_look_and_sleep, ring_in_a_turn, close_in_a_turn, pass_that_goes_back, key_that_moves, key_that_is_cleared, drop_in_a_turn, wait_without_a_sleep, message_in_a_turn, close_behind_a_message, of_key_seven, of_key_nine, after_message_in_a_turn, after_close_behind_a_message, task_in_a_turn, wake_in_a_wait, executor_that_goes, after_task_in_a_turn};
 ghost use Rattle.calloop_wake.specs.ExampleSchedules.{of_bounded_channels, channel_that_is_rung, close_in_a_channels_turn, close_behind_the_last_pop, message_outside_of_a_turn, bounded_channel, message_behind_the_close, channel_that_moves, executor_that_moves, second_task_in_a_slot, turn_of_1024_pops, turn_of_1024_polls};
@@ -179,8 +179,8 @@ pub fn schedules_that_there_are_not()
     ensures task { ¬ IsSchedule every_kind of_executors turn_that_stops_behind_a_task }
 {}
 
-/// What the core of a ping, of a channel or of an executor gives by a step is what the machine's step gives: the cell after it, the debt, and the leave
-/// to close a place. And what a step of the board gives: its places after it, the wakeup of a post, the leave to sleep of a look, the passes that are taken.
+/// What the core of a ping, of a channel or of an executor gives by a step is what the machine's step gives: the cell after it, the debt, and the permit
+/// to close a place. And what a step of the board gives: its places after it, the wakeup of a post, the permit to sleep of a look, the passes that are taken.
 pub fn steps_are_the_machines()
     ensures ring { (w : WakeWorld Cell) (n : ℕ) → after ping_kind w (At n Ring)
         ≡ with_step n (after_ring (w.cells n)) (debt_of (w.cells n)) w }
@@ -189,11 +189,11 @@ pub fn steps_are_the_machines()
     ensures end_turn { (w : WakeWorld Cell) (n : ℕ) → after ping_kind w (At n EndTurn)
         ≡ with_step n (after_end_turn (w.cells n)) None w }
     ensures set_key { (w : WakeWorld Cell) (n k : ℕ) → after ping_kind w (SetKey n k)
-        ≡ with_leave (w.cells n).key
+        ≡ with_permit (w.cells n).key
         (with_place_taken k (with_step n (after_set_key k (w.cells n)) (owed_at k (w.cells n)) w)) }
     ensures clear_key { (w : WakeWorld Cell) (n : ℕ) (by_drop : Bool)
         → after ping_kind w (ClearKey n by_drop)
-        ≡ with_leave (w.cells n).key (with_step n (after_clear_key by_drop (w.cells n)) None w) }
+        ≡ with_permit (w.cells n).key (with_step n (after_clear_key by_drop (w.cells n)) None w) }
     ensures open_turn { (w : WakeWorld Cell) (n k : ℕ) → (after ping_kind w (OpenTurn n k)).cells
         ≡ with_cell n (after_open_turn k (w.cells n)) w.cells }
     ensures pass { (w : WakeWorld Cell) (n k : ℕ) → (after ping_kind w (OpenTurn n k)).passes
@@ -248,7 +248,7 @@ pub fn steps_are_the_machines()
     ensures open_place { (w : WakeWorld Cell) (k : ℕ) → after ping_kind w (OpenPlace k)
         ≡ record w { board = after_open_place k w.board; opened = and_one k w.opened } }
     ensures close_place { (w : WakeWorld Cell) (k : ℕ) → after ping_kind w (ClosePlace k)
-        ≡ record w { board = after_close_place k w.board; leaves = less_one k w.leaves } }
+        ≡ record w { board = after_close_place k w.board; permits = less_one k w.permits } }
     ensures post { (w : WakeWorld Cell) (k : ℕ) → after ping_kind w (Post k)
         ≡ record w {
           board = after_post k w.board;

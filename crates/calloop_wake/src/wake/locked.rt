@@ -85,24 +85,24 @@ impl<S, V> Play<S, V> for GivesBack {
 }
 
 /// The content with its word. In a clause it is the tag.
-struct Slot<X: Core> {
+struct Tagged<X: Core> {
     table: Table<X, X::Tag, X::Tag, Keeps<X>, Global>,
 }
 
-impl<X: Core> Model for Slot<X> {
+impl<X: Core> Model for Tagged<X> {
     ghost use Rattle.calloop_wake.specs.Locks.{HasOneSlot};
 
     ghost Value = { X.Tag };
 
-    ghost view = { λ slot. slot.table.shared.key };
+    ghost view = { λ tagged. tagged.table.shared.key };
 
-    ghost invariant = { λ slot. HasOneSlot slot.table.shared.table_id };
+    ghost invariant = { λ tagged. HasOneSlot tagged.table.shared.table_id };
 }
 
-impl<X: Core> Slot<X> {
-    fn new(alloc: Global, core: X, tag: &X::Tag) -> Result<Slot<X>, AllocError>
+impl<X: Core> Tagged<X> {
+    fn new(alloc: Global, core: X, tag: &X::Tag) -> Result<Tagged<X>, AllocError>
         requires { X.fits tag.now core }
-        ensures { IfOk result (λ slot. slot ≡ tag.now) }
+        ensures { IfOk result (λ tagged. tagged ≡ tag.now) }
     {
         let mut slots = match Vec::with_capacity(alloc, 1) {
             Ok(slots) => slots,
@@ -113,7 +113,7 @@ impl<X: Core> Slot<X> {
         };
         slots.push_reserved(core);
         match Table::new(alloc, &[FREE], slots, tag) {
-            Ok((table, _seat)) => Ok(Slot { table }),
+            Ok((table, _seat)) => Ok(Tagged { table }),
             Err(Refused { mut slots }) => {
                 if let Some(core) = slots.pop() {
                     core.dissolve(Last { of_wake: () });
@@ -131,7 +131,7 @@ impl<X: Core> Slot<X> {
     }
 }
 
-impl<X: Core> Drop for Slot<X> {
+impl<X: Core> Drop for Tagged<X> {
     fn drop(self) {
         let Self { table } = self;
         let mut closed = table.close();
@@ -175,12 +175,12 @@ impl Queues {
     }
 }
 
-/// A lock, under the tag of its content. In a clause `slot` is the tag.
+/// A lock, under the tag of its content. In a clause `tag` is that tag; in code it is the content with its word.
 ///
 /// Calloop's ends share an eventfd or a pipe, and the kernel keeps its state.
 #[derive(Drop)]
 pub struct Locked<X: Core> {
-    slot: Slot<X>,
+    tag: Tagged<X>,
     queues: Queues,
 }
 
@@ -188,22 +188,22 @@ impl<X: Core> Locked<X> {
     /// A lock that is free. Where there is no memory for it, its content is ended.
     pub fn new(alloc: Global, core: X, tag: &X::Tag) -> Result<Locked<X>, AllocError>
         requires { X.fits tag.now core }
-        ensures { IfOk result (λ lock. lock.slot ≡ tag.now) }
+        ensures { IfOk result (λ lock. lock.tag ≡ tag.now) }
     {
         Ok(Locked {
-            slot: Slot::new(alloc, core, tag)?,
+            tag: Tagged::new(alloc, core, tag)?,
             queues: Queues::empty(),
         })
     }
 
     /// Takes the lock, and what lies under it. It waits while another has it.
     pub fn lock<R: Wait>(&self, rt: &R) -> Held<'_, X>
-        ensures { (result.shared.now.key ≡ self.now.slot)
+        ensures { (result.shared.now.key ≡ self.now.tag)
             × (result.seat.table_id ≡ result.shared.now.table_id)
             × HasOneSlot result.shared.now.table_id
             × IsTaken (X.fits result.shared.now.key) result.seat.me.1 }
     {
-        lock(rt, self.slot.as_shared(), &self.queues)
+        lock(rt, self.tag.as_shared(), &self.queues)
     }
 
     /// Whether who gave the lock up last left this number as a hint of its content, and nobody has had it since.
@@ -211,9 +211,9 @@ impl<X: Core> Locked<X> {
     /// Where it is so, the word is written as it was: so who takes the lock next sees all that was written before this call, as if this had
     /// been a section of the lock. `async-task` does the same for a wake of what is scheduled.
     pub fn has_hint(&self, number: u64) -> bool
-        ensures { result ≡ true → WasHinted (X.fits self.now.slot) X.hints number }
+        ensures { result ≡ true → WasHinted (X.fits self.now.tag) X.hints number }
     {
-        let shared = self.slot.as_shared();
+        let shared = self.tag.as_shared();
         let Some(word) = number.checked_add(FIRST_HINT) else {
             return false;
         };

@@ -8,7 +8,7 @@ use super::cell::CellCore;
 use super::ghosts::{Count, Name};
 use super::locked::Core;
 use super::{
-    Debt, Last, LeaveToClose, OpenedPass, PingTurn, Receipt, ReceivingRight, Sender, TakenPass,
+    ClosePermit, Debt, Last, OpenedPass, PingTurn, Receipt, ReceivingRight, Sender, TakenPass,
     Tally,
 };
 use counted_slot::Fits;
@@ -177,7 +177,7 @@ impl PingCore {
             name: self.bell.name(),
         };
         self.bell.open();
-        let told = self.bell.tell();
+        let told = self.bell.tell_close();
         self.rung = false;
         self.seen = self.rings.again();
         self.taken = self.taken.and_one_if(rung);
@@ -232,29 +232,29 @@ impl CellCore for PingCore {
         &mut self,
         pass: OpenedPass,
         tally: &mut Tally,
-    ) -> (Option<Debt>, Option<LeaveToClose>)
+    ) -> (Option<Debt>, Option<ClosePermit>)
         requires { tally.old.name ≡ self.old.name }
         ensures tally { tally.new ≡ record tally.old { key = Some pass.key } }
         ensures core { self.new ≡ core_after_set_key pass self.old }
         ensures owes { result.0 ≡ on pass.board (owed_at pass.key self.old.cell) }
-        ensures leaves { result.1 ≡ on self.old.board self.old.cell.key }
+        ensures permit { result.1 ≡ on self.old.board self.old.cell.key }
     {
         self.bell.set_key(pass, tally)
     }
 
-    fn clear_key(&mut self, tally: &mut Tally) -> Option<LeaveToClose>
+    fn clear_key(&mut self, tally: &mut Tally) -> Option<ClosePermit>
         requires { tally.old.name ≡ self.old.name }
         ensures tally { tally.new ≡ record tally.old { key = None } }
         ensures core { self.new ≡ core_with (after_clear_key false self.old.cell) self.old }
-        ensures leaves { result ≡ on self.old.board self.old.cell.key }
+        ensures permit { result ≡ on self.old.board self.old.cell.key }
     {
         self.bell.clear_key(tally)
     }
 
-    fn abandon(&mut self, tally: Tally) -> Option<LeaveToClose>
+    fn abandon(&mut self, tally: Tally) -> Option<ClosePermit>
         requires { tally.name ≡ self.old.name }
         ensures core { self.new ≡ core_with (after_clear_key true self.old.cell) self.old }
-        ensures leaves { result ≡ on self.old.board self.old.cell.key }
+        ensures permit { result ≡ on self.old.board self.old.cell.key }
     {
         self.bell.abandon(tally)
     }

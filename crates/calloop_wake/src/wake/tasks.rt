@@ -3,7 +3,7 @@
 ghost use Rattle.std.specs.Prelude.{◌≡◌, ◌≢◌, ℕ, ◌+◌, ◌<◌, ◌++◌, ◌∷◌, [], true, false, Some, None, option_map, IsSome, IsNone, IfSome, IfNone, IfOk, OnErr, is_some, count_by};
 ghost use Rattle.slab.specs.Slab.{ContainsKey, Updates, get as value_at};
 ghost use Rattle.futures.specs.LinkedLists.{list_of, list_count, key_limit, items, IsApart, IsIn};
-ghost use Rattle.calloop_wake.specs.Tasks.{TaskTable, no_tasks, task_at, place_of, phase_at, is_idle, is_woken, is_awake, in_poll, woken_phase, settled_phase, with_phase, after_step, slot_if, count};
+ghost use Rattle.calloop_wake.specs.Tasks.{TaskTable, no_tasks, task_at, place_of, phase_at, is_idle, is_woken, is_awake, in_poll, woken_phase, phase_after_pending, with_phase, after_step, slot_if, count};
 ghost use Rattle.calloop_wake.specs.Executors.{with_slot};
 ghost use Rattle.calloop_wake.specs.declared.wake.tasks.Task.{Task};
 
@@ -173,9 +173,10 @@ impl Tasks {
 
     /// The end of a pending poll: the task is idle, or queued last where it was woken meanwhile. It takes no memory.
     #[tactic(auto, using(crate::proofs::Written::written, crate::proofs::Written::unwritten))]
-    pub fn settle(&mut self, key: TaskKey)
+    pub fn pend(&mut self, key: TaskKey)
         ensures tasks { task_at self.new ≡ with_slot key.slot
-            (after_step settled_phase key.number (task_at self.old key.slot)) (task_at self.old) }
+            (after_step phase_after_pending key.number (task_at self.old key.slot))
+            (task_at self.old) }
         ensures line { self.new.queue
             ≡ self.old.queue ++ slot_if (is_woken (phase_at key (task_at self.old))) key.slot }
         ensures count { count self.new ≡ count self.old }

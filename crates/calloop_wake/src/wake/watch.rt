@@ -12,7 +12,7 @@ use super::ghosts::Name;
 use super::locked::Core;
 use super::marking::MarkingRight;
 use super::notes::Notes;
-use super::{Debt, Last, LeaveToClose, LeaveToSleep, OpenedPass, TakenPass, Wakeup};
+use super::{ClosePermit, Debt, Last, OpenedPass, SleepPermit, TakenPass, Wakeup};
 use crate::steps::Steps;
 use counted_slot::Fits;
 use std::alloc::Global;
@@ -134,11 +134,11 @@ impl WatchedBoard {
     }
 
     /// Closes the place of a key of this board that no cell has any more, with its mark.
-    pub fn close_place(&mut self, leave: LeaveToClose)
-        requires { leave.board ≡ self.old.name }
-        ensures { self.new ≡ with_places (after_close_place leave.key self.old.places) self.old }
+    pub fn close_place(&mut self, permit: ClosePermit)
+        requires { permit.board ≡ self.old.name }
+        ensures { self.new ≡ with_places (after_close_place permit.key self.old.places) self.old }
     {
-        let LeaveToClose { key, board: _ } = leave;
+        let ClosePermit { key, board: _ } = permit;
         self.board.close_place(key);
     }
 
@@ -153,8 +153,8 @@ impl WatchedBoard {
         self.board.post(key)
     }
 
-    /// Gives the leave to sleep where no key is marked, and has the watch note it.
-    pub fn look(&self, watch: &mut Watch) -> Option<LeaveToSleep>
+    /// Gives the permit to sleep where no key is marked, and has the watch note it.
+    pub fn look(&self, watch: &mut Watch) -> Option<SleepPermit>
         requires { watch.old.name ≡ self.now.name }
         ensures gives { is_some result ≡ not (any_marked self.now.places) }
         ensures watch { watch.new ≡ with_note (Looked (any_marked self.now.places)) watch.old }

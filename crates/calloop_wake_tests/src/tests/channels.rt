@@ -216,7 +216,7 @@ struct Mail {
     ghost tied: { tally.name ≡ core.name },
     ghost named: { core.name ≡ label.name },
     ghost bounded: { core.state.bound ≡ label.bound },
-    ghost own: { is_some core.state.cell.key ≡ true → core.board ≡ (arc_value board).slot },
+    ghost own: { is_some core.state.cell.key ≡ true → core.board ≡ (arc_value board).tag },
 }
 
 impl Mail {
@@ -272,9 +272,9 @@ impl Mail {
         held.unlock();
         match opened {
             Ok(pass) => {
-                let (debt, leave) = self.core.set_key(pass, &mut self.tally);
+                let (debt, permit) = self.core.set_key(pass, &mut self.tally);
                 post(rt, &self.board, debt);
-                close(rt, &self.board, leave);
+                close(rt, &self.board, permit);
                 true
             }
             Err(_) => false,
@@ -283,8 +283,8 @@ impl Mail {
 
     // Takes the cell's key back, and closes its place: whether it had one.
     fn unregisters<R: Wait>(&mut self, rt: &R) -> bool {
-        let leave = self.core.clear_key(&mut self.tally);
-        close(rt, &self.board, leave)
+        let permit = self.core.clear_key(&mut self.tally);
+        close(rt, &self.board, permit)
     }
 
     // Its only sender comes and goes: whether that set a mark anew.
@@ -336,7 +336,7 @@ impl Mail {
         pass: TakenPass,
         got: &mut Vec<Got>,
     )
-        requires { pass.board ≡ at.now.slot }
+        requires { pass.board ≡ at.now.tag }
         ensures { self.new.core.name ≡ self.old.core.name }
     {
         match self.core.open_turn(pass, &mut self.tally) {
@@ -496,7 +496,7 @@ fn refusal(refused: PutError<u64>) -> Put {
 
 // Gives a refused pass back to its board.
 fn put_back<R: Wait>(rt: &R, at: &Locked<WatchedBoard>, pass: TakenPass, got: &mut Vec<Got>)
-    requires { pass.board ≡ at.now.slot }
+    requires { pass.board ≡ at.now.tag }
 {
     let marked = pass.is_refused();
     let _ = got.push(Got::Refused { marked });
@@ -543,7 +543,7 @@ struct Inbox {
     lock: SharedLock,
     tally: Tally,
     board: SharedBoard,
-    ghost tied: { tally.name ≡ (arc_value lock).slot.name },
+    ghost tied: { tally.name ≡ (arc_value lock).tag.name },
 }
 
 // Where messages are put into it.
@@ -579,16 +579,16 @@ impl Inbox {
         let Inbox { lock, tally, board } = self;
         let mut held = lock.lock(rt);
         let cell = held.core();
-        let leave = cell.core.abandon(tally);
+        let permit = cell.core.abandon(tally);
         held.unlock();
-        close(rt, &board, leave);
+        close(rt, &board, permit);
     }
 }
 
 // Waits for the next message, and tells that it is gone.
 fn receive<R: Wait>(rt: &R, lock: &Locked<Keyless>, tally: &mut Tally) -> u64
-    requires { tally.old.name ≡ lock.now.slot.name }
-    ensures { tally.new.name ≡ lock.now.slot.name }
+    requires { tally.old.name ≡ lock.now.tag.name }
+    ensures { tally.new.name ≡ lock.now.tag.name }
 {
     let mut held = lock.lock(rt);
     for _ in rt.forever() {

@@ -115,9 +115,9 @@ fn each_task_of_a_table_is_queued_once(rt: HostRuntime) {
     assert!(rt; !tasks.wake(key));
     assert_eq!(rt; tasks.take(), Some((key, 10)));
     assert!(rt; !tasks.wake(key));
-    tasks.settle(key);
+    tasks.pend(key);
     assert_eq!(rt; tasks.take(), Some((key, 10)));
-    tasks.settle(key);
+    tasks.pend(key);
     assert_eq!(rt; tasks.take(), None);
     assert!(rt; tasks.wake(key));
 }
@@ -164,7 +164,7 @@ struct Crew {
     ghost tied: { tally.name ≡ core.name },
     ghost named: { core.name ≡ name },
     ghost housed: { homes.name ≡ core.name },
-    ghost own: { is_some core.key ≡ true → core.board ≡ (arc_value board).slot },
+    ghost own: { is_some core.key ≡ true → core.board ≡ (arc_value board).tag },
 }
 
 impl Crew {
@@ -226,9 +226,9 @@ impl Crew {
         held.unlock();
         match opened {
             Ok(pass) => {
-                let (debt, leave) = self.core.set_key(pass, &mut self.tally);
+                let (debt, permit) = self.core.set_key(pass, &mut self.tally);
                 post(rt, &self.board, debt);
-                close(rt, &self.board, leave);
+                close(rt, &self.board, permit);
                 true
             }
             Err(_) => false,
@@ -237,8 +237,8 @@ impl Crew {
 
     // Takes the cell's key back, and closes its place: whether it had one.
     fn unregisters<R: Wait>(&mut self, rt: &R) -> bool {
-        let leave = self.core.clear_key(&mut self.tally);
-        close(rt, &self.board, leave)
+        let permit = self.core.clear_key(&mut self.tally);
+        close(rt, &self.board, permit)
     }
 
     // Its only scheduler comes and goes: whether that sets no mark.

@@ -1,5 +1,5 @@
 //! Random calls, and plain lists that say what is to come of them.
-ghost use Rattle.std.specs.Prelude.{◌<◌};
+ghost use Rattle.std.specs.Prelude.{◌<◌, ◌-◌, ◌^◌};
 
 use super::{Desk, Ends, arm_again, at, claims, post, registration};
 use calloop_wake::list::SourceList;
@@ -50,7 +50,7 @@ fn random_claims_of_slots_are_those_of_a_search(rt: HostRuntime) {
 #[test]
 fn of_many_pings_the_rung_ones_come_in_order(rt: HostRuntime) {
     let mut desk = Desk::new(&rt, rt.alloc());
-    let cells = many_cells(&rt, rt.alloc(), &desk);
+    let cells = many_cells(&rt, rt.alloc(), &desk, 100);
     for key in [90, 5, 40] {
         assert!(rt; rings(&rt, &cells, key), "{key}");
     }
@@ -60,21 +60,44 @@ fn of_many_pings_the_rung_ones_come_in_order(rt: HostRuntime) {
 
 #[test]
 fn random_calls_of_a_board_are_those_of_a_list(rt: HostRuntime) -> Result<(), Fail> {
+    // All keys in one slot, three in each slot, and each in its own.
+    for in_a_slot in [100, 3, 1] {
+        calls_a_board(&rt, rt.alloc(), in_a_slot)?;
+    }
+    Ok(())
+}
+
+fn calls_a_board<R: Wait + Abort>(rt: &R, alloc: Global, in_a_slot: u64) -> Result<(), Fail>
+    requires { 0 < in_a_slot }
+{
     let mut draws = Draws { state: 2 };
-    let mut states = many_states(rt.alloc())?;
-    let mut desk = Desk::new(&rt, rt.alloc());
-    let mut cells = many_cells(&rt, rt.alloc(), &desk);
+    let mut states = many_states(alloc)?;
+    let mut desk = Desk::new(rt, alloc);
+    let mut cells = many_cells(rt, alloc, &desk, in_a_slot);
     for i in 0..200 {
-        let key = draws.below(12);
-        let is_called = calls_a_cell(&rt, &mut cells, &mut states, key, draws.below(3));
-        assert!(rt; is_called, "call {i}");
+        let cell = draws.below(12);
+        let which = draws.below(3);
         assert!(rt;
-            gives_the_posted(&rt, rt.alloc(), &mut desk, &states),
+            calls_a_cell(rt, &mut cells, &mut states, cell, in_a_slot, which),
+            "call {i}"
+        );
+        assert!(rt;
+            gives_the_posted(rt, alloc, &mut desk, &states, in_a_slot),
             "call {i}"
         );
     }
-    leave_all(&rt, cells);
+    leave_all(rt, cells);
     Ok(())
+}
+
+// The key of one of a hundred cells, where so many have keys in one slot.
+fn key_of_cell(cell: u64, in_a_slot: u64) -> u64
+    requires cell { cell < 100 }
+    requires slot { 0 < in_a_slot }
+    ensures { result < 2 ^ 64 - 1 }
+{
+    let slot = cell / in_a_slot;
+    slot * 0x100_0000_0000 + cell % in_a_slot
 }
 
 // What a cell came to.
@@ -96,18 +119,19 @@ fn many_states(alloc: Global) -> Result<Vec<State>, AllocError> {
     Ok(states)
 }
 
-// Rings the cell of this key, takes its key, or gives that back: whether that went right.
+// Rings this cell, takes its key, or gives that back: whether that went right.
 fn calls_a_cell<R: Wait>(
     rt: &R,
     cells: &mut [Ends],
     states: &mut [State],
-    key: u64,
+    of: u64,
+    in_a_slot: u64,
     which: u64,
 ) -> bool
-    requires { key < 12 }
+    requires of { of < 12 }
+    requires slot { 0 < in_a_slot }
 {
-    let (Some(cell), Some(state)) = (cells.get_mut(key as usize), states.get_mut(key as usize))
-    else {
+    let (Some(cell), Some(state)) = (cells.get_mut(of as usize), states.get_mut(of as usize)) else {
         return false;
     };
     match which {
@@ -125,16 +149,25 @@ fn calls_a_cell<R: Wait>(
         _ => {
             let was_open = state.open;
             state.open = true;
-            was_open || cell.registers(rt, key)
+            was_open || cell.registers(rt, key_of_cell(of, in_a_slot))
         }
     }
 }
 
 // Whether just the keys of the cells that are open and were rung are taken.
-fn gives_the_posted<R: Wait>(rt: &R, alloc: Global, desk: &mut Desk, states: &[State]) -> bool {
+fn gives_the_posted<R: Wait>(
+    rt: &R,
+    alloc: Global,
+    desk: &mut Desk,
+    states: &[State],
+    in_a_slot: u64,
+) -> bool
+    requires { 0 < in_a_slot }
+{
     let mut posted = Vec::new(alloc);
-    for (key, state) in states.iter().enumerate() {
-        if state.open && state.rung && posted.push(key as u64).is_err() {
+    for (cell, state) in states.iter().enumerate() {
+        let key = key_of_cell(cell as u64 % 100, in_a_slot);
+        if state.open && state.rung && posted.push(key).is_err() {
             return false;
         }
     }
@@ -149,12 +182,14 @@ fn leave_all<R: Wait>(rt: &R, cells: Vec<Ends>) {
     cells.destroy_empty();
 }
 
-// A hundred cells, under the keys from 0 on.
-fn many_cells<R: Wait + Abort>(rt: &R, alloc: Global, desk: &Desk) -> Vec<Ends> {
+// A hundred cells, so many of which have keys in one slot.
+fn many_cells<R: Wait + Abort>(rt: &R, alloc: Global, desk: &Desk, in_a_slot: u64) -> Vec<Ends>
+    requires { 0 < in_a_slot }
+{
     let mut cells = Vec::new(alloc);
-    for key in 0..100u64 {
+    for i in 0..100u64 {
         let mut cell = Ends::new(rt, alloc, desk);
-        assert!(rt; cell.registers(rt, key));
+        assert!(rt; cell.registers(rt, key_of_cell(i, in_a_slot)));
         if let Err(failed) = cells.push(cell) {
             failed.value.leave(rt);
         }

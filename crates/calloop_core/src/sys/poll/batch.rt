@@ -17,7 +17,7 @@ use crate::sys::events::EventIterator;
 use crate::sys::hub::{SharedHub, WatchedHub};
 use calloop_wake::token::{RegistrationToken, Token};
 use calloop_wake::wake::watch::OpenPlaces;
-use calloop_wake::wake::{LeaveToSleep, TakenPass};
+use calloop_wake::wake::{SleepPermit, TakenPass};
 use calloop_wake::wheel::{Entry, Instant, TimerWheel};
 use std::alloc::{AllocError, Global};
 use std::collections::VecDeque;
@@ -65,7 +65,7 @@ fn give_all_back<R: Wait>(rt: &R, hub: &SharedHub, mut passes: VecDeque<TakenPas
     requires { AreOf (arc_value hub.now) passes.items }
 {
     while let Some(pass) = passes.pop_front() {
-        hub.settle(rt, pass.back());
+        hub.post(rt, pass.back());
     }
     passes.destroy_empty();
 }
@@ -204,7 +204,7 @@ impl Batch {
             polled: _,
         } = self;
         if let Some(pass) = pass {
-            hub.hub().settle(rt, pass.back());
+            hub.hub().post(rt, pass.back());
         }
         give_all_back(rt, hub.hub(), passes);
     }
@@ -257,8 +257,8 @@ impl Batch {
         self.events.is_empty()
     }
 
-    /// Looks whether a key is posted: the leave to sleep, where none is.
-    pub fn look<R: Wait>(&mut self, rt: &R) -> Option<LeaveToSleep>
+    /// Looks whether a key is posted: the permit to sleep, where none is.
+    pub fn look<R: Wait>(&mut self, rt: &R) -> Option<SleepPermit>
         ensures watch { self.new.watch ≡ with_note (Looked (is_none result)) self.old.watch }
         ensures others { self.new ≡ record self.old { watch = self.new.watch } }
     {
@@ -311,7 +311,7 @@ impl Batch {
         ensures { self.new ≡ record self.old { pass = pass } }
     {
         if let Some(other) = mem::replace(&mut self.pass, pass) {
-            self.hub.hub().settle(rt, other.back());
+            self.hub.hub().post(rt, other.back());
         }
     }
 

@@ -1,9 +1,10 @@
 //! What is waited for under which key.
-ghost use Rattle.std.specs.Prelude.{◌≡◌, [], ℕ, true, OnOk, OnErr, slice_set};
-ghost use Rattle.calloop_core.specs.Tables.{watched_at, is_in, with_key, without_key, slot_of_key, indexed_at};
+ghost use Rattle.std.specs.Prelude.{◌≡◌, [], ℕ, Some, OnOk, OnErr, slice_set};
+ghost use Rattle.calloop_core.specs.Tables.{watched_at, is_in, with_key, without_key, indexed_at};
+ghost use Rattle.calloop_wake.specs.Tokens.{slot_of_key};
 
 use crate::sys::Watched;
-use calloop_wake::widths::{PARTS, VERSIONS};
+use calloop_wake::token::slot_of_key;
 use std::alloc::{AllocError, Global};
 use std::collections::BTreeMap;
 use std::marker::Model;
@@ -31,13 +32,6 @@ impl Model for SocketTable {
     ghost view = { λ t. t.by_key.entries };
 
     ghost invariant = { λ t. IsIndexOf t.by_slot.items t.by_key.entries };
-}
-
-// The slot of a key's token.
-fn slot_of_key(key: u64) -> usize
-    ensures { result ≡ slot_of_key key }
-{
-    (key / (VERSIONS * PARTS)) as usize
 }
 
 // Puts this at the slot, where the index reaches as far.
@@ -100,14 +94,14 @@ impl SocketTable {
         Ok(())
     }
 
-    /// This in place of what stands under the key. It takes no memory, and what isn't another isn't entered again.
-    pub fn replace(&mut self, key: u64, watched: Watched)
-        requires { is_in key self.old ≡ true }
+    /// This in place of what stood under the key so far. It takes no memory, and what isn't another isn't entered again.
+    pub fn replace(&mut self, key: u64, stood: Watched, watched: Watched)
+        requires { watched_at key self.old ≡ Some stood }
         ensures { self.new ≡ with_key key watched self.old }
     {
         // Its contract says that the keys ascend.
         let _ = self.by_key.len();
-        if matches!(self.get(key), Some(stood) if stood == watched) {
+        if stood == watched {
             return;
         }
         if let Ok(_) = self.by_key.insert(key, watched) {

@@ -18,7 +18,7 @@ use std::sync::Wait;
 
 // Tells the poller of a socket, where it knows it or is to know it.
 #[inline(always)]
-fn tell<P: Poller>(
+fn call_poller<P: Poller>(
     poller: &mut P,
     io: &mut P::Io,
     known: bool,
@@ -67,7 +67,7 @@ impl<P: Poller, C, R: Wait + Drop> Poll<P, C, R> {
         }
         let watched = Watched { interest, mode };
         self.table.insert(key, watched)?;
-        match tell(&mut self.poller, io, false, key, watched) {
+        match call_poller(&mut self.poller, io, false, key, watched) {
             Ok(()) => Ok(()),
             Err(cause) => {
                 self.table.remove(key);
@@ -81,22 +81,21 @@ impl<P: Poller, C, R: Wait + Drop> Poll<P, C, R> {
     fn change(
         &mut self,
         io: &mut P::Io,
-        known: bool,
+        stood: Watched,
         before: Token,
         token: Token,
         watched: Watched,
     ) -> io::Result<()>
         requires same { key_of before ≡ key_of token }
-        requires there { is_in (key_of before) (poll_view self.old).table ≡ true }
-        requires known { is_known (watched_at (key_of before) (poll_view self.old).table) ≡ known }
+        requires stood { watched_at (key_of before) (poll_view self.old).table ≡ Some stood }
         ensures edit { DidEdit P.outside P.sockets (Change before token watched)
             (poll_view self.old) io.old (as_loop result) (poll_view self.new) io.new }
         ensures ready { (more : ℕ) → IsReady more self.old → IsReady more self.new }
     {
         let same = token.key();
-        match tell(&mut self.poller, io, known, same, watched) {
+        match call_poller(&mut self.poller, io, stood.interest.asks(), same, watched) {
             Ok(()) => {
-                self.table.replace(same, watched);
+                self.table.replace(same, stood, watched);
                 Ok(())
             }
             Err(fault) => Err(fault),
@@ -122,7 +121,7 @@ impl<P: Poller, C, R: Wait + Drop> Poll<P, C, R> {
     {
         let key = token.key();
         self.table.insert(key, watched)?;
-        match tell(&mut self.poller, io, known, key, watched) {
+        match call_poller(&mut self.poller, io, known, key, watched) {
             Ok(()) => {
                 self.table.remove(before.key());
                 Ok(())
@@ -156,14 +155,14 @@ impl<P: Poller, C, R: Wait + Drop> Poll<P, C, R> {
         let Some(stood) = self.table.get(old) else {
             return Err(Error::IoError(io::Error::from(io::ErrorKind::NotFound)));
         };
-        let known = stood.interest.asks();
         let watched = Watched { interest, mode };
         if old == key {
-            return match self.change(io, known, before, token, watched) {
+            return match self.change(io, stood, before, token, watched) {
                 Ok(()) => Ok(()),
                 Err(cause) => Err(Error::IoError(cause)),
             };
         }
+        let known = stood.interest.asks();
         if self.table.contains_key(key) {
             return Err(Error::IoError(io::Error::from(io::ErrorKind::AlreadyExists)));
         }
@@ -172,6 +171,7 @@ impl<P: Poller, C, R: Wait + Drop> Poll<P, C, R> {
 
     /// The same for the token that the socket was registered with: a fault alone is answered, of kind `NotFound` where the key
     /// isn't in the table, or the poller's. Each leaves the table as it was.
+    #[inline(always)]
     pub fn rearm(
         &mut self,
         io: &mut P::Io,
@@ -187,8 +187,7 @@ impl<P: Poller, C, R: Wait + Drop> Poll<P, C, R> {
         let Some(stood) = self.table.get(token.key()) else {
             return Err(io::Error::from(io::ErrorKind::NotFound));
         };
-        let known = stood.interest.asks();
-        self.change(io, known, token, token, Watched { interest, mode })
+        self.change(io, stood, token, token, Watched { interest, mode })
     }
 
     /// Takes a socket out, and from the poller, unless its interest is empty. A token whose key isn't in the table is refused
@@ -206,7 +205,7 @@ impl<P: Poller, C, R: Wait + Drop> Poll<P, C, R> {
             interest: Interest::EMPTY,
             ..stood
         };
-        match tell(&mut self.poller, io, stood.interest.asks(), key, nothing) {
+        match call_poller(&mut self.poller, io, stood.interest.asks(), key, nothing) {
             Ok(()) => {
                 self.table.remove(key);
                 Ok(())

@@ -7,7 +7,7 @@ ghost use Rattle.calloop_core.specs.Waits.{IsInterruption, asked_for, is_zero, l
 
 use super::Poll;
 use crate::sys::Poller;
-use calloop_wake::wake::LeaveToSleep;
+use calloop_wake::wake::SleepPermit;
 use calloop_wake::wheel::Instant;
 use std::io;
 use std::sync::Wait;
@@ -54,21 +54,21 @@ impl<P, C, R: Wait + Drop> Poll<P, C, R> {
         Some(Duration::from_nanos(first.nanos.saturating_sub(now.nanos)))
     }
 
-    // How long to wait. It spends the leave to sleep, without which a posted key stands and the wait is zero.
+    // How long to wait. It spends the permit to sleep, without which a posted key stands and the wait is zero.
     fn timeout_for(
         &self,
-        leave: Option<LeaveToSleep>,
+        permit: Option<SleepPermit>,
         timeout: Option<Duration>,
         start: Instant,
         now: Instant,
     ) -> Option<Duration>
         ensures { nanos_of result
-            ≡ asked_for (poll_view self.now) (is_none leave)
+            ≡ asked_for (poll_view self.now) (is_none permit)
             (nanos_of timeout) start.nanos now.nanos }
     {
-        match leave {
-            Some(leave) => {
-                leave.spend();
+        match permit {
+            Some(permit) => {
+                permit.spend();
                 if self.batch.is_empty() {
                     lesser(time_left(timeout, start, now), self.time_to_first(now))
                 } else {
@@ -98,8 +98,8 @@ impl<P: Poller, C, R: Wait + Drop> Poll<P, C, R> {
         ensures few { vec_len self.new.events ≤ events_per_wait }
     {
         let start = self.poller.now();
-        let leave = self.batch.look(rt);
-        let mut asked = self.timeout_for(leave, timeout, start, start);
+        let permit = self.batch.look(rt);
+        let mut asked = self.timeout_for(permit, timeout, start, start);
         for _ in rt.forever() {
             let left = self.batch.polled_end();
             let answer = self.poller.wait(asked, left, &mut self.events);

@@ -5,8 +5,8 @@ use Rattle.calloop_wake_tests.proofs.tests.serve_within.Given as goal
 
 abbrev pub invariant-loop-pass : goal.invariant-loop-pass
 invariant-loop-pass g l = record {
-  tally : l.tally.name ≡ l.lock.slot.cell;
-  own : AreOf (arc_value l.desk.board).slot l.passes.items;
+  tally : l.tally.name ≡ l.lock.tag.cell;
+  own : AreOf (arc_value l.desk.board).tag l.passes.items;
 }
 
 abbrev pub decreases-loop-pass : goal.decreases-loop-pass

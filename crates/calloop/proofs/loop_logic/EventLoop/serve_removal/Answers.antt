@@ -25,4 +25,4 @@ returns g c =
     let other = sym c.is_in_turn.ensures ∙ c.if-is_in_turn.false in
     let R = RemovedBy g.D.Dispatch.means c.args.token c.remove-answer.result in
     let d = closed g.P.Poller.outside R (view_of c.args.self.now) (view_of c.remove-answer.new.self) (Removed c.remove-answer.result) (one_done g.P.Poller.outside R (view_of c.args.self.now) (view_of c.remove-answer.new.self) c.remove-answer.ensures.case) in
-    rw c.tell.ensures (_, other_is _ (content_at ss c.args.token) other (c.remove-answer.result, d.0, d.1, refl), d.2, d.3)
+    rw c.put_answer.ensures (_, other_is _ (content_at ss c.args.token) other (c.remove-answer.result, d.0, d.1, refl), d.2, d.3)

@@ -29,26 +29,26 @@ lend-requires g c =
     let is : content_at c.args.self.now.sources c.args.token ≡ Source c.in-Some.source = source_is (content_at c.args.self.now.sources c.args.token) c.in-Some.source (sym c.in-Some.ensures.value) in
     omega (arith, c.requires.room, ap (limit_in M) is, c.synthetic_limit.ensures)
 
-pub returns-in_err-leave-clause-machine : goal.returns-in_err-leave-clause-machine
-returns-in_err-leave-clause-machine g c timeout later x =
+pub returns-in_err-store_error-clause-machine : goal.returns-in_err-store_error-clause-machine
+returns-in_err-store_error-clause-machine g c timeout later x =
     let M = g.D.Dispatch.means in
     let d = c.in-Some.source in
     let e = c.before_sleep-answer.new.self in
     let given = c.before_sleep-answer.new.out.given in
-    let error = c.leave.new.failure in
+    let error = c.store_error.new.failure in
     let is : content_at c.args.self.now.sources c.args.token ≡ Source d = source_is (content_at c.args.self.now.sources c.args.token) d (sym c.in-Some.ensures.value) in
     let lent : IsLent (M.limit d) c.lend.new.self = record { limit_is = ap (λ s. s.limit) c.lend.ensures ∙ c.synthetic_limit.ensures; empty = ap (λ s. s.given) c.lend.ensures } in
     let p = err_from_is_err_and c.from_residual.result c.from_residual.ensures.1 in
     rw (p.1, c.end_turn-none.ensures.list, c.in-Some.ensures.list)
     (slept_badly M g.D.Idle.IdleCallback.runs g.P.Poller.outside timeout c.args.token later (view_of c.args.self.now) x d e given error is
-    (rw c.in_err-leave.ensures.answer (c.before_sleep-answer.ensures.slept (poll_view c.args.self.now.poll) lent)))
+    (rw c.in_err-store_error.ensures.answer (c.before_sleep-answer.ensures.slept (poll_view c.args.self.now.poll) lent)))
 
-pub returns-in_err-leave-clause-ready : goal.returns-in_err-leave-clause-ready
-returns-in_err-leave-clause-ready g c more h =
+pub returns-in_err-store_error-clause-ready : goal.returns-in_err-store_error-clause-ready
+returns-in_err-store_error-clause-ready g c more h =
     ready_less c.args.self.now.poll (limit_in g.D.Dispatch.means (content_at c.args.self.now.sources c.args.token) + more) more (omega arith) h
 
-pub returns-in_err-leave-clause-limits : goal.returns-in_err-leave-clause-limits
-returns-in_err-leave-clause-limits g c tokens =
+pub returns-in_err-store_error-clause-limits : goal.returns-in_err-store_error-clause-limits
+returns-in_err-store_error-clause-limits g c tokens =
     let M = g.D.Dispatch.means in
     let d = c.in-Some.source in
     let e = c.before_sleep-answer.new.self in
@@ -78,7 +78,7 @@ returns-clause-machine g c timeout later x =
     let lent : IsLent (M.limit d) c.lend.new.self = record { limit_is = ap (λ s. s.limit) c.lend.ensures ∙ c.synthetic_limit.ensures; empty = ap (λ s. s.given) c.lend.ensures } in
     rw (c.join.ensures.view, c.events.ensures, c.end_turn-none.ensures.list, c.in-Some.ensures.list)
     (slept_well M g.D.Idle.IdleCallback.runs g.P.Poller.outside timeout c.args.token later (view_of c.args.self.now) x d e given is
-    (rw c.in_ok-leave.ensures.answer (c.before_sleep-answer.ensures.slept (poll_view c.args.self.now.poll) lent)))
+    (rw c.in_ok-store_error.ensures.answer (c.before_sleep-answer.ensures.slept (poll_view c.args.self.now.poll) lent)))
 
 pub returns-clause-ready : goal.returns-clause-ready
 returns-clause-ready g c more h =

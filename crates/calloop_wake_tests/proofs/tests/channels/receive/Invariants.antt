@@ -4,9 +4,9 @@ use Rattle.calloop_wake_tests.proofs.tests.channels.receive.Given as goal
 
 abbrev pub invariant-loop : goal.invariant-loop
 invariant-loop g l = record {
-  lock : l.held.shared.now.key ≡ l.lock.slot;
+  lock : l.held.shared.now.key ≡ l.lock.tag;
   seat : l.held.seat.table_id ≡ l.held.shared.now.table_id;
   slot : HasOneSlot l.held.shared.now.table_id;
   taken : IsTaken (λ cell. (cell.core.name ≡ l.held.shared.now.key.name) × (cell.core.state.cell.key ≡ None)) l.held.seat.me.1;
-  tally : l.tally.name ≡ l.lock.slot.name;
+  tally : l.tally.name ≡ l.lock.tag.name;
 }

@@ -8,4 +8,4 @@ unreachable-requires c =
 
 pub invariant_of-self : goal.invariant_of-self
 invariant_of-self c =
-    (inside-pend _ _ _ _ _ _ _ _ _ _ c.in-Some.is c.self.invariant.0 c.args.key (search rules) c.settle.ensures.tasks c.settle.ensures.line, search rules, search rules)
+    (inside-pend _ _ _ _ _ _ _ _ _ _ c.in-Some.is c.self.invariant.0 c.args.key (search rules) c.pend.ensures.tasks c.pend.ensures.line, search rules, search rules)

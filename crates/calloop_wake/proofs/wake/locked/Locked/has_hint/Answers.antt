@@ -14,5 +14,5 @@ compare_exchange-requires g c =
 pub returns : goal.returns
 returns g c eq =
     let found : c.compare_exchange.result ≡ c.args.number + 2 = search rules in
-    let view : c.load_new_seat-found.result.1.me.0 ≡ c.args.self.now.slot = search rules in
+    let view : c.load_new_seat-found.result.1.me.0 ≡ c.args.self.now.tag = search rules in
     subst (λ v. WasHinted (g.X.Fits.fits v) g.X.Core.hints c.args.number) view (c.compare_exchange.ensures.2.1 c.args.number found)

@@ -6,7 +6,7 @@ use Rattle.calloop_wake_tests.proofs.tests.channels.Mail.serve_all.Given as goal
 abbrev pub invariant-loop-pass : goal.invariant-loop-pass
 invariant-loop-pass g l = record {
   same : l.self.core.name ≡ l.fn.self.core.name;
-  own : AreOf (arc_value l.desk.board).slot l.passes.items;
+  own : AreOf (arc_value l.desk.board).tag l.passes.items;
 }
 
 abbrev pub decreases-loop-pass : goal.decreases-loop-pass

@@ -4,7 +4,7 @@ use Rattle.calloop_wake.specs.Passes.{AreOf}
 use Rattle.calloop_wake_tests.proofs.tests.executors.Crew.open.Given as goal
 
 abbrev pub invariant-loop-pass : goal.invariant-loop-pass
-invariant-loop-pass g l = AreOf (arc_value l.desk.board).slot l.passes.items
+invariant-loop-pass g l = AreOf (arc_value l.desk.board).tag l.passes.items
 
 abbrev pub decreases-loop-pass : goal.decreases-loop-pass
 decreases-loop-pass g l = deque_len l.passes

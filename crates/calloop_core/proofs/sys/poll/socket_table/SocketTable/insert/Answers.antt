@@ -1,5 +1,5 @@
 use Rattle.std.proofs.Common.{sym, ◌∙◌}
-use Rattle.calloop_core.specs.Tables.{slot_of_key}
+use Rattle.calloop_wake.specs.Tokens.{slot_of_key}
 use Rattle.calloop_core.proofs.Index.{index-with}
 use Rattle.calloop_core.proofs.sys.poll.socket_table.SocketTable.insert.Goals as goal
 
