@@ -28,6 +28,7 @@ pub mod Homes
 pub mod Freshness
 pub mod Failing
 pub mod Registered
+pub mod CellTurns
 pub mod Blocking
 pub mod Adapting
 pub mod Limits

@@ -1,4 +1,4 @@
--- The registrations and the turn of a ping, by what it finds.
+-- The registrations of a cell, by what they find.
 use Rattle.std.proofs.Common.{◌≡◌, ℕ, List, [], ◌∷◌, rules, refl, subst, nat_eq, Option, Some, None, IsSome, IfOk, IfErr, Result, Ok, Err, true, false}
 use Rattle.std.specs.Option.{option_eq}
 use Rattle.calloop_wake.specs.declared.error.Error.{Error}
@@ -7,13 +7,8 @@ use Rattle.calloop_wake.specs.declared.token.TokenFactory.{TokenFactory}
 use Rattle.calloop_wake.specs.declared.wake.Tally.{Tally}
 use Rattle.calloop_wake.specs.Tokens.{key_of, next_token, after_token}
 use Rattle.calloop_wake.specs.Cells.{is_own}
-use Rattle.calloop_wake.specs.Passes.{Taken}
-use Rattle.calloop_core.specs.declared.sources.source.PostAction.{PostAction}
-use Rattle.calloop_core.specs.declared.sources.source.PostAction.TheVariants.{Continue}
-use Rattle.calloop_core.specs.Calls.{CallbackCall}
-use Rattle.calloop_core.specs.Polls.{PollStep, TakePass, CannotOpen}
+use Rattle.calloop_core.specs.Polls.{CannotOpen}
 use Rattle.calloop.specs.CellSources.{Registers, RegistersAnew, NoPlace, NoPlaceAnew}
-use Rattle.calloop.specs.Pings.{PassAnswer, ServedSo, TurnsBy}
 
 pub own_by_equal : (n : ℕ) (k : Option ℕ) → option_eq nat_eq k (Some n) ≡ is_own n k
 own_by_equal n None = refl
@@ -29,16 +24,3 @@ pub registers_anew : (P : Type 0) (tally : Tally) (f g : TokenFactory) (token : 
 registers_anew P tally f g token (Ok u) after is_next is_after ok err some other = (some, refl, subst (λ t. after ≡ record tally { key = Some (key_of t) }) is_next ok, is_after)
 registers_anew P tally f g token (Err e) after is_next is_after ok err some other =
     (refl, err.1, NoPlaceAnew some (subst (λ t. is_own (key_of t) tally.key ≡ false) is_next other) err.0 is_after)
-
--- an event of another token
-pub turn_of_another : (P : Type 0) (tally : Tally) (token : Token) (pass : Option Taken) → is_own (key_of token) tally.key ≡ false → TurnsBy {P = P} tally token pass [] (Ok Continue) [] tally
-turn_of_another P tally token pass other = rw other (refl, refl, refl, refl)
-
-module _ (P : Type 0) (tally : Tally) (token : Token) (pass : Option Taken) (own : is_own (key_of token) tally.key ≡ true) where
-  -- an event without a pass
-  pub turn_without : pass ≡ None → TurnsBy {P = P} tally token pass [] (Ok Continue) (TakePass ∷ []) tally
-  turn_without none = rw (own, none) (refl, refl, refl, refl)
-
-  -- an event with one
-  pub turn_served : (p : Taken) (served : PassAnswer) (calls : List (CallbackCall (Unit {0}) (Unit {0}) (Unit {0}))) (action : PostAction) (steps : List (PollStep P)) (after : Tally) → pass ≡ Some p → ServedSo served p tally calls action steps after → TurnsBy tally token pass calls (Ok action) steps after
-  turn_served p served calls action steps after some h = rw (own, some) (served, h)

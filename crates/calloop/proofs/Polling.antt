@@ -13,7 +13,7 @@ use Rattle.calloop_core.specs.declared.sources.source.PostAction.TheVariants.{Co
 use Rattle.calloop_core.specs.Calls.{CallbackCall, Calling, Went}
 use Rattle.calloop_core.proofs.Calling.{went_on}
 use Rattle.calloop_core.specs.Polls.{PollStep, TakePass}
-use Rattle.calloop.specs.Executors.{ResultCalls, OfPop, gave, lacks, misses_of, call_of, calls_of, results_of, AllGiven, PassAnswer, AnsweredSo, ExecutorTurns}
+use Rattle.calloop.specs.Executors.{ResultCalls, OfPop, gave, lacks, misses_of, call_of, calls_of, results_of, AllGiven}
 
 module _ {O : Type 0} where
   calls_more : (ps : List (OfPop O)) (p : OfPop O) → calls_of (ps ++ p ∷ []) ≡ calls_of ps ++ call_of p
@@ -62,19 +62,6 @@ module _ {F O X Q : Type 0} (given : OfPop O → Type 0) (may : Calling F O (Uni
     all_given = given_more given ps p so.all_given its;
     went = subst (λ (cs : List (CallbackCall O (Unit {0}) (Unit {0}))). Went may reaches f x q cs h z s) (sym (calls_more ps p)) (went_on may reaches f g h x y z q r s (calls_of ps) (call_of p) so.went went);
   }
-
--- an event of another token
-pub turn_of_another : (P O : Type 0) (given : OfPop O → Type 0) (tally : Tally) (token : Token) (pass : Option Taken) → is_own (key_of token) tally.key ≡ false → ExecutorTurns {P = P} given tally token pass [] (Ok Continue) [] tally
-turn_of_another P O given tally token pass other = rw other (refl, refl, refl, refl)
-
-module _ (P O : Type 0) (given : OfPop O → Type 0) (tally : Tally) (token : Token) (pass : Option Taken) (own : is_own (key_of token) tally.key ≡ true) where
-  -- an event without a pass
-  pub turn_without : pass ≡ None → ExecutorTurns {P = P} given tally token pass [] (Ok Continue) (TakePass ∷ []) tally
-  turn_without none = rw (own, none) (refl, refl, refl, refl)
-
-  -- an event with one
-  pub turn_answered : (p : Taken) (answered : PassAnswer O) (calls : ResultCalls O) (action : PostAction) (steps : List (PollStep P)) (after : Tally) → pass ≡ Some p → AnsweredSo given answered p tally calls action steps after → ExecutorTurns given tally token pass calls (Ok action) steps after
-  turn_answered p answered calls action steps after some h = rw (own, some) (answered, h)
 
 -- The steps of a turn leave the cell its key.
 after_poll_key : (o : Option TaskKey) (finished : Bool) (c : ExecutorCell) → (after_poll_of o finished c).key ≡ c.key

@@ -14,7 +14,7 @@ use Rattle.calloop_core.specs.declared.sources.source.PostAction.TheVariants.{Co
 use Rattle.calloop_core.specs.Polls.{PollStep, TakePass}
 use Rattle.calloop.specs.declared.futures.task.Poll.TheVariants.{Ready, Pending}
 use Rattle.calloop.specs.StreamReads.{Polls, ReadsTo}
-use Rattle.calloop.specs.Streams.{StreamCalls, call_with, end_calls, calls_of, Reading, PassAnswer, AnsweredSo, StreamTurns}
+use Rattle.calloop.specs.Streams.{StreamCalls, call_with, end_calls, calls_of, Reading}
 
 module _ {I : Type 0} where
   calls_more : (xs : List I) (x : I) → calls_of (xs ++ x ∷ []) AtLimit ≡ calls_of xs AtLimit ++ call_with (Some x) ∷ []
@@ -60,17 +60,3 @@ module _ {F S I X Q : Type 0} (polls : Polls S I) (may : Calling F (Option I) (U
       → Went may reaches g y r (end_calls ending) h z w → Went may reaches f x q (calls_of items ending) h z w
   read_ended items ending count u g h y z r w so went =
       subst (λ (cs : List (CallbackCall (Option I) (Unit {0}) (Unit {0}))). Went may reaches f x q cs h z w) (sym (calls_ended items ending)) (went_on may reaches f g h x y z q r w (calls_of items AtLimit) (end_calls ending) so.went went)
-
--- an event of another token
-pub turn_of_another : (P S I : Type 0) (polls : Polls S I) (tally : Tally) (before : Reading S) (token : Token) (pass : Option Taken) → is_own (key_of token) tally.key ≡ false → StreamTurns {P = P} polls tally before token pass [] (Ok Continue) [] tally before
-turn_of_another P S I polls tally before token pass other = rw other (refl, refl, refl, refl, refl)
-
-module _ (P S I : Type 0) (polls : Polls S I) (tally : Tally) (before : Reading S) (token : Token) (pass : Option Taken) (own : is_own (key_of token) tally.key ≡ true) where
-  -- an event without a pass
-  pub turn_without : pass ≡ None → StreamTurns {P = P} polls tally before token pass [] (Ok Continue) (TakePass ∷ []) tally before
-  turn_without none = rw (own, none) (refl, refl, refl, refl, refl)
-
-  -- an event with one
-  pub turn_answered : (p : Taken) (answered : PassAnswer I) (calls : StreamCalls I) (action : PostAction) (steps : List (PollStep P)) (tally' : Tally) (after : Reading S) → pass ≡ Some p
-      → AnsweredSo polls answered p tally before calls action steps tally' after → StreamTurns polls tally before token pass calls (Ok action) steps tally' after
-  turn_answered p answered calls action steps tally' after some h = rw (own, some) (answered, h)

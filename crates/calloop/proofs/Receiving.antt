@@ -16,7 +16,7 @@ use Rattle.calloop_core.specs.Calls.{CallbackCall, Calling, Went}
 use Rattle.calloop_core.proofs.Calling.{went_on}
 use Rattle.calloop_core.specs.Polls.{PollStep, TakePass}
 use Rattle.calloop.specs.declared.channel.Event.{Event}
-use Rattle.calloop.specs.Channels.{call_of, calls_of, turn_after, tally_after, told_in, ArePops, Handed, ChannelCalls, ChannelTurns, PassAnswer, AnsweredSo}
+use Rattle.calloop.specs.Channels.{call_of, calls_of, turn_after, tally_after, told_in, ArePops, Handed}
 
 or_false : (b : Bool) → (b || false) ≡ b
 or_false true = refl
@@ -93,16 +93,3 @@ over left true h = inr refl
 over zero false h = inl refl
 over (suc left) false h =
     let e : nat_lt 0 (suc left) ≡ false = sym (and-true (nat_lt 0 (suc left))) ∙ h in absurd (grind (arith, nat_tests))
-
--- an event of another token
-pub turn_of_another : (P T : Type 0) (label : LabelView) (tally : Tally) (token : Token) (pass : Option Taken) → is_own (key_of token) tally.key ≡ false → ChannelTurns {P = P} {T = T} label tally token pass [] (Ok Continue) [] tally
-turn_of_another P T label tally token pass other = rw other (refl, refl, refl, refl)
-
-module _ (P T : Type 0) (label : LabelView) (tally : Tally) (token : Token) (pass : Option Taken) (own : is_own (key_of token) tally.key ≡ true) where
-  -- an event without a pass
-  pub turn_without : pass ≡ None → ChannelTurns {P = P} {T = T} label tally token pass [] (Ok Continue) (TakePass ∷ []) tally
-  turn_without none = rw (own, none) (refl, refl, refl, refl)
-
-  -- an event with one
-  pub turn_answered : (p : Taken) (answered : PassAnswer T) (calls : ChannelCalls T) (action : PostAction) (steps : List (PollStep P)) (after : Tally) → pass ≡ Some p → AnsweredSo label answered p tally calls action steps after → ChannelTurns label tally token pass calls (Ok action) steps after
-  turn_answered p answered calls action steps after some h = rw (own, some) (answered, h)

@@ -2,14 +2,14 @@
 use Rattle.std.specs.Prelude.{Ok, Err, is_some}
 use Rattle.std.proofs.Common.{ap}
 use Rattle.calloop_wake.specs.declared.wake.Tally.{Tally}
-use Rattle.calloop_core.specs.Deeds.{Registered, Reregistered, Unregistered, Turned, Slept, Noticed, Heard}
+use Rattle.calloop_core.specs.Deeds.{Registered, Reregistered, Unregistered, Turned, Slept, Noticed}
 use Rattle.calloop_core.specs.Marks.{IsRegisteredBy}
-use Rattle.calloop.specs.CellSources.{CellTurns, cell_meaning}
-use Rattle.calloop.specs.CellKeeping.{TurnsQuietly}
+use Rattle.calloop.specs.CellSources.{OpenTurns, cell_meaning}
+use Rattle.calloop.specs.CellKeeping.{OpensQuietly, turn_quiet}
 
-module _ {S P E M T Cause : Type 0} (tally : S → Tally) (Same : S → S → Type 0) (Turns : CellTurns S P (Heard E M T Cause))
-    (quiet : TurnsQuietly tally Turns) where
-  pub cell_is_registered : IsRegisteredBy (cell_meaning tally Same Turns) (λ s. is_some (tally s).key)
+module _ {S P E M T Cause : Type 0} (tally : S → Tally) (Same : S → S → Type 0) (Opens : OpenTurns S E M T)
+    (quiet : OpensQuietly tally Opens) where
+  pub cell_is_registered : IsRegisteredBy (cell_meaning {P = P} {Cause = Cause} tally Same Opens) (λ s. is_some (tally s).key)
   cell_is_registered s t v (Registered f (Ok u) g) l ok h = ap (λ x. is_some x.key) h.0.2
   cell_is_registered s t v (Registered f (Err e) g) l ok h = (let no = ok in cc)
   cell_is_registered s t v (Reregistered f (Ok u) g) l ok h = ap (λ x. is_some x.key) h.0.2
@@ -18,4 +18,4 @@ module _ {S P E M T Cause : Type 0} (tally : S → Tally) (Same : S → S → Ty
   cell_is_registered s t v (Unregistered (Err e)) l ok h = (let no = ok in cc)
   cell_is_registered s t v (Slept gs a) l ok h = ap (λ (x : S). is_some (tally x).key) h.2
   cell_is_registered s t v (Noticed es) l ok h = ap (λ (x : S). is_some (tally x).key) h.1
-  cell_is_registered s t v (Turned r k turn) l ok h = ap (λ x. is_some x) (quiet s v k turn l (tally t) h.0).key
+  cell_is_registered s t v (Turned r k turn) l ok h = ap (λ x. is_some x) (turn_quiet tally Opens quiet s t k v.pass turn.calls turn.answer l h).key

@@ -1,26 +1,19 @@
 -- What a channel means as a source. Its registrations are those of a ping.
-use Rattle.std.specs.Prelude.{◌≡◌, ℕ, ◌+◌, ◌<◌, ◌⊎◌, Bool, true, false, ◌||◌, List, [], ◌∷◌, ◌++◌, Option, None, Some, Result, Ok, Err}
+use Rattle.std.specs.Prelude.{◌≡◌, ℕ, ◌+◌, ◌<◌, ◌⊎◌, Bool, true, false, ◌||◌, List, [], ◌∷◌, ◌++◌, Option}
 use Rattle.logbook.specs.Pages.{Book}
-use Rattle.calloop_wake.specs.declared.token.Token.{Token}
 use Rattle.calloop_wake.specs.declared.wake.Tally.{Tally}
 use Rattle.calloop_wake.specs.declared.wake.ChannelTurn.{ChannelTurn}
 use Rattle.calloop_wake.specs.declared.wake.channel.Label.{Label}
 use Rattle.calloop_wake.specs.declared.wake.channel.Popped.{Popped}
 use Rattle.calloop_wake.specs.declared.wake.channel.Popped.TheVariants.{Item, Empty, Closed as NoMore}
-use Rattle.calloop_wake.specs.Tokens.{key_of}
-use Rattle.calloop_wake.specs.Passes.{Taken}
-use Rattle.calloop_wake.specs.Cells.{is_own}
 use Rattle.calloop_wake.specs.Channels.{LabelView, pops, is_close, turn_after_pop, tally_after_pop}
-use Rattle.calloop_core.specs.declared.sources.source.PostAction.{PostAction}
-use Rattle.calloop_core.specs.declared.sources.source.PostAction.TheVariants.{Continue}
 use Rattle.calloop_core.specs.Calls.{CallbackCall, Calling, Went}
 use Rattle.calloop_core.specs.Deeds.{Heard}
 use Rattle.calloop_core.specs.Meanings.{Meaning}
-use Rattle.calloop_core.specs.Polls.{PollStep, TakePass, PutBack}
 use Rattle.calloop.specs.declared.channel.Event.{Event}
 use Rattle.calloop.specs.declared.channel.Event.TheVariants.{Msg, Closed}
 use Rattle.calloop.specs.declared.channel.ChannelError.{ChannelError}
-use Rattle.calloop.specs.CellSources.{CellTurns, cell_meaning}
+use Rattle.calloop.specs.CellSources.{OpenTurns, cell_meaning}
 use Rattle.calloop.specs.Pings.{action_of}
 
 -- what is seen of a channel: its tally, and how many messages it holds at most
@@ -32,10 +25,6 @@ pub record ReceivingEnd : Type 0 where
 pub record BoundedEnd : Type 0 where
   pub name : Book
   pub bound : ℕ
-
--- a turn more was opened
-abbrev pub with_turn : ReceivingEnd → ReceivingEnd
-with_turn c = record c { tally = record c.tally { turns = c.tally.turns + 1 } }
 
 -- one message more was handed out
 abbrev pub with_message : ReceivingEnd → ReceivingEnd
@@ -104,55 +93,18 @@ pub record Handed
 abbrev pub fresh_turn : LabelView → ChannelTurn
 fresh_turn label = record { name = label.name; left = pops label.bound; done = false }
 
--- what the cell answers to a pass
-pub data PassAnswer (T : Type 0) : Type 0 where
-  -- a turn, with what its pops gave
-  Opened : (popped : List (Popped T)) → PassAnswer T
-  -- no turn: the pass is of another key, or a turn stands open
-  Refused : PassAnswer T
-
--- The callback is called with the messages of the turn's pops in order, and then with the close where it is told, which removes
--- the source; the tally counts just these. A turn goes on to a pop that finds no message, or makes all that it may. calloop's
--- process_events is this loop over its queue.
-abbrev pub AnsweredSo : {P T : Type 0} → LabelView → PassAnswer T → Taken → Tally → ChannelCalls T → PostAction
-    → List (PollStep P) → Tally → Type 0
-AnsweredSo label (Opened popped) p tally calls action steps after =
-    ArePops popped (fresh_turn label) × IsOver (turn_after popped (fresh_turn label))
-    × (calls ≡ calls_of popped) × (action ≡ action_of (told_in popped)) × (steps ≡ TakePass ∷ [])
-    × (after ≡ tally_after popped (record tally { turns = tally.turns + 1 }))
-AnsweredSo label Refused p tally calls action steps after =
-    (calls ≡ []) × (action ≡ Continue)
-    × (steps ≡ TakePass ∷ PutBack (record p { refused = Some tally.name }) ∷ []) × (after ≡ tally)
-
-abbrev pub ChannelTurnWith : {P T : Type 0} → LabelView → Option Taken → Tally → ChannelCalls T → PostAction
-    → List (PollStep P) → Tally → Type 0
-ChannelTurnWith label None tally calls action steps after =
-    (calls ≡ []) × (action ≡ Continue) × (steps ≡ TakePass ∷ []) × (after ≡ tally)
-ChannelTurnWith {P} {T} label (Some p) tally calls action steps after =
-    (answered : PassAnswer T) × AnsweredSo label answered p tally calls action steps after
-
-abbrev pub ChannelTurnFor : {P T : Type 0} → LabelView → (is_own : Bool) → Option Taken → Tally → ChannelCalls T
-    → PostAction → List (PollStep P) → Tally → Type 0
-ChannelTurnFor label true pass tally calls action steps after =
-    ChannelTurnWith label pass tally calls action steps after
-ChannelTurnFor label false pass tally calls action steps after =
-    (calls ≡ []) × (action ≡ Continue) × (steps ≡ []) × (after ≡ tally)
-
--- a turn, which never fails
-abbrev pub ChannelTurns : {P T : Type 0} → LabelView → Tally → Token → Option Taken → ChannelCalls T
-    → Result PostAction ChannelError → List (PollStep P) → Tally → Type 0
-ChannelTurns label tally token pass calls (Ok action) steps after =
-    ChannelTurnFor label (is_own (key_of token) tally.key) pass tally calls action steps after
-ChannelTurns label tally token pass calls (Err e) steps after = ⊥
-
 -- what never changes of a channel's cell
 abbrev pub label_of : ReceivingEnd → LabelView
 label_of c = record { name = c.tally.name; bound = c.bound }
 
--- a turn of a channel
-abbrev pub ChannelTakes : {P T : Type 0} → CellTurns ReceivingEnd P (Heard (Event T) (Unit {0}) (Unit {0}) ChannelError)
-ChannelTakes c v token turn steps after =
-    ChannelTurns (label_of c) c.tally token v.pass turn.calls turn.answer steps after
+-- A turn makes pops up to one that finds no message, or all that it may. The callback is called with their messages in order, and then
+-- with the close where it is told, which removes the source; the tally counts just these. calloop's process_events is this loop over
+-- its queue.
+abbrev pub ChannelOpens : {T : Type 0} → OpenTurns ReceivingEnd (Event T) (Unit {0}) (Unit {0})
+ChannelOpens {T} c calls action after =
+    (popped : List (Popped T)) × ArePops popped (fresh_turn (label_of c)) × IsOver (turn_after popped (fresh_turn (label_of c)))
+    × (calls ≡ calls_of popped) × (action ≡ action_of (told_in popped))
+    × (after ≡ record c { tally = tally_after popped (record c.tally { turns = c.tally.turns + 1 }) })
 
 abbrev pub channel_tally : ReceivingEnd → Tally
 channel_tally c = c.tally
@@ -163,4 +115,4 @@ SameChannel before after = label_of after ≡ label_of before
 
 abbrev pub channel_meaning : {P T : Type 0}
     → Meaning ReceivingEnd P (Heard (Event T) (Unit {0}) (Unit {0}) ChannelError)
-channel_meaning = cell_meaning channel_tally SameChannel ChannelTakes
+channel_meaning = cell_meaning channel_tally SameChannel ChannelOpens

@@ -1,21 +1,16 @@
 -- What an executor means as a source. Its registrations are those of every cell.
-use Rattle.std.specs.Prelude.{◌≡◌, ℕ, ◌+◌, ◌≤◌, Bool, true, false, List, [], ◌∷◌, ◌++◌, length, Option, None, Some, Result, Ok, Err}
-use Rattle.calloop_wake.specs.declared.token.Token.{Token}
+use Rattle.std.specs.Prelude.{◌≡◌, ℕ, ◌+◌, ◌≤◌, Bool, true, false, List, [], ◌∷◌, ◌++◌, length}
 use Rattle.calloop_wake.specs.declared.wake.Tally.{Tally}
-use Rattle.calloop_wake.specs.Tokens.{key_of}
-use Rattle.calloop_wake.specs.Passes.{Taken}
-use Rattle.calloop_wake.specs.Cells.{one, is_own}
+use Rattle.calloop_wake.specs.Cells.{one}
 use Rattle.calloop_wake.specs.Executors.{most_tasks}
-use Rattle.calloop_core.specs.declared.sources.source.PostAction.{PostAction}
 use Rattle.calloop_core.specs.declared.sources.source.PostAction.TheVariants.{Continue}
 use Rattle.calloop_core.specs.Calls.{CallbackCall}
 use Rattle.calloop_core.specs.Deeds.{Heard}
 use Rattle.calloop_core.specs.Meanings.{Meaning}
-use Rattle.calloop_core.specs.Polls.{PollStep, TakePass, PutBack}
 use Rattle.calloop.specs.declared.futures.errors.ExecutorError.{ExecutorError}
 use Rattle.calloop.specs.declared.futures.task.Poll.{Poll}
 use Rattle.calloop.specs.declared.futures.task.Poll.TheVariants.{Ready, Pending}
-use Rattle.calloop.specs.CellSources.{CellTurns, cell_meaning}
+use Rattle.calloop.specs.CellSources.{OpenTurns, cell_meaning}
 
 -- the calls of an executor's callback, by what its futures give
 abbrev pub ResultCalls : Type 0 → Type 0
@@ -72,50 +67,13 @@ abbrev pub AllGiven : {O : Type 0} → (given : OfPop O → Type 0) → List (Of
 AllGiven given [] = Unit {0}
 AllGiven given (p ∷ ps) = given p × AllGiven given ps
 
--- what the cell answers to a pass
-pub data PassAnswer (O : Type 0) : Type 0 where
-  -- a turn, with what the polls of its tasks gave
-  Opened : (polled : List (OfPop O)) → PassAnswer O
-  -- no turn: the pass is of another key, or a turn stands open
-  Refused : PassAnswer O
-
 -- At most 1,024 tasks are polled, in queue order, and the callback is called with each result, one that some future of the executor's type
 -- may give; the tally counts just these. The source always goes on. calloop's process_events is this loop over its runnables.
-abbrev pub AnsweredSo : {P O : Type 0} → (given : OfPop O → Type 0) → PassAnswer O → Taken → Tally → ResultCalls O → PostAction
-    → List (PollStep P) → Tally → Type 0
-AnsweredSo given (Opened polled) p tally calls action steps after =
-    (length polled ≤ most_tasks) × (calls ≡ calls_of polled) × (action ≡ Continue) × (steps ≡ TakePass ∷ [])
+abbrev pub ExecutorOpens : {O : Type 0} → (given : OfPop O → Type 0) → OpenTurns Tally O (Unit {0}) (Unit {0})
+ExecutorOpens {O} given tally calls action after =
+    (polled : List (OfPop O)) × (length polled ≤ most_tasks) × (calls ≡ calls_of polled) × (action ≡ Continue)
     × (after ≡ record tally { turns = tally.turns + 1; number = tally.number + results_of polled; misses = tally.misses + misses_of polled })
     × AllGiven given polled
-AnsweredSo given Refused p tally calls action steps after =
-    (calls ≡ []) × (action ≡ Continue)
-    × (steps ≡ TakePass ∷ PutBack (record p { refused = Some tally.name }) ∷ []) × (after ≡ tally)
-
-abbrev pub ExecutorTurnWith : {P O : Type 0} → (given : OfPop O → Type 0) → Option Taken → Tally → ResultCalls O → PostAction
-    → List (PollStep P) → Tally → Type 0
-ExecutorTurnWith given None tally calls action steps after =
-    (calls ≡ []) × (action ≡ Continue) × (steps ≡ TakePass ∷ []) × (after ≡ tally)
-ExecutorTurnWith {P} {O} given (Some p) tally calls action steps after =
-    (answered : PassAnswer O) × AnsweredSo given answered p tally calls action steps after
-
-abbrev pub ExecutorTurnFor : {P O : Type 0} → (given : OfPop O → Type 0) → (is_own : Bool) → Option Taken → Tally → ResultCalls O
-    → PostAction → List (PollStep P) → Tally → Type 0
-ExecutorTurnFor given true pass tally calls action steps after = ExecutorTurnWith given pass tally calls action steps after
-ExecutorTurnFor given false pass tally calls action steps after =
-    (calls ≡ []) × (action ≡ Continue) × (steps ≡ []) × (after ≡ tally)
-
--- a turn, which never fails: under another token nothing, without a pass nothing, else by what the cell answers to the pass
-abbrev pub ExecutorTurns : {P O : Type 0} → (given : OfPop O → Type 0) → Tally → Token → Option Taken → ResultCalls O
-    → Result PostAction ExecutorError → List (PollStep P) → Tally → Type 0
-ExecutorTurns given tally token pass calls (Ok action) steps after =
-    ExecutorTurnFor given (is_own (key_of token) tally.key) pass tally calls action steps after
-ExecutorTurns given tally token pass calls (Err e) steps after = ⊥
-
--- a turn of an executor
-abbrev pub ExecutorTakes : {P O : Type 0} → (given : OfPop O → Type 0)
-    → CellTurns Tally P (Heard O (Unit {0}) (Unit {0}) ExecutorError)
-ExecutorTakes given tally v token turn steps after =
-    ExecutorTurns given tally token v.pass turn.calls turn.answer steps after
 
 -- an executor is seen as its tally
 abbrev pub executor_tally : Tally → Tally
@@ -127,4 +85,4 @@ SameExecutor before after = after.name ≡ before.name
 
 abbrev pub executor_meaning : {P O : Type 0} → (given : OfPop O → Type 0)
     → Meaning Tally P (Heard O (Unit {0}) (Unit {0}) ExecutorError)
-executor_meaning given = cell_meaning executor_tally SameExecutor (ExecutorTakes given)
+executor_meaning given = cell_meaning executor_tally SameExecutor (ExecutorOpens given)

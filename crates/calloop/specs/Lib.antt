@@ -36,6 +36,7 @@ pub mod RearmedRun
 pub mod Handles
 pub mod StreamReads
 pub mod Streams
+pub mod StreamKeeping
 pub mod Blocking
 pub mod Timeouts
 pub mod Refusals

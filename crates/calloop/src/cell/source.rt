@@ -1,22 +1,104 @@
-//! What registers, moves and takes back the key of a cell whose receiving end is a source of the loop, for every kind of cell.
-ghost use Rattle.std.specs.Prelude.{◌≡◌, []};
+//! The receiving end of a cell as a source of the loop, for every kind of cell: its turn, and what registers, moves and takes back its
+//! key.
+ghost use Rattle.std.specs.Prelude.{◌≡◌, List, []};
 ghost use Rattle.calloop_wake.specs.Tokens.{key_of};
 ghost use Rattle.calloop_wake.specs.Cells.{is_own};
-ghost use Rattle.calloop.specs.CellSources.{Registers, RegistersAnew, Unregisters};
+ghost use Rattle.calloop_core.specs.Polls.{poll_view};
+ghost use Rattle.calloop_core.specs.Calls.{CallbackCall, Went};
+ghost use Rattle.calloop.specs.CellSources.{Registers, RegistersAnew, Unregisters, TakesTurn};
 
 use super::{Cell, attach, detach};
+use calloop_core::sources::{Asking, Callback, PostAction};
 use calloop_core::sys::Poller;
 use calloop_core::sys::poll::Poll;
 use calloop_wake::error::{Error, Result as LoopResult};
 use calloop_wake::token::{Token, TokenFactory};
-use calloop_wake::wake::Tally;
 use calloop_wake::wake::cell::CellCore;
 use calloop_wake::wake::locked::Locked;
+use calloop_wake::wake::{TakenPass, Tally};
 use std::io;
 use std::sync::Wait;
 
+/// A source that is the receiving end of a cell: what its kind of cell does in a turn. All else of a turn is `take_turn`.
+pub(crate) trait CellSource {
+    ghost use Rattle.std.specs.Prelude.{◌≡◌, List, [], Some, IfOk, IfErr};
+    ghost use Rattle.calloop_wake.specs.declared.wake.Tally.{Tally};
+    ghost use Rattle.calloop_core.specs.Calls.{CallbackCall, Went};
+    ghost use Rattle.calloop.specs.CellSources.{OpenTurns};
+
+    /// What its callback is called with.
+    type Event;
+
+    ghost tally_of: { Self → Tally };
+
+    /// What a turn does that its cell opens.
+    ghost opens: { OpenTurns Self Self.Event (Unit {0}) (Unit {0}) };
+
+    fn tally(&self) -> &Tally
+        ensures { result.now ≡ tally_of self.now };
+
+    /// A turn of its cell, from its opening to its end. The pass comes back as refused where the cell opens none.
+    fn open_turn<F, X, Q>(
+        &mut self,
+        pass: TakenPass,
+        callback: &mut F,
+        data: &mut X,
+        requests: &mut Q,
+    ) -> Result<PostAction, TakenPass>
+    where
+        Q: Asking,
+        F: Callback<Self::Event, (), (), X, Q>,
+        ensures ok { IfOk result (λ action.
+            (calls : List (CallbackCall Self.Event (Unit {0}) (Unit {0})))
+            × opens self.old calls action self.new
+            × Went F.may Q.reaches callback.old «data».old requests.old calls
+            callback.new «data».new requests.new) }
+        ensures err { IfErr result (λ refused.
+            (refused ≡ record pass { refused = Some (tally_of self.old).name })
+            × (self.new ≡ self.old)
+            × Went F.may Q.reaches callback.old «data».old requests.old []
+            callback.new «data».new requests.new) };
+}
+
+/// Its turn, for an event of this token. An event of another token, or without a posted key behind it, does nothing, and a pass
+/// that the cell refuses is put back.
+pub(crate) fn take_turn<K, E, P, C, R, F, X, Q>(
+    source: &mut K,
+    token: Token,
+    poll: &mut Poll<P, C, R>,
+    callback: &mut F,
+    data: &mut X,
+    requests: &mut Q,
+) -> Result<PostAction, E>
+where
+    K: CellSource,
+    P: Poller,
+    R: Wait + Drop,
+    Q: Asking,
+    F: Callback<K::Event, (), (), X, Q>,
+    ensures { (calls : List (CallbackCall K.Event (Unit {0}) (Unit {0})))
+        × TakesTurn P.outside K.tally_of K.opens token source.old (poll_view poll.old)
+        calls result source.new (poll_view poll.new)
+        × Went F.may Q.reaches callback.old «data».old requests.old calls
+        callback.new «data».new requests.new }
+{
+    if !is_mine(source.tally(), token) {
+        return Ok(PostAction::Continue);
+    }
+    let Some(pass) = poll.take_pass() else {
+        return Ok(PostAction::Continue);
+    };
+    match source.open_turn(pass, callback, data, requests) {
+        Ok(action) => Ok(action),
+        Err(pass) => {
+            poll.put_back(pass);
+            Ok(PostAction::Continue)
+        }
+    }
+}
+
 /// Whether the cell has the key of this token.
-pub(crate) fn is_mine(tally: &Tally, token: Token) -> bool
+fn is_mine(tally: &Tally, token: Token) -> bool
     ensures { result ≡ is_own (key_of token) tally.now.key }
 {
     tally.key() == Some(token.key())

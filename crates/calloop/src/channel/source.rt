@@ -1,15 +1,13 @@
 //! A channel as a source of the loop.
-ghost use Rattle.std.specs.Prelude.{◌≡◌, ◌<◌, List, Some, IfOk, IfErr};
-ghost use Rattle.calloop_wake.specs.Tokens.{key_of};
-ghost use Rattle.calloop_wake.specs.Cells.{is_own};
+ghost use Rattle.std.specs.Prelude.{◌≡◌, ◌<◌, List};
 ghost use Rattle.calloop_wake.specs.Channels.{turn_after_pop, tally_after_pop, is_close};
 ghost use Rattle.calloop_wake.specs.declared.wake.channel.Popped.{Popped};
 ghost use Rattle.calloop_core.specs.Calls.{Went};
-ghost use Rattle.calloop.specs.Channels.{call_of, fresh_turn, label_of, with_turn, turn_after, IsOver, Handed};
+ghost use Rattle.calloop.specs.Channels.{call_of, turn_after, IsOver, Handed};
 
 use super::cell::{self, ChannelCell};
 use super::{Channel, ChannelError, Event};
-use crate::cell::source::{is_mine, register, reregister, unregister};
+use crate::cell::source::{CellSource, register, reregister, take_turn, unregister};
 use crate::ping::source::action_of;
 use calloop_core::sources::{Asking, Callback, EventSource, IntoError, PostAction};
 use calloop_core::sys::events::EventIterator;
@@ -106,51 +104,35 @@ where
     told
 }
 
-impl<T: Drop, R: Wait + Drop> Channel<T, R> {
-    // Whether the token is that under which it is registered.
-    fn is_own(&self, token: Token) -> bool
-        ensures { result ≡ is_own (key_of token) self.now.tally.key }
-    {
-        is_mine(&self.tally, token)
+impl<T: Drop, R: Wait + Drop> CellSource for Channel<T, R> {
+    ghost use Rattle.calloop.specs.Channels.{ChannelOpens, channel_tally};
+
+    type Event = Event<T>;
+
+    ghost tally_of = { channel_tally };
+
+    ghost opens = { ChannelOpens };
+
+    fn tally(&self) -> &Tally {
+        &self.tally
     }
 
-    // Opens a turn of its cell. The pass comes back as refused where it opens none.
-    fn open_turn(&mut self, pass: TakenPass) -> Result<ChannelTurn, TakenPass>
-        ensures ok { IfOk result (λ turn.
-            (turn ≡ fresh_turn (label_of self.old)) × (self.new ≡ with_turn self.old)) }
-        ensures err { IfErr result (λ refused.
-            (refused ≡ record pass { refused = Some self.old.tally.name })
-            × (self.new ≡ self.old)) }
-    {
-        cell::open_turn(&self.rt, &self.shared, &mut self.tally, pass)
-    }
-
-    // The pops of a turn. Whether the close was told.
-    fn hand_out<F, X, Q>(
+    /// Calls back with the messages of the turn's pops. The close removes the source.
+    fn open_turn<F, X, Q>(
         &mut self,
-        turn: ChannelTurn,
+        pass: TakenPass,
         callback: &mut F,
         data: &mut X,
         requests: &mut Q,
-    ) -> bool
+    ) -> Result<PostAction, TakenPass>
     where
         Q: Asking,
         F: Callback<Event<T>, (), (), X, Q>,
-        requires { turn.name ≡ self.old.tally.name }
-        ensures label { label_of self.new ≡ label_of self.old }
-        ensures handed { (ps : List (Popped T)) × IsOver (turn_after ps turn)
-            × Handed F.may Q.reaches turn self.old.tally callback.old «data».old requests.old ps
-            (turn_after ps turn) self.new.tally result callback.new «data».new requests.new }
     {
-        hand_out(
-            &self.rt,
-            &self.shared,
-            &mut self.tally,
-            turn,
-            callback,
-            data,
-            requests,
-        )
+        let (rt, shared, tally) = (&self.rt, &self.shared, &mut self.tally);
+        let turn = cell::open_turn(rt, shared, tally, pass)?;
+        let told = hand_out(rt, shared, tally, turn, callback, data, requests);
+        Ok(action_of(told))
     }
 }
 
@@ -184,22 +166,7 @@ impl<T: Drop, P: Poller, C, R: Wait + Drop> EventSource<P, C, R> for Channel<T, 
         Q: Asking,
         F: Callback<Event<T>, (), (), X, Q>,
     {
-        if !self.is_own(token) {
-            return Ok(PostAction::Continue);
-        }
-        let Some(pass) = poll.take_pass() else {
-            return Ok(PostAction::Continue);
-        };
-        match self.open_turn(pass) {
-            Ok(turn) => {
-                let told = self.hand_out(turn, callback, data, requests);
-                Ok(action_of(told))
-            }
-            Err(pass) => {
-                poll.put_back(pass);
-                Ok(PostAction::Continue)
-            }
-        }
+        take_turn(self, token, poll, callback, data, requests)
     }
 
     /// Registers the channel under the factory's next token. One that holds a message or was closed before is posted at once.

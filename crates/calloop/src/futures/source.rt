@@ -1,7 +1,6 @@
 //! An executor as a source of the loop.
-ghost use Rattle.std.specs.Prelude.{◌≡◌, ◌≤◌, ◌+◌, List, length, Some, IfOk, IfErr};
-ghost use Rattle.calloop_wake.specs.Tokens.{key_of};
-ghost use Rattle.calloop_wake.specs.Cells.{one, is_own};
+ghost use Rattle.std.specs.Prelude.{◌≡◌, ◌≤◌, ◌+◌, List, length};
+ghost use Rattle.calloop_wake.specs.Cells.{one};
 ghost use Rattle.calloop_wake.specs.Executors.{at_start, most_tasks};
 ghost use Rattle.calloop_core.specs.Calls.{Went};
 ghost use Rattle.calloop.specs.Executors.{OfPop, gave, lacks, ComesOf, AllGiven, call_of, calls_of, results_of, misses_of};
@@ -10,7 +9,7 @@ use super::cell::{self, TaskCell};
 use super::errors::ExecutorError;
 use super::task::{Future, Pollable};
 use super::{Executor, homes};
-use crate::cell::source::{is_mine, register, reregister, unregister};
+use crate::cell::source::{CellSource, register, reregister, take_turn, unregister};
 use calloop_core::sources::{Asking, Callback, EventSource, IntoError, PostAction};
 use calloop_core::sys::events::EventIterator;
 use calloop_core::sys::poll::Poll;
@@ -117,56 +116,44 @@ where
     cell::end_turn(rt, shared, tally, turn, finished);
 }
 
-impl<Fut: Future<R>, R: Wait + Drop> Executor<Fut, R> {
-    // Whether the token is that under which it is registered.
-    fn is_own(&self, token: Token) -> bool
-        ensures { result ≡ is_own (key_of token) self.now.key }
-    {
-        is_mine(&self.tally, token)
+impl<Fut: Future<R>, R: Wait + Drop> CellSource for Executor<Fut, R> {
+    ghost use Rattle.calloop.specs.Executors.{ComesOf, ExecutorOpens, executor_tally};
+
+    type Event = Fut::Output;
+
+    ghost tally_of = { executor_tally };
+
+    ghost opens = { ExecutorOpens (ComesOf Fut.gives Fut.polls) };
+
+    fn tally(&self) -> &Tally {
+        &self.tally
     }
 
-    // Opens a turn of its cell. The pass comes back as refused where it opens none.
-    fn open_turn(&mut self, pass: TakenPass) -> Result<TaskTurn, TakenPass>
-        ensures ok { IfOk result (λ turn.
-            (turn ≡ record { name = self.old.name; progress = at_start })
-            × (self.new ≡ record self.old { turns = self.old.turns + 1 })) }
-        ensures err { IfErr result (λ refused.
-            (refused ≡ record pass { refused = Some self.old.name }) × (self.new ≡ self.old)) }
-    {
-        cell::open_turn(&self.rt, &self.shared, &mut self.tally, pass)
-    }
-
-    // The pops of a turn, each with its poll.
-    fn run_tasks<F, X, Q>(
+    /// Polls the tasks of the turn's pops, and calls back with each result.
+    fn open_turn<F, X, Q>(
         &mut self,
-        turn: TaskTurn,
+        pass: TakenPass,
         callback: &mut F,
         data: &mut X,
         requests: &mut Q,
-    )
+    ) -> Result<PostAction, TakenPass>
     where
         Q: Asking,
         F: Callback<Fut::Output, (), (), X, Q>,
-        requires { turn ≡ record { name = self.old.name; progress = at_start } }
-        ensures { (polled : List (OfPop Fut.Output)) × (length polled ≤ most_tasks)
-            × (self.new ≡ record self.old {
-              number = self.old.number + results_of polled;
-              misses = self.old.misses + misses_of polled;
-            })
-            × AllGiven (ComesOf Fut.gives Fut.polls) polled
-            × Went F.may Q.reaches callback.old «data».old requests.old (calls_of polled)
-            callback.new «data».new requests.new }
     {
+        let (rt, shared, tally) = (&self.rt, &self.shared, &mut self.tally);
+        let turn = cell::open_turn(rt, shared, tally, pass)?;
         run_tasks(
-            &self.rt,
-            &self.shared,
+            rt,
+            shared,
             &self.homes,
-            &mut self.tally,
+            tally,
             turn,
             callback,
             data,
             requests,
         );
+        Ok(PostAction::Continue)
     }
 }
 
@@ -201,17 +188,7 @@ impl<Fut: Future<R>, P: Poller, C, R: Wait + Drop> EventSource<P, C, R> for Exec
         Q: Asking,
         F: Callback<Fut::Output, (), (), X, Q>,
     {
-        if !self.is_own(token) {
-            return Ok(PostAction::Continue);
-        }
-        let Some(pass) = poll.take_pass() else {
-            return Ok(PostAction::Continue);
-        };
-        match self.open_turn(pass) {
-            Ok(turn) => self.run_tasks(turn, callback, data, requests),
-            Err(pass) => poll.put_back(pass),
-        }
-        Ok(PostAction::Continue)
+        take_turn(self, token, poll, callback, data, requests)
     }
 
     /// Registers the executor under the factory's next token. One with queued tasks is posted at once.

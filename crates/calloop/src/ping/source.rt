@@ -1,14 +1,11 @@
 //! A ping as a source of the loop.
-ghost use Rattle.std.specs.Prelude.{◌≡◌, Some, IfOk, IfErr, is_some};
-ghost use Rattle.calloop_wake.specs.Tokens.{key_of};
-ghost use Rattle.calloop_wake.specs.Cells.{is_own};
+ghost use Rattle.std.specs.Prelude.{◌≡◌, is_some};
 ghost use Rattle.calloop_core.specs.Calls.{Went};
 ghost use Rattle.calloop_core.specs.Marks.{IsRegisteredBy};
-ghost use Rattle.calloop.specs.Pings.{calls_of, action_of, tally_opened, ping_meaning};
+ghost use Rattle.calloop.specs.Pings.{calls_of, action_of, ping_meaning};
 
-use super::PingSource;
-use super::cell::{self, Due};
-use crate::cell::source::{is_mine, register, reregister, unregister};
+use super::{PingSource, cell};
+use crate::cell::source::{CellSource, register, reregister, take_turn, unregister};
 use calloop_core::sources::{Asking, Callback, EventSource, IntoError, PostAction};
 use calloop_core::sys::events::EventIterator;
 use calloop_core::sys::poll::Poll;
@@ -16,7 +13,7 @@ use calloop_core::sys::synthetic::Synthetic;
 use calloop_core::sys::{Poller, Readiness};
 use calloop_wake::error::{Error, Result as LoopResult};
 use calloop_wake::token::{Token, TokenFactory};
-use calloop_wake::wake::TakenPass;
+use calloop_wake::wake::{TakenPass, Tally};
 use std::sync::Wait;
 use thiserror::Error as ThisError;
 
@@ -72,22 +69,34 @@ pub fn is_registered_by_its_calls<P: Poller, R: Wait + Drop>()
     ensures { IsRegisteredBy (ping_meaning {P = P}) (λ tally. is_some tally.key) }
 {}
 
-impl<R: Wait + Drop> PingSource<R> {
-    // Whether the token is that under which it is registered.
-    pub(crate) fn is_own(&self, token: Token) -> bool
-        ensures { result ≡ is_own (key_of token) self.now.key }
-    {
-        is_mine(&self.tally, token)
+impl<R: Wait + Drop> CellSource for PingSource<R> {
+    ghost use Rattle.calloop.specs.Pings.{PingOpens, ping_tally};
+
+    type Event = ();
+
+    ghost tally_of = { ping_tally };
+
+    ghost opens = { PingOpens };
+
+    fn tally(&self) -> &Tally {
+        &self.tally
     }
 
-    // A turn of its cell. The pass comes back as refused where it opens none.
-    pub(crate) fn take_turn(&mut self, pass: TakenPass) -> Result<Due, TakenPass>
-        ensures name { self.new.name ≡ self.old.name }
-        ensures ok { IfOk result (λ due. self.new ≡ tally_opened due.rung due.told self.old) }
-        ensures err { IfErr result (λ refused.
-            (refused ≡ record pass { refused = Some self.old.name }) × (self.new ≡ self.old)) }
+    /// Calls back once where a ping stands, and removes the source where the last `Ping` is gone.
+    fn open_turn<F, X, Q>(
+        &mut self,
+        pass: TakenPass,
+        callback: &mut F,
+        data: &mut X,
+        requests: &mut Q,
+    ) -> Result<PostAction, TakenPass>
+    where
+        Q: Asking,
+        F: Callback<(), (), (), X, Q>,
     {
-        cell::take_turn(&self.rt, &self.shared, &mut self.tally, pass)
+        let due = cell::take_turn(&self.rt, &self.shared, &mut self.tally, pass)?;
+        call_if(due.rung, callback, data, requests);
+        Ok(action_of(due.told))
     }
 }
 
@@ -120,22 +129,7 @@ impl<P: Poller, C, R: Wait + Drop> EventSource<P, C, R> for PingSource<R> {
         Q: Asking,
         F: Callback<(), (), (), X, Q>,
     {
-        if !self.is_own(token) {
-            return Ok(PostAction::Continue);
-        }
-        let Some(pass) = poll.take_pass() else {
-            return Ok(PostAction::Continue);
-        };
-        match self.take_turn(pass) {
-            Ok(due) => {
-                call_if(due.rung, callback, data, requests);
-                Ok(action_of(due.told))
-            }
-            Err(pass) => {
-                poll.put_back(pass);
-                Ok(PostAction::Continue)
-            }
-        }
+        take_turn(self, token, poll, callback, data, requests)
     }
 
     /// Registers the ping under the factory's next token. One that was rung or closed before is posted at once.

@@ -1,19 +1,16 @@
 //! A stream as a source of the loop.
-ghost use Rattle.std.specs.Prelude.{◌≡◌, List, length, Some, IfOk, IfErr};
-ghost use Rattle.calloop_wake.specs.Tokens.{key_of};
-ghost use Rattle.calloop_wake.specs.Cells.{is_own};
+ghost use Rattle.std.specs.Prelude.{◌≡◌, List, length};
 ghost use Rattle.calloop_core.specs.Calls.{Went};
 ghost use Rattle.calloop.specs.StreamReads.{ReadsTo, left_by};
-ghost use Rattle.calloop.specs.Streams.{StreamCalls, calls_of, action_of, with_stream_turn, EndsSo, RingsItself, ReadsSo};
+ghost use Rattle.calloop.specs.Streams.{StreamCalls, calls_of, action_of, EndsSo, RingsItself, ReadsSo};
 ghost use Rattle.calloop.specs.declared.stream.reading.Readable.{Readable};
 ghost use Rattle.std.specs.Option.{option_map};
 ghost use Rattle.calloop.specs.declared.stream.reading.Ending.{Ending};
 
 use super::reading::{Ending, Read, Readable, Stream};
 use super::{StreamError, StreamSource};
-use crate::cell::source::{register, reregister, unregister};
-use crate::ping::Ping;
-use crate::ping::cell::Due;
+use crate::cell::source::{CellSource, register, reregister, take_turn, unregister};
+use crate::ping::{Ping, cell};
 use calloop_core::sources::{Asking, Callback, EventSource, PostAction};
 use calloop_core::sys::events::EventIterator;
 use calloop_core::sys::poll::Poll;
@@ -21,7 +18,7 @@ use calloop_core::sys::synthetic::Synthetic;
 use calloop_core::sys::{Poller, Readiness};
 use calloop_wake::error::Result as LoopResult;
 use calloop_wake::token::{Token, TokenFactory};
-use calloop_wake::wake::{Receipt, TakenPass};
+use calloop_wake::wake::{Receipt, TakenPass, Tally};
 use std::sync::Wait;
 
 // The most items of one turn.
@@ -86,24 +83,6 @@ fn action_of(ending: Ending) -> PostAction
 }
 
 impl<S: Stream<R>, R: Wait + Drop> StreamSource<S, R> {
-    // Whether the token is that under which it is registered.
-    fn is_own(&self, token: Token) -> bool
-        ensures { result ≡ is_own (key_of token) self.now.tally.key }
-    {
-        self.source.is_own(token)
-    }
-
-    // A turn of its ping's cell. The pass comes back as refused where it opens none.
-    fn take_turn(&mut self, pass: TakenPass) -> Result<Due, TakenPass>
-        ensures name { self.new.tally.name ≡ self.old.tally.name }
-        ensures ok { IfOk result (λ due. self.new ≡ with_stream_turn due.rung due.told self.old) }
-        ensures err { IfErr result (λ refused.
-            (refused ≡ record pass { refused = Some self.old.tally.name })
-            × (self.new ≡ self.old)) }
-    {
-        self.source.take_turn(pass)
-    }
-
     // What an opened turn does: one that took a ring reads the stream, unless its end was told before.
     fn listen<F, X, Q>(
         &mut self,
@@ -135,9 +114,40 @@ impl<S: Stream<R>, R: Wait + Drop> StreamSource<S, R> {
     }
 }
 
+impl<S: Stream<R>, R: Wait + Drop> CellSource for StreamSource<S, R> {
+    ghost use Rattle.calloop.specs.Streams.{StreamOpens, stream_tally};
+
+    type Event = Option<S::Item>;
+
+    ghost tally_of = { stream_tally };
+
+    ghost opens = { StreamOpens S.polls };
+
+    fn tally(&self) -> &Tally {
+        self.source.tally()
+    }
+
+    /// Reads the stream, where its ping stands.
+    fn open_turn<F, X, Q>(
+        &mut self,
+        pass: TakenPass,
+        callback: &mut F,
+        data: &mut X,
+        requests: &mut Q,
+    ) -> Result<PostAction, TakenPass>
+    where
+        Q: Asking,
+        F: Callback<Option<S::Item>, (), (), X, Q>,
+    {
+        let source = &mut self.source;
+        let due = cell::take_turn(&source.rt, &source.shared, &mut source.tally, pass)?;
+        Ok(self.listen(due.rung, callback, data, requests))
+    }
+}
+
 impl<S: Stream<R>, P: Poller, C, R: Wait + Drop> EventSource<P, C, R> for StreamSource<S, R> {
-    ghost use Rattle.std.specs.Prelude.{◌≡◌};
-    ghost use Rattle.calloop.specs.Streams.{stream_meaning, stream_keeps};
+    ghost use Rattle.calloop.specs.Streams.{stream_meaning};
+    ghost use Rattle.calloop.specs.StreamKeeping.{stream_keeps};
 
     type Event = Option<S::Item>;
 
@@ -147,7 +157,7 @@ impl<S: Stream<R>, P: Poller, C, R: Wait + Drop> EventSource<P, C, R> for Stream
 
     type Error = StreamError;
 
-    ghost means = { stream_meaning S.polls (λ s. s.tally) (λ s. s.reading) (λ s t. t.tally.name ≡ s.tally.name) };
+    ghost means = { stream_meaning S.polls };
 
     /// Its turn: where its ping stands, polls the stream and calls back with each item, until it is pending, or at most 1,024 times; then
     /// it asks for another turn. The end is called back as `None`, once, and removes the source. An event of another token, or without a
@@ -165,19 +175,7 @@ impl<S: Stream<R>, P: Poller, C, R: Wait + Drop> EventSource<P, C, R> for Stream
         Q: Asking,
         F: Callback<Option<S::Item>, (), (), X, Q>,
     {
-        if !self.is_own(token) {
-            return Ok(PostAction::Continue);
-        }
-        let Some(pass) = poll.take_pass() else {
-            return Ok(PostAction::Continue);
-        };
-        match self.take_turn(pass) {
-            Ok(due) => Ok(self.listen(due.rung, callback, data, requests)),
-            Err(pass) => {
-                poll.put_back(pass);
-                Ok(PostAction::Continue)
-            }
-        }
+        take_turn(self, token, poll, callback, data, requests)
     }
 
     /// Registers the stream under the factory's next token. One that was woken before is posted at once.
@@ -223,5 +221,5 @@ impl<S: Stream<R>, P: Poller, C, R: Wait + Drop> EventSource<P, C, R> for Stream
 
     fn before_handle_events(&mut self, _events: EventIterator<'_>) {}
 
-    ghost keeps = { stream_keeps S.polls (λ s. s.tally) (λ s. s.reading) (λ s t. t.tally.name ≡ s.tally.name) };
+    ghost keeps = { stream_keeps S.polls };
 }
