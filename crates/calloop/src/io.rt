@@ -13,7 +13,7 @@ ghost use Rattle.calloop.specs.declared.io.notes.PollNote.TheVariants.{Waits, Tr
 
 use crate::futures::{Context, Poll, Waker};
 use calloop_core::sys::{Interest, Poller};
-use calloop_wake::error::Result as LoopResult;
+use calloop_wake::error::{InsertError, Result as LoopResult};
 use calloop_wake::token::RegistrationToken;
 use shared::PollEnd;
 use std::alloc::Global;
@@ -55,18 +55,26 @@ impl<P: Poller, R: Wait + Drop> Drop for Async<P, R> {
     }
 }
 
-// Both ends of an adapter that is in no loop yet, without its socket. Running out of memory is `OutOfMemory`.
+// Both ends of an adapter that is in no loop yet, and its socket, which is in neither. A refusal hands that back.
 pub(crate) fn make_ends<P: Poller, R: Wait + Clone + Drop>(
     rt: &R,
     alloc: Global,
-) -> LoopResult<(Adapter<P, R>, Async<P, R>)>
+    io: P::Io,
+) -> Result<(Adapter<P, R>, Async<P, R>, P::Io), InsertError<P::Io>>
     ensures ok { IfOk result (λ made. (made.0.token ≡ None) × (made.0.entered ≡ false)
         × (made.0.end.name ≡ made.1.name)) }
     ensures notes { IfOk result (λ made. (made.0.end.notes ≡ []) × (made.1.notes ≡ [])) }
-    ensures err { IfErr result (λ e. e ≡ OutOfMemory) }
+    ensures socket { IfOk result (λ made. made.2 ≡ io) }
+    ensures err { IfErr result (λ refused. (refused.inserted ≡ io)
+        × (refused.error ≡ OutOfMemory)) }
 {
-    let (slot, poll) = shared::make_ends(rt, alloc)?;
-    Ok((Adapter::new(slot), Async { end: poll }))
+    match shared::make_ends(rt, alloc) {
+        Ok((slot, poll)) => Ok((Adapter::new(slot), Async { end: poll }, io)),
+        Err(error) => Err(InsertError {
+            inserted: io,
+            error,
+        }),
+    }
 }
 
 impl<P: Poller, R: Wait + Drop> Async<P, R> {

@@ -8,7 +8,7 @@ ghost use Rattle.calloop.specs.declared.io.notes.PollNote.TheVariants.{Answered,
 ghost use Rattle.calloop.specs.declared.io.notes.SlotNote.TheVariants.{Heard, Settled as SettledSo, Kept, Asked, Reached};
 ghost use Rattle.calloop.specs.Refusals.{IsAnswer, of_registration};
 
-use super::notes::{PollNotes, Settled, SlotNotes};
+use super::notes::{LentPollNote, LentSlotNote, Notes, PollNote, Settled, SlotNote};
 use super::refusal::Refusal;
 use crate::futures::Waker;
 use calloop_core::sys::hub::{SharedHub, share};
@@ -35,14 +35,14 @@ pub(crate) struct Home {
 #[must_use]
 pub struct PollTally {
     name: Name,
-    notes: PollNotes,
+    notes: Notes<PollNote>,
 }
 
 /// What the end in a slot of the adapter of this name did. There is one for each adapter.
 #[derive(Drop)]
 pub struct SlotTally {
     name: Name,
-    notes: SlotNotes,
+    notes: Notes<SlotNote>,
 }
 
 /// The right to what the `Async` of the adapter of this name has. There is one for each, made with it, and it can't be cloned.
@@ -162,7 +162,7 @@ impl PollRight {
         let PollRight { name } = self;
         PollTally {
             name,
-            notes: PollNotes::none(),
+            notes: Notes::none(),
         }
     }
 }
@@ -175,7 +175,7 @@ impl SlotRight {
         let SlotRight { name } = self;
         SlotTally {
             name,
-            notes: SlotNotes::none(),
+            notes: Notes::none(),
         }
     }
 }
@@ -194,7 +194,7 @@ impl PollTally {
             Some(io) => io.read(buf),
             None => Err(not_there()),
         };
-        self.notes = self.notes.and_tried(&answer);
+        self.notes = self.notes.and(LentPollNote::Tried(&answer));
         answer
     }
 
@@ -211,7 +211,7 @@ impl PollTally {
             Some(io) => io.write(buf),
             None => Err(not_there()),
         };
-        self.notes = self.notes.and_tried(&answer);
+        self.notes = self.notes.and(LentPollNote::Tried(&answer));
         answer
     }
 
@@ -223,7 +223,7 @@ impl PollTally {
             Some(io) => io.flush(),
             None => Err(not_there()),
         };
-        self.notes = self.notes.and_flushed(&answer);
+        self.notes = self.notes.and(LentPollNote::Flushed(&answer));
         answer
     }
 }
@@ -233,8 +233,7 @@ impl SlotTally {
     pub(crate) fn reach<Io>(&mut self, io: &Option<Io>)
         ensures { self.new ≡ with_slot_note (Reached (is_some io.now)) self.old }
     {
-        let there = io.is_some();
-        self.notes = self.notes.and_reached(&there);
+        self.notes = self.notes.and(LentSlotNote::Reached(io.is_some()));
     }
 }
 
@@ -274,7 +273,7 @@ impl<R: Wait + Drop> State<R> {
             Some(refusal) => Some(refusal.into_error()),
             None => None,
         };
-        tally.notes = tally.notes.and_refused(&error);
+        tally.notes = tally.notes.and(LentPollNote::Refused(&error));
         error
     }
 
@@ -309,7 +308,7 @@ impl<R: Wait + Drop> State<R> {
         ensures none { IfNone result (tally.new ≡ tally.old) }
     {
         let answer = self.answer_to(wanted)?;
-        tally.notes = tally.notes.and_answered(&answer);
+        tally.notes = tally.notes.and(LentPollNote::Answered(&answer));
         Some(answer)
     }
 
@@ -347,7 +346,7 @@ impl<R: Wait + Drop> State<R> {
         ensures state { self.new ≡ after_wait wanted waker self.old }
         ensures tally { tally.new ≡ with_poll_note (Waits wanted) tally.old }
     {
-        tally.notes = tally.notes.and_waits(&wanted);
+        tally.notes = tally.notes.and(LentPollNote::Waits(wanted));
         self.interest = Some(wanted);
         let older = mem::replace(&mut self.waker, Some(waker));
         let debt = self.mark(rt);
@@ -404,7 +403,7 @@ impl<R: Wait + Drop> State<R> {
     {
         let settled = self.to_settle();
         self.marked = false;
-        tally.notes = tally.notes.and_settled(&settled);
+        tally.notes = tally.notes.and(LentSlotNote::Settled(settled));
         settled
     }
 
@@ -431,7 +430,7 @@ impl<R: Wait + Drop> State<R> {
             ≡ record self.old { refusal = Some refusal; interest = None; waker = None } }
         ensures tally { tally.new ≡ with_slot_note (Kept refusal.error) tally.old }
     {
-        tally.notes = tally.notes.and_kept(refusal.error());
+        tally.notes = tally.notes.and(LentSlotNote::Kept(refusal.error()));
         self.refusal = Some(refusal);
         self.interest = None;
         Waking {
@@ -447,7 +446,7 @@ impl<R: Wait + Drop> State<R> {
             ≡ record self.old { readiness = found; interest = None; waker = None } }
         ensures tally { tally.new ≡ with_slot_note (Heard found) tally.old }
     {
-        tally.notes = tally.notes.and_heard(&found);
+        tally.notes = tally.notes.and(LentSlotNote::Heard(found));
         self.readiness = found;
         self.interest = None;
         Waking {
@@ -470,9 +469,8 @@ impl<R: Wait + Drop> State<R> {
         ensures answer { result ≡ self.now.leaving }
         ensures tally { tally.new ≡ with_slot_note (Asked result) tally.old }
     {
-        let leaving = self.leaving;
-        tally.notes = tally.notes.and_asked(&leaving);
-        leaving
+        tally.notes = tally.notes.and(LentSlotNote::Asked(self.leaving));
+        self.leaving
     }
 
     /// Its other end is gone, whose tally is spent.

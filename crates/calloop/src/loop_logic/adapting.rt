@@ -35,15 +35,7 @@ impl<D: EventDispatcher<P, C, R>, P: Poller, C: Clock, R: Wait + Drop> LoopHandl
             × IsNotAdapted D.means D.Idle.runs P.outside D.placed refused.error
             self.old self.new) }
     {
-        let (adapter, other) = match make_ends(rt, alloc) {
-            Ok(ends) => ends,
-            Err(error) => {
-                return Err(InsertError {
-                    inserted: io,
-                    error,
-                });
-            }
-        };
+        let (adapter, other, io) = make_ends(rt, alloc, io)?;
         match self.register_dispatcher(D::place(adapter)) {
             Ok(_token) => {
                 other.put(io);
@@ -114,15 +106,7 @@ impl<D, I> Requests<D, I> {
             × (self.new ≡ self.old)) }
         ensures asks { OnlyAsks self.old self.new }
     {
-        let (adapter, made) = match make_ends(rt, alloc) {
-            Ok(ends) => ends,
-            Err(error) => {
-                return Err(InsertError {
-                    inserted: io,
-                    error,
-                });
-            }
-        };
+        let (adapter, made, io) = make_ends(rt, alloc, io)?;
         match self.register_dispatcher(D::place(adapter)) {
             Ok(ticket) => {
                 made.put(io);
