@@ -18,6 +18,7 @@ ghost use Rattle.calloop.specs.Handles.{held_by, slots_by, poller_by, held_with_
 ghost use Rattle.calloop.specs.Rules.{Case, Did, held_answer};
 
 use super::asks::{Answer, Idle, Requests, Ticket};
+use super::registering::Registering;
 use super::{EventDispatcher, EventLoop, LoopHandle};
 use calloop_core::sources::{Callback, Dispatcher, EventSource, Hold, Role};
 use calloop_core::sys::{Clock, Poller};
@@ -145,7 +146,7 @@ impl<D: EventDispatcher<P, C, R>, P: Poller, C: Clock, R: Wait + Drop> EventLoop
             return Err(Error::InvalidToken);
         };
         let mut failure = Error::OutOfMemory;
-        let answer = self.register(token, &mut source, &mut failure);
+        let answer = self.register(Registering::First, token, &mut source, &mut failure);
         let _none = self.sources.end_turn(token, source);
         with_error(answer, failure)
     }
@@ -161,7 +162,7 @@ impl<D: EventDispatcher<P, C, R>, P: Poller, C: Clock, R: Wait + Drop> EventLoop
             return Err(Error::InvalidToken);
         };
         let mut failure = Error::OutOfMemory;
-        let answer = self.reregister(token, &mut source, &mut failure);
+        let answer = self.register(Registering::Anew, token, &mut source, &mut failure);
         let _none = self.sources.end_turn(token, source);
         with_error(answer, failure)
     }

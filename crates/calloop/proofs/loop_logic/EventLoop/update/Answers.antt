@@ -15,4 +15,4 @@ pub returns-clause-case : goal.returns-clause-case
 returns-clause-case g c =
     let is : only (is_callers g.D.Dispatch.means) (content_at c.args.self.now.sources c.args.token) ≡ Source c.in-Some.source = source_is (only (is_callers g.D.Dispatch.means) (content_at c.args.self.now.sources c.args.token)) c.in-Some.source (sym c.in-Some.ensures.value) in
     rw (c.with_error.ensures, c.end_turn-none.ensures.list)
-    (updated g.D.Dispatch.means g.D.Idle.IdleCallback.runs g.P.Poller.outside (view_of c.args.self.now) c.args.token c.in-Some.source c.reregister-answer.new.source (with_error c.reregister-answer.result c.reregister-answer.new.failure) (view_of c.reregister-answer.new.self) is (rw c.in-Some.ensures.list at c.reregister-answer.ensures))
+    (updated g.D.Dispatch.means g.D.Idle.IdleCallback.runs g.P.Poller.outside (view_of c.args.self.now) c.args.token c.in-Some.source c.register-answer.new.source (with_error c.register-answer.result c.register-answer.new.failure) (view_of c.register-answer.new.self) is (rw c.in-Some.ensures.list at c.register-answer.ensures))
