@@ -28,6 +28,14 @@ pub(super) enum Registering {
     Anew,
 }
 
+// The calls that change the registration of a source in a slot.
+#[derive(Clone, Copy)]
+pub(super) enum RegistrationCall {
+    Enable,
+    Update,
+    Disable,
+}
+
 impl<D: EventDispatcher<P, C, R>, P: Poller, C: Clock, R: Wait + Drop> EventLoop<D, P, C, R> {
     // Claims a slot, where there is room for the entry that is needed.
     pub(super) fn claim(&mut self, needed: bool) -> Result<RegistrationToken, ClaimRefusal>

@@ -6,6 +6,7 @@ ghost use Rattle.calloop.specs.Rules.{Did, done_answer, inserted_answer};
 ghost use Rattle.calloop.specs.Serving.{AllServed, Serves, ServesAs, ServesFirst};
 
 use super::asks::{Answer, Request};
+use super::registering::RegistrationCall;
 use super::{EventDispatcher, EventLoop};
 use calloop_core::sources::PostAction;
 use calloop_core::sys::{Clock, Poller};
@@ -70,7 +71,7 @@ impl<D: EventDispatcher<P, C, R>, P: Poller, C: Clock, R: Wait + Drop> EventLoop
         if self.sources.is_in_turn(token) {
             return Err(Error::OwnTurn);
         }
-        self.enable(token)
+        self.change_registration(RegistrationCall::Enable, token)
     }
 
     fn serve_update(&mut self, token: RegistrationToken) -> Result<()>
@@ -81,7 +82,7 @@ impl<D: EventDispatcher<P, C, R>, P: Poller, C: Clock, R: Wait + Drop> EventLoop
             self.pending = PostAction::Reregister;
             return Ok(());
         }
-        self.update(token)
+        self.change_registration(RegistrationCall::Update, token)
     }
 
     fn serve_disable(&mut self, token: RegistrationToken) -> Result<()>
@@ -92,7 +93,7 @@ impl<D: EventDispatcher<P, C, R>, P: Poller, C: Clock, R: Wait + Drop> EventLoop
             self.pending = PostAction::Disable;
             return Ok(());
         }
-        self.disable(token)
+        self.change_registration(RegistrationCall::Disable, token)
     }
 
     // The source in its turn leaves its slot at once, and is answered when its turn is over.
