@@ -6,6 +6,8 @@ use Rattle.calloop.specs.declared.loop_logic.LoopCall.{LoopCall}
 use Rattle.calloop.specs.declared.loop_logic.LoopCall.TheVariants.{Enable as EnableCall, Update as UpdateCall, Disable as DisableCall}
 use Rattle.calloop.specs.declared.loop_logic.LoopAnswer.{LoopAnswer}
 use Rattle.calloop.specs.declared.loop_logic.LoopAnswer.TheVariants.{Enabled, Updated, Disabled}
+use Rattle.calloop.specs.declared.loop_logic.asks.Request.{Request}
+use Rattle.calloop.specs.declared.loop_logic.asks.Request.TheVariants.{Enable as AskEnable, Update as AskUpdate, Disable as AskDisable}
 use Rattle.calloop.specs.declared.loop_logic.registering.Registering.{Registering}
 use Rattle.calloop.specs.declared.loop_logic.registering.Registering.TheVariants.{First, Anew}
 use Rattle.calloop.specs.declared.loop_logic.registering.RegistrationCall.{RegistrationCall}
@@ -27,3 +29,9 @@ abbrev pub loop_answer_of : {D P X I : Type 0} → RegistrationCall → Outcome 
 loop_answer_of Enable answer = Enabled answer
 loop_answer_of Update answer = Updated answer
 loop_answer_of Disable answer = Disabled answer
+
+-- as a request
+abbrev pub request_for : {D I : Type 0} → RegistrationCall → RegistrationToken → Request D I
+request_for Enable token = AskEnable token
+request_for Update token = AskUpdate token
+request_for Disable token = AskDisable token
