@@ -17,10 +17,12 @@ use Rattle.calloop_wake.proofs.Inserted.{claim_ended}
 use Rattle.calloop_wake.proofs.Vacancy.{slice_get-claimed_at}
 use Rattle.calloop_core.specs.Polls.{PollView, PollStep, polls_after}
 use Rattle.calloop_core.specs.Pollers.{Outside}
-use Rattle.calloop.specs.declared.loop_logic.LoopCall.TheVariants.{Insert, Enable, Update, Disable, Remove, Release, Exchange, InsertIdle}
+use Rattle.calloop.specs.declared.loop_logic.LoopCall.TheVariants.{Insert, Enable as EnableCall, Update as UpdateCall, Disable as DisableCall, Remove, Release, Exchange, InsertIdle}
 use Rattle.calloop.specs.declared.loop_logic.LoopAnswer.TheVariants.{Inserted, Enabled, Updated, Disabled, Removed, Released, Exchanged, IdleInserted}
 use Rattle.calloop_core.specs.Deeds.{Registered, Reregistered, Unregistered, Lent}
 use Rattle.calloop_core.specs.Meanings.{Meaning, Does}
+use Rattle.calloop.specs.declared.loop_logic.registering.RegistrationCall.{RegistrationCall}
+use Rattle.calloop.specs.declared.loop_logic.registering.RegistrationCall.TheVariants.{Enable, Update, Disable}
 use Rattle.calloop.specs.declared.loop_logic.stops.StopNote.{StopNote}
 use Rattle.calloop.specs.Held.{HeldStep, is_listed, IdleNew, Listed, Unlisted, Warned, with_warning, held_after}
 use Rattle.calloop.specs.Askings.{Asks, Runs, CannotAsk, with_new_idle}
@@ -28,6 +30,7 @@ use Rattle.calloop.specs.Machine.{View, Change, Put, Claim, Swapped, Polls, Hold
 use Rattle.calloop.proofs.Going.{full_named}
 use Rattle.calloop.specs.Roles.{only, is_callers, is_adapter}
 use Rattle.calloop.proofs.Roles.{only_source}
+use Rattle.calloop.specs.Registering.{loop_call_of, loop_answer_of}
 use Rattle.calloop.specs.Rules.{Did, Case, Once, Outcome, ByOne, RegisteredBy, listing_of, unlisting_of, CannotInsert, InsertedBy, EnabledBy, UpdatedBy, DisabledBy, RemovedBy, RemovedIn, ReleasedBy, ExchangedIn, ExchangedBy, IdleInsertedBy, AskedIn, factory_of}
 
 -- what is put into a slot last stands there
@@ -95,25 +98,21 @@ module _ {D I P X : Type 0} (M : Meaning D P (Lent X (Asks D I))) (runs : Runs D
       (full_named v.slots token full, (r.2, (tt, (full_named gone token (ap is_empty (named_changed v.slots token InTurn full)), tt))))
       (ap (back token e) r.3 ∙ ap (λ (ss : List (Slot D)). record v { slots = ss; poll = polls_after v.poll r.0; held = held_after v.held (noted d answer) }) (turn_ended v.slots token (Source e) full))
 
-  pub not_enabled : (token : RegistrationToken) → None ≡ source_of (only (is_callers M) (content_at v.slots token)) → Did (Case M runs O (Enable token) (Enabled (Err InvalidToken))) v v
-  not_enabled token h = one_step (EnabledBy M token (Err InvalidToken)) [] v (none_asked _ _ token (only (is_callers M) (content_at v.slots token)) h) tt refl
-
-  pub not_updated : (token : RegistrationToken) → None ≡ source_of (only (is_callers M) (content_at v.slots token)) → Did (Case M runs O (Update token) (Updated (Err InvalidToken))) v v
-  not_updated token h = one_step (UpdatedBy M token (Err InvalidToken)) [] v (none_asked _ _ token (only (is_callers M) (content_at v.slots token)) h) tt refl
-
-  pub not_disabled : (token : RegistrationToken) → None ≡ source_of (only (is_callers M) (content_at v.slots token)) → Did (Case M runs O (Disable token) (Disabled (Err InvalidToken))) v v
-  not_disabled token h = one_step (DisabledBy M token (Err InvalidToken)) [] v (none_asked _ _ token (only (is_callers M) (content_at v.slots token)) h) tt refl
+  pub not_changed : (call : RegistrationCall) (token : RegistrationToken) → None ≡ source_of (only (is_callers M) (content_at v.slots token)) → Did (Case M runs O (loop_call_of call token) (loop_answer_of call (Err InvalidToken))) v v
+  not_changed Enable token h = one_step (EnabledBy M token (Err InvalidToken)) [] v (none_asked _ _ token (only (is_callers M) (content_at v.slots token)) h) tt refl
+  not_changed Update token h = one_step (UpdatedBy M token (Err InvalidToken)) [] v (none_asked _ _ token (only (is_callers M) (content_at v.slots token)) h) tt refl
+  not_changed Disable token h = one_step (DisabledBy M token (Err InvalidToken)) [] v (none_asked _ _ token (only (is_callers M) (content_at v.slots token)) h) tt refl
 
   pub enabled : (token : RegistrationToken) (d e : D) (answer : Outcome) (u : View D I P) → only (is_callers M) (content_at v.slots token) ≡ Source d
-      → ByOne O (RegisteredBy M Registered token (is_listed token v.held.lifecycle) v.poll) (listing_of M token) d answer e (out token) u → Did (Case M runs O (Enable token) (Enabled answer)) v (back token e u)
+      → ByOne O (RegisteredBy M Registered token (is_listed token v.held.lifecycle) v.poll) (listing_of M token) d answer e (out token) u → Did (Case M runs O (EnableCall token) (Enabled answer)) v (back token e u)
   enabled token d e answer u is r = asked (is_callers M) (RegisteredBy M Registered token (is_listed token v.held.lifecycle) v.poll) (listing_of M token) (EnabledBy M token answer) token d e answer u (λ cs h. h) is r
 
   pub updated : (token : RegistrationToken) (d e : D) (answer : Outcome) (u : View D I P) → only (is_callers M) (content_at v.slots token) ≡ Source d
-      → ByOne O (RegisteredBy M Reregistered token (is_listed token v.held.lifecycle) v.poll) (listing_of M token) d answer e (out token) u → Did (Case M runs O (Update token) (Updated answer)) v (back token e u)
+      → ByOne O (RegisteredBy M Reregistered token (is_listed token v.held.lifecycle) v.poll) (listing_of M token) d answer e (out token) u → Did (Case M runs O (UpdateCall token) (Updated answer)) v (back token e u)
   updated token d e answer u is r = asked (is_callers M) (RegisteredBy M Reregistered token (is_listed token v.held.lifecycle) v.poll) (listing_of M token) (UpdatedBy M token answer) token d e answer u (λ cs h. h) is r
 
   pub disabled : (token : RegistrationToken) (d e : D) (answer : Outcome) (u : View D I P) → only (is_callers M) (content_at v.slots token) ≡ Source d
-      → ByOne O (λ f a steps g. M.does f v.poll (Unregistered a) steps g) (unlisting_of token) d answer e (out token) u → Did (Case M runs O (Disable token) (Disabled answer)) v (back token e u)
+      → ByOne O (λ f a steps g. M.does f v.poll (Unregistered a) steps g) (unlisting_of token) d answer e (out token) u → Did (Case M runs O (DisableCall token) (Disabled answer)) v (back token e u)
   disabled token d e answer u is r = asked (is_callers M) (λ f a steps g. M.does f v.poll (Unregistered a) steps g) (unlisting_of token) (DisabledBy M token answer) token d e answer u (λ cs h. h) is r
 
   none_removed : (token : RegistrationToken) (c : Content D) → None ≡ source_of c → RemovedIn M token c None v []

@@ -14,11 +14,14 @@ use Rattle.calloop.specs.declared.loop_logic.asks.Asked.{Asked}
 use Rattle.calloop.specs.declared.loop_logic.asks.Idling.{Idling as Waiter}
 use Rattle.calloop.specs.declared.loop_logic.asks.Request.{Request}
 use Rattle.calloop.specs.declared.loop_logic.asks.Request.TheVariants.{Insert as AskInsert, Enable as AskEnable, Update as AskUpdate, Disable as AskDisable, Remove as AskRemove, Idle as AskIdle, Cancel as AskCancel}
+use Rattle.calloop.specs.declared.loop_logic.registering.RegistrationCall.{RegistrationCall}
+use Rattle.calloop.specs.declared.loop_logic.registering.RegistrationCall.TheVariants.{Enable, Update, Disable}
 use Rattle.calloop.specs.Askings.{Asks, AskStep, Write, Take, Reaches, ask_after, asks_after, all_but_first, begun_from, idle_begun, is_other_idle, request_of, running_of}
 use Rattle.calloop.specs.Held.{HeldStep, Begun, Told, held_after}
 use Rattle.calloop.specs.Machine.{View, Change, Holds, AllFit, after_change, all_viewed}
 use Rattle.calloop.specs.Roles.{only, is_callers}
-use Rattle.calloop.specs.Rules.{Did, Once, OwnOr, Served, ServedAs, InsertedBy, AskedIn, RemovedIn, Outcome, after_changes}
+use Rattle.calloop.specs.Registering.{request_for}
+use Rattle.calloop.specs.Rules.{Did, Once, OwnOr, Served, ServedAs, InsertedBy, AskedIn, RemovedIn, Outcome, after_changes, done_answer}
 use Rattle.calloop.specs.Serving.{Serves, ServesFirst, FirstServed, AllServed}
 use Rattle.calloop.proofs.Going.{batch-stepped}
 use Rattle.calloop.proofs.Seen.{viewed-append}
@@ -62,6 +65,13 @@ module _ {D I P X : Type 0} (M : Meaning D P (Lent X (Asks D I))) (O : Outside P
       → Serves M O request (after_change v (Holds Begun)) u → ServesFirst M O as' true v u
   serves_first [] request v u is h = search rules
   serves_first (a ∷ as') request v u is h = search rules
+
+  -- a change of a registration, with its answer
+  pub change_served : (call : RegistrationCall) (token : RegistrationToken) (answer : Outcome) (v : View D I P) (cs : List (Change D I P)) → ServedAs M (request_for call token) answer v cs
+      → Served M (request_for call token) v (cs ++ Holds (Told (done_answer answer)) ∷ [])
+  change_served Enable token answer v cs h = (answer, cs, h, refl)
+  change_served Update token answer v cs h = (answer, cs, h, refl)
+  change_served Disable token answer v cs h = (answer, cs, h, refl)
 
   -- the batch stays, no request is added, and no idle joins those that run
   pub record Steady (v u : View D I P) : Type 0 where

@@ -16,6 +16,7 @@ pub mod Machine
 pub mod Loops
 pub mod Roles
 pub mod Rules
+pub mod Registering
 pub mod DispatchErrors
 pub mod Limits
 pub mod Serving

@@ -5,6 +5,7 @@ ghost use Rattle.calloop.specs.declared.loop_logic.LoopAnswer.TheVariants.{Excha
 ghost use Rattle.calloop.specs.Machine.{view_of};
 ghost use Rattle.calloop.specs.Rules.{Case, Did, RunLeads};
 
+use super::registering::RegistrationCall;
 use super::{EventDispatcher, EventLoop, LoopAnswer, LoopCall};
 use calloop_core::sys::{Clock, Poller};
 use calloop_wake::token::RegistrationToken;
@@ -25,9 +26,15 @@ impl<D: EventDispatcher<P, C, R>, P: Poller, C: Clock, R: Wait + Drop> EventLoop
     {
         match call {
             LoopCall::Insert(dispatcher) => LoopAnswer::Inserted(self.insert(dispatcher)),
-            LoopCall::Enable(token) => LoopAnswer::Enabled(self.enable(token)),
-            LoopCall::Update(token) => LoopAnswer::Updated(self.update(token)),
-            LoopCall::Disable(token) => LoopAnswer::Disabled(self.disable(token)),
+            LoopCall::Enable(token) => {
+                LoopAnswer::Enabled(self.change_registration(RegistrationCall::Enable, token))
+            }
+            LoopCall::Update(token) => {
+                LoopAnswer::Updated(self.change_registration(RegistrationCall::Update, token))
+            }
+            LoopCall::Disable(token) => {
+                LoopAnswer::Disabled(self.change_registration(RegistrationCall::Disable, token))
+            }
             LoopCall::Remove(token) => LoopAnswer::Removed(self.remove(token)),
             LoopCall::Release(token) => LoopAnswer::Released(self.release(token)),
             LoopCall::Exchange(token, dispatcher) => {

@@ -15,6 +15,7 @@ ghost use Rattle.calloop.specs.Rules.{Case, DispatchedBy, Did, Leads, Goes, Cutt
 
 use super::asks::{Answer, Requests};
 use super::lifecycle::Lifecycle;
+use super::registering::Registering;
 use super::signal::LoopSignal;
 use super::stops::StopNotes;
 use super::warnings::Warnings;
@@ -224,7 +225,7 @@ impl<D: EventDispatcher<P, C, R>, P: Poller, C: Clock, R: Wait + Drop> EventLoop
         self.pending = PostAction::Continue;
         match action {
             Ok(PostAction::Continue) => Ok(()),
-            Ok(PostAction::Reregister) => self.reregister(token, source, failure),
+            Ok(PostAction::Reregister) => self.register(Registering::Anew, token, source, failure),
             Ok(PostAction::Disable) => self.unregister(token, source, failure),
             Ok(PostAction::Remove) => {
                 self.sources.vacate(token);

@@ -15,9 +15,11 @@ ghost use Rattle.calloop.specs.declared.loop_logic.LoopCall.TheVariants.{Insert,
 ghost use Rattle.calloop.specs.declared.loop_logic.LoopAnswer.TheVariants.{Inserted, Enabled, Updated, Disabled, Removed, Exchanged, IdleInserted, Cancelled, Answered, Poller as OldPoller};
 ghost use Rattle.calloop.specs.Machine.{view_of};
 ghost use Rattle.calloop.specs.Handles.{held_by, slots_by, poller_by, held_with_poller, held_with_source, HasTheSameLoop, IsCase, LeadsAsCase, NamesNone};
+ghost use Rattle.calloop.specs.Registering.{loop_answer_of, loop_call_of};
 ghost use Rattle.calloop.specs.Rules.{Case, Did, held_answer};
 
 use super::asks::{Answer, Idle, Requests, Ticket};
+use super::registering::{Registering, RegistrationCall};
 use super::{EventDispatcher, EventLoop, LoopHandle};
 use calloop_core::sources::{Callback, Dispatcher, EventSource, Hold, Role};
 use calloop_core::sys::{Clock, Poller};
@@ -134,9 +136,14 @@ impl<D: EventDispatcher<P, C, R>, P: Poller, C: Clock, R: Wait + Drop> EventLoop
         }
     }
 
-    // Registers the source that the token names.
-    pub(super) fn enable(&mut self, token: RegistrationToken) -> Result<()>
-        ensures case { Did (Case D.means D.Idle.runs P.outside (Enable token) (Enabled result))
+    // Registers the source that the token names, registers it anew, or takes its registration back.
+    pub(super) fn change_registration(
+        &mut self,
+        call: RegistrationCall,
+        token: RegistrationToken,
+    ) -> Result<()>
+        ensures case { Did (Case D.means D.Idle.runs P.outside
+            (loop_call_of call token) (loop_answer_of call result))
             (view_of self.old) (view_of self.new) }
         ensures refuses { source_of (only (is_callers D.means)
             (named_by self.old.sources token)) ≡ None → result ≡ Err InvalidToken }
@@ -145,39 +152,21 @@ impl<D: EventDispatcher<P, C, R>, P: Poller, C: Clock, R: Wait + Drop> EventLoop
             return Err(Error::InvalidToken);
         };
         let mut failure = Error::OutOfMemory;
-        let answer = self.register(token, &mut source, &mut failure);
-        let _none = self.sources.end_turn(token, source);
-        with_error(answer, failure)
-    }
-
-    // Registers the source that the token names anew.
-    pub(super) fn update(&mut self, token: RegistrationToken) -> Result<()>
-        ensures case { Did (Case D.means D.Idle.runs P.outside (Update token) (Updated result))
-            (view_of self.old) (view_of self.new) }
-        ensures refuses { source_of (only (is_callers D.means)
-            (named_by self.old.sources token)) ≡ None → result ≡ Err InvalidToken }
-    {
-        let Some(mut source) = Self::take_out(&mut self.sources, token) else {
-            return Err(Error::InvalidToken);
+        let answer = match call {
+            RegistrationCall::Enable => self.register(
+                Registering::First,
+                token,
+                &mut source,
+                &mut failure,
+            ),
+            RegistrationCall::Update => self.register(
+                Registering::Anew,
+                token,
+                &mut source,
+                &mut failure,
+            ),
+            RegistrationCall::Disable => self.unregister(token, &mut source, &mut failure),
         };
-        let mut failure = Error::OutOfMemory;
-        let answer = self.reregister(token, &mut source, &mut failure);
-        let _none = self.sources.end_turn(token, source);
-        with_error(answer, failure)
-    }
-
-    // Takes back the registration of the source that the token names.
-    pub(super) fn disable(&mut self, token: RegistrationToken) -> Result<()>
-        ensures case { Did (Case D.means D.Idle.runs P.outside (Disable token) (Disabled result))
-            (view_of self.old) (view_of self.new) }
-        ensures refuses { source_of (only (is_callers D.means)
-            (named_by self.old.sources token)) ≡ None → result ≡ Err InvalidToken }
-    {
-        let Some(mut source) = Self::take_out(&mut self.sources, token) else {
-            return Err(Error::InvalidToken);
-        };
-        let mut failure = Error::OutOfMemory;
-        let answer = self.unregister(token, &mut source, &mut failure);
         let _none = self.sources.end_turn(token, source);
         with_error(answer, failure)
     }
@@ -306,7 +295,8 @@ impl<D: EventDispatcher<P, C, R>, P: Poller, C: Clock, R: Wait + Drop> LoopHandl
         ensures machine { LeadsAsCase D.means D.Idle.runs P.outside
             (Enable token.now) (Enabled result) self.old self.new }
     {
-        self.inner.enable(*token)
+        self.inner
+            .change_registration(RegistrationCall::Enable, *token)
     }
 
     /// Registers the source that the token names anew, as after a change of what it waits for. The answer is as that of
@@ -319,7 +309,8 @@ impl<D: EventDispatcher<P, C, R>, P: Poller, C: Clock, R: Wait + Drop> LoopHandl
         ensures machine { LeadsAsCase D.means D.Idle.runs P.outside
             (Update token.now) (Updated result) self.old self.new }
     {
-        self.inner.update(*token)
+        self.inner
+            .change_registration(RegistrationCall::Update, *token)
     }
 
     /// Takes back the registration of the source that the token names. It stays in its slot, and `enable` registers it
@@ -332,7 +323,8 @@ impl<D: EventDispatcher<P, C, R>, P: Poller, C: Clock, R: Wait + Drop> LoopHandl
         ensures machine { LeadsAsCase D.means D.Idle.runs P.outside
             (Disable token.now) (Disabled result) self.old self.new }
     {
-        self.inner.disable(*token)
+        self.inner
+            .change_registration(RegistrationCall::Disable, *token)
     }
 
     /// Takes the source that the token names out of the loop, and hands it back unregistered. Its slot is vacant, and the

@@ -3,19 +3,38 @@ ghost use Rattle.std.specs.Prelude.{◌≡◌, ◌<◌, OnOk, IfOk, IfErr};
 ghost use Rattle.calloop_wake.specs.Widths.{most_slots};
 ghost use Rattle.calloop_wake.specs.Failures.{with_error};
 ghost use Rattle.calloop_wake.specs.Slots.{after_claim, next_registration, claim_error};
-ghost use Rattle.calloop_core.specs.Deeds.{Registered, Reregistered, Unregistered};
+ghost use Rattle.calloop_core.specs.Deeds.{Unregistered};
+ghost use Rattle.calloop_core.specs.Meanings.{Does};
+ghost use Rattle.calloop_core.specs.Polls.{poll_view};
 ghost use Rattle.calloop.specs.Machine.{view_of};
 ghost use Rattle.calloop.specs.Held.{is_listed};
+ghost use Rattle.calloop.specs.Registering.{deed_of};
 ghost use Rattle.calloop.specs.Rooms.{HasRoom};
 ghost use Rattle.calloop.specs.Rules.{CannotInsert, ByOne, RegisteredBy, listing_of, unlisting_of};
 
 use super::{EventDispatcher, EventLoop};
+use calloop_core::sys::poll::Poll;
 use calloop_core::sys::{Clock, Poller};
 use calloop_wake::error::{Error, Failed};
 use calloop_wake::list::ClaimRefusal;
 use calloop_wake::steps::Steps;
 use calloop_wake::token::{RegistrationToken, TokenFactory};
 use std::sync::Wait;
+
+// Whether a source is registered for the first time, or anew.
+#[derive(Clone, Copy)]
+pub(super) enum Registering {
+    First,
+    Anew,
+}
+
+// The calls that change the registration of a source in a slot.
+#[derive(Clone, Copy)]
+pub(super) enum RegistrationCall {
+    Enable,
+    Update,
+    Disable,
+}
 
 impl<D: EventDispatcher<P, C, R>, P: Poller, C: Clock, R: Wait + Drop> EventLoop<D, P, C, R> {
     // Claims a slot, where there is room for the entry that is needed.
@@ -38,12 +57,13 @@ impl<D: EventDispatcher<P, C, R>, P: Poller, C: Clock, R: Wait + Drop> EventLoop
     // Registers a source under this token, and enters it where it is to be told of waits.
     pub(super) fn register(
         &mut self,
+        how: Registering,
         token: RegistrationToken,
         source: &mut D,
         failure: &mut Error,
     ) -> Result<(), Failed>
         ensures { ByOne P.outside
-            (RegisteredBy D.means Registered token
+            (RegisteredBy D.means (deed_of how) token
             (is_listed token (view_of self.old).held.lifecycle) (view_of self.old).poll)
             (listing_of D.means token)
             source.old (with_error result failure.new) source.new
@@ -55,34 +75,27 @@ impl<D: EventDispatcher<P, C, R>, P: Poller, C: Clock, R: Wait + Drop> EventLoop
             return Err(Failed);
         }
         let mut factory = TokenFactory::new(token);
-        source.register(&mut self.poll, &mut factory, failure)?;
+        Self::register_source(how, source, &mut self.poll, &mut factory, failure)?;
         self.lifecycle.enter(needed, token);
         Ok(())
     }
 
-    // Registers a source anew.
-    pub(super) fn reregister(
-        &mut self,
-        token: RegistrationToken,
+    // The call of the source itself.
+    fn register_source(
+        how: Registering,
         source: &mut D,
+        poll: &mut Poll<P, C, R>,
+        factory: &mut TokenFactory,
         failure: &mut Error,
     ) -> Result<(), Failed>
-        ensures { ByOne P.outside
-            (RegisteredBy D.means Reregistered token
-            (is_listed token (view_of self.old).held.lifecycle) (view_of self.old).poll)
-            (listing_of D.means token)
-            source.old (with_error result failure.new) source.new
-            (view_of self.old) (view_of self.new) }
+        ensures { Does P.outside D.means source.old (poll_view poll.old)
+            (deed_of how factory.old (with_error result failure.new) factory.new)
+            source.new (poll_view poll.new) }
     {
-        let needed = source.needs_extra_lifecycle_events();
-        if let Err(_) = self.lifecycle.reserve_for(needed, token) {
-            *failure = Error::OutOfMemory;
-            return Err(Failed);
+        match how {
+            Registering::First => source.register(poll, factory, failure),
+            Registering::Anew => source.reregister(poll, factory, failure),
         }
-        let mut factory = TokenFactory::new(token);
-        source.reregister(&mut self.poll, &mut factory, failure)?;
-        self.lifecycle.enter(needed, token);
-        Ok(())
     }
 
     // Takes the registration of a source back, and takes it out, also where that fails.

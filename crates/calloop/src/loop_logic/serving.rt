@@ -1,11 +1,13 @@
 //! What callbacks asked for is carried out.
 ghost use Rattle.std.specs.Prelude.{◌≡◌, ◌≤◌, length};
-ghost use Rattle.calloop.specs.declared.loop_logic.asks.Request.TheVariants.{Insert, Enable, Update, Disable, Remove};
+ghost use Rattle.calloop.specs.declared.loop_logic.asks.Request.TheVariants.{Remove};
 ghost use Rattle.calloop.specs.Machine.{view_of};
+ghost use Rattle.calloop.specs.Registering.{request_for};
 ghost use Rattle.calloop.specs.Rules.{Did, done_answer, inserted_answer};
 ghost use Rattle.calloop.specs.Serving.{AllServed, Serves, ServesAs, ServesFirst};
 
 use super::asks::{Answer, Request};
+use super::registering::RegistrationCall;
 use super::{EventDispatcher, EventLoop};
 use calloop_core::sources::PostAction;
 use calloop_core::sys::{Clock, Poller};
@@ -42,18 +44,9 @@ impl<D: EventDispatcher<P, C, R>, P: Poller, C: Clock, R: Wait + Drop> EventLoop
                 let answer = self.insert(dispatcher);
                 self.requests.put_answer(inserted_answer(answer));
             }
-            Request::Enable(token) => {
-                let answer = self.serve_enable(token);
-                self.requests.put_answer(done_answer(answer));
-            }
-            Request::Update(token) => {
-                let answer = self.serve_update(token);
-                self.requests.put_answer(done_answer(answer));
-            }
-            Request::Disable(token) => {
-                let answer = self.serve_disable(token);
-                self.requests.put_answer(done_answer(answer));
-            }
+            Request::Enable(token) => self.serve_change(RegistrationCall::Enable, token),
+            Request::Update(token) => self.serve_change(RegistrationCall::Update, token),
+            Request::Disable(token) => self.serve_change(RegistrationCall::Disable, token),
             Request::Remove(token) => self.serve_removal(token),
             Request::Idle(idle) => self.requests.put_idle(idle),
             Request::Cancel(ticket) => {
@@ -63,36 +56,28 @@ impl<D: EventDispatcher<P, C, R>, P: Poller, C: Clock, R: Wait + Drop> EventLoop
         }
     }
 
-    fn serve_enable(&mut self, token: RegistrationToken) -> Result<()>
-        ensures { ServesAs D.means P.outside (Enable token) result (view_of self.old)
+    fn serve_change(&mut self, call: RegistrationCall, token: RegistrationToken)
+        ensures { Serves D.means P.outside (request_for call token) (view_of self.old)
             (view_of self.new) }
     {
-        if self.sources.is_in_turn(token) {
-            return Err(Error::OwnTurn);
-        }
-        self.enable(token)
+        let answer = self.carry_out_change(call, token);
+        self.requests.put_answer(done_answer(answer));
     }
 
-    fn serve_update(&mut self, token: RegistrationToken) -> Result<()>
-        ensures { ServesAs D.means P.outside (Update token) result (view_of self.old)
+    // Asked of the source in its turn, it waits for the end of the turn; enabling it is refused.
+    fn carry_out_change(&mut self, call: RegistrationCall, token: RegistrationToken) -> Result<()>
+        ensures { ServesAs D.means P.outside (request_for call token) result (view_of self.old)
             (view_of self.new) }
     {
-        if self.sources.is_in_turn(token) {
-            self.pending = PostAction::Reregister;
-            return Ok(());
+        if !self.sources.is_in_turn(token) {
+            return self.change_registration(call, token);
         }
-        self.update(token)
-    }
-
-    fn serve_disable(&mut self, token: RegistrationToken) -> Result<()>
-        ensures { ServesAs D.means P.outside (Disable token) result (view_of self.old)
-            (view_of self.new) }
-    {
-        if self.sources.is_in_turn(token) {
-            self.pending = PostAction::Disable;
-            return Ok(());
-        }
-        self.disable(token)
+        self.pending = match call {
+            RegistrationCall::Enable => return Err(Error::OwnTurn),
+            RegistrationCall::Update => PostAction::Reregister,
+            RegistrationCall::Disable => PostAction::Disable,
+        };
+        Ok(())
     }
 
     // The source in its turn leaves its slot at once, and is answered when its turn is over.

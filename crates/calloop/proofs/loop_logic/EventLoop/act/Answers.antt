@@ -25,12 +25,12 @@ returns-in-Ok-Reregister-clause-machine g c x =
     let t = c.args.token in
     let action : c.in-Ok-Reregister.field-0 ≡ Reregister = rw c.in-Ok-Reregister.is at c.in-Ok-Reregister.field-0-is in
     let is : action_of (with_error c.args.answer c.args.failure.now) c.args.self.now.pending ≡ Ok Reregister = sym (c.action_of-action.ensures c.args.failure.now) ∙ ap (λ (r : Result PostAction Failed). with_error r c.args.failure.now) c.in-Ok-Reregister.is ∙ ap (λ (a : PostAction). Ok a) action in
-    acted_with M g.D.Idle.IdleCallback.runs g.P.Poller.outside (RegisteredBy M Reregistered t (is_listed t v.held.lifecycle) v.poll) (listing_of M t) t v (view_of c.reregister.new.self) c.args.source.now c.reregister.new.source (with_error c.args.answer c.args.failure.now) (with_error c.reregister.result c.reregister.new.failure) x
-    (λ steps h. rw is (steps, h, refl)) c.reregister.ensures
+    acted_with M g.D.Idle.IdleCallback.runs g.P.Poller.outside (RegisteredBy M Reregistered t (is_listed t v.held.lifecycle) v.poll) (listing_of M t) t v (view_of c.register.new.self) c.args.source.now c.register.new.source (with_error c.args.answer c.args.failure.now) (with_error c.register.result c.register.new.failure) x
+    (λ steps h. rw is (steps, h, refl)) c.register.ensures
 
 pub returns-in-Ok-Reregister-clause-batch : goal.returns-in-Ok-Reregister-clause-batch
 returns-in-Ok-Reregister-clause-batch g c =
-    ap (λ (u : View g.row.D.Denot g.row.D-Idle.Denot g.row.P.Denot). u.poll.batch) c.reregister.ensures.3 ∙ batch-stepped (poll_view c.args.self.now.poll) c.reregister.ensures.0
+    ap (λ (u : View g.row.D.Denot g.row.D-Idle.Denot g.row.P.Denot). u.poll.batch) c.register.ensures.3 ∙ batch-stepped (poll_view c.args.self.now.poll) c.register.ensures.0
 
 pub returns-in-Ok-Disable-clause-machine : goal.returns-in-Ok-Disable-clause-machine
 returns-in-Ok-Disable-clause-machine g c x =

@@ -1,9 +1,8 @@
 use Rattle.std.proofs.Common.{[], ◌∷◌, refl}
 use Rattle.calloop.specs.declared.loop_logic.asks.Answer.TheVariants.{Done}
-use Rattle.calloop.specs.declared.loop_logic.asks.Request.TheVariants.{Enable, Update, Disable}
 use Rattle.calloop.specs.Held.{IdleIn, IdleOut, Told}
 use Rattle.calloop.specs.Machine.{Holds, view_of}
-use Rattle.calloop.specs.Rules.{InsertedBy, ServedAs, done_answer, inserted_answer}
+use Rattle.calloop.specs.Rules.{InsertedBy, inserted_answer}
 use Rattle.calloop.proofs.Serving.{closed, one_done}
 use Rattle.calloop.proofs.loop_logic.EventLoop.serve.Goals as goal
 
@@ -15,24 +14,6 @@ returns-in-Insert g c =
     let u = view_of c.insert-answer.new.self in
     let d = closed g.P.Poller.outside R v u (inserted_answer answer) (one_done g.P.Poller.outside R v u c.insert-answer.ensures.case) in
     rw (c.in-Insert.is, c.put_answer.ensures, c.inserted_answer.ensures) (_, (answer, d.0, d.1, refl), d.2, d.3)
-
-pub returns-in-Enable : goal.returns-in-Enable
-returns-in-Enable g c =
-    let answer = c.serve_enable-answer.result in
-    let d = closed g.P.Poller.outside (ServedAs g.D.Dispatch.means (Enable c.in-Enable.token) answer) (view_of c.args.self.now) (view_of c.serve_enable-answer.new.self) (done_answer answer) c.serve_enable-answer.ensures in
-    rw (c.in-Enable.is, c.put_answer-in-Enable.ensures, c.done_answer.ensures) (_, (answer, d.0, d.1, refl), d.2, d.3)
-
-pub returns-in-Update : goal.returns-in-Update
-returns-in-Update g c =
-    let answer = c.serve_update-answer.result in
-    let d = closed g.P.Poller.outside (ServedAs g.D.Dispatch.means (Update c.in-Update.token) answer) (view_of c.args.self.now) (view_of c.serve_update-answer.new.self) (done_answer answer) c.serve_update-answer.ensures in
-    rw (c.in-Update.is, c.put_answer-in-Update.ensures, c.done_answer-in-Update.ensures) (_, (answer, d.0, d.1, refl), d.2, d.3)
-
-pub returns-in-Disable : goal.returns-in-Disable
-returns-in-Disable g c =
-    let answer = c.serve_disable-answer.result in
-    let d = closed g.P.Poller.outside (ServedAs g.D.Dispatch.means (Disable c.in-Disable.token) answer) (view_of c.args.self.now) (view_of c.serve_disable-answer.new.self) (done_answer answer) c.serve_disable-answer.ensures in
-    rw (c.in-Disable.is, c.put_answer-in-Disable.ensures, c.done_answer-in-Disable.ensures) (_, (answer, d.0, d.1, refl), d.2, d.3)
 
 pub returns-in-Idle : goal.returns-in-Idle
 returns-in-Idle g c = rw (c.in-Idle.is, c.put_idle.ensures) (Holds (IdleIn c.in-Idle.idle) ∷ [], refl, (tt, tt), refl)

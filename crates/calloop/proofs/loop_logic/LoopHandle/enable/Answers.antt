@@ -4,4 +4,4 @@ use Rattle.calloop.proofs.Seen.{did_leads}
 use Rattle.calloop.proofs.loop_logic.LoopHandle.enable.Goals as goal
 
 pub returns-clause-machine : goal.returns-clause-machine
-returns-clause-machine g c = did_leads (Once g.P.Poller.outside (EnabledBy g.D.Dispatch.means c.args.token.now c.enable.result)) (view_of c.args.self.now.inner.now) (view_of c.enable.new.self) c.enable.ensures.case
+returns-clause-machine g c = did_leads (Once g.P.Poller.outside (EnabledBy g.D.Dispatch.means c.args.token.now c.change_registration.result)) (view_of c.args.self.now.inner.now) (view_of c.change_registration.new.self) c.change_registration.ensures.case

@@ -4,4 +4,4 @@ use Rattle.calloop.proofs.Seen.{did_leads}
 use Rattle.calloop.proofs.loop_logic.LoopHandle.update.Goals as goal
 
 pub returns-clause-machine : goal.returns-clause-machine
-returns-clause-machine g c = did_leads (Once g.P.Poller.outside (UpdatedBy g.D.Dispatch.means c.args.token.now c.update.result)) (view_of c.args.self.now.inner.now) (view_of c.update.new.self) c.update.ensures.case
+returns-clause-machine g c = did_leads (Once g.P.Poller.outside (UpdatedBy g.D.Dispatch.means c.args.token.now c.change_registration.result)) (view_of c.args.self.now.inner.now) (view_of c.change_registration.new.self) c.change_registration.ensures.case
