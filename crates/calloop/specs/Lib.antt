@@ -6,9 +6,9 @@ pub mod Channels
 pub mod Polled
 pub mod Executors
 pub mod Askings
-pub mod Quiet
-pub mod Listening
-pub mod Executing
+pub mod PingKeeping
+pub mod ChannelKeeping
+pub mod ExecutorKeeping
 pub mod Ledgers
 pub mod Held
 pub mod Rooms

@@ -11,7 +11,7 @@ use Rattle.calloop_core.specs.declared.sources.dispatch.Role.TheVariants.{Caller
 use Rattle.calloop_core.specs.Meanings.{Meaning, IsKeeping, KeepsCounters, KeepsHome}
 use Rattle.calloop.specs.declared.ping.source.PingError.{PingError}
 use Rattle.calloop.specs.Pings.{IsPing, ping_keys}
-use Rattle.calloop.specs.Quiet.{ping_keeps}
+use Rattle.calloop.specs.PingKeeping.{ping_keeps}
 use Rattle.calloop_test_sources.specs.declared.guarded.Guarded.{Guarded}
 use Rattle.calloop_test_sources.specs.declared.source.Broken.{Broken}
 

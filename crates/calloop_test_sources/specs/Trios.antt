@@ -21,7 +21,7 @@ use Rattle.calloop_core.specs.Timers.{timer_holds, timer_keys, timer_meaning}
 use Rattle.calloop_core.specs.Keeping.{timer_keeps}
 use Rattle.calloop.specs.declared.ping.source.PingError.{PingError}
 use Rattle.calloop.specs.Pings.{ping_meaning, ping_keys}
-use Rattle.calloop.specs.Quiet.{ping_keeps}
+use Rattle.calloop.specs.PingKeeping.{ping_keeps}
 use Rattle.calloop_core.specs.Beside.{
   IsApart,
   beside,

@@ -73,7 +73,7 @@ impl<R: Wait + Drop> Numbered<R> {
 
 impl<P: Poller, C, R: Wait + Drop> EventSource<P, C, R> for Numbered<R> {
     ghost use Rattle.calloop.specs.Pings.{ping_meaning};
-    ghost use Rattle.calloop.specs.Quiet.{ping_keeps};
+    ghost use Rattle.calloop.specs.PingKeeping.{ping_keeps};
     ghost use Rattle.calloop_test_sources.specs.Passing.{passing, keeping_passing};
 
     type Event = u32;

@@ -138,7 +138,7 @@ impl<T: Drop, R: Wait + Drop> CellSource for Channel<T, R> {
 
 impl<T: Drop, P: Poller, C, R: Wait + Drop> EventSource<P, C, R> for Channel<T, R> {
     ghost use Rattle.calloop.specs.Channels.{channel_meaning};
-    ghost use Rattle.calloop.specs.Listening.{channel_keeps};
+    ghost use Rattle.calloop.specs.ChannelKeeping.{channel_keeps};
 
     type Event = Event<T>;
 

@@ -160,7 +160,7 @@ impl<Fut: Future<R>, R: Wait + Drop> CellSource for Executor<Fut, R> {
 impl<Fut: Future<R>, P: Poller, C, R: Wait + Drop> EventSource<P, C, R> for Executor<Fut, R> {
     ghost use Rattle.std.specs.Prelude.{◌≡◌};
     ghost use Rattle.calloop.specs.Executors.{ComesOf, executor_meaning};
-    ghost use Rattle.calloop.specs.Executing.{executor_keeps};
+    ghost use Rattle.calloop.specs.ExecutorKeeping.{executor_keeps};
 
     type Event = Fut::Output;
 

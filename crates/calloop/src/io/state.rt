@@ -469,8 +469,9 @@ impl<R: Wait + Drop> State<R> {
         ensures answer { result ≡ self.now.leaving }
         ensures tally { tally.new ≡ with_slot_note (Asked result) tally.old }
     {
-        tally.notes = tally.notes.and(LentSlotNote::Asked(self.leaving));
-        self.leaving
+        let leaving = self.leaving;
+        tally.notes = tally.notes.and(LentSlotNote::Asked(leaving));
+        leaving
     }
 
     /// Its other end is gone, whose tally is spent.

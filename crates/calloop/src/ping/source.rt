@@ -102,7 +102,7 @@ impl<R: Wait + Drop> CellSource for PingSource<R> {
 
 impl<P: Poller, C, R: Wait + Drop> EventSource<P, C, R> for PingSource<R> {
     ghost use Rattle.calloop.specs.Pings.{ping_meaning};
-    ghost use Rattle.calloop.specs.Quiet.{ping_keeps};
+    ghost use Rattle.calloop.specs.PingKeeping.{ping_keeps};
 
     type Event = ();
 
