@@ -4,6 +4,7 @@ mod desk;
 mod early;
 mod ends;
 mod left;
+mod looks;
 mod memory;
 mod pair;
 mod peers;

@@ -1,13 +1,11 @@
 //! A scripted loop with one adapter, and an executor whose futures look at its socket.
+use super::looks::answer;
 use calloop::futures::{Context, Executor, Future, Poll, Scheduler, make_executor};
 use calloop::{
     Adapter, Async, Choice, Dispatcher, Error, EventDispatcher, Here, Instant, Keep, On, OneOf,
     Readiness, RegistrationToken, Requests, ScriptLoop, Sources, There, TimeoutAction, Timer,
 };
-use calloop_core::sys::script::{
-    ScriptAnswer, ScriptCall, ScriptClock, ScriptEnd, ScriptEvents, ScriptIo, ScriptKind,
-    ScriptPoller,
-};
+use calloop_core::sys::script::{ScriptCall, ScriptClock, ScriptIo, ScriptKind, ScriptPoller};
 use std::alloc::Global;
 use std::sync::Wait;
 use std::time::Duration;
@@ -307,13 +305,7 @@ where
             writable: !readable,
             error: false,
         };
-        let mut events = ScriptEvents::new(self.alloc);
-        events.push(key, found).ok()?;
-        let answer = ScriptAnswer {
-            moment: Instant::from_millis(1),
-            end: ScriptEnd::Events(events),
-        };
-        self.event_loop.handle().poller_mut().script(answer).ok()
+        answer(&mut self.event_loop, self.alloc, key, found)
     }
 
     fn dispatch(&mut self, wanted: &[Word]) -> Option<()> {

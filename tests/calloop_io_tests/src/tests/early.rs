@@ -1,14 +1,13 @@
 //! A poll of an adapter that was asked for, before it comes into its loop.
+use super::looks::{READABLE, answer};
 use calloop::futures::{Context, Executor, Future, Poll, Waker, make_executor};
 use calloop::ping::make_ping;
 use calloop::{
-    Adapter, Async, Callback, Choice, Dispatcher, EventDispatcher, Here, Instant, On, OneOf,
-    PingSource, Place, Readiness, Requests, ScriptLoop, Sources, There,
+    Adapter, Async, Callback, Choice, Dispatcher, EventDispatcher, Here, On, OneOf, PingSource,
+    Place, Requests, ScriptLoop, Sources, There,
 };
 use calloop_core::sys::Interest;
-use calloop_core::sys::script::{
-    ScriptAnswer, ScriptCall, ScriptClock, ScriptEnd, ScriptEvents, ScriptIo, ScriptPoller,
-};
+use calloop_core::sys::script::{ScriptCall, ScriptClock, ScriptIo, ScriptPoller};
 use std::alloc::Global;
 use std::sync::{Arc, Mutex, Wait};
 use std::time::Duration;
@@ -144,7 +143,7 @@ where
     ping.ping();
     go_on(rt, &mut event_loop, &mut given)?;
     let is_early = given.is_pending && given.woken == 0;
-    answers(&mut event_loop, alloc)?;
+    answer(&mut event_loop, alloc, KEY, READABLE)?;
     go_on(rt, &mut event_loop, &mut given)?;
     go_on(rt, &mut event_loop, &mut given)?;
     let mut handle = event_loop.handle();
@@ -159,24 +158,4 @@ where
     R: Wait + Clone + Drop,
 {
     event_loop.dispatch(rt, Some(Duration::ZERO), given).ok()
-}
-
-// The next wait finds the socket readable.
-fn answers<D, R>(event_loop: &mut ScriptLoop<D, R>, alloc: Global) -> Option<()>
-where
-    D: EventDispatcher<ScriptPoller, ScriptClock, R, Data = Given<R>>,
-    R: Wait + Clone + Drop,
-{
-    let found = Readiness {
-        readable: true,
-        writable: false,
-        error: false,
-    };
-    let mut events = ScriptEvents::new(alloc);
-    events.push(KEY, found).ok()?;
-    let answer = ScriptAnswer {
-        moment: Instant::from_millis(1),
-        end: ScriptEnd::Events(events),
-    };
-    event_loop.handle().poller_mut().script(answer).ok()
 }

@@ -1,13 +1,11 @@
 //! Adapters whose sockets were taken out, or that the poller fails to delete.
 use super::desk::Silent;
-use calloop::futures::{Context, Future, Poll};
+use super::looks::{Adapted, Held, look, new_adapted};
 use calloop::{
-    Adapter, Async, Choice, Dispatcher, Error, EventDispatcher, Here, Instant, Keep, OneOf,
-    Readiness, RegistrationToken, Requests, ScriptLoop, Sources, There, Timer,
+    Adapter, Choice, Dispatcher, Error, EventDispatcher, Here, Instant, Keep, RegistrationToken,
+    Requests, ScriptLoop, There, Timer,
 };
-use calloop_core::sys::script::{
-    ScriptAnswer, ScriptClock, ScriptEnd, ScriptEvents, ScriptIo, ScriptKind, ScriptPoller,
-};
+use calloop_core::sys::script::{ScriptClock, ScriptKind, ScriptPoller};
 use std::alloc::Global;
 use std::io;
 use std::sync::Wait;
@@ -36,11 +34,8 @@ enum Cause {
     NoSocket,
 }
 
-/// What a loop of these tests holds.
-type Held<R> = Sources<OneOf<Adapter<ScriptPoller, R>, Dispatcher<Timer, Silent>>, ()>;
-
 // A loop with one adapter in its first slot, whose socket is registered.
-fn register_new<D, R>(rt: &R, alloc: Global) -> Option<(ScriptLoop<D, R>, Async<ScriptPoller, R>)>
+fn register_new<D, R>(rt: &R, alloc: Global) -> Option<Adapted<D, R>>
 where
     D: EventDispatcher<ScriptPoller, ScriptClock, R, Data = ()>,
     D: Keep<
@@ -54,55 +49,9 @@ where
     >,
     R: Wait + Clone + Drop,
 {
-    let mut event_loop: ScriptLoop<D, R> = ScriptLoop::with_script(rt, alloc).ok()?;
-    let io = event_loop
-        .handle()
-        .adapt_io(rt, alloc, ScriptIo { number: 1 });
-    let looks = Looks { io: io.ok() };
-    answers(&mut event_loop, alloc)?;
-    let looked = event_loop.block_on(rt, alloc, looks, &mut (), |_data| {});
-    let io = looked.ok()??;
-    Some((event_loop, io?))
-}
-
-// The next wait finds the socket in the first slot readable.
-fn answers<D, R>(event_loop: &mut ScriptLoop<D, R>, alloc: Global) -> Option<()>
-where
-    D: EventDispatcher<ScriptPoller, ScriptClock, R, Data = ()>,
-    R: Wait + Clone + Drop,
-{
-    let found = Readiness {
-        readable: true,
-        writable: false,
-        error: false,
-    };
-    let mut events = ScriptEvents::new(alloc);
-    events.push(0, found).ok()?;
-    let answer = ScriptAnswer {
-        moment: Instant::from_millis(1),
-        end: ScriptEnd::Events(events),
-    };
-    event_loop.handle().poller_mut().script(answer).ok()
-}
-
-/// Waits until its socket can be read, and gives it back.
-#[derive(Drop)]
-struct Looks<R: Wait + Drop> {
-    io: Option<Async<ScriptPoller, R>>,
-}
-
-impl<R: Wait + Clone + Drop> Future<R> for Looks<R> {
-    type Output = Option<Async<ScriptPoller, R>>;
-
-    fn poll(&mut self, cx: &mut Context<'_, R>) -> Poll<Option<Async<ScriptPoller, R>>> {
-        let Some(io) = &mut self.io else {
-            return Poll::Ready(None);
-        };
-        match io.readable().poll(cx) {
-            Poll::Ready(_) => Poll::Ready(self.io.take()),
-            Poll::Pending => Poll::Pending,
-        }
-    }
+    let (mut event_loop, io): Adapted<D, R> = new_adapted(rt, alloc, 1)?;
+    let io = look(rt, &mut event_loop, alloc, io)?;
+    Some((event_loop, io))
 }
 
 // Whether an adapter whose registered socket was taken out is refused so, and stays until its socket is there again.

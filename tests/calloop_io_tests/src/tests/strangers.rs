@@ -1,13 +1,7 @@
 //! Two loops, and adapters of the one that are given back to the other.
-use super::desk::Silent;
-use calloop::futures::{Context, Future, Poll};
-use calloop::{
-    Adapter, Async, Dispatcher, Error, EventDispatcher, Here, Instant, Keep, OneOf, Readiness,
-    Requests, ScriptLoop, Sources, Timer,
-};
-use calloop_core::sys::script::{
-    ScriptAnswer, ScriptClock, ScriptEnd, ScriptEvents, ScriptIo, ScriptKind, ScriptPoller,
-};
+use super::looks::{Adapted, Held, look, new_adapted};
+use calloop::{Adapter, Async, Error, EventDispatcher, Here, Keep, Requests, ScriptLoop};
+use calloop_core::sys::script::{ScriptClock, ScriptKind, ScriptPoller};
 use std::alloc::Global;
 use std::sync::Wait;
 use std::time::Duration;
@@ -49,11 +43,6 @@ enum Own {
     IsDropped,
 }
 
-/// What a loop of these tests holds.
-type Held<R> = Sources<OneOf<Adapter<ScriptPoller, R>, Dispatcher<Timer, Silent>>, ()>;
-
-type Adapted<D, R> = (ScriptLoop<D, R>, Async<ScriptPoller, R>);
-
 // Whether a loop refuses to give back an adapter of another loop, which stands under the token of an own one, and which that loop then gives
 // back.
 fn refuses_a_stranger<D, R>(rt: &R, alloc: Global, own: Own) -> Option<bool>
@@ -83,26 +72,6 @@ where
         None => here.dispatch(rt, Some(Duration::ZERO), &mut ()).is_ok(),
     };
     Some(is_invalid && socket.number == 2 && is_own)
-}
-
-// A loop with one adapter, in its first slot.
-fn new_adapted<D, R>(rt: &R, alloc: Global, number: u32) -> Option<Adapted<D, R>>
-where
-    D: EventDispatcher<ScriptPoller, ScriptClock, R, Data = ()>,
-    D: Keep<
-        Adapter<ScriptPoller, R>,
-        ScriptPoller,
-        ScriptClock,
-        R,
-        (),
-        Requests<D, <D as EventDispatcher<ScriptPoller, ScriptClock, R>>::Idle>,
-        Here,
-    >,
-    R: Wait + Clone + Drop,
-{
-    let mut event_loop: ScriptLoop<D, R> = ScriptLoop::with_script(rt, alloc).ok()?;
-    let io = event_loop.handle().adapt_io(rt, alloc, ScriptIo { number });
-    Some((event_loop, io.ok()?))
 }
 
 // What is left of an adapter's other end, after this.
@@ -138,53 +107,10 @@ where
     D: EventDispatcher<ScriptPoller, ScriptClock, R, Data = ()>,
     R: Wait + Clone + Drop,
 {
-    answers(event_loop, alloc)?;
-    let looks = Looks { io: Some(io) };
-    let looked = event_loop.block_on(rt, alloc, looks, &mut (), |_data| {});
-    let io = looked.ok()??;
+    let io = look(rt, event_loop, alloc, io)?;
     event_loop.handle().poller_mut().fail(ScriptKind::Delete);
-    match event_loop.handle().into_inner(io?) {
+    match event_loop.handle().into_inner(io) {
         Ok(_) => None,
         Err(refused) => Some(refused.inserted),
-    }
-}
-
-// The next wait finds the socket in the first slot readable.
-fn answers<D, R>(event_loop: &mut ScriptLoop<D, R>, alloc: Global) -> Option<()>
-where
-    D: EventDispatcher<ScriptPoller, ScriptClock, R, Data = ()>,
-    R: Wait + Clone + Drop,
-{
-    let found = Readiness {
-        readable: true,
-        writable: false,
-        error: false,
-    };
-    let mut events = ScriptEvents::new(alloc);
-    events.push(0, found).ok()?;
-    let answer = ScriptAnswer {
-        moment: Instant::from_millis(1),
-        end: ScriptEnd::Events(events),
-    };
-    event_loop.handle().poller_mut().script(answer).ok()
-}
-
-/// Waits until its socket can be read, and gives it back.
-#[derive(Drop)]
-struct Looks<R: Wait + Drop> {
-    io: Option<Async<ScriptPoller, R>>,
-}
-
-impl<R: Wait + Clone + Drop> Future<R> for Looks<R> {
-    type Output = Option<Async<ScriptPoller, R>>;
-
-    fn poll(&mut self, cx: &mut Context<'_, R>) -> Poll<Option<Async<ScriptPoller, R>>> {
-        let Some(io) = &mut self.io else {
-            return Poll::Ready(None);
-        };
-        match io.readable().poll(cx) {
-            Poll::Ready(_) => Poll::Ready(self.io.take()),
-            Poll::Pending => Poll::Pending,
-        }
     }
 }
