@@ -4,12 +4,12 @@ use Rattle.std.specs.declared.io.ErrorKind.TheVariants.{NotFound}
 use Rattle.calloop_wake.specs.declared.error.Error.{Error}
 use Rattle.calloop_wake.specs.declared.error.Error.TheVariants.{InvalidToken}
 use Rattle.calloop_wake.specs.declared.token.Token.{Token}
-use Rattle.calloop_core.specs.Pollers.{Outside, Sockets}
-use Rattle.calloop_core.specs.Polls.{PollView, PollStep, IsOfKind, AllStepped, polls_after}
+use Rattle.calloop_core.specs.sys.Pollers.{Outside, Sockets}
+use Rattle.calloop_core.specs.sys.Polls.{PollView, PollStep, IsOfKind, AllStepped, polls_after}
 use Rattle.calloop_core.proofs.Stepping.{stepped-append}
 use Rattle.calloop.specs.declared.io.adapter.Adapter.{Adapter}
 use Rattle.calloop.specs.declared.io.notes.SlotNote.TheVariants.{Asked}
-use Rattle.calloop.specs.Adapters.{TakenOut, Leaves, Goes, discards, left_so, registered_nowhere, and_did}
+use Rattle.calloop.specs.io.Adapters.{TakenOut, Leaves, Goes, discards, left_so, registered_nowhere, and_did}
 
 module _ {P R I : Type 0} (sockets : Sockets P I) (O : Outside P) where
   abbrev Left : Option Token → Adapter P R I → PollView P → Result (Unit {0}) Error → Adapter P R I → PollView P → Type 0

@@ -1,15 +1,15 @@
 -- The turn of a cell's receiving end, by what it finds.
-use Rattle.std.proofs.Common.{◌≡◌, ◌⊎◌, List, [], ◌∷◌, refl, true, Option, Some, None, Ok}
+use Rattle.std.proofs.Common.{◌≡◌, List, [], ◌∷◌, refl, true, Option, Some, None, Ok}
 use Rattle.calloop_wake.specs.declared.token.Token.{Token}
 use Rattle.calloop_wake.specs.declared.wake.Tally.{Tally}
 use Rattle.calloop_wake.specs.Tokens.{key_of}
-use Rattle.calloop_wake.specs.Cells.{is_own}
-use Rattle.calloop_wake.specs.Passes.{Taken}
+use Rattle.calloop_wake.specs.wake.Cells.{is_own}
+use Rattle.calloop_wake.specs.wake.Passes.{Taken}
 use Rattle.calloop_core.specs.declared.sources.source.PostAction.{PostAction}
 use Rattle.calloop_core.specs.declared.sources.source.PostAction.TheVariants.{Continue}
-use Rattle.calloop_core.specs.Calls.{CallbackCall}
-use Rattle.calloop_core.specs.Polls.{PollStep, TakePass}
-use Rattle.calloop.specs.CellSources.{OpenTurns, TurnWith, CellTurn}
+use Rattle.calloop_core.specs.sources.Calls.{CallbackCall}
+use Rattle.calloop_core.specs.sys.Polls.{PollStep, TakePass}
+use Rattle.calloop.specs.cell.CellSources.{OpenTurns, TurnWith, CellTurn}
 
 module _ (S P E M T Cause : Type 0) (tally : S → Tally) (Opens : OpenTurns S E M T) (s : S) (token : Token) (pass : Option Taken) where
   -- an event without a pass

@@ -15,18 +15,18 @@ use Rattle.calloop_core.specs.declared.sys.Readiness.{Readiness}
 use Rattle.calloop_core.specs.declared.sys.poll.Pending.{Pending}
 use Rattle.calloop_core.specs.declared.sources.source.PostAction.{PostAction}
 use Rattle.calloop_core.specs.declared.sources.source.PostAction.TheVariants.{Continue, Reregister, Disable as DisableIt, Remove}
-use Rattle.calloop_core.specs.Deeds.{Deed, Lent, Reregistered, Unregistered, Slept}
-use Rattle.calloop_core.specs.Meanings.{Meaning}
-use Rattle.calloop_core.specs.Pollers.{Outside}
-use Rattle.calloop_core.specs.Polls.{PollView, PollStep}
-use Rattle.calloop_core.specs.Waits.{Waited}
+use Rattle.calloop_core.specs.sources.Deeds.{Deed, Lent, Reregistered, Unregistered, Slept}
+use Rattle.calloop_core.specs.sources.Meanings.{Meaning}
+use Rattle.calloop_core.specs.sys.Pollers.{Outside}
+use Rattle.calloop_core.specs.sys.Polls.{PollView, PollStep}
+use Rattle.calloop_core.specs.sys.Waits.{Waited}
 use Rattle.calloop.specs.declared.loop_logic.asks.Asked.{Asked}
 use Rattle.calloop.specs.declared.loop_logic.asks.Idling.{Idling as Waiter}
-use Rattle.calloop.specs.Askings.{Asks, Runs}
-use Rattle.calloop.specs.DispatchErrors.{FailsWith, IsOfDispatch}
-use Rattle.calloop.specs.Held.{is_listed}
-use Rattle.calloop.specs.Machine.{View, Change, all_viewed}
-use Rattle.calloop.specs.Rules.{Doing, Beginning, Settling, Sleeping, Waiting, Gathering, Noticing, Cutting, Serving, Ending, Returning, Idling, RunningIdles, ServingIdle, Leaving, Outcome, Step, Steps, SleptAs, SleptBy, NoticedBy, CutTo, CutFrom, RegisteredBy, ActedBy, ServedFrom, RunFrom, DispatchedBy, action_of, after_wait, after_turn}
+use Rattle.calloop.specs.loop_logic.Askings.{Asks, Runs}
+use Rattle.calloop.specs.loop_logic.DispatchErrors.{FailsWith, IsOfDispatch}
+use Rattle.calloop.specs.loop_logic.Held.{is_listed}
+use Rattle.calloop.specs.loop_logic.Machine.{View, Change, all_viewed}
+use Rattle.calloop.specs.loop_logic.Rules.{Doing, Beginning, Settling, Sleeping, Waiting, Gathering, Noticing, Cutting, Serving, Ending, Returning, Idling, RunningIdles, ServingIdle, Leaving, Outcome, Step, Steps, SleptAs, SleptBy, NoticedBy, CutTo, CutFrom, RegisteredBy, ActedBy, ServedFrom, RunFrom, DispatchedBy, action_of, after_wait, after_turn}
 
 -- an answer, of which only an error is in question
 of_error : {A : Type 0} (F : Error → Type 0) (answer : Result A Error) → ((e : Error) → answer ≡ Err e → F e) → IfErr answer F

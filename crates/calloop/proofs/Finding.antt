@@ -1,7 +1,7 @@
 -- Where the answer under a ticket stands.
 use Rattle.std.proofs.Common.{◌≡◌, ℕ, zero, suc, ◌<◌, ◌+◌, ◌⊎◌, inl, inr, length, get_or, true, false, if◌then◌else◌, nat_eq, List, [], ◌∷◌, Some, None, slice_get, refl, ap, sym, ◌∙◌, arith}
 use Rattle.calloop.specs.declared.loop_logic.asks.Answered.{Answered}
-use Rattle.calloop.specs.Askings.{answer_under, without, StandsAt}
+use Rattle.calloop.specs.loop_logic.Askings.{answer_under, without, StandsAt}
 
 -- none of those before this place has the ticket
 abbrev pub NoneBefore : {D : Type 0} → (ticket place : ℕ) → List (Answered D) → Type 0

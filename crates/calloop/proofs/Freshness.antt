@@ -12,26 +12,26 @@ use Rattle.calloop_wake.specs.Slots.{content_at}
 use Rattle.calloop_core.specs.declared.sys.poll.Pending.{Pending}
 use Rattle.calloop_core.specs.declared.sources.source.PostAction.{PostAction}
 use Rattle.calloop_core.specs.declared.sources.source.PostAction.TheVariants.{Continue, Reregister, Disable as DisableIt, Remove}
-use Rattle.calloop_core.specs.Pollers.{Outside}
-use Rattle.calloop_core.specs.Polls.{PollStep, own_event}
+use Rattle.calloop_core.specs.sys.Pollers.{Outside}
+use Rattle.calloop_core.specs.sys.Polls.{PollStep, own_event}
 use Rattle.calloop.specs.declared.loop_logic.LoopCall.{LoopCall}
 use Rattle.calloop.specs.declared.loop_logic.LoopCall.TheVariants.{Insert, Enable, Update, Disable, Remove as RemoveCall, Release, Exchange, Dispatch, InsertIdle, Cancel, Answer as AnswerOf, ForgetStop, LookForStop, Poller as NewPoller}
 use Rattle.calloop.specs.declared.loop_logic.LoopAnswer.{LoopAnswer}
 use Rattle.calloop.specs.declared.loop_logic.LoopAnswer.TheVariants.{Inserted, Enabled, Updated, Disabled, Removed, Released, Exchanged, Dispatched, IdleInserted, Cancelled, Answered, StopForgotten, Stopped, Poller as OldPoller}
-use Rattle.calloop_core.specs.Deeds.{Lent}
-use Rattle.calloop_core.specs.Meanings.{Meaning}
+use Rattle.calloop_core.specs.sources.Deeds.{Lent}
+use Rattle.calloop_core.specs.sources.Meanings.{Meaning}
 use Rattle.calloop.specs.declared.loop_logic.asks.Asked.{Asked}
 use Rattle.calloop.specs.declared.loop_logic.asks.Idling.{Idling as Waiter}
 use Rattle.calloop.specs.declared.loop_logic.asks.Request.{Request}
 use Rattle.calloop.specs.declared.loop_logic.asks.Request.TheVariants.{Insert as AskInsert, Enable as AskEnable, Update as AskUpdate, Disable as AskDisable, Remove as AskRemove, Idle as AskIdle, Cancel as AskCancel}
-use Rattle.calloop.specs.Askings.{Asks, Runs, begun_from}
-use Rattle.calloop.specs.Machine.{World, View, IsNew, Change, Holds, visible, slot_of, world_after, world_after_all, Appended}
+use Rattle.calloop.specs.loop_logic.Askings.{Asks, Runs, begun_from}
+use Rattle.calloop.specs.loop_logic.Machine.{World, View, IsNew, Change, Holds, visible, slot_of, world_after, world_after_all, Appended}
 use Rattle.calloop.proofs.Roles.{left_removed}
-use Rattle.calloop.specs.Roles.{only, is_callers, is_adapter}
-use Rattle.calloop.specs.Rules.{Doing, Beginning, Settling, Sleeping, Waiting, Gathering, Noticing, Cutting, Serving, Ending, Returning, Idling, RunningIdles, ServingIdle, Leaving, Outcome, Step, Steps, SleptAs, SleptBy, NoticedBy, told_in, CutTo, CutFrom, ActedBy, ReturnedTo, vacate, Case, Run, InsertedBy, AskedIn, SettledIn, TakesUp, as_listed, RemovedIn, EnabledBy, UpdatedBy, DisabledBy, RemovedBy, ReleasedBy, ExchangedIn, ExchangedBy, IdleInsertedBy, OwnOr, Served, ServedAs, ServedFrom, RunFrom, action_of, Once, all_traced, appends}
-use Rattle.calloop.specs.Held.{HeldStep, Begun, Pend}
-use Rattle.calloop.specs.Laws.{AllBring, flatten, changes_of}
-use Rattle.calloop.specs.Freshness.{AreOnly, IsOnly, AsksOnly, RunsOnly, CallBrings, AllCallsBring}
+use Rattle.calloop.specs.loop_logic.Roles.{only, is_callers, is_adapter}
+use Rattle.calloop.specs.loop_logic.Rules.{Doing, Beginning, Settling, Sleeping, Waiting, Gathering, Noticing, Cutting, Serving, Ending, Returning, Idling, RunningIdles, ServingIdle, Leaving, Outcome, Step, Steps, SleptAs, SleptBy, NoticedBy, told_in, CutTo, CutFrom, ActedBy, ReturnedTo, vacate, Case, Run, InsertedBy, AskedIn, SettledIn, TakesUp, as_listed, RemovedIn, EnabledBy, UpdatedBy, DisabledBy, RemovedBy, ReleasedBy, ExchangedIn, ExchangedBy, IdleInsertedBy, OwnOr, Served, ServedAs, ServedFrom, RunFrom, action_of, Once, all_traced, appends}
+use Rattle.calloop.specs.loop_logic.Held.{HeldStep, Begun, Pend}
+use Rattle.calloop.specs.loop_logic.Laws.{AllBring, flatten, changes_of}
+use Rattle.calloop.specs.loop_logic.Freshness.{AreOnly, IsOnly, AsksOnly, RunsOnly, CallBrings, AllCallsBring}
 use Rattle.calloop.proofs.Rights.{done-joined}
 use Rattle.calloop.proofs.Seen.{seen-all_done, done-append}
 

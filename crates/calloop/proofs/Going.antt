@@ -15,23 +15,23 @@ use Rattle.calloop_core.specs.declared.sources.source.PostAction.{PostAction}
 use Rattle.calloop_core.specs.declared.sources.source.PostAction.TheVariants.{Continue, Remove}
 use Rattle.calloop_wake.specs.declared.token.Token.{Token}
 use Rattle.calloop_core.specs.declared.sys.Readiness.{Readiness}
-use Rattle.calloop_core.specs.Pollers.{Outside}
-use Rattle.calloop_core.specs.Waits.{Polled}
-use Rattle.calloop_core.specs.Events.{events_of}
-use Rattle.calloop_core.specs.Polls.{PollView, PollStep, with_new_poller, with_watch, after_count, with_pass, after_cut, cut_from, with_turn_of, tail_of, head_of, poll_after, polls_after, TakePass, PutBack, Arm, ArmAgain, Cancel, Call, ReadClock, Socket, Fault, own_event, own_events, with_events}
-use Rattle.calloop_core.specs.Deeds.{Turned, Unregistered, Slept, Noticed, Lent, lend}
-use Rattle.calloop_core.specs.Meanings.{Meaning, Does}
+use Rattle.calloop_core.specs.sys.Pollers.{Outside}
+use Rattle.calloop_core.specs.sys.Waits.{Polled}
+use Rattle.calloop_core.specs.sys.Events.{events_of}
+use Rattle.calloop_core.specs.sys.Polls.{PollView, PollStep, with_new_poller, with_watch, after_count, with_pass, after_cut, cut_from, with_turn_of, tail_of, head_of, poll_after, polls_after, TakePass, PutBack, Arm, ArmAgain, Cancel, Call, ReadClock, Socket, Fault, own_event, own_events, with_events}
+use Rattle.calloop_core.specs.sources.Deeds.{Turned, Unregistered, Slept, Noticed, Lent, lend}
+use Rattle.calloop_core.specs.sources.Meanings.{Meaning, Does}
 use Rattle.calloop.specs.declared.loop_logic.asks.Answer.TheVariants.{Removed as RemovedAnswer}
 use Rattle.calloop.specs.declared.loop_logic.asks.Asked.{Asked}
 use Rattle.calloop.specs.declared.loop_logic.asks.Idling.{Idling as Waiter}
-use Rattle.calloop.specs.Held.{HeldStep, Unlisted, Pend, Asking, Paid, Cleared, Warned, with_warning, IdlesTaken, IdleBegun, held_after}
-use Rattle.calloop.specs.Askings.{Asks, AskStep, Write, Take, Runs, Reaches, ask_after, asks_after, of_turn, without_old, idle_begun, running_of}
-use Rattle.calloop.specs.Machine.{with_marks_taken, View, Change, Put, Polls, Polling, Watching, Counting, Holds, Gathered, Cut, Ended, all_viewed, AllFit, IsFull, Appended, after_change}
-use Rattle.calloop_core.specs.Marking.{AreTaken}
-use Rattle.calloop_wake.specs.Watches.{with_note}
+use Rattle.calloop.specs.loop_logic.Held.{HeldStep, Unlisted, Pend, Asking, Paid, Cleared, Warned, with_warning, IdlesTaken, IdleBegun, held_after}
+use Rattle.calloop.specs.loop_logic.Askings.{Asks, AskStep, Write, Take, Runs, Reaches, ask_after, asks_after, of_turn, without_old, idle_begun, running_of}
+use Rattle.calloop.specs.loop_logic.Machine.{with_marks_taken, View, Change, Put, Polls, Polling, Watching, Counting, Holds, Gathered, Cut, Ended, all_viewed, AllFit, IsFull, Appended, after_change}
+use Rattle.calloop_core.specs.sys.TakenMarks.{AreTaken}
+use Rattle.calloop_wake.specs.wake.Watches.{with_note}
 use Rattle.calloop_wake.specs.declared.wake.notes.Note.TheVariants.{Counted, Marked}
-use Rattle.calloop.specs.Rules.{Goes, Steps, Step, Doing, Beginning, Settling, Sleeping, Waiting, Gathering, Noticing, Cutting, Serving, Ending, Returning, Idling, RunningIdles, ServingIdle, Leaving, Outcome, ByOne, unlisting_of, after_changes, told_in, SleptAs, SleptBy, NoticedBy, ActedBy, ReturnedTo, vacate, after_turn as after, CutTo, CutFrom, ServedFrom, RunFrom, action_of, DispatchedBy, Did, appends}
-use Rattle.calloop.specs.Serving.{FirstServed, AllServed}
+use Rattle.calloop.specs.loop_logic.Rules.{Goes, Steps, Step, Doing, Beginning, Settling, Sleeping, Waiting, Gathering, Noticing, Cutting, Serving, Ending, Returning, Idling, RunningIdles, ServingIdle, Leaving, Outcome, ByOne, unlisting_of, after_changes, told_in, SleptAs, SleptBy, NoticedBy, ActedBy, ReturnedTo, vacate, after_turn as after, CutTo, CutFrom, ServedFrom, RunFrom, action_of, DispatchedBy, Did, appends}
+use Rattle.calloop.specs.loop_logic.Serving.{FirstServed, AllServed}
 
 traced-append : {D I P : Type 0} (v : View D I P) (css dss : List (List (Change D I P))) → after_changes v (css ++ dss) ≡ after_changes (after_changes v css) dss
 traced-append v [] dss = refl

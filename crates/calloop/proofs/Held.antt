@@ -2,10 +2,10 @@
 use Rattle.std.proofs.Common.{refl, Result}
 use Rattle.calloop_wake.specs.declared.error.Error.{Error}
 use Rattle.calloop_wake.specs.declared.token.TokenFactory.{TokenFactory}
-use Rattle.calloop_core.specs.Pollers.{Outside}
-use Rattle.calloop_core.specs.Polls.{PollView}
-use Rattle.calloop_core.specs.Deeds.{Registered, Lent}
-use Rattle.calloop_core.specs.Meanings.{Meaning, IsHeld, Does}
+use Rattle.calloop_core.specs.sys.Pollers.{Outside}
+use Rattle.calloop_core.specs.sys.Polls.{PollView}
+use Rattle.calloop_core.specs.sources.Deeds.{Registered, Lent}
+use Rattle.calloop_core.specs.sources.Meanings.{Meaning, IsHeld, Does}
 
 pub held_reg : {A D P X Q : Type 0} (O : Outside P) (held : A → D) (m : Meaning A P (Lent X Q)) (M : Meaning D P (Lent X Q)) → IsHeld held m M
     → (s t : A) (v v' : PollView P) (f g : TokenFactory) (answer : Result (Unit {0}) Error)

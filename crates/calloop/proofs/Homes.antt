@@ -21,27 +21,27 @@ use Rattle.calloop_core.specs.declared.sys.Readiness.{Readiness}
 use Rattle.calloop_core.specs.declared.sys.poll.Pending.{Pending}
 use Rattle.calloop_core.specs.declared.sources.source.PostAction.{PostAction}
 use Rattle.calloop_core.specs.declared.sources.source.PostAction.TheVariants.{Continue, Reregister, Disable as DisableIt, Remove}
-use Rattle.calloop_core.specs.Pollers.{Outside, nanos_of}
-use Rattle.calloop_core.specs.Polls.{PollView, PollStep, after_cut, own_event}
-use Rattle.calloop_core.specs.Keys.{IsFactoryOf}
-use Rattle.calloop_core.specs.Deeds.{Registered, Reregistered, Unregistered, Turned, Slept, Lent, lend}
-use Rattle.calloop_core.specs.Meanings.{Meaning, IsAtHome, BeginsIn, KeepsHome}
+use Rattle.calloop_core.specs.sys.Pollers.{Outside, nanos_of}
+use Rattle.calloop_core.specs.sys.Polls.{PollView, PollStep, after_cut, own_event}
+use Rattle.calloop_core.specs.sys.Keys.{IsFactoryOf}
+use Rattle.calloop_core.specs.sources.Deeds.{Registered, Reregistered, Unregistered, Turned, Slept, Lent, lend}
+use Rattle.calloop_core.specs.sources.Meanings.{Meaning, IsAtHome, BeginsIn, KeepsHome}
 use Rattle.calloop.specs.declared.loop_logic.LoopCall.{LoopCall}
 use Rattle.calloop.specs.declared.loop_logic.LoopCall.TheVariants.{Insert, Enable, Update, Disable, Remove as RemoveCall, Release, Exchange, Dispatch, InsertIdle, Cancel, Answer as AnswerOf, ForgetStop, LookForStop, Poller as NewPoller}
 use Rattle.calloop.specs.declared.loop_logic.LoopAnswer.{LoopAnswer}
 use Rattle.calloop.specs.declared.loop_logic.LoopAnswer.TheVariants.{Inserted, Enabled, Updated, Disabled, Removed, Released, Exchanged, Dispatched, IdleInserted, Cancelled, Answered, StopForgotten, Stopped, Poller as OldPoller}
-use Rattle.calloop.specs.Held.{HeldStep, Begun, Pend}
+use Rattle.calloop.specs.loop_logic.Held.{HeldStep, Begun, Pend}
 use Rattle.calloop.specs.declared.loop_logic.asks.Asked.{Asked}
 use Rattle.calloop.specs.declared.loop_logic.asks.Idling.{Idling as Waiter}
 use Rattle.calloop.specs.declared.loop_logic.asks.Request.{Request}
 use Rattle.calloop.specs.declared.loop_logic.asks.Request.TheVariants.{Insert as AskInsert, Enable as AskEnable, Update as AskUpdate, Disable as AskDisable, Remove as AskRemove, Idle as AskIdle, Cancel as AskCancel}
-use Rattle.calloop.specs.Askings.{Asks, Runs, asks_after, of_turn}
-use Rattle.calloop.specs.Machine.{World, View, IsNew, Change, Holds, all_viewed, visible, slot_of, after_change, Appended}
-use Rattle.calloop.specs.Roles.{only, is_callers, is_adapter}
+use Rattle.calloop.specs.loop_logic.Askings.{Asks, Runs, asks_after, of_turn}
+use Rattle.calloop.specs.loop_logic.Machine.{World, View, IsNew, Change, Holds, all_viewed, visible, slot_of, after_change, Appended}
+use Rattle.calloop.specs.loop_logic.Roles.{only, is_callers, is_adapter}
 use Rattle.calloop.proofs.Roles.{Shows, only_is, left_removed}
-use Rattle.calloop.specs.Rules.{Doing, Beginning, Settling, Sleeping, Waiting, Gathering, Noticing, Cutting, Serving, Ending, Returning, Idling, RunningIdles, ServingIdle, Leaving, Step, Steps, SleptAs, SleptBy, NoticedBy, told_in, CutTo, CutFrom, ActedBy, ReturnedTo, vacate, after_turn, after_wait, Outcome, RegisteredBy, Case, Once, Run, InsertedBy, AskedIn, SettledIn, TakesUp, as_listed, EnabledBy, UpdatedBy, DisabledBy, RemovedIn, RemovedBy, ReleasedBy, ExchangedIn, ExchangedBy, IdleInsertedBy, OwnOr, Served, ServedAs, ServedFrom, RunFrom, action_of, factory_of, after_changes, all_traced, appends}
-use Rattle.calloop.specs.Homes.{AllAtHome}
-use Rattle.calloop.specs.Laws.{HasNoMoreKeys, AllBringNoKey, flatten, changes_of}
+use Rattle.calloop.specs.loop_logic.Rules.{Doing, Beginning, Settling, Sleeping, Waiting, Gathering, Noticing, Cutting, Serving, Ending, Returning, Idling, RunningIdles, ServingIdle, Leaving, Step, Steps, SleptAs, SleptBy, NoticedBy, told_in, CutTo, CutFrom, ActedBy, ReturnedTo, vacate, after_turn, after_wait, Outcome, RegisteredBy, Case, Once, Run, InsertedBy, AskedIn, SettledIn, TakesUp, as_listed, EnabledBy, UpdatedBy, DisabledBy, RemovedIn, RemovedBy, ReleasedBy, ExchangedIn, ExchangedBy, IdleInsertedBy, OwnOr, Served, ServedAs, ServedFrom, RunFrom, action_of, factory_of, after_changes, all_traced, appends}
+use Rattle.calloop.specs.loop_logic.Homes.{AllAtHome}
+use Rattle.calloop.specs.loop_logic.Laws.{HasNoMoreKeys, AllBringNoKey, flatten, changes_of}
 use Rattle.calloop.proofs.Seen.{seen-all_traced, viewed-append}
 
 -- Of slots.

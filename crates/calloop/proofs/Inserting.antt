@@ -15,23 +15,23 @@ use Rattle.calloop_wake.specs.Slots.{with_change, with_content, content_at, sour
 use Rattle.calloop_wake.proofs.Named.{turn_ended, named_changed, named_slot}
 use Rattle.calloop_wake.proofs.Inserted.{claim_ended}
 use Rattle.calloop_wake.proofs.Vacancy.{slice_get-claimed_at}
-use Rattle.calloop_core.specs.Polls.{PollView, PollStep, polls_after}
-use Rattle.calloop_core.specs.Pollers.{Outside}
+use Rattle.calloop_core.specs.sys.Polls.{PollView, PollStep, polls_after}
+use Rattle.calloop_core.specs.sys.Pollers.{Outside}
 use Rattle.calloop.specs.declared.loop_logic.LoopCall.TheVariants.{Insert, Enable as EnableCall, Update as UpdateCall, Disable as DisableCall, Remove, Release, Exchange, InsertIdle}
 use Rattle.calloop.specs.declared.loop_logic.LoopAnswer.TheVariants.{Inserted, Enabled, Updated, Disabled, Removed, Released, Exchanged, IdleInserted}
-use Rattle.calloop_core.specs.Deeds.{Registered, Reregistered, Unregistered, Lent}
-use Rattle.calloop_core.specs.Meanings.{Meaning, Does}
+use Rattle.calloop_core.specs.sources.Deeds.{Registered, Reregistered, Unregistered, Lent}
+use Rattle.calloop_core.specs.sources.Meanings.{Meaning, Does}
 use Rattle.calloop.specs.declared.loop_logic.registering.RegistrationCall.{RegistrationCall}
 use Rattle.calloop.specs.declared.loop_logic.registering.RegistrationCall.TheVariants.{Enable, Update, Disable}
 use Rattle.calloop.specs.declared.loop_logic.stops.StopNote.{StopNote}
-use Rattle.calloop.specs.Held.{HeldStep, is_listed, IdleNew, Listed, Unlisted, Warned, with_warning, held_after}
-use Rattle.calloop.specs.Askings.{Asks, Runs, CannotAsk, with_new_idle}
-use Rattle.calloop.specs.Machine.{View, Change, Put, Claim, Swapped, Polls, Holds, AllFit, IsFull, StandsIn, all_viewed}
+use Rattle.calloop.specs.loop_logic.Held.{HeldStep, is_listed, IdleNew, Listed, Unlisted, Warned, with_warning, held_after}
+use Rattle.calloop.specs.loop_logic.Askings.{Asks, Runs, CannotAsk, with_new_idle}
+use Rattle.calloop.specs.loop_logic.Machine.{View, Change, Put, Claim, Swapped, Polls, Holds, AllFit, IsFull, StandsIn, all_viewed}
 use Rattle.calloop.proofs.Going.{full_named}
-use Rattle.calloop.specs.Roles.{only, is_callers, is_adapter}
+use Rattle.calloop.specs.loop_logic.Roles.{only, is_callers, is_adapter}
 use Rattle.calloop.proofs.Roles.{only_source}
-use Rattle.calloop.specs.Registering.{loop_call_of, loop_answer_of}
-use Rattle.calloop.specs.Rules.{Did, Case, Once, Outcome, ByOne, RegisteredBy, listing_of, unlisting_of, CannotInsert, InsertedBy, EnabledBy, UpdatedBy, DisabledBy, RemovedBy, RemovedIn, ReleasedBy, ExchangedIn, ExchangedBy, IdleInsertedBy, AskedIn, factory_of}
+use Rattle.calloop.specs.loop_logic.Registering.{loop_call_of, loop_answer_of}
+use Rattle.calloop.specs.loop_logic.Rules.{Did, Case, Once, Outcome, ByOne, RegisteredBy, listing_of, unlisting_of, CannotInsert, InsertedBy, EnabledBy, UpdatedBy, DisabledBy, RemovedBy, RemovedIn, ReleasedBy, ExchangedIn, ExchangedBy, IdleInsertedBy, AskedIn, factory_of}
 
 -- what is put into a slot last stands there
 pub changed_twice : {D : Type 0} (c d : Content D) (ss : List (Slot D)) (i : ℕ) → with_change (with_content c) (with_change (with_content d) ss i) i ≡ with_change (with_content c) ss i

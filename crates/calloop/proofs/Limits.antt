@@ -8,11 +8,11 @@ use Rattle.calloop_wake.specs.Slots.{with_change, with_content, content_at, cont
 use Rattle.calloop_wake.proofs.Named.{named_slot, turn_ended}
 use Rattle.calloop_core.specs.declared.sources.dispatch.Role.{Role}
 use Rattle.calloop_core.specs.declared.sources.dispatch.Role.TheVariants.{Caller, Adapter, Timeout}
-use Rattle.calloop_core.specs.Pollers.{Outside}
-use Rattle.calloop_core.specs.Polls.{PollView}
-use Rattle.calloop_core.specs.Deeds.{Reregistered}
-use Rattle.calloop_core.specs.Meanings.{Meaning, KeepsLimit, Settles, fresh_factory}
-use Rattle.calloop.specs.Limits.{limit_in, all_limits}
+use Rattle.calloop_core.specs.sys.Pollers.{Outside}
+use Rattle.calloop_core.specs.sys.Polls.{PollView}
+use Rattle.calloop_core.specs.sources.Deeds.{Reregistered}
+use Rattle.calloop_core.specs.sources.Meanings.{Meaning, KeepsLimit, Settles, fresh_factory}
+use Rattle.calloop.specs.loop_logic.Limits.{limit_in, all_limits}
 use Rattle.calloop.proofs.Inserting.{changed_twice}
 
 pub not_less : (n m : ℕ) → ¬ (n < m) → m ≤ n

@@ -1,7 +1,7 @@
 -- What holds between any two moments of a list of changes holds of any two of its states.
 use Rattle.std.proofs.Common.{◌≡◌, List, [], ◌∷◌, ◌++◌, refl, ap}
-use Rattle.calloop.specs.Machine.{World, Change, world_after, world_after_all}
-use Rattle.calloop.specs.Laws.{moments_of, AllBehind, AnyTwo}
+use Rattle.calloop.specs.loop_logic.Machine.{World, Change, world_after, world_after_all}
+use Rattle.calloop.specs.loop_logic.Laws.{moments_of, AllBehind, AnyTwo}
 
 module _ {D I P : Type 0} (R : World D I P → World D I P → Type 0) where
   all_behind : (w u : World D I P) (cs : List (Change D I P))

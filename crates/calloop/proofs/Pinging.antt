@@ -1,14 +1,14 @@
 -- The registrations of a cell, by what they find.
-use Rattle.std.proofs.Common.{◌≡◌, ℕ, List, [], ◌∷◌, rules, refl, subst, nat_eq, Option, Some, None, IsSome, IfOk, IfErr, Result, Ok, Err, true, false}
+use Rattle.std.proofs.Common.{◌≡◌, ℕ, [], rules, refl, subst, nat_eq, Option, Some, None, IsSome, IfOk, IfErr, Result, Ok, Err, false}
 use Rattle.std.specs.Option.{option_eq}
 use Rattle.calloop_wake.specs.declared.error.Error.{Error}
 use Rattle.calloop_wake.specs.declared.token.Token.{Token}
 use Rattle.calloop_wake.specs.declared.token.TokenFactory.{TokenFactory}
 use Rattle.calloop_wake.specs.declared.wake.Tally.{Tally}
 use Rattle.calloop_wake.specs.Tokens.{key_of, next_token, after_token}
-use Rattle.calloop_wake.specs.Cells.{is_own}
-use Rattle.calloop_core.specs.Polls.{CannotOpen}
-use Rattle.calloop.specs.CellSources.{Registers, RegistersAnew, NoPlace, NoPlaceAnew}
+use Rattle.calloop_wake.specs.wake.Cells.{is_own}
+use Rattle.calloop_core.specs.sys.Polls.{CannotOpen}
+use Rattle.calloop.specs.cell.CellSources.{Registers, RegistersAnew, NoPlace, NoPlaceAnew}
 
 pub own_by_equal : (n : ℕ) (k : Option ℕ) → option_eq nat_eq k (Some n) ≡ is_own n k
 own_by_equal n None = refl

@@ -1,19 +1,13 @@
 -- The polls of an executor's turn, one after the other.
-use Rattle.std.proofs.Common.{◌≡◌, ℕ, ◌+◌, Bool, true, false, Option, Some, None, IfSome, if◌then◌else◌, Ok, List, [], ◌∷◌, ◌++◌, length, refl, sym, ap, subst, arith, ◌∙◌, append_assoc, append-nil, length-append}
-use Rattle.calloop_wake.specs.declared.wake.Tally.{Tally}
-use Rattle.calloop_wake.specs.declared.token.Token.{Token}
-use Rattle.calloop_wake.specs.Tokens.{key_of}
-use Rattle.calloop_wake.specs.Cells.{one, is_own}
-use Rattle.calloop_wake.specs.Passes.{Taken, Keyed, on}
-use Rattle.calloop_wake.specs.Executors.{ExecutorCell, after_poll_of, after_poll, taken_of, after_pop, after_end_turn, debt_between}
+use Rattle.std.proofs.Common.{◌≡◌, ℕ, ◌+◌, Bool, true, false, Option, Some, None, IfSome, if◌then◌else◌, List, [], ◌∷◌, ◌++◌, length, refl, sym, ap, subst, arith, ◌∙◌, append_assoc, append-nil, length-append}
+use Rattle.calloop_wake.specs.wake.Cells.{one}
+use Rattle.calloop_wake.specs.wake.Passes.{Keyed, on}
+use Rattle.calloop_wake.specs.wake.Executors.{ExecutorCell, after_poll_of, after_poll, taken_of, after_pop, after_end_turn, debt_between}
 use Rattle.calloop_wake.specs.declared.wake.tasks.TaskKey.{TaskKey}
 use Rattle.logbook.specs.Pages.{Book}
-use Rattle.calloop_core.specs.declared.sources.source.PostAction.{PostAction}
-use Rattle.calloop_core.specs.declared.sources.source.PostAction.TheVariants.{Continue}
-use Rattle.calloop_core.specs.Calls.{CallbackCall, Calling, Went}
+use Rattle.calloop_core.specs.sources.Calls.{CallbackCall, Calling, Went}
 use Rattle.calloop_core.proofs.Calling.{went_on}
-use Rattle.calloop_core.specs.Polls.{PollStep, TakePass}
-use Rattle.calloop.specs.Executors.{ResultCalls, OfPop, gave, lacks, misses_of, call_of, calls_of, results_of, AllGiven}
+use Rattle.calloop.specs.futures.Executors.{OfPop, gave, lacks, misses_of, call_of, calls_of, results_of, AllGiven}
 
 module _ {O : Type 0} where
   calls_more : (ps : List (OfPop O)) (p : OfPop O) → calls_of (ps ++ p ∷ []) ≡ calls_of ps ++ call_of p

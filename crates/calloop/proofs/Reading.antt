@@ -1,20 +1,12 @@
 -- The polls of a stream's turn, one after the other.
-use Rattle.std.proofs.Common.{◌≡◌, ℕ, ◌+◌, true, false, Option, Some, None, Ok, List, [], ◌∷◌, ◌++◌, length, refl, sym, ap, subst, arith, length-append}
-use Rattle.calloop_core.specs.Calls.{CallbackCall, Calling, Went}
+use Rattle.std.proofs.Common.{◌≡◌, ℕ, ◌+◌, Option, Some, None, List, [], ◌∷◌, ◌++◌, length, refl, sym, ap, subst, arith, length-append}
+use Rattle.calloop_core.specs.sources.Calls.{CallbackCall, Calling, Went}
 use Rattle.calloop_core.proofs.Calling.{went_on}
 use Rattle.calloop.specs.declared.stream.reading.Ending.{Ending}
 use Rattle.calloop.specs.declared.stream.reading.Ending.TheVariants.{AtPending, AtEnd, AtLimit}
-use Rattle.calloop_wake.specs.declared.wake.Tally.{Tally}
-use Rattle.calloop_wake.specs.declared.token.Token.{Token}
-use Rattle.calloop_wake.specs.Tokens.{key_of}
-use Rattle.calloop_wake.specs.Cells.{is_own}
-use Rattle.calloop_wake.specs.Passes.{Taken}
-use Rattle.calloop_core.specs.declared.sources.source.PostAction.{PostAction}
-use Rattle.calloop_core.specs.declared.sources.source.PostAction.TheVariants.{Continue}
-use Rattle.calloop_core.specs.Polls.{PollStep, TakePass}
 use Rattle.calloop.specs.declared.futures.task.Poll.TheVariants.{Ready, Pending}
-use Rattle.calloop.specs.StreamReads.{Polls, ReadsTo}
-use Rattle.calloop.specs.Streams.{StreamCalls, call_with, end_calls, calls_of, Reading}
+use Rattle.calloop.specs.stream.StreamReads.{Polls, ReadsTo}
+use Rattle.calloop.specs.stream.Streams.{call_with, end_calls, calls_of}
 
 module _ {I : Type 0} where
   calls_more : (xs : List I) (x : I) → calls_of (xs ++ x ∷ []) AtLimit ≡ calls_of xs AtLimit ++ call_with (Some x) ∷ []

@@ -1,22 +1,15 @@
 -- The pops of a channel's turn, one after the other.
-use Rattle.std.proofs.Common.{◌≡◌, ℕ, zero, suc, nat_lt, ◌<◌, Bool, true, false, Option, Some, None, Ok, ◌||◌, ◌&&◌, not, ◌⊎◌, inl, inr, List, [], ◌∷◌, ◌++◌, refl, sym, ap, subst, arith, ◌∙◌, append_assoc, append-nil, ltb-true}
+use Rattle.std.proofs.Common.{◌≡◌, ℕ, zero, suc, nat_lt, ◌<◌, Bool, true, false, ◌||◌, ◌&&◌, not, ◌⊎◌, inl, inr, List, [], ◌∷◌, ◌++◌, refl, sym, ap, subst, arith, ◌∙◌, append_assoc, append-nil, ltb-true}
 use Rattle.std.proofs.Math.Bool.{and-true}
 use Rattle.std.proofs.lemmas.Bool.Decides.{nat_tests}
 use Rattle.calloop_wake.specs.declared.wake.Tally.{Tally}
 use Rattle.calloop_wake.specs.declared.wake.ChannelTurn.{ChannelTurn}
 use Rattle.calloop_wake.specs.declared.wake.channel.Popped.{Popped}
-use Rattle.calloop_wake.specs.Channels.{LabelView, is_close, turn_after_pop, tally_after_pop}
-use Rattle.calloop_wake.specs.declared.token.Token.{Token}
-use Rattle.calloop_wake.specs.Tokens.{key_of}
-use Rattle.calloop_wake.specs.Cells.{is_own}
-use Rattle.calloop_wake.specs.Passes.{Taken}
-use Rattle.calloop_core.specs.declared.sources.source.PostAction.{PostAction}
-use Rattle.calloop_core.specs.declared.sources.source.PostAction.TheVariants.{Continue}
-use Rattle.calloop_core.specs.Calls.{CallbackCall, Calling, Went}
+use Rattle.calloop_wake.specs.wake.Channels.{is_close, turn_after_pop, tally_after_pop}
+use Rattle.calloop_core.specs.sources.Calls.{CallbackCall, Calling, Went}
 use Rattle.calloop_core.proofs.Calling.{went_on}
-use Rattle.calloop_core.specs.Polls.{PollStep, TakePass}
 use Rattle.calloop.specs.declared.channel.Event.{Event}
-use Rattle.calloop.specs.Channels.{call_of, calls_of, turn_after, tally_after, told_in, ArePops, Handed}
+use Rattle.calloop.specs.channel.Channels.{call_of, calls_of, turn_after, tally_after, told_in, ArePops, Handed}
 
 or_false : (b : Bool) → (b || false) ≡ b
 or_false true = refl

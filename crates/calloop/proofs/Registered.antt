@@ -2,10 +2,10 @@
 use Rattle.std.specs.Prelude.{Ok, Err, is_some}
 use Rattle.std.proofs.Common.{ap}
 use Rattle.calloop_wake.specs.declared.wake.Tally.{Tally}
-use Rattle.calloop_core.specs.Deeds.{Registered, Reregistered, Unregistered, Turned, Slept, Noticed}
-use Rattle.calloop_core.specs.Marks.{IsRegisteredBy}
-use Rattle.calloop.specs.CellSources.{OpenTurns, cell_meaning}
-use Rattle.calloop.specs.CellKeeping.{OpensQuietly, turn_quiet}
+use Rattle.calloop_core.specs.sources.Deeds.{Registered, Reregistered, Unregistered, Turned, Slept, Noticed}
+use Rattle.calloop_core.specs.TransientMarks.{IsRegisteredBy}
+use Rattle.calloop.specs.cell.CellSources.{OpenTurns, cell_meaning}
+use Rattle.calloop.specs.cell.CellKeeping.{OpensQuietly, turn_quiet}
 
 module _ {S P E M T Cause : Type 0} (tally : S → Tally) (Same : S → S → Type 0) (Opens : OpenTurns S E M T)
     (quiet : OpensQuietly tally Opens) where

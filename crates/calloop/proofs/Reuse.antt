@@ -5,8 +5,8 @@ use Rattle.calloop_wake.specs.Widths.{versions}
 use Rattle.calloop_wake.specs.declared.list.Content.{Content}
 use Rattle.calloop_wake.specs.declared.list.Content.TheVariants.{Source}
 use Rattle.calloop_wake.specs.Slots.{with_change, is_empty}
-use Rattle.calloop.specs.Machine.{World, Registration, Change, Put, Claim, Swapped, Polls, Polling, Watching, Counting, Holds, Appended, Gathered, Cut, Ended, slot_with, next_use, with_claim, world_after, world_after_all}
-use Rattle.calloop.specs.Laws.{NamesLater}
+use Rattle.calloop.specs.loop_logic.Machine.{World, Registration, Change, Put, Claim, Swapped, Polls, Polling, Watching, Counting, Holds, Appended, Gathered, Cut, Ended, slot_with, next_use, with_claim, world_after, world_after_all}
+use Rattle.calloop.specs.loop_logic.Laws.{NamesLater}
 
 abbrev pub Older : {D : Type 0} → List (Registration D) → ℕ → Registration D → Type 0
 Older {D} rs i r = (r' : Registration D) × (slice_get rs i ≡ Some r') × (r.reuse ≤ r'.reuse)

@@ -7,12 +7,12 @@ use Rattle.calloop_wake.specs.declared.list.Content.{Content}
 use Rattle.calloop_wake.specs.declared.list.Slot.{Slot}
 use Rattle.calloop_wake.specs.declared.list.Content.TheVariants.{Vacant, Source, InTurn}
 use Rattle.calloop_wake.specs.Slots.{content_at, source_of}
-use Rattle.calloop_core.specs.Deeds.{Lent}
-use Rattle.calloop_core.specs.Meanings.{Meaning}
-use Rattle.calloop.specs.Askings.{Asks}
-use Rattle.calloop.specs.Machine.{View, Change}
-use Rattle.calloop.specs.Roles.{only, when}
-use Rattle.calloop.specs.Rules.{LeftIn, RemovedIn}
+use Rattle.calloop_core.specs.sources.Deeds.{Lent}
+use Rattle.calloop_core.specs.sources.Meanings.{Meaning}
+use Rattle.calloop.specs.loop_logic.Askings.{Asks}
+use Rattle.calloop.specs.loop_logic.Machine.{View, Change}
+use Rattle.calloop.specs.loop_logic.Roles.{only, when}
+use Rattle.calloop.specs.loop_logic.Rules.{LeftIn, RemovedIn}
 
 when_source : {D : Type 0} (b : Bool) (e d : D) → when b e ≡ Source d → Source e ≡ Source d
 when_source true e d h = h

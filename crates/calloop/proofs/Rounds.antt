@@ -2,17 +2,17 @@
 use Rattle.std.proofs.Common.{List, [], ◌∷◌, true, false, Option, Result, Ok, Err, refl}
 use Rattle.std.specs.declared.time.Duration.{Duration}
 use Rattle.calloop_wake.specs.declared.error.Error.{Error}
-use Rattle.calloop_core.specs.Pollers.{Outside}
-use Rattle.calloop_core.specs.Deeds.{Lent}
-use Rattle.calloop_core.specs.Meanings.{Meaning}
+use Rattle.calloop_core.specs.sys.Pollers.{Outside}
+use Rattle.calloop_core.specs.sources.Deeds.{Lent}
+use Rattle.calloop_core.specs.sources.Meanings.{Meaning}
 use Rattle.calloop.specs.declared.loop_logic.LoopCall.{LoopCall}
 use Rattle.calloop.specs.declared.loop_logic.LoopCall.TheVariants.{Dispatch, ForgetStop, LookForStop}
 use Rattle.calloop.specs.declared.loop_logic.LoopAnswer.{LoopAnswer}
 use Rattle.calloop.specs.declared.loop_logic.LoopAnswer.TheVariants.{Dispatched, StopForgotten, Stopped}
-use Rattle.calloop.specs.Askings.{Asks, Runs}
-use Rattle.calloop.specs.Machine.{View}
-use Rattle.calloop.specs.Rules.{Case, Did, RunLeads}
-use Rattle.calloop.specs.Running.{RoundCall, Rounds, RunsTo}
+use Rattle.calloop.specs.loop_logic.Askings.{Asks, Runs}
+use Rattle.calloop.specs.loop_logic.Machine.{View}
+use Rattle.calloop.specs.loop_logic.Rules.{Case, Did, RunLeads}
+use Rattle.calloop.specs.loop_logic.Running.{RoundCall, Rounds, RunsTo}
 use Rattle.calloop.proofs.Running.{run_none, run_first}
 
 -- rounds, from a look for a stop on

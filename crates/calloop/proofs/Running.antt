@@ -1,13 +1,13 @@
 -- Lists of calls, one after the other.
 use Rattle.std.proofs.Common.{List, [], ◌∷◌, refl}
-use Rattle.calloop_core.specs.Pollers.{Outside}
+use Rattle.calloop_core.specs.sys.Pollers.{Outside}
 use Rattle.calloop.specs.declared.loop_logic.LoopCall.{LoopCall}
 use Rattle.calloop.specs.declared.loop_logic.LoopAnswer.{LoopAnswer}
-use Rattle.calloop_core.specs.Deeds.{Lent}
-use Rattle.calloop_core.specs.Meanings.{Meaning}
-use Rattle.calloop.specs.Askings.{Asks, Runs}
-use Rattle.calloop.specs.Machine.{View}
-use Rattle.calloop.specs.Rules.{Case, Did, RunLeads, all_traced}
+use Rattle.calloop_core.specs.sources.Deeds.{Lent}
+use Rattle.calloop_core.specs.sources.Meanings.{Meaning}
+use Rattle.calloop.specs.loop_logic.Askings.{Asks, Runs}
+use Rattle.calloop.specs.loop_logic.Machine.{View}
+use Rattle.calloop.specs.loop_logic.Rules.{Case, Did, RunLeads, all_traced}
 use Rattle.calloop.proofs.Seen.{did_leads}
 
 module _ {D I P X : Type 0} (M : Meaning D P (Lent X (Asks D I))) (runs : Runs D I X) (O : Outside P) where

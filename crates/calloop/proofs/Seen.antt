@@ -5,8 +5,8 @@ use Rattle.calloop_wake.specs.Widths.{versions}
 use Rattle.calloop_wake.specs.declared.list.Content.TheVariants.{Source, InTurn}
 use Rattle.calloop_wake.specs.Slots.{after_claim, taken_up, is_empty, with_content}
 use Rattle.calloop_wake.proofs.Indexed.{map-changed}
-use Rattle.calloop.specs.Machine.{World, View, Registration, Change, Put, Claim, Swapped, Polls, Polling, Watching, Counting, Holds, Appended, Gathered, Cut, Ended, visible, slot_of, slot_with, next_use, with_claim, after_change, all_viewed, world_after, world_after_all}
-use Rattle.calloop.specs.Rules.{after_changes, all_traced, Did, Leads}
+use Rattle.calloop.specs.loop_logic.Machine.{World, View, Registration, Change, Put, Claim, Swapped, Polls, Polling, Watching, Counting, Holds, Appended, Gathered, Cut, Ended, visible, slot_of, slot_with, next_use, with_claim, after_change, all_viewed, world_after, world_after_all}
+use Rattle.calloop.specs.loop_logic.Rules.{after_changes, all_traced, Did, Leads}
 
 -- counted on or wrapped, a reuse count has the same version
 again : (n : ℕ) → (n + 1) % versions ≡ (n % versions + 1) % versions

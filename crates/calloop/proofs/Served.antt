@@ -19,21 +19,21 @@ use Rattle.calloop_wake.specs.Slots.{content_at}
 use Rattle.calloop_core.specs.declared.sys.poll.Pending.{Pending}
 use Rattle.calloop_core.specs.declared.sources.source.PostAction.{PostAction}
 use Rattle.calloop_core.specs.declared.sources.source.PostAction.TheVariants.{Continue, Reregister, Disable as DisableIt, Remove}
-use Rattle.calloop_core.specs.Pollers.{Outside}
-use Rattle.calloop_core.specs.Polls.{PollView, PollStep, TakePass, PutBack, Arm, ArmAgain, Cancel, Call, ReadClock, Socket, Fault, poll_after, polls_after, AllAllowed, cut_from, with_turn_of, tail_of, head_of, with_pass, posted_events, polled_events, timer_event, timer_events}
-use Rattle.calloop_core.specs.Deeds.{Lent}
-use Rattle.calloop_core.specs.Meanings.{Meaning}
+use Rattle.calloop_core.specs.sys.Pollers.{Outside}
+use Rattle.calloop_core.specs.sys.Polls.{PollView, PollStep, TakePass, PutBack, Arm, ArmAgain, Cancel, Call, ReadClock, Socket, Fault, poll_after, polls_after, AllAllowed, cut_from, with_turn_of, tail_of, head_of, with_pass, posted_events, polled_events, timer_event, timer_events}
+use Rattle.calloop_core.specs.sources.Deeds.{Lent}
+use Rattle.calloop_core.specs.sources.Meanings.{Meaning}
 use Rattle.calloop.specs.declared.loop_logic.asks.Asked.{Asked}
 use Rattle.calloop.specs.declared.loop_logic.asks.Idling.{Idling as Waiter}
 use Rattle.calloop.specs.declared.loop_logic.asks.Request.{Request}
 use Rattle.calloop.specs.declared.loop_logic.asks.Request.TheVariants.{Insert as AskInsert, Enable as AskEnable, Update as AskUpdate, Disable as AskDisable, Remove as AskRemove, Idle as AskIdle, Cancel as AskCancel}
-use Rattle.calloop.specs.Askings.{Asks, AskStep, Write, Take, Runs, ask_after, asks_after, begun_from, all_but_first, is_other_idle}
-use Rattle.calloop.specs.Machine.{World, View, IsNew, visible, Change, Put, Claim, Swapped, Polls, Polling, Watching, Counting, Holds, Appended, Gathered, Cut, Ended, AllFit, after_change, all_viewed}
-use Rattle.calloop.specs.Roles.{only, is_callers, is_adapter}
-use Rattle.calloop.specs.Rules.{Doing, Beginning, Settling, Sleeping, Waiting, Gathering, Noticing, Cutting, Serving, Ending, Returning, Idling, RunningIdles, ServingIdle, Leaving, Outcome, Step, Steps, SleptAs, SleptBy, NoticedBy, CutTo, CutFrom, ActedBy, ReturnedTo, vacate, InsertedBy, AskedIn, SettledIn, RemovedIn, OwnOr, Served, ServedAs, ServedFrom, RunFrom, DispatchedBy, Run, all_traced, action_of, after_turn, after_wait, appends}
-use Rattle.calloop.specs.Held.{HeldStep, Listed, Unlisted, Pend, Asking, Begun, Told, Owe, Paid, Cleared, Warned, StopNoted, IdleIn, IdleNew, IdleOut, IdlesTaken, IdleBegun}
-use Rattle.calloop.specs.Laws.{flatten}
-use Rattle.calloop.specs.Served.{Account, first_of, events_cut, gatherings, Gathers, idles_begun, idles_cancelled, rounds, RunsRound, IsAccountOf, NothingIsLeft, AllAreCut, AllLater, NoneIsLate, DueAreCut, IdlesRan}
+use Rattle.calloop.specs.loop_logic.Askings.{Asks, AskStep, Write, Take, Runs, ask_after, asks_after, begun_from, all_but_first, is_other_idle}
+use Rattle.calloop.specs.loop_logic.Machine.{World, View, IsNew, visible, Change, Put, Claim, Swapped, Polls, Polling, Watching, Counting, Holds, Appended, Gathered, Cut, Ended, AllFit, after_change, all_viewed}
+use Rattle.calloop.specs.loop_logic.Roles.{only, is_callers, is_adapter}
+use Rattle.calloop.specs.loop_logic.Rules.{Doing, Beginning, Settling, Sleeping, Waiting, Gathering, Noticing, Cutting, Serving, Ending, Returning, Idling, RunningIdles, ServingIdle, Leaving, Outcome, Step, Steps, SleptAs, SleptBy, NoticedBy, CutTo, CutFrom, ActedBy, ReturnedTo, vacate, InsertedBy, AskedIn, SettledIn, RemovedIn, OwnOr, Served, ServedAs, ServedFrom, RunFrom, DispatchedBy, Run, all_traced, action_of, after_turn, after_wait, appends}
+use Rattle.calloop.specs.loop_logic.Held.{HeldStep, Listed, Unlisted, Pend, Asking, Begun, Told, Owe, Paid, Cleared, Warned, StopNoted, IdleIn, IdleNew, IdleOut, IdlesTaken, IdleBegun}
+use Rattle.calloop.specs.loop_logic.Laws.{flatten}
+use Rattle.calloop.specs.loop_logic.Served.{Account, first_of, events_cut, gatherings, Gathers, idles_begun, idles_cancelled, rounds, RunsRound, IsAccountOf, NothingIsLeft, AllAreCut, AllLater, NoneIsLate, DueAreCut, IdlesRan}
 use Rattle.calloop.specs.declared.loop_logic.LoopCall.{LoopCall}
 use Rattle.calloop.specs.declared.loop_logic.LoopAnswer.{LoopAnswer}
 use Rattle.calloop.proofs.Gone.{case_fit, viewed-joined}

@@ -5,10 +5,10 @@ use Rattle.calloop_wake.specs.declared.list.Content.{Content}
 use Rattle.calloop_wake.specs.declared.list.Content.TheVariants.{Vacant, Source, InTurn}
 use Rattle.calloop_wake.specs.declared.token.RegistrationToken.{RegistrationToken}
 use Rattle.calloop_wake.specs.Slots.{content_at, is_empty, is_in_turn}
-use Rattle.calloop_core.specs.Pollers.{Outside}
-use Rattle.calloop_core.specs.Polls.{PollStep}
-use Rattle.calloop_core.specs.Deeds.{Lent}
-use Rattle.calloop_core.specs.Meanings.{Meaning}
+use Rattle.calloop_core.specs.sys.Pollers.{Outside}
+use Rattle.calloop_core.specs.sys.Polls.{PollStep}
+use Rattle.calloop_core.specs.sources.Deeds.{Lent}
+use Rattle.calloop_core.specs.sources.Meanings.{Meaning}
 use Rattle.calloop.specs.declared.loop_logic.asks.Answer.{Answer}
 use Rattle.calloop.specs.declared.loop_logic.asks.Asked.{Asked}
 use Rattle.calloop.specs.declared.loop_logic.asks.Idling.{Idling as Waiter}
@@ -16,13 +16,13 @@ use Rattle.calloop.specs.declared.loop_logic.asks.Request.{Request}
 use Rattle.calloop.specs.declared.loop_logic.asks.Request.TheVariants.{Insert as AskInsert, Enable as AskEnable, Update as AskUpdate, Disable as AskDisable, Remove as AskRemove, Idle as AskIdle, Cancel as AskCancel}
 use Rattle.calloop.specs.declared.loop_logic.registering.RegistrationCall.{RegistrationCall}
 use Rattle.calloop.specs.declared.loop_logic.registering.RegistrationCall.TheVariants.{Enable, Update, Disable}
-use Rattle.calloop.specs.Askings.{Asks, AskStep, Write, Take, Reaches, ask_after, asks_after, all_but_first, begun_from, idle_begun, is_other_idle, request_of, running_of}
-use Rattle.calloop.specs.Held.{HeldStep, Begun, Told, held_after}
-use Rattle.calloop.specs.Machine.{View, Change, Holds, AllFit, after_change, all_viewed}
-use Rattle.calloop.specs.Roles.{only, is_callers}
-use Rattle.calloop.specs.Registering.{request_for}
-use Rattle.calloop.specs.Rules.{Did, Once, OwnOr, Served, ServedAs, InsertedBy, AskedIn, RemovedIn, Outcome, after_changes, done_answer}
-use Rattle.calloop.specs.Serving.{Serves, ServesFirst, FirstServed, AllServed}
+use Rattle.calloop.specs.loop_logic.Askings.{Asks, AskStep, Write, Take, Reaches, ask_after, asks_after, all_but_first, begun_from, idle_begun, is_other_idle, request_of, running_of}
+use Rattle.calloop.specs.loop_logic.Held.{HeldStep, Begun, Told, held_after}
+use Rattle.calloop.specs.loop_logic.Machine.{View, Change, Holds, AllFit, after_change, all_viewed}
+use Rattle.calloop.specs.loop_logic.Roles.{only, is_callers}
+use Rattle.calloop.specs.loop_logic.Registering.{request_for}
+use Rattle.calloop.specs.loop_logic.Rules.{Did, Once, OwnOr, Served, ServedAs, InsertedBy, AskedIn, RemovedIn, Outcome, after_changes, done_answer}
+use Rattle.calloop.specs.loop_logic.Serving.{Serves, ServesFirst, FirstServed, AllServed}
 use Rattle.calloop.proofs.Going.{batch-stepped}
 use Rattle.calloop.proofs.Seen.{viewed-append}
 

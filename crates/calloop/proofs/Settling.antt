@@ -8,18 +8,18 @@ use Rattle.calloop_wake.specs.declared.token.RegistrationToken.{RegistrationToke
 use Rattle.calloop_wake.specs.declared.token.TokenFactory.{TokenFactory}
 use Rattle.calloop_wake.specs.Slots.{with_change, with_content, content_at, source_of, is_empty, after_turn}
 use Rattle.calloop_wake.proofs.Named.{turn_ended, named_changed}
-use Rattle.calloop_core.specs.Pollers.{Outside}
+use Rattle.calloop_core.specs.sys.Pollers.{Outside}
 use Rattle.calloop_core.specs.declared.sys.poll.Poll.{Poll}
-use Rattle.calloop_core.specs.Polls.{PollView, polls_after, IsReady}
-use Rattle.calloop_core.specs.Deeds.{Reregistered, Unregistered, Lent}
-use Rattle.calloop_core.specs.Meanings.{Meaning, Does, fresh_factory, Settles, SettledAs}
+use Rattle.calloop_core.specs.sys.Polls.{PollView, polls_after, IsReady}
+use Rattle.calloop_core.specs.sources.Deeds.{Reregistered, Unregistered, Lent}
+use Rattle.calloop_core.specs.sources.Meanings.{Meaning, Does, fresh_factory, Settles, SettledAs}
 use Rattle.calloop_core.specs.declared.sources.dispatch.Role.{Role}
 use Rattle.calloop_core.specs.declared.sources.dispatch.Role.TheVariants.{Caller, Adapter, Timeout}
-use Rattle.calloop.specs.Held.{Unlisted, Warned, Listed, held_after, with_warning}
-use Rattle.calloop.specs.Askings.{Asks, Runs}
-use Rattle.calloop.specs.Machine.{View, Put, Polls, Holds}
-use Rattle.calloop.specs.Roles.{only, is_adapter, of_adapter}
-use Rattle.calloop.specs.Rules.{Goes, Settling, Sleeping, SettledIn}
+use Rattle.calloop.specs.loop_logic.Held.{Unlisted, Warned, Listed, held_after, with_warning}
+use Rattle.calloop.specs.loop_logic.Askings.{Asks, Runs}
+use Rattle.calloop.specs.loop_logic.Machine.{View, Put, Polls, Holds}
+use Rattle.calloop.specs.loop_logic.Roles.{only, is_adapter, of_adapter}
+use Rattle.calloop.specs.loop_logic.Rules.{Goes, Settling, Sleeping, SettledIn}
 use Rattle.calloop.proofs.Roles.{only_source, only_passes}
 use Rattle.calloop.proofs.Going.{goes_by, full_named}
 use Rattle.calloop.proofs.Inserting.{changed_twice}

@@ -11,14 +11,14 @@ use Rattle.calloop_core.specs.declared.sources.dispatch.Role.TheVariants.{Timeou
 use Rattle.calloop_core.specs.declared.timer.Timer.{Timer}
 use Rattle.calloop_core.specs.declared.timer.TimeoutAction.{TimeoutAction}
 use Rattle.calloop_core.specs.declared.timer.TimerError.{TimerError}
-use Rattle.calloop_core.specs.Deeds.{Lent}
-use Rattle.calloop_core.specs.Calls.{Calling}
-use Rattle.calloop_core.specs.Keeping.{timer_keeps}
-use Rattle.calloop_core.specs.Lawful.{keeping_with_callback, asking_with_callback, failing_with_callback, memory_of_source}
-use Rattle.calloop_core.specs.Lawful.{keeping_seen, keeping_in_role, asking_seen, failing_seen}
-use Rattle.calloop_core.specs.Meanings.{Meaning, IsKeeping, IsAsking, FailsAsSource, with_callback, seen_as, in_role}
-use Rattle.calloop_core.specs.Pollers.{Outside}
-use Rattle.calloop_core.specs.Quiet.{IsQuietCall, IsQuiet, quiet_dispatcher, quiet_seen}
+use Rattle.calloop_core.specs.sources.Deeds.{Lent}
+use Rattle.calloop_core.specs.sources.Calls.{Calling}
+use Rattle.calloop_core.specs.TimerKeeping.{timer_keeps}
+use Rattle.calloop_core.specs.sources.Lawful.{keeping_with_callback, asking_with_callback, failing_with_callback, memory_of_source}
+use Rattle.calloop_core.specs.sources.Lawful.{keeping_seen, keeping_in_role, asking_seen, failing_seen}
+use Rattle.calloop_core.specs.sources.Meanings.{Meaning, IsKeeping, IsAsking, FailsAsSource, with_callback, seen_as, in_role}
+use Rattle.calloop_core.specs.sys.Pollers.{Outside}
+use Rattle.calloop_core.specs.sources.Quiet.{IsQuietCall, IsQuiet, quiet_dispatcher, quiet_seen}
 use Rattle.calloop_core.specs.Timers.{fresh_timer, timer_meaning}
 use Rattle.calloop.specs.declared.futures.task.Poll.{Poll}
 use Rattle.calloop.specs.declared.futures.task.Poll.TheVariants.{Ready, Pending}
@@ -28,8 +28,8 @@ use Rattle.calloop.specs.declared.loop_logic.LoopAnswer.TheVariants.{Inserted}
 use Rattle.calloop.specs.declared.timeout.TimeoutFuture.{TimeoutFuture}
 use Rattle.calloop.specs.declared.timeout.TimeoutTimer.{TimeoutTimer}
 use Rattle.calloop.specs.declared.timeout.WakesTimeout.{WakesTimeout}
-use Rattle.calloop.specs.Askings.{Asks, Runs}
-use Rattle.calloop.specs.Handles.{held_by, IsCase}
+use Rattle.calloop.specs.loop_logic.Askings.{Asks, Runs}
+use Rattle.calloop.specs.loop_logic.Handles.{held_by, IsCase}
 
 -- whether a moment has come, by an answer of a clock; where there is none, it never comes: so compares calloop's
 -- TimeoutFuture::poll

@@ -1,11 +1,11 @@
 //! A cell with the board of its key, under one lock, and the sections of that lock that every kind of cell has. No other lock
-//! is taken and nobody is called within one: what a section owes to the board is settled after it.
+//! is taken and nobody is called within one: what a section owes to the board is posted after it.
 ghost use Rattle.std.specs.Prelude.{◌≡◌, ◌≢◌, ◌-◌, ◌^◌, None, Some, IfOk, IfErr, IfSome};
-ghost use Rattle.calloop_wake.specs.Cells.{fresh_tally};
+ghost use Rattle.calloop_wake.specs.wake.Cells.{fresh_tally};
 ghost use Rattle.std.specs.Option.{option_map};
 ghost use Rattle.std.specs.Arc.{arc_value};
 ghost use Rattle.calloop_wake.specs.Tokens.{key_of};
-ghost use Rattle.calloop_core.specs.Polls.{CannotOpen};
+ghost use Rattle.calloop_core.specs.sys.Polls.{CannotOpen};
 
 use calloop_core::sys::hub::{SharedHub, share};
 use calloop_wake::error::Result as LoopResult;
@@ -29,7 +29,7 @@ impl<K: CellCore> Fits for Cell<K> {
     ghost use Rattle.std.specs.Prelude.{◌≡◌, Some};
     ghost use Rattle.std.specs.Option.{option_map};
     ghost use Rattle.std.specs.Arc.{arc_value};
-    ghost use Rattle.calloop_wake.specs.Passes.{Keyed};
+    ghost use Rattle.calloop_wake.specs.wake.Passes.{Keyed};
 
     type Tag = K::Tag;
 
@@ -59,7 +59,7 @@ impl<K: CellCore> Cell<K> {
         Locked::new(alloc, Cell { core, hub: None }, tag)
     }
 
-    /// The debt with the board on which it is settled, outside the lock.
+    /// The debt with the board on which it is posted, outside the lock.
     pub(crate) fn with_hub<R: Wait>(&self, rt: &R, debt: Option<Debt>) -> Option<(Debt, SharedHub)>
         requires { IfSome debt (λ d. option_map arc_value self.now.hub ≡ Some d.board) }
         ensures { IfSome result (λ owed. owed.0.board ≡ arc_value owed.1) }

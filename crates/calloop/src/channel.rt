@@ -1,10 +1,10 @@
 //! Channels: messages that are sent from any thread, as a source.
 ghost use Rattle.std.specs.Prelude.{◌≡◌, ◌<◌, None, Some, Err, IfOk, IfErr};
-ghost use Rattle.calloop_wake.specs.Cells.{fresh_tally};
+ghost use Rattle.calloop_wake.specs.wake.Cells.{fresh_tally};
 ghost use Rattle.std.specs.Arc.{arc_value};
 ghost use Rattle.calloop_wake.specs.declared.error.Error.TheVariants.{OutOfMemory, NoRendezvous};
-ghost use Rattle.calloop.specs.Channels.{with_message};
-ghost use Rattle.calloop.specs.Sends.{unsent, IsDisconnected, message_back};
+ghost use Rattle.calloop.specs.channel.Channels.{with_message};
+ghost use Rattle.calloop.specs.channel.Sends.{unsent, IsDisconnected, message_back};
 
 use crate::cell::{SharedCell, abandon, add_sender, drop_sender, receiver};
 use crate::ping::PingError;
@@ -74,7 +74,7 @@ pub struct SyncSender<T: Drop, R: Wait + Drop> {
 impl<T: Drop, R: Wait + Drop> Model for SyncSender<T, R> {
     ghost use Rattle.std.specs.Prelude.{◌≡◌, Some};
     ghost use Rattle.std.specs.Arc.{arc_value};
-    ghost use Rattle.calloop.specs.Channels.{BoundedEnd};
+    ghost use Rattle.calloop.specs.channel.Channels.{BoundedEnd};
 
     ghost Value = { BoundedEnd };
 
@@ -98,7 +98,7 @@ pub struct Channel<T: Drop, R: Wait + Drop> {
 impl<T: Drop, R: Wait + Drop> Model for Channel<T, R> {
     ghost use Rattle.std.specs.Prelude.{◌≡◌};
     ghost use Rattle.std.specs.Arc.{arc_value};
-    ghost use Rattle.calloop.specs.Channels.{ReceivingEnd};
+    ghost use Rattle.calloop.specs.channel.Channels.{ReceivingEnd};
 
     ghost Value = { ReceivingEnd };
 

@@ -3,7 +3,7 @@
 //! From calloop's `sources/futures.rs`. Its futures are those of the standard library; these are of this module, since a wake is a
 //! step of the executor's own cell.
 ghost use Rattle.std.specs.Prelude.{◌≡◌, None, IfOk, IfErr};
-ghost use Rattle.calloop_wake.specs.Cells.{fresh_tally};
+ghost use Rattle.calloop_wake.specs.wake.Cells.{fresh_tally};
 ghost use Rattle.calloop_wake.specs.declared.error.Error.TheVariants.{OutOfMemory};
 
 use crate::cell::{SharedCell, abandon, add_sender, receiver};

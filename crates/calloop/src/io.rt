@@ -5,10 +5,10 @@
 ghost use Rattle.std.specs.Prelude.{◌≡◌, ◌⊎◌, [], None, false, OnOk, IfOk, IfErr};
 ghost use Rattle.std.specs.Io.{ReadsAtMost, WritesAtMost};
 ghost use Rattle.calloop_wake.specs.declared.error.Error.TheVariants.{OutOfMemory};
-ghost use Rattle.calloop.specs.Polled.{IfReady};
-ghost use Rattle.calloop.specs.Refusals.{IsAnswer};
-ghost use Rattle.calloop.specs.AdapterNotes.{with_poll_note};
-ghost use Rattle.calloop.specs.AsyncPolls.{WaitsFor, AnswersWith, Polls, to_read, to_write};
+ghost use Rattle.calloop.specs.futures.Polled.{IfReady};
+ghost use Rattle.calloop.specs.io.Refusals.{IsAnswer};
+ghost use Rattle.calloop.specs.io.AdapterNotes.{with_poll_note};
+ghost use Rattle.calloop.specs.io.AsyncPolls.{WaitsFor, AnswersWith, Polls, to_read, to_write};
 ghost use Rattle.calloop.specs.declared.io.notes.PollNote.TheVariants.{Waits, Tried, Flushed};
 
 use crate::futures::{Context, Poll, Waker};

@@ -140,7 +140,7 @@ pub struct Sources<A, X, I = ()> {
 
 impl<A, X, I> Sources<A, X, I> {
     ghost use Rattle.std.specs.Prelude.{◌≡◌};
-    ghost use Rattle.calloop.specs.Choices.{with_data};
+    ghost use Rattle.calloop.specs.loop_logic.Choices.{with_data};
 
     /// One that holds this.
     pub fn new(held: A) -> Sources<A, X, I>
@@ -159,8 +159,8 @@ impl<P: Poller, C, R: Wait + Drop, A, X, I> Dispatch<P, C, R, X, Requests<Source
 where
     A: Dispatch<P, C, R, X, Requests<Sources<A, X, I>, I>>,
 {
-    ghost use Rattle.calloop_core.specs.Meanings.{seen_as};
-    ghost use Rattle.calloop_core.specs.Lawful.{keeping_seen, asking_seen, failing_seen};
+    ghost use Rattle.calloop_core.specs.sources.Meanings.{seen_as};
+    ghost use Rattle.calloop_core.specs.sources.Lawful.{keeping_seen, asking_seen, failing_seen};
 
     ghost means = { seen_as (λ s. s.held) A.means };
 
@@ -239,7 +239,7 @@ impl<P: Poller, C, R: Wait + Drop, A, X, I> QuietDispatch<P, C, R, X, Requests<S
 where
     A: QuietDispatch<P, C, R, X, Requests<Sources<A, X, I>, I>>,
 {
-    ghost use Rattle.calloop_core.specs.Quiet.{quiet_seen};
+    ghost use Rattle.calloop_core.specs.sources.Quiet.{quiet_seen};
 
     ghost quiet = { quiet_seen (λ s. s.held) ⟦<A as Dispatch<P, C, R, X, Requests<Sources<A, X, I>, I>>>⟧.means A.quiet };
 }
@@ -259,7 +259,7 @@ where
     A: Choice<S, F, N>,
 {
     ghost use Rattle.std.specs.Prelude.{◌≡◌};
-    ghost use Rattle.calloop.specs.Choices.{with_data};
+    ghost use Rattle.calloop.specs.loop_logic.Choices.{with_data};
 
     ghost held = { λ d. with_data (A.held d) };
 
@@ -285,7 +285,7 @@ where
     F: Callback<S::Event, S::Metadata, S::Ret, X, Requests<Sources<A, X, I>, I>>,
     A: Hold<S, F, P, C, R, X, Requests<Sources<A, X, I>, I>, N>,
 {
-    ghost use Rattle.calloop.specs.Choices.{held_with_data};
+    ghost use Rattle.calloop.specs.loop_logic.Choices.{held_with_data};
 
     ghost held_means = { held_with_data ⟦<A as Choice<S, F, N>>⟧.held
         ⟦<Dispatcher<S, F> as Dispatch<P, C, R, X, Requests<Sources<A, X, I>, I>>>⟧.means
@@ -298,7 +298,7 @@ where
     A: Place<T, N>,
 {
     ghost use Rattle.std.specs.Prelude.{◌≡◌};
-    ghost use Rattle.calloop.specs.Choices.{with_data};
+    ghost use Rattle.calloop.specs.loop_logic.Choices.{with_data};
 
     ghost placed = { λ thing. with_data (A.placed thing) };
 
@@ -322,7 +322,7 @@ where
     T: Dispatch<P, C, R, X, Requests<Sources<A, X, I>, I>>,
     A: Keep<T, P, C, R, X, Requests<Sources<A, X, I>, I>, N>,
 {
-    ghost use Rattle.calloop.specs.Choices.{held_with_data};
+    ghost use Rattle.calloop.specs.loop_logic.Choices.{held_with_data};
 
     ghost placed_means = { held_with_data ⟦<A as Place<T, N>>⟧.placed
         ⟦<T as Dispatch<P, C, R, X, Requests<Sources<A, X, I>, I>>>⟧.means

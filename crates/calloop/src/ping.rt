@@ -1,6 +1,6 @@
 //! Pings: a source that is woken by hand, from any thread.
 ghost use Rattle.std.specs.Prelude.{◌≡◌, None, IfOk, IfErr};
-ghost use Rattle.calloop_wake.specs.Cells.{fresh_tally};
+ghost use Rattle.calloop_wake.specs.wake.Cells.{fresh_tally};
 ghost use Rattle.calloop_wake.specs.declared.error.Error.TheVariants.{OutOfMemory};
 
 use crate::cell::{SharedCell, abandon, add_sender, drop_sender, receiver};

@@ -3,7 +3,7 @@
 //! From calloop's `sources/stream.rs`. Its streams are those of the crate `futures`; these are of this module, as the futures of
 //! `futures` are.
 ghost use Rattle.std.specs.Prelude.{◌≡◌, IfOk, IfErr};
-ghost use Rattle.calloop.specs.Streams.{fresh_stream};
+ghost use Rattle.calloop.specs.stream.Streams.{fresh_stream};
 ghost use Rattle.calloop_wake.specs.declared.error.Error.TheVariants.{OutOfMemory};
 
 use crate::futures::Waker;
@@ -39,7 +39,7 @@ pub struct StreamSource<S: Stream<R>, R: Wait + Drop> {
 
 impl<S: Stream<R>, R: Wait + Drop> Model for StreamSource<S, R> {
     ghost use Rattle.std.specs.Prelude.{◌≡◌};
-    ghost use Rattle.calloop.specs.Streams.{StreamEnd, reading_of};
+    ghost use Rattle.calloop.specs.stream.Streams.{StreamEnd, reading_of};
 
     ghost Value = { StreamEnd S };
 

@@ -7,8 +7,8 @@ ghost use Rattle.calloop_wake.specs.declared.error.Error.TheVariants.{OutOfMemor
 ghost use Rattle.calloop_wake.specs.declared.wheel.Instant.{Instant};
 ghost use Rattle.calloop_wake.specs.Deadlines.{moment_after};
 ghost use Rattle.calloop_core.specs.declared.timer.TimeoutAction.TheVariants.{Drop};
-ghost use Rattle.calloop.specs.Handles.{clock_by, HasTheSameLoop};
-ghost use Rattle.calloop.specs.Polled.{IfReady, OnPending};
+ghost use Rattle.calloop.specs.loop_logic.Handles.{clock_by, HasTheSameLoop};
+ghost use Rattle.calloop.specs.futures.Polled.{IfReady, OnPending};
 ghost use Rattle.calloop.specs.Timeouts.{HasCome, HasTimer, HasNoTimer, IsMade, IsOf, is_ready};
 
 use crate::futures::{Context, Future, Poll, Waker};
@@ -180,7 +180,7 @@ impl<R: Wait + Drop> Place<TimeoutTimer<R>, Here> for TimeoutTimer<R> {
 
 impl<P: Poller, C, R: Wait + Drop, X, Q: Asking> Keep<TimeoutTimer<R>, P, C, R, X, Q, Here>
     for TimeoutTimer<R> {
-    ghost use Rattle.calloop_core.specs.Lawful.{held_itself};
+    ghost use Rattle.calloop_core.specs.sources.Lawful.{held_itself};
 
     ghost placed_means = { held_itself ⟦<TimeoutTimer<R> as Dispatch<P, C, R, X, Q>>⟧.means };
 }

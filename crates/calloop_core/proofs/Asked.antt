@@ -1,10 +1,10 @@
 -- What a source of two parts did, from what its parts did.
 use Rattle.std.proofs.Common.{◌≡◌, List, [], ◌++◌, Some, None, refl}
 use Rattle.calloop_core.specs.declared.both.Both.{Both}
-use Rattle.calloop_core.specs.Pollers.{Outside}
-use Rattle.calloop_core.specs.Polls.{PollView, PollStep, AllStepped}
-use Rattle.calloop_core.specs.Deeds.{Deed}
-use Rattle.calloop_core.specs.Meanings.{Meaning, Does}
+use Rattle.calloop_core.specs.sys.Pollers.{Outside}
+use Rattle.calloop_core.specs.sys.Polls.{PollView, PollStep, AllStepped}
+use Rattle.calloop_core.specs.sources.Deeds.{Deed}
+use Rattle.calloop_core.specs.sources.Meanings.{Meaning, Does}
 use Rattle.calloop_core.specs.Boths.{AsksBoth}
 use Rattle.calloop_core.proofs.Stepping.{stepped-append}
 

@@ -1,6 +1,6 @@
 -- The calls of a callback, one list behind another.
 use Rattle.std.proofs.Common.{List, [], ◌∷◌, ◌++◌, subst}
-use Rattle.calloop_core.specs.Calls.{CallbackCall, Calling, Went}
+use Rattle.calloop_core.specs.sources.Calls.{CallbackCall, Calling, Went}
 
 -- calls, and then further ones
 pub went_on : {F E M T X Q : Type 0} (may : Calling F E M T X Q) (reaches : Q → Q → Type 0) (f g h : F) (x y z : X) (q r s : Q) (xs ys : List (CallbackCall E M T))

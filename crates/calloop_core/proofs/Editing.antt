@@ -11,10 +11,10 @@ use Rattle.std.specs.List.Sorted.{IsStrictlySortedBy}
 use Rattle.calloop_wake.specs.declared.error.Error.{Error}
 use Rattle.calloop_wake.specs.declared.error.Error.TheVariants.{IoError, OutOfMemory}
 use Rattle.calloop_core.specs.declared.sys.Watched.{Watched}
-use Rattle.calloop_core.specs.Pollers.{Outside, Sockets, PollerCall}
-use Rattle.calloop_core.specs.Tables.{Table, Edit, unless_in, cannot, grows, call_of, after_edit, Called, CalledFor, with_key, without_key, watched_at}
-use Rattle.calloop_core.specs.Polls.{PollView, IsOfKind, Socket, Fault, with_new_poller}
-use Rattle.calloop_core.specs.Registering.{DidEdit, IsFaulted, TriedUnless}
+use Rattle.calloop_core.specs.sys.Pollers.{Outside, Sockets, PollerCall}
+use Rattle.calloop_core.specs.sys.Tables.{Table, Edit, unless_in, cannot, grows, call_of, after_edit, Called, CalledFor, with_key, without_key, watched_at}
+use Rattle.calloop_core.specs.sys.Polls.{PollView, IsOfKind, Socket, Fault, with_new_poller}
+use Rattle.calloop_core.specs.sys.SocketCalls.{DidEdit, IsFaulted, TriedUnless}
 
 module _ {P I : Type 0} (O : Outside P) (sockets : Sockets P I) (v : PollView P) (edit : Edit) (io : I) where
   pub refused : (kind : ErrorKind) (e : Error) → cannot edit v.table ≡ Some kind → IsOfKind kind e → DidEdit O sockets edit v io (Err e) v io

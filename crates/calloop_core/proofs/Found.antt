@@ -3,8 +3,8 @@ use Rattle.std.proofs.Common.{◌≤◌, arith, List, length, map}
 use Rattle.std.proofs.lemmas.List.{length-map}
 use Rattle.std.proofs.lemmas.List.Sums.{length-filter, count_by-le-length}
 use Rattle.mio.specs.declared.event.event.Event.{Event}
-use Rattle.calloop_core.specs.Polls.{is_for_a_token}
-use Rattle.calloop_core.specs.SystemEvents.{told_event, told_events}
+use Rattle.calloop_core.specs.sys.Polls.{is_for_a_token}
+use Rattle.calloop_core.specs.sys.SystemEvents.{told_event, told_events}
 
 pub few-told : (events : List Event) → length (told_events events) ≤ length events
 few-told events =

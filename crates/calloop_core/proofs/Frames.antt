@@ -5,9 +5,9 @@ use Rattle.std.specs.Ordering.{nat_cmp, is_eq, match_ordering}
 use Rattle.calloop_wake.specs.declared.token.RegistrationToken.{RegistrationToken}
 use Rattle.calloop_wake.specs.Tokens.{key_of}
 use Rattle.calloop_core.specs.declared.sys.Watched.{Watched}
-use Rattle.calloop_core.specs.Tables.{Table, Edit, Enter, Change, Leave, Discard, after_edit, with_key, without_key, watched_at, moved_to}
-use Rattle.calloop_core.specs.Polls.{PollView, PollStep, TakePass, PutBack, Arm, ArmAgain, Cancel, Call, ReadClock, Socket, Fault, poll_after, polls_after}
-use Rattle.calloop_core.specs.Keys.{IsKeyOf, EditsFor, AllActFor}
+use Rattle.calloop_core.specs.sys.Tables.{Table, Edit, Enter, Change, Leave, Discard, after_edit, with_key, without_key, watched_at, moved_to}
+use Rattle.calloop_core.specs.sys.Polls.{PollView, PollStep, TakePass, PutBack, Arm, ArmAgain, Cancel, Call, ReadClock, Socket, Fault, poll_after, polls_after}
+use Rattle.calloop_core.specs.sys.Keys.{IsKeyOf, EditsFor, AllActFor}
 
 other_key : (q k : ℕ) → k ≢ q → is_eq (nat_cmp q k) ≡ false
 other_key q k apart = elim (nat_cmp q k) as (λ o. nat_cmp q k ≡ o → is_eq o ≡ false) [ Less ↦ λ e. refl | Equal ↦ λ e. absurd (apart (grind (arith))) | Greater ↦ λ e. refl ] refl

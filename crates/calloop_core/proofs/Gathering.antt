@@ -3,16 +3,16 @@ use Rattle.std.proofs.Common.{◌≡◌, ℕ, zero, suc, ◌<◌, ◌-◌, ◌^�
 use Rattle.std.proofs.lemmas.List.{map-append}
 use Rattle.std.proofs.lemmas.List.Elements.{filter-append}
 use Rattle.std.proofs.Math.Seq.{drop-append_seam}
-use Rattle.calloop_wake.specs.Boards.{fresh_pass, AllGreater, IsRising}
+use Rattle.calloop_wake.specs.wake.Boards.{fresh_pass, AllGreater, IsRising}
 use Rattle.logbook.specs.Pages.{Book}
-use Rattle.calloop_wake.specs.Passes.{Taken}
+use Rattle.calloop_wake.specs.wake.Passes.{Taken}
 use Rattle.calloop_wake.specs.Tokens.{key_of, token_of}
 use Rattle.calloop_wake.specs.declared.wheel.Entry.{Entry}
 use Rattle.calloop_wake.specs.declared.token.Token.{Token}
 use Rattle.calloop_core.specs.declared.sys.Readiness.{Readiness}
 use Rattle.calloop_core.specs.declared.sys.poll.Pending.{Pending}
-use Rattle.calloop_core.specs.Batches.{key_of_pass, posted_keys, last_polled, IsInStep}
-use Rattle.calloop_core.specs.Polls.{posted_events, own_events, polled_event, polled_events, timer_events, is_for_a_token}
+use Rattle.calloop_core.specs.sys.Batches.{key_of_pass, posted_keys, last_polled, IsInStep}
+use Rattle.calloop_core.specs.sys.Polls.{posted_events, own_events, polled_event, polled_events, timer_events, is_for_a_token}
 
 keys-taken : (board : Book) (keys : List ℕ) → map key_of_pass (map (fresh_pass board) keys) ≡ keys
 keys-taken board [] = refl

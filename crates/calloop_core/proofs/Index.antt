@@ -5,7 +5,7 @@ use Rattle.std.specs.declared.cmp.Ordering.TheVariants.{Less, Equal, Greater}
 use Rattle.std.specs.Ordering.{nat_cmp, is_eq, match_ordering}
 use Rattle.calloop_core.specs.declared.sys.Watched.{Watched}
 use Rattle.calloop_core.specs.declared.sys.poll.socket_table.Indexed.{Indexed}
-use Rattle.calloop_core.specs.Tables.{Table, with_key, without_key, watched_at, indexed_at, IsIndexOf}
+use Rattle.calloop_core.specs.sys.Tables.{Table, with_key, without_key, watched_at, indexed_at, IsIndexOf}
 use Rattle.calloop_wake.specs.Tokens.{slot_of_key}
 use Rattle.calloop_core.proofs.Frames.{entered_elsewhere, left_elsewhere}
 

@@ -14,10 +14,10 @@ use Rattle.calloop_core.specs.declared.sources.source.PostAction.TheVariants.{
 }
 use Rattle.calloop_core.specs.declared.transient.State.{State}
 use Rattle.calloop_core.specs.declared.transient.State.TheVariants.{Keep, Register, Disable, Remove, Replace, Empty}
-use Rattle.calloop_core.specs.Polls.{PollView, PollStep, polls_after}
-use Rattle.calloop_core.specs.Deeds.{Deed, Registered, Reregistered, Unregistered, Turned, Slept, Noticed, Heard, new_heard}
-use Rattle.calloop_core.specs.Meanings.{Meaning}
-use Rattle.calloop_core.specs.Marks.{Succeeds, IsRegisteredBy, IsMarked, as_many, registered_within}
+use Rattle.calloop_core.specs.sys.Polls.{PollView, PollStep, polls_after}
+use Rattle.calloop_core.specs.sources.Deeds.{Deed, Registered, Reregistered, Unregistered, Turned, Slept, Noticed, Heard, new_heard}
+use Rattle.calloop_core.specs.sources.Meanings.{Meaning}
+use Rattle.calloop_core.specs.TransientMarks.{Succeeds, IsRegisteredBy, IsMarked, as_many, registered_within}
 use Rattle.calloop_core.specs.Transients.{
   Enters,
   ThenEnters,

@@ -5,7 +5,7 @@ use Rattle.std.specs.declared.io.Error.{Error as Cause}
 use Rattle.std.specs.declared.io.ErrorKind.TheVariants.{Interrupted, Other}
 use Rattle.calloop_core.specs.declared.sys.script.ScriptAnswer.{ScriptAnswer}
 use Rattle.calloop_core.specs.declared.sys.script.ScriptEnd.TheVariants.{Interrupted as Interruption, Fault}
-use Rattle.calloop_core.specs.ScriptPollers.{WaitAnswered}
+use Rattle.calloop_core.specs.sys.ScriptPollers.{WaitAnswered}
 
 module _ (answers left : List ScriptAnswer) (first : ScriptAnswer) (moment : ℕ) (asked : Option ℕ) (cause : Cause) (is : answers ≡ first ∷ left) where
   pub interrupted : first.end ≡ Interruption → error_kind cause ≡ Interrupted → WaitAnswered answers moment asked (Err cause) [] first.moment.nanos left

@@ -1,7 +1,7 @@
 -- Steps one after the other.
 use Rattle.std.proofs.Common.{◌≡◌, List, [], ◌∷◌, ◌++◌, ap, subst, ◌∙◌}
-use Rattle.calloop_core.specs.Pollers.{Outside}
-use Rattle.calloop_core.specs.Polls.{PollView, PollStep, poll_after, polls_after, Allowed, AllAllowed, AllStepped}
+use Rattle.calloop_core.specs.sys.Pollers.{Outside}
+use Rattle.calloop_core.specs.sys.Polls.{PollView, PollStep, poll_after, polls_after, Allowed, AllAllowed, AllStepped}
 
 module _ {P : Type 0} (O : Outside P) where
   pub stepped_first : (v u w : PollView P) (s : PollStep P) (ss : List (PollStep P)) → Allowed O v s → u ≡ poll_after v s → AllStepped O u ss w → AllStepped O v (s ∷ ss) w

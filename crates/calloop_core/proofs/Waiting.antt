@@ -2,9 +2,9 @@
 use Rattle.std.proofs.Common.{◌≡◌, ℕ, List, [], ◌∷◌, true, false, Bool, Option, Result, Ok, Err, refl}
 use Rattle.std.specs.declared.io.Error.{Error as Cause}
 use Rattle.calloop_core.specs.declared.sys.Readiness.{Readiness}
-use Rattle.calloop_core.specs.Pollers.{Outside}
-use Rattle.calloop_core.specs.Polls.{PollView}
-use Rattle.calloop_core.specs.Waits.{Interruption, IsInterruption, Waits, asked_for, is_zero}
+use Rattle.calloop_core.specs.sys.Pollers.{Outside}
+use Rattle.calloop_core.specs.sys.Polls.{PollView}
+use Rattle.calloop_core.specs.sys.Waits.{Interruption, IsInterruption, Waits, asked_for, is_zero}
 
 module _ {P : Type 0} (O : Outside P) (v : PollView P) (timeout : Option ℕ) (start : ℕ) (asked : Option ℕ) where
   pub answered : (p w q : P) (given : List (ℕ × Readiness)) (later : ℕ) → O.waits p asked (Ok tt) given w → O.reads w later q → Waits O v timeout start asked p [] (Ok later) given q

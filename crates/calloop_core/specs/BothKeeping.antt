@@ -9,17 +9,17 @@ use Rattle.calloop_wake.specs.declared.token.RegistrationToken.{RegistrationToke
 use Rattle.calloop_core.specs.declared.sys.Readiness.{Readiness}
 use Rattle.calloop_core.specs.declared.sources.source.PostAction.{PostAction}
 use Rattle.calloop_core.specs.declared.both.Both.{Both}
-use Rattle.calloop_core.specs.Actions.{either}
-use Rattle.calloop_core.specs.Polls.{PollView, PollStep, polls_after}
-use Rattle.calloop_core.specs.Calls.{IsOfSource}
-use Rattle.calloop_core.specs.Deeds.{Deed, Registered, Reregistered, Unregistered, Turned, Slept, Noticed, Lent, lend}
-use Rattle.calloop_core.specs.Lawful.{silent}
-use Rattle.calloop_core.specs.Holdings.{IsBelow, Keeps}
-use Rattle.calloop_core.specs.Keys.{IsFactoryOf, AllActFor}
-use Rattle.calloop_core.specs.Meanings.{Meaning, IsKeeping, KeepsCounters, KeepsHome, IsAtHome, BeginsIn, IsAsking}
-use Rattle.calloop_core.specs.Meanings.{FailsAsSource}
-use Rattle.calloop_core.specs.Quiet.{IsQuiet}
-use Rattle.calloop_core.specs.Beside.{
+use Rattle.calloop_core.specs.sources.Actions.{either}
+use Rattle.calloop_core.specs.sys.Polls.{PollView, PollStep, polls_after}
+use Rattle.calloop_core.specs.sources.Calls.{IsOfSource}
+use Rattle.calloop_core.specs.sources.Deeds.{Deed, Registered, Reregistered, Unregistered, Turned, Slept, Noticed, Lent, lend}
+use Rattle.calloop_core.specs.sources.Lawful.{silent}
+use Rattle.calloop_core.specs.sources.Holdings.{IsBelow, Keeps}
+use Rattle.calloop_core.specs.sys.Keys.{IsFactoryOf, AllActFor}
+use Rattle.calloop_core.specs.sources.Meanings.{Meaning, IsKeeping, KeepsCounters, KeepsHome, IsAtHome, BeginsIn, IsAsking}
+use Rattle.calloop_core.specs.sources.Meanings.{FailsAsSource}
+use Rattle.calloop_core.specs.sources.Quiet.{IsQuiet}
+use Rattle.calloop_core.specs.sources.Beside.{
   within_itself,
   keeps_then,
   apart_sym,

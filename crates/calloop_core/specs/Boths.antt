@@ -9,13 +9,13 @@ use Rattle.calloop_wake.specs.declared.token.TokenFactory.{TokenFactory}
 use Rattle.calloop_core.specs.declared.sys.Readiness.{Readiness}
 use Rattle.calloop_core.specs.declared.sources.source.PostAction.{PostAction}
 use Rattle.calloop_core.specs.declared.both.Both.{Both}
-use Rattle.calloop_core.specs.Actions.{either}
-use Rattle.calloop_core.specs.Polls.{PollView, PollStep, polls_after}
-use Rattle.calloop_core.specs.Deeds.{Deed, Registered, Reregistered, Unregistered, Turned, SaysNothing, Slept, Noticed, Lent, lend}
-use Rattle.calloop_core.specs.Holdings.{Holding}
+use Rattle.calloop_core.specs.sources.Actions.{either}
+use Rattle.calloop_core.specs.sys.Polls.{PollView, PollStep, polls_after}
+use Rattle.calloop_core.specs.sources.Deeds.{Deed, Registered, Reregistered, Unregistered, Turned, SaysNothing, Slept, Noticed, Lent, lend}
+use Rattle.calloop_core.specs.sources.Holdings.{Holding}
 use Rattle.calloop_core.specs.declared.sources.dispatch.Role.TheVariants.{Caller}
-use Rattle.calloop_core.specs.Meanings.{Meaning}
-use Rattle.calloop_core.specs.Beside.{IsApart, beside}
+use Rattle.calloop_core.specs.sources.Meanings.{Meaning}
+use Rattle.calloop_core.specs.sources.Beside.{IsApart, beside}
 
 -- what a part did, where it was asked
 abbrev pub MayDo : {S P T : Type 0} → Meaning S P T → S → PollView P → Option (Deed T) → List (PollStep P) → S → Type 0

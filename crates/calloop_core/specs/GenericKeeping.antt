@@ -12,15 +12,15 @@ use Rattle.calloop_core.specs.declared.sys.Mode.{Mode}
 use Rattle.calloop_core.specs.declared.sys.Mode.TheVariants.{OneShot, Level, Edge}
 use Rattle.calloop_core.specs.declared.sources.source.PostAction.{PostAction}
 use Rattle.calloop_core.specs.declared.generic.Generic.{Generic}
-use Rattle.calloop_core.specs.Pollers.{Sockets}
-use Rattle.calloop_core.specs.Tables.{Edit, Enter, Change, Leave, cannot}
-use Rattle.calloop_core.specs.Polls.{PollView, PollStep}
-use Rattle.calloop_core.specs.Registering.{Edits, Tried, TriedUnless}
-use Rattle.calloop_core.specs.Deeds.{Registered, Reregistered, Unregistered, Turned, Slept, Noticed}
-use Rattle.calloop_core.specs.Holdings.{Keeps, holds_none}
-use Rattle.calloop_core.specs.Keys.{IsKeyOf, IsFactoryOf, EditsFor, AllActFor}
-use Rattle.calloop_core.specs.Lawful.{next_is_own, StaysHome, stays_home, silent}
-use Rattle.calloop_core.specs.Meanings.{IsKeeping, KeepsCounters}
+use Rattle.calloop_core.specs.sys.Pollers.{Sockets}
+use Rattle.calloop_core.specs.sys.Tables.{Edit, Enter, Change, Leave, cannot}
+use Rattle.calloop_core.specs.sys.Polls.{PollView, PollStep}
+use Rattle.calloop_core.specs.sys.SocketCalls.{Edits, Tried, TriedUnless}
+use Rattle.calloop_core.specs.sources.Deeds.{Registered, Reregistered, Unregistered, Turned, Slept, Noticed}
+use Rattle.calloop_core.specs.sources.Holdings.{Keeps, holds_none}
+use Rattle.calloop_core.specs.sys.Keys.{IsKeyOf, IsFactoryOf, EditsFor, AllActFor}
+use Rattle.calloop_core.specs.sources.Lawful.{next_is_own, StaysHome, stays_home, silent}
+use Rattle.calloop_core.specs.sources.Meanings.{IsKeeping, KeepsCounters}
 use Rattle.calloop_core.specs.Generics.{
   TakesToken,
   RegisteredFrom,

@@ -18,16 +18,16 @@ use Rattle.calloop_core.specs.declared.sources.source.PostAction.{PostAction}
 use Rattle.calloop_core.specs.declared.sources.source.PostAction.TheVariants.{Continue}
 use Rattle.calloop_core.specs.declared.generic.NoIoDrop.{NoIoDrop}
 use Rattle.calloop_core.specs.declared.generic.Generic.{Generic}
-use Rattle.calloop_core.specs.Pollers.{Sockets}
-use Rattle.calloop_core.specs.Tables.{Edit, Enter, Change, Leave}
-use Rattle.calloop_core.specs.Polls.{PollView, PollStep, IsOfKind}
-use Rattle.calloop_core.specs.Registering.{Edits}
-use Rattle.calloop_core.specs.Calls.{CallbackCall}
-use Rattle.calloop_core.specs.Deeds.{Deed, Registered, Reregistered, Unregistered, Turned, SaysNothing, Slept, Noticed, Heard}
-use Rattle.calloop_core.specs.Holdings.{holds_none}
-use Rattle.calloop_core.specs.Keys.{no_key}
+use Rattle.calloop_core.specs.sys.Pollers.{Sockets}
+use Rattle.calloop_core.specs.sys.Tables.{Edit, Enter, Change, Leave}
+use Rattle.calloop_core.specs.sys.Polls.{PollView, PollStep, IsOfKind}
+use Rattle.calloop_core.specs.sys.SocketCalls.{Edits}
+use Rattle.calloop_core.specs.sources.Calls.{CallbackCall}
+use Rattle.calloop_core.specs.sources.Deeds.{Deed, Registered, Reregistered, Unregistered, Turned, SaysNothing, Slept, Noticed, Heard}
+use Rattle.calloop_core.specs.sources.Holdings.{holds_none}
+use Rattle.calloop_core.specs.sys.Keys.{no_key}
 use Rattle.calloop_core.specs.declared.sources.dispatch.Role.TheVariants.{Caller}
-use Rattle.calloop_core.specs.Meanings.{Meaning}
+use Rattle.calloop_core.specs.sources.Meanings.{Meaning}
 
 abbrev pub socket : {I : Type 0} → I → NoIoDrop I
 socket io = record { io = io }

@@ -7,13 +7,13 @@ use Rattle.calloop_wake.specs.declared.token.TokenFactory.{TokenFactory}
 use Rattle.calloop_core.specs.declared.transient.State.{State}
 use Rattle.calloop_core.specs.declared.transient.State.TheVariants.{Keep, Register, Disable, Remove, Replace, Empty}
 use Rattle.calloop_core.specs.declared.movable.Movable.{Movable}
-use Rattle.calloop_core.specs.Polls.{PollView, PollStep}
-use Rattle.calloop_core.specs.Deeds.{Deed, Registered, Reregistered, Unregistered, Turned, Slept, Noticed, Heard}
+use Rattle.calloop_core.specs.sys.Polls.{PollView, PollStep}
+use Rattle.calloop_core.specs.sources.Deeds.{Deed, Registered, Reregistered, Unregistered, Turned, Slept, Noticed, Heard}
 use Rattle.calloop_core.specs.declared.sources.dispatch.Role.TheVariants.{Caller}
-use Rattle.calloop_core.specs.Meanings.{Meaning, IsKeeping, KeepsCounters, KeepsHome, seen_as}
-use Rattle.calloop_core.specs.Lawful.{keeping_seen, silent}
+use Rattle.calloop_core.specs.sources.Meanings.{Meaning, IsKeeping, KeepsCounters, KeepsHome, seen_as}
+use Rattle.calloop_core.specs.sources.Lawful.{keeping_seen, silent}
 use Rattle.calloop_core.specs.Transients.{Moves, RegisteredAs, ReregisteredAs, coming, state_holds, state_keys, state_fits}
-use Rattle.calloop_core.specs.Transience.{state_keeps, by_registering}
+use Rattle.calloop_core.specs.TransientKeeping.{state_keeps, by_registering}
 
 -- one that comes with the first registration
 abbrev pub coming_again : {S : Type 0} → S → Movable S

@@ -17,12 +17,12 @@ use Rattle.calloop_core.specs.declared.timer.TimeoutAction.TheVariants.{Drop, To
 use Rattle.calloop_core.specs.declared.timer.TimerError.{TimerError}
 use Rattle.calloop_core.specs.declared.timer.Timer.{Timer}
 use Rattle.calloop_core.specs.declared.timer.Registration.{Registration}
-use Rattle.calloop_core.specs.Calls.{CallbackCall}
-use Rattle.calloop_core.specs.Holdings.{Holding, Free, Spent, Standing}
-use Rattle.calloop_core.specs.Keys.{no_key}
-use Rattle.calloop_core.specs.Deeds.{Deed, Registered, Reregistered, Unregistered, Turned, SaysNothing, Slept, Noticed, Heard}
-use Rattle.calloop_core.specs.Meanings.{Meaning}
-use Rattle.calloop_core.specs.Polls.{PollView, PollStep, Arm, ArmAgain, Cancel, Call, ReadClock}
+use Rattle.calloop_core.specs.sources.Calls.{CallbackCall}
+use Rattle.calloop_core.specs.sources.Holdings.{Holding, Free, Spent, Standing}
+use Rattle.calloop_core.specs.sys.Keys.{no_key}
+use Rattle.calloop_core.specs.sources.Deeds.{Deed, Registered, Reregistered, Unregistered, Turned, SaysNothing, Slept, Noticed, Heard}
+use Rattle.calloop_core.specs.sources.Meanings.{Meaning}
+use Rattle.calloop_core.specs.sys.Polls.{PollView, PollStep, Arm, ArmAgain, Cancel, Call, ReadClock}
 
 -- a timer without a registration
 abbrev pub fresh_timer : (deadline : Option Instant) → Timer

@@ -15,13 +15,13 @@ use Rattle.calloop_core.specs.declared.sources.source.PostAction.TheVariants.{
 use Rattle.calloop_core.specs.declared.transient.State.{State}
 use Rattle.calloop_core.specs.declared.transient.State.TheVariants.{Keep, Register, Disable, Remove, Replace, Empty}
 use Rattle.calloop_core.specs.declared.transient.TransientSource.{TransientSource}
-use Rattle.calloop_core.specs.Polls.{PollView, PollStep, polls_after}
-use Rattle.calloop_core.specs.Deeds.{Deed, Registered, Reregistered, Unregistered, Turned, SaysNothing, Slept, Noticed, Heard, new_heard}
-use Rattle.calloop_core.specs.Holdings.{Holding, holds_none}
-use Rattle.calloop_core.specs.Keys.{no_key}
-use Rattle.calloop_core.specs.Beside.{IsApart, beside}
+use Rattle.calloop_core.specs.sys.Polls.{PollView, PollStep, polls_after}
+use Rattle.calloop_core.specs.sources.Deeds.{Deed, Registered, Reregistered, Unregistered, Turned, SaysNothing, Slept, Noticed, Heard, new_heard}
+use Rattle.calloop_core.specs.sources.Holdings.{Holding, holds_none}
+use Rattle.calloop_core.specs.sys.Keys.{no_key}
+use Rattle.calloop_core.specs.sources.Beside.{IsApart, beside}
 use Rattle.calloop_core.specs.declared.sources.dispatch.Role.TheVariants.{Caller}
-use Rattle.calloop_core.specs.Meanings.{Meaning, seen_as}
+use Rattle.calloop_core.specs.sources.Meanings.{Meaning, seen_as}
 
 -- the one where a call succeeded, the other where it was refused
 abbrev pub after : {A : Type 0} → Result (Unit {0}) Error → A → A → A

@@ -1,9 +1,9 @@
 //! Two sources with their callbacks as one source.
 ghost use Rattle.std.specs.Prelude.{◌≡◌, ◌<◌, List};
 ghost use Rattle.calloop_wake.specs.Widths.{parts};
-ghost use Rattle.calloop_core.specs.Polls.{PollStep, poll_view, AllStepped};
+ghost use Rattle.calloop_core.specs.sys.Polls.{PollStep, poll_view, AllStepped};
 ghost use Rattle.calloop_core.specs.Boths.{UnregistersBoth, RegistersBoth};
-ghost use Rattle.calloop_core.specs.Deeds.{Reregistered};
+ghost use Rattle.calloop_core.specs.sources.Deeds.{Reregistered};
 ghost use Rattle.calloop_wake.specs.Failures.{with_error};
 
 use crate::callbacks::QuietDispatch;

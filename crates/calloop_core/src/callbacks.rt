@@ -44,7 +44,7 @@ impl<E, M: Drop, T, X, Q: Asking, F: OnWith<E, M, X, T>> Callback<E, M, T, X, Q>
 
 /// A callback whose relation says that it asks the loop for nothing. Each `On` is one.
 pub trait QuietCallback<E, M, T, X, Q: Asking>: Callback<E, M, T, X, Q> {
-    ghost use Rattle.calloop_core.specs.Quiet.{IsQuietCall};
+    ghost use Rattle.calloop_core.specs.sources.Quiet.{IsQuietCall};
 
     ghost quiet: { IsQuietCall Self.may };
 }
@@ -55,7 +55,7 @@ impl<E, M: Drop, T, X, Q: Asking, F: OnWith<E, M, X, T>> QuietCallback<E, M, T, 
 
 /// A choice of sources whose callbacks ask the loop for nothing, so that no turn of it does.
 pub trait QuietDispatch<P: Poller, C, R: Wait + Drop, X, Q: Asking>: Dispatch<P, C, R, X, Q> {
-    ghost use Rattle.calloop_core.specs.Quiet.{IsQuiet};
+    ghost use Rattle.calloop_core.specs.sources.Quiet.{IsQuiet};
 
     ghost quiet: { IsQuiet Self.means };
 }
@@ -66,7 +66,7 @@ where
     S: EventSource<P, C, R>,
     F: QuietCallback<S::Event, S::Metadata, S::Ret, X, Q>,
 {
-    ghost use Rattle.calloop_core.specs.Quiet.{quiet_dispatcher};
+    ghost use Rattle.calloop_core.specs.sources.Quiet.{quiet_dispatcher};
 
     ghost quiet = { quiet_dispatcher S.means ⟦<F as Callback<S::Event, S::Metadata, S::Ret, X, Q>>⟧.may Q.reaches S.Error.becomes F.quiet };
 }
@@ -76,7 +76,7 @@ where
     A: QuietDispatch<P, C, R, X, Q>,
     B: QuietDispatch<P, C, R, X, Q>,
 {
-    ghost use Rattle.calloop_core.specs.Quiet.{quiet_one_of};
+    ghost use Rattle.calloop_core.specs.sources.Quiet.{quiet_one_of};
 
     ghost quiet = { quiet_one_of ⟦<A as Dispatch<P, C, R, X, Q>>⟧.means ⟦<B as Dispatch<P, C, R, X, Q>>⟧.means A.quiet B.quiet };
 }

@@ -4,8 +4,8 @@ use calloop_wake::error::Error;
 use std::io;
 
 impl IntoError for io::Error {
-    ghost use Rattle.calloop_core.specs.Calls.{OfIo};
-    ghost use Rattle.calloop_core.specs.Lawful.{io_of_source};
+    ghost use Rattle.calloop_core.specs.sources.Calls.{OfIo};
+    ghost use Rattle.calloop_core.specs.sources.Lawful.{io_of_source};
 
     ghost becomes = { OfIo };
 
@@ -21,8 +21,8 @@ impl IntoError for io::Error {
 }
 
 impl IntoError for Error {
-    ghost use Rattle.calloop_core.specs.Calls.{AsOfSource};
-    ghost use Rattle.calloop_core.specs.Lawful.{as_of_source};
+    ghost use Rattle.calloop_core.specs.sources.Calls.{AsOfSource};
+    ghost use Rattle.calloop_core.specs.sources.Lawful.{as_of_source};
 
     ghost becomes = { AsOfSource };
 

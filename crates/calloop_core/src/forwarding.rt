@@ -10,8 +10,8 @@ use calloop_wake::token::{Token, TokenFactory};
 use std::sync::Wait;
 
 impl<P: Poller, C, R: Wait + Drop, T: EventSource<P, C, R>> EventSource<P, C, R> for Box<T> {
-    ghost use Rattle.calloop_core.specs.Meanings.{seen_as};
-    ghost use Rattle.calloop_core.specs.Lawful.{keeping_seen};
+    ghost use Rattle.calloop_core.specs.sources.Meanings.{seen_as};
+    ghost use Rattle.calloop_core.specs.sources.Lawful.{keeping_seen};
 
     type Event = T::Event;
 
@@ -82,8 +82,8 @@ pub struct Forward<'a, T> {
 
 impl<'a, P: Poller, C, R: Wait + Drop, T: EventSource<P, C, R>> EventSource<P, C, R>
     for Forward<'a, T> {
-    ghost use Rattle.calloop_core.specs.Meanings.{seen_as};
-    ghost use Rattle.calloop_core.specs.Lawful.{keeping_seen};
+    ghost use Rattle.calloop_core.specs.sources.Meanings.{seen_as};
+    ghost use Rattle.calloop_core.specs.sources.Lawful.{keeping_seen};
 
     type Event = T::Event;
 

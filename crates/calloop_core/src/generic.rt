@@ -2,7 +2,7 @@
 ghost use Rattle.std.specs.Prelude.{◌≡◌, ◌⊎◌, List, None, Some, true, false, Bool, MatchBool, IsSome, IfOk, IfErr};
 ghost use Rattle.std.specs.Borrow.{Lends, sem};
 ghost use Rattle.calloop_core.specs.Lending.{with_socket};
-ghost use Rattle.calloop_core.specs.Polls.{PollStep, poll_view, AllStepped};
+ghost use Rattle.calloop_core.specs.sys.Polls.{PollStep, poll_view, AllStepped};
 ghost use Rattle.calloop_core.specs.Generics.{ArmedBy, Hears, heard_in};
 ghost use Rattle.calloop_core.specs.contracts.generic.NoIoDrop.{the_row as lent_row};
 ghost use Rattle.calloop_core.specs.contracts.generic.Generic.{the_row};

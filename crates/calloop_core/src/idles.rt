@@ -16,7 +16,7 @@ pub trait IdleCallback<X, Q: Asking> {
 
 /// One whose relation says that it asks the loop for nothing.
 pub trait QuietIdle<X, Q: Asking>: IdleCallback<X, Q> {
-    ghost use Rattle.calloop_core.specs.Quiet.{IsQuietRun};
+    ghost use Rattle.calloop_core.specs.sources.Quiet.{IsQuietRun};
 
     ghost quiet: { IsQuietRun Self.runs };
 }

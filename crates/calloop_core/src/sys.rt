@@ -1,6 +1,6 @@
 //! Pollers and clocks, and what sources register with.
 ghost use Rattle.std.specs.Prelude.{◌≡◌, ℕ, ◌+◌, ◌≤◌, ◌++◌, ◌||◌, List, length, vec_len, vec_capacity};
-ghost use Rattle.calloop_core.specs.Pollers.{Outside, IsCounted, nanos_of, asks};
+ghost use Rattle.calloop_core.specs.sys.Pollers.{Outside, IsCounted, nanos_of, asks};
 ghost use Rattle.calloop_core.specs.declared.sys.Readiness.{Readiness};
 
 use calloop_wake::error::Result as LoopResult;
@@ -124,7 +124,7 @@ pub trait Poller: Drop {
     ghost use Rattle.std.specs.Prelude.{◌≡◌, ℕ, ◌+◌, ◌≤◌, ◌++◌, List, length, vec_len, vec_capacity};
     ghost use Rattle.std.specs.Prelude.{IfErr};
     ghost use Rattle.calloop_wake.specs.declared.error.Error.TheVariants.{OutOfMemory};
-    ghost use Rattle.calloop_core.specs.Pollers.{Outside, Sockets, Add, Modify, Delete, IsCounted, faults_of, nanos_of, events_per_wait};
+    ghost use Rattle.calloop_core.specs.sys.Pollers.{Outside, Sockets, Add, Modify, Delete, IsCounted, faults_of, nanos_of, events_per_wait};
     ghost use Rattle.calloop_core.specs.declared.sys.Readiness.{Readiness};
 
     /// What it waits on: a socket.

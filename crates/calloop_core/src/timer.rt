@@ -3,8 +3,8 @@ ghost use Rattle.std.specs.Prelude.{◌≡◌, ℕ, List, [], ◌∷◌, Result,
 ghost use Rattle.calloop_wake.specs.declared.wheel.Instant.{Instant};
 ghost use Rattle.calloop_wake.specs.declared.error.Error.TheVariants.{OutOfMemory};
 ghost use Rattle.calloop_wake.specs.Deadlines.{is_armed, moment_after};
-ghost use Rattle.calloop_core.specs.Polls.{PollView, PollStep, poll_view, AllStepped};
-ghost use Rattle.calloop_core.specs.Calls.{CallbackCall, Went};
+ghost use Rattle.calloop_core.specs.sys.Polls.{PollView, PollStep, poll_view, AllStepped};
+ghost use Rattle.calloop_core.specs.sources.Calls.{CallbackCall, Went};
 ghost use Rattle.calloop_core.specs.declared.timer.TimeoutAction.{TimeoutAction};
 ghost use Rattle.calloop_core.specs.Timers.{fresh_timer, releases, Armed, ArmedAgain, FollowsFrom, timer_holds, IsTimerReg, IsTimerUnreg, IsTimerTurn};
 
@@ -43,7 +43,7 @@ pub enum TimerError {
 impl IntoError for TimerError {
     ghost use Rattle.std.specs.Prelude.{◌≡◌};
     ghost use Rattle.calloop_wake.specs.declared.error.Error.TheVariants.{OutOfMemory};
-    ghost use Rattle.calloop_core.specs.Lawful.{memory_of_source};
+    ghost use Rattle.calloop_core.specs.sources.Lawful.{memory_of_source};
 
     ghost becomes = { λ _ e. e ≡ OutOfMemory };
 
@@ -235,7 +235,7 @@ impl Timer {
 
 impl<P: Poller, C, R: Wait + Drop> EventSource<P, C, R> for Timer {
     ghost use Rattle.calloop_core.specs.Timers.{timer_meaning};
-    ghost use Rattle.calloop_core.specs.Keeping.{timer_keeps};
+    ghost use Rattle.calloop_core.specs.TimerKeeping.{timer_keeps};
 
     type Event = Instant;
 

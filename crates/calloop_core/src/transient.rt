@@ -7,12 +7,12 @@ ghost use Rattle.calloop_core.specs.declared.sources.source.PostAction.TheVarian
 ghost use Rattle.calloop_core.specs.declared.sys.Readiness.{Readiness};
 ghost use Rattle.calloop_core.specs.declared.transient.State.{State};
 ghost use Rattle.calloop_core.specs.declared.transient.State.TheVariants.{Keep, Register, Disable, Remove, Replace};
-ghost use Rattle.calloop_core.specs.Polls.{PollView, PollStep, poll_view};
-ghost use Rattle.calloop_core.specs.Deeds.{Deed, Registered, Reregistered, Unregistered, Turned, Heard};
-ghost use Rattle.calloop_core.specs.Meanings.{Does};
+ghost use Rattle.calloop_core.specs.sys.Polls.{PollView, PollStep, poll_view};
+ghost use Rattle.calloop_core.specs.sources.Deeds.{Deed, Registered, Reregistered, Unregistered, Turned, Heard};
+ghost use Rattle.calloop_core.specs.sources.Meanings.{Does};
 ghost use Rattle.calloop_core.specs.Transients.{state_meaning, Moves, KeptBy, removed_from, replaced_by};
 ghost use Rattle.calloop_core.specs.Transients.{is_without_source, is_given_up, leaving, giving_way_to, handed_back_by, IsMappedBy};
-ghost use Rattle.calloop_core.specs.Marks.{IsMarked, registered_within, IsRegisteredBy, Succeeds};
+ghost use Rattle.calloop_core.specs.TransientMarks.{IsMarked, registered_within, IsRegisteredBy, Succeeds};
 
 use crate::sources::{Asking, Callback, EventSource, PostAction};
 use crate::sys::events::EventIterator;
@@ -472,7 +472,7 @@ where
     T: EventSource<P, C, R> + Drop,
 {
     ghost use Rattle.calloop_core.specs.Transients.{transient_meaning};
-    ghost use Rattle.calloop_core.specs.Transience.{transient_keeps};
+    ghost use Rattle.calloop_core.specs.TransientKeeping.{transient_keeps};
 
     type Event = T::Event;
 

@@ -3,15 +3,15 @@ use Rattle.std.proofs.Common.{refl}
 use Rattle.std.specs.Prelude.{◌≡◌, ◌⊎◌, [], List, Result, Ok, Err, IsErr, false}
 use Rattle.std.proofs.Common.{inl, inr}
 use Rattle.calloop_core.specs.declared.sources.source.PostAction.{PostAction}
-use Rattle.calloop_core.specs.Polls.{PollView, PollStep}
-use Rattle.calloop_core.specs.Lawful.{silent}
-use Rattle.calloop_core.specs.Deeds.{Deed, Registered, Reregistered, Unregistered, Turned, SaysNothing, Slept, Noticed, Heard, new_heard}
-use Rattle.calloop_core.specs.Holdings.{holds_none}
+use Rattle.calloop_core.specs.sys.Polls.{PollView, PollStep}
+use Rattle.calloop_core.specs.sources.Lawful.{silent}
+use Rattle.calloop_core.specs.sources.Deeds.{Deed, Registered, Reregistered, Unregistered, Turned, SaysNothing, Slept, Noticed, Heard, new_heard}
+use Rattle.calloop_core.specs.sources.Holdings.{holds_none}
 use Rattle.calloop_core.specs.declared.sources.dispatch.Role.TheVariants.{Caller}
-use Rattle.calloop_core.specs.Meanings.{Meaning, IsKeeping, KeepsCounters, KeepsHome}
+use Rattle.calloop_core.specs.sources.Meanings.{Meaning, IsKeeping, KeepsCounters, KeepsHome}
 use Rattle.calloop.specs.declared.ping.source.PingError.{PingError}
-use Rattle.calloop.specs.Pings.{IsPing, ping_keys}
-use Rattle.calloop.specs.PingKeeping.{ping_keeps}
+use Rattle.calloop.specs.ping.Pings.{IsPing, ping_keys}
+use Rattle.calloop.specs.ping.PingKeeping.{ping_keeps}
 use Rattle.calloop_test_sources.specs.declared.guarded.Guarded.{Guarded}
 use Rattle.calloop_test_sources.specs.declared.source.Broken.{Broken}
 

@@ -7,22 +7,22 @@ use Rattle.calloop_core.specs.declared.sources.source.PostAction.{PostAction}
 use Rattle.calloop_core.specs.declared.sources.source.PostAction.TheVariants.{Continue}
 use Rattle.calloop_core.specs.declared.timer.TimeoutAction.{TimeoutAction}
 use Rattle.calloop_core.specs.declared.timer.TimerError.{TimerError}
-use Rattle.calloop_core.specs.Calls.{CallbackCall}
-use Rattle.calloop_core.specs.Polls.{PollView, PollStep, polls_after}
-use Rattle.calloop_core.specs.Lawful.{silent}
-use Rattle.calloop_core.specs.Deeds.{Deed, Registered, Reregistered, Unregistered, Turned, SaysNothing, Slept, Noticed, Heard}
-use Rattle.calloop_core.specs.Holdings.{Holding, holds_none, IsBelow, Keeps}
+use Rattle.calloop_core.specs.sources.Calls.{CallbackCall}
+use Rattle.calloop_core.specs.sys.Polls.{PollView, PollStep, polls_after}
+use Rattle.calloop_core.specs.sources.Lawful.{silent}
+use Rattle.calloop_core.specs.sources.Deeds.{Deed, Registered, Reregistered, Unregistered, Turned, SaysNothing, Slept, Noticed, Heard}
+use Rattle.calloop_core.specs.sources.Holdings.{Holding, holds_none, IsBelow, Keeps}
 use Rattle.calloop_wake.specs.declared.token.TokenFactory.{TokenFactory}
 use Rattle.calloop_wake.specs.declared.token.RegistrationToken.{RegistrationToken}
-use Rattle.calloop_core.specs.Keys.{AllActFor}
+use Rattle.calloop_core.specs.sys.Keys.{AllActFor}
 use Rattle.calloop_core.specs.declared.sources.dispatch.Role.TheVariants.{Caller}
-use Rattle.calloop_core.specs.Meanings.{Meaning, IsKeeping, KeepsCounters, KeepsHome, IsAtHome, BeginsIn}
+use Rattle.calloop_core.specs.sources.Meanings.{Meaning, IsKeeping, KeepsCounters, KeepsHome, IsAtHome, BeginsIn}
 use Rattle.calloop_core.specs.Timers.{timer_holds, timer_keys, timer_meaning}
-use Rattle.calloop_core.specs.Keeping.{timer_keeps}
+use Rattle.calloop_core.specs.TimerKeeping.{timer_keeps}
 use Rattle.calloop.specs.declared.ping.source.PingError.{PingError}
-use Rattle.calloop.specs.Pings.{ping_meaning, ping_keys}
-use Rattle.calloop.specs.PingKeeping.{ping_keeps}
-use Rattle.calloop_core.specs.Beside.{
+use Rattle.calloop.specs.ping.Pings.{ping_meaning, ping_keys}
+use Rattle.calloop.specs.ping.PingKeeping.{ping_keeps}
+use Rattle.calloop_core.specs.sources.Beside.{
   IsApart,
   beside,
   apart_sym,
@@ -32,7 +32,7 @@ use Rattle.calloop_core.specs.Beside.{
   next_after,
   next_is,
 }
-use Rattle.calloop_core.specs.Beside.{left_held, right_held, within_itself}
+use Rattle.calloop_core.specs.sources.Beside.{left_held, right_held, within_itself}
 use Rattle.calloop_test_sources.specs.declared.source.Broken.{Broken}
 use Rattle.calloop_test_sources.specs.declared.trio.Part.{Part}
 use Rattle.calloop_test_sources.specs.declared.trio.Part.TheVariants.{Bell, First, Second}

@@ -29,8 +29,8 @@ impl Batch {
 }
 
 impl<P: Poller, C, R: Wait + Drop> EventSource<P, C, R> for Batch {
-    ghost use Rattle.calloop_core.specs.Meanings.{still};
-    ghost use Rattle.calloop_core.specs.Lawful.{keeping_still};
+    ghost use Rattle.calloop_core.specs.sources.Meanings.{still};
+    ghost use Rattle.calloop_core.specs.sources.Lawful.{keeping_still};
     ghost use Rattle.calloop_test_sources.specs.Sources.{Anything};
 
     type Event = u32;

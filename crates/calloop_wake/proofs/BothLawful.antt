@@ -1,11 +1,11 @@
 -- Two lawful kinds are a lawful kind together.
 use Rattle.std.proofs.Common.{◌≡◌, ℕ, Bool, true, false, List, Some, None, refl}
-use Rattle.calloop_wake.specs.Cells.{fresh}
-use Rattle.calloop_wake.specs.Wakes.{Kind, WakeStep, start, after_all, IsSchedule, IsCovered}
-use Rattle.calloop_wake.specs.PingKind.{ping_kind}
-use Rattle.calloop_wake.specs.ChannelKind.{channel_kind, unused_channel}
-use Rattle.calloop_wake.specs.ExecutorKind.{executor_kind, unused_executor}
-use Rattle.calloop_wake.specs.Kinds.{First, Second, either_kind, every_kind, Born, APing, AChannel, AnExecutor, new_cell}
+use Rattle.calloop_wake.specs.wake.Cells.{fresh}
+use Rattle.calloop_wake.specs.wake.Wakes.{Kind, WakeStep, start, after_all, IsSchedule, IsCovered}
+use Rattle.calloop_wake.specs.wake.PingKind.{ping_kind}
+use Rattle.calloop_wake.specs.wake.ChannelKind.{channel_kind, unused_channel}
+use Rattle.calloop_wake.specs.wake.ExecutorKind.{executor_kind, unused_executor}
+use Rattle.calloop_wake.specs.wake.Kinds.{First, Second, either_kind, every_kind, Born, APing, AChannel, AnExecutor, new_cell}
 use Rattle.calloop_wake.proofs.Lawful.{ping_lawful, fresh_is}
 use Rattle.calloop_wake.proofs.ChannelLawful.{channel_lawful, unused_is}
 use Rattle.calloop_wake.proofs.ExecutorLawful.{executor_lawful, unused-executor-is}

@@ -2,19 +2,19 @@
 use Rattle.std.proofs.Common.{◌≡◌, ℕ, zero, suc, ◌+◌, ◌-◌, ◌≤◌, Bool, true, false, ◌&&◌, ◌||◌, not, inl, inr, List, [], ◌∷◌, length, Option, Some, None, refl, ◌∙◌, ap, arith, eq-eqb}
 use Rattle.std.proofs.Math.Bool.{or-true}
 use Rattle.calloop_wake.specs.declared.wake.tasks.TaskKey.{TaskKey}
-use Rattle.calloop_wake.specs.Cells.{Cell, is_own}
-use Rattle.calloop_wake.specs.Channels.{ChannelCell, after_pop_of, after_take_of, is_early, pops}
-use Rattle.calloop_wake.specs.Executors.{ExecutorCell, after_poll_of, taken_of, after_poll}
-use Rattle.calloop_wake.specs.Tasks.{is_idle, phase_at}
-use Rattle.calloop_wake.specs.Wakes.{Kind, WakeStep, start, after_all, IsSchedule}
-use Rattle.calloop_wake.specs.PingKind as ping
-use Rattle.calloop_wake.specs.PingKind.{PingStep, ping_kind}
-use Rattle.calloop_wake.specs.ChannelKind as channel
-use Rattle.calloop_wake.specs.ChannelKind.{ChannelPast, ChannelStep, channel_kind, channel_after}
-use Rattle.calloop_wake.specs.ExecutorKind as executor
-use Rattle.calloop_wake.specs.ExecutorKind.{ExecutorPast, ExecutorStep, executor_kind, past_after, executor_after}
-use Rattle.calloop_wake.specs.Kinds.{First, Second, either_kind, every_kind, Born, new_cell}
-use Rattle.calloop_wake.specs.Delivery.{CanBeDelivered}
+use Rattle.calloop_wake.specs.wake.Cells.{Cell, is_own}
+use Rattle.calloop_wake.specs.wake.Channels.{ChannelCell, after_pop_of, after_take_of, is_early, pops}
+use Rattle.calloop_wake.specs.wake.Executors.{ExecutorCell, after_poll_of, taken_of, after_poll}
+use Rattle.calloop_wake.specs.wake.Tasks.{is_idle, phase_at}
+use Rattle.calloop_wake.specs.wake.Wakes.{Kind, WakeStep, start, after_all, IsSchedule}
+use Rattle.calloop_wake.specs.wake.PingKind as ping
+use Rattle.calloop_wake.specs.wake.PingKind.{PingStep, ping_kind}
+use Rattle.calloop_wake.specs.wake.ChannelKind as channel
+use Rattle.calloop_wake.specs.wake.ChannelKind.{ChannelPast, ChannelStep, channel_kind, channel_after}
+use Rattle.calloop_wake.specs.wake.ExecutorKind as executor
+use Rattle.calloop_wake.specs.wake.ExecutorKind.{ExecutorPast, ExecutorStep, executor_kind, past_after, executor_after}
+use Rattle.calloop_wake.specs.wake.Kinds.{First, Second, either_kind, every_kind, Born, new_cell}
+use Rattle.calloop_wake.specs.wake.Delivery.{CanBeDelivered}
 use Rattle.calloop_wake.proofs.Lawful.{ping_lawful}
 use Rattle.calloop_wake.proofs.ChannelLawful.{channel_lawful, channel_lit}
 use Rattle.calloop_wake.proofs.ExecutorLawful.{executor_lawful, executor_lit, pop-pops}

@@ -6,10 +6,10 @@ use Rattle.futures.specs.LinkedLists.{IsIn, IsApart}
 use Rattle.calloop_wake.specs.declared.wake.tasks.Phase.{Phase}
 use Rattle.calloop_wake.specs.declared.wake.tasks.Task.{Task}
 use Rattle.calloop_wake.specs.declared.wake.tasks.TaskKey.{TaskKey}
-use Rattle.calloop_wake.specs.Cells.{is_own}
-use Rattle.calloop_wake.specs.Tasks.{phase_at, after_step, in_poll, woken_phase, phase_after_pending}
-use Rattle.calloop_wake.specs.Executors.{ExecutorCell, with_slot, after_poll, after_pop, after_poll_of, taken_of, after_clear_key, in_its_poll, AreNumbered, IsKeepingTasks}
-use Rattle.calloop_wake.specs.ExecutorKind.{ExecutorPast, unused_executor, ExecutorStep, Put, Wake, Pop, EndTurn, executor_needs, executor_after, given_of, given_by, past_after, IsStandingPast, executor_kind}
+use Rattle.calloop_wake.specs.wake.Cells.{is_own}
+use Rattle.calloop_wake.specs.wake.Tasks.{phase_at, after_step, in_poll, woken_phase, phase_after_pending}
+use Rattle.calloop_wake.specs.wake.Executors.{ExecutorCell, with_slot, after_poll, after_pop, after_poll_of, taken_of, after_clear_key, in_its_poll, AreNumbered, IsKeepingTasks}
+use Rattle.calloop_wake.specs.wake.ExecutorKind.{ExecutorPast, unused_executor, ExecutorStep, Put, Wake, Pop, EndTurn, executor_needs, executor_after, given_of, given_by, past_after, IsStandingPast, executor_kind}
 use Rattle.calloop_wake.proofs.Schedules.{IsLawful, IsFresh}
 use Rattle.calloop_wake.proofs.Lawful.{own-is, and-left}
 use Rattle.calloop_wake.proofs.Sorted.{with_slot_cases, IsIn-append, IsApart-last}

@@ -1,7 +1,7 @@
 -- The cells of pings are a lawful kind.
 use Rattle.std.proofs.Common.{◌≡◌, ℕ, Bool, true, false, ◌&&◌, ◌||◌, not, Option, Some, None, refl, sym, ap, eqb-true}
-use Rattle.calloop_wake.specs.Cells.{Cell, fresh, is_own, IsLit, in_turn}
-use Rattle.calloop_wake.specs.PingKind.{PingStep, Ring, Close, EndTurn, ping_kind}
+use Rattle.calloop_wake.specs.wake.Cells.{Cell, fresh, is_own, IsLit, in_turn}
+use Rattle.calloop_wake.specs.wake.PingKind.{PingStep, Ring, Close, EndTurn, ping_kind}
 use Rattle.calloop_wake.proofs.Schedules.{IsLawful, IsFresh}
 
 pub own-is : (k : ℕ) (o : Option ℕ) → is_own k o ≡ true → o ≡ Some k

@@ -1,7 +1,7 @@
 -- What each step of the board does to the keys that are open and to those that are marked.
 use Rattle.std.proofs.Common.{◌≡◌, ◌≢◌, ℕ, zero, suc, ◌-◌, ◌^◌, ◌<◌, ◌≤◌, Bool, true, false, ◌&&◌, ◌||◌, not, cond, if◌then◌else◌, ◌⊎◌, inl, List, [], ◌∷◌, nat_eq, nat_lt, map, filter, length, refl, sym, ◌∙◌, ap, arith, ltb-true, ltb-false, le-ltb, false-eqb}
 use Rattle.std.proofs.lemmas.Bool.Decides.{nat_tests}
-use Rattle.calloop_wake.specs.Boards.{place, is_open, is_marked, any_marked, after_open_place, after_close_place, after_post, wakes, after_unpost, is_taken, bound, keys_within, taken_keys, AllAbove, IsAscending, AllGreater, IsRising}
+use Rattle.calloop_wake.specs.wake.Boards.{place, is_open, is_marked, any_marked, after_open_place, after_close_place, after_post, wakes, after_unpost, is_taken, bound, keys_within, taken_keys, AllAbove, IsAscending, AllGreater, IsRising}
 use Rattle.calloop_wake.specs.declared.wake.board.Place.{Place}
 
 pub is_open-after_open : (j k : ℕ) (ps : List Place) → is_open j (after_open_place k ps) ≡ (nat_eq k j || is_open j ps)

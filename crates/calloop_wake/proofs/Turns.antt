@@ -4,17 +4,17 @@ use Rattle.std.specs.Prelude.{IsSome}
 use Rattle.calloop_wake.specs.declared.wake.tasks.Phase.TheVariants.{Polling, Queued, Woken}
 use Rattle.calloop_wake.specs.declared.wake.tasks.Task.{Task}
 use Rattle.calloop_wake.specs.declared.wake.tasks.TaskKey.{TaskKey}
-use Rattle.calloop_wake.specs.Channels.{after_pop_of, has_room, is_below}
-use Rattle.calloop_wake.specs.ChannelKind as channel
-use Rattle.calloop_wake.specs.ChannelKind.{ChannelPast, ChannelStep, channel_kind, channel_needs, channel_after}
-use Rattle.calloop_wake.specs.Executors.{ExecutorCell, after_poll_of, taken_of, after_take, after_pop, after_wake, key_in, in_its_poll}
-use Rattle.calloop_wake.specs.Tasks.{is_woken, is_idle, phase_if, after_step, phase_after_pending, woken_phase, slot_if}
-use Rattle.calloop_wake.specs.ExecutorKind as executor
-use Rattle.calloop_wake.specs.ExecutorKind.{ExecutorPast, ExecutorStep, executor_kind, executor_needs, past_after}
-use Rattle.calloop_wake.specs.PingKind.{ping_kind}
-use Rattle.calloop_wake.specs.Kinds.{First, Second, either_kind, either_needs, either_after, every_kind}
-use Rattle.calloop_wake.specs.Wakes.{WakeWorld, WakeStep, At, Needs, after, IsSchedule}
-use Rattle.calloop_wake.specs.ExampleSchedules.{repeat}
+use Rattle.calloop_wake.specs.wake.Channels.{after_pop_of, has_room, is_below}
+use Rattle.calloop_wake.specs.wake.ChannelKind as channel
+use Rattle.calloop_wake.specs.wake.ChannelKind.{ChannelPast, ChannelStep, channel_kind, channel_needs, channel_after}
+use Rattle.calloop_wake.specs.wake.Executors.{ExecutorCell, after_poll_of, taken_of, after_take, after_pop, after_wake, key_in, in_its_poll}
+use Rattle.calloop_wake.specs.wake.Tasks.{is_woken, is_idle, phase_if, after_step, phase_after_pending, woken_phase, slot_if}
+use Rattle.calloop_wake.specs.wake.ExecutorKind as executor
+use Rattle.calloop_wake.specs.wake.ExecutorKind.{ExecutorPast, ExecutorStep, executor_kind, executor_needs, past_after}
+use Rattle.calloop_wake.specs.wake.PingKind.{ping_kind}
+use Rattle.calloop_wake.specs.wake.Kinds.{First, Second, either_kind, either_needs, either_after, every_kind}
+use Rattle.calloop_wake.specs.wake.Wakes.{WakeWorld, WakeStep, At, Needs, after, IsSchedule}
+use Rattle.calloop_wake.specs.wake.ExampleSchedules.{repeat}
 
 -- A step of the channel, or of the executor, that is cell 0.
 

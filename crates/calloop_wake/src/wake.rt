@@ -5,8 +5,8 @@
 //! The values of this module have no `Drop`, but for a receipt and the right to a receiving end: who has one has to hand it on or to
 //! spend it.
 ghost use Rattle.std.specs.Prelude.{◌≡◌, ◌&&◌, not, nat_lt, is_some, None};
-ghost use Rattle.calloop_wake.specs.Cells.{fresh_tally};
-ghost use Rattle.calloop_wake.specs.Passes.{given_back};
+ghost use Rattle.calloop_wake.specs.wake.Cells.{fresh_tally};
+ghost use Rattle.calloop_wake.specs.wake.Passes.{given_back};
 
 use ghosts::{Count, Name};
 use std::marker::Model;
@@ -45,7 +45,7 @@ pub struct Debt {
 }
 
 impl Model for Debt {
-    ghost use Rattle.calloop_wake.specs.Passes.{Keyed};
+    ghost use Rattle.calloop_wake.specs.wake.Passes.{Keyed};
 
     ghost Value = { Keyed };
 
@@ -61,7 +61,7 @@ pub struct OpenedPass {
 }
 
 impl Model for OpenedPass {
-    ghost use Rattle.calloop_wake.specs.Passes.{Keyed};
+    ghost use Rattle.calloop_wake.specs.wake.Passes.{Keyed};
 
     ghost Value = { Keyed };
 
@@ -77,7 +77,7 @@ pub struct ClosePermit {
 }
 
 impl Model for ClosePermit {
-    ghost use Rattle.calloop_wake.specs.Passes.{Keyed};
+    ghost use Rattle.calloop_wake.specs.wake.Passes.{Keyed};
 
     ghost Value = { Keyed };
 
@@ -95,7 +95,7 @@ pub struct TakenPass {
 }
 
 impl Model for TakenPass {
-    ghost use Rattle.calloop_wake.specs.Passes.{Taken};
+    ghost use Rattle.calloop_wake.specs.wake.Passes.{Taken};
 
     ghost Value = { Taken };
 

@@ -1,6 +1,6 @@
 ghost use Rattle.std.specs.Prelude.{◌≡◌, ◌<◌, ◌-◌, ◌^◌, None, IfOk, IfErr, IfSome};
 ghost use Rattle.std.specs.Arc.{arc_value};
-ghost use Rattle.calloop_wake.specs.Passes.{AreOf};
+ghost use Rattle.calloop_wake.specs.wake.Passes.{AreOf};
 
 use calloop_wake::error::{Error, InsertError};
 use calloop_wake::list::SourceList;
@@ -8,12 +8,12 @@ use calloop_wake::steps::Steps;
 use calloop_wake::token::{
     RegistrationToken, Token, TokenFactory, factory_tokens_differ, keys_differ, slot_of_key,
 };
-use calloop_wake::wake::board::OpenRefusal;
+use calloop_wake::wake::board::{Board, OpenRefusal};
 use calloop_wake::wake::cell::CellCore;
 use calloop_wake::wake::ghosts::Name;
 use calloop_wake::wake::locked::{Core, Locked};
 use calloop_wake::wake::ping::{OpenedTurn, PingCore};
-use calloop_wake::wake::watch::{Watch, WatchedBoard};
+use calloop_wake::wake::watch::Watch;
 use calloop_wake::wake::{
     ClosePermit, Debt, Last, Notify, OpenedPass, PingTurn, Sender, TakenPass, Tally,
     can_be_delivered, lost_is_not_covered, nothing_is_lost, out_of_reach,
@@ -529,7 +529,7 @@ struct Desk {
     ghost named: { name ≡ (arc_value board).tag },
 }
 
-type SharedBoard = Arc<Locked<WatchedBoard>, Global>;
+type SharedBoard = Arc<Locked<Board>, Global>;
 
 // The names of a cell, and of the board of its keys.
 #[derive(Drop)]
@@ -603,7 +603,7 @@ const REFUSED: Turn = Turn::Refused { marked: true };
 
 impl Desk {
     fn new<R: Abort>(rt: &R, alloc: Global) -> Desk {
-        let (board, watch, name, _marks) = WatchedBoard::new(alloc);
+        let (board, watch, name, _marks) = Board::new(alloc);
         let board = Arc::new(alloc, Locked::new(alloc, board, &name).expect(rt, "a lock")).expect(
             rt, "a board",
         );
@@ -861,7 +861,7 @@ fn abandon<R: Wait>(rt: &R, lock: &Locked<OneBoard>, tally: Tally) -> Option<Clo
 }
 
 // Closes the place of a key that was taken back: whether there was one.
-fn close<R: Wait>(rt: &R, board: &Locked<WatchedBoard>, permit: Option<ClosePermit>) -> bool
+fn close<R: Wait>(rt: &R, board: &Locked<Board>, permit: Option<ClosePermit>) -> bool
     requires { IfSome permit (λ permit. permit.board ≡ board.now.tag) }
 {
     let Some(permit) = permit else {
@@ -887,7 +887,7 @@ impl Notify for Signal {
 }
 
 // Posts what is owed, and says whether that set a mark anew.
-fn post<R: Wait>(rt: &R, board: &Locked<WatchedBoard>, debt: Option<Debt>) -> bool
+fn post<R: Wait>(rt: &R, board: &Locked<Board>, debt: Option<Debt>) -> bool
     requires { IfSome debt (λ debt. debt.board ≡ board.now.tag) }
 {
     let Some(debt) = debt else {
@@ -939,7 +939,7 @@ fn end<R: Wait>(rt: &R, lock: &Locked<OneBoard>, turn: PingTurn) -> Option<Debt>
 // One turn with this pass.
 fn serve<R: Wait>(
     rt: &R,
-    board: &Locked<WatchedBoard>,
+    board: &Locked<Board>,
     lock: &Locked<OneBoard>,
     tally: &mut Tally,
     pass: TakenPass,
@@ -990,7 +990,7 @@ fn serve_within<R: Wait>(
     rt: &R,
     alloc: Global,
     desk: &mut Desk,
-    board: &Locked<WatchedBoard>,
+    board: &Locked<Board>,
     lock: &Locked<OneBoard>,
     tally: &mut Tally,
 ) -> Result<Vec<Turn>, AllocError>

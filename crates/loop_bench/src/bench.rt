@@ -196,21 +196,19 @@ where
     }
 
     /// A dispatch that doesn't wait.
-    pub fn dispatch(&mut self) -> Result<()>
+    pub fn dispatch(&mut self) -> calloop::Result<()>
         ensures { self.new.nanoseconds ≡ self.old.nanoseconds }
     {
         self.event_loop
-            .dispatch(&self.rt, Some(Duration::ZERO), &mut self.calls)?;
-        Ok(())
+            .dispatch(&self.rt, Some(Duration::ZERO), &mut self.calls)
     }
 
     /// A dispatch that waits for ten seconds at most.
-    pub fn wait(&mut self) -> Result<()>
+    pub fn wait(&mut self) -> calloop::Result<()>
         ensures { self.new.nanoseconds ≡ self.old.nanoseconds }
     {
         self.event_loop
-            .dispatch(&self.rt, Some(Duration::from_secs(10)), &mut self.calls)?;
-        Ok(())
+            .dispatch(&self.rt, Some(Duration::from_secs(10)), &mut self.calls)
     }
 
     /// What the loop's clock shows.
@@ -352,13 +350,14 @@ where
         Ok(Arc::new(self.alloc, Meeting::new(self.rt.clone()?))?)
     }
 
-    /// Arms a timer for this moment.
-    pub fn insert_timer(&mut self, deadline: Instant) -> Result<RegistrationToken>
+    /// Arms a timer for this moment, where the loop has room for it.
+    pub fn insert_timer(&mut self, deadline: Instant) -> Option<RegistrationToken>
         ensures calls { self.new.calls ≡ self.old.calls }
         ensures nanoseconds { self.new.nanoseconds ≡ self.old.nanoseconds }
     {
         let timer = Dispatcher::new(Timer::from_deadline(deadline), Counts);
-        self.insert(<D as Choice<Timer, Counts, Second>>::hold(timer))
+        let held = <D as Choice<Timer, Counts, Second>>::hold(timer);
+        self.event_loop.handle().register_dispatcher(held).ok()
     }
 
     /// Arms so many timers, for the scattered moments from this one on.
@@ -367,7 +366,8 @@ where
         ensures nanoseconds { self.new.nanoseconds ≡ self.old.nanoseconds }
     {
         for i in 0..size {
-            self.insert_timer(scatter(from, i))?;
+            self.insert_timer(scatter(from, i))
+                .context("room for a timer")?;
         }
         Ok(())
     }

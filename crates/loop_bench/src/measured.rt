@@ -39,7 +39,7 @@ pub trait Measured<C: Clock, R>: Poller + Sized {
     fn pair(rt: &R) -> Result<(Self::Io, Self::Peer)>;
 
     /// Sends a byte.
-    fn send(peer: &mut Self::Peer) -> Result<()>;
+    fn send(peer: &mut Self::Peer) -> io::Result<()>;
 
     /// Returns once its clock shows this moment or a later one.
     fn come_to(&mut self, rt: &R, moment: Instant);
@@ -67,9 +67,8 @@ where
         Ok((MioIo::from(near), far))
     }
 
-    fn send(peer: &mut UnixStream) -> Result<()> {
-        peer.write_all(b"x")?;
-        Ok(())
+    fn send(peer: &mut UnixStream) -> io::Result<()> {
+        peer.write_all(b"x")
     }
 
     fn come_to(&mut self, rt: &R, moment: Instant) {

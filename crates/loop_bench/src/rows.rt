@@ -142,7 +142,9 @@ where
         let far = self.insert_far_timers(size)?;
         let began = self.start()?;
         for i in 0..count {
-            let token = self.insert_timer(scatter(far, size.wrapping_add(i)))?;
+            let token = self
+                .insert_timer(scatter(far, size.wrapping_add(i)))
+                .context("room for a timer")?;
             let removed = self.event_loop.handle().remove(token);
             ensure!(removed.is_some(), "a timer is gone");
         }
@@ -201,7 +203,8 @@ where
         self.dispatch_until(wanted, size)?;
         self.stop(began)?;
         drop(pings);
-        self.dispatch()
+        self.dispatch()?;
+        Ok(())
     }
 
     fn pings_rung(&mut self, count: u32, size: u32) -> Result<()> {
@@ -222,7 +225,7 @@ where
         for _ in 0..count {
             let wanted = self.calls.saturating_add(1);
             let deadline = self.now().after(Duration::from_micros(u64::from(size)));
-            self.insert_timer(deadline)?;
+            self.insert_timer(deadline).context("room for a timer")?;
             self.wait_until(wanted, 1)?;
             let late = self.now().nanos.saturating_sub(deadline.nanos);
             self.nanoseconds = self.nanoseconds.saturating_add(late);

@@ -9,15 +9,15 @@ use Rattle.calloop_core.specs.declared.sources.dispatch.Dispatcher.{Dispatcher}
 use Rattle.calloop_core.specs.declared.sources.choice.OneOf.{OneOf}
 use Rattle.calloop_core.specs.declared.sources.choice.OneOf.TheVariants.{First, Other}
 use Rattle.calloop_core.specs.declared.timer.Timer.{Timer as TimerSource}
-use Rattle.calloop_core.specs.ScriptPollers.{script_outside}
+use Rattle.calloop_core.specs.sys.ScriptPollers.{script_outside}
 use Rattle.calloop.specs.declared.loop_logic.LoopCall.TheVariants.{Insert, Enable, Update, Disable, Remove as RemoveCall, Release, Exchange, Dispatch as DispatchCall, InsertIdle, Cancel, Answer as AnswerOf, ForgetStop, LookForStop, Poller as NewPoller}
 use Rattle.calloop.specs.declared.loop_logic.LoopAnswer.{LoopAnswer}
 use Rattle.calloop.specs.declared.loop_logic.LoopAnswer.TheVariants.{Inserted, Removed, Dispatched, Poller as OldPoller}
-use Rattle.calloop.specs.EveryRun.{LoopRun, OverEveryRun, FromTheStart}
-use Rattle.calloop.specs.Machine.{World, View, Change}
-use Rattle.calloop.specs.Rules.{Run, all_traced}
-use Rattle.calloop.specs.Laws.{IsFresh, IsLedgerOf, changes_of, moments_of}
-use Rattle.calloop.specs.Freshness.{AllFreshCalls}
+use Rattle.calloop.specs.loop_logic.EveryRun.{LoopRun, OverEveryRun, FromTheStart}
+use Rattle.calloop.specs.loop_logic.Machine.{World, View, Change}
+use Rattle.calloop.specs.loop_logic.Rules.{Run, all_traced}
+use Rattle.calloop.specs.loop_logic.Laws.{IsFresh, IsLedgerOf, changes_of, moments_of}
+use Rattle.calloop.specs.loop_logic.Freshness.{AllFreshCalls}
 use Rattle.calloop.proofs.Running.{run_none, run_first}
 use Rattle.looptrace.specs.declared.command.Command.{Command}
 use Rattle.looptrace.specs.declared.command.Command.TheVariants.{Nothing, Ping, Ring, Close, Remove}

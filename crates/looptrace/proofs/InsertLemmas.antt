@@ -7,8 +7,8 @@ use Rattle.calloop_core.specs.declared.sources.dispatch.Dispatcher.{Dispatcher}
 use Rattle.calloop_core.specs.declared.sys.script.ScriptPoller.{ScriptPoller}
 use Rattle.calloop.specs.declared.loop_logic.LoopCall.TheVariants.{Insert}
 use Rattle.calloop.specs.declared.loop_logic.LoopAnswer.TheVariants.{Inserted}
-use Rattle.calloop.specs.Machine.{View}
-use Rattle.calloop.specs.Rules.{held_answer}
+use Rattle.calloop.specs.loop_logic.Machine.{View}
+use Rattle.calloop.specs.loop_logic.Rules.{held_answer}
 use Rattle.looptrace.specs.Sources.{Source}
 use Rattle.looptrace.specs.Named.{Named, is_taken}
 use Rattle.looptrace.specs.Runs.{Calls, Pending, InsertSays, InsertLine}

@@ -27,17 +27,17 @@ use Rattle.calloop_core.specs.declared.sys.script.ScriptAnswer.{ScriptAnswer}
 use Rattle.calloop_core.specs.declared.sys.script.ScriptEvents.{ScriptEvents}
 use Rattle.calloop_core.specs.declared.sys.script.ScriptEnd.TheVariants.{Events, Fault as FaultEnd}
 use Rattle.calloop_core.specs.declared.sys.script.ScriptPoller.{ScriptPoller}
-use Rattle.calloop_core.specs.Pollers.{nanos_of, events_per_wait}
-use Rattle.calloop_core.specs.Polls.{is_filled}
-use Rattle.calloop_core.specs.ScriptPollers.{script_outside}
+use Rattle.calloop_core.specs.sys.Pollers.{nanos_of, events_per_wait}
+use Rattle.calloop_core.specs.sys.Polls.{is_filled}
+use Rattle.calloop_core.specs.sys.ScriptPollers.{script_outside}
 use Rattle.calloop_core.specs.Timers.{fresh_timer}
 use Rattle.calloop.specs.declared.loop_logic.LoopCall.{LoopCall}
 use Rattle.calloop.specs.declared.loop_logic.LoopCall.TheVariants.{Insert, Remove as RemoveCall}
 use Rattle.calloop.specs.declared.loop_logic.LoopCall.TheVariants.{Dispatch as DispatchCall, Poller as NewPoller}
 use Rattle.calloop.specs.declared.loop_logic.LoopAnswer.{LoopAnswer}
 use Rattle.calloop.specs.declared.loop_logic.LoopAnswer.TheVariants.{Inserted, Removed, Dispatched, Poller as OldPoller}
-use Rattle.calloop.specs.Machine.{World, View, IsNew, visible, view_of}
-use Rattle.calloop.specs.Rules.{Case, Did}
+use Rattle.calloop.specs.loop_logic.Machine.{World, View, IsNew, visible, view_of}
+use Rattle.calloop.specs.loop_logic.Rules.{Case, Did}
 use Rattle.looptrace.specs.declared.command.Command.{Command}
 use Rattle.looptrace.specs.declared.command.Command.TheVariants.{Nothing, Ping, Ring, Close, Remove}
 use Rattle.looptrace.specs.declared.command.Command.TheVariants.{Answer as Event, Timer, Clock, Fault, Dispatch}

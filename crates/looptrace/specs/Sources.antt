@@ -7,15 +7,15 @@ use Rattle.calloop_core.specs.declared.sources.dispatch.Dispatcher.{Dispatcher}
 use Rattle.calloop_core.specs.declared.timer.Timer.{Timer}
 use Rattle.calloop_core.specs.declared.timer.TimeoutAction.{TimeoutAction}
 use Rattle.calloop_core.specs.declared.timer.TimeoutAction.TheVariants.{Drop}
-use Rattle.calloop_core.specs.Deeds.{Lent}
-use Rattle.calloop_core.specs.Meanings.{Meaning, with_callback, one_of, seen_as}
+use Rattle.calloop_core.specs.sources.Deeds.{Lent}
+use Rattle.calloop_core.specs.sources.Meanings.{Meaning, with_callback, one_of, seen_as}
 use Rattle.calloop_core.specs.declared.sources.choice.OneOf.{OneOf}
 use Rattle.calloop_core.specs.declared.sources.choice.OneOf.TheVariants.{First, Other}
 use Rattle.calloop.specs.declared.loop_logic.Sources.{Sources}
-use Rattle.calloop.specs.Askings.{Asks, Reaches, Runs}
-use Rattle.calloop.specs.Choices.{with_data}
+use Rattle.calloop.specs.loop_logic.Askings.{Asks, Reaches, Runs}
+use Rattle.calloop.specs.loop_logic.Choices.{with_data}
 use Rattle.calloop_core.specs.Timers.{timer_meaning}
-use Rattle.calloop.specs.Pings.{ping_meaning}
+use Rattle.calloop.specs.ping.Pings.{ping_meaning}
 use Rattle.looptrace.specs.declared.source.Teller.{Teller}
 use Rattle.looptrace.specs.declared.source.Alarm.{Alarm}
 use Rattle.looptrace.specs.Says.{Tells}

@@ -1,9 +1,9 @@
 //! What holds of the timers of every script.
 ghost use Rattle.std.specs.Prelude.{List, ℕ, Option, Some};
 ghost use Rattle.calloop_core.specs.declared.sys.script.ScriptPoller.{ScriptPoller};
-ghost use Rattle.calloop_core.specs.ScriptPollers.{script_outside};
-ghost use Rattle.calloop.specs.EveryRun.{LoopRun, OverEveryRun, FromTheStart};
-ghost use Rattle.calloop.specs.Laws.{IsLedgerOf};
+ghost use Rattle.calloop_core.specs.sys.ScriptPollers.{script_outside};
+ghost use Rattle.calloop.specs.loop_logic.EveryRun.{LoopRun, OverEveryRun, FromTheStart};
+ghost use Rattle.calloop.specs.loop_logic.Laws.{IsLedgerOf};
 ghost use Rattle.looptrace.specs.Sources.{Source, source_meaning, no_idles};
 ghost use Rattle.looptrace.specs.Runs.{State, trace_step};
 ghost use Rattle.looptrace.specs.InTime.{AllScripted, Asks};

@@ -4,8 +4,8 @@ ghost use Rattle.std.specs.Prelude.{nat_le, length, option_to_list};
 ghost use Rattle.std.specs.Option.{option_map};
 ghost use Rattle.std.specs.IoError.{error_kind};
 ghost use Rattle.std.specs.declared.io.ErrorKind.TheVariants.{OutOfMemory};
-ghost use Rattle.calloop_core.specs.Pollers.{nanos_of, events_per_wait};
-ghost use Rattle.calloop_core.specs.Polls.{is_filled};
+ghost use Rattle.calloop_core.specs.sys.Pollers.{nanos_of, events_per_wait};
+ghost use Rattle.calloop_core.specs.sys.Polls.{is_filled};
 ghost use Rattle.looptrace.specs.Runs.{token_with, removed_text, RemoveLine, Pending, pending_of, events_of, AnswerLine, NextAnswer, fault_after, pending_after, IsTakenBack, word_of, waits_text, answer_text, nanos_in, IsStart, state_of, InsertSays, InsertLine, RingLine, CloseLine, ClockLine, IsPrepared, DispatchLine, Carried, IsNewPing, IsNewTimer};
 
 use crate::command::{Command, parse};

@@ -1,7 +1,7 @@
 -- What the source of numbers means, beyond that it does nothing to `Poll`.
 use Rattle.std.specs.Prelude.{◌≡◌, ◌+◌, ◌-◌, ◌^◌, min, ℕ, [], ◌∷◌}
-use Rattle.calloop_core.specs.Polls.{PollView}
-use Rattle.calloop_core.specs.Deeds.{Deed, Registered, Reregistered, Unregistered, Turned, Slept, Noticed, Heard}
+use Rattle.calloop_core.specs.sys.Polls.{PollView}
+use Rattle.calloop_core.specs.sources.Deeds.{Deed, Registered, Reregistered, Unregistered, Turned, Slept, Noticed, Heard}
 use Rattle.own_source.specs.declared.numbers.Numbers.{Numbers}
 use Rattle.calloop_wake.specs.declared.error.Error.{Error}
 

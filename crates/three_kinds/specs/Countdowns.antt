@@ -1,7 +1,7 @@
 -- What the countdown means: each turn calls back once.
 use Rattle.std.specs.Prelude.{◌≡◌, [], ◌∷◌}
-use Rattle.calloop_core.specs.Polls.{PollView}
-use Rattle.calloop_core.specs.Deeds.{Deed, Registered, Reregistered, Unregistered, Turned, Slept, Noticed, Heard}
+use Rattle.calloop_core.specs.sys.Polls.{PollView}
+use Rattle.calloop_core.specs.sources.Deeds.{Deed, Registered, Reregistered, Unregistered, Turned, Slept, Noticed, Heard}
 use Rattle.three_kinds.specs.declared.countdown.Countdown.{Countdown}
 use Rattle.calloop_wake.specs.declared.error.Error.{Error}
 

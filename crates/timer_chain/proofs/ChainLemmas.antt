@@ -5,19 +5,15 @@ use Rattle.calloop_core.specs.declared.sources.dispatch.Dispatcher.{Dispatcher}
 use Rattle.calloop_core.specs.declared.timer.Timer.{Timer}
 use Rattle.calloop_core.specs.Timers.{fresh_timer}
 use Rattle.calloop.specs.declared.loop_logic.asks.Ticket.{Ticket}
-use Rattle.calloop_wake.specs.declared.token.Token.{Token}
 use Rattle.calloop_wake.specs.declared.wheel.Instant.{Instant}
-use Rattle.calloop_core.specs.declared.sys.Readiness.{Readiness}
 use Rattle.calloop_core.specs.declared.timer.TimeoutAction.{TimeoutAction}
-use Rattle.calloop_core.specs.Polls.{PollView, PollStep}
-use Rattle.calloop_core.specs.Calls.{CallbackCall, Went}
-use Rattle.calloop_core.specs.Deeds.{Lent}
+use Rattle.calloop_core.specs.sources.Calls.{CallbackCall, Went}
 use Rattle.calloop.specs.declared.loop_logic.asks.Asked.{Asked}
 use Rattle.calloop.specs.declared.loop_logic.asks.Request.{Request}
 use Rattle.calloop.specs.declared.loop_logic.asks.Request.TheVariants.{Insert, Enable, Update, Disable, Remove, Idle, Cancel}
-use Rattle.calloop.specs.Askings.{Asks, AskStep, Write, Take, Reaches, IsAsked, CannotAsk, ask_after, asks_after}
-use Rattle.calloop.specs.Freshness.{IsOnly, AreOnly, AsksFresh}
-use Rattle.calloop.specs.Laws.{IsFresh}
+use Rattle.calloop.specs.loop_logic.Askings.{Asks, AskStep, Write, Take, Reaches, IsAsked, CannotAsk, ask_after, asks_after}
+use Rattle.calloop.specs.loop_logic.Freshness.{IsOnly, AreOnly, AsksFresh}
+use Rattle.calloop.specs.loop_logic.Laws.{IsFresh}
 use Rattle.timer_chain.specs.declared.Again.{Again}
 use Rattle.timer_chain.specs.Chains.{IsOfTimer, AreOfTimers, AsksForTimers, Chain, in_chain, chain_meaning}
 

@@ -4,14 +4,14 @@ use Rattle.calloop_wake.specs.declared.error.Error.TheVariants.{OutOfMemory}
 use Rattle.calloop_wake.specs.declared.wheel.Instant.{Instant}
 use Rattle.calloop_core.specs.declared.sources.dispatch.Dispatcher.{Dispatcher}
 use Rattle.calloop_core.specs.declared.timer.Timer.{Timer}
-use Rattle.calloop_core.specs.Deeds.{Lent}
-use Rattle.calloop_core.specs.Meanings.{Meaning, with_callback, seen_as}
+use Rattle.calloop_core.specs.sources.Deeds.{Lent}
+use Rattle.calloop_core.specs.sources.Meanings.{Meaning, with_callback, seen_as}
 use Rattle.calloop_core.specs.Timers.{timer_meaning, fresh_timer}
 use Rattle.calloop.specs.declared.loop_logic.Sources.{Sources}
 use Rattle.calloop.specs.declared.loop_logic.asks.Request.{Request}
 use Rattle.calloop.specs.declared.loop_logic.asks.Request.TheVariants.{Insert}
-use Rattle.calloop.specs.Askings.{Asks, AskStep, Write, Take, Reaches, Runs, asks_after}
-use Rattle.calloop.specs.Choices.{with_data}
+use Rattle.calloop.specs.loop_logic.Askings.{Asks, AskStep, Write, Take, Reaches, Runs, asks_after}
+use Rattle.calloop.specs.loop_logic.Choices.{with_data}
 use Rattle.timer_chain.specs.declared.Again.{Again}
 
 -- what is asked for, if it is an insertion, is one of a timer that was never registered

@@ -1,8 +1,8 @@
 //! A loop in which each timer asks for the next one: the law of armings, where callbacks ask for insertions.
 #![tactic(auto)]
 
-ghost use Rattle.calloop.specs.EveryRun.{OverEveryRun, FromTheStart, ArmingsAreKept};
-ghost use Rattle.calloop.specs.Askings.{OnlyAsks};
+ghost use Rattle.calloop.specs.loop_logic.EveryRun.{OverEveryRun, FromTheStart, ArmingsAreKept};
+ghost use Rattle.calloop.specs.loop_logic.Askings.{OnlyAsks};
 ghost use Rattle.timer_chain.specs.Chains.{AsksForTimers, chain_meaning, no_idles};
 
 use calloop::loop_logic::once;

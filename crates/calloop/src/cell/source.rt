@@ -2,10 +2,10 @@
 //! key.
 ghost use Rattle.std.specs.Prelude.{◌≡◌, List, []};
 ghost use Rattle.calloop_wake.specs.Tokens.{key_of};
-ghost use Rattle.calloop_wake.specs.Cells.{is_own};
-ghost use Rattle.calloop_core.specs.Polls.{poll_view};
-ghost use Rattle.calloop_core.specs.Calls.{CallbackCall, Went};
-ghost use Rattle.calloop.specs.CellSources.{Registers, RegistersAnew, Unregisters, TakesTurn};
+ghost use Rattle.calloop_wake.specs.wake.Cells.{is_own};
+ghost use Rattle.calloop_core.specs.sys.Polls.{poll_view};
+ghost use Rattle.calloop_core.specs.sources.Calls.{CallbackCall, Went};
+ghost use Rattle.calloop.specs.cell.CellSources.{Registers, RegistersAnew, Unregisters, TakesTurn};
 
 use super::{Cell, attach, detach};
 use calloop_core::sources::{Asking, Callback, PostAction};
@@ -23,8 +23,8 @@ use std::sync::Wait;
 pub(crate) trait CellSource {
     ghost use Rattle.std.specs.Prelude.{◌≡◌, List, [], Some, IfOk, IfErr};
     ghost use Rattle.calloop_wake.specs.declared.wake.Tally.{Tally};
-    ghost use Rattle.calloop_core.specs.Calls.{CallbackCall, Went};
-    ghost use Rattle.calloop.specs.CellSources.{OpenTurns};
+    ghost use Rattle.calloop_core.specs.sources.Calls.{CallbackCall, Went};
+    ghost use Rattle.calloop.specs.cell.CellSources.{OpenTurns};
 
     /// What its callback is called with.
     type Event;

@@ -1,9 +1,9 @@
 //! The sections of the lock of a channel's cell that no other kind of cell has.
 ghost use Rattle.std.specs.Prelude.{◌≡◌, ◌⊎◌, ◌<◌, ◌+◌, true, false, None, Some, IfOk, IfErr};
-ghost use Rattle.calloop_wake.specs.Cells.{one};
-ghost use Rattle.calloop_wake.specs.Channels.{handed_back, FitsBound, turn_after_pop, tally_after_pop};
-ghost use Rattle.calloop.specs.Channels.{turn_at_start};
-ghost use Rattle.calloop.specs.Sends.{unsent, IsDisconnected};
+ghost use Rattle.calloop_wake.specs.wake.Cells.{one};
+ghost use Rattle.calloop_wake.specs.wake.Channels.{handed_back, FitsBound, turn_after_pop, tally_after_pop};
+ghost use Rattle.calloop.specs.channel.Channels.{turn_at_start};
+ghost use Rattle.calloop.specs.channel.Sends.{unsent, IsDisconnected};
 ghost use Rattle.calloop_wake.specs.declared.error.Error.TheVariants.{OutOfMemory};
 
 use super::{RecvError, SendError, TryRecvError};

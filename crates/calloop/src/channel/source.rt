@@ -1,9 +1,9 @@
 //! A channel as a source of the loop.
 ghost use Rattle.std.specs.Prelude.{◌≡◌, ◌<◌, List};
-ghost use Rattle.calloop_wake.specs.Channels.{turn_after_pop, tally_after_pop, is_close};
+ghost use Rattle.calloop_wake.specs.wake.Channels.{turn_after_pop, tally_after_pop, is_close};
 ghost use Rattle.calloop_wake.specs.declared.wake.channel.Popped.{Popped};
-ghost use Rattle.calloop_core.specs.Calls.{Went};
-ghost use Rattle.calloop.specs.Channels.{call_of, turn_after, IsOver, Handed};
+ghost use Rattle.calloop_core.specs.sources.Calls.{Went};
+ghost use Rattle.calloop.specs.channel.Channels.{call_of, turn_after, IsOver, Handed};
 
 use super::cell::{self, ChannelCell};
 use super::{Channel, ChannelError, Event};
@@ -24,7 +24,7 @@ use std::sync::Wait;
 impl IntoError for ChannelError {
     ghost use Rattle.std.specs.Prelude.{◌≡◌};
     ghost use Rattle.calloop_wake.specs.declared.error.Error.TheVariants.{OutOfMemory};
-    ghost use Rattle.calloop_core.specs.Lawful.{memory_of_source};
+    ghost use Rattle.calloop_core.specs.sources.Lawful.{memory_of_source};
 
     ghost becomes = { λ _ e. e ≡ OutOfMemory };
 
@@ -105,7 +105,7 @@ where
 }
 
 impl<T: Drop, R: Wait + Drop> CellSource for Channel<T, R> {
-    ghost use Rattle.calloop.specs.Channels.{ChannelOpens, channel_tally};
+    ghost use Rattle.calloop.specs.channel.Channels.{ChannelOpens, channel_tally};
 
     type Event = Event<T>;
 
@@ -137,8 +137,8 @@ impl<T: Drop, R: Wait + Drop> CellSource for Channel<T, R> {
 }
 
 impl<T: Drop, P: Poller, C, R: Wait + Drop> EventSource<P, C, R> for Channel<T, R> {
-    ghost use Rattle.calloop.specs.Channels.{channel_meaning};
-    ghost use Rattle.calloop.specs.ChannelKeeping.{channel_keeps};
+    ghost use Rattle.calloop.specs.channel.Channels.{channel_meaning};
+    ghost use Rattle.calloop.specs.channel.ChannelKeeping.{channel_keeps};
 
     type Event = Event<T>;
 

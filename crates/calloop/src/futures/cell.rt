@@ -2,10 +2,10 @@
 ghost use Rattle.std.specs.Prelude.{◌≡◌, ◌+◌, ◌<◌, ◌⊎◌, None, Some, true, false, IsSome, IfOk, IfErr, IfSome, IfNone};
 ghost use Rattle.std.specs.Arc.{arc_value};
 ghost use Rattle.std.specs.Option.{option_map};
-ghost use Rattle.calloop_wake.specs.Locks.{HasOneSlot, IsTaken};
-ghost use Rattle.calloop_wake.specs.Passes.{Keyed, on};
-ghost use Rattle.calloop_wake.specs.Cells.{one};
-ghost use Rattle.calloop_wake.specs.Executors.{at_start, most_tasks};
+ghost use Rattle.calloop_wake.specs.wake.Locks.{HasOneSlot, IsTaken};
+ghost use Rattle.calloop_wake.specs.wake.Passes.{Keyed, on};
+ghost use Rattle.calloop_wake.specs.wake.Cells.{one};
+ghost use Rattle.calloop_wake.specs.wake.Executors.{at_start, most_tasks};
 ghost use Rattle.calloop_wake.specs.declared.error.Error.TheVariants.{OutOfMemory};
 
 use crate::cell::{Cell, post};
@@ -115,7 +115,7 @@ fn lock_at<'a, R: Wait>(rt: &R, shared: &'a Locked<TaskCell>, turn: &TaskTurn) -
     unreachable!()
 }
 
-/// A pop of the turn, which first settles the task that it popped before. Only the turn that stands open in the cell pops there:
+/// A pop of the turn, which first ends the poll of the task that it popped before. Only the turn that stands open in the cell pops there:
 /// another would wait for ever.
 pub fn pop<R: Wait>(
     rt: &R,
@@ -142,7 +142,7 @@ pub fn pop<R: Wait>(
     popped
 }
 
-/// Ends a turn of the cell, whose last pop gave no task or was its 1,024th: it settles the task that was popped last.
+/// Ends a turn of the cell, whose last pop gave no task or was its 1,024th: it ends the poll of the task that was popped last.
 pub fn end_turn<R: Wait>(
     rt: &R,
     shared: &Locked<TaskCell>,

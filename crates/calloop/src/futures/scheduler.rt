@@ -1,7 +1,7 @@
 //! What hands futures to an executor.
 ghost use Rattle.std.specs.Prelude.{◌≡◌, IfOk, IfErr};
 ghost use Rattle.std.specs.Arc.{arc_value};
-ghost use Rattle.calloop.specs.Polled.{IsRefusalOf, IsDestroyed};
+ghost use Rattle.calloop.specs.futures.Polled.{IsRefusalOf, IsDestroyed};
 
 use super::cell;
 use super::errors::{ExecutorDestroyed, ScheduleError};

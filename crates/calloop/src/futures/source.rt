@@ -1,9 +1,9 @@
 //! An executor as a source of the loop.
 ghost use Rattle.std.specs.Prelude.{◌≡◌, ◌≤◌, ◌+◌, List, length};
-ghost use Rattle.calloop_wake.specs.Cells.{one};
-ghost use Rattle.calloop_wake.specs.Executors.{at_start, most_tasks};
-ghost use Rattle.calloop_core.specs.Calls.{Went};
-ghost use Rattle.calloop.specs.Executors.{OfPop, gave, lacks, ComesOf, AllGiven, call_of, calls_of, results_of, misses_of};
+ghost use Rattle.calloop_wake.specs.wake.Cells.{one};
+ghost use Rattle.calloop_wake.specs.wake.Executors.{at_start, most_tasks};
+ghost use Rattle.calloop_core.specs.sources.Calls.{Went};
+ghost use Rattle.calloop.specs.futures.Executors.{OfPop, gave, lacks, ComesOf, AllGiven, call_of, calls_of, results_of, misses_of};
 
 use super::cell::{self, TaskCell};
 use super::errors::ExecutorError;
@@ -26,7 +26,7 @@ use std::sync::Wait;
 impl IntoError for ExecutorError {
     ghost use Rattle.std.specs.Prelude.{◌≡◌};
     ghost use Rattle.calloop_wake.specs.declared.error.Error.TheVariants.{OutOfMemory};
-    ghost use Rattle.calloop_core.specs.Lawful.{memory_of_source};
+    ghost use Rattle.calloop_core.specs.sources.Lawful.{memory_of_source};
 
     ghost becomes = { λ _ e. e ≡ OutOfMemory };
 
@@ -117,7 +117,7 @@ where
 }
 
 impl<Fut: Future<R>, R: Wait + Drop> CellSource for Executor<Fut, R> {
-    ghost use Rattle.calloop.specs.Executors.{ComesOf, ExecutorOpens, executor_tally};
+    ghost use Rattle.calloop.specs.futures.Executors.{ComesOf, ExecutorOpens, executor_tally};
 
     type Event = Fut::Output;
 
@@ -159,8 +159,8 @@ impl<Fut: Future<R>, R: Wait + Drop> CellSource for Executor<Fut, R> {
 
 impl<Fut: Future<R>, P: Poller, C, R: Wait + Drop> EventSource<P, C, R> for Executor<Fut, R> {
     ghost use Rattle.std.specs.Prelude.{◌≡◌};
-    ghost use Rattle.calloop.specs.Executors.{ComesOf, executor_meaning};
-    ghost use Rattle.calloop.specs.ExecutorKeeping.{executor_keeps};
+    ghost use Rattle.calloop.specs.futures.Executors.{ComesOf, executor_meaning};
+    ghost use Rattle.calloop.specs.futures.ExecutorKeeping.{executor_keeps};
 
     type Event = Fut::Output;
 

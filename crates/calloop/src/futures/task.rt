@@ -2,7 +2,7 @@
 ghost use Rattle.std.specs.Prelude.{⊤, IfOk, IfErr};
 ghost use Rattle.calloop.specs.declared.futures.task.Poll.{Poll};
 ghost use Rattle.calloop.specs.declared.futures.task.Poll.TheVariants.{Ready, Pending};
-ghost use Rattle.calloop.specs.Polled.{IfReady, OnPending};
+ghost use Rattle.calloop.specs.futures.Polled.{IfReady, OnPending};
 
 use super::cell;
 use crate::cell::SharedCell;

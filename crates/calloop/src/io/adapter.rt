@@ -1,7 +1,7 @@
 //! The loop's end of an adapter: what stands in a slot.
 ghost use Rattle.std.specs.Prelude.{◌≡◌, None, false, List, ℕ};
-ghost use Rattle.calloop_core.specs.Polls.{PollStep, poll_view, AllStepped, IsReady};
-ghost use Rattle.calloop.specs.Adapters.{Registers, TakenOut, Leaves, Goes, left_so, registered_nowhere};
+ghost use Rattle.calloop_core.specs.sys.Polls.{PollStep, poll_view, AllStepped, IsReady};
+ghost use Rattle.calloop.specs.io.Adapters.{Registers, TakenOut, Leaves, Goes, left_so, registered_nowhere};
 
 use super::notes::Settled;
 use super::refusal::Refusal;
@@ -140,8 +140,8 @@ impl<P: Poller, R: Wait + Drop> Adapter<P, R> {
 }
 
 impl<P: Poller, C, R: Wait + Drop, X, Q: Asking> Dispatch<P, C, R, X, Q> for Adapter<P, R> {
-    ghost use Rattle.calloop.specs.Adapters.{adapter_meaning};
-    ghost use Rattle.calloop.specs.AdapterKeeping.{adapter_keeps, adapter_asks, adapter_fails};
+    ghost use Rattle.calloop.specs.io.Adapters.{adapter_meaning};
+    ghost use Rattle.calloop.specs.io.AdapterKeeping.{adapter_keeps, adapter_asks, adapter_fails};
 
     ghost means = { adapter_meaning P.sockets };
 
@@ -254,7 +254,7 @@ impl<P: Poller, C, R: Wait + Drop, X, Q: Asking> Dispatch<P, C, R, X, Q> for Ada
 }
 
 impl<P: Poller, C, R: Wait + Drop, X, Q: Asking> QuietDispatch<P, C, R, X, Q> for Adapter<P, R> {
-    ghost use Rattle.calloop.specs.AdapterKeeping.{adapter_quiet};
+    ghost use Rattle.calloop.specs.io.AdapterKeeping.{adapter_quiet};
 
     ghost quiet = { adapter_quiet P.sockets };
 }

@@ -1,12 +1,8 @@
 //! What was done to an adapter by each of its ends, as contracts alone see it. It has no bytes.
-ghost use Rattle.std.specs.Prelude.{◌≡◌, ◌++◌, ◌∷◌, []};
-
 use calloop_core::sys::{Interest, Readiness};
 use calloop_wake::error::{Error, Result as LoopResult};
-use calloop_wake::wake::ghosts::Anything;
-use logbook::{Opening, Seen, Start};
+use calloop_wake::wake::ghosts::LentNote;
 use std::io;
-use std::marker::Model;
 
 /// What the loop is to do with an adapter.
 #[derive(Clone, Copy, Debug, PartialEq, Eq)]
@@ -46,12 +42,6 @@ pub enum SlotNote {
     Reached(bool),
 }
 
-/// A note whose values are lent, since errors can't be cloned.
-pub(super) trait LentNote<N> {
-    /// The note that it stands for.
-    ghost note: { Self → N };
-}
-
 /// A note of an `Async`, lent.
 #[derive(Clone, Copy)]
 pub(super) enum LentPollNote<'a> {
@@ -63,7 +53,7 @@ pub(super) enum LentPollNote<'a> {
 }
 
 impl LentNote<PollNote> for LentPollNote<'_> {
-    ghost use Rattle.calloop.specs.AdapterNotes.{poll_note_of};
+    ghost use Rattle.calloop.specs.io.AdapterNotes.{poll_note_of};
 
     ghost note = { poll_note_of };
 }
@@ -79,57 +69,7 @@ pub(super) enum LentSlotNote<'a> {
 }
 
 impl LentNote<SlotNote> for LentSlotNote<'_> {
-    ghost use Rattle.calloop.specs.AdapterNotes.{slot_note_of};
+    ghost use Rattle.calloop.specs.io.AdapterNotes.{slot_note_of};
 
     ghost note = { slot_note_of };
-}
-
-/// Notes in order, the last one at the end.
-#[derive(Drop)]
-pub struct Notes<N> {
-    seen: Seen<N, u64, Anything>,
-}
-
-impl<N> Model for Notes<N> {
-    ghost use Rattle.std.specs.Prelude.{List};
-
-    ghost Value = { List N };
-
-    ghost view = { λ n. n.seen.log };
-}
-
-// No note.
-struct NoNote;
-
-impl<N> Opening<(), N> for NoNote {
-    ghost use Rattle.std.specs.Prelude.{[]};
-
-    ghost log = { λ words x. [] };
-}
-
-// One note more.
-struct AndNote;
-
-impl<N, L: LentNote<N>> Opening<(&Notes<N>, L), N> for AndNote {
-    ghost use Rattle.std.specs.Prelude.{◌++◌, ◌∷◌, []};
-
-    ghost log = { λ words x. x.0.now ++ L.note x.1 ∷ [] };
-}
-
-impl<N> Notes<N> {
-    pub(super) fn none() -> Notes<N>
-        ensures { result ≡ [] }
-    {
-        let (seen, _pens) = Seen::open_row::<(), NoNote>(&(), Start::alone(), 0);
-        Notes { seen }
-    }
-
-    /// These notes, with one behind them.
-    pub(super) fn and<L: LentNote<N> + Copy>(&self, note: L) -> Notes<N>
-        ensures { result ≡ self.now ++ L.note note ∷ [] }
-    {
-        let about = (self, note);
-        let (seen, _pens) = Seen::open_row::<(&Notes<N>, L), AndNote>(&about, Start::alone(), 0);
-        Notes { seen }
-    }
 }

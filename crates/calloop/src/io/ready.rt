@@ -1,5 +1,5 @@
 //! Futures of what a socket is ready for. Each gives that it is ready, or a refusal of its registration.
-ghost use Rattle.calloop.specs.Refusals.{IsAnswer};
+ghost use Rattle.calloop.specs.io.Refusals.{IsAnswer};
 
 use super::Async;
 use crate::futures::{Context, Future, Poll};

@@ -1,6 +1,6 @@
 //! The refusal of a registration, which an adapter keeps for its next poll.
 ghost use Rattle.std.specs.Prelude.{◌≡◌, true};
-ghost use Rattle.calloop.specs.Refusals.{of_registration};
+ghost use Rattle.calloop.specs.io.Refusals.{of_registration};
 
 use calloop_wake::error::Error;
 

@@ -4,13 +4,13 @@ ghost use Rattle.std.specs.Prelude.{◌≡◌, [], ℕ, true, is_some, IfOk, IfE
 ghost use Rattle.std.specs.Io.{ReadsAtMost, WritesAtMost};
 ghost use Rattle.std.specs.Arc.{arc_value};
 ghost use Rattle.calloop_wake.specs.declared.error.Error.TheVariants.{OutOfMemory};
-ghost use Rattle.calloop_core.specs.Polls.{poll_view, IsReady};
-ghost use Rattle.calloop_core.specs.Registering.{DidEdit};
-ghost use Rattle.calloop.specs.TakingUp.{taking_up};
-ghost use Rattle.calloop.specs.AdapterNotes.{with_poll_note, with_slot_note};
+ghost use Rattle.calloop_core.specs.sys.Polls.{poll_view, IsReady};
+ghost use Rattle.calloop_core.specs.sys.SocketCalls.{DidEdit};
+ghost use Rattle.calloop.specs.io.TakingUp.{taking_up};
+ghost use Rattle.calloop.specs.io.AdapterNotes.{with_poll_note, with_slot_note};
 ghost use Rattle.calloop.specs.declared.io.notes.PollNote.TheVariants.{Answered, Refused, Waits, Tried, Flushed};
 ghost use Rattle.calloop.specs.declared.io.notes.SlotNote.TheVariants.{Heard, Settled as SettledSo, Kept, Asked, Reached};
-ghost use Rattle.calloop.specs.Refusals.{IsAnswer, of_registration};
+ghost use Rattle.calloop.specs.io.Refusals.{IsAnswer, of_registration};
 
 use super::notes::Settled;
 use super::refusal::Refusal;

@@ -2,13 +2,13 @@
 //! nobody else has, its tally: so its contracts say what it did.
 ghost use Rattle.std.specs.Prelude.{◌≡◌, ◌++◌, ◌∷◌, [], None, Some, true, false, is_some, not, ◌&&◌, ◌||◌, IfSome, IfNone, option_map};
 ghost use Rattle.std.specs.Io.{ReadsAtMost, WritesAtMost};
-ghost use Rattle.calloop.specs.AdapterStates.{suits, fresh_state, error_of, answer_of, after_answer, after_wait, after_coming, after_drop, settled_by};
-ghost use Rattle.calloop.specs.AdapterNotes.{with_poll_note, with_slot_note};
+ghost use Rattle.calloop.specs.io.AdapterStates.{suits, fresh_state, error_of, answer_of, after_answer, after_wait, after_coming, after_drop, settled_by};
+ghost use Rattle.calloop.specs.io.AdapterNotes.{with_poll_note, with_slot_note};
 ghost use Rattle.calloop.specs.declared.io.notes.PollNote.TheVariants.{Answered, Refused, Waits, Tried, Flushed};
 ghost use Rattle.calloop.specs.declared.io.notes.SlotNote.TheVariants.{Heard, Settled as SettledSo, Kept, Asked, Reached};
-ghost use Rattle.calloop.specs.Refusals.{IsAnswer, of_registration};
+ghost use Rattle.calloop.specs.io.Refusals.{IsAnswer, of_registration};
 
-use super::notes::{LentPollNote, LentSlotNote, Notes, PollNote, Settled, SlotNote};
+use super::notes::{LentPollNote, LentSlotNote, PollNote, Settled, SlotNote};
 use super::refusal::Refusal;
 use crate::futures::Waker;
 use calloop_core::sys::hub::{SharedHub, share};
@@ -16,7 +16,7 @@ use calloop_core::sys::{Interest, Readiness};
 use calloop_wake::error::{Error, Result as LoopResult};
 use calloop_wake::token::RegistrationToken;
 use calloop_wake::wake::Last;
-use calloop_wake::wake::ghosts::Name;
+use calloop_wake::wake::ghosts::{Name, Notes};
 use calloop_wake::wake::locked::Core;
 use counted_slot::Fits;
 use std::alloc::AllocError;

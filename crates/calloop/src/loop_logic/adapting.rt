@@ -1,9 +1,9 @@
 //! Adapters come into a loop, and are given back. From calloop's `LoopHandle::adapt_io` and `Async::into_inner`.
 ghost use Rattle.std.specs.Prelude.{◌≡◌, ◌⊎◌, IfOk, IfErr};
 ghost use Rattle.calloop_wake.specs.declared.error.Error.TheVariants.{OutOfMemory};
-ghost use Rattle.calloop.specs.Adapted.{IsAdapted, IsNotAdapted, IsAskedToAdapt, IsGivenBack, IsNotGivenBack};
-ghost use Rattle.calloop.specs.Askings.{CannotAsk, OnlyAsks};
-ghost use Rattle.calloop.specs.Handles.{HasTheSameLoop};
+ghost use Rattle.calloop.specs.loop_logic.Adapting.{IsAdapted, IsNotAdapted, IsAskedToAdapt, IsGivenBack, IsNotGivenBack};
+ghost use Rattle.calloop.specs.loop_logic.Askings.{CannotAsk, OnlyAsks};
+ghost use Rattle.calloop.specs.loop_logic.Handles.{HasTheSameLoop};
 
 use super::asks::{Requests, Ticket};
 use super::{EventDispatcher, LoopHandle};

@@ -4,7 +4,7 @@ ghost use Rattle.std.specs.Prelude.{◌≡◌, ◌⊎◌, ◌+◌, ◌-◌, ◌^
 ghost use Rattle.std.specs.VecDeque.{deque_len, deque_capacity};
 ghost use Rattle.calloop_wake.specs.declared.error.Error.TheVariants.{OutOfMemory, TooManyTickets};
 ghost use Rattle.calloop.specs.declared.loop_logic.asks.Request.TheVariants.{Insert, Enable, Update, Disable, Remove, Idle as IdleOf, Cancel};
-ghost use Rattle.calloop.specs.Askings.{IsAsked, CannotAsk, OnlyAsks, StandsAt, Take, ask_after, after_begin, without_old, answer_under, idle_begun, is_other_idle, is_since, no_asks, of_turn, with_answer_owed, with_owed_answer, request_of, running_of, taken_up, with_answer, with_idle, with_new_idle, without, without_idle};
+ghost use Rattle.calloop.specs.loop_logic.Askings.{IsAsked, CannotAsk, OnlyAsks, StandsAt, Take, ask_after, after_begin, without_old, answer_under, idle_begun, is_other_idle, is_since, no_asks, of_turn, with_answer_owed, with_owed_answer, request_of, running_of, taken_up, with_answer, with_idle, with_new_idle, without, without_idle};
 
 use calloop_core::sources::{Asking, Choice, Dispatcher};
 use calloop_wake::error::{Error, InsertError, Result};
@@ -114,7 +114,7 @@ pub struct Requests<D, I = ()> {
 impl<D, I> Model for Requests<D, I> {
     ghost use Rattle.std.specs.Prelude.{◌+◌, ◌≤◌, vec_len, vec_capacity};
     ghost use Rattle.std.specs.VecDeque.{deque_len, deque_capacity};
-    ghost use Rattle.calloop.specs.Askings.{Asks, debt};
+    ghost use Rattle.calloop.specs.loop_logic.Askings.{Asks, debt};
 
     ghost Value = { Asks D I };
 
@@ -138,7 +138,7 @@ impl<D, I> Model for Requests<D, I> {
 }
 
 impl<D, I> Asking for Requests<D, I> {
-    ghost use Rattle.calloop.specs.Askings.{Reaches, asks_nothing, asks_on};
+    ghost use Rattle.calloop.specs.loop_logic.Askings.{Reaches, asks_nothing, asks_on};
 
     ghost reaches = { Reaches };
 

@@ -2,8 +2,8 @@
 ghost use Rattle.std.specs.Prelude.{◌≡◌, ◌⊎◌, Err, IfErr, IfSome, IfNone};
 ghost use Rattle.std.specs.Fn.{CalledAtMut};
 ghost use Rattle.calloop_wake.specs.declared.error.Error.TheVariants.{OutOfMemory};
-ghost use Rattle.calloop.specs.Machine.{view_of};
-ghost use Rattle.calloop.specs.Blocking.{BlocksTo, PolledOrNot};
+ghost use Rattle.calloop.specs.loop_logic.Machine.{view_of};
+ghost use Rattle.calloop.specs.loop_logic.Blocking.{BlocksTo, PolledOrNot};
 ghost use Rattle.calloop.specs.declared.futures.task.Poll.TheVariants.{Ready};
 
 use super::{EventDispatcher, EventLoop};

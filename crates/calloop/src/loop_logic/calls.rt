@@ -2,8 +2,8 @@
 ghost use Rattle.std.specs.Prelude.{◌≡◌, IfOk, IfErr, OnErr};
 ghost use Rattle.calloop.specs.declared.loop_logic.LoopCall.TheVariants.{Exchange};
 ghost use Rattle.calloop.specs.declared.loop_logic.LoopAnswer.TheVariants.{Exchanged};
-ghost use Rattle.calloop.specs.Machine.{view_of};
-ghost use Rattle.calloop.specs.Rules.{Case, Did, RunLeads};
+ghost use Rattle.calloop.specs.loop_logic.Machine.{view_of};
+ghost use Rattle.calloop.specs.loop_logic.Rules.{Case, Did, RunLeads};
 
 use super::registering::RegistrationCall;
 use super::{EventDispatcher, EventLoop, LoopAnswer, LoopCall};

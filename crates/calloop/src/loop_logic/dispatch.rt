@@ -1,17 +1,17 @@
 //! A dispatch: the wait, the batch, and the turns of its events.
 ghost use Rattle.std.specs.Prelude.{◌≡◌, ◌<◌, length, Ok, Err, IfOk, IfErr, true, false};
 ghost use Rattle.calloop_wake.specs.declared.error.Error.TheVariants.{OutOfMemory};
-ghost use Rattle.calloop_core.specs.Pollers.{nanos_of};
-ghost use Rattle.calloop.specs.DispatchErrors.{IsOfDispatch};
-ghost use Rattle.calloop.specs.Handles.{loop_by, lent_by};
+ghost use Rattle.calloop_core.specs.sys.Pollers.{nanos_of};
+ghost use Rattle.calloop.specs.loop_logic.DispatchErrors.{IsOfDispatch};
+ghost use Rattle.calloop.specs.loop_logic.Handles.{loop_by, lent_by};
 ghost use Rattle.calloop.specs.declared.loop_logic.LoopCall.TheVariants.{Dispatch};
 ghost use Rattle.calloop.specs.declared.loop_logic.LoopAnswer.TheVariants.{Dispatched};
-ghost use Rattle.calloop.specs.Machine.{BeginsAnew, view_of};
-ghost use Rattle.calloop.specs.Loops.{poller_of, clock_of};
+ghost use Rattle.calloop.specs.loop_logic.Machine.{BeginsAnew, view_of};
+ghost use Rattle.calloop.specs.loop_logic.Loops.{poller_of, clock_of};
 ghost use Rattle.calloop_wake.specs.declared.error.Error.{Error};
 ghost use Rattle.calloop_wake.specs.Failures.{with_error};
 ghost use Rattle.calloop_wake.specs.Slots.{content_at, is_in_turn};
-ghost use Rattle.calloop.specs.Rules.{Case, DispatchedBy, Did, Leads, Goes, Cutting, Ending, Returning, Idling, RunningIdles, Leaving, Outcome, action_of, after_batch, after_idle, after_turn, after_hand_out};
+ghost use Rattle.calloop.specs.loop_logic.Rules.{Case, DispatchedBy, Did, Leads, Goes, Cutting, Ending, Returning, Idling, RunningIdles, Leaving, Outcome, action_of, after_batch, after_idle, after_turn, after_hand_out};
 
 use super::asks::{Answer, Requests};
 use super::lifecycle::Lifecycle;
@@ -25,7 +25,7 @@ use calloop_core::sources::PostAction;
 use calloop_core::sys::poll::Poll;
 use calloop_core::sys::synthetic::Synthetic;
 use calloop_core::sys::{Clock, Poller};
-use calloop_wake::error::{Error, Failed, Result as LoopResult, with_error};
+use calloop_wake::error::{Error, Failed, Result as LoopResult};
 use calloop_wake::list::SourceList;
 use calloop_wake::token::RegistrationToken;
 use std::alloc::Global;
@@ -89,8 +89,10 @@ impl<D: EventDispatcher<P, C, R>, P: Poller, C: Clock, R: Wait + Drop> EventLoop
         ensures errors { IfErr result (IsOfDispatch D.means P.outside) }
     {
         let mut failure = Error::OutOfMemory;
-        let answer = self.dispatch_with(rt, timeout, data, &mut failure);
-        with_error(answer, failure)
+        match self.dispatch_with(rt, timeout, data, &mut failure) {
+            Ok(()) => Ok(()),
+            Err(Failed) => Err(failure),
+        }
     }
 
     // The dispatch, whose error stands in `failure`. That is `OutOfMemory` before it.
@@ -203,7 +205,7 @@ impl<D: EventDispatcher<P, C, R>, P: Poller, C: Clock, R: Wait + Drop> EventLoop
     {
         let mut failure = Error::OutOfMemory;
         let told = self.unregister(token, &mut left, &mut failure);
-        self.warnings.note(with_error(told, failure));
+        self.warnings.note_failure(told, failure);
         self.requests.pay(Answer::Removed(Some(left)));
     }
 

@@ -5,18 +5,18 @@ ghost use Rattle.calloop_wake.specs.declared.list.Content.TheVariants.{Source};
 ghost use Rattle.calloop_wake.specs.declared.list.Content.TheVariants.{InTurn, Vacant};
 ghost use Rattle.calloop_wake.specs.Slots.{content_at as named_by, source_of, with_change, with_content, next_registration};
 ghost use Rattle.std.specs.Prelude.{is_some, if◌then◌else◌};
-ghost use Rattle.calloop.specs.Roles.{only, is_callers};
+ghost use Rattle.calloop.specs.loop_logic.Roles.{only, is_callers};
 ghost use Rattle.std.specs.Borrow.{Lends, LendsIfOk, sem};
 ghost use Rattle.std.specs.Prelude.{[]};
 ghost use mir.Syntax.{named};
 ghost use Rattle.calloop.specs.contracts.loop_logic.LoopHandle.{the_row};
-ghost use Rattle.calloop.specs.Lending.{with_handle_poller, with_handle_source};
+ghost use Rattle.calloop.specs.loop_logic.Lending.{with_handle_poller, with_handle_source};
 ghost use Rattle.calloop.specs.declared.loop_logic.LoopCall.TheVariants.{Insert, Enable, Update, Disable, Remove, Exchange, InsertIdle, Cancel, Answer as AnswerOf, Poller as NewPoller};
 ghost use Rattle.calloop.specs.declared.loop_logic.LoopAnswer.TheVariants.{Inserted, Enabled, Updated, Disabled, Removed, Exchanged, IdleInserted, Cancelled, Answered, Poller as OldPoller};
-ghost use Rattle.calloop.specs.Machine.{view_of};
-ghost use Rattle.calloop.specs.Handles.{held_by, slots_by, poller_by, held_with_poller, held_with_source, HasTheSameLoop, IsCase, LeadsAsCase, NamesNone};
-ghost use Rattle.calloop.specs.Registering.{loop_answer_of, loop_call_of};
-ghost use Rattle.calloop.specs.Rules.{Case, Did, held_answer};
+ghost use Rattle.calloop.specs.loop_logic.Machine.{view_of};
+ghost use Rattle.calloop.specs.loop_logic.Handles.{held_by, slots_by, poller_by, held_with_poller, held_with_source, HasTheSameLoop, IsCase, LeadsAsCase, NamesNone};
+ghost use Rattle.calloop.specs.loop_logic.Registering.{loop_answer_of, loop_call_of};
+ghost use Rattle.calloop.specs.loop_logic.Rules.{Case, Did, held_answer};
 
 use super::asks::{Answer, Idle, Requests, Ticket};
 use super::registering::{Registering, RegistrationCall};
@@ -185,7 +185,7 @@ impl<D: EventDispatcher<P, C, R>, P: Poller, C: Clock, R: Wait + Drop> EventLoop
         self.sources.vacate(token);
         let mut failure = Error::OutOfMemory;
         let told = self.unregister(token, &mut source, &mut failure);
-        self.warnings.note(with_error(told, failure));
+        self.warnings.note_failure(told, failure);
         Some(source)
     }
 

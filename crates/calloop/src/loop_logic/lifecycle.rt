@@ -1,7 +1,7 @@
 //! The registrations whose sources are told of waits.
 ghost use Rattle.std.specs.Prelude.{◌≡◌, ◌<◌, ◌&&◌, not, [], true, false, Some, OnErr, OnOk, filter, slice_get, vec_len, if◌then◌else◌};
-ghost use Rattle.calloop.specs.Held.{is_another, is_listed, with_listing};
-ghost use Rattle.calloop.specs.Rooms.{HasRoom};
+ghost use Rattle.calloop.specs.loop_logic.Held.{is_another, is_listed, with_listing};
+ghost use Rattle.calloop.specs.loop_logic.Rooms.{HasRoom};
 
 use calloop_wake::token::RegistrationToken;
 use std::alloc::{AllocError, Global};

@@ -2,9 +2,9 @@
 ghost use Rattle.std.specs.Prelude.{◌≡◌, ◌⊎◌, IfOk, IfErr};
 ghost use Rattle.std.specs.declared.io.Error.{Error as IoCause};
 ghost use Rattle.calloop_wake.specs.declared.error.Error.TheVariants.{IoError, OutOfMemory};
-ghost use Rattle.calloop.specs.Machine.{BeginsAnew};
-ghost use Rattle.calloop.specs.Handles.{clock_by};
-ghost use Rattle.calloop.specs.Loops.{poller_of, clock_of, IsFaultless, CountFromOneReading, IsUnscripted};
+ghost use Rattle.calloop.specs.loop_logic.Machine.{BeginsAnew};
+ghost use Rattle.calloop.specs.loop_logic.Handles.{clock_by};
+ghost use Rattle.calloop.specs.loop_logic.Loops.{poller_of, clock_of, IsFaultless, CountFromOneReading, IsUnscripted};
 
 use super::{EventDispatcher, EventLoop, LoopHandle};
 use calloop_core::sys::script::{ScriptClock, ScriptPoller};

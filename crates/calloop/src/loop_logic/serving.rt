@@ -1,10 +1,10 @@
 //! What callbacks asked for is carried out.
 ghost use Rattle.std.specs.Prelude.{◌≡◌, ◌≤◌, length};
 ghost use Rattle.calloop.specs.declared.loop_logic.asks.Request.TheVariants.{Remove};
-ghost use Rattle.calloop.specs.Machine.{view_of};
-ghost use Rattle.calloop.specs.Registering.{request_for};
-ghost use Rattle.calloop.specs.Rules.{Did, done_answer, inserted_answer};
-ghost use Rattle.calloop.specs.Serving.{AllServed, Serves, ServesAs, ServesFirst};
+ghost use Rattle.calloop.specs.loop_logic.Machine.{view_of};
+ghost use Rattle.calloop.specs.loop_logic.Registering.{request_for};
+ghost use Rattle.calloop.specs.loop_logic.Rules.{Did, done_answer, inserted_answer};
+ghost use Rattle.calloop.specs.loop_logic.Serving.{AllServed, Serves, ServesAs, ServesFirst};
 
 use super::asks::{Answer, Request};
 use super::registering::RegistrationCall;

@@ -3,14 +3,14 @@ ghost use Rattle.std.specs.Prelude.{◌≡◌, ℕ, ◌<◌, ◌≤◌, ◌∷�
 ghost use Rattle.calloop_wake.specs.declared.token.RegistrationToken.{RegistrationToken};
 ghost use Rattle.calloop_wake.specs.declared.list.Content.TheVariants.{InTurn};
 ghost use Rattle.calloop_wake.specs.Slots.{content_at as named_by, source_of, with_change, with_content};
-ghost use Rattle.calloop_core.specs.Polls.{IsReady};
-ghost use Rattle.calloop.specs.Limits.{all_limits};
-ghost use Rattle.calloop.specs.Machine.{view_of, with_marks_taken};
-ghost use Rattle.calloop.specs.Roles.{only, is_adapter};
-ghost use Rattle.calloop_core.specs.Marking.{AreTaken};
+ghost use Rattle.calloop_core.specs.sys.Polls.{IsReady};
+ghost use Rattle.calloop.specs.loop_logic.Limits.{all_limits};
+ghost use Rattle.calloop.specs.loop_logic.Machine.{view_of, with_marks_taken};
+ghost use Rattle.calloop.specs.loop_logic.Roles.{only, is_adapter};
+ghost use Rattle.calloop_core.specs.sys.TakenMarks.{AreTaken};
 ghost use Rattle.calloop.specs.declared.loop_logic.LoopCall.TheVariants.{Release};
 ghost use Rattle.calloop.specs.declared.loop_logic.LoopAnswer.TheVariants.{Released};
-ghost use Rattle.calloop.specs.Rules.{Case, Did, Goes, Settling, Sleeping};
+ghost use Rattle.calloop.specs.loop_logic.Rules.{Case, Did, Goes, Settling, Sleeping};
 
 use super::{EventDispatcher, EventLoop};
 use calloop_core::sources::Role;

@@ -5,10 +5,10 @@ ghost use Rattle.std.specs.Fn.{CalledAtMut};
 ghost use Rattle.calloop_wake.specs.declared.error.Error.TheVariants.{OutOfMemory};
 ghost use Rattle.calloop.specs.declared.loop_logic.LoopCall.TheVariants.{ForgetStop, LookForStop};
 ghost use Rattle.calloop.specs.declared.loop_logic.LoopAnswer.TheVariants.{StopForgotten, Stopped};
-ghost use Rattle.calloop.specs.Loops.{AreOfOneLoop, signal_of};
-ghost use Rattle.calloop.specs.Machine.{view_of};
-ghost use Rattle.calloop.specs.Rules.{Case, Did};
-ghost use Rattle.calloop.specs.Running.{RunsTo};
+ghost use Rattle.calloop.specs.loop_logic.Loops.{AreOfOneLoop, signal_of};
+ghost use Rattle.calloop.specs.loop_logic.Machine.{view_of};
+ghost use Rattle.calloop.specs.loop_logic.Rules.{Case, Did};
+ghost use Rattle.calloop.specs.loop_logic.Running.{RunsTo};
 
 use super::stops::StopNote;
 use super::{EventDispatcher, EventLoop};
@@ -77,7 +77,7 @@ impl LoopSignal {
 }
 
 impl Clone for LoopSignal {
-    ghost use Rattle.calloop.specs.Loops.{AreOfOneLoop};
+    ghost use Rattle.calloop.specs.loop_logic.Loops.{AreOfOneLoop};
 
     ghost is_clone = { AreOfOneLoop };
 

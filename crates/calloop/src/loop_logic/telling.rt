@@ -1,12 +1,12 @@
 //! Sources that need it are told of each wait: before it, and with what it brought.
 ghost use Rattle.std.specs.Prelude.{◌≡◌, ℕ, ◌+◌, ◌≤◌, ◌^◌, [], ◌∷◌, List, Option, OnOk, IfSome, None, length, vec_len};
 ghost use Rattle.calloop_wake.specs.declared.token.RegistrationToken.{RegistrationToken};
-ghost use Rattle.calloop_core.specs.Polls.{IsReady};
+ghost use Rattle.calloop_core.specs.sys.Polls.{IsReady};
 ghost use Rattle.calloop_wake.specs.Failures.{with_error};
 ghost use Rattle.calloop_wake.specs.Slots.{content_at};
-ghost use Rattle.calloop.specs.Limits.{limit_in, all_limits};
-ghost use Rattle.calloop.specs.Machine.{view_of};
-ghost use Rattle.calloop.specs.Rules.{Goes, Sleeping, Noticing, Cutting, after_telling, after_all_told};
+ghost use Rattle.calloop.specs.loop_logic.Limits.{limit_in, all_limits};
+ghost use Rattle.calloop.specs.loop_logic.Machine.{view_of};
+ghost use Rattle.calloop.specs.loop_logic.Rules.{Goes, Sleeping, Noticing, Cutting, after_telling, after_all_told};
 
 use super::{EventDispatcher, EventLoop};
 use calloop_core::sys::{Clock, Poller};

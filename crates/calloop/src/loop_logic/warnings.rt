@@ -1,8 +1,9 @@
 //! What went wrong where nothing could be answered: a source that left the loop failed to take its registration back.
 ghost use Rattle.std.specs.Prelude.{◌≡◌, [], Bool};
-ghost use Rattle.calloop.specs.Held.{with_warning};
+ghost use Rattle.calloop_wake.specs.Failures.{with_error};
+ghost use Rattle.calloop.specs.loop_logic.Held.{with_warning};
 
-use calloop_wake::error::{Error, Result};
+use calloop_wake::error::{Error, Failed, Result};
 use std::alloc::Global;
 
 /// In the order in which they came. Each is kept where there is memory for it.
@@ -27,6 +28,16 @@ impl Warnings {
     {
         if let Err(failure) = told {
             let _ = self.errors.push(failure);
+        }
+    }
+
+    // Keeps this failure, where what was told failed. Else no answer is made that has room for one.
+    pub(super) fn note_failure(&mut self, told: std::result::Result<(), Failed>, failure: Error)
+        ensures { (kept : Bool) × (self.new.errors.items
+            ≡ with_warning kept (with_error told failure) self.old.errors.items) }
+    {
+        if let Err(Failed) = told {
+            self.note(Err(failure));
         }
     }
 

@@ -1,7 +1,7 @@
 //! The sections of the lock of a ping's cell that no other kind of cell has.
 ghost use Rattle.std.specs.Prelude.{◌≡◌, None, Some, IfOk, IfErr};
 ghost use Rattle.calloop_wake.specs.declared.error.Error.TheVariants.{OutOfMemory};
-ghost use Rattle.calloop.specs.Pings.{tally_opened};
+ghost use Rattle.calloop.specs.ping.Pings.{tally_opened};
 
 use crate::cell::{Cell, post};
 use calloop_wake::error::Result as LoopResult;

@@ -1,8 +1,8 @@
 //! A ping as a source of the loop.
 ghost use Rattle.std.specs.Prelude.{◌≡◌, is_some};
-ghost use Rattle.calloop_core.specs.Calls.{Went};
-ghost use Rattle.calloop_core.specs.Marks.{IsRegisteredBy};
-ghost use Rattle.calloop.specs.Pings.{calls_of, action_of, ping_meaning};
+ghost use Rattle.calloop_core.specs.sources.Calls.{Went};
+ghost use Rattle.calloop_core.specs.TransientMarks.{IsRegisteredBy};
+ghost use Rattle.calloop.specs.ping.Pings.{calls_of, action_of, ping_meaning};
 
 use super::{PingSource, cell};
 use crate::cell::source::{CellSource, register, reregister, take_turn, unregister};
@@ -27,7 +27,7 @@ pub enum PingError {
 impl IntoError for PingError {
     ghost use Rattle.std.specs.Prelude.{◌≡◌};
     ghost use Rattle.calloop_wake.specs.declared.error.Error.TheVariants.{OutOfMemory};
-    ghost use Rattle.calloop_core.specs.Lawful.{memory_of_source};
+    ghost use Rattle.calloop_core.specs.sources.Lawful.{memory_of_source};
 
     ghost becomes = { λ _ e. e ≡ OutOfMemory };
 
@@ -70,7 +70,7 @@ pub fn is_registered_by_its_calls<P: Poller, R: Wait + Drop>()
 {}
 
 impl<R: Wait + Drop> CellSource for PingSource<R> {
-    ghost use Rattle.calloop.specs.Pings.{PingOpens, ping_tally};
+    ghost use Rattle.calloop.specs.ping.Pings.{PingOpens, ping_tally};
 
     type Event = ();
 
@@ -101,8 +101,8 @@ impl<R: Wait + Drop> CellSource for PingSource<R> {
 }
 
 impl<P: Poller, C, R: Wait + Drop> EventSource<P, C, R> for PingSource<R> {
-    ghost use Rattle.calloop.specs.Pings.{ping_meaning};
-    ghost use Rattle.calloop.specs.PingKeeping.{ping_keeps};
+    ghost use Rattle.calloop.specs.ping.Pings.{ping_meaning};
+    ghost use Rattle.calloop.specs.ping.PingKeeping.{ping_keeps};
 
     type Event = ();
 

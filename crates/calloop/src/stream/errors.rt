@@ -22,7 +22,7 @@ impl From<PingError> for StreamError {
 impl IntoError for StreamError {
     ghost use Rattle.std.specs.Prelude.{◌≡◌};
     ghost use Rattle.calloop_wake.specs.declared.error.Error.TheVariants.{OutOfMemory};
-    ghost use Rattle.calloop_core.specs.Lawful.{memory_of_source};
+    ghost use Rattle.calloop_core.specs.sources.Lawful.{memory_of_source};
 
     ghost becomes = { λ _ e. e ≡ OutOfMemory };
 

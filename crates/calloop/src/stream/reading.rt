@@ -1,7 +1,7 @@
 //! What a stream is, and one poll of it.
 ghost use Rattle.std.specs.Prelude.{⊤, Option};
 ghost use Rattle.calloop.specs.declared.futures.task.Poll.{Poll};
-ghost use Rattle.calloop.specs.StreamReads.{IsNext};
+ghost use Rattle.calloop.specs.stream.StreamReads.{IsNext};
 
 use crate::futures::{Context, Poll, Waker};
 use std::sync::Wait;

@@ -1,8 +1,8 @@
 //! A stream as a source of the loop.
 ghost use Rattle.std.specs.Prelude.{◌≡◌, List, length};
-ghost use Rattle.calloop_core.specs.Calls.{Went};
-ghost use Rattle.calloop.specs.StreamReads.{ReadsTo, left_by};
-ghost use Rattle.calloop.specs.Streams.{StreamCalls, calls_of, action_of, EndsSo, RingsItself, ReadsSo};
+ghost use Rattle.calloop_core.specs.sources.Calls.{Went};
+ghost use Rattle.calloop.specs.stream.StreamReads.{ReadsTo, left_by};
+ghost use Rattle.calloop.specs.stream.Streams.{StreamCalls, calls_of, action_of, EndsSo, RingsItself, ReadsSo};
 ghost use Rattle.calloop.specs.declared.stream.reading.Readable.{Readable};
 ghost use Rattle.std.specs.Option.{option_map};
 ghost use Rattle.calloop.specs.declared.stream.reading.Ending.{Ending};
@@ -115,7 +115,7 @@ impl<S: Stream<R>, R: Wait + Drop> StreamSource<S, R> {
 }
 
 impl<S: Stream<R>, R: Wait + Drop> CellSource for StreamSource<S, R> {
-    ghost use Rattle.calloop.specs.Streams.{StreamOpens, stream_tally};
+    ghost use Rattle.calloop.specs.stream.Streams.{StreamOpens, stream_tally};
 
     type Event = Option<S::Item>;
 
@@ -146,8 +146,8 @@ impl<S: Stream<R>, R: Wait + Drop> CellSource for StreamSource<S, R> {
 }
 
 impl<S: Stream<R>, P: Poller, C, R: Wait + Drop> EventSource<P, C, R> for StreamSource<S, R> {
-    ghost use Rattle.calloop.specs.Streams.{stream_meaning};
-    ghost use Rattle.calloop.specs.StreamKeeping.{stream_keeps};
+    ghost use Rattle.calloop.specs.stream.Streams.{stream_meaning};
+    ghost use Rattle.calloop.specs.stream.StreamKeeping.{stream_keeps};
 
     type Event = Option<S::Item>;
 

@@ -24,8 +24,8 @@ where
     A: Dispatch<P, C, R, X, Q>,
     B: Dispatch<P, C, R, X, Q>,
 {
-    ghost use Rattle.calloop_core.specs.Meanings.{one_of};
-    ghost use Rattle.calloop_core.specs.Lawful.{keeping_one_of, asking_one_of, failing_one_of};
+    ghost use Rattle.calloop_core.specs.sources.Meanings.{one_of};
+    ghost use Rattle.calloop_core.specs.sources.Lawful.{keeping_one_of, asking_one_of, failing_one_of};
 
     ghost means = { one_of A.means B.means };
 
@@ -201,7 +201,7 @@ where
     S: EventSource<P, C, R>,
     F: Callback<S::Event, S::Metadata, S::Ret, X, Q>,
 {
-    ghost use Rattle.calloop_core.specs.Meanings.{IsHeld};
+    ghost use Rattle.calloop_core.specs.sources.Meanings.{IsHeld};
 
     ghost held_means: { IsHeld ⟦<Self as Choice<S, F, N>>⟧.held ⟦<Dispatcher<S, F> as Dispatch<P, C, R, X, Q>>⟧.means Self.means };
 }
@@ -212,7 +212,7 @@ where
     S: EventSource<P, C, R>,
     F: Callback<S::Event, S::Metadata, S::Ret, X, Q>,
 {
-    ghost use Rattle.calloop_core.specs.Lawful.{held_itself};
+    ghost use Rattle.calloop_core.specs.sources.Lawful.{held_itself};
 
     ghost held_means = { held_itself ⟦<Dispatcher<S, F> as Dispatch<P, C, R, X, Q>>⟧.means };
 }
@@ -224,7 +224,7 @@ where
     F: Callback<S::Event, S::Metadata, S::Ret, X, Q>,
     B: Dispatch<P, C, R, X, Q>,
 {
-    ghost use Rattle.calloop_core.specs.Lawful.{held_first};
+    ghost use Rattle.calloop_core.specs.sources.Lawful.{held_first};
 
     ghost held_means = { held_first ⟦<Dispatcher<S, F> as Dispatch<P, C, R, X, Q>>⟧.means B.means };
 }
@@ -238,8 +238,8 @@ where
     B: Hold<S, F, P, C, R, X, Q, N>,
 {
     ghost use Rattle.calloop_core.specs.declared.sources.choice.OneOf.TheVariants.{Other};
-    ghost use Rattle.calloop_core.specs.Meanings.{one_of};
-    ghost use Rattle.calloop_core.specs.Lawful.{held_other, held_through};
+    ghost use Rattle.calloop_core.specs.sources.Meanings.{one_of};
+    ghost use Rattle.calloop_core.specs.sources.Lawful.{held_other, held_through};
 
     ghost held_means = { held_through ⟦<B as Choice<S, F, N>>⟧.held (λ b. Other b)
         ⟦<Dispatcher<S, F> as Dispatch<P, C, R, X, Q>>⟧.means
@@ -295,7 +295,7 @@ where
     Q: Asking,
     T: Dispatch<P, C, R, X, Q>,
 {
-    ghost use Rattle.calloop_core.specs.Meanings.{IsHeld};
+    ghost use Rattle.calloop_core.specs.sources.Meanings.{IsHeld};
 
     ghost placed_means: { IsHeld ⟦<Self as Place<T, N>>⟧.placed ⟦<T as Dispatch<P, C, R, X, Q>>⟧.means Self.means };
 }
@@ -305,7 +305,7 @@ where
     T: Dispatch<P, C, R, X, Q>,
     B: Dispatch<P, C, R, X, Q>,
 {
-    ghost use Rattle.calloop_core.specs.Lawful.{held_first};
+    ghost use Rattle.calloop_core.specs.sources.Lawful.{held_first};
 
     ghost placed_means = { held_first ⟦<T as Dispatch<P, C, R, X, Q>>⟧.means B.means };
 }
@@ -318,8 +318,8 @@ where
     B: Keep<T, P, C, R, X, Q, N>,
 {
     ghost use Rattle.calloop_core.specs.declared.sources.choice.OneOf.TheVariants.{Other};
-    ghost use Rattle.calloop_core.specs.Meanings.{one_of};
-    ghost use Rattle.calloop_core.specs.Lawful.{held_other, held_through};
+    ghost use Rattle.calloop_core.specs.sources.Meanings.{one_of};
+    ghost use Rattle.calloop_core.specs.sources.Lawful.{held_other, held_through};
 
     ghost placed_means = { held_through ⟦<B as Place<T, N>>⟧.placed (λ b. Other b)
         ⟦<T as Dispatch<P, C, R, X, Q>>⟧.means

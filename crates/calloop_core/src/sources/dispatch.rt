@@ -76,11 +76,11 @@ impl<S, F> Dispatcher<S, F> {
 /// the requests of callbacks. The error of a call that answers `Failed` stands in `failure`.
 pub trait Dispatch<P: Poller, C, R: Wait + Drop, X, Q: Asking> {
     ghost use Rattle.std.specs.Prelude.{◌≡◌, ℕ, []};
-    ghost use Rattle.calloop_core.specs.Polls.{PollView, IsReady, poll_view};
-    ghost use Rattle.calloop_core.specs.Events.{events_left};
-    ghost use Rattle.calloop_core.specs.Synthetics.{IsLent};
-    ghost use Rattle.calloop_core.specs.Deeds.{Registered, Reregistered, Unregistered, Turned, Slept, Noticed, Lent, lend};
-    ghost use Rattle.calloop_core.specs.Meanings.{Meaning, Does, Settles, IsKeeping, IsAsking, FailsAsSource};
+    ghost use Rattle.calloop_core.specs.sys.Polls.{PollView, IsReady, poll_view};
+    ghost use Rattle.calloop_core.specs.sys.Events.{events_left};
+    ghost use Rattle.calloop_core.specs.sys.Synthetics.{IsLent};
+    ghost use Rattle.calloop_core.specs.sources.Deeds.{Registered, Reregistered, Unregistered, Turned, Slept, Noticed, Lent, lend};
+    ghost use Rattle.calloop_core.specs.sources.Meanings.{Meaning, Does, Settles, IsKeeping, IsAsking, FailsAsSource};
     ghost use Rattle.calloop_wake.specs.Failures.{with_error};
 
     ghost means: { Meaning Self P (Lent X Q) };
@@ -177,8 +177,8 @@ where
     S: EventSource<P, C, R>,
     F: Callback<S::Event, S::Metadata, S::Ret, X, Q>,
 {
-    ghost use Rattle.calloop_core.specs.Meanings.{with_callback};
-    ghost use Rattle.calloop_core.specs.Lawful.{keeping_with_callback, asking_with_callback, failing_with_callback};
+    ghost use Rattle.calloop_core.specs.sources.Meanings.{with_callback};
+    ghost use Rattle.calloop_core.specs.sources.Lawful.{keeping_with_callback, asking_with_callback, failing_with_callback};
 
     ghost means = { with_callback S.means F.may Q.reaches S.Error.becomes };
 

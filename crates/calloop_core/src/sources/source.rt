@@ -1,6 +1,6 @@
 //! Sources of events.
 ghost use Rattle.std.specs.Prelude.{◌≡◌};
-ghost use Rattle.calloop_core.specs.Actions.{either};
+ghost use Rattle.calloop_core.specs.sources.Actions.{either};
 ghost use Rattle.calloop_core.specs.declared.sources.source.PostAction.{PostAction};
 ghost use Rattle.calloop_core.specs.declared.sources.source.PostAction.TheVariants.{Reregister};
 
@@ -29,7 +29,7 @@ pub enum PostAction {
 
 impl BitOr for PostAction {
     ghost use Rattle.std.specs.Prelude.{◌≡◌};
-    ghost use Rattle.calloop_core.specs.Actions.{either};
+    ghost use Rattle.calloop_core.specs.sources.Actions.{either};
 
     type Output = PostAction;
 
@@ -47,7 +47,7 @@ impl BitOr for PostAction {
 
 impl BitOrAssign for PostAction {
     ghost use Rattle.std.specs.Prelude.{◌≡◌};
-    ghost use Rattle.calloop_core.specs.Actions.{either};
+    ghost use Rattle.calloop_core.specs.sources.Actions.{either};
 
     ghost bitor_assign_gives = { λ left right both. both ≡ either left right };
 
@@ -67,7 +67,7 @@ pub fn joining_has_no_order()
 /// The error of a source, as an error of the loop.
 pub trait IntoError: Drop {
     ghost use Rattle.calloop_wake.specs.declared.error.Error.{Error};
-    ghost use Rattle.calloop_core.specs.Calls.{IsOfSource};
+    ghost use Rattle.calloop_core.specs.sources.Calls.{IsOfSource};
 
     /// Which error a cause becomes.
     ghost becomes: { Self → Error → Type 0 };
@@ -83,12 +83,12 @@ pub trait IntoError: Drop {
 /// makes on `Poll`, and the source after it.
 pub trait EventSource<P: Poller, C, R: Wait + Drop> {
     ghost use Rattle.std.specs.Prelude.{◌≡◌, List, []};
-    ghost use Rattle.calloop_core.specs.Polls.{PollView, poll_view};
-    ghost use Rattle.calloop_core.specs.Events.{events_left};
-    ghost use Rattle.calloop_core.specs.Calls.{CallbackCall, Went};
-    ghost use Rattle.calloop_core.specs.Synthetics.{IsLent};
-    ghost use Rattle.calloop_core.specs.Deeds.{Registered, Reregistered, Unregistered, Turned, Slept, Noticed, Heard, new_heard};
-    ghost use Rattle.calloop_core.specs.Meanings.{Meaning, Does, IsKeeping};
+    ghost use Rattle.calloop_core.specs.sys.Polls.{PollView, poll_view};
+    ghost use Rattle.calloop_core.specs.sys.Events.{events_left};
+    ghost use Rattle.calloop_core.specs.sources.Calls.{CallbackCall, Went};
+    ghost use Rattle.calloop_core.specs.sys.Synthetics.{IsLent};
+    ghost use Rattle.calloop_core.specs.sources.Deeds.{Registered, Reregistered, Unregistered, Turned, Slept, Noticed, Heard, new_heard};
+    ghost use Rattle.calloop_core.specs.sources.Meanings.{Meaning, Does, IsKeeping};
 
     /// What its callback is called with.
     type Event;

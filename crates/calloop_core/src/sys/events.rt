@@ -1,6 +1,6 @@
 //! The events that a wait brought for one registration.
 ghost use Rattle.std.specs.Prelude.{◌≡◌, drop};
-ghost use Rattle.calloop_core.specs.Events.{events_left, events_of};
+ghost use Rattle.calloop_core.specs.sys.Events.{events_left, events_of};
 
 use super::Readiness;
 use super::poll::Pending;
@@ -37,7 +37,7 @@ impl<'a> EventIterator<'a> {
 }
 
 impl Iterator for EventIterator<'_> {
-    ghost use Rattle.calloop_core.specs.Events.{events_left};
+    ghost use Rattle.calloop_core.specs.sys.Events.{events_left};
     ghost use Rattle.std.specs.Iterator.{YieldsFirst, item_count};
 
     type Item = (Readiness, Token);

@@ -3,20 +3,20 @@ ghost use Rattle.std.specs.Prelude.{◌≡◌, ◌≢◌, ◌+◌, ◌-◌, ◌^
 ghost use Rattle.std.specs.Arc.{arc_value};
 ghost use Rattle.std.specs.VecDeque.{deque_len, deque_capacity};
 ghost use Rattle.calloop_wake.specs.Tokens.{key_of};
-ghost use Rattle.calloop_wake.specs.Watches.{with_note};
+ghost use Rattle.calloop_wake.specs.wake.Watches.{with_note};
 ghost use Rattle.calloop_wake.specs.declared.wake.notes.Note.TheVariants.{Counted, Looked, Unposted, Marked};
 ghost use Rattle.calloop_wake.specs.declared.error.Error.TheVariants.{OutOfMemory as MemoryError};
-ghost use Rattle.calloop_core.specs.Hubs.{HasUnposted};
-ghost use Rattle.calloop_core.specs.Polls.{CannotOpen};
+ghost use Rattle.calloop_core.specs.sys.Hubs.{HasUnposted};
+ghost use Rattle.calloop_core.specs.sys.Polls.{CannotOpen};
 
 use super::notifier::Notifier;
 use calloop_wake::error::{Error, Result};
 use calloop_wake::steps::Steps;
 use calloop_wake::token::{RegistrationToken, Token};
-use calloop_wake::wake::board::OpenRefusal;
+use calloop_wake::wake::board::{Board, OpenRefusal};
 use calloop_wake::wake::locked::Locked;
 use calloop_wake::wake::marking::Marks;
-use calloop_wake::wake::watch::{OpenPlaces, Watch, WatchedBoard};
+use calloop_wake::wake::watch::{OpenPlaces, Watch};
 use calloop_wake::wake::{ClosePermit, Debt, OpenedPass, SleepPermit, TakenPass};
 use std::alloc::{AllocError, Global};
 use std::collections::VecDeque;
@@ -30,7 +30,7 @@ use std::sync::{Arc, Wait};
 /// In a clause it is the name that the board shares with its watch.
 #[derive(Drop)]
 pub struct Hub {
-    board: Locked<WatchedBoard>,
+    board: Locked<Board>,
     // Which adapters are to be settled before the next wait.
     marks: Locked<Marks>,
     notifier: Notifier,
@@ -67,7 +67,7 @@ impl Hub {
     pub fn new(alloc: Global, notifier: Notifier) -> std::result::Result<(Hub, Watch), AllocError>
         ensures { IfOk result (λ made. made.1 ≡ record { name = made.0; notes = [] }) }
     {
-        let (board, watch, name, right) = WatchedBoard::new(alloc);
+        let (board, watch, name, right) = Board::new(alloc);
         let board = Locked::new(alloc, board, &name)?;
         let (marks, of_marks) = Marks::new(alloc, right);
         let hub = Hub {
@@ -119,39 +119,6 @@ impl Hub {
         if let Some(wakeup) = wakeup {
             wakeup.spend(&self.notifier);
         }
-    }
-
-    /// Looks whether a key is posted: the permit to sleep, where none is.
-    pub fn look<R: Wait>(&self, rt: &R, watch: &mut Watch) -> Option<SleepPermit>
-        requires { watch.old.name ≡ self.now }
-        ensures { watch.new ≡ with_note (Looked (is_none result)) watch.old }
-    {
-        let mut held = self.board.lock(rt);
-        let permit = held.core().look(watch);
-        held.unlock();
-        permit
-    }
-
-    /// How many places are open now.
-    pub fn places<R: Wait>(&self, rt: &R) -> OpenPlaces
-        ensures { result.name ≡ self.now }
-    {
-        let mut held = self.board.lock(rt);
-        let places = held.core().places();
-        held.unlock();
-        places
-    }
-
-    /// Where no key is posted, has the watch note that none was taken, with room for so many. Else nothing changes.
-    pub fn unpost_none<R: Wait>(&self, rt: &R, room: usize, watch: &mut Watch) -> bool
-        requires { watch.old.name ≡ self.now }
-        ensures { watch.new ≡ (if result
-            then with_note (Unposted room []) watch.old else watch.old) }
-    {
-        let mut held = self.board.lock(rt);
-        let none = held.core().unpost_none(room, watch);
-        held.unlock();
-        none
     }
 
     /// Makes room for the mark of one adapter more. Running out of memory changes nothing.
@@ -217,26 +184,6 @@ impl Hub {
         held.core().give_back(settled);
         held.unlock();
     }
-
-    /// Takes the posted keys, ascending, as many as there is room for, and appends a pass for each.
-    pub fn unpost<R: Wait>(
-        &self,
-        rt: &R,
-        room: usize,
-        watch: &mut Watch,
-        passes: &mut VecDeque<TakenPass>,
-    )
-        requires name { watch.old.name ≡ self.now }
-        requires room { deque_len passes.old + room ≤ deque_capacity passes.old }
-        ensures keys { HasUnposted room watch.old watch.new
-            passes.old.items passes.new.items (deque_len passes.old) (deque_len passes.new) }
-        ensures capacity { deque_capacity passes.new ≡ deque_capacity passes.old }
-    {
-        let mut held = self.board.lock(rt);
-        let board = held.core();
-        board.unpost(room, watch, passes, &mut Steps::new());
-        held.unlock();
-    }
 }
 
 /// The hub with the loop's own watch of its board. In a clause it is the watch.
@@ -286,7 +233,9 @@ impl WatchedHub {
     pub fn look<R: Wait>(&mut self, rt: &R) -> Option<SleepPermit>
         ensures { self.new ≡ with_note (Looked (is_none result)) self.old }
     {
-        let permit = self.hub.look(rt, &mut self.watch);
+        let mut held = self.hub.board.lock(rt);
+        let permit = held.core().look(&mut self.watch);
+        held.unlock();
         self.found = permit.is_none();
         permit
     }
@@ -295,7 +244,10 @@ impl WatchedHub {
     pub fn places<R: Wait>(&self, rt: &R) -> OpenPlaces
         ensures { result.name ≡ self.now.name }
     {
-        self.hub.places(rt)
+        let mut held = self.hub.board.lock(rt);
+        let places = held.core().places();
+        held.unlock();
+        places
     }
 
     /// Notes a count of the places.
@@ -314,6 +266,16 @@ impl WatchedHub {
         self.hub.take_marks(rt, &mut self.watch)
     }
 
+    // Where no key is posted, notes that none was taken, with room for so many. Else nothing changes.
+    fn unpost_none<R: Wait>(&mut self, rt: &R, room: usize) -> bool
+        ensures { self.new ≡ (if result then with_note (Unposted room []) self.old else self.old) }
+    {
+        let mut held = self.hub.board.lock(rt);
+        let none = held.core().unpost_none(room, &mut self.watch);
+        held.unlock();
+        none
+    }
+
     /// Takes the posted keys, ascending, as many as there is room for, and appends a pass for each.
     pub fn unpost<R: Wait>(&mut self, rt: &R, room: usize, passes: &mut VecDeque<TakenPass>)
         requires room { deque_len passes.old + room ≤ deque_capacity passes.old }
@@ -321,8 +283,12 @@ impl WatchedHub {
             passes.old.items passes.new.items (deque_len passes.old) (deque_len passes.new) }
         ensures capacity { deque_capacity passes.new ≡ deque_capacity passes.old }
     {
-        if self.found || !self.hub.unpost_none(rt, room, &mut self.watch) {
-            self.hub.unpost(rt, room, &mut self.watch, passes);
+        if !self.found && self.unpost_none(rt, room) {
+            return;
         }
+        let mut held = self.hub.board.lock(rt);
+        held.core()
+            .unpost(room, &mut self.watch, passes, &mut Steps::new());
+        held.unlock();
     }
 }

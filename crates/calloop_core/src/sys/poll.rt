@@ -2,12 +2,12 @@
 ghost use Rattle.std.specs.Prelude.{drop, ◌≡◌, ℕ, ◌+◌, ◌≤◌, [], List, None, length, vec_len, vec_capacity, OnOk, OnErr, IfOk, IfErr, IfSome, IfNone, IsPermutation};
 ghost use Rattle.std.specs.Borrow.{Lends, sem};
 ghost use Rattle.calloop_wake.specs.declared.error.Error.TheVariants.{OutOfMemory};
-ghost use Rattle.calloop_core.specs.Batches.{ArePosted};
-ghost use Rattle.calloop_core.specs.Pollers.{events_per_wait};
-ghost use Rattle.calloop_core.specs.Polls.{PollView, PollStep, TakePass, PutBack, poll_view, poll_after, with_pass, IsPassOf, IsReady, after_cut, head_of, after_gather, after_count, with_events, marks_taken};
-ghost use Rattle.calloop_core.specs.Events.{events_left, events_of};
-ghost use Rattle.calloop_core.specs.Marking.{HasTaken};
-ghost use Rattle.calloop_core.specs.SlotOrder.{IsInSlotOrder};
+ghost use Rattle.calloop_core.specs.sys.Batches.{ArePosted};
+ghost use Rattle.calloop_core.specs.sys.Pollers.{events_per_wait};
+ghost use Rattle.calloop_core.specs.sys.Polls.{PollView, PollStep, TakePass, PutBack, poll_view, poll_after, with_pass, IsPassOf, IsReady, after_cut, head_of, after_gather, after_count, with_events, marks_taken};
+ghost use Rattle.calloop_core.specs.sys.Events.{events_left, events_of};
+ghost use Rattle.calloop_core.specs.sys.TakenMarks.{HasTaken};
+ghost use Rattle.calloop_core.specs.sys.SlotOrder.{IsInSlotOrder};
 ghost use Rattle.std.specs.Arc.{arc_value};
 ghost use Rattle.calloop_core.specs.Lending.{with_poller};
 ghost use Rattle.calloop_core.specs.contracts.sys.poll.Poll.{the_row};

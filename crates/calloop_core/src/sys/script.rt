@@ -1,8 +1,8 @@
 //! A poller that answers what it was told to, with a clock of its own: for tests and for recorded answers.
 ghost use Rattle.std.specs.Prelude.{◌≡◌, ℕ, ◌+◌, ◌≤◌, ◌++◌, [], ◌∷◌, List, length, nat_le, false, Option, vec_len, vec_capacity, IsOk, OnOk, OnErr, IfOk, IfErr, is_ok, if◌then◌else◌};
-ghost use Rattle.calloop_core.specs.Pollers.{events_per_wait};
-ghost use Rattle.calloop_core.specs.Polls.{head_of};
-ghost use Rattle.calloop_core.specs.Scripts.{kept_waits};
+ghost use Rattle.calloop_core.specs.sys.Pollers.{events_per_wait};
+ghost use Rattle.calloop_core.specs.sys.Polls.{head_of};
+ghost use Rattle.calloop_core.specs.sys.Scripts.{kept_waits};
 ghost use Rattle.calloop_core.specs.declared.sys.Readiness.{Readiness};
 
 use super::faults::FaultCount;
@@ -266,7 +266,7 @@ fn append(mut events: Vec<(u64, Readiness)>, out: &mut Vec<(u64, Readiness)>)
 }
 
 impl Poller for ScriptPoller {
-    ghost use Rattle.calloop_core.specs.ScriptPollers.{script_outside, script_sockets};
+    ghost use Rattle.calloop_core.specs.sys.ScriptPollers.{script_outside, script_sockets};
 
     type Io = ScriptIo;
 

@@ -1,6 +1,6 @@
 //! The events that a source asks for before a wait.
 ghost use Rattle.std.specs.Prelude.{◌≡◌, ◌≤◌, [], OnOk, length};
-ghost use Rattle.calloop_core.specs.Synthetics.{Pushed};
+ghost use Rattle.calloop_core.specs.sys.Synthetics.{Pushed};
 
 use super::Readiness;
 use calloop_wake::token::Token;
@@ -17,7 +17,7 @@ pub struct Synthetic {
 
 impl Model for Synthetic {
     ghost use Rattle.std.specs.Prelude.{◌≤◌, vec_len, vec_capacity};
-    ghost use Rattle.calloop_core.specs.Synthetics.{SyntheticView};
+    ghost use Rattle.calloop_core.specs.sys.Synthetics.{SyntheticView};
 
     ghost Value = { SyntheticView };
 

@@ -6,7 +6,7 @@ ghost use Rattle.std.specs.declared.io.ErrorKind.TheVariants.{InvalidInput};
 ghost use Rattle.mio.specs.Events.{items};
 ghost use Rattle.mio.specs.Interest.{is_readable, is_writable, is_priority};
 ghost use Rattle.calloop_wake.specs.declared.error.Error.TheVariants.{IoError, OutOfMemory};
-ghost use Rattle.calloop_core.specs.Pollers.{asks, failure_of, faults_of};
+ghost use Rattle.calloop_core.specs.sys.Pollers.{asks, failure_of, faults_of};
 ghost use Rattle.calloop_core.specs.declared.sys.system.portions.Precision.TheVariants.{Microseconds};
 
 use super::faults::FaultCount;
@@ -195,7 +195,7 @@ fn no_interest() -> io::Error
 }
 
 impl<C: Clock> Poller for MioPoller<C> {
-    ghost use Rattle.calloop_core.specs.SystemPollers.{system_outside, system_sockets};
+    ghost use Rattle.calloop_core.specs.sys.SystemPollers.{system_outside, system_sockets};
 
     type Io = MioIo;
 

@@ -1,5 +1,5 @@
 //! Callbacks and idles that say their number and write requests.
-ghost use Rattle.calloop.specs.Askings.{OnlyAsks};
+ghost use Rattle.calloop.specs.loop_logic.Askings.{OnlyAsks};
 
 use calloop::{
     Callback, Choice, Dispatcher, Here, Idle, IdleCallback, Instant, PostAction, RegistrationToken,

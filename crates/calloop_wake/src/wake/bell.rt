@@ -1,8 +1,8 @@
 //! The bell of a cell: what each kind of cell has of a ping.
 ghost use Rattle.std.specs.Prelude.{◌≡◌, ◌+◌, ◌-◌, ◌<◌, ◌^◌, ◌&&◌, ◌||◌, not, true, false, None, Some, IfOk, IfErr, if◌then◌else◌};
-ghost use Rattle.calloop_wake.specs.Cells.{fresh_tally, fresh, one, opens, debt_of, owed_at, owed_by_drop, after_close, after_add_sender, after_drop_sender, after_set_key, after_clear_key};
-ghost use Rattle.calloop_wake.specs.Bells.{bell_with, after_ping, after_drain, after_end, owed_if, after_tell_close};
-ghost use Rattle.calloop_wake.specs.Passes.{on};
+ghost use Rattle.calloop_wake.specs.wake.Cells.{fresh_tally, fresh, one, opens, debt_of, owed_at, owed_by_drop, after_close, after_add_sender, after_drop_sender, after_set_key, after_clear_key};
+ghost use Rattle.calloop_wake.specs.wake.Bells.{bell_with, after_ping, after_drain, after_end, owed_if, after_tell_close};
+ghost use Rattle.calloop_wake.specs.wake.Passes.{on};
 
 use super::ghosts::Name;
 use super::{ClosePermit, Debt, OpenedPass, ReceivingRight, Sender, Tally};
@@ -25,7 +25,7 @@ pub(crate) struct Bell {
 
 impl Model for Bell {
     ghost use Rattle.std.specs.Prelude.{false};
-    ghost use Rattle.calloop_wake.specs.Bells.{BellView};
+    ghost use Rattle.calloop_wake.specs.wake.Bells.{BellView};
 
     ghost Value = { BellView };
 

@@ -1,17 +1,25 @@
-//! The board: one place for each open key, which is marked while the key is posted.
-ghost use Rattle.std.specs.Prelude.{ℕ, nat_eq, IsSome, drop, ◌≡◌, ◌≤◌, ◌+◌, ◌++◌, ◌∷◌, ◌<◌, ◌-◌, ◌^◌, [], false, true, not, map, length, is_ok, is_some, Err, OnOk, IfErr, if◌then◌else◌};
+//! The board: one place for each open key, which is marked while the key is posted. Each look at it and each taking of its keys is noted
+//! in its watch.
+ghost use Rattle.std.specs.Prelude.{ℕ, nat_eq, IsSome, drop, ◌≡◌, ◌≤◌, ◌+◌, ◌++◌, ◌∷◌, ◌<◌, ◌-◌, ◌^◌, [], false, true, not, map, length, is_ok, is_some, Err, OnOk, IfErr, MatchResult, if◌then◌else◌};
 ghost use Rattle.std.specs.VecDeque.{deque_len, deque_capacity};
 ghost use Rattle.std.specs.Vec.{vec_capacity};
-ghost use Rattle.calloop_wake.specs.Posts.{places_of, posted_keys, standing_at, index_of, place_after, IsBoard};
+ghost use Rattle.calloop_wake.specs.wake.Posts.{places_of, posted_keys, standing_at, index_of, place_after, IsBoard};
 ghost use Rattle.std.specs.List.{list_any, IsDistinct};
 ghost use Rattle.std.specs.Map.{keys_of};
-ghost use Rattle.calloop_wake.specs.Boards.{place, is_open, any_marked, wakes, marked_at, after_open_place, after_close_place, after_post, after_unpost, is_taken, without_mark, bound, keys_within, fresh_pass, taken_keys, IsRising};
+ghost use Rattle.calloop_wake.specs.wake.Boards.{is_open, any_marked, wakes, after_open_place, after_close_place, after_post, after_unpost, bound, keys_within, fresh_pass, IsRising};
+ghost use Rattle.calloop_wake.specs.wake.Watches.{with_note, with_places};
 ghost use Rattle.calloop_wake.specs.declared.wake.board.OpenRefusal.TheVariants.{AlreadyExists, OutOfMemory};
+ghost use Rattle.calloop_wake.specs.declared.wake.notes.Note.TheVariants.{Looked, Unposted};
 
-use super::ghosts::Name;
+use super::ghosts::{Name, Notes};
+use super::locked::Core;
+use super::marking::MarkingRight;
+use super::notes::LentBoardNote;
 use super::places::Places;
-use super::{SleepPermit, TakenPass, Wakeup};
+use super::watch::{OpenPlaces, Watch};
+use super::{ClosePermit, Debt, Last, OpenedPass, SleepPermit, TakenPass, Wakeup};
 use crate::steps::Steps;
+use counted_slot::Fits;
 use std::alloc::Global;
 use std::collections::VecDeque;
 use std::marker::Model;
@@ -34,25 +42,44 @@ pub enum OpenRefusal {
     OutOfMemory,
 }
 
-/// The open places, and the posted keys. In calloop the kernel's poller keeps such a table.
-#[derive(Drop)]
-pub(crate) struct Board {
+/// The open places and the posted keys, under the name that the board shares with its watch. In calloop the kernel's poller keeps such a
+/// table. It has no `Drop`: it lies under a lock, whose last drop ends it.
+pub struct Board {
     places: Places,
     // In no order, with room for all keys that have a place.
     posted: Vec<u64>,
+    name: Name,
 }
 
 impl Model for Board {
-    ghost use Rattle.std.specs.Prelude.{List};
     ghost use Rattle.std.specs.Vec.{vec_capacity};
-    ghost use Rattle.calloop_wake.specs.Posts.{places_of, IsBoard};
-    ghost use Rattle.calloop_wake.specs.declared.wake.board.Place.{Place};
+    ghost use Rattle.calloop_wake.specs.wake.Posts.{places_of, IsBoard};
+    ghost use Rattle.calloop_wake.specs.wake.Watches.{Watched};
 
-    ghost Value = { List Place };
+    ghost Value = { Watched };
 
-    ghost view = { λ b. places_of b.places };
+    ghost view = { λ b. record { places = places_of b.places; name = b.name } };
 
     ghost invariant = { λ b. IsBoard b.places b.posted.items (vec_capacity b.posted) };
+}
+
+impl Fits for Board {
+    ghost use Rattle.std.specs.Prelude.{◌≡◌};
+
+    type Tag = Name;
+
+    ghost fits = { λ tag board. board.name ≡ tag };
+}
+
+impl Core for Board {
+    fn dissolve(self, last: Last) {
+        let Last { of_wake: _ } = last;
+        let Board {
+            places: _,
+            posted: _,
+            name: _,
+        } = self;
+    }
 }
 
 // Makes room for so many posted keys.
@@ -145,54 +172,78 @@ fn drop_first(posted: &mut Vec<u64>, gone: usize)
 }
 
 impl Board {
-    /// A board with no place. It allocates nothing yet.
-    pub(crate) fn new(alloc: Global) -> Board
-        ensures { result ≡ [] }
+    /// A board with no place, its watch, the name of both, and the right to the marks under that name. It allocates nothing yet.
+    pub fn new(alloc: Global) -> (Board, Watch, Name, MarkingRight)
+        ensures board { result.0 ≡ record { places = []; name = result.2 } }
+        ensures watch { result.1 ≡ record { name = result.2; notes = [] } }
+        ensures marks { result.3.name ≡ result.2 }
     {
-        Board {
+        let name = Name::fresh();
+        let board = Board {
             places: Places::new(alloc),
             posted: Vec::new(alloc),
-        }
+            name: name.again(),
+        };
+        let watch = Watch {
+            name: name.again(),
+            notes: Notes::none(),
+        };
+        let right = MarkingRight { name: name.again() };
+        (board, watch, name, right)
     }
 
-    /// How many places are open.
-    pub(crate) fn places(&self) -> usize
-        ensures { result ≡ length self.now }
+    /// How many places are open now.
+    pub fn places(&self) -> OpenPlaces
+        ensures { result ≡ record { number = length self.now.places; name = self.now.name } }
     {
-        self.places.len()
+        OpenPlaces {
+            number: self.places.len(),
+            name: self.name.again(),
+        }
     }
 
     /// Opens a place for the key of a token, not marked, as calloop adds a descriptor to the poller.
     ///
     /// It refuses with `AlreadyExists` exactly where the key has a place, and with `OutOfMemory` where there is no
     /// memory for one. After a refusal the board is as it was.
-    pub(crate) fn open_place(&mut self, key: u64) -> Result<(), OpenRefusal>
+    pub fn open_place(&mut self, key: u64) -> Result<OpenedPass, OpenRefusal>
         requires { key < 2 ^ 64 - 1 }
-        ensures board { self.new
-            ≡ (if is_ok result then after_open_place key self.old else self.old) }
-        ensures open { is_open key self.old ≡ true → result ≡ Err AlreadyExists }
-        ensures shut { is_open key self.old ≡ false → IfErr result (λ e. e ≡ OutOfMemory) }
+        ensures board { self.new ≡ with_places
+            (if is_ok result then after_open_place key self.old.places else self.old.places)
+            self.old }
+        ensures open { is_open key self.old.places ≡ true → result ≡ Err AlreadyExists }
+        ensures shut { is_open key self.old.places ≡ false → MatchResult result
+            (λ pass. pass ≡ record { key = key; board = self.old.name })
+            (λ e. e ≡ OutOfMemory) }
     {
         if self.places.is_open(key, &mut Steps::new()) {
             return Err(OpenRefusal::AlreadyExists);
         }
         make_room(&mut self.posted, self.places.len() + 1)?;
         self.places.open(key)?;
-        Ok(())
+        Ok(OpenedPass {
+            key,
+            board: self.name.again(),
+        })
     }
 
-    /// Closes the place of a key, with its mark.
-    pub(crate) fn close_place(&mut self, key: u64)
-        ensures { self.new ≡ after_close_place key self.old }
+    /// Closes the place of a key of this board that no cell has any more, with its mark.
+    pub fn close_place(&mut self, permit: ClosePermit)
+        requires { permit.board ≡ self.old.name }
+        ensures { self.new ≡ with_places (after_close_place permit.key self.old.places) self.old }
     {
+        let ClosePermit { key, board: _ } = permit;
         close(&mut self.places, &mut self.posted, key);
     }
 
-    /// Marks a key, where its place is open, and gives a wakeup exactly where that set a mark anew.
-    pub(crate) fn post(&mut self, key: u64) -> Option<Wakeup>
-        ensures board { self.new ≡ after_post key self.old }
-        ensures wakeups { is_some result ≡ wakes key self.old }
+    /// Marks the key of a debt to this board, where its place is open, and gives a wakeup exactly where that set a mark anew.
+    /// The debt of a key with no place is spent all the same.
+    pub fn post(&mut self, debt: Debt) -> Option<Wakeup>
+        requires { debt.board ≡ self.old.name }
+        ensures board { self.new ≡ with_places (after_post debt.key self.old.places) self.old }
+        ensures wakeups { is_some result ≡ wakes debt.key self.old.places }
     {
+        let Debt { key, board: _ } = debt;
         if mark(&mut self.places, &mut self.posted, key) {
             Some(Wakeup { of_wake: () })
         } else {
@@ -200,17 +251,20 @@ impl Board {
         }
     }
 
-    /// Whether some key is marked.
-    pub(crate) fn any_marked(&self) -> bool
-        ensures { result ≡ any_marked self.now }
+    // Whether some key is marked.
+    fn any_marked(&self) -> bool
+        ensures { result ≡ any_marked self.now.places }
     {
         !self.posted.is_empty()
     }
 
-    /// Gives the permit to sleep where no key is marked.
-    pub(crate) fn look(&self) -> Option<SleepPermit>
-        ensures { is_some result ≡ not (any_marked self.now) }
+    /// Looks whether a key is marked, which the watch notes: the permit to sleep, where none is.
+    pub fn look(&self, watch: &mut Watch) -> Option<SleepPermit>
+        requires { watch.old.name ≡ self.now.name }
+        ensures gives { is_some result ≡ not (any_marked self.now.places) }
+        ensures watch { watch.new ≡ with_note (Looked (any_marked self.now.places)) watch.old }
     {
+        watch.notes = watch.notes.and(LentBoardNote::Looked(self));
         if self.any_marked() {
             None
         } else {
@@ -218,31 +272,51 @@ impl Board {
         }
     }
 
-    /// Takes the marked keys, ascending, as many as there is room for, and appends a pass of the board of this name for each.
-    /// It looks up as many places as there were marked keys.
-    pub(crate) fn unpost(
+    /// Where no key is marked, has the watch note that none was taken, with room for so many. Else nothing changes.
+    pub fn unpost_none(&self, room: usize, watch: &mut Watch) -> bool
+        requires { watch.old.name ≡ self.now.name }
+        ensures gives { result ≡ not (any_marked self.now.places) }
+        ensures watch { watch.new
+            ≡ (if result then with_note (Unposted room []) watch.old else watch.old) }
+    {
+        let none = !self.any_marked();
+        if none {
+            watch.notes = watch.notes.and(LentBoardNote::Unposted(room, self));
+        }
+        none
+    }
+
+    /// Takes the marked keys, ascending, as many as there is room for, appends a pass for each, and has the watch note them. It looks
+    /// up as many places as there were marked keys.
+    pub fn unpost(
         &mut self,
         room: usize,
-        name: &Name,
+        watch: &mut Watch,
         passes: &mut VecDeque<TakenPass>,
         steps: &mut Steps,
     )
+        requires name { watch.old.name ≡ self.old.name }
         requires room { deque_len passes.old + room ≤ deque_capacity passes.old }
         requires fresh { steps.old ≡ 0 }
-        ensures board { self.new ≡ after_unpost (bound room self.old) self.old }
+        ensures board { self.new
+            ≡ with_places (after_unpost (bound room self.old.places) self.old.places) self.old }
+        ensures watch { watch.new
+            ≡ with_note (Unposted room (keys_within room self.old.places)) watch.old }
         ensures gives { passes.new.items
-            ≡ passes.old.items ++ map (fresh_pass name.now) (keys_within room self.old) }
+            ≡ passes.old.items
+            ++ map (fresh_pass self.old.name) (keys_within room self.old.places) }
         ensures len { deque_len passes.new
-            ≡ deque_len passes.old + length (keys_within room self.old) }
+            ≡ deque_len passes.old + length (keys_within room self.old.places) }
         ensures capacity { deque_capacity passes.new ≡ deque_capacity passes.old }
-        ensures rising { IsRising (keys_within room self.old) }
-        ensures few { length (keys_within room self.old) ≤ room }
-        ensures steps { steps.new ≡ length (posted_keys self.old) }
+        ensures rising { IsRising (keys_within room self.old.places) }
+        ensures few { length (keys_within room self.old.places) ≤ room }
+        ensures steps { steps.new ≡ length (posted_keys self.old.places) }
     {
+        watch.notes = watch.notes.and(LentBoardNote::Unposted(room, self));
         self.posted.sort_unstable();
         let gone = room.min(self.posted.len());
         renumber(&mut self.places, &self.posted, gone, steps);
-        give(&self.posted[..gone], name, passes);
+        give(&self.posted[..gone], &self.name, passes);
         drop_first(&mut self.posted, gone);
     }
 }

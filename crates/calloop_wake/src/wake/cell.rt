@@ -1,8 +1,8 @@
 //! What every kind of cell can do.
 ghost use Rattle.std.specs.Prelude.{◌≡◌, Option, None, Some, IfOk, IfSome};
-ghost use Rattle.calloop_wake.specs.Cells.{fresh_tally};
+ghost use Rattle.calloop_wake.specs.wake.Cells.{fresh_tally};
 ghost use Rattle.logbook.specs.Pages.{Book};
-ghost use Rattle.calloop_wake.specs.Passes.{Keyed};
+ghost use Rattle.calloop_wake.specs.wake.Passes.{Keyed};
 
 use super::locked::Core;
 use super::{ClosePermit, Debt, OpenedPass, ReceivingRight, Sender, Tally};

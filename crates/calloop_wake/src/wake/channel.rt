@@ -1,9 +1,9 @@
 //! The cell of a channel, which its ends share.
 ghost use Rattle.std.specs.Prelude.{◌≡◌, ◌≤◌, ◌<◌, ◌+◌, ◌^◌, ◌⊎◌, IfSome, IfOk, IfErr, MatchResult, is_ok, true, false, None, Some, Err, [], if◌then◌else◌};
-ghost use Rattle.calloop_wake.specs.Cells.{debt_of, owed_at, owed_by_drop, after_add_sender, after_drop_sender, after_clear_key};
-ghost use Rattle.calloop_wake.specs.Bells.{after_ping, owed_if};
-ghost use Rattle.calloop_wake.specs.Channels.{fresh_channel, has_room, with_bell, view_with, view_after_put, receipt_of, view_after_set_key, after_open_turn, tally_after_open, turn_of, view_after_pop, after_pop_of, tells_close, pop_answer, handed_back, FitsBound, tally_after_pop, turn_after_pop, front, view_after_take, tally_after_take, is_early, after_end_turn, pops, IsStandingChannel, IsSoundChannel};
-ghost use Rattle.calloop_wake.specs.Passes.{on};
+ghost use Rattle.calloop_wake.specs.wake.Cells.{debt_of, owed_at, owed_by_drop, after_add_sender, after_drop_sender, after_clear_key};
+ghost use Rattle.calloop_wake.specs.wake.Bells.{after_ping, owed_if};
+ghost use Rattle.calloop_wake.specs.wake.Channels.{fresh_channel, has_room, with_bell, view_with, view_after_put, receipt_of, view_after_set_key, after_open_turn, tally_after_open, turn_of, view_after_pop, after_pop_of, tells_close, pop_answer, handed_back, FitsBound, tally_after_pop, turn_after_pop, front, view_after_take, tally_after_take, is_early, after_end_turn, pops, IsStandingChannel, IsSoundChannel};
+ghost use Rattle.calloop_wake.specs.wake.Passes.{on};
 ghost use Rattle.calloop_wake.specs.declared.wake.channel.PutError.TheVariants.{Gone, Full, OutOfMemory};
 
 use super::bell::Bell;
@@ -66,7 +66,7 @@ pub struct ChannelCore<T> {
 }
 
 impl<T> Model for ChannelCore<T> {
-    ghost use Rattle.calloop_wake.specs.Channels.{ChannelView, channel_of, IsLitChannel, IsSoundChannel};
+    ghost use Rattle.calloop_wake.specs.wake.Channels.{ChannelView, channel_of, IsLitChannel, IsSoundChannel};
 
     ghost Value = { ChannelView T };
 
@@ -333,7 +333,7 @@ impl<T> ChannelCore<T> {
 }
 
 impl<T: Drop> CellCore for ChannelCore<T> {
-    ghost use Rattle.calloop_wake.specs.Passes.{on};
+    ghost use Rattle.calloop_wake.specs.wake.Passes.{on};
 
     ghost name_of = { λ c. c.name };
 

@@ -1,9 +1,9 @@
 //! The cell of an executor, which its schedulers and its wakers share.
 ghost use Rattle.std.specs.Prelude.{if◌then◌else◌, ◌≡◌, nat_lt, Err, ◌+◌, ◌-◌, ◌<◌, ◌≤◌, ◌^◌, ◌&&◌, ◌⊎◌, not, true, false, None, Some, IsSome, IfOk, IfErr, OnErr, IfSome, IfNone};
-ghost use Rattle.calloop_wake.specs.Cells.{one};
-ghost use Rattle.calloop_wake.specs.Passes.{on};
-ghost use Rattle.calloop_wake.specs.Tasks.{no_tasks, task_at, phase_at, is_awake};
-ghost use Rattle.calloop_wake.specs.Executors.{cell_of, at_start, debt_between, owed_at, after_put, after_wake, after_pop, after_end_turn, after_clear_key, after_poll, after_poll_of, after_take, after_end, in_turn, opens, most_tasks, IsAwake, IsKeepingTasks, IsBalanced};
+ghost use Rattle.calloop_wake.specs.wake.Cells.{one};
+ghost use Rattle.calloop_wake.specs.wake.Passes.{on};
+ghost use Rattle.calloop_wake.specs.wake.Tasks.{no_tasks, task_at, phase_at, is_awake};
+ghost use Rattle.calloop_wake.specs.wake.Executors.{cell_of, at_start, debt_between, owed_at, after_put, after_wake, after_pop, after_end_turn, after_clear_key, after_poll, after_poll_of, after_take, after_end, in_turn, opens, most_tasks, IsAwake, IsKeepingTasks, IsBalanced};
 
 use super::bell::Bell;
 use super::cell::CellCore;
@@ -53,8 +53,8 @@ pub struct ExecutorCore {
 
 impl Model for ExecutorCore {
     ghost use Rattle.std.specs.Prelude.{◌≡◌, not, is_some, true, false, ◌+◌};
-    ghost use Rattle.calloop_wake.specs.Tasks.{count};
-    ghost use Rattle.calloop_wake.specs.Executors.{ExecutorView, IsKeepingTasks, table_of, inside_cell};
+    ghost use Rattle.calloop_wake.specs.wake.Tasks.{count};
+    ghost use Rattle.calloop_wake.specs.wake.Executors.{ExecutorView, IsKeepingTasks, table_of, inside_cell};
 
     ghost Value = { ExecutorView };
 
@@ -87,7 +87,7 @@ impl Fits for ExecutorCore {
 }
 
 impl Core for ExecutorCore {
-    ghost use Rattle.calloop_wake.specs.Executors.{IsAwake, cell_of};
+    ghost use Rattle.calloop_wake.specs.wake.Executors.{IsAwake, cell_of};
 
     // A hint is the number of a task whose wake changes nothing.
     ghost hints = { λ number core. IsAwake number (cell_of core) };
@@ -463,7 +463,7 @@ impl ExecutorCore {
 }
 
 impl CellCore for ExecutorCore {
-    ghost use Rattle.calloop_wake.specs.Passes.{on};
+    ghost use Rattle.calloop_wake.specs.wake.Passes.{on};
 
     ghost name_of = { λ c. c.name };
 

@@ -2,7 +2,7 @@
 //! the cell, so they lie apart from it.
 ghost use Rattle.std.specs.Prelude.{◌≡◌, ◌≢◌, ◌+◌, [], ℕ, None, Some, IfOk, IfErr, IfSome, IfNone, true, false};
 ghost use Rattle.slab.specs.Slab.{get as value_at};
-ghost use Rattle.calloop_wake.specs.Homes.{place_in};
+ghost use Rattle.calloop_wake.specs.wake.Homes.{place_in};
 ghost use Rattle.calloop_wake.specs.declared.wake.homes.Place.TheVariants.{Empty, Here};
 
 use super::ghosts::{Count, Name};
@@ -74,7 +74,7 @@ pub struct Homes<F: Drop> {
 
 impl<F: Drop> Model for Homes<F> {
     ghost use Rattle.std.specs.Prelude.{not, is_some};
-    ghost use Rattle.calloop_wake.specs.Homes.{HomesView, places_of};
+    ghost use Rattle.calloop_wake.specs.wake.Homes.{HomesView, places_of};
 
     ghost Value = { HomesView F };
 

@@ -1,27 +1,27 @@
 //! What holds of every schedule of the wake machine.
 ghost use Rattle.std.specs.Prelude.{◌≡◌, ◌+◌, ◌&&◌, nat_lt, ℕ, List, Bool, true, None, Some, if◌then◌else◌};
-ghost use Rattle.calloop_wake.specs.Cells.{Cell, fresh, one, opens, debt_of, owed_at, after_ring, after_close, after_set_key, after_clear_key, after_open_turn, after_end_turn};
-ghost use Rattle.calloop_wake.specs.Boards.{is_marked, any_marked, wakes, after_open_place, after_close_place, after_post, after_unpost};
-ghost use Rattle.calloop_wake.specs.Bells.{after_ping, owed_if};
-ghost use Rattle.calloop_wake.specs.Channels.{after_put, after_pop, after_take, with_bell, is_early};
-ghost use Rattle.calloop_wake.specs.Channels.{after_open_turn as channel_after_open_turn, after_end_turn as channel_after_end_turn};
-ghost use Rattle.calloop_wake.specs.Executors.{debt_between as owed_by_step, after_open_turn as executor_after_open_turn};
-ghost use Rattle.calloop_wake.specs.Executors.{after_set_key as executor_after_set_key, after_clear_key as executor_after_clear_key};
-ghost use Rattle.calloop_wake.specs.ExecutorKind as executor;
-ghost use Rattle.calloop_wake.specs.ExecutorKind.{ExecutorPast, executor_kind};
-ghost use Rattle.calloop_wake.specs.Wakes.{WakeWorld, WakeStep, At, SetKey, ClearKey, OpenTurn, OpenPlace, ClosePlace, Post, Look, Unpost, Awake, Looked, and_one, start, after, after_all, less_one, with_cell, owed_by, IsSchedule, IsCovered};
-ghost use Rattle.calloop_wake.specs.PingKind.{ping_kind, Ring, Close, EndTurn};
-ghost use Rattle.calloop_wake.specs.ChannelKind as channel;
-ghost use Rattle.calloop_wake.specs.ChannelKind.{ChannelPast, channel_kind};
-ghost use Rattle.calloop_wake.specs.Kinds.{First, Second, every_kind, Born, new_cell};
-ghost use Rattle.calloop_wake.specs.Delivery.{CanBeDelivered};
-ghost use Rattle.calloop_wake.specs.StepsOfCores.{with_step, with_permit, with_place_taken};
-ghost use Rattle.calloop_wake.specs.Lost.{of_pings, of_channels, with_a_ring_unseen, with_a_close_unseen, with_a_key_forgotten, with_nobody_told, with_nobody_told_in_a_wait, with_a_sleeper_left_alone, with_a_message_unseen, with_a_message_lost, with_messages_out_of_order, with_a_close_told_twice, with_a_close_told_early, with_a_close_told_of_an_open_channel, with_a_message_too_many, with_too_long_a_turn, of_executors, with_a_task_unseen, with_a_task_queued_twice, with_a_finished_task_queued, with_a_result_twice, with_a_result_of_a_task_that_runs, with_a_woken_task_unseen, with_a_task_polled_by_nobody, with_a_number_twice, with_the_next_number};
-ghost use Rattle.calloop_wake.specs.ExampleSchedules.{ring_in_a_wait, post_between_look_and_sleep, ring_in_a_turn, close_in_a_turn, pass_that_goes_back, key_that_moves, key_that_is_cleared, drop_in_a_turn, wait_without_a_sleep, message_in_a_turn, close_behind_a_message, of_key_seven, of_key_nine, after_message_in_a_turn, after_close_behind_a_message, task_in_a_turn, wake_in_a_wait, executor_that_goes, after_task_in_a_turn};
-ghost use Rattle.calloop_wake.specs.ExampleSchedules.{of_bounded_channels, channel_that_is_rung, close_in_a_channels_turn, close_behind_the_last_pop, message_outside_of_a_turn, bounded_channel, message_behind_the_close, channel_that_moves, executor_that_moves, second_task_in_a_slot, turn_of_1024_pops, turn_of_1024_polls};
-ghost use Rattle.calloop_wake.specs.ExampleSchedules.{after_channel_that_is_rung, after_close_in_a_channels_turn, after_message_outside_of_a_turn, after_bounded_channel, after_message_behind_the_close, after_second_task_in_a_slot};
-ghost use Rattle.calloop_wake.specs.ExampleSchedules.{of_both, two_turns_at_once, unpost_in_part, unpost_in_a_wait, key_without_a_place};
-ghost use Rattle.calloop_wake.specs.ExampleSchedules.{turn_that_stops, turn_without_a_pop, pop_too_many, close_twice, take_of_nothing, pop_without_a_turn, put_past_the_bound, turn_that_stops_behind_a_task};
+ghost use Rattle.calloop_wake.specs.wake.Cells.{Cell, fresh, one, opens, debt_of, owed_at, after_ring, after_close, after_set_key, after_clear_key, after_open_turn, after_end_turn};
+ghost use Rattle.calloop_wake.specs.wake.Boards.{is_marked, any_marked, wakes, after_open_place, after_close_place, after_post, after_unpost};
+ghost use Rattle.calloop_wake.specs.wake.Bells.{after_ping, owed_if};
+ghost use Rattle.calloop_wake.specs.wake.Channels.{after_put, after_pop, after_take, with_bell, is_early};
+ghost use Rattle.calloop_wake.specs.wake.Channels.{after_open_turn as channel_after_open_turn, after_end_turn as channel_after_end_turn};
+ghost use Rattle.calloop_wake.specs.wake.Executors.{debt_between as owed_by_step, after_open_turn as executor_after_open_turn};
+ghost use Rattle.calloop_wake.specs.wake.Executors.{after_set_key as executor_after_set_key, after_clear_key as executor_after_clear_key};
+ghost use Rattle.calloop_wake.specs.wake.ExecutorKind as executor;
+ghost use Rattle.calloop_wake.specs.wake.ExecutorKind.{ExecutorPast, executor_kind};
+ghost use Rattle.calloop_wake.specs.wake.Wakes.{WakeWorld, WakeStep, At, SetKey, ClearKey, OpenTurn, OpenPlace, ClosePlace, Post, Look, Unpost, Awake, Looked, and_one, start, after, after_all, less_one, with_cell, owed_by, IsSchedule, IsCovered};
+ghost use Rattle.calloop_wake.specs.wake.PingKind.{ping_kind, Ring, Close, EndTurn};
+ghost use Rattle.calloop_wake.specs.wake.ChannelKind as channel;
+ghost use Rattle.calloop_wake.specs.wake.ChannelKind.{ChannelPast, channel_kind};
+ghost use Rattle.calloop_wake.specs.wake.Kinds.{First, Second, every_kind, Born, new_cell};
+ghost use Rattle.calloop_wake.specs.wake.Delivery.{CanBeDelivered};
+ghost use Rattle.calloop_wake.specs.wake.StepsOfCores.{with_step, with_permit, with_place_taken};
+ghost use Rattle.calloop_wake.specs.wake.Lost.{of_pings, of_channels, with_a_ring_unseen, with_a_close_unseen, with_a_key_forgotten, with_nobody_told, with_nobody_told_in_a_wait, with_a_sleeper_left_alone, with_a_message_unseen, with_a_message_lost, with_messages_out_of_order, with_a_close_told_twice, with_a_close_told_early, with_a_close_told_of_an_open_channel, with_a_message_too_many, with_too_long_a_turn, of_executors, with_a_task_unseen, with_a_task_queued_twice, with_a_finished_task_queued, with_a_result_twice, with_a_result_of_a_task_that_runs, with_a_woken_task_unseen, with_a_task_polled_by_nobody, with_a_number_twice, with_the_next_number};
+ghost use Rattle.calloop_wake.specs.wake.ExampleSchedules.{ring_in_a_wait, post_between_look_and_sleep, ring_in_a_turn, close_in_a_turn, pass_that_goes_back, key_that_moves, key_that_is_cleared, drop_in_a_turn, wait_without_a_sleep, message_in_a_turn, close_behind_a_message, of_key_seven, of_key_nine, after_message_in_a_turn, after_close_behind_a_message, task_in_a_turn, wake_in_a_wait, executor_that_goes, after_task_in_a_turn};
+ghost use Rattle.calloop_wake.specs.wake.ExampleSchedules.{of_bounded_channels, channel_that_is_rung, close_in_a_channels_turn, close_behind_the_last_pop, message_outside_of_a_turn, bounded_channel, message_behind_the_close, channel_that_moves, executor_that_moves, second_task_in_a_slot, turn_of_1024_pops, turn_of_1024_polls};
+ghost use Rattle.calloop_wake.specs.wake.ExampleSchedules.{after_channel_that_is_rung, after_close_in_a_channels_turn, after_message_outside_of_a_turn, after_bounded_channel, after_message_behind_the_close, after_second_task_in_a_slot};
+ghost use Rattle.calloop_wake.specs.wake.ExampleSchedules.{of_both, two_turns_at_once, unpost_in_part, unpost_in_a_wait, key_without_a_place};
+ghost use Rattle.calloop_wake.specs.wake.ExampleSchedules.{turn_that_stops, turn_without_a_pop, pop_too_many, close_twice, take_of_nothing, pop_without_a_turn, put_past_the_bound, turn_that_stops_behind_a_task};
 
 /// Over every schedule of the wake machine, by any number of cells of pings, channels and executors, from the state in which nothing
 /// has happened: what mustn't be lost, a ring, a message, a close that no turn told or a wake, is pinged or a turn stands open; a

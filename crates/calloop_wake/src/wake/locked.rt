@@ -1,6 +1,6 @@
 //! A lock whose content keeps to one tag for good, and is changed where it lies.
 ghost use Rattle.std.specs.Prelude.{ℕ, ◌≡◌, ◌+◌, ◌<◌, ◌⊎◌, ◌∷◌, [], true, IfSome, IfOk};
-ghost use Rattle.calloop_wake.specs.Locks.{HasOneSlot, IsTaken, WasHinted};
+ghost use Rattle.calloop_wake.specs.wake.Locks.{HasOneSlot, IsTaken, WasHinted};
 
 use super::Last;
 use super::sleepers::Sleepers;
@@ -46,7 +46,7 @@ pub struct Keeps<X> {
 }
 
 impl<X: Core> TableRule<X, X::Tag, X::Tag> for Keeps<X> {
-    ghost use Rattle.calloop_wake.specs.Locks.{IsLock};
+    ghost use Rattle.calloop_wake.specs.wake.Locks.{IsLock};
 
     ghost holds = { λ tag. IsLock (X.fits tag) X.hints };
 
@@ -60,7 +60,7 @@ struct Takes<X> {
 
 impl<X: Core> Play<X, X::Tag> for Takes<X> {
     ghost use Rattle.std.specs.Prelude.{◌≡◌};
-    ghost use Rattle.calloop_wake.specs.Locks.{IsTaken};
+    ghost use Rattle.calloop_wake.specs.wake.Locks.{IsTaken};
 
     ghost then = { λ _ me found new. ¬ (found ≡ 1) → IsTaken (X.fits me.0) new.1 };
 }
@@ -72,7 +72,7 @@ struct Looks<X> {
 
 impl<X: Core> Play<X, X::Tag> for Looks<X> {
     ghost use Rattle.std.specs.Prelude.{◌≡◌};
-    ghost use Rattle.calloop_wake.specs.Locks.{WasHintedBy};
+    ghost use Rattle.calloop_wake.specs.wake.Locks.{WasHintedBy};
 
     ghost then = { λ _ me found new. (new.0 ≡ me.0) × WasHintedBy (X.fits me.0) X.hints found };
 }
@@ -90,7 +90,7 @@ struct Tagged<X: Core> {
 }
 
 impl<X: Core> Model for Tagged<X> {
-    ghost use Rattle.calloop_wake.specs.Locks.{HasOneSlot};
+    ghost use Rattle.calloop_wake.specs.wake.Locks.{HasOneSlot};
 
     ghost Value = { X.Tag };
 
@@ -302,12 +302,12 @@ fn take_late<'a, X: Core, R: Wait>(
 {
     queues.entering.join();
     for _ in rt.forever() {
-        let told = queues.entering.calls();
+        let calls = queues.entering.calls();
         if let Some(held) = take_soon(shared, queues) {
             queues.entering.leave();
             return held;
         }
-        queues.entering.sleep(rt, told);
+        queues.entering.sleep(rt, calls);
     }
     unreachable!()
 }
@@ -365,7 +365,7 @@ impl<'a, X: Core> Held<'a, X> {
         queues.entering.notify_one();
     }
 
-    /// Gives the lock up, and waits until it is told that this has come, or for less. Then it has the lock again.
+    /// Gives the lock up, and sleeps until it is called because this has come, or for less. Then it has the lock again.
     pub fn wait<R: Wait>(self, rt: &R, awaited: Awaited) -> Held<'a, X>
         requires { (self.seat.table_id ≡ self.shared.now.table_id)
             × HasOneSlot self.shared.now.table_id
@@ -379,9 +379,9 @@ impl<'a, X: Core> Held<'a, X> {
         let queues = self.queues;
         let waiting = queues.of(awaited);
         waiting.join();
-        let told = waiting.calls();
+        let calls = waiting.calls();
         self.unlock();
-        waiting.sleep(rt, told);
+        waiting.sleep(rt, calls);
         waiting.leave();
         lock(rt, shared, queues)
     }

@@ -1,11 +1,12 @@
 //! The marks of a loop's adapters: which of them ask to be settled. They lie under a lock that has the name of the loop's board, so each
 //! taking of them is noted in its watch.
 ghost use Rattle.std.specs.Prelude.{◌≡◌, ◌++◌, ◌∷◌, [], OnOk, OnErr, if◌then◌else◌, true};
-ghost use Rattle.calloop_wake.specs.Watches.{with_note};
+ghost use Rattle.calloop_wake.specs.wake.Watches.{with_note};
 ghost use Rattle.calloop_wake.specs.declared.wake.notes.Note.TheVariants.{Marked};
 
 use super::ghosts::Name;
 use super::locked::Core;
+use super::notes::LentBoardNote;
 use super::watch::Watch;
 use super::{Last, Wakeup};
 use crate::token::RegistrationToken;
@@ -31,7 +32,7 @@ pub struct Marks {
 
 impl Model for Marks {
     ghost use Rattle.std.specs.Prelude.{◌≡◌, []};
-    ghost use Rattle.calloop_wake.specs.Marks.{MarksView};
+    ghost use Rattle.calloop_wake.specs.wake.Marks.{MarksView};
 
     ghost Value = { MarksView };
 
@@ -119,7 +120,7 @@ impl Marks {
     {
         let none = self.marked.is_empty();
         if none {
-            watch.notes = watch.notes.and_marked(&self.marked);
+            watch.notes = watch.notes.and(LentBoardNote::Marked(&self.marked));
         }
         none
     }
@@ -131,7 +132,7 @@ impl Marks {
         ensures marks { self.new ≡ record self.old { marked = [] } }
         ensures watch { watch.new ≡ with_note (Marked self.old.marked) watch.old }
     {
-        watch.notes = watch.notes.and_marked(&self.marked);
+        watch.notes = watch.notes.and(LentBoardNote::Marked(&self.marked));
         let spare = mem::replace(&mut self.spare, Vec::new(self.alloc));
         mem::replace(&mut self.marked, spare)
     }

@@ -1,7 +1,7 @@
 //! The cell of a ping, which its ends share.
 ghost use Rattle.std.specs.Prelude.{◌≡◌, ◌+◌, ◌<◌, ◌^◌, ◌&&◌, not, true, false, None, Some, IfOk, IfErr};
-ghost use Rattle.calloop_wake.specs.Cells.{fresh, one, opens, IsLit, IsStanding, IsTold, IsSince, debt_of, owed_at, owed_by_drop, after_add_sender, after_drop_sender, after_clear_key, after_end_turn, in_turn, core_with, core_after_set_key, core_after_ring, core_after_open_turn, tally_after_open_turn, receipt_of, turn_of};
-ghost use Rattle.calloop_wake.specs.Passes.{on};
+ghost use Rattle.calloop_wake.specs.wake.Cells.{fresh, one, opens, IsLit, IsStanding, IsTold, IsSince, debt_of, owed_at, owed_by_drop, after_add_sender, after_drop_sender, after_clear_key, after_end_turn, in_turn, core_with, core_after_set_key, core_after_ring, core_after_open_turn, tally_after_open_turn, receipt_of, turn_of};
+ghost use Rattle.calloop_wake.specs.wake.Passes.{on};
 
 use super::bell::Bell;
 use super::cell::CellCore;
@@ -29,7 +29,7 @@ pub struct PingCore {
 
 impl Model for PingCore {
     ghost use Rattle.std.specs.Prelude.{◌≡◌, ◌<◌, true, false, ◌≤◌, ◌+◌};
-    ghost use Rattle.calloop_wake.specs.Cells.{CoreView, IsLit, one};
+    ghost use Rattle.calloop_wake.specs.wake.Cells.{CoreView, IsLit, one};
 
     ghost Value = { CoreView };
 
@@ -199,7 +199,7 @@ impl PingCore {
 }
 
 impl CellCore for PingCore {
-    ghost use Rattle.calloop_wake.specs.Passes.{on};
+    ghost use Rattle.calloop_wake.specs.wake.Passes.{on};
 
     ghost name_of = { λ c. c.name };
 

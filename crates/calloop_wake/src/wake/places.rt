@@ -3,7 +3,7 @@ ghost use Rattle.std.specs.Prelude.{◌≡◌, ◌+◌, ◌-◌, ◌<◌, ◌≤
 ghost use Rattle.std.specs.Ordering.{nat_cmp};
 ghost use Rattle.std.specs.BTreeMap.{insert_entry, is_at};
 ghost use Rattle.std.specs.Map.{remove_entry, keys_of};
-ghost use Rattle.calloop_wake.specs.Posts.{standing_at, is_quiet, posted_at, by_slot_at, IsFree, Changes};
+ghost use Rattle.calloop_wake.specs.wake.Posts.{standing_at, is_quiet, posted_at, by_slot_at, IsFree, Changes};
 ghost use Rattle.calloop_wake.specs.Tokens.{slot_of_key};
 ghost use Rattle.calloop_wake.specs.declared.wake.board.OpenRefusal.TheVariants.{OutOfMemory};
 
@@ -32,7 +32,7 @@ pub(crate) struct Places {
 
 impl Model for Places {
     ghost use Rattle.std.specs.Prelude.{ℕ, List, Option};
-    ghost use Rattle.calloop_wake.specs.Posts.{with_slots, AreOpen};
+    ghost use Rattle.calloop_wake.specs.wake.Posts.{with_slots, AreOpen};
 
     ghost Value = { List (ℕ × Option ℕ) };
 

@@ -1,6 +1,6 @@
 //! The messages of a channel.
 ghost use Rattle.std.specs.Prelude.{◌≡◌, ◌+◌, [], true, false, length, IsSome, IfOk, MatchResult, is_ok, None, if◌then◌else◌};
-ghost use Rattle.calloop_wake.specs.Channels.{is_below, front, queue_after_put, queue_after_pop};
+ghost use Rattle.calloop_wake.specs.wake.Channels.{is_below, front, queue_after_put, queue_after_pop};
 
 use super::ghosts::Count;
 use std::alloc::{AllocError, AllocFailed, Global};
@@ -20,7 +20,7 @@ pub(crate) struct Queue<T> {
 impl<T> Model for Queue<T> {
     ghost use Rattle.std.specs.Prelude.{◌≡◌, ◌+◌, ◌≤◌, IfSome};
     ghost use Rattle.std.specs.VecDeque.{deque_len, deque_capacity};
-    ghost use Rattle.calloop_wake.specs.Channels.{QueueView};
+    ghost use Rattle.calloop_wake.specs.wake.Channels.{QueueView};
 
     ghost Value = { QueueView T };
 

@@ -2,13 +2,13 @@
 use std::sync::Wait;
 use std::sync::atomic::{AtomicU64, Ordering};
 
-/// Those that wait for something to happen, and how often they were told that it did. One that waits joins them, looks how often
-/// they were told, looks whether it has to wait, and sleeps unless they were told since. So none sleeps through what happens
-/// after it joined, and who tells them looks at one word where nobody waits.
+/// Those that wait for something to happen, and how often they were called because it did. One that waits joins them, looks how often
+/// they were called, looks whether it has to wait, and sleeps unless they were called since. So none sleeps through what happens
+/// after it joined, and who calls them looks at one word where nobody waits.
 #[derive(Drop)]
 pub(crate) struct Sleepers {
     joined: AtomicU64,
-    told: AtomicU64,
+    calls: AtomicU64,
 }
 
 impl Sleepers {
@@ -16,7 +16,7 @@ impl Sleepers {
     pub(crate) fn none() -> Sleepers {
         Sleepers {
             joined: AtomicU64::new(0),
-            told: AtomicU64::new(0),
+            calls: AtomicU64::new(0),
         }
     }
 
@@ -30,35 +30,35 @@ impl Sleepers {
         self.joined.fetch_sub(1, Ordering::SeqCst);
     }
 
-    /// How often they were told, up to now.
+    /// How often they were called, up to now.
     pub(crate) fn calls(&self) -> u64 {
-        self.told.load(Ordering::SeqCst)
+        self.calls.load(Ordering::SeqCst)
     }
 
-    /// Sleeps, unless they were told more often than this. It may end for no reason.
-    pub(crate) fn sleep<R: Wait>(&self, rt: &R, told: u64) {
-        self.told.park(rt, (told & 0xffff_ffff) as u32);
+    /// Sleeps, unless they were called more often than this. It may end for no reason.
+    pub(crate) fn sleep<R: Wait>(&self, rt: &R, calls: u64) {
+        self.calls.park(rt, (calls & 0xffff_ffff) as u32);
     }
 
     /// Wakes one of them.
     pub(crate) fn notify_one(&self) {
         if self.count() {
-            self.told.wake_one();
+            self.calls.wake_one();
         }
     }
 
     /// Wakes all of them.
     pub(crate) fn notify_all(&self) {
         if self.count() {
-            self.told.wake_all();
+            self.calls.wake_all();
         }
     }
 
-    // Counts that they are told, where there are any.
+    // Counts that they are called, where there are any.
     fn count(&self) -> bool {
         let some = self.joined.load(Ordering::SeqCst) != 0;
         if some {
-            self.told.fetch_add(1, Ordering::SeqCst);
+            self.calls.fetch_add(1, Ordering::SeqCst);
         }
         some
     }

@@ -3,8 +3,8 @@
 ghost use Rattle.std.specs.Prelude.{◌≡◌, ◌≢◌, ℕ, ◌+◌, ◌<◌, ◌++◌, ◌∷◌, [], true, false, Some, None, option_map, IsSome, IsNone, IfSome, IfNone, IfOk, OnErr, is_some, count_by};
 ghost use Rattle.slab.specs.Slab.{ContainsKey, Updates, get as value_at};
 ghost use Rattle.futures.specs.LinkedLists.{list_of, list_count, key_limit, items, IsApart, IsIn};
-ghost use Rattle.calloop_wake.specs.Tasks.{TaskTable, no_tasks, task_at, place_of, phase_at, is_idle, is_woken, is_awake, in_poll, woken_phase, phase_after_pending, with_phase, after_step, slot_if, count};
-ghost use Rattle.calloop_wake.specs.Executors.{with_slot};
+ghost use Rattle.calloop_wake.specs.wake.Tasks.{TaskTable, no_tasks, task_at, place_of, phase_at, is_idle, is_woken, is_awake, in_poll, woken_phase, phase_after_pending, with_phase, after_step, slot_if, count};
+ghost use Rattle.calloop_wake.specs.wake.Executors.{with_slot};
 ghost use Rattle.calloop_wake.specs.declared.wake.tasks.Task.{Task};
 
 use futures::util::linked_list::LinkedLists;
@@ -56,7 +56,7 @@ impl Model for Tasks {
     ghost use Rattle.std.specs.Prelude.{◌≡◌, ℕ, ◌<◌, Some};
     ghost use Rattle.slab.specs.Slab.{get};
     ghost use Rattle.futures.specs.LinkedLists.{list_of, list_count, key_limit, items};
-    ghost use Rattle.calloop_wake.specs.Tasks.{TaskTable, place_of};
+    ghost use Rattle.calloop_wake.specs.wake.Tasks.{TaskTable, place_of};
     ghost use Rattle.calloop_wake.specs.declared.wake.tasks.Task.{Task};
 
     ghost Value = { TaskTable };

@@ -4,10 +4,10 @@ ghost use Rattle.std.specs.Arc.{arc_value};
 
 use super::{Desk, SharedBoard, close, post};
 use calloop_wake::steps::Steps;
+use calloop_wake::wake::board::Board;
 use calloop_wake::wake::cell::CellCore;
 use calloop_wake::wake::channel::{ChannelCore, Label, Popped, PutError};
 use calloop_wake::wake::locked::{Awaited, Core, Locked};
-use calloop_wake::wake::watch::WatchedBoard;
 use calloop_wake::wake::{ChannelTurn, Debt, Last, TakenPass, Tally};
 use counted_slot::Fits;
 use std::alloc::Global;
@@ -329,13 +329,7 @@ impl Mail {
     }
 
     // What comes of a pass: one turn, or its refusal.
-    fn serve<R: Wait>(
-        &mut self,
-        rt: &R,
-        at: &Locked<WatchedBoard>,
-        pass: TakenPass,
-        got: &mut Vec<Got>,
-    )
+    fn serve<R: Wait>(&mut self, rt: &R, at: &Locked<Board>, pass: TakenPass, got: &mut Vec<Got>)
         requires { pass.board ≡ at.now.tag }
         ensures { self.new.core.name ≡ self.old.core.name }
     {
@@ -495,7 +489,7 @@ fn refusal(refused: PutError<u64>) -> Put {
 }
 
 // Gives a refused pass back to its board.
-fn put_back<R: Wait>(rt: &R, at: &Locked<WatchedBoard>, pass: TakenPass, got: &mut Vec<Got>)
+fn put_back<R: Wait>(rt: &R, at: &Locked<Board>, pass: TakenPass, got: &mut Vec<Got>)
     requires { pass.board ≡ at.now.tag }
 {
     let marked = pass.is_refused();

@@ -1,7 +1,7 @@
 use Rattle.std.proofs.Common.{◌≡◌, rules, refl, inr, Some}
 use Rattle.calloop_wake.specs.Failures.{with_error}
-use Rattle.calloop_core.specs.Polls.{poll_view}
-use Rattle.calloop_core.specs.Deeds.{Reregistered}
+use Rattle.calloop_core.specs.sys.Polls.{poll_view}
+use Rattle.calloop_core.specs.sources.Deeds.{Reregistered}
 use Rattle.calloop_core.proofs.Asked.{both_asked}
 use Rattle.calloop_core.proofs.both.come_again.Goals as goal
 

@@ -1,5 +1,5 @@
 use Rattle.std.proofs.Common.{refl, ◌++◌}
-use Rattle.calloop_core.specs.Polls.{poll_view}
+use Rattle.calloop_core.specs.sys.Polls.{poll_view}
 use Rattle.calloop_core.proofs.Stepping.{stepped-append}
 use Rattle.calloop_core.proofs.transient.replace_state.Goals as goal
 

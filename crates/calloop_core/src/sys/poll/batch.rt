@@ -2,14 +2,14 @@
 ghost use Rattle.std.specs.Prelude.{◌≡◌, ℕ, ◌+◌, ◌-◌, ◌≤◌, ◌++◌, [], ◌∷◌, List, Some, None, not, map, drop, length, OnOk, IfSome, IfNone, MatchOption, is_none, true, if◌then◌else◌};
 ghost use Rattle.std.specs.VecDeque.{deque_len, deque_capacity};
 ghost use Rattle.std.specs.Arc.{arc_value};
-ghost use Rattle.calloop_wake.specs.Boards.{IsRising, fresh_pass};
-ghost use Rattle.calloop_wake.specs.Passes.{AreOf};
+ghost use Rattle.calloop_wake.specs.wake.Boards.{IsRising, fresh_pass};
+ghost use Rattle.calloop_wake.specs.wake.Passes.{AreOf};
 ghost use Rattle.calloop_wake.specs.Deadlines.{due, not_due, with_entries};
-ghost use Rattle.calloop_wake.specs.Watches.{with_note};
+ghost use Rattle.calloop_wake.specs.wake.Watches.{with_note};
 ghost use Rattle.calloop_wake.specs.declared.wake.notes.Note.TheVariants.{Counted, Looked, Unposted, Marked};
-ghost use Rattle.calloop_core.specs.Batches.{key_of_pass, last_polled, ArePosted};
-ghost use Rattle.calloop_core.specs.Events.{events_left, events_of};
-ghost use Rattle.calloop_core.specs.Polls.{posted_event, posted_events, polled_event, polled_events, timer_event, timer_events, own_events, IsPassOf, head_of, tail_of, is_filled, own_key};
+ghost use Rattle.calloop_core.specs.sys.Batches.{key_of_pass, last_polled, ArePosted};
+ghost use Rattle.calloop_core.specs.sys.Events.{events_left, events_of};
+ghost use Rattle.calloop_core.specs.sys.Polls.{posted_event, posted_events, polled_event, polled_events, timer_event, timer_events, own_events, IsPassOf, head_of, tail_of, is_filled, own_key};
 
 use super::Pending;
 use crate::sys::Readiness;
@@ -42,7 +42,7 @@ pub struct Batch {
 impl Model for Batch {
     ghost use Rattle.std.specs.Prelude.{◌-◌};
     ghost use Rattle.std.specs.VecDeque.{deque_len, deque_capacity};
-    ghost use Rattle.calloop_core.specs.Batches.{BatchView, IsBatchOf};
+    ghost use Rattle.calloop_core.specs.sys.Batches.{BatchView, IsBatchOf};
 
     ghost Value = { BatchView };
 

@@ -1,6 +1,6 @@
 //! What is waited for under which key.
 ghost use Rattle.std.specs.Prelude.{◌≡◌, [], ℕ, Some, OnOk, OnErr, slice_set};
-ghost use Rattle.calloop_core.specs.Tables.{watched_at, is_in, with_key, without_key, indexed_at};
+ghost use Rattle.calloop_core.specs.sys.Tables.{watched_at, is_in, with_key, without_key, indexed_at};
 ghost use Rattle.calloop_wake.specs.Tokens.{slot_of_key};
 
 use crate::sys::Watched;
@@ -25,7 +25,7 @@ pub struct SocketTable {
 }
 
 impl Model for SocketTable {
-    ghost use Rattle.calloop_core.specs.Tables.{Table, IsIndexOf};
+    ghost use Rattle.calloop_core.specs.sys.Tables.{Table, IsIndexOf};
 
     ghost Value = { Table };
 

@@ -1,13 +1,13 @@
 //! The table of sockets.
 ghost use Rattle.std.specs.Prelude.{◌≡◌, ◌+◌, ◌∷◌, true, false, nat_eq, ℕ, List, [], Some};
 ghost use Rattle.calloop_wake.specs.Tokens.{key_of};
-ghost use Rattle.calloop_core.specs.Tables.{Called, CalledFor, call_for, is_known, watched_at, is_in, Enter, Change, Leave, Discard};
-ghost use Rattle.calloop_core.specs.Polls.{poll_view, IsReady};
-ghost use Rattle.calloop_core.specs.Registering.{DidEdit, as_loop};
+ghost use Rattle.calloop_core.specs.sys.Tables.{Called, CalledFor, call_for, is_known, watched_at, is_in, Enter, Change, Leave, Discard};
+ghost use Rattle.calloop_core.specs.sys.Polls.{poll_view, IsReady};
+ghost use Rattle.calloop_core.specs.sys.SocketCalls.{DidEdit, as_loop};
 ghost use Rattle.calloop_wake.specs.declared.token.RegistrationToken.{RegistrationToken};
-ghost use Rattle.calloop_core.specs.Polls.{PollView, PollStep, Socket, AllStepped, polls_after};
-ghost use Rattle.calloop_core.specs.Keys.{IsKeyOf, AllActFor};
-ghost use Rattle.calloop_core.specs.WrongSteps.{first_registration, token_of_second, to_be_read, enters_second};
+ghost use Rattle.calloop_core.specs.sys.Polls.{PollView, PollStep, Socket, AllStepped, polls_after};
+ghost use Rattle.calloop_core.specs.sys.Keys.{IsKeyOf, AllActFor};
+ghost use Rattle.calloop_core.specs.sys.WrongSteps.{first_registration, token_of_second, to_be_read, enters_second};
 
 use super::Poll;
 use crate::sys::{Interest, Mode, Poller, Watched};

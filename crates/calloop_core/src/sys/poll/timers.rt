@@ -1,7 +1,7 @@
 //! The deadlines of timers.
 ghost use Rattle.std.specs.Prelude.{◌≡◌, false, IfOk, IfErr, OnOk};
 ghost use Rattle.calloop_wake.specs.Deadlines.{is_armed, arm_error, CannotArm, CannotArmAgain};
-ghost use Rattle.calloop_core.specs.Polls.{poll_view, poll_after, Allowed, Arm, ArmAgain, Cancel, ReadClock};
+ghost use Rattle.calloop_core.specs.sys.Polls.{poll_view, poll_after, Allowed, Arm, ArmAgain, Cancel, ReadClock};
 
 use super::Poll;
 use crate::sys::Poller;

@@ -1,9 +1,9 @@
 //! The wait.
 ghost use Rattle.std.specs.Prelude.{◌≡◌, ◌↔◌, ℕ, ◌≤◌, true, [], List, Result, Ok, Err, IfOk, IfErr, vec_len, vec_capacity, is_none};
-ghost use Rattle.calloop_core.specs.Pollers.{nanos_of, events_per_wait};
-ghost use Rattle.calloop_core.specs.Polls.{poll_view, IsReady};
+ghost use Rattle.calloop_core.specs.sys.Pollers.{nanos_of, events_per_wait};
+ghost use Rattle.calloop_core.specs.sys.Polls.{poll_view, IsReady};
 ghost use Rattle.calloop_core.specs.declared.sys.Readiness.{Readiness};
-ghost use Rattle.calloop_core.specs.Waits.{IsInterruption, asked_for, is_zero, lesser, time_left, time_to_first, Waited, Polled};
+ghost use Rattle.calloop_core.specs.sys.Waits.{IsInterruption, asked_for, is_zero, lesser, time_left, time_to_first, Waited, Polled};
 
 use super::Poll;
 use crate::sys::Poller;

@@ -4,9 +4,9 @@ ghost use Rattle.std.specs.Io.{ReadsAtMost, WritesAtMost};
 ghost use Rattle.std.specs.Io.KnownBytes.{ReadConsumes, WriteAppends, Keeps};
 ghost use Rattle.std.specs.IoError.{error_kind};
 ghost use Rattle.std.specs.declared.io.ErrorKind.TheVariants.{WouldBlock};
-ghost use Rattle.calloop_core.specs.Pollers.{faults_of};
-ghost use Rattle.calloop_core.specs.ScriptCalls.{kind_of, is_to_fail, with_failing};
-ghost use Rattle.calloop_core.specs.ScriptPollers.{ScriptCalled};
+ghost use Rattle.calloop_core.specs.sys.Pollers.{faults_of};
+ghost use Rattle.calloop_core.specs.sys.ScriptCalls.{kind_of, is_to_fail, with_failing};
+ghost use Rattle.calloop_core.specs.sys.ScriptPollers.{ScriptCalled};
 
 use super::ScriptPoller;
 use crate::sys::Interest;

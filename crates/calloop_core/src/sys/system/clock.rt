@@ -1,6 +1,6 @@
 //! The machine's clock.
 ghost use Rattle.std.specs.Prelude.{◌≡◌};
-ghost use Rattle.calloop_core.specs.Clocks.{nanos_between};
+ghost use Rattle.calloop_core.specs.sys.Clocks.{nanos_between};
 
 use crate::sys::Clock;
 use calloop_wake::wheel::Instant;
@@ -40,7 +40,7 @@ impl<R: MachineClock + Clone + Drop> Clone for SystemClock<R> {
 impl<R: MachineClock + Clone + Drop> Clock for SystemClock<R> {
     ghost use Rattle.std.specs.Prelude.{◌≡◌, Option};
     ghost use Rattle.std.specs.declared.time.Instant.{Instant};
-    ghost use Rattle.calloop_core.specs.Clocks.{nanos_between};
+    ghost use Rattle.calloop_core.specs.sys.Clocks.{nanos_between};
 
     // What is read is the machine's choice.
     ghost shows = { λ clock now. (read : Option Instant) × (now ≡ nanos_between clock.start read) };

@@ -3,8 +3,8 @@ ghost use Rattle.std.specs.Prelude.{◌≡◌, ◌+◌, ◌≤◌, ◌++◌, tru
 ghost use Rattle.std.specs.IoError.{error_kind};
 ghost use Rattle.std.specs.declared.io.ErrorKind.TheVariants.{Interrupted};
 ghost use Rattle.mio.specs.Events.{items, capacity as events_capacity};
-ghost use Rattle.calloop_core.specs.Pollers.{events_per_wait, failure_of};
-ghost use Rattle.calloop_core.specs.SystemEvents.{readiness_of, told_events};
+ghost use Rattle.calloop_core.specs.sys.Pollers.{events_per_wait, failure_of};
+ghost use Rattle.calloop_core.specs.sys.SystemEvents.{readiness_of, told_events};
 
 use super::OWN_KEY;
 use crate::sys::{EVENTS_PER_WAIT, Readiness};

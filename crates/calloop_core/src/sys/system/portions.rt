@@ -2,8 +2,8 @@
 //! and rounds them up.
 ghost use Rattle.std.specs.Prelude.{◌≡◌, ◌-◌, ◌%◌, ◌^◌, min};
 ghost use Rattle.std.specs.Duration.{as_nanos};
-ghost use Rattle.calloop_core.specs.Pollers.{nanos_of};
-ghost use Rattle.calloop_core.specs.Portions.{IsPortion, IsPortionOf};
+ghost use Rattle.calloop_core.specs.sys.Pollers.{nanos_of};
+ghost use Rattle.calloop_core.specs.sys.Portions.{IsPortion, IsPortionOf};
 
 use std::time::Duration;
 

@@ -88,7 +88,7 @@ fn not_a_stream() -> io::Error
 }
 
 impl Read for MioIo {
-    ghost use Rattle.calloop_core.specs.SystemSockets.{is_stream, known_bytes};
+    ghost use Rattle.calloop_core.specs.sys.SystemSockets.{is_stream, known_bytes};
 
     ghost remaining = { known_bytes };
 
@@ -113,7 +113,7 @@ impl Read for MioIo {
 }
 
 impl Write for MioIo {
-    ghost use Rattle.calloop_core.specs.SystemSockets.{is_stream, known_bytes};
+    ghost use Rattle.calloop_core.specs.sys.SystemSockets.{is_stream, known_bytes};
 
     ghost contents = { known_bytes };
 

@@ -4,8 +4,8 @@ ghost use Rattle.std.specs.Borrow.{sem, follows};
 ghost use mir.Syntax.{named};
 ghost use Rattle.atomic_table.specs.Table.{rest};
 ghost use Rattle.calloop_wake.specs.contracts.wake.locked.Held.{the_row};
-ghost use Rattle.calloop_wake.specs.Locks.{IsOut, OfContent};
-ghost use Rattle.calloop_wake.specs.LockLendings.{held_with};
+ghost use Rattle.calloop_wake.specs.wake.Locks.{IsOut, OfContent};
+ghost use Rattle.calloop_wake.specs.wake.LockLendings.{held_with};
 
 use super::{Core, Held};
 

@@ -1,5 +1,5 @@
 //! What a callback asks for where memory is wanting, and answers that a refused dispatch leaves.
-ghost use Rattle.calloop.specs.Askings.{OnlyAsks};
+ghost use Rattle.calloop.specs.loop_logic.Askings.{OnlyAsks};
 
 use super::super::desk::Note;
 use super::{make_a_ping, make_loop, so, wants_memory};

@@ -1,5 +1,5 @@
 use Rattle.std.proofs.Common.{rules, refl}
-use Rattle.calloop.specs.CellSources.{AlreadyRegistered}
+use Rattle.calloop.specs.cell.CellSources.{AlreadyRegistered}
 use Rattle.calloop.proofs.Pinging.{registers}
 use Rattle.calloop.proofs.cell.source.register.Goals as goal
 

@@ -1,9 +1,9 @@
 use Rattle.std.proofs.Common.{◌≡◌, refl, sym, ◌∙◌, ap, inl, inr, true, [], ◌∷◌}
 use Rattle.calloop_core.specs.declared.sources.source.PostAction.TheVariants.{Continue}
-use Rattle.calloop_core.specs.Polls.{TakePass, PutBack, PollView, poll_after}
+use Rattle.calloop_core.specs.sys.Polls.{TakePass, PutBack, PollView, poll_after}
 use Rattle.calloop_wake.specs.declared.wake.Tally.{Tally}
 use Rattle.calloop_wake.specs.Tokens.{key_of}
-use Rattle.calloop_wake.specs.Cells.{is_own}
+use Rattle.calloop_wake.specs.wake.Cells.{is_own}
 use Rattle.calloop.proofs.CellTurns.{turn_without, turn_with}
 use Rattle.calloop.proofs.cell.source.take_turn.Goals as goal
 

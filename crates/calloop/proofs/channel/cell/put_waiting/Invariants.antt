@@ -1,8 +1,8 @@
 use Rattle.std.proofs.Common.{◌≡◌, Some}
 use Rattle.std.specs.Option.{option_map}
 use Rattle.std.specs.Arc.{arc_value}
-use Rattle.calloop_wake.specs.Locks.{HasOneSlot, IsTaken}
-use Rattle.calloop_wake.specs.Passes.{Keyed, on}
+use Rattle.calloop_wake.specs.wake.Locks.{HasOneSlot, IsTaken}
+use Rattle.calloop_wake.specs.wake.Passes.{Keyed, on}
 use Rattle.calloop.proofs.channel.cell.put_waiting.Given as goal
 
 abbrev pub invariant-loop : goal.invariant-loop

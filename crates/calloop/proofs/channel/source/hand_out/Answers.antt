@@ -1,7 +1,7 @@
 use Rattle.std.proofs.Common.{refl, [], ◌∷◌, ◌++◌, sym, ◌∙◌, ap, subst, ◌||◌}
 use Rattle.calloop_wake.specs.declared.wake.ChannelTurn.{ChannelTurn}
-use Rattle.calloop_wake.specs.Channels.{is_close}
-use Rattle.calloop.specs.Channels.{IsOver}
+use Rattle.calloop_wake.specs.wake.Channels.{is_close}
+use Rattle.calloop.specs.channel.Channels.{IsOver}
 use Rattle.calloop.proofs.Receiving.{handed_none, handed_more, goes_left, goes_done, over}
 use Rattle.calloop.proofs.channel.source.hand_out.Goals as goal
 

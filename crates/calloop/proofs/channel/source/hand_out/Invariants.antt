@@ -1,6 +1,6 @@
 use Rattle.std.proofs.Common.{◌≡◌, List}
 use Rattle.calloop_wake.specs.declared.wake.channel.Popped.{Popped}
-use Rattle.calloop.specs.Channels.{Handed}
+use Rattle.calloop.specs.channel.Channels.{Handed}
 use Rattle.calloop.proofs.channel.source.hand_out.Given as goal
 
 abbrev pub invariant-pops : goal.invariant-pops

@@ -1,8 +1,8 @@
 use Rattle.std.proofs.Common.{◌≡◌, Some, IfSome, ap, subst, sym, ◌∙◌, Option, refl}
 use Rattle.std.specs.Option.{option_map}
 use Rattle.std.specs.Arc.{arc_value}
-use Rattle.calloop_wake.specs.Passes.{on, Keyed}
-use Rattle.calloop_wake.specs.Executors.{ExecutorCell, cell_of}
+use Rattle.calloop_wake.specs.wake.Passes.{on, Keyed}
+use Rattle.calloop_wake.specs.wake.Executors.{ExecutorCell, cell_of}
 use Rattle.calloop_wake.proofs.Locking.{of_content}
 use Rattle.calloop.proofs.Polling.{end_key, owed_place}
 use Rattle.calloop.proofs.futures.cell.end_turn.Goals as goal

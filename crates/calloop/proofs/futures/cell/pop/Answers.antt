@@ -1,6 +1,6 @@
 use Rattle.std.proofs.Common.{◌≡◌, ap, sym, ◌∙◌, refl}
-use Rattle.calloop_wake.specs.Passes.{on}
-use Rattle.calloop_wake.specs.Executors.{ExecutorCell, cell_of}
+use Rattle.calloop_wake.specs.wake.Passes.{on}
+use Rattle.calloop_wake.specs.wake.Executors.{ExecutorCell, cell_of}
 use Rattle.calloop_wake.proofs.Locking.{of_content}
 use Rattle.calloop.proofs.Polling.{pop_key}
 use Rattle.calloop.proofs.futures.cell.pop.Goals as goal

@@ -1,5 +1,5 @@
 use Rattle.std.proofs.Common.{◌≡◌, ◌+◌, ℕ, ◌∙◌, ap, refl, arith}
-use Rattle.calloop.specs.Executors.{Gave}
+use Rattle.calloop.specs.futures.Executors.{Gave}
 use Rattle.calloop.proofs.futures.source.poll_task.Goals as goal
 
 pub returns-in-Ok : goal.returns-in-Ok

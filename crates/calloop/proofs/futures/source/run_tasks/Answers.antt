@@ -2,9 +2,9 @@ use Rattle.std.proofs.Common.{◌≡◌, ◌+◌, ◌<◌, ℕ, Option, IsSome, 
 use Rattle.calloop_wake.specs.declared.wake.Tally.{Tally}
 use Rattle.calloop_wake.specs.declared.wake.executor.TaskTurn.{TaskTurn}
 use Rattle.calloop_wake.specs.declared.wake.tasks.TaskKey.{TaskKey}
-use Rattle.calloop_wake.specs.Cells.{one}
-use Rattle.calloop_wake.specs.Executors.{most_tasks}
-use Rattle.calloop.specs.Executors.{ComesOf, gave, lacks, results_of}
+use Rattle.calloop_wake.specs.wake.Cells.{one}
+use Rattle.calloop_wake.specs.wake.Executors.{most_tasks}
+use Rattle.calloop.specs.futures.Executors.{ComesOf, gave, lacks, results_of}
 use Rattle.calloop_wake.proofs.Ending.{goes_more, goes_wet}
 use Rattle.calloop.proofs.Polling.{polled_none, polled_more}
 use Rattle.calloop.proofs.futures.source.run_tasks.Goals as goal

@@ -1,7 +1,7 @@
 use Rattle.std.proofs.Common.{◌≡◌, ◌+◌, ◌-◌, ◌≤◌, ℕ, true, List, IsSome}
-use Rattle.calloop_wake.specs.Cells.{one}
-use Rattle.calloop_wake.specs.Executors.{most_tasks}
-use Rattle.calloop.specs.Executors.{OfPop, ComesOf}
+use Rattle.calloop_wake.specs.wake.Cells.{one}
+use Rattle.calloop_wake.specs.wake.Executors.{most_tasks}
+use Rattle.calloop.specs.futures.Executors.{OfPop, ComesOf}
 use Rattle.calloop.proofs.Polling.{Polled}
 use Rattle.calloop.proofs.futures.source.run_tasks.Given as goal
 

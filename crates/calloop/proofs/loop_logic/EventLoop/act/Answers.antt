@@ -1,13 +1,13 @@
 use Rattle.std.proofs.Common.{◌≡◌, ◌∙◌, sym, ap, refl, Result, Ok, Err}
 use Rattle.calloop_core.specs.declared.sources.source.PostAction.{PostAction}
 use Rattle.calloop_core.specs.declared.sources.source.PostAction.TheVariants.{Continue, Reregister, Disable, Remove}
-use Rattle.calloop_core.specs.Deeds.{Reregistered, Unregistered}
-use Rattle.calloop_core.specs.Polls.{poll_view}
+use Rattle.calloop_core.specs.sources.Deeds.{Reregistered, Unregistered}
+use Rattle.calloop_core.specs.sys.Polls.{poll_view}
 use Rattle.calloop_wake.specs.declared.error.Failed.{Failed}
 use Rattle.calloop_wake.specs.Failures.{with_error}
-use Rattle.calloop.specs.Machine.{View, view_of}
-use Rattle.calloop.specs.Held.{is_listed}
-use Rattle.calloop.specs.Rules.{RegisteredBy, action_of, listing_of, unlisting_of}
+use Rattle.calloop.specs.loop_logic.Machine.{View, view_of}
+use Rattle.calloop.specs.loop_logic.Held.{is_listed}
+use Rattle.calloop.specs.loop_logic.Rules.{RegisteredBy, action_of, listing_of, unlisting_of}
 use Rattle.calloop.proofs.Going.{acted, acted_with, acted_leaving, batch-stepped}
 use Rattle.calloop.proofs.loop_logic.EventLoop.act.Goals as goal
 

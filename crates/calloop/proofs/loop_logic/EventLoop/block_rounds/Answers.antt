@@ -2,7 +2,7 @@ use Rattle.std.proofs.Common.{of_calls, Ok, Err, Some, None}
 use Rattle.std.proofs.lemmas.Result.{err_from_is_err_and}
 use Rattle.std.proofs.RetainMut.{Called-Mut}
 use Rattle.std.specs.Fn.{CalledAtMut}
-use Rattle.calloop.specs.Machine.{view_of}
+use Rattle.calloop.specs.loop_logic.Machine.{view_of}
 use Rattle.calloop.proofs.Blocking.{blocked-begun, blocked-stopped, blocked-done, blocked-failed, blocked-on}
 use Rattle.calloop.proofs.loop_logic.EventLoop.block_rounds.Goals as goal
 

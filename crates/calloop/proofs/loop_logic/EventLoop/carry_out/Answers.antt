@@ -1,8 +1,8 @@
 use Rattle.std.proofs.Common.{[], ◌∷◌, ◌∙◌, ap, refl}
-use Rattle.calloop.specs.Machine.{View, view_of, Holds, Polling}
-use Rattle.calloop.specs.Askings.{Take}
-use Rattle.calloop.specs.Held.{Asking, IdleOut}
-use Rattle.calloop_core.specs.Polls.{with_new_poller}
+use Rattle.calloop.specs.loop_logic.Machine.{View, view_of, Holds, Polling}
+use Rattle.calloop.specs.loop_logic.Askings.{Take}
+use Rattle.calloop.specs.loop_logic.Held.{Asking, IdleOut}
+use Rattle.calloop_core.specs.sys.Polls.{with_new_poller}
 use Rattle.calloop.proofs.loop_logic.EventLoop.carry_out.Goals as goal
 
 pub returns-in-Poller : goal.returns-in-Poller

@@ -1,8 +1,8 @@
 use Rattle.std.proofs.Common.{◌≡◌, List, [], ◌∷◌, ◌++◌, sym, ◌∙◌, ap, subst, arith}
 use Rattle.std.proofs.lemmas.List.{nil_from_length, append_assoc, append-nil}
 use Rattle.calloop.specs.declared.loop_logic.LoopAnswer.{LoopAnswer}
-use Rattle.calloop.specs.Machine.{view_of}
-use Rattle.calloop.specs.Rules.{RunLeads}
+use Rattle.calloop.specs.loop_logic.Machine.{view_of}
+use Rattle.calloop.specs.loop_logic.Rules.{RunLeads}
 use Rattle.calloop.proofs.Running.{run_none, run_first}
 use Rattle.calloop.proofs.loop_logic.EventLoop.carry_out_all.Goals as goal
 

@@ -1,8 +1,8 @@
 use Rattle.std.proofs.Common.{List, ◌++◌, ◌+◌, ◌≤◌, vec_len, vec_capacity}
 use Rattle.std.specs.VecDeque.{deque_len}
 use Rattle.calloop.specs.declared.loop_logic.LoopAnswer.{LoopAnswer}
-use Rattle.calloop.specs.Machine.{View, view_of}
-use Rattle.calloop.specs.Rules.{RunLeads}
+use Rattle.calloop.specs.loop_logic.Machine.{View, view_of}
+use Rattle.calloop.specs.loop_logic.Rules.{RunLeads}
 use Rattle.calloop.proofs.loop_logic.EventLoop.carry_out_all.Given as goal
 
 -- what the calls that are left lead to, all of them lead to

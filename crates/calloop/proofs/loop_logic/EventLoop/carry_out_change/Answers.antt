@@ -1,8 +1,8 @@
 use Rattle.std.proofs.Common.{[], ◌∷◌, refl, sym, ◌∙◌}
 use Rattle.calloop_core.specs.declared.sources.source.PostAction.TheVariants.{Reregister, Disable}
 use Rattle.calloop_wake.specs.Slots.{content_at}
-use Rattle.calloop.specs.Held.{Pend}
-use Rattle.calloop.specs.Machine.{Holds}
+use Rattle.calloop.specs.loop_logic.Held.{Pend}
+use Rattle.calloop.specs.loop_logic.Machine.{Holds}
 use Rattle.calloop.proofs.Serving.{own_is}
 use Rattle.calloop.proofs.loop_logic.EventLoop.carry_out_change.Goals as goal
 use Rattle.calloop.proofs.loop_logic.EventLoop.carry_out_change.Goals.{in-Update, in-Disable}

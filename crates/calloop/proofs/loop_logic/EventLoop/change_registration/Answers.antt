@@ -3,8 +3,8 @@ use Rattle.calloop_wake.specs.declared.list.Content.TheVariants.{Source}
 use Rattle.calloop_wake.specs.Slots.{content_at}
 use Rattle.calloop_wake.specs.Failures.{with_error}
 use Rattle.calloop_wake.proofs.Named.{source_is}
-use Rattle.calloop.specs.Machine.{view_of}
-use Rattle.calloop.specs.Roles.{only, is_callers}
+use Rattle.calloop.specs.loop_logic.Machine.{view_of}
+use Rattle.calloop.specs.loop_logic.Roles.{only, is_callers}
 use Rattle.calloop.proofs.Inserting.{not_changed, enabled, updated, disabled}
 use Rattle.calloop.proofs.loop_logic.EventLoop.change_registration.Goals as goal
 use Rattle.calloop.proofs.loop_logic.EventLoop.change_registration.Goals.{in-Enable, in-Update, in-Disable}

@@ -1,16 +1,19 @@
-use Rattle.calloop_core.specs.Pollers.{nanos_of}
-use Rattle.calloop_wake.specs.Failures.{with_error}
-use Rattle.calloop.specs.Machine.{view_of}
-use Rattle.calloop.specs.Rules.{DispatchedBy}
+use Rattle.std.proofs.Common.{Ok, Err}
+use Rattle.calloop_core.specs.sys.Pollers.{nanos_of}
+use Rattle.calloop.specs.loop_logic.Machine.{view_of}
+use Rattle.calloop.specs.loop_logic.Rules.{DispatchedBy}
 use Rattle.calloop.proofs.Seen.{did_leads}
 use Rattle.calloop.proofs.Failing.{dispatch_founded}
 use Rattle.calloop.proofs.loop_logic.EventLoop.dispatch.Goals as goal
 
-pub returns : goal.returns
-returns g c =
-    let answer = with_error c.dispatch_with-answer.result c.dispatch_with-answer.new.failure in
-    rw c.with_error.ensures (record {
-      case = c.dispatch_with-answer.ensures;
-      machine = did_leads (DispatchedBy g.D.Dispatch.means g.D.Idle.IdleCallback.runs g.P.Poller.outside (nanos_of c.args.timeout) c.args.«data».now answer c.dispatch_with-answer.new.«data») (view_of c.args.self.now) (view_of c.dispatch_with-answer.new.self) c.dispatch_with-answer.ensures;
-      errors = dispatch_founded g.D.Dispatch.means g.D.Idle.IdleCallback.runs g.P.Poller.outside (view_of c.args.self.now) (nanos_of c.args.timeout) c.args.«data».now c.dispatch_with-answer.new.«data» answer c.dispatch_with-answer.ensures.0 c.dispatch_with-answer.ensures.1;
-    })
+pub returns-in-Ok-clause-machine : goal.returns-in-Ok-clause-machine
+returns-in-Ok-clause-machine g c =
+    did_leads (DispatchedBy g.D.Dispatch.means g.D.Idle.IdleCallback.runs g.P.Poller.outside (nanos_of c.args.timeout) c.args.«data».now (Ok tt) c.dispatch_with.new.«data») (view_of c.args.self.now) (view_of c.dispatch_with.new.self) c.in-Ok.ensures
+
+pub returns-in-Err-clause-machine : goal.returns-in-Err-clause-machine
+returns-in-Err-clause-machine g c =
+    did_leads (DispatchedBy g.D.Dispatch.means g.D.Idle.IdleCallback.runs g.P.Poller.outside (nanos_of c.args.timeout) c.args.«data».now (Err c.dispatch_with.new.failure) c.dispatch_with.new.«data») (view_of c.args.self.now) (view_of c.dispatch_with.new.self) c.in-Err.ensures
+
+pub returns-in-Err-clause-errors : goal.returns-in-Err-clause-errors
+returns-in-Err-clause-errors g c =
+    dispatch_founded g.D.Dispatch.means g.D.Idle.IdleCallback.runs g.P.Poller.outside (view_of c.args.self.now) (nanos_of c.args.timeout) c.args.«data».now c.dispatch_with.new.«data» (Err c.dispatch_with.new.failure) c.in-Err.ensures.0 c.in-Err.ensures.1

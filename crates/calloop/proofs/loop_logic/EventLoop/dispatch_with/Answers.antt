@@ -1,11 +1,11 @@
 use Rattle.std.proofs.Common.{length, subst, ap, arith, Ok, Err}
 use Rattle.std.proofs.lemmas.Result.{err_from_is_err_and}
 use Rattle.calloop_wake.specs.declared.error.Error.TheVariants.{IoError}
-use Rattle.calloop_core.specs.Pollers.{nanos_of}
-use Rattle.calloop_core.specs.Polls.{poll_view}
-use Rattle.calloop.specs.Limits.{all_limits}
-use Rattle.calloop.specs.Machine.{View, view_of, with_marks_taken}
-use Rattle.calloop.specs.Rules.{Goes, Settling, Sleeping, Waiting, Noticing, Cutting, Idling, Leaving}
+use Rattle.calloop_core.specs.sys.Pollers.{nanos_of}
+use Rattle.calloop_core.specs.sys.Polls.{poll_view}
+use Rattle.calloop.specs.loop_logic.Limits.{all_limits}
+use Rattle.calloop.specs.loop_logic.Machine.{View, view_of, with_marks_taken}
+use Rattle.calloop.specs.loop_logic.Rules.{Goes, Settling, Sleeping, Waiting, Noticing, Cutting, Idling, Leaving}
 use Rattle.calloop.proofs.Going.{dispatched, begun_then, polled, not_polled, goes_on}
 use Rattle.calloop.proofs.Settling.{ready_less}
 use Rattle.calloop.proofs.loop_logic.EventLoop.dispatch_with.Goals as goal

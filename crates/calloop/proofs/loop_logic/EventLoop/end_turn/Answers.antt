@@ -1,7 +1,7 @@
 use Rattle.std.proofs.Common.{Ok, Err}
 use Rattle.calloop_wake.specs.Failures.{with_error}
-use Rattle.calloop.specs.Machine.{view_of}
-use Rattle.calloop.specs.Rules.{Cutting, Ending, Returning, Leaving}
+use Rattle.calloop.specs.loop_logic.Machine.{view_of}
+use Rattle.calloop.specs.loop_logic.Rules.{Cutting, Ending, Returning, Leaving}
 use Rattle.calloop.proofs.Going.{goes_on}
 use Rattle.calloop.proofs.loop_logic.EventLoop.end_turn.Goals as goal
 

@@ -1,7 +1,7 @@
 use Rattle.std.proofs.Common.{refl, sym, ◌∙◌}
 use Rattle.calloop_wake.specs.Slots.{content_at}
-use Rattle.calloop.specs.Machine.{view_of}
-use Rattle.calloop.specs.Roles.{is_callers}
+use Rattle.calloop.specs.loop_logic.Machine.{view_of}
+use Rattle.calloop.specs.loop_logic.Roles.{is_callers}
 use Rattle.calloop.proofs.Roles.{seen_there, unseen, none_seen}
 use Rattle.calloop.proofs.Inserting.{exchanged, not_exchanged}
 use Rattle.calloop.proofs.loop_logic.EventLoop.exchange.Goals as goal

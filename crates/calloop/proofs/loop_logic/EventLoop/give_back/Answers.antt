@@ -1,6 +1,6 @@
 use Rattle.std.proofs.Common.{◌≡◌}
 use Rattle.calloop_wake.specs.Slots.{content_at, is_in_turn}
-use Rattle.calloop.specs.Machine.{view_of}
+use Rattle.calloop.specs.loop_logic.Machine.{view_of}
 use Rattle.calloop.proofs.Going.{returned, was_in_turn, not_in_turn}
 use Rattle.calloop.proofs.loop_logic.EventLoop.give_back.Goals as goal
 

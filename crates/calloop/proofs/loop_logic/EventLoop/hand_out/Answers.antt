@@ -4,12 +4,12 @@ use Rattle.calloop_wake.specs.declared.token.RegistrationToken.{RegistrationToke
 use Rattle.calloop_wake.specs.declared.list.Slot.{Slot}
 use Rattle.calloop_wake.specs.Slots.{with_change, with_content, content_at, source_of}
 use Rattle.calloop_wake.specs.Tokens.{registration_of}
-use Rattle.calloop_core.specs.Polls.{PollView, poll_view, after_cut, with_pass}
+use Rattle.calloop_core.specs.sys.Polls.{PollView, poll_view, after_cut, with_pass}
 use Rattle.calloop_wake.specs.Failures.{with_error}
-use Rattle.calloop.specs.Machine.{View, view_of}
-use Rattle.calloop.specs.Rules.{Goes, Cutting, Serving, Ending, Idling, after_hand_out}
-use Rattle.calloop_core.specs.Deeds.{lend}
-use Rattle.calloop.specs.Askings.{Asks, of_turn}
+use Rattle.calloop.specs.loop_logic.Machine.{View, view_of}
+use Rattle.calloop.specs.loop_logic.Rules.{Goes, Cutting, Serving, Ending, Idling, after_hand_out}
+use Rattle.calloop_core.specs.sources.Deeds.{lend}
+use Rattle.calloop.specs.loop_logic.Askings.{Asks, of_turn}
 use Rattle.calloop.proofs.Serving.{all_steady}
 use Rattle.calloop.proofs.Going.{goes_to, goes_on, no_event, cut_none, turned, turn_served, length-cut, batch-stepped}
 use Rattle.calloop.proofs.loop_logic.EventLoop.hand_out.Goals as goal

@@ -1,7 +1,7 @@
 use Rattle.std.proofs.Common.{Err}
 use Rattle.std.proofs.lemmas.Result.{err_from_is_err_and}
-use Rattle.calloop.specs.Machine.{view_of}
-use Rattle.calloop.specs.Rules.{Cutting, Idling, Leaving}
+use Rattle.calloop.specs.loop_logic.Machine.{view_of}
+use Rattle.calloop.specs.loop_logic.Rules.{Cutting, Idling, Leaving}
 use Rattle.calloop.proofs.Going.{goes_nowhere, goes_on}
 use Rattle.calloop.proofs.loop_logic.EventLoop.hand_out_all.Goals as goal
 

@@ -1,6 +1,6 @@
 use Rattle.std.proofs.Common.{length}
-use Rattle.calloop.specs.Machine.{view_of}
-use Rattle.calloop.specs.Rules.{Goes, Cutting}
+use Rattle.calloop.specs.loop_logic.Machine.{view_of}
+use Rattle.calloop.specs.loop_logic.Rules.{Goes, Cutting}
 use Rattle.calloop.proofs.loop_logic.EventLoop.hand_out_all.Given as goal
 
 abbrev pub invariant-batch : goal.invariant-batch

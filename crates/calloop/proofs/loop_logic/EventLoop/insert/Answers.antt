@@ -1,10 +1,10 @@
 use Rattle.std.proofs.Common.{◌≡◌, refl, ap}
 use Rattle.std.specs.Arc.{arc_value}
 use Rattle.calloop_wake.specs.Slots.{claim_error}
-use Rattle.calloop_core.specs.Polls.{poll_view}
+use Rattle.calloop_core.specs.sys.Polls.{poll_view}
 use Rattle.calloop.specs.declared.loop_logic.signal.LoopSignal.{LoopSignal}
 use Rattle.calloop.specs.declared.loop_logic.warnings.Warnings.{Warnings}
-use Rattle.calloop.specs.Machine.{view_of}
+use Rattle.calloop.specs.loop_logic.Machine.{view_of}
 use Rattle.calloop.proofs.Inserting.{not_claimed, not_registered, registered}
 use Rattle.calloop.proofs.loop_logic.EventLoop.insert.Goals as goal
 

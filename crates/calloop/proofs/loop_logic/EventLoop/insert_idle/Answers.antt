@@ -1,4 +1,4 @@
-use Rattle.calloop.specs.Machine.{view_of}
+use Rattle.calloop.specs.loop_logic.Machine.{view_of}
 use Rattle.calloop.proofs.Inserting.{idle_added}
 use Rattle.calloop.proofs.loop_logic.EventLoop.insert_idle.Goals as goal
 

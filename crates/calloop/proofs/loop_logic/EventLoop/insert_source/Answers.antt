@@ -3,10 +3,10 @@ use Rattle.calloop_wake.specs.declared.list.Content.TheVariants.{Source}
 use Rattle.calloop_wake.specs.declared.list.Slot.{Slot}
 use Rattle.calloop_wake.specs.Slots.{after_turn, after_claim, claim_error}
 use Rattle.std.specs.Arc.{arc_value}
-use Rattle.calloop_core.specs.Polls.{poll_view}
+use Rattle.calloop_core.specs.sys.Polls.{poll_view}
 use Rattle.calloop.specs.declared.loop_logic.signal.LoopSignal.{LoopSignal}
 use Rattle.calloop.specs.declared.loop_logic.warnings.Warnings.{Warnings}
-use Rattle.calloop.specs.Machine.{View, view_of}
+use Rattle.calloop.specs.loop_logic.Machine.{View, view_of}
 use Rattle.calloop.proofs.Inserting.{not_claimed, not_registered, registered}
 use Rattle.calloop.proofs.Held.{held_reg}
 use Rattle.calloop.proofs.loop_logic.EventLoop.insert_source.Goals as goal

@@ -1,6 +1,6 @@
 use Rattle.std.proofs.Common.{◌≡◌, ◌+◌, ◌≤◌, ◌^◌, ◌∷◌, drop, arith}
 use Rattle.calloop_wake.specs.Slots.{content_at}
-use Rattle.calloop.specs.Limits.{limit_in, all_limits}
+use Rattle.calloop.specs.loop_logic.Limits.{limit_in, all_limits}
 use Rattle.calloop.proofs.Limits.{not_less}
 use Rattle.calloop.proofs.Telling.{rest_from}
 use Rattle.calloop.proofs.loop_logic.EventLoop.limits.Goals as goal

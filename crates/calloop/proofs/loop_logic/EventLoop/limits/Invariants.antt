@@ -1,5 +1,5 @@
 use Rattle.std.proofs.Common.{◌≡◌, ◌+◌, drop}
-use Rattle.calloop.specs.Limits.{all_limits}
+use Rattle.calloop.specs.loop_logic.Limits.{all_limits}
 use Rattle.calloop.proofs.loop_logic.EventLoop.limits.Given as goal
 
 abbrev pub invariant-loop-place : goal.invariant-loop-place

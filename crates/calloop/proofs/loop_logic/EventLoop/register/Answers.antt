@@ -1,10 +1,10 @@
 use Rattle.std.proofs.lemmas.Result.{err_from_is_err_and}
-use Rattle.calloop_core.specs.Polls.{polls_after}
+use Rattle.calloop_core.specs.sys.Polls.{polls_after}
 use Rattle.std.proofs.Common.{◌&&◌, List, [], true, inl, inr, refl, ap, ◌∙◌}
 use Rattle.calloop_wake.specs.declared.token.RegistrationToken.{RegistrationToken}
-use Rattle.calloop_core.specs.Polls.{PollView, poll_view}
-use Rattle.calloop.specs.Held.{Held, Listed, held_after}
-use Rattle.calloop.specs.Machine.{View, view_of}
+use Rattle.calloop_core.specs.sys.Polls.{PollView, poll_view}
+use Rattle.calloop.specs.loop_logic.Held.{Held, Listed, held_after}
+use Rattle.calloop.specs.loop_logic.Machine.{View, view_of}
 use Rattle.calloop.proofs.Registering.{entered_done, entered_not}
 use Rattle.calloop.proofs.loop_logic.EventLoop.register.Goals as goal
 

@@ -2,8 +2,8 @@ use Rattle.std.proofs.Common.{◌≡◌, sym}
 use Rattle.calloop_wake.specs.declared.list.Content.TheVariants.{Source}
 use Rattle.calloop_wake.specs.Slots.{content_at}
 use Rattle.calloop_wake.proofs.Named.{source_is}
-use Rattle.calloop.specs.Machine.{view_of}
-use Rattle.calloop.specs.Roles.{only, is_adapter}
+use Rattle.calloop.specs.loop_logic.Machine.{view_of}
+use Rattle.calloop.specs.loop_logic.Roles.{only, is_adapter}
 use Rattle.calloop.proofs.Inserting.{not_released, kept_back, released}
 use Rattle.calloop.proofs.loop_logic.EventLoop.release.Goals as goal
 

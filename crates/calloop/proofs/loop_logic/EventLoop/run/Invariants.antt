@@ -2,7 +2,7 @@ use Rattle.std.proofs.Common.{Result}
 use denote.Param.Always.{always_mut}
 use Rattle.std.specs.Fn.{CalledAtMut}
 use Rattle.calloop_wake.specs.declared.error.Error.{Error}
-use Rattle.calloop.specs.Machine.{View, view_of}
+use Rattle.calloop.specs.loop_logic.Machine.{View, view_of}
 use Rattle.calloop.proofs.Rounds.{RoundsTo}
 use Rattle.calloop.proofs.loop_logic.EventLoop.run.Given as goal
 

@@ -1,7 +1,7 @@
 use Rattle.std.proofs.Common.{ap, arith, length}
-use Rattle.calloop.specs.Askings.{Asks}
-use Rattle.calloop.specs.Machine.{View, view_of}
-use Rattle.calloop.specs.Rules.{RunningIdles, ServingIdle}
+use Rattle.calloop.specs.loop_logic.Askings.{Asks}
+use Rattle.calloop.specs.loop_logic.Machine.{View, view_of}
+use Rattle.calloop.specs.loop_logic.Rules.{RunningIdles, ServingIdle}
 use Rattle.calloop.proofs.Going.{goes_on, no_idle, idle_run, idle_served}
 use Rattle.calloop.proofs.Serving.{all_steady, fewer_running, none_left_over}
 use Rattle.calloop.proofs.loop_logic.EventLoop.run_idle.Goals as goal

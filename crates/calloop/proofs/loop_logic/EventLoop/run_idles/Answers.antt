@@ -1,6 +1,6 @@
 use Rattle.std.proofs.Common.{Ok}
-use Rattle.calloop.specs.Machine.{view_of}
-use Rattle.calloop.specs.Rules.{Idling, RunningIdles, Leaving}
+use Rattle.calloop.specs.loop_logic.Machine.{view_of}
+use Rattle.calloop.specs.loop_logic.Rules.{Idling, RunningIdles, Leaving}
 use Rattle.calloop.proofs.Going.{goes_on, round_begun}
 use Rattle.calloop.proofs.loop_logic.EventLoop.run_idles.Goals as goal
 

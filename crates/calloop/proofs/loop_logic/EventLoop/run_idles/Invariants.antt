@@ -1,6 +1,6 @@
 use Rattle.std.proofs.Common.{length}
-use Rattle.calloop.specs.Machine.{view_of}
-use Rattle.calloop.specs.Rules.{Goes, Idling, RunningIdles}
+use Rattle.calloop.specs.loop_logic.Machine.{view_of}
+use Rattle.calloop.specs.loop_logic.Rules.{Goes, Idling, RunningIdles}
 use Rattle.calloop.proofs.loop_logic.EventLoop.run_idles.Given as goal
 
 abbrev pub invariant-round : goal.invariant-round

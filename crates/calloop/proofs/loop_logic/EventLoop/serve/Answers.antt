@@ -1,8 +1,8 @@
 use Rattle.std.proofs.Common.{[], ◌∷◌, refl}
 use Rattle.calloop.specs.declared.loop_logic.asks.Answer.TheVariants.{Done}
-use Rattle.calloop.specs.Held.{IdleIn, IdleOut, Told}
-use Rattle.calloop.specs.Machine.{Holds, view_of}
-use Rattle.calloop.specs.Rules.{InsertedBy, inserted_answer}
+use Rattle.calloop.specs.loop_logic.Held.{IdleIn, IdleOut, Told}
+use Rattle.calloop.specs.loop_logic.Machine.{Holds, view_of}
+use Rattle.calloop.specs.loop_logic.Rules.{InsertedBy, inserted_answer}
 use Rattle.calloop.proofs.Serving.{closed, one_done}
 use Rattle.calloop.proofs.loop_logic.EventLoop.serve.Goals as goal
 

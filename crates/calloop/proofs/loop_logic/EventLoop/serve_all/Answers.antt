@@ -1,4 +1,4 @@
-use Rattle.calloop.specs.Machine.{view_of}
+use Rattle.calloop.specs.loop_logic.Machine.{view_of}
 use Rattle.calloop.proofs.Serving.{first_then, none_left}
 use Rattle.calloop.proofs.loop_logic.EventLoop.serve_all.Goals as goal
 

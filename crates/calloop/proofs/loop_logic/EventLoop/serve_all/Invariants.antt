@@ -1,7 +1,7 @@
 use Rattle.std.proofs.Common.{length}
-use Rattle.calloop.specs.Machine.{View, view_of}
-use Rattle.calloop.specs.Rules.{Did}
-use Rattle.calloop.specs.Serving.{AllServed}
+use Rattle.calloop.specs.loop_logic.Machine.{View, view_of}
+use Rattle.calloop.specs.loop_logic.Rules.{Did}
+use Rattle.calloop.specs.loop_logic.Serving.{AllServed}
 use Rattle.calloop.proofs.loop_logic.EventLoop.serve_all.Given as goal
 
 abbrev pub invariant-requests : goal.invariant-requests

@@ -1,6 +1,6 @@
-use Rattle.calloop.specs.Machine.{view_of}
-use Rattle.calloop.specs.Registering.{request_for}
-use Rattle.calloop.specs.Rules.{ServedAs, done_answer}
+use Rattle.calloop.specs.loop_logic.Machine.{view_of}
+use Rattle.calloop.specs.loop_logic.Registering.{request_for}
+use Rattle.calloop.specs.loop_logic.Rules.{ServedAs, done_answer}
 use Rattle.calloop.proofs.Serving.{change_served, closed}
 use Rattle.calloop.proofs.loop_logic.EventLoop.serve_change.Goals as goal
 

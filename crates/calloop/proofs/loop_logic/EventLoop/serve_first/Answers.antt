@@ -1,5 +1,5 @@
 use Rattle.std.proofs.Common.{sym}
-use Rattle.calloop.specs.Machine.{view_of}
+use Rattle.calloop.specs.loop_logic.Machine.{view_of}
 use Rattle.calloop.proofs.Serving.{serves_first}
 use Rattle.calloop.proofs.loop_logic.EventLoop.serve_first.Goals as goal
 

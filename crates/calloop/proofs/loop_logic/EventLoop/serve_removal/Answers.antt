@@ -2,9 +2,9 @@ use Rattle.std.proofs.Common.{[], ◌∷◌, refl, sym, ◌∙◌}
 use Rattle.calloop_wake.specs.declared.list.Content.TheVariants.{Vacant}
 use Rattle.calloop_wake.specs.Slots.{content_at}
 use Rattle.calloop.specs.declared.loop_logic.asks.Answer.TheVariants.{Removed}
-use Rattle.calloop.specs.Held.{Unlisted, Owe}
-use Rattle.calloop.specs.Machine.{Put, Holds, view_of}
-use Rattle.calloop.specs.Rules.{RemovedBy}
+use Rattle.calloop.specs.loop_logic.Held.{Unlisted, Owe}
+use Rattle.calloop.specs.loop_logic.Machine.{Put, Holds, view_of}
+use Rattle.calloop.specs.loop_logic.Rules.{RemovedBy}
 use Rattle.calloop.proofs.Going.{full_named}
 use Rattle.calloop.proofs.Serving.{own_is, other_is, turn_full, closed, one_done}
 use Rattle.calloop.proofs.loop_logic.EventLoop.serve_removal.Goals as goal

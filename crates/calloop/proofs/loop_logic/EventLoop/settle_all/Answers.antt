@@ -1,7 +1,7 @@
 use Rattle.std.proofs.Common.{◌≡◌, ◌+◌, [], ◌∷◌, drop, arith, ◌∙◌}
 use Rattle.std.proofs.lemmas.List.{drop_all}
-use Rattle.calloop.specs.Machine.{view_of}
-use Rattle.calloop.specs.Rules.{Settling, Sleeping}
+use Rattle.calloop.specs.loop_logic.Machine.{view_of}
+use Rattle.calloop.specs.loop_logic.Rules.{Settling, Sleeping}
 use Rattle.calloop.proofs.Going.{goes_on}
 use Rattle.calloop.proofs.Settling.{all_settled}
 use Rattle.calloop.proofs.Telling.{rest_from}

@@ -1,6 +1,6 @@
 use Rattle.std.proofs.Common.{[], sym}
 use Rattle.std.proofs.lemmas.List.Sorted.{IsPermutation-refl}
-use Rattle.calloop.specs.Machine.{view_of, with_marks_taken}
+use Rattle.calloop.specs.loop_logic.Machine.{view_of, with_marks_taken}
 use Rattle.calloop.proofs.Settling.{all_settled}
 use Rattle.calloop.proofs.loop_logic.EventLoop.settle_marked.Goals as goal
 

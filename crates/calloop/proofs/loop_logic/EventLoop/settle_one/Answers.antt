@@ -2,10 +2,10 @@ use Rattle.std.proofs.Common.{◌≡◌, sym, arith, filter}
 use Rattle.calloop_wake.specs.declared.list.Content.TheVariants.{Source, Vacant}
 use Rattle.calloop_wake.specs.Slots.{content_at}
 use Rattle.calloop_wake.proofs.Named.{source_is}
-use Rattle.calloop_core.specs.Polls.{poll_view}
-use Rattle.calloop.specs.Machine.{view_of}
-use Rattle.calloop.specs.Roles.{only, is_adapter}
-use Rattle.calloop.specs.Held.{is_another}
+use Rattle.calloop_core.specs.sys.Polls.{poll_view}
+use Rattle.calloop.specs.loop_logic.Machine.{view_of}
+use Rattle.calloop.specs.loop_logic.Roles.{only, is_adapter}
+use Rattle.calloop.specs.loop_logic.Held.{is_another}
 use Rattle.calloop.proofs.Settling.{not_settled, kept, gone}
 use Rattle.calloop.proofs.Roles.{only_source}
 use Rattle.calloop.proofs.Limits.{ended_limits, filtered_limits, settled_limit}

@@ -1,7 +1,7 @@
 use Rattle.std.proofs.Common.{◌≡◌, ◌+◌, [], ◌∷◌, drop, ◌∙◌, arith}
 use Rattle.std.proofs.lemmas.List.{drop_all}
-use Rattle.calloop.specs.Machine.{view_of}
-use Rattle.calloop.specs.Rules.{Noticing, Cutting}
+use Rattle.calloop.specs.loop_logic.Machine.{view_of}
+use Rattle.calloop.specs.loop_logic.Rules.{Noticing, Cutting}
 use Rattle.calloop.proofs.Going.{goes_on, all_noticed}
 use Rattle.calloop.proofs.Telling.{rest_from}
 use Rattle.calloop.proofs.loop_logic.EventLoop.tell_of_events.Goals as goal

@@ -1,6 +1,6 @@
 use Rattle.std.proofs.Common.{◌≡◌, drop}
-use Rattle.calloop.specs.Machine.{view_of}
-use Rattle.calloop.specs.Rules.{Goes, Noticing}
+use Rattle.calloop.specs.loop_logic.Machine.{view_of}
+use Rattle.calloop.specs.loop_logic.Rules.{Goes, Noticing}
 use Rattle.calloop.proofs.loop_logic.EventLoop.tell_of_events.Given as goal
 
 abbrev pub invariant-loop-place : goal.invariant-loop-place

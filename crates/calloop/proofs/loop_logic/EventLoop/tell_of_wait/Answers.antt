@@ -2,9 +2,9 @@ use Rattle.std.proofs.Common.{◌≡◌, ◌+◌, ◌≤◌, [], ◌∷◌, Err,
 use Rattle.std.proofs.lemmas.List.{drop_all}
 use Rattle.std.proofs.lemmas.Result.{err_from_is_err_and}
 use Rattle.calloop_wake.specs.Slots.{content_at}
-use Rattle.calloop.specs.Limits.{limit_in, all_limits}
-use Rattle.calloop.specs.Machine.{view_of}
-use Rattle.calloop.specs.Rules.{Sleeping, Waiting, Leaving}
+use Rattle.calloop.specs.loop_logic.Limits.{limit_in, all_limits}
+use Rattle.calloop.specs.loop_logic.Machine.{view_of}
+use Rattle.calloop.specs.loop_logic.Rules.{Sleeping, Waiting, Leaving}
 use Rattle.calloop.proofs.Going.{goes_on, all_slept}
 use Rattle.calloop.proofs.Telling.{rest_from}
 use Rattle.calloop.proofs.Settling.{ready_less}

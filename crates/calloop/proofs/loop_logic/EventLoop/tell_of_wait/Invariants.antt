@@ -1,8 +1,8 @@
 use Rattle.std.proofs.Common.{◌≡◌, ℕ, ◌≤◌, Option, drop}
-use Rattle.calloop_core.specs.Polls.{IsReady}
-use Rattle.calloop.specs.Limits.{all_limits}
-use Rattle.calloop.specs.Machine.{view_of}
-use Rattle.calloop.specs.Rules.{Goes, Sleeping}
+use Rattle.calloop_core.specs.sys.Polls.{IsReady}
+use Rattle.calloop.specs.loop_logic.Limits.{all_limits}
+use Rattle.calloop.specs.loop_logic.Machine.{view_of}
+use Rattle.calloop.specs.loop_logic.Rules.{Goes, Sleeping}
 use Rattle.calloop.proofs.loop_logic.EventLoop.tell_of_wait.Given as goal
 
 abbrev pub invariant-loop-place : goal.invariant-loop-place

@@ -2,8 +2,8 @@ use Rattle.std.proofs.Common.{◌≡◌, sym}
 use Rattle.calloop_wake.specs.declared.list.Content.TheVariants.{Source}
 use Rattle.calloop_wake.specs.Slots.{content_at}
 use Rattle.calloop_wake.proofs.Named.{source_is}
-use Rattle.calloop_core.specs.Polls.{poll_view}
-use Rattle.calloop.specs.Machine.{view_of}
+use Rattle.calloop_core.specs.sys.Polls.{poll_view}
+use Rattle.calloop.specs.loop_logic.Machine.{view_of}
 use Rattle.calloop.proofs.Going.{not_noticed, noticed}
 use Rattle.calloop.proofs.loop_logic.EventLoop.tell_one_of_events.Goals as goal
 

@@ -3,10 +3,10 @@ use Rattle.std.proofs.lemmas.Result.{err_from_is_err_and}
 use Rattle.calloop_wake.specs.declared.list.Content.TheVariants.{Source}
 use Rattle.calloop_wake.specs.Slots.{content_at}
 use Rattle.calloop_wake.proofs.Named.{source_is}
-use Rattle.calloop_core.specs.Polls.{poll_view}
-use Rattle.calloop_core.specs.Synthetics.{IsLent}
-use Rattle.calloop.specs.Limits.{limit_in}
-use Rattle.calloop.specs.Machine.{view_of}
+use Rattle.calloop_core.specs.sys.Polls.{poll_view}
+use Rattle.calloop_core.specs.sys.Synthetics.{IsLent}
+use Rattle.calloop.specs.loop_logic.Limits.{limit_in}
+use Rattle.calloop.specs.loop_logic.Machine.{view_of}
 use Rattle.calloop.proofs.Going.{not_slept, slept_well, slept_badly}
 use Rattle.calloop.proofs.Limits.{ended_limits}
 use Rattle.calloop.proofs.Settling.{ready_less}

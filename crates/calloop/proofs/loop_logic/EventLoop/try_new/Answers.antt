@@ -5,10 +5,10 @@ use Rattle.calloop_wake.specs.declared.list.Slot.{Slot}
 use Rattle.calloop_wake.specs.declared.token.RegistrationToken.{RegistrationToken}
 use Rattle.calloop_core.specs.declared.sources.source.PostAction.TheVariants.{Continue}
 use Rattle.calloop.specs.declared.loop_logic.stops.StopNote.{StopNote}
-use Rattle.calloop.specs.Askings.{Asks, no_asks}
-use Rattle.calloop.specs.Held.{Held}
-use Rattle.calloop.specs.Ledgers.{new_ledger}
-use Rattle.calloop_core.specs.Polls.{PollView, poll_view}
+use Rattle.calloop.specs.loop_logic.Askings.{Asks, no_asks}
+use Rattle.calloop.specs.loop_logic.Held.{Held}
+use Rattle.calloop.specs.loop_logic.Ledgers.{new_ledger}
+use Rattle.calloop_core.specs.sys.Polls.{PollView, poll_view}
 use Rattle.calloop.proofs.loop_logic.EventLoop.try_new.Goals as goal
 
 pub returns : goal.returns

@@ -1,8 +1,8 @@
 use Rattle.std.proofs.Common.{List, ap, ◌∙◌}
 use Rattle.calloop_wake.specs.declared.token.RegistrationToken.{RegistrationToken}
-use Rattle.calloop_core.specs.Polls.{PollView, poll_view}
-use Rattle.calloop.specs.Held.{Unlisted, held_after}
-use Rattle.calloop.specs.Machine.{View, view_of}
+use Rattle.calloop_core.specs.sys.Polls.{PollView, poll_view}
+use Rattle.calloop.specs.loop_logic.Held.{Unlisted, held_after}
+use Rattle.calloop.specs.loop_logic.Machine.{View, view_of}
 use Rattle.calloop.proofs.loop_logic.EventLoop.unregister.Goals as goal
 
 pub returns-clause-deed : goal.returns-clause-deed

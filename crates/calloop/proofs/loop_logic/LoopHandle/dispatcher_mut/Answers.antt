@@ -1,7 +1,7 @@
 use Rattle.std.proofs.Common.{rules, sym, ◌∙◌, IsErr}
 use Rattle.calloop_wake.specs.Slots.{content_at}
-use Rattle.calloop.specs.Machine.{view_of}
-use Rattle.calloop.specs.Roles.{is_callers}
+use Rattle.calloop.specs.loop_logic.Machine.{view_of}
+use Rattle.calloop.specs.loop_logic.Roles.{is_callers}
 use Rattle.calloop.proofs.Roles.{lent_there, refused_there}
 use Rattle.calloop.proofs.Inserting.{written_back}
 use Rattle.calloop.proofs.loop_logic.LoopHandle.dispatcher_mut.Goals as goal

@@ -1,5 +1,5 @@
 use Rattle.std.proofs.Common.{refl, [], ◌∷◌}
-use Rattle.calloop.specs.Machine.{Polling}
+use Rattle.calloop.specs.loop_logic.Machine.{Polling}
 use Rattle.calloop.proofs.loop_logic.LoopHandle.poller_mut.Goals as goal
 
 pub returns : goal.returns

@@ -1,5 +1,5 @@
-use Rattle.calloop.specs.Machine.{view_of}
-use Rattle.calloop.specs.Rules.{Once, RemovedBy}
+use Rattle.calloop.specs.loop_logic.Machine.{view_of}
+use Rattle.calloop.specs.loop_logic.Rules.{Once, RemovedBy}
 use Rattle.calloop.proofs.Seen.{did_leads}
 use Rattle.calloop.proofs.loop_logic.LoopHandle.remove.Goals as goal
 

@@ -1,6 +1,6 @@
 use Rattle.std.proofs.Common.{rules}
 use Rattle.std.proofs.lemmas.Fn.{filter_same}
-use Rattle.calloop.specs.Askings.{is_since}
+use Rattle.calloop.specs.loop_logic.Askings.{is_since}
 use Rattle.calloop.proofs.loop_logic.asks.drop_before.Goals as goal
 
 pub returns-clause-items : goal.returns-clause-items

@@ -1,6 +1,6 @@
 use Rattle.std.proofs.Common.{rules}
 use Rattle.std.proofs.lemmas.Fn.{filter_same}
-use Rattle.calloop.specs.Askings.{is_other_idle}
+use Rattle.calloop.specs.loop_logic.Askings.{is_other_idle}
 use Rattle.calloop.proofs.loop_logic.asks.take_out.Goals as goal
 
 pub returns-clause-items : goal.returns-clause-items

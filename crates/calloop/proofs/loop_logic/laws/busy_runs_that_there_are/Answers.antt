@@ -4,29 +4,29 @@ use Rattle.calloop_wake.specs.declared.error.Error.TheVariants.{OutOfMemory}
 use Rattle.calloop_wake.specs.declared.list.Content.TheVariants.{Source, InTurn}
 use Rattle.calloop_wake.specs.declared.token.RegistrationToken.{RegistrationToken}
 use Rattle.calloop_wake.specs.Tokens.{after_token, registration_of}
-use Rattle.calloop_wake.specs.Watches.{with_note}
+use Rattle.calloop_wake.specs.wake.Watches.{with_note}
 use Rattle.calloop_wake.specs.declared.wake.notes.Note.TheVariants.{Counted, Looked, Marked}
 use Rattle.calloop_core.specs.declared.sources.source.PostAction.TheVariants.{Continue, Reregister}
-use Rattle.calloop_core.specs.Polls.{Socket, after_count, marks_taken}
-use Rattle.calloop_core.specs.SlotOrder.{IsInSlotOrder}
-use Rattle.calloop_core.specs.Tables.{Enter}
+use Rattle.calloop_core.specs.sys.Polls.{Socket, after_count, marks_taken}
+use Rattle.calloop_core.specs.sys.SlotOrder.{IsInSlotOrder}
+use Rattle.calloop_core.specs.sys.Tables.{Enter}
 use Rattle.calloop.specs.declared.loop_logic.asks.Answer.TheVariants.{Done}
 use Rattle.calloop.specs.declared.loop_logic.asks.Request.TheVariants.{Update}
-use Rattle.calloop.specs.Askings.{Write}
-use Rattle.calloop.specs.Held.{Pend, Told}
-use Rattle.calloop.specs.Machine.{Holds}
-use Rattle.calloop.specs.Rules.{factory_of, Settling, Sleeping, Waiting, Gathering, Noticing, Cutting, Serving, Ending, Returning, Idling, RunningIdles, Leaving}
-use Rattle.calloop.specs.Wrong.{first_token, first_registration, second_registration}
-use Rattle.calloop.specs.BusyRun.{for_reading, two_found, behind_the_failure}
+use Rattle.calloop.specs.loop_logic.Askings.{Write}
+use Rattle.calloop.specs.loop_logic.Held.{Pend, Told}
+use Rattle.calloop.specs.loop_logic.Machine.{Holds}
+use Rattle.calloop.specs.loop_logic.Rules.{factory_of, Settling, Sleeping, Waiting, Gathering, Noticing, Cutting, Serving, Ending, Returning, Idling, RunningIdles, Leaving}
+use Rattle.calloop.specs.loop_logic.Wrong.{first_token, first_registration, second_registration}
+use Rattle.calloop.specs.loop_logic.BusyRun.{for_reading, two_found, behind_the_failure}
 use Rattle.logbook.specs.Pages.{Book}
 use Rattle.calloop_core.specs.declared.sources.source.PostAction.TheVariants.{Remove}
 use Rattle.calloop_core.specs.declared.timer.TimeoutAction.TheVariants.{Drop, ToInstant}
-use Rattle.calloop_core.specs.Polls.{Arm, ArmAgain, Call, Cancel}
+use Rattle.calloop_core.specs.sys.Polls.{Arm, ArmAgain, Call, Cancel}
 use Rattle.calloop_core.specs.Timers.{armed_for}
-use Rattle.calloop.specs.Askings.{asks_nothing, no_asks, of_turn}
-use Rattle.calloop.specs.Machine.{IsNew}
-use Rattle.calloop.specs.ExampleRun.{five, first_arm, as_armed, new_world}
-use Rattle.calloop.specs.RearmedRun.{ten, as_rearmed, as_called_again, as_gone, rearmed_run, behind_the_first_call}
+use Rattle.calloop.specs.loop_logic.Askings.{asks_nothing, no_asks, of_turn}
+use Rattle.calloop.specs.loop_logic.Machine.{IsNew}
+use Rattle.calloop.specs.loop_logic.ExampleRun.{five, first_arm, as_armed, new_world}
+use Rattle.calloop.specs.loop_logic.RearmedRun.{ten, as_rearmed, as_called_again, as_gone, rearmed_run, behind_the_first_call}
 use Rattle.calloop.proofs.loop_logic.laws.busy_runs_that_there_are.Goals as goal
 
 pub returns-clause-run : goal.returns-clause-run

@@ -1,7 +1,7 @@
-use Rattle.calloop.specs.Machine.{world_after_all}
+use Rattle.calloop.specs.loop_logic.Machine.{world_after_all}
 use Rattle.calloop.proofs.Rights.{run_right}
 use Rattle.calloop.proofs.Reuse.{names_later}
-use Rattle.calloop.specs.Laws.{NamesLater, StaysGone, changes_of, IsFresh, IsNoMore, Any, HasNoMoreKeys}
+use Rattle.calloop.specs.loop_logic.Laws.{NamesLater, StaysGone, changes_of, IsFresh, IsNoMore, Any, HasNoMoreKeys}
 use Rattle.calloop.proofs.Gone.{stay_gone, run_fits}
 use Rattle.calloop.proofs.Moments.{any_two}
 use Rattle.calloop.proofs.Listing.{run_told}

@@ -2,20 +2,20 @@ use Rattle.std.proofs.Common.{rules, refl, [], ◌∷◌, None, Ok, inl, inr, tr
 use Rattle.std.proofs.lemmas.List.Sorted.{IsPermutation-refl}
 use Rattle.calloop_wake.specs.declared.list.Content.TheVariants.{Source, InTurn}
 use Rattle.calloop_wake.specs.Tokens.{after_token, registration_of}
-use Rattle.calloop_wake.specs.Watches.{with_note}
+use Rattle.calloop_wake.specs.wake.Watches.{with_note}
 use Rattle.calloop_wake.specs.declared.wake.notes.Note.TheVariants.{Counted, Looked, Marked}
 use Rattle.calloop_core.specs.declared.sources.source.PostAction.TheVariants.{Remove}
 use Rattle.calloop_core.specs.declared.timer.TimeoutAction.TheVariants.{Drop}
-use Rattle.calloop_core.specs.Polls.{Arm, Cancel, Call}
-use Rattle.calloop.specs.Askings.{asks_nothing, no_asks, of_turn}
-use Rattle.calloop.specs.Rules.{factory_of, Settling, Sleeping, Waiting, Gathering, Noticing, Cutting, Serving, Ending, Returning, Idling, RunningIdles, Leaving}
-use Rattle.calloop.specs.Wrong.{first_token, first_registration}
-use Rattle.calloop.specs.ExampleRun.{five, first_arm, as_armed, as_changed, as_called, as_removed, only, its_run}
+use Rattle.calloop_core.specs.sys.Polls.{Arm, Cancel, Call}
+use Rattle.calloop.specs.loop_logic.Askings.{asks_nothing, no_asks, of_turn}
+use Rattle.calloop.specs.loop_logic.Rules.{factory_of, Settling, Sleeping, Waiting, Gathering, Noticing, Cutting, Serving, Ending, Returning, Idling, RunningIdles, Leaving}
+use Rattle.calloop.specs.loop_logic.Wrong.{first_token, first_registration}
+use Rattle.calloop.specs.loop_logic.ExampleRun.{five, first_arm, as_armed, as_changed, as_called, as_removed, only, its_run}
 use Rattle.std.proofs.Common.{ℕ, nat_eq, if◌then◌else◌}
 use Rattle.logbook.specs.Pages.{Book}
-use Rattle.calloop_core.specs.Holdings.{Free, Standing, IsWithin}
-use Rattle.calloop.specs.Machine.{IsNew}
-use Rattle.calloop.specs.ExampleRun.{new_world}
+use Rattle.calloop_core.specs.sources.Holdings.{Free, Standing, IsWithin}
+use Rattle.calloop.specs.loop_logic.Machine.{IsNew}
+use Rattle.calloop.specs.loop_logic.ExampleRun.{new_world}
 use Rattle.calloop.proofs.loop_logic.laws.run_that_there_is.Goals as goal
 
 is_new : (name : Book) → IsNew (new_world name)

@@ -8,14 +8,14 @@ use Rattle.calloop_wake.specs.declared.token.RegistrationToken.{RegistrationToke
 use Rattle.calloop_wake.specs.declared.wheel.Entry.{Entry}
 use Rattle.calloop_wake.specs.declared.wheel.Instant.{Instant}
 use Rattle.calloop_wake.specs.Tokens.{key_of}
-use Rattle.calloop_core.specs.SlotOrder.{IsInSlotOrder}
-use Rattle.calloop.specs.ExampleRun.{quiet_poller}
-use Rattle.calloop.specs.Laws.{IsLedgerOf}
-use Rattle.calloop.specs.Ledgers.{Arming}
-use Rattle.calloop.specs.Machine.{View, Put, IsNew, visible, all_viewed}
-use Rattle.calloop.specs.Rules.{Doing, Settling, Leaving, Steps, SettledIn}
-use Rattle.calloop.specs.Wrong.{first_token, full_slot, given_up}
-use Rattle.calloop.specs.WrongRuns.{SmallWorld, SmallChange, IsOutOfTime, idle_world, that_ends, with_ledger, second_arming, second_waits_early, second_is_cut_early, second_call_differs, second_is_called_twice, second_is_twice, second_is_nowhere, with_one_deadline, with_one_event, adapters, idle_never, with_two_adapters, begins, settles, behind_a_settling}
+use Rattle.calloop_core.specs.sys.SlotOrder.{IsInSlotOrder}
+use Rattle.calloop.specs.loop_logic.ExampleRun.{quiet_poller}
+use Rattle.calloop.specs.loop_logic.Laws.{IsLedgerOf}
+use Rattle.calloop.specs.loop_logic.Ledgers.{Arming}
+use Rattle.calloop.specs.loop_logic.Machine.{View, Put, IsNew, visible, all_viewed}
+use Rattle.calloop.specs.loop_logic.Rules.{Doing, Settling, Leaving, Steps, SettledIn}
+use Rattle.calloop.specs.loop_logic.Wrong.{first_token, full_slot, given_up}
+use Rattle.calloop.specs.loop_logic.WrongRuns.{SmallWorld, SmallChange, IsOutOfTime, idle_world, that_ends, with_ledger, second_arming, second_waits_early, second_is_cut_early, second_call_differs, second_is_called_twice, second_is_twice, second_is_nowhere, with_one_deadline, with_one_event, adapters, idle_never, with_two_adapters, begins, settles, behind_a_settling}
 use Rattle.calloop.proofs.loop_logic.laws.runs_that_go_wrong_late.Goals as goal
 
 zero_one : ◌≡◌ {A = ℕ} 0 1 → ⊥

@@ -2,13 +2,13 @@ use Rattle.std.proofs.Common.{◌≡◌, ℕ, List, [], ◌∷◌, None, inl, in
 use Rattle.logbook.specs.Pages.{Book}
 use Rattle.calloop_core.specs.declared.sys.poll.Pending.{Pending}
 use Rattle.calloop_wake.specs.Deadlines.{IsOrdered, entry_of}
-use Rattle.calloop.specs.Machine.{Holds, Appended, Cut, Ended}
-use Rattle.calloop.specs.Served.{events_cut}
+use Rattle.calloop.specs.loop_logic.Machine.{Holds, Appended, Cut, Ended}
+use Rattle.calloop.specs.loop_logic.Served.{events_cut}
 use Rattle.std.specs.List.{Contains}
 use Rattle.calloop.specs.declared.loop_logic.asks.Idling.{Idling as Waiter}
-use Rattle.calloop.specs.Held.{IdlesTaken}
-use Rattle.calloop.specs.Wrong.{first_token}
-use Rattle.calloop.specs.Unserved.{one_idle, SmallView, event_for, that_waits, armed_for}
+use Rattle.calloop.specs.loop_logic.Held.{IdlesTaken}
+use Rattle.calloop.specs.loop_logic.Wrong.{first_token}
+use Rattle.calloop.specs.loop_logic.Unserved.{one_idle, SmallView, event_for, that_waits, armed_for}
 use Rattle.calloop.proofs.loop_logic.laws.unserved_dispatches_are_ruled_out.Goals as goal
 
 one_two : ◌≡◌ {A = ℕ} 1 2 → ⊥

@@ -1,17 +1,17 @@
 use Rattle.std.proofs.Common.{◌≡◌, inl, inr, ℕ, Bool, true, false, List, [], ◌∷◌, Ok, refl, sym, ap, ◌∙◌, ◌%◌, ◌+◌, ◌≤◌, nat_lt, if◌then◌else◌, arith, slice_get, length}
 use Rattle.calloop_wake.specs.Widths.{versions}
-use Rattle.calloop.specs.Laws.{times_standing, how_many, is_number}
-use Rattle.calloop.specs.Machine.{Registration}
+use Rattle.calloop.specs.loop_logic.Laws.{times_standing, how_many, is_number}
+use Rattle.calloop.specs.loop_logic.Machine.{Registration}
 use Rattle.calloop_wake.specs.declared.token.RegistrationToken.{RegistrationToken}
 use Rattle.calloop_wake.specs.Tokens.{key_of}
-use Rattle.calloop_core.specs.Deeds.{Registered, Unregistered}
-use Rattle.calloop_core.specs.Polls.{Arm}
-use Rattle.calloop.specs.Rules.{Doing, Sleeping, factory_of}
+use Rattle.calloop_core.specs.sources.Deeds.{Registered, Unregistered}
+use Rattle.calloop_core.specs.sys.Polls.{Arm}
+use Rattle.calloop.specs.loop_logic.Rules.{Doing, Sleeping, factory_of}
 use Rattle.calloop_wake.specs.declared.wheel.Entry.{Entry}
 use Rattle.calloop_wake.specs.declared.wheel.Instant.{Instant}
 use Rattle.calloop_core.specs.declared.sys.poll.Pending.{Pending}
-use Rattle.calloop.specs.Ledgers.{Arming}
-use Rattle.calloop.specs.Wrong.{first_arming, first_token, first_registration, full_slot, given_up, used_with_an_old_key}
+use Rattle.calloop.specs.loop_logic.Ledgers.{Arming}
+use Rattle.calloop.specs.loop_logic.Wrong.{first_arming, first_token, first_registration, full_slot, given_up, used_with_an_old_key}
 use Rattle.calloop.proofs.loop_logic.laws.wrong_runs_are_ruled_out.Goals as goal
 
 zero_one : ◌≡◌ {A = ℕ} 0 1 → ⊥

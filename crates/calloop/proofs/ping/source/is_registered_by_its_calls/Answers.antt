@@ -1,5 +1,5 @@
-use Rattle.calloop.specs.Pings.{ping_tally, SamePing, PingOpens}
-use Rattle.calloop.specs.PingKeeping.{ping_quiet}
+use Rattle.calloop.specs.ping.Pings.{ping_tally, SamePing, PingOpens}
+use Rattle.calloop.specs.ping.PingKeeping.{ping_quiet}
 use Rattle.calloop.proofs.Registered.{cell_is_registered}
 use Rattle.calloop.proofs.ping.source.is_registered_by_its_calls.Goals as goal
 

@@ -1,6 +1,6 @@
 use Rattle.std.proofs.Common.{◌<◌, ◌++◌, [], ◌∷◌, refl, subst, arith}
 use Rattle.calloop.specs.declared.stream.reading.Ending.TheVariants.{AtPending, AtEnd}
-use Rattle.calloop.specs.Streams.{most_items}
+use Rattle.calloop.specs.stream.Streams.{most_items}
 use Rattle.calloop.proofs.Reading.{read_more, reads_pending, reads_end, read_ended}
 use Rattle.calloop.proofs.stream.source.read.Goals as goal
 

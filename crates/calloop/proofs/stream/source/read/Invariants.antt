@@ -1,5 +1,5 @@
 use Rattle.std.proofs.Common.{◌-◌, ◌≤◌, List}
-use Rattle.calloop.specs.Streams.{most_items}
+use Rattle.calloop.specs.stream.Streams.{most_items}
 use Rattle.calloop.proofs.Reading.{ReadSoFar}
 use Rattle.calloop.proofs.stream.source.read.Given as goal
 

@@ -1,7 +1,7 @@
 use Rattle.std.proofs.Common.{refl, ap, Some, None, Ok}
 use Rattle.calloop_wake.specs.Failures.{with_error}
-use Rattle.calloop_core.specs.Polls.{poll_view}
-use Rattle.calloop_core.specs.Deeds.{Turned, lend}
+use Rattle.calloop_core.specs.sys.Polls.{poll_view}
+use Rattle.calloop_core.specs.sources.Deeds.{Turned, lend}
 use Rattle.calloop_core.proofs.Asked.{both_asked, first_asked}
 use Rattle.calloop_core.proofs.both.BothDispatch.process_events.Goals as goal
 

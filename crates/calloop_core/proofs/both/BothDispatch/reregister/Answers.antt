@@ -1,6 +1,6 @@
 use Rattle.std.proofs.Common.{refl, ◌++◌, []}
 use Rattle.calloop_wake.specs.Failures.{with_error}
-use Rattle.calloop_core.specs.Polls.{poll_view}
+use Rattle.calloop_core.specs.sys.Polls.{poll_view}
 use Rattle.calloop_core.proofs.Stepping.{stepped-append}
 use Rattle.calloop_core.proofs.both.BothDispatch.reregister.Goals as goal
 

@@ -9,8 +9,8 @@ use Rattle.calloop_core.specs.declared.sys.Mode.TheVariants.{OneShot, Level, Edg
 use Rattle.calloop_core.specs.declared.sources.source.PostAction.{PostAction}
 use Rattle.calloop_core.specs.declared.generic.Generic.{Generic}
 use Rattle.calloop_core.specs.contracts.sys.Mode.{the_type}
-use Rattle.calloop_core.specs.Pollers.{Sockets}
-use Rattle.calloop_core.specs.Polls.{PollView, PollStep, poll_view}
+use Rattle.calloop_core.specs.sys.Pollers.{Sockets}
+use Rattle.calloop_core.specs.sys.Polls.{PollView, PollStep, poll_view}
 use Rattle.calloop_core.specs.Generics.{ArmedBy}
 use Rattle.calloop_core.proofs.generic.Generic.arm_again.Goals as goal
 

@@ -1,5 +1,5 @@
 use Rattle.std.proofs.Common.{ap, ◌∷◌, [], rules}
-use Rattle.calloop_core.specs.Polls.{Arm}
+use Rattle.calloop_core.specs.sys.Polls.{Arm}
 use Rattle.calloop_core.proofs.timer.Timer.arm.Goals as goal
 
 pub returns : goal.returns

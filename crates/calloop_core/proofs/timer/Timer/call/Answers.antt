@@ -2,7 +2,7 @@ use Rattle.std.proofs.Common.{refl, ◌∷◌, [], sym, ◌∙◌, subst, Option
 use Rattle.calloop_wake.specs.declared.wheel.Instant.{Instant}
 use Rattle.calloop_wake.specs.Deadlines.{moment_after}
 use Rattle.calloop_core.specs.declared.sources.source.PostAction.TheVariants.{Remove}
-use Rattle.calloop_core.specs.Polls.{ReadClock, poll_view}
+use Rattle.calloop_core.specs.sys.Polls.{ReadClock, poll_view}
 use Rattle.calloop_core.specs.Timers.{ArmedFor, registered_as, with_call}
 use Rattle.calloop_core.proofs.Stepping.{stepped_first}
 use Rattle.calloop_core.proofs.timer.Timer.call.Goals as goal

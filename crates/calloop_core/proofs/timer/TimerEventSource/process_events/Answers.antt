@@ -1,5 +1,5 @@
 use Rattle.std.proofs.Common.{rules, refl, inl, inr, ◌∷◌, []}
-use Rattle.calloop_core.specs.Polls.{Call, poll_view}
+use Rattle.calloop_core.specs.sys.Polls.{Call, poll_view}
 use Rattle.calloop_core.proofs.Stepping.{stepped_first}
 use Rattle.calloop_core.proofs.timer.TimerEventSource.process_events.Goals as goal
 use Rattle.calloop_core.proofs.timer.TimerEventSource.process_events.Goals.{then-ne-via-then-ne, then-ne-via-else-ne+then-registration}

@@ -1,6 +1,6 @@
 use Rattle.std.proofs.Common.{refl, ap, ◌++◌}
 use Rattle.calloop_core.specs.declared.timer.Timer.{Timer}
-use Rattle.calloop_core.specs.Polls.{poll_view}
+use Rattle.calloop_core.specs.sys.Polls.{poll_view}
 use Rattle.calloop_core.specs.Timers.{releases}
 use Rattle.calloop_core.proofs.Stepping.{stepped-append}
 use Rattle.calloop_core.proofs.timer.TimerEventSource.register.Goals as goal

@@ -1,8 +1,8 @@
 use Rattle.std.proofs.Common.{refl, ◌∙◌}
-use Rattle.calloop_core.specs.Polls.{poll_view}
-use Rattle.calloop_core.specs.Deeds.{Reregistered}
+use Rattle.calloop_core.specs.sys.Polls.{poll_view}
+use Rattle.calloop_core.specs.sources.Deeds.{Reregistered}
 use Rattle.calloop_core.specs.Timers.{timer_meaning}
-use Rattle.calloop.specs.Pings.{ping_meaning}
+use Rattle.calloop.specs.ping.Pings.{ping_meaning}
 use Rattle.calloop_test_sources.proofs.Parts.{reached, unreached, asked, bell_passes_anew, timer_passes_anew}
 use Rattle.calloop_test_sources.proofs.trio.TrioEventSource.reregister.Goals as goal
 

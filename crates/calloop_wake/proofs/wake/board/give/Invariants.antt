@@ -1,5 +1,5 @@
 use Rattle.std.proofs.Common.{◌≡◌, ◌++◌, map, take, deque_capacity}
-use Rattle.calloop_wake.specs.Boards.{fresh_pass}
+use Rattle.calloop_wake.specs.wake.Boards.{fresh_pass}
 use Rattle.calloop_wake.proofs.wake.board.give.Given as goal
 
 abbrev pub invariant-loop-key : goal.invariant-loop-key

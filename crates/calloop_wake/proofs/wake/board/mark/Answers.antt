@@ -1,5 +1,5 @@
 use Rattle.std.proofs.Common.{◌∙◌, ◌≡◌, sym, arith, vec_capacity, Some, None}
-use Rattle.calloop_wake.specs.Posts.{standing_at}
+use Rattle.calloop_wake.specs.wake.Posts.{standing_at}
 use Rattle.calloop_wake.proofs.Posted.{quiet_is, not_anew, marked, wakes-places, room_left}
 use Rattle.calloop_wake.proofs.wake.board.mark.Goals as goal
 

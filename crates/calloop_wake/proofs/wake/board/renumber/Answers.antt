@@ -1,5 +1,5 @@
 use Rattle.std.proofs.Common.{◌≡◌, ◌∙◌, ◌<◌, ◌+◌, ℕ, Some, Option, IsSome, refl, length, get_or, subst, sym, ap, arith, nat_eq, if◌then◌else◌}
-use Rattle.calloop_wake.specs.Posts.{standing_at, place_after}
+use Rattle.calloop_wake.specs.wake.Posts.{standing_at, place_after}
 use Rattle.calloop_wake.proofs.Posted.{noted_more, fresh_at, member_at, left_by}
 use Rattle.calloop_wake.proofs.wake.board.renumber.Goals as goal
 

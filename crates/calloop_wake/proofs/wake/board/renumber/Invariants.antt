@@ -1,6 +1,6 @@
 use Rattle.std.proofs.Common.{◌≡◌, ℕ, take}
 use Rattle.std.specs.Map.{keys_of}
-use Rattle.calloop_wake.specs.Posts.{standing_at, index_of, place_after}
+use Rattle.calloop_wake.specs.wake.Posts.{standing_at, index_of, place_after}
 use Rattle.calloop_wake.proofs.wake.board.renumber.Given as goal
 
 abbrev pub invariant-loop-i : goal.invariant-loop-i

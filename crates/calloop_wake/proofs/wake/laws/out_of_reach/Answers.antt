@@ -1,13 +1,13 @@
 use Rattle.std.proofs.Common.{◌≡◌, ◌<◌, ◌⊎◌, ℕ, Bool, true, false, List, [], ◌∷◌, inl, inr, refl, sym, ◌∙◌, subst, arith}
-use Rattle.calloop_wake.specs.Cells.{Cell}
-use Rattle.calloop_wake.specs.PingKind as ping
-use Rattle.calloop_wake.specs.PingKind.{ping_kind}
-use Rattle.calloop_wake.specs.ChannelKind.{channel_kind}
-use Rattle.calloop_wake.specs.ExecutorKind.{executor_kind}
-use Rattle.calloop_wake.specs.Kinds.{First, Second, either_kind, either_needs, every_kind}
-use Rattle.calloop_wake.specs.Lost.{with_a_key_forgotten, with_a_sleeper_left_alone}
-use Rattle.calloop_wake.specs.Delivery.{IsOwed, AllOwed, steps_to_a_turn}
-use Rattle.calloop_wake.specs.Wakes.{WakeWorld, WakeStep, Awake, At, ClearKey, SetKey, OpenTurn, OpenPlace, ClosePlace, Post, Back, Unpost, Look, Wakeup, Sleep, Return, Needs, IsSchedule, after_all}
+use Rattle.calloop_wake.specs.wake.Cells.{Cell}
+use Rattle.calloop_wake.specs.wake.PingKind as ping
+use Rattle.calloop_wake.specs.wake.PingKind.{ping_kind}
+use Rattle.calloop_wake.specs.wake.ChannelKind.{channel_kind}
+use Rattle.calloop_wake.specs.wake.ExecutorKind.{executor_kind}
+use Rattle.calloop_wake.specs.wake.Kinds.{First, Second, either_kind, either_needs, every_kind}
+use Rattle.calloop_wake.specs.wake.Lost.{with_a_key_forgotten, with_a_sleeper_left_alone}
+use Rattle.calloop_wake.specs.wake.Delivery.{IsOwed, AllOwed, steps_to_a_turn}
+use Rattle.calloop_wake.specs.wake.Wakes.{WakeWorld, WakeStep, Awake, At, ClearKey, SetKey, OpenTurn, OpenPlace, ClosePlace, Post, Back, Unpost, Look, Wakeup, Sleep, Return, Needs, IsSchedule, after_all}
 use Rattle.calloop_wake.proofs.wake.laws.out_of_reach.Goals as goal
 
 not_true : ◌≡◌ {A = Bool} false true → ⊥

@@ -1,10 +1,10 @@
 use Rattle.std.proofs.Common.{◌<◌, [], ◌∷◌, true, false, refl, arith}
-use Rattle.calloop_wake.specs.ChannelKind as channel
-use Rattle.calloop_wake.specs.ExecutorKind as executor
-use Rattle.calloop_wake.specs.ExampleSchedules.{opens_channel, opens_executor, repeat}
-use Rattle.calloop_wake.specs.Kinds.{First, Second, every_kind}
-use Rattle.calloop_wake.specs.Lost.{of_channels, of_executors}
-use Rattle.calloop_wake.specs.Wakes.{At, IsSchedule, after_all}
+use Rattle.calloop_wake.specs.wake.ChannelKind as channel
+use Rattle.calloop_wake.specs.wake.ExecutorKind as executor
+use Rattle.calloop_wake.specs.wake.ExampleSchedules.{opens_channel, opens_executor, repeat}
+use Rattle.calloop_wake.specs.wake.Kinds.{First, Second, every_kind}
+use Rattle.calloop_wake.specs.wake.Lost.{of_channels, of_executors}
+use Rattle.calloop_wake.specs.wake.Wakes.{At, IsSchedule, after_all}
 use Rattle.calloop_wake.proofs.Delivery.{schedule-append}
 use Rattle.calloop_wake.proofs.Turns.{rounds_of_pops, rounds_of_polls}
 use Rattle.calloop_wake.proofs.wake.laws.turns_that_end_at_their_bound.Goals as goal

@@ -5,13 +5,13 @@ use Rattle.calloop_wake.specs.declared.error.Error.{Error}
 use Rattle.calloop_core.specs.declared.sys.script.ScriptPoller.{ScriptPoller}
 use Rattle.calloop_core.specs.declared.sys.script.ScriptClock.{ScriptClock}
 use Rattle.std.specs.Option.{option_map}
-use Rattle.calloop_core.specs.Polls.{with_new_poller, is_filled}
+use Rattle.calloop_core.specs.sys.Polls.{with_new_poller, is_filled}
 use Rattle.calloop_core.specs.declared.sys.script.calls.ScriptIo.{ScriptIo}
 use Rattle.calloop.specs.declared.loop_logic.EventLoop.{EventLoop}
 use Rattle.calloop.specs.declared.loop_logic.LoopCall.TheVariants.{Dispatch as DispatchCall}
 use Rattle.calloop.specs.declared.loop_logic.LoopAnswer.TheVariants.{Dispatched}
-use Rattle.calloop.specs.Lending.{with_loop_poller}
-use Rattle.calloop.specs.Machine.{View, Polling, view_of}
+use Rattle.calloop.specs.loop_logic.Lending.{with_loop_poller}
+use Rattle.calloop.specs.loop_logic.Machine.{View, Polling, view_of}
 use Rattle.looptrace.specs.declared.runner.PendingAnswer.{PendingAnswer}
 use Rattle.looptrace.specs.Sources.{Source}
 use Rattle.looptrace.specs.Runs.{IsPrepared, IsTakenBack, State, state_of, pending_of, fault_after, pending_after, Calls, waits_text, answer_text}

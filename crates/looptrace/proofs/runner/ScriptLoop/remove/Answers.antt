@@ -2,7 +2,7 @@ use Rattle.std.proofs.Common.{ap, subst, refl}
 use Rattle.calloop_core.specs.declared.sys.script.ScriptPoller.{ScriptPoller}
 use Rattle.calloop.specs.declared.loop_logic.LoopCall.TheVariants.{Remove as RemoveCall}
 use Rattle.calloop.specs.declared.loop_logic.LoopAnswer.TheVariants.{Removed}
-use Rattle.calloop.specs.Machine.{View, view_of}
+use Rattle.calloop.specs.loop_logic.Machine.{View, view_of}
 use Rattle.looptrace.specs.Sources.{Source}
 use Rattle.looptrace.specs.Runs.{Calls, removed_text}
 use Rattle.looptrace.proofs.runner.ScriptLoop.remove.Goals as goal

@@ -1,5 +1,5 @@
 use Rattle.std.proofs.Common.{refl}
-use Rattle.calloop_core.specs.Polls.{poll_view}
+use Rattle.calloop_core.specs.sys.Polls.{poll_view}
 use Rattle.calloop_wake.specs.declared.error.Error.TheVariants.{IoError}
 use Rattle.calloop.proofs.Adapting.{nowhere, not_let, let_out}
 use Rattle.calloop.proofs.io.adapter.Adapter.give_back.Goals as goal

@@ -1,5 +1,5 @@
 use Rattle.std.proofs.Common.{Err}
-use Rattle.calloop_core.specs.Polls.{poll_view}
+use Rattle.calloop_core.specs.sys.Polls.{poll_view}
 use Rattle.calloop.proofs.Adapting.{stays_out, goes_out}
 use Rattle.calloop.proofs.io.adapter.Adapter.go.Goals as goal
 

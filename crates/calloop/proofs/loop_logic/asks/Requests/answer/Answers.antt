@@ -1,5 +1,5 @@
 use Rattle.std.proofs.Common.{rules}
-use Rattle.calloop.specs.Askings.{Take, asks_on, asks_one}
+use Rattle.calloop.specs.loop_logic.Askings.{Take, asks_on, asks_one}
 use Rattle.calloop.proofs.loop_logic.asks.Requests.answer.Goals as goal
 
 pub returns-clause-asks : goal.returns-clause-asks

@@ -1,5 +1,5 @@
 use Rattle.std.proofs.Common.{rules, refl}
-use Rattle.calloop.specs.Askings.{Write, asks_on, asks_one}
+use Rattle.calloop.specs.loop_logic.Askings.{Write, asks_on, asks_one}
 use Rattle.calloop.specs.declared.loop_logic.asks.Request.TheVariants.{Insert}
 use Rattle.calloop.proofs.loop_logic.asks.Requests.insert_source.Goals as goal
 

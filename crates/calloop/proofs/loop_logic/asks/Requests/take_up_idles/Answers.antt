@@ -1,5 +1,5 @@
 use Rattle.std.proofs.Common.{ap}
-use Rattle.calloop.specs.Askings.{taken_up}
+use Rattle.calloop.specs.loop_logic.Askings.{taken_up}
 use Rattle.calloop.proofs.loop_logic.asks.Requests.take_up_idles.Goals as goal
 
 pub returns : goal.returns

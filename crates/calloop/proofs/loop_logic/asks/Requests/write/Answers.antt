@@ -1,5 +1,5 @@
 use Rattle.std.proofs.Common.{rules, refl}
-use Rattle.calloop.specs.Askings.{Write, asks_on, asks_one}
+use Rattle.calloop.specs.loop_logic.Askings.{Write, asks_on, asks_one}
 use Rattle.calloop.proofs.loop_logic.asks.Requests.write.Goals as goal
 
 pub returns-in-Err-clause-err : goal.returns-in-Err-clause-err

@@ -1,5 +1,5 @@
 use Rattle.std.proofs.Common.{◌≡◌, drop}
-use Rattle.calloop.specs.Held.{is_listed}
+use Rattle.calloop.specs.loop_logic.Held.{is_listed}
 use Rattle.calloop.proofs.loop_logic.lifecycle.Lifecycle.contains.Given as goal
 
 abbrev pub invariant-loop-other : goal.invariant-loop-other

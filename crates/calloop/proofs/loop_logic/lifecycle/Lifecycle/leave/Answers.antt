@@ -1,6 +1,6 @@
 use Rattle.std.proofs.Common.{rules}
 use Rattle.std.proofs.lemmas.Fn.{filter_same}
-use Rattle.calloop.specs.Held.{is_another}
+use Rattle.calloop.specs.loop_logic.Held.{is_another}
 use Rattle.calloop.proofs.loop_logic.lifecycle.Lifecycle.leave.Goals as goal
 
 pub returns : goal.returns

@@ -1,5 +1,5 @@
 use Rattle.std.proofs.Common.{◌≡◌, ◌-◌, length}
-use Rattle.calloop_core.specs.Events.{events_left}
+use Rattle.calloop_core.specs.sys.Events.{events_left}
 use Rattle.calloop_core.proofs.sys.events.EventIteratorIterator.next.Given as goal
 
 abbrev pub invariant-loop-self : goal.invariant-loop-self

@@ -1,7 +1,7 @@
 use Rattle.std.proofs.Common.{rules, refl, ap, sym, subst, is_some, ◌∙◌, ◌≡◌, true, None, Ok, Err, nat_eq, if◌then◌else◌}
 use Rattle.calloop_wake.specs.Tokens.{key_of}
-use Rattle.calloop_core.specs.Tables.{Change, Called, CalledFor, call_for, cannot, after_edit, is_known, watched_at, with_key, without_key}
-use Rattle.calloop_core.specs.Polls.{poll_view}
+use Rattle.calloop_core.specs.sys.Tables.{Change, Called, CalledFor, call_for, cannot, after_edit, is_known, watched_at, with_key, without_key}
+use Rattle.calloop_core.specs.sys.Polls.{poll_view}
 use Rattle.calloop_core.proofs.Editing.{faulted, made, can_change}
 use Rattle.calloop_core.proofs.sys.poll.Poll.change.Goals as goal
 

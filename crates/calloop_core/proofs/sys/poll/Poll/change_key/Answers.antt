@@ -1,7 +1,7 @@
 use Rattle.std.proofs.Common.{rules, ◌≡◌, None}
 use Rattle.calloop_wake.specs.Tokens.{key_of}
-use Rattle.calloop_core.specs.Tables.{Change, cannot, watched_at}
-use Rattle.calloop_core.specs.Polls.{poll_view}
+use Rattle.calloop_core.specs.sys.Tables.{Change, cannot, watched_at}
+use Rattle.calloop_core.specs.sys.Polls.{poll_view}
 use Rattle.calloop_core.proofs.Editing.{faulted, made, left_again, can_change}
 use Rattle.calloop_core.proofs.sys.poll.Poll.change_key.Goals as goal
 

@@ -1,6 +1,6 @@
 use Rattle.std.proofs.Common.{ap, subst, ◌∙◌}
-use Rattle.calloop_core.specs.Batches.{ArePosted}
-use Rattle.calloop_core.specs.Polls.{poll_view, after_gather}
+use Rattle.calloop_core.specs.sys.Batches.{ArePosted}
+use Rattle.calloop_core.specs.sys.Polls.{poll_view, after_gather}
 use Rattle.calloop_core.specs.declared.sys.poll.Poll.{Poll}
 use Rattle.calloop_core.proofs.sys.poll.Poll.poll.Goals as goal
 

@@ -1,8 +1,8 @@
 use Rattle.std.proofs.Common.{rules, refl, ◌≡◌, ap, false, Some, not, ◌&&◌, nat_eq, if◌then◌else◌}
 use Rattle.std.specs.declared.io.ErrorKind.TheVariants.{NotFound}
 use Rattle.calloop_wake.specs.Tokens.{key_of}
-use Rattle.calloop_core.specs.Tables.{Change, is_in, unless_in}
-use Rattle.calloop_core.specs.Polls.{poll_view}
+use Rattle.calloop_core.specs.sys.Tables.{Change, is_in, unless_in}
+use Rattle.calloop_core.specs.sys.Polls.{poll_view}
 use Rattle.calloop_core.proofs.Editing.{refused}
 use Rattle.calloop_core.proofs.sys.poll.Poll.rearm.Goals as goal
 

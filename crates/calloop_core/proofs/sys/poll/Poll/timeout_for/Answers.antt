@@ -1,7 +1,7 @@
 use Rattle.std.proofs.Common.{◌≡◌, List, [], ◌∷◌, ℕ, Option, rules, true, false, refl, ap, ◌∙◌}
 use mathlib.Core.Bool.{not}
-use Rattle.calloop_core.specs.Polls.{is_filled}
-use Rattle.calloop_core.specs.Waits.{lesser}
+use Rattle.calloop_core.specs.sys.Polls.{is_filled}
+use Rattle.calloop_core.specs.sys.Waits.{lesser}
 use Rattle.calloop_core.proofs.sys.poll.Poll.timeout_for.Goals as goal
 
 filled : {A : Type 0} (xs : List A) → false ≡ not (is_filled xs) → is_filled xs ≡ true

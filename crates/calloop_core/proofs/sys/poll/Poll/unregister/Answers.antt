@@ -1,8 +1,8 @@
 use Rattle.std.proofs.Common.{rules, refl, ◌≡◌, ap, true, Some, None, if◌then◌else◌}
 use Rattle.std.specs.declared.io.ErrorKind.TheVariants.{NotFound}
 use Rattle.calloop_wake.specs.Tokens.{key_of}
-use Rattle.calloop_core.specs.Tables.{Leave, cannot, is_in}
-use Rattle.calloop_core.specs.Polls.{poll_view}
+use Rattle.calloop_core.specs.sys.Tables.{Leave, cannot, is_in}
+use Rattle.calloop_core.specs.sys.Polls.{poll_view}
 use Rattle.calloop_core.proofs.Editing.{faulted, made}
 use Rattle.calloop_core.proofs.sys.poll.Poll.unregister.Goals as goal
 

@@ -1,10 +1,10 @@
 use Rattle.std.proofs.Common.{◌≡◌, ℕ, List, [], ◌∷◌, ◌++◌, Ok, Err, ap, sym, subst, ◌∙◌, true, false, is_none, arith}
-use Rattle.calloop_core.specs.Pollers.{nanos_of}
-use Rattle.calloop_core.specs.Batches.{BatchView}
-use Rattle.calloop_core.specs.Polls.{poll_view}
+use Rattle.calloop_core.specs.sys.Pollers.{nanos_of}
+use Rattle.calloop_core.specs.sys.Batches.{BatchView}
+use Rattle.calloop_core.specs.sys.Polls.{poll_view}
 use Rattle.calloop_core.specs.declared.sys.Readiness.{Readiness}
 use Rattle.calloop_core.specs.declared.sys.poll.Poll.{Poll}
-use Rattle.calloop_core.specs.Waits.{IsInterruption, asked_for, is_zero, Waited}
+use Rattle.calloop_core.specs.sys.Waits.{IsInterruption, asked_for, is_zero, Waited}
 use Rattle.calloop_core.proofs.Waiting.{answered, faulted, ended, interrupted}
 use Rattle.calloop_core.proofs.sys.poll.Poll.wait.Goals as goal
 

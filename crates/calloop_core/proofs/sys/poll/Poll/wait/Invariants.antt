@@ -1,10 +1,10 @@
 use Rattle.std.proofs.Common.{◌≡◌, ℕ, ◌+◌, ◌≤◌, List, [], Result, vec_capacity}
 use Rattle.std.specs.declared.io.Error.{Error as Cause}
 use Rattle.calloop_core.specs.declared.sys.Readiness.{Readiness}
-use Rattle.calloop_core.specs.Pollers.{nanos_of}
-use Rattle.calloop_core.specs.Polls.{poll_view}
-use Rattle.calloop_core.specs.Waits.{Interruption, Waits, Waited, after_looks}
-use Rattle.calloop_core.specs.Pollers.{faults_of}
+use Rattle.calloop_core.specs.sys.Pollers.{nanos_of}
+use Rattle.calloop_core.specs.sys.Polls.{poll_view}
+use Rattle.calloop_core.specs.sys.Waits.{Interruption, Waits, Waited, after_looks}
+use Rattle.calloop_core.specs.sys.Pollers.{faults_of}
 use Rattle.calloop_core.proofs.sys.poll.Poll.wait.Given as goal
 
 -- what the waits from now on end with, the whole wait ends with

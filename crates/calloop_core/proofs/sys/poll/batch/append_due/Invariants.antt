@@ -1,7 +1,7 @@
 use Rattle.std.proofs.Common.{◌≡◌, ◌+◌, ◌≤◌, ◌++◌, length}
 use Rattle.std.specs.VecDeque.{deque_len, deque_capacity}
 use Rattle.calloop_wake.specs.Deadlines.{due, not_due}
-use Rattle.calloop_core.specs.Polls.{timer_events}
+use Rattle.calloop_core.specs.sys.Polls.{timer_events}
 use Rattle.calloop_core.proofs.sys.poll.batch.append_due.Given as goal
 
 abbrev pub invariant-loop-entry : goal.invariant-loop-entry

@@ -1,6 +1,6 @@
-use Rattle.std.proofs.Common.{◌≡◌, ◌+◌, ◌≤◌, ◌++◌, drop}
+use Rattle.std.proofs.Common.{◌≡◌, ◌+◌, ◌++◌, drop}
 use Rattle.std.specs.VecDeque.{deque_len, deque_capacity}
-use Rattle.calloop_core.specs.Polls.{own_events}
+use Rattle.calloop_core.specs.sys.Polls.{own_events}
 use Rattle.calloop_core.proofs.sys.poll.batch.append_own.Given as goal
 
 abbrev pub invariant-loop-event : goal.invariant-loop-event

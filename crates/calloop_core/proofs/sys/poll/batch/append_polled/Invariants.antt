@@ -1,6 +1,6 @@
 use Rattle.std.proofs.Common.{◌≡◌, ◌+◌, ◌≤◌, ◌++◌, drop}
 use Rattle.std.specs.VecDeque.{deque_len, deque_capacity}
-use Rattle.calloop_core.specs.Polls.{polled_events}
+use Rattle.calloop_core.specs.sys.Polls.{polled_events}
 use Rattle.calloop_core.proofs.sys.poll.batch.append_polled.Given as goal
 
 abbrev pub invariant-loop-event : goal.invariant-loop-event

@@ -1,5 +1,5 @@
 use Rattle.std.proofs.Common.{◌≡◌, get_or, arith, ap}
-use Rattle.calloop_wake.specs.Passes.{Taken}
+use Rattle.calloop_wake.specs.wake.Passes.{Taken}
 use Rattle.calloop_core.proofs.Gathering.{rising-at}
 use Rattle.calloop_core.proofs.sys.poll.batch.append_posted.Goals as goal
 

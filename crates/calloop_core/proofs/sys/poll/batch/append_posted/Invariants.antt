@@ -1,8 +1,8 @@
 use Rattle.std.proofs.Common.{◌≡◌, ◌+◌, ◌≤◌, ◌++◌, drop, map}
 use Rattle.std.specs.VecDeque.{deque_len, deque_capacity}
-use Rattle.calloop_wake.specs.Boards.{IsRising}
-use Rattle.calloop_core.specs.Polls.{posted_events}
-use Rattle.calloop_core.specs.Batches.{key_of_pass}
+use Rattle.calloop_wake.specs.wake.Boards.{IsRising}
+use Rattle.calloop_core.specs.sys.Polls.{posted_events}
+use Rattle.calloop_core.specs.sys.Batches.{key_of_pass}
 use Rattle.calloop_core.proofs.sys.poll.batch.append_posted.Given as goal
 
 abbrev pub invariant-loop-i : goal.invariant-loop-i

@@ -1,6 +1,6 @@
 use Rattle.std.specs.Arc.{arc_value}
 use Rattle.std.specs.VecDeque.{deque_len}
-use Rattle.calloop_wake.specs.Passes.{AreOf}
+use Rattle.calloop_wake.specs.wake.Passes.{AreOf}
 use Rattle.calloop_core.proofs.sys.poll.batch.give_all_back.Given as goal
 
 abbrev pub invariant-loop-pass : goal.invariant-loop-pass

@@ -1,7 +1,7 @@
 use Rattle.std.proofs.Common.{ap, arith}
 use Rattle.calloop_wake.specs.Tokens.{key_of}
-use Rattle.calloop_core.specs.Tables.{watched_at, with_key}
-use Rattle.calloop_core.specs.WrongSteps.{token_of_second, to_be_read}
+use Rattle.calloop_core.specs.sys.Tables.{watched_at, with_key}
+use Rattle.calloop_core.specs.sys.WrongSteps.{token_of_second, to_be_read}
 use Rattle.calloop_core.proofs.sys.poll.table.wrong_steps_are_ruled_out.Goals as goal
 
 pub returns : goal.returns

@@ -1,5 +1,5 @@
 use Rattle.std.proofs.Common.{false, rules, refl, inl, ap}
-use Rattle.calloop_core.specs.ScriptCalls.{with_failing}
+use Rattle.calloop_core.specs.sys.ScriptCalls.{with_failing}
 use Rattle.calloop_core.specs.declared.sys.script.calls.ScriptKind.{ScriptKind}
 use Rattle.calloop_core.proofs.sys.script.ScriptPoller.call.Goals as goal
 

@@ -1,6 +1,6 @@
 use Rattle.std.proofs.Common.{rules, sym, [], refl, arith}
 use Rattle.std.proofs.lemmas.List.{append-nil}
-use Rattle.calloop_core.specs.Pollers.{nanos_of}
+use Rattle.calloop_core.specs.sys.Pollers.{nanos_of}
 use Rattle.calloop_core.proofs.Scripted.{interrupted, faulted}
 use Rattle.calloop_core.proofs.sys.script.ScriptPollerPoller.wait.Goals as goal
 

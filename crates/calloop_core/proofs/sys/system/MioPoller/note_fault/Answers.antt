@@ -1,6 +1,6 @@
 use Rattle.std.proofs.Common.{◌≡◌, true, false, is_err, Result, Ok, Err, refl, arith}
 use Rattle.std.specs.declared.io.Error.{Error as Cause}
-use Rattle.calloop_core.specs.Pollers.{faults_of}
+use Rattle.calloop_core.specs.sys.Pollers.{faults_of}
 use Rattle.calloop_core.proofs.sys.system.MioPoller.note_fault.Goals as goal
 
 one : (answer : Result (Unit {0}) Cause) → true ≡ is_err answer → faults_of answer ≡ 1

@@ -1,8 +1,8 @@
 use Rattle.std.proofs.Common.{◌≡◌, refl, sym, ap, ◌∙◌}
 use Rattle.mio.specs.Events.{items}
 use Rattle.calloop_core.specs.declared.sys.system.MioPoller.{MioPoller}
-use Rattle.calloop_core.specs.Pollers.{failure_of}
-use Rattle.calloop_core.specs.SystemEvents.{told_events}
+use Rattle.calloop_core.specs.sys.Pollers.{failure_of}
+use Rattle.calloop_core.specs.sys.SystemEvents.{told_events}
 use Rattle.calloop_core.proofs.sys.system.MioPollerPoller.wait.Goals as goal
 
 with_faults : {C : Type 0} (p q : MioPoller C) → q ≡ record p { poll = q.poll; found = q.found } → q ≡ record p { poll = q.poll; found = q.found; faults = q.faults }

@@ -1,5 +1,5 @@
 use Rattle.std.proofs.Common.{◌≡◌, ◌+◌, ◌≤◌, ◌++◌, drop, vec_len, vec_capacity}
-use Rattle.calloop_core.specs.SystemEvents.{told_events}
+use Rattle.calloop_core.specs.sys.SystemEvents.{told_events}
 use Rattle.calloop_core.proofs.sys.system.found.append.Given as goal
 
 abbrev pub invariant-loop-event : goal.invariant-loop-event

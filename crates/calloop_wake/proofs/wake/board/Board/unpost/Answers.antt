@@ -1,8 +1,9 @@
 use Rattle.std.proofs.Common.{◌≡◌, ◌∙◌, sym, ap, subst, List, ℕ, min, length, take, map, ◌++◌, ◌+◌, deque_len}
 use Rattle.std.specs.Ordering.{nat_cmp}
 use Rattle.std.specs.List.Sorted.{IsPermutation, IsSorted}
-use Rattle.calloop_wake.specs.Boards.{bound, after_unpost, keys_within, fresh_pass}
-use Rattle.calloop_wake.specs.Posts.{places_of, posted_keys}
+use Rattle.calloop_wake.specs.wake.Boards.{bound, after_unpost, keys_within, fresh_pass}
+use Rattle.calloop_wake.specs.wake.Posts.{places_of, posted_keys}
+use Rattle.calloop_wake.specs.wake.Watches.{Watched, with_places}
 use Rattle.calloop_wake.specs.declared.wake.board.Place.{Place}
 use Rattle.calloop_wake.proofs.Places.{taken_keys-rising, keys-within}
 use Rattle.calloop_wake.proofs.Posted.{unposted, taken_are, listed_open, sorted_once, sorted_is}
@@ -36,7 +37,7 @@ returns-clause-board c =
     let sorted : IsSorted nat_cmp s = subst (λ (l : List ℕ). IsSorted nat_cmp l) (sym c.deref.ensures.value) c.sort_unstable.ensures.sorted in
     let gone : c.min-gone.result ≡ min c.args.room (length s) = c.min-gone.ensures ∙ ap (λ n. min c.args.room n) (c.len.ensures ∙ c.sort_unstable.new.self.ok.0 ∙ ap (λ (l : List ℕ). length l) (sym c.deref.ensures.value)) in
     let after = unposted c.args.room c.min-gone.result c.self.inside.places c.renumber.new.places c.self.inside.posted.items s _ c.self.invariant moves sorted c.renumber.ensures.standing c.renumber.ensures.keys gone in
-    after.0 ∙ ap (λ (l : List Place). after_unpost (bound c.args.room l) l) c.self.view_is
+    ap (λ (l : List Place). record { places = l; name = c.self.inside.name }) after.0 ∙ ap (λ (w : Watched). with_places (after_unpost (bound c.args.room w.places) w.places) w) c.self.view_is
 
 pub returns-clause-gives : goal.returns-clause-gives
 returns-clause-gives c =
@@ -44,10 +45,10 @@ returns-clause-gives c =
     let moves : IsPermutation c.self.inside.posted.items s = subst (λ (l : List ℕ). IsPermutation c.self.inside.posted.items l) (sym c.deref.ensures.value) c.sort_unstable.ensures.permutation in
     let sorted : IsSorted nat_cmp s = subst (λ (l : List ℕ). IsSorted nat_cmp l) (sym c.deref.ensures.value) c.sort_unstable.ensures.sorted in
     let gone : c.min-gone.result ≡ min c.args.room (length s) = c.min-gone.ensures ∙ ap (λ n. min c.args.room n) (c.len.ensures ∙ c.sort_unstable.new.self.ok.0 ∙ ap (λ (l : List ℕ). length l) (sym c.deref.ensures.value)) in
-    let keys : take c.min-gone.result c.deref-2.result.now ≡ keys_within c.args.room c.args.self.now =
+    let keys : take c.min-gone.result c.deref-2.result.now ≡ keys_within c.args.room c.args.self.now.places =
     ap (λ (l : List ℕ). take c.min-gone.result l) (c.deref-2.ensures.value ∙ sym c.deref.ensures.value)
-    ∙ taken_are c.args.room c.min-gone.result c.self.inside.places c.self.inside.posted.items s _ c.self.invariant moves sorted gone ∙ ap (λ (l : List Place). keys_within c.args.room l) c.self.view_is in
-    c.give.ensures.items ∙ ap (λ (l : List ℕ). c.args.passes.now.items ++ map (fresh_pass c.args.name.now) l) keys
+    ∙ taken_are c.args.room c.min-gone.result c.self.inside.places c.self.inside.posted.items s _ c.self.invariant moves sorted gone ∙ ap (λ (w : Watched). keys_within c.args.room w.places) c.self.view_is in
+    c.give.ensures.items ∙ ap (λ (l : List ℕ). c.args.passes.now.items ++ map (fresh_pass c.self.inside.name) l) keys ∙ ap (λ (w : Watched). c.args.passes.now.items ++ map (fresh_pass w.name) (keys_within c.args.room c.args.self.now.places)) c.self.view_is
 
 pub returns-clause-len : goal.returns-clause-len
 returns-clause-len c =
@@ -55,9 +56,9 @@ returns-clause-len c =
     let moves : IsPermutation c.self.inside.posted.items s = subst (λ (l : List ℕ). IsPermutation c.self.inside.posted.items l) (sym c.deref.ensures.value) c.sort_unstable.ensures.permutation in
     let sorted : IsSorted nat_cmp s = subst (λ (l : List ℕ). IsSorted nat_cmp l) (sym c.deref.ensures.value) c.sort_unstable.ensures.sorted in
     let gone : c.min-gone.result ≡ min c.args.room (length s) = c.min-gone.ensures ∙ ap (λ n. min c.args.room n) (c.len.ensures ∙ c.sort_unstable.new.self.ok.0 ∙ ap (λ (l : List ℕ). length l) (sym c.deref.ensures.value)) in
-    let keys : take c.min-gone.result c.deref-2.result.now ≡ keys_within c.args.room c.args.self.now =
+    let keys : take c.min-gone.result c.deref-2.result.now ≡ keys_within c.args.room c.args.self.now.places =
     ap (λ (l : List ℕ). take c.min-gone.result l) (c.deref-2.ensures.value ∙ sym c.deref.ensures.value)
-    ∙ taken_are c.args.room c.min-gone.result c.self.inside.places c.self.inside.posted.items s _ c.self.invariant moves sorted gone ∙ ap (λ (l : List Place). keys_within c.args.room l) c.self.view_is in
+    ∙ taken_are c.args.room c.min-gone.result c.self.inside.places c.self.inside.posted.items s _ c.self.invariant moves sorted gone ∙ ap (λ (w : Watched). keys_within c.args.room w.places) c.self.view_is in
     c.give.ensures.len ∙ ap (λ (l : List ℕ). deque_len c.args.passes.now + length l) keys
 
 pub returns-clause-rising : goal.returns-clause-rising
@@ -72,4 +73,4 @@ returns-clause-steps c =
     let moves : IsPermutation c.self.inside.posted.items s = subst (λ (l : List ℕ). IsPermutation c.self.inside.posted.items l) (sym c.deref.ensures.value) c.sort_unstable.ensures.permutation in
     let sorted : IsSorted nat_cmp s = subst (λ (l : List ℕ). IsSorted nat_cmp l) (sym c.deref.ensures.value) c.sort_unstable.ensures.sorted in
     let gone : c.min-gone.result ≡ min c.args.room (length s) = c.min-gone.ensures ∙ ap (λ n. min c.args.room n) (c.len.ensures ∙ c.sort_unstable.new.self.ok.0 ∙ ap (λ (l : List ℕ). length l) (sym c.deref.ensures.value)) in
-    c.renumber.ensures.steps ∙ ap (λ (l : List ℕ). length l) (sorted_is c.self.inside.places c.self.inside.posted.items s _ c.self.invariant moves sorted) ∙ ap (λ (l : List Place). length (posted_keys l)) c.self.view_is
+    c.renumber.ensures.steps ∙ ap (λ (l : List ℕ). length l) (sorted_is c.self.inside.places c.self.inside.posted.items s _ c.self.invariant moves sorted) ∙ ap (λ (w : Watched). length (posted_keys w.places)) c.self.view_is

@@ -1,5 +1,5 @@
 use Rattle.std.proofs.Common.{rules, ◌≡◌, true, false}
-use Rattle.calloop_wake.specs.Executors.{inside_cell, opens, at_start}
+use Rattle.calloop_wake.specs.wake.Executors.{inside_cell, opens, at_start}
 use Rattle.calloop_wake.proofs.Inside.{of-bell}
 use Rattle.calloop_wake.proofs.ExecutorSteps.{in_turn-keeps}
 use Rattle.calloop_wake.proofs.wake.executor.ExecutorCore.begin_turn.Goals as goal

@@ -1,5 +1,5 @@
 use Rattle.std.proofs.Common.{rules}
-use Rattle.calloop_wake.specs.Executors.{cell_of}
+use Rattle.calloop_wake.specs.wake.Executors.{cell_of}
 use Rattle.calloop_wake.proofs.ExecutorSteps.{awake}
 use Rattle.calloop_wake.proofs.wake.executor.ExecutorCore.is_awake.Goals as goal
 

@@ -1,6 +1,6 @@
 use Rattle.std.proofs.Common.{rules, sym, subst}
 use Rattle.atomic_table.specs.Table.{Allows}
-use Rattle.calloop_wake.specs.Locks.{IsLock}
+use Rattle.calloop_wake.specs.wake.Locks.{IsLock}
 use Rattle.calloop_wake.proofs.Locking.{gives_back, told}
 use Rattle.calloop_wake.proofs.wake.locked.Held.unlock_with_hint.Goals as goal
 

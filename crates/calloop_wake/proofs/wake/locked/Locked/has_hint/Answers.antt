@@ -1,5 +1,5 @@
 use Rattle.std.proofs.Common.{rules, ◌≡◌, ◌+◌, subst}
-use Rattle.calloop_wake.specs.Locks.{WasHinted}
+use Rattle.calloop_wake.specs.wake.Locks.{WasHinted}
 use Rattle.calloop_wake.proofs.Locking.{looks, looks_again}
 use Rattle.calloop_wake.proofs.wake.locked.Locked.has_hint.Goals as goal
 

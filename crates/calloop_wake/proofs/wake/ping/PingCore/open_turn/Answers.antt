@@ -1,7 +1,7 @@
 use Rattle.std.proofs.Common.{◌≡◌, ◌∙◌, sym, ap, false, Some, Err, Result}
 use Rattle.logbook.specs.Pages.{Book}
-use Rattle.calloop_wake.specs.Passes.{Taken}
-use Rattle.calloop_wake.specs.Cells.{CoreView, opens, turn_of}
+use Rattle.calloop_wake.specs.wake.Passes.{Taken}
+use Rattle.calloop_wake.specs.wake.Cells.{CoreView, opens, turn_of}
 use Rattle.calloop_wake.specs.contracts.wake.ping.PingCore.{the_view}
 use Rattle.calloop_wake.specs.declared.wake.ping.PingCore.TheInside.{Inside}
 use Rattle.calloop_wake.specs.declared.wake.ping.OpenedTurn.{OpenedTurn}

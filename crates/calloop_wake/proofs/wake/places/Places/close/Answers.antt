@@ -1,5 +1,5 @@
 use Rattle.std.proofs.Common.{◌∙◌, Option, ℕ, None, sym, ap, is_some}
-use Rattle.calloop_wake.specs.Posts.{posted_at}
+use Rattle.calloop_wake.specs.wake.Posts.{posted_at}
 use Rattle.calloop_wake.proofs.BySlot.{standing_in_map, standing_nowhere, standing_by_slot, changes-from, slot_nothing, closed_slot, closed_map}
 use Rattle.calloop_wake.proofs.wake.places.Places.close.Goals as goal
 

@@ -1,5 +1,5 @@
 use Rattle.std.proofs.Common.{◌≡◌, ◌∙◌, sym, ap, Bool, not, Option, Some, true, false, ℕ, is_some}
-use Rattle.calloop_wake.specs.Posts.{is_quiet, by_slot_at}
+use Rattle.calloop_wake.specs.wake.Posts.{is_quiet, by_slot_at}
 use Rattle.calloop_wake.proofs.BySlot.{standing_by_slot, standing_in_map, standing_nowhere}
 use Rattle.calloop_wake.proofs.wake.places.Places.is_quiet.Goals as goal
 

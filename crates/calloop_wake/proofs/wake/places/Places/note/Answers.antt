@@ -1,6 +1,6 @@
 use Rattle.std.proofs.Common.{◌≡◌, ◌∙◌, Option, ℕ, Some, false, sym, ap, subst, is_some, IsSome}
 use Rattle.std.specs.Map.{keys_of}
-use Rattle.calloop_wake.specs.Posts.{standing_at, by_slot_at}
+use Rattle.calloop_wake.specs.wake.Posts.{standing_at, by_slot_at}
 use Rattle.calloop_wake.proofs.BySlot.{Entries, none_some, noted_slot, noted_map, standing_in_map, standing_nowhere, changes-from, keys-with}
 use Rattle.calloop_wake.proofs.wake.places.Places.note.Goals as goal
 

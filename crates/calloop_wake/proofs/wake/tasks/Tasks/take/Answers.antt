@@ -1,7 +1,7 @@
 use Rattle.std.proofs.Common.{rules, ◌≡◌, ◌∙◌, ◌∷◌, sym, ap, List, ℕ, Some, IfSome}
 use Rattle.futures.specs.LinkedLists.{items, without}
 use Rattle.futures.proofs.LinkLemmas.{without_first}
-use Rattle.calloop_wake.specs.Tasks.{TaskTable}
+use Rattle.calloop_wake.specs.wake.Tasks.{TaskTable}
 use Rattle.calloop_wake.proofs.wake.tasks.Tasks.take.Goals as goal
 
 -- the first of the queue has left it

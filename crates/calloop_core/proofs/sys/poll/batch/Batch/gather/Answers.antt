@@ -1,8 +1,8 @@
 use Rattle.std.proofs.Common.{◌≡◌, ◌++◌, refl, ap, sym, subst, arith}
 use Rattle.calloop_wake.specs.Deadlines.{due}
-use Rattle.calloop_wake.specs.Boards.{IsRising}
-use Rattle.calloop_core.specs.Polls.{posted_events, polled_events, timer_events}
-use Rattle.calloop_core.specs.Batches.{BatchView}
+use Rattle.calloop_wake.specs.wake.Boards.{IsRising}
+use Rattle.calloop_core.specs.sys.Polls.{posted_events, polled_events, timer_events}
+use Rattle.calloop_core.specs.sys.Batches.{BatchView}
 use Rattle.calloop_wake.proofs.Keyed.{are_of-taken}
 use Rattle.calloop_core.proofs.Gathering.{keys-new, events-gathered, events-polled, last_within, step-gathered}
 use Rattle.calloop_core.proofs.sys.poll.batch.Batch.gather.Goals as goal

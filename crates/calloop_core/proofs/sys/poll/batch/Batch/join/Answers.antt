@@ -1,5 +1,5 @@
 use Rattle.std.proofs.Common.{length-append, arith}
-use Rattle.calloop_core.specs.Polls.{own_events}
+use Rattle.calloop_core.specs.sys.Polls.{own_events}
 use Rattle.calloop_core.proofs.Gathering.{joined_in_step}
 use Rattle.calloop_core.proofs.sys.poll.batch.Batch.join.Goals as goal
 

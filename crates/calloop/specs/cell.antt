@@ -1,0 +1,3 @@
+-- What the contracts of `cell` cite.
+pub mod CellSources
+pub mod CellKeeping

@@ -1,0 +1,4 @@
+-- What the contracts of `channel` cite.
+pub mod Sends
+pub mod Channels
+pub mod ChannelKeeping

@@ -1,0 +1,4 @@
+-- What the contracts of `futures` cite.
+pub mod Polled
+pub mod Executors
+pub mod ExecutorKeeping

@@ -1,0 +1,3 @@
+-- What the contracts of `ping` cite.
+pub mod Pings
+pub mod PingKeeping

@@ -1,0 +1,53 @@
+-- What the three calls of `Poll` for a socket do. calloop's poller is called at once and refuses by descriptor; here
+-- the table refuses first, by key, then running out of memory, then the poller; after a refusal the table is as it was.
+use Rattle.std.specs.Prelude.{◌≡◌, ◌⊎◌, ◌∷◌, [], List, true, Option, None, Some, Result, Ok, Err}
+use Rattle.std.specs.declared.io.Error.{Error as Cause}
+use Rattle.std.specs.declared.io.ErrorKind.{ErrorKind}
+use Rattle.calloop_wake.specs.declared.error.Error.{Error}
+use Rattle.calloop_wake.specs.declared.error.Error.TheVariants.{IoError, OutOfMemory}
+use Rattle.calloop_core.specs.sys.Pollers.{Outside, Sockets, PollerCall}
+use Rattle.calloop_core.specs.sys.Tables.{Edit, cannot, grows, call_of, CalledFor}
+use Rattle.calloop_core.specs.sys.Polls.{PollView, PollStep, Socket, Fault, AllStepped, IsOfKind}
+
+-- a call's fault as an error of the loop
+abbrev pub as_loop : Result (Unit {0}) Cause → Result (Unit {0}) Error
+as_loop (Ok u) = Ok u
+as_loop (Err cause) = Err (IoError cause)
+
+-- the poller refused its call, which is the one step
+pub record IsFaulted
+    {P I : Type 0} (sockets : Sockets P I) (v : PollView P) (edit : Edit) (io : I) (e : Error)
+    (steps : List (PollStep P)) (io' : I) : Type 0 where
+  pub call : PollerCall
+  pub cause : Cause
+  pub after : P
+  pub wanted : call_of edit v.table ≡ Some call
+  pub told : e ≡ IoError cause
+  pub called : sockets v.poller io call (Err cause) after io'
+  pub stepped : steps ≡ Fault call cause after ∷ []
+
+-- what the table doesn't refuse is done, by one step; or there is no memory for a key that is new, and no poller was
+-- called
+abbrev pub Tried : {P I : Type 0} → Sockets P I → PollView P → Edit → I
+    → Result (Unit {0}) Error → List (PollStep P) → I → Type 0
+Tried {P} sockets v edit io (Ok u) steps io' =
+    (after : P) × CalledFor sockets v.poller io (call_of edit v.table) (Ok tt) after io'
+    × (steps ≡ Socket edit after ∷ [])
+Tried sockets v edit io (Err e) steps io' =
+    ((grows edit ≡ true) × (e ≡ OutOfMemory) × (steps ≡ []) × (io' ≡ io)) ⊎ IsFaulted sockets v edit io e steps io'
+
+-- by why the table refuses
+abbrev pub TriedUnless : {P I : Type 0} → Option ErrorKind → Sockets P I → PollView P → Edit → I
+    → Result (Unit {0}) Error → List (PollStep P) → I → Type 0
+TriedUnless None sockets v edit io answer steps io' = Tried sockets v edit io answer steps io'
+TriedUnless (Some kind) sockets v edit io answer steps io' =
+    (e : Error) × (answer ≡ Err e) × IsOfKind kind e × (steps ≡ []) × (io' ≡ io)
+
+abbrev pub Edits : {P I : Type 0} → Sockets P I → PollView P → Edit → I
+    → Result (Unit {0}) Error → List (PollStep P) → I → Type 0
+Edits sockets v edit io answer steps io' = TriedUnless (cannot edit v.table) sockets v edit io answer steps io'
+
+abbrev pub DidEdit : {P I : Type 0} → Outside P → Sockets P I → Edit → PollView P → I
+    → Result (Unit {0}) Error → PollView P → I → Type 0
+DidEdit {P} O sockets edit v io answer w io' =
+    (steps : List (PollStep P)) × Edits sockets v edit io answer steps io' × AllStepped O v steps w

@@ -1,0 +1,24 @@
+-- What the contracts of `wake` cite.
+pub mod Passes
+pub mod Cells
+pub mod Bells
+pub mod Channels
+pub mod Tasks
+pub mod Executors
+pub mod Boards
+pub mod Posts
+pub mod Wakes
+pub mod PingKind
+pub mod ChannelKind
+pub mod ExecutorKind
+pub mod Kinds
+pub mod Lost
+pub mod ExampleSchedules
+pub mod Delivery
+pub mod StepsOfCores
+pub mod Watches
+pub mod BoardNotes
+pub mod Marks
+pub mod Homes
+pub mod Locks
+pub mod LockLendings
