@@ -1,9 +1,10 @@
 //! What callbacks ask of the loop, and what came of it. A callback of calloop holds a handle of its loop instead, whose calls act
 //! at once, but for those on its own source.
-ghost use Rattle.std.specs.Prelude.{◌≡◌, ◌⊎◌, ◌+◌, ◌-◌, ◌^◌, ◌<◌, ◌≤◌, ◌++◌, [], None, filter, IfOk, IfErr, IfSome, IfNone, OnOk, vec_len, vec_capacity};
+ghost use Rattle.std.specs.Prelude.{◌≡◌, ◌⊎◌, ◌+◌, ◌-◌, ◌^◌, ◌<◌, ◌≤◌, ◌++◌, [], None, Some, filter, IfOk, IfErr, IfSome, IfNone, OnOk, vec_len, vec_capacity};
 ghost use Rattle.std.specs.VecDeque.{deque_len, deque_capacity};
 ghost use Rattle.calloop_wake.specs.declared.error.Error.TheVariants.{OutOfMemory, TooManyTickets};
 ghost use Rattle.calloop.specs.declared.loop_logic.asks.Request.TheVariants.{Insert, Enable, Update, Disable, Remove, Idle as IdleOf, Cancel};
+ghost use Rattle.calloop.specs.declared.loop_logic.asks.Answer.TheVariants.{Removed};
 ghost use Rattle.calloop.specs.loop_logic.Askings.{IsAsked, CannotAsk, OnlyAsks, StandsAt, Take, ask_after, after_begin, without_old, answer_under, idle_begun, is_other_idle, is_since, no_asks, of_turn, with_answer_owed, with_owed_answer, request_of, running_of, taken_up, with_answer, with_idle, with_new_idle, without, without_idle};
 
 use calloop_core::sources::{Asking, Choice, Dispatcher};
@@ -435,15 +436,18 @@ impl<D, I> Requests<D, I> {
         self.serving = None;
     }
 
-    // What is owed is answered.
-    pub(super) fn pay(&mut self, answer: Answer<D>)
+    // Hands back a source that left, where that answer is owed. Else it is dropped.
+    pub(super) fn hand_back(&mut self, left: D)
     where
         D: Drop,
-        ensures { self.new ≡ with_owed_answer answer self.old }
+        ensures { self.new ≡ with_owed_answer (Removed (Some left)) self.old }
     {
         if let Some(ticket) = self.owed {
             self.owed = None;
-            self.answers.push_reserved(Answered { ticket, answer });
+            self.answers.push_reserved(Answered {
+                ticket,
+                answer: Answer::Removed(Some(left)),
+            });
         }
     }
 

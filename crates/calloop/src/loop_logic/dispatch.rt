@@ -13,7 +13,7 @@ ghost use Rattle.calloop_wake.specs.Failures.{with_error};
 ghost use Rattle.calloop_wake.specs.Slots.{content_at, is_in_turn};
 ghost use Rattle.calloop.specs.loop_logic.Rules.{Case, DispatchedBy, Did, Leads, Goes, Cutting, Ending, Returning, Idling, RunningIdles, Leaving, Outcome, action_of, after_batch, after_idle, after_turn, after_hand_out};
 
-use super::asks::{Answer, Requests};
+use super::asks::Requests;
 use super::lifecycle::Lifecycle;
 use super::registering::Registering;
 use super::signal::LoopSignal;
@@ -206,7 +206,7 @@ impl<D: EventDispatcher<P, C, R>, P: Poller, C: Clock, R: Wait + Drop> EventLoop
         let mut failure = Error::OutOfMemory;
         let told = self.unregister(token, &mut left, &mut failure);
         self.warnings.note_failure(told, failure);
-        self.requests.pay(Answer::Removed(Some(left)));
+        self.requests.hand_back(left);
     }
 
     // The post action of a turn; after an error there is none. `Remove` empties the source's slot.

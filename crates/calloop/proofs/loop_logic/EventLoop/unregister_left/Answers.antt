@@ -7,7 +7,7 @@ use Rattle.calloop.proofs.loop_logic.EventLoop.unregister_left.Goals as goal
 
 pub returns-clause-machine : goal.returns-clause-machine
 returns-clause-machine g c told x =
-    rw c.pay.ensures
+    rw c.hand_back.ensures
     (gone g.D.Dispatch.means g.D.Idle.IdleCallback.runs g.P.Poller.outside c.args.token (view_of c.args.self.now) (view_of c.unregister-told.new.self) c.args.left c.unregister-told.new.source told (with_error c.unregister-told.result c.unregister-told.new.failure) c.note_failure.ensures.0
     c.note_failure.new.self.errors.items x c.requires c.unregister-told.ensures.deed c.note_failure.ensures.1)
 
