@@ -2,7 +2,7 @@
 //! the cell, so they lie apart from it.
 ghost use Rattle.std.specs.Prelude.{◌≡◌, ◌≢◌, ◌+◌, [], ℕ, None, Some, IfOk, IfErr, IfSome, IfNone, true, false};
 ghost use Rattle.slab.specs.Slab.{get as value_at};
-ghost use Rattle.calloop_wake.specs.wake.Homes.{place_in};
+ghost use Rattle.calloop_wake.specs.wake.Homes.{place_in, places_of};
 ghost use Rattle.calloop_wake.specs.declared.wake.homes.Place.TheVariants.{Empty, Here};
 
 use super::ghosts::{Count, Name};
@@ -289,6 +289,7 @@ impl<F: Drop> Homes<F> {
 
     /// The executor is gone: its futures come out, to be dropped outside of the lock.
     pub fn close(&mut self) -> Option<Slab<Place<F>>>
+        ensures gives { places_of result ≡ self.old.places }
         ensures gone { self.new.gone ≡ true }
         ensures places { (home : ℕ) → place_in self.new home ≡ None }
         ensures name { self.new.name ≡ self.old.name }
