@@ -32,3 +32,4 @@ pub mod CellTurns
 pub mod Blocking
 pub mod Adapting
 pub mod Limits
+pub mod Standing

@@ -1,6 +1,6 @@
 //! What callbacks ask of the loop, and what came of it. A callback of calloop holds a handle of its loop instead, whose calls act
 //! at once, but for those on its own source.
-ghost use Rattle.std.specs.Prelude.{◌≡◌, ◌⊎◌, ◌+◌, ◌-◌, ◌^◌, ◌<◌, ◌≤◌, ◌++◌, [], None, Some, filter, IfOk, IfErr, IfSome, IfNone, OnOk, vec_len, vec_capacity};
+ghost use Rattle.std.specs.Prelude.{◌≡◌, true, ◌⊎◌, ◌+◌, ◌-◌, ◌^◌, ◌<◌, ◌≤◌, ◌++◌, [], None, Some, filter, IfOk, IfErr, IfSome, IfNone, OnOk, vec_len, vec_capacity};
 ghost use Rattle.std.specs.VecDeque.{deque_len, deque_capacity};
 ghost use Rattle.calloop_wake.specs.declared.error.Error.TheVariants.{OutOfMemory, TooManyTickets};
 ghost use Rattle.calloop.specs.declared.loop_logic.asks.Request.TheVariants.{Insert, Enable, Update, Disable, Remove, Idle as IdleOf, Cancel};
@@ -404,6 +404,13 @@ impl<D, I> Requests<D, I> {
         ensures { self.new ≡ record self.old { turn = older } }
     {
         self.turn = older;
+    }
+
+    // Whether nothing is asked for.
+    pub(super) fn has_none(&self) -> bool
+        ensures { result ≡ true → self.now.written ≡ [] }
+    {
+        self.written.is_empty()
     }
 
     // The first request, which is carried out from now on.

@@ -10,8 +10,9 @@ ghost use Rattle.calloop.specs.loop_logic.Machine.{BeginsAnew, view_of};
 ghost use Rattle.calloop.specs.loop_logic.Loops.{poller_of, clock_of};
 ghost use Rattle.calloop_wake.specs.declared.error.Error.{Error};
 ghost use Rattle.calloop_wake.specs.Failures.{with_error};
-ghost use Rattle.calloop_wake.specs.Slots.{content_at, is_in_turn};
-ghost use Rattle.calloop.specs.loop_logic.Rules.{Case, DispatchedBy, Did, Leads, Goes, Cutting, Ending, Returning, Idling, RunningIdles, Leaving, Outcome, action_of, after_batch, after_idle, after_turn, after_hand_out};
+ghost use Rattle.calloop_wake.specs.Slots.{content_at, is_in_turn, with_change, with_content};
+ghost use Rattle.calloop_wake.specs.declared.list.Content.TheVariants.{Source, InTurn};
+ghost use Rattle.calloop.specs.loop_logic.Rules.{Case, DispatchedBy, Did, Leads, Goes, Cutting, Serving, Ending, Returning, Idling, RunningIdles, Leaving, Outcome, action_of, after_batch, after_idle, after_turn, after_hand_out};
 
 use super::asks::Requests;
 use super::lifecycle::Lifecycle;
@@ -139,7 +140,7 @@ impl<D: EventDispatcher<P, C, R>, P: Poller, C: Clock, R: Wait + Drop> EventLoop
             return Ok(false);
         };
         let token = event.token.registration();
-        let Some(mut source) = self.sources.begin_turn(token) else {
+        let Ok(source) = self.sources.get_mut(token) else {
             self.poll.end_event();
             return Ok(true);
         };
@@ -154,6 +155,56 @@ impl<D: EventDispatcher<P, C, R>, P: Poller, C: Clock, R: Wait + Drop> EventLoop
         );
         self.requests.leave_turn(outer);
         self.poll.end_event();
+        self.go_on(token, answer, failure)
+    }
+
+    // What follows a turn that a source had in its slot. It stays there where nothing was asked for and nothing is to be done with it.
+    fn go_on(
+        &mut self,
+        token: RegistrationToken,
+        answer: Result<PostAction, Failed>,
+        failure: &mut Error,
+    ) -> Result<bool, Failed>
+        ensures machine { (d : D) (x : D.Data)
+            → content_at self.old.sources token ≡ Source d
+            → Goes D.means D.Idle.runs P.outside
+            (Serving token d (with_error answer failure.old) x)
+            (after_hand_out (with_error result failure.new) x)
+            (record (view_of self.old) {
+              slots = with_change (with_content InTurn) self.old.sources token.slot;
+            }) (view_of self.new) }
+        ensures batch { self.new.poll.batch.events ≡ self.old.poll.batch.events }
+    {
+        if self.requests.has_none() {
+            if let Ok(PostAction::Continue) = action_of(answer, self.pending) {
+                return Ok(true);
+            }
+        }
+        self.take_out_and_end(token, answer, failure)
+    }
+
+    // What was asked for is carried out, and the post action is taken, while the source is out of its slot. A function of its own, so
+    // that the turns of sources that stay need no room for one.
+    #[inline(never)]
+    fn take_out_and_end(
+        &mut self,
+        token: RegistrationToken,
+        answer: Result<PostAction, Failed>,
+        failure: &mut Error,
+    ) -> Result<bool, Failed>
+        ensures machine { (d : D) (x : D.Data)
+            → content_at self.old.sources token ≡ Source d
+            → Goes D.means D.Idle.runs P.outside
+            (Serving token d (with_error answer failure.old) x)
+            (after_hand_out (with_error result failure.new) x)
+            (record (view_of self.old) {
+              slots = with_change (with_content InTurn) self.old.sources token.slot;
+            }) (view_of self.new) }
+        ensures batch { self.new.poll.batch.events ≡ self.old.poll.batch.events }
+    {
+        let Some(source) = self.sources.begin_turn(token) else {
+            return Ok(true);
+        };
         self.serve_all();
         self.end_turn(token, source, answer, failure)
     }
@@ -193,9 +244,7 @@ impl<D: EventDispatcher<P, C, R>, P: Poller, C: Clock, R: Wait + Drop> EventLoop
         }
     }
 
-    // Unregisters a source that left its slot in its turn, and drops it or hands it back; a failure is a warning. A function of its
-    // own, so that the turns of sources that stay need no room for an error.
-    #[inline(never)]
+    // Unregisters a source that left its slot in its turn, and drops it or hands it back; a failure is a warning.
     fn unregister_left(&mut self, token: RegistrationToken, mut left: D)
         requires { is_in_turn (content_at (view_of self.old).slots token) ≡ false }
         ensures machine { (told : Outcome) (x : D.Data)
