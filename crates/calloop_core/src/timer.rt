@@ -126,6 +126,7 @@ impl Timer {
     }
 
     // Takes the older arming back.
+    #[inline(always)]
     fn release<P: Poller, C, R: Wait + Drop>(&mut self, poll: &mut Poll<P, C, R>)
         ensures timer { self.new ≡ fresh_timer self.old.deadline }
         ensures steps { AllStepped P.outside (poll_view poll.old)
@@ -139,6 +140,7 @@ impl Timer {
     }
 
     // Arms what isn't armed, where it has a deadline.
+    #[inline(always)]
     fn arm<P: Poller, C, R: Wait + Drop>(
         &mut self,
         poll: &mut Poll<P, C, R>,
@@ -276,6 +278,7 @@ impl<P: Poller, C, R: Wait + Drop> EventSource<P, C, R> for Timer {
 
     /// Takes an older arming back, and arms the timer for its deadline under the factory's next token, where it has one.
     /// A refusal leaves it unarmed, with its deadline.
+    #[inline(always)]
     fn register(&mut self, poll: &mut Poll<P, C, R>, factory: &mut TokenFactory) -> LoopResult<()> {
         self.release(poll);
         self.arm(poll, factory)

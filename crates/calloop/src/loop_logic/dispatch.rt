@@ -77,6 +77,7 @@ impl<D: EventDispatcher<P, C, R>, P: Poller, C: Clock, R: Wait + Drop> EventLoop
     /// stand then run once each, in order, with what each asks for after it; later ones wait for the next dispatch, and after an error
     /// none runs. Warnings of before are cleared at the beginning, and so are answers to what was asked for before idles were last
     /// taken up.
+    #[inline(always)]
     pub fn dispatch<Q: Wait>(
         &mut self,
         rt: &Q,
@@ -97,6 +98,7 @@ impl<D: EventDispatcher<P, C, R>, P: Poller, C: Clock, R: Wait + Drop> EventLoop
     }
 
     // The dispatch, whose error stands in `failure`. That is `OutOfMemory` before it.
+    #[inline(never)]
     fn dispatch_with<Q: Wait>(
         &mut self,
         rt: &Q,
