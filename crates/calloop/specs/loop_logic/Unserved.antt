@@ -1,5 +1,5 @@
 -- Small dispatches that don't do what the laws over each dispatch say, and what is told of one that there is.
-use Rattle.std.specs.Prelude.{ℕ, false, List, [], ◌∷◌, None}
+use Rattle.std.specs.Prelude.{◌≡◌, ℕ, false, List, [], ◌∷◌, None}
 use Rattle.logbook.specs.Pages.{Book}
 use Rattle.calloop_wake.specs.declared.wheel.Entry.{Entry}
 use Rattle.calloop_wake.specs.declared.wake.notes.Note.TheVariants.{Counted, Looked, Marked}
@@ -10,7 +10,7 @@ use Rattle.calloop_core.specs.sys.Polls.{ready_to_read, timer_event}
 use Rattle.calloop.specs.declared.loop_logic.asks.Idling.{Idling as Waiter}
 use Rattle.calloop.specs.loop_logic.Askings.{no_asks}
 use Rattle.calloop.specs.loop_logic.ExampleRun.{Only, five, new_world, of_the_insertion, of_the_exchange, of_the_dispatch}
-use Rattle.calloop.specs.loop_logic.Held.{Cleared, IdlesTaken}
+use Rattle.calloop.specs.loop_logic.Held.{Cleared, IdlesTaken, IdleBegun}
 use Rattle.calloop.specs.loop_logic.Laws.{flatten}
 use Rattle.calloop.specs.loop_logic.Machine.{View, Polling, Watching, Counting, Holds, Appended, Gathered, Cut, Ended, visible, after_change, all_viewed}
 use Rattle.calloop.specs.loop_logic.Rules.{all_traced}
@@ -80,6 +80,16 @@ one_idle = record { ticket = 0; idle = tt }
 abbrev pub idle_waits : Book → SmallView
 idle_waits name = that_waits name [] [] (one_idle ∷ [])
 
+-- of two idles it begins the first one alone
+abbrev pub runs_one_idle : List SmallChange
+runs_one_idle = Gathered [] [] 5 ∷ Holds IdlesTaken ∷ Holds IdleBegun ∷ []
+
+abbrev pub later_idle : Waiter (Unit {0})
+later_idle = record { ticket = 1; idle = tt }
+
+abbrev pub two_idles_wait : Book → SmallView
+two_idles_wait name = that_waits name [] [] (one_idle ∷ later_idle ∷ [])
+
 -- What is told of dispatches, which the laws rule out.
 
 -- both events were cut, in the other order
@@ -123,6 +133,30 @@ first_stays name = that_leaves name (armed_for 5 7)
 
 abbrev pub second_stays : Book → SmallAccount
 second_stays name = that_leaves name (armed_for 7 5)
+
+-- the timers of two slots, armed for 3 and 4
+abbrev pub two_overdue : List Entry
+two_overdue =
+    entry_of 0 (record { nanos = 3 }) (event_for 0).token ∷ entry_of 1 (record { nanos = 4 }) (event_for 1).token ∷ []
+
+-- it gathered them at 5, and cut the first one's event alone
+abbrev pub cuts_the_first_timer : Book → SmallAccount
+cuts_the_first_timer name =
+    record {
+      began = that_waits name [] two_overdue [];
+      now = 5;
+      before = that_waits name [] two_overdue [];
+      gathered = that_waits name two_events [] [];
+      cut = event_for 0 ∷ [];
+      round = [];
+      begun = [];
+      cancelled = [];
+      ended = that_waits name [] [] [];
+    }
+
+-- A law that some dispatches keep, and not all: so to hold over every dispatch says something of each.
+abbrev pub NothingIsCut : {D I P : Type 0} → Account D I P → Type 0
+NothingIsCut a = a.cut ≡ []
 
 -- What is told of the dispatch of the run that there is: it gathered at 5, and cut the event of the timer for 5.
 abbrev pub before_its_dispatch : Book → View Only (Unit {0}) (Unit {0})

@@ -2,7 +2,7 @@
 use Rattle.std.specs.Prelude.{◌≡◌, ℕ, [], ◌∷◌, Some, None, Ok, Err}
 use Rattle.calloop_wake.specs.declared.token.Token.{Token}
 use Rattle.calloop_wake.specs.declared.token.RegistrationToken.{RegistrationToken}
-use Rattle.calloop_wake.specs.declared.list.Content.TheVariants.{Vacant, Source}
+use Rattle.calloop_wake.specs.declared.list.Content.TheVariants.{Vacant, Source, InTurn}
 use Rattle.calloop_wake.specs.Deadlines.{entry_of}
 use Rattle.calloop_wake.specs.Tokens.{key_of}
 use Rattle.calloop_core.specs.sources.Deeds.{Lent}
@@ -182,3 +182,60 @@ asked_twice =
 -- one ticket was given, and nothing stands under it
 abbrev pub one_ticket : Asks (Unit {0}) (Unit {0})
 one_ticket = record no_asks { next = 1 }
+
+-- a slot whose source is in its turn
+abbrev pub in_its_turn : Registration (Unit {0})
+in_its_turn = record { reuse = 0; content = InTurn }
+
+-- one that was called for by an arming which isn't the one that was gathered, though it has its number
+abbrev pub called_for : Arming → Ledger
+called_for other =
+    record new_ledger {
+      cut = gathered_at 5 ∷ [];
+      made = first_arming ∷ [];
+      count = 1;
+      calls = record { deadline = other.deadline; arming = Some other } ∷ [];
+    }
+
+-- it has another deadline, which is before the moment of the gathering, too; or another counter
+abbrev pub with_another_deadline : Arming
+with_another_deadline = record first_arming { deadline = record { nanos = 4 } }
+
+abbrev pub with_another_counter : Arming
+with_another_counter = record first_arming { counter = 1 }
+
+-- one that was called for by an arming which has the counter and the deadline of the one that was gathered, and the number of a later one
+abbrev pub with_another_number : Arming
+with_another_number = record first_arming { number = 1 }
+
+abbrev pub called_for_the_later_one : Ledger
+called_for_the_later_one =
+    record new_ledger {
+      cut =
+          gathered_at 5
+          ∷ record (gathered_at 5) { origin = Due (record { number = 1; counter = 1; deadline = record { nanos = 5 } }) 5 }
+          ∷ [];
+      made = record { number = 1; counter = 1; deadline = record { nanos = 5 } } ∷ first_arming ∷ [];
+      count = 2;
+      calls = record { deadline = record { nanos = 5 }; arming = Some with_another_number } ∷ [];
+    }
+
+-- one was made, and one more stands in the batch
+abbrev pub with_one_never_made : Ledger
+with_one_never_made =
+    record new_ledger {
+      batch =
+          record (gathered_at 5) { origin = Due (record { number = 1; counter = 1; deadline = record { nanos = 5 } }) 5 } ∷ [];
+      cut = gathered_at 5 ∷ [];
+      made = first_arming ∷ [];
+      count = 1;
+    }
+
+-- one answer stands under a ticket whose request is carried out yet, or whose answer is owed yet
+abbrev pub answered_while_served : Asks (Unit {0}) (Unit {0})
+answered_while_served =
+    record no_asks { next = 1; answers = record { ticket = 0; answer = Done } ∷ []; serving = Some 0 }
+
+abbrev pub answered_while_owed : Asks (Unit {0}) (Unit {0})
+answered_while_owed =
+    record no_asks { next = 1; answers = record { ticket = 0; answer = Done } ∷ []; owed = Some 0 }

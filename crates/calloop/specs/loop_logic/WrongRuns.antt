@@ -270,6 +270,22 @@ with_one_event name =
           };
     }
 
+-- `Poll` has the deadline for 7 before the one for 5
+abbrev pub with_a_later_deadline_first : Book → SmallWorld
+with_a_later_deadline_first name =
+    record (with_ledger name new_ledger) {
+      poll =
+          record (untouched_poll name) {
+            deadlines = record {
+              entries =
+                  entry_of 0 (record { nanos = 7 }) first_token
+                  ∷ entry_of 1 (record { nanos = 5 }) first_token
+                  ∷ [];
+              next = 2;
+            };
+          };
+    }
+
 -- sources that are the keys which they are registered under, and stay as they are
 abbrev pub keys_alone : Meaning ℕ (Unit {0}) (Lent (Unit {0}) (Asks ℕ (Unit {0})))
 keys_alone = record (still (λ s v deed t. t ≡ s)) { keys = λ s key. key ≡ s }

@@ -7,6 +7,7 @@ ghost use Rattle.calloop.specs.loop_logic.Rules.{Run};
 ghost use Rattle.calloop.specs.loop_logic.Homes.{AllAtHome};
 ghost use Rattle.calloop.specs.loop_logic.Served.{IsAccountOf, OverEveryDispatch, NothingIsLeft, AllAreCut, NoneIsLate, DueAreCut, IdlesRan, DeadlinesStaySorted};
 ghost use Rattle.calloop.specs.loop_logic.Unserved.{SmallAccount, two_wait, cuts_one, cuts_two, cuts_three, cuts_before, gathers_nothing, gathers_twice, takes_no_round, runs_no_idle, idle_waits, in_another_order, first_stays, second_stays, before_its_dispatch, account_of_it};
+ghost use Rattle.calloop.specs.loop_logic.Unserved.{runs_one_idle, two_idles_wait, cuts_the_first_timer, NothingIsCut};
 ghost use Rattle.calloop.specs.loop_logic.ExampleRun.{of_the_dispatch};
 ghost use Rattle.calloop.specs.loop_logic.Laws.{flatten};
 ghost use Rattle.calloop.specs.loop_logic.EveryRun.{OverEveryRun, FromTheStart, EventsReachTheirSource, ArmingsAreKept, ArmingsAreKeptOfFresh, SourcesKeepToTheirSlots, WhoIsToldStandsOnce, TicketsAreOfOneAnswer};
@@ -19,7 +20,7 @@ ghost use Rattle.logbook.specs.Pages.{Book};
 ghost use Rattle.calloop_core.specs.sources.Meanings.{IsKeeping};
 ghost use Rattle.calloop.specs.loop_logic.Rules.{all_traced};
 ghost use Rattle.calloop.specs.loop_logic.WrongRuns.{IsOutOfTime, second_event_goes_wrong, second_event_is_lost, ends_under_an_earlier_use, goes_back_to_an_earlier_use, ends_with_what_was_given_up, goes_back_to_what_was_given_up, that_ends, that_notes, second_waits_early, second_is_cut_early, second_call_differs, second_is_called_twice, second_is_twice, second_is_nowhere, with_one_deadline, with_one_event, keys_alone, second_is_elsewhere, second_is_told_twice, second_is_told_when_gone, second_is_answered_twice, second_is_asked_twice, second_is_handed_out_twice, adapters, with_two_adapters, of_a_settling, one_dispatch, one_answer, idle_never};
-ghost use Rattle.calloop.specs.loop_logic.WrongRuns.{idle_world};
+ghost use Rattle.calloop.specs.loop_logic.WrongRuns.{idle_world, with_a_later_deadline_first};
 ghost use Rattle.calloop.specs.loop_logic.BusyRun.{anything, giving_poller, for_reading, busy_calls, busy_answers, busy_changes, behind_the_failure, two_found_but_one, busy_end};
 ghost use Rattle.calloop.specs.loop_logic.RearmedRun.{again, rearmed_calls, rearmed_answers, rearmed_changes, rearmed_end, call_at_ten};
 ghost use Rattle.calloop.specs.declared.loop_logic.asks.Answer.TheVariants.{Done};
@@ -27,6 +28,8 @@ ghost use Rattle.calloop_core.specs.sys.Polls.{polled_events};
 ghost use Rattle.calloop_core.specs.sys.Tables.{watched_at};
 ghost use Rattle.calloop_wake.specs.Tokens.{key_of};
 ghost use Rattle.calloop.specs.loop_logic.Wrong.{KeepsTheLastAlone, KeepsOfAFailure, TellsInTheOrderOfSlots, second_registration, first_token, first_registration, full_slot, given_up, early, in_two_places, called_twice, called_early, called_from_nowhere, called_with_another_deadline, in_no_place, armed_once, gathered_once, asked_twice, first_call, still_meaning, arms_elsewhere, used_with_an_old_key, answered_twice, one_ticket};
+ghost use Rattle.calloop.specs.loop_logic.Wrong.{in_its_turn, called_for, with_another_deadline, with_another_counter, called_for_the_later_one, with_one_never_made, answered_while_served, answered_while_owed};
+ghost use Rattle.calloop.specs.loop_logic.Laws.{AllOwnCalls, timely};
 
 use super::{EventDispatcher, Requests};
 use calloop_core::callbacks::QuietDispatch;
@@ -80,10 +83,10 @@ pub fn each_dispatch_serves_all<D: EventDispatcher<P, C, R>, P: Poller, C: Clock
 
 /// What `each_dispatch_serves_all` rules out, each by its own definitions: a dispatch that cuts one event of two and ends; one that cuts both and one more that
 /// joined them behind the gathering; one that cuts an event before it gathers, that doesn't gather, that gathers twice, or that begins no round of
-/// idles, of which there is no account; one that ends with an idle of its round; an account of two events in another order, which isn't
-/// one of the dispatch that cut them; and one in which a timer for the very moment of the gathering stays armed, as the first of two or
-/// behind one that is later, or isn't cut. And an account that there is: of the dispatch of `run_that_there_is`, which gathers at 5 and cuts
-/// the event of the timer for 5.
+/// idles, of which there is no account; one that ends with an idle of its round, the first or the second; an account of two events in another
+/// order, which isn't one of the dispatch that cut them; one in which a timer for the very moment of the gathering stays armed, as the
+/// first of two or behind one that is later, or isn't cut; and one in which the second of two earlier timers isn't cut. And an account that
+/// there is: of the dispatch of `run_that_there_is`, which gathers at 5 and cuts the event of the timer for 5.
 pub fn unserved_dispatches_are_ruled_out()
     ensures there_is { (name : Book)
         → IsAccountOf (account_of_it name) (before_its_dispatch name)
@@ -109,6 +112,9 @@ pub fn unserved_dispatches_are_ruled_out()
         → ¬ IsAccountOf a (two_wait name) takes_no_round }
     ensures idle_left { (name : Book) (a : SmallAccount)
         → IsAccountOf a (idle_waits name) runs_no_idle → ¬ IdlesRan a }
+    ensures later_idle_left { (name : Book) (a : SmallAccount)
+        → IsAccountOf a (two_idles_wait name) runs_one_idle → ¬ IdlesRan a }
+    ensures overdue_not_cut { (name : Book) → ¬ DueAreCut (cuts_the_first_timer name) }
 {}
 
 /// The law of armings of a loop whose callbacks ask for nothing, as each `On`: its own calls are all that has to be looked at. Where each source
@@ -136,7 +142,8 @@ where
 
 /// A run that there is, of which the premises of `once` are proved, so that its laws are of this run: a timer for moment 5 is inserted into
 /// a new loop, is told of moment 6 instead where it stands, by an exchange, and a dispatch whose wait ends at 5 calls it once, with
-/// the deadline that it was armed for.
+/// the deadline that it was armed for. That dispatch leaves no event, by the law over each dispatch (`served`); and it cuts one, so that
+/// not every dispatch cuts none (`cuts`).
 pub fn run_that_there_is()
     ensures new { (name : Book) → IsNew (new_world name) }
     ensures quiet { AsksFresh only × RunsFresh only no_idle }
@@ -157,21 +164,32 @@ pub fn run_that_there_is()
         → AllAtHome only (end_of_it name) }
     ensures moments { (name : Book) → OverEveryRun only no_idle quiet_poller EventsReachTheirSource
         → IsSound (new_world name) (changes_of (its_changes name)) (its_run name).moments }
+    ensures served { (name : Book)
+        → OverEveryDispatch only no_idle quiet_poller NothingIsLeft
+        → (end_of_it name).poll.batch ≡ [] }
+    ensures cuts { (name : Book) → ¬ OverEveryDispatch only no_idle quiet_poller NothingIsCut }
     ensures called { (name : Book) → (end_of_it name).ledger.calls ≡ first_call ∷ [] }
     ensures over { (name : Book)
         → (end_of_it name).slots ≡ record { reuse = 0; content = Vacant } ∷ [] }
 {}
 
 /// Small cases that the laws of `once` rule out: an event that goes to another slot than its token names, to a later
-/// registration, or to none though its source stands there; a token that names an earlier registration than before; one that
+/// registration, to a slot that is vacant or whose source is in its turn, or to none though its source stands there, be its slot used
+/// as often as there are versions; a token that names an earlier registration than before; one that
 /// was given up and is there again; an event that was gathered early; an arming in two places, or in none; one that is called for
-/// twice, early, with another deadline, or though it was cancelled; one that is said to wait where `Poll` has no deadline, or no event; a registration that is told of waits twice, or after its slot was given up; a source that
+/// twice, early, with another deadline, or though it was cancelled, or for which another arming was gathered, of another deadline,
+/// counter or number; one that was never made and stands in the batch; one that is said to wait where `Poll` has no deadline, or no event;
+/// a registration that is told of waits twice, be another one between, or after its slot was given up; a source that
 /// has a key of an earlier use of its slot, one that keeps its key where it is registered under another, and one that arms a deadline
-/// under a token of another registration; two requests or two answers under one ticket, and an answer that was handed out twice.
+/// under a token of another registration; two requests or two answers under one ticket, an answer under one whose request is carried out
+/// yet or whose answer is owed yet, and an answer that was handed out twice.
 pub fn wrong_runs_are_ruled_out()
     ensures wrong_slot { ¬ GoesRight (full_slot 0 ∷ full_slot 0 ∷ []) first_token (Some 1) }
     ensures later_registration { ¬ GoesRight (full_slot 1 ∷ []) first_token (Some 0) }
     ensures lost_event { ¬ GoesRight (full_slot 0 ∷ []) first_token None }
+    ensures vacant_slot { ¬ GoesRight (given_up 0 ∷ []) first_token (Some 0) }
+    ensures slot_in_its_turn { ¬ GoesRight (in_its_turn ∷ []) first_token (Some 0) }
+    ensures lost_event_of_a_later_use { ¬ GoesRight (full_slot versions ∷ []) first_token None }
     ensures earlier_registration { (w w' : World (Unit {0}) (Unit {0}) (Unit {0}))
         → w.slots ≡ full_slot versions ∷ [] → w'.slots ≡ full_slot 0 ∷ [] → ¬ NamesLater w w' }
     ensures there_again { (w w' : World (Unit {0}) (Unit {0}) (Unit {0}))
@@ -182,6 +200,9 @@ pub fn wrong_runs_are_ruled_out()
     ensures early_call { (v : PollView (Unit {0})) → ¬ IsLedgerOf called_early v }
     ensures told_twice { (w : World (Unit {0}) (Unit {0}) (Unit {0}))
         → w.held.lifecycle ≡ first_registration ∷ first_registration ∷ [] → ¬ IsTold w }
+    ensures told_once_more { (w : World (Unit {0}) (Unit {0}) (Unit {0}))
+        → w.held.lifecycle ≡ first_registration ∷ second_registration ∷ first_registration ∷ []
+        → ¬ IsTold w }
     ensures told_when_gone { (w : World (Unit {0}) (Unit {0}) (Unit {0}))
         → w.held.lifecycle ≡ first_registration ∷ [] → w.slots ≡ given_up 0 ∷ [] → ¬ IsTold w }
     ensures old_key { (w : World ℕ (Unit {0}) (Unit {0})) → w.slots ≡ used_with_an_old_key ∷ []
@@ -190,11 +211,22 @@ pub fn wrong_runs_are_ruled_out()
     ensures armed_elsewhere { (v : PollView (Unit {0})) → ¬ IsKeeping arms_elsewhere }
     ensures answered_twice { (w : World (Unit {0}) (Unit {0}) (Unit {0}))
         → w.held.asks ≡ answered_twice → ¬ IsTicketed w }
+    ensures answered_early { (w : World (Unit {0}) (Unit {0}) (Unit {0}))
+        → w.held.asks ≡ answered_while_served → ¬ IsTicketed w }
+    ensures answered_and_owed { (w : World (Unit {0}) (Unit {0}) (Unit {0}))
+        → w.held.asks ≡ answered_while_owed → ¬ IsTicketed w }
     ensures handed_out_twice { (w : World (Unit {0}) (Unit {0}) (Unit {0}))
         → w.held.asks ≡ one_ticket → w.handed ≡ 0 ∷ 0 ∷ [] → ¬ IsTicketed w }
     ensures call_from_nowhere { (v : PollView (Unit {0})) → ¬ IsLedgerOf called_from_nowhere v }
     ensures other_deadline { (v : PollView (Unit {0}))
         → ¬ IsLedgerOf called_with_another_deadline v }
+    ensures other_arming { (v : PollView (Unit {0}))
+        → ¬ IsLedgerOf (called_for with_another_deadline) v }
+    ensures other_counter { (v : PollView (Unit {0}))
+        → ¬ IsLedgerOf (called_for with_another_counter) v }
+    ensures other_number { (v : PollView (Unit {0})) → ¬ IsLedgerOf called_for_the_later_one v }
+    ensures early_arming { ¬ AllOwnCalls (timely called_early) called_early.calls }
+    ensures never_made { (v : PollView (Unit {0})) → ¬ IsLedgerOf with_one_never_made v }
     ensures no_place { (v : PollView (Unit {0})) → ¬ IsLedgerOf in_no_place v }
     ensures no_deadline { (v : PollView (Unit {0})) → v.deadlines.entries ≡ []
         → ¬ IsLedgerOf armed_once v }
@@ -210,7 +242,7 @@ pub fn wrong_runs_are_ruled_out()
 
 /// Further runs that there are. A socket enters the table as its source is inserted; a dispatch gathers two events of it, of which the first one's turn asks
 /// for its registration anew, which is carried out and answered, and fails: the second event is left over, and the next dispatch cuts it
-/// first, and keeps the answer. And a dispatch that settles two adapters, the one in the first slot first. And a timer that is armed
+/// first, and keeps the answer; so not every dispatch cuts none (`cuts`). And a dispatch that settles two adapters, the one in the first slot first. And a timer that is armed
 /// again by its callback, and called once for each of its armings, of which the premises of the law of armings are proved.
 pub fn busy_runs_that_there_are()
     ensures run { (name : Book) → Run anything idle_never giving_poller busy_calls busy_answers
@@ -224,6 +256,8 @@ pub fn busy_runs_that_there_are()
     ensures socket { (name : Book) → watched_at (key_of first_token) (busy_end name).poll.table
         ≡ Some for_reading }
     ensures over { (name : Book) → (busy_end name).poll.batch ≡ [] }
+    ensures cuts { (name : Book)
+        → ¬ OverEveryDispatch anything idle_never giving_poller NothingIsCut }
     ensures settled { (name : Book)
         → Run adapters idle_never quiet_poller one_dispatch one_answer
         (of_a_settling name 0 1 ∷ [])
@@ -243,7 +277,8 @@ pub fn busy_runs_that_there_are()
 /// where nothing has happened: the second arming was gathered early, and waits in the batch or was cut from it; the second call
 /// hands out another deadline, or is one for the same arming; the second arming is in two places, in none, or isn't in `Poll`; the second
 /// slot has a source under a key of the first; the second registration is told of waits twice, or when its slot was given up; there
-/// are two answers or two requests under the second ticket, or its answer was handed out twice. And the rules rule out a dispatch
+/// are two answers or two requests under the second ticket, or its answer was handed out twice; and `Poll` has its second deadline before
+/// the first, which the law of sorted deadlines of `each_dispatch_serves_all` rules out. And the rules rule out a dispatch
 /// that settles the adapter of the second slot before that of the first.
 pub fn runs_that_go_wrong_late()
     ensures wrong_slot { (name : Book) → ¬ EventsReachTheirSource (second_event_goes_wrong name) }
@@ -277,6 +312,9 @@ pub fn runs_that_go_wrong_late()
         → ¬ FromTheStart TicketsAreOfOneAnswer (that_ends name (second_is_asked_twice name)) }
     ensures handed_out_twice { (name : Book)
         → ¬ FromTheStart TicketsAreOfOneAnswer (that_ends name (second_is_handed_out_twice name)) }
+    ensures unsorted { (name : Book)
+        → ¬ FromTheStart DeadlinesStaySorted
+        (that_ends name (with_a_later_deadline_first name)) }
     ensures settled_backwards { (name : Book)
         → ¬ Run adapters idle_never quiet_poller one_dispatch one_answer
         (of_a_settling name 1 0 ∷ [])

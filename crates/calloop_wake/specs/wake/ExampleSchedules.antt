@@ -1,6 +1,6 @@
 -- Schedules that there are, with each kind of step at the moments that matter: so the needs of the steps rule none of these out. And
 -- schedules that the needs rule out.
-use Rattle.std.specs.Prelude.{ℕ, zero, suc, ◌-◌, List, [], ◌∷◌, ◌++◌, true, false, if◌then◌else◌, nat_eq, Some, None}
+use Rattle.std.specs.Prelude.{ℕ, zero, suc, ◌+◌, ◌-◌, ◌^◌, List, [], ◌∷◌, ◌++◌, true, false, if◌then◌else◌, nat_eq, Some, None}
 use Rattle.calloop_wake.specs.wake.Cells.{Cell, fresh}
 use Rattle.calloop_wake.specs.wake.Channels.{fresh_channel}
 use Rattle.calloop_wake.specs.wake.ChannelKind as channel
@@ -516,6 +516,39 @@ key_without_a_place =
     ∷ Unpost 8
     ∷ OpenTurn 0 7
     ∷ []
+
+-- All that befalls a ping under a key: its place is opened; it is rung, and its key posted, taken, put back, and posted and taken
+-- once more; it has its turn. Then its key is taken back and its place closed, it gets the key anew, and its receiving end goes.
+abbrev pub life : (cell key : ℕ) → Schedule
+life n k =
+    OpenPlace k
+    ∷ SetKey n k
+    ∷ At n (First ping.Ring)
+    ∷ Post k
+    ∷ Unpost (k + 1)
+    ∷ Back k
+    ∷ Post k
+    ∷ Unpost (k + 1)
+    ∷ OpenTurn n k
+    ∷ At n (First ping.EndTurn)
+    ∷ ClearKey n false
+    ∷ ClosePlace k
+    ∷ OpenPlace k
+    ∷ SetKey n k
+    ∷ ClearKey n true
+    ∷ ClosePlace k
+    ∷ []
+
+-- all of it while the loop is past its look, or in its wait
+abbrev pub life_past_a_look : Schedule
+life_past_a_look = Look ∷ life 0 7
+
+abbrev pub life_in_a_wait : Schedule
+life_in_a_wait = Look ∷ Sleep ∷ life 0 7 ++ Wakeup ∷ Return ∷ []
+
+-- the third cell has it under the greatest key that a token has
+abbrev pub life_of_the_third_cell : Schedule
+life_of_the_third_cell = life 2 (2 ^ 64 - 2)
 
 -- Schedules that there aren't.
 

@@ -1,5 +1,5 @@
 -- Small states in which something is lost, which `nothing_is_lost` rules out.
-use Rattle.std.specs.Prelude.{ℕ, List, [], ◌∷◌, Bool, true, false, if◌then◌else◌, Option, Some, None}
+use Rattle.std.specs.Prelude.{ℕ, zero, suc, List, [], ◌∷◌, Bool, true, false, if◌then◌else◌, Option, Some, None}
 use Rattle.calloop_wake.specs.wake.Cells.{Cell, fresh}
 use Rattle.calloop_wake.specs.wake.Channels.{fresh_channel}
 use Rattle.calloop_wake.specs.wake.ChannelKind.{ChannelPast, Telling, unused_channel}
@@ -9,7 +9,7 @@ use Rattle.calloop_wake.specs.declared.wake.tasks.TaskKey.{TaskKey}
 use Rattle.calloop_wake.specs.wake.Executors.{ExecutorCell, fresh_executor, with_slot}
 use Rattle.calloop_wake.specs.wake.ExecutorKind.{ExecutorPast, unused_executor}
 use Rattle.calloop_wake.specs.wake.Kinds.{First, Second, APing, AChannel, AnExecutor, every_kind, new_cell}
-use Rattle.calloop_wake.specs.wake.Wakes.{WakeWorld, Looked, Asleep, start}
+use Rattle.calloop_wake.specs.wake.Wakes.{WakeWorld, Looked, Asleep, start, with_cell, no_value, and_one}
 
 -- nothing has happened, and every cell is a ping's; or a channel's, without a bound; or an executor's
 abbrev pub of_pings : WakeWorld every_kind.Cell
@@ -188,3 +188,72 @@ with_a_number_twice =
 abbrev pub with_the_next_number : WakeWorld every_kind.Cell
 with_the_next_number =
     of_this_executor (record unused_executor { now = record (with_queue (Some queued_task) (3 ∷ [])) { pinged = true; next = 0 } })
+
+-- Here what is wrong is in the second cell, or under a second key, and all else is right: so no clause speaks of the first alone.
+
+-- the second cell is this ping's
+abbrev pub with_a_second_ping : Cell → WakeWorld every_kind.Cell
+with_a_second_ping c = record of_pings { cells = with_cell 1 (First c) of_pings.cells }
+
+-- a ring stands there, and isn't pinged
+abbrev pub with_a_ring_unseen_in_the_second_cell : WakeWorld every_kind.Cell
+with_a_ring_unseen_in_the_second_cell = with_a_second_ping (record fresh { rung = true })
+
+-- It is pinged under key 9, which has a place; somebody holds that key as one of a place without a cell, and to close that place,
+-- and key 7 is posted, owed and held as a pass. But key 9 is none of these.
+abbrev pub with_the_second_key_forgotten : WakeWorld every_kind.Cell
+with_the_second_key_forgotten =
+    record (with_a_second_ping (record fresh { rung = true; pinged = true; key = Some 9 })) {
+      board = record { key = 7; marked = true } ∷ record { key = 9; marked = false } ∷ [];
+      debts = and_one 7 no_value;
+      passes = and_one 7 no_value;
+      opened = and_one 9 no_value;
+      permits = and_one 9 no_value;
+    }
+
+-- key 9 is posted, and owed and held as a pass once more; but the loop sleeps, and nobody tells it
+abbrev pub with_nobody_told_of_the_second_key : WakeWorld every_kind.Cell
+with_nobody_told_of_the_second_key =
+    record of_pings {
+      board = record { key = 7; marked = false } ∷ record { key = 9; marked = true } ∷ [];
+      debts = and_one 9 no_value;
+      passes = and_one 9 no_value;
+      loop = Asleep;
+    }
+
+-- the close was told before the last sender went, which is gone now
+abbrev pub with_a_close_told_before_it_came : WakeWorld every_kind.Cell
+with_a_close_told_before_it_came =
+    of_this_channel
+    (record (unused_channel None) {
+      now = record (fresh_channel None) { cell = record fresh { closed = true; told = true } };
+      tellings = record { closed = false; left = 0 } ∷ [];
+    })
+
+-- Of these nothing is lost in the cell, but there is no turn under key 7.
+
+-- its key is another one
+abbrev pub with_another_key : WakeWorld every_kind.Cell
+with_another_key =
+    record of_pings {
+      cells = λ _. First (record fresh { rung = true; pinged = true; key = Some 9 });
+      board = record { key = 7; marked = true } ∷ record { key = 9; marked = true } ∷ [];
+    }
+
+-- so many messages
+abbrev pub messages : ℕ → List ℕ
+messages zero = []
+messages (suc n) = 5 ∷ messages n
+
+-- a turn of it stands open, which is over after 1,028 pops, and its end
+abbrev pub with_an_endless_turn : WakeWorld every_kind.Cell
+with_an_endless_turn =
+    record
+    (of_this_channel
+    (record (unused_channel None) {
+      now = record (fresh_channel None) {
+        cell = record fresh { pinged = true; draining = true; key = Some 7 };
+        queue = messages 1028;
+      };
+      turn = record { left = 1028; done = false };
+    })) { board = record { key = 7; marked = true } ∷ [] }

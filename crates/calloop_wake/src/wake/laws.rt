@@ -17,10 +17,11 @@ ghost use Rattle.calloop_wake.specs.wake.Kinds.{First, Second, every_kind, Born,
 ghost use Rattle.calloop_wake.specs.wake.Delivery.{CanBeDelivered};
 ghost use Rattle.calloop_wake.specs.wake.StepsOfCores.{with_step, with_permit, with_place_taken};
 ghost use Rattle.calloop_wake.specs.wake.Lost.{of_pings, of_channels, with_a_ring_unseen, with_a_close_unseen, with_a_key_forgotten, with_nobody_told, with_nobody_told_in_a_wait, with_a_sleeper_left_alone, with_a_message_unseen, with_a_message_lost, with_messages_out_of_order, with_a_close_told_twice, with_a_close_told_early, with_a_close_told_of_an_open_channel, with_a_message_too_many, with_too_long_a_turn, of_executors, with_a_task_unseen, with_a_task_queued_twice, with_a_finished_task_queued, with_a_result_twice, with_a_result_of_a_task_that_runs, with_a_woken_task_unseen, with_a_task_polled_by_nobody, with_a_number_twice, with_the_next_number};
+ghost use Rattle.calloop_wake.specs.wake.Lost.{with_a_ring_unseen_in_the_second_cell, with_the_second_key_forgotten, with_nobody_told_of_the_second_key, with_a_close_told_before_it_came, with_another_key, with_an_endless_turn};
 ghost use Rattle.calloop_wake.specs.wake.ExampleSchedules.{ring_in_a_wait, post_between_look_and_sleep, ring_in_a_turn, close_in_a_turn, pass_that_goes_back, key_that_moves, key_that_is_cleared, drop_in_a_turn, wait_without_a_sleep, message_in_a_turn, close_behind_a_message, of_key_seven, of_key_nine, after_message_in_a_turn, after_close_behind_a_message, task_in_a_turn, wake_in_a_wait, executor_that_goes, after_task_in_a_turn};
 ghost use Rattle.calloop_wake.specs.wake.ExampleSchedules.{of_bounded_channels, channel_that_is_rung, close_in_a_channels_turn, close_behind_the_last_pop, message_outside_of_a_turn, bounded_channel, message_behind_the_close, channel_that_moves, executor_that_moves, second_task_in_a_slot, turn_of_1024_pops, turn_of_1024_polls};
 ghost use Rattle.calloop_wake.specs.wake.ExampleSchedules.{after_channel_that_is_rung, after_close_in_a_channels_turn, after_message_outside_of_a_turn, after_bounded_channel, after_message_behind_the_close, after_second_task_in_a_slot};
-ghost use Rattle.calloop_wake.specs.wake.ExampleSchedules.{of_both, two_turns_at_once, unpost_in_part, unpost_in_a_wait, key_without_a_place};
+ghost use Rattle.calloop_wake.specs.wake.ExampleSchedules.{of_both, two_turns_at_once, unpost_in_part, unpost_in_a_wait, key_without_a_place, life_past_a_look, life_in_a_wait, life_of_the_third_cell};
 ghost use Rattle.calloop_wake.specs.wake.ExampleSchedules.{turn_that_stops, turn_without_a_pop, pop_too_many, close_twice, take_of_nothing, pop_without_a_turn, put_past_the_bound, turn_that_stops_behind_a_task};
 
 /// Over every schedule of the wake machine, by any number of cells of pings, channels and executors, from the state in which nothing
@@ -51,17 +52,22 @@ pub fn can_be_delivered()
         (after_all every_kind (start (λ m. new_cell (born m))) steps) n k }
 {}
 
-/// Small states from which nobody can be delivered: a key that is nowhere, and a loop that sleeps and that nobody tells of a posted key.
+/// Small states from which nobody can be delivered: a key that is nowhere, a loop that sleeps and that nobody tells of a posted key, and a
+/// cell that has another key. And one from which it takes more steps than there may be: a turn that ends behind 1,028 pops.
 pub fn out_of_reach()
     ensures key { ¬ CanBeDelivered every_kind with_a_key_forgotten 0 7 }
     ensures sleeper { ¬ CanBeDelivered every_kind with_a_sleeper_left_alone 0 7 }
+    ensures other_key { ¬ CanBeDelivered every_kind with_another_key 0 7 }
+    ensures endless { ¬ CanBeDelivered every_kind with_an_endless_turn 0 7 }
 {}
 
 /// Small states that `nothing_is_lost` rules out: a ring, a close or a message that no mark shows, a pinged cell whose key is nowhere, a
 /// posted key of which nobody tells a loop past its look, a message that is lost or handed out of order, a close that is told
 /// twice, before the last message, or of an open channel; a message past the bound, and a turn that may pop past it; a task that no mark
 /// shows, which is queued or was woken in its poll, one that is queued twice or though it is finished, or in a poll of nobody, or has
-/// another's number, or that of the next one, and a result that was handed out twice or of a task that still runs.
+/// another's number, or that of the next one, and a result that was handed out twice or of a task that still runs. And what is wrong in
+/// the second cell alone, or under a second key: a ring, a pinged cell's key, and one of which nobody tells the loop; and a close that was
+/// told of a channel before it was closed.
 pub fn lost_is_not_covered()
     ensures ring { ¬ IsCovered every_kind with_a_ring_unseen }
     ensures close { ¬ IsCovered every_kind with_a_close_unseen }
@@ -85,6 +91,10 @@ pub fn lost_is_not_covered()
     ensures polled { ¬ IsCovered every_kind with_a_task_polled_by_nobody }
     ensures number { ¬ IsCovered every_kind with_a_number_twice }
     ensures next_number { ¬ IsCovered every_kind with_the_next_number }
+    ensures second_ring { ¬ IsCovered every_kind with_a_ring_unseen_in_the_second_cell }
+    ensures second_key { ¬ IsCovered every_kind with_the_second_key_forgotten }
+    ensures sleeper_beside { ¬ IsCovered every_kind with_nobody_told_of_the_second_key }
+    ensures before_it_came { ¬ IsCovered every_kind with_a_close_told_before_it_came }
 {}
 
 /// Schedules that there are, with each kind of step at the moments that matter, and the cell that each leaves.
@@ -152,12 +162,18 @@ pub fn schedules_of_queues_that_there_are()
         ≡ Second (Second after_second_task_in_a_slot) }
 {}
 
-/// Schedules of a ping and a channel on one board, and of a key that moves or is taken while the loop waits.
+/// Schedules of a ping and a channel on one board, and of a key that moves or is taken while the loop waits; and all that befalls a ping
+/// under a key, while the loop is past its look, in its wait, and of a third cell under the greatest key.
 pub fn schedules_of_one_board_that_there_are()
     ensures turns { IsSchedule every_kind of_both two_turns_at_once }
     ensures in_part { IsSchedule every_kind of_both unpost_in_part }
     ensures in_a_wait { IsSchedule every_kind of_pings unpost_in_a_wait }
     ensures no_place { IsSchedule every_kind of_pings key_without_a_place }
+    ensures past_a_look { IsSchedule every_kind of_pings life_past_a_look }
+    ensures life_in_a_wait { IsSchedule every_kind of_pings life_in_a_wait }
+    ensures lived { (after_all every_kind of_pings life_in_a_wait).cells 0
+        ≡ First (record fresh { gone = true }) }
+    ensures third_cell { IsSchedule every_kind of_pings life_of_the_third_cell }
 {}
 
 /// Turns that end since they may pop no more, of a channel without a bound and of an executor.

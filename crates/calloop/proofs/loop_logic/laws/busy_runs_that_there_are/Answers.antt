@@ -1,4 +1,4 @@
-use Rattle.std.proofs.Common.{◌≡◌, ◌+◌, ℕ, zero, suc, rules, refl, ap, sym, subst, [], ◌∷◌, Some, None, Ok, Err, inl, inr, true, false, arith, slice_get}
+use Rattle.std.proofs.Common.{◌≡◌, ◌+◌, ℕ, zero, suc, List, length, rules, refl, ap, sym, ◌∙◌, subst, [], ◌∷◌, Some, None, Ok, Err, inl, inr, true, false, arith, slice_get}
 use Rattle.std.proofs.lemmas.List.Sorted.{IsPermutation-refl}
 use Rattle.calloop_wake.specs.declared.error.Error.TheVariants.{OutOfMemory}
 use Rattle.calloop_wake.specs.declared.list.Content.TheVariants.{Source, InTurn}
@@ -17,7 +17,15 @@ use Rattle.calloop.specs.loop_logic.Held.{Pend, Told}
 use Rattle.calloop.specs.loop_logic.Machine.{Holds}
 use Rattle.calloop.specs.loop_logic.Rules.{factory_of, Settling, Sleeping, Waiting, Gathering, Noticing, Cutting, Serving, Ending, Returning, Idling, RunningIdles, Leaving}
 use Rattle.calloop.specs.loop_logic.Wrong.{first_token, first_registration, second_registration}
-use Rattle.calloop.specs.loop_logic.BusyRun.{for_reading, two_found, behind_the_failure}
+use Rattle.calloop.specs.loop_logic.BusyRun.{for_reading, two_found, behind_the_failure, anything, giving_poller, dispatch_of_the_rest}
+use Rattle.calloop.specs.loop_logic.Askings.{all_but_first}
+use Rattle.calloop.specs.loop_logic.Laws.{flatten}
+use Rattle.calloop.specs.loop_logic.Machine.{visible}
+use Rattle.calloop.specs.loop_logic.Rules.{DispatchedBy}
+use Rattle.calloop.specs.loop_logic.Served.{events_cut}
+use Rattle.calloop.specs.loop_logic.Unserved.{SmallView}
+use Rattle.calloop.specs.loop_logic.WrongRuns.{SmallChange, idle_never}
+use Rattle.calloop_core.specs.declared.sys.poll.Pending.{Pending}
 use Rattle.logbook.specs.Pages.{Book}
 use Rattle.calloop_core.specs.declared.sources.source.PostAction.TheVariants.{Remove}
 use Rattle.calloop_core.specs.declared.timer.TimeoutAction.TheVariants.{Drop, ToInstant}
@@ -421,3 +429,19 @@ is_new name =
 
 pub returns-clause-in_time : goal.returns-clause-in_time
 returns-clause-in_time c = λ name law. law (rearmed_run name) (returns-clause-rearmed c name) refl (is_new name) ((λ counter. refl, tt), (tt, (tt, tt)))
+
+one_zero : ◌≡◌ {A = ℕ} 1 0 → ⊥
+one_zero e = omega arith
+
+is_dispatch : (name : Book) → DispatchedBy anything idle_never giving_poller None tt (Ok tt) tt (visible (behind_the_failure name)) (dispatch_of_the_rest name)
+is_dispatch name = (returns-clause-run _ name).1.1.0
+
+-- the changes of the last dispatch behind its gathering
+abbrev behind_it : Book → List SmallChange
+behind_it name = flatten (all_but_first (all_but_first (all_but_first (all_but_first (all_but_first (dispatch_of_the_rest name))))))
+
+pub returns-clause-cuts : goal.returns-clause-cuts
+returns-clause-cuts c = λ name law.
+    let k = law None tt tt (visible (behind_the_failure name)) (dispatch_of_the_rest name) (is_dispatch name) in
+    let at = ap (λ (v : SmallView). events_cut v (behind_it name)) k.1.2.2 in
+    one_zero (ap (λ (es : List Pending). length es) (sym (k.1.2.3 ∙ at) ∙ k.2))

@@ -1,4 +1,4 @@
-use Rattle.std.proofs.Common.{rules, refl, [], ◌∷◌, None, Ok, inl, inr, true, false, arith}
+use Rattle.std.proofs.Common.{◌≡◌, ap, sym, ◌∙◌, List, length, rules, refl, [], ◌∷◌, None, Ok, inl, inr, true, false, arith}
 use Rattle.std.proofs.lemmas.List.Sorted.{IsPermutation-refl}
 use Rattle.calloop_wake.specs.declared.list.Content.TheVariants.{Source, InTurn}
 use Rattle.calloop_wake.specs.Tokens.{after_token, registration_of}
@@ -15,7 +15,14 @@ use Rattle.std.proofs.Common.{ℕ, nat_eq, if◌then◌else◌}
 use Rattle.logbook.specs.Pages.{Book}
 use Rattle.calloop_core.specs.sources.Holdings.{Free, Standing, IsWithin}
 use Rattle.calloop.specs.loop_logic.Machine.{IsNew}
-use Rattle.calloop.specs.loop_logic.ExampleRun.{new_world}
+use Rattle.calloop.specs.loop_logic.ExampleRun.{new_world, no_idle, quiet_poller, Only, Its, of_the_dispatch}
+use Rattle.calloop.specs.loop_logic.Askings.{all_but_first}
+use Rattle.calloop.specs.loop_logic.Laws.{flatten}
+use Rattle.calloop.specs.loop_logic.Machine.{View}
+use Rattle.calloop.specs.loop_logic.Rules.{DispatchedBy}
+use Rattle.calloop.specs.loop_logic.Served.{events_cut}
+use Rattle.calloop.specs.loop_logic.Unserved.{before_its_dispatch}
+use Rattle.calloop_core.specs.declared.sys.poll.Pending.{Pending}
 use Rattle.calloop.proofs.loop_logic.laws.run_that_there_is.Goals as goal
 
 is_new : (name : Book) → IsNew (new_world name)
@@ -137,3 +144,24 @@ returns-clause-home c = λ name law. law (its_run name) (returns-clause-run c na
 
 pub returns-clause-moments : goal.returns-clause-moments
 returns-clause-moments c = λ name law. law (its_run name) (returns-clause-run c name) refl
+
+one_zero : ◌≡◌ {A = ℕ} 1 0 → ⊥
+one_zero e = omega arith
+
+is_dispatch : (name : Book) → DispatchedBy only no_idle quiet_poller None tt (Ok tt) tt (before_its_dispatch name) (of_the_dispatch name)
+is_dispatch name = (returns-clause-run _ name).1.1.0
+
+pub returns-clause-served : goal.returns-clause-served
+returns-clause-served c = λ name law.
+    let k = law None tt tt (before_its_dispatch name) (of_the_dispatch name) (is_dispatch name) in
+    ap (λ (v : View Only (Unit {0}) (Unit {0})). v.poll.batch) (sym k.1.1) ∙ k.2
+
+-- the changes of its dispatch behind its gathering
+abbrev behind_it : Book → List Its
+behind_it name = flatten (all_but_first (all_but_first (all_but_first (all_but_first (all_but_first (of_the_dispatch name))))))
+
+pub returns-clause-cuts : goal.returns-clause-cuts
+returns-clause-cuts c = λ name law.
+    let k = law None tt tt (before_its_dispatch name) (of_the_dispatch name) (is_dispatch name) in
+    let at = ap (λ (v : View Only (Unit {0}) (Unit {0})). events_cut v (behind_it name)) k.1.2.2 in
+    one_zero (ap (λ (es : List Pending). length es) (sym (k.1.2.3 ∙ at) ∙ k.2))

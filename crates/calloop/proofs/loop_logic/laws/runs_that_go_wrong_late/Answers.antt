@@ -106,6 +106,9 @@ returns-clause-asked_twice c = λ name h. (let g : 2 ≤ 1 = h (is_untouched nam
 pub returns-clause-handed_out_twice : goal.returns-clause-handed_out_twice
 returns-clause-handed_out_twice c = λ name h. (let g : 2 ≤ 1 = h (is_untouched name) 1 in absurd (omega (arith, g)))
 
+pub returns-clause-unsorted : goal.returns-clause-unsorted
+returns-clause-unsorted c = λ name h. false_true (h (is_untouched name)).sorted.0.0
+
 -- what settles a slot is of that slot's adapter
 slot_settled : (token : RegistrationToken) (content : Content (Unit {0})) (v : View (Unit {0}) (Unit {0}) (Unit {0})) (n : ℕ) (cs : List SmallChange) → SettledIn adapters token content v (Put n InTurn ∷ cs) → token.slot ≡ n
 slot_settled token Vacant v n cs h = absurd (cc)

@@ -1,14 +1,14 @@
-use Rattle.std.proofs.Common.{◌≡◌, ℕ, List, [], ◌∷◌, None, inl, inr, subst, refl, sym, ap, ◌∙◌, arith, length}
+use Rattle.std.proofs.Common.{◌≡◌, ◌<◌, ℕ, zero, suc, List, [], ◌∷◌, None, inl, inr, subst, refl, sym, ap, ◌∙◌, arith, length}
 use Rattle.logbook.specs.Pages.{Book}
 use Rattle.calloop_core.specs.declared.sys.poll.Pending.{Pending}
 use Rattle.calloop_wake.specs.Deadlines.{IsOrdered, entry_of}
 use Rattle.calloop.specs.loop_logic.Machine.{Holds, Appended, Cut, Ended}
 use Rattle.calloop.specs.loop_logic.Served.{events_cut}
-use Rattle.std.specs.List.{Contains}
+use Rattle.std.specs.List.{Contains, slice_index_or}
 use Rattle.calloop.specs.declared.loop_logic.asks.Idling.{Idling as Waiter}
 use Rattle.calloop.specs.loop_logic.Held.{IdlesTaken}
 use Rattle.calloop.specs.loop_logic.Wrong.{first_token}
-use Rattle.calloop.specs.loop_logic.Unserved.{one_idle, SmallView, event_for, that_waits, armed_for}
+use Rattle.calloop.specs.loop_logic.Unserved.{one_idle, later_idle, SmallView, event_for, that_waits, armed_for, two_overdue}
 use Rattle.calloop.proofs.loop_logic.laws.unserved_dispatches_are_ruled_out.Goals as goal
 
 one_two : ◌≡◌ {A = ℕ} 1 2 → ⊥
@@ -79,3 +79,28 @@ returns-clause-idle_left c = λ name a is ran.
       | inl k ↦ (let n = subst (λ (l : List (Waiter (Unit {0}))). Contains l one_idle) is.3.1 k in absurd (omega (arith, n.1)))
       | inr k ↦ (let n = subst (λ (l : List ℕ). Contains l 0) is.3.2 k in absurd (omega (arith, n.1)))
     ]
+
+-- in a list of one thing there is no other
+only_at : {A : Type 0} (x y : A) (k : ℕ) → k < 1 → slice_index_or (x ∷ []) k y ≡ y → x ≡ y
+only_at x y zero below is = is
+only_at x y (suc k) below is = absurd (omega (arith, below))
+
+only_one : {A : Type 0} (x y : A) → Contains (x ∷ []) y → x ≡ y
+only_one x y h = only_at x y h.0 h.1 h.2
+
+pub returns-clause-later_idle_left : goal.returns-clause-later_idle_left
+returns-clause-later_idle_left c = λ name a is ran.
+    let there : Contains a.round later_idle = subst (λ (l : List (Waiter (Unit {0}))). Contains l later_idle) (sym is.3.0) (1, omega arith, refl) in
+    elim (ran later_idle there) [
+      | inl k ↦ (let n : one_idle ≡ later_idle = only_one one_idle later_idle (subst (λ (l : List (Waiter (Unit {0}))). Contains l later_idle) is.3.1 k) in
+          one_zero (sym (ap (λ (i : Waiter (Unit {0})). i.ticket) n)))
+      | inr k ↦ (let n = subst (λ (l : List ℕ). Contains l 1) is.3.2 k in absurd (omega (arith, n.1)))
+    ]
+
+overdue_sorted : (name : Book) → IsOrdered (that_waits name [] two_overdue []).poll.deadlines
+overdue_sorted name = record { sorted = ((refl, (λ e. absurd (omega (arith, e))), tt), (tt, tt)); below = (omega arith, (omega arith, tt)) }
+
+pub returns-clause-overdue_not_cut : goal.returns-clause-overdue_not_cut
+returns-clause-overdue_not_cut c = λ name h.
+    let k = h (overdue_sorted name) (entry_of 1 (record { nanos = 4 }) (event_for 1).token) (1, omega arith, refl) (omega arith) in
+    one_zero (sym (ap (λ (e : Pending). e.token.slot) (only_one (event_for 0) (event_for 1) k)))

@@ -1,6 +1,6 @@
-use Rattle.std.proofs.Common.{◌≡◌, inl, inr, ℕ, Bool, true, false, List, [], ◌∷◌, Ok, refl, sym, ap, ◌∙◌, ◌%◌, ◌+◌, ◌≤◌, nat_lt, if◌then◌else◌, arith, slice_get, length}
+use Rattle.std.proofs.Common.{◌≡◌, inl, inr, ℕ, Bool, true, false, List, [], ◌∷◌, Some, Ok, refl, sym, ap, ◌∙◌, ◌%◌, ◌+◌, ◌≤◌, nat_lt, if◌then◌else◌, arith, slice_get, length}
 use Rattle.calloop_wake.specs.Widths.{versions}
-use Rattle.calloop.specs.loop_logic.Laws.{times_standing, how_many, is_number}
+use Rattle.calloop.specs.loop_logic.Laws.{times_standing, how_many, is_number, timely}
 use Rattle.calloop.specs.loop_logic.Machine.{Registration}
 use Rattle.calloop_wake.specs.declared.token.RegistrationToken.{RegistrationToken}
 use Rattle.calloop_wake.specs.Tokens.{key_of}
@@ -10,8 +10,9 @@ use Rattle.calloop.specs.loop_logic.Rules.{Doing, Sleeping, factory_of}
 use Rattle.calloop_wake.specs.declared.wheel.Entry.{Entry}
 use Rattle.calloop_wake.specs.declared.wheel.Instant.{Instant}
 use Rattle.calloop_core.specs.declared.sys.poll.Pending.{Pending}
-use Rattle.calloop.specs.loop_logic.Ledgers.{Arming}
-use Rattle.calloop.specs.loop_logic.Wrong.{first_arming, first_token, first_registration, full_slot, given_up, used_with_an_old_key}
+use Rattle.calloop_wake.specs.declared.list.Content.TheVariants.{Vacant, Source, InTurn}
+use Rattle.calloop.specs.loop_logic.Ledgers.{Ledger, Arming}
+use Rattle.calloop.specs.loop_logic.Wrong.{first_arming, first_token, first_registration, full_slot, given_up, used_with_an_old_key, in_its_turn, called_early, called_for, called_for_the_later_one, with_another_deadline, with_another_counter, with_another_number}
 use Rattle.calloop.proofs.loop_logic.laws.wrong_runs_are_ruled_out.Goals as goal
 
 zero_one : ◌≡◌ {A = ℕ} 0 1 → ⊥
@@ -129,3 +130,49 @@ returns-clause-events_of_a_failure c = λ e h. (let none = h.0 in cc)
 
 pub returns-clause-order_of_slots : goal.returns-clause-order_of_slots
 returns-clause-order_of_slots c = λ v entries h. zero_one (ap told_first h.1 ∙ ap first_slot entries)
+
+pub returns-clause-vacant_slot : goal.returns-clause-vacant_slot
+returns-clause-vacant_slot c = λ h.
+    let e : given_up 0 ≡ h.1 = (let f = h.2 in cc) in
+    let source : Vacant ≡ Source h.4.0 = ap (λ (r : Registration (Unit {0})). r.content) e ∙ h.4.1 in
+    cc
+
+pub returns-clause-slot_in_its_turn : goal.returns-clause-slot_in_its_turn
+returns-clause-slot_in_its_turn c = λ h.
+    let e : in_its_turn ≡ h.1 = (let f = h.2 in cc) in
+    let source : InTurn ≡ Source h.4.0 = ap (λ (r : Registration (Unit {0})). r.content) e ∙ h.4.1 in
+    cc
+
+pub returns-clause-lost_event_of_a_later_use : goal.returns-clause-lost_event_of_a_later_use
+returns-clause-lost_event_of_a_later_use c = λ h. h (full_slot versions) refl refl (tt, refl)
+
+-- a call isn't its own where no arming like its one was gathered in time
+none_gathered : (l : Ledger) (a b : Arming) → Some a ≡ Some b → timely l a ≡ 0 → 1 ≤ timely l b → ⊥
+none_gathered l a b is none one =
+    let same : a ≡ b = cc in
+    let at : timely l b ≡ 0 = ap (λ (x : Arming). timely l x) (sym same) ∙ none in
+    omega (arith, at, one)
+
+pub returns-clause-other_arming : goal.returns-clause-other_arming
+returns-clause-other_arming c = λ v h. none_gathered (called_for with_another_deadline) with_another_deadline h.own.0.0 h.own.0.1 refl h.own.0.3
+
+pub returns-clause-other_counter : goal.returns-clause-other_counter
+returns-clause-other_counter c = λ v h. none_gathered (called_for with_another_counter) with_another_counter h.own.0.0 h.own.0.1 refl h.own.0.3
+
+pub returns-clause-other_number : goal.returns-clause-other_number
+returns-clause-other_number c = λ v h. none_gathered called_for_the_later_one with_another_number h.own.0.0 h.own.0.1 refl h.own.0.3
+
+pub returns-clause-early_arming : goal.returns-clause-early_arming
+returns-clause-early_arming c = λ h. none_gathered called_early first_arming h.0.0 h.0.1 refl h.0.3
+
+pub returns-clause-never_made : goal.returns-clause-never_made
+returns-clause-never_made c = λ v h. one_zero (h.placed 1)
+
+pub returns-clause-told_once_more : goal.returns-clause-told_once_more
+returns-clause-told_once_more c = λ w again h. (let once = rw again at h.once in false_true (sym once.0))
+
+pub returns-clause-answered_early : goal.returns-clause-answered_early
+returns-clause-answered_early c = λ w is h. (let g : times_standing 0 w.held.asks + how_many (is_number 0) w.handed ≤ (if nat_lt 0 w.held.asks.next then 1 else 0) = h 0 in absurd (omega (arith, rw is at g)))
+
+pub returns-clause-answered_and_owed : goal.returns-clause-answered_and_owed
+returns-clause-answered_and_owed c = λ w is h. (let g : times_standing 0 w.held.asks + how_many (is_number 0) w.handed ≤ (if nat_lt 0 w.held.asks.next then 1 else 0) = h 0 in absurd (omega (arith, rw is at g)))

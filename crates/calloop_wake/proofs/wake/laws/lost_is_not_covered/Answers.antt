@@ -78,3 +78,15 @@ returns-clause-result c = λ h. (h.standing 0).once.0 (inl refl)
 
 pub returns-clause-running : goal.returns-clause-running
 returns-clause-running c = λ h. (h.standing 0).finished 3 _ refl (inl refl)
+
+pub returns-clause-second_ring : goal.returns-clause-second_ring
+returns-clause-second_ring c = λ h. not_true (h.standing 1 refl)
+
+pub returns-clause-second_key : goal.returns-clause-second_key
+returns-clause-second_key c = λ h. elim (h.pinged 1 9 refl refl) [ inl e ↦ not_true e | inr f ↦ elim f [ inl d ↦ none_less d | inr p ↦ none_less p ] ]
+
+pub returns-clause-sleeper_beside : goal.returns-clause-sleeper_beside
+returns-clause-sleeper_beside c = λ h. elim (h.told 9 (λ e. cc) refl) [ inl n ↦ none_less n | inr s ↦ not_true s ]
+
+pub returns-clause-before_it_came : goal.returns-clause-before_it_came
+returns-clause-before_it_came c = λ h. not_true (h.standing 0).of_empty.0
