@@ -1,17 +1,9 @@
 pub mod Seen
-pub mod Counting
 pub mod Going
-mod Gone
-mod Moments
 pub mod Roles
 pub mod Settling
-pub mod Noting
-pub mod Owning
 pub mod Inserting
 pub mod Held
-pub mod Rights
-pub mod Served
-pub mod Reuse
 pub mod Rounds
 pub mod Running
 pub mod Finding
@@ -20,12 +12,8 @@ pub mod Receiving
 pub mod Polling
 pub mod Reading
 pub mod Registering
-pub mod Tickets
 pub mod Serving
 pub mod Telling
-pub mod Listing
-pub mod Homes
-pub mod Freshness
 pub mod Failing
 pub mod Registered
 pub mod CellTurns

@@ -22,7 +22,6 @@ mod cell;
 mod errors;
 mod source;
 
-pub use calloop_wake::wake::nothing_is_lost;
 pub use errors::{RecvError, SendError, TryRecvError, TrySendError};
 
 /// What a channel's callback is called with.

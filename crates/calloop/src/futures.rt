@@ -25,7 +25,6 @@ mod scheduler;
 mod source;
 mod task;
 
-pub use calloop_wake::wake::nothing_is_lost;
 pub use errors::{ExecutorDestroyed, ExecutorError, ScheduleError};
 pub use scheduler::Scheduler;
 pub(crate) use task::Blocked;

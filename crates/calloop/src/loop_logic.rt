@@ -25,7 +25,6 @@ mod blocking;
 mod calls;
 mod dispatch;
 mod handle;
-mod laws;
 mod lifecycle;
 mod loops;
 mod registering;
@@ -37,11 +36,6 @@ mod telling;
 mod warnings;
 
 pub use asks::{Answer, Idle, Requests, Ticket};
-pub use laws::{
-    busy_runs_that_there_are, each_dispatch_serves_all, once, once_where_nothing_is_asked,
-    run_that_there_is, runs_that_go_wrong_late, unserved_dispatches_are_ruled_out,
-    wrong_runs_are_ruled_out,
-};
 pub use loops::{ScriptLoop, SystemLoop};
 pub use signal::LoopSignal;
 

@@ -15,7 +15,6 @@ use std::sync::{Arc, Wait};
 pub(crate) mod cell;
 pub(crate) mod source;
 
-pub use calloop_wake::wake::nothing_is_lost;
 pub use source::{PingError, is_registered_by_its_calls};
 
 /// Rings its source, from any thread. As many as are cloned ring the same source, and the drop of the last one closes it.

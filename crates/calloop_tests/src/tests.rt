@@ -1,11 +1,4 @@
-use calloop::loop_logic::{
-    busy_runs_that_there_are, each_dispatch_serves_all, once, once_where_nothing_is_asked,
-    run_that_there_is, runs_that_go_wrong_late, unserved_dispatches_are_ruled_out,
-    wrong_runs_are_ruled_out,
-};
 use calloop::{Instant, PostAction};
-use calloop_core::sys::script::{ScriptClock, ScriptPoller};
-use calloop_test_sources::source::Source;
 use desk::{Act, Call, plays};
 use std::io::ErrorKind;
 
@@ -389,22 +382,6 @@ fn each_case_goes_as_it_is_to(rt: HostRuntime) {
     for (name, acts) in CASES {
         assert_eq!(rt; plays(&rt, rt.alloc(), acts), None, "{name}");
     }
-}
-
-#[test]
-fn the_law_of_all_runs_rules_wrong_runs_out(_rt: HostRuntime) {
-    once::<Source<HostRuntime>, ScriptPoller, ScriptClock, HostRuntime>();
-    once_where_nothing_is_asked::<Source<HostRuntime>, ScriptPoller, ScriptClock, HostRuntime>();
-    run_that_there_is();
-    busy_runs_that_there_are();
-    wrong_runs_are_ruled_out();
-    runs_that_go_wrong_late();
-}
-
-#[test]
-fn the_law_of_what_a_dispatch_has_done_rules_wrong_dispatches_out(_rt: HostRuntime) {
-    each_dispatch_serves_all::<Source<HostRuntime>, ScriptPoller, ScriptClock, HostRuntime>();
-    unserved_dispatches_are_ruled_out();
 }
 
 const OWN_KEY: u64 = u64::MAX;

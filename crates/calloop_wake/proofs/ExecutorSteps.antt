@@ -10,7 +10,6 @@ use Rattle.calloop_wake.specs.declared.wake.tasks.Task.{Task}
 use Rattle.calloop_wake.specs.declared.wake.tasks.TaskKey.{TaskKey}
 use Rattle.calloop_wake.specs.wake.Cells.{is_own}
 use Rattle.calloop_wake.specs.wake.Tasks.{phase_if, phase_at, after_step, is_idle, is_woken, is_awake, in_poll, woken_phase, phase_after_pending, slot_if}
-use Rattle.calloop_wake.specs.wake.ExecutorKind.{ExecutorStep, Put, Wake, Pop, EndTurn, executor_needs, executor_after}
 use Rattle.calloop_wake.specs.wake.Executors.{ExecutorCell, IsAwake, fresh_executor, with_slot, after_put, after_wake, after_poll, after_poll_of, taken_of, after_pop, after_end, after_end_turn, opens, in_turn, after_clear_key, is_empty, AreQueued, ArePolled, AreSorted, IsKeepingTasks, IsStandingExecutor, in_its_poll, key_in}
 use Rattle.calloop_wake.proofs.Sorted.{with_slot_cases, numbered-kept, numbered-gone, numbered-new, queued-add, queued-keep, queued-take, polled-keep, polled-mark, polled-pend, polled-take}
 
@@ -401,12 +400,6 @@ put-keeps slot home c free k =
             (λ was. absurd (true≢false (sym was ∙ ap (λ (o : Option Task). in_poll (phase_if other.number o)) free))) r.2,
       );
     }
-
-pub own-keeps : (s : ExecutorStep) (c : ExecutorCell) → executor_needs s c → IsKeepingTasks c → IsKeepingTasks (executor_after s c)
-own-keeps (Put slot home) c need k = put-keeps slot home c need.1 k
-own-keeps (Wake key) c need k = wake-keeps key c k
-own-keeps (Pop finished) c need k = pop-keeps finished c need.0 k
-own-keeps (EndTurn finished) c need k = end-keeps finished c k
 
 -- steps that all kinds have
 

@@ -7,15 +7,6 @@ pub mod Tasks
 pub mod Executors
 pub mod Boards
 pub mod Posts
-pub mod Wakes
-pub mod PingKind
-pub mod ChannelKind
-pub mod ExecutorKind
-pub mod Kinds
-pub mod Lost
-pub mod ExampleSchedules
-pub mod Delivery
-pub mod StepsOfCores
 pub mod Watches
 pub mod BoardNotes
 pub mod Marks

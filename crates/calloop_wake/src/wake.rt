@@ -18,7 +18,6 @@ pub mod channel;
 pub mod executor;
 pub mod ghosts;
 pub mod homes;
-mod laws;
 pub mod locked;
 pub mod marking;
 pub mod notes;
@@ -28,13 +27,6 @@ pub(crate) mod queue;
 pub(crate) mod sleepers;
 pub mod tasks;
 pub mod watch;
-
-pub use laws::{
-    can_be_delivered, lost_is_not_covered, nothing_is_lost, out_of_reach,
-    schedules_of_one_board_that_there_are, schedules_of_queues_that_there_are,
-    schedules_that_there_are, schedules_that_there_are_not, steps_are_the_machines,
-    turns_that_end_at_their_bound,
-};
 
 /// A key that must be posted on its board. Whoever holds it owes the post.
 #[must_use]

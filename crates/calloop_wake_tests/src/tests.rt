@@ -16,10 +16,6 @@ use calloop_wake::wake::ping::{OpenedTurn, PingCore};
 use calloop_wake::wake::watch::Watch;
 use calloop_wake::wake::{
     ClosePermit, Debt, Last, Notify, OpenedPass, PingTurn, Sender, TakenPass, Tally,
-    can_be_delivered, lost_is_not_covered, nothing_is_lost, out_of_reach,
-    schedules_of_one_board_that_there_are, schedules_of_queues_that_there_are,
-    schedules_that_there_are, schedules_that_there_are_not, steps_are_the_machines,
-    turns_that_end_at_their_bound,
 };
 use calloop_wake::wheel::{ArmRefusal, Instant, TimerWheel};
 use calloop_wake::widths::{MOST_SLOTS, VERSIONS};
@@ -308,24 +304,6 @@ fn a_cell_stands_before_a_ring_and_after_it(rt: HostRuntime) {
     assert!(rt; !desk.is_quiet(&rt));
     cell.stands(&rt);
     cell.leave(&rt);
-}
-
-#[test]
-fn the_law_of_all_schedules_rules_some_states_out(_rt: HostRuntime) {
-    nothing_is_lost();
-    lost_is_not_covered();
-    schedules_that_there_are();
-    schedules_of_queues_that_there_are();
-    schedules_of_one_board_that_there_are();
-    turns_that_end_at_their_bound();
-    schedules_that_there_are_not();
-    steps_are_the_machines();
-}
-
-#[test]
-fn the_law_of_delivery_rules_what_is_out_of_reach_out(_rt: HostRuntime) {
-    can_be_delivered();
-    out_of_reach();
 }
 
 #[test]

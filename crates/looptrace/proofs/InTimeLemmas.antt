@@ -13,11 +13,11 @@ use Rattle.calloop_core.specs.sys.ScriptPollers.{script_outside}
 use Rattle.calloop.specs.declared.loop_logic.LoopCall.TheVariants.{Insert, Enable, Update, Disable, Remove as RemoveCall, Release, Exchange, Dispatch as DispatchCall, InsertIdle, Cancel, Answer as AnswerOf, ForgetStop, LookForStop, Poller as NewPoller}
 use Rattle.calloop.specs.declared.loop_logic.LoopAnswer.{LoopAnswer}
 use Rattle.calloop.specs.declared.loop_logic.LoopAnswer.TheVariants.{Inserted, Removed, Dispatched, Poller as OldPoller}
-use Rattle.calloop.specs.loop_logic.EveryRun.{LoopRun, OverEveryRun, FromTheStart}
+use Rattle.calloop_laws.specs.EveryRun.{LoopRun, OverEveryRun, FromTheStart}
 use Rattle.calloop.specs.loop_logic.Machine.{World, View, Change}
 use Rattle.calloop.specs.loop_logic.Rules.{Run, all_traced}
-use Rattle.calloop.specs.loop_logic.Laws.{IsFresh, IsLedgerOf, changes_of, moments_of}
-use Rattle.calloop.specs.loop_logic.Freshness.{AllFreshCalls}
+use Rattle.calloop_laws.specs.Laws.{IsFresh, IsLedgerOf, changes_of, moments_of}
+use Rattle.calloop_laws.specs.Freshness.{AllFreshCalls}
 use Rattle.calloop.proofs.Running.{run_none, run_first}
 use Rattle.looptrace.specs.declared.command.Command.{Command}
 use Rattle.looptrace.specs.declared.command.Command.TheVariants.{Nothing, Ping, Ring, Close, Remove}

@@ -8,8 +8,8 @@ use Rattle.looptrace.specs.Sources.{Source}
 use Rattle.calloop.specs.declared.loop_logic.LoopAnswer.{LoopAnswer}
 use Rattle.calloop.specs.loop_logic.Machine.{World, View, IsNew, visible}
 use Rattle.calloop.specs.loop_logic.Rules.{Run, RunLeads}
-use Rattle.calloop.specs.loop_logic.Laws.{IsLedgerOf}
-use Rattle.calloop.specs.loop_logic.EveryRun.{LoopRun}
+use Rattle.calloop_laws.specs.Laws.{IsLedgerOf}
+use Rattle.calloop_laws.specs.EveryRun.{LoopRun}
 use Rattle.calloop_core.specs.sys.ScriptPollers.{script_outside}
 use Rattle.looptrace.specs.Sources.{source_meaning, no_idles}
 use Rattle.looptrace.specs.Lines.{lines_of}

@@ -12,8 +12,8 @@ use Rattle.calloop.specs.declared.loop_logic.asks.Asked.{Asked}
 use Rattle.calloop.specs.declared.loop_logic.asks.Request.{Request}
 use Rattle.calloop.specs.declared.loop_logic.asks.Request.TheVariants.{Insert, Enable, Update, Disable, Remove, Idle, Cancel}
 use Rattle.calloop.specs.loop_logic.Askings.{Asks, AskStep, Write, Take, Reaches, IsAsked, CannotAsk, ask_after, asks_after}
-use Rattle.calloop.specs.loop_logic.Freshness.{IsOnly, AreOnly, AsksFresh}
-use Rattle.calloop.specs.loop_logic.Laws.{IsFresh}
+use Rattle.calloop_laws.specs.Freshness.{IsOnly, AreOnly, AsksFresh}
+use Rattle.calloop_laws.specs.Laws.{IsFresh}
 use Rattle.timer_chain.specs.declared.Again.{Again}
 use Rattle.timer_chain.specs.Chains.{IsOfTimer, AreOfTimers, AsksForTimers, Chain, in_chain, chain_meaning}
 

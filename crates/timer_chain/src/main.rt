@@ -1,16 +1,16 @@
 //! A loop in which each timer asks for the next one: the law of armings, where callbacks ask for insertions.
 #![tactic(auto)]
 
-ghost use Rattle.calloop.specs.loop_logic.EveryRun.{OverEveryRun, FromTheStart, ArmingsAreKept};
+ghost use Rattle.calloop_laws.specs.EveryRun.{OverEveryRun, FromTheStart, ArmingsAreKept};
 ghost use Rattle.calloop.specs.loop_logic.Askings.{OnlyAsks};
 ghost use Rattle.timer_chain.specs.Chains.{AsksForTimers, chain_meaning, no_idles};
 
-use calloop::loop_logic::once;
 use calloop::{
     Callback, Choice, Dispatcher, Here, Instant, Requests, Result, ScriptLoop, Sources,
     TimeoutAction, Timer,
 };
 use calloop_core::sys::{Clock, Poller};
+use calloop_laws::once;
 use std::alloc::Global;
 use std::process::ExitCode;
 use std::sync::Wait;

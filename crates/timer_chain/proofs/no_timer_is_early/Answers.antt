@@ -1,5 +1,5 @@
-use Rattle.calloop.specs.loop_logic.Freshness.{quiet_runs}
-use Rattle.calloop.specs.loop_logic.Laws.{IsFresh}
+use Rattle.calloop_laws.specs.Freshness.{quiet_runs}
+use Rattle.calloop_laws.specs.Laws.{IsFresh}
 use Rattle.timer_chain.specs.Chains.{chain_meaning, no_idles}
 use Rattle.timer_chain.proofs.ChainLemmas.{chain_asks}
 use Rattle.timer_chain.proofs.no_timer_is_early.Goals as goal

@@ -1,0 +1,12 @@
+pub mod Counting
+mod Gone
+mod Moments
+pub mod Noting
+pub mod Owning
+pub mod Rights
+pub mod Served
+pub mod Reuse
+pub mod Tickets
+pub mod Listing
+pub mod Homes
+pub mod Freshness

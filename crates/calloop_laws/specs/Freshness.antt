@@ -1,0 +1,79 @@
+-- What a caller can show of a run, so that no source brings a counter of a timer or a key into the loop: of its calls with
+-- their answers, and of the relations of its sources and idles. calloop's sources hold nothing of their loop that could be brought.
+use Rattle.std.specs.Prelude.{List, [], ◌∷◌, Ok}
+use Rattle.std.proofs.Common.{sym, subst}
+use Rattle.calloop_wake.specs.declared.token.Token.{Token}
+use Rattle.calloop_core.specs.declared.sys.Readiness.{Readiness}
+use Rattle.calloop_core.specs.sys.Polls.{PollView, PollStep}
+use Rattle.calloop_core.specs.sources.Deeds.{Turned, Lent}
+use Rattle.calloop_core.specs.sources.Meanings.{Meaning}
+use Rattle.calloop_core.specs.sources.Quiet.{IsQuiet, IsQuietRun}
+use Rattle.calloop.specs.declared.loop_logic.LoopCall.{LoopCall}
+use Rattle.calloop.specs.declared.loop_logic.LoopCall.TheVariants.{Insert, Exchange}
+use Rattle.calloop.specs.declared.loop_logic.LoopAnswer.{LoopAnswer}
+use Rattle.calloop.specs.declared.loop_logic.LoopAnswer.TheVariants.{Exchanged}
+use Rattle.calloop.specs.declared.loop_logic.asks.Asked.{Asked}
+use Rattle.calloop.specs.declared.loop_logic.asks.Request.{Request}
+use Rattle.calloop.specs.declared.loop_logic.asks.Request.TheVariants.{Insert as AskInsert}
+use Rattle.calloop.specs.loop_logic.Askings.{Asks, Runs}
+use Rattle.calloop_laws.specs.Laws.{IsFresh, IsNoMore, Any, HasNoMoreKeys}
+
+-- what it inserts is such
+abbrev pub IsOnly : {D I : Type 0} → (D → Type 0) → Request D I → Type 0
+IsOnly C (AskInsert d) = C d
+IsOnly C request = Unit {0}
+
+abbrev pub AreOnly : {D I : Type 0} → (D → Type 0) → List (Asked D I) → Type 0
+AreOnly C [] = Unit {0}
+AreOnly C (a ∷ as') = IsOnly C a.request × AreOnly C as'
+
+-- a turn asks for no other insertions than of such sources
+abbrev pub AsksOnly : {D I P X : Type 0} → (D → Type 0) → Meaning D P (Lent X (Asks D I)) → Type 0
+AsksOnly {D} {I} {P} {X} C m =
+    (s t : D) (v : PollView P) (readiness : Readiness) (token : Token) (turn : Lent X (Asks D I))
+    (steps : List (PollStep P))
+    → m.does s v (Turned readiness token turn) steps t → AreOnly C turn.asked_before.written
+    → AreOnly C turn.asked_after.written
+
+-- and so does what runs at the end of a dispatch
+abbrev pub RunsOnly : {D I X : Type 0} → (D → Type 0) → Runs D I X → Type 0
+RunsOnly {D} {I} {X} C runs =
+    (i : I) (x y : X) (q r : Asks D I) → runs i x q y r → AreOnly C q.written → AreOnly C r.written
+
+-- a source that a call inserts is such; and one that takes another's place is such beside that, which the answer names
+abbrev pub CallBrings : {D I P X : Type 0} → (D → Type 0) → (D → D → Type 0) → LoopCall D P X I → LoopAnswer D P X I → Type 0
+CallBrings C S (Insert d) answer = C d
+CallBrings C S (Exchange token new) (Exchanged (Ok old)) = S old new
+CallBrings C S call answer = Unit {0}
+
+abbrev pub AllCallsBring : {D I P X : Type 0} → (D → Type 0) → (D → D → Type 0) → List (LoopCall D P X I)
+    → List (LoopAnswer D P X I) → Type 0
+AllCallsBring C S (call ∷ calls) (answer ∷ answers) = CallBrings C S call answer × AllCallsBring C S calls answers
+AllCallsBring C S calls answers = Unit {0}
+
+-- each turn and each idle asks for no other insertions than of sources that hold no counter
+abbrev pub AsksFresh : {D I P X : Type 0} → Meaning D P (Lent X (Asks D I)) → Type 0
+AsksFresh m = AsksOnly (IsFresh m) m
+
+abbrev pub RunsFresh : {D I P X : Type 0} → Meaning D P (Lent X (Asks D I)) → Runs D I X → Type 0
+RunsFresh m runs = RunsOnly (IsFresh m) runs
+
+-- each source that a call inserts holds no counter; and one that takes another's place holds no more than that
+abbrev pub AllFreshCalls : {D I P X : Type 0} → Meaning D P (Lent X (Asks D I)) → List (LoopCall D P X I)
+    → List (LoopAnswer D P X I) → Type 0
+AllFreshCalls m calls answers = AllCallsBring (IsFresh m) (IsNoMore m) calls answers
+
+-- and one that takes another's place has no key which that doesn't have
+abbrev pub AllKeepKeys : {D I P X : Type 0} → Meaning D P (Lent X (Asks D I)) → List (LoopCall D P X I)
+    → List (LoopAnswer D P X I) → Type 0
+AllKeepKeys m calls answers = AllCallsBring Any (HasNoMoreKeys m) calls answers
+
+-- Proofs from here on, which a caller cites.
+
+pub quiet_asks : {D I P X : Type 0} (C : D → Type 0) (m : Meaning D P (Lent X (Asks D I))) → IsQuiet m → AsksOnly C m
+quiet_asks {D} {I} C m quiet s t v readiness token turn steps h before =
+    subst (λ (q : Asks D I). AreOnly C q.written) (sym (quiet s t v readiness token turn steps h)) before
+
+pub quiet_runs : {D I X : Type 0} (C : D → Type 0) (runs : Runs D I X) → IsQuietRun runs → RunsOnly C runs
+quiet_runs {D} {I} C runs quiet i x y q r h before =
+    subst (λ (a : Asks D I). AreOnly C a.written) (sym (quiet i x y q r h)) before

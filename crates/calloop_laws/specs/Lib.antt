@@ -1,0 +1,11 @@
+pub mod Laws
+pub mod EveryRun
+pub mod Freshness
+pub mod Homes
+pub mod Served
+pub mod Unserved
+pub mod Wrong
+pub mod WrongRuns
+pub mod ExampleRun
+pub mod BusyRun
+pub mod RearmedRun

@@ -1,0 +1,9 @@
+pub mod Wakes
+pub mod PingKind
+pub mod ChannelKind
+pub mod ExecutorKind
+pub mod Kinds
+pub mod Lost
+pub mod ExampleSchedules
+pub mod Delivery
+pub mod StepsOfCores
