@@ -1,9 +1,10 @@
 use calloop::{Dispatcher, Instant, On, Sources, TimeoutAction, Timer};
 use calloop_core::sys::script::{ScriptClock, ScriptPoller};
 use calloop_laws::{
-    busy_runs_that_there_are, each_dispatch_serves_all, once, once_where_nothing_is_asked,
-    run_that_there_is, runs_that_go_wrong_late, unserved_dispatches_are_ruled_out,
-    wrong_runs_are_ruled_out,
+    busy_runs_that_there_are, dispatch_of_a_ring_that_there_is, each_dispatch_serves_all,
+    histories_are_schedules, once, once_where_nothing_is_asked, run_that_there_is,
+    runs_that_go_wrong_late, unserved_dispatches_are_ruled_out, unserved_keys_are_ruled_out,
+    what_is_posted_is_served, wrong_histories_are_ruled_out, wrong_runs_are_ruled_out,
 };
 use calloop_wake_laws::{
     can_be_delivered, lost_is_not_covered, nothing_is_lost, out_of_reach,
@@ -57,4 +58,13 @@ fn the_law_of_all_runs_rules_wrong_runs_out(_rt: HostRuntime) {
 fn the_law_of_what_a_dispatch_has_done_rules_wrong_dispatches_out(_rt: HostRuntime) {
     each_dispatch_serves_all::<Source, ScriptPoller, ScriptClock, HostRuntime>();
     unserved_dispatches_are_ruled_out();
+}
+
+#[test]
+fn the_law_of_what_was_posted_rules_wrong_histories_out(_rt: HostRuntime) {
+    what_is_posted_is_served::<Source, ScriptPoller, ScriptClock, HostRuntime>();
+    histories_are_schedules();
+    wrong_histories_are_ruled_out();
+    unserved_keys_are_ruled_out();
+    dispatch_of_a_ring_that_there_is();
 }

@@ -10,3 +10,7 @@ pub mod Tickets
 pub mod Listing
 pub mod Homes
 pub mod Freshness
+pub mod Histories
+pub mod Handing
+pub mod Tying
+pub mod Refuting

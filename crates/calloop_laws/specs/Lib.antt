@@ -9,3 +9,8 @@ pub mod WrongRuns
 pub mod ExampleRun
 pub mod BusyRun
 pub mod RearmedRun
+-- Of a loop together with the wake machine.
+pub mod Histories
+pub mod Handed
+pub mod Tied
+pub mod Examples

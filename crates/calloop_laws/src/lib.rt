@@ -1,12 +1,12 @@
 //! What holds of every run of a loop: laws of the machine of `calloop`'s contracts, runs that there are, and wrong ones that the laws rule
-//! out. Nothing of `calloop` stands on them.
+//! out; and what holds of a loop together with the wake machine, whose steps its board makes. Nothing of `calloop` stands on them.
 #![tactic(auto)]
 
-ghost use Rattle.std.specs.Prelude.{◌≡◌, ℕ, List, [], ◌∷◌, Some, None};
+ghost use Rattle.std.specs.Prelude.{◌≡◌, ℕ, List, [], ◌∷◌, Some, None, ◌++◌, true, Ok};
 ghost use Rattle.calloop_wake.specs.Widths.{versions};
 ghost use Rattle.calloop_wake.specs.declared.error.Error.{Error};
 ghost use Rattle.calloop.specs.loop_logic.Machine.{World, View, IsNew};
-ghost use Rattle.calloop.specs.loop_logic.Rules.{Run};
+ghost use Rattle.calloop.specs.loop_logic.Rules.{Run, DispatchedBy, after_changes};
 ghost use Rattle.calloop_laws.specs.Homes.{AllAtHome};
 ghost use Rattle.calloop_laws.specs.Served.{IsAccountOf, OverEveryDispatch, NothingIsLeft, AllAreCut, NoneIsLate, DueAreCut, IdlesRan, DeadlinesStaySorted};
 ghost use Rattle.calloop_laws.specs.Unserved.{SmallAccount, two_wait, cuts_one, cuts_two, cuts_three, cuts_before, gathers_nothing, gathers_twice, takes_no_round, runs_no_idle, idle_waits, in_another_order, first_stays, second_stays, before_its_dispatch, account_of_it};
@@ -18,7 +18,7 @@ ghost use Rattle.calloop_laws.specs.Laws.{IsLedgerOf, IsSound, AllFresh, changes
 ghost use Rattle.calloop_laws.specs.Freshness.{AsksFresh, RunsFresh, AllFreshCalls, AllKeepKeys};
 ghost use Rattle.calloop_wake.specs.declared.list.Content.TheVariants.{Vacant};
 ghost use Rattle.calloop_laws.specs.ExampleRun.{only, no_idle, quiet_poller, new_world, its_calls, its_answers, its_changes, its_run, end_of_it};
-ghost use Rattle.calloop_core.specs.sys.Polls.{PollView};
+ghost use Rattle.calloop_core.specs.sys.Polls.{PollView, posted_event};
 ghost use Rattle.logbook.specs.Pages.{Book};
 ghost use Rattle.calloop_core.specs.sources.Meanings.{IsKeeping};
 ghost use Rattle.calloop.specs.loop_logic.Rules.{all_traced};
@@ -33,6 +33,14 @@ ghost use Rattle.calloop_wake.specs.Tokens.{key_of};
 ghost use Rattle.calloop_laws.specs.Wrong.{KeepsTheLastAlone, KeepsOfAFailure, TellsInTheOrderOfSlots, second_registration, first_token, first_registration, full_slot, given_up, early, in_two_places, called_twice, called_early, called_from_nowhere, called_with_another_deadline, in_no_place, armed_once, gathered_once, asked_twice, first_call, still_meaning, arms_elsewhere, used_with_an_old_key, answered_twice, one_ticket};
 ghost use Rattle.calloop_laws.specs.Wrong.{in_its_turn, called_for, with_another_deadline, with_another_counter, called_for_the_later_one, with_one_never_made, answered_while_served, answered_while_owed};
 ghost use Rattle.calloop_laws.specs.Laws.{AllOwnCalls, timely};
+ghost use Rattle.calloop_wake.specs.wake.Boards.{is_marked};
+ghost use Rattle.calloop_wake_laws.specs.Kinds.{every_kind};
+ghost use Rattle.calloop_wake_laws.specs.Lost.{of_pings, with_a_key_forgotten};
+ghost use Rattle.calloop_wake_laws.specs.Wakes.{WakeWorld, IsSchedule, after_all};
+ghost use Rattle.calloop_laws.specs.Examples.{SmallHistory, two_posted, leaves_one_out, takes_backwards, leaves_out_later, counts_one, sees_nothing, up_to_a_small_taking, small_taking, with_a_source, of_a_ring, history_of_a_ring, with_its_event, cuts_to_none, ends_with_one_left, drops_what_it_took, history_of_nothing, takes_nothing, with_a_ring_forgotten, history_with_a_clearing};
+ghost use Rattle.calloop_laws.specs.Handed.{OverEachDispatch, IsNotedDispatch, IsHandedOut};
+ghost use Rattle.calloop_laws.specs.Histories.{IsHistory, end_of, schedule_of, notes_of};
+ghost use Rattle.calloop_laws.specs.Tied.{IsServedOf, ServesWhatIsPosted, ServesEachRing, EachServesWhatIsPosted};
 
 use calloop::{EventDispatcher, Requests};
 use calloop_core::callbacks::QuietDispatch;
@@ -322,4 +330,92 @@ pub fn runs_that_go_wrong_late()
         → ¬ Run adapters idle_never quiet_poller one_dispatch one_answer
         (of_a_settling name 1 0 ∷ [])
         (with_two_adapters name) (all_traced (with_two_adapters name) (of_a_settling name 1 0)) }
+{}
+
+/// Of every dispatch that answers `Ok`, from any state, whatever poller, clock, sources, callbacks and idles answer: its watch notes
+/// one count of the places, the marks, looks, and one taking of posted keys with room for so many as there were places; and the event
+/// of each key that it took is handed out in it, to the source that its token names in its turn, which has its turn, or to none, where
+/// the token names none.
+///
+/// And of every history of its board from where nothing has happened, by any number of cells and parties, in which what the loop did
+/// stands as its watch noted it: where no place was opened between that count and that taking, each key that was posted at the taking
+/// is one that it took. So of each cell that was pinged then under a key, the event is handed out in this dispatch, or its key was
+/// still owed or held; and where a cell is pinged as the dispatch ends, its key was posted since the taking, or is still owed or held.
+/// So each ping that is rung at the taking, where no turn of it is open and its key is neither owed nor held, has its source's turn in
+/// this dispatch (`rings`).
+///
+/// And of a run and one history up to its end: all of this of each dispatch that answered `Ok` (`run`).
+///
+/// That the notes of the watch and what happens to the board are one history is what the lock's contract gives; no law says it.
+pub fn what_is_posted_is_served<D: EventDispatcher<P, C, R>, P: Poller, C: Clock, R: Wait + Drop>()
+    ensures noted { OverEachDispatch D.means D.Idle.runs P.outside (IsNotedDispatch D.means) }
+    ensures served { OverEachDispatch D.means D.Idle.runs P.outside (ServesWhatIsPosted D.means) }
+    ensures rings { OverEachDispatch D.means D.Idle.runs P.outside (ServesEachRing D.means) }
+    ensures run { OverEveryRun D.means D.Idle.runs P.outside (EachServesWhatIsPosted D.means) }
+{}
+
+/// A history is a schedule of the wake machine, so that `nothing_is_lost` is of its end.
+pub fn histories_are_schedules()
+    ensures schedule { (w : WakeWorld every_kind.Cell) (hs : SmallHistory)
+        → IsHistory every_kind w hs
+        → IsSchedule every_kind w (schedule_of every_kind w hs) }
+    ensures same_end { (w : WakeWorld every_kind.Cell) (hs : SmallHistory)
+        → after_all every_kind w (schedule_of every_kind w hs) ≡ end_of every_kind w hs }
+{}
+
+/// Histories that there aren't, from where keys 7 and 9 are posted: a taking that leaves one out though there is room, or gives them in
+/// another order; a second taking that leaves out what the first left; a count of one place of two; a look that finds nothing.
+pub fn wrong_histories_are_ruled_out()
+    ensures left_out { ¬ IsHistory every_kind two_posted leaves_one_out }
+    ensures backwards { ¬ IsHistory every_kind two_posted takes_backwards }
+    ensures later { ¬ IsHistory every_kind two_posted leaves_out_later }
+    ensures count { ¬ IsHistory every_kind two_posted counts_one }
+    ensures look { ¬ IsHistory every_kind two_posted sees_nothing }
+{}
+
+/// Small dispatches that the laws rule out: an event that goes to none though its source stands there; one that ends with one of two
+/// taken keys left; one whose watch notes a key that joins no batch, also with a history in which that key was rung and taken; one that
+/// ends where a cell is pinged whose key is nowhere, or takes keys where one is; and one that leaves an event which was left over before.
+pub fn unserved_keys_are_ruled_out()
+    ensures to_none { (name : Book)
+        → ¬ IsHandedOut anything (with_its_event name) cuts_to_none (posted_event 0) }
+    ensures one_left { (name : Book)
+        → ¬ IsHandedOut anything (with_a_source name) ends_with_one_left (posted_event 1) }
+    ensures dropped { (name : Book)
+        → ¬ IsNotedDispatch anything (with_a_source name) (drops_what_it_took name) }
+    ensures unserved { (name : Book) → ¬ IsServedOf every_kind anything of_pings history_of_a_ring
+        (with_a_source name) (drops_what_it_took name) }
+    ensures lost { (name : Book)
+        → ¬ IsServedOf every_kind anything with_a_key_forgotten history_of_nothing
+        (with_a_source name) (takes_nothing name) }
+    ensures forgotten { (name : Book)
+        → ¬ IsServedOf every_kind anything with_a_ring_forgotten history_with_a_clearing
+        (with_a_source name) (takes_nothing name) }
+    ensures left_over { (name : Book)
+        → ¬ IsNotedDispatch anything (with_its_event name) (takes_nothing name) }
+{}
+
+/// A dispatch that there is and a history of its board, which meet the premises of the laws, so that the source of the key that was
+/// posted has its turn. And a history in which a place is opened between count and taking: there a posted key is left, so that the
+/// premise is needed.
+pub fn dispatch_of_a_ring_that_there_is()
+    ensures dispatch { (name : Book) → DispatchedBy anything idle_never quiet_poller
+        None tt (Ok tt) tt (with_a_source name) (of_a_ring name) }
+    ensures history { IsHistory every_kind of_pings history_of_a_ring }
+    ensures tied { (name : Book) → notes_of history_of_a_ring
+        ≡ (after_changes (with_a_source name) (of_a_ring name)).poll.watch.notes }
+    ensures handed_out { (name : Book)
+        → OverEachDispatch anything idle_never quiet_poller (ServesWhatIsPosted anything)
+        → IsHandedOut anything (with_a_source name) (of_a_ring name) (posted_event 0) }
+    ensures rung { (name : Book)
+        → OverEachDispatch anything idle_never quiet_poller (ServesEachRing anything)
+        → IsHandedOut anything (with_a_source name) (of_a_ring name) (posted_event 0) }
+    ensures of_a_run { (name : Book)
+        → OverEveryRun anything idle_never quiet_poller (EachServesWhatIsPosted anything)
+        → IsHandedOut anything (with_a_source name) (of_a_ring name) (posted_event 0) }
+    ensures room { IsHistory every_kind of_pings (up_to_a_small_taking ++ small_taking ∷ []) }
+    ensures posted { is_marked 7 (end_of every_kind of_pings up_to_a_small_taking).board ≡ true }
+    ensures stays { is_marked 7
+        (end_of every_kind of_pings (up_to_a_small_taking ++ small_taking ∷ [])).board
+        ≡ true }
 {}

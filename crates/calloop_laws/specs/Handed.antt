@@ -1,0 +1,54 @@
+-- What a dispatch that answers `Ok` does with the posted keys that it took. Calloop says none of it.
+use Rattle.std.specs.Prelude.{◌≡◌, ℕ, Bool, List, [], ◌∷◌, ◌++◌, map, Option, Ok}
+use Rattle.std.specs.List.{Contains}
+use Rattle.calloop_wake.specs.Tokens.{registration_of}
+use Rattle.calloop_wake.specs.Slots.{content_at}
+use Rattle.calloop_wake.specs.declared.token.RegistrationToken.{RegistrationToken}
+use Rattle.calloop_wake.specs.declared.wake.notes.Note.{Note}
+use Rattle.calloop_wake.specs.declared.wake.notes.Note.TheVariants.{Counted, Looked, Unposted, Marked}
+use Rattle.calloop_core.specs.declared.sys.poll.Pending.{Pending}
+use Rattle.calloop_core.specs.sources.Deeds.{Lent}
+use Rattle.calloop_core.specs.sources.Meanings.{Meaning}
+use Rattle.calloop_core.specs.sys.Pollers.{Outside}
+use Rattle.calloop_core.specs.sys.Polls.{posted_event}
+use Rattle.calloop.specs.loop_logic.Askings.{Asks, Runs}
+use Rattle.calloop.specs.loop_logic.Machine.{View, Change}
+use Rattle.calloop.specs.loop_logic.Rules.{Doing, CutTo, DispatchedBy, after_changes}
+
+-- One of these steps hands out this event, which is the first of the batch then: to the source that its token names at that moment, which
+-- has its turn with it, or to none, where the token names no source.
+pub record IsHandedOut {D I P X : Type 0} (M : Meaning D P (Lent X (Asks D I))) (v : View D I P)
+    (css : List (List (Change D I P))) (e : Pending) : Type 0 where
+  pub ahead : List (List (Change D I P))
+  pub changes : List (Change D I P)
+  pub behind : List (List (Change D I P))
+  pub is : css ≡ ahead ++ changes ∷ behind
+  pub others : List Pending
+  pub first : (after_changes v ahead).poll.batch ≡ e ∷ others
+  pub x : X
+  pub next : Doing D X
+  pub cut : CutTo M e (content_at (after_changes v ahead).slots (registration_of e.token)) (after_changes v ahead) x changes next
+
+-- the notes of looks that found this
+abbrev pub looked : List Bool → List Note
+looked found = map (λ b. Looked b) found
+
+-- What the watch notes of a dispatch: it counts the places once, takes the marks of adapters, looks, and takes posted keys once, with room
+-- for as many as there were places; and the event of each key that it took is handed out, as is each event that was left over before it.
+pub record IsNotedDispatch {D I P X : Type 0} (M : Meaning D P (Lent X (Asks D I))) (v : View D I P)
+    (css : List (List (Change D I P))) : Type 0 where
+  pub places : ℕ
+  pub marks : List RegistrationToken
+  pub looks : List Bool
+  pub keys : List ℕ
+  pub notes : (after_changes v css).poll.watch.notes
+      ≡ v.poll.watch.notes ++ Counted places ∷ Marked marks ∷ (looked looks ++ Unposted places keys ∷ [])
+  pub handed_out : (k : ℕ) → Contains keys k → IsHandedOut M v css (posted_event k)
+  pub left_over : (e : Pending) → Contains v.poll.batch e → IsHandedOut M v css e
+
+-- whatever poller, sources, callbacks and idles answer, this holds of each dispatch that answers `Ok`
+abbrev pub OverEachDispatch : {D I P X : Type 0} → Meaning D P (Lent X (Asks D I)) → Runs D I X → Outside P
+    → (View D I P → List (List (Change D I P)) → Type 0) → Type 0
+OverEachDispatch {D} {I} {P} {X} M runs O Law =
+    (timeout : Option ℕ) (x x' : X) (v : View D I P) (css : List (List (Change D I P)))
+    → DispatchedBy M runs O timeout x (Ok tt) x' v css → Law v css
