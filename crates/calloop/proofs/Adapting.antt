@@ -11,29 +11,29 @@ use Rattle.calloop.specs.declared.io.adapter.Adapter.{Adapter}
 use Rattle.calloop.specs.declared.io.notes.SlotNote.TheVariants.{Asked}
 use Rattle.calloop.specs.io.Adapters.{TakenOut, Leaves, Goes, discards, left_so, registered_nowhere, and_did}
 
-module _ {P R I : Type 0} (sockets : Sockets P I) (O : Outside P) where
-  abbrev Left : Option Token → Adapter P R I → PollView P → Result (Unit {0}) Error → Adapter P R I → PollView P → Type 0
+module _ {P F R : Type 0} (sockets : Sockets P) (O : Outside P) where
+  abbrev Left : Option Token → Adapter F R → PollView P → Result (Unit {0}) Error → Adapter F R → PollView P → Type 0
   Left own s v answer t w = (steps : List (PollStep P)) × Leaves sockets own s v answer steps t × AllStepped O v steps w
 
-  pub nowhere : (own : Option Token) (s : Adapter P R I) (v : PollView P) (e : Error) → own ≡ None → IsOfKind NotFound e → Left own s v (Err e) s v
+  pub nowhere : (own : Option Token) (s : Adapter F R) (v : PollView P) (e : Error) → own ≡ None → IsOfKind NotFound e → Left own s v (Err e) s v
   nowhere own s v e none kind = rw none ([], (e, refl, kind, refl, refl), (tt, refl))
 
-  pub not_let : (own : Option Token) (token : Token) (s : Adapter P R I) (v : PollView P) → own ≡ Some token → Left own s v (Err InvalidToken) (and_did (Asked false) s) v
+  pub not_let : (own : Option Token) (token : Token) (s : Adapter F R) (v : PollView P) → own ≡ Some token → Left own s v (Err InvalidToken) (and_did (Asked false) s) v
   not_let own token s v some = rw some ([], inl (InvalidToken, refl, refl, refl, refl), (tt, refl))
 
-  pub let_out : (own : Option Token) (token : Token) (s : Adapter P R I) (v w : PollView P) (answer : Result (Unit {0}) Error) → own ≡ Some token
+  pub let_out : (own : Option Token) (token : Token) (s : Adapter F R) (v w : PollView P) (answer : Result (Unit {0}) Error) → own ≡ Some token
       → ((steps : List (PollStep P)) × TakenOut sockets s.entered token v answer steps × AllStepped O v steps w) → Left own s v answer (left_so answer (and_did (Asked true) s)) w
   let_out own token s v w answer some h = rw some (h.0, inr (h.1, refl), h.2)
 
-  abbrev Gone : Option Token → Adapter P R I → PollView P → Result (Unit {0}) Error → Adapter P R I → PollView P → Type 0
+  abbrev Gone : Option Token → Adapter F R → PollView P → Result (Unit {0}) Error → Adapter F R → PollView P → Type 0
   Gone own s v told t w = (steps : List (PollStep P)) × Goes sockets own s v told steps t × AllStepped O v steps w
 
   -- its other end is gone, and it is in no loop
-  pub stays_out : (own : Option Token) (s : Adapter P R I) (v : PollView P) → own ≡ None → Gone own s v (Ok tt) s v
+  pub stays_out : (own : Option Token) (s : Adapter F R) (v : PollView P) → own ≡ None → Gone own s v (Ok tt) s v
   stays_out own s v none = rw none ([], (refl, refl, refl), (tt, refl))
 
   -- its other end is gone, and it was in a loop
-  pub goes_out : (own : Option Token) (token : Token) (s : Adapter P R I) (v u w : PollView P) (told : Result (Unit {0}) Error) → own ≡ Some token
+  pub goes_out : (own : Option Token) (token : Token) (s : Adapter F R) (v u w : PollView P) (told : Result (Unit {0}) Error) → own ≡ Some token
       → ((out : List (PollStep P)) × TakenOut sockets s.entered token v told out × AllStepped O v out u)
       → AllStepped O u (discards told token u.poller) w → Gone own s v told (registered_nowhere s) w
   goes_out own token s v u w told some h last =

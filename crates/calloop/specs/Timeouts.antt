@@ -50,27 +50,27 @@ abbrev pub IsOf : {C R : Type 0} → TimeoutFuture C R → WakesTimeout R → Ty
 IsOf made wakes = arc_value wakes.parked ≡ arc_value made.parked
 
 -- A timer of this moment was inserted, which wakes the future. It is the loop's own, so no call of a handle names it.
-abbrev pub HasTimer : {D P C R X I S : Type 0} → Meaning D P (Lent X (Asks D I)) → Runs D I X → Outside P
+abbrev pub HasTimer : {D P C R X I : Type 0} → Meaning D P (Lent X (Asks D I)) → Runs D I X → Outside P
     → (placed : TimeoutTimer R → D) → Instant → TimeoutFuture C R
-    → LoopHandle D P C R X I S → LoopHandle D P C R X I S → Type 0
+    → LoopHandle D P C R X I → LoopHandle D P C R X I → Type 0
 HasTimer {D} {P} {C} {R} M runs O placed moment made old new =
     (token : RegistrationToken) × (wakes : WakesTimeout R) × IsOf made wakes
     × (M.role (placed (timer_at moment wakes)) ≡ Timeout)
     × IsCase M runs O (Insert (placed (timer_at moment wakes))) (Inserted (Ok token)) old new
 
 -- Its insertion was refused so, or there was no memory for the future before, and the loop is as it was.
-abbrev pub HasNoTimer : {D P C R X I S : Type 0} → Meaning D P (Lent X (Asks D I)) → Runs D I X → Outside P
+abbrev pub HasNoTimer : {D P C R X I : Type 0} → Meaning D P (Lent X (Asks D I)) → Runs D I X → Outside P
     → (placed : TimeoutTimer R → D) → Instant → Error
-    → LoopHandle D P C R X I S → LoopHandle D P C R X I S → Type 0
+    → LoopHandle D P C R X I → LoopHandle D P C R X I → Type 0
 HasNoTimer {D} {P} {C} {R} M runs O placed moment e old new =
     ((e ≡ OutOfMemory) × (held_by new ≡ held_by old))
     ⊎ ((back : InsertError D) × (back.error ≡ e) × (wakes : WakesTimeout R)
     × IsCase M runs O (Insert (placed (timer_at moment wakes))) (Inserted (Err back)) old new)
 
 -- What comes of making one. Without a moment nothing is inserted, and running out of memory alone refuses it.
-abbrev pub IsMade : {D P C R X I S : Type 0} → Meaning D P (Lent X (Asks D I)) → Runs D I X → Outside P
+abbrev pub IsMade : {D P C R X I : Type 0} → Meaning D P (Lent X (Asks D I)) → Runs D I X → Outside P
     → (placed : TimeoutTimer R → D) → Option Instant → Result (TimeoutFuture C R) Error
-    → LoopHandle D P C R X I S → LoopHandle D P C R X I S → Type 0
+    → LoopHandle D P C R X I → LoopHandle D P C R X I → Type 0
 IsMade M runs O placed None result old new =
     IfOk result (λ made. made.deadline ≡ None) × IfErr result (λ e. e ≡ OutOfMemory) × (held_by new ≡ held_by old)
 IsMade M runs O placed (Some moment) result old new =

@@ -12,7 +12,7 @@ ghost use Rattle.calloop.specs.io.AsyncPolls.{WaitsFor, AnswersWith, Polls, to_r
 ghost use Rattle.calloop.specs.declared.io.notes.PollNote.TheVariants.{Waits, Tried, Flushed};
 
 use crate::futures::{Context, Poll, Waker};
-use calloop_core::sys::{Interest, Poller};
+use calloop_core::sys::Interest;
 use calloop_wake::error::{InsertError, Result as LoopResult};
 use calloop_wake::token::RegistrationToken;
 use shared::PollEnd;
@@ -20,6 +20,7 @@ use std::alloc::Global;
 use std::io;
 use std::io::{Read, Write};
 use std::marker::Model;
+use std::os::fd::AsRawFd;
 use std::sync::{MutexGuard, Wait};
 
 mod adapter;
@@ -36,11 +37,11 @@ pub use ready::{Readable, Writable};
 /// dispatch; `LoopHandle::into_inner` does so at once, and hands the socket back.
 ///
 /// In a clause it is its tally: the name of its adapter, and what it did. Each poll adds its notes, and nothing else makes one.
-pub struct Async<P: Poller, R: Wait + Drop> {
-    end: PollEnd<P, R>,
+pub struct Async<F: AsRawFd + Drop, R: Wait + Drop> {
+    end: PollEnd<F, R>,
 }
 
-impl<P: Poller, R: Wait + Drop> Model for Async<P, R> {
+impl<F: AsRawFd + Drop, R: Wait + Drop> Model for Async<F, R> {
     ghost use Rattle.calloop.specs.declared.io.state.PollTally.{PollTally};
 
     ghost Value = { PollTally };
@@ -48,7 +49,7 @@ impl<P: Poller, R: Wait + Drop> Model for Async<P, R> {
     ghost view = { λ a. a.end };
 }
 
-impl<P: Poller, R: Wait + Drop> Drop for Async<P, R> {
+impl<F: AsRawFd + Drop, R: Wait + Drop> Drop for Async<F, R> {
     fn drop(self) {
         let Async { end } = self;
         end.let_go();
@@ -56,11 +57,11 @@ impl<P: Poller, R: Wait + Drop> Drop for Async<P, R> {
 }
 
 // Both ends of an adapter that is in no loop yet, and its socket, which is in neither. A refusal hands that back.
-pub(crate) fn make_ends<P: Poller, R: Wait + Clone + Drop>(
+pub(crate) fn make_ends<F: AsRawFd + Drop, R: Wait + Clone + Drop>(
     rt: &R,
     alloc: Global,
-    io: P::Io,
-) -> Result<(Adapter<P, R>, Async<P, R>, P::Io), InsertError<P::Io>>
+    io: F,
+) -> Result<(Adapter<F, R>, Async<F, R>, F), InsertError<F>>
     ensures ok { IfOk result (λ made. (made.0.token ≡ None) × (made.0.entered ≡ false)
         × (made.0.end.name ≡ made.1.name)) }
     ensures notes { IfOk result (λ made. (made.0.end.notes ≡ []) × (made.1.notes ≡ [])) }
@@ -77,14 +78,14 @@ pub(crate) fn make_ends<P: Poller, R: Wait + Clone + Drop>(
     }
 }
 
-impl<P: Poller, R: Wait + Drop> Async<P, R> {
+impl<F: AsRawFd + Drop, R: Wait + Drop> Async<F, R> {
     // The socket comes in.
-    pub(crate) fn put(&self, io: P::Io) {
+    pub(crate) fn put(&self, io: F) {
         *self.end.io() = Some(io);
     }
 
     // The socket goes out.
-    pub(crate) fn take(&self) -> Option<P::Io> {
+    pub(crate) fn take(&self) -> Option<F> {
         self.end.io().take()
     }
 
@@ -100,19 +101,19 @@ impl<P: Poller, R: Wait + Drop> Async<P, R> {
 
     /// The socket, to be changed. It is there until it is taken out; while this is held, a dispatch of the loop that settles the adapter
     /// waits. Calloop answers a reference.
-    pub fn get_mut(&mut self) -> MutexGuard<'_, Option<P::Io>> {
+    pub fn get_mut(&mut self) -> MutexGuard<'_, Option<F>> {
         self.end.io()
     }
 }
 
-impl<P: Poller, R: Wait + Clone + Drop> Async<P, R> {
+impl<F: AsRawFd + Drop, R: Wait + Clone + Drop> Async<F, R> {
     /// A future that is ready once the socket can be read, or is in error.
-    pub fn readable(&mut self) -> Readable<'_, P, R> {
+    pub fn readable(&mut self) -> Readable<'_, F, R> {
         Readable::of(self)
     }
 
     /// A future that is ready once the socket can be written, or is in error.
-    pub fn writable(&mut self) -> Writable<'_, P, R> {
+    pub fn writable(&mut self) -> Writable<'_, F, R> {
         Writable::of(self)
     }
 
@@ -172,7 +173,7 @@ impl<P: Poller, R: Wait + Clone + Drop> Async<P, R> {
     /// without memory to wait the answer is an error of kind `Other`, and without a socket one of kind `NotFound`.
     pub fn poll_read(&mut self, cx: &mut Context<'_, R>, buf: &mut [u8]) -> Poll<io::Result<usize>>
     where
-        P::Io: Read,
+        F: Read,
         ensures bound { IfReady result (λ read. ReadsAtMost read buf.new) }
         ensures told { Polls to_read Tried self.old result self.new }
     {
@@ -186,7 +187,7 @@ impl<P: Poller, R: Wait + Clone + Drop> Async<P, R> {
     /// Writes. Where the socket takes nothing yet, it waits until the socket can be written. Refusals are those of `poll_read`.
     pub fn poll_write(&mut self, cx: &mut Context<'_, R>, buf: &[u8]) -> Poll<io::Result<usize>>
     where
-        P::Io: Write,
+        F: Write,
         ensures bound { IfReady result (λ written. WritesAtMost written buf.now) }
         ensures told { Polls to_write Tried self.old result self.new }
     {
@@ -200,7 +201,7 @@ impl<P: Poller, R: Wait + Clone + Drop> Async<P, R> {
     /// Flushes what was written. Refusals are those of `poll_read`.
     pub fn poll_flush(&mut self, cx: &mut Context<'_, R>) -> Poll<io::Result<()>>
     where
-        P::Io: Write,
+        F: Write,
         ensures told { Polls to_write Flushed self.old result self.new }
     {
         if let Some(refusal) = self.end.take_refusal() {
@@ -213,7 +214,7 @@ impl<P: Poller, R: Wait + Clone + Drop> Async<P, R> {
     /// Flushes, as in calloop: the socket is closed by its drop.
     pub fn poll_close(&mut self, cx: &mut Context<'_, R>) -> Poll<io::Result<()>>
     where
-        P::Io: Write,
+        F: Write,
         ensures told { Polls to_write Flushed self.old result self.new }
     {
         self.poll_flush(cx)

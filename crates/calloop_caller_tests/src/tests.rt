@@ -10,6 +10,7 @@ use calloop_core::sys::script::{
     ScriptAnswer, ScriptCall, ScriptClock, ScriptEnd, ScriptEvents, ScriptIo, ScriptPoller,
 };
 use std::alloc::Global;
+use std::os::fd::RawFd;
 use std::sync::Wait;
 use std::time::Duration;
 
@@ -35,7 +36,7 @@ fn a_time_is_waited_for(rt: HostRuntime) {
 
 #[test]
 fn a_socket_is_looked_at_and_unwrapped(rt: HostRuntime) {
-    let source: Generic<ScriptPoller> = Generic::new(socket(3), Interest::READ, Mode::Level);
+    let source: Generic<ScriptIo> = Generic::new(socket(3), Interest::READ, Mode::Level);
     assert_eq!(rt; source.get_ref().number, 3);
     let back = source.unwrap().ok().map(|io| io.number);
     assert_eq!(rt; back, Some(3));
@@ -53,7 +54,7 @@ enum Trial {
 #[derive(Drop)]
 struct Told<R: Wait + Drop> {
     numbers: Vec<u32>,
-    given: Option<(Ticket, Async<ScriptPoller, R>)>,
+    given: Option<(Ticket, Async<ScriptIo, R>)>,
 }
 
 /// Says what it is given.
@@ -81,7 +82,7 @@ struct Adapts<R: Wait + Drop> {
 
 impl<D, R> Callback<(), (), (), Told<R>, Requests<D>> for Adapts<R>
 where
-    D: Place<Adapter<ScriptPoller, R>, Here> + Drop,
+    D: Place<Adapter<ScriptIo, R>, Here> + Drop,
     R: Wait + Clone + Drop,
 {
     fn call(&mut self, _event: (), _: &mut (), told: &mut Told<R>, requests: &mut Requests<D>) {
@@ -92,7 +93,7 @@ where
 /// Gives 7 once its socket was told of as readable, and closed.
 #[derive(Drop)]
 struct Looks<R: Wait + Drop> {
-    io: Async<ScriptPoller, R>,
+    io: Async<ScriptIo, R>,
 }
 
 impl<R: Wait + Clone + Drop> Future<R> for Looks<R> {
@@ -136,7 +137,7 @@ type Fifth = There<There<There<There<Here>>>>;
 
 type Held<R> = Sources<
     OneOf<
-        Adapter<ScriptPoller, R>,
+        Adapter<ScriptIo, R>,
         OneOf<
             Dispatcher<Executor<Looks<R>, R>, Says>,
             OneOf<
@@ -158,7 +159,7 @@ where
     R: Wait + Clone + Drop,
     One: Stream<R, Item = u32>,
     D: EventDispatcher<ScriptPoller, ScriptClock, R, Data = Told<R>, Idle = ()>,
-    D: Keep<Adapter<ScriptPoller, R>, ScriptPoller, ScriptClock, R, Told<R>, Requests<D>, Here>,
+    D: Keep<Adapter<ScriptIo, R>, ScriptPoller, ScriptClock, R, Told<R>, Requests<D>, Here>,
     D: Choice<Executor<Looks<R>, R>, Says, Second>,
     D: Choice<StreamSource<One, R>, Says, Third>,
     D: Keep<TimeoutTimer<R>, ScriptPoller, ScriptClock, R, Told<R>, Requests<D>, Fourth>,
@@ -225,7 +226,7 @@ where
     }
 }
 
-fn socket(number: u32) -> ScriptIo {
+fn socket(number: RawFd) -> ScriptIo {
     ScriptIo { number }
 }
 
@@ -245,7 +246,7 @@ where
 fn is_looked_at<D, R>(table: &mut Table<D, R>) -> Option<bool>
 where
     D: EventDispatcher<ScriptPoller, ScriptClock, R, Data = Told<R>, Idle = ()>,
-    D: Keep<Adapter<ScriptPoller, R>, ScriptPoller, ScriptClock, R, Told<R>, Requests<D>, Here>,
+    D: Keep<Adapter<ScriptIo, R>, ScriptPoller, ScriptClock, R, Told<R>, Requests<D>, Here>,
     D: Choice<Executor<Looks<R>, R>, Says, Second>,
     R: Wait + Clone + Drop,
 {

@@ -1,5 +1,5 @@
 -- What a call for a socket did, by how it ended.
-use Rattle.std.proofs.Common.{◌≡◌, ◌∷◌, [], inl, inr, ℕ, true, false, Bool, Option, None, Some, Ok, Err, refl, sym, ◌∙◌, ap, subst, arith, if◌then◌else◌}
+use Rattle.std.proofs.Common.{◌≡◌, ◌∷◌, [], inl, inr, ℕ, ℤ, true, false, Bool, Option, None, Some, Ok, Err, refl, sym, ◌∙◌, ap, subst, arith, if◌then◌else◌}
 use Rattle.std.specs.declared.io.Error.{Error as Cause}
 use Rattle.std.specs.declared.io.ErrorKind.{ErrorKind}
 use Rattle.std.specs.declared.io.ErrorKind.TheVariants.{NotFound}
@@ -16,29 +16,29 @@ use Rattle.calloop_core.specs.sys.Tables.{Table, Edit, unless_in, cannot, grows,
 use Rattle.calloop_core.specs.sys.Polls.{PollView, IsOfKind, Socket, Fault, with_new_poller}
 use Rattle.calloop_core.specs.sys.SocketCalls.{DidEdit, IsFaulted, TriedUnless}
 
-module _ {P I : Type 0} (O : Outside P) (sockets : Sockets P I) (v : PollView P) (edit : Edit) (io : I) where
-  pub refused : (kind : ErrorKind) (e : Error) → cannot edit v.table ≡ Some kind → IsOfKind kind e → DidEdit O sockets edit v io (Err e) v io
-  refused kind e is of = ([], rw is (e, refl, of, refl, refl), (tt, refl))
+module _ {P : Type 0} (O : Outside P) (sockets : Sockets P) (v : PollView P) (edit : Edit) (fd : ℤ) where
+  pub refused : (kind : ErrorKind) (e : Error) → cannot edit v.table ≡ Some kind → IsOfKind kind e → DidEdit O sockets edit v fd (Err e) v
+  refused kind e is of = ([], rw is (e, refl, of, refl), (tt, refl))
 
-  pub no_room : cannot edit v.table ≡ None → grows edit ≡ true → DidEdit O sockets edit v io (Err OutOfMemory) v io
-  no_room is more = ([], rw is (inl (more, refl, refl, refl)), (tt, refl))
+  pub no_room : cannot edit v.table ≡ None → grows edit ≡ true → DidEdit O sockets edit v fd (Err OutOfMemory) v
+  no_room is more = ([], rw is (inl (more, refl, refl)), (tt, refl))
 
-  faulted_by : (wanted : Option PollerCall) (cause : Cause) (after : P) (io' : I) (w : PollView P) → call_of edit v.table ≡ wanted → cannot edit v.table ≡ None → CalledFor sockets v.poller io wanted (Err cause) after io' → Called O v.poller wanted (Err cause) after
-      → w ≡ with_new_poller after v → DidEdit O sockets edit v io (Err (IoError cause)) w io'
-  faulted_by None cause after io' w is can called out to = (let e = called.0 in cc)
-  faulted_by (Some c) cause after io' w is can called out to =
-      let f : IsFaulted sockets v edit io (IoError cause) (Fault c cause after ∷ []) io' =
+  faulted_by : (wanted : Option PollerCall) (cause : Cause) (after : P) (w : PollView P) → call_of edit v.table ≡ wanted → cannot edit v.table ≡ None → CalledFor sockets v.poller fd wanted (Err cause) after → Called O v.poller wanted (Err cause) after
+      → w ≡ with_new_poller after v → DidEdit O sockets edit v fd (Err (IoError cause)) w
+  faulted_by None cause after w is can called out to = (let e = called.0 in cc)
+  faulted_by (Some c) cause after w is can called out to =
+      let f : IsFaulted sockets v edit fd (IoError cause) (Fault c cause after ∷ []) =
       record { call = c; cause = cause; after = after; wanted = is; told = refl; called = called; stepped = refl } in
-      (Fault c cause after ∷ [], subst (λ (k : Option ErrorKind). TriedUnless k sockets v edit io (Err (IoError cause)) (Fault c cause after ∷ []) io') (sym can) (inr f), ((out, tt), to))
+      (Fault c cause after ∷ [], subst (λ (k : Option ErrorKind). TriedUnless k sockets v edit fd (Err (IoError cause)) (Fault c cause after ∷ [])) (sym can) (inr f), ((out, tt), to))
 
-  pub faulted : (cause : Cause) (after : P) (io' : I) (w : PollView P) → cannot edit v.table ≡ None → CalledFor sockets v.poller io (call_of edit v.table) (Err cause) after io' → Called O v.poller (call_of edit v.table) (Err cause) after
-      → w ≡ with_new_poller after v → DidEdit O sockets edit v io (Err (IoError cause)) w io'
-  faulted cause after io' w can called out to = faulted_by (call_of edit v.table) cause after io' w refl can called out to
+  pub faulted : (cause : Cause) (after : P) (w : PollView P) → cannot edit v.table ≡ None → CalledFor sockets v.poller fd (call_of edit v.table) (Err cause) after → Called O v.poller (call_of edit v.table) (Err cause) after
+      → w ≡ with_new_poller after v → DidEdit O sockets edit v fd (Err (IoError cause)) w
+  faulted cause after w can called out to = faulted_by (call_of edit v.table) cause after w refl can called out to
 
-  pub made : (after : P) (io' : I) (w : PollView P) → cannot edit v.table ≡ None → CalledFor sockets v.poller io (call_of edit v.table) (Ok tt) after io' → Called O v.poller (call_of edit v.table) (Ok tt) after
-      → w ≡ record v { poller = after; table = after_edit edit v.table } → DidEdit O sockets edit v io (Ok tt) w io'
-  made after io' w can called out is =
-      (Socket edit after ∷ [], subst (λ (k : Option ErrorKind). TriedUnless k sockets v edit io (Ok tt) (Socket edit after ∷ []) io') (sym can) (after, called, refl), (((can, out), tt), is))
+  pub made : (after : P) (w : PollView P) → cannot edit v.table ≡ None → CalledFor sockets v.poller fd (call_of edit v.table) (Ok tt) after → Called O v.poller (call_of edit v.table) (Ok tt) after
+      → w ≡ record v { poller = after; table = after_edit edit v.table } → DidEdit O sockets edit v fd (Ok tt) w
+  made after w can called out is =
+      (Socket edit after ∷ [], subst (λ (k : Option ErrorKind). TriedUnless k sockets v edit fd (Ok tt) (Socket edit after ∷ [])) (sym can) (after, called, refl), (((can, out), tt), is))
 
 pub can_change : (there taken : Bool) → there ≡ true → taken ≡ false → (if there then unless_in taken else Some NotFound) ≡ None
 can_change there taken e f = ap (λ b. if b then unless_in taken else Some NotFound) e ∙ ap (λ b. unless_in b) f

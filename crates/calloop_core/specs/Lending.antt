@@ -10,5 +10,5 @@ with_poller w p = record p { poller = w }
 abbrev pub with_source : {S F : Type 0} → S → Dispatcher S F → Dispatcher S F
 with_source s d = record d { source = s }
 
-abbrev pub with_socket : {P E I : Type 0} → I → Generic P E I → Generic P E I
+abbrev pub with_socket : {F E : Type 0} → F → Generic F E → Generic F E
 with_socket io s = record s { io = record { io = io } }

@@ -18,6 +18,7 @@ use std::convert::AsRef;
 use std::io;
 use std::marker::PhantomData;
 use std::ops::Deref;
+use std::os::fd::AsRawFd;
 use std::sync::Wait;
 
 /// A socket that is lent to a callback, which can't take it out of its source.
@@ -60,14 +61,14 @@ impl<T> Deref for NoIoDrop<T> {
     }
 }
 
-/// A socket as a source. Its callback gets what was found, and the socket. `P` is the poller, and `E` the error of the callback,
-/// of which a fault of the poller in this source's turn becomes one.
+/// What has a descriptor as a source: a socket, a pipe, a child's output, a terminal. Its callback gets what was found, and what has
+/// the descriptor. `E` is the error of the callback, of which a fault of the poller in this source's turn becomes one.
 ///
 /// Its drop calls no poller: one that is dropped while it is registered leaves its key in the loop's table, where calloop's takes its
 /// descriptor out.
 #[derive(Drop)]
-pub struct Generic<P: Poller, E = io::Error> {
-    io: NoIoDrop<P::Io>,
+pub struct Generic<F, E = io::Error> {
+    io: NoIoDrop<F>,
     /// What it is registered for, from its next registration on; `Level` takes it up after each call.
     pub interest: Interest,
     /// How often it hears of that.
@@ -78,9 +79,9 @@ pub struct Generic<P: Poller, E = io::Error> {
     error: PhantomData<E>,
 }
 
-impl<P: Poller, E> Generic<P, E> {
+impl<F, E> Generic<F, E> {
     /// Not registered yet.
-    pub fn new_with_error(io: P::Io, interest: Interest, mode: Mode) -> Generic<P, E>
+    pub fn new_with_error(io: F, interest: Interest, mode: Mode) -> Generic<F, E>
         ensures io { result.io.io ≡ io }
         ensures interest { result.interest ≡ interest }
         ensures mode { result.mode ≡ mode }
@@ -98,7 +99,7 @@ impl<P: Poller, E> Generic<P, E> {
     }
 
     /// The socket, where it isn't registered. Else this very source.
-    pub fn unwrap(self) -> Result<P::Io, Generic<P, E>>
+    pub fn unwrap(self) -> Result<F, Generic<F, E>>
         ensures ok { IfOk result (λ io. (io ≡ self.io.io) × (self.token ≡ None)) }
         ensures err { IfErr result (λ source. (source ≡ self) × IsSome self.token) }
     {
@@ -111,7 +112,7 @@ impl<P: Poller, E> Generic<P, E> {
     }
 
     /// The socket.
-    pub fn get_ref(&self) -> &P::Io
+    pub fn get_ref(&self) -> &F
         ensures { result.now ≡ self.now.io.io }
     {
         &self.io.io
@@ -119,8 +120,8 @@ impl<P: Poller, E> Generic<P, E> {
 
     /// The socket, to be changed. One that is changed while it is registered can make a later call of the poller fail, or stay
     /// unheard of, and nothing worse; calloop has this call as an unsafe one.
-    pub fn get_mut(&mut self) -> &mut P::Io
-        ensures* writes_back { sem 𝓛 (Lends (the_row P.row E.row P.Io.row) P.Io.row self.entry
+    pub fn get_mut(&mut self) -> &mut F
+        ensures* writes_back { sem 𝓛 (Lends (the_row F.row E.row) F.row self.entry
             result (λ io. with_socket io self.old)) }
         ensures value { result.now ≡ self.old.io.io }
     {
@@ -128,9 +129,9 @@ impl<P: Poller, E> Generic<P, E> {
     }
 }
 
-impl<P: Poller> Generic<P, io::Error> {
+impl<F> Generic<F, io::Error> {
     /// Not registered yet, with a callback that fails with what a call of the system fails with.
-    pub fn new(io: P::Io, interest: Interest, mode: Mode) -> Generic<P, io::Error>
+    pub fn new(io: F, interest: Interest, mode: Mode) -> Generic<F, io::Error>
         ensures io { result.io.io ≡ io }
         ensures interest { result.interest ≡ interest }
         ensures mode { result.mode ≡ mode }
@@ -141,7 +142,7 @@ impl<P: Poller> Generic<P, io::Error> {
     }
 }
 
-impl<P: Poller, E> Generic<P, E> {
+impl<F, E> Generic<F, E> {
     // Whether an event of this token is for its callback.
     fn hears(&self, token: Token) -> bool
         ensures { MatchBool result (Hears token self.now) (¬ Hears token self.now) }
@@ -166,32 +167,33 @@ impl<P: Poller, E> Generic<P, E> {
     }
 }
 
-impl<P: Poller, E: From<io::Error>> Generic<P, E> {
+impl<F: AsRawFd, E: From<io::Error>> Generic<F, E> {
     // Under `Level` the poller is asked to tell of the socket again.
     #[inline(always)]
-    fn arm_again<C, R: Wait + Drop>(
+    fn arm_again<P: Poller, C, R: Wait + Drop>(
         &mut self,
         token: Token,
         action: PostAction,
         poll: &mut Poll<P, C, R>,
     ) -> Result<PostAction, E>
         ensures { (steps : List (PollStep P))
-            × ArmedBy P.sockets E.from_gives self.old.mode token self.old (poll_view poll.old)
-            action result steps self.new
+            × ArmedBy P.sockets F.raw_fd E.from_gives self.old.mode token self.old
+            (poll_view poll.old) action result steps self.new
             × AllStepped P.outside (poll_view poll.old) steps (poll_view poll.new) }
     {
         if self.mode != Mode::Level {
             return Ok(action);
         }
-        match poll.rearm(&mut self.io.io, self.interest, self.mode, token) {
+        match poll.rearm(self.io.io.as_raw_fd(), self.interest, self.mode, token) {
             Ok(()) => Ok(action),
             Err(cause) => Err(E::from(cause)),
         }
     }
 }
 
-impl<P: Poller, C, R: Wait + Drop, E> EventSource<P, C, R> for Generic<P, E>
+impl<P: Poller, C, R: Wait + Drop, F, E> EventSource<P, C, R> for Generic<F, E>
 where
+    F: AsRawFd + Drop,
     E: IntoError + From<io::Error>,
 {
     ghost use Rattle.calloop_core.specs.Generics.{generic_meaning};
@@ -199,29 +201,29 @@ where
 
     type Event = Readiness;
 
-    type Metadata = NoIoDrop<P::Io>;
+    type Metadata = NoIoDrop<F>;
 
     type Ret = Result<PostAction, E>;
 
     type Error = E;
 
-    ghost means = { generic_meaning P.sockets E.from_gives };
+    ghost means = { generic_meaning P.sockets F.raw_fd E.from_gives };
 
     /// Calls back with what was found, where the token is its own; under `OneShot` for one event alone. After a callback that
     /// succeeded, `Level` asks the poller to tell of the socket again, with the interest as it is now, and a refusal of that is the
     /// turn's error. The machine's poller needs a call of the system for it only where the interest is another.
-    fn process_events<F, X, Q>(
+    fn process_events<K, X, Q>(
         &mut self,
         readiness: Readiness,
         token: Token,
         poll: &mut Poll<P, C, R>,
-        callback: &mut F,
+        callback: &mut K,
         data: &mut X,
         requests: &mut Q,
     ) -> Result<PostAction, E>
     where
         Q: Asking,
-        F: Callback<Readiness, NoIoDrop<P::Io>, Result<PostAction, E>, X, Q>,
+        K: Callback<Readiness, NoIoDrop<F>, Result<PostAction, E>, X, Q>,
     {
         if !self.hears(token) {
             return Ok(PostAction::Continue);
@@ -240,7 +242,7 @@ where
             return Err(Error::IoError(io::Error::from(io::ErrorKind::AlreadyExists)));
         }
         let token = factory.token()?;
-        poll.register(&mut self.io.io, self.interest, self.mode, token)?;
+        poll.register(self.io.io.as_raw_fd(), self.interest, self.mode, token)?;
         self.token = Some(token);
         self.heard = false;
         Ok(())
@@ -257,7 +259,7 @@ where
             return Err(Error::IoError(io::Error::from(io::ErrorKind::NotFound)));
         };
         let token = factory.token()?;
-        poll.reregister(&mut self.io.io, own, self.interest, self.mode, token)?;
+        poll.reregister(self.io.io.as_raw_fd(), own, self.interest, self.mode, token)?;
         self.token = Some(token);
         self.heard = false;
         Ok(())
@@ -269,7 +271,7 @@ where
         let Some(own) = self.token else {
             return Err(Error::IoError(io::Error::from(io::ErrorKind::NotFound)));
         };
-        poll.unregister(&mut self.io.io, own)?;
+        poll.unregister(self.io.io.as_raw_fd(), own)?;
         self.token = None;
         Ok(())
     }
@@ -289,5 +291,5 @@ where
 
     fn before_handle_events(&mut self, _events: EventIterator<'_>) {}
 
-    ghost keeps = { generic_keeps P.sockets E.from_gives };
+    ghost keeps = { generic_keeps P.sockets F.raw_fd E.from_gives };
 }

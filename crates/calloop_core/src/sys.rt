@@ -7,6 +7,7 @@ use calloop_wake::error::Result as LoopResult;
 use calloop_wake::wheel::Instant;
 use notifier::Notifier;
 use std::io;
+use std::os::fd::RawFd;
 use std::time::Duration;
 
 pub mod events;
@@ -127,51 +128,48 @@ pub trait Poller: Drop {
     ghost use Rattle.calloop_core.specs.sys.Pollers.{Outside, Sockets, Add, Modify, Delete, IsCounted, faults_of, nanos_of, events_per_wait};
     ghost use Rattle.calloop_core.specs.declared.sys.Readiness.{Readiness};
 
-    /// What it waits on: a socket.
-    type Io: Drop;
-
     /// What its calls may do.
     ghost outside: { Outside Self };
 
-    /// What its calls for a socket may do, to the socket too.
-    ghost sockets: { Sockets Self Self.Io };
+    /// What its calls for a descriptor may do.
+    ghost sockets: { Sockets Self };
 
-    /// From now on a wait gives the events of this socket, under this key. An `Err` is a fault, and is counted.
-    fn add(&mut self, io: &mut Self::Io, key: u64, interest: Interest) -> io::Result<()>
-        ensures sockets { sockets self.old io.old (Add key interest) result self.new io.new }
+    /// From now on a wait gives the events of this descriptor, under this key. An `Err` is a fault, and is counted.
+    fn add(&mut self, fd: RawFd, key: u64, interest: Interest) -> io::Result<()>
+        ensures sockets { sockets self.old fd (Add key interest) result self.new }
         ensures calls { outside.calls self.old (Add key interest) result self.new }
         ensures faults { outside.faults self.new ≡ outside.faults self.old + faults_of result };
 
-    /// A socket that was added has another key or another interest, and what it is ready for is told anew. An `Err` is a fault,
+    /// A descriptor that was added has another key or another interest, and what it is ready for is told anew. An `Err` is a fault,
     /// and is counted.
-    fn modify(&mut self, io: &mut Self::Io, key: u64, interest: Interest) -> io::Result<()>
-        ensures sockets { sockets self.old io.old (Modify key interest) result self.new io.new }
+    fn modify(&mut self, fd: RawFd, key: u64, interest: Interest) -> io::Result<()>
+        ensures sockets { sockets self.old fd (Modify key interest) result self.new }
         ensures calls { outside.calls self.old (Modify key interest) result self.new }
         ensures faults { outside.faults self.new ≡ outside.faults self.old + faults_of result };
 
     /// As `add`, for a source that hears of the socket as long as it is ready (`Mode::Level`): from now on each wait may tell of it anew
     /// without a further call. By default it is `add`.
-    fn add_level(&mut self, io: &mut Self::Io, key: u64, interest: Interest) -> io::Result<()>
-        ensures sockets { sockets self.old io.old (Add key interest) result self.new io.new }
+    fn add_level(&mut self, fd: RawFd, key: u64, interest: Interest) -> io::Result<()>
+        ensures sockets { sockets self.old fd (Add key interest) result self.new }
         ensures calls { outside.calls self.old (Add key interest) result self.new }
         ensures faults { outside.faults self.new ≡ outside.faults self.old + faults_of result }
     {
-        self.add(io, key, interest)
+        self.add(fd, key, interest)
     }
 
     /// As `modify`, for such a source. Where each wait tells of the socket under this key and for this interest already, there is nothing to
     /// do. By default it is `modify`.
-    fn modify_level(&mut self, io: &mut Self::Io, key: u64, interest: Interest) -> io::Result<()>
-        ensures sockets { sockets self.old io.old (Modify key interest) result self.new io.new }
+    fn modify_level(&mut self, fd: RawFd, key: u64, interest: Interest) -> io::Result<()>
+        ensures sockets { sockets self.old fd (Modify key interest) result self.new }
         ensures calls { outside.calls self.old (Modify key interest) result self.new }
         ensures faults { outside.faults self.new ≡ outside.faults self.old + faults_of result }
     {
-        self.modify(io, key, interest)
+        self.modify(fd, key, interest)
     }
 
-    /// A wait gives no event of this socket any more. An `Err` is a fault, and is counted.
-    fn delete(&mut self, io: &mut Self::Io) -> io::Result<()>
-        ensures sockets { sockets self.old io.old Delete result self.new io.new }
+    /// A wait gives no event of this descriptor any more. An `Err` is a fault, and is counted.
+    fn delete(&mut self, fd: RawFd) -> io::Result<()>
+        ensures sockets { sockets self.old fd Delete result self.new }
         ensures calls { outside.calls self.old Delete result self.new }
         ensures faults { outside.faults self.new ≡ outside.faults self.old + faults_of result };
 

@@ -21,6 +21,7 @@ use calloop_wake::wheel::Instant;
 use calloop_wake::widths::MOST_SLOTS;
 use counted_slot::Fits;
 use std::alloc::{AllocError, Global};
+use std::os::fd::RawFd;
 use std::process::Abort;
 use std::sync::atomic::AtomicBool;
 use std::sync::{Arc, Wait};
@@ -807,21 +808,19 @@ struct FailsFirst {
 }
 
 impl Poller for FailsFirst {
-    type Io = ();
-
     ghost outside = { record { reads = λ _ _ _. Unit {0}; waits = λ _ _ _ _ _. Unit {0}; calls = λ _ _ _ _. Unit {0}; faults = λ p. p.waits } };
 
-    ghost sockets = { λ _ _ _ _ _ _. Unit {0} };
+    ghost sockets = { λ _ _ _ _ _. Unit {0} };
 
-    fn add(&mut self, _io: &mut (), _key: u64, _interest: Interest) -> io::Result<()> {
+    fn add(&mut self, _fd: RawFd, _key: u64, _interest: Interest) -> io::Result<()> {
         Ok(())
     }
 
-    fn modify(&mut self, _io: &mut (), _key: u64, _interest: Interest) -> io::Result<()> {
+    fn modify(&mut self, _fd: RawFd, _key: u64, _interest: Interest) -> io::Result<()> {
         Ok(())
     }
 
-    fn delete(&mut self, _io: &mut ()) -> io::Result<()> {
+    fn delete(&mut self, _fd: RawFd) -> io::Result<()> {
         Ok(())
     }
 

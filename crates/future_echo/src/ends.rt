@@ -1,6 +1,7 @@
 //! The two ends of the socket, as futures.
 use calloop::futures::{Context, Future, Poll};
-use calloop::{Async, MioPoller, Result, SystemClock};
+use calloop::{Async, Result};
+use mio::net::UnixStream;
 use std::alloc::Global;
 use std::io;
 use std::sync::Wait;
@@ -9,7 +10,7 @@ use std::time::Clock;
 /// What the client says.
 const LINES: &[u8] = b"one\ntwo\nthree\n";
 
-type Socket<R> = Async<MioPoller<SystemClock<R>>, R>;
+type Socket<R> = Async<UnixStream, R>;
 
 /// What an end gives.
 #[derive(Drop)]

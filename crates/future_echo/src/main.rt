@@ -4,7 +4,7 @@
 
 use calloop::futures::{Executor, Scheduler, make_executor};
 use calloop::{
-    Adapter, Choice, Dispatcher, Error, EventDispatcher, Here, Keep, MioIo, MioPoller, On, OneOf,
+    Adapter, Choice, Dispatcher, Error, EventDispatcher, Here, Keep, MioPoller, On, OneOf,
     Requests, Result, Sources, SystemClock, SystemLoop, There,
 };
 use ends::{Done, End};
@@ -44,7 +44,7 @@ impl On<Done, Session, ()> for Keeps {
 type Machine<R> = MioPoller<SystemClock<R>>;
 
 type Held<R> = Sources<
-    OneOf<Adapter<Machine<R>, R>, Dispatcher<Executor<End<R>, R>, Keeps>>,
+    OneOf<Adapter<UnixStream, R>, Dispatcher<Executor<End<R>, R>, Keeps>>,
     Session,
 >;
 
@@ -63,14 +63,14 @@ where
 fn talk<D, R>(rt: &R, alloc: Global) -> Result<Option<Vec<u8>>>
 where
     D: EventDispatcher<Machine<R>, SystemClock<R>, R, Data = Session, Idle = ()>,
-    D: Keep<Adapter<Machine<R>, R>, Machine<R>, SystemClock<R>, R, Session, Requests<D>, Here>,
+    D: Keep<Adapter<UnixStream, R>, Machine<R>, SystemClock<R>, R, Session, Requests<D>, Here>,
     D: Choice<Executor<End<R>, R>, Keeps, There<Here>>,
     R: Wait + Net + Clock + Clone + Drop,
 {
     let mut event_loop: SystemLoop<D, R> = SystemLoop::system(rt, alloc)?;
     let (near, far) = UnixStream::pair(rt)?;
-    let near = event_loop.handle().adapt_io(rt, alloc, MioIo::from(near))?;
-    let far = event_loop.handle().adapt_io(rt, alloc, MioIo::from(far))?;
+    let near = event_loop.handle().adapt_io(rt, alloc, near)?;
+    let far = event_loop.handle().adapt_io(rt, alloc, far)?;
     let (executor, scheduler) = make_executor(rt, alloc)?;
     let held = D::hold(Dispatcher::new(executor, Keeps));
     event_loop.handle().register_dispatcher(held)?;

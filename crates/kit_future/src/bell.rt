@@ -1,7 +1,7 @@
 //! Futures of the kit's crate `futures` beside the loop. Their wakes come over a pair of sockets: the kit's doorbell writes to one
 //! end, and the loop hears of the other.
 
-use calloop::{Asking, Callback, MioIo, NoIoDrop, PostAction, Readiness};
+use calloop::{Asking, Callback, NoIoDrop, PostAction, Readiness};
 use futures::Future;
 use futures::channel::oneshot::Canceled;
 use futures::task::{Asleep, Doorbell, Poll, Solo};
@@ -109,7 +109,7 @@ pub struct Says<'a, F: Future, R: Drop> {
     pub resting: Option<Resting<'a, F>>,
 }
 
-impl<'a, F, R, Q> Callback<Readiness, NoIoDrop<MioIo>, io::Result<PostAction>, String, Q>
+impl<'a, F, R, Q> Callback<Readiness, NoIoDrop<UnixStream>, io::Result<PostAction>, String, Q>
     for Says<'a, F, R>
 where
     F: Future<Output = Result<u32, Canceled>>,
@@ -121,7 +121,7 @@ where
     fn call(
         &mut self,
         _readiness: Readiness,
-        io: &mut NoIoDrop<MioIo>,
+        io: &mut NoIoDrop<UnixStream>,
         said: &mut String,
         _requests: &mut Q,
     ) -> io::Result<PostAction> {
@@ -144,10 +144,7 @@ where
 }
 
 // Reads a ring's eight bytes away.
-fn take_ring(io: &mut MioIo) -> io::Result<()> {
-    let MioIo::UnixStream(stream) = io else {
-        return Err(io::Error::from(io::ErrorKind::Unsupported));
-    };
+fn take_ring(stream: &mut UnixStream) -> io::Result<()> {
     let mut bytes = [0u8; 8];
     match stream.read(&mut bytes) {
         Err(cause) if cause.kind() != io::ErrorKind::WouldBlock => Err(cause),

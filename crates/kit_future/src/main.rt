@@ -3,8 +3,7 @@
 
 use bell::{Resting, Says, new_bell, say};
 use calloop::{
-    Dispatcher, Error, Generic, Interest, MioIo, MioPoller, Mode, Result, Sources, SystemClock,
-    SystemLoop,
+    Dispatcher, Error, Generic, Interest, MioPoller, Mode, Result, Sources, SystemClock, SystemLoop,
 };
 use futures::channel::oneshot::{Receiver, channel};
 use mio::net::UnixStream;
@@ -18,10 +17,7 @@ use std::time::{Clock, Duration};
 
 mod bell;
 
-type Held<'a, R> = Sources<
-    Dispatcher<Generic<MioPoller<SystemClock<R>>>, Says<'a, Receiver<u32>, R>>,
-    String,
->;
+type Held<'a, R> = Sources<Dispatcher<Generic<UnixStream>, Says<'a, Receiver<u32>, R>>, String>;
 
 // Runs a loop with this future until it is done, at most ten times ten seconds.
 fn dispatches<'a, R>(
@@ -35,7 +31,7 @@ where
     R: Net + Clock + Wait + Clone + Drop,
 {
     let mut event_loop: SystemLoop<Held<'a, R>, R> = SystemLoop::system(rt, alloc)?;
-    let socket = Generic::new(MioIo::from(heard), Interest::READ, Mode::Level);
+    let socket = Generic::new(heard, Interest::READ, Mode::Level);
     event_loop.handle().insert_source(socket, says)?;
     for _ in 0..10u32 {
         if !said.is_empty() {

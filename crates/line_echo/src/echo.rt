@@ -1,6 +1,6 @@
 //! What a client sends is given back, line by line.
 use crate::server::Server;
-use calloop::{Callback, MioIo, NoIoDrop, PostAction, Readiness, Requests};
+use calloop::{Callback, NoIoDrop, PostAction, Readiness, Requests};
 use mio::net::TcpStream;
 use std::alloc::Global;
 use std::io;
@@ -101,7 +101,7 @@ fn waits(cause: io::Error) -> io::Result<Next> {
     }
 }
 
-impl<D, R> Callback<Readiness, NoIoDrop<MioIo>, io::Result<PostAction>, Server<R>, Requests<D>>
+impl<D, R> Callback<Readiness, NoIoDrop<TcpStream>, io::Result<PostAction>, Server<R>, Requests<D>>
     for Echo
 where
     D: Drop,
@@ -111,13 +111,11 @@ where
     fn call(
         &mut self,
         _readiness: Readiness,
-        io: &mut NoIoDrop<MioIo>,
+        io: &mut NoIoDrop<TcpStream>,
         server: &mut Server<R>,
         requests: &mut Requests<D>,
     ) -> io::Result<PostAction> {
-        let MioIo::TcpStream(stream) = io.get_mut() else {
-            return Err(io::Error::from(io::ErrorKind::Unsupported));
-        };
+        let stream = io.get_mut();
         server.hear(self.place, requests.own_token());
         for _ in 0..READS_AT_ONCE {
             match self.read(stream).unwrap_or(Next::Leave) {

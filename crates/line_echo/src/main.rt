@@ -7,15 +7,15 @@
 
 use anyhow::Result;
 use calloop::{
-    Choice, Dispatcher, EventDispatcher, Generic, Here, Hold, Interest, MioIo, MioPoller, Mode,
-    OneOf, Requests, Sources, SystemClock, SystemLoop, There, Timer,
+    Choice, Dispatcher, EventDispatcher, Generic, Here, Hold, Interest, MioPoller, Mode, OneOf,
+    Requests, Sources, SystemClock, SystemLoop, There, Timer,
 };
 use echo::Echo;
-use mio::net::TcpListener;
+use mio::net::{TcpListener, TcpStream};
 use server::{Accepts, Server, Sweeps};
 use std::alloc::Global;
 use std::env;
-use std::net::{Net, SocketAddr, TcpStream};
+use std::net::{Net, SocketAddr, TcpStream as StdStream};
 use std::process::ExitCode;
 use std::rt::Runtime;
 use std::sync::Wait;
@@ -32,8 +32,8 @@ type Machine<R> = MioPoller<SystemClock<R>>;
 /// What the loop holds: the listener, clients and the timer, each with its callback.
 type Held<R> = Sources<
     OneOf<
-        Dispatcher<Generic<Machine<R>>, Accepts>,
-        OneOf<Dispatcher<Generic<Machine<R>>, Echo>, Dispatcher<Timer, Sweeps>>,
+        Dispatcher<Generic<TcpListener>, Accepts>,
+        OneOf<Dispatcher<Generic<TcpStream>, Echo>, Dispatcher<Timer, Sweeps>>,
     >,
     Server<R>,
 >;
@@ -61,7 +61,7 @@ fn serve_in<D, R>(rt: &R, alloc: Global, listener: TcpListener, plan: Plan) -> R
 where
     D: EventDispatcher<Machine<R>, SystemClock<R>, R, Data = Server<R>, Idle = ()>,
     D: Hold<
-        Generic<Machine<R>>,
+        Generic<TcpListener>,
         Accepts,
         Machine<R>,
         SystemClock<R>,
@@ -70,7 +70,7 @@ where
         Requests<D>,
         Here,
     >,
-    D: Choice<Generic<Machine<R>>, Echo, There<Here>>,
+    D: Choice<Generic<TcpStream>, Echo, There<Here>>,
     D: Hold<Timer, Sweeps, Machine<R>, SystemClock<R>, R, Server<R>, Requests<D>, Third>,
     R: Net + MachineClock + Wait + Clone + Drop,
 {
@@ -79,7 +79,7 @@ where
     let mut server = Server::new(clock, plan.patience, alloc);
     let each = plan.patience / 4;
     let timer = Timer::from_duration(event_loop.clock(), each);
-    let listening = Generic::new(MioIo::from(listener), Interest::READ, Mode::Level);
+    let listening = Generic::new(listener, Interest::READ, Mode::Level);
     let mut handle = event_loop.handle();
     handle.insert_source(listening, Accepts { alloc })?;
     handle.insert_source(timer, Sweeps { each })?;
@@ -95,12 +95,12 @@ where
 // Serves two clients of its own, and prints what they saw.
 fn show<R>(rt: &R, alloc: Global) -> Result<()>
 where
-    R: Runtime + Threads + Net<Stream = TcpStream> + Wait + Clone + Drop,
+    R: Runtime + Threads + Net<Stream = StdStream> + Wait + Clone + Drop,
 {
     let listener = TcpListener::bind(rt, "127.0.0.1:0".parse::<SocketAddr>()?)?;
     let address = listener.local_addr()?;
-    let one = TcpStream::connect(rt, address)?;
-    let other = TcpStream::connect(rt, address)?;
+    let one = StdStream::connect(rt, address)?;
+    let other = StdStream::connect(rt, address)?;
     let one = thread::spawn(rt, move || client::hears_back(one))?;
     let other = thread::spawn(rt, move || client::is_dropped(other))?;
     let plan = Plan {
@@ -122,7 +122,7 @@ where
 
 fn run<R>(rt: &R, alloc: Global) -> Result<()>
 where
-    R: Runtime + AllocGlobal + Threads + Net<Stream = TcpStream> + Wait + Clone + Drop,
+    R: Runtime + AllocGlobal + Threads + Net<Stream = StdStream> + Wait + Clone + Drop,
 {
     let words: Vec<String> = env::args(rt)?.skip(1).collect(alloc)?;
     match words.first() {

@@ -1,10 +1,10 @@
 //! Who is served: clients are let in by the listener's callback, and those that are silent for long leave by the timer's.
-use crate::Machine;
 use crate::echo::Echo;
 use calloop::{
-    Callback, Choice, Clock, Generic, Here, Instant, Interest, MioIo, Mode, NoIoDrop, PostAction,
+    Callback, Choice, Clock, Generic, Here, Instant, Interest, Mode, NoIoDrop, PostAction,
     Readiness, RegistrationToken, Requests, SystemClock, There, TimeoutAction,
 };
+use mio::net::{TcpListener, TcpStream};
 use slab::Slab;
 use std::alloc::Global;
 use std::io;
@@ -84,30 +84,32 @@ pub struct Accepts {
     pub alloc: Global,
 }
 
-impl<D, R> Callback<Readiness, NoIoDrop<MioIo>, io::Result<PostAction>, Server<R>, Requests<D>>
-    for Accepts
+impl<D, R> Callback<
+    Readiness,
+    NoIoDrop<TcpListener>,
+    io::Result<PostAction>,
+    Server<R>,
+    Requests<D>,
+> for Accepts
 where
-    D: Choice<Generic<Machine<R>>, Echo, There<Here>> + Drop,
+    D: Choice<Generic<TcpStream>, Echo, There<Here>> + Drop,
     R: Wait + MachineClock + Clone + Drop,
 {
     /// Lets one client in. `Mode::Level` tells of others that wait. What can't be had closes it.
     fn call(
         &mut self,
         _readiness: Readiness,
-        io: &mut NoIoDrop<MioIo>,
+        io: &mut NoIoDrop<TcpListener>,
         server: &mut Server<R>,
         requests: &mut Requests<D>,
     ) -> io::Result<PostAction> {
-        let MioIo::TcpListener(listener) = io.get_mut() else {
-            return Err(io::Error::from(io::ErrorKind::Unsupported));
-        };
-        let Ok((stream, _address)) = listener.accept() else {
+        let Ok((stream, _address)) = io.accept() else {
             return Ok(PostAction::Continue);
         };
         let Some(place) = server.enter() else {
             return Ok(PostAction::Continue);
         };
-        let socket = Generic::new(MioIo::from(stream), Interest::BOTH, Mode::Edge);
+        let socket = Generic::new(stream, Interest::BOTH, Mode::Edge);
         let echo = Echo::new(place, self.alloc);
         if requests.insert_source(socket, echo).is_err() {
             let _token = server.leave(place);

@@ -107,11 +107,11 @@ pub type Held<P, C, R> = Sources<
         OneOf<
             Dispatcher<Timer, Counts>,
             OneOf<
-                Dispatcher<Generic<P>, Counts>,
+                Dispatcher<Generic<P::Io>, Counts>,
                 OneOf<
                     Dispatcher<Channel<u64, R>, Counts>,
                     OneOf<
-                        Dispatcher<Generic<P>, Reads>,
+                        Dispatcher<Generic<P::Io>, Reads>,
                         OneOf<Dispatcher<Executor<Task<C, R>, R>, Counts>, TimeoutTimer<R>>,
                     >,
                 >,
@@ -155,9 +155,9 @@ where
     D: EventDispatcher<P, C, R, Data = u64, Idle = ()>,
     D: Choice<PingSource<R>, Counts, Here>,
     D: Choice<Timer, Counts, Second>,
-    D: Choice<Generic<P>, Counts, Third>,
+    D: Choice<Generic<P::Io>, Counts, Third>,
     D: Choice<Channel<u64, R>, Counts, Fourth>,
-    D: Choice<Generic<P>, Reads, Fifth>,
+    D: Choice<Generic<P::Io>, Reads, Fifth>,
     D: Choice<Executor<Task<C, R>, R>, Counts, Sixth>,
     D: Keep<TimeoutTimer<R>, P, C, R, u64, Requests<D>, Seventh>,
     P: Measured<C, R>,
@@ -299,9 +299,9 @@ where
         for _ in 0..size {
             let (io, mut peer) = P::pair(&self.rt)?;
             P::send(&mut peer)?;
-            let source: Generic<P> = Generic::new(io, Interest::READ, Mode::Level);
+            let source: Generic<P::Io> = Generic::new(io, Interest::READ, Mode::Level);
             let dispatcher = Dispatcher::new(source, Counts);
-            self.insert(<D as Choice<Generic<P>, Counts, Third>>::hold(dispatcher))?;
+            self.insert(<D as Choice<Generic<P::Io>, Counts, Third>>::hold(dispatcher))?;
             peers.push(peer)?;
         }
         Ok(peers)
@@ -316,9 +316,9 @@ where
         let mut peers = Vec::new(self.alloc);
         for _ in 0..size {
             let (io, peer) = P::pair(&self.rt)?;
-            let source: Generic<P> = Generic::new(io, Interest::READ, mode);
+            let source: Generic<P::Io> = Generic::new(io, Interest::READ, mode);
             let dispatcher = Dispatcher::new(source, Reads);
-            self.insert(<D as Choice<Generic<P>, Reads, Fifth>>::hold(dispatcher))?;
+            self.insert(<D as Choice<Generic<P::Io>, Reads, Fifth>>::hold(dispatcher))?;
             peers.push(peer)?;
         }
         Ok(peers)

@@ -1,10 +1,11 @@
 //! The pollers that rows can be measured over.
 use calloop::{Clock, Instant, Poller, Result};
-use calloop_core::sys::system::{MioIo, MioPoller, SystemClock};
+use calloop_core::sys::system::{MioPoller, SystemClock};
 use mio::net::UnixStream;
 use std::alloc::Global;
 use std::io::{self, Read, Write};
 use std::net::Net;
+use std::os::fd::AsRawFd;
 use std::sync::Wait;
 use std::time::Clock as MachineClock;
 
@@ -14,18 +15,17 @@ pub trait ReadsByte {
     fn read_byte(&mut self) -> io::Result<()>;
 }
 
-impl ReadsByte for MioIo {
-    /// One that is no Unix stream is refused with an error of kind `Unsupported`.
+impl ReadsByte for UnixStream {
     fn read_byte(&mut self) -> io::Result<()> {
-        match self {
-            MioIo::UnixStream(stream) => stream.read_exact(&mut [0u8; 1]),
-            _ => Err(io::Error::from(io::ErrorKind::Unsupported)),
-        }
+        self.read_exact(&mut [0u8; 1])
     }
 }
 
 /// A poller that rows can be measured over, with its clock.
 pub trait Measured<C: Clock, R>: Poller + Sized {
+    /// A socket.
+    type Io: AsRawFd + Drop;
+
     /// The other end of a socket, which has to stay.
     type Peer: Drop;
 
@@ -50,6 +50,8 @@ impl<R> Measured<SystemClock<R>, R> for MioPoller<SystemClock<R>>
 where
     R: Net + MachineClock + Wait + Clone + Drop,
 {
+    type Io = UnixStream;
+
     type Peer = UnixStream;
 
     fn name() -> &'static str {
@@ -62,9 +64,8 @@ where
         Ok((poller, clock))
     }
 
-    fn pair(rt: &R) -> Result<(MioIo, UnixStream)> {
-        let (near, far) = UnixStream::pair(rt)?;
-        Ok((MioIo::from(near), far))
+    fn pair(rt: &R) -> Result<(UnixStream, UnixStream)> {
+        UnixStream::pair(rt)
     }
 
     fn send(peer: &mut UnixStream) -> io::Result<()> {

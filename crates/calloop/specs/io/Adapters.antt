@@ -1,6 +1,6 @@
 -- An adapter in its slot: its registration, its settling and its turn. From calloop's `IoDispatcher`, which registers and
 -- unregisters at once; this one is told by its loop when to. Its socket lies under a lock, so what it is, each relation leaves open.
-use Rattle.std.specs.Prelude.{◌≡◌, ◌⊎◌, List, [], ◌∷◌, ◌++◌, Bool, true, false, Option, Some, None, Result, Ok, Err}
+use Rattle.std.specs.Prelude.{◌≡◌, ◌⊎◌, ℤ, List, [], ◌∷◌, ◌++◌, Bool, true, false, Option, Some, None, Result, Ok, Err}
 use Rattle.std.specs.declared.io.ErrorKind.TheVariants.{AlreadyExists, NotFound}
 use Rattle.calloop_wake.specs.declared.error.Error.{Error}
 use Rattle.calloop_wake.specs.declared.error.Error.TheVariants.{InvalidToken, OutOfMemory, TooManyTokens}
@@ -36,70 +36,72 @@ discards (Err e) own p = Socket (Discard own) p ∷ []
 abbrev pub IsRefusedSo : {P S : Type 0} → S → Result (Unit {0}) Error → (Error → Type 0) → List (PollStep P) → S → Type 0
 IsRefusedSo s answer Why steps t = (e : Error) × (answer ≡ Err e) × Why e × (steps ≡ []) × (t ≡ s)
 
-module _ {P I : Type 0} (sockets : Sockets P I) where
+module _ {P : Type 0} (sockets : Sockets P) where
   -- Its socket is taken out of the table where it was entered, else no poller is called. It may not be there.
   abbrev pub TakenOut : (entered : Bool) → Token → PollView P → Result (Unit {0}) Error → List (PollStep P) → Type 0
   TakenOut false own v answer steps = (answer ≡ Ok tt) × (steps ≡ [])
   TakenOut true own v answer steps =
       ((e : Error) × (answer ≡ Err e) × IsOfKind NotFound e × (steps ≡ []))
-      ⊎ ((io : I) × (io' : I) × Edits sockets v (Leave own) io answer steps io')
+      ⊎ ((fd : ℤ) × Edits sockets v (Leave own) fd answer steps)
 
-module _ {P R I : Type 0} where
-  abbrev pub registered_at : Token → Adapter P R I → Adapter P R I
+module _ {F R : Type 0} where
+  abbrev pub registered_at : Token → Adapter F R → Adapter F R
   registered_at token s = record s { token = Some token }
 
-  abbrev pub registered_nowhere : Adapter P R I → Adapter P R I
+  abbrev pub registered_nowhere : Adapter F R → Adapter F R
   registered_nowhere s = record s { token = None; entered = false }
 
+module _ {P F R : Type 0} where
   -- It gets its token, and no poller is called; calloop's is registered with an empty interest.
-  abbrev pub ComesIn : Option Token → Adapter P R I → TokenFactory → Result (Unit {0}) Error → List (PollStep P)
-      → Adapter P R I → TokenFactory → Type 0
+  abbrev pub ComesIn : Option Token → Adapter F R → TokenFactory → Result (Unit {0}) Error → List (PollStep P)
+      → Adapter F R → TokenFactory → Type 0
   ComesIn (Some own) s f answer steps t g = IsRefusedSo s answer (IsOfKind AlreadyExists) steps t × (g ≡ f)
   ComesIn None s f (Ok u) steps t g = (steps ≡ []) × (t ≡ registered_at (next_token f) s) × (g ≡ after_token f)
   ComesIn None s f (Err e) steps t g =
       ((e ≡ OutOfMemory) ⊎ ((e ≡ TooManyTokens) × (f.given ≡ most_tokens))) × (steps ≡ []) × (t ≡ s) × (g ≡ f)
 
-  abbrev pub left_so : Result (Unit {0}) Error → Adapter P R I → Adapter P R I
+module _ {F R : Type 0} where
+  abbrev pub left_so : Result (Unit {0}) Error → Adapter F R → Adapter F R
   left_so (Ok u) s = registered_nowhere s
   left_so (Err e) s = s
 
   -- what it did under its lock besides
-  abbrev pub and_did : SlotNote → Adapter P R I → Adapter P R I
+  abbrev pub and_did : SlotNote → Adapter F R → Adapter F R
   and_did note s = record s { end = with_slot_note note s.end }
 
   -- its registration succeeded, or is kept as refused
-  abbrev pub told_so : Result (Unit {0}) Error → Adapter P R I → Adapter P R I
+  abbrev pub told_so : Result (Unit {0}) Error → Adapter F R → Adapter F R
   told_so (Ok u) s = record s { entered = true }
   told_so (Err e) s = and_did (Kept e) s
 
   -- an event of its own token is kept, and wakes who waits
-  abbrev pub HearsSo : Option Token → Token → Readiness → Adapter P R I → Adapter P R I → Type 0
+  abbrev pub HearsSo : Option Token → Token → Readiness → Adapter F R → Adapter F R → Type 0
   HearsSo own token found s t =
       ((own ≡ Some token) × (t ≡ and_did (Heard found) s)) ⊎ ((own ≡ Some token → ⊥) × (t ≡ s))
 
-module _ {P R I : Type 0} (sockets : Sockets P I) where
+module _ {P F R : Type 0} (sockets : Sockets P) where
   -- It is registered for this, where its socket is there; a refusal, which it keeps, leaves its registration as it was.
-  abbrev pub Registers : Interest → Option Token → Adapter P R I → PollView P → List (PollStep P) → Adapter P R I → Type 0
+  abbrev pub Registers : Interest → Option Token → Adapter F R → PollView P → List (PollStep P) → Adapter F R → Type 0
   Registers interest None s v steps t = (steps ≡ []) × (t ≡ s)
   Registers interest (Some token) s v steps t =
       ((steps ≡ []) × (t ≡ and_did (Reached false) s))
-      ⊎ ((io : I) × (io' : I) × (told : Result (Unit {0}) Error)
-      × Edits sockets v (taking_up token s.entered interest) io told steps io'
+      ⊎ ((fd : ℤ) × (told : Result (Unit {0}) Error)
+      × Edits sockets v (taking_up token s.entered interest) fd told steps
       × (t ≡ told_so told (and_did (Reached true) s)))
 
   -- what its settling found is done
-  abbrev pub SettlesTo : Settled → Adapter P R I → PollView P → List (PollStep P) → Adapter P R I → Type 0
+  abbrev pub SettlesTo : Settled → Adapter F R → PollView P → List (PollStep P) → Adapter F R → Type 0
   SettlesTo Stays s v steps t = (steps ≡ []) × (t ≡ s)
   SettlesTo (RegistersFor interest) s v steps t = Registers interest s.token s v steps t
   SettlesTo IsToLeave s v steps t = ⊥
 
   -- it is settled: what that found is what its state holds, as the tally notes
-  abbrev pub SettlesSo : Adapter P R I → PollView P → List (PollStep P) → Adapter P R I → Type 0
+  abbrev pub SettlesSo : Adapter F R → PollView P → List (PollStep P) → Adapter F R → Type 0
   SettlesSo s v steps t = (found : Settled) × SettlesTo found (and_did (SettledSo found) s) v steps t
 
   -- One that isn't being given back doesn't leave.
-  abbrev pub Leaves : Option Token → Adapter P R I → PollView P → Result (Unit {0}) Error → List (PollStep P)
-      → Adapter P R I → Type 0
+  abbrev pub Leaves : Option Token → Adapter F R → PollView P → Result (Unit {0}) Error → List (PollStep P)
+      → Adapter F R → Type 0
   Leaves None s v answer steps t = IsRefusedSo s answer (IsOfKind NotFound) steps t
   Leaves (Some own) s v answer steps t =
       IsRefusedSo (and_did (Asked false) s) answer (λ e. e ≡ InvalidToken) steps t
@@ -107,8 +109,8 @@ module _ {P R I : Type 0} (sockets : Sockets P I) where
 
   -- Its other end is gone: it is in no loop any more, and its key goes, also where its socket can't be taken out. In
   -- calloop the drop calls kill, which drops a refusal.
-  abbrev pub Goes : Option Token → Adapter P R I → PollView P → Result (Unit {0}) Error → List (PollStep P)
-      → Adapter P R I → Type 0
+  abbrev pub Goes : Option Token → Adapter F R → PollView P → Result (Unit {0}) Error → List (PollStep P)
+      → Adapter F R → Type 0
   Goes None s v told steps t = (told ≡ Ok tt) × (steps ≡ []) × (t ≡ s)
   Goes (Some own) s v told steps t =
       (out : List (PollStep P)) × TakenOut sockets s.entered own v told out
@@ -116,7 +118,7 @@ module _ {P R I : Type 0} (sockets : Sockets P I) where
 
   module _ {X Q : Type 0} where
     -- its turn keeps what was found, which lies under a lock, and calls nobody but who waits for it
-    abbrev pub IsAdapter : Adapter P R I → PollView P → Deed (Lent X Q) → List (PollStep P) → Adapter P R I → Type 0
+    abbrev pub IsAdapter : Adapter F R → PollView P → Deed (Lent X Q) → List (PollStep P) → Adapter F R → Type 0
     IsAdapter s v (Registered f answer g) steps t = ComesIn s.token s f answer steps t g
     IsAdapter s v (Reregistered f (Ok u) g) steps t = (g ≡ f) × SettlesSo s v steps t
     IsAdapter s v (Reregistered f (Err e) g) steps t = (e ≡ InvalidToken) × (g ≡ f) × (steps ≡ []) × (t ≡ s)
@@ -128,7 +130,7 @@ module _ {P R I : Type 0} (sockets : Sockets P I) where
         (turn.answer ≡ Ok Continue) × (turn.after ≡ turn.before) × (turn.asked_after ≡ turn.asked_before)
         × (steps ≡ []) × HearsSo s.token token readiness s t
 
-    abbrev pub adapter_meaning : Meaning (Adapter P R I) P (Lent X Q)
+    abbrev pub adapter_meaning : Meaning (Adapter F R) P (Lent X Q)
     adapter_meaning =
         record {
           holds = λ s. holds_none;

@@ -18,40 +18,40 @@ use Rattle.calloop.specs.loop_logic.Askings.{Asks, Runs, IsAsked}
 use Rattle.calloop.specs.loop_logic.Handles.{held_by, IsCase}
 
 -- an adapter that is in no loop yet
-pub record IsInNoLoop {P R I : Type 0} (adapter : Adapter P R I) : Type 0 where
+pub record IsInNoLoop {F R : Type 0} (adapter : Adapter F R) : Type 0 where
   pub token : adapter.token ≡ None
   pub entered : adapter.entered ≡ false
 
 -- the other end of this one is asked to be inserted, under this ticket
-abbrev pub IsAskedToAdapt : {D P R I S : Type 0} → (placed : Adapter P R S → D) → PollTally → (ticket : ℕ)
+abbrev pub IsAskedToAdapt : {D F R I : Type 0} → (placed : Adapter F R → D) → PollTally → (ticket : ℕ)
     → Asks D I → Asks D I → Type 0
-IsAskedToAdapt {D} {P} {R} {I} {S} placed made ticket old new =
-    (adapter : Adapter P R S) × IsInNoLoop adapter × (adapter.end.name ≡ made.name)
+IsAskedToAdapt {D} {F} {R} {I} placed made ticket old new =
+    (adapter : Adapter F R) × IsInNoLoop adapter × (adapter.end.name ≡ made.name)
     × IsAsked (AskInsert (placed adapter)) ticket old new
 
-module _ {D P C R X I S : Type 0} (M : Meaning D P (Lent X (Asks D I))) (runs : Runs D I X) (O : Outside P) where
+module _ {D P C R X I : Type 0} (M : Meaning D P (Lent X (Asks D I))) (runs : Runs D I X) (O : Outside P) where
   -- the other end of this one was inserted
-  abbrev pub IsAdapted : (placed : Adapter P R S → D) → PollTally → LoopHandle D P C R X I S → LoopHandle D P C R X I S
+  abbrev pub IsAdapted : {F : Type 0} → (placed : Adapter F R → D) → PollTally → LoopHandle D P C R X I → LoopHandle D P C R X I
       → Type 0
-  IsAdapted placed made old new =
-      (adapter : Adapter P R S) × (token : RegistrationToken) × IsInNoLoop adapter
+  IsAdapted {F} placed made old new =
+      (adapter : Adapter F R) × (token : RegistrationToken) × IsInNoLoop adapter
       × (adapter.end.name ≡ made.name)
       × IsCase M runs O (Insert (placed adapter)) (Inserted (Ok token)) old new
 
   -- its insertion was refused so, or there was no memory for it before, and the loop is as it was
-  abbrev pub IsNotAdapted : (placed : Adapter P R S → D) → Error → LoopHandle D P C R X I S → LoopHandle D P C R X I S
+  abbrev pub IsNotAdapted : {F : Type 0} → (placed : Adapter F R → D) → Error → LoopHandle D P C R X I → LoopHandle D P C R X I
       → Type 0
-  IsNotAdapted placed e old new =
+  IsNotAdapted {F} placed e old new =
       ((e ≡ OutOfMemory) × (held_by new ≡ held_by old))
-      ⊎ ((adapter : Adapter P R S) × (back : InsertError D) × (back.error ≡ e) × IsInNoLoop adapter
+      ⊎ ((adapter : Adapter F R) × (back : InsertError D) × (back.error ≡ e) × IsInNoLoop adapter
       × IsCase M runs O (Insert (placed adapter)) (Inserted (Err back)) old new)
 
   -- an adapter left the loop, and its registration was taken back
-  abbrev pub IsGivenBack : LoopHandle D P C R X I S → LoopHandle D P C R X I S → Type 0
+  abbrev pub IsGivenBack : LoopHandle D P C R X I → LoopHandle D P C R X I → Type 0
   IsGivenBack old new = (token : RegistrationToken) × IsCase M runs O (Release token) (Released (Ok tt)) old new
 
   -- it stayed, for this reason, or wasn't there; or it left, and its socket had been taken out before
-  abbrev pub IsNotGivenBack : Error → LoopHandle D P C R X I S → LoopHandle D P C R X I S → Type 0
+  abbrev pub IsNotGivenBack : Error → LoopHandle D P C R X I → LoopHandle D P C R X I → Type 0
   IsNotGivenBack e old new =
       ((e ≡ InvalidToken) × (held_by new ≡ held_by old))
       ⊎ ((token : RegistrationToken) × IsCase M runs O (Release token) (Released (Err e)) old new)

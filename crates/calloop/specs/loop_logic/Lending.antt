@@ -6,16 +6,16 @@ use Rattle.calloop_core.specs.Lending.{with_poller}
 use Rattle.calloop.specs.declared.loop_logic.EventLoop.{EventLoop}
 use Rattle.calloop.specs.declared.loop_logic.LoopHandle.{LoopHandle}
 
-abbrev pub with_loop_poller : {D P C R X I S : Type 0} → P → EventLoop D P C R X I S → EventLoop D P C R X I S
+abbrev pub with_loop_poller : {D P C R X I : Type 0} → P → EventLoop D P C R X I → EventLoop D P C R X I
 with_loop_poller w l = record l { poll = with_poller w l.poll }
 
-abbrev pub with_handle_poller : {D P C R X I S : Type 0} → P → LoopHandle D P C R X I S → LoopHandle D P C R X I S
+abbrev pub with_handle_poller : {D P C R X I : Type 0} → P → LoopHandle D P C R X I → LoopHandle D P C R X I
 with_handle_poller w h = record { inner = record h.inner { now = with_loop_poller w h.inner.now } }
 
-abbrev pub with_loop_source : {D P C R X I S : Type 0} → RegistrationToken → D → EventLoop D P C R X I S
-    → EventLoop D P C R X I S
+abbrev pub with_loop_source : {D P C R X I : Type 0} → RegistrationToken → D → EventLoop D P C R X I
+    → EventLoop D P C R X I
 with_loop_source token d l = record l { sources = with_change (with_content (Source d)) l.sources token.slot }
 
-abbrev pub with_handle_source : {D P C R X I S : Type 0} → RegistrationToken → D → LoopHandle D P C R X I S
-    → LoopHandle D P C R X I S
+abbrev pub with_handle_source : {D P C R X I : Type 0} → RegistrationToken → D → LoopHandle D P C R X I
+    → LoopHandle D P C R X I
 with_handle_source token d h = record { inner = record h.inner { now = with_loop_source token d h.inner.now } }

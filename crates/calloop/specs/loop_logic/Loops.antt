@@ -8,15 +8,15 @@ use Rattle.calloop.specs.declared.loop_logic.EventLoop.{EventLoop}
 use Rattle.calloop.specs.declared.loop_logic.signal.LoopSignal.{LoopSignal}
 
 -- the poller of a loop
-abbrev pub poller_of : {D P C R X I S : Type 0} → EventLoop D P C R X I S → P
+abbrev pub poller_of : {D P C R X I : Type 0} → EventLoop D P C R X I → P
 poller_of l = l.poll.poller
 
 -- its clock
-abbrev pub clock_of : {D P C R X I S : Type 0} → EventLoop D P C R X I S → C
+abbrev pub clock_of : {D P C R X I : Type 0} → EventLoop D P C R X I → C
 clock_of l = l.poll.clock
 
 -- its own signal
-abbrev pub signal_of : {D P C R X I S : Type 0} → EventLoop D P C R X I S → LoopSignal
+abbrev pub signal_of : {D P C R X I : Type 0} → EventLoop D P C R X I → LoopSignal
 signal_of l = l.signal
 
 -- both stop the same loop and end its waits: they share what does it
@@ -28,8 +28,8 @@ abbrev pub IsFaultless : {C : Type 0} → MioPoller C → Type 0
 IsFaultless poller = poller.faults.count ≡ 0
 
 -- the loop's clock and its poller's count from one reading of the machine's clock
-abbrev pub CountFromOneReading : {D R X I S : Type 0}
-    → EventLoop D (MioPoller (SystemClock R)) (SystemClock R) R X I S → Type 0
+abbrev pub CountFromOneReading : {D R X I : Type 0}
+    → EventLoop D (MioPoller (SystemClock R)) (SystemClock R) R X I → Type 0
 CountFromOneReading l = (poller_of l).clock.start ≡ l.poll.clock.start
 
 -- nothing was scripted yet: the clock is at 0, no answer stands, no wait was asked, and no call is to fail

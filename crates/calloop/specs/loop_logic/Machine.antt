@@ -66,7 +66,7 @@ slot_of r = record { version = r.reuse % versions; content = r.content }
 abbrev pub visible : {D I P : Type 0} → World D I P → View D I P
 visible w = record { slots = map slot_of w.slots; poll = w.poll; held = w.held; signal = w.signal }
 
-abbrev pub view_of : {D P C R X I S : Type 0} → EventLoop D P C R X I S → View D I P
+abbrev pub view_of : {D P C R X I : Type 0} → EventLoop D P C R X I → View D I P
 view_of l =
     record {
       slots = l.sources;
@@ -211,5 +211,5 @@ pub record IsNew {D I P : Type 0} (w : World D I P) : Type 0 where
   pub ledger : w.ledger ≡ new_ledger
 
 -- a machine to which nothing has happened agrees with the loop
-abbrev pub BeginsAnew : {D P C R X I S : Type 0} → EventLoop D P C R X I S → Type 0
+abbrev pub BeginsAnew : {D P C R X I : Type 0} → EventLoop D P C R X I → Type 0
 BeginsAnew {D} {P} {C} {R} {X} {I} l = (w : World D I P) × IsNew w × (visible w ≡ view_of l)

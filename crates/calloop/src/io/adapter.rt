@@ -16,6 +16,7 @@ use calloop_core::sys::{Interest, Poller, Readiness};
 use calloop_wake::error::{Error, Failed, Result as LoopResult, store_error};
 use calloop_wake::token::{RegistrationToken, Token, TokenFactory};
 use std::io;
+use std::os::fd::AsRawFd;
 use std::sync::Wait;
 
 /// The loop's end of an adapter, whose other end is an `Async`. A loop of adapters has a place for it among its sources. No call of a handle
@@ -23,16 +24,16 @@ use std::sync::Wait;
 ///
 /// In a clause `end` is what it did.
 #[derive(Drop)]
-pub struct Adapter<P: Poller, R: Wait + Drop> {
-    end: SlotEnd<P, R>,
+pub struct Adapter<F: AsRawFd + Drop, R: Wait + Drop> {
+    end: SlotEnd<F, R>,
     // The key that its events come under, once it is in a loop.
     token: Option<Token>,
     // Whether its socket stands in the table of the loop.
     entered: bool,
 }
 
-impl<P: Poller, R: Wait + Drop> Adapter<P, R> {
-    pub(crate) fn new(end: SlotEnd<P, R>) -> Adapter<P, R>
+impl<F: AsRawFd + Drop, R: Wait + Drop> Adapter<F, R> {
+    pub(crate) fn new(end: SlotEnd<F, R>) -> Adapter<F, R>
         ensures { result ≡ record { end = end; token = None; entered = false } }
     {
         Adapter {
@@ -43,7 +44,7 @@ impl<P: Poller, R: Wait + Drop> Adapter<P, R> {
     }
 
     // Registers its socket for this, and keeps a refusal.
-    fn take_up<C>(&mut self, interest: Interest, poll: &mut Poll<P, C, R>)
+    fn take_up<P: Poller, C>(&mut self, interest: Interest, poll: &mut Poll<P, C, R>)
         ensures steps { (steps : List (PollStep P))
             × Registers P.sockets interest self.old.token self.old (poll_view poll.old) steps
             self.new
@@ -61,7 +62,7 @@ impl<P: Poller, R: Wait + Drop> Adapter<P, R> {
     }
 
     // Takes its socket out of the table.
-    fn take_out<C>(&self, token: Token, poll: &mut Poll<P, C, R>) -> LoopResult<()>
+    fn take_out<P: Poller, C>(&self, token: Token, poll: &mut Poll<P, C, R>) -> LoopResult<()>
         ensures steps { (steps : List (PollStep P))
             × TakenOut P.sockets self.now.entered token (poll_view poll.old) result steps
             × AllStepped P.outside (poll_view poll.old) steps (poll_view poll.new) }
@@ -70,8 +71,8 @@ impl<P: Poller, R: Wait + Drop> Adapter<P, R> {
         if !self.entered {
             return Ok(());
         }
-        match &mut *self.end.io() {
-            Some(io) => poll.unregister(io, token),
+        match &*self.end.io() {
+            Some(io) => poll.unregister(io.as_raw_fd(), token),
             None => Err(Error::IoError(io::Error::from(io::ErrorKind::NotFound))),
         }
     }
@@ -87,7 +88,7 @@ impl<P: Poller, R: Wait + Drop> Adapter<P, R> {
     }
 
     // Takes its registration back.
-    fn leave<C>(&mut self, token: Token, poll: &mut Poll<P, C, R>) -> LoopResult<()>
+    fn leave<P: Poller, C>(&mut self, token: Token, poll: &mut Poll<P, C, R>) -> LoopResult<()>
         ensures steps { (steps : List (PollStep P))
             × TakenOut P.sockets self.old.entered token (poll_view poll.old) result steps
             × AllStepped P.outside (poll_view poll.old) steps (poll_view poll.new) }
@@ -100,7 +101,7 @@ impl<P: Poller, R: Wait + Drop> Adapter<P, R> {
     }
 
     // Takes its registration back, where it is being given back.
-    fn give_back<C>(&mut self, poll: &mut Poll<P, C, R>) -> LoopResult<()>
+    fn give_back<P: Poller, C>(&mut self, poll: &mut Poll<P, C, R>) -> LoopResult<()>
         ensures steps { (steps : List (PollStep P))
             × Leaves P.sockets self.old.token self.old (poll_view poll.old) result steps self.new
             × AllStepped P.outside (poll_view poll.old) steps (poll_view poll.new) }
@@ -116,7 +117,7 @@ impl<P: Poller, R: Wait + Drop> Adapter<P, R> {
     }
 
     // Its `Async` is gone: it takes its registration back. Where that fails, its key goes all the same.
-    fn go<C>(&mut self, poll: &mut Poll<P, C, R>) -> LoopResult<()>
+    fn go<P: Poller, C>(&mut self, poll: &mut Poll<P, C, R>) -> LoopResult<()>
         ensures steps { (steps : List (PollStep P))
             × Goes P.sockets self.old.token self.old (poll_view poll.old) result steps self.new
             × AllStepped P.outside (poll_view poll.old) steps (poll_view poll.new) }
@@ -139,7 +140,8 @@ impl<P: Poller, R: Wait + Drop> Adapter<P, R> {
     }
 }
 
-impl<P: Poller, C, R: Wait + Drop, X, Q: Asking> Dispatch<P, C, R, X, Q> for Adapter<P, R> {
+impl<F: AsRawFd + Drop, P: Poller, C, R: Wait + Drop, X, Q: Asking> Dispatch<P, C, R, X, Q>
+    for Adapter<F, R> {
     ghost use Rattle.calloop.specs.io.Adapters.{adapter_meaning};
     ghost use Rattle.calloop.specs.io.AdapterKeeping.{adapter_keeps, adapter_asks, adapter_fails};
 
@@ -253,18 +255,19 @@ impl<P: Poller, C, R: Wait + Drop, X, Q: Asking> Dispatch<P, C, R, X, Q> for Ada
     ghost fails = { adapter_fails P.sockets };
 }
 
-impl<P: Poller, C, R: Wait + Drop, X, Q: Asking> QuietDispatch<P, C, R, X, Q> for Adapter<P, R> {
+impl<F: AsRawFd + Drop, P: Poller, C, R: Wait + Drop, X, Q: Asking> QuietDispatch<P, C, R, X, Q>
+    for Adapter<F, R> {
     ghost use Rattle.calloop.specs.io.AdapterKeeping.{adapter_quiet};
 
     ghost quiet = { adapter_quiet P.sockets };
 }
 
-impl<P: Poller, R: Wait + Drop> Place<Adapter<P, R>, Here> for Adapter<P, R> {
+impl<F: AsRawFd + Drop, R: Wait + Drop> Place<Adapter<F, R>, Here> for Adapter<F, R> {
     ghost use Rattle.std.specs.Prelude.{◌≡◌};
 
     ghost placed = { λ adapter. adapter };
 
-    fn place(adapter: Adapter<P, R>) -> Adapter<P, R>
+    fn place(adapter: Adapter<F, R>) -> Adapter<F, R>
         ensures { result ≡ adapter }
     {
         adapter

@@ -3,23 +3,24 @@ ghost use Rattle.calloop.specs.io.Refusals.{IsAnswer};
 
 use super::Async;
 use crate::futures::{Context, Future, Poll};
-use calloop_core::sys::{Interest, Poller};
+use calloop_core::sys::Interest;
 use calloop_wake::error::Result as LoopResult;
+use std::os::fd::AsRawFd;
 use std::sync::Wait;
 
 /// Is ready once the socket can be read, or is in error. A refusal of a registration comes first, once.
 #[derive(Drop)]
-pub struct Readable<'a, P: Poller, R: Wait + Drop> {
-    io: &'a mut Async<P, R>,
+pub struct Readable<'a, F: AsRawFd + Drop, R: Wait + Drop> {
+    io: &'a mut Async<F, R>,
 }
 
-impl<'a, P: Poller, R: Wait + Drop> Readable<'a, P, R> {
-    pub(crate) fn of(io: &'a mut Async<P, R>) -> Readable<'a, P, R> {
+impl<'a, F: AsRawFd + Drop, R: Wait + Drop> Readable<'a, F, R> {
+    pub(crate) fn of(io: &'a mut Async<F, R>) -> Readable<'a, F, R> {
         Readable { io }
     }
 }
 
-impl<'a, P: Poller, R: Wait + Clone + Drop> Future<R> for Readable<'a, P, R> {
+impl<'a, F: AsRawFd + Drop, R: Wait + Clone + Drop> Future<R> for Readable<'a, F, R> {
     type Output = LoopResult<()>;
 
     ghost gives = { λ _ answer. IsAnswer answer };
@@ -32,17 +33,17 @@ impl<'a, P: Poller, R: Wait + Clone + Drop> Future<R> for Readable<'a, P, R> {
 
 /// Is ready once the socket can be written, or is in error. A refusal of a registration comes first, once.
 #[derive(Drop)]
-pub struct Writable<'a, P: Poller, R: Wait + Drop> {
-    io: &'a mut Async<P, R>,
+pub struct Writable<'a, F: AsRawFd + Drop, R: Wait + Drop> {
+    io: &'a mut Async<F, R>,
 }
 
-impl<'a, P: Poller, R: Wait + Drop> Writable<'a, P, R> {
-    pub(crate) fn of(io: &'a mut Async<P, R>) -> Writable<'a, P, R> {
+impl<'a, F: AsRawFd + Drop, R: Wait + Drop> Writable<'a, F, R> {
+    pub(crate) fn of(io: &'a mut Async<F, R>) -> Writable<'a, F, R> {
         Writable { io }
     }
 }
 
-impl<'a, P: Poller, R: Wait + Clone + Drop> Future<R> for Writable<'a, P, R> {
+impl<'a, F: AsRawFd + Drop, R: Wait + Clone + Drop> Future<R> for Writable<'a, F, R> {
     type Output = LoopResult<()>;
 
     ghost gives = { λ _ answer. IsAnswer answer };

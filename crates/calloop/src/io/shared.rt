@@ -1,6 +1,6 @@
 //! What the two ends of an adapter share: its state and its socket, each under a lock of its own, of which none is taken within
 //! the other. Each end has its own tally with it, which notes what it did.
-ghost use Rattle.std.specs.Prelude.{◌≡◌, [], ℕ, true, is_some, IfOk, IfErr, IfSome, IfNone, OnErr};
+ghost use Rattle.std.specs.Prelude.{◌≡◌, [], ℕ, ℤ, true, is_some, IfOk, IfErr, IfSome, IfNone, OnErr};
 ghost use Rattle.std.specs.Io.{ReadsAtMost, WritesAtMost};
 ghost use Rattle.std.specs.Arc.{arc_value};
 ghost use Rattle.calloop_wake.specs.declared.error.Error.TheVariants.{OutOfMemory};
@@ -26,22 +26,23 @@ use std::alloc::{AllocError, Global};
 use std::io;
 use std::io::{Read, Write};
 use std::marker::Model;
+use std::os::fd::AsRawFd;
 use std::sync::{Arc, Mutex, MutexGuard, Wait};
 
 #[derive(Drop)]
-pub(crate) struct Shared<P: Poller, R: Wait + Drop> {
+pub(crate) struct Shared<F: AsRawFd + Drop, R: Wait + Drop> {
     state: Locked<State<R>>,
-    io: Mutex<Option<P::Io>>,
+    io: Mutex<Option<F>>,
 }
 
 /// What an `Async` has of its adapter. In a clause it is the tally.
-pub(crate) struct PollEnd<P: Poller, R: Wait + Drop> {
+pub(crate) struct PollEnd<F: AsRawFd + Drop, R: Wait + Drop> {
     rt: R,
-    shared: Arc<Shared<P, R>, Global>,
+    shared: Arc<Shared<F, R>, Global>,
     tally: PollTally,
 }
 
-impl<P: Poller, R: Wait + Drop> Model for PollEnd<P, R> {
+impl<F: AsRawFd + Drop, R: Wait + Drop> Model for PollEnd<F, R> {
     ghost use Rattle.std.specs.Prelude.{◌≡◌};
     ghost use Rattle.std.specs.Arc.{arc_value};
     ghost use Rattle.calloop.specs.declared.io.state.PollTally.{PollTally};
@@ -55,13 +56,13 @@ impl<P: Poller, R: Wait + Drop> Model for PollEnd<P, R> {
 
 /// What the end in a slot has of its adapter. In a clause it is the tally.
 #[derive(Drop)]
-pub(crate) struct SlotEnd<P: Poller, R: Wait + Drop> {
+pub(crate) struct SlotEnd<F: AsRawFd + Drop, R: Wait + Drop> {
     rt: R,
-    shared: Arc<Shared<P, R>, Global>,
+    shared: Arc<Shared<F, R>, Global>,
     tally: SlotTally,
 }
 
-impl<P: Poller, R: Wait + Drop> Model for SlotEnd<P, R> {
+impl<F: AsRawFd + Drop, R: Wait + Drop> Model for SlotEnd<F, R> {
     ghost use Rattle.std.specs.Prelude.{◌≡◌};
     ghost use Rattle.std.specs.Arc.{arc_value};
     ghost use Rattle.calloop.specs.declared.io.state.SlotTally.{SlotTally};
@@ -74,10 +75,10 @@ impl<P: Poller, R: Wait + Drop> Model for SlotEnd<P, R> {
 }
 
 /// Both ends of an adapter that is in no loop yet, without its socket. Running out of memory is `OutOfMemory`.
-pub(crate) fn make_ends<P: Poller, R: Wait + Clone + Drop>(
+pub(crate) fn make_ends<F: AsRawFd + Drop, R: Wait + Clone + Drop>(
     rt: &R,
     alloc: Global,
-) -> LoopResult<(SlotEnd<P, R>, PollEnd<P, R>)>
+) -> LoopResult<(SlotEnd<F, R>, PollEnd<F, R>)>
     ensures same { IfOk result (λ made. made.0.name ≡ made.1.name) }
     ensures slot { IfOk result (λ made. made.0.notes ≡ []) }
     ensures poll { IfOk result (λ made. made.1.notes ≡ []) }
@@ -268,9 +269,9 @@ fn try_flush<Io: Write + Drop, R: Wait>(
     tally.try_flush(&mut *held)
 }
 
-impl<P: Poller, R: Wait + Drop> PollEnd<P, R> {
+impl<F: AsRawFd + Drop, R: Wait + Drop> PollEnd<F, R> {
     /// The socket, where it is there, under its lock.
-    pub(crate) fn io(&self) -> MutexGuard<'_, Option<P::Io>> {
+    pub(crate) fn io(&self) -> MutexGuard<'_, Option<F>> {
         self.shared.io.lock(&self.rt)
     }
 
@@ -308,7 +309,7 @@ impl<P: Poller, R: Wait + Drop> PollEnd<P, R> {
     /// Reads the socket.
     pub(crate) fn try_read(&mut self, buf: &mut [u8]) -> io::Result<usize>
     where
-        P::Io: Read,
+        F: Read,
         ensures bound { ReadsAtMost result buf.new }
         ensures tally { self.new ≡ with_poll_note (Tried result) self.old }
     {
@@ -318,7 +319,7 @@ impl<P: Poller, R: Wait + Drop> PollEnd<P, R> {
     /// Writes to the socket.
     pub(crate) fn try_write(&mut self, buf: &[u8]) -> io::Result<usize>
     where
-        P::Io: Write,
+        F: Write,
         ensures bound { WritesAtMost result buf.now }
         ensures tally { self.new ≡ with_poll_note (Tried result) self.old }
     {
@@ -328,7 +329,7 @@ impl<P: Poller, R: Wait + Drop> PollEnd<P, R> {
     /// Flushes the socket.
     pub(crate) fn try_flush(&mut self) -> io::Result<()>
     where
-        P::Io: Write,
+        F: Write,
         ensures tally { self.new ≡ with_poll_note (Flushed result) self.old }
     {
         try_flush(&self.rt, &self.shared.io, &mut self.tally)
@@ -411,9 +412,9 @@ fn hear<R: Wait + Drop>(rt: &R, state: &Locked<State<R>>, tally: &mut SlotTally,
 }
 
 // Registers the socket for this, where it is there, first or anew.
-fn register<P: Poller, C, R: Wait + Drop>(
+fn register<F: AsRawFd + Drop, P: Poller, C, R: Wait + Drop>(
     rt: &R,
-    io: &Mutex<Option<P::Io>>,
+    io: &Mutex<Option<F>>,
     tally: &mut SlotTally,
     entered: bool,
     token: Token,
@@ -422,24 +423,26 @@ fn register<P: Poller, C, R: Wait + Drop>(
 ) -> Option<LoopResult<()>>
     ensures tally { tally.new ≡ with_slot_note (Reached (is_some result)) tally.old }
     ensures none { IfNone result (poll_view poll.new ≡ poll_view poll.old) }
-    ensures some { IfSome result (λ told. (socket : P.Io) × (after : P.Io)
+    ensures some { IfSome result (λ told. (fd : ℤ)
         × DidEdit P.outside P.sockets (taking_up token entered interest)
-        (poll_view poll.old) socket told (poll_view poll.new) after) }
+        (poll_view poll.old) fd told (poll_view poll.new)) }
     ensures refused { IfSome result (λ told. IfErr told (λ e. of_registration e ≡ true)) }
     ensures ready { (more : ℕ) → IsReady more poll.old → IsReady more poll.new }
 {
     let mut held = io.lock(rt);
     tally.reach(&*held);
-    match &mut *held {
-        Some(io) if entered => Some(poll.reregister(io, token, interest, Mode::OneShot, token)),
-        Some(io) => Some(poll.register(io, interest, Mode::OneShot, token)),
+    match &*held {
+        Some(io) if entered => {
+            Some(poll.reregister(io.as_raw_fd(), token, interest, Mode::OneShot, token))
+        }
+        Some(io) => Some(poll.register(io.as_raw_fd(), interest, Mode::OneShot, token)),
         None => None,
     }
 }
 
-impl<P: Poller, R: Wait + Drop> SlotEnd<P, R> {
+impl<F: AsRawFd + Drop, R: Wait + Drop> SlotEnd<F, R> {
     /// Registers the socket for this, where it is there, first or anew.
-    pub(crate) fn register<C>(
+    pub(crate) fn register<P: Poller, C>(
         &mut self,
         entered: bool,
         token: Token,
@@ -448,9 +451,9 @@ impl<P: Poller, R: Wait + Drop> SlotEnd<P, R> {
     ) -> Option<LoopResult<()>>
         ensures tally { self.new ≡ with_slot_note (Reached (is_some result)) self.old }
         ensures none { IfNone result (poll_view poll.new ≡ poll_view poll.old) }
-        ensures some { IfSome result (λ told. (socket : P.Io) × (after : P.Io)
+        ensures some { IfSome result (λ told. (fd : ℤ)
             × DidEdit P.outside P.sockets (taking_up token entered interest)
-            (poll_view poll.old) socket told (poll_view poll.new) after) }
+            (poll_view poll.old) fd told (poll_view poll.new)) }
         ensures refused { IfSome result (λ told. IfErr told (λ e. of_registration e ≡ true)) }
         ensures ready { (more : ℕ) → IsReady more poll.old → IsReady more poll.new }
     {
@@ -466,7 +469,7 @@ impl<P: Poller, R: Wait + Drop> SlotEnd<P, R> {
     }
 
     /// The socket, where it is there, under its lock.
-    pub(crate) fn io(&self) -> MutexGuard<'_, Option<P::Io>> {
+    pub(crate) fn io(&self) -> MutexGuard<'_, Option<F>> {
         self.shared.io.lock(&self.rt)
     }
 

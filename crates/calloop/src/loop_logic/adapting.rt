@@ -12,6 +12,7 @@ use calloop_core::sources::{Keep, Place};
 use calloop_core::sys::{Clock, Poller};
 use calloop_wake::error::{Error, InsertError};
 use std::alloc::Global;
+use std::os::fd::AsRawFd;
 use std::sync::Wait;
 
 impl<D: EventDispatcher<P, C, R>, P: Poller, C: Clock, R: Wait + Drop> LoopHandle<'_, D, P, C, R> {
@@ -19,14 +20,15 @@ impl<D: EventDispatcher<P, C, R>, P: Poller, C: Clock, R: Wait + Drop> LoopHandl
     /// handle names; no poller is called until a poll waits.
     ///
     /// The refusals are those of an insertion. Each hands the socket back, and leaves the loop as it does.
-    pub fn adapt_io<N>(
+    pub fn adapt_io<F, N>(
         &mut self,
         rt: &R,
         alloc: Global,
-        io: P::Io,
-    ) -> Result<Async<P, R>, InsertError<P::Io>>
+        io: F,
+    ) -> Result<Async<F, R>, InsertError<F>>
     where
-        D: Keep<Adapter<P, R>, P, C, R, D::Data, Requests<D, D::Idle>, N>,
+        F: AsRawFd + Drop,
+        D: Keep<Adapter<F, R>, P, C, R, D::Data, Requests<D, D::Idle>, N>,
         R: Clone,
         ensures same { HasTheSameLoop self.old self.new }
         ensures ok { IfOk result (λ made. IsAdapted D.means D.Idle.runs P.outside D.placed made
@@ -53,7 +55,10 @@ impl<D: EventDispatcher<P, C, R>, P: Poller, C: Clock, R: Wait + Drop> LoopHandl
     /// A fault of the poller is `IoError`, and the adapter stays as it was. One of another loop, or of none, is refused with `InvalidToken`.
     /// One whose socket was taken out by `get_mut` is refused with `IoError` of kind `NotFound`, and stays, where the poller knew that
     /// socket; else with `InvalidToken`, and it has left. Each hands the `Async` back.
-    pub fn into_inner(&mut self, io: Async<P, R>) -> Result<P::Io, InsertError<Async<P, R>>>
+    pub fn into_inner<F: AsRawFd + Drop>(
+        &mut self,
+        io: Async<F, R>,
+    ) -> Result<F, InsertError<Async<F, R>>>
         ensures same { HasTheSameLoop self.old self.new }
         ensures ok { IfOk result (λ socket. IsGivenBack D.means D.Idle.runs P.outside
             self.old self.new) }
@@ -90,14 +95,14 @@ impl<D, I> Requests<D, I> {
     /// the loop. The answer is `Inserted`, or `NotInserted`: then the socket stays with the `Async`, whose `get_mut` has it.
     ///
     /// A refusal of this call hands the socket back, and nothing is asked for.
-    pub fn adapt<P: Poller, R: Wait + Clone + Drop, N>(
+    pub fn adapt<F: AsRawFd + Drop, R: Wait + Clone + Drop, N>(
         &mut self,
         rt: &R,
         alloc: Global,
-        io: P::Io,
-    ) -> Result<(Ticket, Async<P, R>), InsertError<P::Io>>
+        io: F,
+    ) -> Result<(Ticket, Async<F, R>), InsertError<F>>
     where
-        D: Place<Adapter<P, R>, N> + Drop,
+        D: Place<Adapter<F, R>, N> + Drop,
         I: Drop,
         ensures ok { IfOk result
             (λ made. IsAskedToAdapt D.placed made.1 made.0.number self.old self.new) }

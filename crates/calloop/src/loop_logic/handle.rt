@@ -266,7 +266,7 @@ impl<D: EventDispatcher<P, C, R>, P: Poller, C: Clock, R: Wait + Drop> LoopHandl
     pub fn dispatcher_mut(&mut self, token: &RegistrationToken) -> Result<&mut D>
         ensures* writes_back { sem 𝓛 (LendsIfOk
             (the_row (record { mir = named 1; lft = [] })
-            D.row P.row C.row R.row D.Data.row D.Idle.row P.Io.row)
+            D.row P.row C.row R.row D.Data.row D.Idle.row)
             D.row self.entry result (λ w. with_handle_source token.now w self.old) self.old) }
         ensures ok { IfOk result
             (λ held. named_by (slots_by self.old) token.now ≡ Source held.now) }
@@ -392,7 +392,7 @@ impl<D: EventDispatcher<P, C, R>, P: Poller, C: Clock, R: Wait + Drop> LoopHandl
     pub fn poller_mut(&mut self) -> &mut P
         ensures* writes_back { sem 𝓛 (Lends
             (the_row (record { mir = named 1; lft = [] })
-            D.row P.row C.row R.row D.Data.row D.Idle.row P.Io.row)
+            D.row P.row C.row R.row D.Data.row D.Idle.row)
             P.row self.entry result (λ w. with_handle_poller w self.old)) }
         ensures value { result.now ≡ poller_by self.old }
         ensures machine { (written : P)

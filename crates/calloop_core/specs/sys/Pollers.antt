@@ -1,5 +1,5 @@
 -- What the calls of a poller may do. A poller is seen from outside: the loop is proved for all of its answers.
-use Rattle.std.specs.Prelude.{◌≡◌, ℕ, ◌+◌, Bool, ◌||◌, List, Option, Some, None, Result, Ok, Err}
+use Rattle.std.specs.Prelude.{◌≡◌, ℕ, ℤ, ◌+◌, Bool, ◌||◌, List, Option, Some, None, Result, Ok, Err}
 use Rattle.std.specs.Duration.{as_nanos}
 use Rattle.std.specs.declared.time.Duration.{Duration}
 use Rattle.std.specs.declared.io.Error.{Error as IoError}
@@ -23,16 +23,16 @@ abbrev pub asks : Interest → Bool
 asks interest = interest.readable || interest.writable
 
 -- a call for a socket: from now on a wait gives its events under this key; its key or its interest is another; a wait
--- gives none of its events any more. calloop's poller names a socket by its descriptor; here it is lent beside the
--- call.
+-- gives none of its events any more. As calloop's, a poller names a socket by its descriptor,
+-- which it gets beside the call.
 pub data PollerCall : Type 0 where
   Add : (key : ℕ) (interest : Interest) → PollerCall
   Modify : (key : ℕ) (interest : Interest) → PollerCall
   Delete : PollerCall
 
--- of a poller with sockets of type I: the poller and the socket before a call, its answer, and both after it
-abbrev pub Sockets : (P I : Type 0) → Type 1
-Sockets P I = P → I → PollerCall → Result (Unit {0}) IoError → P → I → Type 0
+-- the poller before a call, the descriptor, the answer, and the poller after it
+abbrev pub Sockets : (P : Type 0) → Type 1
+Sockets P = P → (fd : ℤ) → PollerCall → Result (Unit {0}) IoError → P → Type 0
 
 -- the poller before, what it was given, what it answered, and the poller after
 pub record Outside (P : Type 0) : Type 1 where

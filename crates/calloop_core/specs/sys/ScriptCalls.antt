@@ -1,6 +1,6 @@
 -- The calls for a socket that a scripted poller notes, and which of them are to fail: for tests, which calloop makes
 -- with descriptors of the machine.
-use Rattle.std.specs.Prelude.{◌≡◌, ℕ, Bool, true, false, Result, Ok, Err}
+use Rattle.std.specs.Prelude.{◌≡◌, ℤ, Bool, true, false, Result, Ok, Err}
 use Rattle.std.specs.declared.io.Error.{Error as IoError}
 use Rattle.std.specs.IoError.{error_kind}
 use Rattle.std.specs.declared.io.ErrorKind.TheVariants.{Other}
@@ -19,8 +19,8 @@ use Rattle.calloop_core.specs.declared.sys.script.calls.ScriptKind.TheVariants.{
 }
 use Rattle.calloop_core.specs.sys.Pollers.{PollerCall, Add, Modify, Delete}
 
--- a call as the list shows it, for the socket of this number
-abbrev pub shown_call : PollerCall → (number : ℕ) → ScriptCall
+-- a call as the list shows it, for the socket of this descriptor
+abbrev pub shown_call : PollerCall → (number : ℤ) → ScriptCall
 shown_call (Add key interest) number = AddOf number key interest
 shown_call (Modify key interest) number = ModifyOf number key interest
 shown_call Delete number = DeleteOf number

@@ -2,6 +2,7 @@
 use Rattle.std.specs.Prelude.{
   ◌≡◌,
   ℕ,
+  ℤ,
   ◌+◌,
   ◌-◌,
   ◌^◌,
@@ -29,7 +30,6 @@ use Rattle.calloop_core.specs.declared.sys.script.ScriptAnswer.{ScriptAnswer}
 use Rattle.calloop_core.specs.declared.sys.script.ScriptEnd.{ScriptEnd}
 use Rattle.calloop_core.specs.declared.sys.script.ScriptEnd.TheVariants.{Events, Interrupted as Interruption, Fault}
 use Rattle.calloop_core.specs.declared.sys.script.ScriptPoller.{ScriptPoller}
-use Rattle.calloop_core.specs.declared.sys.script.calls.ScriptIo.{ScriptIo}
 use Rattle.calloop_core.specs.declared.sys.script.calls.ScriptCall.{ScriptCall}
 use Rattle.calloop_core.specs.sys.Pollers.{Outside, Sockets, nanos_of}
 use Rattle.calloop_core.specs.sys.ScriptCalls.{shown_call, kind_of, is_to_fail, with_failing, CallAnswered}
@@ -87,14 +87,14 @@ pub record ScriptCalled (p : ScriptPoller) (call : ScriptCall) (answer : Result 
   pub shown : q.shown ≡ p.shown
   pub signal : q.signal ≡ p.signal
 
-abbrev pub script_sockets : Sockets ScriptPoller ScriptIo
-script_sockets p io call answer q after = ScriptCalled p (shown_call call io.number) answer q × (after ≡ io)
+abbrev pub script_sockets : Sockets ScriptPoller
+script_sockets p fd call answer q = ScriptCalled p (shown_call call fd) answer q
 
 abbrev pub script_outside : Outside ScriptPoller
 script_outside =
     record {
       reads = λ p now q. (now ≡ p.moment.nanos) × (q ≡ p);
       waits = λ p asked answer given q. ScriptWaits p asked answer given q;
-      calls = λ p call answer q. (number : ℕ) × ScriptCalled p (shown_call call number) answer q;
+      calls = λ p call answer q. (number : ℤ) × ScriptCalled p (shown_call call number) answer q;
       faults = λ p. p.faults.count;
     }

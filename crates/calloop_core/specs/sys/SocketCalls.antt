@@ -1,6 +1,6 @@
 -- What the three calls of `Poll` for a socket do. calloop's poller is called at once and refuses by descriptor; here
 -- the table refuses first, by key, then running out of memory, then the poller; after a refusal the table is as it was.
-use Rattle.std.specs.Prelude.{◌≡◌, ◌⊎◌, ◌∷◌, [], List, true, Option, None, Some, Result, Ok, Err}
+use Rattle.std.specs.Prelude.{◌≡◌, ◌⊎◌, ◌∷◌, [], List, ℤ, true, Option, None, Some, Result, Ok, Err}
 use Rattle.std.specs.declared.io.Error.{Error as Cause}
 use Rattle.std.specs.declared.io.ErrorKind.{ErrorKind}
 use Rattle.calloop_wake.specs.declared.error.Error.{Error}
@@ -16,38 +16,38 @@ as_loop (Err cause) = Err (IoError cause)
 
 -- the poller refused its call, which is the one step
 pub record IsFaulted
-    {P I : Type 0} (sockets : Sockets P I) (v : PollView P) (edit : Edit) (io : I) (e : Error)
-    (steps : List (PollStep P)) (io' : I) : Type 0 where
+    {P : Type 0} (sockets : Sockets P) (v : PollView P) (edit : Edit) (fd : ℤ) (e : Error)
+    (steps : List (PollStep P)) : Type 0 where
   pub call : PollerCall
   pub cause : Cause
   pub after : P
   pub wanted : call_of edit v.table ≡ Some call
   pub told : e ≡ IoError cause
-  pub called : sockets v.poller io call (Err cause) after io'
+  pub called : sockets v.poller fd call (Err cause) after
   pub stepped : steps ≡ Fault call cause after ∷ []
 
 -- what the table doesn't refuse is done, by one step; or there is no memory for a key that is new, and no poller was
 -- called
-abbrev pub Tried : {P I : Type 0} → Sockets P I → PollView P → Edit → I
-    → Result (Unit {0}) Error → List (PollStep P) → I → Type 0
-Tried {P} sockets v edit io (Ok u) steps io' =
-    (after : P) × CalledFor sockets v.poller io (call_of edit v.table) (Ok tt) after io'
+abbrev pub Tried : {P : Type 0} → Sockets P → PollView P → Edit → (fd : ℤ)
+    → Result (Unit {0}) Error → List (PollStep P) → Type 0
+Tried {P} sockets v edit fd (Ok u) steps =
+    (after : P) × CalledFor sockets v.poller fd (call_of edit v.table) (Ok tt) after
     × (steps ≡ Socket edit after ∷ [])
-Tried sockets v edit io (Err e) steps io' =
-    ((grows edit ≡ true) × (e ≡ OutOfMemory) × (steps ≡ []) × (io' ≡ io)) ⊎ IsFaulted sockets v edit io e steps io'
+Tried sockets v edit fd (Err e) steps =
+    ((grows edit ≡ true) × (e ≡ OutOfMemory) × (steps ≡ [])) ⊎ IsFaulted sockets v edit fd e steps
 
 -- by why the table refuses
-abbrev pub TriedUnless : {P I : Type 0} → Option ErrorKind → Sockets P I → PollView P → Edit → I
-    → Result (Unit {0}) Error → List (PollStep P) → I → Type 0
-TriedUnless None sockets v edit io answer steps io' = Tried sockets v edit io answer steps io'
-TriedUnless (Some kind) sockets v edit io answer steps io' =
-    (e : Error) × (answer ≡ Err e) × IsOfKind kind e × (steps ≡ []) × (io' ≡ io)
+abbrev pub TriedUnless : {P : Type 0} → Option ErrorKind → Sockets P → PollView P → Edit → (fd : ℤ)
+    → Result (Unit {0}) Error → List (PollStep P) → Type 0
+TriedUnless None sockets v edit fd answer steps = Tried sockets v edit fd answer steps
+TriedUnless (Some kind) sockets v edit fd answer steps =
+    (e : Error) × (answer ≡ Err e) × IsOfKind kind e × (steps ≡ [])
 
-abbrev pub Edits : {P I : Type 0} → Sockets P I → PollView P → Edit → I
-    → Result (Unit {0}) Error → List (PollStep P) → I → Type 0
-Edits sockets v edit io answer steps io' = TriedUnless (cannot edit v.table) sockets v edit io answer steps io'
+abbrev pub Edits : {P : Type 0} → Sockets P → PollView P → Edit → (fd : ℤ)
+    → Result (Unit {0}) Error → List (PollStep P) → Type 0
+Edits sockets v edit fd answer steps = TriedUnless (cannot edit v.table) sockets v edit fd answer steps
 
-abbrev pub DidEdit : {P I : Type 0} → Outside P → Sockets P I → Edit → PollView P → I
-    → Result (Unit {0}) Error → PollView P → I → Type 0
-DidEdit {P} O sockets edit v io answer w io' =
-    (steps : List (PollStep P)) × Edits sockets v edit io answer steps io' × AllStepped O v steps w
+abbrev pub DidEdit : {P : Type 0} → Outside P → Sockets P → Edit → PollView P → (fd : ℤ)
+    → Result (Unit {0}) Error → PollView P → Type 0
+DidEdit {P} O sockets edit v fd answer w =
+    (steps : List (PollStep P)) × Edits sockets v edit fd answer steps × AllStepped O v steps w

@@ -7,7 +7,6 @@ use Rattle.std.specs.declared.io.ErrorKind.TheVariants.{InvalidInput}
 use Rattle.mio.specs.Events.{items}
 use Rattle.calloop_core.specs.declared.sys.Readiness.{Readiness}
 use Rattle.calloop_core.specs.declared.sys.system.MioPoller.{MioPoller}
-use Rattle.calloop_core.specs.declared.sys.system.sockets.MioIo.{MioIo}
 use Rattle.calloop_core.specs.sys.Pollers.{Outside, Sockets, PollerCall, Add, Modify, Delete, asks, failure_of}
 use Rattle.calloop_core.specs.sys.SystemEvents.{told_events}
 
@@ -32,9 +31,9 @@ pub record SystemWaited {C : Type 0} (p : MioPoller C) (answer : Result (Unit {0
   pub kind : failure_of answer ≡ q.found.failed
   pub poller : q ≡ record p { poll = q.poll; found = q.found; faults = q.faults }
 
--- a socket stays the same value
-abbrev pub system_sockets : {C : Type 0} → Sockets (MioPoller C) MioIo
-system_sockets p io call answer q after = SystemCalled p call answer q × (after ≡ io)
+-- the same for each descriptor
+abbrev pub system_sockets : {C : Type 0} → Sockets (MioPoller C)
+system_sockets p fd call answer q = SystemCalled p call answer q
 
 -- over a clock that may show these moments
 abbrev pub system_outside : {C : Type 0} → (shows : C → (now : ℕ) → Type 0) → Outside (MioPoller C)

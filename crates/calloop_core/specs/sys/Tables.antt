@@ -3,6 +3,7 @@
 use Rattle.std.specs.Prelude.{
   ◌≡◌,
   ℕ,
+  ℤ,
   ◌+◌,
   List,
   Bool,
@@ -127,8 +128,7 @@ abbrev pub Called : {P : Type 0} → Outside P → P → Option PollerCall → R
 Called O p None answer q = (answer ≡ Ok tt) × (q ≡ p)
 Called O p (Some call) answer q = O.calls p call answer q × (O.faults q ≡ O.faults p + faults_of answer)
 
--- the same, with the socket
-abbrev pub CalledFor : {P I : Type 0} → Sockets P I → P → I → Option PollerCall → Result (Unit {0}) Cause → P → I
-    → Type 0
-CalledFor sockets p io None answer q after = (answer ≡ Ok tt) × (q ≡ p) × (after ≡ io)
-CalledFor sockets p io (Some call) answer q after = sockets p io call answer q after
+-- the same, for this descriptor
+abbrev pub CalledFor : {P : Type 0} → Sockets P → P → (fd : ℤ) → Option PollerCall → Result (Unit {0}) Cause → P → Type 0
+CalledFor sockets p fd None answer q = (answer ≡ Ok tt) × (q ≡ p)
+CalledFor sockets p fd (Some call) answer q = sockets p fd call answer q

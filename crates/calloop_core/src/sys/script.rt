@@ -13,6 +13,7 @@ use calloop_wake::wheel::Instant;
 use std::alloc::{AllocError, AllocFailed, Global};
 use std::collections::VecDeque;
 use std::io;
+use std::os::fd::RawFd;
 use std::sync::Arc;
 use std::sync::atomic::{AtomicBool, AtomicU64, Ordering};
 use std::time::Duration;
@@ -268,22 +269,20 @@ fn append(mut events: Vec<(u64, Readiness)>, out: &mut Vec<(u64, Readiness)>)
 impl Poller for ScriptPoller {
     ghost use Rattle.calloop_core.specs.sys.ScriptPollers.{script_outside, script_sockets};
 
-    type Io = ScriptIo;
-
     ghost outside = { script_outside };
 
     ghost sockets = { script_sockets };
 
-    fn add(&mut self, io: &mut ScriptIo, key: u64, interest: Interest) -> io::Result<()> {
-        self.call(ScriptCall::Add(io.number, key, interest))
+    fn add(&mut self, fd: RawFd, key: u64, interest: Interest) -> io::Result<()> {
+        self.call(ScriptCall::Add(fd, key, interest))
     }
 
-    fn modify(&mut self, io: &mut ScriptIo, key: u64, interest: Interest) -> io::Result<()> {
-        self.call(ScriptCall::Modify(io.number, key, interest))
+    fn modify(&mut self, fd: RawFd, key: u64, interest: Interest) -> io::Result<()> {
+        self.call(ScriptCall::Modify(fd, key, interest))
     }
 
-    fn delete(&mut self, io: &mut ScriptIo) -> io::Result<()> {
-        self.call(ScriptCall::Delete(io.number))
+    fn delete(&mut self, fd: RawFd) -> io::Result<()> {
+        self.call(ScriptCall::Delete(fd))
     }
 
     fn now(&mut self) -> Instant {

@@ -16,11 +16,12 @@ use calloop_wake::error::{Error, Result as LoopResult};
 use calloop_wake::wheel::Instant;
 use found::Found;
 use levels::{Levels, Registering};
+use mio::unix::SourceFd;
 use mio::{Poll, Token, Waker};
 use std::alloc::Global;
 use std::io;
 use std::net::Net;
-use std::os::fd::AsRawFd;
+use std::os::fd::RawFd;
 use std::sync::Arc;
 use std::time::Duration;
 
@@ -114,7 +115,7 @@ impl<C> MioPoller<C> {
     fn register_level(
         &mut self,
         how: Registering,
-        io: &MioIo,
+        fd: RawFd,
         key: u64,
         interest: Interest,
     ) -> io::Result<()>
@@ -125,11 +126,10 @@ impl<C> MioPoller<C> {
         if !interest.asks() {
             return Err(no_interest());
         }
-        let descriptor = io.as_raw_fd();
-        self.levels.clear(descriptor);
-        how.register(&self.poll, descriptor, key, interest)?;
+        self.levels.clear(fd);
+        how.register(&self.poll, fd, key, interest)?;
         // Where it isn't noted, the next call asks the system again.
-        let _noted = self.levels.note(descriptor, key, interest);
+        let _noted = self.levels.note(fd, key, interest);
         Ok(())
     }
 }
@@ -197,56 +197,54 @@ fn no_interest() -> io::Error
 impl<C: Clock> Poller for MioPoller<C> {
     ghost use Rattle.calloop_core.specs.sys.SystemPollers.{system_outside, system_sockets};
 
-    type Io = MioIo;
-
     ghost outside = { system_outside C.shows };
 
     ghost sockets = { system_sockets };
 
     /// An empty interest is refused with an error of kind `InvalidInput`, and counted.
-    fn add(&mut self, io: &mut MioIo, key: u64, interest: Interest) -> io::Result<()> {
-        self.levels.clear(io.as_raw_fd());
+    fn add(&mut self, fd: RawFd, key: u64, interest: Interest) -> io::Result<()> {
+        self.levels.clear(fd);
         let answer = match mio_interest(interest) {
             Some(asked) => self
                 .poll
                 .registry()
-                .register(io, Token(key as usize), asked),
+                .register(&mut SourceFd(&fd), Token(key as usize), asked),
             None => Err(no_interest()),
         };
         self.note_fault(answer)
     }
 
     /// An empty interest is refused with an error of kind `InvalidInput`, and counted; the socket stays as it was added.
-    fn modify(&mut self, io: &mut MioIo, key: u64, interest: Interest) -> io::Result<()> {
-        self.levels.clear(io.as_raw_fd());
+    fn modify(&mut self, fd: RawFd, key: u64, interest: Interest) -> io::Result<()> {
+        self.levels.clear(fd);
         let answer = match mio_interest(interest) {
             Some(asked) => self
                 .poll
                 .registry()
-                .reregister(io, Token(key as usize), asked),
+                .reregister(&mut SourceFd(&fd), Token(key as usize), asked),
             None => Err(no_interest()),
         };
         self.note_fault(answer)
     }
 
     /// An empty interest is refused as by `add`.
-    fn add_level(&mut self, io: &mut MioIo, key: u64, interest: Interest) -> io::Result<()> {
-        let answer = self.register_level(Registering::First, io, key, interest);
+    fn add_level(&mut self, fd: RawFd, key: u64, interest: Interest) -> io::Result<()> {
+        let answer = self.register_level(Registering::First, fd, key, interest);
         self.note_fault(answer)
     }
 
     /// An empty interest is refused as by `modify`. Where the socket is registered so already, the system isn't called.
-    fn modify_level(&mut self, io: &mut MioIo, key: u64, interest: Interest) -> io::Result<()> {
-        if interest.asks() && self.levels.has(io.as_raw_fd(), key, interest) {
+    fn modify_level(&mut self, fd: RawFd, key: u64, interest: Interest) -> io::Result<()> {
+        if interest.asks() && self.levels.has(fd, key, interest) {
             return Ok(());
         }
-        let answer = self.register_level(Registering::Again, io, key, interest);
+        let answer = self.register_level(Registering::Again, fd, key, interest);
         self.note_fault(answer)
     }
 
-    fn delete(&mut self, io: &mut MioIo) -> io::Result<()> {
-        self.levels.clear(io.as_raw_fd());
-        let answer = self.poll.registry().deregister(io);
+    fn delete(&mut self, fd: RawFd) -> io::Result<()> {
+        self.levels.clear(fd);
+        let answer = self.poll.registry().deregister(&mut SourceFd(&fd));
         self.note_fault(answer)
     }
 

@@ -8,6 +8,7 @@ use std::alloc::{AllocGlobal, Global};
 use std::io;
 use std::io::{Read, Write};
 use std::net::{Ipv4Addr, Net, SocketAddr};
+use std::os::fd::AsRawFd;
 use std::process::Abort;
 use std::time::{Clock as MachineClock, Duration};
 
@@ -233,7 +234,9 @@ fn a_level_socket_is_registered_with_its_own_poller_alone(rt: HostRuntime) {
     assert!(rt; desk.add_level(KEY, Interest::READ).is_ok());
     assert!(rt;
         fails(
-            other.poller.modify_level(&mut desk.io, KEY, Interest::READ),
+            other
+                .poller
+                .modify_level(desk.io.as_raw_fd(), KEY, Interest::READ),
             io::ErrorKind::NotFound
         )
     );
@@ -251,11 +254,11 @@ fn an_empty_interest_of_a_level_socket_is_refused(rt: HostRuntime) {
 
 #[test]
 fn a_listener_is_told_of_until_all_are_accepted(rt: HostRuntime) {
-    let (mut listener, address) = new_listener(&rt);
+    let (listener, address) = new_listener(&rt);
     let mut desk = Desk::new(&rt);
     assert!(rt;
         desk.poller
-            .add_level(&mut listener, KEY, Interest::READ)
+            .add_level(listener.as_raw_fd(), KEY, Interest::READ)
             .is_ok()
     );
     let _first = TcpStream::connect(&rt, address).expect(&rt, "a stream");
@@ -313,23 +316,23 @@ impl<R: Net + AllocGlobal + MachineClock + Clone + Drop + Abort> Desk<R> {
 
 impl<R: MachineClock + Clone + Drop> Desk<R> {
     fn add(&mut self, key: u64, interest: Interest) -> io::Result<()> {
-        self.poller.add(&mut self.io, key, interest)
+        self.poller.add(self.io.as_raw_fd(), key, interest)
     }
 
     fn modify(&mut self, key: u64, interest: Interest) -> io::Result<()> {
-        self.poller.modify(&mut self.io, key, interest)
+        self.poller.modify(self.io.as_raw_fd(), key, interest)
     }
 
     fn add_level(&mut self, key: u64, interest: Interest) -> io::Result<()> {
-        self.poller.add_level(&mut self.io, key, interest)
+        self.poller.add_level(self.io.as_raw_fd(), key, interest)
     }
 
     fn level(&mut self, key: u64, interest: Interest) -> io::Result<()> {
-        self.poller.modify_level(&mut self.io, key, interest)
+        self.poller.modify_level(self.io.as_raw_fd(), key, interest)
     }
 
     fn delete(&mut self) -> io::Result<()> {
-        self.poller.delete(&mut self.io)
+        self.poller.delete(self.io.as_raw_fd())
     }
 
     // The peer writes a byte.

@@ -1,11 +1,12 @@
 //! The table of sockets.
 use super::{Scripted, kind_of, new_poll, token};
 use calloop_core::sys::poll::table::{other_keys_stay, wrong_steps_are_ruled_out};
-use calloop_core::sys::script::{ScriptIo, ScriptKind, ScriptPoller};
+use calloop_core::sys::script::{ScriptKind, ScriptPoller};
 use calloop_core::sys::{Interest, Mode};
 use calloop_wake::error::Error;
 use calloop_wake::token::{RegistrationToken, TokenFactory};
 use std::io::ErrorKind;
+use std::os::fd::RawFd;
 use std::sync::Wait;
 
 #[test]
@@ -13,8 +14,7 @@ fn a_key_that_was_discarded_is_free_and_all_others_stay(rt: HostRuntime) {
     let mut poll = new_poll(&rt, rt.alloc());
     assert!(rt; enters(&mut poll, 1, 1).is_ok() && enters(&mut poll, 2, 2).is_ok());
     poll.poller_mut().fail(ScriptKind::Delete);
-    let mut first = ScriptIo { number: 1 };
-    assert!(rt; poll.unregister(&mut first, token(1)).is_err());
+    assert!(rt; poll.unregister(1, token(1)).is_err());
     let taken = Some(ErrorKind::AlreadyExists);
     assert_eq!(rt; kind_of(enters(&mut poll, 3, 1)), taken);
     poll.discard(token(1));
@@ -29,32 +29,32 @@ fn two_sockets_of_one_slot_are_found_each_by_its_key(rt: HostRuntime) {
     let mut factory = TokenFactory::new(RegistrationToken::new(1, 0));
     let first = factory.token().expect(&rt, "a token");
     let second = factory.token().expect(&rt, "another token");
-    let (mut one, mut other) = (ScriptIo { number: 1 }, ScriptIo { number: 2 });
+    let (one, other): (RawFd, RawFd) = (1, 2);
     assert!(rt;
-        poll.register(&mut one, Interest::READ, Mode::Level, first)
+        poll.register(one, Interest::READ, Mode::Level, first)
             .is_ok()
     );
     assert!(rt;
-        poll.register(&mut other, Interest::READ, Mode::Level, second)
+        poll.register(other, Interest::READ, Mode::Level, second)
             .is_ok()
     );
     assert!(rt;
-        poll.reregister(&mut one, first, Interest::WRITE, Mode::Edge, first)
+        poll.reregister(one, first, Interest::WRITE, Mode::Edge, first)
             .is_ok()
     );
     assert!(rt;
-        poll.rearm(&mut other, Interest::WRITE, Mode::Level, second)
+        poll.rearm(other, Interest::WRITE, Mode::Level, second)
             .is_ok()
     );
-    assert!(rt; poll.unregister(&mut other, second).is_ok());
+    assert!(rt; poll.unregister(other, second).is_ok());
     assert!(rt;
-        poll.rearm(&mut other, Interest::WRITE, Mode::Level, second)
+        poll.rearm(other, Interest::WRITE, Mode::Level, second)
             .is_err()
     );
     let gone = Some(ErrorKind::NotFound);
-    assert_eq!(rt; kind_of(poll.unregister(&mut other, second)), gone);
-    assert!(rt; poll.unregister(&mut one, first).is_ok());
-    assert_eq!(rt; kind_of(poll.unregister(&mut one, first)), gone);
+    assert_eq!(rt; kind_of(poll.unregister(other, second)), gone);
+    assert!(rt; poll.unregister(one, first).is_ok());
+    assert_eq!(rt; kind_of(poll.unregister(one, first)), gone);
 }
 
 #[test]
@@ -63,8 +63,7 @@ fn the_laws_of_the_table_are_there(_rt: HostRuntime) {
     wrong_steps_are_ruled_out::<ScriptPoller>();
 }
 
-// Enters the socket of this number, under the key of this slot.
-fn enters<R: Wait + Drop>(poll: &mut Scripted<R>, number: u32, slot: u32) -> Result<(), Error> {
-    let mut io = ScriptIo { number };
-    poll.register(&mut io, Interest::READ, Mode::Level, token(slot))
+// Enters this descriptor, under the key of this slot.
+fn enters<R: Wait + Drop>(poll: &mut Scripted<R>, fd: RawFd, slot: u32) -> Result<(), Error> {
+    poll.register(fd, Interest::READ, Mode::Level, token(slot))
 }

@@ -104,7 +104,7 @@ pub type Held<R> = Sources<
             Dispatcher<Attendant, Listener>,
             OneOf<
                 Dispatcher<Counter, Listener>,
-                OneOf<Dispatcher<Greedy<R>, Teller>, Dispatcher<Generic<ScriptPoller>, Visitor>>,
+                OneOf<Dispatcher<Greedy<R>, Teller>, Dispatcher<Generic<ScriptIo>, Visitor>>,
             >,
         >,
     >,
@@ -134,7 +134,7 @@ where
     D: Choice<Attendant, Listener, Second>,
     D: Choice<Counter, Listener, Third>,
     D: Choice<Greedy<R>, Teller, Fourth>,
-    D: Choice<Generic<ScriptPoller>, Visitor, Fifth>,
+    D: Choice<Generic<ScriptIo>, Visitor, Fifth>,
     R: Wait + Clone + Drop,
 {
     // Its poller keeps eight waits.
@@ -252,7 +252,7 @@ where
         let socket = Generic::new(ScriptIo { number: 1 }, Interest::READ, Mode::Edge);
         let ends = Some(PostAction::Continue);
         let dispatcher = Dispatcher::new(socket, Visitor { number, ends });
-        <D as Choice<Generic<ScriptPoller>, Visitor, Fifth>>::hold(dispatcher)
+        <D as Choice<Generic<ScriptIo>, Visitor, Fifth>>::hold(dispatcher)
     }
 
     fn socket(&mut self, number: u32) -> Option<RegistrationToken> {

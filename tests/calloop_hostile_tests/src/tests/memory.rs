@@ -75,7 +75,7 @@ type Held<R> = Sources<
         Dispatcher<Shifting<PingSource<R>>, Teller>,
         OneOf<
             Dispatcher<Timer, Waker>,
-            OneOf<Dispatcher<Generic<ScriptPoller>, Visitor>, TimeoutTimer<R>>,
+            OneOf<Dispatcher<Generic<ScriptIo>, Visitor>, TimeoutTimer<R>>,
         >,
     >,
     Vec<u32>,
@@ -290,7 +290,7 @@ where
 fn tells_no_poller<D, R>(rt: &R, alloc: Global) -> Option<bool>
 where
     D: EventDispatcher<ScriptPoller, ScriptClock, R, Data = Vec<u32>>,
-    D: Choice<Generic<ScriptPoller>, Visitor, Third>,
+    D: Choice<Generic<ScriptIo>, Visitor, Third>,
     R: Wait + Clone + Drop,
 {
     let (mut event_loop, _said) = make_loop::<D, R>(rt, alloc)?;
@@ -310,7 +310,7 @@ where
 fn held_socket<D, R>() -> D
 where
     D: EventDispatcher<ScriptPoller, ScriptClock, R, Data = Vec<u32>>,
-    D: Choice<Generic<ScriptPoller>, Visitor, Third>,
+    D: Choice<Generic<ScriptIo>, Visitor, Third>,
     R: Wait + Clone + Drop,
 {
     let socket = Generic::new(ScriptIo { number: 1 }, Interest::READ, Mode::Edge);
@@ -346,7 +346,7 @@ where
 fn loses_a_warning<D, R>(rt: &R, alloc: Global) -> Option<bool>
 where
     D: EventDispatcher<ScriptPoller, ScriptClock, R, Data = Vec<u32>>,
-    D: Choice<Generic<ScriptPoller>, Visitor, Third>,
+    D: Choice<Generic<ScriptIo>, Visitor, Third>,
     R: Wait + Clone + Drop,
 {
     let (mut event_loop, mut said) = make_loop::<D, R>(rt, alloc)?;

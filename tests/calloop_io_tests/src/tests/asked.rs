@@ -13,7 +13,7 @@ use std::time::Duration;
 #[derive(Drop)]
 struct Given<R: Wait + Drop> {
     ticket: Option<Ticket>,
-    io: Option<Async<ScriptPoller, R>>,
+    io: Option<Async<ScriptIo, R>>,
 }
 
 /// Asks for socket 1 to be adapted.
@@ -25,7 +25,7 @@ struct Asker<R: Wait + Drop> {
 
 impl<D, R> Callback<(), (), (), Given<R>, Requests<D, ()>> for Asker<R>
 where
-    D: Place<Adapter<ScriptPoller, R>, There<Here>> + Drop,
+    D: Place<Adapter<ScriptIo, R>, There<Here>> + Drop,
     R: Wait + Clone + Drop,
 {
     ghost may = { λ _ _ _ _ _ _ _ _ _ _. Unit {0} };
@@ -46,12 +46,12 @@ where
 }
 
 type Held<R> = Sources<
-    OneOf<Dispatcher<PingSource<R>, Asker<R>>, Adapter<ScriptPoller, R>>,
+    OneOf<Dispatcher<PingSource<R>, Asker<R>>, Adapter<ScriptIo, R>>,
     Given<R>,
 >;
 
 // Which slot the adapter has whose socket is asked to be adapted in a turn of the first slot, and the socket's number.
-fn asks_in_a_turn<D, R>(rt: &R, alloc: Global) -> Option<(u32, u32)>
+fn asks_in_a_turn<D, R>(rt: &R, alloc: Global) -> Option<(u32, i32)>
 where
     D: EventDispatcher<ScriptPoller, ScriptClock, R, Data = Given<R>>,
     D: Choice<PingSource<R>, Asker<R>, Here>,
@@ -91,7 +91,7 @@ where
 }
 
 // The slot that was given, and the number of the socket that comes back.
-fn slot_of<D, R>(event_loop: &mut ScriptLoop<D, R>, given: &mut Given<R>) -> Option<(u32, u32)>
+fn slot_of<D, R>(event_loop: &mut ScriptLoop<D, R>, given: &mut Given<R>) -> Option<(u32, i32)>
 where
     D: EventDispatcher<ScriptPoller, ScriptClock, R, Data = Given<R>>,
     R: Wait + Clone + Drop,
@@ -111,12 +111,12 @@ fn an_adapter_that_is_asked_for_takes_the_next_slot(rt: HostRuntime) {
 
 #[test]
 fn without_a_ticket_the_socket_comes_back(rt: HostRuntime) {
-    let mut requests: Requests<Adapter<ScriptPoller, HostRuntime>> = Requests::numbered_from(
+    let mut requests: Requests<Adapter<ScriptIo, HostRuntime>> = Requests::numbered_from(
         u64::MAX,
         rt.alloc(),
     );
     let socket = ScriptIo { number: 7 };
-    let asked = requests.adapt::<ScriptPoller, HostRuntime, Here>(&rt, rt.alloc(), socket);
+    let asked = requests.adapt::<ScriptIo, HostRuntime, Here>(&rt, rt.alloc(), socket);
     let back = match asked {
         Err(refused) if matches!(refused.error, Error::TooManyTickets) => {
             Some(refused.inserted.number)

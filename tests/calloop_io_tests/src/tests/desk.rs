@@ -75,7 +75,7 @@ pub enum Word {
 #[derive(Drop)]
 pub struct Told<R: Wait + Drop> {
     said: Vec<Word>,
-    io: Option<Async<ScriptPoller, R>>,
+    io: Option<Async<ScriptIo, R>>,
 }
 
 /// Polls the socket in this way until it has so many answers.
@@ -90,7 +90,7 @@ pub struct Looker<R: Wait + Drop> {
 // One poll of the socket.
 fn poll_once<R: Wait + Clone + Drop>(
     how: How,
-    io: &mut Async<ScriptPoller, R>,
+    io: &mut Async<ScriptIo, R>,
     cx: &mut Context<'_, R>,
 ) -> Poll<Word> {
     match how {
@@ -183,7 +183,7 @@ impl<X> On<Instant, X, TimeoutAction> for Silent {
 /// What a loop of these tests holds.
 type Held<R> = Sources<
     OneOf<
-        Adapter<ScriptPoller, R>,
+        Adapter<ScriptIo, R>,
         OneOf<Dispatcher<Executor<Looker<R>, R>, Keeps>, Dispatcher<Timer, Silent>>,
     >,
     Told<R>,
@@ -208,7 +208,7 @@ where
     D: Choice<Executor<Looker<R>, R>, Keeps, There<Here>>,
     D: Choice<Timer, Silent, There<There<Here>>>,
     D: Keep<
-        Adapter<ScriptPoller, R>,
+        Adapter<ScriptIo, R>,
         ScriptPoller,
         ScriptClock,
         R,
@@ -392,7 +392,7 @@ where
     D: Choice<Executor<Looker<R>, R>, Keeps, There<Here>>,
     D: Choice<Timer, Silent, There<There<Here>>>,
     D: Keep<
-        Adapter<ScriptPoller, R>,
+        Adapter<ScriptIo, R>,
         ScriptPoller,
         ScriptClock,
         R,

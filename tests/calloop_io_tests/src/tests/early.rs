@@ -47,7 +47,7 @@ impl<R: Wait + Clone + Drop> Future<R> for Hands<R> {
 /// What the callbacks were given.
 #[derive(Drop)]
 struct Given<R: Wait + Drop> {
-    io: Option<Async<ScriptPoller, R>>,
+    io: Option<Async<ScriptIo, R>>,
     is_pending: bool,
     woken: u32,
 }
@@ -72,7 +72,7 @@ struct Asker<R: Wait + Drop> {
 
 impl<D, R> Callback<(), (), (), Given<R>, Requests<D, ()>> for Asker<R>
 where
-    D: Place<Adapter<ScriptPoller, R>, There<Here>> + Drop,
+    D: Place<Adapter<ScriptIo, R>, There<Here>> + Drop,
     R: Wait + Clone + Drop,
 {
     ghost may = { λ _ _ _ _ _ _ _ _ _ _. Unit {0} };
@@ -100,7 +100,7 @@ where
 type Held<R> = Sources<
     OneOf<
         Dispatcher<PingSource<R>, Asker<R>>,
-        OneOf<Adapter<ScriptPoller, R>, Dispatcher<Executor<Hands<R>, R>, Counts>>,
+        OneOf<Adapter<ScriptIo, R>, Dispatcher<Executor<Hands<R>, R>, Counts>>,
     >,
     Given<R>,
 >;

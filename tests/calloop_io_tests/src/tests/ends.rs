@@ -24,7 +24,7 @@ enum End {
 /// Reads once.
 #[derive(Drop)]
 struct Reader<R: Wait + RuntimeClock + Clone + Drop> {
-    io: Async<MioPoller<SystemClock<R>>, R>,
+    io: Async<MioIo, R>,
 }
 
 impl<R: Wait + RuntimeClock + Clone + Drop> Future<R> for Reader<R> {
@@ -54,7 +54,7 @@ impl On<End, Option<End>, ()> for Keeps {
 }
 
 type Held<R> = Sources<
-    OneOf<Adapter<MioPoller<SystemClock<R>>, R>, Dispatcher<Executor<Reader<R>, R>, Keeps>>,
+    OneOf<Adapter<MioIo, R>, Dispatcher<Executor<Reader<R>, R>, Keeps>>,
     Option<End>,
 >;
 
@@ -65,7 +65,7 @@ where
     D: EventDispatcher<MioPoller<SystemClock<R>>, SystemClock<R>, R, Data = Option<End>>,
     D: Choice<Executor<Reader<R>, R>, Keeps, There<Here>>,
     D: Keep<
-        Adapter<MioPoller<SystemClock<R>>, R>,
+        Adapter<MioIo, R>,
         MioPoller<SystemClock<R>>,
         SystemClock<R>,
         R,
@@ -89,7 +89,7 @@ where
     D: EventDispatcher<MioPoller<SystemClock<R>>, SystemClock<R>, R, Data = Option<End>>,
     D: Choice<Executor<Reader<R>, R>, Keeps, There<Here>>,
     D: Keep<
-        Adapter<MioPoller<SystemClock<R>>, R>,
+        Adapter<MioIo, R>,
         MioPoller<SystemClock<R>>,
         SystemClock<R>,
         R,
@@ -119,7 +119,7 @@ where
     D: EventDispatcher<MioPoller<SystemClock<R>>, SystemClock<R>, R, Data = Option<End>>,
     D: Choice<Executor<Reader<R>, R>, Keeps, There<Here>>,
     D: Keep<
-        Adapter<MioPoller<SystemClock<R>>, R>,
+        Adapter<MioIo, R>,
         MioPoller<SystemClock<R>>,
         SystemClock<R>,
         R,
@@ -143,7 +143,7 @@ where
     D: EventDispatcher<MioPoller<SystemClock<R>>, SystemClock<R>, R, Data = Option<End>>,
     D: Choice<Executor<Reader<R>, R>, Keeps, There<Here>>,
     D: Keep<
-        Adapter<MioPoller<SystemClock<R>>, R>,
+        Adapter<MioIo, R>,
         MioPoller<SystemClock<R>>,
         SystemClock<R>,
         R,

@@ -5,7 +5,7 @@ use calloop::{
     Adapter, Choice, Dispatcher, Error, EventDispatcher, Here, Instant, Keep, RegistrationToken,
     Requests, ScriptLoop, There, Timer,
 };
-use calloop_core::sys::script::{ScriptClock, ScriptKind, ScriptPoller};
+use calloop_core::sys::script::{ScriptClock, ScriptIo, ScriptKind, ScriptPoller};
 use std::alloc::Global;
 use std::io;
 use std::sync::Wait;
@@ -39,7 +39,7 @@ fn register_new<D, R>(rt: &R, alloc: Global) -> Option<Adapted<D, R>>
 where
     D: EventDispatcher<ScriptPoller, ScriptClock, R, Data = ()>,
     D: Keep<
-        Adapter<ScriptPoller, R>,
+        Adapter<ScriptIo, R>,
         ScriptPoller,
         ScriptClock,
         R,
@@ -59,7 +59,7 @@ fn finds_no_socket<D, R>(rt: &R, alloc: Global) -> Option<bool>
 where
     D: EventDispatcher<ScriptPoller, ScriptClock, R, Data = ()>,
     D: Keep<
-        Adapter<ScriptPoller, R>,
+        Adapter<ScriptIo, R>,
         ScriptPoller,
         ScriptClock,
         R,
@@ -90,7 +90,7 @@ fn leaves_with_a_warning<D, R>(rt: &R, alloc: Global, cause: Cause) -> Option<bo
 where
     D: EventDispatcher<ScriptPoller, ScriptClock, R, Data = ()>,
     D: Keep<
-        Adapter<ScriptPoller, R>,
+        Adapter<ScriptIo, R>,
         ScriptPoller,
         ScriptClock,
         R,

@@ -9,19 +9,20 @@ use calloop_core::sys::script::{
     ScriptAnswer, ScriptClock, ScriptEnd, ScriptEvents, ScriptIo, ScriptPoller,
 };
 use std::alloc::Global;
+use std::os::fd::RawFd;
 use std::sync::Wait;
 
 /// What a loop with one adapter holds.
-pub(super) type Held<R> = Sources<OneOf<Adapter<ScriptPoller, R>, Dispatcher<Timer, Silent>>, ()>;
+pub(super) type Held<R> = Sources<OneOf<Adapter<ScriptIo, R>, Dispatcher<Timer, Silent>>, ()>;
 
-pub(super) type Adapted<D, R> = (ScriptLoop<D, R>, Async<ScriptPoller, R>);
+pub(super) type Adapted<D, R> = (ScriptLoop<D, R>, Async<ScriptIo, R>);
 
 /// A loop with one adapter, in its first slot, of the socket of this number.
-pub(super) fn new_adapted<D, R>(rt: &R, alloc: Global, number: u32) -> Option<Adapted<D, R>>
+pub(super) fn new_adapted<D, R>(rt: &R, alloc: Global, number: RawFd) -> Option<Adapted<D, R>>
 where
     D: EventDispatcher<ScriptPoller, ScriptClock, R, Data = ()>,
     D: Keep<
-        Adapter<ScriptPoller, R>,
+        Adapter<ScriptIo, R>,
         ScriptPoller,
         ScriptClock,
         R,
@@ -41,8 +42,8 @@ pub(super) fn look<D, R>(
     rt: &R,
     event_loop: &mut ScriptLoop<D, R>,
     alloc: Global,
-    io: Async<ScriptPoller, R>,
-) -> Option<Async<ScriptPoller, R>>
+    io: Async<ScriptIo, R>,
+) -> Option<Async<ScriptIo, R>>
 where
     D: EventDispatcher<ScriptPoller, ScriptClock, R, Data = ()>,
     R: Wait + Clone + Drop,
@@ -82,13 +83,13 @@ where
 /// Waits until its socket can be read, and gives it back.
 #[derive(Drop)]
 struct Looks<R: Wait + Drop> {
-    io: Option<Async<ScriptPoller, R>>,
+    io: Option<Async<ScriptIo, R>>,
 }
 
 impl<R: Wait + Clone + Drop> Future<R> for Looks<R> {
-    type Output = Option<Async<ScriptPoller, R>>;
+    type Output = Option<Async<ScriptIo, R>>;
 
-    fn poll(&mut self, cx: &mut Context<'_, R>) -> Poll<Option<Async<ScriptPoller, R>>> {
+    fn poll(&mut self, cx: &mut Context<'_, R>) -> Poll<Option<Async<ScriptIo, R>>> {
         let Some(io) = &mut self.io else {
             return Poll::Ready(None);
         };

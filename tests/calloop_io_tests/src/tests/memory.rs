@@ -22,13 +22,13 @@ fn want_of_memory_loses_no_wait_and_no_socket(rt: HostRuntime) {
 /// Waits until the socket can be read, and gives its adapter back.
 #[derive(Drop)]
 struct Waits<R: Wait + Drop> {
-    io: Option<Async<ScriptPoller, R>>,
+    io: Option<Async<ScriptIo, R>>,
 }
 
 impl<R: Wait + Clone + Drop> Future<R> for Waits<R> {
-    type Output = Option<Async<ScriptPoller, R>>;
+    type Output = Option<Async<ScriptIo, R>>;
 
-    fn poll(&mut self, cx: &mut Context<'_, R>) -> Poll<Option<Async<ScriptPoller, R>>> {
+    fn poll(&mut self, cx: &mut Context<'_, R>) -> Poll<Option<Async<ScriptIo, R>>> {
         let Some(io) = &mut self.io else {
             return Poll::Ready(None);
         };
@@ -44,7 +44,7 @@ impl<R: Wait + Clone + Drop> Future<R> for Waits<R> {
     }
 }
 
-type Back<R> = Option<Async<ScriptPoller, R>>;
+type Back<R> = Option<Async<ScriptIo, R>>;
 
 /// Keeps the adapter.
 #[derive(Drop)]
@@ -57,17 +57,17 @@ impl<R: Wait + Drop> On<Back<R>, Back<R>, ()> for Keeps {
 }
 
 type Held<R> = Sources<
-    OneOf<Adapter<ScriptPoller, R>, Dispatcher<Executor<Waits<R>, R>, Keeps>>,
+    OneOf<Adapter<ScriptIo, R>, Dispatcher<Executor<Waits<R>, R>, Keeps>>,
     Back<R>,
 >;
 
 // The number of the socket that comes back after a wait for it, in a loop that had two tries for each call.
-fn comes_back<D, R>(rt: &R, alloc: Global) -> Option<u32>
+fn comes_back<D, R>(rt: &R, alloc: Global) -> Option<i32>
 where
     D: EventDispatcher<ScriptPoller, ScriptClock, R, Data = Back<R>>,
     D: Choice<Executor<Waits<R>, R>, Keeps, There<Here>>,
     D: Keep<
-        Adapter<ScriptPoller, R>,
+        Adapter<ScriptIo, R>,
         ScriptPoller,
         ScriptClock,
         R,

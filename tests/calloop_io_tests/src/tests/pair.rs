@@ -19,7 +19,7 @@ fn two_sockets_that_are_polled_are_both_registered_in_the_order_of_their_slots(r
 /// Waits until its socket can be read.
 #[derive(Drop)]
 struct Waits<R: Wait + Drop> {
-    io: Async<ScriptPoller, R>,
+    io: Async<ScriptIo, R>,
 }
 
 impl<R: Wait + Clone + Drop> Future<R> for Waits<R> {
@@ -44,7 +44,7 @@ impl On<bool, u32, ()> for Counts {
 }
 
 type Held<R> = Sources<
-    OneOf<Adapter<ScriptPoller, R>, Dispatcher<Executor<Waits<R>, R>, Counts>>,
+    OneOf<Adapter<ScriptIo, R>, Dispatcher<Executor<Waits<R>, R>, Counts>>,
     u32,
 >;
 
@@ -54,7 +54,7 @@ where
     D: EventDispatcher<ScriptPoller, ScriptClock, R, Data = u32>,
     D: Choice<Executor<Waits<R>, R>, Counts, There<Here>>,
     D: Keep<
-        Adapter<ScriptPoller, R>,
+        Adapter<ScriptIo, R>,
         ScriptPoller,
         ScriptClock,
         R,

@@ -13,7 +13,7 @@ use std::time::{Clock as RuntimeClock, Duration};
 
 const GREETING: &[u8] = b"Hello World!";
 
-type Socket<R> = Async<MioPoller<SystemClock<R>>, R>;
+type Socket<R> = Async<MioIo, R>;
 
 /// Writes what is left, and then reads as many bytes as it wants.
 #[derive(Drop)]
@@ -107,7 +107,7 @@ impl On<bool, u32, ()> for Counts {
 }
 
 type Held<R> = Sources<
-    OneOf<Adapter<MioPoller<SystemClock<R>>, R>, Dispatcher<Executor<Mover<R>, R>, Counts>>,
+    OneOf<Adapter<MioIo, R>, Dispatcher<Executor<Mover<R>, R>, Counts>>,
     u32,
 >;
 
@@ -139,7 +139,7 @@ where
     D: EventDispatcher<MioPoller<SystemClock<R>>, SystemClock<R>, R, Data = u32>,
     D: Choice<Executor<Mover<R>, R>, Counts, There<Here>>,
     D: Keep<
-        Adapter<MioPoller<SystemClock<R>>, R>,
+        Adapter<MioIo, R>,
         MioPoller<SystemClock<R>>,
         SystemClock<R>,
         R,
@@ -158,7 +158,7 @@ where
     D: EventDispatcher<MioPoller<SystemClock<R>>, SystemClock<R>, R, Data = u32>,
     D: Choice<Executor<Mover<R>, R>, Counts, There<Here>>,
     D: Keep<
-        Adapter<MioPoller<SystemClock<R>>, R>,
+        Adapter<MioIo, R>,
         MioPoller<SystemClock<R>>,
         SystemClock<R>,
         R,
@@ -188,7 +188,7 @@ where
     D: EventDispatcher<MioPoller<SystemClock<R>>, SystemClock<R>, R, Data = u32>,
     D: Choice<Executor<Mover<R>, R>, Counts, There<Here>>,
     D: Keep<
-        Adapter<MioPoller<SystemClock<R>>, R>,
+        Adapter<MioIo, R>,
         MioPoller<SystemClock<R>>,
         SystemClock<R>,
         R,
@@ -216,7 +216,7 @@ where
     D: EventDispatcher<MioPoller<SystemClock<R>>, SystemClock<R>, R, Data = u32>,
     D: Choice<Executor<Mover<R>, R>, Counts, There<Here>>,
     D: Keep<
-        Adapter<MioPoller<SystemClock<R>>, R>,
+        Adapter<MioIo, R>,
         MioPoller<SystemClock<R>>,
         SystemClock<R>,
         R,

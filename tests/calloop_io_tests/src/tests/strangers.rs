@@ -1,7 +1,7 @@
 //! Two loops, and adapters of the one that are given back to the other.
 use super::looks::{Adapted, Held, look, new_adapted};
 use calloop::{Adapter, Async, Error, EventDispatcher, Here, Keep, Requests, ScriptLoop};
-use calloop_core::sys::script::{ScriptClock, ScriptKind, ScriptPoller};
+use calloop_core::sys::script::{ScriptIo, ScriptClock, ScriptKind, ScriptPoller};
 use std::alloc::Global;
 use std::sync::Wait;
 use std::time::Duration;
@@ -49,7 +49,7 @@ fn refuses_a_stranger<D, R>(rt: &R, alloc: Global, own: Own) -> Option<bool>
 where
     D: EventDispatcher<ScriptPoller, ScriptClock, R, Data = ()>,
     D: Keep<
-        Adapter<ScriptPoller, R>,
+        Adapter<ScriptIo, R>,
         ScriptPoller,
         ScriptClock,
         R,
@@ -79,9 +79,9 @@ fn after<D, R>(
     rt: &R,
     event_loop: &mut ScriptLoop<D, R>,
     alloc: Global,
-    io: Async<ScriptPoller, R>,
+    io: Async<ScriptIo, R>,
     own: Own,
-) -> Option<Option<Async<ScriptPoller, R>>>
+) -> Option<Option<Async<ScriptIo, R>>>
 where
     D: EventDispatcher<ScriptPoller, ScriptClock, R, Data = ()>,
     R: Wait + Clone + Drop,
@@ -101,8 +101,8 @@ fn kept_on<D, R>(
     rt: &R,
     event_loop: &mut ScriptLoop<D, R>,
     alloc: Global,
-    io: Async<ScriptPoller, R>,
-) -> Option<Async<ScriptPoller, R>>
+    io: Async<ScriptIo, R>,
+) -> Option<Async<ScriptIo, R>>
 where
     D: EventDispatcher<ScriptPoller, ScriptClock, R, Data = ()>,
     R: Wait + Clone + Drop,

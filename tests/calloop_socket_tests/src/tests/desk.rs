@@ -101,7 +101,7 @@ where
     D: EventDispatcher<ScriptPoller, ScriptClock, R, Data = Vec<u32>, Idle = Note> + Seen,
     D: Choice<PingSource<R>, Teller, Here>,
     D: Hold<
-        Generic<ScriptPoller>,
+        Generic<ScriptIo>,
         Visitor,
         ScriptPoller,
         ScriptClock,
@@ -170,7 +170,7 @@ where
         interest: Interest,
         mode: Mode,
         ends: Option<PostAction>,
-    ) -> Result<RegistrationToken, InsertError<Generic<ScriptPoller>>> {
+    ) -> Result<RegistrationToken, InsertError<Generic<ScriptIo>>> {
         let source = Generic::new(ScriptIo { number: 1 }, interest, mode);
         let visitor = Visitor { number: 1, ends };
         self.table
@@ -346,7 +346,7 @@ where
     D: EventDispatcher<ScriptPoller, ScriptClock, R, Data = Vec<u32>, Idle = Note> + Seen,
     D: Choice<PingSource<R>, Teller, Here>,
     D: Hold<
-        Generic<ScriptPoller>,
+        Generic<ScriptIo>,
         Visitor,
         ScriptPoller,
         ScriptClock,
@@ -390,7 +390,7 @@ where
 type Held<R> = Sources<
     OneOf<
         Dispatcher<PingSource<R>, Teller>,
-        OneOf<Dispatcher<Generic<ScriptPoller>, Visitor>, Dispatcher<Timer, Waker>>,
+        OneOf<Dispatcher<Generic<ScriptIo>, Visitor>, Dispatcher<Timer, Waker>>,
     >,
     Vec<u32>,
     Note,

@@ -3,7 +3,7 @@ use super::desk::{Act, GOES_ON, KEY, SECOND, plays};
 use calloop::generic::Generic;
 use calloop::{Interest, Mode};
 use calloop_core::sys::script::ScriptCall::{Add, Delete, Modify};
-use calloop_core::sys::script::{ScriptIo, ScriptKind, ScriptPoller};
+use calloop_core::sys::script::{ScriptIo, ScriptKind};
 use std::io;
 use std::io::ErrorKind;
 
@@ -92,7 +92,7 @@ fn each_case_of_refusals_goes_as_it_is_to(rt: HostRuntime) {
 
 #[test]
 fn a_socket_is_unwrapped_where_it_is_not_registered(rt: HostRuntime) {
-    let idle: Generic<ScriptPoller, io::Error> = Generic::new(
+    let idle: Generic<ScriptIo, io::Error> = Generic::new(
         ScriptIo { number: 4 },
         Interest::READ,
         Mode::Edge,

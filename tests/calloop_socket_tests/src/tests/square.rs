@@ -82,7 +82,7 @@ where
 type Machine<R> = MioPoller<SystemClock<R>>;
 
 type Held<R> = Sources<
-    OneOf<Dispatcher<PingSource<R>, Teller>, Dispatcher<Generic<Machine<R>>, Reader>>,
+    OneOf<Dispatcher<PingSource<R>, Teller>, Dispatcher<Generic<MioIo>, Reader>>,
     Vec<u32>,
 >;
 
@@ -93,7 +93,7 @@ where
     D: EventDispatcher<Machine<R>, SystemClock<R>, R, Data = Vec<u32>, Idle = ()> + Choice,
     D: Hold<PingSource<R>, Teller, Machine<R>, SystemClock<R>, R, Vec<u32>, Requests<D>, Here>,
     D: Hold<
-        Generic<Machine<R>>,
+        Generic<MioIo>,
         Reader,
         Machine<R>,
         SystemClock<R>,

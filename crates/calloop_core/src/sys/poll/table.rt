@@ -14,51 +14,52 @@ use crate::sys::{Interest, Mode, Poller, Watched};
 use calloop_wake::error::{Error, Result};
 use calloop_wake::token::Token;
 use std::io;
+use std::os::fd::RawFd;
 use std::sync::Wait;
 
 // Tells the poller of a socket, where it knows it or is to know it.
 #[inline(always)]
 fn call_poller<P: Poller>(
     poller: &mut P,
-    io: &mut P::Io,
+    fd: RawFd,
     known: bool,
     key: u64,
     watched: Watched,
 ) -> io::Result<()>
-    ensures sockets { CalledFor P.sockets poller.old io.old (call_for known key watched.interest)
-        result poller.new io.new }
+    ensures sockets { CalledFor P.sockets poller.old fd (call_for known key watched.interest)
+        result poller.new }
     ensures calls { Called P.outside poller.old (call_for known key watched.interest)
         result poller.new }
 {
     let Watched { interest, mode } = watched;
     if interest.asks() {
         match (known, mode) {
-            (true, Mode::Level) => poller.modify_level(io, key, interest),
-            (true, Mode::OneShot | Mode::Edge) => poller.modify(io, key, interest),
-            (false, Mode::Level) => poller.add_level(io, key, interest),
-            (false, Mode::OneShot | Mode::Edge) => poller.add(io, key, interest),
+            (true, Mode::Level) => poller.modify_level(fd, key, interest),
+            (true, Mode::OneShot | Mode::Edge) => poller.modify(fd, key, interest),
+            (false, Mode::Level) => poller.add_level(fd, key, interest),
+            (false, Mode::OneShot | Mode::Edge) => poller.add(fd, key, interest),
         }
     } else if known {
-        poller.delete(io)
+        poller.delete(fd)
     } else {
         Ok(())
     }
 }
 
 impl<P: Poller, C, R: Wait + Drop> Poll<P, C, R> {
-    /// Enters a socket under the key of this token, and adds it to the poller, unless the interest is empty. Refusals, in this
+    /// Enters a descriptor under the key of this token, and adds it to the poller, unless the interest is empty. Refusals, in this
     /// order: `IoError` of kind `AlreadyExists`, where the key is in the table; `OutOfMemory`; and `IoError` with the poller's
     /// fault. Each leaves the table as it was, and before the last no poller is called.
     pub fn register(
         &mut self,
-        io: &mut P::Io,
+        fd: RawFd,
         interest: Interest,
         mode: Mode,
         token: Token,
     ) -> Result<()>
         ensures edit { DidEdit P.outside P.sockets
             (Enter token (record { interest = interest; mode = mode }))
-            (poll_view self.old) io.old result (poll_view self.new) io.new }
+            (poll_view self.old) fd result (poll_view self.new) }
         ensures ready { (more : ℕ) → IsReady more self.old → IsReady more self.new }
     {
         let key = token.key();
@@ -67,7 +68,7 @@ impl<P: Poller, C, R: Wait + Drop> Poll<P, C, R> {
         }
         let watched = Watched { interest, mode };
         self.table.insert(key, watched)?;
-        match call_poller(&mut self.poller, io, false, key, watched) {
+        match call_poller(&mut self.poller, fd, false, key, watched) {
             Ok(()) => Ok(()),
             Err(cause) => {
                 self.table.remove(key);
@@ -80,7 +81,7 @@ impl<P: Poller, C, R: Wait + Drop> Poll<P, C, R> {
     #[inline(always)]
     fn change(
         &mut self,
-        io: &mut P::Io,
+        fd: RawFd,
         stood: Watched,
         before: Token,
         token: Token,
@@ -89,11 +90,11 @@ impl<P: Poller, C, R: Wait + Drop> Poll<P, C, R> {
         requires same { key_of before ≡ key_of token }
         requires stood { watched_at (key_of before) (poll_view self.old).table ≡ Some stood }
         ensures edit { DidEdit P.outside P.sockets (Change before token watched)
-            (poll_view self.old) io.old (as_loop result) (poll_view self.new) io.new }
+            (poll_view self.old) fd (as_loop result) (poll_view self.new) }
         ensures ready { (more : ℕ) → IsReady more self.old → IsReady more self.new }
     {
         let same = token.key();
-        match call_poller(&mut self.poller, io, stood.interest.asks(), same, watched) {
+        match call_poller(&mut self.poller, fd, stood.interest.asks(), same, watched) {
             Ok(()) => {
                 self.table.replace(same, stood, watched);
                 Ok(())
@@ -105,7 +106,7 @@ impl<P: Poller, C, R: Wait + Drop> Poll<P, C, R> {
     // Under another key, which isn't there.
     fn change_key(
         &mut self,
-        io: &mut P::Io,
+        fd: RawFd,
         known: bool,
         before: Token,
         token: Token,
@@ -116,12 +117,12 @@ impl<P: Poller, C, R: Wait + Drop> Poll<P, C, R> {
         requires free { is_in (key_of token) (poll_view self.old).table ≡ false }
         requires known { is_known (watched_at (key_of before) (poll_view self.old).table) ≡ known }
         ensures edit { DidEdit P.outside P.sockets (Change before token watched)
-            (poll_view self.old) io.old result (poll_view self.new) io.new }
+            (poll_view self.old) fd result (poll_view self.new) }
         ensures ready { (more : ℕ) → IsReady more self.old → IsReady more self.new }
     {
         let key = token.key();
         self.table.insert(key, watched)?;
-        match call_poller(&mut self.poller, io, known, key, watched) {
+        match call_poller(&mut self.poller, fd, known, key, watched) {
             Ok(()) => {
                 self.table.remove(before.key());
                 Ok(())
@@ -139,7 +140,7 @@ impl<P: Poller, C, R: Wait + Drop> Poll<P, C, R> {
     /// `token` is; `OutOfMemory`, for another key alone; and `IoError` with the poller's fault. Each leaves the table as it was.
     pub fn reregister(
         &mut self,
-        io: &mut P::Io,
+        fd: RawFd,
         before: Token,
         interest: Interest,
         mode: Mode,
@@ -147,7 +148,7 @@ impl<P: Poller, C, R: Wait + Drop> Poll<P, C, R> {
     ) -> Result<()>
         ensures edit { DidEdit P.outside P.sockets
             (Change before token (record { interest = interest; mode = mode }))
-            (poll_view self.old) io.old result (poll_view self.new) io.new }
+            (poll_view self.old) fd result (poll_view self.new) }
         ensures ready { (more : ℕ) → IsReady more self.old → IsReady more self.new }
     {
         let key = token.key();
@@ -157,7 +158,7 @@ impl<P: Poller, C, R: Wait + Drop> Poll<P, C, R> {
         };
         let watched = Watched { interest, mode };
         if old == key {
-            return match self.change(io, stood, before, token, watched) {
+            return match self.change(fd, stood, before, token, watched) {
                 Ok(()) => Ok(()),
                 Err(cause) => Err(Error::IoError(cause)),
             };
@@ -166,7 +167,7 @@ impl<P: Poller, C, R: Wait + Drop> Poll<P, C, R> {
         if self.table.contains_key(key) {
             return Err(Error::IoError(io::Error::from(io::ErrorKind::AlreadyExists)));
         }
-        self.change_key(io, known, before, token, watched)
+        self.change_key(fd, known, before, token, watched)
     }
 
     /// The same for the token that the socket was registered with: a fault alone is answered, of kind `NotFound` where the key
@@ -174,27 +175,27 @@ impl<P: Poller, C, R: Wait + Drop> Poll<P, C, R> {
     #[inline(always)]
     pub fn rearm(
         &mut self,
-        io: &mut P::Io,
+        fd: RawFd,
         interest: Interest,
         mode: Mode,
         token: Token,
     ) -> io::Result<()>
         ensures edit { DidEdit P.outside P.sockets
             (Change token token (record { interest = interest; mode = mode }))
-            (poll_view self.old) io.old (as_loop result) (poll_view self.new) io.new }
+            (poll_view self.old) fd (as_loop result) (poll_view self.new) }
         ensures ready { (more : ℕ) → IsReady more self.old → IsReady more self.new }
     {
         let Some(stood) = self.table.get(token.key()) else {
             return Err(io::Error::from(io::ErrorKind::NotFound));
         };
-        self.change(io, stood, token, token, Watched { interest, mode })
+        self.change(fd, stood, token, token, Watched { interest, mode })
     }
 
     /// Takes a socket out, and from the poller, unless its interest is empty. A token whose key isn't in the table is refused
     /// with `IoError` of kind `NotFound`, and a fault of the poller is one; each leaves the table as it was.
-    pub fn unregister(&mut self, io: &mut P::Io, token: Token) -> Result<()>
+    pub fn unregister(&mut self, fd: RawFd, token: Token) -> Result<()>
         ensures edit { DidEdit P.outside P.sockets (Leave token)
-            (poll_view self.old) io.old result (poll_view self.new) io.new }
+            (poll_view self.old) fd result (poll_view self.new) }
         ensures ready { (more : ℕ) → IsReady more self.old → IsReady more self.new }
     {
         let key = token.key();
@@ -205,7 +206,7 @@ impl<P: Poller, C, R: Wait + Drop> Poll<P, C, R> {
             interest: Interest::EMPTY,
             ..stood
         };
-        match call_poller(&mut self.poller, io, stood.interest.asks(), key, nothing) {
+        match call_poller(&mut self.poller, fd, stood.interest.asks(), key, nothing) {
             Ok(()) => {
                 self.table.remove(key);
                 Ok(())

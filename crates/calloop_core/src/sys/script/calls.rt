@@ -13,11 +13,20 @@ use crate::sys::Interest;
 use crate::sys::faults::FaultCount;
 use std::io;
 use std::io::{Read, Write};
+use std::os::fd::{AsRawFd, RawFd};
 
-/// A socket that isn't there: a number.
+/// A socket that isn't there: the number of its descriptor.
 #[derive(Debug, Drop)]
 pub struct ScriptIo {
-    pub number: u32,
+    pub number: RawFd,
+}
+
+impl AsRawFd for ScriptIo {
+    ghost raw_fd = { λ io. Some io.number };
+
+    fn as_raw_fd(&self) -> RawFd {
+        self.number
+    }
 }
 
 impl Read for ScriptIo {
@@ -62,9 +71,9 @@ impl Write for ScriptIo {
 /// A call for a socket: its number, and the key and the interest that it was given.
 #[derive(Clone, Copy, Debug, PartialEq, Eq)]
 pub enum ScriptCall {
-    Add(u32, u64, Interest),
-    Modify(u32, u64, Interest),
-    Delete(u32),
+    Add(RawFd, u64, Interest),
+    Modify(RawFd, u64, Interest),
+    Delete(RawFd),
 }
 
 impl ScriptCall {

@@ -22,9 +22,8 @@ pub enum MioIo {
     UnixStream(UnixStream),
 }
 
-impl MioIo {
-    /// The descriptor of the socket, which it keeps.
-    pub(super) fn as_raw_fd(&self) -> RawFd {
+impl AsRawFd for MioIo {
+    fn as_raw_fd(&self) -> RawFd {
         match self {
             MioIo::TcpListener(listener) => listener.as_raw_fd(),
             MioIo::TcpStream(stream) => stream.as_raw_fd(),

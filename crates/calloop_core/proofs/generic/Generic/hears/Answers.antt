@@ -5,7 +5,7 @@ use Rattle.calloop_core.specs.declared.generic.Generic.{Generic}
 use Rattle.calloop_core.specs.Generics.{Hears}
 use Rattle.calloop_core.proofs.generic.Generic.hears.Goals as goal
 
-hears_once : {P I E : Type 0} (token : Token) (s : Generic P E I) (heard : Bool) → s.heard ≡ heard → s.token ≡ Some token → s.mode ≡ OneShot
+hears_once : {F E : Type 0} (token : Token) (s : Generic F E) (heard : Bool) → s.heard ≡ heard → s.token ≡ Some token → s.mode ≡ OneShot
     → MatchBool (not heard) (Hears token s) (¬ Hears token s)
 hears_once token s true heard own is = λ h. (let no : true ≡ false = sym heard ∙ h.1 is in cc)
 hears_once token s false heard own is = (own, λ _. heard)

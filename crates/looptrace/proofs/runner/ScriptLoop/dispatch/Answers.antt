@@ -6,7 +6,6 @@ use Rattle.calloop_core.specs.declared.sys.script.ScriptPoller.{ScriptPoller}
 use Rattle.calloop_core.specs.declared.sys.script.ScriptClock.{ScriptClock}
 use Rattle.std.specs.Option.{option_map}
 use Rattle.calloop_core.specs.sys.Polls.{with_new_poller, is_filled}
-use Rattle.calloop_core.specs.declared.sys.script.calls.ScriptIo.{ScriptIo}
 use Rattle.calloop.specs.declared.loop_logic.EventLoop.{EventLoop}
 use Rattle.calloop.specs.declared.loop_logic.LoopCall.TheVariants.{Dispatch as DispatchCall}
 use Rattle.calloop.specs.declared.loop_logic.LoopAnswer.TheVariants.{Dispatched}
@@ -40,11 +39,11 @@ returns-clause-ok g c =
     let back : ScriptPoller = c.take_back.new.poller in
     let before : View Source (Unit {0}) ScriptPoller = record s.loop { poll = with_new_poller ready s.loop.poll } in
     let after : View Source (Unit {0}) ScriptPoller = view_of c.dispatch-answer.new.self in
-    let poller : c.poller_mut.result.now ≡ s.loop.poll.poller = c.poller_mut.ensures.value ∙ ap (λ (e : EventLoop Source ScriptPoller ScriptClock g.row.R.Denot (Option (List ℕ)) (Unit {0}) ScriptIo). e.poll.poller) held in
-    let poller_after : c.poller_mut-2.result.now ≡ after.poll.poller = c.poller_mut-2.ensures.value ∙ ap (λ (e : EventLoop Source ScriptPoller ScriptClock g.row.R.Denot (Option (List ℕ)) (Unit {0}) ScriptIo). e.poll.poller) held_after in
-    let same_before : view_of (with_loop_poller ready c.handle.result.inner.now) ≡ before = ap (λ (e : EventLoop Source ScriptPoller ScriptClock g.row.R.Denot (Option (List ℕ)) (Unit {0}) ScriptIo). view_of (with_loop_poller ready e)) held in
+    let poller : c.poller_mut.result.now ≡ s.loop.poll.poller = c.poller_mut.ensures.value ∙ ap (λ (e : EventLoop Source ScriptPoller ScriptClock g.row.R.Denot (Option (List ℕ)) (Unit {0})). e.poll.poller) held in
+    let poller_after : c.poller_mut-2.result.now ≡ after.poll.poller = c.poller_mut-2.ensures.value ∙ ap (λ (e : EventLoop Source ScriptPoller ScriptClock g.row.R.Denot (Option (List ℕ)) (Unit {0})). e.poll.poller) held_after in
+    let same_before : view_of (with_loop_poller ready c.handle.result.inner.now) ≡ before = ap (λ (e : EventLoop Source ScriptPoller ScriptClock g.row.R.Denot (Option (List ℕ)) (Unit {0})). view_of (with_loop_poller ready e)) held in
     let loop_back : view_of (with_loop_poller back c.handle-2.result.inner.now) ≡ record after { poll = with_new_poller back after.poll } =
-    ap (λ (e : EventLoop Source ScriptPoller ScriptClock g.row.R.Denot (Option (List ℕ)) (Unit {0}) ScriptIo). view_of (with_loop_poller back e)) held_after in
+    ap (λ (e : EventLoop Source ScriptPoller ScriptClock g.row.R.Denot (Option (List ℕ)) (Unit {0})). view_of (with_loop_poller back e)) held_after in
     let is_ready : IsPrepared s.fault s.pending s.loop.poll.poller ready = subst (λ (p : ScriptPoller). IsPrepared s.fault s.pending p ready) poller c.in_ok-make_ready.ensures.ok in
     let is_back : IsTakenBack after.poll.poller back = subst (λ (p : ScriptPoller). IsTakenBack p back) poller_after c.in_ok-stands.ensures.2 in
     let stands : c.in_ok-stands.stands ≡ is_filled after.poll.poller.answers.items = c.in_ok-stands.ensures.1 ∙ ap (λ (p : ScriptPoller). is_filled p.answers.items) poller_after in

@@ -15,8 +15,9 @@ returns-in-Ok-clause-edit g c =
     ap (λ b. if b then with_key (key_of c.args.token) c.args.watched (poll_view c.args.self.now).table else without_key (key_of c.args.before) (with_key (key_of c.args.token) c.args.watched (poll_view c.args.self.now).table)) same in
     let table : c.replace.new.self ≡ with_key (key_of c.args.token) c.args.watched (poll_view c.args.self.now).table =
     c.replace.ensures ∙ ap (λ k. with_key k c.args.watched (poll_view c.args.self.now).table) c.key-same.ensures in
-    made g.P.Poller.outside g.P.Poller.sockets (poll_view c.args.self.now) (Change c.args.before c.args.token c.args.watched) c.args.io.now c.call_poller.new.poller c.call_poller.new.io _ can
-    (subst (λ k. CalledFor g.P.Poller.sockets c.args.self.now.poller c.args.io.now k (Ok tt) c.call_poller.new.poller c.call_poller.new.io) call c.in-Ok.ensures.sockets)
+    let told : CalledFor g.P.Poller.sockets c.args.self.now.poller c.args.fd (call_for c.asks.result c.key-same.result c.args.watched.interest) (Ok tt) c.call_poller.new.poller = search rules in
+    made g.P.Poller.outside g.P.Poller.sockets (poll_view c.args.self.now) (Change c.args.before c.args.token c.args.watched) c.args.fd c.call_poller.new.poller _ can
+    (subst (λ k. CalledFor g.P.Poller.sockets c.args.self.now.poller c.args.fd k (Ok tt) c.call_poller.new.poller) call told)
     (subst (λ k. Called g.P.Poller.outside c.args.self.now.poller k (Ok tt) c.call_poller.new.poller) call c.in-Ok.ensures.calls)
     (ap (λ t. record (poll_view c.args.self.now) { poller = c.call_poller.new.poller; table = t }) (table ∙ sym edit))
 
@@ -25,7 +26,8 @@ returns-in-Err-clause-edit g c =
     let call : call_for c.asks.result c.key-same.result c.args.watched.interest ≡ call_for (is_known (watched_at (key_of c.args.before) (poll_view c.args.self.now).table)) (key_of c.args.token) c.args.watched.interest =
     ap (λ b. call_for b c.key-same.result c.args.watched.interest) (c.asks.ensures ∙ sym (ap is_known c.requires.stood)) ∙ ap (λ k. call_for (is_known (watched_at (key_of c.args.before) (poll_view c.args.self.now).table)) k c.args.watched.interest) c.key-same.ensures in
     let can : cannot (Change c.args.before c.args.token c.args.watched) (poll_view c.args.self.now).table ≡ None = can_change _ _ (ap is_some c.requires.stood) (search rules) in
-    faulted g.P.Poller.outside g.P.Poller.sockets (poll_view c.args.self.now) (Change c.args.before c.args.token c.args.watched) c.args.io.now c.in-Err.fault c.call_poller.new.poller c.call_poller.new.io _ can
-    (subst (λ k. CalledFor g.P.Poller.sockets c.args.self.now.poller c.args.io.now k (Err c.in-Err.fault) c.call_poller.new.poller c.call_poller.new.io) call c.in-Err.ensures.sockets)
+    let told : CalledFor g.P.Poller.sockets c.args.self.now.poller c.args.fd (call_for c.asks.result c.key-same.result c.args.watched.interest) (Err c.in-Err.fault) c.call_poller.new.poller = search rules in
+    faulted g.P.Poller.outside g.P.Poller.sockets (poll_view c.args.self.now) (Change c.args.before c.args.token c.args.watched) c.args.fd c.in-Err.fault c.call_poller.new.poller _ can
+    (subst (λ k. CalledFor g.P.Poller.sockets c.args.self.now.poller c.args.fd k (Err c.in-Err.fault) c.call_poller.new.poller) call told)
     (subst (λ k. Called g.P.Poller.outside c.args.self.now.poller k (Err c.in-Err.fault) c.call_poller.new.poller) call c.in-Err.ensures.calls)
     refl

@@ -9,4 +9,4 @@ use Rattle.calloop_core.proofs.sys.poll.Poll.rearm.Goals as goal
 pub returns-in_default-clause-edit : goal.returns-in_default-clause-edit
 returns-in_default-clause-edit g c =
     let there : is_in (key_of c.args.token) (poll_view c.args.self.now).table ≡ false = search rules in
-    refused g.P.Poller.outside g.P.Poller.sockets (poll_view c.args.self.now) (Change c.args.token c.args.token (record { interest = c.args.interest; mode = c.args.mode })) c.args.io.now NotFound _ (ap (λ b. if b then unless_in (not (nat_eq (key_of c.args.token) (key_of c.args.token)) && is_in (key_of c.args.token) (poll_view c.args.self.now).table) else Some NotFound) there) (c.from.result, refl, c.from.ensures)
+    refused g.P.Poller.outside g.P.Poller.sockets (poll_view c.args.self.now) (Change c.args.token c.args.token (record { interest = c.args.interest; mode = c.args.mode })) c.args.fd NotFound _ (ap (λ b. if b then unless_in (not (nat_eq (key_of c.args.token) (key_of c.args.token)) && is_in (key_of c.args.token) (poll_view c.args.self.now).table) else Some NotFound) there) (c.from.result, refl, c.from.ensures)

@@ -9,16 +9,16 @@ use Rattle.calloop_core.proofs.sys.poll.Poll.register.Goals as goal
 pub returns-then-contains_key-clause-edit : goal.returns-then-contains_key-clause-edit
 returns-then-contains_key-clause-edit g c =
     let there : is_in (key_of c.args.token) (poll_view c.args.self.now).table ≡ true = search rules in
-    refused g.P.Poller.outside g.P.Poller.sockets (poll_view c.args.self.now) (Enter c.args.token (record { interest = c.args.interest; mode = c.args.mode })) c.args.io.now AlreadyExists _ (ap (λ b. unless_in b) there) (c.from.result, refl, c.from.ensures)
+    refused g.P.Poller.outside g.P.Poller.sockets (poll_view c.args.self.now) (Enter c.args.token (record { interest = c.args.interest; mode = c.args.mode })) c.args.fd AlreadyExists _ (ap (λ b. unless_in b) there) (c.from.result, refl, c.from.ensures)
 
 pub returns-in-Ok-clause-edit : goal.returns-in-Ok-clause-edit
 returns-in-Ok-clause-edit g c =
     let free : is_in (key_of c.args.token) (poll_view c.args.self.now).table ≡ false = search rules in
-    made g.P.Poller.outside g.P.Poller.sockets (poll_view c.args.self.now) (Enter c.args.token (record { interest = c.args.interest; mode = c.args.mode })) c.args.io.now c.call_poller.new.poller c.call_poller.new.io _ (ap (λ b. unless_in b) free) (search rules) (search rules) (search rules)
+    made g.P.Poller.outside g.P.Poller.sockets (poll_view c.args.self.now) (Enter c.args.token (record { interest = c.args.interest; mode = c.args.mode })) c.args.fd c.call_poller.new.poller _ (ap (λ b. unless_in b) free) (search rules) (search rules) (search rules)
 
 pub returns-in-Err-clause-edit : goal.returns-in-Err-clause-edit
 returns-in-Err-clause-edit g c =
     let free : is_in (key_of c.args.token) (poll_view c.args.self.now).table ≡ false = search rules in
     let absent : watched_at (key_of c.args.token) (poll_view c.args.self.now).table ≡ None = search rules in
     let same : c.remove.new.self ≡ (poll_view c.args.self.now).table = search (rules, left_again (key_of c.args.token) (record { interest = c.args.interest; mode = c.args.mode }) (poll_view c.args.self.now).table absent) in
-    faulted g.P.Poller.outside g.P.Poller.sockets (poll_view c.args.self.now) (Enter c.args.token (record { interest = c.args.interest; mode = c.args.mode })) c.args.io.now c.in-Err.cause c.call_poller.new.poller c.call_poller.new.io _ (ap (λ b. unless_in b) free) (search rules) (search rules) (search rules)
+    faulted g.P.Poller.outside g.P.Poller.sockets (poll_view c.args.self.now) (Enter c.args.token (record { interest = c.args.interest; mode = c.args.mode })) c.args.fd c.in-Err.cause c.call_poller.new.poller _ (ap (λ b. unless_in b) free) (search rules) (search rules) (search rules)

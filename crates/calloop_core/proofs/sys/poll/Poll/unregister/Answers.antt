@@ -10,10 +10,10 @@ pub returns-in-Ok-clause-edit : goal.returns-in-Ok-clause-edit
 returns-in-Ok-clause-edit g c =
     let there : is_in (key_of c.args.token) (poll_view c.args.self.now).table ≡ true = search rules in
     let can : cannot (Leave c.args.token) (poll_view c.args.self.now).table ≡ None = ap (λ b. if b then None else Some NotFound) there in
-    made g.P.Poller.outside g.P.Poller.sockets (poll_view c.args.self.now) (Leave c.args.token) c.args.io.now c.call_poller.new.poller c.call_poller.new.io _ can (search rules) (search rules) (search rules)
+    made g.P.Poller.outside g.P.Poller.sockets (poll_view c.args.self.now) (Leave c.args.token) c.args.fd c.call_poller.new.poller _ can (search rules) (search rules) (search rules)
 
 pub returns-in-Err-clause-edit : goal.returns-in-Err-clause-edit
 returns-in-Err-clause-edit g c =
     let there : is_in (key_of c.args.token) (poll_view c.args.self.now).table ≡ true = search rules in
     let can : cannot (Leave c.args.token) (poll_view c.args.self.now).table ≡ None = ap (λ b. if b then None else Some NotFound) there in
-    faulted g.P.Poller.outside g.P.Poller.sockets (poll_view c.args.self.now) (Leave c.args.token) c.args.io.now c.in-Err.cause c.call_poller.new.poller c.call_poller.new.io _ can (search rules) (search rules) refl
+    faulted g.P.Poller.outside g.P.Poller.sockets (poll_view c.args.self.now) (Leave c.args.token) c.args.fd c.in-Err.cause c.call_poller.new.poller _ can (search rules) (search rules) refl

@@ -1,5 +1,5 @@
-use Rattle.std.proofs.Common.{refl}
+use Rattle.std.proofs.Common.{rules}
 use Rattle.calloop_core.proofs.sys.script.ScriptPollerPoller.delete.Goals as goal
 
 pub returns-clause-sockets : goal.returns-clause-sockets
-returns-clause-sockets c = (c.call.ensures.called, refl)
+returns-clause-sockets c = search rules
