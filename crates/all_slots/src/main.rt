@@ -1,11 +1,11 @@
 //! Fills all slots that a list can have, and then uses the last of them again until its first token names a source there.
 #![tactic(auto)]
 
-use calloop_wake::error::Result;
-use calloop_wake::list::{ClaimRefusal, SourceList};
-use calloop_wake::steps::Steps;
-use calloop_wake::token::RegistrationToken;
-use calloop_wake::widths::{MOST_SLOTS, VERSIONS};
+use calloop_slots::error::Result;
+use calloop_slots::list::{ClaimRefusal, SourceList};
+use calloop_slots::steps::Steps;
+use calloop_slots::token::RegistrationToken;
+use calloop_slots::widths::{MOST_SLOTS, VERSIONS};
 
 // Claims slots until one is refused. How many it got, and why it got no other.
 fn fill(list: &mut SourceList<u8>) -> (u64, Option<ClaimRefusal>) {

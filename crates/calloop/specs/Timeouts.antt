@@ -1,35 +1,35 @@
 -- Futures that are ready at a moment. Calloop's, too, is a timer in a slot, whose token nobody else has.
 use Rattle.std.specs.Prelude.{◌≡◌, ◌⊎◌, ℕ, nat_le, Bool, true, false, Option, Some, None, Result, Ok, Err, IfOk, IfErr}
 use Rattle.std.specs.Arc.{arc_value}
-use Rattle.calloop_wake.specs.declared.error.Error.{Error}
-use Rattle.calloop_wake.specs.declared.error.Error.TheVariants.{OutOfMemory}
-use Rattle.calloop_wake.specs.declared.error.InsertError.{InsertError}
-use Rattle.calloop_wake.specs.declared.token.RegistrationToken.{RegistrationToken}
-use Rattle.calloop_wake.specs.declared.wheel.Instant.{Instant}
-use Rattle.calloop_core.specs.declared.sources.dispatch.Dispatcher.{Dispatcher}
-use Rattle.calloop_core.specs.declared.sources.dispatch.Role.TheVariants.{Timeout}
-use Rattle.calloop_core.specs.declared.timer.Timer.{Timer}
-use Rattle.calloop_core.specs.declared.timer.TimeoutAction.{TimeoutAction}
-use Rattle.calloop_core.specs.declared.timer.TimerError.{TimerError}
-use Rattle.calloop_core.specs.sources.Deeds.{Lent}
-use Rattle.calloop_core.specs.sources.Calls.{Calling}
-use Rattle.calloop_core.specs.TimerKeeping.{timer_keeps}
-use Rattle.calloop_core.specs.sources.Lawful.{keeping_with_callback, asking_with_callback, failing_with_callback, memory_of_source}
-use Rattle.calloop_core.specs.sources.Lawful.{keeping_seen, keeping_in_role, asking_seen, failing_seen}
-use Rattle.calloop_core.specs.sources.Meanings.{Meaning, IsKeeping, IsAsking, FailsAsSource, with_callback, seen_as, in_role}
-use Rattle.calloop_core.specs.sys.Pollers.{Outside}
-use Rattle.calloop_core.specs.sources.Quiet.{IsQuietCall, IsQuiet, quiet_dispatcher, quiet_seen}
-use Rattle.calloop_core.specs.Timers.{fresh_timer, timer_meaning}
-use Rattle.calloop.specs.declared.futures.task.Poll.{Poll}
-use Rattle.calloop.specs.declared.futures.task.Poll.TheVariants.{Ready, Pending}
-use Rattle.calloop.specs.declared.loop_logic.LoopHandle.{LoopHandle}
-use Rattle.calloop.specs.declared.loop_logic.LoopCall.TheVariants.{Insert}
-use Rattle.calloop.specs.declared.loop_logic.LoopAnswer.TheVariants.{Inserted}
+use Rattle.calloop_slots.specs.declared.error.Error.{Error}
+use Rattle.calloop_slots.specs.declared.error.Error.TheVariants.{OutOfMemory}
+use Rattle.calloop_slots.specs.declared.error.InsertError.{InsertError}
+use Rattle.calloop_slots.specs.declared.token.RegistrationToken.{RegistrationToken}
+use Rattle.calloop_slots.specs.declared.wheel.Instant.{Instant}
+use Rattle.calloop_sources.specs.declared.sources.dispatch.Dispatcher.{Dispatcher}
+use Rattle.calloop_sources.specs.declared.sources.dispatch.Role.TheVariants.{Timeout}
+use Rattle.calloop_sources.specs.declared.timer.Timer.{Timer}
+use Rattle.calloop_sources.specs.declared.timer.TimeoutAction.{TimeoutAction}
+use Rattle.calloop_sources.specs.declared.timer.TimerError.{TimerError}
+use Rattle.calloop_sources.specs.sources.Deeds.{Lent}
+use Rattle.calloop_sources.specs.sources.Calls.{Calling}
+use Rattle.calloop_sources.specs.TimerKeeping.{timer_keeps}
+use Rattle.calloop_sources.specs.sources.Lawful.{keeping_with_callback, asking_with_callback, failing_with_callback, memory_of_source}
+use Rattle.calloop_sources.specs.sources.Lawful.{keeping_seen, keeping_in_role, asking_seen, failing_seen}
+use Rattle.calloop_sources.specs.sources.Meanings.{Meaning, IsKeeping, IsAsking, FailsAsSource, with_callback, seen_as, in_role}
+use Rattle.calloop_poll.specs.sys.Pollers.{Outside}
+use Rattle.calloop_sources.specs.sources.Quiet.{IsQuietCall, IsQuiet, quiet_dispatcher, quiet_seen}
+use Rattle.calloop_sources.specs.Timers.{fresh_timer, timer_meaning}
+use Rattle.calloop_ends.specs.declared.futures.task.Poll.{Poll}
+use Rattle.calloop_ends.specs.declared.futures.task.Poll.TheVariants.{Ready, Pending}
+use Rattle.calloop_loop.specs.declared.LoopHandle.{LoopHandle}
+use Rattle.calloop_loop.specs.declared.LoopCall.TheVariants.{Insert}
+use Rattle.calloop_loop.specs.declared.LoopAnswer.TheVariants.{Inserted}
 use Rattle.calloop.specs.declared.timeout.TimeoutFuture.{TimeoutFuture}
 use Rattle.calloop.specs.declared.timeout.TimeoutTimer.{TimeoutTimer}
 use Rattle.calloop.specs.declared.timeout.WakesTimeout.{WakesTimeout}
-use Rattle.calloop.specs.loop_logic.Askings.{Asks, Runs}
-use Rattle.calloop.specs.loop_logic.Handles.{held_by, IsCase}
+use Rattle.calloop_loop.specs.Askings.{Asks, Runs}
+use Rattle.calloop_loop.specs.Handles.{held_by, IsCase}
 
 -- whether a moment has come, by an answer of a clock; where there is none, it never comes: so compares calloop's
 -- TimeoutFuture::poll

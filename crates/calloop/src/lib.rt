@@ -26,44 +26,41 @@
 //!   `Ping` go to other threads.
 #![tactic(auto)]
 
-mod cell;
-pub mod channel;
-pub mod futures;
-pub mod io;
-pub mod loop_logic;
-pub mod ping;
-pub mod stream;
+pub mod sys;
 pub mod timeout;
 
-pub use calloop_core::both::{Both, Part};
-pub use calloop_core::callbacks::{On, OnWith, QuietCallback, QuietDispatch};
-pub use calloop_core::forwarding::Forward;
-pub use calloop_core::generic::{Generic, NoIoDrop};
-pub use calloop_core::idles::{IdleCallback, QuietIdle};
-pub use calloop_core::movable::Movable;
-pub use calloop_core::sources::{
-    Asking, Callback, Choice, Dispatch, Dispatcher, EventSource, Here, Hold, IntoError, Keep,
-    OneOf, Place, PostAction, Role, There,
-};
-pub use calloop_core::sys::events::EventIterator;
-pub use calloop_core::sys::poll::Poll;
-pub use calloop_core::sys::synthetic::Synthetic;
-pub use calloop_core::sys::system::{MioIo, MioPoller, Precision, SystemClock};
-pub use calloop_core::sys::{Clock, Interest, Mode, Poller, Readiness};
-pub use calloop_core::timer::{TimeoutAction, Timer, TimerError};
-pub use calloop_core::{
-    batch_register, batch_reregister, batch_unregister, generic, sys, timer, transient,
-};
-pub use calloop_wake::error;
-pub use calloop_wake::error::{Error, InsertError, Result};
-pub use calloop_wake::token::{RegistrationToken, Token, TokenFactory};
-pub use calloop_wake::wake::Receipt;
-pub use calloop_wake::wheel::Instant;
-pub use calloop_wake::widths::{MOST_SLOTS, VERSIONS};
-pub use io::{Adapter, Async, Readable, Writable};
-pub use loop_logic::{
+pub use calloop_ends::ping::{Ping, PingError, PingSource, make_ping};
+pub use calloop_ends::{channel, futures, ping, stream};
+pub use calloop_io as io;
+pub use calloop_io::{Adapter, Async, Readable, Writable};
+pub use calloop_loop as loop_logic;
+pub use calloop_loop::{
     Answer, EventDispatcher, EventLoop, Idle, LoopHandle, LoopSignal, Requests, ScriptLoop,
     Sources, SystemLoop, Ticket,
 };
-pub use ping::{Ping, PingError, PingSource, make_ping};
+pub use calloop_mio::{MioIo, MioPoller, Precision, SystemClock};
+pub use calloop_poll::sys::events::EventIterator;
+pub use calloop_poll::sys::poll::Poll;
+pub use calloop_poll::sys::synthetic::Synthetic;
+pub use calloop_poll::sys::{Clock, Interest, Mode, Poller, Readiness};
+pub use calloop_slots::error;
+pub use calloop_slots::error::{Error, InsertError, Result};
+pub use calloop_slots::token::{RegistrationToken, Token, TokenFactory};
+pub use calloop_slots::wheel::Instant;
+pub use calloop_slots::widths::{MOST_SLOTS, VERSIONS};
+pub use calloop_sources::both::{Both, Part};
+pub use calloop_sources::callbacks::{On, OnWith, QuietCallback, QuietDispatch};
+pub use calloop_sources::forwarding::Forward;
+pub use calloop_sources::generic::{Generic, NoIoDrop};
+pub use calloop_sources::idles::{IdleCallback, QuietIdle};
+pub use calloop_sources::movable::Movable;
+pub use calloop_sources::sources::{
+    Asking, Callback, Choice, Dispatch, Dispatcher, EventSource, Here, Hold, IntoError, Keep,
+    OneOf, Place, PostAction, Role, There,
+};
+pub use calloop_sources::timer::{TimeoutAction, Timer, TimerError};
+pub use calloop_sources::{
+    batch_register, batch_reregister, batch_unregister, generic, timer, transient,
+};
+pub use calloop_wake::Receipt;
 pub use timeout::{TimeoutFuture, TimeoutTimer, WakesTimeout};

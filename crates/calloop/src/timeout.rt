@@ -3,29 +3,29 @@
 //! From calloop's `TimeoutFuture` in `sources/timer.rs`. Like there, it is a timer in a slot, whose token nobody else has; and here
 //! one that is made up names nothing.
 ghost use Rattle.std.specs.Prelude.{◌≡◌, true, Some, IfOk, IfErr};
-ghost use Rattle.calloop_wake.specs.declared.error.Error.TheVariants.{OutOfMemory};
-ghost use Rattle.calloop_wake.specs.declared.wheel.Instant.{Instant};
-ghost use Rattle.calloop_wake.specs.Deadlines.{moment_after};
-ghost use Rattle.calloop_core.specs.declared.timer.TimeoutAction.TheVariants.{Drop};
-ghost use Rattle.calloop.specs.loop_logic.Handles.{clock_by, HasTheSameLoop};
-ghost use Rattle.calloop.specs.futures.Polled.{IfReady, OnPending};
+ghost use Rattle.calloop_slots.specs.declared.error.Error.TheVariants.{OutOfMemory};
+ghost use Rattle.calloop_slots.specs.declared.wheel.Instant.{Instant};
+ghost use Rattle.calloop_slots.specs.Deadlines.{moment_after};
+ghost use Rattle.calloop_sources.specs.declared.timer.TimeoutAction.TheVariants.{Drop};
+ghost use Rattle.calloop_loop.specs.Handles.{clock_by, HasTheSameLoop};
+ghost use Rattle.calloop_ends.specs.futures.Polled.{IfReady, OnPending};
 ghost use Rattle.calloop.specs.Timeouts.{HasCome, HasTimer, HasNoTimer, IsMade, IsOf, is_ready};
 
-use crate::futures::{Context, Future, Poll, Waker};
-use crate::loop_logic::{EventDispatcher, LoopHandle, Requests};
-use calloop_core::callbacks::{On, QuietDispatch};
-use calloop_core::sources::{
+use calloop_ends::futures::{Context, Future, Poll, Waker};
+use calloop_loop::{EventDispatcher, LoopHandle, Requests};
+use calloop_poll::sys::events::EventIterator;
+use calloop_poll::sys::poll::Poll as LoopPoll;
+use calloop_poll::sys::synthetic::Synthetic;
+use calloop_poll::sys::{Clock, Poller, Readiness};
+use calloop_slots::error::{Error, Failed, Result};
+use calloop_slots::token::{RegistrationToken, Token, TokenFactory};
+use calloop_slots::wheel::Instant;
+use calloop_sources::callbacks::{On, QuietDispatch};
+use calloop_sources::sources::{
     Asking, Callback, Dispatch, Dispatcher, Here, Keep, Place, PostAction, Role,
 };
-use calloop_core::sys::events::EventIterator;
-use calloop_core::sys::poll::Poll as LoopPoll;
-use calloop_core::sys::synthetic::Synthetic;
-use calloop_core::sys::{Clock, Poller, Readiness};
-use calloop_core::timer::{TimeoutAction, Timer};
-use calloop_wake::error::{Error, Failed, Result};
-use calloop_wake::token::{RegistrationToken, Token, TokenFactory};
-use calloop_wake::wake::ghosts::Name;
-use calloop_wake::wheel::Instant;
+use calloop_sources::timer::{TimeoutAction, Timer};
+use calloop_wake::ghosts::Name;
 use std::alloc::Global;
 use std::mem;
 use std::sync::{Arc, Mutex, Wait};
@@ -180,7 +180,7 @@ impl<R: Wait + Drop> Place<TimeoutTimer<R>, Here> for TimeoutTimer<R> {
 
 impl<P: Poller, C, R: Wait + Drop, X, Q: Asking> Keep<TimeoutTimer<R>, P, C, R, X, Q, Here>
     for TimeoutTimer<R> {
-    ghost use Rattle.calloop_core.specs.sources.Lawful.{held_itself};
+    ghost use Rattle.calloop_sources.specs.sources.Lawful.{held_itself};
 
     ghost placed_means = { held_itself ⟦<TimeoutTimer<R> as Dispatch<P, C, R, X, Q>>⟧.means };
 }

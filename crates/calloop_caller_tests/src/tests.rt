@@ -6,7 +6,7 @@ use calloop::{
     Interest, Keep, Mode, On, OneOf, PingSource, Place, Readiness, Requests, ScriptLoop, Sources,
     There, Ticket, TimeoutFuture, TimeoutTimer,
 };
-use calloop_core::sys::script::{
+use calloop_script::{
     ScriptAnswer, ScriptCall, ScriptClock, ScriptEnd, ScriptEvents, ScriptIo, ScriptPoller,
 };
 use std::alloc::Global;

@@ -1,11 +1,11 @@
 use calloop::{Dispatcher, Instant, On, Sources, TimeoutAction, Timer};
-use calloop_core::sys::script::{ScriptClock, ScriptPoller};
 use calloop_laws::{
     busy_runs_that_there_are, dispatch_of_a_ring_that_there_is, each_dispatch_serves_all,
     histories_are_schedules, once, once_where_nothing_is_asked, run_that_there_is,
     runs_that_go_wrong_late, unserved_dispatches_are_ruled_out, unserved_keys_are_ruled_out,
     what_is_posted_is_served, wrong_histories_are_ruled_out, wrong_runs_are_ruled_out,
 };
+use calloop_script::{ScriptClock, ScriptPoller};
 use calloop_wake_laws::{
     can_be_delivered, lost_is_not_covered, nothing_is_lost, out_of_reach,
     schedules_of_one_board_that_there_are, schedules_of_queues_that_there_are,

@@ -1,10 +1,10 @@
 -- Counting armings in their places.
 use Rattle.std.proofs.Common.{◌≡◌, ℕ, ◌+◌, ◌<◌, ◌≤◌, List, [], ◌∷◌, ◌++◌, map, filter, not, refl, ap, arith, Some, Bool, true, false, ◌&&◌, if◌then◌else◌, nat_eq, nat_lt, nat_le}
 use Rattle.std.proofs.lemmas.Bool.Decides.{nat_tests}
-use Rattle.calloop_wake.specs.Deadlines.{is_before, is_due, is_other, after_insert, without_counter, has_counter, due, not_due}
-use Rattle.calloop_core.specs.declared.sys.poll.Pending.{Pending}
-use Rattle.calloop_core.specs.sys.Polls.{timer_event, timer_events, tail_of}
-use Rattle.calloop.specs.loop_logic.Ledgers.{Arming, NumberedEntry, Origin, Elsewhere, Due, Waiting, TimerCall, latest, armed_among, entry_in, number_of, arming_of, is_under_other, is_under, from_elsewhere, from_deadline, due_in, not_due_in, heads_of}
+use Rattle.calloop_slots.specs.Deadlines.{is_before, is_due, is_other, after_insert, without_counter, has_counter, due, not_due}
+use Rattle.calloop_poll.specs.declared.sys.poll.Pending.{Pending}
+use Rattle.calloop_poll.specs.sys.Polls.{timer_event, timer_events, tail_of}
+use Rattle.calloop_loop.specs.Ledgers.{Arming, NumberedEntry, Origin, Elsewhere, Due, Waiting, TimerCall, latest, armed_among, entry_in, number_of, arming_of, is_under_other, is_under, from_elsewhere, from_deadline, due_in, not_due_in, heads_of}
 use Rattle.calloop_laws.specs.Laws.{one, how_many, is_armed_as, is_due_as, waits_as, is_number, is_same, is_timely, came_timely, AllOnTime, AllOwnCalls, event_of}
 
 pub counted-append : {A : Type 0} (p : A → Bool) (xs ys : List A) → how_many p (xs ++ ys) ≡ how_many p xs + how_many p ys

@@ -3,43 +3,43 @@ use Rattle.std.specs.List.{Contains, slice_index_or}
 use Rattle.std.proofs.lemmas.List.Elements.{Contains-append_left, Contains-append_right}
 use Rattle.std.proofs.Common.{◌≡◌, ℕ, zero, suc, length, ◌⊎◌, ◌<◌, List, [], ◌∷◌, ◌++◌, refl, ap, sym, ◌∙◌, subst, arith, None, Option, Result, Ok, Err, Bool, inl, inr, true, false, if◌then◌else◌}
 use Rattle.std.specs.declared.io.Error.{Error as Cause}
-use Rattle.calloop_wake.specs.declared.error.Error.{Error}
-use Rattle.calloop_wake.specs.declared.error.InsertError.{InsertError}
-use Rattle.calloop_wake.specs.declared.token.RegistrationToken.{RegistrationToken}
-use Rattle.calloop_wake.specs.declared.list.Content.{Content}
-use Rattle.calloop_wake.specs.declared.list.Content.TheVariants.{Vacant, Source, InTurn}
-use Rattle.calloop_wake.specs.declared.wake.watch.Watch.{Watch}
-use Rattle.calloop_wake.specs.declared.wake.notes.Note.{Note}
-use Rattle.calloop_wake.specs.declared.wake.notes.Note.TheVariants.{Counted, Looked, Unposted, Marked}
-use Rattle.calloop_wake.specs.wake.Watches.{with_note}
-use Rattle.calloop_wake.specs.Tokens.{registration_of}
-use Rattle.calloop_wake.specs.Slots.{content_at}
-use Rattle.calloop_core.specs.declared.sys.Readiness.{Readiness}
-use Rattle.calloop_wake.specs.declared.token.Token.{Token}
-use Rattle.calloop_core.specs.declared.sys.poll.Pending.{Pending}
-use Rattle.calloop_core.specs.declared.sources.source.PostAction.{PostAction}
-use Rattle.calloop_core.specs.declared.sources.source.PostAction.TheVariants.{Continue, Reregister, Disable as DisableIt, Remove}
-use Rattle.calloop_core.specs.sys.Pollers.{Outside}
-use Rattle.calloop_core.specs.sys.Polls.{PollView, PollStep, TakePass, PutBack, Arm, ArmAgain, Cancel, Call, ReadClock, Socket, Fault, poll_after, polls_after, cut_from, with_turn_of, tail_of, head_of, with_pass, posted_event, posted_events, polled_events, timer_events}
-use Rattle.calloop_wake.specs.Deadlines.{due}
-use Rattle.calloop_core.specs.sys.Waits.{Interruption, after_looks}
-use Rattle.calloop_core.specs.sources.Deeds.{Lent}
-use Rattle.calloop_core.specs.sources.Meanings.{Meaning}
-use Rattle.calloop.specs.declared.loop_logic.asks.Asked.{Asked}
-use Rattle.calloop.specs.declared.loop_logic.asks.Idling.{Idling as Waiter}
-use Rattle.calloop.specs.declared.loop_logic.asks.Request.{Request}
-use Rattle.calloop.specs.declared.loop_logic.asks.Request.TheVariants.{Insert as AskInsert, Enable as AskEnable, Update as AskUpdate, Disable as AskDisable, Remove as AskRemove, Idle as AskIdle, Cancel as AskCancel}
-use Rattle.calloop.specs.loop_logic.Askings.{Asks, Runs}
-use Rattle.calloop.specs.loop_logic.Machine.{World, visible, View, Change, Put, Claim, Swapped, Polls, Polling, Watching, Counting, Holds, Appended, Gathered, Cut, Ended, after_change, all_viewed}
-use Rattle.calloop.specs.loop_logic.Roles.{only, is_callers, is_adapter}
-use Rattle.calloop.specs.loop_logic.Rules.{Doing, Beginning, Settling, Sleeping, Waiting, Gathering, Noticing, Cutting, Serving, Ending, Returning, Idling, RunningIdles, ServingIdle, Leaving, Outcome, Step, Steps, SleptAs, SleptBy, NoticedBy, CutTo, CutFrom, ActedBy, ReturnedTo, vacate, InsertedBy, AskedIn, SettledIn, RemovedIn, OwnOr, Served, ServedAs, ServedFrom, RunFrom, DispatchedBy, action_of, after_turn, after_wait, after_changes, appends, all_traced, Case, Run, Once, EnabledBy, UpdatedBy, DisabledBy, RemovedBy, ReleasedBy, LeftIn, ExchangedBy, ExchangedIn, IdleInsertedBy}
-use Rattle.calloop.specs.declared.loop_logic.asks.Idle.{Idle}
-use Rattle.calloop.specs.declared.loop_logic.LoopCall.{LoopCall}
-use Rattle.calloop.specs.declared.loop_logic.LoopCall.TheVariants.{Insert as CallInsert, Enable as CallEnable, Update as CallUpdate, Disable as CallDisable, Remove as CallRemove, Release, Exchange, Dispatch, InsertIdle, Cancel as CancelIdle, Answer as AnswerOf, ForgetStop, LookForStop, Poller as NewPoller}
-use Rattle.calloop.specs.declared.loop_logic.LoopAnswer.{LoopAnswer}
-use Rattle.calloop.specs.declared.loop_logic.LoopAnswer.TheVariants.{Inserted, Enabled, Updated, Disabled, Removed, Released, Exchanged, Dispatched, IdleInserted, Cancelled, Answered, StopForgotten, Stopped, Poller as OldPoller}
-use Rattle.calloop.proofs.Seen.{seen-all_traced}
-use Rattle.calloop.specs.loop_logic.Held.{HeldStep, Begun, Cleared}
+use Rattle.calloop_slots.specs.declared.error.Error.{Error}
+use Rattle.calloop_slots.specs.declared.error.InsertError.{InsertError}
+use Rattle.calloop_slots.specs.declared.token.RegistrationToken.{RegistrationToken}
+use Rattle.calloop_slots.specs.declared.list.Content.{Content}
+use Rattle.calloop_slots.specs.declared.list.Content.TheVariants.{Vacant, Source, InTurn}
+use Rattle.calloop_wake.specs.declared.watch.Watch.{Watch}
+use Rattle.calloop_wake.specs.declared.notes.Note.{Note}
+use Rattle.calloop_wake.specs.declared.notes.Note.TheVariants.{Counted, Looked, Unposted, Marked}
+use Rattle.calloop_wake.specs.Watches.{with_note}
+use Rattle.calloop_slots.specs.Tokens.{registration_of}
+use Rattle.calloop_slots.specs.Slots.{content_at}
+use Rattle.calloop_poll.specs.declared.sys.Readiness.{Readiness}
+use Rattle.calloop_slots.specs.declared.token.Token.{Token}
+use Rattle.calloop_poll.specs.declared.sys.poll.Pending.{Pending}
+use Rattle.calloop_sources.specs.declared.sources.source.PostAction.{PostAction}
+use Rattle.calloop_sources.specs.declared.sources.source.PostAction.TheVariants.{Continue, Reregister, Disable as DisableIt, Remove}
+use Rattle.calloop_poll.specs.sys.Pollers.{Outside}
+use Rattle.calloop_poll.specs.sys.Polls.{PollView, PollStep, TakePass, PutBack, Arm, ArmAgain, Cancel, Call, ReadClock, Socket, Fault, poll_after, polls_after, cut_from, with_turn_of, tail_of, head_of, with_pass, posted_event, posted_events, polled_events, timer_events}
+use Rattle.calloop_slots.specs.Deadlines.{due}
+use Rattle.calloop_poll.specs.sys.Waits.{Interruption, after_looks}
+use Rattle.calloop_sources.specs.sources.Deeds.{Lent}
+use Rattle.calloop_sources.specs.sources.Meanings.{Meaning}
+use Rattle.calloop_loop.specs.declared.asks.Asked.{Asked}
+use Rattle.calloop_loop.specs.declared.asks.Idling.{Idling as Waiter}
+use Rattle.calloop_loop.specs.declared.asks.Request.{Request}
+use Rattle.calloop_loop.specs.declared.asks.Request.TheVariants.{Insert as AskInsert, Enable as AskEnable, Update as AskUpdate, Disable as AskDisable, Remove as AskRemove, Idle as AskIdle, Cancel as AskCancel}
+use Rattle.calloop_loop.specs.Askings.{Asks, Runs}
+use Rattle.calloop_loop.specs.Machine.{World, visible, View, Change, Put, Claim, Swapped, Polls, Polling, Watching, Counting, Holds, Appended, Gathered, Cut, Ended, after_change, all_viewed}
+use Rattle.calloop_loop.specs.Roles.{only, is_callers, is_adapter}
+use Rattle.calloop_loop.specs.Rules.{Doing, Beginning, Settling, Sleeping, Waiting, Gathering, Noticing, Cutting, Serving, Ending, Returning, Idling, RunningIdles, ServingIdle, Leaving, Outcome, Step, Steps, SleptAs, SleptBy, NoticedBy, CutTo, CutFrom, ActedBy, ReturnedTo, vacate, InsertedBy, AskedIn, SettledIn, RemovedIn, OwnOr, Served, ServedAs, ServedFrom, RunFrom, DispatchedBy, action_of, after_turn, after_wait, after_changes, appends, all_traced, Case, Run, Once, EnabledBy, UpdatedBy, DisabledBy, RemovedBy, ReleasedBy, LeftIn, ExchangedBy, ExchangedIn, IdleInsertedBy}
+use Rattle.calloop_loop.specs.declared.asks.Idle.{Idle}
+use Rattle.calloop_loop.specs.declared.LoopCall.{LoopCall}
+use Rattle.calloop_loop.specs.declared.LoopCall.TheVariants.{Insert as CallInsert, Enable as CallEnable, Update as CallUpdate, Disable as CallDisable, Remove as CallRemove, Release, Exchange, Dispatch, InsertIdle, Cancel as CancelIdle, Answer as AnswerOf, ForgetStop, LookForStop, Poller as NewPoller}
+use Rattle.calloop_loop.specs.declared.LoopAnswer.{LoopAnswer}
+use Rattle.calloop_loop.specs.declared.LoopAnswer.TheVariants.{Inserted, Enabled, Updated, Disabled, Removed, Released, Exchanged, Dispatched, IdleInserted, Cancelled, Answered, StopForgotten, Stopped, Poller as OldPoller}
+use Rattle.calloop_loop.proofs.Seen.{seen-all_traced}
+use Rattle.calloop_loop.specs.Held.{HeldStep, Begun, Cleared}
 use Rattle.calloop_laws.specs.Handed.{IsHandedOut, IsNotedDispatch, looked}
 
 -- Changes of which the watch has no note.

@@ -3,13 +3,13 @@ use Rattle.std.proofs.Common.{◌≡◌, ℕ, zero, suc, ◌-◌, ◌^◌, ◌<�
 use Rattle.std.proofs.lemmas.Bool.Decides.{nat_tests}
 use Rattle.std.specs.List.{Contains}
 use Rattle.std.proofs.lemmas.List.Elements.{Contains-append_right}
-use Rattle.calloop_wake.specs.wake.Boards.{place, is_open, is_marked, after_open_place, after_close_place, after_post, after_unpost, is_taken, bound, keys_within, taken_keys}
+use Rattle.calloop_wake.specs.Boards.{place, is_open, is_marked, after_open_place, after_close_place, after_post, after_unpost, is_taken, bound, keys_within, taken_keys}
 use Rattle.calloop_wake_laws.specs.Wakes.{Kind, WakeWorld, WakeStep, At, ClearKey, SetKey, OpenTurn, OpenPlace, ClosePlace, Post, Back, Unpost, Look, Wakeup, Sleep, Return, after, IsSchedule, after_all}
 use Rattle.calloop_laws.specs.Histories.{Happening, Unseen, Noted, IsUnseen, world_behind, IsHistory, end_of, schedule_of, notes_of, OpensNone, IsMadeIn}
-use Rattle.calloop_wake.specs.declared.wake.board.Place.{Place}
-use Rattle.calloop_wake.specs.declared.wake.notes.Note.{Note}
-use Rattle.calloop_wake.specs.declared.wake.notes.Note.TheVariants.{Counted, Looked, Unposted, Marked}
-use Rattle.calloop_wake.proofs.Places.{is_marked-after_open, is_marked-after_close, is_marked-after_post, is_marked-after_unpost}
+use Rattle.calloop_wake.specs.declared.board.Place.{Place}
+use Rattle.calloop_wake.specs.declared.notes.Note.{Note}
+use Rattle.calloop_wake.specs.declared.notes.Note.TheVariants.{Counted, Looked, Unposted, Marked}
+use Rattle.calloop_wake.proofs.BoardSteps.{is_marked-after_open, is_marked-after_close, is_marked-after_post, is_marked-after_unpost}
 
 -- Boards.
 

@@ -1,6 +1,6 @@
 -- What holds between any two moments of a list of changes holds of any two of its states.
 use Rattle.std.proofs.Common.{◌≡◌, List, [], ◌∷◌, ◌++◌, refl, ap}
-use Rattle.calloop.specs.loop_logic.Machine.{World, Change, world_after, world_after_all}
+use Rattle.calloop_loop.specs.Machine.{World, Change, world_after, world_after_all}
 use Rattle.calloop_laws.specs.Laws.{moments_of, AllBehind, AnyTwo}
 
 module _ {D I P : Type 0} (R : World D I P → World D I P → Type 0) where

@@ -2,15 +2,15 @@
 -- steps of counters that it holds alone.
 use Rattle.std.proofs.Common.{◌≡◌, ◌≢◌, ◌⊎◌, inl, inr, ℕ, ◌+◌, ◌<◌, ◌≤◌, List, [], ◌∷◌, ◌++◌, map, filter, refl, ap, sym, ◌∙◌, arith, Some, None, true, false, if◌then◌else◌, nat_eq}
 use Rattle.std.proofs.lemmas.Bool.Decides.{nat_tests}
-use Rattle.calloop_wake.specs.declared.token.Token.{Token}
-use Rattle.calloop_wake.specs.declared.wheel.Instant.{Instant}
-use Rattle.calloop_wake.specs.Deadlines.{is_armed, entry_of, after_insert, without_counter, not_due}
-use Rattle.calloop_core.specs.declared.sys.Readiness.{Readiness}
-use Rattle.calloop_core.specs.declared.sys.poll.Pending.{Pending}
-use Rattle.calloop_core.specs.sys.Pollers.{Outside}
-use Rattle.calloop_core.specs.sys.Polls.{PollView, PollStep, TakePass, PutBack, Arm, ArmAgain, Cancel, Call, ReadClock, Socket, Fault, poll_after, polls_after, AllAllowed, after_gather, with_event, posted_events, polled_events, after_cut, cut_from, with_turn_of, tail_of, head_of, with_pass}
-use Rattle.calloop_core.specs.sources.Holdings.{Holding, Free, Spent, Standing, with_hold, IsWithin, Keeps}
-use Rattle.calloop.specs.loop_logic.Ledgers.{Ledger, Arming, NumberedEntry, TimerCall, latest, arm, step_noted, steps_noted, gathering_noted, appended_noted, cut_noted, is_under, number_of, from_elsewhere, from_deadline, due_in}
+use Rattle.calloop_slots.specs.declared.token.Token.{Token}
+use Rattle.calloop_slots.specs.declared.wheel.Instant.{Instant}
+use Rattle.calloop_slots.specs.Deadlines.{is_armed, entry_of, after_insert, without_counter, not_due}
+use Rattle.calloop_poll.specs.declared.sys.Readiness.{Readiness}
+use Rattle.calloop_poll.specs.declared.sys.poll.Pending.{Pending}
+use Rattle.calloop_poll.specs.sys.Pollers.{Outside}
+use Rattle.calloop_poll.specs.sys.Polls.{PollView, PollStep, TakePass, PutBack, Arm, ArmAgain, Cancel, Call, ReadClock, Socket, Fault, poll_after, polls_after, AllAllowed, after_gather, with_event, posted_events, polled_events, after_cut, cut_from, with_turn_of, tail_of, head_of, with_pass}
+use Rattle.calloop_sources.specs.sources.Holdings.{Holding, Free, Spent, Standing, with_hold, IsWithin, Keeps}
+use Rattle.calloop_loop.specs.Ledgers.{Ledger, Arming, NumberedEntry, TimerCall, latest, arm, step_noted, steps_noted, gathering_noted, appended_noted, cut_noted, is_under, number_of, from_elsewhere, from_deadline, due_in}
 use Rattle.calloop_laws.specs.Laws.{IsLedgerOf, one, how_many, is_armed_as, waits_as, is_number, is_call_as, came_timely, timely, event_of}
 use Rattle.calloop_laws.proofs.Counting.{counted-append, counted-armed_among, counted-split, counted-number_of, counted-due, counted-elsewhere, counted-cut, next_number, not_yet, on_time-append, on_time-elsewhere, on_time-due, on_time-tail, on_time-heads, own-append, entries-armed_among, entries-filter, entries-not_due, events-due, events-elsewhere, events-append, events-tail, own_more, is_armed_by, kept-by, unarmed, gathered-by, timely-elsewhere, timely-least, Falls, latest_apart}
 

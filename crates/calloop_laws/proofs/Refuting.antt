@@ -1,9 +1,9 @@
 -- What small lists of steps and of notes have.
 use Rattle.std.proofs.Common.{◌≡◌, ℕ, Bool, true, false, ◌⊎◌, inl, inr, List, [], ◌∷◌, ◌++◌, ◌<◌, refl, ◌∙◌, ap, arith}
 use Rattle.logbook.specs.Pages.{Book}
-use Rattle.calloop_wake.specs.declared.wake.notes.Note.TheVariants.{Looked, Marked}
+use Rattle.calloop_wake.specs.declared.notes.Note.TheVariants.{Looked, Marked}
 use Rattle.calloop_wake_laws.specs.Wakes.{Wakeup}
-use Rattle.calloop_core.specs.declared.sys.poll.Pending.{Pending}
+use Rattle.calloop_poll.specs.declared.sys.poll.Pending.{Pending}
 use Rattle.calloop_laws.specs.Examples.{with_a_source, history_of_a_ring, ring_before_it, turn_in_it, history_of_nothing, history_with_a_clearing, clearing_behind_it}
 use Rattle.calloop_laws.specs.Histories.{Unseen, Noted}
 use Rattle.calloop_laws.specs.Tied.{Taking}

@@ -1,11 +1,11 @@
 -- Reuse counts only grow, and are seen modulo the versions that there are.
 use Rattle.std.proofs.Common.{◌≡◌, ℕ, suc, zero, ◌+◌, ◌-◌, ◌*◌, ◌/◌, ◌%◌, ◌≤◌, ◌<◌, ◌⊎◌, List, [], ◌∷◌, refl, ap, sym, ◌∙◌, arith, inl, inr, Some, true, false, if◌then◌else◌, slice_get}
 use Rattle.std.proofs.Math.Nat.{mod-add-div}
-use Rattle.calloop_wake.specs.Widths.{versions}
-use Rattle.calloop_wake.specs.declared.list.Content.{Content}
-use Rattle.calloop_wake.specs.declared.list.Content.TheVariants.{Source}
-use Rattle.calloop_wake.specs.Slots.{with_change, is_empty}
-use Rattle.calloop.specs.loop_logic.Machine.{World, Registration, Change, Put, Claim, Swapped, Polls, Polling, Watching, Counting, Holds, Appended, Gathered, Cut, Ended, slot_with, next_use, with_claim, world_after, world_after_all}
+use Rattle.calloop_slots.specs.Widths.{versions}
+use Rattle.calloop_slots.specs.declared.list.Content.{Content}
+use Rattle.calloop_slots.specs.declared.list.Content.TheVariants.{Source}
+use Rattle.calloop_slots.specs.Slots.{with_change, is_empty}
+use Rattle.calloop_loop.specs.Machine.{World, Registration, Change, Put, Claim, Swapped, Polls, Polling, Watching, Counting, Holds, Appended, Gathered, Cut, Ended, slot_with, next_use, with_claim, world_after, world_after_all}
 use Rattle.calloop_laws.specs.Laws.{NamesLater}
 
 abbrev pub Older : {D : Type 0} → List (Registration D) → ℕ → Registration D → Type 0

@@ -4,40 +4,40 @@ use Rattle.std.specs.List.{Contains, slice_index_or}
 use Rattle.std.proofs.Common.{◌≡◌, ℕ, filter, not, cond, nat_eq, suc, zero, length, ◌⊎◌, ◌+◌, ◌<◌, ◌≤◌, List, [], ◌∷◌, ◌++◌, refl, ap, sym, ◌∙◌, subst, arith, None, Option, Result, Ok, Err, inl, inr, true, false, if◌then◌else◌, nat_le}
 use Rattle.std.proofs.lemmas.Bool.Decides.{nat_tests}
 use Rattle.std.specs.declared.io.Error.{Error as Cause}
-use Rattle.calloop_wake.specs.declared.error.Error.{Error}
-use Rattle.calloop_wake.specs.declared.error.InsertError.{InsertError}
-use Rattle.calloop_wake.specs.declared.token.Token.{Token}
-use Rattle.calloop_wake.specs.declared.token.RegistrationToken.{RegistrationToken}
-use Rattle.calloop_wake.specs.declared.wheel.Entry.{Entry}
-use Rattle.calloop_wake.specs.Deadlines.{Deadlines, is_due, is_other, entry_of, front, behind_front, due, not_due, AllBelow, IsAhead, IsSorted, IsOrdered}
-use Rattle.calloop_wake.proofs.Sorting.{IsSorted-filter, IsSorted-inserted, AllBelow-filter, AllBelow-inserted, AllBelow-more, AllBelow-free}
-use Rattle.calloop_core.specs.declared.sys.Readiness.{Readiness}
-use Rattle.calloop_wake.specs.declared.list.Content.{Content}
-use Rattle.calloop_wake.specs.declared.list.Content.TheVariants.{Vacant, Source, InTurn}
-use Rattle.calloop_wake.specs.Tokens.{registration_of}
-use Rattle.calloop_wake.specs.Slots.{content_at}
-use Rattle.calloop_core.specs.declared.sys.poll.Pending.{Pending}
-use Rattle.calloop_core.specs.declared.sources.source.PostAction.{PostAction}
-use Rattle.calloop_core.specs.declared.sources.source.PostAction.TheVariants.{Continue, Reregister, Disable as DisableIt, Remove}
-use Rattle.calloop_core.specs.sys.Pollers.{Outside}
-use Rattle.calloop_core.specs.sys.Polls.{PollView, PollStep, TakePass, PutBack, Arm, ArmAgain, Cancel, Call, ReadClock, Socket, Fault, poll_after, polls_after, AllAllowed, cut_from, with_turn_of, tail_of, head_of, with_pass, posted_events, polled_events, timer_event, timer_events}
-use Rattle.calloop_core.specs.sources.Deeds.{Lent}
-use Rattle.calloop_core.specs.sources.Meanings.{Meaning}
-use Rattle.calloop.specs.declared.loop_logic.asks.Asked.{Asked}
-use Rattle.calloop.specs.declared.loop_logic.asks.Idling.{Idling as Waiter}
-use Rattle.calloop.specs.declared.loop_logic.asks.Request.{Request}
-use Rattle.calloop.specs.declared.loop_logic.asks.Request.TheVariants.{Insert as AskInsert, Enable as AskEnable, Update as AskUpdate, Disable as AskDisable, Remove as AskRemove, Idle as AskIdle, Cancel as AskCancel}
-use Rattle.calloop.specs.loop_logic.Askings.{Asks, AskStep, Write, Take, Runs, ask_after, asks_after, begun_from, all_but_first, is_other_idle}
-use Rattle.calloop.specs.loop_logic.Machine.{World, View, IsNew, visible, Change, Put, Claim, Swapped, Polls, Polling, Watching, Counting, Holds, Appended, Gathered, Cut, Ended, AllFit, after_change, all_viewed}
-use Rattle.calloop.specs.loop_logic.Roles.{only, is_callers, is_adapter}
-use Rattle.calloop.specs.loop_logic.Rules.{Doing, Beginning, Settling, Sleeping, Waiting, Gathering, Noticing, Cutting, Serving, Ending, Returning, Idling, RunningIdles, ServingIdle, Leaving, Outcome, Step, Steps, SleptAs, SleptBy, NoticedBy, CutTo, CutFrom, ActedBy, ReturnedTo, vacate, InsertedBy, AskedIn, SettledIn, RemovedIn, OwnOr, Served, ServedAs, ServedFrom, RunFrom, DispatchedBy, Run, all_traced, action_of, after_turn, after_wait, appends}
-use Rattle.calloop.specs.loop_logic.Held.{HeldStep, Listed, Unlisted, Pend, Asking, Begun, Told, Owe, Paid, Cleared, Warned, StopNoted, IdleIn, IdleNew, IdleOut, IdlesTaken, IdleBegun}
+use Rattle.calloop_slots.specs.declared.error.Error.{Error}
+use Rattle.calloop_slots.specs.declared.error.InsertError.{InsertError}
+use Rattle.calloop_slots.specs.declared.token.Token.{Token}
+use Rattle.calloop_slots.specs.declared.token.RegistrationToken.{RegistrationToken}
+use Rattle.calloop_slots.specs.declared.wheel.Entry.{Entry}
+use Rattle.calloop_slots.specs.Deadlines.{Deadlines, is_due, is_other, entry_of, front, behind_front, due, not_due, AllBelow, IsAhead, IsSorted, IsOrdered}
+use Rattle.calloop_slots.proofs.Sorting.{IsSorted-filter, IsSorted-inserted, AllBelow-filter, AllBelow-inserted, AllBelow-more, AllBelow-free}
+use Rattle.calloop_poll.specs.declared.sys.Readiness.{Readiness}
+use Rattle.calloop_slots.specs.declared.list.Content.{Content}
+use Rattle.calloop_slots.specs.declared.list.Content.TheVariants.{Vacant, Source, InTurn}
+use Rattle.calloop_slots.specs.Tokens.{registration_of}
+use Rattle.calloop_slots.specs.Slots.{content_at}
+use Rattle.calloop_poll.specs.declared.sys.poll.Pending.{Pending}
+use Rattle.calloop_sources.specs.declared.sources.source.PostAction.{PostAction}
+use Rattle.calloop_sources.specs.declared.sources.source.PostAction.TheVariants.{Continue, Reregister, Disable as DisableIt, Remove}
+use Rattle.calloop_poll.specs.sys.Pollers.{Outside}
+use Rattle.calloop_poll.specs.sys.Polls.{PollView, PollStep, TakePass, PutBack, Arm, ArmAgain, Cancel, Call, ReadClock, Socket, Fault, poll_after, polls_after, AllAllowed, cut_from, with_turn_of, tail_of, head_of, with_pass, posted_events, polled_events, timer_event, timer_events}
+use Rattle.calloop_sources.specs.sources.Deeds.{Lent}
+use Rattle.calloop_sources.specs.sources.Meanings.{Meaning}
+use Rattle.calloop_loop.specs.declared.asks.Asked.{Asked}
+use Rattle.calloop_loop.specs.declared.asks.Idling.{Idling as Waiter}
+use Rattle.calloop_loop.specs.declared.asks.Request.{Request}
+use Rattle.calloop_loop.specs.declared.asks.Request.TheVariants.{Insert as AskInsert, Enable as AskEnable, Update as AskUpdate, Disable as AskDisable, Remove as AskRemove, Idle as AskIdle, Cancel as AskCancel}
+use Rattle.calloop_loop.specs.Askings.{Asks, AskStep, Write, Take, Runs, ask_after, asks_after, begun_from, all_but_first, is_other_idle}
+use Rattle.calloop_loop.specs.Machine.{World, View, IsNew, visible, Change, Put, Claim, Swapped, Polls, Polling, Watching, Counting, Holds, Appended, Gathered, Cut, Ended, AllFit, after_change, all_viewed}
+use Rattle.calloop_loop.specs.Roles.{only, is_callers, is_adapter}
+use Rattle.calloop_loop.specs.Rules.{Doing, Beginning, Settling, Sleeping, Waiting, Gathering, Noticing, Cutting, Serving, Ending, Returning, Idling, RunningIdles, ServingIdle, Leaving, Outcome, Step, Steps, SleptAs, SleptBy, NoticedBy, CutTo, CutFrom, ActedBy, ReturnedTo, vacate, InsertedBy, AskedIn, SettledIn, RemovedIn, OwnOr, Served, ServedAs, ServedFrom, RunFrom, DispatchedBy, Run, all_traced, action_of, after_turn, after_wait, appends}
+use Rattle.calloop_loop.specs.Held.{HeldStep, Listed, Unlisted, Pend, Asking, Begun, Told, Owe, Paid, Cleared, Warned, StopNoted, IdleIn, IdleNew, IdleOut, IdlesTaken, IdleBegun}
 use Rattle.calloop_laws.specs.Laws.{flatten}
 use Rattle.calloop_laws.specs.Served.{Account, first_of, events_cut, gatherings, Gathers, idles_begun, idles_cancelled, rounds, RunsRound, IsAccountOf, NothingIsLeft, AllAreCut, AllLater, NoneIsLate, DueAreCut, IdlesRan}
-use Rattle.calloop.specs.declared.loop_logic.LoopCall.{LoopCall}
-use Rattle.calloop.specs.declared.loop_logic.LoopAnswer.{LoopAnswer}
+use Rattle.calloop_loop.specs.declared.LoopCall.{LoopCall}
+use Rattle.calloop_loop.specs.declared.LoopAnswer.{LoopAnswer}
 use Rattle.calloop_laws.proofs.Gone.{case_fit, viewed-joined}
-use Rattle.calloop.proofs.Seen.{viewed-append, seen-all_traced}
+use Rattle.calloop_loop.proofs.Seen.{viewed-append, seen-all_traced}
 
 -- Changes that put nothing into the batch, and begin no round of idles.
 

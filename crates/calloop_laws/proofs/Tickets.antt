@@ -1,19 +1,19 @@
 -- Each ticket stands at most once, and its answer is handed out at most once.
 use Rattle.std.proofs.Common.{◌≡◌, ℕ, ◌+◌, ◌≤◌, List, [], ◌∷◌, ◌++◌, refl, arith, Some, None, Option, true, false, if◌then◌else◌, nat_eq, nat_lt}
 use Rattle.std.proofs.lemmas.Bool.Decides.{nat_tests}
-use Rattle.calloop_core.specs.sources.Deeds.{Lent}
-use Rattle.calloop_core.specs.sources.Meanings.{Meaning}
-use Rattle.calloop_core.specs.sys.Pollers.{Outside}
-use Rattle.calloop.specs.declared.loop_logic.LoopCall.{LoopCall}
-use Rattle.calloop.specs.declared.loop_logic.LoopAnswer.{LoopAnswer}
-use Rattle.calloop.specs.declared.loop_logic.asks.Answer.{Answer}
-use Rattle.calloop.specs.declared.loop_logic.asks.Answer.TheVariants.{Done}
-use Rattle.calloop.specs.declared.loop_logic.asks.Answered.{Answered}
-use Rattle.calloop.specs.declared.loop_logic.asks.Asked.{Asked}
-use Rattle.calloop.specs.loop_logic.Askings.{Asks, AskStep, Write, Take, Runs, ask_after, asks_after, all_handed, handed_by, without, taken_from, answers_to, begun_from, is_since}
-use Rattle.calloop.specs.loop_logic.Held.{Held, HeldStep, Listed, Unlisted, Pend, Asking, Begun, Told, Owe, Paid, Cleared, Warned, StopNoted, IdleIn, IdleNew, IdleOut, IdlesTaken, IdleBegun, held_after}
-use Rattle.calloop.specs.loop_logic.Machine.{World, IsNew, Change, Put, Claim, Swapped, Polls, Polling, Watching, Counting, Gathered, Appended, Holds, Cut, Ended, world_after, world_after_all, handed_in}
-use Rattle.calloop.specs.loop_logic.Rules.{Run, all_traced}
+use Rattle.calloop_sources.specs.sources.Deeds.{Lent}
+use Rattle.calloop_sources.specs.sources.Meanings.{Meaning}
+use Rattle.calloop_poll.specs.sys.Pollers.{Outside}
+use Rattle.calloop_loop.specs.declared.LoopCall.{LoopCall}
+use Rattle.calloop_loop.specs.declared.LoopAnswer.{LoopAnswer}
+use Rattle.calloop_loop.specs.declared.asks.Answer.{Answer}
+use Rattle.calloop_loop.specs.declared.asks.Answer.TheVariants.{Done}
+use Rattle.calloop_loop.specs.declared.asks.Answered.{Answered}
+use Rattle.calloop_loop.specs.declared.asks.Asked.{Asked}
+use Rattle.calloop_loop.specs.Askings.{Asks, AskStep, Write, Take, Runs, ask_after, asks_after, all_handed, handed_by, without, taken_from, answers_to, begun_from, is_since}
+use Rattle.calloop_loop.specs.Held.{Held, HeldStep, Listed, Unlisted, Pend, Asking, Begun, Told, Owe, Paid, Cleared, Warned, StopNoted, IdleIn, IdleNew, IdleOut, IdlesTaken, IdleBegun, held_after}
+use Rattle.calloop_loop.specs.Machine.{World, IsNew, Change, Put, Claim, Swapped, Polls, Polling, Watching, Counting, Gathered, Appended, Holds, Cut, Ended, world_after, world_after_all, handed_in}
+use Rattle.calloop_loop.specs.Rules.{Run, all_traced}
 use Rattle.calloop_laws.specs.Laws.{how_many, is_number, is_asked_as, is_answered_as, stands_as, times_standing, IsTicketed}
 use Rattle.calloop_laws.proofs.Counting.{counted-append, counted-filter, next_number}
 

@@ -1,25 +1,25 @@
 -- What was posted as a dispatch took keys is handed out by its end.
 use Rattle.std.proofs.Common.{◌≡◌, ℕ, ◌<◌, ◌≤◌, Bool, true, false, ◌||◌, inl, inr, Some, Ok, Err, List, [], ◌∷◌, ◌++◌, length, refl, sym, ◌∙◌, ap, subst, arith}
 use Rattle.std.specs.List.{Contains}
-use Rattle.calloop_wake.specs.wake.Boards.{is_marked, bound, keys_within}
-use Rattle.calloop_wake.specs.wake.Cells.{IsStanding}
+use Rattle.calloop_wake.specs.Boards.{is_marked, bound, keys_within}
+use Rattle.calloop_wake.specs.Cells.{IsStanding}
 use Rattle.calloop_wake_laws.specs.Kinds.{Born, every_kind, new_cell}
 use Rattle.calloop_wake_laws.specs.Wakes.{Kind, WakeWorld, Post, Unpost, after, start, IsCovered}
-use Rattle.calloop_wake.specs.declared.wake.notes.Note.{Note}
-use Rattle.calloop_wake.specs.declared.wake.notes.Note.TheVariants.{Counted, Unposted, Marked}
+use Rattle.calloop_wake.specs.declared.notes.Note.{Note}
+use Rattle.calloop_wake.specs.declared.notes.Note.TheVariants.{Counted, Unposted, Marked}
 use Rattle.calloop_wake_laws.proofs.BothLawful.{covered-cells}
-use Rattle.calloop_core.specs.sources.Deeds.{Lent}
-use Rattle.calloop_core.specs.sources.Meanings.{Meaning}
-use Rattle.calloop_core.specs.sys.Polls.{posted_event}
-use Rattle.calloop_core.specs.sys.Pollers.{Outside}
-use Rattle.calloop.specs.declared.loop_logic.LoopCall.{LoopCall}
-use Rattle.calloop.specs.declared.loop_logic.LoopCall.TheVariants.{Dispatch}
-use Rattle.calloop.specs.declared.loop_logic.LoopAnswer.{LoopAnswer}
-use Rattle.calloop.specs.declared.loop_logic.LoopAnswer.TheVariants.{Inserted, Enabled, Updated, Disabled, Removed, Released, Exchanged, Dispatched, IdleInserted, Cancelled, Answered, StopForgotten, Stopped, Poller as OldPoller}
-use Rattle.calloop.specs.loop_logic.Askings.{Asks, Runs}
-use Rattle.calloop.specs.loop_logic.Machine.{World, View, Change, visible}
-use Rattle.calloop.specs.loop_logic.Rules.{after_changes, all_traced, Case, Run}
-use Rattle.calloop.proofs.Seen.{seen-all_traced}
+use Rattle.calloop_sources.specs.sources.Deeds.{Lent}
+use Rattle.calloop_sources.specs.sources.Meanings.{Meaning}
+use Rattle.calloop_poll.specs.sys.Polls.{posted_event}
+use Rattle.calloop_poll.specs.sys.Pollers.{Outside}
+use Rattle.calloop_loop.specs.declared.LoopCall.{LoopCall}
+use Rattle.calloop_loop.specs.declared.LoopCall.TheVariants.{Dispatch}
+use Rattle.calloop_loop.specs.declared.LoopAnswer.{LoopAnswer}
+use Rattle.calloop_loop.specs.declared.LoopAnswer.TheVariants.{Inserted, Enabled, Updated, Disabled, Removed, Released, Exchanged, Dispatched, IdleInserted, Cancelled, Answered, StopForgotten, Stopped, Poller as OldPoller}
+use Rattle.calloop_loop.specs.Askings.{Asks, Runs}
+use Rattle.calloop_loop.specs.Machine.{World, View, Change, visible}
+use Rattle.calloop_loop.specs.Rules.{after_changes, all_traced, Case, Run}
+use Rattle.calloop_loop.proofs.Seen.{seen-all_traced}
 use Rattle.calloop_laws.specs.Handed.{IsHandedOut, IsNotedDispatch, looked}
 use Rattle.calloop_laws.specs.Histories.{Happening, Noted, IsHistory, end_of, schedule_of, notes_of, OpensNone, IsMadeIn}
 use Rattle.calloop_laws.specs.Tied.{IsPinged, IsRung, world_at, Taking, IsServedAt, IsServedOf, IfServed, OfEachDispatch, IsServedWithin}

@@ -3,30 +3,30 @@
 -- dispatch cuts that first, without a wait.
 use Rattle.std.specs.Prelude.{◌≡◌, ℕ, false, true, List, [], ◌∷◌, Some, None, Ok, Err}
 use Rattle.logbook.specs.Pages.{Book}
-use Rattle.calloop_wake.specs.declared.error.Error.TheVariants.{OutOfMemory}
-use Rattle.calloop_wake.specs.declared.list.Content.TheVariants.{Source, InTurn}
-use Rattle.calloop_wake.specs.declared.wake.notes.Note.TheVariants.{Counted, Looked, Marked}
-use Rattle.calloop_wake.specs.Tokens.{key_of}
-use Rattle.calloop_wake.specs.wake.Watches.{with_note}
-use Rattle.calloop_core.specs.declared.sources.source.PostAction.TheVariants.{Continue, Reregister}
-use Rattle.calloop_core.specs.declared.sys.Mode.TheVariants.{Level}
-use Rattle.calloop_core.specs.declared.sys.Readiness.{Readiness}
-use Rattle.calloop_core.specs.declared.sys.Watched.{Watched}
-use Rattle.calloop_core.specs.sources.Deeds.{Lent}
-use Rattle.calloop_core.specs.sources.Meanings.{Meaning, still}
-use Rattle.calloop_core.specs.sys.Pollers.{Outside}
-use Rattle.calloop_core.specs.sys.Polls.{Socket, after_count, marks_taken, ready_to_read}
-use Rattle.calloop_core.specs.sys.Tables.{Enter}
-use Rattle.calloop.specs.declared.loop_logic.LoopCall.{LoopCall}
-use Rattle.calloop.specs.declared.loop_logic.LoopCall.TheVariants.{Insert, Dispatch}
-use Rattle.calloop.specs.declared.loop_logic.LoopAnswer.{LoopAnswer}
-use Rattle.calloop.specs.declared.loop_logic.LoopAnswer.TheVariants.{Inserted, Dispatched}
-use Rattle.calloop.specs.declared.loop_logic.asks.Answer.TheVariants.{Done}
-use Rattle.calloop.specs.declared.loop_logic.asks.Request.TheVariants.{Update}
-use Rattle.calloop.specs.loop_logic.Askings.{Asks, Write}
-use Rattle.calloop.specs.loop_logic.Held.{Listed, Pend, Asking, Begun, Told, Cleared, IdlesTaken}
-use Rattle.calloop.specs.loop_logic.Machine.{Claim, Put, Polls, Polling, Watching, Counting, Holds, Gathered, Cut, Ended}
-use Rattle.calloop.specs.loop_logic.Rules.{all_traced}
+use Rattle.calloop_slots.specs.declared.error.Error.TheVariants.{OutOfMemory}
+use Rattle.calloop_slots.specs.declared.list.Content.TheVariants.{Source, InTurn}
+use Rattle.calloop_wake.specs.declared.notes.Note.TheVariants.{Counted, Looked, Marked}
+use Rattle.calloop_slots.specs.Tokens.{key_of}
+use Rattle.calloop_wake.specs.Watches.{with_note}
+use Rattle.calloop_sources.specs.declared.sources.source.PostAction.TheVariants.{Continue, Reregister}
+use Rattle.calloop_poll.specs.declared.sys.Mode.TheVariants.{Level}
+use Rattle.calloop_poll.specs.declared.sys.Readiness.{Readiness}
+use Rattle.calloop_poll.specs.declared.sys.Watched.{Watched}
+use Rattle.calloop_sources.specs.sources.Deeds.{Lent}
+use Rattle.calloop_sources.specs.sources.Meanings.{Meaning, still}
+use Rattle.calloop_poll.specs.sys.Pollers.{Outside}
+use Rattle.calloop_poll.specs.sys.Polls.{Socket, after_count, marks_taken, ready_to_read}
+use Rattle.calloop_poll.specs.sys.Tables.{Enter}
+use Rattle.calloop_loop.specs.declared.LoopCall.{LoopCall}
+use Rattle.calloop_loop.specs.declared.LoopCall.TheVariants.{Insert, Dispatch}
+use Rattle.calloop_loop.specs.declared.LoopAnswer.{LoopAnswer}
+use Rattle.calloop_loop.specs.declared.LoopAnswer.TheVariants.{Inserted, Dispatched}
+use Rattle.calloop_loop.specs.declared.asks.Answer.TheVariants.{Done}
+use Rattle.calloop_loop.specs.declared.asks.Request.TheVariants.{Update}
+use Rattle.calloop_loop.specs.Askings.{Asks, Write}
+use Rattle.calloop_loop.specs.Held.{Listed, Pend, Asking, Begun, Told, Cleared, IdlesTaken}
+use Rattle.calloop_loop.specs.Machine.{Claim, Put, Polls, Polling, Watching, Counting, Holds, Gathered, Cut, Ended}
+use Rattle.calloop_loop.specs.Rules.{all_traced}
 use Rattle.calloop_laws.specs.Wrong.{first_token, first_registration}
 use Rattle.calloop_laws.specs.WrongRuns.{SmallWorld, SmallChange, idle_world}
 

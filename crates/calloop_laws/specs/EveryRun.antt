@@ -1,13 +1,13 @@
 -- What is said of every run of the loop's machine. Calloop says none of it.
 use Rattle.std.specs.Prelude.{◌≡◌, List}
-use Rattle.calloop_core.specs.sources.Deeds.{Lent}
-use Rattle.calloop_core.specs.sources.Meanings.{Meaning}
-use Rattle.calloop_core.specs.sys.Pollers.{Outside}
-use Rattle.calloop.specs.declared.loop_logic.LoopCall.{LoopCall}
-use Rattle.calloop.specs.declared.loop_logic.LoopAnswer.{LoopAnswer}
-use Rattle.calloop.specs.loop_logic.Askings.{Asks, Runs}
-use Rattle.calloop.specs.loop_logic.Machine.{World, Change, IsNew}
-use Rattle.calloop.specs.loop_logic.Rules.{Run}
+use Rattle.calloop_sources.specs.sources.Deeds.{Lent}
+use Rattle.calloop_sources.specs.sources.Meanings.{Meaning}
+use Rattle.calloop_poll.specs.sys.Pollers.{Outside}
+use Rattle.calloop_loop.specs.declared.LoopCall.{LoopCall}
+use Rattle.calloop_loop.specs.declared.LoopAnswer.{LoopAnswer}
+use Rattle.calloop_loop.specs.Askings.{Asks, Runs}
+use Rattle.calloop_loop.specs.Machine.{World, Change, IsNew}
+use Rattle.calloop_loop.specs.Rules.{Run}
 use Rattle.calloop_laws.specs.Laws.{IsSound, IsLedgerOf, IsTold, IsTicketed, AllFresh, changes_of, moments_of}
 use Rattle.calloop_laws.specs.Homes.{AllAtHome}
 use Rattle.calloop_laws.specs.Freshness.{AllFreshCalls, AllKeepKeys}

@@ -2,34 +2,34 @@
 -- whose wait ends at 5 calls it once, with the deadline that it was armed for.
 use Rattle.std.specs.Prelude.{◌≡◌, false, true, List, [], ◌∷◌, Some, None, Ok}
 use Rattle.logbook.specs.Pages.{Book}
-use Rattle.calloop_wake.specs.declared.error.Error.TheVariants.{OutOfMemory}
-use Rattle.calloop_wake.specs.declared.wheel.Instant.{Instant}
-use Rattle.calloop_wake.specs.declared.wake.notes.Note.TheVariants.{Counted, Looked, Marked}
-use Rattle.calloop_wake.specs.declared.list.Content.TheVariants.{Vacant, Source, InTurn}
-use Rattle.calloop_wake.specs.wake.Watches.{with_note}
-use Rattle.calloop_core.specs.declared.sources.dispatch.Dispatcher.{Dispatcher}
-use Rattle.calloop_core.specs.declared.sources.source.PostAction.TheVariants.{Continue}
-use Rattle.calloop_core.specs.declared.timer.Timer.{Timer}
-use Rattle.calloop_core.specs.declared.timer.Registration.{Registration}
-use Rattle.calloop_core.specs.declared.timer.TimeoutAction.{TimeoutAction}
-use Rattle.calloop_core.specs.declared.timer.TimeoutAction.TheVariants.{Drop}
-use Rattle.calloop_core.specs.sys.Pollers.{Outside}
-use Rattle.calloop_core.specs.sys.Polls.{Arm, Cancel, Call}
-use Rattle.calloop_core.specs.sources.Deeds.{Lent}
-use Rattle.calloop_core.specs.sources.Meanings.{Meaning, with_callback}
-use Rattle.calloop_core.specs.Timers.{timer_meaning, fresh_timer, registered_as, with_call}
-use Rattle.calloop.specs.declared.loop_logic.LoopCall.{LoopCall}
-use Rattle.calloop.specs.declared.loop_logic.LoopCall.TheVariants.{Insert, Exchange, Dispatch}
-use Rattle.calloop.specs.declared.loop_logic.LoopAnswer.{LoopAnswer}
-use Rattle.calloop.specs.declared.loop_logic.LoopAnswer.TheVariants.{Inserted, Exchanged, Dispatched}
-use Rattle.calloop.specs.declared.loop_logic.asks.Answer.TheVariants.{Removed}
-use Rattle.calloop.specs.loop_logic.Askings.{Asks, Reaches, Runs, no_asks}
+use Rattle.calloop_slots.specs.declared.error.Error.TheVariants.{OutOfMemory}
+use Rattle.calloop_slots.specs.declared.wheel.Instant.{Instant}
+use Rattle.calloop_wake.specs.declared.notes.Note.TheVariants.{Counted, Looked, Marked}
+use Rattle.calloop_slots.specs.declared.list.Content.TheVariants.{Vacant, Source, InTurn}
+use Rattle.calloop_wake.specs.Watches.{with_note}
+use Rattle.calloop_sources.specs.declared.sources.dispatch.Dispatcher.{Dispatcher}
+use Rattle.calloop_sources.specs.declared.sources.source.PostAction.TheVariants.{Continue}
+use Rattle.calloop_sources.specs.declared.timer.Timer.{Timer}
+use Rattle.calloop_sources.specs.declared.timer.Registration.{Registration}
+use Rattle.calloop_sources.specs.declared.timer.TimeoutAction.{TimeoutAction}
+use Rattle.calloop_sources.specs.declared.timer.TimeoutAction.TheVariants.{Drop}
+use Rattle.calloop_poll.specs.sys.Pollers.{Outside}
+use Rattle.calloop_poll.specs.sys.Polls.{Arm, Cancel, Call}
+use Rattle.calloop_sources.specs.sources.Deeds.{Lent}
+use Rattle.calloop_sources.specs.sources.Meanings.{Meaning, with_callback}
+use Rattle.calloop_sources.specs.Timers.{timer_meaning, fresh_timer, registered_as, with_call}
+use Rattle.calloop_loop.specs.declared.LoopCall.{LoopCall}
+use Rattle.calloop_loop.specs.declared.LoopCall.TheVariants.{Insert, Exchange, Dispatch}
+use Rattle.calloop_loop.specs.declared.LoopAnswer.{LoopAnswer}
+use Rattle.calloop_loop.specs.declared.LoopAnswer.TheVariants.{Inserted, Exchanged, Dispatched}
+use Rattle.calloop_loop.specs.declared.asks.Answer.TheVariants.{Removed}
+use Rattle.calloop_loop.specs.Askings.{Asks, Reaches, Runs, no_asks}
 use Rattle.calloop_laws.specs.EveryRun.{LoopRun}
 use Rattle.calloop_laws.specs.Laws.{moments_of, changes_of}
-use Rattle.calloop.specs.loop_logic.Held.{Listed, Unlisted, Pend, Asking, Cleared, Warned, Paid, IdlesTaken}
-use Rattle.calloop.specs.loop_logic.Ledgers.{new_ledger}
-use Rattle.calloop.specs.loop_logic.Machine.{World, Change, Claim, Put, Swapped, Polls, Polling, Watching, Counting, Holds, Gathered, Cut, Ended}
-use Rattle.calloop.specs.loop_logic.Rules.{all_traced}
+use Rattle.calloop_loop.specs.Held.{Listed, Unlisted, Pend, Asking, Cleared, Warned, Paid, IdlesTaken}
+use Rattle.calloop_loop.specs.Ledgers.{new_ledger}
+use Rattle.calloop_loop.specs.Machine.{World, Change, Claim, Put, Swapped, Polls, Polling, Watching, Counting, Holds, Gathered, Cut, Ended}
+use Rattle.calloop_loop.specs.Rules.{all_traced}
 use Rattle.calloop_laws.specs.Wrong.{first_token, first_registration}
 
 -- a loop over timers whose callback has them leave, and asks for nothing

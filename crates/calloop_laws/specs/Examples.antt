@@ -1,24 +1,24 @@
 -- Small histories and dispatches that the laws rule out, and one of each that there is.
 use Rattle.std.specs.Prelude.{true, false, List, [], ◌∷◌, Some, None, Ok}
 use Rattle.logbook.specs.Pages.{Book}
-use Rattle.calloop_wake.specs.declared.list.Content.TheVariants.{Source, InTurn}
-use Rattle.calloop_wake.specs.declared.wake.notes.Note.TheVariants.{Counted, Looked, Unposted, Marked}
-use Rattle.calloop_wake.specs.wake.Boards.{fresh_pass}
-use Rattle.calloop_wake.specs.wake.Cells.{fresh}
+use Rattle.calloop_slots.specs.declared.list.Content.TheVariants.{Source, InTurn}
+use Rattle.calloop_wake.specs.declared.notes.Note.TheVariants.{Counted, Looked, Unposted, Marked}
+use Rattle.calloop_wake.specs.Boards.{fresh_pass}
+use Rattle.calloop_wake.specs.Cells.{fresh}
 use Rattle.calloop_wake_laws.specs.Kinds.{First, every_kind}
 use Rattle.calloop_wake_laws.specs.Lost.{of_pings}
 use Rattle.calloop_wake_laws.specs.PingKind.{Ring, EndTurn}
 use Rattle.calloop_wake_laws.specs.Wakes.{WakeWorld, At, ClearKey, SetKey, OpenTurn, OpenPlace, Post, Wakeup, with_cell}
-use Rattle.calloop_wake.specs.wake.Watches.{with_note}
-use Rattle.calloop_core.specs.declared.sources.source.PostAction.TheVariants.{Continue}
-use Rattle.calloop_core.specs.sys.Polls.{posted_event}
-use Rattle.calloop.specs.declared.loop_logic.LoopAnswer.TheVariants.{Dispatched}
-use Rattle.calloop.specs.declared.loop_logic.LoopCall.TheVariants.{Dispatch}
-use Rattle.calloop.specs.loop_logic.Held.{Pend, Asking, Cleared, IdlesTaken}
-use Rattle.calloop.specs.loop_logic.Machine.{Put, Polls, Polling, Watching, Counting, Holds, Gathered, Cut, Ended}
+use Rattle.calloop_wake.specs.Watches.{with_note}
+use Rattle.calloop_sources.specs.declared.sources.source.PostAction.TheVariants.{Continue}
+use Rattle.calloop_poll.specs.sys.Polls.{posted_event}
+use Rattle.calloop_loop.specs.declared.LoopAnswer.TheVariants.{Dispatched}
+use Rattle.calloop_loop.specs.declared.LoopCall.TheVariants.{Dispatch}
+use Rattle.calloop_loop.specs.Held.{Pend, Asking, Cleared, IdlesTaken}
+use Rattle.calloop_loop.specs.Machine.{Put, Polls, Polling, Watching, Counting, Holds, Gathered, Cut, Ended}
 use Rattle.calloop_laws.specs.Laws.{moments_of, changes_of}
-use Rattle.calloop.specs.loop_logic.Ledgers.{new_ledger}
-use Rattle.calloop.specs.loop_logic.Rules.{all_traced}
+use Rattle.calloop_loop.specs.Ledgers.{new_ledger}
+use Rattle.calloop_loop.specs.Rules.{all_traced}
 use Rattle.calloop_laws.specs.Unserved.{SmallView}
 use Rattle.calloop_laws.specs.WrongRuns.{SmallChange, SmallRun, SmallWorld, untouched_poll, untouched_held}
 use Rattle.calloop_laws.specs.Histories.{Happening, Unseen, Noted}

@@ -2,20 +2,20 @@
 -- their answers, and of the relations of its sources and idles. calloop's sources hold nothing of their loop that could be brought.
 use Rattle.std.specs.Prelude.{List, [], ◌∷◌, Ok}
 use Rattle.std.proofs.Common.{sym, subst}
-use Rattle.calloop_wake.specs.declared.token.Token.{Token}
-use Rattle.calloop_core.specs.declared.sys.Readiness.{Readiness}
-use Rattle.calloop_core.specs.sys.Polls.{PollView, PollStep}
-use Rattle.calloop_core.specs.sources.Deeds.{Turned, Lent}
-use Rattle.calloop_core.specs.sources.Meanings.{Meaning}
-use Rattle.calloop_core.specs.sources.Quiet.{IsQuiet, IsQuietRun}
-use Rattle.calloop.specs.declared.loop_logic.LoopCall.{LoopCall}
-use Rattle.calloop.specs.declared.loop_logic.LoopCall.TheVariants.{Insert, Exchange}
-use Rattle.calloop.specs.declared.loop_logic.LoopAnswer.{LoopAnswer}
-use Rattle.calloop.specs.declared.loop_logic.LoopAnswer.TheVariants.{Exchanged}
-use Rattle.calloop.specs.declared.loop_logic.asks.Asked.{Asked}
-use Rattle.calloop.specs.declared.loop_logic.asks.Request.{Request}
-use Rattle.calloop.specs.declared.loop_logic.asks.Request.TheVariants.{Insert as AskInsert}
-use Rattle.calloop.specs.loop_logic.Askings.{Asks, Runs}
+use Rattle.calloop_slots.specs.declared.token.Token.{Token}
+use Rattle.calloop_poll.specs.declared.sys.Readiness.{Readiness}
+use Rattle.calloop_poll.specs.sys.Polls.{PollView, PollStep}
+use Rattle.calloop_sources.specs.sources.Deeds.{Turned, Lent}
+use Rattle.calloop_sources.specs.sources.Meanings.{Meaning}
+use Rattle.calloop_sources.specs.sources.Quiet.{IsQuiet, IsQuietRun}
+use Rattle.calloop_loop.specs.declared.LoopCall.{LoopCall}
+use Rattle.calloop_loop.specs.declared.LoopCall.TheVariants.{Insert, Exchange}
+use Rattle.calloop_loop.specs.declared.LoopAnswer.{LoopAnswer}
+use Rattle.calloop_loop.specs.declared.LoopAnswer.TheVariants.{Exchanged}
+use Rattle.calloop_loop.specs.declared.asks.Asked.{Asked}
+use Rattle.calloop_loop.specs.declared.asks.Request.{Request}
+use Rattle.calloop_loop.specs.declared.asks.Request.TheVariants.{Insert as AskInsert}
+use Rattle.calloop_loop.specs.Askings.{Asks, Runs}
 use Rattle.calloop_laws.specs.Laws.{IsFresh, IsNoMore, Any, HasNoMoreKeys}
 
 -- what it inserts is such

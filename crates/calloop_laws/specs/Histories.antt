@@ -2,10 +2,10 @@
 -- is true of the board at its moment, since it is made within the board's lock; other parties' steps come anywhere between. That what a
 -- watch notes and what happens to the board is one history, is what the lock's contract gives: it's a premise here, and no law.
 use Rattle.std.specs.Prelude.{◌≡◌, ◌-◌, ◌^◌, ◌<◌, List, [], ◌∷◌, ◌++◌, length}
-use Rattle.calloop_wake.specs.wake.Boards.{any_marked, bound, keys_within}
+use Rattle.calloop_wake.specs.Boards.{any_marked, bound, keys_within}
 use Rattle.calloop_wake_laws.specs.Wakes.{Kind, WakeWorld, WakeStep, OpenPlace, Unpost, Look, Needs, after}
-use Rattle.calloop_wake.specs.declared.wake.notes.Note.{Note}
-use Rattle.calloop_wake.specs.declared.wake.notes.Note.TheVariants.{Counted, Looked, Unposted, Marked}
+use Rattle.calloop_wake.specs.declared.notes.Note.{Note}
+use Rattle.calloop_wake.specs.declared.notes.Note.TheVariants.{Counted, Looked, Unposted, Marked}
 
 pub data Happening (O : Type 0) : Type 0 where
   -- a step of which no watch has a note, as a ring, a post, or a wait that returns

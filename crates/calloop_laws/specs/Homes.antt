@@ -1,10 +1,10 @@
 -- Where the sources of a loop are registered.
 use Rattle.std.specs.Prelude.{◌≡◌, ℕ, ◌%◌, Some, slice_get}
-use Rattle.calloop_wake.specs.Widths.{versions}
-use Rattle.calloop_wake.specs.declared.list.Content.TheVariants.{Source}
-use Rattle.calloop_core.specs.sources.Deeds.{Lent}
-use Rattle.calloop_core.specs.sources.Meanings.{Meaning, IsAtHome}
-use Rattle.calloop.specs.loop_logic.Machine.{World, Registration}
+use Rattle.calloop_slots.specs.Widths.{versions}
+use Rattle.calloop_slots.specs.declared.list.Content.TheVariants.{Source}
+use Rattle.calloop_sources.specs.sources.Deeds.{Lent}
+use Rattle.calloop_sources.specs.sources.Meanings.{Meaning, IsAtHome}
+use Rattle.calloop_loop.specs.Machine.{World, Registration}
 
 -- each source that stands in a slot has keys of that slot alone, under its reuse count modulo the versions that there are
 abbrev pub AllAtHome : {D I P X Q : Type 0} → Meaning D P (Lent X Q) → World D I P → Type 0

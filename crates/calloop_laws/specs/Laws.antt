@@ -26,23 +26,23 @@ use Rattle.std.specs.Prelude.{
   None,
   slice_get,
 }
-use Rattle.calloop_wake.specs.Widths.{versions}
-use Rattle.calloop_wake.specs.declared.token.Token.{Token}
-use Rattle.calloop_wake.specs.declared.list.Content.{Content}
-use Rattle.calloop_wake.specs.declared.list.Content.TheVariants.{Source}
-use Rattle.calloop_core.specs.declared.sys.poll.Pending.{Pending}
-use Rattle.calloop_core.specs.sys.Polls.{PollView}
-use Rattle.calloop_core.specs.sources.Holdings.{Free, IsWithin}
-use Rattle.calloop_core.specs.sources.Deeds.{Lent}
-use Rattle.calloop_core.specs.sources.Meanings.{Meaning}
-use Rattle.calloop.specs.loop_logic.Ledgers.{Ledger, Arming, NumberedEntry, Origin, Elsewhere, Due, Waiting, TimerCall, entry_in}
-use Rattle.calloop_wake.specs.declared.token.RegistrationToken.{RegistrationToken}
-use Rattle.calloop_wake.specs.Slots.{content_at, is_empty}
-use Rattle.calloop.specs.declared.loop_logic.asks.Asked.{Asked}
-use Rattle.calloop.specs.declared.loop_logic.asks.Answered.{Answered}
-use Rattle.calloop.specs.loop_logic.Askings.{Asks}
-use Rattle.calloop.specs.loop_logic.Held.{is_listed}
-use Rattle.calloop.specs.loop_logic.Machine.{World, Registration, Change, Claim, Swapped, Cut, world_after, is_free, slot_of}
+use Rattle.calloop_slots.specs.Widths.{versions}
+use Rattle.calloop_slots.specs.declared.token.Token.{Token}
+use Rattle.calloop_slots.specs.declared.list.Content.{Content}
+use Rattle.calloop_slots.specs.declared.list.Content.TheVariants.{Source}
+use Rattle.calloop_poll.specs.declared.sys.poll.Pending.{Pending}
+use Rattle.calloop_poll.specs.sys.Polls.{PollView}
+use Rattle.calloop_sources.specs.sources.Holdings.{Free, IsWithin}
+use Rattle.calloop_sources.specs.sources.Deeds.{Lent}
+use Rattle.calloop_sources.specs.sources.Meanings.{Meaning}
+use Rattle.calloop_loop.specs.Ledgers.{Ledger, Arming, NumberedEntry, Origin, Elsewhere, Due, Waiting, TimerCall, entry_in}
+use Rattle.calloop_slots.specs.declared.token.RegistrationToken.{RegistrationToken}
+use Rattle.calloop_slots.specs.Slots.{content_at, is_empty}
+use Rattle.calloop_loop.specs.declared.asks.Asked.{Asked}
+use Rattle.calloop_loop.specs.declared.asks.Answered.{Answered}
+use Rattle.calloop_loop.specs.Askings.{Asks}
+use Rattle.calloop_loop.specs.Held.{is_listed}
+use Rattle.calloop_loop.specs.Machine.{World, Registration, Change, Claim, Swapped, Cut, world_after, is_free, slot_of}
 
 -- a source stands there that isn't in its turn
 abbrev pub IsSource : {D : Type 0} → Content D → Type 0

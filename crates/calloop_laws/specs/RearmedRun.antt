@@ -2,30 +2,30 @@
 -- calls it once more, with that.
 use Rattle.std.specs.Prelude.{◌≡◌, nat_eq, false, true, List, [], ◌∷◌, Some, None, Ok, if◌then◌else◌}
 use Rattle.logbook.specs.Pages.{Book}
-use Rattle.calloop_wake.specs.declared.error.Error.TheVariants.{OutOfMemory}
-use Rattle.calloop_wake.specs.declared.list.Content.TheVariants.{Vacant, Source, InTurn}
-use Rattle.calloop_wake.specs.declared.wake.notes.Note.TheVariants.{Counted, Looked, Marked}
-use Rattle.calloop_wake.specs.declared.wheel.Instant.{Instant}
-use Rattle.calloop_wake.specs.wake.Watches.{with_note}
-use Rattle.calloop_core.specs.declared.sources.source.PostAction.TheVariants.{Continue}
-use Rattle.calloop_core.specs.declared.timer.TimeoutAction.{TimeoutAction}
-use Rattle.calloop_core.specs.declared.timer.TimeoutAction.TheVariants.{Drop, ToInstant}
-use Rattle.calloop_core.specs.sources.Deeds.{Lent}
-use Rattle.calloop_core.specs.sources.Meanings.{Meaning, with_callback}
-use Rattle.calloop_core.specs.sys.Polls.{ArmAgain, Cancel, Call, after_count, marks_taken}
-use Rattle.calloop_core.specs.Timers.{timer_meaning, fresh_timer, registered_as, with_call, armed_for}
-use Rattle.calloop.specs.declared.loop_logic.LoopCall.{LoopCall}
-use Rattle.calloop.specs.declared.loop_logic.LoopCall.TheVariants.{Insert, Dispatch}
-use Rattle.calloop.specs.declared.loop_logic.LoopAnswer.{LoopAnswer}
-use Rattle.calloop.specs.declared.loop_logic.LoopAnswer.TheVariants.{Inserted, Dispatched}
-use Rattle.calloop.specs.declared.loop_logic.asks.Answer.TheVariants.{Removed}
-use Rattle.calloop.specs.loop_logic.Askings.{Asks, Reaches}
+use Rattle.calloop_slots.specs.declared.error.Error.TheVariants.{OutOfMemory}
+use Rattle.calloop_slots.specs.declared.list.Content.TheVariants.{Vacant, Source, InTurn}
+use Rattle.calloop_wake.specs.declared.notes.Note.TheVariants.{Counted, Looked, Marked}
+use Rattle.calloop_slots.specs.declared.wheel.Instant.{Instant}
+use Rattle.calloop_wake.specs.Watches.{with_note}
+use Rattle.calloop_sources.specs.declared.sources.source.PostAction.TheVariants.{Continue}
+use Rattle.calloop_sources.specs.declared.timer.TimeoutAction.{TimeoutAction}
+use Rattle.calloop_sources.specs.declared.timer.TimeoutAction.TheVariants.{Drop, ToInstant}
+use Rattle.calloop_sources.specs.sources.Deeds.{Lent}
+use Rattle.calloop_sources.specs.sources.Meanings.{Meaning, with_callback}
+use Rattle.calloop_poll.specs.sys.Polls.{ArmAgain, Cancel, Call, after_count, marks_taken}
+use Rattle.calloop_sources.specs.Timers.{timer_meaning, fresh_timer, registered_as, with_call, armed_for}
+use Rattle.calloop_loop.specs.declared.LoopCall.{LoopCall}
+use Rattle.calloop_loop.specs.declared.LoopCall.TheVariants.{Insert, Dispatch}
+use Rattle.calloop_loop.specs.declared.LoopAnswer.{LoopAnswer}
+use Rattle.calloop_loop.specs.declared.LoopAnswer.TheVariants.{Inserted, Dispatched}
+use Rattle.calloop_loop.specs.declared.asks.Answer.TheVariants.{Removed}
+use Rattle.calloop_loop.specs.Askings.{Asks, Reaches}
 use Rattle.calloop_laws.specs.EveryRun.{LoopRun}
-use Rattle.calloop.specs.loop_logic.Held.{Unlisted, Pend, Asking, Cleared, Warned, Paid, IdlesTaken}
+use Rattle.calloop_loop.specs.Held.{Unlisted, Pend, Asking, Cleared, Warned, Paid, IdlesTaken}
 use Rattle.calloop_laws.specs.Laws.{moments_of, changes_of}
-use Rattle.calloop.specs.loop_logic.Ledgers.{TimerCall}
-use Rattle.calloop.specs.loop_logic.Machine.{World, Put, Polls, Polling, Watching, Counting, Holds, Gathered, Cut, Ended}
-use Rattle.calloop.specs.loop_logic.Rules.{all_traced}
+use Rattle.calloop_loop.specs.Ledgers.{TimerCall}
+use Rattle.calloop_loop.specs.Machine.{World, Put, Polls, Polling, Watching, Counting, Holds, Gathered, Cut, Ended}
+use Rattle.calloop_loop.specs.Rules.{all_traced}
 use Rattle.calloop_laws.specs.Wrong.{first_token, first_registration}
 use Rattle.calloop_laws.specs.ExampleRun.{Only, Its, as_made, first_arm, five, new_world, of_the_insertion}
 

@@ -2,20 +2,20 @@
 -- stayed behind; and a round of idles ran. Calloop says none of it.
 use Rattle.std.specs.Prelude.{◌≡◌, ℕ, ◌+◌, ◌<◌, ◌≤◌, ◌⊎◌, List, [], ◌∷◌, ◌++◌, Option, Ok}
 use Rattle.std.specs.List.{Contains}
-use Rattle.calloop_wake.specs.declared.wheel.Entry.{Entry}
-use Rattle.calloop_wake.specs.Deadlines.{IsOrdered}
-use Rattle.calloop_core.specs.declared.sys.poll.Pending.{Pending}
-use Rattle.calloop_core.specs.sources.Deeds.{Lent}
-use Rattle.calloop_core.specs.sources.Meanings.{Meaning}
-use Rattle.calloop_core.specs.sys.Pollers.{Outside}
-use Rattle.calloop_core.specs.sys.Polls.{timer_event}
-use Rattle.calloop.specs.declared.loop_logic.asks.Idling.{Idling as Waiter}
-use Rattle.calloop.specs.loop_logic.Held.{IdlesTaken, IdleBegun, IdleOut}
-use Rattle.calloop.specs.loop_logic.Askings.{Asks, Runs}
+use Rattle.calloop_slots.specs.declared.wheel.Entry.{Entry}
+use Rattle.calloop_slots.specs.Deadlines.{IsOrdered}
+use Rattle.calloop_poll.specs.declared.sys.poll.Pending.{Pending}
+use Rattle.calloop_sources.specs.sources.Deeds.{Lent}
+use Rattle.calloop_sources.specs.sources.Meanings.{Meaning}
+use Rattle.calloop_poll.specs.sys.Pollers.{Outside}
+use Rattle.calloop_poll.specs.sys.Polls.{timer_event}
+use Rattle.calloop_loop.specs.declared.asks.Idling.{Idling as Waiter}
+use Rattle.calloop_loop.specs.Held.{IdlesTaken, IdleBegun, IdleOut}
+use Rattle.calloop_loop.specs.Askings.{Asks, Runs}
 use Rattle.calloop_laws.specs.EveryRun.{LoopRun}
 use Rattle.calloop_laws.specs.Laws.{flatten}
-use Rattle.calloop.specs.loop_logic.Machine.{View, Change, Holds, Gathered, Cut, after_change, all_viewed}
-use Rattle.calloop.specs.loop_logic.Rules.{DispatchedBy}
+use Rattle.calloop_loop.specs.Machine.{View, Change, Holds, Gathered, Cut, after_change, all_viewed}
+use Rattle.calloop_loop.specs.Rules.{DispatchedBy}
 
 -- What is told of a dispatch: where it began; what the clock answered as it gathered, and what stood there right before that and
 -- right behind it; the events that it cut, in their order; the round of idles that it took up, which of them began, and the tickets of

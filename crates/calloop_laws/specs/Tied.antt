@@ -2,22 +2,22 @@
 -- kernel for it.
 use Rattle.std.specs.Prelude.{◌≡◌, ℕ, ◌<◌, ◌⊎◌, true, false, List, [], ◌∷◌, ◌++◌, Some, Ok}
 use Rattle.std.specs.List.{Contains}
-use Rattle.calloop_wake.specs.wake.Boards.{is_marked, keys_within}
-use Rattle.calloop_wake.specs.wake.Cells.{Cell, is_due}
+use Rattle.calloop_wake.specs.Boards.{is_marked, keys_within}
+use Rattle.calloop_wake.specs.Cells.{Cell, is_due}
 use Rattle.calloop_wake_laws.specs.Kinds.{First, Born, every_kind, new_cell}
 use Rattle.calloop_wake_laws.specs.Wakes.{Kind, WakeWorld, Post, start}
-use Rattle.calloop_wake.specs.declared.wake.notes.Note.{Note}
-use Rattle.calloop_wake.specs.declared.wake.notes.Note.TheVariants.{Counted, Unposted}
-use Rattle.calloop_core.specs.sources.Deeds.{Lent}
-use Rattle.calloop_core.specs.sources.Meanings.{Meaning}
-use Rattle.calloop_core.specs.declared.sys.poll.Pending.{Pending}
-use Rattle.calloop_core.specs.sys.Polls.{posted_event}
-use Rattle.calloop.specs.loop_logic.Askings.{Asks}
-use Rattle.calloop.specs.declared.loop_logic.LoopAnswer.{LoopAnswer}
-use Rattle.calloop.specs.declared.loop_logic.LoopAnswer.TheVariants.{Dispatched}
+use Rattle.calloop_wake.specs.declared.notes.Note.{Note}
+use Rattle.calloop_wake.specs.declared.notes.Note.TheVariants.{Counted, Unposted}
+use Rattle.calloop_sources.specs.sources.Deeds.{Lent}
+use Rattle.calloop_sources.specs.sources.Meanings.{Meaning}
+use Rattle.calloop_poll.specs.declared.sys.poll.Pending.{Pending}
+use Rattle.calloop_poll.specs.sys.Polls.{posted_event}
+use Rattle.calloop_loop.specs.Askings.{Asks}
+use Rattle.calloop_loop.specs.declared.LoopAnswer.{LoopAnswer}
+use Rattle.calloop_loop.specs.declared.LoopAnswer.TheVariants.{Dispatched}
 use Rattle.calloop_laws.specs.EveryRun.{LoopRun}
-use Rattle.calloop.specs.loop_logic.Machine.{World, View, Change, visible}
-use Rattle.calloop.specs.loop_logic.Rules.{after_changes, all_traced}
+use Rattle.calloop_loop.specs.Machine.{World, View, Change, visible}
+use Rattle.calloop_loop.specs.Rules.{after_changes, all_traced}
 use Rattle.calloop_laws.specs.Handed.{IsHandedOut}
 use Rattle.calloop_laws.specs.Histories.{Happening, Noted, IsHistory, end_of, notes_of, OpensNone, IsMadeIn}
 

@@ -1,19 +1,19 @@
 -- Small dispatches that don't do what the laws over each dispatch say, and what is told of one that there is.
 use Rattle.std.specs.Prelude.{◌≡◌, ℕ, false, List, [], ◌∷◌, None}
 use Rattle.logbook.specs.Pages.{Book}
-use Rattle.calloop_wake.specs.declared.wheel.Entry.{Entry}
-use Rattle.calloop_wake.specs.declared.wake.notes.Note.TheVariants.{Counted, Looked, Marked}
-use Rattle.calloop_wake.specs.wake.Watches.{with_note}
-use Rattle.calloop_wake.specs.Deadlines.{entry_of}
-use Rattle.calloop_core.specs.declared.sys.poll.Pending.{Pending}
-use Rattle.calloop_core.specs.sys.Polls.{ready_to_read, timer_event}
-use Rattle.calloop.specs.declared.loop_logic.asks.Idling.{Idling as Waiter}
-use Rattle.calloop.specs.loop_logic.Askings.{no_asks}
+use Rattle.calloop_slots.specs.declared.wheel.Entry.{Entry}
+use Rattle.calloop_wake.specs.declared.notes.Note.TheVariants.{Counted, Looked, Marked}
+use Rattle.calloop_wake.specs.Watches.{with_note}
+use Rattle.calloop_slots.specs.Deadlines.{entry_of}
+use Rattle.calloop_poll.specs.declared.sys.poll.Pending.{Pending}
+use Rattle.calloop_poll.specs.sys.Polls.{ready_to_read, timer_event}
+use Rattle.calloop_loop.specs.declared.asks.Idling.{Idling as Waiter}
+use Rattle.calloop_loop.specs.Askings.{no_asks}
 use Rattle.calloop_laws.specs.ExampleRun.{Only, five, new_world, of_the_insertion, of_the_exchange, of_the_dispatch}
-use Rattle.calloop.specs.loop_logic.Held.{Cleared, IdlesTaken, IdleBegun}
+use Rattle.calloop_loop.specs.Held.{Cleared, IdlesTaken, IdleBegun}
 use Rattle.calloop_laws.specs.Laws.{flatten}
-use Rattle.calloop.specs.loop_logic.Machine.{View, Polling, Watching, Counting, Holds, Appended, Gathered, Cut, Ended, visible, after_change, all_viewed}
-use Rattle.calloop.specs.loop_logic.Rules.{all_traced}
+use Rattle.calloop_loop.specs.Machine.{View, Polling, Watching, Counting, Holds, Appended, Gathered, Cut, Ended, visible, after_change, all_viewed}
+use Rattle.calloop_loop.specs.Rules.{all_traced}
 use Rattle.calloop_laws.specs.Served.{Account}
 use Rattle.calloop_laws.specs.Wrong.{first_token}
 use Rattle.calloop_laws.specs.WrongRuns.{SmallChange, untouched_poll, untouched_held}

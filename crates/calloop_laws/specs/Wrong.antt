@@ -1,22 +1,22 @@
 -- Small cases that the laws over all runs rule out.
 use Rattle.std.specs.Prelude.{◌≡◌, ℕ, [], ◌∷◌, Some, None, Ok, Err}
-use Rattle.calloop_wake.specs.declared.token.Token.{Token}
-use Rattle.calloop_wake.specs.declared.token.RegistrationToken.{RegistrationToken}
-use Rattle.calloop_wake.specs.declared.list.Content.TheVariants.{Vacant, Source, InTurn}
-use Rattle.calloop_wake.specs.Deadlines.{entry_of}
-use Rattle.calloop_wake.specs.Tokens.{key_of}
-use Rattle.calloop_core.specs.sources.Deeds.{Lent}
-use Rattle.calloop_core.specs.sources.Meanings.{Meaning, still}
-use Rattle.calloop_wake.specs.declared.error.Error.{Error}
-use Rattle.calloop_core.specs.declared.sys.Readiness.{Readiness}
-use Rattle.calloop_core.specs.sys.Pollers.{Outside}
-use Rattle.calloop_core.specs.sys.Polls.{timer_event, ready_to_read, own_event, Arm}
-use Rattle.calloop.specs.declared.loop_logic.asks.Answer.TheVariants.{Done}
-use Rattle.calloop.specs.declared.loop_logic.asks.Request.TheVariants.{Remove}
-use Rattle.calloop.specs.loop_logic.Askings.{Asks, no_asks}
-use Rattle.calloop.specs.loop_logic.Ledgers.{Ledger, Arming, Origin, Due, Waiting, TimerCall, new_ledger}
-use Rattle.calloop.specs.loop_logic.Machine.{Registration, View, Appended}
-use Rattle.calloop.specs.loop_logic.Rules.{SleptAs, Step, Settling, Sleeping, Leaving}
+use Rattle.calloop_slots.specs.declared.token.Token.{Token}
+use Rattle.calloop_slots.specs.declared.token.RegistrationToken.{RegistrationToken}
+use Rattle.calloop_slots.specs.declared.list.Content.TheVariants.{Vacant, Source, InTurn}
+use Rattle.calloop_slots.specs.Deadlines.{entry_of}
+use Rattle.calloop_slots.specs.Tokens.{key_of}
+use Rattle.calloop_sources.specs.sources.Deeds.{Lent}
+use Rattle.calloop_sources.specs.sources.Meanings.{Meaning, still}
+use Rattle.calloop_slots.specs.declared.error.Error.{Error}
+use Rattle.calloop_poll.specs.declared.sys.Readiness.{Readiness}
+use Rattle.calloop_poll.specs.sys.Pollers.{Outside}
+use Rattle.calloop_poll.specs.sys.Polls.{timer_event, ready_to_read, own_event, Arm}
+use Rattle.calloop_loop.specs.declared.asks.Answer.TheVariants.{Done}
+use Rattle.calloop_loop.specs.declared.asks.Request.TheVariants.{Remove}
+use Rattle.calloop_loop.specs.Askings.{Asks, no_asks}
+use Rattle.calloop_loop.specs.Ledgers.{Ledger, Arming, Origin, Due, Waiting, TimerCall, new_ledger}
+use Rattle.calloop_loop.specs.Machine.{Registration, View, Appended}
+use Rattle.calloop_loop.specs.Rules.{SleptAs, Step, Settling, Sleeping, Leaving}
 
 -- a token of slot 0 under version 0
 abbrev pub first_token : Token

@@ -2,31 +2,31 @@
 -- of these laws speaks of a run's beginning alone, nor of the first of some elements. What isn't named here is right in each.
 use Rattle.std.specs.Prelude.{◌≡◌, ℕ, false, List, [], ◌∷◌, Some, None, Ok, map}
 use Rattle.logbook.specs.Pages.{Book}
-use Rattle.calloop_wake.specs.declared.list.Content.TheVariants.{Source, InTurn}
-use Rattle.calloop_wake.specs.declared.token.RegistrationToken.{RegistrationToken}
-use Rattle.calloop_wake.specs.declared.wake.notes.Note.TheVariants.{Counted, Looked, Marked}
-use Rattle.calloop_wake.specs.declared.wheel.Instant.{Instant}
-use Rattle.calloop_wake.specs.Deadlines.{entry_of}
-use Rattle.calloop_wake.specs.Tokens.{key_of}
-use Rattle.calloop_wake.specs.wake.Watches.{with_note}
-use Rattle.calloop_wake.specs.Widths.{versions}
-use Rattle.calloop_core.specs.declared.sources.source.PostAction.TheVariants.{Continue}
-use Rattle.calloop_core.specs.declared.sources.dispatch.Role.TheVariants.{Adapter}
-use Rattle.calloop_core.specs.sources.Deeds.{Lent}
-use Rattle.calloop_core.specs.sources.Meanings.{Meaning, still}
-use Rattle.calloop_core.specs.sys.Polls.{PollView, timer_event}
-use Rattle.calloop.specs.declared.loop_logic.LoopCall.{LoopCall}
-use Rattle.calloop.specs.declared.loop_logic.LoopCall.TheVariants.{Dispatch}
-use Rattle.calloop.specs.declared.loop_logic.LoopAnswer.{LoopAnswer}
-use Rattle.calloop.specs.declared.loop_logic.LoopAnswer.TheVariants.{Dispatched}
-use Rattle.calloop.specs.declared.loop_logic.asks.Answer.TheVariants.{Done}
-use Rattle.calloop.specs.declared.loop_logic.asks.Request.TheVariants.{Remove}
-use Rattle.calloop.specs.loop_logic.Askings.{Asks, Runs, no_asks}
+use Rattle.calloop_slots.specs.declared.list.Content.TheVariants.{Source, InTurn}
+use Rattle.calloop_slots.specs.declared.token.RegistrationToken.{RegistrationToken}
+use Rattle.calloop_wake.specs.declared.notes.Note.TheVariants.{Counted, Looked, Marked}
+use Rattle.calloop_slots.specs.declared.wheel.Instant.{Instant}
+use Rattle.calloop_slots.specs.Deadlines.{entry_of}
+use Rattle.calloop_slots.specs.Tokens.{key_of}
+use Rattle.calloop_wake.specs.Watches.{with_note}
+use Rattle.calloop_slots.specs.Widths.{versions}
+use Rattle.calloop_sources.specs.declared.sources.source.PostAction.TheVariants.{Continue}
+use Rattle.calloop_sources.specs.declared.sources.dispatch.Role.TheVariants.{Adapter}
+use Rattle.calloop_sources.specs.sources.Deeds.{Lent}
+use Rattle.calloop_sources.specs.sources.Meanings.{Meaning, still}
+use Rattle.calloop_poll.specs.sys.Polls.{PollView, timer_event}
+use Rattle.calloop_loop.specs.declared.LoopCall.{LoopCall}
+use Rattle.calloop_loop.specs.declared.LoopCall.TheVariants.{Dispatch}
+use Rattle.calloop_loop.specs.declared.LoopAnswer.{LoopAnswer}
+use Rattle.calloop_loop.specs.declared.LoopAnswer.TheVariants.{Dispatched}
+use Rattle.calloop_loop.specs.declared.asks.Answer.TheVariants.{Done}
+use Rattle.calloop_loop.specs.declared.asks.Request.TheVariants.{Remove}
+use Rattle.calloop_loop.specs.Askings.{Asks, Runs, no_asks}
 use Rattle.calloop_laws.specs.EveryRun.{LoopRun, FromTheStart, ArmingsAreKept, ArmingsAreKeptOfFresh}
-use Rattle.calloop.specs.loop_logic.Held.{Held, Listed, Cleared, IdlesTaken}
+use Rattle.calloop_loop.specs.Held.{Held, Listed, Cleared, IdlesTaken}
 use Rattle.calloop_laws.specs.Laws.{moments_of, event_of}
-use Rattle.calloop.specs.loop_logic.Ledgers.{Ledger, Arming, Due, Waiting, TimerCall, entry_in, new_ledger}
-use Rattle.calloop.specs.loop_logic.Machine.{
+use Rattle.calloop_loop.specs.Ledgers.{Ledger, Arming, Due, Waiting, TimerCall, entry_in, new_ledger}
+use Rattle.calloop_loop.specs.Machine.{
   World,
   Registration,
   Change,

@@ -3,10 +3,10 @@
 #![tactic(auto)]
 
 ghost use Rattle.std.specs.Prelude.{◌≡◌, ℕ, List, [], ◌∷◌, Some, None, ◌++◌, true, Ok};
-ghost use Rattle.calloop_wake.specs.Widths.{versions};
-ghost use Rattle.calloop_wake.specs.declared.error.Error.{Error};
-ghost use Rattle.calloop.specs.loop_logic.Machine.{World, View, IsNew};
-ghost use Rattle.calloop.specs.loop_logic.Rules.{Run, DispatchedBy, after_changes};
+ghost use Rattle.calloop_slots.specs.Widths.{versions};
+ghost use Rattle.calloop_slots.specs.declared.error.Error.{Error};
+ghost use Rattle.calloop_loop.specs.Machine.{World, View, IsNew};
+ghost use Rattle.calloop_loop.specs.Rules.{Run, DispatchedBy, after_changes};
 ghost use Rattle.calloop_laws.specs.Homes.{AllAtHome};
 ghost use Rattle.calloop_laws.specs.Served.{IsAccountOf, OverEveryDispatch, NothingIsLeft, AllAreCut, NoneIsLate, DueAreCut, IdlesRan, DeadlinesStaySorted};
 ghost use Rattle.calloop_laws.specs.Unserved.{SmallAccount, two_wait, cuts_one, cuts_two, cuts_three, cuts_before, gathers_nothing, gathers_twice, takes_no_round, runs_no_idle, idle_waits, in_another_order, first_stays, second_stays, before_its_dispatch, account_of_it};
@@ -16,24 +16,24 @@ ghost use Rattle.calloop_laws.specs.Laws.{flatten};
 ghost use Rattle.calloop_laws.specs.EveryRun.{OverEveryRun, FromTheStart, EventsReachTheirSource, ArmingsAreKept, ArmingsAreKeptOfFresh, SourcesKeepToTheirSlots, WhoIsToldStandsOnce, TicketsAreOfOneAnswer};
 ghost use Rattle.calloop_laws.specs.Laws.{IsLedgerOf, IsSound, AllFresh, changes_of, IsTold, IsTicketed, GoesRight, NamesLater, StaysGone, OnTime};
 ghost use Rattle.calloop_laws.specs.Freshness.{AsksFresh, RunsFresh, AllFreshCalls, AllKeepKeys};
-ghost use Rattle.calloop_wake.specs.declared.list.Content.TheVariants.{Vacant};
+ghost use Rattle.calloop_slots.specs.declared.list.Content.TheVariants.{Vacant};
 ghost use Rattle.calloop_laws.specs.ExampleRun.{only, no_idle, quiet_poller, new_world, its_calls, its_answers, its_changes, its_run, end_of_it};
-ghost use Rattle.calloop_core.specs.sys.Polls.{PollView, posted_event};
+ghost use Rattle.calloop_poll.specs.sys.Polls.{PollView, posted_event};
 ghost use Rattle.logbook.specs.Pages.{Book};
-ghost use Rattle.calloop_core.specs.sources.Meanings.{IsKeeping};
-ghost use Rattle.calloop.specs.loop_logic.Rules.{all_traced};
+ghost use Rattle.calloop_sources.specs.sources.Meanings.{IsKeeping};
+ghost use Rattle.calloop_loop.specs.Rules.{all_traced};
 ghost use Rattle.calloop_laws.specs.WrongRuns.{IsOutOfTime, second_event_goes_wrong, second_event_is_lost, ends_under_an_earlier_use, goes_back_to_an_earlier_use, ends_with_what_was_given_up, goes_back_to_what_was_given_up, that_ends, that_notes, second_waits_early, second_is_cut_early, second_call_differs, second_is_called_twice, second_is_twice, second_is_nowhere, with_one_deadline, with_one_event, keys_alone, second_is_elsewhere, second_is_told_twice, second_is_told_when_gone, second_is_answered_twice, second_is_asked_twice, second_is_handed_out_twice, adapters, with_two_adapters, of_a_settling, one_dispatch, one_answer, idle_never};
 ghost use Rattle.calloop_laws.specs.WrongRuns.{idle_world, with_a_later_deadline_first};
 ghost use Rattle.calloop_laws.specs.BusyRun.{anything, giving_poller, for_reading, busy_calls, busy_answers, busy_changes, behind_the_failure, two_found_but_one, busy_end};
 ghost use Rattle.calloop_laws.specs.RearmedRun.{again, rearmed_calls, rearmed_answers, rearmed_changes, rearmed_end, call_at_ten};
-ghost use Rattle.calloop.specs.declared.loop_logic.asks.Answer.TheVariants.{Done};
-ghost use Rattle.calloop_core.specs.sys.Polls.{polled_events};
-ghost use Rattle.calloop_core.specs.sys.Tables.{watched_at};
-ghost use Rattle.calloop_wake.specs.Tokens.{key_of};
+ghost use Rattle.calloop_loop.specs.declared.asks.Answer.TheVariants.{Done};
+ghost use Rattle.calloop_poll.specs.sys.Polls.{polled_events};
+ghost use Rattle.calloop_poll.specs.sys.Tables.{watched_at};
+ghost use Rattle.calloop_slots.specs.Tokens.{key_of};
 ghost use Rattle.calloop_laws.specs.Wrong.{KeepsTheLastAlone, KeepsOfAFailure, TellsInTheOrderOfSlots, second_registration, first_token, first_registration, full_slot, given_up, early, in_two_places, called_twice, called_early, called_from_nowhere, called_with_another_deadline, in_no_place, armed_once, gathered_once, asked_twice, first_call, still_meaning, arms_elsewhere, used_with_an_old_key, answered_twice, one_ticket};
 ghost use Rattle.calloop_laws.specs.Wrong.{in_its_turn, called_for, with_another_deadline, with_another_counter, called_for_the_later_one, with_one_never_made, answered_while_served, answered_while_owed};
 ghost use Rattle.calloop_laws.specs.Laws.{AllOwnCalls, timely};
-ghost use Rattle.calloop_wake.specs.wake.Boards.{is_marked};
+ghost use Rattle.calloop_wake.specs.Boards.{is_marked};
 ghost use Rattle.calloop_wake_laws.specs.Kinds.{every_kind};
 ghost use Rattle.calloop_wake_laws.specs.Lost.{of_pings, with_a_key_forgotten};
 ghost use Rattle.calloop_wake_laws.specs.Wakes.{WakeWorld, IsSchedule, after_all};
@@ -43,9 +43,9 @@ ghost use Rattle.calloop_laws.specs.Histories.{IsHistory, end_of, schedule_of, n
 ghost use Rattle.calloop_laws.specs.Tied.{IsServedOf, ServesWhatIsPosted, ServesEachRing, EachServesWhatIsPosted};
 
 use calloop::{EventDispatcher, Requests};
-use calloop_core::callbacks::QuietDispatch;
-use calloop_core::idles::QuietIdle;
-use calloop_core::sys::{Clock, Poller};
+use calloop_poll::sys::{Clock, Poller};
+use calloop_sources::callbacks::QuietDispatch;
+use calloop_sources::idles::QuietIdle;
 use std::sync::Wait;
 
 /// Over every run of the machine, from any state: each event that is cut goes to just the source that its token names

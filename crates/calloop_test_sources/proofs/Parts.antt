@@ -1,25 +1,25 @@
 -- What a source of a ping and two timers did, from what its parts did.
 use Rattle.std.proofs.Common.{◌≡◌, ◌∙◌, ap, ℕ, List, [], ◌∷◌, ◌++◌, Option, None, Some, Ok, Err, refl}
 use Rattle.std.proofs.Common.{Result, IsErr, inl, inr}
-use Rattle.calloop_wake.specs.declared.error.Error.{Error}
-use Rattle.calloop_wake.specs.declared.token.TokenFactory.{TokenFactory}
-use Rattle.calloop_wake.specs.declared.wheel.Instant.{Instant}
-use Rattle.calloop_core.specs.declared.timer.Timer.{Timer}
-use Rattle.calloop_core.specs.sources.Deeds.{Registered, Reregistered}
-use Rattle.calloop_core.specs.Timers.{Armed}
-use Rattle.calloop_wake.specs.declared.wake.Tally.{Tally}
-use Rattle.calloop.specs.cell.CellSources.{RefusedCell, AlreadyRegistered, NoToken, NoPlace, RefusedAnew, NotRegistered, NoTokenAnew, NoPlaceAnew}
-use Rattle.calloop_core.specs.sys.Pollers.{Outside}
-use Rattle.calloop_core.specs.sys.Polls.{PollView, PollStep, AllStepped}
-use Rattle.calloop_wake.specs.declared.token.Token.{Token}
-use Rattle.calloop_core.specs.declared.sys.Readiness.{Readiness}
-use Rattle.calloop_core.specs.declared.sources.source.PostAction.TheVariants.{Continue}
-use Rattle.calloop_core.specs.sources.Calls.{CallbackCall, Went}
-use Rattle.calloop_core.specs.sources.Deeds.{Deed, Turned, new_heard}
-use Rattle.calloop_core.specs.sources.Meanings.{Meaning, Does}
-use Rattle.calloop_core.specs.Timers.{timer_meaning}
-use Rattle.calloop_core.proofs.Stepping.{stepped-append}
-use Rattle.calloop.specs.ping.Pings.{ping_meaning}
+use Rattle.calloop_slots.specs.declared.error.Error.{Error}
+use Rattle.calloop_slots.specs.declared.token.TokenFactory.{TokenFactory}
+use Rattle.calloop_slots.specs.declared.wheel.Instant.{Instant}
+use Rattle.calloop_sources.specs.declared.timer.Timer.{Timer}
+use Rattle.calloop_sources.specs.sources.Deeds.{Registered, Reregistered}
+use Rattle.calloop_sources.specs.Timers.{Armed}
+use Rattle.calloop_wake.specs.declared.Tally.{Tally}
+use Rattle.calloop_ends.specs.cell.CellSources.{RefusedCell, AlreadyRegistered, NoToken, NoPlace, RefusedAnew, NotRegistered, NoTokenAnew, NoPlaceAnew}
+use Rattle.calloop_poll.specs.sys.Pollers.{Outside}
+use Rattle.calloop_poll.specs.sys.Polls.{PollView, PollStep, AllStepped}
+use Rattle.calloop_slots.specs.declared.token.Token.{Token}
+use Rattle.calloop_poll.specs.declared.sys.Readiness.{Readiness}
+use Rattle.calloop_sources.specs.declared.sources.source.PostAction.TheVariants.{Continue}
+use Rattle.calloop_sources.specs.sources.Calls.{CallbackCall, Went}
+use Rattle.calloop_sources.specs.sources.Deeds.{Deed, Turned, new_heard}
+use Rattle.calloop_sources.specs.sources.Meanings.{Meaning, Does}
+use Rattle.calloop_sources.specs.Timers.{timer_meaning}
+use Rattle.calloop_poll.proofs.Stepping.{stepped-append}
+use Rattle.calloop_ends.specs.ping.Pings.{ping_meaning}
 use Rattle.calloop_test_sources.specs.Trios.{IsAlike, MayStop, MayDo, AsksParts, OfTrio, OfBell, OfTimer, calls_of, after_calls, part_heard, trio_meaning}
 use Rattle.calloop_test_sources.specs.declared.source.Broken.{Broken}
 use Rattle.calloop_test_sources.specs.declared.trio.Part.{Part}

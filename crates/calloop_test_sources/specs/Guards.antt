@@ -2,16 +2,16 @@
 use Rattle.std.proofs.Common.{refl}
 use Rattle.std.specs.Prelude.{◌≡◌, ◌⊎◌, [], List, Result, Ok, Err, IsErr, false}
 use Rattle.std.proofs.Common.{inl, inr}
-use Rattle.calloop_core.specs.declared.sources.source.PostAction.{PostAction}
-use Rattle.calloop_core.specs.sys.Polls.{PollView, PollStep}
-use Rattle.calloop_core.specs.sources.Lawful.{silent}
-use Rattle.calloop_core.specs.sources.Deeds.{Deed, Registered, Reregistered, Unregistered, Turned, SaysNothing, Slept, Noticed, Heard, new_heard}
-use Rattle.calloop_core.specs.sources.Holdings.{holds_none}
-use Rattle.calloop_core.specs.declared.sources.dispatch.Role.TheVariants.{Caller}
-use Rattle.calloop_core.specs.sources.Meanings.{Meaning, IsKeeping, KeepsCounters, KeepsHome}
-use Rattle.calloop.specs.declared.ping.source.PingError.{PingError}
-use Rattle.calloop.specs.ping.Pings.{IsPing, ping_keys}
-use Rattle.calloop.specs.ping.PingKeeping.{ping_keeps}
+use Rattle.calloop_sources.specs.declared.sources.source.PostAction.{PostAction}
+use Rattle.calloop_poll.specs.sys.Polls.{PollView, PollStep}
+use Rattle.calloop_sources.specs.sources.Lawful.{silent}
+use Rattle.calloop_sources.specs.sources.Deeds.{Deed, Registered, Reregistered, Unregistered, Turned, SaysNothing, Slept, Noticed, Heard, new_heard}
+use Rattle.calloop_sources.specs.sources.Holdings.{holds_none}
+use Rattle.calloop_sources.specs.declared.sources.dispatch.Role.TheVariants.{Caller}
+use Rattle.calloop_sources.specs.sources.Meanings.{Meaning, IsKeeping, KeepsCounters, KeepsHome}
+use Rattle.calloop_ends.specs.declared.ping.source.PingError.{PingError}
+use Rattle.calloop_ends.specs.ping.Pings.{IsPing, ping_keys}
+use Rattle.calloop_ends.specs.ping.PingKeeping.{ping_keeps}
 use Rattle.calloop_test_sources.specs.declared.guarded.Guarded.{Guarded}
 use Rattle.calloop_test_sources.specs.declared.source.Broken.{Broken}
 

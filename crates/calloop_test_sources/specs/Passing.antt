@@ -2,13 +2,13 @@
 -- keys; what a turn hands out, and how it ends, is the source's own.
 use Rattle.std.proofs.Common.{refl}
 use Rattle.std.specs.Prelude.{◌≡◌, ℕ, [], ◌∷◌, List, Bool, true, false, Ok, Err}
-use Rattle.calloop_core.specs.sys.Polls.{PollView, PollStep}
-use Rattle.calloop_core.specs.sources.Calls.{CallbackCall}
-use Rattle.calloop_core.specs.sources.Lawful.{silent}
-use Rattle.calloop_core.specs.sources.Deeds.{Deed, Registered, Reregistered, Unregistered, Turned, SaysNothing, Slept, Noticed, Heard}
-use Rattle.calloop_core.specs.declared.sources.dispatch.Role.TheVariants.{Caller}
-use Rattle.calloop_core.specs.sources.Meanings.{Meaning, IsKeeping, KeepsCounters, KeepsHome}
-use Rattle.calloop_core.specs.sources.Beside.{within_itself}
+use Rattle.calloop_poll.specs.sys.Polls.{PollView, PollStep}
+use Rattle.calloop_sources.specs.sources.Calls.{CallbackCall}
+use Rattle.calloop_sources.specs.sources.Lawful.{silent}
+use Rattle.calloop_sources.specs.sources.Deeds.{Deed, Registered, Reregistered, Unregistered, Turned, SaysNothing, Slept, Noticed, Heard}
+use Rattle.calloop_sources.specs.declared.sources.dispatch.Role.TheVariants.{Caller}
+use Rattle.calloop_sources.specs.sources.Meanings.{Meaning, IsKeeping, KeepsCounters, KeepsHome}
+use Rattle.calloop_sources.specs.sources.Beside.{within_itself}
 
 -- one call with this number, or none
 abbrev pub numbered_calls : (rang : Bool) → (number : ℕ) → List (CallbackCall ℕ (Unit {0}) (Unit {0}))

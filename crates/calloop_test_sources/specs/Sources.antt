@@ -1,12 +1,12 @@
 -- What the counting source of the tests means.
 use Rattle.std.specs.Prelude.{◌≡◌, ℕ, [], ◌∷◌, Ok}
 use Rattle.anyhow.specs.declared.error.Error.{Error as Cause}
-use Rattle.calloop_wake.specs.declared.error.Error.{Error}
-use Rattle.calloop_wake.specs.declared.error.Error.TheVariants.{OtherError}
-use Rattle.calloop_core.specs.sources.Calls.{IsOfSource}
-use Rattle.calloop_core.specs.sources.Lawful.{other_of_source}
-use Rattle.calloop_core.specs.sys.Polls.{PollView}
-use Rattle.calloop_core.specs.sources.Deeds.{Deed, Registered, Reregistered, Unregistered, Turned, SaysNothing, Slept, Noticed, Heard}
+use Rattle.calloop_slots.specs.declared.error.Error.{Error}
+use Rattle.calloop_slots.specs.declared.error.Error.TheVariants.{OtherError}
+use Rattle.calloop_sources.specs.sources.Calls.{IsOfSource}
+use Rattle.calloop_sources.specs.sources.Lawful.{other_of_source}
+use Rattle.calloop_poll.specs.sys.Polls.{PollView}
+use Rattle.calloop_sources.specs.sources.Deeds.{Deed, Registered, Reregistered, Unregistered, Turned, SaysNothing, Slept, Noticed, Heard}
 use Rattle.calloop_test_sources.specs.declared.attendant.Attendant.{Attendant}
 use Rattle.calloop_test_sources.specs.declared.source.Counter.{Counter}
 use Rattle.calloop_test_sources.specs.declared.noting.Noting.{Noting}

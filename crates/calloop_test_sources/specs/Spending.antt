@@ -2,17 +2,17 @@
 -- the factory as it is then, or isn't asked where the tokens have run out. All else is passed on.
 use Rattle.std.proofs.Common.{inl, inr, refl, ◌∙◌}
 use Rattle.std.specs.Prelude.{◌≡◌, ◌⊎◌, ◌<◌, [], List, false, Result, Ok, Err}
-use Rattle.calloop_wake.specs.Widths.{parts}
-use Rattle.calloop_wake.specs.declared.error.Error.{Error}
-use Rattle.calloop_wake.specs.declared.token.RegistrationToken.{RegistrationToken}
-use Rattle.calloop_wake.specs.declared.token.TokenFactory.{TokenFactory}
-use Rattle.calloop_core.specs.sys.Polls.{PollView, PollStep}
-use Rattle.calloop_core.specs.sys.Keys.{IsFactoryOf}
-use Rattle.calloop_core.specs.sources.Lawful.{silent}
-use Rattle.calloop_core.specs.sources.Deeds.{Deed, Registered, Reregistered, Unregistered, Turned, SaysNothing, Slept, Noticed, Heard}
-use Rattle.calloop_core.specs.declared.sources.dispatch.Role.TheVariants.{Caller}
-use Rattle.calloop_core.specs.sources.Meanings.{Meaning, IsKeeping, KeepsCounters, KeepsHome}
-use Rattle.calloop_core.specs.sources.Beside.{within_itself}
+use Rattle.calloop_slots.specs.Widths.{parts}
+use Rattle.calloop_slots.specs.declared.error.Error.{Error}
+use Rattle.calloop_slots.specs.declared.token.RegistrationToken.{RegistrationToken}
+use Rattle.calloop_slots.specs.declared.token.TokenFactory.{TokenFactory}
+use Rattle.calloop_poll.specs.sys.Polls.{PollView, PollStep}
+use Rattle.calloop_poll.specs.sys.Keys.{IsFactoryOf}
+use Rattle.calloop_sources.specs.sources.Lawful.{silent}
+use Rattle.calloop_sources.specs.sources.Deeds.{Deed, Registered, Reregistered, Unregistered, Turned, SaysNothing, Slept, Noticed, Heard}
+use Rattle.calloop_sources.specs.declared.sources.dispatch.Role.TheVariants.{Caller}
+use Rattle.calloop_sources.specs.sources.Meanings.{Meaning, IsKeeping, KeepsCounters, KeepsHome}
+use Rattle.calloop_sources.specs.sources.Beside.{within_itself}
 
 -- of the same registration, and its count fits its width where it did
 abbrev pub Spends : (before after : TokenFactory) → Type 0

@@ -1,28 +1,28 @@
 -- What a source of a ping and two timers means: its parts are asked one after the other, the ping first.
 use Rattle.std.specs.Prelude.{◌≡◌, ◌⊎◌, ℕ, ◌<◌, ◌++◌, List, [], ◌∷◌, Option, None, Some, Result, Ok, Err, false}
 use Rattle.std.proofs.Common.{inl, inr, refl, ◌∙◌}
-use Rattle.calloop_wake.specs.Widths.{parts}
-use Rattle.calloop_wake.specs.declared.wheel.Instant.{Instant}
-use Rattle.calloop_core.specs.declared.sources.source.PostAction.{PostAction}
-use Rattle.calloop_core.specs.declared.sources.source.PostAction.TheVariants.{Continue}
-use Rattle.calloop_core.specs.declared.timer.TimeoutAction.{TimeoutAction}
-use Rattle.calloop_core.specs.declared.timer.TimerError.{TimerError}
-use Rattle.calloop_core.specs.sources.Calls.{CallbackCall}
-use Rattle.calloop_core.specs.sys.Polls.{PollView, PollStep, polls_after}
-use Rattle.calloop_core.specs.sources.Lawful.{silent}
-use Rattle.calloop_core.specs.sources.Deeds.{Deed, Registered, Reregistered, Unregistered, Turned, SaysNothing, Slept, Noticed, Heard}
-use Rattle.calloop_core.specs.sources.Holdings.{Holding, holds_none, IsBelow, Keeps}
-use Rattle.calloop_wake.specs.declared.token.TokenFactory.{TokenFactory}
-use Rattle.calloop_wake.specs.declared.token.RegistrationToken.{RegistrationToken}
-use Rattle.calloop_core.specs.sys.Keys.{AllActFor}
-use Rattle.calloop_core.specs.declared.sources.dispatch.Role.TheVariants.{Caller}
-use Rattle.calloop_core.specs.sources.Meanings.{Meaning, IsKeeping, KeepsCounters, KeepsHome, IsAtHome, BeginsIn}
-use Rattle.calloop_core.specs.Timers.{timer_holds, timer_keys, timer_meaning}
-use Rattle.calloop_core.specs.TimerKeeping.{timer_keeps}
-use Rattle.calloop.specs.declared.ping.source.PingError.{PingError}
-use Rattle.calloop.specs.ping.Pings.{ping_meaning, ping_keys}
-use Rattle.calloop.specs.ping.PingKeeping.{ping_keeps}
-use Rattle.calloop_core.specs.sources.Beside.{
+use Rattle.calloop_slots.specs.Widths.{parts}
+use Rattle.calloop_slots.specs.declared.wheel.Instant.{Instant}
+use Rattle.calloop_sources.specs.declared.sources.source.PostAction.{PostAction}
+use Rattle.calloop_sources.specs.declared.sources.source.PostAction.TheVariants.{Continue}
+use Rattle.calloop_sources.specs.declared.timer.TimeoutAction.{TimeoutAction}
+use Rattle.calloop_sources.specs.declared.timer.TimerError.{TimerError}
+use Rattle.calloop_sources.specs.sources.Calls.{CallbackCall}
+use Rattle.calloop_poll.specs.sys.Polls.{PollView, PollStep, polls_after}
+use Rattle.calloop_sources.specs.sources.Lawful.{silent}
+use Rattle.calloop_sources.specs.sources.Deeds.{Deed, Registered, Reregistered, Unregistered, Turned, SaysNothing, Slept, Noticed, Heard}
+use Rattle.calloop_sources.specs.sources.Holdings.{Holding, holds_none, IsBelow, Keeps}
+use Rattle.calloop_slots.specs.declared.token.TokenFactory.{TokenFactory}
+use Rattle.calloop_slots.specs.declared.token.RegistrationToken.{RegistrationToken}
+use Rattle.calloop_poll.specs.sys.Keys.{AllActFor}
+use Rattle.calloop_sources.specs.declared.sources.dispatch.Role.TheVariants.{Caller}
+use Rattle.calloop_sources.specs.sources.Meanings.{Meaning, IsKeeping, KeepsCounters, KeepsHome, IsAtHome, BeginsIn}
+use Rattle.calloop_sources.specs.Timers.{timer_holds, timer_keys, timer_meaning}
+use Rattle.calloop_sources.specs.TimerKeeping.{timer_keeps}
+use Rattle.calloop_ends.specs.declared.ping.source.PingError.{PingError}
+use Rattle.calloop_ends.specs.ping.Pings.{ping_meaning, ping_keys}
+use Rattle.calloop_ends.specs.ping.PingKeeping.{ping_keeps}
+use Rattle.calloop_sources.specs.sources.Beside.{
   IsApart,
   beside,
   apart_sym,
@@ -32,7 +32,7 @@ use Rattle.calloop_core.specs.sources.Beside.{
   next_after,
   next_is,
 }
-use Rattle.calloop_core.specs.sources.Beside.{left_held, right_held, within_itself}
+use Rattle.calloop_sources.specs.sources.Beside.{left_held, right_held, within_itself}
 use Rattle.calloop_test_sources.specs.declared.source.Broken.{Broken}
 use Rattle.calloop_test_sources.specs.declared.trio.Part.{Part}
 use Rattle.calloop_test_sources.specs.declared.trio.Part.TheVariants.{Bell, First, Second}

@@ -48,8 +48,8 @@ impl Attendant {
 }
 
 impl<P: Poller, C, R: Wait + Drop> EventSource<P, C, R> for Attendant {
-    ghost use Rattle.calloop_core.specs.sources.Meanings.{attentive};
-    ghost use Rattle.calloop_core.specs.sources.Lawful.{keeping_attentive};
+    ghost use Rattle.calloop_sources.specs.sources.Meanings.{attentive};
+    ghost use Rattle.calloop_sources.specs.sources.Lawful.{keeping_attentive};
     ghost use Rattle.calloop_test_sources.specs.Sources.{Attends};
 
     type Event = u32;

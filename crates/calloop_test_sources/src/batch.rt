@@ -5,7 +5,7 @@ use calloop::{
     Asking, Callback, EventIterator, EventSource, Poll, Poller, PostAction, Readiness, Result,
     Synthetic, Token, TokenFactory,
 };
-use calloop_core::{batch_register, batch_reregister, batch_unregister};
+use calloop_sources::{batch_register, batch_reregister, batch_unregister};
 use std::alloc::AllocError;
 use std::sync::Wait;
 
@@ -29,8 +29,8 @@ impl Batch {
 }
 
 impl<P: Poller, C, R: Wait + Drop> EventSource<P, C, R> for Batch {
-    ghost use Rattle.calloop_core.specs.sources.Meanings.{still};
-    ghost use Rattle.calloop_core.specs.sources.Lawful.{keeping_still};
+    ghost use Rattle.calloop_sources.specs.sources.Meanings.{still};
+    ghost use Rattle.calloop_sources.specs.sources.Lawful.{keeping_still};
     ghost use Rattle.calloop_test_sources.specs.Sources.{Anything};
 
     type Event = u32;

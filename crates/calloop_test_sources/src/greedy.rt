@@ -23,8 +23,8 @@ fn spend(factory: &mut TokenFactory)
 }
 
 impl<P: Poller, C, R: Wait + Drop> EventSource<P, C, R> for Greedy<R> {
-    ghost use Rattle.calloop.specs.ping.Pings.{ping_meaning};
-    ghost use Rattle.calloop.specs.ping.PingKeeping.{ping_keeps};
+    ghost use Rattle.calloop_ends.specs.ping.Pings.{ping_meaning};
+    ghost use Rattle.calloop_ends.specs.ping.PingKeeping.{ping_keeps};
     ghost use Rattle.calloop_test_sources.specs.Spending.{spending, keeping_spending};
 
     type Event = ();

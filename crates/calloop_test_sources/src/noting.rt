@@ -113,8 +113,8 @@ impl Noting {
 }
 
 impl<P: Poller, C, R: Wait + Drop> EventSource<P, C, R> for Noting {
-    ghost use Rattle.calloop_core.specs.sources.Meanings.{still};
-    ghost use Rattle.calloop_core.specs.sources.Lawful.{keeping_still};
+    ghost use Rattle.calloop_sources.specs.sources.Meanings.{still};
+    ghost use Rattle.calloop_sources.specs.sources.Lawful.{keeping_still};
     ghost use Rattle.calloop_test_sources.specs.Sources.{HandsOut};
 
     type Event = u32;

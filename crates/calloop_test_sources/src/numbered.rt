@@ -1,5 +1,5 @@
 //! A ping of the tests' own, with a number that rises.
-ghost use Rattle.calloop_core.specs.sources.Calls.{Went};
+ghost use Rattle.calloop_sources.specs.sources.Calls.{Went};
 ghost use Rattle.calloop_test_sources.specs.Passing.{numbered_calls};
 
 use crate::source::Broken;
@@ -72,8 +72,8 @@ impl<R: Wait + Drop> Numbered<R> {
 }
 
 impl<P: Poller, C, R: Wait + Drop> EventSource<P, C, R> for Numbered<R> {
-    ghost use Rattle.calloop.specs.ping.Pings.{ping_meaning};
-    ghost use Rattle.calloop.specs.ping.PingKeeping.{ping_keeps};
+    ghost use Rattle.calloop_ends.specs.ping.Pings.{ping_meaning};
+    ghost use Rattle.calloop_ends.specs.ping.PingKeeping.{ping_keeps};
     ghost use Rattle.calloop_test_sources.specs.Passing.{passing, keeping_passing};
 
     type Event = u32;

@@ -41,8 +41,8 @@ fn number_of(token: Token) -> u32 {
 }
 
 impl<P: Poller, C, R: Wait + Drop, const LIMIT: u16> EventSource<P, C, R> for Several<LIMIT> {
-    ghost use Rattle.calloop_core.specs.sources.Meanings.{attentive_to};
-    ghost use Rattle.calloop_core.specs.sources.Lawful.{keeping_attentive_to};
+    ghost use Rattle.calloop_sources.specs.sources.Meanings.{attentive_to};
+    ghost use Rattle.calloop_sources.specs.sources.Lawful.{keeping_attentive_to};
     ghost use Rattle.calloop_test_sources.specs.Sources.{Anything};
 
     type Event = u32;

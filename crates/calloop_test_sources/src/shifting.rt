@@ -1,6 +1,6 @@
 //! A source that has the factory's first token, and its second one, by turns.
 ghost use Rattle.std.specs.Prelude.{◌≡◌, IfErr};
-ghost use Rattle.calloop_wake.specs.declared.error.Error.TheVariants.{TooManyTokens};
+ghost use Rattle.calloop_slots.specs.declared.error.Error.TheVariants.{TooManyTokens};
 ghost use Rattle.calloop_test_sources.specs.Spending.{Spends};
 
 use calloop::{

@@ -96,8 +96,8 @@ impl IntoError for Broken {
 }
 
 impl<P: Poller, C, R: Wait + Drop> EventSource<P, C, R> for Counter {
-    ghost use Rattle.calloop_core.specs.sources.Meanings.{still};
-    ghost use Rattle.calloop_core.specs.sources.Lawful.{keeping_still};
+    ghost use Rattle.calloop_sources.specs.sources.Meanings.{still};
+    ghost use Rattle.calloop_sources.specs.sources.Lawful.{keeping_still};
     ghost use Rattle.calloop_test_sources.specs.Sources.{Counts};
 
     type Event = u32;

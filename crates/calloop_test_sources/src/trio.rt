@@ -1,7 +1,7 @@
 //! A source of the tests' own that is made of a ping and two timers.
 ghost use Rattle.std.specs.Prelude.{◌≡◌, ◌<◌};
-ghost use Rattle.calloop_wake.specs.Widths.{parts};
-ghost use Rattle.calloop_core.specs.sources.Calls.{Went};
+ghost use Rattle.calloop_slots.specs.Widths.{parts};
+ghost use Rattle.calloop_sources.specs.sources.Calls.{Went};
 ghost use Rattle.calloop_test_sources.specs.Trios.{calls_of, part_heard};
 
 use crate::source::Broken;

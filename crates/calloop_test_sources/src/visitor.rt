@@ -1,8 +1,8 @@
 //! Callbacks for sockets: those of a script, and those of the machine.
 use calloop::generic::NoIoDrop;
 use calloop::{Asking, Callback, On, PostAction, Readiness};
-use calloop_core::sys::script::ScriptIo;
-use calloop_core::sys::system::MioIo;
+use calloop_mio::MioIo;
+use calloop_script::ScriptIo;
 use mio::net::{TcpListener, TcpStream};
 use std::alloc::Global;
 use std::io;

@@ -10,9 +10,9 @@ use Rattle.std.specs.List.{AllByRecursion}
 use Rattle.std.specs.List.Sorted.{IsStrictlySortedBy}
 use Rattle.std.specs.Option.{option_map}
 use Rattle.calloop_wake.proofs.Posted.{at_eq}
-use Rattle.calloop_wake.specs.Tokens.{slot_of_key}
-use Rattle.calloop_wake.specs.wake.Posts.{standing_at, of_key, by_slot_at, or_by_map, with_slots, IsFree, AreOpen, Changes}
-use Rattle.calloop_wake.specs.declared.wake.places.SlotKey.{SlotKey}
+use Rattle.calloop_slots.specs.Tokens.{slot_of_key}
+use Rattle.calloop_wake.specs.Posts.{standing_at, of_key, by_slot_at, or_by_map, with_slots, IsFree, AreOpen, Changes}
+use Rattle.calloop_wake.specs.declared.places.SlotKey.{SlotKey}
 
 abbrev pub Slots : Type 0
 Slots = List (Option SlotKey)

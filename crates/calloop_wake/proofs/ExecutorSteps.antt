@@ -4,13 +4,13 @@ use Rattle.std.proofs.lemmas.Bool.Decides.{eqb_tells}
 use Rattle.std.proofs.lemmas.Option.{none-some, same_Some}
 use mathlib.Core.Path.{fun_ext}
 use Rattle.futures.specs.LinkedLists.{IsIn}
-use Rattle.calloop_wake.specs.declared.wake.tasks.Phase.{Phase}
-use Rattle.calloop_wake.specs.declared.wake.tasks.Phase.TheVariants.{Idle, Queued, Polling, Woken}
-use Rattle.calloop_wake.specs.declared.wake.tasks.Task.{Task}
-use Rattle.calloop_wake.specs.declared.wake.tasks.TaskKey.{TaskKey}
-use Rattle.calloop_wake.specs.wake.Cells.{is_own}
-use Rattle.calloop_wake.specs.wake.Tasks.{phase_if, phase_at, after_step, is_idle, is_woken, is_awake, in_poll, woken_phase, phase_after_pending, slot_if}
-use Rattle.calloop_wake.specs.wake.Executors.{ExecutorCell, IsAwake, fresh_executor, with_slot, after_put, after_wake, after_poll, after_poll_of, taken_of, after_pop, after_end, after_end_turn, opens, in_turn, after_clear_key, is_empty, AreQueued, ArePolled, AreSorted, IsKeepingTasks, IsStandingExecutor, in_its_poll, key_in}
+use Rattle.calloop_wake.specs.declared.tasks.Phase.{Phase}
+use Rattle.calloop_wake.specs.declared.tasks.Phase.TheVariants.{Idle, Queued, Polling, Woken}
+use Rattle.calloop_wake.specs.declared.tasks.Task.{Task}
+use Rattle.calloop_wake.specs.declared.tasks.TaskKey.{TaskKey}
+use Rattle.calloop_wake.specs.Cells.{is_own}
+use Rattle.calloop_wake.specs.Tasks.{phase_if, phase_at, after_step, is_idle, is_woken, is_awake, in_poll, woken_phase, phase_after_pending, slot_if}
+use Rattle.calloop_wake.specs.Executors.{ExecutorCell, IsAwake, fresh_executor, with_slot, after_put, after_wake, after_poll, after_poll_of, taken_of, after_pop, after_end, after_end_turn, opens, in_turn, after_clear_key, is_empty, AreQueued, ArePolled, AreSorted, IsKeepingTasks, IsStandingExecutor, in_its_poll, key_in}
 use Rattle.calloop_wake.proofs.Sorted.{with_slot_cases, numbered-kept, numbered-gone, numbered-new, queued-add, queued-keep, queued-take, polled-keep, polled-mark, polled-pend, polled-take}
 
 -- writing what is there changes nothing

@@ -1,12 +1,12 @@
 -- What the steps of an executor's cell keep, said of the fields of its core.
 use Rattle.std.proofs.Common.{◌≡◌, ℕ, ◌+◌, ◌++◌, Bool, true, false, ◌||◌, List, [], ◌∷◌, Option, Some, None, refl, sym, ◌∙◌, ap, subst, true≢false}
-use Rattle.calloop_wake.specs.declared.wake.tasks.Phase.TheVariants.{Queued, Polling}
-use Rattle.calloop_wake.specs.declared.wake.tasks.Task.{Task}
-use Rattle.calloop_wake.specs.declared.wake.tasks.TaskKey.{TaskKey}
-use Rattle.calloop_wake.specs.declared.wake.executor.Progress.{Progress}
-use Rattle.calloop_wake.specs.wake.Tasks.{TaskTable, task_at, phase_at, after_step, is_idle, is_woken, in_poll, woken_phase, phase_after_pending, slot_if}
-use Rattle.calloop_wake.specs.wake.Cells.{Cell}
-use Rattle.calloop_wake.specs.wake.Executors.{with_slot, inside_cell, IsKeepingTasks, ExecutorCell, AreQueued, ArePolled, AreNumbered, in_its_poll, key_in}
+use Rattle.calloop_wake.specs.declared.tasks.Phase.TheVariants.{Queued, Polling}
+use Rattle.calloop_wake.specs.declared.tasks.Task.{Task}
+use Rattle.calloop_wake.specs.declared.tasks.TaskKey.{TaskKey}
+use Rattle.calloop_wake.specs.declared.executor.Progress.{Progress}
+use Rattle.calloop_wake.specs.Tasks.{TaskTable, task_at, phase_at, after_step, is_idle, is_woken, in_poll, woken_phase, phase_after_pending, slot_if}
+use Rattle.calloop_wake.specs.Cells.{Cell}
+use Rattle.calloop_wake.specs.Executors.{with_slot, inside_cell, IsKeepingTasks, ExecutorCell, AreQueued, ArePolled, AreNumbered, in_its_poll, key_in}
 use Rattle.calloop_wake.proofs.ExecutorSteps.{wake-keeps, put-keeps, ends_poll-at, take-none, take-some}
 
 -- the same with what a bell has of it, whatever its key and its senders are

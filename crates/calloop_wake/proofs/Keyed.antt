@@ -1,8 +1,8 @@
 -- Keys and passes of a board.
 use Rattle.std.proofs.Common.{◌≡◌, ℕ, Option, Some, None, is_some, true, List, [], ◌∷◌, ◌++◌, map, refl, sym, ap}
 use Rattle.logbook.specs.Pages.{Book}
-use Rattle.calloop_wake.specs.wake.Passes.{Keyed, Taken, AreOf, on}
-use Rattle.calloop_wake.specs.wake.Boards.{fresh_pass}
+use Rattle.calloop_wake.specs.Passes.{Keyed, Taken, AreOf, on}
+use Rattle.calloop_wake.specs.Boards.{fresh_pass}
 
 -- what has a key of this board is of it, and there was a key
 pub of-on : (board : Book) (key : Option ℕ) (k : Keyed) → on board key ≡ Some k → (k.board ≡ board) × (is_some key ≡ true)

@@ -6,7 +6,7 @@ use mathlib.Core.Logic.{dite}
 use mathlib.Core.Option.{some}
 use native.Mathlib.Decide.{ℕ_discrete}
 use Rattle.atomic_table.specs.Table.{Me, State, rest, keeps, takes, gives, Allows, Arrives, Enters}
-use Rattle.calloop_wake.specs.wake.Locks.{IsLock, IsTaken, IsOut, OfContent, IsHinted, WasHintedBy}
+use Rattle.calloop_wake.specs.Locks.{IsLock, IsTaken, IsOut, OfContent, IsHinted, WasHintedBy}
 
 -- a word that is exchanged for itself
 pub either_same : (found word : ℕ) → either (found == word) word found ≡ found

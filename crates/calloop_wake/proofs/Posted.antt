@@ -15,10 +15,10 @@ use Rattle.std.proofs.lemmas.List.Sorted.{IsNonDecreasingBy-from_sort, IsPermuta
 use Rattle.std.proofs.lemmas.List.Folds.{list_any-append}
 use Rattle.std.proofs.lemmas.Map.Steps.{length-le_from_keys}
 use Rattle.std.proofs.lemmas.Map.Keys.{IsDistinct-from_apart, IsStrictlyIncreasing-from_distinct, sorted_from_strictly_increasing, IsDistinct-IsPermutation, IsDistinct-head, IsDistinct-tail, IsDistinct-push}
-use Rattle.calloop_wake.proofs.Places.{none_marked, keys-rising, is_marked-after_close, is_marked-after_open, is_marked-after_post, IsAscending-open, IsAscending-filter}
-use Rattle.calloop_wake.specs.wake.Boards.{bound, keys_within, taken_keys, is_taken, without_mark, after_unpost, place, is_open, is_marked, any_marked, wakes, after_open_place, after_close_place, after_post, AllAbove, IsAscending, AllGreater, IsRising}
-use Rattle.calloop_wake.specs.wake.Posts.{place_at, places_of, standing_at, posted_keys, Changes, is_quiet, posted_at, index_of, left_at, place_after, IsBoard}
-use Rattle.calloop_wake.specs.declared.wake.board.Place.{Place}
+use Rattle.calloop_wake.proofs.BoardSteps.{none_marked, keys-rising, is_marked-after_close, is_marked-after_open, is_marked-after_post, IsAscending-open, IsAscending-filter}
+use Rattle.calloop_wake.specs.Boards.{bound, keys_within, taken_keys, is_taken, without_mark, after_unpost, place, is_open, is_marked, any_marked, wakes, after_open_place, after_close_place, after_post, AllAbove, IsAscending, AllGreater, IsRising}
+use Rattle.calloop_wake.specs.Posts.{place_at, places_of, standing_at, posted_keys, Changes, is_quiet, posted_at, index_of, left_at, place_after, IsBoard}
+use Rattle.calloop_wake.specs.declared.board.Place.{Place}
 
 pub at_eq : (c q : ℕ) → is_at (nat_cmp c) q ≡ nat_eq c q
 at_eq c q = grind (arith, nat_tests)

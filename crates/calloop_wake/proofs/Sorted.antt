@@ -3,11 +3,11 @@ use Rattle.std.proofs.Common.{◌≡◌, ◌≢◌, ℕ, ◌+◌, ◌<◌, ◌++
 use Rattle.std.proofs.lemmas.Bool.Decides.{eqb_tells}
 use Rattle.std.proofs.lemmas.Option.{none-some, same_Some}
 use Rattle.futures.specs.LinkedLists.{IsIn, IsApart}
-use Rattle.calloop_wake.specs.declared.wake.tasks.Phase.TheVariants.{Queued}
-use Rattle.calloop_wake.specs.declared.wake.tasks.Task.{Task}
-use Rattle.calloop_wake.specs.declared.wake.tasks.TaskKey.{TaskKey}
-use Rattle.calloop_wake.specs.wake.Tasks.{in_poll}
-use Rattle.calloop_wake.specs.wake.Executors.{with_slot, AreQueued, ArePolled, AreNumbered}
+use Rattle.calloop_wake.specs.declared.tasks.Phase.TheVariants.{Queued}
+use Rattle.calloop_wake.specs.declared.tasks.Task.{Task}
+use Rattle.calloop_wake.specs.declared.tasks.TaskKey.{TaskKey}
+use Rattle.calloop_wake.specs.Tasks.{in_poll}
+use Rattle.calloop_wake.specs.Executors.{with_slot, AreQueued, ArePolled, AreNumbered}
 
 -- what holds of the slot that was written, and of the others
 pub with_slot_cases : (P : Option Task → Type 0) (slot other : ℕ) (o : Option Task) (tasks : ℕ → Option Task)

@@ -2,8 +2,8 @@
 use Rattle.std.proofs.Common.{◌≡◌, ◌≢◌, ℕ, Bool, if◌then◌else◌, inl, inr, Option, sym, ◌∙◌, ap}
 use Rattle.std.proofs.lemmas.Bool.Decides.{eqb_tells}
 use mathlib.Core.Path.{fun_ext}
-use Rattle.calloop_wake.specs.declared.wake.tasks.Task.{Task}
-use Rattle.calloop_wake.specs.wake.Executors.{with_slot}
+use Rattle.calloop_wake.specs.declared.tasks.Task.{Task}
+use Rattle.calloop_wake.specs.Executors.{with_slot}
 
 pub written : (old new : ℕ → Option Task) (slot : ℕ) (task : Option Task) → new slot ≡ task
     → ((other : ℕ) → other ≢ slot → new other ≡ old other) → new ≡ with_slot slot task old

@@ -1,11 +1,15 @@
-pub mod wake
-pub mod Errors
-pub mod Failures
-pub mod Widths
-pub mod TokenViews
-pub mod Tokens
-pub mod Deadlines
-pub mod Wheels
-pub mod Slots
-pub mod Vacancies
-pub mod Lendings
+-- What the contracts of `wake` cite.
+pub mod Passes
+pub mod Cells
+pub mod Bells
+pub mod Channels
+pub mod Tasks
+pub mod Executors
+pub mod Boards
+pub mod Posts
+pub mod Watches
+pub mod BoardNotes
+pub mod Marks
+pub mod Homes
+pub mod Locks
+pub mod LockLendings

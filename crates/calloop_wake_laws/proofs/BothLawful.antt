@@ -1,6 +1,6 @@
 -- Two lawful kinds are a lawful kind together.
 use Rattle.std.proofs.Common.{◌≡◌, ℕ, Bool, true, false, List, Some, None, refl}
-use Rattle.calloop_wake.specs.wake.Cells.{fresh}
+use Rattle.calloop_wake.specs.Cells.{fresh}
 use Rattle.calloop_wake_laws.specs.Wakes.{Kind, WakeStep, start, after_all, IsSchedule, IsCovered}
 use Rattle.calloop_wake_laws.specs.PingKind.{ping_kind}
 use Rattle.calloop_wake_laws.specs.ChannelKind.{channel_kind, unused_channel}

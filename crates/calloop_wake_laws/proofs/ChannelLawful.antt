@@ -2,9 +2,9 @@
 -- counted.
 use Rattle.std.proofs.Common.{◌≡◌, ℕ, ◌+◌, ◌<◌, ◌≤◌, Bool, true, false, ◌&&◌, ◌||◌, not, List, [], ◌∷◌, ◌++◌, length, Option, Some, None, IfSome, refl, sym, ◌∙◌, ap, subst, arith, ltb-true, length-append, append_assoc, append-nil}
 use Rattle.std.proofs.Math.Bool.{or-true}
-use Rattle.calloop_wake.specs.wake.Cells.{Cell, one, is_own, after_close, after_set_key, after_clear_key}
-use Rattle.calloop_wake.specs.wake.Bells.{after_ping, after_end}
-use Rattle.calloop_wake.specs.wake.Channels.{ChannelCell, fresh_channel, with_bell, is_below, pops, after_put, after_pop_of, after_take_of, popped_of, tells_close, is_close, is_early, after_end_turn, IsPingedIfDue, IsLitChannel, IsSoundChannel, IsStandingChannel}
+use Rattle.calloop_wake.specs.Cells.{Cell, one, is_own, after_close, after_set_key, after_clear_key}
+use Rattle.calloop_wake.specs.Bells.{after_ping, after_end}
+use Rattle.calloop_wake.specs.Channels.{ChannelCell, fresh_channel, with_bell, is_below, pops, after_put, after_pop_of, after_take_of, popped_of, tells_close, is_close, is_early, after_end_turn, IsPingedIfDue, IsLitChannel, IsSoundChannel, IsStandingChannel}
 use Rattle.calloop_wake_laws.specs.ChannelKind.{Telling, ChannelPast, unused_channel, ChannelStep, Ring, Close, Pop, Take, EndTurn, Put, behind_pop, channel_kind, item_of, told_by, AllOfEmpty, IsStandingPast}
 use Rattle.calloop_wake_laws.proofs.Lawful.{own-is, and-left}
 use Rattle.calloop_wake_laws.proofs.Schedules.{IsLawful, IsFresh}

@@ -1,11 +1,11 @@
 -- The kinds of cells that there are can be delivered.
 use Rattle.std.proofs.Common.{◌≡◌, ℕ, zero, suc, ◌+◌, ◌-◌, ◌≤◌, Bool, true, false, ◌&&◌, ◌||◌, not, inl, inr, List, [], ◌∷◌, length, Option, Some, None, refl, ◌∙◌, ap, arith, eq-eqb}
 use Rattle.std.proofs.Math.Bool.{or-true}
-use Rattle.calloop_wake.specs.declared.wake.tasks.TaskKey.{TaskKey}
-use Rattle.calloop_wake.specs.wake.Cells.{Cell, is_own}
-use Rattle.calloop_wake.specs.wake.Channels.{ChannelCell, after_pop_of, after_take_of, is_early, pops}
-use Rattle.calloop_wake.specs.wake.Executors.{ExecutorCell, after_poll_of, taken_of, after_poll}
-use Rattle.calloop_wake.specs.wake.Tasks.{is_idle, phase_at}
+use Rattle.calloop_wake.specs.declared.tasks.TaskKey.{TaskKey}
+use Rattle.calloop_wake.specs.Cells.{Cell, is_own}
+use Rattle.calloop_wake.specs.Channels.{ChannelCell, after_pop_of, after_take_of, is_early, pops}
+use Rattle.calloop_wake.specs.Executors.{ExecutorCell, after_poll_of, taken_of, after_poll}
+use Rattle.calloop_wake.specs.Tasks.{is_idle, phase_at}
 use Rattle.calloop_wake_laws.specs.Wakes.{Kind, WakeStep, start, after_all, IsSchedule}
 use Rattle.calloop_wake_laws.specs.PingKind as ping
 use Rattle.calloop_wake_laws.specs.PingKind.{PingStep, ping_kind}

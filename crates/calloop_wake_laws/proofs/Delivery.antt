@@ -2,11 +2,11 @@
 use Rattle.std.proofs.Common.{◌≡◌, ◌≢◌, ℕ, zero, suc, ◌+◌, ◌<◌, ◌≤◌, nat_eq, nat_lt, Bool, true, false, ◌&&◌, ◌||◌, if◌then◌else◌, ◌⊎◌, inl, inr, List, [], ◌∷◌, ◌++◌, length, Some, refl, sym, ◌∙◌, ap, subst, arith, length-append, eq-eqb}
 use Rattle.std.proofs.lemmas.Bool.Decides.{nat_tests}
 use Rattle.std.proofs.Math.Bool.{or-true}
-use Rattle.calloop_wake.specs.wake.Cells.{one}
-use Rattle.calloop_wake.specs.wake.Boards.{is_open, is_marked}
+use Rattle.calloop_wake.specs.Cells.{one}
+use Rattle.calloop_wake.specs.Boards.{is_open, is_marked}
 use Rattle.calloop_wake_laws.specs.Wakes.{Kind, Loop, Awake, Looked, Asleep, WakeWorld, WakeStep, At, Post, Back, Wakeup, with_cell, after, IsSchedule, after_all}
 use Rattle.calloop_wake_laws.specs.Delivery.{AllOwed, CanBeDelivered}
-use Rattle.calloop_wake.proofs.Places.{is_marked-after_post}
+use Rattle.calloop_wake.proofs.BoardSteps.{is_marked-after_post}
 use Rattle.calloop_wake_laws.proofs.Schedules.{IsLawful, IsKept, kept-after_all}
 
 module _ (K : Kind) where

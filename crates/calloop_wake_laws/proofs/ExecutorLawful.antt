@@ -3,12 +3,12 @@ use Rattle.std.proofs.Common.{◌≡◌, ℕ, ◌+◌, ◌<◌, ◌≤◌, ◌++
 use Rattle.std.proofs.lemmas.Bool.Decides.{eqb_tells}
 use Rattle.std.proofs.lemmas.Option.{none-some, same_Some}
 use Rattle.futures.specs.LinkedLists.{IsIn, IsApart}
-use Rattle.calloop_wake.specs.declared.wake.tasks.Phase.{Phase}
-use Rattle.calloop_wake.specs.declared.wake.tasks.Task.{Task}
-use Rattle.calloop_wake.specs.declared.wake.tasks.TaskKey.{TaskKey}
-use Rattle.calloop_wake.specs.wake.Cells.{is_own}
-use Rattle.calloop_wake.specs.wake.Tasks.{phase_at, after_step, in_poll, woken_phase, phase_after_pending}
-use Rattle.calloop_wake.specs.wake.Executors.{ExecutorCell, with_slot, after_poll, after_pop, after_poll_of, taken_of, after_clear_key, in_its_poll, AreNumbered, IsKeepingTasks}
+use Rattle.calloop_wake.specs.declared.tasks.Phase.{Phase}
+use Rattle.calloop_wake.specs.declared.tasks.Task.{Task}
+use Rattle.calloop_wake.specs.declared.tasks.TaskKey.{TaskKey}
+use Rattle.calloop_wake.specs.Cells.{is_own}
+use Rattle.calloop_wake.specs.Tasks.{phase_at, after_step, in_poll, woken_phase, phase_after_pending}
+use Rattle.calloop_wake.specs.Executors.{ExecutorCell, with_slot, after_poll, after_pop, after_poll_of, taken_of, after_clear_key, in_its_poll, AreNumbered, IsKeepingTasks}
 use Rattle.calloop_wake_laws.specs.ExecutorKind.{ExecutorPast, unused_executor, ExecutorStep, Put, Wake, Pop, EndTurn, executor_needs, executor_after, given_of, given_by, past_after, IsStandingPast, executor_kind}
 use Rattle.calloop_wake_laws.proofs.Schedules.{IsLawful, IsFresh}
 use Rattle.calloop_wake_laws.proofs.Lawful.{own-is, and-left}

@@ -1,6 +1,6 @@
 -- The cells of pings are a lawful kind.
 use Rattle.std.proofs.Common.{◌≡◌, ℕ, Bool, true, false, ◌&&◌, ◌||◌, not, Option, Some, None, refl, sym, ap, eqb-true}
-use Rattle.calloop_wake.specs.wake.Cells.{Cell, fresh, is_own, IsLit, in_turn}
+use Rattle.calloop_wake.specs.Cells.{Cell, fresh, is_own, IsLit, in_turn}
 use Rattle.calloop_wake_laws.specs.PingKind.{PingStep, Ring, Close, EndTurn, ping_kind}
 use Rattle.calloop_wake_laws.proofs.Schedules.{IsLawful, IsFresh}
 

@@ -2,11 +2,11 @@
 use Rattle.std.proofs.Common.{nat_lt, ◌≡◌, ◌≢◌, ℕ, ◌+◌, ◌-◌, ◌<◌, ◌≤◌, Bool, true, false, ◌&&◌, ◌||◌, not, if◌then◌else◌, ◌⊎◌, inl, inr, List, [], ◌∷◌, Option, Some, None, nat_eq, refl, sym, ◌∙◌, ap, ap₂, subst, arith, true≢false, add-zero, eq-eqb, ne_eqb, zero, suc}
 use Rattle.std.proofs.lemmas.Bool.Decides.{nat_tests, eqb_tells}
 use Rattle.std.proofs.Math.Bool.{and-true, or-true, or-false}
-use Rattle.calloop_wake.specs.wake.Cells.{one}
-use Rattle.calloop_wake.specs.wake.Boards.{is_open, is_marked, any_marked, after_open_place, after_close_place, after_post, after_unpost}
+use Rattle.calloop_wake.specs.Cells.{one}
+use Rattle.calloop_wake.specs.Boards.{is_open, is_marked, any_marked, after_open_place, after_close_place, after_post, after_unpost}
 use Rattle.calloop_wake_laws.specs.Wakes.{Bag, and_one, and_any, less_one, Loop, Awake, Looked, WakeWorld, start, WakeStep, At, Kind, owed_by, owed_at, ClearKey, SetKey, OpenTurn, OpenPlace, ClosePlace, Post, Back, Look, Unpost, Wakeup, Sleep, Return, with_cell, Needs, after, IsSchedule, after_all, IsCovered}
-use Rattle.calloop_wake.specs.declared.wake.board.Place.{Place}
-use Rattle.calloop_wake.proofs.Places.{is_open-after_open, is_marked-after_open, is_open-after_close, is_marked-after_close, is_open-after_post, is_marked-after_post, is_open-after_unpost, is_marked-after_unpost, marked-after_post, none_marked}
+use Rattle.calloop_wake.specs.declared.board.Place.{Place}
+use Rattle.calloop_wake.proofs.BoardSteps.{is_open-after_open, is_marked-after_open, is_open-after_close, is_marked-after_close, is_open-after_post, is_marked-after_post, is_open-after_unpost, is_marked-after_unpost, marked-after_post, none_marked}
 
 -- what a kind of cells keeps, whenever nobody is within a step
 pub record IsLawful (K : Kind) : Type 1 where

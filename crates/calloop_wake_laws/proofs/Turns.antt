@@ -1,14 +1,14 @@
 -- Turns that pop as often as they may: what each of their rounds finds and leaves.
 use Rattle.std.proofs.Common.{◌≡◌, ℕ, zero, suc, ◌+◌, ◌<◌, true, false, [], ◌∷◌, ◌++◌, Option, Some, None, refl, sym, ◌∙◌, ap, subst, arith, inl, inr}
 use Rattle.std.specs.Prelude.{IsSome}
-use Rattle.calloop_wake.specs.declared.wake.tasks.Phase.TheVariants.{Polling, Queued, Woken}
-use Rattle.calloop_wake.specs.declared.wake.tasks.Task.{Task}
-use Rattle.calloop_wake.specs.declared.wake.tasks.TaskKey.{TaskKey}
-use Rattle.calloop_wake.specs.wake.Channels.{after_pop_of, has_room, is_below}
+use Rattle.calloop_wake.specs.declared.tasks.Phase.TheVariants.{Polling, Queued, Woken}
+use Rattle.calloop_wake.specs.declared.tasks.Task.{Task}
+use Rattle.calloop_wake.specs.declared.tasks.TaskKey.{TaskKey}
+use Rattle.calloop_wake.specs.Channels.{after_pop_of, has_room, is_below}
 use Rattle.calloop_wake_laws.specs.ChannelKind as channel
 use Rattle.calloop_wake_laws.specs.ChannelKind.{ChannelPast, ChannelStep, channel_kind, channel_needs, channel_after}
-use Rattle.calloop_wake.specs.wake.Executors.{ExecutorCell, after_poll_of, taken_of, after_take, after_pop, after_wake, key_in, in_its_poll}
-use Rattle.calloop_wake.specs.wake.Tasks.{is_woken, is_idle, phase_if, after_step, phase_after_pending, woken_phase, slot_if}
+use Rattle.calloop_wake.specs.Executors.{ExecutorCell, after_poll_of, taken_of, after_take, after_pop, after_wake, key_in, in_its_poll}
+use Rattle.calloop_wake.specs.Tasks.{is_woken, is_idle, phase_if, after_step, phase_after_pending, woken_phase, slot_if}
 use Rattle.calloop_wake_laws.specs.ExecutorKind as executor
 use Rattle.calloop_wake_laws.specs.ExecutorKind.{ExecutorPast, ExecutorStep, executor_kind, executor_needs, past_after}
 use Rattle.calloop_wake_laws.specs.PingKind.{ping_kind}

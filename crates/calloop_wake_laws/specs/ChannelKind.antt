@@ -2,13 +2,13 @@
 -- pop of a call that receives, and the end of a turn. Messages are numbers here. The machine also keeps how far the turn that stands
 -- open has come, what was put and handed out, and each telling of the close.
 use Rattle.std.specs.Prelude.{◌≡◌, ℕ, ◌-◌, ◌<◌, ◌≤◌, ◌⊎◌, not, Bool, true, false, Option, List, [], ◌∷◌, ◌++◌, length}
-use Rattle.calloop_wake.specs.wake.Cells.{Cell, after_close, after_set_key, after_clear_key, opens}
-use Rattle.calloop_wake.specs.wake.Bells.{after_ping, after_drain}
-use Rattle.calloop_wake.specs.wake.Channels.{ChannelCell, fresh_channel, with_bell, has_room, pops, after_put, pop_answer, after_pop, after_take, is_item, is_close, after_end_turn, IsStandingChannel, IsSoundChannel}
+use Rattle.calloop_wake.specs.Cells.{Cell, after_close, after_set_key, after_clear_key, opens}
+use Rattle.calloop_wake.specs.Bells.{after_ping, after_drain}
+use Rattle.calloop_wake.specs.Channels.{ChannelCell, fresh_channel, with_bell, has_room, pops, after_put, pop_answer, after_pop, after_take, is_item, is_close, after_end_turn, IsStandingChannel, IsSoundChannel}
 use Rattle.calloop_wake_laws.specs.Wakes.{Kind}
-use Rattle.calloop_wake.specs.declared.wake.channel.LastPop.TheVariants.{NoPop}
-use Rattle.calloop_wake.specs.declared.wake.channel.Popped.{Popped}
-use Rattle.calloop_wake.specs.declared.wake.channel.Popped.TheVariants.{Item, Empty, Closed}
+use Rattle.calloop_wake.specs.declared.channel.LastPop.TheVariants.{NoPop}
+use Rattle.calloop_wake.specs.declared.channel.Popped.{Popped}
+use Rattle.calloop_wake.specs.declared.channel.Popped.TheVariants.{Item, Empty, Closed}
 
 -- a channel's cell when a pop told the close: whether it was closed, and how many messages it had
 pub record Telling : Type 0 where

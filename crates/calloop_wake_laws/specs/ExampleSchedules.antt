@@ -1,14 +1,14 @@
 -- Schedules that there are, with each kind of step at the moments that matter: so the needs of the steps rule none of these out. And
 -- schedules that the needs rule out.
 use Rattle.std.specs.Prelude.{ℕ, zero, suc, ◌+◌, ◌-◌, ◌^◌, List, [], ◌∷◌, ◌++◌, true, false, if◌then◌else◌, nat_eq, Some, None}
-use Rattle.calloop_wake.specs.wake.Cells.{Cell, fresh}
-use Rattle.calloop_wake.specs.wake.Channels.{fresh_channel}
+use Rattle.calloop_wake.specs.Cells.{Cell, fresh}
+use Rattle.calloop_wake.specs.Channels.{fresh_channel}
 use Rattle.calloop_wake_laws.specs.ChannelKind as channel
-use Rattle.calloop_wake.specs.wake.Executors.{fresh_executor, with_slot}
+use Rattle.calloop_wake.specs.Executors.{fresh_executor, with_slot}
 use Rattle.calloop_wake_laws.specs.ExecutorKind as executor
 use Rattle.calloop_wake_laws.specs.PingKind as ping
 use Rattle.calloop_wake_laws.specs.Kinds.{First, Second, APing, AChannel, every_kind, new_cell}
-use Rattle.calloop_wake.specs.declared.wake.channel.LastPop.TheVariants.{AnItem, NoItem}
+use Rattle.calloop_wake.specs.declared.channel.LastPop.TheVariants.{AnItem, NoItem}
 use Rattle.calloop_wake_laws.specs.Lost.{in_time}
 use Rattle.calloop_wake_laws.specs.Wakes.{
   WakeWorld,

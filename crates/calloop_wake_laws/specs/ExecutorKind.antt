@@ -2,9 +2,9 @@
 -- results were handed out.
 use Rattle.std.specs.Prelude.{◌≡◌, ℕ, ◌<◌, Bool, true, false, ◌⊎◌, List, [], ◌∷◌, ◌++◌, Option, Some, None, IsSome}
 use Rattle.futures.specs.LinkedLists.{IsIn, IsApart}
-use Rattle.calloop_wake.specs.declared.wake.tasks.Task.{Task}
-use Rattle.calloop_wake.specs.declared.wake.tasks.TaskKey.{TaskKey}
-use Rattle.calloop_wake.specs.wake.Executors.{
+use Rattle.calloop_wake.specs.declared.tasks.Task.{Task}
+use Rattle.calloop_wake.specs.declared.tasks.TaskKey.{TaskKey}
+use Rattle.calloop_wake.specs.Executors.{
   ExecutorCell,
   fresh_executor,
   after_put,

@@ -1,6 +1,6 @@
 -- Two kinds of cells as one, so that cells of both share a board. The cells that there are: pings, channels and executors.
 use Rattle.std.specs.Prelude.{ℕ, Bool, Option}
-use Rattle.calloop_wake.specs.wake.Cells.{fresh}
+use Rattle.calloop_wake.specs.Cells.{fresh}
 use Rattle.calloop_wake_laws.specs.Wakes.{Kind}
 use Rattle.calloop_wake_laws.specs.PingKind.{ping_kind}
 use Rattle.calloop_wake_laws.specs.ChannelKind.{channel_kind, unused_channel}

@@ -1,12 +1,12 @@
 -- Small states in which something is lost, which `nothing_is_lost` rules out.
 use Rattle.std.specs.Prelude.{ℕ, zero, suc, List, [], ◌∷◌, Bool, true, false, if◌then◌else◌, Option, Some, None}
-use Rattle.calloop_wake.specs.wake.Cells.{Cell, fresh}
-use Rattle.calloop_wake.specs.wake.Channels.{fresh_channel}
+use Rattle.calloop_wake.specs.Cells.{Cell, fresh}
+use Rattle.calloop_wake.specs.Channels.{fresh_channel}
 use Rattle.calloop_wake_laws.specs.ChannelKind.{ChannelPast, Telling, unused_channel}
-use Rattle.calloop_wake.specs.declared.wake.tasks.Phase.TheVariants.{Queued, Polling, Woken}
-use Rattle.calloop_wake.specs.declared.wake.tasks.Task.{Task}
-use Rattle.calloop_wake.specs.declared.wake.tasks.TaskKey.{TaskKey}
-use Rattle.calloop_wake.specs.wake.Executors.{ExecutorCell, fresh_executor, with_slot}
+use Rattle.calloop_wake.specs.declared.tasks.Phase.TheVariants.{Queued, Polling, Woken}
+use Rattle.calloop_wake.specs.declared.tasks.Task.{Task}
+use Rattle.calloop_wake.specs.declared.tasks.TaskKey.{TaskKey}
+use Rattle.calloop_wake.specs.Executors.{ExecutorCell, fresh_executor, with_slot}
 use Rattle.calloop_wake_laws.specs.ExecutorKind.{ExecutorPast, unused_executor}
 use Rattle.calloop_wake_laws.specs.Kinds.{First, Second, APing, AChannel, AnExecutor, every_kind, new_cell}
 use Rattle.calloop_wake_laws.specs.Wakes.{WakeWorld, Looked, Asleep, start, with_cell, no_value, and_one}

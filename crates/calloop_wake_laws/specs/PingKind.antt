@@ -1,7 +1,7 @@
 -- The cells of pings as a kind of the wake machine, with the steps that only they have: a ring, the close that the last
 -- sender's drop makes, and the end of a turn.
 use Rattle.std.specs.Prelude.{◌≡◌, true}
-use Rattle.calloop_wake.specs.wake.Cells.{
+use Rattle.calloop_wake.specs.Cells.{
   Cell,
   IsStanding,
   after_ring,

@@ -23,8 +23,8 @@ use Rattle.std.specs.Prelude.{
   nat_lt,
   ◌&&◌,
 }
-use Rattle.calloop_wake.specs.wake.Cells.{one}
-use Rattle.calloop_wake.specs.wake.Boards.{
+use Rattle.calloop_wake.specs.Cells.{one}
+use Rattle.calloop_wake.specs.Boards.{
   is_open,
   is_marked,
   any_marked,
@@ -34,7 +34,7 @@ use Rattle.calloop_wake.specs.wake.Boards.{
   after_post,
   after_unpost,
 }
-use Rattle.calloop_wake.specs.declared.wake.board.Place.{Place}
+use Rattle.calloop_wake.specs.declared.board.Place.{Place}
 
 -- a kind of cells, as the cells of pings: what the machine reads of a cell, and what its steps do to one
 pub record Kind : Type 1 where

@@ -3,13 +3,13 @@
 #![tactic(auto)]
 
 ghost use Rattle.std.specs.Prelude.{◌≡◌, ◌+◌, ◌&&◌, nat_lt, ℕ, List, Bool, true, None, Some, if◌then◌else◌};
-ghost use Rattle.calloop_wake.specs.wake.Cells.{Cell, fresh, one, opens, debt_of, owed_at, after_ring, after_close, after_set_key, after_clear_key, after_open_turn, after_end_turn};
-ghost use Rattle.calloop_wake.specs.wake.Boards.{is_marked, any_marked, wakes, after_open_place, after_close_place, after_post, after_unpost};
-ghost use Rattle.calloop_wake.specs.wake.Bells.{after_ping, owed_if};
-ghost use Rattle.calloop_wake.specs.wake.Channels.{after_put, after_pop, after_take, with_bell, is_early};
-ghost use Rattle.calloop_wake.specs.wake.Channels.{after_open_turn as channel_after_open_turn, after_end_turn as channel_after_end_turn};
-ghost use Rattle.calloop_wake.specs.wake.Executors.{debt_between as owed_by_step, after_open_turn as executor_after_open_turn};
-ghost use Rattle.calloop_wake.specs.wake.Executors.{after_set_key as executor_after_set_key, after_clear_key as executor_after_clear_key};
+ghost use Rattle.calloop_wake.specs.Cells.{Cell, fresh, one, opens, debt_of, owed_at, after_ring, after_close, after_set_key, after_clear_key, after_open_turn, after_end_turn};
+ghost use Rattle.calloop_wake.specs.Boards.{is_marked, any_marked, wakes, after_open_place, after_close_place, after_post, after_unpost};
+ghost use Rattle.calloop_wake.specs.Bells.{after_ping, owed_if};
+ghost use Rattle.calloop_wake.specs.Channels.{after_put, after_pop, after_take, with_bell, is_early};
+ghost use Rattle.calloop_wake.specs.Channels.{after_open_turn as channel_after_open_turn, after_end_turn as channel_after_end_turn};
+ghost use Rattle.calloop_wake.specs.Executors.{debt_between as owed_by_step, after_open_turn as executor_after_open_turn};
+ghost use Rattle.calloop_wake.specs.Executors.{after_set_key as executor_after_set_key, after_clear_key as executor_after_clear_key};
 ghost use Rattle.calloop_wake_laws.specs.ExecutorKind as executor;
 ghost use Rattle.calloop_wake_laws.specs.ExecutorKind.{ExecutorPast, executor_kind};
 ghost use Rattle.calloop_wake_laws.specs.Wakes.{WakeWorld, WakeStep, At, SetKey, ClearKey, OpenTurn, OpenPlace, ClosePlace, Post, Look, Unpost, Awake, Looked, and_one, start, after, after_all, less_one, with_cell, owed_by, IsSchedule, IsCovered};

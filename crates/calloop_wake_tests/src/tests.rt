@@ -1,24 +1,24 @@
 ghost use Rattle.std.specs.Prelude.{◌≡◌, ◌<◌, ◌-◌, ◌^◌, None, IfOk, IfErr, IfSome};
 ghost use Rattle.std.specs.Arc.{arc_value};
-ghost use Rattle.calloop_wake.specs.wake.Passes.{AreOf};
+ghost use Rattle.calloop_wake.specs.Passes.{AreOf};
 
-use calloop_wake::error::{Error, InsertError};
-use calloop_wake::list::SourceList;
-use calloop_wake::steps::Steps;
-use calloop_wake::token::{
+use calloop_slots::error::{Error, InsertError};
+use calloop_slots::list::SourceList;
+use calloop_slots::steps::Steps;
+use calloop_slots::token::{
     RegistrationToken, Token, TokenFactory, factory_tokens_differ, keys_differ, slot_of_key,
 };
-use calloop_wake::wake::board::{Board, OpenRefusal};
-use calloop_wake::wake::cell::CellCore;
-use calloop_wake::wake::ghosts::Name;
-use calloop_wake::wake::locked::{Core, Locked};
-use calloop_wake::wake::ping::{OpenedTurn, PingCore};
-use calloop_wake::wake::watch::Watch;
-use calloop_wake::wake::{
+use calloop_slots::wheel::{ArmRefusal, Instant, TimerWheel};
+use calloop_slots::widths::{MOST_SLOTS, VERSIONS};
+use calloop_wake::board::{Board, OpenRefusal};
+use calloop_wake::cell::CellCore;
+use calloop_wake::ghosts::Name;
+use calloop_wake::locked::{Core, Locked};
+use calloop_wake::ping::{OpenedTurn, PingCore};
+use calloop_wake::watch::Watch;
+use calloop_wake::{
     ClosePermit, Debt, Last, Notify, OpenedPass, PingTurn, Sender, TakenPass, Tally,
 };
-use calloop_wake::wheel::{ArmRefusal, Instant, TimerWheel};
-use calloop_wake::widths::{MOST_SLOTS, VERSIONS};
 use counted_slot::Fits;
 use std::alloc::{AllocError, Global};
 use std::collections::VecDeque;

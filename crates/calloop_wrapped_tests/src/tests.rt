@@ -2,7 +2,7 @@ use bench::{Bench, Call, Shape, differs};
 use calloop::{
     EventSource, Instant, Poll, PostAction, RegistrationToken, TimeoutAction, TokenFactory,
 };
-use calloop_core::sys::script::ScriptPoller;
+use calloop_script::ScriptPoller;
 use calloop_test_sources::batch::Batch;
 use calloop_test_sources::noting::{Asked, Notebook};
 use calloop_test_sources::numbered::Ending;

@@ -1,15 +1,15 @@
 -- What the callbacks of the rows do.
 use Rattle.std.specs.Prelude.{◌≡◌, ℕ, ◌+◌, ◌-◌, ◌^◌, min, Result, Ok, MatchResult}
-use Rattle.calloop_wake.specs.declared.wheel.Instant.{Instant}
-use Rattle.calloop_core.specs.declared.timer.TimeoutAction.{TimeoutAction}
-use Rattle.calloop_core.specs.declared.timer.TimeoutAction.TheVariants.{Drop}
-use Rattle.calloop.specs.declared.channel.Event.{Event}
+use Rattle.calloop_slots.specs.declared.wheel.Instant.{Instant}
+use Rattle.calloop_sources.specs.declared.timer.TimeoutAction.{TimeoutAction}
+use Rattle.calloop_sources.specs.declared.timer.TimeoutAction.TheVariants.{Drop}
+use Rattle.calloop_ends.specs.declared.channel.Event.{Event}
 use Rattle.loop_bench.specs.declared.bench.Counts.{Counts}
 use Rattle.std.specs.declared.io.Error.{Error as Cause}
-use Rattle.calloop_core.specs.declared.sys.Readiness.{Readiness}
-use Rattle.calloop_core.specs.declared.sources.source.PostAction.{PostAction}
-use Rattle.calloop_core.specs.declared.sources.source.PostAction.TheVariants.{Continue}
-use Rattle.calloop_core.specs.declared.generic.NoIoDrop.{NoIoDrop}
+use Rattle.calloop_poll.specs.declared.sys.Readiness.{Readiness}
+use Rattle.calloop_sources.specs.declared.sources.source.PostAction.{PostAction}
+use Rattle.calloop_sources.specs.declared.sources.source.PostAction.TheVariants.{Continue}
+use Rattle.calloop_sources.specs.declared.generic.NoIoDrop.{NoIoDrop}
 
 -- one more call, up to the greatest number of 64 bits
 abbrev pub one_call_more : ℕ → ℕ

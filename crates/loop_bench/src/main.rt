@@ -2,7 +2,7 @@
 #![tactic(auto)]
 
 use anyhow::Result;
-use calloop_core::sys::system::{MioPoller, SystemClock};
+use calloop_mio::{MioPoller, SystemClock};
 use measured::Measured;
 use request::{Request, read};
 use row::{Kind, Row};

@@ -1,6 +1,6 @@
 //! The pollers that rows can be measured over.
 use calloop::{Clock, Instant, Poller, Result};
-use calloop_core::sys::system::{MioPoller, SystemClock};
+use calloop_mio::{MioPoller, SystemClock};
 use mio::net::UnixStream;
 use std::alloc::Global;
 use std::io::{self, Read, Write};

@@ -1,24 +1,24 @@
 -- The lines of a script make calls that bring no counter of a timer into the loop.
 use Rattle.std.proofs.Common.{◌≡◌, inl, inr, ℕ, List, [], ◌∷◌, ◌++◌, Option, Some, None, Result, Ok, Err, IfOk, IfSome, true, refl, sym, subst, ap, ◌∙◌}
 use Rattle.logbook.specs.Pages.{Book}
-use Rattle.calloop_wake.specs.declared.token.RegistrationToken.{RegistrationToken}
-use Rattle.calloop_wake.specs.declared.wake.Tally.{Tally}
-use Rattle.calloop_core.specs.declared.sys.script.ScriptPoller.{ScriptPoller}
-use Rattle.calloop_core.specs.declared.sys.Readiness.{Readiness}
-use Rattle.calloop_core.specs.declared.sources.dispatch.Dispatcher.{Dispatcher}
-use Rattle.calloop_core.specs.declared.sources.choice.OneOf.{OneOf}
-use Rattle.calloop_core.specs.declared.sources.choice.OneOf.TheVariants.{First, Other}
-use Rattle.calloop_core.specs.declared.timer.Timer.{Timer as TimerSource}
-use Rattle.calloop_core.specs.sys.ScriptPollers.{script_outside}
-use Rattle.calloop.specs.declared.loop_logic.LoopCall.TheVariants.{Insert, Enable, Update, Disable, Remove as RemoveCall, Release, Exchange, Dispatch as DispatchCall, InsertIdle, Cancel, Answer as AnswerOf, ForgetStop, LookForStop, Poller as NewPoller}
-use Rattle.calloop.specs.declared.loop_logic.LoopAnswer.{LoopAnswer}
-use Rattle.calloop.specs.declared.loop_logic.LoopAnswer.TheVariants.{Inserted, Removed, Dispatched, Poller as OldPoller}
+use Rattle.calloop_slots.specs.declared.token.RegistrationToken.{RegistrationToken}
+use Rattle.calloop_wake.specs.declared.Tally.{Tally}
+use Rattle.calloop_script.specs.declared.ScriptPoller.{ScriptPoller}
+use Rattle.calloop_poll.specs.declared.sys.Readiness.{Readiness}
+use Rattle.calloop_sources.specs.declared.sources.dispatch.Dispatcher.{Dispatcher}
+use Rattle.calloop_sources.specs.declared.sources.choice.OneOf.{OneOf}
+use Rattle.calloop_sources.specs.declared.sources.choice.OneOf.TheVariants.{First, Other}
+use Rattle.calloop_sources.specs.declared.timer.Timer.{Timer as TimerSource}
+use Rattle.calloop_script.specs.ScriptPollers.{script_outside}
+use Rattle.calloop_loop.specs.declared.LoopCall.TheVariants.{Insert, Enable, Update, Disable, Remove as RemoveCall, Release, Exchange, Dispatch as DispatchCall, InsertIdle, Cancel, Answer as AnswerOf, ForgetStop, LookForStop, Poller as NewPoller}
+use Rattle.calloop_loop.specs.declared.LoopAnswer.{LoopAnswer}
+use Rattle.calloop_loop.specs.declared.LoopAnswer.TheVariants.{Inserted, Removed, Dispatched, Poller as OldPoller}
 use Rattle.calloop_laws.specs.EveryRun.{LoopRun, OverEveryRun, FromTheStart}
-use Rattle.calloop.specs.loop_logic.Machine.{World, View, Change}
-use Rattle.calloop.specs.loop_logic.Rules.{Run, all_traced}
+use Rattle.calloop_loop.specs.Machine.{World, View, Change}
+use Rattle.calloop_loop.specs.Rules.{Run, all_traced}
 use Rattle.calloop_laws.specs.Laws.{IsFresh, IsLedgerOf, changes_of, moments_of}
 use Rattle.calloop_laws.specs.Freshness.{AllFreshCalls}
-use Rattle.calloop.proofs.Running.{run_none, run_first}
+use Rattle.calloop_loop.proofs.Running.{run_none, run_first}
 use Rattle.looptrace.specs.declared.command.Command.{Command}
 use Rattle.looptrace.specs.declared.command.Command.TheVariants.{Nothing, Ping, Ring, Close, Remove}
 use Rattle.looptrace.specs.declared.command.Command.TheVariants.{Answer as Event, Timer, Clock, Fault, Dispatch}

@@ -1,14 +1,14 @@
 -- An insertion of a source under a free name is an insertion of what holds it.
 use Rattle.std.proofs.Common.{Bool, false, ◌≡◌, ℕ, List, subst, refl, Some, Option, Result, Ok, Err}
 use Rattle.logbook.specs.Pages.{Book}
-use Rattle.calloop_wake.specs.declared.error.InsertError.{InsertError}
-use Rattle.calloop_wake.specs.declared.token.RegistrationToken.{RegistrationToken}
-use Rattle.calloop_core.specs.declared.sources.dispatch.Dispatcher.{Dispatcher}
-use Rattle.calloop_core.specs.declared.sys.script.ScriptPoller.{ScriptPoller}
-use Rattle.calloop.specs.declared.loop_logic.LoopCall.TheVariants.{Insert}
-use Rattle.calloop.specs.declared.loop_logic.LoopAnswer.TheVariants.{Inserted}
-use Rattle.calloop.specs.loop_logic.Machine.{View}
-use Rattle.calloop.specs.loop_logic.Rules.{held_answer}
+use Rattle.calloop_slots.specs.declared.error.InsertError.{InsertError}
+use Rattle.calloop_slots.specs.declared.token.RegistrationToken.{RegistrationToken}
+use Rattle.calloop_sources.specs.declared.sources.dispatch.Dispatcher.{Dispatcher}
+use Rattle.calloop_script.specs.declared.ScriptPoller.{ScriptPoller}
+use Rattle.calloop_loop.specs.declared.LoopCall.TheVariants.{Insert}
+use Rattle.calloop_loop.specs.declared.LoopAnswer.TheVariants.{Inserted}
+use Rattle.calloop_loop.specs.Machine.{View}
+use Rattle.calloop_loop.specs.Rules.{held_answer}
 use Rattle.looptrace.specs.Sources.{Source}
 use Rattle.looptrace.specs.Named.{Named, is_taken}
 use Rattle.looptrace.specs.Runs.{Calls, Pending, InsertSays, InsertLine}

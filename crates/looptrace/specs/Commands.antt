@@ -29,7 +29,7 @@ use Rattle.std.specs.Prelude.{
 use Rattle.std.specs.List.{list_all, starts_with, position}
 use Rattle.std.specs.Option.{option_map}
 use Rattle.std.specs.Cmp.Lexicographic.{pointwise}
-use Rattle.calloop_core.specs.declared.sys.Readiness.{Readiness}
+use Rattle.calloop_poll.specs.declared.sys.Readiness.{Readiness}
 use Rattle.looptrace.specs.declared.command.Command.{Command}
 use Rattle.looptrace.specs.declared.command.Command.TheVariants.{
   Nothing,

@@ -1,16 +1,16 @@
 -- What the lines of a script ask of the loop, for the law of its timers.
 use Rattle.std.specs.Prelude.{◌≡◌, ◌⊎◌, ℕ, List, [], ◌∷◌, Option}
 use Rattle.logbook.specs.Pages.{Book}
-use Rattle.calloop_core.specs.declared.sys.script.ScriptPoller.{ScriptPoller}
-use Rattle.calloop.specs.declared.loop_logic.LoopCall.{LoopCall}
-use Rattle.calloop.specs.declared.loop_logic.LoopCall.TheVariants.{Insert, Exchange}
+use Rattle.calloop_script.specs.declared.ScriptPoller.{ScriptPoller}
+use Rattle.calloop_loop.specs.declared.LoopCall.{LoopCall}
+use Rattle.calloop_loop.specs.declared.LoopCall.TheVariants.{Insert, Exchange}
 use Rattle.looptrace.specs.Sources.{Source}
-use Rattle.calloop.specs.declared.loop_logic.LoopAnswer.{LoopAnswer}
-use Rattle.calloop.specs.loop_logic.Machine.{World, View, IsNew, visible}
-use Rattle.calloop.specs.loop_logic.Rules.{Run, RunLeads}
+use Rattle.calloop_loop.specs.declared.LoopAnswer.{LoopAnswer}
+use Rattle.calloop_loop.specs.Machine.{World, View, IsNew, visible}
+use Rattle.calloop_loop.specs.Rules.{Run, RunLeads}
 use Rattle.calloop_laws.specs.Laws.{IsLedgerOf}
 use Rattle.calloop_laws.specs.EveryRun.{LoopRun}
-use Rattle.calloop_core.specs.sys.ScriptPollers.{script_outside}
+use Rattle.calloop_script.specs.ScriptPollers.{script_outside}
 use Rattle.looptrace.specs.Sources.{source_meaning, no_idles}
 use Rattle.looptrace.specs.Lines.{lines_of}
 use Rattle.looptrace.specs.Traces.{Written, WritesTo}

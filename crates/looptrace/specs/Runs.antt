@@ -6,10 +6,10 @@ use Rattle.std.specs.Prelude.{Option, Some, None, IsSome, Result, Ok, Err}
 use Rattle.std.specs.Option.{option_map}
 use Rattle.std.specs.Duration.{as_nanos}
 use Rattle.std.specs.declared.time.Duration.{Duration}
-use Rattle.calloop_wake.specs.Widths.{most_slots, versions}
-use Rattle.calloop_wake.specs.declared.error.Error.{Error}
-use Rattle.calloop_wake.specs.declared.error.Error.TheVariants.{InvalidToken, IoError, OtherError, OutOfMemory}
-use Rattle.calloop_wake.specs.declared.error.Error.TheVariants.{
+use Rattle.calloop_slots.specs.Widths.{most_slots, versions}
+use Rattle.calloop_slots.specs.declared.error.Error.{Error}
+use Rattle.calloop_slots.specs.declared.error.Error.TheVariants.{InvalidToken, IoError, OtherError, OutOfMemory}
+use Rattle.calloop_slots.specs.declared.error.Error.TheVariants.{
   TooManySources,
   TooManyTokens,
   TooManyTimers,
@@ -17,32 +17,32 @@ use Rattle.calloop_wake.specs.declared.error.Error.TheVariants.{
   OwnTurn,
   NoRendezvous,
 }
-use Rattle.calloop_wake.specs.declared.error.InsertError.{InsertError}
-use Rattle.calloop_wake.specs.declared.token.RegistrationToken.{RegistrationToken}
+use Rattle.calloop_slots.specs.declared.error.InsertError.{InsertError}
+use Rattle.calloop_slots.specs.declared.token.RegistrationToken.{RegistrationToken}
 use Rattle.logbook.specs.Pages.{Book}
-use Rattle.calloop_wake.specs.declared.wheel.Instant.{Instant}
-use Rattle.calloop_wake.specs.declared.wake.Tally.{Tally}
-use Rattle.calloop_core.specs.declared.sys.Readiness.{Readiness}
-use Rattle.calloop_core.specs.declared.sys.script.ScriptAnswer.{ScriptAnswer}
-use Rattle.calloop_core.specs.declared.sys.script.ScriptEvents.{ScriptEvents}
-use Rattle.calloop_core.specs.declared.sys.script.ScriptEnd.TheVariants.{Events, Fault as FaultEnd}
-use Rattle.calloop_core.specs.declared.sys.script.ScriptPoller.{ScriptPoller}
-use Rattle.calloop_core.specs.sys.Pollers.{nanos_of, events_per_wait}
-use Rattle.calloop_core.specs.sys.Polls.{is_filled}
-use Rattle.calloop_core.specs.sys.ScriptPollers.{script_outside}
-use Rattle.calloop_core.specs.Timers.{fresh_timer}
-use Rattle.calloop.specs.declared.loop_logic.LoopCall.{LoopCall}
-use Rattle.calloop.specs.declared.loop_logic.LoopCall.TheVariants.{Insert, Remove as RemoveCall}
-use Rattle.calloop.specs.declared.loop_logic.LoopCall.TheVariants.{Dispatch as DispatchCall, Poller as NewPoller}
-use Rattle.calloop.specs.declared.loop_logic.LoopAnswer.{LoopAnswer}
-use Rattle.calloop.specs.declared.loop_logic.LoopAnswer.TheVariants.{Inserted, Removed, Dispatched, Poller as OldPoller}
-use Rattle.calloop.specs.loop_logic.Machine.{World, View, IsNew, visible, view_of}
-use Rattle.calloop.specs.loop_logic.Rules.{Case, Did}
+use Rattle.calloop_slots.specs.declared.wheel.Instant.{Instant}
+use Rattle.calloop_wake.specs.declared.Tally.{Tally}
+use Rattle.calloop_poll.specs.declared.sys.Readiness.{Readiness}
+use Rattle.calloop_script.specs.declared.ScriptAnswer.{ScriptAnswer}
+use Rattle.calloop_script.specs.declared.ScriptEvents.{ScriptEvents}
+use Rattle.calloop_script.specs.declared.ScriptEnd.TheVariants.{Events, Fault as FaultEnd}
+use Rattle.calloop_script.specs.declared.ScriptPoller.{ScriptPoller}
+use Rattle.calloop_poll.specs.sys.Pollers.{nanos_of, events_per_wait}
+use Rattle.calloop_poll.specs.sys.Polls.{is_filled}
+use Rattle.calloop_script.specs.ScriptPollers.{script_outside}
+use Rattle.calloop_sources.specs.Timers.{fresh_timer}
+use Rattle.calloop_loop.specs.declared.LoopCall.{LoopCall}
+use Rattle.calloop_loop.specs.declared.LoopCall.TheVariants.{Insert, Remove as RemoveCall}
+use Rattle.calloop_loop.specs.declared.LoopCall.TheVariants.{Dispatch as DispatchCall, Poller as NewPoller}
+use Rattle.calloop_loop.specs.declared.LoopAnswer.{LoopAnswer}
+use Rattle.calloop_loop.specs.declared.LoopAnswer.TheVariants.{Inserted, Removed, Dispatched, Poller as OldPoller}
+use Rattle.calloop_loop.specs.Machine.{World, View, IsNew, visible, view_of}
+use Rattle.calloop_loop.specs.Rules.{Case, Did}
 use Rattle.looptrace.specs.declared.command.Command.{Command}
 use Rattle.looptrace.specs.declared.command.Command.TheVariants.{Nothing, Ping, Ring, Close, Remove}
 use Rattle.looptrace.specs.declared.command.Command.TheVariants.{Answer as Event, Timer, Clock, Fault, Dispatch}
-use Rattle.calloop_core.specs.declared.sources.choice.OneOf.{OneOf}
-use Rattle.calloop_core.specs.declared.sources.choice.OneOf.TheVariants.{First, Other}
+use Rattle.calloop_sources.specs.declared.sources.choice.OneOf.{OneOf}
+use Rattle.calloop_sources.specs.declared.sources.choice.OneOf.TheVariants.{First, Other}
 use Rattle.looptrace.specs.declared.runner.PendingAnswer.{PendingAnswer}
 use Rattle.looptrace.specs.declared.runner.ScriptLoop.{ScriptLoop}
 use Rattle.looptrace.specs.Named.{Named, is_taken, ping_named, with_source, without_ping}
@@ -50,8 +50,8 @@ use Rattle.looptrace.specs.Lines.{lines_of}
 use Rattle.looptrace.specs.Traces.{Written, Writes}
 use Rattle.looptrace.specs.Commands.{command_of}
 use Rattle.looptrace.specs.Texts.{insert_text, wait_text, refused_text}
-use Rattle.calloop_core.specs.declared.sources.dispatch.Dispatcher.{Dispatcher}
-use Rattle.calloop_core.specs.declared.timer.Timer.{Timer as TimerSource}
+use Rattle.calloop_sources.specs.declared.sources.dispatch.Dispatcher.{Dispatcher}
+use Rattle.calloop_sources.specs.declared.timer.Timer.{Timer as TimerSource}
 use Rattle.looptrace.specs.declared.source.Teller.{Teller}
 use Rattle.looptrace.specs.declared.source.Alarm.{Alarm}
 use Rattle.looptrace.specs.Sources.{Source, timer_in, source_meaning, no_idles}

@@ -1,21 +1,21 @@
 -- What the sources of a script mean.
 use Rattle.std.specs.Prelude.{◌≡◌, ℕ, List, Option}
-use Rattle.calloop_wake.specs.declared.error.Error.TheVariants.{OutOfMemory}
-use Rattle.calloop_wake.specs.declared.wheel.Instant.{Instant}
-use Rattle.calloop_wake.specs.declared.wake.Tally.{Tally}
-use Rattle.calloop_core.specs.declared.sources.dispatch.Dispatcher.{Dispatcher}
-use Rattle.calloop_core.specs.declared.timer.Timer.{Timer}
-use Rattle.calloop_core.specs.declared.timer.TimeoutAction.{TimeoutAction}
-use Rattle.calloop_core.specs.declared.timer.TimeoutAction.TheVariants.{Drop}
-use Rattle.calloop_core.specs.sources.Deeds.{Lent}
-use Rattle.calloop_core.specs.sources.Meanings.{Meaning, with_callback, one_of, seen_as}
-use Rattle.calloop_core.specs.declared.sources.choice.OneOf.{OneOf}
-use Rattle.calloop_core.specs.declared.sources.choice.OneOf.TheVariants.{First, Other}
-use Rattle.calloop.specs.declared.loop_logic.Sources.{Sources}
-use Rattle.calloop.specs.loop_logic.Askings.{Asks, Reaches, Runs}
-use Rattle.calloop.specs.loop_logic.Choices.{with_data}
-use Rattle.calloop_core.specs.Timers.{timer_meaning}
-use Rattle.calloop.specs.ping.Pings.{ping_meaning}
+use Rattle.calloop_slots.specs.declared.error.Error.TheVariants.{OutOfMemory}
+use Rattle.calloop_slots.specs.declared.wheel.Instant.{Instant}
+use Rattle.calloop_wake.specs.declared.Tally.{Tally}
+use Rattle.calloop_sources.specs.declared.sources.dispatch.Dispatcher.{Dispatcher}
+use Rattle.calloop_sources.specs.declared.timer.Timer.{Timer}
+use Rattle.calloop_sources.specs.declared.timer.TimeoutAction.{TimeoutAction}
+use Rattle.calloop_sources.specs.declared.timer.TimeoutAction.TheVariants.{Drop}
+use Rattle.calloop_sources.specs.sources.Deeds.{Lent}
+use Rattle.calloop_sources.specs.sources.Meanings.{Meaning, with_callback, one_of, seen_as}
+use Rattle.calloop_sources.specs.declared.sources.choice.OneOf.{OneOf}
+use Rattle.calloop_sources.specs.declared.sources.choice.OneOf.TheVariants.{First, Other}
+use Rattle.calloop_loop.specs.declared.Sources.{Sources}
+use Rattle.calloop_loop.specs.Askings.{Asks, Reaches, Runs}
+use Rattle.calloop_loop.specs.Choices.{with_data}
+use Rattle.calloop_sources.specs.Timers.{timer_meaning}
+use Rattle.calloop_ends.specs.ping.Pings.{ping_meaning}
 use Rattle.looptrace.specs.declared.source.Teller.{Teller}
 use Rattle.looptrace.specs.declared.source.Alarm.{Alarm}
 use Rattle.looptrace.specs.Says.{Tells}

@@ -1,7 +1,7 @@
 //! What holds of the timers of every script.
 ghost use Rattle.std.specs.Prelude.{List, ℕ, Option, Some};
-ghost use Rattle.calloop_core.specs.declared.sys.script.ScriptPoller.{ScriptPoller};
-ghost use Rattle.calloop_core.specs.sys.ScriptPollers.{script_outside};
+ghost use Rattle.calloop_script.specs.declared.ScriptPoller.{ScriptPoller};
+ghost use Rattle.calloop_script.specs.ScriptPollers.{script_outside};
 ghost use Rattle.calloop_laws.specs.EveryRun.{LoopRun, OverEveryRun, FromTheStart};
 ghost use Rattle.calloop_laws.specs.Laws.{IsLedgerOf};
 ghost use Rattle.looptrace.specs.Sources.{Source, source_meaning, no_idles};
@@ -9,8 +9,8 @@ ghost use Rattle.looptrace.specs.Runs.{State, trace_step};
 ghost use Rattle.looptrace.specs.InTime.{AllScripted, Asks};
 
 use crate::source::Source;
-use calloop_core::sys::script::{ScriptClock, ScriptPoller};
 use calloop_laws::once_where_nothing_is_asked;
+use calloop_script::{ScriptClock, ScriptPoller};
 use std::sync::Wait;
 
 /// Whatever the script: each line makes such calls alone as insert a ping or a timer that was never registered, and exchanges no source.

@@ -5,7 +5,7 @@ ghost use Rattle.looptrace.specs.Named.{is_taken, ping_named, with_source, witho
 
 use crate::name::SourceName;
 use calloop::ping::Ping;
-use calloop_wake::wake::Receipt;
+use calloop_wake::Receipt;
 use std::alloc::{AllocError, Global};
 use std::collections::BTreeMap;
 use std::marker::Model;

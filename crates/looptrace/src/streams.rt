@@ -7,7 +7,7 @@ ghost use Rattle.looptrace.specs.Lines.{lines_of, first_of};
 ghost use Rattle.looptrace.specs.Texts.{error_text};
 
 use crate::lines;
-use calloop_core::sys::faults::FaultCount;
+use calloop_poll::sys::faults::FaultCount;
 use std::io;
 use std::io::{BufRead, Write};
 

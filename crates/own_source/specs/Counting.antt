@@ -1,9 +1,9 @@
 -- What the source of numbers means, beyond that it does nothing to `Poll`.
 use Rattle.std.specs.Prelude.{◌≡◌, ◌+◌, ◌-◌, ◌^◌, min, ℕ, [], ◌∷◌}
-use Rattle.calloop_core.specs.sys.Polls.{PollView}
-use Rattle.calloop_core.specs.sources.Deeds.{Deed, Registered, Reregistered, Unregistered, Turned, Slept, Noticed, Heard}
+use Rattle.calloop_poll.specs.sys.Polls.{PollView}
+use Rattle.calloop_sources.specs.sources.Deeds.{Deed, Registered, Reregistered, Unregistered, Turned, Slept, Noticed, Heard}
 use Rattle.own_source.specs.declared.numbers.Numbers.{Numbers}
-use Rattle.calloop_wake.specs.declared.error.Error.{Error}
+use Rattle.calloop_slots.specs.declared.error.Error.{Error}
 
 -- each wait brings the next number, and each turn hands it out, in one call; nothing else changes it
 abbrev pub HandsOut : {P : Type 0}

@@ -24,8 +24,8 @@ impl Numbers {
 }
 
 impl<P: Poller, C, R: Wait + Drop> EventSource<P, C, R> for Numbers {
-    ghost use Rattle.calloop_core.specs.sources.Meanings.{attentive};
-    ghost use Rattle.calloop_core.specs.sources.Lawful.{keeping_attentive};
+    ghost use Rattle.calloop_sources.specs.sources.Meanings.{attentive};
+    ghost use Rattle.calloop_sources.specs.sources.Lawful.{keeping_attentive};
     ghost use Rattle.own_source.specs.Counting.{HandsOut};
 
     type Event = u64;

@@ -1,9 +1,9 @@
 -- What the countdown means: each turn calls back once.
 use Rattle.std.specs.Prelude.{◌≡◌, [], ◌∷◌}
-use Rattle.calloop_core.specs.sys.Polls.{PollView}
-use Rattle.calloop_core.specs.sources.Deeds.{Deed, Registered, Reregistered, Unregistered, Turned, Slept, Noticed, Heard}
+use Rattle.calloop_poll.specs.sys.Polls.{PollView}
+use Rattle.calloop_sources.specs.sources.Deeds.{Deed, Registered, Reregistered, Unregistered, Turned, Slept, Noticed, Heard}
 use Rattle.three_kinds.specs.declared.countdown.Countdown.{Countdown}
-use Rattle.calloop_wake.specs.declared.error.Error.{Error}
+use Rattle.calloop_slots.specs.declared.error.Error.{Error}
 
 abbrev pub CallsOnce : {P : Type 0} → Countdown → PollView P
     → Deed (Heard (Unit {0}) (Unit {0}) (Unit {0}) Error) → Countdown → Type 0

@@ -22,8 +22,8 @@ impl Countdown {
 }
 
 impl<P: Poller, C, R: Wait + Drop> EventSource<P, C, R> for Countdown {
-    ghost use Rattle.calloop_core.specs.sources.Meanings.{attentive};
-    ghost use Rattle.calloop_core.specs.sources.Lawful.{keeping_attentive};
+    ghost use Rattle.calloop_sources.specs.sources.Meanings.{attentive};
+    ghost use Rattle.calloop_sources.specs.sources.Lawful.{keeping_attentive};
     ghost use Rattle.three_kinds.specs.Countdowns.{CallsOnce};
 
     type Event = ();

@@ -1,17 +1,17 @@
 -- The callbacks of the chain ask for timers alone that hold no counter.
 use Rattle.std.proofs.Common.{◌≡◌, ℕ, List, [], ◌∷◌, ◌++◌, Some, Result, Ok, Err, IfOk, IfErr, refl, sym, ap, subst}
-use Rattle.calloop_wake.specs.declared.error.InsertError.{InsertError}
-use Rattle.calloop_core.specs.declared.sources.dispatch.Dispatcher.{Dispatcher}
-use Rattle.calloop_core.specs.declared.timer.Timer.{Timer}
-use Rattle.calloop_core.specs.Timers.{fresh_timer}
-use Rattle.calloop.specs.declared.loop_logic.asks.Ticket.{Ticket}
-use Rattle.calloop_wake.specs.declared.wheel.Instant.{Instant}
-use Rattle.calloop_core.specs.declared.timer.TimeoutAction.{TimeoutAction}
-use Rattle.calloop_core.specs.sources.Calls.{CallbackCall, Went}
-use Rattle.calloop.specs.declared.loop_logic.asks.Asked.{Asked}
-use Rattle.calloop.specs.declared.loop_logic.asks.Request.{Request}
-use Rattle.calloop.specs.declared.loop_logic.asks.Request.TheVariants.{Insert, Enable, Update, Disable, Remove, Idle, Cancel}
-use Rattle.calloop.specs.loop_logic.Askings.{Asks, AskStep, Write, Take, Reaches, IsAsked, CannotAsk, ask_after, asks_after}
+use Rattle.calloop_slots.specs.declared.error.InsertError.{InsertError}
+use Rattle.calloop_sources.specs.declared.sources.dispatch.Dispatcher.{Dispatcher}
+use Rattle.calloop_sources.specs.declared.timer.Timer.{Timer}
+use Rattle.calloop_sources.specs.Timers.{fresh_timer}
+use Rattle.calloop_loop.specs.declared.asks.Ticket.{Ticket}
+use Rattle.calloop_slots.specs.declared.wheel.Instant.{Instant}
+use Rattle.calloop_sources.specs.declared.timer.TimeoutAction.{TimeoutAction}
+use Rattle.calloop_sources.specs.sources.Calls.{CallbackCall, Went}
+use Rattle.calloop_loop.specs.declared.asks.Asked.{Asked}
+use Rattle.calloop_loop.specs.declared.asks.Request.{Request}
+use Rattle.calloop_loop.specs.declared.asks.Request.TheVariants.{Insert, Enable, Update, Disable, Remove, Idle, Cancel}
+use Rattle.calloop_loop.specs.Askings.{Asks, AskStep, Write, Take, Reaches, IsAsked, CannotAsk, ask_after, asks_after}
 use Rattle.calloop_laws.specs.Freshness.{IsOnly, AreOnly, AsksFresh}
 use Rattle.calloop_laws.specs.Laws.{IsFresh}
 use Rattle.timer_chain.specs.declared.Again.{Again}

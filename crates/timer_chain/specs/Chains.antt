@@ -1,17 +1,17 @@
 -- Timers whose callbacks ask for further ones.
 use Rattle.std.specs.Prelude.{◌≡◌, ℕ, List, [], ◌∷◌, Option}
-use Rattle.calloop_wake.specs.declared.error.Error.TheVariants.{OutOfMemory}
-use Rattle.calloop_wake.specs.declared.wheel.Instant.{Instant}
-use Rattle.calloop_core.specs.declared.sources.dispatch.Dispatcher.{Dispatcher}
-use Rattle.calloop_core.specs.declared.timer.Timer.{Timer}
-use Rattle.calloop_core.specs.sources.Deeds.{Lent}
-use Rattle.calloop_core.specs.sources.Meanings.{Meaning, with_callback, seen_as}
-use Rattle.calloop_core.specs.Timers.{timer_meaning, fresh_timer}
-use Rattle.calloop.specs.declared.loop_logic.Sources.{Sources}
-use Rattle.calloop.specs.declared.loop_logic.asks.Request.{Request}
-use Rattle.calloop.specs.declared.loop_logic.asks.Request.TheVariants.{Insert}
-use Rattle.calloop.specs.loop_logic.Askings.{Asks, AskStep, Write, Take, Reaches, Runs, asks_after}
-use Rattle.calloop.specs.loop_logic.Choices.{with_data}
+use Rattle.calloop_slots.specs.declared.error.Error.TheVariants.{OutOfMemory}
+use Rattle.calloop_slots.specs.declared.wheel.Instant.{Instant}
+use Rattle.calloop_sources.specs.declared.sources.dispatch.Dispatcher.{Dispatcher}
+use Rattle.calloop_sources.specs.declared.timer.Timer.{Timer}
+use Rattle.calloop_sources.specs.sources.Deeds.{Lent}
+use Rattle.calloop_sources.specs.sources.Meanings.{Meaning, with_callback, seen_as}
+use Rattle.calloop_sources.specs.Timers.{timer_meaning, fresh_timer}
+use Rattle.calloop_loop.specs.declared.Sources.{Sources}
+use Rattle.calloop_loop.specs.declared.asks.Request.{Request}
+use Rattle.calloop_loop.specs.declared.asks.Request.TheVariants.{Insert}
+use Rattle.calloop_loop.specs.Askings.{Asks, AskStep, Write, Take, Reaches, Runs, asks_after}
+use Rattle.calloop_loop.specs.Choices.{with_data}
 use Rattle.timer_chain.specs.declared.Again.{Again}
 
 -- what is asked for, if it is an insertion, is one of a timer that was never registered

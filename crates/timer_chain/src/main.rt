@@ -2,15 +2,15 @@
 #![tactic(auto)]
 
 ghost use Rattle.calloop_laws.specs.EveryRun.{OverEveryRun, FromTheStart, ArmingsAreKept};
-ghost use Rattle.calloop.specs.loop_logic.Askings.{OnlyAsks};
+ghost use Rattle.calloop_loop.specs.Askings.{OnlyAsks};
 ghost use Rattle.timer_chain.specs.Chains.{AsksForTimers, chain_meaning, no_idles};
 
 use calloop::{
     Callback, Choice, Dispatcher, Here, Instant, Requests, Result, ScriptLoop, Sources,
     TimeoutAction, Timer,
 };
-use calloop_core::sys::{Clock, Poller};
 use calloop_laws::once;
+use calloop_poll::sys::{Clock, Poller};
 use std::alloc::Global;
 use std::process::ExitCode;
 use std::sync::Wait;

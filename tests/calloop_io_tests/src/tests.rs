@@ -11,8 +11,8 @@ mod peers;
 mod polls;
 mod strangers;
 
-use calloop_core::sys::Interest;
-use calloop_core::sys::script::{ScriptCall, ScriptKind};
+use calloop_poll::sys::Interest;
+use calloop_script::{ScriptCall, ScriptKind};
 use desk::{Act, Word, plays};
 
 const ADDED: ScriptCall = ScriptCall::Add(1, 0, Interest::READ);

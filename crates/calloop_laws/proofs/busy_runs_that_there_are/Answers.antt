@@ -1,38 +1,38 @@
 use Rattle.std.proofs.Common.{◌≡◌, ◌+◌, ℕ, zero, suc, List, length, rules, refl, ap, sym, ◌∙◌, subst, [], ◌∷◌, Some, None, Ok, Err, inl, inr, true, false, arith, slice_get}
 use Rattle.std.proofs.lemmas.List.Sorted.{IsPermutation-refl}
-use Rattle.calloop_wake.specs.declared.error.Error.TheVariants.{OutOfMemory}
-use Rattle.calloop_wake.specs.declared.list.Content.TheVariants.{Source, InTurn}
-use Rattle.calloop_wake.specs.declared.token.RegistrationToken.{RegistrationToken}
-use Rattle.calloop_wake.specs.Tokens.{after_token, registration_of}
-use Rattle.calloop_wake.specs.wake.Watches.{with_note}
-use Rattle.calloop_wake.specs.declared.wake.notes.Note.TheVariants.{Counted, Looked, Marked}
-use Rattle.calloop_core.specs.declared.sources.source.PostAction.TheVariants.{Continue, Reregister}
-use Rattle.calloop_core.specs.sys.Polls.{Socket, after_count, marks_taken}
-use Rattle.calloop_core.specs.sys.SlotOrder.{IsInSlotOrder}
-use Rattle.calloop_core.specs.sys.Tables.{Enter}
-use Rattle.calloop.specs.declared.loop_logic.asks.Answer.TheVariants.{Done}
-use Rattle.calloop.specs.declared.loop_logic.asks.Request.TheVariants.{Update}
-use Rattle.calloop.specs.loop_logic.Askings.{Write}
-use Rattle.calloop.specs.loop_logic.Held.{Pend, Told}
-use Rattle.calloop.specs.loop_logic.Machine.{Holds}
-use Rattle.calloop.specs.loop_logic.Rules.{factory_of, Settling, Sleeping, Waiting, Gathering, Noticing, Cutting, Serving, Ending, Returning, Idling, RunningIdles, Leaving}
+use Rattle.calloop_slots.specs.declared.error.Error.TheVariants.{OutOfMemory}
+use Rattle.calloop_slots.specs.declared.list.Content.TheVariants.{Source, InTurn}
+use Rattle.calloop_slots.specs.declared.token.RegistrationToken.{RegistrationToken}
+use Rattle.calloop_slots.specs.Tokens.{after_token, registration_of}
+use Rattle.calloop_wake.specs.Watches.{with_note}
+use Rattle.calloop_wake.specs.declared.notes.Note.TheVariants.{Counted, Looked, Marked}
+use Rattle.calloop_sources.specs.declared.sources.source.PostAction.TheVariants.{Continue, Reregister}
+use Rattle.calloop_poll.specs.sys.Polls.{Socket, after_count, marks_taken}
+use Rattle.calloop_poll.specs.sys.SlotOrder.{IsInSlotOrder}
+use Rattle.calloop_poll.specs.sys.Tables.{Enter}
+use Rattle.calloop_loop.specs.declared.asks.Answer.TheVariants.{Done}
+use Rattle.calloop_loop.specs.declared.asks.Request.TheVariants.{Update}
+use Rattle.calloop_loop.specs.Askings.{Write}
+use Rattle.calloop_loop.specs.Held.{Pend, Told}
+use Rattle.calloop_loop.specs.Machine.{Holds}
+use Rattle.calloop_loop.specs.Rules.{factory_of, Settling, Sleeping, Waiting, Gathering, Noticing, Cutting, Serving, Ending, Returning, Idling, RunningIdles, Leaving}
 use Rattle.calloop_laws.specs.Wrong.{first_token, first_registration, second_registration}
 use Rattle.calloop_laws.specs.BusyRun.{for_reading, two_found, behind_the_failure, anything, giving_poller, dispatch_of_the_rest}
-use Rattle.calloop.specs.loop_logic.Askings.{all_but_first}
+use Rattle.calloop_loop.specs.Askings.{all_but_first}
 use Rattle.calloop_laws.specs.Laws.{flatten}
-use Rattle.calloop.specs.loop_logic.Machine.{visible}
-use Rattle.calloop.specs.loop_logic.Rules.{DispatchedBy}
+use Rattle.calloop_loop.specs.Machine.{visible}
+use Rattle.calloop_loop.specs.Rules.{DispatchedBy}
 use Rattle.calloop_laws.specs.Served.{events_cut}
 use Rattle.calloop_laws.specs.Unserved.{SmallView}
 use Rattle.calloop_laws.specs.WrongRuns.{SmallChange, idle_never}
-use Rattle.calloop_core.specs.declared.sys.poll.Pending.{Pending}
+use Rattle.calloop_poll.specs.declared.sys.poll.Pending.{Pending}
 use Rattle.logbook.specs.Pages.{Book}
-use Rattle.calloop_core.specs.declared.sources.source.PostAction.TheVariants.{Remove}
-use Rattle.calloop_core.specs.declared.timer.TimeoutAction.TheVariants.{Drop, ToInstant}
-use Rattle.calloop_core.specs.sys.Polls.{Arm, ArmAgain, Call, Cancel}
-use Rattle.calloop_core.specs.Timers.{armed_for}
-use Rattle.calloop.specs.loop_logic.Askings.{asks_nothing, no_asks, of_turn}
-use Rattle.calloop.specs.loop_logic.Machine.{IsNew}
+use Rattle.calloop_sources.specs.declared.sources.source.PostAction.TheVariants.{Remove}
+use Rattle.calloop_sources.specs.declared.timer.TimeoutAction.TheVariants.{Drop, ToInstant}
+use Rattle.calloop_poll.specs.sys.Polls.{Arm, ArmAgain, Call, Cancel}
+use Rattle.calloop_sources.specs.Timers.{armed_for}
+use Rattle.calloop_loop.specs.Askings.{asks_nothing, no_asks, of_turn}
+use Rattle.calloop_loop.specs.Machine.{IsNew}
 use Rattle.calloop_laws.specs.ExampleRun.{five, first_arm, as_armed, new_world}
 use Rattle.calloop_laws.specs.RearmedRun.{ten, as_rearmed, as_called_again, as_gone, rearmed_run, behind_the_first_call}
 use Rattle.calloop_laws.proofs.busy_runs_that_there_are.Goals as goal

@@ -1,13 +1,13 @@
 use Rattle.std.proofs.Common.{◌≡◌, refl, [], ◌∷◌, None, Some, Ok, inl, inr, true, arith}
 use Rattle.std.proofs.lemmas.List.Sorted.{IsPermutation-refl}
-use Rattle.calloop_wake.specs.declared.list.Content.TheVariants.{Source, InTurn}
-use Rattle.calloop_wake.specs.wake.Cells.{fresh}
+use Rattle.calloop_slots.specs.declared.list.Content.TheVariants.{Source, InTurn}
+use Rattle.calloop_wake.specs.Cells.{fresh}
 use Rattle.calloop_wake_laws.specs.Kinds.{APing}
 use Rattle.calloop_wake_laws.specs.Wakes.{Loop, Awake, Asleep}
-use Rattle.calloop_wake.specs.wake.Watches.{with_note}
-use Rattle.calloop_wake.specs.declared.wake.notes.Note.TheVariants.{Counted, Looked, Marked}
-use Rattle.calloop_core.specs.declared.sources.source.PostAction.TheVariants.{Continue}
-use Rattle.calloop.specs.loop_logic.Rules.{Settling, Sleeping, Waiting, Gathering, Noticing, Cutting, Serving, Ending, Returning, Idling, RunningIdles, Leaving}
+use Rattle.calloop_wake.specs.Watches.{with_note}
+use Rattle.calloop_wake.specs.declared.notes.Note.TheVariants.{Counted, Looked, Marked}
+use Rattle.calloop_sources.specs.declared.sources.source.PostAction.TheVariants.{Continue}
+use Rattle.calloop_loop.specs.Rules.{Settling, Sleeping, Waiting, Gathering, Noticing, Cutting, Serving, Ending, Returning, Idling, RunningIdles, Leaving}
 use Rattle.calloop_laws.specs.Wrong.{first_registration}
 use Rattle.calloop_laws.specs.Examples.{with_a_source, of_a_ring, history_of_a_ring, run_of_a_ring}
 use Rattle.calloop_laws.proofs.Refuting.{none_less, taking_of_a_ring}

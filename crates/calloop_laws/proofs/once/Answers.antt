@@ -1,4 +1,4 @@
-use Rattle.calloop.specs.loop_logic.Machine.{world_after_all}
+use Rattle.calloop_loop.specs.Machine.{world_after_all}
 use Rattle.calloop_laws.proofs.Rights.{run_right}
 use Rattle.calloop_laws.proofs.Reuse.{names_later}
 use Rattle.calloop_laws.specs.Laws.{NamesLater, StaysGone, changes_of, IsFresh, IsNoMore, Any, HasNoMoreKeys}

@@ -1,28 +1,28 @@
 use Rattle.std.proofs.Common.{◌≡◌, ap, sym, ◌∙◌, List, length, rules, refl, [], ◌∷◌, None, Ok, inl, inr, true, false, arith}
 use Rattle.std.proofs.lemmas.List.Sorted.{IsPermutation-refl}
-use Rattle.calloop_wake.specs.declared.list.Content.TheVariants.{Source, InTurn}
-use Rattle.calloop_wake.specs.Tokens.{after_token, registration_of}
-use Rattle.calloop_wake.specs.wake.Watches.{with_note}
-use Rattle.calloop_wake.specs.declared.wake.notes.Note.TheVariants.{Counted, Looked, Marked}
-use Rattle.calloop_core.specs.declared.sources.source.PostAction.TheVariants.{Remove}
-use Rattle.calloop_core.specs.declared.timer.TimeoutAction.TheVariants.{Drop}
-use Rattle.calloop_core.specs.sys.Polls.{Arm, Cancel, Call}
-use Rattle.calloop.specs.loop_logic.Askings.{asks_nothing, no_asks, of_turn}
-use Rattle.calloop.specs.loop_logic.Rules.{factory_of, Settling, Sleeping, Waiting, Gathering, Noticing, Cutting, Serving, Ending, Returning, Idling, RunningIdles, Leaving}
+use Rattle.calloop_slots.specs.declared.list.Content.TheVariants.{Source, InTurn}
+use Rattle.calloop_slots.specs.Tokens.{after_token, registration_of}
+use Rattle.calloop_wake.specs.Watches.{with_note}
+use Rattle.calloop_wake.specs.declared.notes.Note.TheVariants.{Counted, Looked, Marked}
+use Rattle.calloop_sources.specs.declared.sources.source.PostAction.TheVariants.{Remove}
+use Rattle.calloop_sources.specs.declared.timer.TimeoutAction.TheVariants.{Drop}
+use Rattle.calloop_poll.specs.sys.Polls.{Arm, Cancel, Call}
+use Rattle.calloop_loop.specs.Askings.{asks_nothing, no_asks, of_turn}
+use Rattle.calloop_loop.specs.Rules.{factory_of, Settling, Sleeping, Waiting, Gathering, Noticing, Cutting, Serving, Ending, Returning, Idling, RunningIdles, Leaving}
 use Rattle.calloop_laws.specs.Wrong.{first_token, first_registration}
 use Rattle.calloop_laws.specs.ExampleRun.{five, first_arm, as_armed, as_changed, as_called, as_removed, only, its_run}
 use Rattle.std.proofs.Common.{ℕ, nat_eq, if◌then◌else◌}
 use Rattle.logbook.specs.Pages.{Book}
-use Rattle.calloop_core.specs.sources.Holdings.{Free, Standing, IsWithin}
-use Rattle.calloop.specs.loop_logic.Machine.{IsNew}
+use Rattle.calloop_sources.specs.sources.Holdings.{Free, Standing, IsWithin}
+use Rattle.calloop_loop.specs.Machine.{IsNew}
 use Rattle.calloop_laws.specs.ExampleRun.{new_world, no_idle, quiet_poller, Only, Its, of_the_dispatch}
-use Rattle.calloop.specs.loop_logic.Askings.{all_but_first}
+use Rattle.calloop_loop.specs.Askings.{all_but_first}
 use Rattle.calloop_laws.specs.Laws.{flatten}
-use Rattle.calloop.specs.loop_logic.Machine.{View}
-use Rattle.calloop.specs.loop_logic.Rules.{DispatchedBy}
+use Rattle.calloop_loop.specs.Machine.{View}
+use Rattle.calloop_loop.specs.Rules.{DispatchedBy}
 use Rattle.calloop_laws.specs.Served.{events_cut}
 use Rattle.calloop_laws.specs.Unserved.{before_its_dispatch}
-use Rattle.calloop_core.specs.declared.sys.poll.Pending.{Pending}
+use Rattle.calloop_poll.specs.declared.sys.poll.Pending.{Pending}
 use Rattle.calloop_laws.proofs.run_that_there_is.Goals as goal
 
 is_new : (name : Book) → IsNew (new_world name)

@@ -1,19 +1,19 @@
 use Rattle.std.proofs.Common.{◌≡◌, inl, inr, ℕ, Bool, true, false, List, [], ◌∷◌, None, Ok, refl, sym, subst, ap, ◌∙◌, ◌≤◌, arith, length}
 use Rattle.logbook.specs.Pages.{Book}
-use Rattle.calloop_wake.specs.Widths.{versions}
-use Rattle.calloop_wake.specs.declared.list.Content.{Content}
-use Rattle.calloop_wake.specs.declared.list.Content.TheVariants.{Vacant, Source, InTurn}
-use Rattle.calloop_core.specs.declared.sys.poll.Pending.{Pending}
-use Rattle.calloop_wake.specs.declared.token.RegistrationToken.{RegistrationToken}
-use Rattle.calloop_wake.specs.declared.wheel.Entry.{Entry}
-use Rattle.calloop_wake.specs.declared.wheel.Instant.{Instant}
-use Rattle.calloop_wake.specs.Tokens.{key_of}
-use Rattle.calloop_core.specs.sys.SlotOrder.{IsInSlotOrder}
+use Rattle.calloop_slots.specs.Widths.{versions}
+use Rattle.calloop_slots.specs.declared.list.Content.{Content}
+use Rattle.calloop_slots.specs.declared.list.Content.TheVariants.{Vacant, Source, InTurn}
+use Rattle.calloop_poll.specs.declared.sys.poll.Pending.{Pending}
+use Rattle.calloop_slots.specs.declared.token.RegistrationToken.{RegistrationToken}
+use Rattle.calloop_slots.specs.declared.wheel.Entry.{Entry}
+use Rattle.calloop_slots.specs.declared.wheel.Instant.{Instant}
+use Rattle.calloop_slots.specs.Tokens.{key_of}
+use Rattle.calloop_poll.specs.sys.SlotOrder.{IsInSlotOrder}
 use Rattle.calloop_laws.specs.ExampleRun.{quiet_poller}
 use Rattle.calloop_laws.specs.Laws.{IsLedgerOf}
-use Rattle.calloop.specs.loop_logic.Ledgers.{Arming}
-use Rattle.calloop.specs.loop_logic.Machine.{View, Put, IsNew, visible, all_viewed}
-use Rattle.calloop.specs.loop_logic.Rules.{Doing, Settling, Leaving, Steps, SettledIn}
+use Rattle.calloop_loop.specs.Ledgers.{Arming}
+use Rattle.calloop_loop.specs.Machine.{View, Put, IsNew, visible, all_viewed}
+use Rattle.calloop_loop.specs.Rules.{Doing, Settling, Leaving, Steps, SettledIn}
 use Rattle.calloop_laws.specs.Wrong.{first_token, full_slot, given_up}
 use Rattle.calloop_laws.specs.WrongRuns.{SmallWorld, SmallChange, IsOutOfTime, idle_world, that_ends, with_ledger, second_arming, second_waits_early, second_is_cut_early, second_call_differs, second_is_called_twice, second_is_twice, second_is_nowhere, with_one_deadline, with_one_event, adapters, idle_never, with_two_adapters, begins, settles, behind_a_settling}
 use Rattle.calloop_laws.proofs.runs_that_go_wrong_late.Goals as goal

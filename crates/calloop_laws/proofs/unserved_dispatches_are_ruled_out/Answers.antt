@@ -1,12 +1,12 @@
 use Rattle.std.proofs.Common.{◌≡◌, ◌<◌, ℕ, zero, suc, List, [], ◌∷◌, None, inl, inr, subst, refl, sym, ap, ◌∙◌, arith, length}
 use Rattle.logbook.specs.Pages.{Book}
-use Rattle.calloop_core.specs.declared.sys.poll.Pending.{Pending}
-use Rattle.calloop_wake.specs.Deadlines.{IsOrdered, entry_of}
-use Rattle.calloop.specs.loop_logic.Machine.{Holds, Appended, Cut, Ended}
+use Rattle.calloop_poll.specs.declared.sys.poll.Pending.{Pending}
+use Rattle.calloop_slots.specs.Deadlines.{IsOrdered, entry_of}
+use Rattle.calloop_loop.specs.Machine.{Holds, Appended, Cut, Ended}
 use Rattle.calloop_laws.specs.Served.{events_cut}
 use Rattle.std.specs.List.{Contains, slice_index_or}
-use Rattle.calloop.specs.declared.loop_logic.asks.Idling.{Idling as Waiter}
-use Rattle.calloop.specs.loop_logic.Held.{IdlesTaken}
+use Rattle.calloop_loop.specs.declared.asks.Idling.{Idling as Waiter}
+use Rattle.calloop_loop.specs.Held.{IdlesTaken}
 use Rattle.calloop_laws.specs.Wrong.{first_token}
 use Rattle.calloop_laws.specs.Unserved.{one_idle, later_idle, SmallView, event_for, that_waits, armed_for, two_overdue}
 use Rattle.calloop_laws.proofs.unserved_dispatches_are_ruled_out.Goals as goal

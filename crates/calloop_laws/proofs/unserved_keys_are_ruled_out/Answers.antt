@@ -1,14 +1,14 @@
 use Rattle.std.proofs.Common.{◌≡◌, ℕ, List, [], ◌∷◌, None, true, false, length, inl, inr, refl, sym, ◌∙◌, ap, subst, arith}
 use Rattle.std.specs.List.{Contains}
 use Rattle.logbook.specs.Pages.{Book}
-use Rattle.calloop_wake.specs.Tokens.{registration_of}
-use Rattle.calloop_wake.specs.Slots.{content_at}
-use Rattle.calloop_wake.specs.declared.wake.notes.Note.{Note}
-use Rattle.calloop_wake.specs.declared.wake.notes.Note.TheVariants.{Counted, Looked, Unposted, Marked}
-use Rattle.calloop_core.specs.sys.Polls.{posted_event}
+use Rattle.calloop_slots.specs.Tokens.{registration_of}
+use Rattle.calloop_slots.specs.Slots.{content_at}
+use Rattle.calloop_wake.specs.declared.notes.Note.{Note}
+use Rattle.calloop_wake.specs.declared.notes.Note.TheVariants.{Counted, Looked, Unposted, Marked}
+use Rattle.calloop_poll.specs.sys.Polls.{posted_event}
 use Rattle.calloop_laws.specs.BusyRun.{anything}
-use Rattle.calloop.specs.loop_logic.Machine.{Watching, Cut, Ended, Gathered}
-use Rattle.calloop.specs.loop_logic.Rules.{CutTo, after_changes}
+use Rattle.calloop_loop.specs.Machine.{Watching, Cut, Ended, Gathered}
+use Rattle.calloop_loop.specs.Rules.{CutTo, after_changes}
 use Rattle.calloop_laws.specs.WrongRuns.{SmallChange}
 use Rattle.calloop_laws.specs.Examples.{with_a_source, with_its_event, drops_what_it_took, takes_nothing}
 use Rattle.calloop_laws.specs.Handed.{IsHandedOut, looked}

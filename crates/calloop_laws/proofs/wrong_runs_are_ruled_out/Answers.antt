@@ -1,17 +1,17 @@
 use Rattle.std.proofs.Common.{◌≡◌, inl, inr, ℕ, Bool, true, false, List, [], ◌∷◌, Some, Ok, refl, sym, ap, ◌∙◌, ◌%◌, ◌+◌, ◌≤◌, nat_lt, if◌then◌else◌, arith, slice_get, length}
-use Rattle.calloop_wake.specs.Widths.{versions}
+use Rattle.calloop_slots.specs.Widths.{versions}
 use Rattle.calloop_laws.specs.Laws.{times_standing, how_many, is_number, timely}
-use Rattle.calloop.specs.loop_logic.Machine.{Registration}
-use Rattle.calloop_wake.specs.declared.token.RegistrationToken.{RegistrationToken}
-use Rattle.calloop_wake.specs.Tokens.{key_of}
-use Rattle.calloop_core.specs.sources.Deeds.{Registered, Unregistered}
-use Rattle.calloop_core.specs.sys.Polls.{Arm}
-use Rattle.calloop.specs.loop_logic.Rules.{Doing, Sleeping, factory_of}
-use Rattle.calloop_wake.specs.declared.wheel.Entry.{Entry}
-use Rattle.calloop_wake.specs.declared.wheel.Instant.{Instant}
-use Rattle.calloop_core.specs.declared.sys.poll.Pending.{Pending}
-use Rattle.calloop_wake.specs.declared.list.Content.TheVariants.{Vacant, Source, InTurn}
-use Rattle.calloop.specs.loop_logic.Ledgers.{Ledger, Arming}
+use Rattle.calloop_loop.specs.Machine.{Registration}
+use Rattle.calloop_slots.specs.declared.token.RegistrationToken.{RegistrationToken}
+use Rattle.calloop_slots.specs.Tokens.{key_of}
+use Rattle.calloop_sources.specs.sources.Deeds.{Registered, Unregistered}
+use Rattle.calloop_poll.specs.sys.Polls.{Arm}
+use Rattle.calloop_loop.specs.Rules.{Doing, Sleeping, factory_of}
+use Rattle.calloop_slots.specs.declared.wheel.Entry.{Entry}
+use Rattle.calloop_slots.specs.declared.wheel.Instant.{Instant}
+use Rattle.calloop_poll.specs.declared.sys.poll.Pending.{Pending}
+use Rattle.calloop_slots.specs.declared.list.Content.TheVariants.{Vacant, Source, InTurn}
+use Rattle.calloop_loop.specs.Ledgers.{Ledger, Arming}
 use Rattle.calloop_laws.specs.Wrong.{first_arming, first_token, first_registration, full_slot, given_up, used_with_an_old_key, in_its_turn, called_early, called_for, called_for_the_later_one, with_another_deadline, with_another_counter, with_another_number}
 use Rattle.calloop_laws.proofs.wrong_runs_are_ruled_out.Goals as goal
 

@@ -1,12 +1,12 @@
 //! Callbacks and idles that say their number and write requests.
-ghost use Rattle.calloop.specs.loop_logic.Askings.{OnlyAsks};
+ghost use Rattle.calloop_loop.specs.Askings.{OnlyAsks};
 
 use calloop::{
     Callback, Choice, Dispatcher, Here, Idle, IdleCallback, Instant, PostAction, RegistrationToken,
     Requests, There, Ticket, TimeoutAction,
 };
+use calloop_slots::widths::{MOST_SLOTS, VERSIONS};
 use calloop_test_sources::source::Counter;
-use calloop_wake::widths::{MOST_SLOTS, VERSIONS};
 
 /// The place of counters in the choice.
 pub type Third = There<There<Here>>;

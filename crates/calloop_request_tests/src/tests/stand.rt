@@ -6,7 +6,7 @@ use calloop::{
     Answer, Choice, Dispatcher, Error, EventDispatcher, Here, Instant, OneOf, PingSource,
     PostAction, Readiness, RegistrationToken, Sources, There, Timer,
 };
-use calloop_core::sys::script::{ScriptAnswer, ScriptClock, ScriptEnd, ScriptEvents, ScriptPoller};
+use calloop_script::{ScriptAnswer, ScriptClock, ScriptEnd, ScriptEvents, ScriptPoller};
 use calloop_test_sources::source::Counter;
 use std::alloc::Global;
 use std::sync::Wait;

@@ -1,7 +1,7 @@
 //! What becomes of a source that is made of two.
 use calloop::PostAction;
 use calloop::PostAction::{Continue, Disable, Remove, Reregister};
-use calloop_core::sources::joining_has_no_order;
+use calloop_sources::sources::joining_has_no_order;
 
 #[test]
 fn what_two_parts_ask_for_is_joined(rt: HostRuntime) {

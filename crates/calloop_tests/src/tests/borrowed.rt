@@ -2,7 +2,7 @@
 use calloop::loop_logic::EventLoop;
 use calloop::ping::make_ping;
 use calloop::{Dispatcher, On, PingSource, Sources};
-use calloop_core::sys::script::{ScriptClock, ScriptPoller};
+use calloop_script::{ScriptClock, ScriptPoller};
 use std::time::Duration;
 
 #[test]

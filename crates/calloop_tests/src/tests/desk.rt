@@ -7,12 +7,12 @@ use calloop::{
     Choice, Dispatcher, Error, EventDispatcher, Here, Hold, InsertError, Instant, OneOf,
     PingSource, PostAction, RegistrationToken, Requests, Sources, There, TimeoutAction, Timer,
 };
-use calloop_core::sys::script::{ScriptClock, ScriptPoller};
+use calloop_script::{ScriptClock, ScriptPoller};
+use calloop_slots::widths::{MOST_SLOTS, VERSIONS};
 use calloop_test_sources::attendant::Attendant;
 use calloop_test_sources::guarded::Guarded;
 use calloop_test_sources::source::{Counter, Listener, Teller, Waker};
 use calloop_test_sources::trio::{Announcer, Trio};
-use calloop_wake::widths::{MOST_SLOTS, VERSIONS};
 use std::alloc::Global;
 use std::collections::VecDeque;
 use std::io::ErrorKind;

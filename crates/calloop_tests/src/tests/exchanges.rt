@@ -5,7 +5,7 @@ use super::stage::{Table, time};
 use calloop::{
     Choice, Dispatcher, EventDispatcher, Here, Instant, On, Sources, TimeoutAction, Timer,
 };
-use calloop_core::sys::script::{ScriptClock, ScriptPoller};
+use calloop_script::{ScriptClock, ScriptPoller};
 use std::alloc::Global;
 use std::io::ErrorKind;
 use std::sync::Wait;

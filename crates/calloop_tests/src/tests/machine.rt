@@ -5,10 +5,10 @@ use calloop::{
     Choice, Clock, Dispatcher, EventDispatcher, Here, LoopSignal, MioPoller, Ping, PingSource,
     Poller, Readiness, RegistrationToken, Result, SystemClock, SystemLoop, make_ping,
 };
-use calloop_core::sys::EVENTS_PER_WAIT;
-use calloop_core::sys::notifier::Notifier;
+use calloop_poll::sys::EVENTS_PER_WAIT;
+use calloop_poll::sys::notifier::Notifier;
 use calloop_test_sources::source::Teller;
-use calloop_wake::wake::Notify;
+use calloop_wake::Notify;
 use std::alloc::Global;
 use std::net::Net;
 use std::sync::Wait;

@@ -6,7 +6,7 @@ use calloop::{
     Callback, Choice, Dispatcher, EventDispatcher, Here, Hold, On, OneOf, PingSource,
     RegistrationToken, Requests, Sources, There,
 };
-use calloop_core::sys::script::{ScriptClock, ScriptPoller};
+use calloop_script::{ScriptClock, ScriptPoller};
 use calloop_test_sources::source::Teller;
 use std::alloc::Global;
 use std::sync::Wait;

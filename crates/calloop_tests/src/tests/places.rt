@@ -4,7 +4,7 @@ use calloop::{
     Dispatcher, EventDispatcher, Here, Hold, OneOf, PingSource, RegistrationToken, Requests,
     Sources, There, make_ping,
 };
-use calloop_core::sys::script::{ScriptClock, ScriptPoller};
+use calloop_script::{ScriptClock, ScriptPoller};
 use calloop_test_sources::source::Teller;
 use std::alloc::Global;
 use std::sync::Wait;

@@ -6,7 +6,7 @@ use calloop::{
     Choice, Clock, Dispatcher, Error, EventDispatcher, Here, Instant, Ping, PingSource,
     RegistrationToken, ScriptLoop, Sources, make_ping,
 };
-use calloop_core::sys::script::{ScriptAnswer, ScriptClock, ScriptEnd, ScriptEvents, ScriptPoller};
+use calloop_script::{ScriptAnswer, ScriptClock, ScriptEnd, ScriptEvents, ScriptPoller};
 use calloop_test_sources::source::Teller;
 use std::alloc::Global;
 use std::sync::Wait;

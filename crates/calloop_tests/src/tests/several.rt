@@ -6,7 +6,7 @@ use calloop::{
     Choice, Dispatcher, Error, EventDispatcher, Here, OneOf, PingSource, RegistrationToken, There,
     TimeoutAction, Timer, Token, make_ping,
 };
-use calloop_core::sys::script::{ScriptClock, ScriptPoller};
+use calloop_script::{ScriptClock, ScriptPoller};
 use calloop_test_sources::several::{Several, Severals};
 use calloop_test_sources::source::{Listener, Teller, Waker};
 use std::alloc::Global;

@@ -1,7 +1,7 @@
 //! A loop whose callbacks say numbers, over a scripted poller, whatever sources it has.
 use super::at;
 use calloop::{Error, EventDispatcher, Readiness, RegistrationToken, ScriptLoop};
-use calloop_core::sys::script::{ScriptAnswer, ScriptClock, ScriptEnd, ScriptEvents, ScriptPoller};
+use calloop_script::{ScriptAnswer, ScriptClock, ScriptEnd, ScriptEvents, ScriptPoller};
 use std::alloc::Global;
 use std::io::ErrorKind;
 use std::sync::Wait;

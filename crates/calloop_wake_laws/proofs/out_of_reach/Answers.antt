@@ -1,6 +1,6 @@
 use Rattle.std.proofs.Common.{◌≡◌, ◌<◌, ◌≤◌, ◌⊎◌, ℕ, zero, suc, Bool, true, false, ◌&&◌, not, List, [], ◌∷◌, length, inl, inr, refl, sym, ap, ◌∙◌, subst, arith}
-use Rattle.calloop_wake.specs.wake.Cells.{Cell, is_own, opens}
-use Rattle.calloop_wake.specs.wake.Channels.{ChannelCell, after_pop_of, popped_of, is_item, tells_close}
+use Rattle.calloop_wake.specs.Cells.{Cell, is_own, opens}
+use Rattle.calloop_wake.specs.Channels.{ChannelCell, after_pop_of, popped_of, is_item, tells_close}
 use Rattle.calloop_wake_laws.specs.PingKind as ping
 use Rattle.calloop_wake_laws.specs.PingKind.{ping_kind}
 use Rattle.calloop_wake_laws.specs.ChannelKind as channel

@@ -3,12 +3,12 @@ ghost use Rattle.std.specs.Prelude.{◌≡◌, ◌<◌, ◌-◌, ◌^◌, is_som
 ghost use Rattle.std.specs.Arc.{arc_value};
 
 use super::{Desk, SharedBoard, close, post};
-use calloop_wake::steps::Steps;
-use calloop_wake::wake::board::Board;
-use calloop_wake::wake::cell::CellCore;
-use calloop_wake::wake::channel::{ChannelCore, Label, Popped, PutError};
-use calloop_wake::wake::locked::{Awaited, Core, Locked};
-use calloop_wake::wake::{ChannelTurn, Debt, Last, TakenPass, Tally};
+use calloop_slots::steps::Steps;
+use calloop_wake::board::Board;
+use calloop_wake::cell::CellCore;
+use calloop_wake::channel::{ChannelCore, Label, Popped, PutError};
+use calloop_wake::locked::{Awaited, Core, Locked};
+use calloop_wake::{ChannelTurn, Debt, Last, TakenPass, Tally};
 use counted_slot::Fits;
 use std::alloc::Global;
 use std::ops::Range;

@@ -3,14 +3,14 @@ ghost use Rattle.std.specs.Prelude.{◌≡◌, ◌<◌, ◌-◌, ◌^◌, is_som
 ghost use Rattle.std.specs.Arc.{arc_value};
 
 use super::{Desk, SharedBoard, close, post};
-use calloop_wake::steps::Steps;
-use calloop_wake::wake::Tally;
-use calloop_wake::wake::cell::CellCore;
-use calloop_wake::wake::executor::{ExecutorCore, PutRefusal, PutTask, TaskTurn};
-use calloop_wake::wake::ghosts::Name;
-use calloop_wake::wake::homes::Homes;
-use calloop_wake::wake::locked::Locked;
-use calloop_wake::wake::tasks::{TaskKey, Tasks};
+use calloop_slots::steps::Steps;
+use calloop_wake::Tally;
+use calloop_wake::cell::CellCore;
+use calloop_wake::executor::{ExecutorCore, PutRefusal, PutTask, TaskTurn};
+use calloop_wake::ghosts::Name;
+use calloop_wake::homes::Homes;
+use calloop_wake::locked::Locked;
+use calloop_wake::tasks::{TaskKey, Tasks};
 use std::alloc::Global;
 use std::process::Abort;
 use std::sync::{Arc, Wait};

@@ -1,8 +1,8 @@
 //! The lock that the ends of a cell share, taken and read by several threads.
-use calloop_wake::wake::Last;
-use calloop_wake::wake::ghosts::Name;
-use calloop_wake::wake::locked::{Awaited, Core, Locked};
-use calloop_wake::wake::ping::PingCore;
+use calloop_wake::Last;
+use calloop_wake::ghosts::Name;
+use calloop_wake::locked::{Awaited, Core, Locked};
+use calloop_wake::ping::PingCore;
 use counted_slot::Fits;
 use std::alloc::Global;
 use std::process::Abort;

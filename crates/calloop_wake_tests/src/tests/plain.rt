@@ -2,10 +2,10 @@
 ghost use Rattle.std.specs.Prelude.{◌<◌, ◌-◌, ◌^◌};
 
 use super::{Desk, Ends, arm_again, at, claims, post, registration};
-use calloop_wake::list::SourceList;
-use calloop_wake::steps::Steps;
-use calloop_wake::token::Token;
-use calloop_wake::wheel::{Entry, TimerWheel};
+use calloop_slots::list::SourceList;
+use calloop_slots::steps::Steps;
+use calloop_slots::token::Token;
+use calloop_slots::wheel::{Entry, TimerWheel};
 use std::alloc::{AllocError, Global};
 use std::process::Abort;
 use std::sync::Wait;

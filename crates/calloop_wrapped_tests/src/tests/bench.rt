@@ -1,7 +1,7 @@
 //! A wrapper of a noting source, without a loop, and what a test asks of it.
 use calloop::transient::TransientSource;
 use calloop::{EventSource, On, Poll, PostAction, Readiness, RegistrationToken, TokenFactory};
-use calloop_core::sys::script::{ScriptClock, ScriptPoller};
+use calloop_script::{ScriptClock, ScriptPoller};
 use calloop_test_sources::noting::{Asked, Notebook, Noting};
 use std::alloc::Global;
 use std::sync::Wait;

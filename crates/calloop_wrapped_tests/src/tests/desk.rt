@@ -1,7 +1,7 @@
 //! A loop with one source over a scripted poller, and what a test does at it.
 use calloop::loop_logic::EventLoop;
 use calloop::{EventDispatcher, Ping, RegistrationToken};
-use calloop_core::sys::script::{ScriptClock, ScriptPoller};
+use calloop_script::{ScriptClock, ScriptPoller};
 use std::alloc::Global;
 use std::sync::Wait;
 use std::time::Duration;

@@ -7,7 +7,7 @@ use calloop::{
     Both, Dispatcher, Forward, Instant, Movable, On, OneOf, Ping, PingSource, QuietDispatch,
     Sources, TimeoutAction, Timer, make_ping,
 };
-use calloop_core::sys::script::{ScriptClock, ScriptPoller};
+use calloop_script::{ScriptClock, ScriptPoller};
 use calloop_test_sources::numbered::{Ending, Numbered};
 use calloop_test_sources::source::{Listener, Teller, Waker};
 use std::alloc::Global;

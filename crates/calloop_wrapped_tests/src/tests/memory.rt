@@ -6,7 +6,7 @@ use calloop::{
     Both, Dispatcher, Error, EventDispatcher, InsertError, Movable, Ping, PingSource,
     RegistrationToken, ScriptLoop, Sources, make_ping,
 };
-use calloop_core::sys::script::{ScriptClock, ScriptPoller};
+use calloop_script::{ScriptClock, ScriptPoller};
 use calloop_test_sources::source::Teller;
 use std::alloc::Global;
 use std::sync::Wait;

@@ -4,7 +4,7 @@ use calloop::{
     Both, Dispatch, Dispatcher, Error, Movable, Poll, PostAction, Readiness, RegistrationToken,
     TokenFactory,
 };
-use calloop_core::sys::script::{ScriptClock, ScriptPoller};
+use calloop_script::{ScriptClock, ScriptPoller};
 use calloop_test_sources::noting::{Asked, Notebook, Noting};
 use std::alloc::Global;
 use std::sync::Wait;

@@ -3,7 +3,7 @@ use super::desk::{CLOSED, Held, Reader, are_all};
 use calloop::channel::{Channel, Sender, SyncSender, make_channel, sync_channel};
 use calloop::loop_logic::EventLoop;
 use calloop::{Choice, Dispatcher, EventDispatcher, Here};
-use calloop_core::sys::system::{MioPoller, SystemClock};
+use calloop_mio::{MioPoller, SystemClock};
 use std::alloc::Global;
 use std::net::Net;
 use std::sync::Wait;

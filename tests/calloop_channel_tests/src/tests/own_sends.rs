@@ -3,7 +3,7 @@ use super::desk::CLOSED;
 use calloop::channel::{Channel, Event, Sender, make_channel};
 use calloop::loop_logic::EventLoop;
 use calloop::{Choice, Dispatcher, EventDispatcher, Here, On, Sources};
-use calloop_core::sys::script::{ScriptClock, ScriptPoller};
+use calloop_script::{ScriptClock, ScriptPoller};
 use std::alloc::Global;
 use std::sync::Wait;
 use std::time::Duration;

@@ -2,7 +2,7 @@
 use super::desk::{CLOSED, Desk, Held, Reader, are_all};
 use calloop::channel::{Channel, RecvError, Sender, SyncSender, make_channel, sync_channel};
 use calloop::{Choice, EventDispatcher, Here};
-use calloop_core::sys::script::{ScriptClock, ScriptPoller};
+use calloop_script::{ScriptClock, ScriptPoller};
 use std::alloc::Global;
 use std::sync::Wait;
 use std::test::Fail;

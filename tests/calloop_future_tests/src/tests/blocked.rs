@@ -2,7 +2,7 @@
 use super::desk::{Trial, goes};
 use super::job::{Job, Outbox};
 use calloop::{EventDispatcher, LoopSignal, ScriptLoop};
-use calloop_core::sys::script::{ScriptClock, ScriptPoller};
+use calloop_script::{ScriptClock, ScriptPoller};
 use std::alloc::Global;
 use std::sync::{Arc, Wait};
 

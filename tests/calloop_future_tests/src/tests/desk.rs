@@ -4,7 +4,7 @@ use super::{blocked, memory, threads};
 use calloop::futures::{Executor, ExecutorDestroyed, ScheduleError, Scheduler, make_executor};
 use calloop::loop_logic::EventLoop;
 use calloop::{Choice, Dispatcher, Error, EventDispatcher, Here, On, RegistrationToken, Sources};
-use calloop_core::sys::script::{ScriptClock, ScriptPoller};
+use calloop_script::{ScriptClock, ScriptPoller};
 use std::alloc::Global;
 use std::ops::Range;
 use std::sync::atomic::{AtomicU32, Ordering};

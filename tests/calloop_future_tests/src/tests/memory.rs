@@ -9,7 +9,7 @@ use calloop::{
     Choice, Dispatcher, Error, EventDispatcher, Here, InsertError, On, Result as LoopResult,
     ScriptLoop, Sources,
 };
-use calloop_core::sys::script::{ScriptClock, ScriptPoller};
+use calloop_script::{ScriptClock, ScriptPoller};
 use std::alloc::Global;
 use std::sync::Wait;
 use std::time::Duration;

@@ -5,7 +5,7 @@ use calloop::{
     Choice, Clock, Dispatcher, EventDispatcher, Here, Instant, Keep, OneOf, Requests, ScriptLoop,
     Sources, There, TimeoutFuture, TimeoutTimer,
 };
-use calloop_core::sys::script::{ScriptClock, ScriptPoller};
+use calloop_script::{ScriptClock, ScriptPoller};
 use std::alloc::Global;
 use std::sync::{Arc, Mutex, Wait};
 

@@ -2,7 +2,7 @@
 use super::desk::Reader;
 use calloop::futures::{Context, Executor, Future, Poll, Scheduler, make_executor};
 use calloop::{Choice, Dispatcher, EventDispatcher, Here, On, ScriptLoop, Sources};
-use calloop_core::sys::script::{ScriptClock, ScriptPoller};
+use calloop_script::{ScriptClock, ScriptPoller};
 use std::alloc::Global;
 use std::sync::atomic::{AtomicU32, Ordering};
 use std::sync::{Arc, Wait};

@@ -6,7 +6,7 @@ use calloop::stream::{Stream, StreamSource};
 use calloop::{
     Choice, Dispatcher, EventDispatcher, Here, On, RegistrationToken, ScriptLoop, Sources,
 };
-use calloop_core::sys::script::{ScriptClock, ScriptPoller};
+use calloop_script::{ScriptClock, ScriptPoller};
 use std::alloc::Global;
 use std::sync::{Arc, Wait};
 use std::time::Duration;

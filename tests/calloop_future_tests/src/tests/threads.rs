@@ -3,7 +3,7 @@ use super::desk::{Act, Desk, Reader, Trial, goes};
 use super::job::Job;
 use calloop::futures::{Executor, Waker};
 use calloop::{Choice, EventDispatcher, Here};
-use calloop_core::sys::script::{ScriptClock, ScriptPoller};
+use calloop_script::{ScriptClock, ScriptPoller};
 use std::alloc::Global;
 use std::sync::Wait;
 use std::thread::{Threads, spawn};

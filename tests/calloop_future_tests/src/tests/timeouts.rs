@@ -5,7 +5,7 @@ use calloop::{
     Choice, Clock, Dispatcher, Error, EventDispatcher, Here, Instant, Keep, OneOf,
     RegistrationToken, Requests, ScriptLoop, Sources, There, TimeoutFuture, TimeoutTimer,
 };
-use calloop_core::sys::script::{ScriptClock, ScriptPoller};
+use calloop_script::{ScriptClock, ScriptPoller};
 use std::alloc::Global;
 use std::sync::Wait;
 use std::time::Duration;

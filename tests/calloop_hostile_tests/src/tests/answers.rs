@@ -1,7 +1,7 @@
 //! Pollers that answer anything.
 use super::desk::{Act, Why, plays};
 use calloop::Interest;
-use calloop_core::sys::script::{ScriptCall, ScriptKind};
+use calloop_script::{ScriptCall, ScriptKind};
 
 const ADDED: ScriptCall = ScriptCall::Add(1, 0, Interest::READ);
 

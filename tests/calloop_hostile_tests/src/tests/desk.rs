@@ -5,7 +5,7 @@ use calloop::{
     Asking, Choice, Dispatcher, Error, EventDispatcher, Here, IdleCallback, Instant, Interest,
     Mode, OneOf, PingSource, PostAction, Readiness, RegistrationToken, ScriptLoop, Sources, There,
 };
-use calloop_core::sys::script::{
+use calloop_script::{
     ScriptAnswer, ScriptCall, ScriptClock, ScriptEnd, ScriptEvents, ScriptIo, ScriptKind,
     ScriptPoller,
 };
@@ -13,7 +13,7 @@ use calloop_test_sources::attendant::Attendant;
 use calloop_test_sources::greedy::Greedy;
 use calloop_test_sources::source::{Counter, Listener, Teller};
 use calloop_test_sources::visitor::Visitor;
-use calloop_wake::widths::{MOST_SLOTS, VERSIONS};
+use calloop_slots::widths::{MOST_SLOTS, VERSIONS};
 use std::alloc::Global;
 use std::sync::Wait;
 use std::time::Duration;

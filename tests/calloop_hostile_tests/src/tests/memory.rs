@@ -9,7 +9,7 @@ use calloop::{
     On, OneOf, Ping, PingSource, PostAction, RegistrationToken, Requests, ScriptLoop, Sources,
     There, TimeoutAction, TimeoutFuture, TimeoutTimer, Timer,
 };
-use calloop_core::sys::script::{ScriptClock, ScriptIo, ScriptKind, ScriptPoller};
+use calloop_script::{ScriptClock, ScriptIo, ScriptKind, ScriptPoller};
 use calloop_test_sources::shifting::Shifting;
 use calloop_test_sources::source::{Teller, Waker};
 use calloop_test_sources::visitor::Visitor;

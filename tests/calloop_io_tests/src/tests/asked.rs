@@ -4,7 +4,7 @@ use calloop::{
     Adapter, Answer, Async, Callback, Choice, Dispatcher, Error, EventDispatcher, Here, OneOf,
     PingSource, Place, Requests, ScriptLoop, Sources, There, Ticket,
 };
-use calloop_core::sys::script::{ScriptClock, ScriptIo, ScriptPoller};
+use calloop_script::{ScriptClock, ScriptIo, ScriptPoller};
 use std::alloc::Global;
 use std::sync::Wait;
 use std::time::Duration;

@@ -5,7 +5,7 @@ use calloop::{
     Adapter, Async, Choice, Dispatcher, Error, EventDispatcher, Here, Instant, Keep, On, OneOf,
     Readiness, RegistrationToken, Requests, ScriptLoop, Sources, There, TimeoutAction, Timer,
 };
-use calloop_core::sys::script::{ScriptCall, ScriptClock, ScriptIo, ScriptKind, ScriptPoller};
+use calloop_script::{ScriptCall, ScriptClock, ScriptIo, ScriptKind, ScriptPoller};
 use std::alloc::Global;
 use std::sync::Wait;
 use std::time::Duration;

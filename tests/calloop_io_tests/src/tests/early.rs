@@ -6,8 +6,8 @@ use calloop::{
     Adapter, Async, Callback, Choice, Dispatcher, EventDispatcher, Here, On, OneOf, PingSource,
     Place, Requests, ScriptLoop, Sources, There,
 };
-use calloop_core::sys::Interest;
-use calloop_core::sys::script::{ScriptCall, ScriptClock, ScriptIo, ScriptPoller};
+use calloop_poll::sys::Interest;
+use calloop_script::{ScriptCall, ScriptClock, ScriptIo, ScriptPoller};
 use std::alloc::Global;
 use std::sync::{Arc, Mutex, Wait};
 use std::time::Duration;

@@ -5,7 +5,7 @@ use calloop::{
     Adapter, Choice, Dispatcher, Error, EventDispatcher, Here, Instant, Keep, RegistrationToken,
     Requests, ScriptLoop, There, Timer,
 };
-use calloop_core::sys::script::{ScriptClock, ScriptIo, ScriptKind, ScriptPoller};
+use calloop_script::{ScriptClock, ScriptIo, ScriptKind, ScriptPoller};
 use std::alloc::Global;
 use std::io;
 use std::sync::Wait;

@@ -5,7 +5,7 @@ use calloop::{
     Adapter, Async, Dispatcher, EventDispatcher, Here, Instant, Keep, OneOf, Readiness, Requests,
     ScriptLoop, Sources, Timer,
 };
-use calloop_core::sys::script::{
+use calloop_script::{
     ScriptAnswer, ScriptClock, ScriptEnd, ScriptEvents, ScriptIo, ScriptPoller,
 };
 use std::alloc::Global;

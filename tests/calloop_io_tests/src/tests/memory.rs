@@ -6,7 +6,7 @@ use calloop::{
     Adapter, Async, Choice, Dispatcher, Error, EventDispatcher, Here, InsertError, Instant, Keep,
     On, OneOf, Readiness, RegistrationToken, Requests, ScriptLoop, Sources, There, TokenFactory,
 };
-use calloop_core::sys::script::{
+use calloop_script::{
     ScriptAnswer, ScriptClock, ScriptEnd, ScriptEvents, ScriptIo, ScriptPoller,
 };
 use std::alloc::Global;

@@ -4,8 +4,8 @@ use calloop::{
     Adapter, Async, Choice, Dispatcher, EventDispatcher, Here, Keep, On, OneOf, Requests,
     ScriptLoop, Sources, There,
 };
-use calloop_core::sys::Interest;
-use calloop_core::sys::script::{ScriptCall, ScriptClock, ScriptIo, ScriptPoller};
+use calloop_poll::sys::Interest;
+use calloop_script::{ScriptCall, ScriptClock, ScriptIo, ScriptPoller};
 use std::alloc::Global;
 use std::sync::Wait;
 use std::time::Duration;

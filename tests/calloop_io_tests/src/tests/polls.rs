@@ -1,7 +1,7 @@
 //! What a poll of a socket waits for, and what it is answered.
 use super::desk::{Act, How, Word, plays};
-use calloop_core::sys::Interest;
-use calloop_core::sys::script::{ScriptCall, ScriptKind};
+use calloop_poll::sys::Interest;
+use calloop_script::{ScriptCall, ScriptKind};
 
 const READS: ScriptCall = ScriptCall::Add(1, 0, Interest::READ);
 

@@ -1,7 +1,7 @@
 //! Two loops, and adapters of the one that are given back to the other.
 use super::looks::{Adapted, Held, look, new_adapted};
 use calloop::{Adapter, Async, Error, EventDispatcher, Here, Keep, Requests, ScriptLoop};
-use calloop_core::sys::script::{ScriptIo, ScriptClock, ScriptKind, ScriptPoller};
+use calloop_script::{ScriptIo, ScriptClock, ScriptKind, ScriptPoller};
 use std::alloc::Global;
 use std::sync::Wait;
 use std::time::Duration;

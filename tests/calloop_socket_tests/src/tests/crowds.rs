@@ -2,7 +2,7 @@
 use super::square::{Scene, Square, plays};
 use calloop::ping::{Ping, make_ping};
 use calloop::{Interest, Mode, PingSource};
-use calloop_core::sys::system::MioIo;
+use calloop_mio::MioIo;
 use mio::net::UnixStream;
 use std::alloc::Global;
 use std::net::Net;

@@ -9,13 +9,13 @@ use calloop::{
     Instant, Interest, Mode, OneOf, PingSource, PostAction, Readiness, RegistrationToken, Requests,
     Sources, There, TimeoutAction, Timer,
 };
-use calloop_core::sys::script::{
+use calloop_script::{
     ScriptAnswer, ScriptCall, ScriptClock, ScriptEnd, ScriptEvents, ScriptIo, ScriptKind,
     ScriptPoller,
 };
 use calloop_test_sources::source::{Teller, Waker};
 use calloop_test_sources::visitor::Visitor;
-use calloop_wake::widths::{MOST_SLOTS, VERSIONS};
+use calloop_slots::widths::{MOST_SLOTS, VERSIONS};
 use std::alloc::Global;
 use std::io::ErrorKind;
 use std::sync::Wait;

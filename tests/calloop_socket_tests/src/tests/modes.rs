@@ -1,7 +1,7 @@
 //! How often a socket hears of what it is ready for.
 use super::desk::{Act, GOES_ON, KEY, SECOND, plays};
 use calloop::{Interest, Mode};
-use calloop_core::sys::script::ScriptCall::{Add, Delete, Modify};
+use calloop_script::ScriptCall::{Add, Delete, Modify};
 
 // What a test does at a new desk, and what is to come of it.
 const CASES: &[(&str, &[Act<'static>])] = &[

@@ -1,7 +1,7 @@
 //! Streams of the machine, and what their peers do.
 use super::square::{Scene, Square, plays};
 use calloop::{Error, Interest, Mode, RegistrationToken};
-use calloop_core::sys::system::MioIo;
+use calloop_mio::MioIo;
 use calloop_test_sources::visitor::{CONNECTED, END, WRITABLE};
 use mio::net::{TcpListener, TcpStream};
 use std::alloc::Global;

@@ -2,8 +2,8 @@
 use super::desk::{Act, GOES_ON, KEY, SECOND, plays};
 use calloop::generic::Generic;
 use calloop::{Interest, Mode};
-use calloop_core::sys::script::ScriptCall::{Add, Delete, Modify};
-use calloop_core::sys::script::{ScriptIo, ScriptKind};
+use calloop_script::ScriptCall::{Add, Delete, Modify};
+use calloop_script::{ScriptIo, ScriptKind};
 use std::io;
 use std::io::ErrorKind;
 

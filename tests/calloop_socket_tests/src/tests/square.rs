@@ -5,7 +5,7 @@ use calloop::{
     Dispatcher, Error, EventDispatcher, Here, Hold, Interest, Mode, OneOf, PingSource,
     RegistrationToken, Requests, Sources, There,
 };
-use calloop_core::sys::system::{MioIo, MioPoller, SystemClock};
+use calloop_mio::{MioIo, MioPoller, SystemClock};
 use calloop_test_sources::source::Teller;
 use calloop_test_sources::visitor::{Reader, WRITABLE};
 use mio::net::{TcpStream, UnixStream};

@@ -7,7 +7,7 @@ use calloop::{
     Answer, Callback, Choice, Dispatcher, Error, EventDispatcher, Here, Idle, OneOf, Ping,
     PingSource, RegistrationToken, Requests, ScriptLoop, Sources, There, Ticket,
 };
-use calloop_core::sys::script::{ScriptClock, ScriptPoller};
+use calloop_script::{ScriptClock, ScriptPoller};
 use calloop_test_sources::source::Teller;
 use std::alloc::Global;
 use std::cell::Cell;

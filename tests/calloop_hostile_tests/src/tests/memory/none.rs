@@ -7,7 +7,7 @@ use calloop::{
     Choice, Dispatcher, EventDispatcher, Here, Idle, LoopSignal, On, OneOf, PingSource, ScriptLoop,
     Sources, There,
 };
-use calloop_core::sys::script::{ScriptClock, ScriptPoller};
+use calloop_script::{ScriptClock, ScriptPoller};
 use calloop_test_sources::source::Teller;
 use std::alloc::Global;
 use std::sync::{Arc, Mutex, Wait};

@@ -1,4 +1,4 @@
-use Rattle.calloop_core.specs.sources.Deeds.{new_heard}
+use Rattle.calloop_sources.specs.sources.Deeds.{new_heard}
 use Rattle.calloop_test_sources.proofs.greedy.GreedyEventSource.process_events.Goals as goal
 
 pub returns : goal.returns

@@ -1,8 +1,8 @@
 use Rattle.std.proofs.Common.{◌≡◌, ◌∙◌, ap, refl, [], None}
-use Rattle.calloop_core.specs.sys.Polls.{poll_view}
-use Rattle.calloop_core.specs.sources.Deeds.{Turned, new_heard}
-use Rattle.calloop_core.specs.Timers.{timer_meaning}
-use Rattle.calloop.specs.ping.Pings.{ping_meaning}
+use Rattle.calloop_poll.specs.sys.Polls.{poll_view}
+use Rattle.calloop_sources.specs.sources.Deeds.{Turned, new_heard}
+use Rattle.calloop_sources.specs.Timers.{timer_meaning}
+use Rattle.calloop_ends.specs.ping.Pings.{ping_meaning}
 use Rattle.calloop_test_sources.specs.Trios.{calls_of, part_heard, after_calls}
 use Rattle.calloop_test_sources.proofs.Parts.{reached, unreached, failed, served, noted}
 use Rattle.calloop_test_sources.proofs.trio.TrioEventSource.process_events.Goals as goal

@@ -1,8 +1,8 @@
 use Rattle.std.proofs.Common.{refl, ◌∙◌}
-use Rattle.calloop_core.specs.sys.Polls.{poll_view}
-use Rattle.calloop_core.specs.sources.Deeds.{Reregistered}
-use Rattle.calloop_core.specs.Timers.{timer_meaning}
-use Rattle.calloop.specs.ping.Pings.{ping_meaning}
+use Rattle.calloop_poll.specs.sys.Polls.{poll_view}
+use Rattle.calloop_sources.specs.sources.Deeds.{Reregistered}
+use Rattle.calloop_sources.specs.Timers.{timer_meaning}
+use Rattle.calloop_ends.specs.ping.Pings.{ping_meaning}
 use Rattle.calloop_test_sources.proofs.Parts.{reached, unreached, asked, bell_passes_anew, timer_passes_anew}
 use Rattle.calloop_test_sources.proofs.trio.TrioEventSource.reregister.Goals as goal
 

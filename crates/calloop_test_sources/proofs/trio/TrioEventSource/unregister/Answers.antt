@@ -1,7 +1,7 @@
-use Rattle.calloop_core.specs.sys.Polls.{poll_view}
-use Rattle.calloop_core.specs.sources.Deeds.{Unregistered}
-use Rattle.calloop_core.specs.Timers.{timer_meaning}
-use Rattle.calloop.specs.ping.Pings.{ping_meaning}
+use Rattle.calloop_poll.specs.sys.Polls.{poll_view}
+use Rattle.calloop_sources.specs.sources.Deeds.{Unregistered}
+use Rattle.calloop_sources.specs.Timers.{timer_meaning}
+use Rattle.calloop_ends.specs.ping.Pings.{ping_meaning}
 use Rattle.calloop_test_sources.proofs.Parts.{reached, unreached, asked}
 use Rattle.calloop_test_sources.proofs.trio.TrioEventSource.unregister.Goals as goal
 

@@ -1,5 +1,5 @@
 use Rattle.std.proofs.Common.{◌≡◌, None}
-use Rattle.calloop_wake.specs.wake.Locks.{HasOneSlot, IsTaken}
+use Rattle.calloop_wake.specs.Locks.{HasOneSlot, IsTaken}
 use Rattle.calloop_wake_tests.proofs.tests.channels.put_message.Given as goal
 
 abbrev pub invariant-loop : goal.invariant-loop

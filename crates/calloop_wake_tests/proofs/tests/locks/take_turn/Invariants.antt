@@ -1,5 +1,5 @@
 use Rattle.std.proofs.Common.{◌≡◌}
-use Rattle.calloop_wake.specs.wake.Locks.{HasOneSlot, IsTaken}
+use Rattle.calloop_wake.specs.Locks.{HasOneSlot, IsTaken}
 use Rattle.calloop_wake_tests.proofs.tests.locks.take_turn.Given as goal
 
 abbrev pub invariant-loop : goal.invariant-loop

@@ -1,16 +1,16 @@
 use Rattle.std.proofs.Common.{◌≡◌, ℕ, List, [], ◌∷◌, ◌++◌, ◌∙◌, sym, ap, subst, refl, Some, Option, Result}
 use Rattle.std.proofs.lemmas.List.{append_assoc}
 use Rattle.std.specs.declared.time.Duration.{Duration}
-use Rattle.calloop_wake.specs.declared.error.Error.{Error}
-use Rattle.calloop_core.specs.declared.sys.script.ScriptPoller.{ScriptPoller}
-use Rattle.calloop_core.specs.declared.sys.script.ScriptClock.{ScriptClock}
+use Rattle.calloop_slots.specs.declared.error.Error.{Error}
+use Rattle.calloop_script.specs.declared.ScriptPoller.{ScriptPoller}
+use Rattle.calloop_script.specs.declared.ScriptClock.{ScriptClock}
 use Rattle.std.specs.Option.{option_map}
-use Rattle.calloop_core.specs.sys.Polls.{with_new_poller, is_filled}
-use Rattle.calloop.specs.declared.loop_logic.EventLoop.{EventLoop}
-use Rattle.calloop.specs.declared.loop_logic.LoopCall.TheVariants.{Dispatch as DispatchCall}
-use Rattle.calloop.specs.declared.loop_logic.LoopAnswer.TheVariants.{Dispatched}
-use Rattle.calloop.specs.loop_logic.Lending.{with_loop_poller}
-use Rattle.calloop.specs.loop_logic.Machine.{View, Polling, view_of}
+use Rattle.calloop_poll.specs.sys.Polls.{with_new_poller, is_filled}
+use Rattle.calloop_loop.specs.declared.EventLoop.{EventLoop}
+use Rattle.calloop_loop.specs.declared.LoopCall.TheVariants.{Dispatch as DispatchCall}
+use Rattle.calloop_loop.specs.declared.LoopAnswer.TheVariants.{Dispatched}
+use Rattle.calloop_loop.specs.Lending.{with_loop_poller}
+use Rattle.calloop_loop.specs.Machine.{View, Polling, view_of}
 use Rattle.looptrace.specs.declared.runner.PendingAnswer.{PendingAnswer}
 use Rattle.looptrace.specs.Sources.{Source}
 use Rattle.looptrace.specs.Runs.{IsPrepared, IsTakenBack, State, state_of, pending_of, fault_after, pending_after, Calls, waits_text, answer_text}

@@ -1,5 +1,5 @@
 use Rattle.std.proofs.Common.{◌≡◌, ◌∙◌, ap, refl}
-use Rattle.calloop_core.specs.declared.sys.script.ScriptPoller.{ScriptPoller}
+use Rattle.calloop_script.specs.declared.ScriptPoller.{ScriptPoller}
 use Rattle.looptrace.proofs.runner.ScriptLoop.new.Goals as goal
 
 pub returns-in-Ok-clause-ok : goal.returns-in-Ok-clause-ok

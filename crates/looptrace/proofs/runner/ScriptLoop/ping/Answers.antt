@@ -1,7 +1,7 @@
 use Rattle.std.proofs.Common.{◌≡◌, ℕ, List, ◌∙◌, sym, ap, Some}
 use Rattle.std.specs.Option.{option_map}
-use Rattle.calloop_wake.specs.declared.wake.Tally.{Tally}
-use Rattle.calloop.specs.loop_logic.Machine.{view_of}
+use Rattle.calloop_wake.specs.declared.Tally.{Tally}
+use Rattle.calloop_loop.specs.Machine.{view_of}
 use Rattle.looptrace.specs.Sources.{ping_in}
 use Rattle.looptrace.specs.declared.source.Teller.{Teller}
 use Rattle.looptrace.specs.Runs.{IsNewPing, pending_of}

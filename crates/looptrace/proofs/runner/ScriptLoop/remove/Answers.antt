@@ -1,8 +1,8 @@
 use Rattle.std.proofs.Common.{ap, subst, refl}
-use Rattle.calloop_core.specs.declared.sys.script.ScriptPoller.{ScriptPoller}
-use Rattle.calloop.specs.declared.loop_logic.LoopCall.TheVariants.{Remove as RemoveCall}
-use Rattle.calloop.specs.declared.loop_logic.LoopAnswer.TheVariants.{Removed}
-use Rattle.calloop.specs.loop_logic.Machine.{View, view_of}
+use Rattle.calloop_script.specs.declared.ScriptPoller.{ScriptPoller}
+use Rattle.calloop_loop.specs.declared.LoopCall.TheVariants.{Remove as RemoveCall}
+use Rattle.calloop_loop.specs.declared.LoopAnswer.TheVariants.{Removed}
+use Rattle.calloop_loop.specs.Machine.{View, view_of}
 use Rattle.looptrace.specs.Sources.{Source}
 use Rattle.looptrace.specs.Runs.{Calls, removed_text}
 use Rattle.looptrace.proofs.runner.ScriptLoop.remove.Goals as goal

@@ -1,8 +1,8 @@
 use Rattle.std.proofs.Common.{◌≡◌, ℕ, List, ◌∙◌, sym, ap, Some, None, refl}
-use Rattle.calloop_core.specs.declared.timer.Timer.{Timer}
-use Rattle.calloop_core.specs.Timers.{fresh_timer}
+use Rattle.calloop_sources.specs.declared.timer.Timer.{Timer}
+use Rattle.calloop_sources.specs.Timers.{fresh_timer}
 use Rattle.std.specs.Option.{option_map}
-use Rattle.calloop.specs.loop_logic.Machine.{view_of}
+use Rattle.calloop_loop.specs.Machine.{view_of}
 use Rattle.looptrace.specs.Sources.{Source, timer_in}
 use Rattle.looptrace.specs.Runs.{IsNewTimer, new_timer, pending_of}
 use Rattle.looptrace.proofs.InsertLemmas.{line_is}

@@ -1,6 +1,6 @@
 use Rattle.std.proofs.Common.{deque_len}
 use Rattle.std.specs.Arc.{arc_value}
-use Rattle.calloop_wake.specs.wake.Passes.{AreOf}
+use Rattle.calloop_wake.specs.Passes.{AreOf}
 use Rattle.calloop_wake_tests.proofs.tests.executors.Crew.open.Given as goal
 
 abbrev pub invariant-loop-pass : goal.invariant-loop-pass

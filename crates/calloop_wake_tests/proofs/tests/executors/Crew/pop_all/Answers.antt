@@ -1,5 +1,5 @@
 use Rattle.std.proofs.Common.{sym, ◌∙◌}
-use Rattle.calloop_wake.specs.wake.Executors.{most_tasks}
+use Rattle.calloop_wake.specs.Executors.{most_tasks}
 use Rattle.calloop_wake.proofs.Ending.{turn_over}
 use Rattle.calloop_wake_tests.proofs.tests.executors.Crew.pop_all.Goals as goal
 

@@ -1,5 +1,5 @@
 use Rattle.std.proofs.Common.{◌≡◌, ◌-◌, ◌≤◌, true, IsSome}
-use Rattle.calloop_wake.specs.wake.Executors.{most_tasks}
+use Rattle.calloop_wake.specs.Executors.{most_tasks}
 use Rattle.calloop_wake_tests.proofs.tests.executors.Crew.pop_all.Given as goal
 
 abbrev pub invariant-loop-self : goal.invariant-loop-self

@@ -1,6 +1,0 @@
-use Rattle.std.proofs.Common.{◌≡◌, ◌+◌, drop}
-use Rattle.calloop.specs.loop_logic.Limits.{all_limits}
-use Rattle.calloop.proofs.loop_logic.EventLoop.limits.Given as goal
-
-abbrev pub invariant-loop-place : goal.invariant-loop-place
-invariant-loop-place g l = l.sum + all_limits g.D.Dispatch.means l.self.sources (drop l.place l.self.lifecycle.tokens.items) ≡ all_limits g.D.Dispatch.means l.self.sources l.self.lifecycle.tokens.items

@@ -1,7 +1,0 @@
-use Rattle.calloop.specs.loop_logic.Machine.{view_of}
-use Rattle.calloop.specs.loop_logic.Rules.{Once, IdleInsertedBy}
-use Rattle.calloop.proofs.Seen.{did_leads}
-use Rattle.calloop.proofs.loop_logic.LoopHandle.insert_idle.Goals as goal
-
-pub returns-clause-machine : goal.returns-clause-machine
-returns-clause-machine g c = did_leads (Once g.P.Poller.outside (IdleInsertedBy c.args.idle c.insert_idle.result)) (view_of c.args.self.now.inner.now) (view_of c.insert_idle.new.self) c.insert_idle.ensures

@@ -1,4 +1,0 @@
-use Rattle.calloop.proofs.loop_logic.SourcesDispatchRequestsSources.needs_extra_lifecycle_events.Goals as goal
-
-pub returns : goal.returns
-returns g c = c.needs_extra_lifecycle_events.ensures

@@ -1,6 +1,0 @@
-use Rattle.std.proofs.Common.{ap}
-use Rattle.calloop.specs.loop_logic.Askings.{taken_up}
-use Rattle.calloop.proofs.loop_logic.asks.Requests.take_up_idles.Goals as goal
-
-pub returns : goal.returns
-returns g c = rw (c.move_all.ensures.items.0, c.move_all.ensures.items.1) (ap taken_up c.self.view_is)

@@ -1,7 +1,0 @@
-use Rattle.std.proofs.Common.{rules}
-use Rattle.std.proofs.lemmas.Fn.{filter_same}
-use Rattle.calloop.specs.loop_logic.Askings.{is_other_idle}
-use Rattle.calloop.proofs.loop_logic.asks.take_out.Goals as goal
-
-pub returns-clause-items : goal.returns-clause-items
-returns-clause-items g c = filter_same _ (is_other_idle c.args.ticket) _ (λ x b f' k. search rules) _ _ c.retain.ensures.filtered

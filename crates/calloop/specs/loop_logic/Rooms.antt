@@ -1,7 +1,0 @@
--- Room that was made before it is needed.
-use Rattle.std.specs.Prelude.{◌≡◌, ◌<◌, Bool, true, vec_len, vec_capacity}
-use Rattle.calloop.specs.declared.loop_logic.lifecycle.Lifecycle.{Lifecycle}
-
--- for one registration more, where it is needed
-abbrev pub HasRoom : (needed : Bool) → Lifecycle → Type 0
-HasRoom needed l = needed ≡ true → vec_len l.tokens < vec_capacity l.tokens

@@ -1,5 +1,0 @@
-use Rattle.std.proofs.Common.{refl}
-use Rattle.calloop_core.proofs.generic.Generic.is_heard.Goals as goal
-
-pub returns-in-OneShot : goal.returns-in-OneShot
-returns-in-OneShot g c = rw c.in-OneShot.is refl

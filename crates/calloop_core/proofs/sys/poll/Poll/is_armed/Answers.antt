@@ -1,4 +1,0 @@
-use Rattle.calloop_core.proofs.sys.poll.Poll.is_armed.Goals as goal
-
-pub returns : goal.returns
-returns g c = c.is_armed.ensures

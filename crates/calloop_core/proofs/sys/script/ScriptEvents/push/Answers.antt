@@ -1,5 +1,0 @@
-use Rattle.std.proofs.Common.{arith}
-use Rattle.calloop_core.proofs.sys.script.ScriptEvents.push.Goals as goal
-
-pub invariant_of-self : goal.invariant_of-self
-invariant_of-self c = record { few = omega arith }

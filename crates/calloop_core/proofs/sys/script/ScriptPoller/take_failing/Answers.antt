@@ -1,4 +1,0 @@
-use Rattle.calloop_core.proofs.sys.script.ScriptPoller.take_failing.Goals as goal
-
-pub returns-clause-poller : goal.returns-clause-poller
-returns-clause-poller c = cc

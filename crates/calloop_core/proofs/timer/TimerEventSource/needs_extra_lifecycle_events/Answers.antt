@@ -1,5 +1,0 @@
-use Rattle.std.proofs.Common.{refl}
-use Rattle.calloop_core.proofs.timer.TimerEventSource.needs_extra_lifecycle_events.Goals as goal
-
-pub returns : goal.returns
-returns g c = λ _. refl

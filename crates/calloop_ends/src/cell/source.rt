@@ -1,0 +1,173 @@
+//! The receiving end of a cell as a source of the loop, for every kind of cell: its turn, and what registers, moves and takes back its
+//! key.
+ghost use Rattle.std.specs.Prelude.{◌≡◌, List, []};
+ghost use Rattle.calloop_slots.specs.Tokens.{key_of};
+ghost use Rattle.calloop_wake.specs.Cells.{is_own};
+ghost use Rattle.calloop_poll.specs.sys.Polls.{poll_view};
+ghost use Rattle.calloop_sources.specs.sources.Calls.{CallbackCall, Went};
+ghost use Rattle.calloop_ends.specs.cell.CellSources.{Registers, RegistersAnew, Unregisters, TakesTurn};
+
+use super::{Cell, attach, detach};
+use calloop_poll::sys::Poller;
+use calloop_poll::sys::poll::Poll;
+use calloop_slots::error::{Error, Result as LoopResult};
+use calloop_slots::token::{Token, TokenFactory};
+use calloop_sources::sources::{Asking, Callback, PostAction};
+use calloop_wake::cell::CellCore;
+use calloop_wake::locked::Locked;
+use calloop_wake::{TakenPass, Tally};
+use std::io;
+use std::sync::Wait;
+
+/// A source that is the receiving end of a cell: what its kind of cell does in a turn. All else of a turn is `take_turn`.
+pub(crate) trait CellSource {
+    ghost use Rattle.std.specs.Prelude.{◌≡◌, List, [], Some, IfOk, IfErr};
+    ghost use Rattle.calloop_wake.specs.declared.Tally.{Tally};
+    ghost use Rattle.calloop_sources.specs.sources.Calls.{CallbackCall, Went};
+    ghost use Rattle.calloop_ends.specs.cell.CellSources.{OpenTurns};
+
+    /// What its callback is called with.
+    type Event;
+
+    ghost tally_of: { Self → Tally };
+
+    /// What a turn does that its cell opens.
+    ghost opens: { OpenTurns Self Self.Event (Unit {0}) (Unit {0}) };
+
+    fn tally(&self) -> &Tally
+        ensures { result.now ≡ tally_of self.now };
+
+    /// A turn of its cell, from its opening to its end. The pass comes back as refused where the cell opens none.
+    fn open_turn<F, X, Q>(
+        &mut self,
+        pass: TakenPass,
+        callback: &mut F,
+        data: &mut X,
+        requests: &mut Q,
+    ) -> Result<PostAction, TakenPass>
+    where
+        Q: Asking,
+        F: Callback<Self::Event, (), (), X, Q>,
+        ensures ok { IfOk result (λ action.
+            (calls : List (CallbackCall Self.Event (Unit {0}) (Unit {0})))
+            × opens self.old calls action self.new
+            × Went F.may Q.reaches callback.old «data».old requests.old calls
+            callback.new «data».new requests.new) }
+        ensures err { IfErr result (λ refused.
+            (refused ≡ record pass { refused = Some (tally_of self.old).name })
+            × (self.new ≡ self.old)
+            × Went F.may Q.reaches callback.old «data».old requests.old []
+            callback.new «data».new requests.new) };
+}
+
+/// Its turn, for an event of this token. An event of another token, or without a posted key behind it, does nothing, and a pass
+/// that the cell refuses is put back.
+pub(crate) fn take_turn<K, E, P, C, R, F, X, Q>(
+    source: &mut K,
+    token: Token,
+    poll: &mut Poll<P, C, R>,
+    callback: &mut F,
+    data: &mut X,
+    requests: &mut Q,
+) -> Result<PostAction, E>
+where
+    K: CellSource,
+    P: Poller,
+    R: Wait + Drop,
+    Q: Asking,
+    F: Callback<K::Event, (), (), X, Q>,
+    ensures { (calls : List (CallbackCall K.Event (Unit {0}) (Unit {0})))
+        × TakesTurn P.outside K.tally_of K.opens token source.old (poll_view poll.old)
+        calls result source.new (poll_view poll.new)
+        × Went F.may Q.reaches callback.old «data».old requests.old calls
+        callback.new «data».new requests.new }
+{
+    if !is_mine(source.tally(), token) {
+        return Ok(PostAction::Continue);
+    }
+    let Some(pass) = poll.take_pass() else {
+        return Ok(PostAction::Continue);
+    };
+    match source.open_turn(pass, callback, data, requests) {
+        Ok(action) => Ok(action),
+        Err(pass) => {
+            poll.put_back(pass);
+            Ok(PostAction::Continue)
+        }
+    }
+}
+
+/// Whether the cell has the key of this token.
+fn is_mine(tally: &Tally, token: Token) -> bool
+    ensures { result ≡ is_own (key_of token) tally.now.key }
+{
+    tally.key() == Some(token.key())
+}
+
+/// Registers the cell under the factory's next token. What stands in it is posted at once.
+///
+/// Where it is registered already the answer is `IoError` of kind `AlreadyExists`; a factory without tokens is `TooManyTokens`,
+/// and running out of memory `OutOfMemory`. A refusal leaves the cell and the board as they were.
+pub(crate) fn register<K: CellCore, P: Poller, C, R: Wait + Drop>(
+    rt: &R,
+    shared: &Locked<Cell<K>>,
+    tally: &mut Tally,
+    poll: &Poll<P, C, R>,
+    factory: &mut TokenFactory,
+) -> LoopResult<()>
+    requires { tally.old.name ≡ K.named_by shared.now.tag }
+    ensures { Registers {P = P} tally.old factory.old result [] tally.new factory.new }
+{
+    if tally.key().is_some() {
+        let cause = io::Error::from(io::ErrorKind::AlreadyExists);
+        return Err(Error::IoError(cause));
+    }
+    let token = factory.token()?;
+    attach(rt, shared, tally, poll.hub(), token)
+}
+
+/// Moves the registration to the factory's next token; under the same key it does nothing. What stands in the cell is posted under
+/// the new key.
+///
+/// Where it isn't registered the answer is `IoError` of kind `NotFound`; a factory without tokens is `TooManyTokens`, an open place
+/// of the new key `IoError` of kind `AlreadyExists`, and running out of memory `OutOfMemory`. A refusal leaves the cell and the board as
+/// they were.
+pub(crate) fn reregister<K: CellCore, P: Poller, C, R: Wait + Drop>(
+    rt: &R,
+    shared: &Locked<Cell<K>>,
+    tally: &mut Tally,
+    poll: &Poll<P, C, R>,
+    factory: &mut TokenFactory,
+) -> LoopResult<()>
+    requires { tally.old.name ≡ K.named_by shared.now.tag }
+    ensures { RegistersAnew {P = P} tally.old factory.old result [] tally.new factory.new }
+{
+    if tally.key().is_none() {
+        let cause = io::Error::from(io::ErrorKind::NotFound);
+        return Err(Error::IoError(cause));
+    }
+    let next = factory.token()?;
+    if is_mine(tally, next) {
+        return Ok(());
+    }
+    attach(rt, shared, tally, poll.hub(), next)
+}
+
+/// Takes the registration back. What stands in the cell is told after the next registration. Where it isn't registered the answer is
+/// `IoError` of kind `NotFound`, and nothing changes.
+pub(crate) fn unregister<K: CellCore, P: Poller, C, R: Wait + Drop>(
+    rt: &R,
+    shared: &Locked<Cell<K>>,
+    tally: &mut Tally,
+    _poll: &Poll<P, C, R>,
+) -> LoopResult<()>
+    requires { tally.old.name ≡ K.named_by shared.now.tag }
+    ensures { Unregisters {P = P} tally.old result [] tally.new }
+{
+    if tally.key().is_none() {
+        let cause = io::Error::from(io::ErrorKind::NotFound);
+        return Err(Error::IoError(cause));
+    }
+    detach(rt, shared, tally);
+    Ok(())
+}

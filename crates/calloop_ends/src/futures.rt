@@ -1,0 +1,96 @@
+//! Futures that run in the loop: an executor is a source, and what a future gives is an event.
+//!
+//! From calloop's `sources/futures.rs`. Its futures are those of the standard library; these are of this module, since a wake is a
+//! step of the executor's own cell.
+ghost use Rattle.std.specs.Prelude.{◌≡◌, None, IfOk, IfErr};
+ghost use Rattle.calloop_wake.specs.Cells.{fresh_tally};
+ghost use Rattle.calloop_slots.specs.declared.error.Error.TheVariants.{OutOfMemory};
+
+use crate::cell::{SharedCell, abandon, add_sender, receiver};
+use calloop_poll::sys::hub::share;
+use calloop_slots::error::Result as LoopResult;
+use calloop_wake::Tally;
+use calloop_wake::executor::ExecutorCore;
+use calloop_wake::homes::Homes;
+use calloop_wake::locked::Locked;
+use homes::SharedHomes;
+use std::alloc::Global;
+use std::marker::Model;
+use std::sync::{Arc, Wait};
+
+mod cell;
+mod errors;
+mod homes;
+mod scheduler;
+mod source;
+mod task;
+
+pub use errors::{ExecutorDestroyed, ExecutorError, ScheduleError};
+pub use scheduler::Scheduler;
+pub use task::{Blocked, Context, Future, Poll, Waker};
+
+/// Runs futures in the loop, as a source. What a future gives is an event.
+///
+/// Its drop, as by the drop of the loop that it is registered with, takes its registration back and drops its futures.
+///
+/// In a clause it is its tally, as a `PingSource` is.
+pub struct Executor<Fut: Drop, R: Wait + Drop> {
+    rt: R,
+    shared: SharedCell<ExecutorCore>,
+    homes: SharedHomes<Fut, R>,
+    tally: Tally,
+}
+
+impl<Fut: Drop, R: Wait + Drop> Model for Executor<Fut, R> {
+    ghost use Rattle.std.specs.Prelude.{◌≡◌};
+    ghost use Rattle.std.specs.Arc.{arc_value};
+    ghost use Rattle.calloop_wake.specs.declared.Tally.{Tally};
+
+    ghost Value = { Tally };
+
+    ghost view = { λ e. e.tally };
+
+    ghost invariant = { λ e. (e.tally.name ≡ (arc_value e.shared).tag)
+        × ((arc_value e.homes).tag ≡ (arc_value e.shared).tag) };
+}
+
+/// An executor, which is registered nowhere, and a scheduler that hands it futures. `rt` is the runtime by which they lock what they
+/// share. Calloop has it under the name `executor`.
+///
+/// Running out of memory is `OutOfMemory`.
+pub fn make_executor<Fut: Future<R>, R: Wait + Clone + Drop>(
+    rt: &R,
+    alloc: Global,
+) -> LoopResult<(Executor<Fut, R>, Scheduler<Fut, R>)>
+    ensures ok { IfOk result (λ made. made.0 ≡ fresh_tally made.1) }
+    ensures err { IfErr result (λ e. e ≡ OutOfMemory) }
+{
+    let of_executor = rt.clone()?;
+    let of_scheduler = rt.clone()?;
+    let (locked, right, keeping) = cell::new_locked(alloc)?;
+    let (homes, of_homes) = Homes::new(alloc, keeping);
+    let homes = Arc::new(alloc, Locked::new(alloc, homes, &of_homes)?)?;
+    let shared = Arc::new(alloc, locked)?;
+    let sender = add_sender(rt, &shared)?;
+    let tally = receiver(rt, &shared, right);
+    let executor = Executor {
+        rt: of_executor,
+        shared: share(rt, &shared),
+        homes: share(rt, &homes),
+        tally,
+    };
+    Ok((executor, Scheduler::of(of_scheduler, shared, homes, sender)))
+}
+
+impl<Fut: Drop, R: Wait + Drop> Drop for Executor<Fut, R> {
+    fn drop(self) {
+        let Executor {
+            rt,
+            shared,
+            homes,
+            tally,
+        } = self;
+        abandon(&rt, &shared, tally);
+        homes::close(&rt, &homes);
+    }
+}

@@ -1,0 +1,117 @@
+//! The sections of the lock under which the futures of an executor are. It is another than that of its cell, which its wakers reach; within it
+//! no future is polled or dropped.
+ghost use Rattle.std.specs.Prelude.{◌≡◌, ◌+◌, IfSome, IfNone};
+
+use super::task::Pollable;
+use calloop_wake::executor::PutRefusal;
+use calloop_wake::homes::{DueReceipt, Homes, Place, PoppedTask, TakenFuture};
+use calloop_wake::locked::Locked;
+use calloop_wake::{Receipt, Tally};
+use std::alloc::Global;
+use std::sync::{Arc, Wait};
+
+/// The places of an executor's futures, under their lock. In a clause `tag` is the name of its cell.
+pub(crate) type SharedHomes<Fut, R> = Arc<Locked<Homes<Pollable<Fut, R>>>, Global>;
+
+/// A place for a future that is to come.
+pub(crate) fn reserve<Fut: Drop, R: Wait + Drop>(
+    rt: &R,
+    homes: &Locked<Homes<Pollable<Fut, R>>>,
+) -> Result<usize, PutRefusal> {
+    let mut places = homes.lock(rt);
+    let reserved = places.core().reserve();
+    places.unlock();
+    match reserved {
+        Some(Ok(home)) => Ok(home),
+        Some(Err(_)) => Err(PutRefusal::OutOfMemory),
+        None => Err(PutRefusal::Gone),
+    }
+}
+
+/// Keeps the future of a task that was put, which gives the receipt of it, and says whether a turn has looked for it before. Where the
+/// executor is gone, the future is dropped.
+pub(crate) fn keep<Fut: Drop, R: Wait + Drop>(
+    rt: &R,
+    homes: &Locked<Homes<Pollable<Fut, R>>>,
+    due: DueReceipt,
+    held: Pollable<Fut, R>,
+) -> (Receipt, bool)
+    requires { due.name ≡ homes.now.tag }
+    ensures { result.0.name ≡ homes.now.tag }
+{
+    let mut places = homes.lock(rt);
+    let (receipt, before) = places.core().keep(due, held);
+    places.unlock();
+    let missed = match &before {
+        Ok(Place::Missed) => true,
+        _ => false,
+    };
+    drop(before);
+    (receipt, missed)
+}
+
+/// Takes the future of a task that was popped, for its poll. Where it is still to come, its scheduler is told so by `keep`, and the tally counts
+/// that.
+pub(crate) fn take<Fut: Drop, R: Wait + Drop>(
+    rt: &R,
+    homes: &Locked<Homes<Pollable<Fut, R>>>,
+    tally: &mut Tally,
+    popped: PoppedTask,
+) -> Option<TakenFuture<Pollable<Fut, R>>>
+    requires { (popped.name ≡ homes.now.tag) × (tally.old.name ≡ homes.now.tag) }
+    ensures some { IfSome result (λ taken. (taken.task ≡ popped) × (tally.new ≡ tally.old)) }
+    ensures none { IfNone result (tally.new ≡ record tally.old { misses = tally.old.misses + 1 }) }
+{
+    let mut places = homes.lock(rt);
+    let taken = places.core().take(popped, tally);
+    places.unlock();
+    taken
+}
+
+/// Puts a future back whose poll was pending.
+pub(crate) fn put_back<Fut: Drop, R: Wait + Drop>(
+    rt: &R,
+    homes: &Locked<Homes<Pollable<Fut, R>>>,
+    taken: TakenFuture<Pollable<Fut, R>>,
+)
+    requires { taken.task.name ≡ homes.now.tag }
+{
+    let mut places = homes.lock(rt);
+    let before = places.core().put_back(taken);
+    places.unlock();
+    drop(before);
+}
+
+/// Gives the place of a task up whose future gave its result.
+pub(crate) fn finish<Fut: Drop, R: Wait + Drop>(
+    rt: &R,
+    homes: &Locked<Homes<Pollable<Fut, R>>>,
+    task: PoppedTask,
+)
+    requires { task.name ≡ homes.now.tag }
+{
+    let mut places = homes.lock(rt);
+    let before = places.core().finish(task);
+    places.unlock();
+    drop(before);
+}
+
+/// Gives a place up that was reserved for a task which wasn't put.
+pub(crate) fn free<Fut: Drop, R: Wait + Drop>(
+    rt: &R,
+    homes: &Locked<Homes<Pollable<Fut, R>>>,
+    home: usize,
+) {
+    let mut places = homes.lock(rt);
+    let before = places.core().free(home);
+    places.unlock();
+    drop(before);
+}
+
+/// The executor is gone: its futures are dropped.
+pub(crate) fn close<Fut: Drop, R: Wait + Drop>(rt: &R, homes: &Locked<Homes<Pollable<Fut, R>>>) {
+    let mut places = homes.lock(rt);
+    let left = places.core().close();
+    places.unlock();
+    drop(left);
+}

@@ -1,0 +1,238 @@
+//! An executor as a source of the loop.
+ghost use Rattle.std.specs.Prelude.{◌≡◌, ◌≤◌, ◌+◌, List, length};
+ghost use Rattle.calloop_wake.specs.Cells.{one};
+ghost use Rattle.calloop_wake.specs.Executors.{at_start, most_tasks};
+ghost use Rattle.calloop_sources.specs.sources.Calls.{Went};
+ghost use Rattle.calloop_ends.specs.futures.Executors.{OfPop, gave, lacks, ComesOf, AllGiven, call_of, calls_of, results_of, misses_of};
+
+use super::cell::{self, TaskCell};
+use super::errors::ExecutorError;
+use super::task::{Future, Pollable};
+use super::{Executor, homes};
+use crate::cell::source::{CellSource, register, reregister, take_turn, unregister};
+use calloop_poll::sys::events::EventIterator;
+use calloop_poll::sys::poll::Poll;
+use calloop_poll::sys::synthetic::Synthetic;
+use calloop_poll::sys::{Poller, Readiness};
+use calloop_slots::error::{Error, Result as LoopResult};
+use calloop_slots::token::{Token, TokenFactory};
+use calloop_sources::sources::{Asking, Callback, EventSource, IntoError, PostAction};
+use calloop_wake::executor::TaskTurn;
+use calloop_wake::homes::{Homes, PoppedTask, TakenFuture};
+use calloop_wake::locked::Locked;
+use calloop_wake::{TakenPass, Tally};
+use std::sync::Wait;
+
+impl IntoError for ExecutorError {
+    ghost use Rattle.std.specs.Prelude.{◌≡◌};
+    ghost use Rattle.calloop_slots.specs.declared.error.Error.TheVariants.{OutOfMemory};
+    ghost use Rattle.calloop_sources.specs.sources.Lawful.{memory_of_source};
+
+    ghost becomes = { λ _ e. e ≡ OutOfMemory };
+
+    ghost of_source = { λ _ e is. memory_of_source e is };
+
+    /// `OutOfMemory`.
+    fn into_error(self) -> Error {
+        Error::OutOfMemory
+    }
+}
+
+// Polls a task outside of every lock, and calls back where it gives its result: whether it did.
+fn poll_task<Fut, R, F, X, Q>(
+    rt: &R,
+    homes: &Locked<Homes<Pollable<Fut, R>>>,
+    tally: &mut Tally,
+    popped: PoppedTask,
+    callback: &mut F,
+    data: &mut X,
+    requests: &mut Q,
+) -> bool
+where
+    R: Wait + Drop,
+    Fut: Future<R>,
+    Q: Asking,
+    F: Callback<Fut::Output, (), (), X, Q>,
+    requires { (popped.name ≡ homes.now.tag) × (tally.old.name ≡ homes.now.tag) }
+    ensures { (polled : OfPop Fut.Output) × (result ≡ gave polled)
+        × ComesOf Fut.gives Fut.polls polled
+        × (tally.new ≡ record tally.old { misses = tally.old.misses + one (lacks polled) })
+        × Went F.may Q.reaches callback.old «data».old requests.old (call_of polled)
+        callback.new «data».new requests.new }
+{
+    let Some(taken) = homes::take(rt, homes, tally, popped) else {
+        return false;
+    };
+    let TakenFuture { future, task } = taken;
+    match future.poll() {
+        Ok(output) => {
+            homes::finish(rt, homes, task);
+            callback.call(output, &mut (), data, requests);
+            true
+        }
+        Err(future) => {
+            homes::put_back(rt, homes, TakenFuture { future, task });
+            false
+        }
+    }
+}
+
+// The pops of a turn up to one that finds no task, or 1,024, each with its poll.
+fn run_tasks<Fut, R, F, X, Q>(
+    rt: &R,
+    shared: &Locked<TaskCell>,
+    homes: &Locked<Homes<Pollable<Fut, R>>>,
+    tally: &mut Tally,
+    turn: TaskTurn,
+    callback: &mut F,
+    data: &mut X,
+    requests: &mut Q,
+)
+where
+    R: Wait + Drop,
+    Fut: Future<R>,
+    Q: Asking,
+    F: Callback<Fut::Output, (), (), X, Q>,
+    requires turn { turn ≡ record { name = shared.now.tag; progress = at_start } }
+    requires tally { tally.old.name ≡ shared.now.tag }
+    requires homes { homes.now.tag ≡ shared.now.tag }
+    ensures { (polled : List (OfPop Fut.Output)) × (length polled ≤ most_tasks)
+        × (tally.new ≡ record tally.old {
+          number = tally.old.number + results_of polled;
+          misses = tally.old.misses + misses_of polled;
+        })
+        × AllGiven (ComesOf Fut.gives Fut.polls) polled
+        × Went F.may Q.reaches callback.old «data».old requests.old (calls_of polled)
+        callback.new «data».new requests.new }
+{
+    let mut turn = turn;
+    let mut finished = false;
+    'pops: while turn.goes_on() {
+        finished = match cell::pop(rt, shared, tally, &mut turn, finished) {
+            Some(popped) => poll_task(rt, homes, tally, popped, callback, data, requests),
+            None => false,
+        };
+    }
+    cell::end_turn(rt, shared, tally, turn, finished);
+}
+
+impl<Fut: Future<R>, R: Wait + Drop> CellSource for Executor<Fut, R> {
+    ghost use Rattle.calloop_ends.specs.futures.Executors.{ComesOf, ExecutorOpens, executor_tally};
+
+    type Event = Fut::Output;
+
+    ghost tally_of = { executor_tally };
+
+    ghost opens = { ExecutorOpens (ComesOf Fut.gives Fut.polls) };
+
+    fn tally(&self) -> &Tally {
+        &self.tally
+    }
+
+    /// Polls the tasks of the turn's pops, and calls back with each result.
+    fn open_turn<F, X, Q>(
+        &mut self,
+        pass: TakenPass,
+        callback: &mut F,
+        data: &mut X,
+        requests: &mut Q,
+    ) -> Result<PostAction, TakenPass>
+    where
+        Q: Asking,
+        F: Callback<Fut::Output, (), (), X, Q>,
+    {
+        let (rt, shared, tally) = (&self.rt, &self.shared, &mut self.tally);
+        let turn = cell::open_turn(rt, shared, tally, pass)?;
+        run_tasks(
+            rt,
+            shared,
+            &self.homes,
+            tally,
+            turn,
+            callback,
+            data,
+            requests,
+        );
+        Ok(PostAction::Continue)
+    }
+}
+
+impl<Fut: Future<R>, P: Poller, C, R: Wait + Drop> EventSource<P, C, R> for Executor<Fut, R> {
+    ghost use Rattle.std.specs.Prelude.{◌≡◌};
+    ghost use Rattle.calloop_ends.specs.futures.Executors.{ComesOf, executor_meaning};
+    ghost use Rattle.calloop_ends.specs.futures.ExecutorKeeping.{executor_keeps};
+
+    type Event = Fut::Output;
+
+    type Metadata = ();
+
+    type Ret = ();
+
+    type Error = ExecutorError;
+
+    ghost means = { executor_meaning (ComesOf Fut.gives Fut.polls) };
+
+    /// Its turn: polls the queued tasks in their order, at most 1,024, each outside of every lock, and calls back with each result.
+    /// After 1,024 it is posted again. A task that is woken in its poll is queued once more, and one that gave its result isn't
+    /// polled any more. An event of another token, or without a posted key behind it, polls nothing.
+    fn process_events<F, X, Q>(
+        &mut self,
+        _readiness: Readiness,
+        token: Token,
+        poll: &mut Poll<P, C, R>,
+        callback: &mut F,
+        data: &mut X,
+        requests: &mut Q,
+    ) -> Result<PostAction, ExecutorError>
+    where
+        Q: Asking,
+        F: Callback<Fut::Output, (), (), X, Q>,
+    {
+        take_turn(self, token, poll, callback, data, requests)
+    }
+
+    /// Registers the executor under the factory's next token. One with queued tasks is posted at once.
+    ///
+    /// Where it is registered already the answer is `IoError` of kind `AlreadyExists`; a factory without tokens is
+    /// `TooManyTokens`, and running out of memory `OutOfMemory`. A refusal leaves the executor and the board as they were.
+    fn register(&mut self, poll: &mut Poll<P, C, R>, factory: &mut TokenFactory) -> LoopResult<()> {
+        register(&self.rt, &self.shared, &mut self.tally, poll, factory)
+    }
+
+    /// Moves the registration to the factory's next token; under the same key it does nothing. What is queued is posted
+    /// under the new key.
+    ///
+    /// Where the executor isn't registered the answer is `IoError` of kind `NotFound`; a factory without tokens is
+    /// `TooManyTokens`, an open place of the new key `IoError` of kind `AlreadyExists`, and running out of memory `OutOfMemory`.
+    /// A refusal leaves the executor and the board as they were.
+    fn reregister(
+        &mut self,
+        poll: &mut Poll<P, C, R>,
+        factory: &mut TokenFactory,
+    ) -> LoopResult<()> {
+        reregister(&self.rt, &self.shared, &mut self.tally, poll, factory)
+    }
+
+    /// Takes the registration back. What is queued is polled after the next registration. Where the executor isn't registered
+    /// the answer is `IoError` of kind `NotFound`, and nothing changes.
+    fn unregister(&mut self, poll: &mut Poll<P, C, R>) -> LoopResult<()> {
+        unregister(&self.rt, &self.shared, &mut self.tally, poll)
+    }
+
+    /// It isn't told of waits.
+    fn needs_extra_lifecycle_events() -> bool {
+        false
+    }
+
+    fn max_synthetic() -> u16 {
+        0
+    }
+
+    fn before_sleep(&mut self, _out: &mut Synthetic) -> LoopResult<()> {
+        Ok(())
+    }
+
+    fn before_handle_events(&mut self, _events: EventIterator<'_>) {}
+
+    ghost keeps = { executor_keeps (ComesOf Fut.gives Fut.polls) };
+}

@@ -1,0 +1,187 @@
+//! What a future is, what its poll is given, and what wakes it.
+ghost use Rattle.std.specs.Prelude.{⊤, IfOk, IfErr};
+ghost use Rattle.calloop_ends.specs.declared.futures.task.Poll.{Poll};
+ghost use Rattle.calloop_ends.specs.declared.futures.task.Poll.TheVariants.{Ready, Pending};
+ghost use Rattle.calloop_ends.specs.futures.Polled.{IfReady, OnPending};
+
+use super::cell;
+use crate::cell::SharedCell;
+use crate::ping::Ping;
+use calloop_poll::signal::LoopSignal;
+use calloop_poll::sys::hub::share;
+use calloop_wake::executor::ExecutorCore;
+use calloop_wake::tasks::TaskKey;
+use std::alloc::{AllocError, Global};
+use std::sync::atomic::{AtomicBool, Ordering};
+use std::sync::{Arc, Wait};
+
+/// What a poll gives.
+#[derive(Debug, Drop, PartialEq, Eq)]
+pub enum Poll<T> {
+    /// It is done, with this.
+    Ready(T),
+    /// It waits for a wake.
+    Pending,
+}
+
+/// Wakes what is polled with it, from any thread, as often as one likes: a task of an executor, a stream, or the future of `block_on`.
+/// It may outlive that, and then does nothing.
+#[derive(Drop)]
+pub struct Waker<R: Wait + Drop> {
+    wakes: Wakes<R>,
+}
+
+// What is woken.
+#[derive(Drop)]
+enum Wakes<R: Wait + Drop> {
+    Task {
+        rt: R,
+        shared: SharedCell<ExecutorCore>,
+        key: TaskKey,
+    },
+    Stream(Ping<R>),
+    Blocked(Arc<Blocked, Global>),
+}
+
+// A loop that runs until its future is done.
+#[derive(Drop)]
+pub struct Blocked {
+    woken: AtomicBool,
+    signal: LoopSignal,
+}
+
+impl Blocked {
+    // Of a future that nobody woke yet.
+    pub fn new(signal: LoopSignal) -> Blocked {
+        Blocked {
+            woken: AtomicBool::new(false),
+            signal,
+        }
+    }
+
+    // Whether the future was woken since this was asked last.
+    pub fn is_woken(&self) -> bool {
+        self.woken.swap(false, Ordering::SeqCst)
+    }
+
+    fn wake(&self) {
+        self.woken.store(true, Ordering::SeqCst);
+        self.signal.wakeup();
+    }
+}
+
+impl<R: Wait + Drop> Waker<R> {
+    pub(crate) fn of_task(rt: R, shared: SharedCell<ExecutorCore>, key: TaskKey) -> Waker<R> {
+        Waker {
+            wakes: Wakes::Task { rt, shared, key },
+        }
+    }
+
+    /// Of a stream whose source this rings.
+    pub(crate) fn of_ping(ping: Ping<R>) -> Waker<R> {
+        Waker {
+            wakes: Wakes::Stream(ping),
+        }
+    }
+
+    /// Of the future that a loop runs for.
+    pub fn of_blocked(blocked: Arc<Blocked, Global>) -> Waker<R> {
+        Waker {
+            wakes: Wakes::Blocked(blocked),
+        }
+    }
+
+    /// Has it polled once more. It takes no memory, and each lock is given up before the next is taken.
+    ///
+    /// A task that is queued already stays where it is. One that is woken in its poll is queued behind it.
+    pub fn wake(&self) {
+        match &self.wakes {
+            Wakes::Task { rt, shared, key } => cell::wake(rt, shared, *key),
+            Wakes::Stream(ping) => {
+                let _receipt = ping.ping();
+            }
+            Wakes::Blocked(blocked) => blocked.wake(),
+        }
+    }
+}
+
+impl<R: Wait + Clone + Drop> Clone for Wakes<R> {
+    fn clone(&self) -> Result<Wakes<R>, AllocError> {
+        match self {
+            Wakes::Task { rt, shared, key } => Ok(Wakes::Task {
+                rt: rt.clone()?,
+                shared: share(rt, shared),
+                key: *key,
+            }),
+            Wakes::Stream(ping) => Ok(Wakes::Stream(ping.clone()?)),
+            Wakes::Blocked(blocked) => Ok(Wakes::Blocked(Arc::try_clone(blocked)?)),
+        }
+    }
+}
+
+impl<R: Wait + Clone + Drop> Clone for Waker<R> {
+    fn clone(&self) -> Result<Waker<R>, AllocError> {
+        Ok(Waker {
+            wakes: self.wakes.clone()?,
+        })
+    }
+}
+
+/// What a poll is given.
+#[derive(Drop)]
+pub struct Context<'a, R: Wait + Drop> {
+    waker: &'a Waker<R>,
+}
+
+impl<'a, R: Wait + Drop> Context<'a, R> {
+    /// A poll that is followed by another one once this waker is woken.
+    pub fn from_waker(waker: &'a Waker<R>) -> Context<'a, R> {
+        Context { waker }
+    }
+
+    /// What wakes it. A clone of it keeps, and moves to other threads.
+    pub fn waker(&self) -> &Waker<R> {
+        self.waker
+    }
+}
+
+/// A value that comes later. It is polled on the loop's thread until it is ready, at first and then once for each wake, or for
+/// several that came meanwhile. It isn't polled after that.
+pub trait Future<R: Wait + Drop>: Drop {
+    type Output: Drop;
+
+    // The outputs that it may give.
+    ghost gives: { Self → Self.Output → Type 0 } = { λ _ _. ⊤ };
+
+    // What a poll may answer, and what it may make of the future. Of a future that isn't known no such thing can be shown but by a poll.
+    ghost polls: { Self → Poll Self.Output → Self → Type 0 } = { λ _ _ _. ⊤ };
+
+    /// Polls it. Where it is pending, it has kept the waker, by a clone, or has woken it.
+    fn poll(&mut self, cx: &mut Context<'_, R>) -> Poll<Self::Output>
+        ensures value { IfReady result (gives self.old) }
+        ensures same { OnPending result ((x : _) → gives self.new x → gives self.old x) }
+        ensures polled { polls self.old result self.new };
+}
+
+/// A future with its waker, as an executor keeps it.
+#[derive(Drop)]
+pub(crate) struct Pollable<Fut: Drop, R: Wait + Drop> {
+    pub(crate) future: Fut,
+    pub(crate) waker: Waker<R>,
+}
+
+impl<Fut: Future<R>, R: Wait + Drop> Pollable<Fut, R> {
+    /// One poll: what the future gives, or the future back.
+    pub(crate) fn poll(self) -> Result<Fut::Output, Pollable<Fut, R>>
+        ensures gives { IfOk result (Fut.gives self.future) }
+        ensures ready { IfOk result (λ output. (after : Fut)
+            × Fut.polls self.future (Ready output) after) }
+        ensures pending { IfErr result (λ back. Fut.polls self.future Pending back.future) }
+    {
+        let Pollable { mut future, waker } = self;
+        match future.poll(&mut Context::from_waker(&waker)) {
+            Poll::Ready(output) => Ok(output),
+            Poll::Pending => Err(Pollable { future, waker }),
+        }
+    }
+}

@@ -1,0 +1,73 @@
+//! The sections of the lock of a ping's cell that no other kind of cell has.
+ghost use Rattle.std.specs.Prelude.{◌≡◌, None, Some, IfOk, IfErr};
+ghost use Rattle.calloop_slots.specs.declared.error.Error.TheVariants.{OutOfMemory};
+ghost use Rattle.calloop_ends.specs.ping.Pings.{tally_opened};
+
+use crate::cell::{Cell, post};
+use calloop_slots::error::Result as LoopResult;
+use calloop_wake::locked::Locked;
+use calloop_wake::ping::{OpenedTurn, PingCore};
+use calloop_wake::{Receipt, ReceivingRight, TakenPass, Tally};
+use std::alloc::Global;
+use std::sync::Wait;
+
+/// What the ends of a ping share.
+pub type PingCell = Cell<PingCore>;
+
+/// A cell to which nothing has happened yet, under its lock, and the right to its receiving end.
+pub fn new_locked(alloc: Global) -> LoopResult<(Locked<PingCell>, ReceivingRight)>
+    ensures right { IfOk result (λ made. made.1.name ≡ made.0.tag) }
+    ensures err { IfErr result (λ e. e ≡ OutOfMemory) }
+{
+    let (core, name, right) = PingCore::new();
+    Ok((Cell::new_locked(alloc, core, &name)?, right))
+}
+
+/// Rings the cell.
+pub fn ring<R: Wait>(rt: &R, shared: &Locked<PingCell>) -> Receipt
+    ensures { result.name ≡ shared.now.tag }
+{
+    let mut held = shared.lock(rt);
+    let cell = held.core();
+    let (receipt, debt) = cell.core.ring();
+    let owed = cell.with_hub(rt, debt);
+    held.unlock();
+    post(rt, owed);
+    receipt
+}
+
+/// What a turn of the cell took.
+#[derive(Clone, Copy, Debug, PartialEq, Eq)]
+pub struct Due {
+    /// Somebody rang since the last turn.
+    pub rung: bool,
+    /// The last sender is gone, and no turn told it before.
+    pub told: bool,
+}
+
+/// A turn of the cell: opened with the pass, and ended. The pass comes back as refused where it opens none.
+pub fn take_turn<R: Wait>(
+    rt: &R,
+    shared: &Locked<PingCell>,
+    tally: &mut Tally,
+    pass: TakenPass,
+) -> Result<Due, TakenPass>
+    requires { tally.old.name ≡ shared.now.tag }
+    ensures name { tally.new.name ≡ tally.old.name }
+    ensures ok { IfOk result (λ due. tally.new ≡ tally_opened due.rung due.told tally.old) }
+    ensures err { IfErr result (λ refused. (refused ≡ record pass { refused = Some tally.old.name })
+        × (tally.new ≡ tally.old)) }
+{
+    let mut held = shared.lock(rt);
+    let cell = held.core();
+    let (taken, debt) = match cell.core.open_turn(pass, tally) {
+        Ok(OpenedTurn { turn, rung, told }) => {
+            (Ok(Due { rung, told }), cell.core.end_turn(turn))
+        }
+        Err(pass) => (Err(pass), None),
+    };
+    let owed = cell.with_hub(rt, debt);
+    held.unlock();
+    post(rt, owed);
+    taken
+}

@@ -1,0 +1,7 @@
+pub mod AdapterKeeping
+pub mod AdapterNotes
+pub mod AdapterStates
+pub mod Adapters
+pub mod AsyncPolls
+pub mod Refusals
+pub mod TakingUp

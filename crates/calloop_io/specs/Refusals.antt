@@ -1,0 +1,33 @@
+-- The refusal of a registration that an adapter keeps for its next poll. In calloop `readable` and `writable` drop it,
+-- and `poll_read` and the like answer it at once.
+use Rattle.std.specs.Prelude.{◌≡◌, Bool, true, false, Result, IfErr}
+use Rattle.calloop_slots.specs.declared.error.Error.{Error}
+use Rattle.calloop_slots.specs.declared.error.Error.TheVariants.{
+  InvalidToken,
+  IoError,
+  OtherError,
+  OutOfMemory,
+  TooManySources,
+  TooManyTokens,
+  TooManyTimers,
+  TooManyTickets,
+  OwnTurn,
+  NoRendezvous,
+}
+
+-- what the registration of a socket can be refused with: a fault of the poller, or a refusal of the table, or running out of memory
+abbrev pub of_registration : Error → Bool
+of_registration (IoError cause) = true
+of_registration OutOfMemory = true
+of_registration InvalidToken = false
+of_registration (OtherError cause) = false
+of_registration TooManySources = false
+of_registration TooManyTokens = false
+of_registration TooManyTimers = false
+of_registration TooManyTickets = false
+of_registration OwnTurn = false
+of_registration NoRendezvous = false
+
+-- what a wait for a socket is answered: it is ready, or its registration was refused so
+abbrev pub IsAnswer : Result (Unit {0}) Error → Type 0
+IsAnswer answer = IfErr answer (λ e. of_registration e ≡ true)

@@ -1,0 +1,75 @@
+//! What was done to an adapter by each of its ends, as contracts alone see it. It has no bytes.
+use calloop_poll::sys::{Interest, Readiness};
+use calloop_slots::error::{Error, Result as LoopResult};
+use calloop_wake::ghosts::LentNote;
+use std::io;
+
+/// What the loop is to do with an adapter.
+#[derive(Clone, Copy, Debug, PartialEq, Eq)]
+pub enum Settled {
+    Stays,
+    Registers(Interest),
+    Leaves,
+}
+
+/// What an `Async` did.
+#[derive(Drop)]
+pub enum PollNote {
+    /// A wait was answered so: by a refusal that was kept, or by what an event found.
+    Answered(LoopResult<()>),
+    /// Where a refusal was kept, it was taken.
+    Refused(Option<Error>),
+    /// It waits for this, and the adapter is marked.
+    Waits(Interest),
+    /// Its socket was read or written, with this answer.
+    Tried(io::Result<usize>),
+    /// Its socket was flushed, with this answer.
+    Flushed(io::Result<()>),
+}
+
+/// What the end in a slot did.
+#[derive(Drop)]
+pub enum SlotNote {
+    /// An event was kept, and who waits was woken.
+    Heard(Readiness),
+    /// What the loop is to do with the adapter, which was marked.
+    Settled(Settled),
+    /// A registration was refused so, and who waits was woken.
+    Kept(Error),
+    /// Whether it is being given back.
+    Asked(bool),
+    /// Whether its socket was there, to be registered.
+    Reached(bool),
+}
+
+/// A note of an `Async`, lent.
+#[derive(Clone, Copy)]
+pub(super) enum LentPollNote<'a> {
+    Answered(&'a LoopResult<()>),
+    Refused(&'a Option<Error>),
+    Waits(Interest),
+    Tried(&'a io::Result<usize>),
+    Flushed(&'a io::Result<()>),
+}
+
+impl LentNote<PollNote> for LentPollNote<'_> {
+    ghost use Rattle.calloop_io.specs.AdapterNotes.{poll_note_of};
+
+    ghost note = { poll_note_of };
+}
+
+/// A note of the end in a slot, lent.
+#[derive(Clone, Copy)]
+pub(super) enum LentSlotNote<'a> {
+    Heard(Readiness),
+    Settled(Settled),
+    Kept(&'a Error),
+    Asked(bool),
+    Reached(bool),
+}
+
+impl LentNote<SlotNote> for LentSlotNote<'_> {
+    ghost use Rattle.calloop_io.specs.AdapterNotes.{slot_note_of};
+
+    ghost note = { slot_note_of };
+}

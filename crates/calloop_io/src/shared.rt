@@ -1,0 +1,527 @@
+//! What the two ends of an adapter share: its state and its socket, each under a lock of its own, of which none is taken within
+//! the other. Each end has its own tally with it, which notes what it did.
+ghost use Rattle.std.specs.Prelude.{◌≡◌, [], ℕ, ℤ, true, is_some, IfOk, IfErr, IfSome, IfNone, OnErr};
+ghost use Rattle.std.specs.Io.{ReadsAtMost, WritesAtMost};
+ghost use Rattle.std.specs.Arc.{arc_value};
+ghost use Rattle.calloop_slots.specs.declared.error.Error.TheVariants.{OutOfMemory};
+ghost use Rattle.calloop_poll.specs.sys.Polls.{poll_view, IsReady};
+ghost use Rattle.calloop_poll.specs.sys.SocketCalls.{DidEdit};
+ghost use Rattle.calloop_io.specs.TakingUp.{taking_up};
+ghost use Rattle.calloop_io.specs.AdapterNotes.{with_poll_note, with_slot_note};
+ghost use Rattle.calloop_io.specs.declared.notes.PollNote.TheVariants.{Answered, Refused, Waits, Tried, Flushed};
+ghost use Rattle.calloop_io.specs.declared.notes.SlotNote.TheVariants.{Heard, Settled as SettledSo, Kept, Asked, Reached};
+ghost use Rattle.calloop_io.specs.Refusals.{IsAnswer, of_registration};
+
+use super::notes::Settled;
+use super::refusal::Refusal;
+use super::state::{Home, MarkDebt, PollTally, SlotTally, State, Waiting};
+use calloop_ends::futures::Waker;
+use calloop_poll::sys::hub::{SharedHub, share};
+use calloop_poll::sys::poll::Poll;
+use calloop_poll::sys::{Interest, Mode, Poller, Readiness};
+use calloop_slots::error::{Error, Result as LoopResult};
+use calloop_slots::token::{RegistrationToken, Token};
+use calloop_wake::locked::Locked;
+use std::alloc::{AllocError, Global};
+use std::io;
+use std::io::{Read, Write};
+use std::marker::Model;
+use std::os::fd::AsRawFd;
+use std::sync::{Arc, Mutex, MutexGuard, Wait};
+
+#[derive(Drop)]
+pub(crate) struct Shared<F: AsRawFd + Drop, R: Wait + Drop> {
+    state: Locked<State<R>>,
+    io: Mutex<Option<F>>,
+}
+
+/// What an `Async` has of its adapter. In a clause it is the tally.
+pub(crate) struct PollEnd<F: AsRawFd + Drop, R: Wait + Drop> {
+    rt: R,
+    shared: Arc<Shared<F, R>, Global>,
+    tally: PollTally,
+}
+
+impl<F: AsRawFd + Drop, R: Wait + Drop> Model for PollEnd<F, R> {
+    ghost use Rattle.std.specs.Prelude.{◌≡◌};
+    ghost use Rattle.std.specs.Arc.{arc_value};
+    ghost use Rattle.calloop_io.specs.declared.state.PollTally.{PollTally};
+
+    ghost Value = { PollTally };
+
+    ghost view = { λ e. e.tally };
+
+    ghost invariant = { λ e. e.tally.name ≡ (arc_value e.shared).state.tag };
+}
+
+/// What the end in a slot has of its adapter. In a clause it is the tally.
+#[derive(Drop)]
+pub(crate) struct SlotEnd<F: AsRawFd + Drop, R: Wait + Drop> {
+    rt: R,
+    shared: Arc<Shared<F, R>, Global>,
+    tally: SlotTally,
+}
+
+impl<F: AsRawFd + Drop, R: Wait + Drop> Model for SlotEnd<F, R> {
+    ghost use Rattle.std.specs.Prelude.{◌≡◌};
+    ghost use Rattle.std.specs.Arc.{arc_value};
+    ghost use Rattle.calloop_io.specs.declared.state.SlotTally.{SlotTally};
+
+    ghost Value = { SlotTally };
+
+    ghost view = { λ e. e.tally };
+
+    ghost invariant = { λ e. e.tally.name ≡ (arc_value e.shared).state.tag };
+}
+
+/// Both ends of an adapter that is in no loop yet, without its socket. Running out of memory is `OutOfMemory`.
+pub(crate) fn make_ends<F: AsRawFd + Drop, R: Wait + Clone + Drop>(
+    rt: &R,
+    alloc: Global,
+) -> LoopResult<(SlotEnd<F, R>, PollEnd<F, R>)>
+    ensures same { IfOk result (λ made. made.0.name ≡ made.1.name) }
+    ensures slot { IfOk result (λ made. made.0.notes ≡ []) }
+    ensures poll { IfOk result (λ made. made.1.notes ≡ []) }
+    ensures err { IfErr result (λ e. e ≡ OutOfMemory) }
+{
+    let of_slot = rt.clone()?;
+    let of_poll = rt.clone()?;
+    let (state, name, poll, slot) = State::new();
+    let state = Locked::new(alloc, state, &name)?;
+    let io = Mutex::new(None);
+    let shared = Arc::new(alloc, Shared { state, io })?;
+    let again = share(rt, &shared);
+    let slot = SlotEnd {
+        rt: of_slot,
+        shared: again,
+        tally: slot.into_tally(),
+    };
+    let poll = PollEnd {
+        rt: of_poll,
+        shared,
+        tally: poll.into_tally(),
+    };
+    Ok((slot, poll))
+}
+
+// Puts an adapter among the marks of its loop. Without memory it isn't there.
+fn put_mark<R: Wait + Drop>(
+    rt: &R,
+    state: &Locked<State<R>>,
+    debt: Option<MarkDebt>,
+) -> Result<(), AllocError> {
+    let Some(debt) = debt else {
+        return Ok(());
+    };
+    match debt.mark(rt) {
+        Ok(()) => Ok(()),
+        Err(failed) => {
+            let mut held = state.lock(rt);
+            let refused = held.core().unmark(failed);
+            held.unlock();
+            Err(refused)
+        }
+    }
+}
+
+// The sections of an adapter's lock that its `Async` has.
+
+fn take_refusal<R: Wait + Drop>(
+    rt: &R,
+    state: &Locked<State<R>>,
+    tally: &mut PollTally,
+) -> Option<Error>
+    requires { tally.old.name ≡ state.now.tag }
+    ensures refused { IfSome result (λ e. of_registration e ≡ true) }
+    ensures tally { tally.new ≡ with_poll_note (Refused result) tally.old }
+{
+    let mut held = state.lock(rt);
+    let error = held.core().take_refusal(tally);
+    held.unlock();
+    error
+}
+
+fn answer<R: Wait + Drop>(
+    rt: &R,
+    state: &Locked<State<R>>,
+    tally: &mut PollTally,
+    wanted: Interest,
+) -> Option<LoopResult<()>>
+    requires { tally.old.name ≡ state.now.tag }
+    ensures refused { IfSome result IsAnswer }
+    ensures some { IfSome result (λ a. tally.new ≡ with_poll_note (Answered a) tally.old) }
+    ensures none { IfNone result (tally.new ≡ tally.old) }
+{
+    let mut held = state.lock(rt);
+    let answer = held.core().answer(tally, wanted);
+    held.unlock();
+    answer
+}
+
+fn wait<R: Wait + Drop>(
+    rt: &R,
+    state: &Locked<State<R>>,
+    tally: &mut PollTally,
+    wanted: Interest,
+    waker: Waker<R>,
+) -> Result<(), AllocError>
+    requires { tally.old.name ≡ state.now.tag }
+    ensures { tally.new ≡ with_poll_note (Waits wanted) tally.old }
+{
+    let mut held = state.lock(rt);
+    let Waiting { older, debt } = held.core().wait(rt, tally, wanted, waker);
+    held.unlock();
+    drop(older);
+    put_mark(rt, state, debt)
+}
+
+fn answer_or_wait<R: Wait + Drop>(
+    rt: &R,
+    state: &Locked<State<R>>,
+    tally: &mut PollTally,
+    wanted: Interest,
+    waker: Waker<R>,
+) -> Result<Option<LoopResult<()>>, AllocError>
+    requires { tally.old.name ≡ state.now.tag }
+    ensures refused { IfOk result (λ answer. IfSome answer IsAnswer) }
+    ensures some { IfOk result (λ answer. IfSome answer
+        (λ a. tally.new ≡ with_poll_note (Answered a) tally.old)) }
+    ensures none { IfOk result (λ answer. IfNone answer
+        (tally.new ≡ with_poll_note (Waits wanted) tally.old)) }
+    ensures err { OnErr result (tally.new ≡ with_poll_note (Waits wanted) tally.old) }
+{
+    let mut held = state.lock(rt);
+    let answer = held.core().answer(tally, wanted);
+    if let Some(answer) = answer {
+        held.unlock();
+        return Ok(Some(answer));
+    }
+    let Waiting { older, debt } = held.core().wait(rt, tally, wanted, waker);
+    held.unlock();
+    drop(older);
+    put_mark(rt, state, debt)?;
+    Ok(None)
+}
+
+// Which registration it has, where it is in a loop, from where it may be taken out from now on, or not.
+fn set_leaving<R: Wait + Drop>(
+    rt: &R,
+    state: &Locked<State<R>>,
+    tally: &PollTally,
+    leaving: bool,
+) -> Option<RegistrationToken>
+    requires { tally.now.name ≡ state.now.tag }
+{
+    let mut held = state.lock(rt);
+    let state = held.core();
+    let token = state.registration();
+    state.set_leaving(tally, leaving && token.is_some());
+    held.unlock();
+    token
+}
+
+fn let_go<R: Wait + Drop>(rt: &R, state: &Locked<State<R>>, tally: PollTally)
+    requires { tally.name ≡ state.now.tag }
+{
+    let mut held = state.lock(rt);
+    let debt = held.core().let_go(rt, tally);
+    held.unlock();
+    // Where there is no memory for the mark, the adapter leaves with its loop.
+    let _failed = put_mark(rt, state, debt);
+}
+
+// The sections of its socket's lock that it has.
+
+fn try_read<Io: Read + Drop, R: Wait>(
+    rt: &R,
+    io: &Mutex<Option<Io>>,
+    tally: &mut PollTally,
+    buf: &mut [u8],
+) -> io::Result<usize>
+    ensures bound { ReadsAtMost result buf.new }
+    ensures tally { tally.new ≡ with_poll_note (Tried result) tally.old }
+{
+    let mut held = io.lock(rt);
+    tally.try_read(&mut *held, buf)
+}
+
+fn try_write<Io: Write + Drop, R: Wait>(
+    rt: &R,
+    io: &Mutex<Option<Io>>,
+    tally: &mut PollTally,
+    buf: &[u8],
+) -> io::Result<usize>
+    ensures bound { WritesAtMost result buf.now }
+    ensures tally { tally.new ≡ with_poll_note (Tried result) tally.old }
+{
+    let mut held = io.lock(rt);
+    tally.try_write(&mut *held, buf)
+}
+
+fn try_flush<Io: Write + Drop, R: Wait>(
+    rt: &R,
+    io: &Mutex<Option<Io>>,
+    tally: &mut PollTally,
+) -> io::Result<()>
+    ensures tally { tally.new ≡ with_poll_note (Flushed result) tally.old }
+{
+    let mut held = io.lock(rt);
+    tally.try_flush(&mut *held)
+}
+
+impl<F: AsRawFd + Drop, R: Wait + Drop> PollEnd<F, R> {
+    /// The socket, where it is there, under its lock.
+    pub(crate) fn io(&self) -> MutexGuard<'_, Option<F>> {
+        self.shared.io.lock(&self.rt)
+    }
+
+    /// A refusal that is kept, once.
+    pub(crate) fn take_refusal(&mut self) -> Option<Error>
+        ensures refused { IfSome result (λ e. of_registration e ≡ true) }
+        ensures tally { self.new ≡ with_poll_note (Refused result) self.old }
+    {
+        take_refusal(&self.rt, &self.shared.state, &mut self.tally)
+    }
+
+    /// What a poll is answered; else it waits, and the loop is woken.
+    pub(crate) fn answer_or_wait(
+        &mut self,
+        wanted: Interest,
+        waker: Waker<R>,
+    ) -> Result<Option<LoopResult<()>>, AllocError>
+        ensures refused { IfOk result (λ answer. IfSome answer IsAnswer) }
+        ensures some { IfOk result (λ answer. IfSome answer
+            (λ a. self.new ≡ with_poll_note (Answered a) self.old)) }
+        ensures none { IfOk result (λ answer. IfNone answer
+            (self.new ≡ with_poll_note (Waits wanted) self.old)) }
+        ensures err { OnErr result (self.new ≡ with_poll_note (Waits wanted) self.old) }
+    {
+        answer_or_wait(&self.rt, &self.shared.state, &mut self.tally, wanted, waker)
+    }
+
+    /// A poll waits, and the loop is woken.
+    pub(crate) fn wait(&mut self, wanted: Interest, waker: Waker<R>) -> Result<(), AllocError>
+        ensures { self.new ≡ with_poll_note (Waits wanted) self.old }
+    {
+        wait(&self.rt, &self.shared.state, &mut self.tally, wanted, waker)
+    }
+
+    /// Reads the socket.
+    pub(crate) fn try_read(&mut self, buf: &mut [u8]) -> io::Result<usize>
+    where
+        F: Read,
+        ensures bound { ReadsAtMost result buf.new }
+        ensures tally { self.new ≡ with_poll_note (Tried result) self.old }
+    {
+        try_read(&self.rt, &self.shared.io, &mut self.tally, buf)
+    }
+
+    /// Writes to the socket.
+    pub(crate) fn try_write(&mut self, buf: &[u8]) -> io::Result<usize>
+    where
+        F: Write,
+        ensures bound { WritesAtMost result buf.now }
+        ensures tally { self.new ≡ with_poll_note (Tried result) self.old }
+    {
+        try_write(&self.rt, &self.shared.io, &mut self.tally, buf)
+    }
+
+    /// Flushes the socket.
+    pub(crate) fn try_flush(&mut self) -> io::Result<()>
+    where
+        F: Write,
+        ensures tally { self.new ≡ with_poll_note (Flushed result) self.old }
+    {
+        try_flush(&self.rt, &self.shared.io, &mut self.tally)
+    }
+
+    /// Its registration, where it is in a loop, from where it may be taken out now.
+    pub(crate) fn begin_leaving(&self) -> Option<RegistrationToken> {
+        set_leaving(&self.rt, &self.shared.state, &self.tally, true)
+    }
+
+    /// It stays in its loop, if it is in one.
+    pub(crate) fn stay(&self) {
+        let _token = set_leaving(&self.rt, &self.shared.state, &self.tally, false);
+    }
+
+    /// The `Async` is gone.
+    pub(crate) fn let_go(self) {
+        let PollEnd { rt, shared, tally } = self;
+        let_go(&rt, &shared.state, tally);
+    }
+}
+
+// The sections that the end in a slot has.
+
+fn come_into<R: Wait + Drop>(rt: &R, state: &Locked<State<R>>, tally: &SlotTally, home: Home)
+    requires { tally.now.name ≡ state.now.tag }
+{
+    let mut held = state.lock(rt);
+    let debt = held.core().come_into(rt, tally, home);
+    held.unlock();
+    let _failed = put_mark(rt, state, debt);
+}
+
+fn leave<R: Wait + Drop>(rt: &R, state: &Locked<State<R>>, tally: &SlotTally)
+    requires { tally.now.name ≡ state.now.tag }
+{
+    let mut held = state.lock(rt);
+    held.core().leave(tally);
+    held.unlock();
+}
+
+fn is_leaving<R: Wait + Drop>(rt: &R, state: &Locked<State<R>>, tally: &mut SlotTally) -> bool
+    requires { tally.old.name ≡ state.now.tag }
+    ensures { tally.new ≡ with_slot_note (Asked result) tally.old }
+{
+    let mut held = state.lock(rt);
+    let leaving = held.core().is_leaving(tally);
+    held.unlock();
+    leaving
+}
+
+fn settle<R: Wait + Drop>(rt: &R, state: &Locked<State<R>>, tally: &mut SlotTally) -> Settled
+    requires { tally.old.name ≡ state.now.tag }
+    ensures { tally.new ≡ with_slot_note (SettledSo result) tally.old }
+{
+    let mut held = state.lock(rt);
+    let settled = held.core().settle(tally);
+    held.unlock();
+    settled
+}
+
+fn refuse<R: Wait + Drop>(rt: &R, state: &Locked<State<R>>, tally: &mut SlotTally, refusal: Refusal)
+    requires { tally.old.name ≡ state.now.tag }
+    ensures { tally.new ≡ with_slot_note (Kept refusal.error) tally.old }
+{
+    let mut held = state.lock(rt);
+    let waking = held.core().refuse(tally, refusal);
+    held.unlock();
+    waking.wake();
+}
+
+fn hear<R: Wait + Drop>(rt: &R, state: &Locked<State<R>>, tally: &mut SlotTally, found: Readiness)
+    requires { tally.old.name ≡ state.now.tag }
+    ensures { tally.new ≡ with_slot_note (Heard found) tally.old }
+{
+    let mut held = state.lock(rt);
+    let waking = held.core().hear(tally, found);
+    held.unlock();
+    waking.wake();
+}
+
+// Registers the socket for this, where it is there, first or anew.
+fn register<F: AsRawFd + Drop, P: Poller, C, R: Wait + Drop>(
+    rt: &R,
+    io: &Mutex<Option<F>>,
+    tally: &mut SlotTally,
+    entered: bool,
+    token: Token,
+    interest: Interest,
+    poll: &mut Poll<P, C, R>,
+) -> Option<LoopResult<()>>
+    ensures tally { tally.new ≡ with_slot_note (Reached (is_some result)) tally.old }
+    ensures none { IfNone result (poll_view poll.new ≡ poll_view poll.old) }
+    ensures some { IfSome result (λ told. (fd : ℤ)
+        × DidEdit P.outside P.sockets (taking_up token entered interest)
+        (poll_view poll.old) fd told (poll_view poll.new)) }
+    ensures refused { IfSome result (λ told. IfErr told (λ e. of_registration e ≡ true)) }
+    ensures ready { (more : ℕ) → IsReady more poll.old → IsReady more poll.new }
+{
+    let mut held = io.lock(rt);
+    tally.reach(&*held);
+    match &*held {
+        Some(io) if entered => {
+            Some(poll.reregister(io.as_raw_fd(), token, interest, Mode::OneShot, token))
+        }
+        Some(io) => Some(poll.register(io.as_raw_fd(), interest, Mode::OneShot, token)),
+        None => None,
+    }
+}
+
+impl<F: AsRawFd + Drop, R: Wait + Drop> SlotEnd<F, R> {
+    /// Registers the socket for this, where it is there, first or anew.
+    pub(crate) fn register<P: Poller, C>(
+        &mut self,
+        entered: bool,
+        token: Token,
+        interest: Interest,
+        poll: &mut Poll<P, C, R>,
+    ) -> Option<LoopResult<()>>
+        ensures tally { self.new ≡ with_slot_note (Reached (is_some result)) self.old }
+        ensures none { IfNone result (poll_view poll.new ≡ poll_view poll.old) }
+        ensures some { IfSome result (λ told. (fd : ℤ)
+            × DidEdit P.outside P.sockets (taking_up token entered interest)
+            (poll_view poll.old) fd told (poll_view poll.new)) }
+        ensures refused { IfSome result (λ told. IfErr told (λ e. of_registration e ≡ true)) }
+        ensures ready { (more : ℕ) → IsReady more poll.old → IsReady more poll.new }
+    {
+        register(
+            &self.rt,
+            &self.shared.io,
+            &mut self.tally,
+            entered,
+            token,
+            interest,
+            poll,
+        )
+    }
+
+    /// The socket, where it is there, under its lock.
+    pub(crate) fn io(&self) -> MutexGuard<'_, Option<F>> {
+        self.shared.io.lock(&self.rt)
+    }
+
+    /// Makes room for its mark in this loop. Running out of memory changes nothing.
+    pub(crate) fn open_mark(&self, hub: &SharedHub) -> Result<(), AllocError> {
+        hub.open_mark(&self.rt)
+    }
+
+    /// It needs no room for its mark any more.
+    pub(crate) fn close_mark(&self, hub: &SharedHub) {
+        hub.close_mark(&self.rt);
+    }
+
+    /// It comes into a loop, where what was asked of it until then is taken up.
+    pub(crate) fn come_into(&self, hub: &SharedHub, token: RegistrationToken) {
+        let home = Home {
+            hub: share(&self.rt, hub),
+            token,
+        };
+        come_into(&self.rt, &self.shared.state, &self.tally, home);
+    }
+
+    /// It leaves its loop.
+    pub(crate) fn leave(&self) {
+        leave(&self.rt, &self.shared.state, &self.tally);
+    }
+
+    /// Whether it is being given back.
+    pub(crate) fn is_leaving(&mut self) -> bool
+        ensures { self.new ≡ with_slot_note (Asked result) self.old }
+    {
+        is_leaving(&self.rt, &self.shared.state, &mut self.tally)
+    }
+
+    /// What the loop is to do with it.
+    pub(crate) fn settle(&mut self) -> Settled
+        ensures { self.new ≡ with_slot_note (SettledSo result) self.old }
+    {
+        settle(&self.rt, &self.shared.state, &mut self.tally)
+    }
+
+    /// Keeps a refusal, and wakes who waits.
+    pub(crate) fn refuse(&mut self, refusal: Refusal)
+        ensures { self.new ≡ with_slot_note (Kept refusal.error) self.old }
+    {
+        refuse(&self.rt, &self.shared.state, &mut self.tally, refusal);
+    }
+
+    /// Keeps what was found, and wakes who waits.
+    pub(crate) fn hear(&mut self, found: Readiness)
+        ensures { self.new ≡ with_slot_note (Heard found) self.old }
+    {
+        hear(&self.rt, &self.shared.state, &mut self.tally, found);
+    }
+}

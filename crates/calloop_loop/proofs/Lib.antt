@@ -1,0 +1,16 @@
+pub mod Seen
+pub mod Going
+pub mod Roles
+pub mod SettledMarks
+pub mod Inserting
+pub mod Held
+pub mod Rounds
+pub mod Running
+pub mod Finding
+pub mod RegisteredEntries
+pub mod ServedAsks
+pub mod Standing
+pub mod RestOfLists
+pub mod Failing
+pub mod BlockedRounds
+pub mod Limits

@@ -1,0 +1,7 @@
+use Rattle.calloop_loop.specs.Machine.{view_of}
+use Rattle.calloop_loop.specs.Rules.{Once, DisabledBy}
+use Rattle.calloop_loop.proofs.Seen.{did_leads}
+use Rattle.calloop_loop.proofs.LoopHandle.disable.Goals as goal
+
+pub returns-clause-machine : goal.returns-clause-machine
+returns-clause-machine g c = did_leads (Once g.P.Poller.outside (DisabledBy g.D.Dispatch.means c.args.token.now c.change_registration.result)) (view_of c.args.self.now.inner.now) (view_of c.change_registration.new.self) c.change_registration.ensures.case

@@ -1,0 +1,643 @@
+//! What callbacks ask of the loop, and what came of it. A callback of calloop holds a handle of its loop instead, whose calls act
+//! at once, but for those on its own source.
+ghost use Rattle.std.specs.Prelude.{◌≡◌, true, ◌⊎◌, ◌+◌, ◌-◌, ◌^◌, ◌<◌, ◌≤◌, ◌++◌, [], None, Some, filter, IfOk, IfErr, IfSome, IfNone, OnOk, vec_len, vec_capacity};
+ghost use Rattle.std.specs.VecDeque.{deque_len, deque_capacity};
+ghost use Rattle.calloop_slots.specs.declared.error.Error.TheVariants.{OutOfMemory, TooManyTickets};
+ghost use Rattle.calloop_loop.specs.declared.asks.Request.TheVariants.{Insert, Enable, Update, Disable, Remove, Idle as IdleOf, Cancel};
+ghost use Rattle.calloop_loop.specs.declared.asks.Answer.TheVariants.{Removed};
+ghost use Rattle.calloop_loop.specs.Askings.{IsAsked, CannotAsk, OnlyAsks, StandsAt, Take, ask_after, after_begin, without_old, answer_under, idle_begun, is_other_idle, is_since, no_asks, of_turn, with_answer_owed, with_owed_answer, request_of, running_of, taken_up, with_answer, with_idle, with_new_idle, without, without_idle};
+
+use calloop_slots::error::{Error, InsertError, Result};
+use calloop_slots::token::RegistrationToken;
+use calloop_sources::sources::{Asking, Choice, Dispatcher};
+use std::alloc::Global;
+use std::collections::VecDeque;
+use std::marker::Model;
+use std::mem;
+
+/// What names a request, and its answer.
+#[derive(Clone, Copy, Debug, PartialEq, Eq)]
+pub struct Ticket {
+    number: u64,
+}
+
+impl Ticket {
+    pub(super) fn number(self) -> u64
+        ensures { result ≡ self.number }
+    {
+        self.number
+    }
+}
+
+/// What a loop was asked to do once, when nothing else is left to do. To drop this cancels nothing.
+#[derive(Debug, Drop)]
+pub struct Idle {
+    ticket: Ticket,
+}
+
+impl Idle {
+    /// The ticket of its request.
+    pub fn ticket(&self) -> Ticket
+        ensures { result ≡ self.now.ticket }
+    {
+        self.ticket
+    }
+}
+
+/// What came of a request.
+#[derive(Drop)]
+pub enum Answer<D> {
+    /// It was carried out.
+    Done,
+    /// The source was registered under this token.
+    Inserted(RegistrationToken),
+    /// It was not, and is handed back.
+    NotInserted(InsertError<D>),
+    /// The source that left the loop, unregistered, with its callback. None where the token named none.
+    Removed(Option<D>),
+    /// Nothing was done, or a source refused what it was asked for.
+    Refused(Error),
+}
+
+#[derive(Drop)]
+pub(super) enum Request<D, I> {
+    Insert(D),
+    Enable(RegistrationToken),
+    Update(RegistrationToken),
+    Disable(RegistrationToken),
+    Remove(RegistrationToken),
+    Idle(I),
+    Cancel(u64),
+}
+
+// A request under its ticket.
+#[derive(Drop)]
+pub(super) struct Asked<D, I> {
+    ticket: u64,
+    request: Request<D, I>,
+}
+
+// An answer under the ticket of its request.
+#[derive(Drop)]
+pub(super) struct Answered<D> {
+    ticket: u64,
+    answer: Answer<D>,
+}
+
+// An idle under the ticket of its request.
+#[derive(Drop)]
+pub(super) struct Idling<I> {
+    ticket: u64,
+    idle: I,
+}
+
+/// What the callbacks of a loop over `D` ask for, and the answers that were not handed out. What is asked for in a turn is
+/// carried out in order when the turn ends. `I` is what the loop can be asked to do once.
+///
+/// Each call takes the room for its answer first, so that nothing fails for lack of memory later. It is refused with
+/// `OutOfMemory` where there is none, and with `TooManyTickets` where 2^64 - 1 tickets were given; then nothing is asked for.
+#[derive(Drop)]
+pub struct Requests<D, I = ()> {
+    written: VecDeque<Asked<D, I>>,
+    next: u64,
+    answers: Vec<Answered<D>>,
+    idles: VecDeque<Idling<I>>,
+    // The idles of this dispatch that have not run yet.
+    running: VecDeque<Idling<I>>,
+    serving: Option<u64>,
+    owed: Option<u64>,
+    // The next ticket when idles were last taken up.
+    taken_up_at: u64,
+    // The source in whose turn this is lent.
+    turn: Option<RegistrationToken>,
+}
+
+impl<D, I> Model for Requests<D, I> {
+    ghost use Rattle.std.specs.Prelude.{◌+◌, ◌≤◌, vec_len, vec_capacity};
+    ghost use Rattle.std.specs.VecDeque.{deque_len, deque_capacity};
+    ghost use Rattle.calloop_loop.specs.Askings.{Asks, debt};
+
+    ghost Value = { Asks D I };
+
+    ghost view = { λ r.
+        record {
+          written = r.written.items;
+          next = r.next;
+          answers = r.answers.items;
+          idles = r.idles.items;
+          running = r.running.items;
+          serving = r.serving;
+          owed = r.owed;
+          taken_up_at = r.taken_up_at;
+          turn = r.turn;
+        } };
+
+    ghost invariant = { λ r.
+        (vec_len r.answers + (deque_len r.written + (debt r.serving + debt r.owed)) ≤ vec_capacity r.answers)
+        × (deque_len r.idles + (deque_len r.written + debt r.serving) ≤ deque_capacity r.idles)
+        × (deque_len r.running + (deque_len r.idles + (deque_len r.written + debt r.serving)) ≤ deque_capacity r.running) };
+}
+
+impl<D, I> Asking for Requests<D, I> {
+    ghost use Rattle.calloop_loop.specs.Askings.{Reaches, asks_nothing, asks_on};
+
+    ghost reaches = { Reaches };
+
+    ghost stays = { asks_nothing };
+
+    ghost goes_on = { asks_on };
+}
+
+impl<D, I> Requests<D, I> {
+    /// Requests of no loop, with nothing asked for, whose first ticket has this number: to try a callback by itself, or what it does
+    /// when tickets run out. Those of a loop begin at 0.
+    pub fn numbered_from(first: u64, alloc: Global) -> Requests<D, I>
+        ensures { result ≡ record no_asks { next = first } }
+    {
+        Requests {
+            written: VecDeque::new(alloc),
+            next: first,
+            answers: Vec::new(alloc),
+            idles: VecDeque::new(alloc),
+            running: VecDeque::new(alloc),
+            serving: None,
+            owed: None,
+            taken_up_at: 0,
+            turn: None,
+        }
+    }
+
+    /// Asks for a source to be registered in the first vacant slot, with a callback for its events. Its answer is `Inserted` or
+    /// `NotInserted`. A refusal of this call hands the source back, and its callback is dropped.
+    pub fn insert_source<S, F, N>(
+        &mut self,
+        source: S,
+        callback: F,
+    ) -> std::result::Result<Ticket, InsertError<S>>
+    where
+        D: Choice<S, F, N> + Drop,
+        I: Drop,
+        F: Drop,
+        ensures ok { IfOk result
+            (λ t. IsAsked (Insert (D.held (record { source = source; callback = callback })))
+            t.number self.old self.new) }
+        ensures err { IfErr result (λ e. (e.inserted ≡ source) × CannotAsk self.old e.error
+            × (self.new ≡ self.old)) }
+        ensures asks { OnlyAsks self.old self.new }
+    {
+        let number = match next_ticket(
+            self.next,
+            &mut self.written,
+            &mut self.answers,
+            &mut self.idles,
+            &mut self.running,
+        ) {
+            Ok(number) => number,
+            Err(error) => {
+                return Err(InsertError {
+                    inserted: source,
+                    error,
+                });
+            }
+        };
+        let dispatcher = D::hold(Dispatcher { source, callback });
+        self.written.push_back_reserved(Asked {
+            ticket: number,
+            request: Request::Insert(dispatcher),
+        });
+        self.next = number + 1;
+        Ok(Ticket { number })
+    }
+
+    /// Asks for a dispatcher to be registered in the first vacant slot: a source with its callback, as the loop holds them. Its
+    /// answer is `Inserted` or `NotInserted`. A refusal of this call hands the dispatcher back.
+    pub fn register_dispatcher(
+        &mut self,
+        dispatcher: D,
+    ) -> std::result::Result<Ticket, InsertError<D>>
+    where
+        D: Drop,
+        I: Drop,
+        ensures ok { IfOk result (λ t. IsAsked (Insert dispatcher) t.number self.old self.new) }
+        ensures err { IfErr result (λ e. (e.inserted ≡ dispatcher) × CannotAsk self.old e.error
+            × (self.new ≡ self.old)) }
+        ensures asks { OnlyAsks self.old self.new }
+    {
+        match self.write(Request::Insert(dispatcher)) {
+            Ok(ticket) => Ok(ticket),
+            Err(InsertError { inserted, error }) => match inserted {
+                Request::Insert(dispatcher) => Err(InsertError {
+                    inserted: dispatcher,
+                    error,
+                }),
+                _ => unreachable!(),
+            },
+        }
+    }
+
+    /// Asks for the source that the token names to be registered, as after `disable`. Its answer is `Done`, or `Refused`: with
+    /// `InvalidToken` where the token names no source, with `OwnTurn` where that is the one in its turn, and else with
+    /// what the source answers.
+    pub fn enable(&mut self, token: &RegistrationToken) -> Result<Ticket>
+    where
+        D: Drop,
+        I: Drop,
+        ensures ok { IfOk result (λ t. IsAsked (Enable token.now) t.number self.old self.new) }
+        ensures err { IfErr result (λ e. CannotAsk self.old e × (self.new ≡ self.old)) }
+        ensures asks { OnlyAsks self.old self.new }
+    {
+        self.write(Request::Enable(*token))
+            .map_err(|refused| refused.error)
+    }
+
+    /// Asks for the source that the token names to be registered anew. Its answer is as that of `enable`, but that the source in its
+    /// turn is registered anew when its turn ends, where that answers `Continue`.
+    pub fn update(&mut self, token: &RegistrationToken) -> Result<Ticket>
+    where
+        D: Drop,
+        I: Drop,
+        ensures ok { IfOk result (λ t. IsAsked (Update token.now) t.number self.old self.new) }
+        ensures err { IfErr result (λ e. CannotAsk self.old e × (self.new ≡ self.old)) }
+        ensures asks { OnlyAsks self.old self.new }
+    {
+        self.write(Request::Update(*token))
+            .map_err(|refused| refused.error)
+    }
+
+    /// Asks for the registration of the source that the token names to be taken back. Its answer is as that of `update`.
+    pub fn disable(&mut self, token: &RegistrationToken) -> Result<Ticket>
+    where
+        D: Drop,
+        I: Drop,
+        ensures ok { IfOk result (λ t. IsAsked (Disable token.now) t.number self.old self.new) }
+        ensures err { IfErr result (λ e. CannotAsk self.old e × (self.new ≡ self.old)) }
+        ensures asks { OnlyAsks self.old self.new }
+    {
+        self.write(Request::Disable(*token))
+            .map_err(|refused| refused.error)
+    }
+
+    /// Asks for the source that the token names to leave the loop. Its answer is `Removed`. The slot of the source in its turn is
+    /// vacant at once; that one is unregistered and answered when its turn is over.
+    pub fn remove(&mut self, token: RegistrationToken) -> Result<Ticket>
+    where
+        D: Drop,
+        I: Drop,
+        ensures ok { IfOk result (λ t. IsAsked (Remove token) t.number self.old self.new) }
+        ensures err { IfErr result (λ e. CannotAsk self.old e × (self.new ≡ self.old)) }
+        ensures asks { OnlyAsks self.old self.new }
+    {
+        self.write(Request::Remove(token))
+            .map_err(|refused| refused.error)
+    }
+
+    /// Asks for something to be done once, at the end of a dispatch: of this one, or of the next one where this is asked by what runs
+    /// there. Its answer, `Done`, says that it was taken up. A refusal of this call hands it back.
+    pub fn insert_idle(&mut self, idle: I) -> std::result::Result<Idle, InsertError<I>>
+    where
+        D: Drop,
+        I: Drop,
+        ensures ok { IfOk result (λ i. IsAsked (IdleOf idle) i.ticket.number self.old self.new) }
+        ensures err { IfErr result (λ e. (e.inserted ≡ idle) × CannotAsk self.old e.error
+            × (self.new ≡ self.old)) }
+        ensures asks { OnlyAsks self.old self.new }
+    {
+        match self.write(Request::Idle(idle)) {
+            Ok(ticket) => Ok(Idle { ticket }),
+            Err(InsertError { inserted, error }) => match inserted {
+                Request::Idle(idle) => Err(InsertError {
+                    inserted: idle,
+                    error,
+                }),
+                _ => unreachable!(),
+            },
+        }
+    }
+
+    /// Asks for an idle not to be run. Its answer is `Done`, also where it has run. A refusal of this call hands it back.
+    pub fn cancel(&mut self, idle: Idle) -> std::result::Result<Ticket, InsertError<Idle>>
+    where
+        D: Drop,
+        I: Drop,
+        ensures ok { IfOk result
+            (λ t. IsAsked (Cancel idle.ticket.number) t.number self.old self.new) }
+        ensures err { IfErr result (λ e. (e.inserted ≡ idle) × CannotAsk self.old e.error
+            × (self.new ≡ self.old)) }
+        ensures asks { OnlyAsks self.old self.new }
+    {
+        match self.write(Request::Cancel(idle.ticket.number)) {
+            Ok(ticket) => Ok(ticket),
+            Err(refused) => Err(InsertError {
+                inserted: idle,
+                error: refused.error,
+            }),
+        }
+    }
+
+    /// The token of the source in whose turn this is lent, by which its callback can ask for its own removal, or tell others of it. None
+    /// where an idle is lent it. calloop's callbacks aren't told.
+    pub fn own_token(&self) -> Option<RegistrationToken>
+        ensures { result ≡ self.now.turn }
+    {
+        self.turn
+    }
+
+    /// What came of the request of this ticket, once it was carried out. It is handed out once, and is gone when a dispatch begins
+    /// after the idles that were asked for beside it were taken up: the next one, or a later one where dispatches fail before their
+    /// idles or where an idle asked for it. In calloop a call of the handle answers at once.
+    pub fn answer(&mut self, ticket: Ticket) -> Option<Answer<D>>
+        ensures value { result ≡ answer_under ticket.number self.old.answers }
+        ensures rest { self.new ≡ ask_after self.old (Take ticket.number) }
+        ensures asks { OnlyAsks self.old self.new }
+    {
+        take(&mut self.answers, ticket.number)
+    }
+
+    // Writes a request under the next ticket. A refusal hands it back.
+    fn write(
+        &mut self,
+        request: Request<D, I>,
+    ) -> std::result::Result<Ticket, InsertError<Request<D, I>>>
+    where
+        D: Drop,
+        I: Drop,
+        ensures ok { IfOk result (λ t. IsAsked request t.number self.old self.new) }
+        ensures err { IfErr result (λ e. (e.inserted ≡ request) × CannotAsk self.old e.error
+            × (self.new ≡ self.old)) }
+        ensures asks { OnlyAsks self.old self.new }
+    {
+        let number = match next_ticket(
+            self.next,
+            &mut self.written,
+            &mut self.answers,
+            &mut self.idles,
+            &mut self.running,
+        ) {
+            Ok(number) => number,
+            Err(error) => {
+                return Err(InsertError {
+                    inserted: request,
+                    error,
+                });
+            }
+        };
+        self.written.push_back_reserved(Asked {
+            ticket: number,
+            request,
+        });
+        self.next = number + 1;
+        Ok(Ticket { number })
+    }
+}
+
+impl<D, I> Requests<D, I> {
+    // They are lent in the turn of this source from now on: whose turn it was before.
+    pub(super) fn enter_turn(&mut self, token: RegistrationToken) -> Option<RegistrationToken>
+        ensures older { result ≡ self.old.turn }
+        ensures asks { self.new ≡ of_turn token self.old }
+    {
+        mem::replace(&mut self.turn, Some(token))
+    }
+
+    // The turn is over.
+    pub(super) fn leave_turn(&mut self, older: Option<RegistrationToken>)
+        ensures { self.new ≡ record self.old { turn = older } }
+    {
+        self.turn = older;
+    }
+
+    // Whether nothing is asked for.
+    pub(super) fn has_none(&self) -> bool
+        ensures { result ≡ true → self.now.written ≡ [] }
+    {
+        self.written.is_empty()
+    }
+
+    // The first request, which is carried out from now on.
+    pub(super) fn begin(&mut self) -> Option<Request<D, I>>
+        ensures first { result ≡ request_of self.old.written }
+        ensures asks { self.new ≡ after_begin self.old }
+    {
+        let asked = self.written.pop_front()?;
+        self.serving = Some(asked.ticket);
+        Some(asked.request)
+    }
+
+    // The answer of the request that is carried out.
+    pub(super) fn put_answer(&mut self, answer: Answer<D>)
+    where
+        D: Drop,
+        ensures { self.new ≡ with_answer answer self.old }
+    {
+        if let Some(ticket) = self.serving {
+            self.serving = None;
+            self.answers.push_reserved(Answered { ticket, answer });
+        }
+    }
+
+    // Its answer is owed from now on.
+    pub(super) fn owe(&mut self)
+        ensures { self.new ≡ with_answer_owed self.old }
+    {
+        self.owed = self.serving;
+        self.serving = None;
+    }
+
+    // Hands back a source that left, where that answer is owed. Else it is dropped.
+    pub(super) fn hand_back(&mut self, left: D)
+    where
+        D: Drop,
+        ensures { self.new ≡ with_owed_answer (Removed (Some left)) self.old }
+    {
+        if let Some(ticket) = self.owed {
+            self.owed = None;
+            self.answers.push_reserved(Answered {
+                ticket,
+                answer: Answer::Removed(Some(left)),
+            });
+        }
+    }
+
+    // Answers to what was asked for before idles were last taken up are gone: what was asked beside them has run.
+    pub(super) fn clear_answers(&mut self)
+    where
+        D: Drop,
+        ensures { self.new ≡ without_old self.old }
+    {
+        drop_before(&mut self.answers, self.taken_up_at);
+    }
+
+    // Puts the idle of the request that is carried out at the end, and answers that.
+    pub(super) fn put_idle(&mut self, idle: I)
+    where
+        D: Drop,
+        I: Drop,
+        ensures { self.new ≡ with_idle idle self.old }
+    {
+        if let Some(ticket) = self.serving {
+            self.serving = None;
+            self.idles.push_back_reserved(Idling { ticket, idle });
+            self.answers.push_reserved(Answered {
+                ticket,
+                answer: Answer::Done,
+            });
+        }
+    }
+
+    // Puts an idle that no callback asked for at the end, under the next ticket. A refusal hands it back.
+    pub(super) fn add_idle(&mut self, idle: I) -> std::result::Result<Idle, InsertError<I>>
+    where
+        I: Drop,
+        ensures ok { IfOk result (λ i. (self.old.next < 2 ^ 64 - 1)
+            × (i.ticket.number ≡ self.old.next) × (self.new ≡ with_new_idle idle self.old)) }
+        ensures err { IfErr result (λ e. (e.inserted ≡ idle) × CannotAsk self.old e.error
+            × (self.new ≡ self.old)) }
+    {
+        let number = match next_ticket(
+            self.next,
+            &mut self.written,
+            &mut self.answers,
+            &mut self.idles,
+            &mut self.running,
+        ) {
+            Ok(number) => number,
+            Err(error) => {
+                return Err(InsertError {
+                    inserted: idle,
+                    error,
+                });
+            }
+        };
+        self.idles.push_back_reserved(Idling {
+            ticket: number,
+            idle,
+        });
+        self.next = number + 1;
+        Ok(Idle {
+            ticket: Ticket { number },
+        })
+    }
+
+    // Takes out the idle of this ticket.
+    pub(super) fn take_out_idle(&mut self, ticket: u64)
+    where
+        I: Drop,
+        ensures { self.new ≡ without_idle ticket self.old }
+    {
+        take_out(&mut self.idles, ticket);
+        take_out(&mut self.running, ticket);
+    }
+
+    // All idles run from now on, and later ones wait.
+    pub(super) fn take_up_idles(&mut self)
+        ensures { self.new ≡ taken_up self.old }
+    {
+        move_all(&mut self.idles, &mut self.running);
+        self.taken_up_at = self.next;
+    }
+
+    // The first of the idles that run.
+    pub(super) fn next_idle(&mut self) -> Option<I>
+        ensures first { result ≡ running_of self.old.running }
+        ensures asks { self.new ≡ idle_begun self.old }
+    {
+        let first = self.running.pop_front()?;
+        Some(first.idle)
+    }
+}
+
+// The ticket for one request more, with room for it, for its answer, and for an idle where it is one.
+fn next_ticket<D, I>(
+    next: u64,
+    written: &mut VecDeque<Asked<D, I>>,
+    answers: &mut Vec<Answered<D>>,
+    idles: &mut VecDeque<Idling<I>>,
+    running: &mut VecDeque<Idling<I>>,
+) -> Result<u64>
+    ensures ok { IfOk result (λ n. (n ≡ next) × (next < 2 ^ 64 - 1)) }
+    ensures err { IfErr result (λ e. ((next ≡ 2 ^ 64 - 1) × (e ≡ TooManyTickets))
+        ⊎ ((next < 2 ^ 64 - 1) × (e ≡ OutOfMemory))) }
+    ensures room { OnOk result ((deque_len written.new + 1 ≤ deque_capacity written.new)
+        × (vec_len answers.new + (deque_len written.new + 3) ≤ vec_capacity answers.new)
+        × (deque_len idles.new + (deque_len written.new + 3) ≤ deque_capacity idles.new)
+        × (deque_len running.new + (deque_len idles.new + (deque_len written.new + 3))
+        ≤ deque_capacity running.new)) }
+    ensures items { (written.new.items ≡ written.old.items)
+        × (answers.new.items ≡ answers.old.items) × (idles.new.items ≡ idles.old.items)
+        × (running.new.items ≡ running.old.items) }
+    ensures lens { (deque_len written.new ≡ deque_len written.old)
+        × (vec_len answers.new ≡ vec_len answers.old) × (deque_len idles.new ≡ deque_len idles.old)
+        × (deque_len running.new ≡ deque_len running.old) }
+    ensures capacities { (vec_capacity answers.old ≤ vec_capacity answers.new)
+        × (deque_capacity idles.old ≤ deque_capacity idles.new)
+        × (deque_capacity running.old ≤ deque_capacity running.new) }
+{
+    if next == u64::MAX {
+        return Err(Error::TooManyTickets);
+    }
+    let Some(more) = written.len().checked_add(3) else {
+        return Err(Error::OutOfMemory);
+    };
+    let Some(idling) = idles.len().checked_add(more) else {
+        return Err(Error::OutOfMemory);
+    };
+    written.reserve(1)?;
+    answers.reserve(more)?;
+    idles.reserve(more)?;
+    running.reserve(idling)?;
+    Ok(next)
+}
+
+// Moves all to the end of another list, in their order.
+fn move_all<I>(from: &mut VecDeque<Idling<I>>, to: &mut VecDeque<Idling<I>>)
+    requires { deque_len to.old + deque_len from.old ≤ deque_capacity to.old }
+    ensures items { (to.new.items ≡ to.old.items ++ from.old.items) × (from.new.items ≡ []) }
+    ensures lens { (deque_len to.new ≡ deque_len to.old + deque_len from.old)
+        × (deque_len from.new ≡ 0) }
+    ensures room { (deque_capacity to.old ≤ deque_capacity to.new)
+        × (deque_capacity from.new ≡ deque_capacity from.old) }
+{
+    let _moved = to.append(from);
+}
+
+// Takes out the one of this ticket.
+fn take_out<I: Drop>(idles: &mut VecDeque<Idling<I>>, ticket: u64)
+    ensures items { idles.new.items ≡ filter (is_other_idle ticket) idles.old.items }
+    ensures room { (deque_len idles.new ≤ deque_len idles.old)
+        × (deque_capacity idles.new ≡ deque_capacity idles.old) }
+{
+    idles.retain(|other| other.ticket != ticket);
+}
+
+// Drops those under lower tickets.
+fn drop_before<D: Drop>(answers: &mut Vec<Answered<D>>, ticket: u64)
+    ensures items { answers.new.items ≡ filter (is_since ticket) answers.old.items }
+    ensures room { (vec_len answers.new ≤ vec_len answers.old)
+        × (vec_capacity answers.new ≡ vec_capacity answers.old) }
+{
+    answers.retain(|answered| answered.ticket >= ticket);
+}
+
+// Where the answer under this ticket stands.
+fn place_of<D>(answers: &[Answered<D>], ticket: u64) -> Option<usize>
+    ensures some { IfSome result (λ place. StandsAt ticket place answers.now) }
+    ensures none { IfNone result ((answer_under ticket answers.now ≡ None)
+        × (without ticket answers.now ≡ answers.now)) }
+{
+    for (place, answered) in answers.iter().enumerate() {
+        if answered.ticket == ticket {
+            return Some(place);
+        }
+    }
+    None
+}
+
+fn take<D>(answers: &mut Vec<Answered<D>>, ticket: u64) -> Option<Answer<D>>
+    ensures value { result ≡ answer_under ticket answers.old.items }
+    ensures rest { answers.new.items ≡ without ticket answers.old.items }
+    ensures room { (vec_len answers.new ≤ vec_len answers.old)
+        × (vec_capacity answers.new ≡ vec_capacity answers.old) }
+{
+    let place = place_of(answers, ticket)?;
+    Some(answers.remove(place).answer)
+}

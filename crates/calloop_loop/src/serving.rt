@@ -1,0 +1,114 @@
+//! What callbacks asked for is carried out.
+ghost use Rattle.std.specs.Prelude.{◌≡◌, ◌≤◌, length};
+ghost use Rattle.calloop_loop.specs.declared.asks.Request.TheVariants.{Remove};
+ghost use Rattle.calloop_loop.specs.Machine.{view_of};
+ghost use Rattle.calloop_loop.specs.Registering.{request_for};
+ghost use Rattle.calloop_loop.specs.Rules.{Did, done_answer, inserted_answer};
+ghost use Rattle.calloop_loop.specs.Serving.{AllServed, Serves, ServesAs, ServesFirst};
+
+use super::asks::{Answer, Request};
+use super::registering::RegistrationCall;
+use super::{EventDispatcher, EventLoop};
+use calloop_poll::sys::{Clock, Poller};
+use calloop_slots::error::{Error, InsertError, Result};
+use calloop_slots::token::RegistrationToken;
+use calloop_sources::sources::PostAction;
+use std::sync::Wait;
+
+impl<D: EventDispatcher<P, C, R>, P: Poller, C: Clock, R: Wait + Drop> EventLoop<D, P, C, R> {
+    // All of it, in order.
+    pub(super) fn serve_all(&mut self)
+        ensures { Did (AllServed D.means P.outside) (view_of self.old) (view_of self.new) }
+    {
+        'requests: while self.serve_first() {}
+    }
+
+    // The first request. False where there is none.
+    fn serve_first(&mut self) -> bool
+        ensures { ServesFirst D.means P.outside self.old.requests.written result (view_of self.old)
+            (view_of self.new) }
+    {
+        let Some(request) = self.requests.begin() else {
+            return false;
+        };
+        self.serve(request);
+        true
+    }
+
+    #[inline(never)]
+    fn serve(&mut self, request: Request<D, D::Idle>)
+        ensures { Serves D.means P.outside request (view_of self.old) (view_of self.new) }
+    {
+        match request {
+            Request::Insert(dispatcher) => {
+                let answer = self.insert(dispatcher);
+                self.requests.put_answer(inserted_answer(answer));
+            }
+            Request::Enable(token) => self.serve_change(RegistrationCall::Enable, token),
+            Request::Update(token) => self.serve_change(RegistrationCall::Update, token),
+            Request::Disable(token) => self.serve_change(RegistrationCall::Disable, token),
+            Request::Remove(token) => self.serve_removal(token),
+            Request::Idle(idle) => self.requests.put_idle(idle),
+            Request::Cancel(ticket) => {
+                self.requests.take_out_idle(ticket);
+                self.requests.put_answer(Answer::Done);
+            }
+        }
+    }
+
+    fn serve_change(&mut self, call: RegistrationCall, token: RegistrationToken)
+        ensures { Serves D.means P.outside (request_for call token) (view_of self.old)
+            (view_of self.new) }
+    {
+        let answer = self.carry_out_change(call, token);
+        self.requests.put_answer(done_answer(answer));
+    }
+
+    // Asked of the source in its turn, it waits for the end of the turn; enabling it is refused.
+    fn carry_out_change(&mut self, call: RegistrationCall, token: RegistrationToken) -> Result<()>
+        ensures { ServesAs D.means P.outside (request_for call token) result (view_of self.old)
+            (view_of self.new) }
+    {
+        if !self.sources.is_in_turn(token) {
+            return self.change_registration(call, token);
+        }
+        self.pending = match call {
+            RegistrationCall::Enable => return Err(Error::OwnTurn),
+            RegistrationCall::Update => PostAction::Reregister,
+            RegistrationCall::Disable => PostAction::Disable,
+        };
+        Ok(())
+    }
+
+    // The source in its turn leaves its slot at once, and is answered when its turn is over.
+    fn serve_removal(&mut self, token: RegistrationToken)
+        ensures { Serves D.means P.outside (Remove token) (view_of self.old) (view_of self.new) }
+    {
+        if self.sources.is_in_turn(token) {
+            self.sources.vacate(token);
+            self.lifecycle.leave(token);
+            self.requests.owe();
+            return;
+        }
+        let answer = self.remove(token);
+        self.requests.put_answer(Answer::Removed(answer));
+    }
+}
+
+fn inserted_answer<D>(answer: std::result::Result<RegistrationToken, InsertError<D>>) -> Answer<D>
+    ensures { result ≡ inserted_answer answer }
+{
+    match answer {
+        Ok(token) => Answer::Inserted(token),
+        Err(refused) => Answer::NotInserted(refused),
+    }
+}
+
+fn done_answer<D>(answer: Result<()>) -> Answer<D>
+    ensures { result ≡ done_answer answer }
+{
+    match answer {
+        Ok(()) => Answer::Done,
+        Err(error) => Answer::Refused(error),
+    }
+}

@@ -1,0 +1,5 @@
+pub mod Clocks
+pub mod SystemEvents
+pub mod SystemPollers
+pub mod SystemSockets
+pub mod Portions

@@ -1,0 +1,11 @@
+use Rattle.std.proofs.Common.{◌≡◌, ◌+◌, ◌≤◌, ◌++◌, drop}
+use Rattle.std.specs.VecDeque.{deque_len, deque_capacity}
+use Rattle.calloop_poll.specs.sys.Polls.{polled_events}
+use Rattle.calloop_poll.proofs.sys.poll.batch.append_polled.Given as goal
+
+abbrev pub invariant-loop-event : goal.invariant-loop-event
+invariant-loop-event l = record {
+  items : l.batch.items ++ polled_events (drop l.event-index l.events) ≡ l.initial.batch.items ++ polled_events l.events;
+  len : deque_len l.batch ≤ deque_len l.initial.batch + l.event-index;
+  capacity : deque_capacity l.batch ≡ deque_capacity l.initial.batch;
+}

@@ -1,0 +1,3 @@
+pub mod sys
+pub mod Signals
+pub mod Lending

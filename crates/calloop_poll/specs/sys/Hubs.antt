@@ -1,0 +1,19 @@
+-- What a locked board answers. Other threads post on it too, so no contract says which keys are posted; what it
+-- answered stands in its watch.
+use Rattle.std.specs.Prelude.{◌≡◌, ℕ, ◌+◌, ◌≤◌, List, ◌++◌, map, length}
+use Rattle.calloop_wake.specs.Passes.{Taken}
+use Rattle.calloop_wake.specs.Boards.{fresh_pass, IsRising}
+use Rattle.calloop_wake.specs.Watches.{with_note}
+use Rattle.calloop_wake.specs.declared.watch.Watch.{Watch}
+use Rattle.calloop_wake.specs.declared.notes.Note.TheVariants.{Unposted}
+
+-- some keys were taken, ascending, no more than there was room for; the watch noted it, and a pass of its board for
+-- each was appended; calloop's poller appends its events to a list
+pub record HasUnposted (room : ℕ) (watch watch' : Watch) (before after : List Taken)
+    (len_before len_after : ℕ) : Type 0 where
+  pub posted : List ℕ
+  pub rising : IsRising posted
+  pub few : length posted ≤ room
+  pub seen : watch' ≡ with_note (Unposted room posted) watch
+  pub appended : after ≡ before ++ map (fresh_pass watch.name) posted
+  pub counted : len_after ≡ len_before + length posted

@@ -1,0 +1,202 @@
+//! Pollers and clocks, and what sources register with.
+ghost use Rattle.std.specs.Prelude.{◌≡◌, ℕ, ◌+◌, ◌≤◌, ◌++◌, ◌||◌, List, length, vec_len, vec_capacity};
+ghost use Rattle.calloop_poll.specs.sys.Pollers.{Outside, IsCounted, nanos_of, asks};
+ghost use Rattle.calloop_poll.specs.declared.sys.Readiness.{Readiness};
+
+use calloop_slots::error::Result as LoopResult;
+use calloop_slots::wheel::Instant;
+use notifier::Notifier;
+use std::io;
+use std::os::fd::RawFd;
+use std::time::Duration;
+
+pub mod events;
+pub mod faults;
+pub mod hub;
+pub mod notifier;
+pub mod poll;
+pub mod synthetic;
+
+/// The most events that one wait gives.
+pub const EVENTS_PER_WAIT: usize = 1024;
+
+/// What a source was found ready for, as in calloop.
+#[derive(Clone, Copy, Debug)]
+pub struct Readiness {
+    pub readable: bool,
+    pub writable: bool,
+    pub error: bool,
+}
+
+impl Readiness {
+    /// Ready for nothing.
+    pub const EMPTY: Readiness = Readiness {
+        readable: false,
+        writable: false,
+        error: false,
+    };
+
+    // Ready to be read, as the events of posted keys and of timers are.
+    pub(crate) const READ: Readiness = Readiness {
+        readable: true,
+        writable: false,
+        error: false,
+    };
+}
+
+/// What a source wants to hear of, as in calloop.
+#[derive(Clone, Copy, Debug, PartialEq, Eq)]
+pub struct Interest {
+    pub readable: bool,
+    pub writable: bool,
+}
+
+impl Interest {
+    /// In nothing: a socket with it is in no poller.
+    pub const EMPTY: Interest = Interest {
+        readable: false,
+        writable: false,
+    };
+
+    /// In whether it can be read.
+    pub const READ: Interest = Interest {
+        readable: true,
+        writable: false,
+    };
+
+    /// In whether it can be written.
+    pub const WRITE: Interest = Interest {
+        readable: false,
+        writable: true,
+    };
+
+    /// In both.
+    pub const BOTH: Interest = Interest {
+        readable: true,
+        writable: true,
+    };
+
+    /// Whether it is an interest in anything.
+    pub fn asks(self) -> bool
+        ensures { result ≡ asks self }
+    {
+        self.readable || self.writable
+    }
+}
+
+/// How often a socket's source hears of what it is ready for, as in calloop. The source keeps it, and a poller is told of `Level`.
+#[derive(Clone, Copy, Debug, PartialEq, Eq)]
+pub enum Mode {
+    /// Once, until it is registered anew.
+    OneShot,
+    /// In each wait, as long as it is ready.
+    Level,
+    /// When it becomes ready.
+    Edge,
+}
+
+/// What is waited for under a key.
+#[derive(Clone, Copy, Debug, PartialEq, Eq)]
+pub struct Watched {
+    pub interest: Interest,
+    pub mode: Mode,
+}
+
+/// Tells the moment. Which ones it may show is its own relation; the loop is proved for any, also for one that is smaller than an
+/// earlier one.
+pub trait Clock: Clone + Drop {
+    ghost use Rattle.std.specs.Prelude.{ℕ};
+
+    /// Which moments it may show, in nanoseconds.
+    ghost shows: { Self → (now : ℕ) → Type 0 };
+
+    fn now(&self) -> Instant
+        ensures { shows self.now result.nanos };
+
+    /// Lets about so much time pass, where it is the machine's. By default none does: then a poller that waits by this clock asks
+    /// the machine again and again.
+    fn sleep(&self, _time: Duration) {}
+}
+
+/// Waits for events, and tells the moment. The loop is proved for every answer that a poller may give.
+pub trait Poller: Drop {
+    ghost use Rattle.std.specs.Prelude.{◌≡◌, ℕ, ◌+◌, ◌≤◌, ◌++◌, List, length, vec_len, vec_capacity};
+    ghost use Rattle.std.specs.Prelude.{IfErr};
+    ghost use Rattle.calloop_slots.specs.declared.error.Error.TheVariants.{OutOfMemory};
+    ghost use Rattle.calloop_poll.specs.sys.Pollers.{Outside, Sockets, Add, Modify, Delete, IsCounted, faults_of, nanos_of, events_per_wait};
+    ghost use Rattle.calloop_poll.specs.declared.sys.Readiness.{Readiness};
+
+    /// What its calls may do.
+    ghost outside: { Outside Self };
+
+    /// What its calls for a descriptor may do.
+    ghost sockets: { Sockets Self };
+
+    /// From now on a wait gives the events of this descriptor, under this key. An `Err` is a fault, and is counted.
+    fn add(&mut self, fd: RawFd, key: u64, interest: Interest) -> io::Result<()>
+        ensures sockets { sockets self.old fd (Add key interest) result self.new }
+        ensures calls { outside.calls self.old (Add key interest) result self.new }
+        ensures faults { outside.faults self.new ≡ outside.faults self.old + faults_of result };
+
+    /// A descriptor that was added has another key or another interest, and what it is ready for is told anew. An `Err` is a fault,
+    /// and is counted.
+    fn modify(&mut self, fd: RawFd, key: u64, interest: Interest) -> io::Result<()>
+        ensures sockets { sockets self.old fd (Modify key interest) result self.new }
+        ensures calls { outside.calls self.old (Modify key interest) result self.new }
+        ensures faults { outside.faults self.new ≡ outside.faults self.old + faults_of result };
+
+    /// As `add`, for a source that hears of the socket as long as it is ready (`Mode::Level`): from now on each wait may tell of it anew
+    /// without a further call. By default it is `add`.
+    fn add_level(&mut self, fd: RawFd, key: u64, interest: Interest) -> io::Result<()>
+        ensures sockets { sockets self.old fd (Add key interest) result self.new }
+        ensures calls { outside.calls self.old (Add key interest) result self.new }
+        ensures faults { outside.faults self.new ≡ outside.faults self.old + faults_of result }
+    {
+        self.add(fd, key, interest)
+    }
+
+    /// As `modify`, for such a source. Where each wait tells of the socket under this key and for this interest already, there is nothing to
+    /// do. By default it is `modify`.
+    fn modify_level(&mut self, fd: RawFd, key: u64, interest: Interest) -> io::Result<()>
+        ensures sockets { sockets self.old fd (Modify key interest) result self.new }
+        ensures calls { outside.calls self.old (Modify key interest) result self.new }
+        ensures faults { outside.faults self.new ≡ outside.faults self.old + faults_of result }
+    {
+        self.modify(fd, key, interest)
+    }
+
+    /// A wait gives no event of this descriptor any more. An `Err` is a fault, and is counted.
+    fn delete(&mut self, fd: RawFd) -> io::Result<()>
+        ensures sockets { sockets self.old fd Delete result self.new }
+        ensures calls { outside.calls self.old Delete result self.new }
+        ensures faults { outside.faults self.new ≡ outside.faults self.old + faults_of result };
+
+    /// The moment that the poller's clock shows.
+    fn now(&mut self) -> Instant
+        ensures reads { outside.reads self.old result.nanos self.new }
+        ensures faults { outside.faults self.new ≡ outside.faults self.old };
+
+    /// Waits, at most for `timeout`, and appends at most 1,024 events to `events`, whose room the caller
+    /// reserved: each is the key of a token and what was found. Without a timeout it may wait for ever.
+    /// An `Err` gives no event that is handed out. One of kind `Interrupted` is an interruption, after which the loop
+    /// waits anew; any other is a fault, and is counted.
+    ///
+    /// `left` is how many events wait for their turn since an earlier dispatch failed, up to the last one that this poller gave. One that
+    /// tells of a socket anew while it is ready may tell of nothing beside them, so that no event is told twice.
+    fn wait(
+        &mut self,
+        timeout: Option<Duration>,
+        left: usize,
+        events: &mut Vec<(u64, Readiness)>,
+    ) -> io::Result<()>
+        requires { vec_len events.old + events_per_wait ≤ vec_capacity events.old }
+        ensures waits { (given : List (ℕ × Readiness))
+            × outside.waits self.old (nanos_of timeout) result given self.new
+            × (events.new.items ≡ events.old.items ++ given) × (length given ≤ events_per_wait) }
+        ensures room { vec_capacity events.old ≤ vec_capacity events.new }
+        ensures faults { IsCounted (outside.faults self.old) result (outside.faults self.new) };
+
+    /// What ends its wait from another thread. No contract says that it does; running out of memory is `OutOfMemory`.
+    fn notifier(&self) -> LoopResult<Notifier>
+        ensures { IfErr result (λ e. e ≡ OutOfMemory) };
+}

@@ -1,0 +1,9 @@
+pub mod Indexed
+pub mod Inserted
+pub mod Named
+pub mod Sorting
+pub mod Paired
+pub mod Vacancy
+pub mod Levels
+pub mod Covered
+pub mod Told

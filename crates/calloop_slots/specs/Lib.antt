@@ -1,0 +1,10 @@
+pub mod Errors
+pub mod Failures
+pub mod Widths
+pub mod TokenViews
+pub mod Tokens
+pub mod Deadlines
+pub mod Wheels
+pub mod Slots
+pub mod Vacancies
+pub mod Lendings

@@ -1,0 +1,463 @@
+//! The poller of the operating system, over two streams that are connected.
+use super::streams::connect;
+use calloop_mio::{MioIo, MioPoller, Precision, SystemClock};
+use calloop_poll::sys::{Clock, EVENTS_PER_WAIT, Interest, Poller, Readiness};
+use calloop_wake::Notify;
+use mio::net::{TcpListener, TcpStream, UnixStream};
+use std::alloc::{AllocGlobal, Global};
+use std::io;
+use std::io::{Read, Write};
+use std::net::{Ipv4Addr, Net, SocketAddr};
+use std::os::fd::AsRawFd;
+use std::process::Abort;
+use std::time::{Clock as MachineClock, Duration};
+
+#[test]
+fn a_socket_is_told_of_once_it_can_be_read(rt: HostRuntime) {
+    let mut desk = Desk::new(&rt);
+    assert!(rt; desk.add(KEY, Interest::READ).is_ok());
+    assert!(rt; desk.tells(&[]));
+    assert!(rt; desk.writes());
+    assert!(rt; desk.tells(&[(KEY, true, false)]));
+    assert!(rt; desk.tells(&[]));
+}
+
+#[test]
+fn a_socket_is_told_of_as_its_interest_asks(rt: HostRuntime) {
+    let table = [
+        (Interest::READ, true, false),
+        (Interest::WRITE, false, true),
+        (Interest::BOTH, true, true),
+    ];
+    for (interest, readable, writable) in table {
+        let mut desk = Desk::new(&rt);
+        assert!(rt; desk.writes());
+        assert!(rt; desk.add(KEY, interest).is_ok());
+        assert!(rt; desk.tells(&[(KEY, readable, writable)]));
+    }
+}
+
+#[test]
+fn a_socket_that_is_modified_is_told_of_anew(rt: HostRuntime) {
+    let mut desk = Desk::new(&rt);
+    assert!(rt; desk.add(KEY, Interest::READ).is_ok());
+    assert!(rt; desk.writes());
+    assert!(rt; desk.tells(&[(KEY, true, false)]));
+    assert!(rt; desk.modify(KEY, Interest::READ).is_ok());
+    assert!(rt; desk.tells(&[(KEY, true, false)]));
+    assert!(rt; desk.modify(OTHER_KEY, Interest::BOTH).is_ok());
+    assert!(rt; desk.tells(&[(OTHER_KEY, true, true)]));
+}
+
+#[test]
+fn a_socket_that_was_taken_out_is_not_told_of(rt: HostRuntime) {
+    let mut desk = Desk::new(&rt);
+    assert!(rt; desk.add(KEY, Interest::READ).is_ok());
+    assert!(rt; desk.delete().is_ok());
+    assert!(rt; desk.writes());
+    assert!(rt; desk.tells(&[]));
+    assert!(rt; desk.add(KEY, Interest::READ).is_ok());
+    assert!(rt; desk.tells(&[(KEY, true, false)]));
+}
+
+#[test]
+fn what_the_machine_refuses_is_answered(rt: HostRuntime) {
+    let mut desk = Desk::new(&rt);
+    assert!(rt; fails(desk.modify(KEY, Interest::READ), io::ErrorKind::NotFound));
+    assert!(rt; fails(desk.delete(), io::ErrorKind::NotFound));
+    assert!(rt; desk.add(KEY, Interest::READ).is_ok());
+    assert!(rt; fails(desk.add(KEY, Interest::READ), io::ErrorKind::AlreadyExists));
+}
+
+#[test]
+fn an_empty_interest_is_refused(rt: HostRuntime) {
+    let mut desk = Desk::new(&rt);
+    assert!(rt; fails(desk.add(KEY, Interest::EMPTY), io::ErrorKind::InvalidInput));
+    assert!(rt; desk.add(KEY, Interest::READ).is_ok());
+    assert!(rt;
+        fails(
+            desk.modify(OTHER_KEY, Interest::EMPTY),
+            io::ErrorKind::InvalidInput
+        )
+    );
+    assert!(rt; desk.writes());
+    assert!(rt; desk.tells(&[(KEY, true, false)]));
+}
+
+#[test]
+fn a_socket_whose_peer_hung_up_is_ready_for_both(rt: HostRuntime) {
+    let mut desk = Desk::new(&rt);
+    assert!(rt; desk.add(KEY, Interest::READ).is_ok());
+    desk.peer = None;
+    assert!(rt; desk.tells(&[(KEY, true, true)]));
+}
+
+#[test]
+fn a_wakeup_ends_a_wait_without_an_event(rt: HostRuntime) {
+    let mut desk = Desk::new(&rt);
+    let notifier = desk.poller.notifier().expect(&rt, "a notifier");
+    notifier.notify();
+    assert!(rt; desk.waits(Duration::from_secs(60), &[]));
+    assert!(rt; desk.clock.now().nanos < MINUTE);
+}
+
+#[test]
+fn a_clock_of_the_machine_counts_from_its_making(rt: HostRuntime) {
+    let mut desk = Desk::new(&rt);
+    desk.poller.set_precision(Precision::Milliseconds);
+    let first = desk.clock.now().nanos;
+    assert!(rt; desk.waits(Duration::from_millis(20), &[]));
+    let then = desk.poller.now().nanos;
+    let later = desk.clock.now().nanos;
+    assert!(rt; first.saturating_add(20_000_000) <= then && then <= later && later < MINUTE);
+}
+
+#[test]
+fn a_wait_of_milliseconds_ends_in_portions(rt: HostRuntime) {
+    let mut desk = Desk::new(&rt);
+    assert!(rt; desk.comes_to_be_interrupted(Duration::from_millis(2)));
+    desk.poller.set_precision(Precision::Milliseconds);
+    assert!(rt; desk.waits(Duration::from_millis(20), &[]));
+}
+
+#[test]
+fn a_level_socket_is_told_of_in_each_wait(rt: HostRuntime) {
+    let mut desk = Desk::new(&rt);
+    assert!(rt; desk.add_level(KEY, Interest::READ).is_ok());
+    assert!(rt; desk.tells(&[]) && desk.writes());
+    assert!(rt; desk.tells(&[(KEY, true, false)]) && desk.tells(&[(KEY, true, false)]));
+    assert!(rt; desk.level(KEY, Interest::READ).is_ok());
+    assert!(rt; desk.tells(&[(KEY, true, false)]));
+    assert!(rt; desk.empties() && desk.tells(&[]));
+    assert!(rt; desk.level(KEY, Interest::READ).is_ok() && desk.tells(&[]));
+    assert!(rt; desk.writes());
+    assert!(rt; desk.tells(&[(KEY, true, false)]) && desk.tells(&[(KEY, true, false)]));
+}
+
+#[test]
+fn an_added_socket_becomes_a_level_one(rt: HostRuntime) {
+    let mut desk = Desk::new(&rt);
+    assert!(rt; desk.add(KEY, Interest::READ).is_ok() && desk.writes());
+    assert!(rt; desk.tells(&[(KEY, true, false)]) && desk.tells(&[]));
+    assert!(rt; desk.level(KEY, Interest::READ).is_ok());
+    assert!(rt; desk.tells(&[(KEY, true, false)]) && desk.tells(&[(KEY, true, false)]));
+}
+
+#[test]
+fn what_the_machine_refuses_of_a_level_socket_is_answered(rt: HostRuntime) {
+    let mut desk = Desk::new(&rt);
+    assert!(rt; fails(desk.level(KEY, Interest::READ), io::ErrorKind::NotFound));
+    assert!(rt; desk.add_level(KEY, Interest::READ).is_ok());
+    assert!(rt;
+        fails(
+            desk.add_level(KEY, Interest::READ),
+            io::ErrorKind::AlreadyExists
+        )
+    );
+    assert!(rt; desk.writes() && desk.tells(&[(KEY, true, false)]));
+}
+
+#[test]
+fn a_level_socket_over_tcp_is_told_of_in_each_wait(rt: HostRuntime) {
+    let mut desk = Desk::over(&rt, connect(&rt));
+    assert!(rt; desk.add_level(KEY, Interest::READ).is_ok());
+    assert!(rt; desk.writes() && desk.comes_to_tell(&[(KEY, true, false)]));
+    assert!(rt; desk.tells(&[(KEY, true, false)]));
+    assert!(rt; desk.empties() && desk.tells(&[]));
+}
+
+#[test]
+fn a_level_socket_with_room_is_told_of_until_it_is_full(rt: HostRuntime) {
+    let mut desk = Desk::new(&rt);
+    assert!(rt; desk.add_level(KEY, Interest::WRITE).is_ok());
+    assert!(rt; desk.tells(&[(KEY, false, true)]) && desk.tells(&[(KEY, false, true)]));
+    assert!(rt; desk.fills() && desk.tells(&[]));
+    assert!(rt; desk.peer_empties());
+    assert!(rt; desk.tells(&[(KEY, false, true)]) && desk.tells(&[(KEY, false, true)]));
+}
+
+#[test]
+fn a_level_socket_whose_peer_hung_up_is_told_of_in_each_wait(rt: HostRuntime) {
+    let mut desk = Desk::new(&rt);
+    assert!(rt; desk.add_level(KEY, Interest::READ).is_ok());
+    desk.peer = None;
+    assert!(rt; desk.tells(&[(KEY, true, true)]) && desk.tells(&[(KEY, true, true)]));
+}
+
+#[test]
+fn a_level_socket_takes_up_another_key_and_interest(rt: HostRuntime) {
+    let mut desk = Desk::new(&rt);
+    assert!(rt; desk.add_level(KEY, Interest::READ).is_ok());
+    assert!(rt; desk.tells(&[]));
+    assert!(rt; desk.level(KEY, Interest::BOTH).is_ok());
+    assert!(rt; desk.tells(&[(KEY, false, true)]) && desk.tells(&[(KEY, false, true)]));
+    assert!(rt; desk.level(OTHER_KEY, Interest::BOTH).is_ok());
+    assert!(rt; desk.tells(&[(OTHER_KEY, false, true)]));
+}
+
+#[test]
+fn a_level_socket_that_is_modified_is_told_of_once(rt: HostRuntime) {
+    let mut desk = Desk::new(&rt);
+    assert!(rt; desk.add_level(KEY, Interest::READ).is_ok());
+    assert!(rt; desk.writes());
+    assert!(rt; desk.modify(KEY, Interest::READ).is_ok());
+    assert!(rt; desk.tells(&[(KEY, true, false)]) && desk.tells(&[]));
+    assert!(rt; desk.level(KEY, Interest::READ).is_ok());
+    assert!(rt; desk.tells(&[(KEY, true, false)]) && desk.tells(&[(KEY, true, false)]));
+}
+
+#[test]
+fn a_level_socket_that_was_taken_out_is_not_registered(rt: HostRuntime) {
+    let mut desk = Desk::new(&rt);
+    assert!(rt; desk.add_level(KEY, Interest::READ).is_ok());
+    assert!(rt; desk.delete().is_ok());
+    assert!(rt; fails(desk.level(KEY, Interest::READ), io::ErrorKind::NotFound));
+    assert!(rt; desk.writes() && desk.add(KEY, Interest::READ).is_ok());
+    assert!(rt; desk.tells(&[(KEY, true, false)]) && desk.tells(&[]));
+    assert!(rt; desk.level(KEY, Interest::READ).is_ok());
+    assert!(rt; desk.tells(&[(KEY, true, false)]) && desk.tells(&[(KEY, true, false)]));
+}
+
+#[test]
+fn a_level_socket_that_was_exchanged_is_not_registered(rt: HostRuntime) {
+    let mut desk = Desk::new(&rt);
+    let (other, _peer) = UnixStream::pair(&rt).expect(&rt, "two streams");
+    assert!(rt; desk.add_level(KEY, Interest::READ).is_ok());
+    desk.io = MioIo::from(other);
+    assert!(rt; fails(desk.level(KEY, Interest::READ), io::ErrorKind::NotFound));
+}
+
+#[test]
+fn a_level_socket_is_registered_with_its_own_poller_alone(rt: HostRuntime) {
+    let mut desk = Desk::new(&rt);
+    let mut other = Desk::new(&rt);
+    assert!(rt; desk.add_level(KEY, Interest::READ).is_ok());
+    assert!(rt;
+        fails(
+            other
+                .poller
+                .modify_level(desk.io.as_raw_fd(), KEY, Interest::READ),
+            io::ErrorKind::NotFound
+        )
+    );
+}
+
+#[test]
+fn an_empty_interest_of_a_level_socket_is_refused(rt: HostRuntime) {
+    let mut desk = Desk::new(&rt);
+    let refused = io::ErrorKind::InvalidInput;
+    assert!(rt; fails(desk.add_level(KEY, Interest::EMPTY), refused));
+    assert!(rt; desk.add_level(KEY, Interest::READ).is_ok());
+    assert!(rt; fails(desk.level(KEY, Interest::EMPTY), refused));
+    assert!(rt; desk.writes() && desk.tells(&[(KEY, true, false)]));
+}
+
+#[test]
+fn a_listener_is_told_of_until_all_are_accepted(rt: HostRuntime) {
+    let (listener, address) = new_listener(&rt);
+    let mut desk = Desk::new(&rt);
+    assert!(rt;
+        desk.poller
+            .add_level(listener.as_raw_fd(), KEY, Interest::READ)
+            .is_ok()
+    );
+    let _first = TcpStream::connect(&rt, address).expect(&rt, "a stream");
+    let _second = TcpStream::connect(&rt, address).expect(&rt, "a stream");
+    assert!(rt; desk.comes_to_tell(&[(KEY, true, false)]) && accepts(&listener));
+    assert!(rt; desk.tells(&[(KEY, true, false)]) && accepts(&listener));
+    assert!(rt; desk.tells(&[]) && !accepts(&listener));
+}
+
+#[test]
+fn nothing_more_is_told_beside_events_that_are_left(rt: HostRuntime) {
+    let mut desk = Desk::new(&rt);
+    assert!(rt; desk.add_level(KEY, Interest::READ).is_ok());
+    assert!(rt; desk.writes());
+    assert!(rt; desk.tells_beside(1, &[]));
+    assert!(rt; desk.tells_beside(usize::MAX, &[]));
+    assert!(rt; desk.tells_beside(0, &[(KEY, true, false)]));
+}
+
+const KEY: u64 = 1099511627776;
+
+const OTHER_KEY: u64 = 65536;
+
+const MINUTE: u64 = 60_000_000_000;
+
+// One stream stands before the poller, and the other is its peer.
+#[derive(Drop)]
+struct Desk<R: MachineClock + Clone + Drop> {
+    alloc: Global,
+    clock: SystemClock<R>,
+    poller: MioPoller<SystemClock<R>>,
+    io: MioIo,
+    peer: Option<MioIo>,
+}
+
+impl<R: Net + AllocGlobal + MachineClock + Clone + Drop + Abort> Desk<R> {
+    fn new(rt: &R) -> Desk<R> {
+        let (near, far) = UnixStream::pair(rt).expect(rt, "two streams");
+        Desk::over(rt, (MioIo::from(near), MioIo::from(far)))
+    }
+
+    fn over(rt: &R, streams: (MioIo, MioIo)) -> Desk<R> {
+        let clock = SystemClock::new(rt).expect(rt, "a clock");
+        let read_by_poller = clock.clone().expect(rt, "a clock");
+        let (near, far) = streams;
+        Desk {
+            alloc: rt.alloc(),
+            clock,
+            poller: MioPoller::new(rt, rt.alloc(), read_by_poller).expect(rt, "a poller"),
+            io: near,
+            peer: Some(far),
+        }
+    }
+}
+
+impl<R: MachineClock + Clone + Drop> Desk<R> {
+    fn add(&mut self, key: u64, interest: Interest) -> io::Result<()> {
+        self.poller.add(self.io.as_raw_fd(), key, interest)
+    }
+
+    fn modify(&mut self, key: u64, interest: Interest) -> io::Result<()> {
+        self.poller.modify(self.io.as_raw_fd(), key, interest)
+    }
+
+    fn add_level(&mut self, key: u64, interest: Interest) -> io::Result<()> {
+        self.poller.add_level(self.io.as_raw_fd(), key, interest)
+    }
+
+    fn level(&mut self, key: u64, interest: Interest) -> io::Result<()> {
+        self.poller.modify_level(self.io.as_raw_fd(), key, interest)
+    }
+
+    fn delete(&mut self) -> io::Result<()> {
+        self.poller.delete(self.io.as_raw_fd())
+    }
+
+    // The peer writes a byte.
+    fn writes(&mut self) -> bool {
+        match &mut self.peer {
+            Some(peer) => peer.write_all(b"x").is_ok(),
+            None => false,
+        }
+    }
+
+    // Reads until nothing is left.
+    fn empties(&mut self) -> bool {
+        is_emptied(&mut self.io)
+    }
+
+    fn peer_empties(&mut self) -> bool {
+        match &mut self.peer {
+            Some(peer) => is_emptied(peer),
+            None => false,
+        }
+    }
+
+    // Writes until there is no room.
+    fn fills(&mut self) -> bool {
+        for _ in 0..10_000u32 {
+            if let Err(cause) = self.io.write(&[0u8; 4096]) {
+                return cause.kind() == io::ErrorKind::WouldBlock;
+            }
+        }
+        false
+    }
+
+    // Whether a wait of 0 gives these keys, readable and writable as they say, and no error.
+    fn tells(&mut self, wanted: &[(u64, bool, bool)]) -> bool {
+        self.waits(Duration::ZERO, wanted)
+    }
+
+    // Whether a wait of a second at most gives them.
+    fn comes_to_tell(&mut self, wanted: &[(u64, bool, bool)]) -> bool {
+        self.waits(Duration::from_secs(1), wanted)
+    }
+
+    fn waits(&mut self, timeout: Duration, wanted: &[(u64, bool, bool)]) -> bool {
+        self.waits_beside(timeout, 0, wanted)
+    }
+
+    // Whether a wait of 0 gives them while so many events are left.
+    fn tells_beside(&mut self, left: usize, wanted: &[(u64, bool, bool)]) -> bool {
+        self.waits_beside(Duration::ZERO, left, wanted)
+    }
+
+    fn waits_beside(
+        &mut self,
+        timeout: Duration,
+        left: usize,
+        wanted: &[(u64, bool, bool)],
+    ) -> bool {
+        let Ok(mut told) = Vec::with_capacity(self.alloc, EVENTS_PER_WAIT) else {
+            return false;
+        };
+        self.poller.wait(Some(timeout), left, &mut told).is_ok() && are(&told, wanted)
+    }
+
+    // Whether one of many such waits is interrupted: where a test has to wait for a processor, a wait's time may be over first.
+    fn comes_to_be_interrupted(&mut self, timeout: Duration) -> bool {
+        for _ in 0..500u32 {
+            if self.is_interrupted(timeout) {
+                return true;
+            }
+        }
+        false
+    }
+
+    // Whether such a wait is interrupted, and tells nothing.
+    fn is_interrupted(&mut self, timeout: Duration) -> bool {
+        let Ok(mut told) = Vec::with_capacity(self.alloc, EVENTS_PER_WAIT) else {
+            return false;
+        };
+        let answer = self.poller.wait(Some(timeout), 0, &mut told);
+        fails(answer, io::ErrorKind::Interrupted) && told.is_empty()
+    }
+}
+
+// A listener and where it listens.
+fn new_listener<R: Net + Abort>(rt: &R) -> (MioIo, SocketAddr) {
+    let any = SocketAddr::from((Ipv4Addr::LOCALHOST, 0));
+    let listener = TcpListener::bind(rt, any).expect(rt, "a listener");
+    let address = listener.local_addr().expect(rt, "an address");
+    (MioIo::from(listener), address)
+}
+
+fn accepts(listener: &MioIo) -> bool {
+    match listener {
+        MioIo::TcpListener(listener) => listener.accept().is_ok(),
+        _ => false,
+    }
+}
+
+// Whether it is read until nothing is left.
+fn is_emptied(io: &mut MioIo) -> bool {
+    let mut buf = [0u8; 4096];
+    for _ in 0..10_000u32 {
+        if let Err(cause) = io.read(&mut buf) {
+            return cause.kind() == io::ErrorKind::WouldBlock;
+        }
+    }
+    false
+}
+
+fn are(told: &[(u64, Readiness)], wanted: &[(u64, bool, bool)]) -> bool {
+    told.len() == wanted.len()
+        && told
+            .iter()
+            .zip(wanted)
+            .all(|(told, wanted)| is(told, wanted))
+}
+
+fn is(told: &(u64, Readiness), wanted: &(u64, bool, bool)) -> bool {
+    let (key, readiness) = *told;
+    (key, readiness.readable, readiness.writable) == *wanted && !readiness.error
+}
+
+fn fails(answer: io::Result<()>, kind: io::ErrorKind) -> bool {
+    match answer {
+        Ok(()) => false,
+        Err(cause) => cause.kind() == kind,
+    }
+}

@@ -1,0 +1,12 @@
+pub mod sources
+pub mod Timers
+pub mod Transients
+pub mod TransientKeeping
+pub mod Movables
+pub mod TransientMarks
+pub mod Boths
+pub mod BothKeeping
+pub mod Generics
+pub mod GenericKeeping
+pub mod TimerKeeping
+pub mod Lending

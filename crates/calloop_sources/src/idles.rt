@@ -1,0 +1,35 @@
+//! What a loop is asked to do once, when nothing else is left to do.
+ghost use Rattle.std.specs.Prelude.{◌≡◌};
+
+use crate::sources::Asking;
+
+/// Called once, with the data that a dispatch lends. `Q` takes its requests. calloop takes a closure.
+pub trait IdleCallback<X, Q: Asking> {
+    /// The callback, the data and the requests before the call, and these two after it.
+    ghost runs: { Self → X → Q → X → Q → Type 0 };
+
+    /// What is done. The callback is spent.
+    fn run(self, data: &mut X, requests: &mut Q)
+        ensures runs { runs self «data».old requests.old «data».new requests.new }
+        ensures asks { Q.reaches requests.old requests.new };
+}
+
+/// One whose relation says that it asks the loop for nothing.
+pub trait QuietIdle<X, Q: Asking>: IdleCallback<X, Q> {
+    ghost use Rattle.calloop_sources.specs.sources.Quiet.{IsQuietRun};
+
+    ghost quiet: { IsQuietRun Self.runs };
+}
+
+impl<X, Q: Asking> QuietIdle<X, Q> for () {
+    ghost quiet = { λ i x y q r h. h.1 };
+}
+
+/// Nothing to do, as in a loop that is asked for nothing of the kind.
+impl<X, Q: Asking> IdleCallback<X, Q> for () {
+    ghost use Rattle.std.specs.Prelude.{◌≡◌};
+
+    ghost runs = { λ _ x q y r. (y ≡ x) × (r ≡ q) };
+
+    fn run(self, _data: &mut X, _requests: &mut Q) {}
+}

@@ -1,5 +1,0 @@
-use Rattle.std.proofs.Common.{refl}
-use Rattle.calloop_wake.proofs.error.ErrorFromIoError.from.Goals as goal
-
-pub returns : goal.returns
-returns c = refl

@@ -1,4 +1,0 @@
-use Rattle.calloop_wake.proofs.error.IoErrorFromError.from.Goals as goal
-
-pub returns-in-InvalidToken : goal.returns-in-InvalidToken
-returns-in-InvalidToken c = rw c.in-InvalidToken.is c.new.ensures.kind

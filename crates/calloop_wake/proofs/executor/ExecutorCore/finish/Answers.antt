@@ -1,0 +1,14 @@
+use Rattle.std.proofs.Common.{rules}
+use Rattle.calloop_wake.proofs.Inside.{inside-finish, gone-polled, polled-there}
+use Rattle.calloop_wake.proofs.executor.ExecutorCore.finish.Goals as goal
+
+pub unreachable-requires : goal.unreachable-requires
+unreachable-requires c =
+    gone-polled c.self.inside.tasks c.self.inside.next c.self.inside.results c.self.inside.bell.cell.pinged c.self.inside.bell.cell.draining c.self.inside.progress c.self.inside.bell.cell.key c.self.inside.bell.cell.senders c.args.key (search rules) (search rules) c.self.invariant.0
+
+pub finish-requires : goal.finish-requires
+finish-requires c = polled-there _ _ c.in-Some.tasks _ _ _ _ _ _ _ c.in-Some.is c.self.invariant.0 c.args.key (search rules)
+
+pub invariant_of-self : goal.invariant_of-self
+invariant_of-self c =
+    (inside-finish _ _ c.finish.new.self _ _ _ _ _ _ _ c.in-Some.is c.self.invariant.0 c.args.key _ c.next.ensures (search rules) c.finish.ensures.tasks c.finish.ensures.line, search rules, search rules)

@@ -1,6 +1,0 @@
-use Rattle.std.proofs.Common.{length}
-use Rattle.calloop_wake.proofs.Levels.{place-small}
-use Rattle.calloop_wake.proofs.vacancies.+grow.Goals as goal
-
-pub extend-requires : goal.extend-requires
-extend-requires t c = place-small (length c.in-Some.below.now) c.args.slot c.requires.small

@@ -1,0 +1,299 @@
+//! Where the futures of an executor are, under a lock of their own that has the name of its cell. A future may keep a waker, which reaches
+//! the cell, so they lie apart from it.
+ghost use Rattle.std.specs.Prelude.{◌≡◌, ◌≢◌, ◌+◌, [], ℕ, None, Some, IfOk, IfErr, IfSome, IfNone, true, false};
+ghost use Rattle.slab.specs.Slab.{get as value_at};
+ghost use Rattle.calloop_wake.specs.Homes.{place_in, places_of};
+ghost use Rattle.calloop_wake.specs.declared.homes.Place.TheVariants.{Empty, Here};
+
+use super::ghosts::{Count, Name};
+use super::locked::Core;
+use super::tasks::TaskKey;
+use super::{Last, Receipt, Tally};
+use counted_slot::Fits;
+use slab::Slab;
+use std::alloc::{AllocError, Global};
+use std::marker::Model;
+use std::mem;
+
+/// The right to the places of the futures of the executor of this name. There is one for each, made with its cell, and it can't be cloned.
+#[derive(Drop)]
+pub struct KeepingRight {
+    pub(crate) name: Name,
+}
+
+/// A task of this key was put into the cell of this name, and its future is still to be kept.
+#[derive(Drop)]
+pub struct DueReceipt {
+    pub(crate) name: Name,
+    pub(crate) number: Count,
+    pub(crate) key: TaskKey,
+    pub(crate) home: usize,
+}
+
+/// A task that was popped from the cell of this name, whose future is to be polled.
+#[must_use]
+pub struct PoppedTask {
+    pub(crate) name: Name,
+    pub(crate) key: TaskKey,
+    pub(crate) home: usize,
+}
+
+impl PoppedTask {
+    /// The place of its future.
+    pub fn home(&self) -> usize
+        ensures { result ≡ self.now.home }
+    {
+        self.home
+    }
+}
+
+/// The place of one future.
+#[derive(Drop)]
+pub enum Place<F> {
+    /// It is to come, or in its poll.
+    Empty,
+    /// It is to come, and a turn has looked for it.
+    Missed,
+    /// The future of the task of this key.
+    Here(TaskKey, F),
+}
+
+/// A future that was taken out of its place for its poll.
+#[must_use]
+pub struct TakenFuture<F> {
+    pub future: F,
+    pub task: PoppedTask,
+}
+
+/// The places of an executor's futures. It has no `Drop`: it lies under a lock, whose last drop ends it.
+pub struct Homes<F: Drop> {
+    // None once the executor is gone.
+    places: Option<Slab<Place<F>>>,
+    name: Name,
+}
+
+impl<F: Drop> Model for Homes<F> {
+    ghost use Rattle.std.specs.Prelude.{not, is_some};
+    ghost use Rattle.calloop_wake.specs.Homes.{HomesView, places_of};
+
+    ghost Value = { HomesView F };
+
+    ghost view = { λ h. record { places = places_of h.places; gone = not (is_some h.places); name = h.name } };
+}
+
+impl<F: Drop> Fits for Homes<F> {
+    ghost use Rattle.std.specs.Prelude.{◌≡◌};
+
+    type Tag = Name;
+
+    ghost fits = { λ tag homes. homes.name ≡ tag };
+}
+
+impl<F: Drop> Core for Homes<F> {
+    fn dissolve(self, last: Last) {
+        last.end();
+        let Homes { places: _, name: _ } = self;
+    }
+}
+
+// Puts this into the place: what stood there before. Where there is no such place, it comes back.
+fn exchange<F: Drop>(
+    places: &mut Slab<Place<F>>,
+    home: usize,
+    next: Place<F>,
+) -> Result<Place<F>, Place<F>>
+    ensures was { IfOk result (λ before. value_at places.old home ≡ Some before) }
+    ensures is { IfOk result (λ before. value_at places.new home ≡ Some next) }
+    ensures none { IfErr result (λ back. (back ≡ next) × (value_at places.old home ≡ None)) }
+    ensures same { IfErr result (λ back. value_at places.new home ≡ None) }
+    ensures others { (other : ℕ) → other ≢ home
+        → value_at places.new other ≡ value_at places.old other }
+{
+    match places.get_mut(home) {
+        Some(place) => Ok(mem::replace(place, next)),
+        None => Err(next),
+    }
+}
+
+impl<F: Drop> Homes<F> {
+    /// No future, under the name of the right.
+    pub fn new(alloc: Global, right: KeepingRight) -> (Homes<F>, Name)
+        ensures homes { result.0 ≡ record { places = []; gone = false; name = right.name } }
+        ensures name { result.1 ≡ right.name }
+    {
+        let KeepingRight { name } = right;
+        let homes = Homes {
+            places: Some(Slab::new(alloc)),
+            name: name.again(),
+        };
+        (homes, name)
+    }
+
+    /// A place for a future that is to come. It is refused where the executor is gone, or for lack of memory.
+    pub fn reserve(&mut self) -> Option<Result<usize, AllocError>>
+        ensures gone { (result ≡ None) → (self.old.gone ≡ true) }
+        ensures place { IfSome result (λ answer. IfOk answer (λ home.
+            (place_in self.old home ≡ None) × (place_in self.new home ≡ Some Empty))) }
+        ensures name { self.new.name ≡ self.old.name }
+    {
+        let Some(places) = &mut self.places else {
+            return None;
+        };
+        match places.insert(Place::Empty) {
+            Ok(home) => Some(Ok(home)),
+            Err(_) => Some(Err(AllocError)),
+        }
+    }
+
+    // Puts this into the place: what stood there before, or this itself, where there is no such place.
+    fn put(&mut self, home: usize, next: Place<F>) -> Result<Place<F>, Place<F>>
+        ensures was { IfOk result (λ before. place_in self.old home ≡ Some before) }
+        ensures is { IfOk result (λ before. place_in self.new home ≡ Some next) }
+        ensures none { IfErr result (λ back. (back ≡ next) × (place_in self.old home ≡ None)) }
+        ensures others { (other : ℕ) → other ≢ home
+            → place_in self.new other ≡ place_in self.old other }
+        ensures name { (self.new.name ≡ self.old.name) × (self.new.gone ≡ self.old.gone) }
+    {
+        match &mut self.places {
+            Some(places) => exchange(places, home, next),
+            None => Err(next),
+        }
+    }
+
+    /// Keeps the future of a task that was put, in its place; then there is a receipt of the task. Where the executor is gone, and with it
+    /// its places, the future comes back. The first answer says whether a turn has looked for it before.
+    pub fn keep(&mut self, due: DueReceipt, future: F) -> (Receipt, Result<Place<F>, Place<F>>)
+        requires { due.name ≡ self.old.name }
+        ensures receipt { result.0 ≡ record { name = due.name; number = due.number } }
+        ensures kept { IfOk result.1 (λ before.
+            place_in self.new due.home ≡ Some (Here due.key future)) }
+        ensures was { IfOk result.1 (λ before. place_in self.old due.home ≡ Some before) }
+        ensures back { IfErr result.1 (λ back. (back ≡ Here due.key future)
+            × (place_in self.old due.home ≡ None)) }
+        ensures others { (other : ℕ) → other ≢ due.home
+            → place_in self.new other ≡ place_in self.old other }
+        ensures name { self.new.name ≡ self.old.name }
+    {
+        let DueReceipt {
+            name,
+            number,
+            key,
+            home,
+        } = due;
+        let before = self.put(home, Place::Here(key, future));
+        (Receipt { name, number }, before)
+    }
+
+    /// Takes the future of a task that was popped out of its place, for its poll. Where it is still to come, its place keeps that a turn has
+    /// looked for it, and the tally counts that.
+    pub fn take(&mut self, popped: PoppedTask, tally: &mut Tally) -> Option<TakenFuture<F>>
+        requires { (popped.name ≡ self.old.name) × (tally.old.name ≡ self.old.name) }
+        ensures some { IfSome result (λ taken.
+            (place_in self.old popped.home ≡ Some (Here popped.key taken.future))
+            × (taken.task ≡ popped)) }
+        ensures same { IfSome result (λ _. tally.new ≡ tally.old) }
+        ensures none { IfNone result
+            (tally.new ≡ record tally.old { misses = tally.old.misses + 1 }) }
+        ensures others { (other : ℕ) → other ≢ popped.home
+            → place_in self.new other ≡ place_in self.old other }
+        ensures name { self.new.name ≡ self.old.name }
+    {
+        let before = match self.put(popped.home, Place::Empty) {
+            Ok(before) => before,
+            Err(back) => back,
+        };
+        match before {
+            Place::Here(key, future) => {
+                if key == popped.key {
+                    return Some(TakenFuture {
+                        future,
+                        task: popped,
+                    });
+                }
+                self.miss(popped, tally);
+                None
+            }
+            Place::Missed => {
+                self.miss(popped, tally);
+                None
+            }
+            Place::Empty => {
+                self.miss(popped, tally);
+                None
+            }
+        }
+    }
+
+    // The future of a task that was popped is still to come.
+    fn miss(&mut self, popped: PoppedTask, tally: &mut Tally)
+        ensures tally { tally.new ≡ record tally.old { misses = tally.old.misses + 1 } }
+        ensures others { (other : ℕ) → other ≢ popped.home
+            → place_in self.new other ≡ place_in self.old other }
+        ensures name { self.new.name ≡ self.old.name }
+    {
+        let PoppedTask {
+            name: _,
+            key: _,
+            home,
+        } = popped;
+        let before = self.put(home, Place::Missed);
+        drop(before);
+        tally.misses = tally.misses.next();
+    }
+
+    /// Puts a future back into its place after a poll that was pending. Where the executor is gone, it comes back.
+    pub fn put_back(&mut self, taken: TakenFuture<F>) -> Result<Place<F>, Place<F>>
+        requires { taken.task.name ≡ self.old.name }
+        ensures kept { IfOk result (λ before.
+            place_in self.new taken.task.home ≡ Some (Here taken.task.key taken.future)) }
+        ensures back { IfErr result (λ back. back ≡ Here taken.task.key taken.future) }
+        ensures others { (other : ℕ) → other ≢ taken.task.home
+            → place_in self.new other ≡ place_in self.old other }
+        ensures name { self.new.name ≡ self.old.name }
+    {
+        let TakenFuture { future, task } = taken;
+        let PoppedTask { name: _, key, home } = task;
+        self.put(home, Place::Here(key, future))
+    }
+
+    /// Gives the place of a task up whose future gave its result.
+    pub fn finish(&mut self, task: PoppedTask) -> Option<Place<F>>
+        requires { task.name ≡ self.old.name }
+        ensures gives { result ≡ place_in self.old task.home }
+        ensures freed { place_in self.new task.home ≡ None }
+        ensures others { (other : ℕ) → other ≢ task.home
+            → place_in self.new other ≡ place_in self.old other }
+        ensures name { self.new.name ≡ self.old.name }
+    {
+        let PoppedTask {
+            name: _,
+            key: _,
+            home,
+        } = task;
+        self.free(home)
+    }
+
+    /// Gives a place up that was reserved for a task which wasn't put.
+    pub fn free(&mut self, home: usize) -> Option<Place<F>>
+        ensures gives { result ≡ place_in self.old home }
+        ensures freed { place_in self.new home ≡ None }
+        ensures others { (other : ℕ) → other ≢ home
+            → place_in self.new other ≡ place_in self.old other }
+        ensures name { self.new.name ≡ self.old.name }
+    {
+        match &mut self.places {
+            Some(places) => places.try_remove(home),
+            None => None,
+        }
+    }
+
+    /// The executor is gone: its futures come out, to be dropped outside of the lock.
+    pub fn close(&mut self) -> Option<Slab<Place<F>>>
+        ensures gives { places_of result ≡ self.old.places }
+        ensures gone { self.new.gone ≡ true }
+        ensures places { (home : ℕ) → place_in self.new home ≡ None }
+        ensures name { self.new.name ≡ self.old.name }
+    {
+        self.places.take()
+    }
+}

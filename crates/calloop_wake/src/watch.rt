@@ -1,0 +1,41 @@
+//! The watch of a board, in which each look at the board and each taking of its keys is noted.
+ghost use Rattle.std.specs.Prelude.{◌≡◌};
+ghost use Rattle.calloop_wake.specs.Watches.{with_note};
+ghost use Rattle.calloop_wake.specs.declared.notes.Note.TheVariants.{Counted};
+
+use super::ghosts::{Name, Notes};
+use super::notes::{LentBoardNote, Note};
+
+/// The loop's end of the board of this name: what was done to the board for it, in order. There is one for each board,
+/// and it can't be cloned.
+#[derive(Drop)]
+pub struct Watch {
+    pub(crate) name: Name,
+    pub(crate) notes: Notes<Note>,
+}
+
+impl Watch {
+    /// Notes how many places were open when they were counted.
+    pub fn note_count(&mut self, places: OpenPlaces)
+        requires { places.name ≡ self.old.name }
+        ensures { self.new ≡ with_note (Counted places.number) self.old }
+    {
+        self.notes = self.notes.and(LentBoardNote::Counted(places.number));
+    }
+}
+
+/// How many places of the board of this name were open when they were counted. Only the board gives it.
+#[derive(Drop)]
+pub struct OpenPlaces {
+    pub(crate) number: usize,
+    pub(crate) name: Name,
+}
+
+impl OpenPlaces {
+    /// How many there were.
+    pub fn number(&self) -> usize
+        ensures { result ≡ self.now.number }
+    {
+        self.number
+    }
+}
