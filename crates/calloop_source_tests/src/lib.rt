@@ -1,4 +1,4 @@
-//! Tests of `calloop_core`, over what it shows to other crates.
+//! Tests of `calloop_poll`, `calloop_script`, `calloop_mio` and `calloop_sources`, over what these show to other crates.
 #![tactic(auto)]
 
 #[cfg(test)]

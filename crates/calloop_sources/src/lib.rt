@@ -1,4 +1,4 @@
-//! What the loop's sources stand on: pollers and clocks, what a source registers with, and callbacks.
+//! What a source and its callback are, and sources that need no cell: timers, descriptors, and sources made of others.
 #![tactic(auto)]
 
 pub mod both;

@@ -64,7 +64,7 @@ fn a_listener_and_a_udp_socket_refuse_to_be_read_and_written(rt: HostRuntime) {
     let listener = TcpListener::bind(&rt, any_port()).expect(&rt, "a listener");
     let port = listener.local_addr().expect(&rt, "an address").port();
     // The port makes the name one that nobody else has.
-    let name = format!(in rt.alloc(); "calloop_core_tests {port}").expect(&rt, "a name");
+    let name = format!(in rt.alloc(); "calloop_source_tests {port}").expect(&rt, "a name");
     let address = UnixAddr::from_abstract_name(name.as_bytes()).expect(&rt, "an address");
     let unix_listener = UnixListener::bind_addr(&rt, &address).expect(&rt, "a listener");
     let socket = UdpSocket::bind(&rt, any_port()).expect(&rt, "a socket");
