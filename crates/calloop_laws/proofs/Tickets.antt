@@ -10,7 +10,7 @@ use Rattle.calloop_loop.specs.declared.asks.Answer.{Answer}
 use Rattle.calloop_loop.specs.declared.asks.Answer.TheVariants.{Done}
 use Rattle.calloop_loop.specs.declared.asks.Answered.{Answered}
 use Rattle.calloop_loop.specs.declared.asks.Asked.{Asked}
-use Rattle.calloop_loop.specs.Askings.{Asks, AskStep, Write, Take, Runs, ask_after, asks_after, all_handed, handed_by, without, taken_from, answers_to, begun_from, is_since}
+use Rattle.calloop_loop.specs.Askings.{Asks, AskStep, Write, Take, Runs, ask_after, asks_after, all_handed, handed_by, without, taken_from, answers_to, begun_from, last_ticket, stays_on}
 use Rattle.calloop_loop.specs.Held.{Held, HeldStep, Listed, Unlisted, Pend, Asking, Begun, Told, Owe, Paid, Cleared, Warned, StopNoted, IdleIn, IdleNew, IdleOut, IdlesTaken, IdleBegun, held_after}
 use Rattle.calloop_loop.specs.Machine.{World, IsNew, Change, Put, Claim, Swapped, Polls, Polling, Watching, Counting, Gathered, Appended, Holds, Cut, Ended, world_after, world_after_all, handed_in}
 use Rattle.calloop_loop.specs.Rules.{Run, all_traced}
@@ -61,7 +61,7 @@ tallied_step k handed Begun h = rw (append_nil handed) (tallied_begun k.asks k.a
 tallied_step k handed (Told answer) h = rw (append_nil handed) (λ n. omega (arith, h n, counted-append (is_answered_as n) k.asks.answers (answers_to k.asks.serving answer), counted-answering n k.asks.serving answer))
 tallied_step k handed Owe h = rw (append_nil handed) (λ n. omega (arith, h n))
 tallied_step k handed (Paid answer) h = rw (append_nil handed) (λ n. omega (arith, h n, counted-append (is_answered_as n) k.asks.answers (answers_to k.asks.owed answer), counted-answering n k.asks.owed answer))
-tallied_step k handed Cleared h = rw (append_nil handed) (λ n. omega (arith, h n, counted-filter (is_answered_as n) (is_since k.asks.taken_up_at) k.asks.answers))
+tallied_step k handed Cleared h = rw (append_nil handed) (λ n. omega (arith, h n, counted-filter (is_answered_as n) (stays_on k.asks.taken_up_at k.asks.cleared_at (last_ticket k.asks.idles)) k.asks.answers))
 tallied_step k handed (Warned kept told) h = rw (append_nil handed) h
 tallied_step k handed (StopNoted note) h = rw (append_nil handed) h
 tallied_step {D} k handed (IdleIn idle) h = rw (append_nil handed) (λ n. omega (arith, h n, counted-append (is_answered_as n) k.asks.answers (answers_to k.asks.serving Done), counted-answering {D = D} n k.asks.serving Done))

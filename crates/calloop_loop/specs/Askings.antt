@@ -17,6 +17,10 @@ use Rattle.std.specs.Prelude.{
   not,
   nat_eq,
   nat_le,
+  nat_lt,
+  length,
+  ◌&&◌,
+  ◌||◌,
   Bool,
   Option,
   Some,
@@ -51,6 +55,8 @@ pub record Asks (D I : Type 0) : Type 0 where
   pub owed : Option ℕ
   -- the next ticket when idles were last taken up
   pub taken_up_at : ℕ
+  -- the next ticket when answers were last cleared
+  pub cleared_at : ℕ
   -- the source in whose turn requests are lent
   pub turn : Option RegistrationToken
 
@@ -146,13 +152,24 @@ with_answer_owed q = record q { owed = q.serving; serving = None }
 abbrev pub with_owed_answer : {D I : Type 0} → Answer D → Asks D I → Asks D I
 with_owed_answer answer q = record q { answers = q.answers ++ answers_to q.owed answer; owed = None }
 
-abbrev pub is_since : {D : Type 0} → (ticket : ℕ) → Answered D → Bool
-is_since ticket a = nat_le ticket a.ticket
+abbrev pub ticket_of : {I : Type 0} → Option (Idling I) → ℕ
+ticket_of None = 0
+ticket_of (Some i) = i.ticket
 
--- Answers that weren't handed out are gone, but for those to what was asked for since idles were last taken up: an idle
--- that was asked for beside it hasn't run.
+-- the ticket of the last idle that waits, or 0 if none does
+abbrev pub last_ticket : {I : Type 0} → List (Idling I) → ℕ
+last_ticket idles = ticket_of (slice_get idles (length idles - 1))
+
+-- An answer stays if it is to what was asked for since idles were last taken up, and either since answers were last cleared, or
+-- before an idle that waits still, which may ask for it. In calloop a call of the handle answers at once.
+abbrev pub stays_on : {D : Type 0} → (taken_up_at cleared_at last : ℕ) → Answered D → Bool
+stays_on taken_up_at cleared_at last a =
+    nat_le taken_up_at a.ticket && (nat_le cleared_at a.ticket || nat_lt a.ticket last)
+
+-- the others are gone, if they weren't handed out
 abbrev pub without_old : {D I : Type 0} → Asks D I → Asks D I
-without_old q = record q { answers = filter (is_since q.taken_up_at) q.answers }
+without_old q =
+    record q { answers = filter (stays_on q.taken_up_at q.cleared_at (last_ticket q.idles)) q.answers; cleared_at = q.next }
 
 -- Idles: calloop's insert_idle, Idle::cancel and dispatch_idles.
 
@@ -208,6 +225,7 @@ no_asks =
       serving = None;
       owed = None;
       taken_up_at = 0;
+      cleared_at = 0;
       turn = None;
     }
 

@@ -5,7 +5,7 @@ ghost use Rattle.std.specs.VecDeque.{deque_len, deque_capacity};
 ghost use Rattle.calloop_slots.specs.declared.error.Error.TheVariants.{OutOfMemory, TooManyTickets};
 ghost use Rattle.calloop_loop.specs.declared.asks.Request.TheVariants.{Insert, Enable, Update, Disable, Remove, Idle as IdleOf, Cancel};
 ghost use Rattle.calloop_loop.specs.declared.asks.Answer.TheVariants.{Removed};
-ghost use Rattle.calloop_loop.specs.Askings.{IsAsked, CannotAsk, OnlyAsks, StandsAt, Take, ask_after, after_begin, without_old, answer_under, idle_begun, is_other_idle, is_since, no_asks, of_turn, with_answer_owed, with_owed_answer, request_of, running_of, taken_up, with_answer, with_idle, with_new_idle, without, without_idle};
+ghost use Rattle.calloop_loop.specs.Askings.{IsAsked, CannotAsk, OnlyAsks, StandsAt, Take, ask_after, after_begin, without_old, answer_under, idle_begun, is_other_idle, last_ticket, no_asks, of_turn, stays_on, with_answer_owed, with_owed_answer, request_of, running_of, taken_up, with_answer, with_idle, with_new_idle, without, without_idle};
 
 use calloop_slots::error::{Error, InsertError, Result};
 use calloop_slots::token::RegistrationToken;
@@ -106,8 +106,9 @@ pub struct Requests<D, I = ()> {
     running: VecDeque<Idling<I>>,
     serving: Option<u64>,
     owed: Option<u64>,
-    // The next ticket when idles were last taken up.
+    // The next ticket when idles were last taken up, and when answers were last cleared.
     taken_up_at: u64,
+    cleared_at: u64,
     // The source in whose turn this is lent.
     turn: Option<RegistrationToken>,
 }
@@ -129,6 +130,7 @@ impl<D, I> Model for Requests<D, I> {
           serving = r.serving;
           owed = r.owed;
           taken_up_at = r.taken_up_at;
+          cleared_at = r.cleared_at;
           turn = r.turn;
         } };
 
@@ -163,6 +165,7 @@ impl<D, I> Requests<D, I> {
             serving: None,
             owed: None,
             taken_up_at: 0,
+            cleared_at: 0,
             turn: None,
         }
     }
@@ -342,9 +345,10 @@ impl<D, I> Requests<D, I> {
         self.turn
     }
 
-    /// What came of the request of this ticket, once it was carried out. It is handed out once, and is gone when a dispatch begins
-    /// after the idles that were asked for beside it were taken up: the next one, or a later one where dispatches fail before their
-    /// idles or where an idle asked for it. In calloop a call of the handle answers at once.
+    /// What came of the request of this ticket, once it was carried out. It is handed out once. It is gone when a dispatch has made its
+    /// room after the idles that were asked for beside it were taken up. If dispatches fail before their idles, it stays until the end of
+    /// the next dispatch that made its room, and longer only while an idle that was asked for after it waits. In calloop a call of the
+    /// handle answers at once.
     pub fn answer(&mut self, ticket: Ticket) -> Option<Answer<D>>
         ensures value { result ≡ answer_under ticket.number self.old.answers }
         ensures rest { self.new ≡ ask_after self.old (Take ticket.number) }
@@ -458,13 +462,16 @@ impl<D, I> Requests<D, I> {
         }
     }
 
-    // Answers to what was asked for before idles were last taken up are gone: what was asked beside them has run.
+    // A dispatch begins. Answers to what was asked for before idles were last taken up are gone: what was asked beside them has run.
+    // So are those to what was asked for before the dispatch before this one, unless an idle that was asked for later waits still.
     pub(super) fn clear_answers(&mut self)
     where
         D: Drop,
         ensures { self.new ≡ without_old self.old }
     {
-        drop_before(&mut self.answers, self.taken_up_at);
+        let last = last_ticket(&self.idles);
+        drop_old(&mut self.answers, self.taken_up_at, self.cleared_at, last);
+        self.cleared_at = self.next;
     }
 
     // Puts the idle of the request that is carried out at the end, and answers that.
@@ -609,13 +616,31 @@ fn take_out<I: Drop>(idles: &mut VecDeque<Idling<I>>, ticket: u64)
     idles.retain(|other| other.ticket != ticket);
 }
 
-// Drops those under lower tickets.
-fn drop_before<D: Drop>(answers: &mut Vec<Answered<D>>, ticket: u64)
-    ensures items { answers.new.items ≡ filter (is_since ticket) answers.old.items }
+// The ticket of the last idle, or 0 if there is none.
+fn last_ticket<I>(idles: &VecDeque<Idling<I>>) -> u64
+    ensures { result ≡ last_ticket idles.now.items }
+{
+    match idles.back() {
+        Some(idle) => idle.ticket,
+        None => 0,
+    }
+}
+
+// Drops those under tickets before `taken_up_at`, and of the others those that are neither since `cleared_at` nor before `last`.
+fn drop_old<D: Drop>(
+    answers: &mut Vec<Answered<D>>,
+    taken_up_at: u64,
+    cleared_at: u64,
+    last: u64,
+)
+    ensures items { answers.new.items
+        ≡ filter (stays_on taken_up_at cleared_at last) answers.old.items }
     ensures room { (vec_len answers.new ≤ vec_len answers.old)
         × (vec_capacity answers.new ≡ vec_capacity answers.old) }
 {
-    answers.retain(|answered| answered.ticket >= ticket);
+    answers.retain(|answered| {
+        answered.ticket >= taken_up_at && (answered.ticket >= cleared_at || answered.ticket < last)
+    });
 }
 
 // Where the answer under this ticket stands.
