@@ -74,8 +74,8 @@ impl<D: EventDispatcher<P, C, R>, P: Poller, C: Clock, R: Wait + Drop> EventLoop
     ///
     /// What callbacks ask for in a turn is carried out in order when it ends, before that. When the batch is empty, the idles that
     /// stand then run once each, in order, with what each asks for after it; later ones wait for the next dispatch, and after an error
-    /// none runs. Warnings of before are cleared at the beginning, and so are answers to what was asked for before idles were last
-    /// taken up.
+    /// none runs. Warnings of before are cleared at the beginning, and so are answers to what was asked for before idles were last taken up,
+    /// and those from before the last dispatch for which no later idle waits.
     #[inline(always)]
     pub fn dispatch<Q: Wait>(
         &mut self,

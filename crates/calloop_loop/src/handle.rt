@@ -368,7 +368,7 @@ impl<D: EventDispatcher<P, C, R>, P: Poller, C: Clock, R: Wait + Drop> LoopHandl
         self.inner.requests.take_out_idle(idle.ticket().number());
     }
 
-    /// What came of the request of this ticket, where it was carried out in the last dispatch. It is handed out once.
+    /// What came of the request of this ticket, if it was carried out. It is handed out once, and `Requests::answer` says how long it stays.
     pub fn answer(&mut self, ticket: Ticket) -> Option<Answer<D>>
         ensures same { HasTheSameLoop self.old self.new }
         ensures case { IsCase D.means D.Idle.runs P.outside

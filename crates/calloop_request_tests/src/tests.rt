@@ -74,6 +74,52 @@ const CASES: &[(&str, &[Act<'static>])] = &[
         ],
     ),
     (
+        "an_answer_is_there_behind_the_next_dispatch_though_both_fail",
+        &[
+            Act::Ping(1, &[Wish::Insert(1, PostAction::Continue)]),
+            Act::Counter(None, 2, &[]),
+            Act::Ring(0),
+            Act::Script(1, &[1_099_511_627_776]),
+            Act::Fails(&[1, 2]),
+            Act::Script(1, &[1_099_511_627_776]),
+            Act::Fails(&[2]),
+            Act::Told(0, &[("inserted", Some((2, 0)))]),
+        ],
+    ),
+    (
+        "an_answer_is_gone_behind_the_second_dispatch_though_each_fails",
+        &[
+            Act::Ping(1, &[Wish::Insert(1, PostAction::Continue)]),
+            Act::Counter(None, 2, &[]),
+            Act::Ring(0),
+            Act::Script(1, &[1_099_511_627_776]),
+            Act::Fails(&[1, 2]),
+            Act::Script(1, &[1_099_511_627_776]),
+            Act::Fails(&[2]),
+            Act::Script(1, &[1_099_511_627_776]),
+            Act::Fails(&[2]),
+            Act::Untold(0),
+        ],
+    ),
+    (
+        "an_idle_that_waits_finds_its_answer_behind_three_dispatches_that_fail",
+        &[
+            Act::Ping(
+                1,
+                &[Wish::Insert(1, PostAction::Continue), Wish::Reads(50, 0)],
+            ),
+            Act::Counter(None, 2, &[]),
+            Act::Ring(0),
+            Act::Script(1, &[1_099_511_627_776]),
+            Act::Fails(&[1, 2]),
+            Act::Script(1, &[1_099_511_627_776]),
+            Act::Fails(&[2]),
+            Act::Script(1, &[1_099_511_627_776]),
+            Act::Fails(&[2]),
+            Act::Says(Some(0), &[50, 1]),
+        ],
+    ),
+    (
         "a_callback_is_told_its_own_token_and_an_idle_none",
         &[
             Act::Ping(1, &[Wish::Own]),
