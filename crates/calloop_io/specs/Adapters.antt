@@ -11,9 +11,9 @@ use Rattle.calloop_poll.specs.declared.sys.Interest.{Interest}
 use Rattle.calloop_poll.specs.declared.sys.Readiness.{Readiness}
 use Rattle.calloop_sources.specs.declared.sources.source.PostAction.TheVariants.{Continue}
 use Rattle.calloop_sources.specs.declared.sources.dispatch.Role.TheVariants.{Adapter as AsAdapter}
-use Rattle.calloop_poll.specs.sys.Pollers.{Sockets}
+use Rattle.calloop_poll.specs.sys.Pollers.{Outside, Sockets}
 use Rattle.calloop_poll.specs.sys.Tables.{Leave, Discard}
-use Rattle.calloop_poll.specs.sys.Polls.{PollView, PollStep, Socket, polls_after, IsOfKind}
+use Rattle.calloop_poll.specs.sys.Polls.{PollView, PollStep, Socket, AllStepped, polls_after, IsOfKind}
 use Rattle.calloop_poll.specs.sys.SocketCalls.{Edits}
 use Rattle.calloop_sources.specs.Generics.{under_token}
 use Rattle.calloop_sources.specs.sources.Holdings.{holds_none}
@@ -115,6 +115,13 @@ module _ {P F R : Type 0} (sockets : Sockets P) where
   Goes (Some own) s v told steps t =
       (out : List (PollStep P)) × TakenOut sockets s.entered own v told out
       × (steps ≡ out ++ discards told own (polls_after v out).poller) × (t ≡ registered_nowhere s)
+
+  -- Its loop settles it: it leaves exactly if its state says that its other end is gone, and else stays. Calloop has no such step.
+  abbrev pub IsSettled : Outside P → Adapter F R → PollView P → Option (Result (Unit {0}) Error) → PollView P
+      → Adapter F R → Type 0
+  IsSettled O s v None w t = (steps : List (PollStep P)) × SettlesSo s v steps t × AllStepped O v steps w
+  IsSettled O s v (Some told) w t =
+      (steps : List (PollStep P)) × Goes s.token (and_did (SettledSo IsToLeave) s) v told steps t × AllStepped O v steps w
 
   module _ {X Q : Type 0} where
     -- its turn keeps what was found, which lies under a lock, and calls nobody but who waits for it

@@ -1,7 +1,7 @@
 //! The loop's end of an adapter: what stands in a slot.
 ghost use Rattle.std.specs.Prelude.{◌≡◌, None, false, List, ℕ};
 ghost use Rattle.calloop_poll.specs.sys.Polls.{PollStep, poll_view, AllStepped, IsReady};
-ghost use Rattle.calloop_io.specs.Adapters.{Registers, TakenOut, Leaves, Goes, left_so, registered_nowhere};
+ghost use Rattle.calloop_io.specs.Adapters.{Registers, TakenOut, Leaves, Goes, IsSettled, left_so, registered_nowhere};
 
 use super::notes::Settled;
 use super::refusal::Refusal;
@@ -14,7 +14,7 @@ use calloop_poll::sys::{Interest, Poller, Readiness};
 use calloop_slots::error::{Error, Failed, Result as LoopResult, store_error};
 use calloop_slots::token::{RegistrationToken, Token, TokenFactory};
 use calloop_sources::callbacks::QuietDispatch;
-use calloop_sources::sources::{Asking, Dispatch, Here, Place, PostAction, Role};
+use calloop_sources::sources::{Asking, Dispatch, Here, Keep, Place, PostAction, Role};
 use std::io;
 use std::os::fd::AsRawFd;
 use std::sync::Wait;
@@ -225,13 +225,17 @@ impl<F: AsRawFd + Drop, P: Poller, C, R: Wait + Drop, X, Q: Asking> Dispatch<P, 
         Role::Adapter
     }
 
-    /// Takes up what its last poll waits for, and keeps a refusal of that for the next one; where it was dropped, it leaves. A fault of
-    /// the poller, or a socket that was taken out, is answered then, and its key goes all the same.
+    /// Takes up what its last poll waits for, and keeps a refusal of that for the next one. It leaves exactly if its state says that its
+    /// `Async` was dropped. A fault of the poller, or a socket that was taken out, is answered then, and its key goes all the same.
     fn settle(
         &mut self,
-        _token: RegistrationToken,
+        token: RegistrationToken,
         poll: &mut Poll<P, C, R>,
-    ) -> Option<LoopResult<()>> {
+    ) -> Option<LoopResult<()>>
+        ensures settles { IsSettled P.sockets P.outside self.old (poll_view poll.old) result
+            (poll_view poll.new) self.new }
+        ensures ready { (more : ℕ) → IsReady more poll.old → IsReady more poll.new }
+    {
         match self.end.settle() {
             Settled::Stays => None,
             Settled::Registers(interest) => {
@@ -272,4 +276,18 @@ impl<F: AsRawFd + Drop, R: Wait + Drop> Place<Adapter<F, R>, Here> for Adapter<F
     {
         adapter
     }
+}
+
+impl<F: AsRawFd + Drop, P: Poller, C, R: Wait + Drop, X, Q: Asking> Keep<
+    Adapter<F, R>,
+    P,
+    C,
+    R,
+    X,
+    Q,
+    Here,
+> for Adapter<F, R> {
+    ghost use Rattle.calloop_sources.specs.sources.Lawful.{held_itself};
+
+    ghost placed_means = { held_itself ⟦<Adapter<F, R> as Dispatch<P, C, R, X, Q>>⟧.means };
 }

@@ -1,6 +1,6 @@
 //! Two loops, and adapters of the one that are given back to the other.
 use super::looks::{Adapted, Held, look, new_adapted};
-use calloop::{Adapter, Async, Error, EventDispatcher, Here, Keep, Requests, ScriptLoop};
+use calloop::{Adapter, Async, Error, EventDispatcher, Here, Keep, Requests, ScriptLoop, Sources};
 use calloop_script::{ScriptIo, ScriptClock, ScriptKind, ScriptPoller};
 use std::alloc::Global;
 use std::sync::Wait;
@@ -31,6 +31,15 @@ fn an_adapter_of_another_loop_is_refused_where_the_own_one_was_dropped(rt: HostR
     );
     assert_eq!(rt; refused, Some(true));
 }
+
+#[test]
+fn a_loop_whose_last_kind_is_an_adapter_takes_one(rt: HostRuntime) {
+    let refused = refuses_a_stranger::<Alone<HostRuntime>, HostRuntime>(&rt, rt.alloc(), Own::Stays);
+    assert_eq!(rt; refused, Some(true));
+}
+
+// A loop that holds adapters alone.
+type Alone<R> = Sources<Adapter<ScriptIo, R>, ()>;
 
 /// What becomes of the adapter that a loop has under the same token.
 #[derive(Clone, Copy, PartialEq, Eq)]
