@@ -627,12 +627,7 @@ fn last_ticket<I>(idles: &VecDeque<Idling<I>>) -> u64
 }
 
 // Drops those under tickets before `taken_up_at`, and of the others those that are neither since `cleared_at` nor before `last`.
-fn drop_old<D: Drop>(
-    answers: &mut Vec<Answered<D>>,
-    taken_up_at: u64,
-    cleared_at: u64,
-    last: u64,
-)
+fn drop_old<D: Drop>(answers: &mut Vec<Answered<D>>, taken_up_at: u64, cleared_at: u64, last: u64)
     ensures items { answers.new.items
         ≡ filter (stays_on taken_up_at cleared_at last) answers.old.items }
     ensures room { (vec_len answers.new ≤ vec_len answers.old)

@@ -2,7 +2,8 @@
 //! and drops those that are silent for long.
 //!
 //! With an address, as 127.0.0.1:7000, it serves for good. With none it serves two clients of its own on a free port: one sends lines,
-//! the other one is silent; then it prints what they saw, and ends.
+//! the other one is silent; then it prints what they saw, and ends. If no descriptor is left it says so once, and stops listening until a client
+//! leaves.
 #![tactic(auto)]
 
 use anyhow::Result;
@@ -14,13 +15,13 @@ use echo::Echo;
 use mio::net::{TcpListener, TcpStream};
 use server::{Accepts, Server, Sweeps};
 use std::alloc::Global;
-use std::env;
 use std::net::{Net, SocketAddr, TcpStream as StdStream};
 use std::process::ExitCode;
 use std::rt::Runtime;
 use std::sync::Wait;
 use std::thread::{self, Threads};
 use std::time::{Clock as MachineClock, Duration};
+use std::{env, io};
 
 mod client;
 mod echo;
@@ -52,7 +53,7 @@ struct Plan {
 // Serves at this listener as the plan says. This alone knows of which types the loop is.
 fn serve<R>(rt: &R, alloc: Global, listener: TcpListener, plan: Plan) -> Result<()>
 where
-    R: Net + MachineClock + Wait + Clone + Drop,
+    R: Runtime + Net + Wait + Clone + Drop,
 {
     serve_in::<Held<R>, R>(rt, alloc, listener, plan)
 }
@@ -72,7 +73,7 @@ where
     >,
     D: Choice<Generic<TcpStream>, Echo, There<Here>>,
     D: Hold<Timer, Sweeps, Machine<R>, SystemClock<R>, R, Server<R>, Requests<D>, Third>,
-    R: Net + MachineClock + Wait + Clone + Drop,
+    R: Runtime + Net + Wait + Clone + Drop,
 {
     let mut event_loop: SystemLoop<D, R> = SystemLoop::system(rt, alloc)?;
     let clock = event_loop.clock().clone()?;
@@ -81,15 +82,29 @@ where
     let timer = Timer::from_duration(event_loop.clock(), each);
     let listening = Generic::new(listener, Interest::READ, Mode::Level);
     let mut handle = event_loop.handle();
-    handle.insert_source(listening, Accepts { alloc })?;
+    let listener = handle.insert_source(listening, Accepts { alloc })?;
     handle.insert_source(timer, Sweeps { each })?;
     for _ in rt.forever() {
+        let was_listening = server.refusal().is_none();
         event_loop.dispatch(rt, None, &mut server)?;
+        if was_listening {
+            say_refusal(rt, server.refusal());
+        }
+        if server.can_listen_again() {
+            event_loop.handle().enable(&listener)?;
+        }
         if plan.clients.is_some_and(|clients| server.left >= clients) {
             return Ok(());
         }
     }
     unreachable!()
+}
+
+// Says why no client can be let in, if so.
+fn say_refusal<R: Runtime>(rt: &R, refusal: Option<&io::Error>) {
+    if let Some(cause) = refusal {
+        let _unsaid = eprintln!(rt; "line_echo: {cause}; it listens again once a client leaves");
+    }
 }
 
 // Serves two clients of its own, and prints what they saw.

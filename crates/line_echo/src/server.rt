@@ -28,6 +28,8 @@ pub struct Server<R: MachineClock + Clone + Drop> {
     patience: Duration,
     /// How many clients have left, or were dropped.
     pub left: usize,
+    // Why no client can be let in now, as for want of descriptors, and how many had left then.
+    refusal: Option<(io::Error, usize)>,
 }
 
 impl<R: MachineClock + Clone + Drop> Server<R> {
@@ -38,7 +40,28 @@ impl<R: MachineClock + Clone + Drop> Server<R> {
             clock,
             patience,
             left: 0,
+            refusal: None,
         }
+    }
+
+    /// Why no client can be let in now: then the listener is disabled.
+    pub fn refusal(&self) -> Option<&io::Error> {
+        match &self.refusal {
+            Some((cause, _left)) => Some(cause),
+            None => None,
+        }
+    }
+
+    /// Whether the listener is to be enabled again: a client left since it was disabled, or none is there.
+    pub fn can_listen_again(&mut self) -> bool {
+        let Some((_cause, left)) = &self.refusal else {
+            return false;
+        };
+        if *left == self.left && !self.clients.is_empty() {
+            return false;
+        }
+        self.refusal = None;
+        true
     }
 
     // A client comes: its place, where there is memory for it.
@@ -95,7 +118,8 @@ where
     D: Choice<Generic<TcpStream>, Echo, There<Here>> + Drop,
     R: Wait + MachineClock + Clone + Drop,
 {
-    /// Lets one client in. `Mode::Level` tells of others that wait. What can't be had closes it.
+    /// Lets one client in. `Mode::Level` tells of others that wait. What can't be had closes it. If the machine has no descriptor left, the
+    /// client waits on, and the listener is disabled, since it would be told of it in each wait.
     fn call(
         &mut self,
         _readiness: Readiness,
@@ -103,8 +127,13 @@ where
         server: &mut Server<R>,
         requests: &mut Requests<D>,
     ) -> io::Result<PostAction> {
-        let Ok((stream, _address)) = io.accept() else {
-            return Ok(PostAction::Continue);
+        let stream = match io.accept() {
+            Ok((stream, _address)) => stream,
+            Err(cause) if is_of_one_client(cause.kind()) => return Ok(PostAction::Continue),
+            Err(cause) => {
+                server.refusal = Some((cause, server.left));
+                return Ok(PostAction::Disable);
+            }
         };
         let Some(place) = server.enter() else {
             return Ok(PostAction::Continue);
@@ -116,6 +145,14 @@ where
         }
         Ok(PostAction::Continue)
     }
+}
+
+// Whether a client that can't be let in is gone, so that others can be.
+fn is_of_one_client(kind: io::ErrorKind) -> bool {
+    matches!(
+        kind,
+        io::ErrorKind::WouldBlock | io::ErrorKind::Interrupted | io::ErrorKind::ConnectionAborted
+    )
 }
 
 /// Drops clients that are silent for too long.
