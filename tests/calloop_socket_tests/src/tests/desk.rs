@@ -50,6 +50,8 @@ pub enum Act<'a> {
     Breaks(&'a [u32]),
     /// An event of this key lets the callbacks say these numbers.
     Hears(u64, &'a [u32]),
+    /// The next wait gives so many events of this key, and a dispatch succeeds in which the callback says 1 for each.
+    HearsAll(u64, usize),
     /// The poller was called so for sockets.
     Called(&'a [ScriptCall]),
     /// It was asked for these waits, in milliseconds.
@@ -121,10 +123,11 @@ where
             Act::Ring(place) => self.rings(place),
             Act::Alarm(number) => self.alarm(number),
             Act::Idle => self.table.event_loop.handle().insert_idle(Note).is_ok(),
-            Act::Script(key) => self.scripts(key),
+            Act::Script(key) => self.scripts(key, 1),
             Act::Says(numbers) => self.says(numbers),
             Act::Breaks(numbers) => self.breaks(numbers),
-            Act::Hears(key, numbers) => self.scripts(key) && self.says(numbers),
+            Act::Hears(key, numbers) => self.scripts(key, 1) && self.says(numbers),
+            Act::HearsAll(key, count) => self.scripts(key, count) && self.says_so_often(count),
             _ => self.looks_for(act) == Some(true),
         }
     }
@@ -225,15 +228,17 @@ where
         handle.register_dispatcher(held).is_ok()
     }
 
-    fn scripts(&mut self, key: u64) -> bool {
+    fn scripts(&mut self, key: u64, count: usize) -> bool {
         let mut events = ScriptEvents::new(self.table.alloc);
         let readable = Readiness {
             readable: true,
             writable: false,
             error: false,
         };
-        if events.push(key, readable).is_err() {
-            return false;
+        for _ in 0..count {
+            if events.push(key, readable).is_err() {
+                return false;
+            }
         }
         let answer = ScriptAnswer {
             moment: Instant { nanos: 0 },
@@ -256,6 +261,11 @@ where
     fn says(&mut self, numbers: &[u32]) -> bool {
         let (answer, said) = self.dispatch();
         answer.is_ok() && said.as_slice() == numbers
+    }
+
+    fn says_so_often(&mut self, count: usize) -> bool {
+        let (answer, said) = self.dispatch();
+        answer.is_ok() && said.len() == count && said.iter().all(|number| *number == 1)
     }
 
     fn breaks(&mut self, numbers: &[u32]) -> bool {

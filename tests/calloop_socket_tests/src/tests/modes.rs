@@ -19,6 +19,22 @@ const CASES: &[(&str, &[Act<'static>])] = &[
         ],
     ),
     (
+        "two_events_of_one_key_in_an_answer_are_two_calls",
+        &[
+            Act::Socket(Interest::READ, Mode::Edge, GOES_ON),
+            Act::HearsAll(KEY, 2),
+            Act::Says(&[]),
+        ],
+    ),
+    (
+        "each_of_1024_events_in_an_answer_is_a_call",
+        &[
+            Act::Socket(Interest::READ, Mode::Edge, GOES_ON),
+            Act::HearsAll(KEY, 1_024),
+            Act::Says(&[]),
+        ],
+    ),
+    (
         "one_shot_hears_one_event_until_it_is_updated",
         &[
             Act::Socket(Interest::READ, Mode::OneShot, GOES_ON),

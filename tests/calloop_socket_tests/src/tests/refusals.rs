@@ -91,6 +91,21 @@ fn each_case_of_refusals_goes_as_it_is_to(rt: HostRuntime) {
 }
 
 #[test]
+fn a_socket_whose_callback_has_an_error_of_the_loop_is_unwrapped(rt: HostRuntime) {
+    let idle: Generic<ScriptIo, calloop::Error> = Generic::new_with_error(
+        ScriptIo { number: 5 },
+        Interest::BOTH,
+        Mode::Level,
+    );
+    assert_eq!(rt; idle.interest, Interest::BOTH);
+    assert_eq!(rt; idle.get_ref().number, 5);
+    match idle.unwrap() {
+        Ok(io) => assert_eq!(rt; io.number, 5),
+        Err(_) => assert!(rt; false),
+    }
+}
+
+#[test]
 fn a_socket_is_unwrapped_where_it_is_not_registered(rt: HostRuntime) {
     let idle: Generic<ScriptIo, io::Error> = Generic::new(
         ScriptIo { number: 4 },
