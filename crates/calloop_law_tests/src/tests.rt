@@ -10,7 +10,7 @@ use calloop_wake_laws::{
     can_be_delivered, lost_is_not_covered, nothing_is_lost, out_of_reach,
     schedules_of_one_board_that_there_are, schedules_of_queues_that_there_are,
     schedules_that_there_are, schedules_that_there_are_not, steps_are_the_machines,
-    turns_that_end_at_their_bound,
+    steps_that_are_not_the_machines, turns_that_end_at_their_bound,
 };
 
 // Counts its calls.
@@ -36,6 +36,7 @@ fn the_law_of_all_schedules_rules_some_states_out(_rt: HostRuntime) {
     turns_that_end_at_their_bound();
     schedules_that_there_are_not();
     steps_are_the_machines();
+    steps_that_are_not_the_machines();
 }
 
 #[test]

@@ -2,7 +2,7 @@
 //! wrong ones that the laws rule out. Nothing of `calloop_wake` stands on them.
 #![tactic(auto)]
 
-ghost use Rattle.std.specs.Prelude.{◌≡◌, ◌+◌, ◌&&◌, nat_lt, ℕ, List, Bool, true, None, Some, if◌then◌else◌};
+ghost use Rattle.std.specs.Prelude.{◌≡◌, ◌+◌, ◌&&◌, nat_lt, ℕ, List, Bool, true, false, None, Some, if◌then◌else◌};
 ghost use Rattle.calloop_wake.specs.Cells.{Cell, fresh, one, opens, debt_of, owed_at, after_ring, after_close, after_set_key, after_clear_key, after_open_turn, after_end_turn};
 ghost use Rattle.calloop_wake.specs.Boards.{is_marked, any_marked, wakes, after_open_place, after_close_place, after_post, after_unpost};
 ghost use Rattle.calloop_wake.specs.Bells.{after_ping, owed_if};
@@ -18,7 +18,7 @@ ghost use Rattle.calloop_wake_laws.specs.ChannelKind as channel;
 ghost use Rattle.calloop_wake_laws.specs.ChannelKind.{ChannelPast, channel_kind};
 ghost use Rattle.calloop_wake_laws.specs.Kinds.{First, Second, every_kind, Born, new_cell};
 ghost use Rattle.calloop_wake_laws.specs.Delivery.{CanBeDelivered};
-ghost use Rattle.calloop_wake_laws.specs.StepsOfCores.{with_step, with_permit, with_place_taken};
+ghost use Rattle.calloop_wake_laws.specs.StepsOfCores.{with_key_7, with_place_9_opened, with_step, with_permit, with_place_taken};
 ghost use Rattle.calloop_wake_laws.specs.Lost.{of_pings, of_channels, with_a_ring_unseen, with_a_close_unseen, with_a_key_forgotten, with_nobody_told, with_nobody_told_in_a_wait, with_a_sleeper_left_alone, with_a_message_unseen, with_a_message_lost, with_messages_out_of_order, with_a_close_told_twice, with_a_close_told_early, with_a_close_told_of_an_open_channel, with_a_message_too_many, with_too_long_a_turn, of_executors, with_a_task_unseen, with_a_task_queued_twice, with_a_finished_task_queued, with_a_result_twice, with_a_result_of_a_task_that_runs, with_a_woken_task_unseen, with_a_task_polled_by_nobody, with_a_number_twice, with_the_next_number};
 ghost use Rattle.calloop_wake_laws.specs.Lost.{with_a_ring_unseen_in_the_second_cell, with_the_second_key_forgotten, with_nobody_told_of_the_second_key, with_a_close_told_before_it_came, with_another_key, with_an_endless_turn};
 ghost use Rattle.calloop_wake_laws.specs.ExampleSchedules.{ring_in_a_wait, post_between_look_and_sleep, ring_in_a_turn, close_in_a_turn, pass_that_goes_back, key_that_moves, key_that_is_cleared, drop_in_a_turn, wait_without_a_sleep, message_in_a_turn, close_behind_a_message, of_key_seven, of_key_nine, after_message_in_a_turn, after_close_behind_a_message, task_in_a_turn, wake_in_a_wait, executor_that_goes, after_task_in_a_turn};
@@ -196,6 +196,20 @@ pub fn schedules_that_there_are_not()
     ensures no_turn { ¬ IsSchedule every_kind of_channels pop_without_a_turn }
     ensures bound { ¬ IsSchedule every_kind of_bounded_channels put_past_the_bound }
     ensures task { ¬ IsSchedule every_kind of_executors turn_that_stops_behind_a_task }
+{}
+
+/// Small steps that aren't the machine's, each at its own core's step: a ring that changes the cell beside; one that owes nothing, though the cell
+/// has a key and wasn't pinged; a key that goes and gives no permit to close its place; and a key that is given whose place counts as opened still.
+pub fn steps_that_are_not_the_machines()
+    ensures other_cell { ¬ (after ping_kind with_key_7 (At 0 Ring)
+        ≡ with_step 1 (after_ring (with_key_7.cells 1)) (debt_of (with_key_7.cells 1)) with_key_7) }
+    ensures no_debt { ¬ (after ping_kind with_key_7 (At 0 Ring)
+        ≡ with_step 0 (after_ring (with_key_7.cells 0)) None with_key_7) }
+    ensures no_permit { ¬ (after ping_kind with_key_7 (ClearKey 0 false)
+        ≡ with_step 0 (after_clear_key false (with_key_7.cells 0)) None with_key_7) }
+    ensures place_stays { ¬ (after ping_kind with_place_9_opened (SetKey 0 9)
+        ≡ with_permit (Some 7) (with_step 0 (after_set_key 9 (with_place_9_opened.cells 0)) None
+        with_place_9_opened)) }
 {}
 
 /// What the core of a ping, of a channel or of an executor gives by a step is what the machine's step gives: the cell after it, the debt, and the permit
