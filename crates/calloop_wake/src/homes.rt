@@ -1,9 +1,9 @@
 //! Where the futures of an executor are, under a lock of their own that has the name of its cell. A future may keep a waker, which reaches
 //! the cell, so they lie apart from it.
-ghost use Rattle.std.specs.Prelude.{◌≡◌, ◌≢◌, ◌+◌, [], ℕ, None, Some, IfOk, IfErr, IfSome, IfNone, true, false};
+ghost use Rattle.std.specs.Prelude.{◌≡◌, ◌≢◌, ◌+◌, [], ℕ, None, Some, IfOk, IfErr, IfSome, IfNone, is_some, true, false};
 ghost use Rattle.slab.specs.Slab.{get as value_at};
 ghost use Rattle.calloop_wake.specs.Homes.{place_in, places_of};
-ghost use Rattle.calloop_wake.specs.declared.homes.Place.TheVariants.{Empty, Here};
+ghost use Rattle.calloop_wake.specs.declared.homes.Place.TheVariants.{Empty, Here, Missed};
 
 use super::ghosts::{Count, Name};
 use super::locked::Core;
@@ -129,9 +129,13 @@ impl<F: Drop> Homes<F> {
         (homes, name)
     }
 
-    /// A place for a future that is to come. It is refused where the executor is gone, or for lack of memory.
+    /// A place for a future that is to come. It is refused if the executor is gone, or for lack of memory; then nothing changes.
     pub fn reserve(&mut self) -> Option<Result<usize, AllocError>>
         ensures gone { (result ≡ None) → (self.old.gone ≡ true) }
+        ensures others { IfSome result (λ answer. IfOk answer (λ home. (other : ℕ) → other ≢ home
+            → place_in self.new other ≡ place_in self.old other)) }
+        ensures refused { IfSome result (λ answer. IfErr answer (λ _. self.new ≡ self.old)) }
+        ensures none { IfNone result (self.new ≡ self.old) }
         ensures place { IfSome result (λ answer. IfOk answer (λ home.
             (place_in self.old home ≡ None) × (place_in self.new home ≡ Some Empty))) }
         ensures name { self.new.name ≡ self.old.name }
@@ -184,16 +188,21 @@ impl<F: Drop> Homes<F> {
         (Receipt { name, number }, before)
     }
 
-    /// Takes the future of a task that was popped out of its place, for its poll. Where it is still to come, its place keeps that a turn has
-    /// looked for it, and the tally counts that.
+    /// Takes the future of a task that was popped out of its place, for its poll. If it isn't there, the place keeps that a turn has looked
+    /// for it, and the tally counts that.
     pub fn take(&mut self, popped: PoppedTask, tally: &mut Tally) -> Option<TakenFuture<F>>
         requires { (popped.name ≡ self.old.name) × (tally.old.name ≡ self.old.name) }
         ensures some { IfSome result (λ taken.
             (place_in self.old popped.home ≡ Some (Here popped.key taken.future))
             × (taken.task ≡ popped)) }
         ensures same { IfSome result (λ _. tally.new ≡ tally.old) }
+        ensures emptied { IfSome result (λ _. place_in self.new popped.home ≡ Some Empty) }
         ensures none { IfNone result
             (tally.new ≡ record tally.old { misses = tally.old.misses + 1 }) }
+        ensures absent { IfNone result ((future : F)
+            → place_in self.old popped.home ≢ Some (Here popped.key future)) }
+        ensures trace { IfNone result (is_some (place_in self.old popped.home) ≡ true
+            → place_in self.new popped.home ≡ Some Missed) }
         ensures others { (other : ℕ) → other ≢ popped.home
             → place_in self.new other ≡ place_in self.old other }
         ensures name { self.new.name ≡ self.old.name }
@@ -227,6 +236,8 @@ impl<F: Drop> Homes<F> {
     // The future of a task that was popped is still to come.
     fn miss(&mut self, popped: PoppedTask, tally: &mut Tally)
         ensures tally { tally.new ≡ record tally.old { misses = tally.old.misses + 1 } }
+        ensures trace { is_some (place_in self.old popped.home) ≡ true
+            → place_in self.new popped.home ≡ Some Missed }
         ensures others { (other : ℕ) → other ≢ popped.home
             → place_in self.new other ≡ place_in self.old other }
         ensures name { self.new.name ≡ self.old.name }
@@ -241,12 +252,14 @@ impl<F: Drop> Homes<F> {
         tally.misses = tally.misses.next();
     }
 
-    /// Puts a future back into its place after a poll that was pending. Where the executor is gone, it comes back.
+    /// Puts a future back into its place after a poll that was pending. If that place is gone, as with the executor, it comes back.
     pub fn put_back(&mut self, taken: TakenFuture<F>) -> Result<Place<F>, Place<F>>
         requires { taken.task.name ≡ self.old.name }
         ensures kept { IfOk result (λ before.
             place_in self.new taken.task.home ≡ Some (Here taken.task.key taken.future)) }
-        ensures back { IfErr result (λ back. back ≡ Here taken.task.key taken.future) }
+        ensures was { IfOk result (λ before. place_in self.old taken.task.home ≡ Some before) }
+        ensures back { IfErr result (λ back. (back ≡ Here taken.task.key taken.future)
+            × (place_in self.old taken.task.home ≡ None)) }
         ensures others { (other : ℕ) → other ≢ taken.task.home
             → place_in self.new other ≡ place_in self.old other }
         ensures name { self.new.name ≡ self.old.name }
