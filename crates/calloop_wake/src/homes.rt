@@ -47,6 +47,22 @@ impl PoppedTask {
     }
 }
 
+/// A place that was reserved for a future, of the executor of this name. It has no `Drop`: `keep` fills it, or `free` gives it up.
+#[must_use]
+pub struct ReservedPlace {
+    pub(crate) name: Name,
+    pub(crate) home: usize,
+}
+
+impl ReservedPlace {
+    /// Its number.
+    pub fn home(&self) -> usize
+        ensures { result ≡ self.now.home }
+    {
+        self.home
+    }
+}
+
 /// The place of one future.
 #[derive(Drop)]
 pub enum Place<F> {
@@ -130,21 +146,27 @@ impl<F: Drop> Homes<F> {
     }
 
     /// A place for a future that is to come. It is refused if the executor is gone, or for lack of memory; then nothing changes.
-    pub fn reserve(&mut self) -> Option<Result<usize, AllocError>>
+    pub fn reserve(&mut self) -> Option<Result<ReservedPlace, AllocError>>
         ensures gone { (result ≡ None) → (self.old.gone ≡ true) }
-        ensures others { IfSome result (λ answer. IfOk answer (λ home. (other : ℕ) → other ≢ home
-            → place_in self.new other ≡ place_in self.old other)) }
-        ensures refused { IfSome result (λ answer. IfErr answer (λ _. self.new ≡ self.old)) }
         ensures none { IfNone result (self.new ≡ self.old) }
-        ensures place { IfSome result (λ answer. IfOk answer (λ home.
-            (place_in self.old home ≡ None) × (place_in self.new home ≡ Some Empty))) }
+        ensures refused { IfSome result (λ answer. IfErr answer (λ _. self.new ≡ self.old)) }
+        ensures place { IfSome result (λ answer. IfOk answer (λ place.
+            (place_in self.old place.home ≡ None)
+            × (place_in self.new place.home ≡ Some Empty))) }
+        ensures own { IfSome result (λ answer. IfOk answer (λ place.
+            place.name ≡ self.old.name)) }
+        ensures others { IfSome result (λ answer. IfOk answer (λ place. (other : ℕ)
+            → other ≢ place.home → place_in self.new other ≡ place_in self.old other)) }
         ensures name { self.new.name ≡ self.old.name }
     {
         let Some(places) = &mut self.places else {
             return None;
         };
         match places.insert(Place::Empty) {
-            Ok(home) => Some(Ok(home)),
+            Ok(home) => Some(Ok(ReservedPlace {
+                name: self.name.again(),
+                home,
+            })),
             Err(_) => Some(Err(AllocError)),
         }
     }
@@ -166,8 +188,14 @@ impl<F: Drop> Homes<F> {
 
     /// Keeps the future of a task that was put, in its place; then there is a receipt of the task. Where the executor is gone, and with it
     /// its places, the future comes back. The first answer says whether a turn has looked for it before.
-    pub fn keep(&mut self, due: DueReceipt, future: F) -> (Receipt, Result<Place<F>, Place<F>>)
-        requires { due.name ≡ self.old.name }
+    pub fn keep(
+        &mut self,
+        due: DueReceipt,
+        place: ReservedPlace,
+        future: F,
+    ) -> (Receipt, Result<Place<F>, Place<F>>)
+        requires due { due.name ≡ self.old.name }
+        requires place { (place.name ≡ due.name) × (place.home ≡ due.home) }
         ensures receipt { result.0 ≡ record { name = due.name; number = due.number } }
         ensures kept { IfOk result.1 (λ before.
             place_in self.new due.home ≡ Some (Here due.key future)) }
@@ -184,6 +212,7 @@ impl<F: Drop> Homes<F> {
             key,
             home,
         } = due;
+        let ReservedPlace { name: _, home: _ } = place;
         let before = self.put(home, Place::Here(key, future));
         (Receipt { name, number }, before)
     }
@@ -283,11 +312,24 @@ impl<F: Drop> Homes<F> {
             key: _,
             home,
         } = task;
-        self.free(home)
+        self.vacate(home)
     }
 
     /// Gives a place up that was reserved for a task which wasn't put.
-    pub fn free(&mut self, home: usize) -> Option<Place<F>>
+    pub fn free(&mut self, place: ReservedPlace) -> Option<Place<F>>
+        requires { place.name ≡ self.old.name }
+        ensures gives { result ≡ place_in self.old place.home }
+        ensures freed { place_in self.new place.home ≡ None }
+        ensures others { (other : ℕ) → other ≢ place.home
+            → place_in self.new other ≡ place_in self.old other }
+        ensures name { self.new.name ≡ self.old.name }
+    {
+        let ReservedPlace { name: _, home } = place;
+        self.vacate(home)
+    }
+
+    // From now on nothing stands there, and the place can be given out again.
+    fn vacate(&mut self, home: usize) -> Option<Place<F>>
         ensures gives { result ≡ place_in self.old home }
         ensures freed { place_in self.new home ≡ None }
         ensures others { (other : ℕ) → other ≢ home
