@@ -235,13 +235,18 @@ impl<C: Clock> Poller for MioPoller<C> {
         self.note_fault(answer)
     }
 
-    /// An empty interest is refused as by `modify`. Where the socket is registered so already, the system isn't called.
+    /// An empty interest is refused as by `modify`. The system is always called: the descriptor may be another socket's by now.
     fn modify_level(&mut self, fd: RawFd, key: u64, interest: Interest) -> io::Result<()> {
+        let answer = self.register_level(Registering::Again, fd, key, interest);
+        self.note_fault(answer)
+    }
+
+    /// An empty interest is refused as by `modify`. The system isn't called if the descriptor was registered so last.
+    fn rearm_level(&mut self, fd: RawFd, key: u64, interest: Interest) -> io::Result<()> {
         if interest.asks() && self.levels.has(fd, key, interest) {
             return Ok(());
         }
-        let answer = self.register_level(Registering::Again, fd, key, interest);
-        self.note_fault(answer)
+        self.modify_level(fd, key, interest)
     }
 
     fn delete(&mut self, fd: RawFd) -> io::Result<()> {
@@ -261,14 +266,14 @@ impl<C: Clock> Poller for MioPoller<C> {
         events: &mut Vec<(u64, Readiness)>,
     ) -> io::Result<()> {
         let timeout = self.time_to_sleep(timeout);
-        match self.find(timeout, left) {
+        let answer = self.find(timeout, left);
+        self.waker.end_wait(&answer);
+        match answer {
             Ok(()) => {
-                self.waker.get_up();
                 self.found.append_to(events);
                 Ok(())
             }
             Err(cause) => {
-                self.waker.stir();
                 if cause.kind() != io::ErrorKind::Interrupted {
                     self.faults = FaultCount::after(&self.faults);
                 }

@@ -155,14 +155,24 @@ pub trait Poller: Drop {
         self.add(fd, key, interest)
     }
 
-    /// As `modify`, for such a source. Where each wait tells of the socket under this key and for this interest already, there is nothing to
-    /// do. By default it is `modify`.
+    /// As `modify`, for such a source. It is an explicit registration anew, so the descriptor may name another socket than before: a poller
+    /// that keeps notes of sockets asks the system all the same. By default it is `modify`.
     fn modify_level(&mut self, fd: RawFd, key: u64, interest: Interest) -> io::Result<()>
         ensures sockets { sockets self.old fd (Modify key interest) result self.new }
         ensures calls { outside.calls self.old (Modify key interest) result self.new }
         ensures faults { outside.faults self.new ≡ outside.faults self.old + faults_of result }
     {
         self.modify(fd, key, interest)
+    }
+
+    /// As `modify_level`, behind a callback of such a source, when nothing but the interest is likely to be another. A poller in which each
+    /// wait tells of this descriptor under this key and for this interest already has nothing to do. By default it is `modify_level`.
+    fn rearm_level(&mut self, fd: RawFd, key: u64, interest: Interest) -> io::Result<()>
+        ensures sockets { sockets self.old fd (Modify key interest) result self.new }
+        ensures calls { outside.calls self.old (Modify key interest) result self.new }
+        ensures faults { outside.faults self.new ≡ outside.faults self.old + faults_of result }
+    {
+        self.modify_level(fd, key, interest)
     }
 
     /// A wait gives no event of this descriptor any more. An `Err` is a fault, and is counted.

@@ -1,9 +1,9 @@
 //! Where the futures of an executor are, under a lock of their own that has the name of its cell. A future may keep a waker, which reaches
 //! the cell, so they lie apart from it.
-ghost use Rattle.std.specs.Prelude.{◌≡◌, ◌≢◌, ◌+◌, [], ℕ, None, Some, IfOk, IfErr, IfSome, IfNone, true, false};
+ghost use Rattle.std.specs.Prelude.{◌≡◌, ◌≢◌, ◌+◌, [], ℕ, None, Some, IfOk, IfErr, IfSome, IfNone, is_some, true, false};
 ghost use Rattle.slab.specs.Slab.{get as value_at};
 ghost use Rattle.calloop_wake.specs.Homes.{place_in, places_of};
-ghost use Rattle.calloop_wake.specs.declared.homes.Place.TheVariants.{Empty, Here};
+ghost use Rattle.calloop_wake.specs.declared.homes.Place.TheVariants.{Empty, Here, Missed};
 
 use super::ghosts::{Count, Name};
 use super::locked::Core;
@@ -40,6 +40,22 @@ pub struct PoppedTask {
 
 impl PoppedTask {
     /// The place of its future.
+    pub fn home(&self) -> usize
+        ensures { result ≡ self.now.home }
+    {
+        self.home
+    }
+}
+
+/// A place that was reserved for a future, of the executor of this name. It has no `Drop`: `keep` fills it, or `free` gives it up.
+#[must_use]
+pub struct ReservedPlace {
+    pub(crate) name: Name,
+    pub(crate) home: usize,
+}
+
+impl ReservedPlace {
+    /// Its number.
     pub fn home(&self) -> usize
         ensures { result ≡ self.now.home }
     {
@@ -129,18 +145,28 @@ impl<F: Drop> Homes<F> {
         (homes, name)
     }
 
-    /// A place for a future that is to come. It is refused where the executor is gone, or for lack of memory.
-    pub fn reserve(&mut self) -> Option<Result<usize, AllocError>>
+    /// A place for a future that is to come. It is refused if the executor is gone, or for lack of memory; then nothing changes.
+    pub fn reserve(&mut self) -> Option<Result<ReservedPlace, AllocError>>
         ensures gone { (result ≡ None) → (self.old.gone ≡ true) }
-        ensures place { IfSome result (λ answer. IfOk answer (λ home.
-            (place_in self.old home ≡ None) × (place_in self.new home ≡ Some Empty))) }
+        ensures none { IfNone result (self.new ≡ self.old) }
+        ensures refused { IfSome result (λ answer. IfErr answer (λ _. self.new ≡ self.old)) }
+        ensures place { IfSome result (λ answer. IfOk answer (λ place.
+            (place_in self.old place.home ≡ None)
+            × (place_in self.new place.home ≡ Some Empty))) }
+        ensures own { IfSome result (λ answer. IfOk answer (λ place.
+            place.name ≡ self.old.name)) }
+        ensures others { IfSome result (λ answer. IfOk answer (λ place. (other : ℕ)
+            → other ≢ place.home → place_in self.new other ≡ place_in self.old other)) }
         ensures name { self.new.name ≡ self.old.name }
     {
         let Some(places) = &mut self.places else {
             return None;
         };
         match places.insert(Place::Empty) {
-            Ok(home) => Some(Ok(home)),
+            Ok(home) => Some(Ok(ReservedPlace {
+                name: self.name.again(),
+                home,
+            })),
             Err(_) => Some(Err(AllocError)),
         }
     }
@@ -162,8 +188,14 @@ impl<F: Drop> Homes<F> {
 
     /// Keeps the future of a task that was put, in its place; then there is a receipt of the task. Where the executor is gone, and with it
     /// its places, the future comes back. The first answer says whether a turn has looked for it before.
-    pub fn keep(&mut self, due: DueReceipt, future: F) -> (Receipt, Result<Place<F>, Place<F>>)
-        requires { due.name ≡ self.old.name }
+    pub fn keep(
+        &mut self,
+        due: DueReceipt,
+        place: ReservedPlace,
+        future: F,
+    ) -> (Receipt, Result<Place<F>, Place<F>>)
+        requires due { due.name ≡ self.old.name }
+        requires place { (place.name ≡ due.name) × (place.home ≡ due.home) }
         ensures receipt { result.0 ≡ record { name = due.name; number = due.number } }
         ensures kept { IfOk result.1 (λ before.
             place_in self.new due.home ≡ Some (Here due.key future)) }
@@ -180,20 +212,26 @@ impl<F: Drop> Homes<F> {
             key,
             home,
         } = due;
+        let ReservedPlace { name: _, home: _ } = place;
         let before = self.put(home, Place::Here(key, future));
         (Receipt { name, number }, before)
     }
 
-    /// Takes the future of a task that was popped out of its place, for its poll. Where it is still to come, its place keeps that a turn has
-    /// looked for it, and the tally counts that.
+    /// Takes the future of a task that was popped out of its place, for its poll. If it isn't there, the place keeps that a turn has looked
+    /// for it, and the tally counts that.
     pub fn take(&mut self, popped: PoppedTask, tally: &mut Tally) -> Option<TakenFuture<F>>
         requires { (popped.name ≡ self.old.name) × (tally.old.name ≡ self.old.name) }
         ensures some { IfSome result (λ taken.
             (place_in self.old popped.home ≡ Some (Here popped.key taken.future))
             × (taken.task ≡ popped)) }
         ensures same { IfSome result (λ _. tally.new ≡ tally.old) }
+        ensures emptied { IfSome result (λ _. place_in self.new popped.home ≡ Some Empty) }
         ensures none { IfNone result
             (tally.new ≡ record tally.old { misses = tally.old.misses + 1 }) }
+        ensures absent { IfNone result ((future : F)
+            → place_in self.old popped.home ≢ Some (Here popped.key future)) }
+        ensures trace { IfNone result (is_some (place_in self.old popped.home) ≡ true
+            → place_in self.new popped.home ≡ Some Missed) }
         ensures others { (other : ℕ) → other ≢ popped.home
             → place_in self.new other ≡ place_in self.old other }
         ensures name { self.new.name ≡ self.old.name }
@@ -227,6 +265,8 @@ impl<F: Drop> Homes<F> {
     // The future of a task that was popped is still to come.
     fn miss(&mut self, popped: PoppedTask, tally: &mut Tally)
         ensures tally { tally.new ≡ record tally.old { misses = tally.old.misses + 1 } }
+        ensures trace { is_some (place_in self.old popped.home) ≡ true
+            → place_in self.new popped.home ≡ Some Missed }
         ensures others { (other : ℕ) → other ≢ popped.home
             → place_in self.new other ≡ place_in self.old other }
         ensures name { self.new.name ≡ self.old.name }
@@ -241,12 +281,14 @@ impl<F: Drop> Homes<F> {
         tally.misses = tally.misses.next();
     }
 
-    /// Puts a future back into its place after a poll that was pending. Where the executor is gone, it comes back.
+    /// Puts a future back into its place after a poll that was pending. If that place is gone, as with the executor, it comes back.
     pub fn put_back(&mut self, taken: TakenFuture<F>) -> Result<Place<F>, Place<F>>
         requires { taken.task.name ≡ self.old.name }
         ensures kept { IfOk result (λ before.
             place_in self.new taken.task.home ≡ Some (Here taken.task.key taken.future)) }
-        ensures back { IfErr result (λ back. back ≡ Here taken.task.key taken.future) }
+        ensures was { IfOk result (λ before. place_in self.old taken.task.home ≡ Some before) }
+        ensures back { IfErr result (λ back. (back ≡ Here taken.task.key taken.future)
+            × (place_in self.old taken.task.home ≡ None)) }
         ensures others { (other : ℕ) → other ≢ taken.task.home
             → place_in self.new other ≡ place_in self.old other }
         ensures name { self.new.name ≡ self.old.name }
@@ -270,11 +312,24 @@ impl<F: Drop> Homes<F> {
             key: _,
             home,
         } = task;
-        self.free(home)
+        self.vacate(home)
     }
 
     /// Gives a place up that was reserved for a task which wasn't put.
-    pub fn free(&mut self, home: usize) -> Option<Place<F>>
+    pub fn free(&mut self, place: ReservedPlace) -> Option<Place<F>>
+        requires { place.name ≡ self.old.name }
+        ensures gives { result ≡ place_in self.old place.home }
+        ensures freed { place_in self.new place.home ≡ None }
+        ensures others { (other : ℕ) → other ≢ place.home
+            → place_in self.new other ≡ place_in self.old other }
+        ensures name { self.new.name ≡ self.old.name }
+    {
+        let ReservedPlace { name: _, home } = place;
+        self.vacate(home)
+    }
+
+    // From now on nothing stands there, and the place can be given out again.
+    fn vacate(&mut self, home: usize) -> Option<Place<F>>
         ensures gives { result ≡ place_in self.old home }
         ensures freed { place_in self.new home ≡ None }
         ensures others { (other : ℕ) → other ≢ home

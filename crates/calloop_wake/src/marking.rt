@@ -1,6 +1,6 @@
 //! The marks of a loop's adapters: which of them ask to be settled. They lie under a lock that has the name of the loop's board, so each
 //! taking of them is noted in its watch.
-ghost use Rattle.std.specs.Prelude.{◌≡◌, ◌++◌, ◌∷◌, [], OnOk, OnErr, if◌then◌else◌, true};
+ghost use Rattle.std.specs.Prelude.{◌≡◌, ◌+◌, ◌-◌, ◌++◌, ◌∷◌, [], OnOk, OnErr, if◌then◌else◌, true};
 ghost use Rattle.calloop_wake.specs.Watches.{with_note};
 ghost use Rattle.calloop_wake.specs.declared.notes.Note.TheVariants.{Marked};
 
@@ -36,7 +36,11 @@ impl Model for Marks {
 
     ghost Value = { MarksView };
 
-    ghost view = { λ m. record { marked = m.marked.items; name = m.name } };
+    ghost view = { λ m. record {
+      marked = m.marked.items;
+      adapters = m.adapters;
+      name = m.name;
+    } };
 
     ghost invariant = { λ m. m.spare.items ≡ [] };
 }
@@ -65,7 +69,11 @@ impl Core for Marks {
 impl Marks {
     /// None, of the board of this name. It allocates nothing yet.
     pub fn new(alloc: Global, right: MarkingRight) -> (Marks, Name)
-        ensures marks { result.0 ≡ record { marked = []; name = right.name } }
+        ensures marks { result.0 ≡ record {
+          marked = [];
+          adapters = 0;
+          name = right.name;
+        } }
         ensures name { result.1 ≡ right.name }
     {
         let MarkingRight { name } = right;
@@ -81,7 +89,9 @@ impl Marks {
 
     /// Makes room for the mark of one adapter more. Running out of memory leaves the marks as they were.
     pub fn open(&mut self) -> Result<(), AllocError>
-        ensures { self.new ≡ self.old }
+        ensures ok { OnOk result
+            (self.new ≡ record self.old { adapters = self.old.adapters + 1 }) }
+        ensures err { OnErr result (self.new ≡ self.old) }
     {
         let adapters = self.adapters.checked_add(1).ok_or(AllocError)?;
         let marked = self.marked.len();
@@ -91,9 +101,9 @@ impl Marks {
         Ok(())
     }
 
-    /// An adapter is gone, and needs no room any more.
+    /// Gives the room of one adapter up, if there is any: it is gone, or it was refused.
     pub fn close(&mut self)
-        ensures { self.new ≡ self.old }
+        ensures { self.new ≡ record self.old { adapters = self.old.adapters - 1 } }
     {
         self.adapters = self.adapters.saturating_sub(1);
     }

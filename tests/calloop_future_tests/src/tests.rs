@@ -6,6 +6,7 @@ use std::test::Fail;
 
 mod blocked;
 mod desk;
+mod heirs;
 mod job;
 mod machine;
 mod memory;

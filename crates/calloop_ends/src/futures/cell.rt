@@ -37,7 +37,8 @@ pub fn put<R: Wait>(
     shared: &Locked<TaskCell>,
     home: usize,
 ) -> Result<(TaskKey, DueReceipt), PutRefusal>
-    ensures { IfOk result (λ put. put.1.name ≡ shared.now.tag) }
+    ensures name { IfOk result (λ put. put.1.name ≡ shared.now.tag) }
+    ensures home { IfOk result (λ put. put.1.home ≡ home) }
 {
     let mut held = shared.lock(rt);
     let cell = held.core();

@@ -1,10 +1,10 @@
 //! The sections of the lock under which the futures of an executor are. It is another than that of its cell, which its wakers reach; within it
 //! no future is polled or dropped.
-ghost use Rattle.std.specs.Prelude.{◌≡◌, ◌+◌, IfSome, IfNone};
+ghost use Rattle.std.specs.Prelude.{◌≡◌, ◌+◌, IfOk, IfSome, IfNone};
 
 use super::task::Pollable;
 use calloop_wake::executor::PutRefusal;
-use calloop_wake::homes::{DueReceipt, Homes, Place, PoppedTask, TakenFuture};
+use calloop_wake::homes::{DueReceipt, Homes, Place, PoppedTask, ReservedPlace, TakenFuture};
 use calloop_wake::locked::Locked;
 use calloop_wake::{Receipt, Tally};
 use std::alloc::Global;
@@ -17,12 +17,14 @@ pub(crate) type SharedHomes<Fut, R> = Arc<Locked<Homes<Pollable<Fut, R>>>, Globa
 pub(crate) fn reserve<Fut: Drop, R: Wait + Drop>(
     rt: &R,
     homes: &Locked<Homes<Pollable<Fut, R>>>,
-) -> Result<usize, PutRefusal> {
+) -> Result<ReservedPlace, PutRefusal>
+    ensures { IfOk result (λ place. place.name ≡ homes.now.tag) }
+{
     let mut places = homes.lock(rt);
     let reserved = places.core().reserve();
     places.unlock();
     match reserved {
-        Some(Ok(home)) => Ok(home),
+        Some(Ok(place)) => Ok(place),
         Some(Err(_)) => Err(PutRefusal::OutOfMemory),
         None => Err(PutRefusal::Gone),
     }
@@ -34,13 +36,15 @@ pub(crate) fn keep<Fut: Drop, R: Wait + Drop>(
     rt: &R,
     homes: &Locked<Homes<Pollable<Fut, R>>>,
     due: DueReceipt,
+    place: ReservedPlace,
     held: Pollable<Fut, R>,
 ) -> (Receipt, bool)
-    requires { due.name ≡ homes.now.tag }
+    requires due { due.name ≡ homes.now.tag }
+    requires place { (place.name ≡ due.name) × (place.home ≡ due.home) }
     ensures { result.0.name ≡ homes.now.tag }
 {
     let mut places = homes.lock(rt);
-    let (receipt, before) = places.core().keep(due, held);
+    let (receipt, before) = places.core().keep(due, place, held);
     places.unlock();
     let missed = match &before {
         Ok(Place::Missed) => true,
@@ -100,10 +104,12 @@ pub(crate) fn finish<Fut: Drop, R: Wait + Drop>(
 pub(crate) fn free<Fut: Drop, R: Wait + Drop>(
     rt: &R,
     homes: &Locked<Homes<Pollable<Fut, R>>>,
-    home: usize,
-) {
+    place: ReservedPlace,
+)
+    requires { place.name ≡ homes.now.tag }
+{
     let mut places = homes.lock(rt);
-    let before = places.core().free(home);
+    let before = places.core().free(place);
     places.unlock();
     drop(before);
 }

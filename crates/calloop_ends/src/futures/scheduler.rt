@@ -85,22 +85,22 @@ impl<Fut: Future<R>, R: Wait + Clone + Drop> Scheduler<Fut, R> {
         let Ok(own) = self.rt.clone() else {
             return Err(ScheduleError::OutOfMemory(future));
         };
-        let home = match homes::reserve(&self.rt, &self.homes) {
-            Ok(home) => home,
+        let place = match homes::reserve(&self.rt, &self.homes) {
+            Ok(place) => place,
             Err(why) => return Err(refusal(future, why)),
         };
-        match cell::put(&self.rt, &self.shared, home) {
+        match cell::put(&self.rt, &self.shared, place.home()) {
             Ok((key, due)) => {
                 let waker = Waker::of_task(own, share(&self.rt, &self.shared), key);
                 let held = Pollable { future, waker };
-                let (receipt, missed) = homes::keep(&self.rt, &self.homes, due, held);
+                let (receipt, missed) = homes::keep(&self.rt, &self.homes, due, place, held);
                 if missed {
                     cell::wake(&self.rt, &self.shared, key);
                 }
                 Ok(receipt)
             }
             Err(why) => {
-                homes::free(&self.rt, &self.homes, home);
+                homes::free(&self.rt, &self.homes, place);
                 Err(refusal(future, why))
             }
         }

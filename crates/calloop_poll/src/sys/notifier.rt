@@ -2,6 +2,7 @@
 use calloop_wake::Notify;
 use mio::Waker;
 use std::alloc::Global;
+use std::io;
 use std::sync::Arc;
 use std::sync::atomic::{AtomicBool, AtomicU64, Ordering};
 
@@ -43,15 +44,23 @@ impl LazyWaker {
             .is_ok()
     }
 
-    /// A wait has ended, which answers all notifications until now.
-    pub fn get_up(&self) {
+    /// A wait has ended with this answer. One that succeeded answers all notifications until now; after one that failed a notification stays
+    /// for the next wait, which then doesn't sleep.
+    pub fn end_wait(&self, answer: &io::Result<()>) {
+        if answer.is_ok() {
+            self.get_up();
+        } else {
+            self.stir();
+        }
+    }
+
+    fn get_up(&self) {
         if self.state.load(Ordering::SeqCst) != AWAKE {
             self.state.store(AWAKE, Ordering::SeqCst);
         }
     }
 
-    /// A wait failed: a notification stays for the next one.
-    pub fn stir(&self) {
+    fn stir(&self) {
         let _found = self
             .state
             .compare_exchange(ASLEEP, AWAKE, Ordering::SeqCst, Ordering::SeqCst);

@@ -9,6 +9,7 @@ use calloop_slots::widths::MOST_SLOTS;
 use calloop_wake::watch::Watch;
 use mio::{Poll, Token, Waker};
 use std::alloc::{AllocGlobal, Global};
+use std::io;
 use std::net::Net;
 use std::process::Abort;
 use std::sync::atomic::{AtomicBool, Ordering};
@@ -49,11 +50,11 @@ fn each_mark_wakes_the_loop(rt: HostRuntime) {
 fn who_was_notified_does_not_sleep_before_its_wait_has_ended(rt: HostRuntime) {
     let (_poll, waker) = lazy(&rt);
     assert!(rt; waker.fall_asleep());
-    waker.get_up();
+    waker.end_wait(&Ok(()));
     waker.wake();
     assert!(rt; !waker.fall_asleep());
     assert!(rt; !waker.fall_asleep());
-    waker.get_up();
+    waker.end_wait(&Ok(()));
     assert!(rt; waker.fall_asleep());
 }
 
@@ -62,9 +63,9 @@ fn a_wait_that_failed_keeps_a_notification(rt: HostRuntime) {
     let (_poll, waker) = lazy(&rt);
     assert!(rt; waker.fall_asleep());
     waker.wake();
-    waker.stir();
+    waker.end_wait(&failed());
     assert!(rt; !waker.fall_asleep());
-    waker.stir();
+    waker.end_wait(&failed());
     assert!(rt; !waker.fall_asleep());
 }
 
@@ -72,10 +73,14 @@ fn a_wait_that_failed_keeps_a_notification(rt: HostRuntime) {
 fn a_wait_that_failed_lets_the_next_one_sleep(rt: HostRuntime) {
     let (_poll, waker) = lazy(&rt);
     assert!(rt; waker.fall_asleep());
-    waker.stir();
+    waker.end_wait(&failed());
     assert!(rt; waker.fall_asleep());
-    waker.stir();
+    waker.end_wait(&failed());
     assert!(rt; waker.fall_asleep());
+}
+
+fn failed() -> io::Result<()> {
+    Err(io::Error::from(io::ErrorKind::Interrupted))
 }
 
 // A loop's `Poll` with room for four marks.

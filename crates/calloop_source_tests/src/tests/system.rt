@@ -1,15 +1,19 @@
 //! The poller of the operating system, over two streams that are connected.
 use super::streams::connect;
+use super::{clone_of, kind_of, token};
 use calloop_mio::{MioIo, MioPoller, Precision, SystemClock};
-use calloop_poll::sys::{Clock, EVENTS_PER_WAIT, Interest, Poller, Readiness};
+use calloop_poll::sys::poll::Poll;
+use calloop_poll::sys::{Clock, EVENTS_PER_WAIT, Interest, Mode, Poller, Readiness};
+use calloop_slots::wheel::Instant;
 use calloop_wake::Notify;
 use mio::net::{TcpListener, TcpStream, UnixStream};
-use std::alloc::{AllocGlobal, Global};
+use std::alloc::{AllocError, AllocGlobal, Global};
 use std::io;
 use std::io::{Read, Write};
 use std::net::{Ipv4Addr, Net, SocketAddr};
 use std::os::fd::AsRawFd;
 use std::process::Abort;
+use std::sync::Wait;
 use std::time::{Clock as MachineClock, Duration};
 
 #[test]
@@ -127,6 +131,7 @@ fn a_level_socket_is_told_of_in_each_wait(rt: HostRuntime) {
     assert!(rt; desk.tells(&[]) && desk.writes());
     assert!(rt; desk.tells(&[(KEY, true, false)]) && desk.tells(&[(KEY, true, false)]));
     assert!(rt; desk.level(KEY, Interest::READ).is_ok());
+    assert!(rt; desk.rearms(KEY, Interest::READ).is_ok());
     assert!(rt; desk.tells(&[(KEY, true, false)]));
     assert!(rt; desk.empties() && desk.tells(&[]));
     assert!(rt; desk.level(KEY, Interest::READ).is_ok() && desk.tells(&[]));
@@ -228,6 +233,84 @@ fn a_level_socket_that_was_exchanged_is_not_registered(rt: HostRuntime) {
 }
 
 #[test]
+fn another_level_socket_of_the_same_descriptor_is_not_registered(rt: HostRuntime) {
+    let mut desk = Desk::new(&rt);
+    assert!(rt; desk.add_level(KEY, Interest::READ).is_ok());
+    desk.exchanges(&rt);
+    assert!(rt; desk.rearms(KEY, Interest::READ).is_ok());
+    assert!(rt; fails(desk.level(KEY, Interest::READ), io::ErrorKind::NotFound));
+    assert!(rt; fails(desk.rearms(KEY, Interest::READ), io::ErrorKind::NotFound));
+    assert!(rt; fails(desk.level(KEY, Interest::READ), io::ErrorKind::NotFound));
+    assert!(rt; desk.writes() && desk.add_level(KEY, Interest::READ).is_ok());
+    assert!(rt; desk.tells(&[(KEY, true, false)]) && desk.tells(&[(KEY, true, false)]));
+}
+
+#[test]
+fn an_explicit_registration_anew_reaches_the_machine(rt: HostRuntime) {
+    let mut desk = Desk::new(&rt);
+    let mut poll = machine_poll(&rt);
+    let fd = desk.io.as_raw_fd();
+    let (read, level) = (Interest::READ, Mode::Level);
+    assert!(rt; poll.register(fd, read, level, token(1)).is_ok());
+    assert!(rt; poll.reregister(fd, token(1), read, level, token(1)).is_ok());
+    desk.exchanges(&rt);
+    assert!(rt; poll.rearm(fd, read, level, token(1)).is_ok());
+    let gone = Some(io::ErrorKind::NotFound);
+    assert_eq!(rt;
+        kind_of(poll.reregister(fd, token(1), read, level, token(1))),
+        gone
+    );
+    assert!(rt;
+        fails(
+            poll.rearm(fd, read, level, token(1)),
+            io::ErrorKind::NotFound
+        )
+    );
+}
+
+#[test]
+fn a_socket_is_told_of_in_as_many_waits_as_its_mode_says(rt: HostRuntime) {
+    for (mode, wanted) in [(Mode::OneShot, 1), (Mode::Edge, 1), (Mode::Level, 4)] {
+        let mut desk = Desk::new(&rt);
+        let mut poll = machine_poll(&rt);
+        let fd = desk.io.as_raw_fd();
+        let read = Interest::READ;
+        assert!(rt; desk.writes() && poll.register(fd, read, mode, token(1)).is_ok());
+        assert_eq!(rt; tellings(&rt, poll.poller_mut()), wanted);
+        assert!(rt; poll.reregister(fd, token(1), read, mode, token(1)).is_ok());
+        assert_eq!(rt; tellings(&rt, poll.poller_mut()), wanted);
+        assert!(rt; poll.reregister(fd, token(1), read, mode, token(2)).is_ok());
+        assert_eq!(rt; tellings(&rt, poll.poller_mut()), wanted);
+    }
+}
+
+#[test]
+fn a_level_socket_of_a_narrower_interest_is_told_of_for_that_alone(rt: HostRuntime) {
+    for is_explicit in [true, false] {
+        let mut desk = Desk::new(&rt);
+        assert!(rt; desk.add_level(KEY, Interest::BOTH).is_ok());
+        assert!(rt; desk.tells(&[(KEY, false, true)]));
+        let narrowed = if is_explicit {
+            desk.level(KEY, Interest::READ)
+        } else {
+            desk.rearms(KEY, Interest::READ)
+        };
+        assert!(rt; narrowed.is_ok() && desk.tells(&[]));
+        assert!(rt; desk.writes() && desk.tells(&[(KEY, true, false)]));
+    }
+}
+
+#[test]
+fn a_wait_by_a_clock_that_stands_still_ends(rt: HostRuntime) {
+    let mut poller = MioPoller::new(&rt, rt.alloc(), Still).expect(&rt, "a poller");
+    let mut told = Vec::with_capacity(rt.alloc(), EVENTS_PER_WAIT).expect(&rt, "room");
+    let time = Some(Duration::from_millis(2));
+    assert!(rt; poller.wait(time, 0, &mut told).is_ok() && told.is_empty());
+    poller.set_precision(Precision::Milliseconds);
+    assert!(rt; poller.wait(time, 0, &mut told).is_ok() && told.is_empty());
+}
+
+#[test]
 fn a_level_socket_is_registered_with_its_own_poller_alone(rt: HostRuntime) {
     let mut desk = Desk::new(&rt);
     let mut other = Desk::new(&rt);
@@ -249,6 +332,7 @@ fn an_empty_interest_of_a_level_socket_is_refused(rt: HostRuntime) {
     assert!(rt; fails(desk.add_level(KEY, Interest::EMPTY), refused));
     assert!(rt; desk.add_level(KEY, Interest::READ).is_ok());
     assert!(rt; fails(desk.level(KEY, Interest::EMPTY), refused));
+    assert!(rt; fails(desk.rearms(KEY, Interest::EMPTY), refused));
     assert!(rt; desk.writes() && desk.tells(&[(KEY, true, false)]));
 }
 
@@ -314,6 +398,26 @@ impl<R: Net + AllocGlobal + MachineClock + Clone + Drop + Abort> Desk<R> {
     }
 }
 
+impl<R: Net + AllocGlobal + MachineClock + Clone + Drop + Abort> Desk<R> {
+    // Its stream is closed, and another one has its descriptor, which the machine gives again.
+    fn exchanges(&mut self, rt: &R) {
+        let fd = self.io.as_raw_fd();
+        let (between, _peer) = UnixStream::pair(rt).expect(rt, "two streams");
+        self.io = MioIo::from(between);
+        let mut others = Vec::new(self.alloc);
+        for _ in 0..100u32 {
+            let (near, far) = UnixStream::pair(rt).expect(rt, "two streams");
+            if near.as_raw_fd() == fd {
+                self.io = MioIo::from(near);
+                self.peer = Some(MioIo::from(far));
+                return;
+            }
+            assert!(rt; others.push((near, far)).is_ok());
+        }
+        panic!(rt; "the descriptor isn't given again")
+    }
+}
+
 impl<R: MachineClock + Clone + Drop> Desk<R> {
     fn add(&mut self, key: u64, interest: Interest) -> io::Result<()> {
         self.poller.add(self.io.as_raw_fd(), key, interest)
@@ -329,6 +433,10 @@ impl<R: MachineClock + Clone + Drop> Desk<R> {
 
     fn level(&mut self, key: u64, interest: Interest) -> io::Result<()> {
         self.poller.modify_level(self.io.as_raw_fd(), key, interest)
+    }
+
+    fn rearms(&mut self, key: u64, interest: Interest) -> io::Result<()> {
+        self.poller.rearm_level(self.io.as_raw_fd(), key, interest)
     }
 
     fn delete(&mut self) -> io::Result<()> {
@@ -414,6 +522,54 @@ impl<R: MachineClock + Clone + Drop> Desk<R> {
         let answer = self.poller.wait(Some(timeout), 0, &mut told);
         fails(answer, io::ErrorKind::Interrupted) && told.is_empty()
     }
+}
+
+// It shows one moment for good.
+#[derive(Drop)]
+struct Still;
+
+impl Clone for Still {
+    ghost is_clone = { λ clock again. Unit {0} };
+
+    fn clone(&self) -> Result<Still, AllocError> {
+        Ok(Still)
+    }
+}
+
+impl Clock for Still {
+    ghost use Rattle.std.specs.Prelude.{◌≡◌};
+
+    ghost shows = { λ clock now. now ≡ 7 };
+
+    fn now(&self) -> Instant {
+        Instant { nanos: 7 }
+    }
+}
+
+type MachinePoll<R> = Poll<MioPoller<SystemClock<R>>, SystemClock<R>, R>;
+
+fn machine_poll<R>(rt: &R) -> MachinePoll<R>
+where
+    R: Net + AllocGlobal + MachineClock + Wait + Clone + Drop + Abort,
+{
+    let clock = SystemClock::new(rt).expect(rt, "a clock");
+    let read_by_poller = clock.clone().expect(rt, "a clock");
+    let poller = MioPoller::new(rt, rt.alloc(), read_by_poller).expect(rt, "a poller");
+    Poll::new(clone_of(rt), rt.alloc(), poller, clock).expect(rt, "a poll")
+}
+
+// How many of four waits of 0 tell of something.
+fn tellings<R, P: Poller>(rt: &R, poller: &mut P) -> usize
+where
+    R: AllocGlobal + Abort,
+{
+    let mut tellings = 0usize;
+    for _ in 0..4u32 {
+        let mut told = Vec::with_capacity(rt.alloc(), EVENTS_PER_WAIT).expect(rt, "room");
+        assert!(rt; poller.wait(Some(Duration::ZERO), 0, &mut told).is_ok());
+        tellings = tellings.saturating_add(told.len());
+    }
+    tellings
 }
 
 // A listener and where it listens.

@@ -2,8 +2,8 @@
 use super::scripted::Pings;
 use calloop::loop_logic::{EventLoop, LoopAnswer, LoopCall};
 use calloop::{
-    Choice, Clock, Dispatcher, EventDispatcher, Here, LoopSignal, MioPoller, Ping, PingSource,
-    Poller, Readiness, RegistrationToken, Result, SystemClock, SystemLoop, make_ping,
+    Choice, Clock, Dispatcher, EventDispatcher, Here, Instant, LoopSignal, MioPoller, Ping,
+    PingSource, Poller, Readiness, RegistrationToken, Result, SystemClock, SystemLoop, make_ping,
 };
 use calloop_poll::sys::EVENTS_PER_WAIT;
 use calloop_poll::sys::notifier::Notifier;
@@ -17,15 +17,19 @@ use std::thread::{Threads, sleep, spawn};
 use std::time::{Clock as MachineClock, Duration};
 
 #[test]
-fn a_notifier_of_another_thread_ends_a_long_wait(rt: HostRuntime) -> std::result::Result<(), Fail> {
-    let clock = SystemClock::new(&rt)?;
-    let mut poller = MioPoller::new(&rt, rt.alloc(), clock.clone()?)?;
-    let notifier = poller.notifier()?;
-    let child = spawn(&rt, move || notifies_later(&rt, notifier))?;
-    let mut told: Vec<(u64, Readiness)> = Vec::with_capacity(rt.alloc(), EVENTS_PER_WAIT)?;
-    assert!(rt; poller.wait(minute(), 0, &mut told).is_ok());
-    assert!(rt; told.is_empty() && is_early(&clock));
-    child.join(&rt);
+fn a_notifier_of_another_thread_ends_a_long_wait_and_one_without_a_limit(
+    rt: HostRuntime,
+) -> std::result::Result<(), Fail> {
+    for timeout in [minute(), None] {
+        let clock = SystemClock::new(&rt)?;
+        let mut poller = MioPoller::new(&rt, rt.alloc(), clock.clone()?)?;
+        let notifier = poller.notifier()?;
+        let child = spawn(&rt, move || notifies_later(&rt, notifier))?;
+        let mut told: Vec<(u64, Readiness)> = Vec::with_capacity(rt.alloc(), EVENTS_PER_WAIT)?;
+        assert!(rt; poller.wait(timeout, 0, &mut told).is_ok());
+        assert!(rt; told.is_empty() && is_rested(&clock) && is_early(&clock));
+        child.join(&rt);
+    }
     Ok(())
 }
 
@@ -401,6 +405,11 @@ fn pause() -> Option<Duration> {
 // How long a thread rests before it does something.
 fn rest() -> Duration {
     Duration::from_millis(50)
+}
+
+// Whether it has shown nothing before the rest of another thread was over.
+fn is_rested<C: Clock>(clock: &C) -> bool {
+    clock.now() >= Instant { nanos: 0 }.after(rest())
 }
 
 // Whether less than a minute went by since the clock was made.

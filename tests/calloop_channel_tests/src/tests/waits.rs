@@ -32,6 +32,26 @@ fn a_send_that_waits_is_refused_once_its_channel_is_gone(rt: HostRuntime) -> Res
 }
 
 #[test]
+fn each_of_two_sends_that_wait_is_refused_once_their_channel_is_gone(
+    rt: HostRuntime,
+) -> Result<(), Fail> {
+    let (sender, channel) = sync_channel(&rt, rt.alloc(), 1)?;
+    let again = sender.clone()?;
+    let (note, of_thread) = notes(rt.alloc())?;
+    let (other_note, of_other) = notes(rt.alloc())?;
+    let child = spawn(&rt, move || sends_two(sender, of_thread))?;
+    assert!(rt; waits(&rt, &note));
+    let other = spawn(&rt, move || sends_behind(again, of_other))?;
+    assert!(rt; waits(&rt, &other_note) && note.load(Ordering::SeqCst) == BEGINS);
+    drop(channel);
+    assert_eq!(rt; outcome(&rt, &note), GONE);
+    assert_eq!(rt; outcome(&rt, &other_note), GONE);
+    child.join(&rt);
+    other.join(&rt);
+    Ok(())
+}
+
+#[test]
 fn a_send_that_waits_goes_on_once_a_message_was_taken(rt: HostRuntime) -> Result<(), Fail> {
     let (sender, mut channel) = sync_channel(&rt, rt.alloc(), 1)?;
     let (note, of_thread) = notes(rt.alloc())?;
@@ -130,9 +150,15 @@ fn outcome<R: Clock + Wait>(rt: &R, note: &Note) -> u32 {
 
 // Sends 1, and then 2, for which it has to wait.
 fn sends_two<R: Wait + Drop>(sender: SyncSender<u32, R>, note: Note) {
-    let is_sent = sender.send(1).is_ok();
+    if sender.send(1).is_ok() {
+        sends_behind(sender, note);
+    }
+}
+
+// Sends 2, for which it has to wait.
+fn sends_behind<R: Wait + Drop>(sender: SyncSender<u32, R>, note: Note) {
     note.store(BEGINS, Ordering::SeqCst);
-    let ends = is_sent && sender.send(2).is_ok();
+    let ends = sender.send(2).is_ok();
     note.store(if ends { WENT } else { GONE }, Ordering::SeqCst);
 }
 

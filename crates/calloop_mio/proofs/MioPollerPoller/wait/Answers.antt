@@ -10,4 +10,4 @@ with_faults {C} p q e = e ∙ ap (λ n. record p { poll = q.poll; found = q.foun
 
 pub returns-in-Ok-clause-waits : goal.returns-in-Ok-clause-waits
 returns-in-Ok-clause-waits g c =
-    (told_events (items c.find.new.self.found.events), record { told = refl; fault = tt; kind = sym (ap failure_of c.in-Ok.is) ∙ c.find.ensures.failed; poller = with_faults c.args.self.now c.find.new.self c.find.ensures.poller }, c.append_to.ensures.items, c.append_to.ensures.few)
+    (told_events (items c.find-answer.new.self.found.events), record { told = refl; fault = tt; kind = sym (ap failure_of c.in-Ok.is) ∙ c.find-answer.ensures.failed; poller = with_faults c.args.self.now c.find-answer.new.self c.find-answer.ensures.poller }, c.append_to.ensures.items, c.append_to.ensures.few)

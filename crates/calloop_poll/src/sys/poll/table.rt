@@ -46,6 +46,26 @@ fn call_poller<P: Poller>(
     }
 }
 
+// The same behind a callback: the poller may trust what it knows of a socket that each wait tells of.
+#[inline(always)]
+fn rearm_in<P: Poller>(
+    poller: &mut P,
+    fd: RawFd,
+    known: bool,
+    key: u64,
+    watched: Watched,
+) -> io::Result<()>
+    ensures sockets { CalledFor P.sockets poller.old fd (call_for known key watched.interest)
+        result poller.new }
+    ensures calls { Called P.outside poller.old (call_for known key watched.interest)
+        result poller.new }
+{
+    if known && watched.mode == Mode::Level && watched.interest.asks() {
+        return poller.rearm_level(fd, key, watched.interest);
+    }
+    call_poller(poller, fd, known, key, watched)
+}
+
 impl<P: Poller, C, R: Wait + Drop> Poll<P, C, R> {
     /// Enters a descriptor under the key of this token, and adds it to the poller, unless the interest is empty. Refusals, in this
     /// order: `IoError` of kind `AlreadyExists`, where the key is in the table; `OutOfMemory`; and `IoError` with the poller's
@@ -78,7 +98,6 @@ impl<P: Poller, C, R: Wait + Drop> Poll<P, C, R> {
     }
 
     // Under the key that it has.
-    #[inline(always)]
     fn change(
         &mut self,
         fd: RawFd,
@@ -135,7 +154,7 @@ impl<P: Poller, C, R: Wait + Drop> Poll<P, C, R> {
     }
 
     /// Gives a socket that was registered with `before` this interest, this mode and the key of `token`, which may be the same.
-    /// The poller is told of it, by an `add` or `delete` where the interest was empty or becomes so. Refusals, in this order:
+    /// The poller is always told of it, by an `add` or `delete` if the interest was empty or becomes so. Refusals, in this order:
     /// `IoError` of kind `NotFound`, where the key of `before` isn't in the table, and of kind `AlreadyExists`, where another key of
     /// `token` is; `OutOfMemory`, for another key alone; and `IoError` with the poller's fault. Each leaves the table as it was.
     pub fn reregister(
@@ -170,8 +189,9 @@ impl<P: Poller, C, R: Wait + Drop> Poll<P, C, R> {
         self.change_key(fd, known, before, token, watched)
     }
 
-    /// The same for the token that the socket was registered with: a fault alone is answered, of kind `NotFound` where the key
-    /// isn't in the table, or the poller's. Each leaves the table as it was.
+    /// The same behind a callback of the source, for the token that the socket was registered with. Under `Mode::Level` the poller may
+    /// trust what it knows of the descriptor, and call no system (`Poller::rearm_level`). Only a fault is answered, of kind `NotFound` if
+    /// the key isn't in the table, or the poller's. Each leaves the table as it was.
     #[inline(always)]
     pub fn rearm(
         &mut self,
@@ -185,10 +205,18 @@ impl<P: Poller, C, R: Wait + Drop> Poll<P, C, R> {
             (poll_view self.old) fd (as_loop result) (poll_view self.new) }
         ensures ready { (more : ℕ) → IsReady more self.old → IsReady more self.new }
     {
-        let Some(stood) = self.table.get(token.key()) else {
+        let key = token.key();
+        let Some(stood) = self.table.get(key) else {
             return Err(io::Error::from(io::ErrorKind::NotFound));
         };
-        self.change(fd, stood, token, token, Watched { interest, mode })
+        let watched = Watched { interest, mode };
+        match rearm_in(&mut self.poller, fd, stood.interest.asks(), key, watched) {
+            Ok(()) => {
+                self.table.replace(key, stood, watched);
+                Ok(())
+            }
+            Err(cause) => Err(cause),
+        }
     }
 
     /// Takes a socket out, and from the poller, unless its interest is empty. A token whose key isn't in the table is refused
