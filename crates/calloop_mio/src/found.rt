@@ -8,11 +8,15 @@ ghost use Rattle.calloop_mio.specs.SystemEvents.{readiness_of, told_events};
 
 use super::OWN_KEY;
 use calloop_poll::sys::{EVENTS_PER_WAIT, Readiness};
+use calloop_slots::wheel::Instant;
 use mio::event::Event;
 use mio::{Events, Poll};
 use std::alloc::{AllocError, Global};
 use std::io;
 use std::time::Duration;
+
+// In nanoseconds: how long behind what was served more is awaited without a sleep.
+const BUSY: u64 = 100_000;
 
 /// What the machine found in the last wait, at most 1,024 events; or how that failed.
 #[derive(Drop)]
@@ -20,6 +24,8 @@ pub struct Found {
     events: Events,
     // The kind of the last wait's error.
     failed: Option<io::ErrorKind>,
+    // When what was found last was served.
+    served: Option<Instant>,
     ghost room: { events_capacity events ≤ events_per_wait },
     ghost few: { length (items events) ≤ events_per_wait },
 }
@@ -30,7 +36,25 @@ impl Found {
         Ok(Found {
             events: Events::with_capacity(alloc, EVENTS_PER_WAIT)?,
             failed: None,
+            served: None,
         })
+    }
+
+    /// The next wait begins now: what the last one found, if it found anything, was served until now.
+    pub fn note_served(&mut self, now: Instant)
+        ensures { self.new ≡ record self.old { served = self.new.served } }
+    {
+        if !self.is_empty() {
+            self.served = Some(now);
+        }
+    }
+
+    /// Whether something was served so short a time ago that more is likely to come at once.
+    pub fn is_busy(&self, now: Instant) -> bool {
+        match self.served {
+            Some(served) => now < served.after(Duration::from_nanos(BUSY)),
+            None => false,
+        }
     }
 
     /// Waits. Where that fails nothing was found, and the kind of the error is kept.

@@ -155,8 +155,9 @@ impl<C: Clock> MioPoller<C> {
             return self.found.wait(&mut self.poll, timeout);
         }
         let start = self.clock.now();
+        self.found.note_served(start);
         let portion = self.precision.portion(timeout);
-        if !portion.asleep.is_zero() {
+        if !portion.asleep.is_zero() && !self.found.is_busy(start) {
             self.clock.sleep(portion.asleep);
         }
         self.found.wait(&mut self.poll, portion.waiting)?;

@@ -23,8 +23,8 @@ const MILLISECOND: u32 = 1_000_000;
 pub enum Precision {
     /// Up to a millisecond late. An event ends the wait at once.
     Milliseconds,
-    /// Some microseconds late. In the last 1.15 milliseconds it sleeps for 0.1 at a time, so that an event waits so long, and in the
-    /// last 0.08 it asks the machine again and again.
+    /// Some microseconds late. In the last 1.15 milliseconds it sleeps for 0.1 at a time, so that an event waits so long, and in the last 0.08
+    /// it asks the machine again and again. It also does that for 0.1 behind each event that was served, so that traffic isn't delayed.
     Microseconds,
 }
 
