@@ -5,8 +5,9 @@ use crate::sources::Asking;
 
 /// Called once, with the data that a dispatch lends. `Q` takes its requests. calloop takes a closure.
 pub trait IdleCallback<X, Q: Asking> {
-    /// The callback, the data and the requests before the call, and these two after it.
-    ghost runs: { Self → X → Q → X → Q → Type 0 };
+    /// The callback, the data and the requests before the call, and these two after it. A callback without a relation of its own may
+    /// do anything.
+    ghost runs: { Self → X → Q → X → Q → Type 0 } = { λ _ _ _ _ _. Unit {0} };
 
     /// What is done. The callback is spent.
     fn run(self, data: &mut X, requests: &mut Q)

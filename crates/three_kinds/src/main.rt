@@ -68,8 +68,6 @@ where
 struct Rest;
 
 impl<Q: Asking> IdleCallback<Said, Q> for Rest {
-    ghost runs = { λ _ _ _ _ _. Unit {0} };
-
     fn run(self, said: &mut Said, _: &mut Q) {
         said.line("nothing left\n");
     }

@@ -145,8 +145,6 @@ pub struct Note {
 }
 
 impl<D: Choice<Counter, Asker, Third> + Drop> IdleCallback<Said, Requests<D, Note>> for Note {
-    ghost runs = { λ _ _ _ _ _. Unit {0} };
-
     fn run(self, said: &mut Said, requests: &mut Requests<D, Note>) {
         said.number(self.number);
         own(said, requests);
