@@ -9,7 +9,8 @@ NAME = re.compile(r"'?[A-Za-z_][\w:]*")
 
 # Of `file`, its lines from `first` to `last`, counted from 1: one function, or one line outside of functions, and then
 # `name` is None. `of` is the name of its impl's type, `trait` that of its trait, and `by` those of the trait's types, without parameters
-# of the impl. Of a function of a trait itself `of` is the trait's name, and `trait` is empty.
+# of the impl. Of a function of a trait itself `of` is the trait's name, and `trait` is empty. Without a trait, `by` has the types for which alone
+# the impl is: `+Core+R` of `impl<R> End<Core, R>`.
 Place = collections.namedtuple("Place", "file first last name of trait by")
 
 
@@ -88,7 +89,9 @@ def parts_of_impl(head):
     trait = NAME.match(rest.lstrip())
     types, behind = brackets(rest.lstrip()[trait.end() :])
     if not behind.lstrip().startswith("for "):
-        return in_one_word(trait[0]), None, None
+        named = NAME.findall(types)
+        by = "".join(f"+{in_one_word(it)}" for it in named) if any(it not in own and not it.startswith("'") for it in named) else None
+        return in_one_word(trait[0]), None, by
     of = NAME.match(behind.lstrip().removeprefix("for "))
     named = [it for it in NAME.findall(types) if it not in own and not it.startswith("'")]
     return in_one_word(of[0]) if of else None, trait[0].split("::")[-1], "".join(map(in_one_word, named))

@@ -1,3 +1,4 @@
 -- What the contracts of `cell` cite.
+pub mod CellEnds
 pub mod CellSources
 pub mod CellKeeping

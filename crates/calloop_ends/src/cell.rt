@@ -11,10 +11,11 @@ use calloop_poll::sys::hub::{SharedHub, share};
 use calloop_slots::error::Result as LoopResult;
 use calloop_slots::token::Token;
 use calloop_wake::cell::CellCore;
-use calloop_wake::locked::{Core, Locked};
+use calloop_wake::locked::{Awaited, Core, Locked};
 use calloop_wake::{ClosePermit, Debt, Last, ReceivingRight, Sender, Tally};
 use counted_slot::Fits;
 use std::alloc::{AllocError, Global};
+use std::marker::Model;
 use std::sync::{Arc, Wait};
 
 pub(crate) mod source;
@@ -94,94 +95,166 @@ fn close_place<R: Wait>(rt: &R, hub: &Option<SharedHub>, permit: Option<ClosePer
     }
 }
 
-/// The receiving end of the cell.
-pub fn receiver<K: CellCore, R: Wait>(
+/// The receiving end of a cell. Its drop clears the key of the cell, and then closes the place of that.
+///
+/// In a clause it is its tally, and the tag of its cell.
+pub(crate) struct ReceivingEnd<K: CellCore, R: Wait + Drop> {
+    pub(crate) rt: R,
+    pub(crate) shared: SharedCell<K>,
+    pub(crate) tally: Tally,
+}
+
+impl<K: CellCore, R: Wait + Drop> Model for ReceivingEnd<K, R> {
+    ghost use Rattle.std.specs.Prelude.{◌≡◌};
+    ghost use Rattle.std.specs.Arc.{arc_value};
+    ghost use Rattle.calloop_ends.specs.cell.CellEnds.{CellEnd};
+
+    ghost Value = { CellEnd K.Tag };
+
+    ghost view = { λ e. record { tally = e.tally; tag = (arc_value e.shared).tag } };
+
+    ghost invariant = { λ e. e.tally.name ≡ K.named_by (arc_value e.shared).tag };
+}
+
+impl<K: CellCore, R: Wait + Drop> ReceivingEnd<K, R> {
+    /// The receiving end of a cell. There is one, since there is one right to it.
+    pub(crate) fn new(rt: R, shared: SharedCell<K>, right: ReceivingRight) -> ReceivingEnd<K, R>
+        requires { right.name ≡ K.named_by (arc_value shared).tag }
+        ensures tally { result.tally ≡ fresh_tally (K.named_by (arc_value shared).tag) }
+        ensures tag { result.tag ≡ (arc_value shared).tag }
+    {
+        let mut held = shared.lock(&rt);
+        let tally = held.core().core.receiver(right);
+        held.unlock();
+        ReceivingEnd { rt, shared, tally }
+    }
+
+    /// Opens the place of the token, gives the cell its key, and then closes the place of the key that it had.
+    pub(crate) fn attach(&mut self, hub: &SharedHub, token: Token) -> LoopResult<()>
+        requires key { key_of token ≢ 2 ^ 64 - 1 }
+        ensures tag { self.new.tag ≡ self.old.tag }
+        ensures ok { IfOk result
+            (λ _. self.new.tally ≡ record self.old.tally { key = Some (key_of token) }) }
+        ensures err { IfErr result (λ e. CannotOpen e × (self.new.tally ≡ self.old.tally)) }
+    {
+        let pass = hub.open_place(&self.rt, token)?;
+        let mine = share(&self.rt, hub);
+        let mut held = self.shared.lock(&self.rt);
+        let cell = held.core();
+        let old = cell.hub.replace(mine);
+        let (debt, permit) = cell.core.set_key(pass, &mut self.tally);
+        let owed = cell.with_hub(&self.rt, debt);
+        held.unlock();
+        close_place(&self.rt, &old, permit);
+        post(&self.rt, owed);
+        Ok(())
+    }
+
+    /// Clears the cell's key, and then closes its place.
+    pub(crate) fn detach(&mut self)
+        ensures tag { self.new.tag ≡ self.old.tag }
+        ensures tally { self.new.tally ≡ record self.old.tally { key = None } }
+    {
+        let mut held = self.shared.lock(&self.rt);
+        let cell = held.core();
+        let permit = cell.core.clear_key(&mut self.tally);
+        let hub = cell.hub.take();
+        held.unlock();
+        close_place(&self.rt, &hub, permit);
+    }
+
+    /// Ends it, and hands its runtime back: clears the cell's key, closes the place of that, and wakes all that wait for room.
+    pub(crate) fn abandon(self) -> R {
+        let ReceivingEnd { rt, shared, tally } = self;
+        let mut held = shared.lock(&rt);
+        let cell = held.core();
+        let permit = cell.core.abandon(tally);
+        let hub = cell.hub.take();
+        held.unlock();
+        close_place(&rt, &hub, permit);
+        shared.notify_all(Awaited::Room);
+        rt
+    }
+}
+
+impl<K: CellCore, R: Wait + Drop> Drop for ReceivingEnd<K, R> {
+    fn drop(self) {
+        let _rt = self.abandon();
+    }
+}
+
+/// A sending end of a cell, which counts as one of its senders. There can be 2^64 - 1; the drop of the last one closes the cell.
+///
+/// In a clause it is the tag of its cell.
+pub(crate) struct SendingEnd<K: CellCore, R: Wait + Drop> {
+    pub(crate) rt: R,
+    pub(crate) shared: SharedCell<K>,
+    sender: Sender,
+}
+
+impl<K: CellCore, R: Wait + Drop> Model for SendingEnd<K, R> {
+    ghost use Rattle.std.specs.Prelude.{◌≡◌};
+    ghost use Rattle.std.specs.Arc.{arc_value};
+
+    ghost Value = { K.Tag };
+
+    ghost view = { λ e. (arc_value e.shared).tag };
+
+    ghost invariant = { λ e. e.sender.name ≡ K.named_by (arc_value e.shared).tag };
+}
+
+impl<K: CellCore, R: Wait + Drop> SendingEnd<K, R> {
+    /// Another sending end of the cell. It fails if there are 2^64 - 1.
+    pub(crate) fn new(rt: R, shared: SharedCell<K>) -> Result<SendingEnd<K, R>, AllocError>
+        ensures { IfOk result (λ end. end ≡ (arc_value shared).tag) }
+    {
+        let mut held = shared.lock(&rt);
+        let added = held.core().core.add_sender();
+        held.unlock();
+        let sender = added?;
+        Ok(SendingEnd { rt, shared, sender })
+    }
+}
+
+impl<K: CellCore, R: Wait + Clone + Drop> Clone for SendingEnd<K, R> {
+    ghost use Rattle.std.specs.Prelude.{◌≡◌};
+
+    ghost is_clone = { λ end again. again ≡ end };
+
+    fn clone(&self) -> Result<SendingEnd<K, R>, AllocError> {
+        SendingEnd::new(self.rt.clone()?, Arc::try_clone(&self.shared)?)
+    }
+}
+
+impl<K: CellCore, R: Wait + Drop> Drop for SendingEnd<K, R> {
+    fn drop(self) {
+        let SendingEnd { rt, shared, sender } = self;
+        let mut held = shared.lock(&rt);
+        let cell = held.core();
+        let debt = cell.core.drop_sender(sender);
+        let owed = cell.with_hub(&rt, debt);
+        held.unlock();
+        post(&rt, owed);
+        shared.notify_all(Awaited::Content);
+    }
+}
+
+/// Both ends of a cell to which nothing has happened yet.
+pub(crate) fn make_ends<K: CellCore, R: Wait + Clone + Drop>(
     rt: &R,
-    shared: &Locked<Cell<K>>,
+    alloc: Global,
+    locked: Locked<Cell<K>>,
     right: ReceivingRight,
-) -> Tally
-    requires { right.name ≡ K.named_by shared.now.tag }
-    ensures { result ≡ fresh_tally (K.named_by shared.now.tag) }
+) -> Result<(SendingEnd<K, R>, ReceivingEnd<K, R>), AllocError>
+    requires { right.name ≡ K.named_by locked.tag }
+    ensures sending { IfOk result (λ made. made.0 ≡ locked.tag) }
+    ensures tally { IfOk result (λ made. made.1.tally ≡ fresh_tally (K.named_by locked.tag)) }
+    ensures tag { IfOk result (λ made. made.1.tag ≡ locked.tag) }
 {
-    let mut held = shared.lock(rt);
-    let tally = held.core().core.receiver(right);
-    held.unlock();
-    tally
-}
-
-/// One sender more. There can be 2^64 - 1.
-pub fn add_sender<K: CellCore, R: Wait>(
-    rt: &R,
-    shared: &Locked<Cell<K>>,
-) -> Result<Sender, AllocError>
-    ensures { IfOk result (λ sender. sender.name ≡ K.named_by shared.now.tag) }
-{
-    let mut held = shared.lock(rt);
-    let cell = held.core();
-    let added = cell.core.add_sender();
-    held.unlock();
-    added
-}
-
-/// One sender less. The last one closes the cell.
-pub fn drop_sender<K: CellCore, R: Wait>(rt: &R, shared: &Locked<Cell<K>>, sender: Sender)
-    requires { sender.name ≡ K.named_by shared.now.tag }
-{
-    let mut held = shared.lock(rt);
-    let cell = held.core();
-    let debt = cell.core.drop_sender(sender);
-    let owed = cell.with_hub(rt, debt);
-    held.unlock();
-    post(rt, owed);
-}
-
-/// Opens the place of the token, gives the cell its key, and then closes the place of the key that it had.
-pub fn attach<K: CellCore, R: Wait>(
-    rt: &R,
-    shared: &Locked<Cell<K>>,
-    tally: &mut Tally,
-    hub: &SharedHub,
-    token: Token,
-) -> LoopResult<()>
-    requires name { tally.old.name ≡ K.named_by shared.now.tag }
-    requires key { key_of token ≢ 2 ^ 64 - 1 }
-    ensures ok { IfOk result (λ _. tally.new ≡ record tally.old { key = Some (key_of token) }) }
-    ensures err { IfErr result (λ e. CannotOpen e × (tally.new ≡ tally.old)) }
-{
-    let pass = hub.open_place(rt, token)?;
-    let mine = share(rt, hub);
-    let mut held = shared.lock(rt);
-    let cell = held.core();
-    let old = cell.hub.replace(mine);
-    let (debt, permit) = cell.core.set_key(pass, tally);
-    let owed = cell.with_hub(rt, debt);
-    held.unlock();
-    close_place(rt, &old, permit);
-    post(rt, owed);
-    Ok(())
-}
-
-/// Clears the cell's key, and then closes its place.
-pub fn detach<K: CellCore, R: Wait>(rt: &R, shared: &Locked<Cell<K>>, tally: &mut Tally)
-    requires { tally.old.name ≡ K.named_by shared.now.tag }
-    ensures { tally.new ≡ record tally.old { key = None } }
-{
-    let mut held = shared.lock(rt);
-    let cell = held.core();
-    let permit = cell.core.clear_key(tally);
-    let hub = cell.hub.take();
-    held.unlock();
-    close_place(rt, &hub, permit);
-}
-
-/// The receiving end goes: its key is cleared, and then the place of that is closed.
-pub fn abandon<K: CellCore, R: Wait>(rt: &R, shared: &Locked<Cell<K>>, tally: Tally)
-    requires { tally.name ≡ K.named_by shared.now.tag }
-{
-    let mut held = shared.lock(rt);
-    let cell = held.core();
-    let permit = cell.core.abandon(tally);
-    let hub = cell.hub.take();
-    held.unlock();
-    close_place(rt, &hub, permit);
+    let of_sending = rt.clone()?;
+    let of_receiving = rt.clone()?;
+    let shared = Arc::new(alloc, locked)?;
+    let again = share(rt, &shared);
+    let sending = SendingEnd::new(of_sending, shared)?;
+    Ok((sending, ReceivingEnd::new(of_receiving, again, right)))
 }

@@ -6,10 +6,9 @@ ghost use Rattle.std.specs.Prelude.{◌≡◌, None, IfOk, IfErr};
 ghost use Rattle.calloop_wake.specs.Cells.{fresh_tally};
 ghost use Rattle.calloop_slots.specs.declared.error.Error.TheVariants.{OutOfMemory};
 
-use crate::cell::{SharedCell, abandon, add_sender, receiver};
+use crate::cell::{ReceivingEnd, make_ends};
 use calloop_poll::sys::hub::share;
 use calloop_slots::error::Result as LoopResult;
-use calloop_wake::Tally;
 use calloop_wake::executor::ExecutorCore;
 use calloop_wake::homes::Homes;
 use calloop_wake::locked::Locked;
@@ -35,10 +34,8 @@ pub use task::{Blocked, Context, Future, Poll, Waker};
 ///
 /// In a clause it is its tally, as a `PingSource` is.
 pub struct Executor<Fut: Drop, R: Wait + Drop> {
-    rt: R,
-    shared: SharedCell<ExecutorCore>,
+    end: ReceivingEnd<ExecutorCore, R>,
     homes: SharedHomes<Fut, R>,
-    tally: Tally,
 }
 
 impl<Fut: Drop, R: Wait + Drop> Model for Executor<Fut, R> {
@@ -48,10 +45,9 @@ impl<Fut: Drop, R: Wait + Drop> Model for Executor<Fut, R> {
 
     ghost Value = { Tally };
 
-    ghost view = { λ e. e.tally };
+    ghost view = { λ e. e.end.tally };
 
-    ghost invariant = { λ e. (e.tally.name ≡ (arc_value e.shared).tag)
-        × ((arc_value e.homes).tag ≡ (arc_value e.shared).tag) };
+    ghost invariant = { λ e. (arc_value e.homes).tag ≡ e.end.tally.name };
 }
 
 /// An executor, which is registered nowhere, and a scheduler that hands it futures. `rt` is the runtime by which they lock what they
@@ -65,32 +61,22 @@ pub fn make_executor<Fut: Future<R>, R: Wait + Clone + Drop>(
     ensures ok { IfOk result (λ made. made.0 ≡ fresh_tally made.1) }
     ensures err { IfErr result (λ e. e ≡ OutOfMemory) }
 {
-    let of_executor = rt.clone()?;
-    let of_scheduler = rt.clone()?;
     let (locked, right, keeping) = cell::new_locked(alloc)?;
     let (homes, of_homes) = Homes::new(alloc, keeping);
     let homes = Arc::new(alloc, Locked::new(alloc, homes, &of_homes)?)?;
-    let shared = Arc::new(alloc, locked)?;
-    let sender = add_sender(rt, &shared)?;
-    let tally = receiver(rt, &shared, right);
+    let of_executor = share(rt, &homes);
+    let (sending, receiving) = make_ends(rt, alloc, locked, right)?;
     let executor = Executor {
-        rt: of_executor,
-        shared: share(rt, &shared),
-        homes: share(rt, &homes),
-        tally,
+        end: receiving,
+        homes: of_executor,
     };
-    Ok((executor, Scheduler::of(of_scheduler, shared, homes, sender)))
+    Ok((executor, Scheduler::of(sending, homes)))
 }
 
 impl<Fut: Drop, R: Wait + Drop> Drop for Executor<Fut, R> {
     fn drop(self) {
-        let Executor {
-            rt,
-            shared,
-            homes,
-            tally,
-        } = self;
-        abandon(&rt, &shared, tally);
+        let Executor { end, homes } = self;
+        let rt = end.abandon();
         homes::close(&rt, &homes);
     }
 }

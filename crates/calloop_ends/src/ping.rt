@@ -3,14 +3,13 @@ ghost use Rattle.std.specs.Prelude.{◌≡◌, None, IfOk, IfErr};
 ghost use Rattle.calloop_wake.specs.Cells.{fresh_tally};
 ghost use Rattle.calloop_slots.specs.declared.error.Error.TheVariants.{OutOfMemory};
 
-use crate::cell::{SharedCell, abandon, add_sender, drop_sender, receiver};
-use calloop_poll::sys::hub::share;
+use crate::cell::{ReceivingEnd, SendingEnd, make_ends};
 use calloop_slots::error::Result as LoopResult;
+use calloop_wake::Receipt;
 use calloop_wake::ping::PingCore;
-use calloop_wake::{Receipt, Sender, Tally};
 use std::alloc::{AllocError, Global};
 use std::marker::Model;
-use std::sync::{Arc, Wait};
+use std::sync::Wait;
 
 pub(crate) mod cell;
 pub(crate) mod source;
@@ -20,22 +19,17 @@ pub use source::{PingError, is_registered_by_its_calls};
 /// Rings its source, from any thread. As many as are cloned ring the same source, and the drop of the last one closes it.
 ///
 /// In a clause it is the name of the cell that it rings.
+#[derive(Drop)]
 pub struct Ping<R: Wait + Drop> {
-    rt: R,
-    shared: SharedCell<PingCore>,
-    sender: Sender,
+    end: SendingEnd<PingCore, R>,
 }
 
 impl<R: Wait + Drop> Model for Ping<R> {
-    ghost use Rattle.std.specs.Prelude.{◌≡◌};
-    ghost use Rattle.std.specs.Arc.{arc_value};
     ghost use Rattle.logbook.specs.Pages.{Book};
 
     ghost Value = { Book };
 
-    ghost view = { λ p. (arc_value p.shared).tag };
-
-    ghost invariant = { λ p. p.sender.name ≡ (arc_value p.shared).tag };
+    ghost view = { λ p. p.end };
 }
 
 /// The source of a ping. Any number of rings before its turn are one event.
@@ -43,22 +37,17 @@ impl<R: Wait + Drop> Model for Ping<R> {
 /// Its drop, as by the drop of the loop that it is registered with, takes its registration back.
 ///
 /// In a clause it is the tally: the name of its cell, the key that it gave that, and what was counted.
+#[derive(Drop)]
 pub struct PingSource<R: Wait + Drop> {
-    pub(crate) rt: R,
-    pub(crate) shared: SharedCell<PingCore>,
-    pub(crate) tally: Tally,
+    pub(crate) end: ReceivingEnd<PingCore, R>,
 }
 
 impl<R: Wait + Drop> Model for PingSource<R> {
-    ghost use Rattle.std.specs.Prelude.{◌≡◌};
-    ghost use Rattle.std.specs.Arc.{arc_value};
     ghost use Rattle.calloop_wake.specs.declared.Tally.{Tally};
 
     ghost Value = { Tally };
 
-    ghost view = { λ s. s.tally };
-
-    ghost invariant = { λ s. s.tally.name ≡ (arc_value s.shared).tag };
+    ghost view = { λ s. s.end.tally };
 }
 
 /// A ping that nobody rang, and its source, which is registered nowhere. `rt` is the runtime by which they lock what they share.
@@ -71,24 +60,9 @@ pub fn make_ping<R: Wait + Clone + Drop>(
     ensures ok { IfOk result (λ made. made.1 ≡ fresh_tally made.0) }
     ensures err { IfErr result (λ e. e ≡ OutOfMemory) }
 {
-    let of_ping = rt.clone()?;
-    let of_source = rt.clone()?;
     let (locked, right) = cell::new_locked(alloc)?;
-    let shared = Arc::new(alloc, locked)?;
-    let again = share(rt, &shared);
-    let sender = add_sender(rt, &shared)?;
-    let tally = receiver(rt, &shared, right);
-    let ping = Ping {
-        rt: of_ping,
-        shared,
-        sender,
-    };
-    let source = PingSource {
-        rt: of_source,
-        shared: again,
-        tally,
-    };
-    Ok((ping, source))
+    let (ping, source) = make_ends(rt, alloc, locked, right)?;
+    Ok((Ping { end: ping }, PingSource { end: source }))
 }
 
 impl<R: Wait + Drop> Ping<R> {
@@ -98,7 +72,7 @@ impl<R: Wait + Drop> Ping<R> {
     pub fn ping(&self) -> Receipt
         ensures { result.name ≡ self.now }
     {
-        cell::ring(&self.rt, &self.shared)
+        self.end.ring()
     }
 }
 
@@ -108,23 +82,7 @@ impl<R: Wait + Clone + Drop> Clone for Ping<R> {
     ghost is_clone = { λ ping again. again ≡ ping };
 
     fn clone(&self) -> Result<Ping<R>, AllocError> {
-        let rt = self.rt.clone()?;
-        let shared = Arc::try_clone(&self.shared)?;
-        let sender = add_sender(&self.rt, &self.shared)?;
-        Ok(Ping { rt, shared, sender })
-    }
-}
-
-impl<R: Wait + Drop> Drop for Ping<R> {
-    fn drop(self) {
-        let Ping { rt, shared, sender } = self;
-        drop_sender(&rt, &shared, sender);
-    }
-}
-
-impl<R: Wait + Drop> Drop for PingSource<R> {
-    fn drop(self) {
-        let PingSource { rt, shared, tally } = self;
-        abandon(&rt, &shared, tally);
+        let end = self.end.clone()?;
+        Ok(Ping { end })
     }
 }

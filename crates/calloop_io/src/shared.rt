@@ -124,153 +124,8 @@ fn put_mark<R: Wait + Drop>(
     }
 }
 
-// The sections of an adapter's lock that its `Async` has.
-
-fn take_refusal<R: Wait + Drop>(
-    rt: &R,
-    state: &Locked<State<R>>,
-    tally: &mut PollTally,
-) -> Option<Error>
-    requires { tally.old.name ≡ state.now.tag }
-    ensures refused { IfSome result (λ e. of_registration e ≡ true) }
-    ensures tally { tally.new ≡ with_poll_note (Refused result) tally.old }
-{
-    let mut held = state.lock(rt);
-    let error = held.core().take_refusal(tally);
-    held.unlock();
-    error
-}
-
-fn answer<R: Wait + Drop>(
-    rt: &R,
-    state: &Locked<State<R>>,
-    tally: &mut PollTally,
-    wanted: Interest,
-) -> Option<LoopResult<()>>
-    requires { tally.old.name ≡ state.now.tag }
-    ensures refused { IfSome result IsAnswer }
-    ensures some { IfSome result (λ a. tally.new ≡ with_poll_note (Answered a) tally.old) }
-    ensures none { IfNone result (tally.new ≡ tally.old) }
-{
-    let mut held = state.lock(rt);
-    let answer = held.core().answer(tally, wanted);
-    held.unlock();
-    answer
-}
-
-fn wait<R: Wait + Drop>(
-    rt: &R,
-    state: &Locked<State<R>>,
-    tally: &mut PollTally,
-    wanted: Interest,
-    waker: Waker<R>,
-) -> Result<(), AllocError>
-    requires { tally.old.name ≡ state.now.tag }
-    ensures { tally.new ≡ with_poll_note (Waits wanted) tally.old }
-{
-    let mut held = state.lock(rt);
-    let Waiting { older, debt } = held.core().wait(rt, tally, wanted, waker);
-    held.unlock();
-    drop(older);
-    put_mark(rt, state, debt)
-}
-
-fn answer_or_wait<R: Wait + Drop>(
-    rt: &R,
-    state: &Locked<State<R>>,
-    tally: &mut PollTally,
-    wanted: Interest,
-    waker: Waker<R>,
-) -> Result<Option<LoopResult<()>>, AllocError>
-    requires { tally.old.name ≡ state.now.tag }
-    ensures refused { IfOk result (λ answer. IfSome answer IsAnswer) }
-    ensures some { IfOk result (λ answer. IfSome answer
-        (λ a. tally.new ≡ with_poll_note (Answered a) tally.old)) }
-    ensures none { IfOk result (λ answer. IfNone answer
-        (tally.new ≡ with_poll_note (Waits wanted) tally.old)) }
-    ensures err { OnErr result (tally.new ≡ with_poll_note (Waits wanted) tally.old) }
-{
-    let mut held = state.lock(rt);
-    let answer = held.core().answer(tally, wanted);
-    if let Some(answer) = answer {
-        held.unlock();
-        return Ok(Some(answer));
-    }
-    let Waiting { older, debt } = held.core().wait(rt, tally, wanted, waker);
-    held.unlock();
-    drop(older);
-    put_mark(rt, state, debt)?;
-    Ok(None)
-}
-
-// Which registration it has, where it is in a loop, from where it may be taken out from now on, or not.
-fn set_leaving<R: Wait + Drop>(
-    rt: &R,
-    state: &Locked<State<R>>,
-    tally: &PollTally,
-    leaving: bool,
-) -> Option<RegistrationToken>
-    requires { tally.now.name ≡ state.now.tag }
-{
-    let mut held = state.lock(rt);
-    let state = held.core();
-    let token = state.registration();
-    state.set_leaving(tally, leaving && token.is_some());
-    held.unlock();
-    token
-}
-
-fn let_go<R: Wait + Drop>(rt: &R, state: &Locked<State<R>>, tally: PollTally)
-    requires { tally.name ≡ state.now.tag }
-{
-    let mut held = state.lock(rt);
-    let debt = held.core().let_go(rt, tally);
-    held.unlock();
-    // Where there is no memory for the mark, the adapter leaves with its loop.
-    let _failed = put_mark(rt, state, debt);
-}
-
-// The sections of its socket's lock that it has.
-
-fn try_read<Io: Read + Drop, R: Wait>(
-    rt: &R,
-    io: &Mutex<Option<Io>>,
-    tally: &mut PollTally,
-    buf: &mut [u8],
-) -> io::Result<usize>
-    ensures bound { ReadsAtMost result buf.new }
-    ensures tally { tally.new ≡ with_poll_note (Tried result) tally.old }
-{
-    let mut held = io.lock(rt);
-    tally.try_read(&mut *held, buf)
-}
-
-fn try_write<Io: Write + Drop, R: Wait>(
-    rt: &R,
-    io: &Mutex<Option<Io>>,
-    tally: &mut PollTally,
-    buf: &[u8],
-) -> io::Result<usize>
-    ensures bound { WritesAtMost result buf.now }
-    ensures tally { tally.new ≡ with_poll_note (Tried result) tally.old }
-{
-    let mut held = io.lock(rt);
-    tally.try_write(&mut *held, buf)
-}
-
-fn try_flush<Io: Write + Drop, R: Wait>(
-    rt: &R,
-    io: &Mutex<Option<Io>>,
-    tally: &mut PollTally,
-) -> io::Result<()>
-    ensures tally { tally.new ≡ with_poll_note (Flushed result) tally.old }
-{
-    let mut held = io.lock(rt);
-    tally.try_flush(&mut *held)
-}
-
 impl<F: AsRawFd + Drop, R: Wait + Drop> PollEnd<F, R> {
-    /// The socket, where it is there, under its lock.
+    /// The socket, if it is there, under its lock.
     pub(crate) fn io(&self) -> MutexGuard<'_, Option<F>> {
         self.shared.io.lock(&self.rt)
     }
@@ -280,7 +135,10 @@ impl<F: AsRawFd + Drop, R: Wait + Drop> PollEnd<F, R> {
         ensures refused { IfSome result (λ e. of_registration e ≡ true) }
         ensures tally { self.new ≡ with_poll_note (Refused result) self.old }
     {
-        take_refusal(&self.rt, &self.shared.state, &mut self.tally)
+        let mut held = self.shared.state.lock(&self.rt);
+        let error = held.core().take_refusal(&mut self.tally);
+        held.unlock();
+        error
     }
 
     /// What a poll is answered; else it waits, and the loop is woken.
@@ -296,14 +154,28 @@ impl<F: AsRawFd + Drop, R: Wait + Drop> PollEnd<F, R> {
             (self.new ≡ with_poll_note (Waits wanted) self.old)) }
         ensures err { OnErr result (self.new ≡ with_poll_note (Waits wanted) self.old) }
     {
-        answer_or_wait(&self.rt, &self.shared.state, &mut self.tally, wanted, waker)
+        let mut held = self.shared.state.lock(&self.rt);
+        let answer = held.core().answer(&mut self.tally, wanted);
+        if let Some(answer) = answer {
+            held.unlock();
+            return Ok(Some(answer));
+        }
+        let Waiting { older, debt } = held.core().wait(&self.rt, &mut self.tally, wanted, waker);
+        held.unlock();
+        drop(older);
+        put_mark(&self.rt, &self.shared.state, debt)?;
+        Ok(None)
     }
 
     /// A poll waits, and the loop is woken.
     pub(crate) fn wait(&mut self, wanted: Interest, waker: Waker<R>) -> Result<(), AllocError>
         ensures { self.new ≡ with_poll_note (Waits wanted) self.old }
     {
-        wait(&self.rt, &self.shared.state, &mut self.tally, wanted, waker)
+        let mut held = self.shared.state.lock(&self.rt);
+        let Waiting { older, debt } = held.core().wait(&self.rt, &mut self.tally, wanted, waker);
+        held.unlock();
+        drop(older);
+        put_mark(&self.rt, &self.shared.state, debt)
     }
 
     /// Reads the socket.
@@ -313,7 +185,8 @@ impl<F: AsRawFd + Drop, R: Wait + Drop> PollEnd<F, R> {
         ensures bound { ReadsAtMost result buf.new }
         ensures tally { self.new ≡ with_poll_note (Tried result) self.old }
     {
-        try_read(&self.rt, &self.shared.io, &mut self.tally, buf)
+        let mut held = self.shared.io.lock(&self.rt);
+        self.tally.try_read(&mut *held, buf)
     }
 
     /// Writes to the socket.
@@ -323,7 +196,8 @@ impl<F: AsRawFd + Drop, R: Wait + Drop> PollEnd<F, R> {
         ensures bound { WritesAtMost result buf.now }
         ensures tally { self.new ≡ with_poll_note (Tried result) self.old }
     {
-        try_write(&self.rt, &self.shared.io, &mut self.tally, buf)
+        let mut held = self.shared.io.lock(&self.rt);
+        self.tally.try_write(&mut *held, buf)
     }
 
     /// Flushes the socket.
@@ -332,116 +206,43 @@ impl<F: AsRawFd + Drop, R: Wait + Drop> PollEnd<F, R> {
         F: Write,
         ensures tally { self.new ≡ with_poll_note (Flushed result) self.old }
     {
-        try_flush(&self.rt, &self.shared.io, &mut self.tally)
+        let mut held = self.shared.io.lock(&self.rt);
+        self.tally.try_flush(&mut *held)
     }
 
-    /// Its registration, where it is in a loop, from where it may be taken out now.
+    // Its registration, if it is in a loop, from where it may be taken out from now on, or not.
+    fn set_leaving(&self, leaving: bool) -> Option<RegistrationToken> {
+        let mut held = self.shared.state.lock(&self.rt);
+        let state = held.core();
+        let token = state.registration();
+        state.set_leaving(&self.tally, leaving && token.is_some());
+        held.unlock();
+        token
+    }
+
+    /// Its registration, if it is in a loop, from where it may be taken out now.
     pub(crate) fn begin_leaving(&self) -> Option<RegistrationToken> {
-        set_leaving(&self.rt, &self.shared.state, &self.tally, true)
+        self.set_leaving(true)
     }
 
     /// It stays in its loop, if it is in one.
     pub(crate) fn stay(&self) {
-        let _token = set_leaving(&self.rt, &self.shared.state, &self.tally, false);
+        let _token = self.set_leaving(false);
     }
 
     /// The `Async` is gone.
     pub(crate) fn let_go(self) {
         let PollEnd { rt, shared, tally } = self;
-        let_go(&rt, &shared.state, tally);
-    }
-}
-
-// The sections that the end in a slot has.
-
-fn come_into<R: Wait + Drop>(rt: &R, state: &Locked<State<R>>, tally: &SlotTally, home: Home)
-    requires { tally.now.name ≡ state.now.tag }
-{
-    let mut held = state.lock(rt);
-    let debt = held.core().come_into(rt, tally, home);
-    held.unlock();
-    let _failed = put_mark(rt, state, debt);
-}
-
-fn leave<R: Wait + Drop>(rt: &R, state: &Locked<State<R>>, tally: &SlotTally)
-    requires { tally.now.name ≡ state.now.tag }
-{
-    let mut held = state.lock(rt);
-    held.core().leave(tally);
-    held.unlock();
-}
-
-fn is_leaving<R: Wait + Drop>(rt: &R, state: &Locked<State<R>>, tally: &mut SlotTally) -> bool
-    requires { tally.old.name ≡ state.now.tag }
-    ensures { tally.new ≡ with_slot_note (Asked result) tally.old }
-{
-    let mut held = state.lock(rt);
-    let leaving = held.core().is_leaving(tally);
-    held.unlock();
-    leaving
-}
-
-fn settle<R: Wait + Drop>(rt: &R, state: &Locked<State<R>>, tally: &mut SlotTally) -> Settled
-    requires { tally.old.name ≡ state.now.tag }
-    ensures { tally.new ≡ with_slot_note (SettledSo result) tally.old }
-{
-    let mut held = state.lock(rt);
-    let settled = held.core().settle(tally);
-    held.unlock();
-    settled
-}
-
-fn refuse<R: Wait + Drop>(rt: &R, state: &Locked<State<R>>, tally: &mut SlotTally, refusal: Refusal)
-    requires { tally.old.name ≡ state.now.tag }
-    ensures { tally.new ≡ with_slot_note (Kept refusal.error) tally.old }
-{
-    let mut held = state.lock(rt);
-    let waking = held.core().refuse(tally, refusal);
-    held.unlock();
-    waking.wake();
-}
-
-fn hear<R: Wait + Drop>(rt: &R, state: &Locked<State<R>>, tally: &mut SlotTally, found: Readiness)
-    requires { tally.old.name ≡ state.now.tag }
-    ensures { tally.new ≡ with_slot_note (Heard found) tally.old }
-{
-    let mut held = state.lock(rt);
-    let waking = held.core().hear(tally, found);
-    held.unlock();
-    waking.wake();
-}
-
-// Registers the socket for this, where it is there, first or anew.
-fn register<F: AsRawFd + Drop, P: Poller, C, R: Wait + Drop>(
-    rt: &R,
-    io: &Mutex<Option<F>>,
-    tally: &mut SlotTally,
-    entered: bool,
-    token: Token,
-    interest: Interest,
-    poll: &mut Poll<P, C, R>,
-) -> Option<LoopResult<()>>
-    ensures tally { tally.new ≡ with_slot_note (Reached (is_some result)) tally.old }
-    ensures none { IfNone result (poll_view poll.new ≡ poll_view poll.old) }
-    ensures some { IfSome result (λ told. (fd : ℤ)
-        × DidEdit P.outside P.sockets (taking_up token entered interest)
-        (poll_view poll.old) fd told (poll_view poll.new)) }
-    ensures refused { IfSome result (λ told. IfErr told (λ e. of_registration e ≡ true)) }
-    ensures ready { (more : ℕ) → IsReady more poll.old → IsReady more poll.new }
-{
-    let mut held = io.lock(rt);
-    tally.reach(&*held);
-    match &*held {
-        Some(io) if entered => {
-            Some(poll.reregister(io.as_raw_fd(), token, interest, Mode::OneShot, token))
-        }
-        Some(io) => Some(poll.register(io.as_raw_fd(), interest, Mode::OneShot, token)),
-        None => None,
+        let mut held = shared.state.lock(&rt);
+        let debt = held.core().let_go(&rt, tally);
+        held.unlock();
+        // Without memory for the mark, the adapter leaves with its loop.
+        let _failed = put_mark(&rt, &shared.state, debt);
     }
 }
 
 impl<F: AsRawFd + Drop, R: Wait + Drop> SlotEnd<F, R> {
-    /// Registers the socket for this, where it is there, first or anew.
+    /// Registers the socket for this, if it is there, first or anew.
     pub(crate) fn register<P: Poller, C>(
         &mut self,
         entered: bool,
@@ -457,18 +258,18 @@ impl<F: AsRawFd + Drop, R: Wait + Drop> SlotEnd<F, R> {
         ensures refused { IfSome result (λ told. IfErr told (λ e. of_registration e ≡ true)) }
         ensures ready { (more : ℕ) → IsReady more poll.old → IsReady more poll.new }
     {
-        register(
-            &self.rt,
-            &self.shared.io,
-            &mut self.tally,
-            entered,
-            token,
-            interest,
-            poll,
-        )
+        let mut held = self.shared.io.lock(&self.rt);
+        self.tally.reach(&*held);
+        match &*held {
+            Some(io) if entered => {
+                Some(poll.reregister(io.as_raw_fd(), token, interest, Mode::OneShot, token))
+            }
+            Some(io) => Some(poll.register(io.as_raw_fd(), interest, Mode::OneShot, token)),
+            None => None,
+        }
     }
 
-    /// The socket, where it is there, under its lock.
+    /// The socket, if it is there, under its lock.
     pub(crate) fn io(&self) -> MutexGuard<'_, Option<F>> {
         self.shared.io.lock(&self.rt)
     }
@@ -489,39 +290,56 @@ impl<F: AsRawFd + Drop, R: Wait + Drop> SlotEnd<F, R> {
             hub: share(&self.rt, hub),
             token,
         };
-        come_into(&self.rt, &self.shared.state, &self.tally, home);
+        let mut held = self.shared.state.lock(&self.rt);
+        let debt = held.core().come_into(&self.rt, &self.tally, home);
+        held.unlock();
+        let _failed = put_mark(&self.rt, &self.shared.state, debt);
     }
 
     /// It leaves its loop.
     pub(crate) fn leave(&self) {
-        leave(&self.rt, &self.shared.state, &self.tally);
+        let mut held = self.shared.state.lock(&self.rt);
+        held.core().leave(&self.tally);
+        held.unlock();
     }
 
     /// Whether it is being given back.
     pub(crate) fn is_leaving(&mut self) -> bool
         ensures { self.new ≡ with_slot_note (Asked result) self.old }
     {
-        is_leaving(&self.rt, &self.shared.state, &mut self.tally)
+        let mut held = self.shared.state.lock(&self.rt);
+        let leaving = held.core().is_leaving(&mut self.tally);
+        held.unlock();
+        leaving
     }
 
     /// What the loop is to do with it.
     pub(crate) fn settle(&mut self) -> Settled
         ensures { self.new ≡ with_slot_note (SettledSo result) self.old }
     {
-        settle(&self.rt, &self.shared.state, &mut self.tally)
+        let mut held = self.shared.state.lock(&self.rt);
+        let settled = held.core().settle(&mut self.tally);
+        held.unlock();
+        settled
     }
 
     /// Keeps a refusal, and wakes who waits.
     pub(crate) fn refuse(&mut self, refusal: Refusal)
         ensures { self.new ≡ with_slot_note (Kept refusal.error) self.old }
     {
-        refuse(&self.rt, &self.shared.state, &mut self.tally, refusal);
+        let mut held = self.shared.state.lock(&self.rt);
+        let waking = held.core().refuse(&mut self.tally, refusal);
+        held.unlock();
+        waking.wake();
     }
 
     /// Keeps what was found, and wakes who waits.
     pub(crate) fn hear(&mut self, found: Readiness)
         ensures { self.new ≡ with_slot_note (Heard found) self.old }
     {
-        hear(&self.rt, &self.shared.state, &mut self.tally, found);
+        let mut held = self.shared.state.lock(&self.rt);
+        let waking = held.core().hear(&mut self.tally, found);
+        held.unlock();
+        waking.wake();
     }
 }

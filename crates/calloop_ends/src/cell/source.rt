@@ -7,14 +7,13 @@ ghost use Rattle.calloop_poll.specs.sys.Polls.{poll_view};
 ghost use Rattle.calloop_sources.specs.sources.Calls.{CallbackCall, Went};
 ghost use Rattle.calloop_ends.specs.cell.CellSources.{Registers, RegistersAnew, Unregisters, TakesTurn};
 
-use super::{Cell, attach, detach};
+use super::ReceivingEnd;
 use calloop_poll::sys::Poller;
 use calloop_poll::sys::poll::Poll;
 use calloop_slots::error::{Error, Result as LoopResult};
 use calloop_slots::token::{Token, TokenFactory};
 use calloop_sources::sources::{Asking, Callback, PostAction};
 use calloop_wake::cell::CellCore;
-use calloop_wake::locked::Locked;
 use calloop_wake::{TakenPass, Tally};
 use std::io;
 use std::sync::Wait;
@@ -104,70 +103,70 @@ fn is_mine(tally: &Tally, token: Token) -> bool
     tally.key() == Some(token.key())
 }
 
-/// Registers the cell under the factory's next token. What stands in it is posted at once.
-///
-/// Where it is registered already the answer is `IoError` of kind `AlreadyExists`; a factory without tokens is `TooManyTokens`,
-/// and running out of memory `OutOfMemory`. A refusal leaves the cell and the board as they were.
-pub(crate) fn register<K: CellCore, P: Poller, C, R: Wait + Drop>(
-    rt: &R,
-    shared: &Locked<Cell<K>>,
-    tally: &mut Tally,
-    poll: &Poll<P, C, R>,
-    factory: &mut TokenFactory,
-) -> LoopResult<()>
-    requires { tally.old.name ≡ K.named_by shared.now.tag }
-    ensures { Registers {P = P} tally.old factory.old result [] tally.new factory.new }
-{
-    if tally.key().is_some() {
-        let cause = io::Error::from(io::ErrorKind::AlreadyExists);
-        return Err(Error::IoError(cause));
+impl<K: CellCore, R: Wait + Drop> ReceivingEnd<K, R> {
+    pub(crate) fn tally(&self) -> &Tally
+        ensures { result.now ≡ self.now.tally }
+    {
+        &self.tally
     }
-    let token = factory.token()?;
-    attach(rt, shared, tally, poll.hub(), token)
-}
 
-/// Moves the registration to the factory's next token; under the same key it does nothing. What stands in the cell is posted under
-/// the new key.
-///
-/// Where it isn't registered the answer is `IoError` of kind `NotFound`; a factory without tokens is `TooManyTokens`, an open place
-/// of the new key `IoError` of kind `AlreadyExists`, and running out of memory `OutOfMemory`. A refusal leaves the cell and the board as
-/// they were.
-pub(crate) fn reregister<K: CellCore, P: Poller, C, R: Wait + Drop>(
-    rt: &R,
-    shared: &Locked<Cell<K>>,
-    tally: &mut Tally,
-    poll: &Poll<P, C, R>,
-    factory: &mut TokenFactory,
-) -> LoopResult<()>
-    requires { tally.old.name ≡ K.named_by shared.now.tag }
-    ensures { RegistersAnew {P = P} tally.old factory.old result [] tally.new factory.new }
-{
-    if tally.key().is_none() {
-        let cause = io::Error::from(io::ErrorKind::NotFound);
-        return Err(Error::IoError(cause));
+    /// Registers the cell under the factory's next token. What stands in it is posted at once.
+    ///
+    /// If it is registered already the answer is `IoError` of kind `AlreadyExists`; a factory without tokens is `TooManyTokens`,
+    /// and running out of memory `OutOfMemory`. A refusal leaves the cell and the board as they were.
+    pub(crate) fn register<P: Poller, C>(
+        &mut self,
+        poll: &Poll<P, C, R>,
+        factory: &mut TokenFactory,
+    ) -> LoopResult<()>
+        ensures tag { self.new.tag ≡ self.old.tag }
+        ensures registers { Registers {P = P} self.old.tally factory.old result [] self.new.tally factory.new }
+    {
+        if self.tally.key().is_some() {
+            let cause = io::Error::from(io::ErrorKind::AlreadyExists);
+            return Err(Error::IoError(cause));
+        }
+        let token = factory.token()?;
+        self.attach(poll.hub(), token)
     }
-    let next = factory.token()?;
-    if is_mine(tally, next) {
-        return Ok(());
-    }
-    attach(rt, shared, tally, poll.hub(), next)
-}
 
-/// Takes the registration back. What stands in the cell is told after the next registration. Where it isn't registered the answer is
-/// `IoError` of kind `NotFound`, and nothing changes.
-pub(crate) fn unregister<K: CellCore, P: Poller, C, R: Wait + Drop>(
-    rt: &R,
-    shared: &Locked<Cell<K>>,
-    tally: &mut Tally,
-    _poll: &Poll<P, C, R>,
-) -> LoopResult<()>
-    requires { tally.old.name ≡ K.named_by shared.now.tag }
-    ensures { Unregisters {P = P} tally.old result [] tally.new }
-{
-    if tally.key().is_none() {
-        let cause = io::Error::from(io::ErrorKind::NotFound);
-        return Err(Error::IoError(cause));
+    /// Moves the registration to the factory's next token; under the same key it does nothing. What stands in the cell is posted under
+    /// the new key.
+    ///
+    /// If it isn't registered the answer is `IoError` of kind `NotFound`; a factory without tokens is `TooManyTokens`, an open place
+    /// of the new key `IoError` of kind `AlreadyExists`, and running out of memory `OutOfMemory`. A refusal leaves the cell and the board
+    /// as they were.
+    pub(crate) fn reregister<P: Poller, C>(
+        &mut self,
+        poll: &Poll<P, C, R>,
+        factory: &mut TokenFactory,
+    ) -> LoopResult<()>
+        ensures tag { self.new.tag ≡ self.old.tag }
+        ensures registers { RegistersAnew {P = P} self.old.tally factory.old result [] self.new.tally
+            factory.new }
+    {
+        if self.tally.key().is_none() {
+            let cause = io::Error::from(io::ErrorKind::NotFound);
+            return Err(Error::IoError(cause));
+        }
+        let next = factory.token()?;
+        if is_mine(&self.tally, next) {
+            return Ok(());
+        }
+        self.attach(poll.hub(), next)
     }
-    detach(rt, shared, tally);
-    Ok(())
+
+    /// Takes the registration back. What stands in the cell is told after the next registration. If it isn't registered the answer is
+    /// `IoError` of kind `NotFound`, and nothing changes.
+    pub(crate) fn unregister<P: Poller, C>(&mut self, _poll: &Poll<P, C, R>) -> LoopResult<()>
+        ensures tag { self.new.tag ≡ self.old.tag }
+        ensures unregisters { Unregisters {P = P} self.old.tally result [] self.new.tally }
+    {
+        if self.tally.key().is_none() {
+            let cause = io::Error::from(io::ErrorKind::NotFound);
+            return Err(Error::IoError(cause));
+        }
+        self.detach();
+        Ok(())
+    }
 }

@@ -5,9 +5,9 @@ ghost use Rattle.calloop_wake.specs.declared.channel.Popped.{Popped};
 ghost use Rattle.calloop_sources.specs.sources.Calls.{Went};
 ghost use Rattle.calloop_ends.specs.channel.Channels.{call_of, turn_after, IsOver, Handed};
 
-use super::cell::{self, ChannelCell};
 use super::{Channel, ChannelError, Event};
-use crate::cell::source::{CellSource, register, reregister, take_turn, unregister};
+use crate::cell::ReceivingEnd;
+use crate::cell::source::{CellSource, take_turn};
 use crate::ping::source::action_of;
 use calloop_poll::sys::events::EventIterator;
 use calloop_poll::sys::poll::Poll;
@@ -16,8 +16,7 @@ use calloop_poll::sys::{Poller, Readiness};
 use calloop_slots::error::{Error, Result as LoopResult};
 use calloop_slots::token::{Token, TokenFactory};
 use calloop_sources::sources::{Asking, Callback, EventSource, IntoError, PostAction};
-use calloop_wake::channel::Popped;
-use calloop_wake::locked::Locked;
+use calloop_wake::channel::{ChannelCore, Popped};
 use calloop_wake::{ChannelTurn, TakenPass, Tally};
 use std::sync::Wait;
 
@@ -36,72 +35,66 @@ impl IntoError for ChannelError {
     }
 }
 
-// One pop of the turn, and its call. Whether it tells the close.
-fn step<T, R, F, X, Q>(
-    rt: &R,
-    shared: &Locked<ChannelCell<T>>,
-    tally: &mut Tally,
-    turn: &mut ChannelTurn,
-    callback: &mut F,
-    data: &mut X,
-    requests: &mut Q,
-) -> bool
-where
-    T: Drop,
-    R: Wait,
-    Q: Asking,
-    F: Callback<Event<T>, (), (), X, Q>,
-    requires left { 0 < turn.old.left }
-    requires turn { turn.old.name ≡ shared.now.tag.name }
-    requires tally { tally.old.name ≡ shared.now.tag.name }
-    ensures { (p : Popped T) × (turn.new ≡ turn_after_pop p turn.old)
-        × (tally.new ≡ tally_after_pop p tally.old) × (result ≡ is_close p)
-        × Went F.may Q.reaches callback.old «data».old requests.old (call_of p)
-        callback.new «data».new requests.new }
-{
-    match cell::pop(rt, shared, tally, turn) {
-        Popped::Item(message) => {
-            callback.call(Event::Msg(message), &mut (), data, requests);
-            false
-        }
-        Popped::Empty => false,
-        Popped::Closed => {
-            callback.call(Event::Closed, &mut (), data, requests);
-            true
+impl<T: Drop, R: Wait + Drop> ReceivingEnd<ChannelCore<T>, R> {
+    // One pop of the turn, and its call. Whether it tells the close.
+    fn step<F, X, Q>(
+        &mut self,
+        turn: &mut ChannelTurn,
+        callback: &mut F,
+        data: &mut X,
+        requests: &mut Q,
+    ) -> bool
+    where
+        Q: Asking,
+        F: Callback<Event<T>, (), (), X, Q>,
+        requires left { 0 < turn.old.left }
+        requires turn { turn.old.name ≡ self.old.tally.name }
+        ensures tag { self.new.tag ≡ self.old.tag }
+        ensures pop { (p : Popped T) × (turn.new ≡ turn_after_pop p turn.old)
+            × (self.new.tally ≡ tally_after_pop p self.old.tally) × (result ≡ is_close p)
+            × Went F.may Q.reaches callback.old «data».old requests.old (call_of p)
+            callback.new «data».new requests.new }
+    {
+        match self.pop(turn) {
+            Popped::Item(message) => {
+                callback.call(Event::Msg(message), &mut (), data, requests);
+                false
+            }
+            Popped::Empty => false,
+            Popped::Closed => {
+                callback.call(Event::Closed, &mut (), data, requests);
+                true
+            }
         }
     }
-}
 
-// The pops of a turn up to one that finds no message, or as many as it may make. Whether the close was told.
-fn hand_out<T, R, F, X, Q>(
-    rt: &R,
-    shared: &Locked<ChannelCell<T>>,
-    tally: &mut Tally,
-    turn: ChannelTurn,
-    callback: &mut F,
-    data: &mut X,
-    requests: &mut Q,
-) -> bool
-where
-    T: Drop,
-    R: Wait,
-    Q: Asking,
-    F: Callback<Event<T>, (), (), X, Q>,
-    requires turn { turn.name ≡ shared.now.tag.name }
-    requires tally { tally.old.name ≡ shared.now.tag.name }
-    ensures name { tally.new.name ≡ tally.old.name }
-    ensures handed { (ps : List (Popped T)) × IsOver (turn_after ps turn)
-        × Handed F.may Q.reaches turn tally.old callback.old «data».old requests.old ps
-        (turn_after ps turn) tally.new result callback.new «data».new requests.new }
-{
-    let mut turn = turn;
-    let mut told = false;
-    'pops: while turn.goes_on() {
-        let tells = step(rt, shared, tally, &mut turn, callback, data, requests);
-        told = told || tells;
+    // The pops of a turn up to one that finds no message, or as many as it may make. Whether the close was told.
+    fn hand_out<F, X, Q>(
+        &mut self,
+        turn: ChannelTurn,
+        callback: &mut F,
+        data: &mut X,
+        requests: &mut Q,
+    ) -> bool
+    where
+        Q: Asking,
+        F: Callback<Event<T>, (), (), X, Q>,
+        requires turn { turn.name ≡ self.old.tally.name }
+        ensures tag { self.new.tag ≡ self.old.tag }
+        ensures name { self.new.tally.name ≡ self.old.tally.name }
+        ensures handed { (ps : List (Popped T)) × IsOver (turn_after ps turn)
+            × Handed F.may Q.reaches turn self.old.tally callback.old «data».old requests.old ps
+            (turn_after ps turn) self.new.tally result callback.new «data».new requests.new }
+    {
+        let mut turn = turn;
+        let mut told = false;
+        'pops: while turn.goes_on() {
+            let tells = self.step(&mut turn, callback, data, requests);
+            told = told || tells;
+        }
+        self.end_turn(turn);
+        told
     }
-    cell::end_turn(rt, shared, turn);
-    told
 }
 
 impl<T: Drop, R: Wait + Drop> CellSource for Channel<T, R> {
@@ -114,7 +107,7 @@ impl<T: Drop, R: Wait + Drop> CellSource for Channel<T, R> {
     ghost opens = { ChannelOpens };
 
     fn tally(&self) -> &Tally {
-        &self.tally
+        self.end.tally()
     }
 
     /// Calls back with the messages of the turn's pops. The close removes the source.
@@ -129,9 +122,8 @@ impl<T: Drop, R: Wait + Drop> CellSource for Channel<T, R> {
         Q: Asking,
         F: Callback<Event<T>, (), (), X, Q>,
     {
-        let (rt, shared, tally) = (&self.rt, &self.shared, &mut self.tally);
-        let turn = cell::open_turn(rt, shared, tally, pass)?;
-        let told = hand_out(rt, shared, tally, turn, callback, data, requests);
+        let turn = self.end.open_turn(pass)?;
+        let told = self.end.hand_out(turn, callback, data, requests);
         Ok(action_of(told))
     }
 }
@@ -174,7 +166,7 @@ impl<T: Drop, P: Poller, C, R: Wait + Drop> EventSource<P, C, R> for Channel<T, 
     /// Where it is registered already the answer is `IoError` of kind `AlreadyExists`; a factory without tokens is
     /// `TooManyTokens`, and running out of memory `OutOfMemory`. A refusal leaves the channel and the board as they were.
     fn register(&mut self, poll: &mut Poll<P, C, R>, factory: &mut TokenFactory) -> LoopResult<()> {
-        register(&self.rt, &self.shared, &mut self.tally, poll, factory)
+        self.end.register(poll, factory)
     }
 
     /// Moves the registration to the factory's next token; under the same key it does nothing. What stands is posted
@@ -188,13 +180,13 @@ impl<T: Drop, P: Poller, C, R: Wait + Drop> EventSource<P, C, R> for Channel<T, 
         poll: &mut Poll<P, C, R>,
         factory: &mut TokenFactory,
     ) -> LoopResult<()> {
-        reregister(&self.rt, &self.shared, &mut self.tally, poll, factory)
+        self.end.reregister(poll, factory)
     }
 
     /// Takes the registration back. What stands is told after the next registration. Where the channel isn't registered
     /// the answer is `IoError` of kind `NotFound`, and nothing changes.
     fn unregister(&mut self, poll: &mut Poll<P, C, R>) -> LoopResult<()> {
-        unregister(&self.rt, &self.shared, &mut self.tally, poll)
+        self.end.unregister(poll)
     }
 
     /// It isn't told of waits.

@@ -8,13 +8,13 @@ ghost use Rattle.calloop_wake.specs.Cells.{one};
 ghost use Rattle.calloop_wake.specs.Executors.{at_start, most_tasks};
 ghost use Rattle.calloop_slots.specs.declared.error.Error.TheVariants.{OutOfMemory};
 
-use crate::cell::{Cell, post};
+use crate::cell::{Cell, ReceivingEnd, SendingEnd, post};
 use calloop_slots::error::Result as LoopResult;
 use calloop_wake::executor::{ExecutorCore, PutRefusal, PutTask, TaskTurn};
 use calloop_wake::homes::{DueReceipt, KeepingRight, PoppedTask};
 use calloop_wake::locked::{Held, Locked};
 use calloop_wake::tasks::TaskKey;
-use calloop_wake::{ReceivingRight, TakenPass, Tally};
+use calloop_wake::{ReceivingRight, TakenPass};
 use std::alloc::Global;
 use std::sync::Wait;
 
@@ -31,33 +31,31 @@ pub fn new_locked(alloc: Global) -> LoopResult<(Locked<TaskCell>, ReceivingRight
     Ok((Cell::new_locked(alloc, core, &name)?, right, keeping))
 }
 
-/// A new task, which is queued, and what gives its receipt once its future is kept.
-pub fn put<R: Wait>(
-    rt: &R,
-    shared: &Locked<TaskCell>,
-    home: usize,
-) -> Result<(TaskKey, DueReceipt), PutRefusal>
-    ensures name { IfOk result (λ put. put.1.name ≡ shared.now.tag) }
-    ensures home { IfOk result (λ put. put.1.home ≡ home) }
-{
-    let mut held = shared.lock(rt);
-    let cell = held.core();
-    match cell.core.put(home) {
-        Ok(put) => {
-            let PutTask { key, due, debt } = put;
-            let owed = cell.with_hub(rt, debt);
-            held.unlock();
-            post(rt, owed);
-            Ok((key, due))
-        }
-        Err(refusal) => {
-            held.unlock();
-            Err(refusal)
+impl<R: Wait + Drop> SendingEnd<ExecutorCore, R> {
+    /// A new task, which is queued, and what gives its receipt once its future is kept.
+    pub(crate) fn put(&self, home: usize) -> Result<(TaskKey, DueReceipt), PutRefusal>
+        ensures name { IfOk result (λ put. put.1.name ≡ self.now) }
+        ensures home { IfOk result (λ put. put.1.home ≡ home) }
+    {
+        let mut held = self.shared.lock(&self.rt);
+        let cell = held.core();
+        match cell.core.put(home) {
+            Ok(put) => {
+                let PutTask { key, due, debt } = put;
+                let owed = cell.with_hub(&self.rt, debt);
+                held.unlock();
+                post(&self.rt, owed);
+                Ok((key, due))
+            }
+            Err(refusal) => {
+                held.unlock();
+                Err(refusal)
+            }
         }
     }
 }
 
-/// Wakes a task. Where it is known to be awake by the lock's hint, that would change nothing, and the lock isn't taken.
+/// Wakes a task. If it is known to be awake by the lock's hint, that would change nothing, and the lock isn't taken.
 pub fn wake<R: Wait>(rt: &R, shared: &Locked<TaskCell>, key: TaskKey) {
     if shared.has_hint(key.number) {
         return;
@@ -72,27 +70,6 @@ pub fn wake<R: Wait>(rt: &R, shared: &Locked<TaskCell>, key: TaskKey) {
         held.unlock();
     }
     post(rt, owed);
-}
-
-/// Opens a turn of the cell with the pass, which comes back as refused where it opens none.
-pub fn open_turn<R: Wait>(
-    rt: &R,
-    shared: &Locked<TaskCell>,
-    tally: &mut Tally,
-    pass: TakenPass,
-) -> Result<TaskTurn, TakenPass>
-    requires { tally.old.name ≡ shared.now.tag }
-    ensures ok { IfOk result
-        (λ turn. (turn ≡ record { name = shared.now.tag; progress = at_start })
-        × (tally.new ≡ record tally.old { turns = tally.old.turns + 1 })) }
-    ensures err { IfErr result (λ refused. (refused ≡ record pass { refused = Some tally.old.name })
-        × (tally.new ≡ tally.old)) }
-{
-    let mut held = shared.lock(rt);
-    let cell = held.core();
-    let opened = cell.core.open_turn(pass, tally);
-    held.unlock();
-    opened
 }
 
 // Takes the lock, once the turn is the one that stands open in the cell. It is so at once: who has the turn alone moves it on.
@@ -116,50 +93,62 @@ fn lock_at<'a, R: Wait>(rt: &R, shared: &'a Locked<TaskCell>, turn: &TaskTurn) -
     unreachable!()
 }
 
-/// A pop of the turn, which first ends the poll of the task that it popped before. Only the turn that stands open in the cell pops there:
-/// another would wait for ever.
-pub fn pop<R: Wait>(
-    rt: &R,
-    shared: &Locked<TaskCell>,
-    tally: &mut Tally,
-    turn: &mut TaskTurn,
-    finished: bool,
-) -> Option<PoppedTask>
-    requires names { (turn.old.name ≡ shared.now.tag) × (tally.old.name ≡ shared.now.tag) }
-    requires more { (turn.old.progress.dry ≡ false) × (turn.old.progress.pops < most_tasks) }
-    requires finishes { finished ≡ true → IsSome turn.old.progress.polled }
-    ensures name { turn.new.name ≡ turn.old.name }
-    ensures pops { turn.new.progress.pops ≡ turn.old.progress.pops + 1 }
-    ensures some { IfSome result (λ popped. (turn.new.progress.polled ≡ Some popped.key)
-        × (turn.new.progress.dry ≡ false)) }
-    ensures popped { IfSome result (λ popped. popped.name ≡ shared.now.tag) }
-    ensures none { IfNone result (turn.new.progress.dry ≡ true) }
-    ensures tally { tally.new ≡ record tally.old { number = tally.old.number + one finished } }
-{
-    let mut held = lock_at(rt, shared, turn);
-    let cell = held.core();
-    let popped = cell.core.pop(turn, tally, finished);
-    held.unlock();
-    popped
-}
+impl<R: Wait + Drop> ReceivingEnd<ExecutorCore, R> {
+    /// Opens a turn of the cell with the pass, which comes back as refused if it opens none.
+    pub(crate) fn open_turn(&mut self, pass: TakenPass) -> Result<TaskTurn, TakenPass>
+        ensures tag { self.new.tag ≡ self.old.tag }
+        ensures turn { IfOk result
+            (λ turn. turn ≡ record { name = self.old.tally.name; progress = at_start }) }
+        ensures ok { IfOk result
+            (λ _. self.new.tally ≡ record self.old.tally { turns = self.old.tally.turns + 1 }) }
+        ensures err { IfErr result
+            (λ refused. (refused ≡ record pass { refused = Some self.old.tally.name })
+            × (self.new.tally ≡ self.old.tally)) }
+    {
+        let mut held = self.shared.lock(&self.rt);
+        let cell = held.core();
+        let opened = cell.core.open_turn(pass, &mut self.tally);
+        held.unlock();
+        opened
+    }
 
-/// Ends a turn of the cell, whose last pop gave no task or was its 1,024th: it ends the poll of the task that was popped last.
-pub fn end_turn<R: Wait>(
-    rt: &R,
-    shared: &Locked<TaskCell>,
-    tally: &mut Tally,
-    turn: TaskTurn,
-    finished: bool,
-)
-    requires names { (turn.name ≡ shared.now.tag) × (tally.old.name ≡ shared.now.tag) }
-    requires over { (turn.progress.dry ≡ true) ⊎ (turn.progress.pops ≡ most_tasks) }
-    requires finishes { finished ≡ true → IsSome turn.progress.polled }
-    ensures tally { tally.new ≡ record tally.old { number = tally.old.number + one finished } }
-{
-    let mut held = lock_at(rt, shared, &turn);
-    let cell = held.core();
-    let debt = cell.core.end_turn(turn, tally, finished);
-    let owed = cell.with_hub(rt, debt);
-    held.unlock();
-    post(rt, owed);
+    /// A pop of the turn, which first ends the poll of the task that it popped before. Only the turn that stands open in the cell pops
+    /// there: another would wait for ever.
+    pub(crate) fn pop(&mut self, turn: &mut TaskTurn, finished: bool) -> Option<PoppedTask>
+        requires name { turn.old.name ≡ self.old.tally.name }
+        requires more { (turn.old.progress.dry ≡ false) × (turn.old.progress.pops < most_tasks) }
+        requires finishes { finished ≡ true → IsSome turn.old.progress.polled }
+        ensures tag { self.new.tag ≡ self.old.tag }
+        ensures name { turn.new.name ≡ turn.old.name }
+        ensures pops { turn.new.progress.pops ≡ turn.old.progress.pops + 1 }
+        ensures some { IfSome result (λ popped. (turn.new.progress.polled ≡ Some popped.key)
+            × (turn.new.progress.dry ≡ false)) }
+        ensures popped { IfSome result (λ popped. popped.name ≡ self.old.tally.name) }
+        ensures none { IfNone result (turn.new.progress.dry ≡ true) }
+        ensures tally { self.new.tally
+            ≡ record self.old.tally { number = self.old.tally.number + one finished } }
+    {
+        let mut held = lock_at(&self.rt, &self.shared, turn);
+        let cell = held.core();
+        let popped = cell.core.pop(turn, &mut self.tally, finished);
+        held.unlock();
+        popped
+    }
+
+    /// Ends a turn of the cell, whose last pop gave no task or was its 1,024th: it ends the poll of the task that was popped last.
+    pub(crate) fn end_turn(&mut self, turn: TaskTurn, finished: bool)
+        requires name { turn.name ≡ self.old.tally.name }
+        requires over { (turn.progress.dry ≡ true) ⊎ (turn.progress.pops ≡ most_tasks) }
+        requires finishes { finished ≡ true → IsSome turn.progress.polled }
+        ensures tag { self.new.tag ≡ self.old.tag }
+        ensures tally { self.new.tally
+            ≡ record self.old.tally { number = self.old.tally.number + one finished } }
+    {
+        let mut held = lock_at(&self.rt, &self.shared, &turn);
+        let cell = held.core();
+        let debt = cell.core.end_turn(turn, &mut self.tally, finished);
+        let owed = cell.with_hub(&self.rt, debt);
+        held.unlock();
+        post(&self.rt, owed);
+    }
 }

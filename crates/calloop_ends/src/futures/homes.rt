@@ -3,10 +3,11 @@
 ghost use Rattle.std.specs.Prelude.{◌≡◌, ◌+◌, IfOk, IfSome, IfNone};
 
 use super::task::Pollable;
-use calloop_wake::executor::PutRefusal;
+use crate::cell::ReceivingEnd;
+use calloop_wake::Receipt;
+use calloop_wake::executor::{ExecutorCore, PutRefusal};
 use calloop_wake::homes::{DueReceipt, Homes, Place, PoppedTask, ReservedPlace, TakenFuture};
 use calloop_wake::locked::Locked;
-use calloop_wake::{Receipt, Tally};
 use std::alloc::Global;
 use std::sync::{Arc, Wait};
 
@@ -54,22 +55,27 @@ pub(crate) fn keep<Fut: Drop, R: Wait + Drop>(
     (receipt, missed)
 }
 
-/// Takes the future of a task that was popped, for its poll. Where it is still to come, its scheduler is told so by `keep`, and the tally counts
-/// that.
-pub(crate) fn take<Fut: Drop, R: Wait + Drop>(
-    rt: &R,
-    homes: &Locked<Homes<Pollable<Fut, R>>>,
-    tally: &mut Tally,
-    popped: PoppedTask,
-) -> Option<TakenFuture<Pollable<Fut, R>>>
-    requires { (popped.name ≡ homes.now.tag) × (tally.old.name ≡ homes.now.tag) }
-    ensures some { IfSome result (λ taken. (taken.task ≡ popped) × (tally.new ≡ tally.old)) }
-    ensures none { IfNone result (tally.new ≡ record tally.old { misses = tally.old.misses + 1 }) }
-{
-    let mut places = homes.lock(rt);
-    let taken = places.core().take(popped, tally);
-    places.unlock();
-    taken
+impl<R: Wait + Drop> ReceivingEnd<ExecutorCore, R> {
+    /// Takes the future of a task that was popped, for its poll. If it is still to come, its scheduler is told so by `keep`, and the
+    /// tally counts that.
+    pub(crate) fn take_future<Fut: Drop>(
+        &mut self,
+        homes: &Locked<Homes<Pollable<Fut, R>>>,
+        popped: PoppedTask,
+    ) -> Option<TakenFuture<Pollable<Fut, R>>>
+        requires popped { popped.name ≡ homes.now.tag }
+        requires tally { self.old.tally.name ≡ homes.now.tag }
+        ensures tag { self.new.tag ≡ self.old.tag }
+        ensures some { IfSome result
+            (λ taken. (taken.task ≡ popped) × (self.new.tally ≡ self.old.tally)) }
+        ensures none { IfNone result
+            (self.new.tally ≡ record self.old.tally { misses = self.old.tally.misses + 1 }) }
+    {
+        let mut places = homes.lock(&self.rt);
+        let taken = places.core().take(popped, &mut self.tally);
+        places.unlock();
+        taken
+    }
 }
 
 /// Puts a future back whose poll was pending.

@@ -7,10 +7,10 @@ use super::cell;
 use super::errors::{ExecutorDestroyed, ScheduleError};
 use super::homes::{self, SharedHomes};
 use super::task::{Future, Pollable, Waker};
-use crate::cell::{SharedCell, add_sender, drop_sender};
+use crate::cell::SendingEnd;
 use calloop_poll::sys::hub::share;
+use calloop_wake::Receipt;
 use calloop_wake::executor::{ExecutorCore, PutRefusal};
-use calloop_wake::{Receipt, Sender};
 use std::alloc::AllocError;
 use std::marker::Model;
 use std::sync::{Arc, Wait};
@@ -19,11 +19,10 @@ use std::sync::{Arc, Wait};
 /// nothing.
 ///
 /// In a clause it is the name of its executor's cell.
+#[derive(Drop)]
 pub struct Scheduler<Fut: Drop, R: Wait + Drop> {
-    rt: R,
-    shared: SharedCell<ExecutorCore>,
+    end: SendingEnd<ExecutorCore, R>,
     homes: SharedHomes<Fut, R>,
-    sender: Sender,
 }
 
 impl<Fut: Drop, R: Wait + Drop> Model for Scheduler<Fut, R> {
@@ -33,10 +32,9 @@ impl<Fut: Drop, R: Wait + Drop> Model for Scheduler<Fut, R> {
 
     ghost Value = { Book };
 
-    ghost view = { λ s. (arc_value s.shared).tag };
+    ghost view = { λ s. s.end };
 
-    ghost invariant = { λ s. (s.sender.name ≡ (arc_value s.shared).tag)
-        × ((arc_value s.homes).tag ≡ (arc_value s.shared).tag) };
+    ghost invariant = { λ s. (arc_value s.homes).tag ≡ s.end };
 }
 
 // Why a future isn't scheduled.
@@ -55,21 +53,13 @@ where
 
 impl<Fut: Drop, R: Wait + Drop> Scheduler<Fut, R> {
     pub(crate) fn of(
-        rt: R,
-        shared: SharedCell<ExecutorCore>,
+        end: SendingEnd<ExecutorCore, R>,
         homes: SharedHomes<Fut, R>,
-        sender: Sender,
     ) -> Scheduler<Fut, R>
-        requires sender { sender.name ≡ (arc_value shared).tag }
-        requires homes { (arc_value homes).tag ≡ (arc_value shared).tag }
-        ensures { result ≡ (arc_value shared).tag }
+        requires { (arc_value homes).tag ≡ end }
+        ensures { result ≡ end }
     {
-        Scheduler {
-            rt,
-            shared,
-            homes,
-            sender,
-        }
+        Scheduler { end, homes }
     }
 }
 
@@ -82,25 +72,27 @@ impl<Fut: Future<R>, R: Wait + Clone + Drop> Scheduler<Fut, R> {
         ensures ok { IfOk result (λ r. r.name ≡ self.now) }
         ensures err { IfErr result (IsRefusalOf future) }
     {
-        let Ok(own) = self.rt.clone() else {
+        let (end, homes) = (&self.end, &self.homes);
+        let SendingEnd { rt, shared, .. } = end;
+        let Ok(own) = rt.clone() else {
             return Err(ScheduleError::OutOfMemory(future));
         };
-        let place = match homes::reserve(&self.rt, &self.homes) {
+        let place = match homes::reserve(rt, homes) {
             Ok(place) => place,
             Err(why) => return Err(refusal(future, why)),
         };
-        match cell::put(&self.rt, &self.shared, place.home()) {
+        match end.put(place.home()) {
             Ok((key, due)) => {
-                let waker = Waker::of_task(own, share(&self.rt, &self.shared), key);
+                let waker = Waker::of_task(own, share(rt, shared), key);
                 let held = Pollable { future, waker };
-                let (receipt, missed) = homes::keep(&self.rt, &self.homes, due, place, held);
+                let (receipt, missed) = homes::keep(rt, homes, due, place, held);
                 if missed {
-                    cell::wake(&self.rt, &self.shared, key);
+                    cell::wake(rt, shared, key);
                 }
                 Ok(receipt)
             }
             Err(why) => {
-                homes::free(&self.rt, &self.homes, place);
+                homes::free(rt, homes, place);
                 Err(refusal(future, why))
             }
         }
@@ -113,27 +105,8 @@ impl<Fut: Drop, R: Wait + Clone + Drop> Clone for Scheduler<Fut, R> {
     ghost is_clone = { λ scheduler again. again ≡ scheduler };
 
     fn clone(&self) -> Result<Scheduler<Fut, R>, AllocError> {
-        let rt = self.rt.clone()?;
-        let shared = Arc::try_clone(&self.shared)?;
+        let end = self.end.clone()?;
         let homes = Arc::try_clone(&self.homes)?;
-        let sender = add_sender(&self.rt, &self.shared)?;
-        Ok(Scheduler {
-            rt,
-            shared,
-            homes,
-            sender,
-        })
-    }
-}
-
-impl<Fut: Drop, R: Wait + Drop> Drop for Scheduler<Fut, R> {
-    fn drop(self) {
-        let Scheduler {
-            rt,
-            shared,
-            homes: _,
-            sender,
-        } = self;
-        drop_sender(&rt, &shared, sender);
+        Ok(Scheduler { end, homes })
     }
 }

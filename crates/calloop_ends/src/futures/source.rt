@@ -5,11 +5,11 @@ ghost use Rattle.calloop_wake.specs.Executors.{at_start, most_tasks};
 ghost use Rattle.calloop_sources.specs.sources.Calls.{Went};
 ghost use Rattle.calloop_ends.specs.futures.Executors.{OfPop, gave, lacks, ComesOf, AllGiven, call_of, calls_of, results_of, misses_of};
 
-use super::cell::{self, TaskCell};
 use super::errors::ExecutorError;
-use super::task::{Future, Pollable};
+use super::task::Future;
 use super::{Executor, homes};
-use crate::cell::source::{CellSource, register, reregister, take_turn, unregister};
+use crate::cell::ReceivingEnd;
+use crate::cell::source::{CellSource, take_turn};
 use calloop_poll::sys::events::EventIterator;
 use calloop_poll::sys::poll::Poll;
 use calloop_poll::sys::synthetic::Synthetic;
@@ -18,8 +18,7 @@ use calloop_slots::error::{Error, Result as LoopResult};
 use calloop_slots::token::{Token, TokenFactory};
 use calloop_sources::sources::{Asking, Callback, EventSource, IntoError, PostAction};
 use calloop_wake::executor::TaskTurn;
-use calloop_wake::homes::{Homes, PoppedTask, TakenFuture};
-use calloop_wake::locked::Locked;
+use calloop_wake::homes::{PoppedTask, TakenFuture};
 use calloop_wake::{TakenPass, Tally};
 use std::sync::Wait;
 
@@ -38,82 +37,74 @@ impl IntoError for ExecutorError {
     }
 }
 
-// Polls a task outside of every lock, and calls back where it gives its result: whether it did.
-fn poll_task<Fut, R, F, X, Q>(
-    rt: &R,
-    homes: &Locked<Homes<Pollable<Fut, R>>>,
-    tally: &mut Tally,
-    popped: PoppedTask,
-    callback: &mut F,
-    data: &mut X,
-    requests: &mut Q,
-) -> bool
-where
-    R: Wait + Drop,
-    Fut: Future<R>,
-    Q: Asking,
-    F: Callback<Fut::Output, (), (), X, Q>,
-    requires { (popped.name ≡ homes.now.tag) × (tally.old.name ≡ homes.now.tag) }
-    ensures { (polled : OfPop Fut.Output) × (result ≡ gave polled)
-        × ComesOf Fut.gives Fut.polls polled
-        × (tally.new ≡ record tally.old { misses = tally.old.misses + one (lacks polled) })
-        × Went F.may Q.reaches callback.old «data».old requests.old (call_of polled)
-        callback.new «data».new requests.new }
-{
-    let Some(taken) = homes::take(rt, homes, tally, popped) else {
-        return false;
-    };
-    let TakenFuture { future, task } = taken;
-    match future.poll() {
-        Ok(output) => {
-            homes::finish(rt, homes, task);
-            callback.call(output, &mut (), data, requests);
-            true
-        }
-        Err(future) => {
-            homes::put_back(rt, homes, TakenFuture { future, task });
-            false
-        }
-    }
-}
-
-// The pops of a turn up to one that finds no task, or 1,024, each with its poll.
-fn run_tasks<Fut, R, F, X, Q>(
-    rt: &R,
-    shared: &Locked<TaskCell>,
-    homes: &Locked<Homes<Pollable<Fut, R>>>,
-    tally: &mut Tally,
-    turn: TaskTurn,
-    callback: &mut F,
-    data: &mut X,
-    requests: &mut Q,
-)
-where
-    R: Wait + Drop,
-    Fut: Future<R>,
-    Q: Asking,
-    F: Callback<Fut::Output, (), (), X, Q>,
-    requires turn { turn ≡ record { name = shared.now.tag; progress = at_start } }
-    requires tally { tally.old.name ≡ shared.now.tag }
-    requires homes { homes.now.tag ≡ shared.now.tag }
-    ensures { (polled : List (OfPop Fut.Output)) × (length polled ≤ most_tasks)
-        × (tally.new ≡ record tally.old {
-          number = tally.old.number + results_of polled;
-          misses = tally.old.misses + misses_of polled;
-        })
-        × AllGiven (ComesOf Fut.gives Fut.polls) polled
-        × Went F.may Q.reaches callback.old «data».old requests.old (calls_of polled)
-        callback.new «data».new requests.new }
-{
-    let mut turn = turn;
-    let mut finished = false;
-    'pops: while turn.goes_on() {
-        finished = match cell::pop(rt, shared, tally, &mut turn, finished) {
-            Some(popped) => poll_task(rt, homes, tally, popped, callback, data, requests),
-            None => false,
+impl<Fut: Future<R>, R: Wait + Drop> Executor<Fut, R> {
+    // Polls a task outside of every lock, and calls back if it gives its result: whether it did.
+    fn poll_task<F, X, Q>(
+        &mut self,
+        popped: PoppedTask,
+        callback: &mut F,
+        data: &mut X,
+        requests: &mut Q,
+    ) -> bool
+    where
+        Q: Asking,
+        F: Callback<Fut::Output, (), (), X, Q>,
+        requires { popped.name ≡ self.old.name }
+        ensures { (polled : OfPop Fut.Output) × (result ≡ gave polled)
+            × ComesOf Fut.gives Fut.polls polled
+            × (self.new ≡ record self.old { misses = self.old.misses + one (lacks polled) })
+            × Went F.may Q.reaches callback.old «data».old requests.old (call_of polled)
+            callback.new «data».new requests.new }
+    {
+        let Some(taken) = self.end.take_future(&self.homes, popped) else {
+            return false;
         };
+        let TakenFuture { future, task } = taken;
+        let ReceivingEnd { rt, .. } = &self.end;
+        let homes = &self.homes;
+        let output = match future.poll() {
+            Ok(output) => output,
+            Err(future) => {
+                homes::put_back(rt, homes, TakenFuture { future, task });
+                return false;
+            }
+        };
+        homes::finish(rt, homes, task);
+        callback.call(output, &mut (), data, requests);
+        true
     }
-    cell::end_turn(rt, shared, tally, turn, finished);
+
+    // The pops of a turn up to one that finds no task, or 1,024, each with its poll.
+    fn run_tasks<F, X, Q>(
+        &mut self,
+        turn: TaskTurn,
+        callback: &mut F,
+        data: &mut X,
+        requests: &mut Q,
+    )
+    where
+        Q: Asking,
+        F: Callback<Fut::Output, (), (), X, Q>,
+        requires { turn ≡ record { name = self.old.name; progress = at_start } }
+        ensures { (polled : List (OfPop Fut.Output)) × (length polled ≤ most_tasks)
+            × (self.new ≡ record self.old {
+              number = self.old.number + results_of polled;
+              misses = self.old.misses + misses_of polled;
+            })
+            × AllGiven (ComesOf Fut.gives Fut.polls) polled
+            × Went F.may Q.reaches callback.old «data».old requests.old (calls_of polled)
+            callback.new «data».new requests.new }
+    {
+        let mut turn = turn;
+        let mut finished = false;
+        'pops: while turn.goes_on() {
+            finished = match self.end.pop(&mut turn, finished) {
+                Some(popped) => self.poll_task(popped, callback, data, requests),
+                None => false,
+            };
+        }
+        self.end.end_turn(turn, finished);
+    }
 }
 
 impl<Fut: Future<R>, R: Wait + Drop> CellSource for Executor<Fut, R> {
@@ -126,7 +117,7 @@ impl<Fut: Future<R>, R: Wait + Drop> CellSource for Executor<Fut, R> {
     ghost opens = { ExecutorOpens (ComesOf Fut.gives Fut.polls) };
 
     fn tally(&self) -> &Tally {
-        &self.tally
+        self.end.tally()
     }
 
     /// Polls the tasks of the turn's pops, and calls back with each result.
@@ -141,18 +132,8 @@ impl<Fut: Future<R>, R: Wait + Drop> CellSource for Executor<Fut, R> {
         Q: Asking,
         F: Callback<Fut::Output, (), (), X, Q>,
     {
-        let (rt, shared, tally) = (&self.rt, &self.shared, &mut self.tally);
-        let turn = cell::open_turn(rt, shared, tally, pass)?;
-        run_tasks(
-            rt,
-            shared,
-            &self.homes,
-            tally,
-            turn,
-            callback,
-            data,
-            requests,
-        );
+        let turn = self.end.open_turn(pass)?;
+        self.run_tasks(turn, callback, data, requests);
         Ok(PostAction::Continue)
     }
 }
@@ -196,7 +177,7 @@ impl<Fut: Future<R>, P: Poller, C, R: Wait + Drop> EventSource<P, C, R> for Exec
     /// Where it is registered already the answer is `IoError` of kind `AlreadyExists`; a factory without tokens is
     /// `TooManyTokens`, and running out of memory `OutOfMemory`. A refusal leaves the executor and the board as they were.
     fn register(&mut self, poll: &mut Poll<P, C, R>, factory: &mut TokenFactory) -> LoopResult<()> {
-        register(&self.rt, &self.shared, &mut self.tally, poll, factory)
+        self.end.register(poll, factory)
     }
 
     /// Moves the registration to the factory's next token; under the same key it does nothing. What is queued is posted
@@ -210,13 +191,13 @@ impl<Fut: Future<R>, P: Poller, C, R: Wait + Drop> EventSource<P, C, R> for Exec
         poll: &mut Poll<P, C, R>,
         factory: &mut TokenFactory,
     ) -> LoopResult<()> {
-        reregister(&self.rt, &self.shared, &mut self.tally, poll, factory)
+        self.end.reregister(poll, factory)
     }
 
     /// Takes the registration back. What is queued is polled after the next registration. Where the executor isn't registered
     /// the answer is `IoError` of kind `NotFound`, and nothing changes.
     fn unregister(&mut self, poll: &mut Poll<P, C, R>) -> LoopResult<()> {
-        unregister(&self.rt, &self.shared, &mut self.tally, poll)
+        self.end.unregister(poll)
     }
 
     /// It isn't told of waits.

@@ -3,11 +3,11 @@ ghost use Rattle.std.specs.Prelude.{◌≡◌, None, Some, IfOk, IfErr};
 ghost use Rattle.calloop_slots.specs.declared.error.Error.TheVariants.{OutOfMemory};
 ghost use Rattle.calloop_ends.specs.ping.Pings.{tally_opened};
 
-use crate::cell::{Cell, post};
+use crate::cell::{Cell, ReceivingEnd, SendingEnd, post};
 use calloop_slots::error::Result as LoopResult;
 use calloop_wake::locked::Locked;
 use calloop_wake::ping::{OpenedTurn, PingCore};
-use calloop_wake::{Receipt, ReceivingRight, TakenPass, Tally};
+use calloop_wake::{Receipt, ReceivingRight, TakenPass};
 use std::alloc::Global;
 use std::sync::Wait;
 
@@ -23,17 +23,19 @@ pub fn new_locked(alloc: Global) -> LoopResult<(Locked<PingCell>, ReceivingRight
     Ok((Cell::new_locked(alloc, core, &name)?, right))
 }
 
-/// Rings the cell.
-pub fn ring<R: Wait>(rt: &R, shared: &Locked<PingCell>) -> Receipt
-    ensures { result.name ≡ shared.now.tag }
-{
-    let mut held = shared.lock(rt);
-    let cell = held.core();
-    let (receipt, debt) = cell.core.ring();
-    let owed = cell.with_hub(rt, debt);
-    held.unlock();
-    post(rt, owed);
-    receipt
+impl<R: Wait + Drop> SendingEnd<PingCore, R> {
+    /// Rings the cell.
+    pub(crate) fn ring(&self) -> Receipt
+        ensures { result.name ≡ self.now }
+    {
+        let mut held = self.shared.lock(&self.rt);
+        let cell = held.core();
+        let (receipt, debt) = cell.core.ring();
+        let owed = cell.with_hub(&self.rt, debt);
+        held.unlock();
+        post(&self.rt, owed);
+        receipt
+    }
 }
 
 /// What a turn of the cell took.
@@ -45,29 +47,27 @@ pub struct Due {
     pub told: bool,
 }
 
-/// A turn of the cell: opened with the pass, and ended. The pass comes back as refused where it opens none.
-pub fn take_turn<R: Wait>(
-    rt: &R,
-    shared: &Locked<PingCell>,
-    tally: &mut Tally,
-    pass: TakenPass,
-) -> Result<Due, TakenPass>
-    requires { tally.old.name ≡ shared.now.tag }
-    ensures name { tally.new.name ≡ tally.old.name }
-    ensures ok { IfOk result (λ due. tally.new ≡ tally_opened due.rung due.told tally.old) }
-    ensures err { IfErr result (λ refused. (refused ≡ record pass { refused = Some tally.old.name })
-        × (tally.new ≡ tally.old)) }
-{
-    let mut held = shared.lock(rt);
-    let cell = held.core();
-    let (taken, debt) = match cell.core.open_turn(pass, tally) {
-        Ok(OpenedTurn { turn, rung, told }) => {
-            (Ok(Due { rung, told }), cell.core.end_turn(turn))
-        }
-        Err(pass) => (Err(pass), None),
-    };
-    let owed = cell.with_hub(rt, debt);
-    held.unlock();
-    post(rt, owed);
-    taken
+impl<R: Wait + Drop> ReceivingEnd<PingCore, R> {
+    /// A turn of the cell: opened with the pass, and ended. The pass comes back as refused if it opens none.
+    pub(crate) fn take_turn(&mut self, pass: TakenPass) -> Result<Due, TakenPass>
+        ensures tag { self.new.tag ≡ self.old.tag }
+        ensures ok { IfOk result
+            (λ due. self.new.tally ≡ tally_opened due.rung due.told self.old.tally) }
+        ensures err { IfErr result
+            (λ refused. (refused ≡ record pass { refused = Some self.old.tally.name })
+            × (self.new.tally ≡ self.old.tally)) }
+    {
+        let mut held = self.shared.lock(&self.rt);
+        let cell = held.core();
+        let (taken, debt) = match cell.core.open_turn(pass, &mut self.tally) {
+            Ok(OpenedTurn { turn, rung, told }) => {
+                (Ok(Due { rung, told }), cell.core.end_turn(turn))
+            }
+            Err(pass) => (Err(pass), None),
+        };
+        let owed = cell.with_hub(&self.rt, debt);
+        held.unlock();
+        post(&self.rt, owed);
+        taken
+    }
 }

@@ -4,8 +4,8 @@ ghost use Rattle.calloop_sources.specs.sources.Calls.{Went};
 ghost use Rattle.calloop_sources.specs.TransientMarks.{IsRegisteredBy};
 ghost use Rattle.calloop_ends.specs.ping.Pings.{calls_of, action_of, ping_meaning};
 
-use super::{PingSource, cell};
-use crate::cell::source::{CellSource, register, reregister, take_turn, unregister};
+use super::PingSource;
+use crate::cell::source::{CellSource, take_turn};
 use calloop_poll::sys::events::EventIterator;
 use calloop_poll::sys::poll::Poll;
 use calloop_poll::sys::synthetic::Synthetic;
@@ -79,7 +79,7 @@ impl<R: Wait + Drop> CellSource for PingSource<R> {
     ghost opens = { PingOpens };
 
     fn tally(&self) -> &Tally {
-        &self.tally
+        self.end.tally()
     }
 
     /// Calls back once where a ping stands, and removes the source where the last `Ping` is gone.
@@ -94,7 +94,7 @@ impl<R: Wait + Drop> CellSource for PingSource<R> {
         Q: Asking,
         F: Callback<(), (), (), X, Q>,
     {
-        let due = cell::take_turn(&self.rt, &self.shared, &mut self.tally, pass)?;
+        let due = self.end.take_turn(pass)?;
         call_if(due.rung, callback, data, requests);
         Ok(action_of(due.told))
     }
@@ -137,7 +137,7 @@ impl<P: Poller, C, R: Wait + Drop> EventSource<P, C, R> for PingSource<R> {
     /// Where it is registered already the answer is `IoError` of kind `AlreadyExists`; a factory without tokens is
     /// `TooManyTokens`, and running out of memory `OutOfMemory`. A refusal leaves the ping and the board as they were.
     fn register(&mut self, poll: &mut Poll<P, C, R>, factory: &mut TokenFactory) -> LoopResult<()> {
-        register(&self.rt, &self.shared, &mut self.tally, poll, factory)
+        self.end.register(poll, factory)
     }
 
     /// Moves the registration to the factory's next token; under the same key it does nothing. What stands is posted
@@ -151,13 +151,13 @@ impl<P: Poller, C, R: Wait + Drop> EventSource<P, C, R> for PingSource<R> {
         poll: &mut Poll<P, C, R>,
         factory: &mut TokenFactory,
     ) -> LoopResult<()> {
-        reregister(&self.rt, &self.shared, &mut self.tally, poll, factory)
+        self.end.reregister(poll, factory)
     }
 
     /// Takes the registration back. What stands is told after the next registration. Where the ping isn't registered
     /// the answer is `IoError` of kind `NotFound`, and nothing changes.
     fn unregister(&mut self, poll: &mut Poll<P, C, R>) -> LoopResult<()> {
-        unregister(&self.rt, &self.shared, &mut self.tally, poll)
+        self.end.unregister(poll)
     }
 
     /// It isn't told of waits.

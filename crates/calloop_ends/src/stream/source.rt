@@ -9,8 +9,8 @@ ghost use Rattle.calloop_ends.specs.declared.stream.reading.Ending.{Ending};
 
 use super::reading::{Ending, Read, Readable, Stream};
 use super::{StreamError, StreamSource};
-use crate::cell::source::{CellSource, register, reregister, take_turn, unregister};
-use crate::ping::{Ping, cell};
+use crate::cell::source::{CellSource, take_turn};
+use crate::ping::Ping;
 use calloop_poll::sys::events::EventIterator;
 use calloop_poll::sys::poll::Poll;
 use calloop_poll::sys::synthetic::Synthetic;
@@ -140,7 +140,7 @@ impl<S: Stream<R>, R: Wait + Drop> CellSource for StreamSource<S, R> {
         F: Callback<Option<S::Item>, (), (), X, Q>,
     {
         let source = &mut self.source;
-        let due = cell::take_turn(&source.rt, &source.shared, &mut source.tally, pass)?;
+        let due = source.end.take_turn(pass)?;
         Ok(self.listen(due.rung, callback, data, requests))
     }
 }
@@ -183,7 +183,7 @@ impl<S: Stream<R>, P: Poller, C, R: Wait + Drop> EventSource<P, C, R> for Stream
     /// The refusals are those of `PingSource::register`; each leaves the stream and the board as they were.
     fn register(&mut self, poll: &mut Poll<P, C, R>, factory: &mut TokenFactory) -> LoopResult<()> {
         let source = &mut self.source;
-        register(&source.rt, &source.shared, &mut source.tally, poll, factory)
+        source.end.register(poll, factory)
     }
 
     /// Moves the registration to the factory's next token; under the same key it does nothing. What stands is posted
@@ -196,14 +196,14 @@ impl<S: Stream<R>, P: Poller, C, R: Wait + Drop> EventSource<P, C, R> for Stream
         factory: &mut TokenFactory,
     ) -> LoopResult<()> {
         let source = &mut self.source;
-        reregister(&source.rt, &source.shared, &mut source.tally, poll, factory)
+        source.end.reregister(poll, factory)
     }
 
     /// Takes the registration back. A wake that stands is told after the next registration. Where the stream isn't registered
     /// the answer is `IoError` of kind `NotFound`, and nothing changes.
     fn unregister(&mut self, poll: &mut Poll<P, C, R>) -> LoopResult<()> {
         let source = &mut self.source;
-        unregister(&source.rt, &source.shared, &mut source.tally, poll)
+        source.end.unregister(poll)
     }
 
     /// It isn't told of waits.

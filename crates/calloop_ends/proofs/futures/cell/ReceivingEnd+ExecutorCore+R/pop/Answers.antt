@@ -3,12 +3,13 @@ use Rattle.calloop_wake.specs.Passes.{on}
 use Rattle.calloop_wake.specs.Executors.{ExecutorCell, cell_of}
 use Rattle.calloop_wake.proofs.Locking.{of_content}
 use Rattle.calloop_ends.proofs.Polling.{pop_key}
-use Rattle.calloop_ends.proofs.futures.cell.pop.Goals as goal
+use Rattle.calloop_ends.proofs.futures.cell.ReceivingEnd+ExecutorCore+R.pop.Goals as goal
 
 pub pop-popped-requires-clause-names : goal.pop-popped-requires-clause-names
 pop-popped-requires-clause-names g c =
     let facts = of_content _ _ _ c.core-cell.ensures.value c.lock_at-held.ensures.taken.1 in
-    (c.requires.names.0 ∙ sym facts.0, c.requires.names.1 ∙ sym facts.0)
+    let tag : c.self.inside.tally.name ≡ c.deref.result.now.tag = c.self.invariant ∙ ap (λ l. l.tag) (sym c.deref.ensures) in
+    (c.requires.name ∙ ap (λ e. e.tally.name) (sym c.self.view_is) ∙ tag ∙ sym facts.0, tag ∙ sym facts.0)
 
 pub pop-popped-requires-clause-at : goal.pop-popped-requires-clause-at
 pop-popped-requires-clause-at g c = (of_content _ _ _ c.core-cell.ensures.value c.lock_at-held.ensures.taken.1).1
