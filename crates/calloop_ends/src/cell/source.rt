@@ -120,7 +120,8 @@ impl<K: CellCore, R: Wait + Drop> ReceivingEnd<K, R> {
         factory: &mut TokenFactory,
     ) -> LoopResult<()>
         ensures tag { self.new.tag ≡ self.old.tag }
-        ensures registers { Registers {P = P} self.old.tally factory.old result [] self.new.tally factory.new }
+        ensures registers { Registers {P = P} self.old.tally factory.old result [] self.new.tally
+            factory.new }
     {
         if self.tally.key().is_some() {
             let cause = io::Error::from(io::ErrorKind::AlreadyExists);
