@@ -5,6 +5,7 @@ mod crowds;
 mod desk;
 mod modes;
 mod peers;
+mod pipes;
 mod refusals;
 mod square;
 mod table;
