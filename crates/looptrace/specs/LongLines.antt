@@ -1,6 +1,6 @@
 -- Proofs that a line of more bytes than `longest` has no command, so that it can't be carried out. They define nothing; the
 -- impls of runners cite them, so they stand here.
-use Rattle.std.proofs.Common.{◌≡◌, ◌⊎◌, ℕ, zero, suc, ◌+◌, ◌-◌, ◌*◌, ◌^◌, ◌≤◌, ◌<◌, Bool, true, false, ◌&&◌, List, [], ◌∷◌, length, take, drop, Option, Some, None, inl, inr, ⊎_elim, nat_lt, nat_le, nat_eq, ◌==◌, cond, refl, sym, ap, subst, ◌∙◌, arith, length-take, length-drop, ne_eqb, true≢false}
+use Rattle.std.proofs.Common.{◌≡◌, ℕ, zero, suc, ◌+◌, ◌-◌, ◌*◌, ◌^◌, ◌≤◌, ◌<◌, Bool, true, false, ◌&&◌, List, [], ◌∷◌, length, take, drop, Option, Some, None, ⊎_elim, nat_lt, nat_le, nat_eq, ◌==◌, cond, refl, sym, ap, subst, ◌∙◌, arith, length-take, length-drop, ne_eqb, true≢false}
 use Rattle.std.proofs.Math.Nat.{pow-le-pow_right, pow-suc}
 use Rattle.std.proofs.lemmas.Bool.{cases_lt}
 use Rattle.std.specs.Option.{option_map}
@@ -8,8 +8,8 @@ use Rattle.std.specs.Prelude.{codes}
 use Rattle.std.specs.List.{starts_with, position}
 use Rattle.std.specs.Cmp.Lexicographic.{pointwise, as_long, unequal}
 use Rattle.looptrace.specs.Lines.{longest}
-use Rattle.looptrace.specs.declared.command.Command.TheVariants.{Nothing, Ping, Ring, Close, Clock, Fault, Dispatch}
-use Rattle.looptrace.specs.Commands.{is_digit, is_name, name_of, digits_from, number_of, timeout_of, ping_of, ring_of, close_of, timer_with, timer_parted, timer_of, is_space, remove_with, remove_parted, remove_of, readiness_of, answer_with, answer_parted, answer_of, clock_of, dispatch_of, other_of, command_of}
+use Rattle.looptrace.specs.declared.command.Command.TheVariants.{Ping, Ring, Close, Clock, Dispatch}
+use Rattle.looptrace.specs.Commands.{is_digit, is_name, name_of, digits_from, number_of, timeout_of, timer_with, timer_parted, is_space, remove_with, remove_parted, readiness_of, answer_with, answer_parted, dispatch_of, other_of, command_of}
 use Rattle.looptrace.specs.Runs.{State, trace_step, Carried}
 
 abbrev IsThere : {A : Type 0} → Option A → Type 0
@@ -104,14 +104,14 @@ remove_parted_short (Some space) words h =
     let both = remove_both (number_of (take space words)) (number_of (drop (space + 1) words)) h in
     parted_short space words 20 20 (number_short (take space words) both.0) (number_short (drop (space + 1) words) both.1)
 
-answer_both : (words word : List ℕ) (key : Option ℕ) → IsThere (answer_with key (readiness_of word)) → IsThere key × IsThere (readiness_of word)
-answer_both words word None h = absurd h
-answer_both words word (Some key) h = elim (readiness_of word) as (λ o. IsThere (answer_with (Some key) o) → Unit {0} × IsThere o) [ None ↦ (λ h. absurd h) | Some readiness ↦ (λ h. (tt, tt)) ] h
+answer_both : (word : List ℕ) (key : Option ℕ) → IsThere (answer_with key (readiness_of word)) → IsThere key × IsThere (readiness_of word)
+answer_both word None h = absurd h
+answer_both word (Some key) h = elim (readiness_of word) as (λ o. IsThere (answer_with (Some key) o) → Unit {0} × IsThere o) [ None ↦ (λ h. absurd h) | Some readiness ↦ (λ h. (tt, tt)) ] h
 
 answer_parted_short : (space : Option ℕ) (words : List ℕ) → IsThere (answer_parted space words) → length words ≤ 23
 answer_parted_short None words h = absurd h
 answer_parted_short (Some space) words h =
-    let both = answer_both words (drop (space + 1) words) (number_of (take space words)) h in
+    let both = answer_both (drop (space + 1) words) (number_of (take space words)) h in
     parted_short space words 20 2 (number_short (take space words) both.0) (readiness_short (drop (space + 1) words) both.1)
 
 -- Lines.
