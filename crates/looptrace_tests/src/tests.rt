@@ -501,7 +501,10 @@ fn a_read_that_is_interrupted_is_tried_again(rt: HostRuntime) {
             kind: io::ErrorKind::Interrupted,
         };
         let mut streams = Streams::new(input, Vec::new(rt.alloc()), Vec::new(rt.alloc()));
-        assert!(rt; matches!(trace(&rt, rt.alloc(), &mut streams), Ok(0)), "at {fault}");
+        assert!(rt;
+            matches!(trace(&rt, rt.alloc(), &mut streams), Ok(0)),
+            "at {fault}"
+        );
         assert_eq!(rt; streams.output.as_slice(), SAID);
     }
 }
