@@ -1,11 +1,13 @@
-use Rattle.std.proofs.Common.{Bool, true, false, ◌≡◌, ℕ, List, [], ◌∷◌, ◌++◌, Option, Some, None, IfSome, refl, sym, ◌∙◌, ap, subst, inl, inr}
+use Rattle.std.proofs.Common.{Bool, true, false, ◌≡◌, ◌≤◌, ◌<◌, ℕ, List, [], ◌∷◌, ◌++◌, length, Option, Some, None, IfSome, refl, sym, ◌∙◌, ap, subst, inl, inr, ⊎_elim, true≢false}
+use Rattle.std.proofs.lemmas.Bool.{cases_lt}
 use Rattle.std.proofs.lemmas.List.{append_assoc, append-nil}
 use Rattle.std.specs.Bool.{MatchBool}
 use Rattle.std.specs.Io.KnownBytes.{Appends}
 use Rattle.std.specs.Io.BufRead.{drop_through}
-use Rattle.looptrace.specs.Lines.{lines_of, first_of}
+use Rattle.looptrace.specs.Lines.{longest, lines_of, first_of}
 use Rattle.looptrace.specs.Texts.{next_number, error_text}
 use Rattle.looptrace.specs.Traces.{Written, LineStep, Writes, before}
+use Rattle.looptrace.proofs.LineLemmas.{IsWhole, IsBeginning, lines-long, long-first}
 
 -- what was written so far and what the rest may write are what all may write
 abbrev pub Ran : {S : Type 0} → LineStep S → S → Option (List ℕ) → Option (List ℕ) → Option (List ℕ) → Option (List ℕ) → S → ℕ → Type 0
@@ -17,10 +19,6 @@ Ran step start first now out0 out state number =
 abbrev pub RanAll : {S : Type 0} → LineStep S → S → Option (List ℕ) → Option (List ℕ) → Option (List ℕ) → Option (List ℕ) → Option (List ℕ) → ℕ → Type 0
 RanAll step start first out0 out err0 err status =
     IfSome first (λ all. (w : Written) × Writes step start 1 (lines_of all) w × Appends out0 out w.out × Appends err0 err w.err × (status ≡ w.status))
-
--- what the read of a line said
-abbrev pub Read : Option (List ℕ) → Option (List ℕ) → Bool → List ℕ → Type 0
-Read now later more line = IfSome now (λ xs. more ≡ true → (lines_of xs ≡ first_of line ∷ lines_of (drop_through 10 xs)) × (later ≡ Some (drop_through 10 xs)))
 
 appends-on : (a b c : Option (List ℕ)) (xs ys : List ℕ) → Appends a b xs → Appends b c ys → Appends a c (xs ++ ys)
 appends-on None b c xs ys p q = tt
@@ -34,6 +32,11 @@ appends-nil (Some a) = sym (append-nil a)
 
 before-on : (xs ys : List ℕ) (w : Written) → before xs (before ys w) ≡ before (xs ++ ys) w
 before-on xs ys w = ap (λ l. record { out = l; err = w.err; status = w.status }) (sym (append_assoc xs ys w.out))
+
+-- what was carried out isn't long
+pub short-first : (line whole : List ℕ) (read : Bool) → (longest < length line → read ≡ false) → read ≡ true → line ≡ first_of whole → length (first_of whole) ≤ longest
+short-first line whole read refused is_read is_line =
+    ⊎_elim (λ long. absurd (true≢false (sym is_read ∙ refused (subst (λ l. longest < length l) (sym is_line) long)))) (λ short. short) (cases_lt longest (length (first_of whole)))
 
 module _ (S : Type 0) (step : LineStep S) (start : S) where
   -- what a runner's answer to one line said
@@ -63,14 +66,14 @@ module _ (S : Type 0) (step : LineStep S) (start : S) where
   -- one line is carried out
   pub ran-on : (first now later out0 out out' : Option (List ℕ)) (state after : S) (number higher : ℕ) (more : Bool) (line text : List ℕ)
       → Ran step start first now out0 out state number
-      → Read now later more line → more ≡ true
+      → IsWhole now later more line → more ≡ true → length (first_of line) ≤ longest
       → step state (first_of line) (Some (after, text)) → Appends out out' text → higher ≡ next_number number
       → Ran step start first later out0 out' after higher
-  ran-on None now later out0 out out' state after number higher more line text ran read there stepped wrote rises = tt
-  ran-on (Some all) now later out0 out out' state after number higher more line text ran read there stepped wrote rises =
+  ran-on None now later out0 out out' state after number higher more line text ran read there short stepped wrote rises = tt
+  ran-on (Some all) now later out0 out out' state after number higher more line text ran read there short stepped wrote rises =
       let rest = ran.0 in
       let said = ran.1 in
-      let got = subst (λ o. Read o later more line) ran.2 read there in
+      let got = subst (λ o. IsWhole o later more line) ran.2 read there short in
       let later_lines = lines_of (drop_through 10 rest) in (
         drop_through 10 rest,
         said ++ text,
@@ -98,19 +101,35 @@ module _ (S : Type 0) (step : LineStep S) (start : S) where
         refl,
       )
 
+  -- a line of more bytes than a command can have can't be read
+  abbrev pub Refuses : Type 0
+  Refuses = (state : S) (line : List ℕ) → longest < length line → step state line None
+
+  -- The first line, or the beginning of a long one, can't be read.
+  first_refused : (state : S) (later : Option (List ℕ)) (more : Bool) (line rest : List ℕ) → Refuses → step state (first_of line) None
+      → IsWhole (Some rest) later more line → IsBeginning (Some rest) line → more ≡ true
+      → (first : List ℕ) × step state first None × (lines_of rest ≡ first ∷ lines_of (drop_through 10 rest))
+  first_refused state later more line rest refuses stepped whole beginning there =
+      ⊎_elim
+      (λ long. let is_long = long-first line (first_of rest) (beginning long) long in (first_of rest, refuses state (first_of rest) is_long, lines-long rest is_long))
+      (λ short. (first_of line, stepped, (whole there short).0))
+      (cases_lt longest (length (first_of line)))
+
   -- one line can't be read
   pub ran-refused : (first now later out0 out err0 err err' : Option (List ℕ)) (state : S) (number : ℕ) (more : Bool) (line : List ℕ)
-      → Ran step start first now out0 out state number
-      → Read now later more line → more ≡ true
+      → Refuses → Ran step start first now out0 out state number
+      → IsWhole now later more line → IsBeginning now line → more ≡ true
       → step state (first_of line) None → Appends err0 err [] → Appends err err' (error_text number)
       → RanAll step start first out0 out err0 err' 2
-  ran-refused None now later out0 out err0 err err' state number more line ran read there stepped silent wrote = tt
-  ran-refused (Some all) now later out0 out err0 err err' state number more line ran read there stepped silent wrote =
+  ran-refused None now later out0 out err0 err err' state number more line refuses ran whole beginning there stepped silent wrote = tt
+  ran-refused (Some all) now later out0 out err0 err err' state number more line refuses ran whole beginning there stepped silent wrote =
+      let rest = ran.0 in
       let said = ran.1 in
-      let got = subst (λ o. Read o later more line) ran.2 read there in
+      let got = first_refused state later more line rest refuses stepped (subst (λ o. IsWhole o later more line) ran.2 whole)
+      (subst (λ o. IsBeginning o line) ran.2 beginning) there in
       let refusal : Written = record { out = []; err = error_text number; status = 2 } in (
         before said refusal,
-        ran.4 refusal (subst (λ ls. Writes step state number ls refusal) (sym got.0) (inl (stepped, refl))),
+        ran.4 refusal (subst (λ ls. Writes step state number ls refusal) (sym got.2) (inl (got.1, refl))),
         subst (Appends out0 out) (sym (append-nil said)) ran.3,
         appends-on err0 err err' [] _ silent wrote,
         refl,

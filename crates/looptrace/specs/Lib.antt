@@ -7,4 +7,5 @@ pub mod Says
 pub mod Sources
 pub mod Named
 pub mod Runs
+pub mod LongLines
 pub mod InTime

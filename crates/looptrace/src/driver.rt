@@ -1,12 +1,14 @@
 //! Carries out the lines of a script, one after the other.
-ghost use Rattle.std.specs.Prelude.{◌≡◌, ◌++◌, ℕ, List, Option, Some, None, IfOk, IfErr, OnOk, IfSome};
+ghost use Rattle.std.specs.Prelude.{◌≡◌, ◌<◌, ◌++◌, ℕ, List, length, Option, Some, None, IfOk, IfErr, OnOk, IfSome, false};
 ghost use Rattle.std.specs.Bool.{MatchBool};
+ghost use Rattle.std.specs.IoError.{error_kind};
+ghost use Rattle.std.specs.declared.io.ErrorKind.TheVariants.{OutOfMemory};
 ghost use Rattle.std.specs.Io.KnownBytes.{Appends};
 ghost use Rattle.looptrace.specs.Faults.{IsCause};
-ghost use Rattle.looptrace.specs.Lines.{lines_of};
+ghost use Rattle.looptrace.specs.Lines.{longest, lines_of};
 ghost use Rattle.looptrace.specs.Traces.{Written, Writes};
 
-use crate::lines::without_feed;
+use crate::lines::{LONGEST, without_feed};
 use crate::streams::Streams;
 use log::Log;
 use std::alloc::Global;
@@ -30,11 +32,35 @@ pub trait Runner {
             × step self.old line.now (Some (self.new, said)))
             (step self.old line.now None)) }
         ensures err { IfErr result (λ e. error_kind e ≡ OutOfMemory) };
+
+    /// A line of more than 64 bytes can't be read.
+    ghost refuses: { (state : Self) (line : List ℕ) → longest < length line → step state line None };
+}
+
+// Has the runner carry out a line, if it isn't longer than any that can be read. False if it can't be read.
+fn carry_out<Q: Wait + Log, L: Runner>(
+    rt: &Q,
+    runner: &mut L,
+    line: &[u8],
+    text: &mut Vec<u8>,
+) -> io::Result<bool>
+    ensures read { IfOk result (λ read. MatchBool read
+        ((said : List ℕ) × (text.new.items ≡ text.old.items ++ said)
+        × L.step runner.old line.now (Some (runner.new, said)))
+        (L.step runner.old line.now None)) }
+    ensures long { IfOk result (λ read. longest < length line.now → read ≡ false) }
+    ensures err { IfErr result (λ e. error_kind e ≡ OutOfMemory) }
+{
+    if line.len() > LONGEST {
+        return Ok(false);
+    }
+    runner.line(rt, line, text)
 }
 
 /// Carries out the lines of the input, writes each line's text to the output, and answers the exit status:
 /// 0 at the end of the input, and 2 at the first line that can't be read, which the errors then name by its number.
-/// That number stays at 2^64 - 1 from there on.
+/// That number stays at 2^64 - 1 from there on. A line of more than 64 bytes can't be read, and at most one byte more of it
+/// is taken from the input.
 ///
 /// An `Err` is a fault of reading or writing, or says that memory ran out. What was carried out and written before it stays.
 pub fn drive<Q: Wait + Log, L: Runner, R: BufRead, W: Write, E: Write>(
@@ -59,7 +85,7 @@ pub fn drive<Q: Wait + Log, L: Runner, R: BufRead, W: Write, E: Write>(
             return Ok(0);
         }
         text.clear();
-        if !runner.line(rt, without_feed(&line), &mut text)? {
+        if !carry_out(rt, runner, without_feed(&line), &mut text)? {
             streams.refuse(number)?;
             return Ok(2);
         }

@@ -454,8 +454,11 @@ impl<R: Wait + Clone + Drop> ScriptLoop<R> {
 
 impl<R: Wait + Clone + Drop> Runner for ScriptLoop<R> {
     ghost use Rattle.looptrace.specs.Runs.{line_step};
+    ghost use Rattle.looptrace.specs.LongLines.{none_carried};
 
     ghost step = { line_step };
+
+    ghost refuses = { λ s line long. none_carried (state_of s) line long };
 
     fn line<Q: Wait + Log>(&mut self, rt: &Q, line: &[u8], text: &mut Vec<u8>) -> io::Result<bool>
         ensures read { IfOk result (λ read. MatchBool read

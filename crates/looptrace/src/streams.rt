@@ -1,9 +1,10 @@
 //! What a run reads and writes.
-ghost use Rattle.std.specs.Prelude.{◌≡◌, ℕ, [], ◌∷◌, true, false, Some, IfOk, IfSome, OnOk};
+ghost use Rattle.std.specs.Prelude.{◌≡◌, ◌≤◌, ◌<◌, ◌+◌, ℕ, [], ◌∷◌, length, true, false, Some, IfOk, IfSome, OnOk};
+ghost use Rattle.std.specs.Io.{StartsWith};
 ghost use Rattle.std.specs.Io.BufRead.{drop_through};
-ghost use Rattle.std.specs.Io.KnownBytes.{Appends};
+ghost use Rattle.std.specs.Io.KnownBytes.{Appends, Consumes};
 ghost use Rattle.looptrace.specs.Faults.{with_fault};
-ghost use Rattle.looptrace.specs.Lines.{lines_of, first_of};
+ghost use Rattle.looptrace.specs.Lines.{longest, lines_of, first_of};
 ghost use Rattle.looptrace.specs.Texts.{error_text};
 
 use crate::lines;
@@ -53,13 +54,23 @@ impl<R, W, E> Streams<R, W, E> {
 }
 
 impl<R: BufRead, W: Write, E: Write> Streams<R, W, E> {
-    /// Reads one line with its line feed into `line`. False at the end of the input.
+    /// Reads one line with its line feed into `line`, or, if it has more than 64 bytes, its first 65 alone: what is behind
+    /// these isn't read. False at the end of the input.
+    ///
+    /// A read that a signal interrupts is tried again. After an `Err` a part of the line may have been read.
     pub fn read_line(&mut self, line: &mut Vec<u8>) -> io::Result<bool>
         ensures end { IfOk result (λ more.
             IfSome (R.remaining self.old.input) (λ xs. more ≡ false → xs ≡ [])) }
         ensures line { IfOk result (λ more. IfSome (R.remaining self.old.input) (λ xs. more ≡ true
+            → length (first_of line.new.items) ≤ longest
             → (lines_of xs ≡ first_of line.new.items ∷ lines_of (drop_through 10 xs))
             × (R.remaining self.new.input ≡ Some (drop_through 10 xs)))) }
+        ensures long { OnOk result (IfSome (R.remaining self.old.input) (λ xs.
+            longest < length (first_of line.new.items)
+            → StartsWith (first_of xs) line.new.items)) }
+        ensures read { OnOk result
+            (Consumes (R.remaining self.old.input) (R.remaining self.new.input) line.new.items) }
+        ensures few { OnOk result (length line.new.items ≤ longest + 1) }
         ensures writers { (self.new.output ≡ self.old.output)
             × (self.new.errors ≡ self.old.errors) }
         ensures faults { self.new.faults.count ≡ with_fault result self.old.faults.count }

@@ -165,12 +165,73 @@ fn lines_end_at_each_feed_and_at_the_end(rt: HostRuntime) {
     assert!(rt; matches!(read_line(&mut input, &mut line), Ok(false)));
 }
 
+// The line has 65 bytes, one more than a line that can be a command.
+#[test]
+fn no_more_is_read_of_a_line_than_can_be_a_command(rt: HostRuntime) {
+    let mut input =
+        b"12345678901234567890123456789012345678901234567890123456789012345\n".as_slice();
+    let mut line = Vec::new(rt.alloc());
+    assert!(rt; matches!(read_line(&mut input, &mut line), Ok(true)));
+    assert_eq!(rt;
+        line.as_slice(),
+        b"12345678901234567890123456789012345678901234567890123456789012345".as_slice()
+    );
+    assert_eq!(rt; input, b"\n".as_slice());
+}
+
+#[test]
+fn a_line_of_as_many_bytes_as_a_command_may_have_is_read_whole(rt: HostRuntime) {
+    let mut input =
+        b"1234567890123456789012345678901234567890123456789012345678901234\na".as_slice();
+    let mut line = Vec::new(rt.alloc());
+    assert!(rt; matches!(read_line(&mut input, &mut line), Ok(true)));
+    assert_eq!(rt;
+        without_feed(&line),
+        b"1234567890123456789012345678901234567890123456789012345678901234".as_slice()
+    );
+    assert_eq!(rt; input, b"a".as_slice());
+}
+
+#[test]
+fn the_longest_command_is_carried_out(rt: HostRuntime) {
+    let script = b"timer abcdefghijklmnopqrstuvwxyz012345 18446744073709551615\n";
+    let out = b"insert abcdefghijklmnopqrstuvwxyz012345 0 0\n";
+    assert!(rt; runs(&rt, rt.alloc(), script, 0, out, b""));
+}
+
+#[test]
+fn a_line_of_a_million_bytes_is_refused_at_its_beginning(rt: HostRuntime) -> Result<(), Fail> {
+    let long = vec![in rt.alloc(); b'1'; 1_000_000]?;
+    assert!(rt; is_refused_after(&rt, rt.alloc(), &long, 65, b"", b"error line 1\n"));
+    let mut script = Vec::new(rt.alloc());
+    script.extend_from_slice(b"ping a\n\n")?;
+    script.extend_from_slice(&long)?;
+    script.extend_from_slice(b"\nping b\n")?;
+    assert!(rt;
+        is_refused_after(
+            &rt,
+            rt.alloc(),
+            &script,
+            73,
+            b"insert a 0 0\n",
+            b"error line 3\n"
+        )
+    );
+    Ok(())
+}
+
 #[test]
 fn a_runner_is_driven_to_the_first_line_that_it_does_not_read(rt: HostRuntime) {
-    let table: [(&[u8], (u8, u64), &[u8], &[u8]); 3] = [
+    let table: [(&[u8], (u8, u64), &[u8], &[u8]); 4] = [
         (b"up\nup", (0, 2), b"call up\ncall up\n", b""),
         (b"up\ndown\nup\n", (2, 1), b"call up\n", b"error line 2\n"),
         (b"", (0, 0), b"", b""),
+        (
+            b"up\n12345678901234567890123456789012345678901234567890123456789012345\nup\n",
+            (2, 1),
+            b"call up\n",
+            b"error line 2\n",
+        ),
     ];
     for (script, ends, out, err) in table {
         assert!(rt;
@@ -229,7 +290,7 @@ fn rings_and_deadlines_are_called_at_the_next_dispatch(rt: HostRuntime) {
 
 #[test]
 fn a_second_line_that_cannot_be_carried_out_ends_the_run(rt: HostRuntime) {
-    let table: [(&[u8], &[u8]); 26] = [
+    let table: [(&[u8], &[u8]); 30] = [
         (b"ping a\n", b"ping a"),
         (b"ping a\n", b"timer a 5"),
         (b"ping a\n", b"ring b"),
@@ -256,6 +317,16 @@ fn a_second_line_that_cannot_be_carried_out_ends_the_run(rt: HostRuntime) {
         (b"timer a 5\n", b"clock 01"),
         (b"timer a 5\n", b"clock -"),
         (b"timer a 5\n", b"fault x"),
+        (b"ping a\n", b"timer abcdefghijklmnopqrstuvwxyz0123456 5"),
+        (b"ping a\n", b"timer b 184467440737095516150"),
+        (
+            b"ping a\n",
+            b"ping b 890123456789012345678901234567890123456789012345678901234",
+        ),
+        (
+            b"ping a\n",
+            b"ping b 8901234567890123456789012345678901234567890123456789012345",
+        ),
     ];
     for (first, second) in table {
         assert!(rt;
@@ -420,6 +491,24 @@ fn a_run_ends_where_its_reader_is_broken(rt: HostRuntime) {
     assert_eq!(rt; streams.output.as_slice(), SAID);
 }
 
+#[test]
+fn a_read_that_is_interrupted_is_tried_again(rt: HostRuntime) {
+    for fault in 0..26 {
+        let input = Broken {
+            script: RING,
+            calls: 0,
+            fault,
+            kind: io::ErrorKind::Interrupted,
+        };
+        let mut streams = Streams::new(input, Vec::new(rt.alloc()), Vec::new(rt.alloc()));
+        assert!(rt;
+            matches!(trace(&rt, rt.alloc(), &mut streams), Ok(0)),
+            "at {fault}"
+        );
+        assert_eq!(rt; streams.output.as_slice(), SAID);
+    }
+}
+
 // A script of 25 bytes, and the 27 bytes that it has a run say.
 const RING: &[u8] = b"ping a\nring a\ndispatch 0\n";
 
@@ -481,7 +570,12 @@ struct Counter {
 }
 
 impl Runner for Counter {
+    ghost use Rattle.std.specs.Prelude.{refl};
+    ghost use Rattle.looptrace.specs.LongLines.{no_longer_word};
+
     ghost step = { λ counter line done. done ≡ (if pointwise nat_eq line (codes "up") then Some (record { count = next_number counter.count }, call_text line) else None) };
+
+    ghost refuses = { λ counter line long. no_longer_word line (codes "up") _ refl long };
 
     fn line<Q: Wait + Log>(
         &mut self,
@@ -585,6 +679,7 @@ struct Broken<'a> {
     script: &'a [u8],
     calls: u64,
     fault: u64,
+    kind: io::ErrorKind,
 }
 
 fn make_broken(script: &[u8], fault: u64) -> Broken<'_> {
@@ -592,27 +687,26 @@ fn make_broken(script: &[u8], fault: u64) -> Broken<'_> {
         script,
         calls: 0,
         fault,
+        kind: io::ErrorKind::BrokenPipe,
     }
-}
-
-fn broken_pipe() -> io::Error {
-    io::Error::from(io::ErrorKind::BrokenPipe)
 }
 
 impl Read for Broken<'_> {
-    fn read(&mut self, _buf: &mut [u8]) -> io::Result<usize> {
-        Err(broken_pipe())
-    }
-}
-
-impl BufRead for Broken<'_> {
-    fn fill_buf(&mut self) -> io::Result<&[u8]> {
+    fn read(&mut self, buf: &mut [u8]) -> io::Result<usize> {
         let call = self.calls;
         self.calls = call.saturating_add(1);
         if call == self.fault {
-            return Err(broken_pipe());
+            return Err(io::Error::from(self.kind));
         }
-        Ok(&self.script[..self.script.len().min(1)])
+        let most = buf.len().min(1);
+        self.script.read(&mut buf[..most])
+    }
+}
+
+// Nobody asks for these: looptrace reads a byte at a time.
+impl BufRead for Broken<'_> {
+    fn fill_buf(&mut self) -> io::Result<&[u8]> {
+        Ok(self.script)
     }
 
     fn consume(&mut self, amount: usize) {
@@ -661,4 +755,22 @@ fn is_broken_at<Q: Wait + Log + Clone + Drop>(rt: &Q, alloc: Global, fault: u64)
     is_fault(answer, io::ErrorKind::BrokenPipe)
         && streams.output.as_slice() == said_before(fault)
         && streams.errors.is_empty()
+}
+
+// Whether a run ends with status 2 after this many bytes of the script were read, and this was written to the two outputs.
+fn is_refused_after<Q: Wait + Log + Clone + Drop>(
+    rt: &Q,
+    alloc: Global,
+    script: &[u8],
+    count: u64,
+    out: &[u8],
+    err: &[u8],
+) -> bool {
+    let input = make_broken(script, u64::MAX);
+    let mut streams = Streams::new(input, Vec::new(alloc), Vec::new(alloc));
+    let answer = trace(rt, alloc, &mut streams);
+    matches!(answer, Ok(2))
+        && streams.input.calls == count
+        && streams.output.as_slice() == out
+        && streams.errors.as_slice() == err
 }
