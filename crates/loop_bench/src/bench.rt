@@ -107,11 +107,11 @@ pub type Held<P, C, R> = Sources<
         OneOf<
             Dispatcher<Timer, Counts>,
             OneOf<
-                Dispatcher<Generic<P::Io>, Counts>,
+                Dispatcher<Generic<<P as Measured<C, R>>::Io>, Counts>,
                 OneOf<
                     Dispatcher<Channel<u64, R>, Counts>,
                     OneOf<
-                        Dispatcher<Generic<P::Io>, Reads>,
+                        Dispatcher<Generic<<P as Measured<C, R>>::Io>, Reads>,
                         OneOf<Dispatcher<Executor<Task<C, R>, R>, Counts>, TimeoutTimer<R>>,
                     >,
                 >,

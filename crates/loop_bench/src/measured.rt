@@ -65,7 +65,7 @@ where
     }
 
     fn pair(rt: &R) -> Result<(UnixStream, UnixStream)> {
-        UnixStream::pair(rt)
+        Ok(UnixStream::pair(rt)?)
     }
 
     fn send(peer: &mut UnixStream) -> io::Result<()> {
