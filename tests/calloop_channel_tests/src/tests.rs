@@ -2,6 +2,7 @@ use desk::{Act, CLOSED, Tried, plays};
 
 mod chance;
 mod desk;
+mod heedless;
 mod machine;
 mod memory;
 mod own_sends;
