@@ -151,9 +151,9 @@ static void sweep(uv_timer_t *timer) {
 }
 
 int main(int argc, char **argv) {
-    const char *port = argc == 2 ? strchr(argv[1], ':') : NULL;
+    const char *port = argc == 2 || argc == 3 ? strchr(argv[1], ':') : NULL;
     if (port == NULL || strncmp(argv[1], "127.0.0.1:", 10) != 0) {
-        fprintf(stderr, "usage: echo_libuv 127.0.0.1:PORT\n");
+        fprintf(stderr, "usage: echo_libuv 127.0.0.1:PORT [MILLISECONDS]\n");
         return 2;
     }
     struct sockaddr_in address;
@@ -168,6 +168,7 @@ int main(int argc, char **argv) {
     check(uv_tcp_bind(&listener, (const struct sockaddr *)&address, 0), "binding the listener");
     check(uv_listen((uv_stream_t *)&listener, BACKLOG, let_in), "listening");
     check(uv_timer_init(loop, &timer), "making the timer");
-    check(uv_timer_start(&timer, sweep, EACH, EACH), "starting the timer");
+    uint64_t each = argc == 3 ? number(argv[2], EACH) : EACH;
+    check(uv_timer_start(&timer, sweep, each, each), "starting the timer");
     return uv_run(loop, UV_RUN_DEFAULT);
 }

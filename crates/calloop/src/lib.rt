@@ -35,8 +35,8 @@ pub use calloop_io as io;
 pub use calloop_io::{Adapter, Async, Readable, Writable};
 pub use calloop_loop as loop_logic;
 pub use calloop_loop::{
-    Answer, EventDispatcher, EventLoop, Idle, LoopHandle, LoopSignal, Requests, ScriptLoop,
-    Sources, SystemLoop, Ticket,
+    Answer, EventDispatcher, EventLoop, Idle, LoopHandle, LoopHold, LoopKeep, LoopSignal, Requests,
+    ScriptLoop, Sources, SystemLoop, Ticket,
 };
 pub use calloop_mio::{MioIo, MioPoller, Precision, SystemClock};
 pub use calloop_poll::sys::events::EventIterator;

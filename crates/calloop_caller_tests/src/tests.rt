@@ -1,6 +1,7 @@
 use calloop::futures::{Context, Executor, Future, Poll, Scheduler, make_executor};
 use calloop::ping::make_ping;
 use calloop::stream::{Stream, StreamSource};
+use calloop::sys::Watched;
 use calloop::{
     Adapter, Answer, Async, Callback, Choice, Dispatcher, EventDispatcher, Generic, Here, Instant,
     Interest, Keep, Mode, On, OneOf, PingSource, Place, Readiness, Requests, ScriptLoop, Sources,
@@ -260,7 +261,11 @@ where
     let is_pending = table.says(&[]);
     table.script()?;
     let is_said = table.says(&[]) && table.says(&[7]);
-    let call = ScriptCall::Add(1, 0, Interest::READ);
+    let reads = Watched {
+        interest: Interest::READ,
+        mode: Mode::OneShot,
+    };
+    let call = ScriptCall::Add(1, 0, reads);
     let is_added = table.event_loop.handle().poller_mut().calls().first() == Some(&call);
     Some(is_there && scheduled && is_pending && is_said && is_added)
 }

@@ -58,7 +58,8 @@ impl<F: AsRawFd + Drop, R: Wait + Drop> Drop for Async<F, R> {
     }
 }
 
-// Both ends of an adapter that is in no loop yet, and its socket, which is in neither. A refusal hands that back.
+/// Both ends of an adapter that is in no loop yet, and its socket, which is in neither: `LoopHandle::adapt_io` begins with them. Running out
+/// of memory is `OutOfMemory`, and hands the socket back.
 pub fn make_ends<F: AsRawFd + Drop, R: Wait + Clone + Drop>(
     rt: &R,
     alloc: Global,
@@ -81,22 +82,22 @@ pub fn make_ends<F: AsRawFd + Drop, R: Wait + Clone + Drop>(
 }
 
 impl<F: AsRawFd + Drop, R: Wait + Drop> Async<F, R> {
-    // The socket comes in.
+    /// The socket comes in, as the loop has its adapter. One that was there is dropped.
     pub fn put(&self, io: F) {
         *self.end.io() = Some(io);
     }
 
-    // The socket goes out.
+    /// The socket goes out, as its adapter has left the loop. `None` if it was taken out before.
     pub fn take(&self) -> Option<F> {
         self.end.io().take()
     }
 
-    // Its registration, where it is in a loop, from where it may be taken out now.
+    /// Its registration, if it is in a loop: from now on the loop may take it out. What begins so ends with `stay`, or as the adapter leaves.
     pub fn begin_leaving(&self) -> Option<RegistrationToken> {
         self.end.begin_leaving()
     }
 
-    // It stays in its loop, if it is in one.
+    /// It stays in its loop, if it is in one, as its leaving was refused.
     pub fn stay(&self) {
         self.end.stay();
     }

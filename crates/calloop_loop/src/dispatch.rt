@@ -19,7 +19,8 @@ use super::lifecycle::Lifecycle;
 use super::registering::Registering;
 use super::stops::StopNotes;
 use super::warnings::Warnings;
-use super::{EventDispatcher, EventLoop, LoopHandle, LoopSignal};
+use super::{EventDispatcher, EventLoop, LoopHandle};
+use calloop_poll::signal::OwnSignal;
 use calloop_poll::sys::poll::Poll;
 use calloop_poll::sys::synthetic::Synthetic;
 use calloop_poll::sys::{Clock, Poller};
@@ -51,7 +52,7 @@ impl<D: EventDispatcher<P, C, R>, P: Poller, C: Clock, R: Wait + Drop> EventLoop
             pending: PostAction::Continue,
             requests: Requests::numbered_from(0, alloc),
             warnings: Warnings::new(alloc),
-            signal: LoopSignal::new(alloc, notifier)?,
+            signal: OwnSignal::new(alloc, notifier)?,
             stops: StopNotes::none(),
         })
     }

@@ -1,6 +1,7 @@
 //! The loop, and what it asks of the caller's sources.
 #![tactic(auto)]
 
+use calloop_poll::signal::OwnSignal;
 use calloop_poll::sys::events::EventIterator;
 use calloop_poll::sys::poll::Poll;
 use calloop_poll::sys::synthetic::Synthetic;
@@ -24,6 +25,7 @@ use warnings::Warnings;
 mod adapting;
 mod asks;
 mod blocking;
+mod bounds;
 mod calls;
 mod dispatch;
 mod handle;
@@ -38,6 +40,7 @@ mod telling;
 mod warnings;
 
 pub use asks::{Answer, Idle, Requests, Ticket};
+pub use bounds::{LoopHold, LoopKeep};
 pub use calloop_poll::signal::LoopSignal;
 pub use loops::{ScriptLoop, SystemLoop};
 
@@ -54,7 +57,7 @@ pub struct EventLoop<D: EventDispatcher<P, C, R>, P: Poller, C: Clock, R: Wait +
     pending: PostAction,
     requests: Requests<D, D::Idle>,
     warnings: Warnings,
-    signal: LoopSignal,
+    signal: OwnSignal,
     stops: StopNotes,
 }
 

@@ -24,7 +24,7 @@ impl<D: EventDispatcher<P, C, R>, P: Poller, C: Clock, R: Wait + Drop> EventLoop
         ensures ok { IfOk result (AreOfOneLoop (signal_of self.now)) }
         ensures err { IfErr result (λ e. e ≡ OutOfMemory) }
     {
-        Ok(self.signal.clone()?)
+        Ok(self.signal.share()?)
     }
 }
 
@@ -34,7 +34,7 @@ impl<D: EventDispatcher<P, C, R>, P: Poller, C: Clock, R: Wait + Drop> EventLoop
         ensures { Did (Case D.means D.Idle.runs P.outside ForgetStop StopForgotten)
             (view_of self.old) (view_of self.new) }
     {
-        self.signal.clear_stop();
+        self.signal.forget_stop();
         self.stops.note(StopNote::Forgot);
     }
 

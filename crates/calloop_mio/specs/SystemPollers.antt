@@ -12,8 +12,8 @@ use Rattle.calloop_mio.specs.SystemEvents.{told_events}
 
 -- whether a call asks for something that can be waited for
 abbrev pub can_ask : PollerCall → Bool
-can_ask (Add key interest) = asks interest
-can_ask (Modify key interest) = asks interest
+can_ask (Add key watched) = asks watched.interest
+can_ask (Modify key watched) = asks watched.interest
 can_ask Delete = true
 
 -- one call for a socket: an empty interest is refused; calloop hands it to its poller

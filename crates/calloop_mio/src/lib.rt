@@ -13,7 +13,7 @@ ghost use Rattle.calloop_mio.specs.declared.portions.Precision.TheVariants.{Micr
 
 use calloop_poll::sys::faults::FaultCount;
 use calloop_poll::sys::notifier::{LazyWaker, Notifier};
-use calloop_poll::sys::{Clock, Interest, Poller, Readiness};
+use calloop_poll::sys::{Clock, Interest, Mode, Poller, Readiness, Watched};
 use calloop_slots::error::{Error, Result as LoopResult};
 use calloop_slots::wheel::Instant;
 use found::Found;
@@ -41,8 +41,8 @@ pub use sockets::MioIo;
 const OWN_KEY: Token = Token(usize::MAX);
 
 /// Waits on the sockets of the machine by epoll. Its clock is the one that it was given. A socket is told of when it becomes ready, and
-/// again by `modify`; after `add_level` and `modify_level` in each wait as long as it is ready. One under the key 2^64 - 1 is never told of:
-/// that is its own waker's.
+/// again by `modify`; under `Mode::Level` in each wait as long as it is ready. One under the key 2^64 - 1 is never told of: that is
+/// its own waker's.
 ///
 /// While an event of an earlier wait is left, a wait finds none: so what stays ready isn't told twice.
 ///
@@ -113,7 +113,29 @@ impl<C> MioPoller<C> {
 }
 
 impl<C> MioPoller<C> {
-    // Has each wait tell of a socket as long as it is ready, where the interest is one in anything.
+    // Has waits tell of a socket in its mode, where the interest is one in anything.
+    fn register(
+        &mut self,
+        how: Registering,
+        fd: RawFd,
+        key: u64,
+        watched: Watched,
+    ) -> io::Result<()>
+        ensures same { self.new ≡ self.old }
+        ensures refused { asks watched.interest ≡ false
+            → IsErrAnd result (λ cause. error_kind cause ≡ InvalidInput) }
+    {
+        let Some(asked) = mio_interest(watched.interest) else {
+            return Err(no_interest());
+        };
+        self.levels.clear(fd);
+        match watched.mode {
+            Mode::Level => self.register_level(how, fd, key, watched.interest),
+            Mode::OneShot | Mode::Edge => self.register_edge(how, fd, key, asked),
+        }
+    }
+
+    // Each wait tells of it as long as it is ready.
     fn register_level(
         &mut self,
         how: Registering,
@@ -121,18 +143,33 @@ impl<C> MioPoller<C> {
         key: u64,
         interest: Interest,
     ) -> io::Result<()>
-        ensures same { self.new ≡ self.old }
-        ensures refused { asks interest ≡ false
-            → IsErrAnd result (λ cause. error_kind cause ≡ InvalidInput) }
+        ensures { self.new ≡ self.old }
     {
-        if !interest.asks() {
-            return Err(no_interest());
-        }
-        self.levels.clear(fd);
         how.register(&self.poll, fd, key, interest)?;
         // Where it isn't noted, the next call asks the system again.
         let _noted = self.levels.note(fd, key, interest);
         Ok(())
+    }
+
+    // It is told of when it becomes ready.
+    fn register_edge(
+        &self,
+        how: Registering,
+        fd: RawFd,
+        key: u64,
+        asked: mio::Interest,
+    ) -> io::Result<()> {
+        let token = Token(key as usize);
+        match how {
+            Registering::First => self
+                .poll
+                .registry()
+                .register(&mut SourceFd(&fd), token, asked),
+            Registering::Again => self
+                .poll
+                .registry()
+                .reregister(&mut SourceFd(&fd), token, asked),
+        }
     }
 }
 
@@ -205,49 +242,25 @@ impl<C: Clock> Poller for MioPoller<C> {
     ghost sockets = { system_sockets };
 
     /// An empty interest is refused with an error of kind `InvalidInput`, and counted.
-    fn add(&mut self, fd: RawFd, key: u64, interest: Interest) -> io::Result<()> {
-        self.levels.clear(fd);
-        let answer = match mio_interest(interest) {
-            Some(asked) => self
-                .poll
-                .registry()
-                .register(&mut SourceFd(&fd), Token(key as usize), asked),
-            None => Err(no_interest()),
-        };
+    fn add(&mut self, fd: RawFd, key: u64, watched: Watched) -> io::Result<()> {
+        let answer = self.register(Registering::First, fd, key, watched);
         self.note_fault(answer)
     }
 
-    /// An empty interest is refused with an error of kind `InvalidInput`, and counted; the socket stays as it was added.
-    fn modify(&mut self, fd: RawFd, key: u64, interest: Interest) -> io::Result<()> {
-        self.levels.clear(fd);
-        let answer = match mio_interest(interest) {
-            Some(asked) => self
-                .poll
-                .registry()
-                .reregister(&mut SourceFd(&fd), Token(key as usize), asked),
-            None => Err(no_interest()),
-        };
+    /// An empty interest is refused with an error of kind `InvalidInput`, and counted; the socket stays as it was added. The system is
+    /// always called: the descriptor may be another socket's by now.
+    fn modify(&mut self, fd: RawFd, key: u64, watched: Watched) -> io::Result<()> {
+        let answer = self.register(Registering::Again, fd, key, watched);
         self.note_fault(answer)
     }
 
-    /// An empty interest is refused as by `add`.
-    fn add_level(&mut self, fd: RawFd, key: u64, interest: Interest) -> io::Result<()> {
-        let answer = self.register_level(Registering::First, fd, key, interest);
-        self.note_fault(answer)
-    }
-
-    /// An empty interest is refused as by `modify`. The system is always called: the descriptor may be another socket's by now.
-    fn modify_level(&mut self, fd: RawFd, key: u64, interest: Interest) -> io::Result<()> {
-        let answer = self.register_level(Registering::Again, fd, key, interest);
-        self.note_fault(answer)
-    }
-
-    /// An empty interest is refused as by `modify`. The system isn't called if the descriptor was registered so last.
-    fn rearm_level(&mut self, fd: RawFd, key: u64, interest: Interest) -> io::Result<()> {
-        if interest.asks() && self.levels.has(fd, key, interest) {
+    /// An empty interest is refused as by `modify`. The system isn't called if the descriptor was registered so last, under `Mode::Level`.
+    fn rearm(&mut self, fd: RawFd, key: u64, watched: Watched) -> io::Result<()> {
+        let Watched { interest, mode } = watched;
+        if mode == Mode::Level && interest.asks() && self.levels.has(fd, key, interest) {
             return Ok(());
         }
-        self.modify_level(fd, key, interest)
+        self.modify(fd, key, watched)
     }
 
     fn delete(&mut self, fd: RawFd) -> io::Result<()> {

@@ -1,11 +1,13 @@
 //! What ends a loop's waits and its runs, from anywhere. From calloop's `loop_logic.rs`.
 ghost use Rattle.std.specs.Prelude.{◌≡◌, IfOk};
 ghost use Rattle.std.specs.Arc.{arc_value};
+ghost use Rattle.calloop_poll.specs.Signals.{AreOfOneLoop};
 
 use crate::sys::notifier::Notifier;
 use calloop_wake::Notify;
 use calloop_wake::ghosts::Name;
 use std::alloc::{AllocError, Global};
+use std::marker::Model;
 use std::sync::Arc;
 use std::sync::atomic::{AtomicBool, Ordering};
 
@@ -24,34 +26,10 @@ pub struct LoopSignal {
 }
 
 impl LoopSignal {
-    /// Of a loop over the poller of this notifier.
-    pub fn new(alloc: Global, notifier: Notifier) -> std::result::Result<LoopSignal, AllocError>
-        ensures { IfOk result (λ signal. (arc_value signal.shared).notifier ≡ notifier) }
-    {
-        let shared = Shared {
-            name: Name::fresh(),
-            stopped: AtomicBool::new(false),
-            notifier,
-        };
-        Ok(LoopSignal {
-            shared: Arc::new(alloc, shared)?,
-        })
-    }
-
     /// Lets the run that is under way end after its dispatch, and begin no other one. It is one store: it takes no lock and no
     /// memory, and ends no wait. A run that begins later forgets it.
     pub fn stop(&self) {
         self.shared.stopped.store(true, Ordering::SeqCst);
-    }
-
-    /// Whether it was stopped since the last run began.
-    pub fn is_stopped(&self) -> bool {
-        self.shared.stopped.load(Ordering::SeqCst)
-    }
-
-    /// A run begins.
-    pub fn clear_stop(&self) {
-        self.shared.stopped.store(false, Ordering::SeqCst);
     }
 
     /// Ends the wait that is under way, or else the next one, of the poller that the loop was made with.
@@ -66,9 +44,58 @@ impl Clone for LoopSignal {
     ghost is_clone = { AreOfOneLoop };
 
     /// One more signal of the same loop. At 2^63 of them it is refused.
-    fn clone(&self) -> std::result::Result<LoopSignal, AllocError> {
+    fn clone(&self) -> Result<LoopSignal, AllocError> {
         Ok(LoopSignal {
             shared: Arc::try_clone(&self.shared)?,
         })
+    }
+}
+
+/// A loop's own signal: the loop alone has it, and so it alone looks for a stop, and forgets one. In a clause it is that signal.
+#[derive(Drop)]
+pub struct OwnSignal {
+    signal: LoopSignal,
+}
+
+impl Model for OwnSignal {
+    ghost use Rattle.calloop_poll.specs.declared.signal.LoopSignal.{LoopSignal};
+
+    ghost Value = { LoopSignal };
+
+    ghost view = { λ own. own.signal };
+}
+
+impl OwnSignal {
+    /// Of a loop over the poller of this notifier, which nobody stopped yet.
+    pub fn new(alloc: Global, notifier: Notifier) -> Result<OwnSignal, AllocError>
+        ensures { IfOk result (λ own. (arc_value own.shared).notifier ≡ notifier) }
+    {
+        let shared = Shared {
+            name: Name::fresh(),
+            stopped: AtomicBool::new(false),
+            notifier,
+        };
+        Ok(OwnSignal {
+            signal: LoopSignal {
+                shared: Arc::new(alloc, shared)?,
+            },
+        })
+    }
+
+    /// A signal of this loop for others. At 2^63 of them it is refused.
+    pub fn share(&self) -> Result<LoopSignal, AllocError>
+        ensures { IfOk result (AreOfOneLoop self.now) }
+    {
+        self.signal.clone()
+    }
+
+    /// Whether a signal of this loop stopped it since it last forgot a stop.
+    pub fn is_stopped(&self) -> bool {
+        self.signal.shared.stopped.load(Ordering::SeqCst)
+    }
+
+    /// A stop of before counts no more, as when a run begins.
+    pub fn forget_stop(&self) {
+        self.signal.shared.stopped.store(false, Ordering::SeqCst);
     }
 }

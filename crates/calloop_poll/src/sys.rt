@@ -132,47 +132,29 @@ pub trait Poller: Drop {
     /// What its calls for a descriptor may do.
     ghost sockets: { Sockets Self };
 
-    /// From now on a wait gives the events of this descriptor, under this key. An `Err` is a fault, and is counted.
-    fn add(&mut self, fd: RawFd, key: u64, interest: Interest) -> io::Result<()>
-        ensures sockets { sockets self.old fd (Add key interest) result self.new }
-        ensures calls { outside.calls self.old (Add key interest) result self.new }
+    /// From now on a wait gives the events of this descriptor, under this key. Under `Mode::Level` each wait may tell of it as long as it is
+    /// ready, without a further call. An `Err` is a fault, and is counted.
+    fn add(&mut self, fd: RawFd, key: u64, watched: Watched) -> io::Result<()>
+        ensures sockets { sockets self.old fd (Add key watched) result self.new }
+        ensures calls { outside.calls self.old (Add key watched) result self.new }
         ensures faults { outside.faults self.new ≡ outside.faults self.old + faults_of result };
 
-    /// A descriptor that was added has another key or another interest, and what it is ready for is told anew. An `Err` is a fault,
-    /// and is counted.
-    fn modify(&mut self, fd: RawFd, key: u64, interest: Interest) -> io::Result<()>
-        ensures sockets { sockets self.old fd (Modify key interest) result self.new }
-        ensures calls { outside.calls self.old (Modify key interest) result self.new }
+    /// A descriptor that was added has another key, interest or mode, and what it is ready for is told anew. It is an explicit registration
+    /// anew, so the descriptor may name another socket than before: a poller that keeps notes of sockets asks the system all the
+    /// same. An `Err` is a fault, and is counted.
+    fn modify(&mut self, fd: RawFd, key: u64, watched: Watched) -> io::Result<()>
+        ensures sockets { sockets self.old fd (Modify key watched) result self.new }
+        ensures calls { outside.calls self.old (Modify key watched) result self.new }
         ensures faults { outside.faults self.new ≡ outside.faults self.old + faults_of result };
 
-    /// As `add`, for a source that hears of the socket as long as it is ready (`Mode::Level`): from now on each wait may tell of it anew
-    /// without a further call. By default it is `add`.
-    fn add_level(&mut self, fd: RawFd, key: u64, interest: Interest) -> io::Result<()>
-        ensures sockets { sockets self.old fd (Add key interest) result self.new }
-        ensures calls { outside.calls self.old (Add key interest) result self.new }
+    /// As `modify`, behind a callback of the source, when nothing but the interest is likely to be another. A poller in which each
+    /// wait tells of this descriptor under this key and for this interest already has nothing to do. By default it is `modify`.
+    fn rearm(&mut self, fd: RawFd, key: u64, watched: Watched) -> io::Result<()>
+        ensures sockets { sockets self.old fd (Modify key watched) result self.new }
+        ensures calls { outside.calls self.old (Modify key watched) result self.new }
         ensures faults { outside.faults self.new ≡ outside.faults self.old + faults_of result }
     {
-        self.add(fd, key, interest)
-    }
-
-    /// As `modify`, for such a source. It is an explicit registration anew, so the descriptor may name another socket than before: a poller
-    /// that keeps notes of sockets asks the system all the same. By default it is `modify`.
-    fn modify_level(&mut self, fd: RawFd, key: u64, interest: Interest) -> io::Result<()>
-        ensures sockets { sockets self.old fd (Modify key interest) result self.new }
-        ensures calls { outside.calls self.old (Modify key interest) result self.new }
-        ensures faults { outside.faults self.new ≡ outside.faults self.old + faults_of result }
-    {
-        self.modify(fd, key, interest)
-    }
-
-    /// As `modify_level`, behind a callback of such a source, when nothing but the interest is likely to be another. A poller in which each
-    /// wait tells of this descriptor under this key and for this interest already has nothing to do. By default it is `modify_level`.
-    fn rearm_level(&mut self, fd: RawFd, key: u64, interest: Interest) -> io::Result<()>
-        ensures sockets { sockets self.old fd (Modify key interest) result self.new }
-        ensures calls { outside.calls self.old (Modify key interest) result self.new }
-        ensures faults { outside.faults self.new ≡ outside.faults self.old + faults_of result }
-    {
-        self.modify_level(fd, key, interest)
+        self.modify(fd, key, watched)
     }
 
     /// A wait gives no event of this descriptor any more. An `Err` is a fault, and is counted.

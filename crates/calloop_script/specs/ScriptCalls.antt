@@ -21,13 +21,13 @@ use Rattle.calloop_poll.specs.sys.Pollers.{PollerCall, Add, Modify, Delete}
 
 -- a call as the list shows it, for the socket of this descriptor
 abbrev pub shown_call : PollerCall → (number : ℤ) → ScriptCall
-shown_call (Add key interest) number = AddOf number key interest
-shown_call (Modify key interest) number = ModifyOf number key interest
+shown_call (Add key watched) number = AddOf number key watched
+shown_call (Modify key watched) number = ModifyOf number key watched
 shown_call Delete number = DeleteOf number
 
 abbrev pub kind_of : ScriptCall → ScriptKind
-kind_of (AddOf number key interest) = AddKind
-kind_of (ModifyOf number key interest) = ModifyKind
+kind_of (AddOf number key watched) = AddKind
+kind_of (ModifyOf number key watched) = ModifyKind
 kind_of (DeleteOf number) = DeleteKind
 
 -- whether the next call of this kind is to fail

@@ -9,7 +9,7 @@ ghost use Rattle.calloop_script.specs.ScriptCalls.{kind_of, is_to_fail, with_fai
 ghost use Rattle.calloop_script.specs.ScriptPollers.{ScriptCalled};
 
 use super::ScriptPoller;
-use calloop_poll::sys::Interest;
+use calloop_poll::sys::Watched;
 use calloop_poll::sys::faults::FaultCount;
 use std::io;
 use std::io::{Read, Write};
@@ -68,11 +68,11 @@ impl Write for ScriptIo {
     }
 }
 
-/// A call for a socket: its number, and the key and the interest that it was given.
+/// A call for a socket: its number, and the key and what it was to wait for.
 #[derive(Clone, Copy, Debug, PartialEq, Eq)]
 pub enum ScriptCall {
-    Add(RawFd, u64, Interest),
-    Modify(RawFd, u64, Interest),
+    Add(RawFd, u64, Watched),
+    Modify(RawFd, u64, Watched),
     Delete(RawFd),
 }
 

@@ -9,7 +9,7 @@ ghost use Rattle.calloop_poll.specs.declared.sys.Readiness.{Readiness};
 
 use calloop_poll::sys::faults::FaultCount;
 use calloop_poll::sys::notifier::Notifier;
-use calloop_poll::sys::{Clock, EVENTS_PER_WAIT, Interest, Poller, Readiness};
+use calloop_poll::sys::{Clock, EVENTS_PER_WAIT, Poller, Readiness, Watched};
 use calloop_slots::error::{Error, Result as LoopResult};
 use calloop_slots::wheel::Instant;
 use std::alloc::{AllocError, AllocFailed, Global};
@@ -275,12 +275,12 @@ impl Poller for ScriptPoller {
 
     ghost sockets = { script_sockets };
 
-    fn add(&mut self, fd: RawFd, key: u64, interest: Interest) -> io::Result<()> {
-        self.call(ScriptCall::Add(fd, key, interest))
+    fn add(&mut self, fd: RawFd, key: u64, watched: Watched) -> io::Result<()> {
+        self.call(ScriptCall::Add(fd, key, watched))
     }
 
-    fn modify(&mut self, fd: RawFd, key: u64, interest: Interest) -> io::Result<()> {
-        self.call(ScriptCall::Modify(fd, key, interest))
+    fn modify(&mut self, fd: RawFd, key: u64, watched: Watched) -> io::Result<()> {
+        self.call(ScriptCall::Modify(fd, key, watched))
     }
 
     fn delete(&mut self, fd: RawFd) -> io::Result<()> {

@@ -5,7 +5,7 @@ ghost use Rattle.calloop_slots.specs.Tokens.{key_of};
 use calloop_poll::sys::hub::{Hub, SharedHub, share};
 use calloop_poll::sys::notifier::Notifier;
 use calloop_poll::sys::poll::Poll;
-use calloop_poll::sys::{Clock, Interest, Poller, Readiness};
+use calloop_poll::sys::{Clock, Poller, Readiness, Watched};
 use calloop_script::{ScriptAnswer, ScriptClock, ScriptEnd, ScriptEvents, ScriptPoller};
 use calloop_slots::error::Error;
 use calloop_slots::token::{RegistrationToken, Token, TokenFactory};
@@ -812,11 +812,11 @@ impl Poller for FailsFirst {
 
     ghost sockets = { λ _ _ _ _ _. Unit {0} };
 
-    fn add(&mut self, _fd: RawFd, _key: u64, _interest: Interest) -> io::Result<()> {
+    fn add(&mut self, _fd: RawFd, _key: u64, _watched: Watched) -> io::Result<()> {
         Ok(())
     }
 
-    fn modify(&mut self, _fd: RawFd, _key: u64, _interest: Interest) -> io::Result<()> {
+    fn modify(&mut self, _fd: RawFd, _key: u64, _watched: Watched) -> io::Result<()> {
         Ok(())
     }
 

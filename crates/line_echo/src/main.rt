@@ -1,15 +1,15 @@
 //! A server that gives back each line it reads, over the poller and the clock of the machine: it listens, lets clients in as they come,
 //! and drops those that are silent for long.
 //!
-//! With an address, as 127.0.0.1:7000, it serves for good. With none it serves two clients of its own on a free port: one sends lines,
-//! the other one is silent; then it prints what they saw, and ends. If no descriptor is left it says so once, and stops listening until a client
-//! leaves.
+//! With an address, as 127.0.0.1:7000, it serves for good, and looks for silent clients every fifteen seconds, or after so many
+//! milliseconds as a second word says. With none it serves two clients of its own on a free port: one sends lines, the other one is
+//! silent; then it prints what they saw, and ends. If no descriptor is left it says so once, and stops listening until a client leaves.
 #![tactic(auto)]
 
 use anyhow::Result;
 use calloop::{
-    Choice, Dispatcher, EventDispatcher, Generic, Here, Hold, Interest, MioPoller, Mode, OneOf,
-    Requests, Sources, SystemClock, SystemLoop, There, Timer,
+    Choice, Dispatcher, EventDispatcher, Generic, Here, Interest, LoopHold, MioPoller, Mode, OneOf,
+    Sources, SystemClock, SystemLoop, There, Timer,
 };
 use echo::Echo;
 use mio::net::{TcpListener, TcpStream};
@@ -46,6 +46,8 @@ type Third = There<There<Here>>;
 struct Plan {
     /// For how long a client may be silent.
     patience: Duration,
+    /// How often it looks for such clients.
+    each: Duration,
     /// It ends once so many clients have left, or never.
     clients: Option<usize>,
 }
@@ -61,29 +63,19 @@ where
 fn serve_in<D, R>(rt: &R, alloc: Global, listener: TcpListener, plan: Plan) -> Result<()>
 where
     D: EventDispatcher<Machine<R>, SystemClock<R>, R, Data = Server<R>, Idle = ()>,
-    D: Hold<
-        Generic<TcpListener>,
-        Accepts,
-        Machine<R>,
-        SystemClock<R>,
-        R,
-        Server<R>,
-        Requests<D>,
-        Here,
-    >,
+    D: LoopHold<Generic<TcpListener>, Accepts, Machine<R>, SystemClock<R>, R, Here>,
     D: Choice<Generic<TcpStream>, Echo, There<Here>>,
-    D: Hold<Timer, Sweeps, Machine<R>, SystemClock<R>, R, Server<R>, Requests<D>, Third>,
+    D: LoopHold<Timer, Sweeps, Machine<R>, SystemClock<R>, R, Third>,
     R: Runtime + Net + Wait + Clone + Drop,
 {
     let mut event_loop: SystemLoop<D, R> = SystemLoop::system(rt, alloc)?;
     let clock = event_loop.clock().clone()?;
     let mut server = Server::new(clock, plan.patience, alloc);
-    let each = plan.patience / 4;
-    let timer = Timer::from_duration(event_loop.clock(), each);
+    let timer = Timer::from_duration(event_loop.clock(), plan.each);
     let listening = Generic::new(listener, Interest::READ, Mode::Level);
     let mut handle = event_loop.handle();
     let listener = handle.insert_source(listening, Accepts { alloc })?;
-    handle.insert_source(timer, Sweeps { each })?;
+    handle.insert_source(timer, Sweeps { each: plan.each })?;
     for _ in rt.forever() {
         let was_listening = server.refusal().is_none();
         event_loop.dispatch(rt, None, &mut server)?;
@@ -120,6 +112,7 @@ where
     let other = thread::spawn(rt, move || client::is_dropped(other))?;
     let plan = Plan {
         patience: Duration::from_millis(200),
+        each: Duration::from_millis(50),
         clients: Some(2),
     };
     let served = serve(rt, alloc, listener, plan);
@@ -144,8 +137,13 @@ where
         None => show(rt, alloc),
         Some(address) => {
             let listener = TcpListener::bind(rt, address.parse::<SocketAddr>()?)?;
+            let each = match words.get(1) {
+                Some(millis) => Duration::from_millis(millis.parse::<u64>()?),
+                None => Duration::from_secs(15),
+            };
             let plan = Plan {
                 patience: Duration::from_secs(60),
+                each,
                 clients: None,
             };
             serve(rt, alloc, listener, plan)

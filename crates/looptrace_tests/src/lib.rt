@@ -1,5 +1,6 @@
-//! Tests of `looptrace`, over what it shows to other crates.
+//! Tests of `looptrace`, over what it shows to other crates, and scripts that its law of timers rules out.
 #![tactic(auto)]
 
+pub mod scripts;
 #[cfg(test)]
 mod tests;

@@ -2,6 +2,7 @@ ghost use Rattle.std.specs.Prelude.{◌≡◌, Some, None, nat_eq, codes, if◌t
 ghost use Rattle.std.specs.Cmp.Lexicographic.{pointwise};
 ghost use Rattle.looptrace.specs.Texts.{call_text, next_number};
 
+use crate::scripts::wrong_scripts_are_ruled_out;
 use calloop::Error;
 use log::sink::Memory;
 use log::{Level, Log, Logged};
@@ -20,6 +21,11 @@ use std::sync::Wait;
 use std::test::Fail;
 
 mod memory;
+
+#[test]
+fn the_law_of_timers_rules_some_scripts_out(_rt: HostRuntime) {
+    wrong_scripts_are_ruled_out::<HostRuntime>();
+}
 
 #[test]
 fn a_line_that_is_no_command_is_not_read(rt: HostRuntime) {
@@ -498,6 +504,7 @@ fn a_read_that_is_interrupted_is_tried_again(rt: HostRuntime) {
             script: RING,
             calls: 0,
             fault,
+            times: 9,
             kind: io::ErrorKind::Interrupted,
         };
         let mut streams = Streams::new(input, Vec::new(rt.alloc()), Vec::new(rt.alloc()));
@@ -673,12 +680,13 @@ fn make_full(alloc: Global, fault: usize) -> Full {
     }
 }
 
-// Gives a byte of the script at each call, but fails at one call.
+// Gives a byte of the script at each call, but fails so many times from one call on.
 #[derive(Drop)]
 struct Broken<'a> {
     script: &'a [u8],
     calls: u64,
     fault: u64,
+    times: u64,
     kind: io::ErrorKind,
 }
 
@@ -687,6 +695,7 @@ fn make_broken(script: &[u8], fault: u64) -> Broken<'_> {
         script,
         calls: 0,
         fault,
+        times: 1,
         kind: io::ErrorKind::BrokenPipe,
     }
 }
@@ -695,7 +704,7 @@ impl Read for Broken<'_> {
     fn read(&mut self, buf: &mut [u8]) -> io::Result<usize> {
         let call = self.calls;
         self.calls = call.saturating_add(1);
-        if call == self.fault {
+        if call >= self.fault && call - self.fault < self.times {
             return Err(io::Error::from(self.kind));
         }
         let most = buf.len().min(1);

@@ -10,16 +10,28 @@ mod pair;
 mod peers;
 mod polls;
 mod strangers;
+mod touches;
 
-use calloop_poll::sys::Interest;
+use calloop_poll::sys::{Interest, Mode, Watched};
 use calloop_script::{ScriptCall, ScriptKind};
 use desk::{Act, Word, plays};
 
-const ADDED: ScriptCall = ScriptCall::Add(1, 0, Interest::READ);
+// An adapter's socket is told of once, until it is registered anew.
+const TO_READ: Watched = Watched {
+    interest: Interest::READ,
+    mode: Mode::OneShot,
+};
 
-const WRITES: ScriptCall = ScriptCall::Add(1, 0, Interest::WRITE);
+const TO_WRITE: Watched = Watched {
+    interest: Interest::WRITE,
+    mode: Mode::OneShot,
+};
 
-const MODIFIED: ScriptCall = ScriptCall::Modify(1, 0, Interest::READ);
+const ADDED: ScriptCall = ScriptCall::Add(1, 0, TO_READ);
+
+const WRITES: ScriptCall = ScriptCall::Add(1, 0, TO_WRITE);
+
+const MODIFIED: ScriptCall = ScriptCall::Modify(1, 0, TO_READ);
 
 const DELETED: ScriptCall = ScriptCall::Delete(1);
 
@@ -178,6 +190,26 @@ const CASES: &[(&str, &[Act<'static>])] = &[
             Act::IntoInner,
             Act::Calls(&[ADDED, DELETED, DELETED]),
             Act::NextSlot(0),
+        ],
+    ),
+    (
+        "an_adapter_that_is_given_back_wakes_its_loop_no_more",
+        &[
+            Act::Adapt,
+            Act::IsWoken(true),
+            Act::Dispatch(&[]),
+            Act::IsWoken(false),
+            Act::IntoInner,
+            Act::IsWoken(false),
+        ],
+    ),
+    (
+        "an_adapter_that_left_without_its_socket_wakes_its_loop_no_more",
+        &[
+            Act::Adapt,
+            Act::Dispatch(&[]),
+            Act::TakenOut,
+            Act::IsWoken(false),
         ],
     ),
     (

@@ -43,7 +43,7 @@ enum Wakes<R: Wait + Drop> {
     Blocked(Arc<Blocked, Global>),
 }
 
-// A loop that runs until its future is done.
+/// What a loop that runs until its future is done looks at: whether that was woken.
 #[derive(Drop)]
 pub struct Blocked {
     woken: AtomicBool,
@@ -51,7 +51,7 @@ pub struct Blocked {
 }
 
 impl Blocked {
-    // Of a future that nobody woke yet.
+    /// Of a future that nobody woke yet. A wake ends the wait of this signal's loop.
     pub fn new(signal: LoopSignal) -> Blocked {
         Blocked {
             woken: AtomicBool::new(false),
@@ -59,7 +59,7 @@ impl Blocked {
         }
     }
 
-    // Whether the future was woken since this was asked last.
+    /// Whether the future was woken since this was asked last.
     pub fn is_woken(&self) -> bool {
         self.woken.swap(false, Ordering::SeqCst)
     }

@@ -8,6 +8,7 @@ use Rattle.std.specs.declared.io.ErrorKind.{ErrorKind}
 use Rattle.std.specs.declared.io.ErrorKind.TheVariants.{Interrupted}
 use Rattle.calloop_poll.specs.declared.sys.Readiness.{Readiness}
 use Rattle.calloop_poll.specs.declared.sys.Interest.{Interest}
+use Rattle.calloop_poll.specs.declared.sys.Watched.{Watched}
 
 -- a time in nanoseconds, where there is one
 abbrev pub nanos_of : Option Duration → Option ℕ
@@ -22,12 +23,12 @@ events_per_wait = 1024
 abbrev pub asks : Interest → Bool
 asks interest = interest.readable || interest.writable
 
--- a call for a socket: from now on a wait gives its events under this key; its key or its interest is another; a wait
--- gives none of its events any more. As calloop's, a poller names a socket by its descriptor,
--- which it gets beside the call.
+-- A call for a socket: from now on a wait gives its events under this key, for this interest and in this mode; its key, its
+-- interest or its mode is another; a wait gives none of its events any more. As calloop's, a poller names a socket by its
+-- descriptor, which it gets beside the call.
 pub data PollerCall : Type 0 where
-  Add : (key : ℕ) (interest : Interest) → PollerCall
-  Modify : (key : ℕ) (interest : Interest) → PollerCall
+  Add : (key : ℕ) (watched : Watched) → PollerCall
+  Modify : (key : ℕ) (watched : Watched) → PollerCall
   Delete : PollerCall
 
 -- the poller before a call, the descriptor, the answer, and the poller after it

@@ -29,7 +29,6 @@ use Rattle.std.specs.declared.io.ErrorKind.{ErrorKind}
 use Rattle.std.specs.declared.io.ErrorKind.TheVariants.{AlreadyExists, NotFound}
 use Rattle.calloop_slots.specs.declared.token.Token.{Token}
 use Rattle.calloop_slots.specs.Tokens.{key_of, slot_of_key}
-use Rattle.calloop_poll.specs.declared.sys.Interest.{Interest}
 use Rattle.calloop_poll.specs.declared.sys.Watched.{Watched}
 use Rattle.calloop_poll.specs.declared.sys.poll.socket_table.Indexed.{Indexed}
 use Rattle.calloop_poll.specs.sys.Pollers.{Outside, Sockets, PollerCall, Add, Modify, Delete, asks, faults_of}
@@ -107,20 +106,20 @@ is_known None = false
 is_known (Some watched) = asks watched.interest
 
 -- the call of the poller, by whether it knows the socket; calloop's is always add, modify or delete, as the edit is
-abbrev pub call_for : (known : Bool) → (key : ℕ) → Interest → Option PollerCall
-call_for known key interest =
-    if asks interest
-    then Some (if known then Modify key interest else Add key interest)
-    else if known then Some Delete else None
+abbrev pub deleted_if : (known : Bool) → Option PollerCall
+deleted_if known = if known then Some Delete else None
 
-abbrev pub no_interest : Interest
-no_interest = record { readable = false; writable = false }
+abbrev pub call_for : (known : Bool) → (key : ℕ) → Watched → Option PollerCall
+call_for known key watched =
+    if asks watched.interest
+    then Some (if known then Modify key watched else Add key watched)
+    else deleted_if known
 
 abbrev pub call_of : Edit → Table → Option PollerCall
-call_of (Enter token watched) table = call_for false (key_of token) watched.interest
+call_of (Enter token watched) table = call_for false (key_of token) watched
 call_of (Change before token watched) table =
-    call_for (is_known (watched_at (key_of before) table)) (key_of token) watched.interest
-call_of (Leave token) table = call_for (is_known (watched_at (key_of token) table)) (key_of token) no_interest
+    call_for (is_known (watched_at (key_of before) table)) (key_of token) watched
+call_of (Leave token) table = deleted_if (is_known (watched_at (key_of token) table))
 call_of (Discard token) table = None
 
 -- a call of the poller, or none, and its count of faults

@@ -3,7 +3,7 @@ use super::streams::connect;
 use super::{clone_of, kind_of, token};
 use calloop_mio::{MioIo, MioPoller, Precision, SystemClock};
 use calloop_poll::sys::poll::Poll;
-use calloop_poll::sys::{Clock, EVENTS_PER_WAIT, Interest, Mode, Poller, Readiness};
+use calloop_poll::sys::{Clock, EVENTS_PER_WAIT, Interest, Mode, Poller, Readiness, Watched};
 use calloop_slots::wheel::Instant;
 use calloop_wake::Notify;
 use mio::net::{TcpListener, TcpStream, UnixStream};
@@ -49,6 +49,8 @@ fn a_socket_that_is_modified_is_told_of_anew(rt: HostRuntime) {
     assert!(rt; desk.tells(&[(KEY, true, false)]));
     assert!(rt; desk.modify(KEY, Interest::READ).is_ok());
     assert!(rt; desk.tells(&[(KEY, true, false)]));
+    assert!(rt; desk.rearm(KEY, Interest::READ).is_ok());
+    assert!(rt; desk.tells(&[(KEY, true, false)]) && desk.tells(&[]));
     assert!(rt; desk.modify(OTHER_KEY, Interest::BOTH).is_ok());
     assert!(rt; desk.tells(&[(OTHER_KEY, true, true)]));
 }
@@ -130,11 +132,11 @@ fn a_level_socket_is_told_of_in_each_wait(rt: HostRuntime) {
     assert!(rt; desk.add_level(KEY, Interest::READ).is_ok());
     assert!(rt; desk.tells(&[]) && desk.writes());
     assert!(rt; desk.tells(&[(KEY, true, false)]) && desk.tells(&[(KEY, true, false)]));
-    assert!(rt; desk.level(KEY, Interest::READ).is_ok());
-    assert!(rt; desk.rearms(KEY, Interest::READ).is_ok());
+    assert!(rt; desk.modify_level(KEY, Interest::READ).is_ok());
+    assert!(rt; desk.rearm_level(KEY, Interest::READ).is_ok());
     assert!(rt; desk.tells(&[(KEY, true, false)]));
     assert!(rt; desk.empties() && desk.tells(&[]));
-    assert!(rt; desk.level(KEY, Interest::READ).is_ok() && desk.tells(&[]));
+    assert!(rt; desk.modify_level(KEY, Interest::READ).is_ok() && desk.tells(&[]));
     assert!(rt; desk.writes());
     assert!(rt; desk.tells(&[(KEY, true, false)]) && desk.tells(&[(KEY, true, false)]));
 }
@@ -144,14 +146,19 @@ fn an_added_socket_becomes_a_level_one(rt: HostRuntime) {
     let mut desk = Desk::new(&rt);
     assert!(rt; desk.add(KEY, Interest::READ).is_ok() && desk.writes());
     assert!(rt; desk.tells(&[(KEY, true, false)]) && desk.tells(&[]));
-    assert!(rt; desk.level(KEY, Interest::READ).is_ok());
+    assert!(rt; desk.modify_level(KEY, Interest::READ).is_ok());
     assert!(rt; desk.tells(&[(KEY, true, false)]) && desk.tells(&[(KEY, true, false)]));
 }
 
 #[test]
 fn what_the_machine_refuses_of_a_level_socket_is_answered(rt: HostRuntime) {
     let mut desk = Desk::new(&rt);
-    assert!(rt; fails(desk.level(KEY, Interest::READ), io::ErrorKind::NotFound));
+    assert!(rt;
+        fails(
+            desk.modify_level(KEY, Interest::READ),
+            io::ErrorKind::NotFound
+        )
+    );
     assert!(rt; desk.add_level(KEY, Interest::READ).is_ok());
     assert!(rt;
         fails(
@@ -194,9 +201,9 @@ fn a_level_socket_takes_up_another_key_and_interest(rt: HostRuntime) {
     let mut desk = Desk::new(&rt);
     assert!(rt; desk.add_level(KEY, Interest::READ).is_ok());
     assert!(rt; desk.tells(&[]));
-    assert!(rt; desk.level(KEY, Interest::BOTH).is_ok());
+    assert!(rt; desk.modify_level(KEY, Interest::BOTH).is_ok());
     assert!(rt; desk.tells(&[(KEY, false, true)]) && desk.tells(&[(KEY, false, true)]));
-    assert!(rt; desk.level(OTHER_KEY, Interest::BOTH).is_ok());
+    assert!(rt; desk.modify_level(OTHER_KEY, Interest::BOTH).is_ok());
     assert!(rt; desk.tells(&[(OTHER_KEY, false, true)]));
 }
 
@@ -207,7 +214,7 @@ fn a_level_socket_that_is_modified_is_told_of_once(rt: HostRuntime) {
     assert!(rt; desk.writes());
     assert!(rt; desk.modify(KEY, Interest::READ).is_ok());
     assert!(rt; desk.tells(&[(KEY, true, false)]) && desk.tells(&[]));
-    assert!(rt; desk.level(KEY, Interest::READ).is_ok());
+    assert!(rt; desk.modify_level(KEY, Interest::READ).is_ok());
     assert!(rt; desk.tells(&[(KEY, true, false)]) && desk.tells(&[(KEY, true, false)]));
 }
 
@@ -216,10 +223,15 @@ fn a_level_socket_that_was_taken_out_is_not_registered(rt: HostRuntime) {
     let mut desk = Desk::new(&rt);
     assert!(rt; desk.add_level(KEY, Interest::READ).is_ok());
     assert!(rt; desk.delete().is_ok());
-    assert!(rt; fails(desk.level(KEY, Interest::READ), io::ErrorKind::NotFound));
+    assert!(rt;
+        fails(
+            desk.modify_level(KEY, Interest::READ),
+            io::ErrorKind::NotFound
+        )
+    );
     assert!(rt; desk.writes() && desk.add(KEY, Interest::READ).is_ok());
     assert!(rt; desk.tells(&[(KEY, true, false)]) && desk.tells(&[]));
-    assert!(rt; desk.level(KEY, Interest::READ).is_ok());
+    assert!(rt; desk.modify_level(KEY, Interest::READ).is_ok());
     assert!(rt; desk.tells(&[(KEY, true, false)]) && desk.tells(&[(KEY, true, false)]));
 }
 
@@ -229,7 +241,12 @@ fn a_level_socket_that_was_exchanged_is_not_registered(rt: HostRuntime) {
     let (other, _peer) = UnixStream::pair(&rt).expect(&rt, "two streams");
     assert!(rt; desk.add_level(KEY, Interest::READ).is_ok());
     desk.io = MioIo::from(other);
-    assert!(rt; fails(desk.level(KEY, Interest::READ), io::ErrorKind::NotFound));
+    assert!(rt;
+        fails(
+            desk.modify_level(KEY, Interest::READ),
+            io::ErrorKind::NotFound
+        )
+    );
 }
 
 #[test]
@@ -237,12 +254,68 @@ fn another_level_socket_of_the_same_descriptor_is_not_registered(rt: HostRuntime
     let mut desk = Desk::new(&rt);
     assert!(rt; desk.add_level(KEY, Interest::READ).is_ok());
     desk.exchanges(&rt);
-    assert!(rt; desk.rearms(KEY, Interest::READ).is_ok());
-    assert!(rt; fails(desk.level(KEY, Interest::READ), io::ErrorKind::NotFound));
-    assert!(rt; fails(desk.rearms(KEY, Interest::READ), io::ErrorKind::NotFound));
-    assert!(rt; fails(desk.level(KEY, Interest::READ), io::ErrorKind::NotFound));
+    assert!(rt; desk.rearm_level(KEY, Interest::READ).is_ok());
+    assert!(rt;
+        fails(
+            desk.modify_level(KEY, Interest::READ),
+            io::ErrorKind::NotFound
+        )
+    );
+    assert!(rt;
+        fails(
+            desk.rearm_level(KEY, Interest::READ),
+            io::ErrorKind::NotFound
+        )
+    );
+    assert!(rt;
+        fails(
+            desk.modify_level(KEY, Interest::READ),
+            io::ErrorKind::NotFound
+        )
+    );
     assert!(rt; desk.writes() && desk.add_level(KEY, Interest::READ).is_ok());
     assert!(rt; desk.tells(&[(KEY, true, false)]) && desk.tells(&[(KEY, true, false)]));
+}
+
+#[test]
+fn a_level_socket_that_was_modified_is_rearmed_as_one(rt: HostRuntime) {
+    let mut desk = Desk::new(&rt);
+    assert!(rt; desk.add_level(KEY, Interest::READ).is_ok() && desk.writes());
+    assert!(rt; desk.modify(KEY, Interest::READ).is_ok());
+    assert!(rt; desk.tells(&[(KEY, true, false)]) && desk.tells(&[]));
+    assert!(rt; desk.rearm_level(KEY, Interest::READ).is_ok());
+    assert!(rt; desk.tells(&[(KEY, true, false)]) && desk.tells(&[(KEY, true, false)]));
+}
+
+#[test]
+fn a_level_socket_that_was_taken_out_is_not_rearmed(rt: HostRuntime) {
+    let mut desk = Desk::new(&rt);
+    assert!(rt; desk.add_level(KEY, Interest::READ).is_ok() && desk.delete().is_ok());
+    assert!(rt;
+        fails(
+            desk.rearm_level(KEY, Interest::READ),
+            io::ErrorKind::NotFound
+        )
+    );
+}
+
+#[test]
+fn an_added_socket_of_the_same_descriptor_is_rearmed_as_a_level_one(rt: HostRuntime) {
+    let mut desk = Desk::new(&rt);
+    assert!(rt; desk.add_level(KEY, Interest::READ).is_ok());
+    desk.exchanges(&rt);
+    assert!(rt; desk.add(KEY, Interest::READ).is_ok() && desk.writes());
+    assert!(rt; desk.tells(&[(KEY, true, false)]) && desk.tells(&[]));
+    assert!(rt; desk.rearm_level(KEY, Interest::READ).is_ok());
+    assert!(rt; desk.tells(&[(KEY, true, false)]) && desk.tells(&[(KEY, true, false)]));
+}
+
+#[test]
+fn a_level_socket_that_is_rearmed_takes_up_another_key(rt: HostRuntime) {
+    let mut desk = Desk::new(&rt);
+    assert!(rt; desk.add_level(KEY, Interest::READ).is_ok() && desk.writes());
+    assert!(rt; desk.rearm_level(OTHER_KEY, Interest::READ).is_ok());
+    assert!(rt; desk.tells(&[(OTHER_KEY, true, false)]));
 }
 
 #[test]
@@ -291,9 +364,9 @@ fn a_level_socket_of_a_narrower_interest_is_told_of_for_that_alone(rt: HostRunti
         assert!(rt; desk.add_level(KEY, Interest::BOTH).is_ok());
         assert!(rt; desk.tells(&[(KEY, false, true)]));
         let narrowed = if is_explicit {
-            desk.level(KEY, Interest::READ)
+            desk.modify_level(KEY, Interest::READ)
         } else {
-            desk.rearms(KEY, Interest::READ)
+            desk.rearm_level(KEY, Interest::READ)
         };
         assert!(rt; narrowed.is_ok() && desk.tells(&[]));
         assert!(rt; desk.writes() && desk.tells(&[(KEY, true, false)]));
@@ -319,7 +392,7 @@ fn a_level_socket_is_registered_with_its_own_poller_alone(rt: HostRuntime) {
         fails(
             other
                 .poller
-                .modify_level(desk.io.as_raw_fd(), KEY, Interest::READ),
+                .modify(desk.io.as_raw_fd(), KEY, level(Interest::READ)),
             io::ErrorKind::NotFound
         )
     );
@@ -331,8 +404,8 @@ fn an_empty_interest_of_a_level_socket_is_refused(rt: HostRuntime) {
     let refused = io::ErrorKind::InvalidInput;
     assert!(rt; fails(desk.add_level(KEY, Interest::EMPTY), refused));
     assert!(rt; desk.add_level(KEY, Interest::READ).is_ok());
-    assert!(rt; fails(desk.level(KEY, Interest::EMPTY), refused));
-    assert!(rt; fails(desk.rearms(KEY, Interest::EMPTY), refused));
+    assert!(rt; fails(desk.modify_level(KEY, Interest::EMPTY), refused));
+    assert!(rt; fails(desk.rearm_level(KEY, Interest::EMPTY), refused));
     assert!(rt; desk.writes() && desk.tells(&[(KEY, true, false)]));
 }
 
@@ -342,7 +415,7 @@ fn a_listener_is_told_of_until_all_are_accepted(rt: HostRuntime) {
     let mut desk = Desk::new(&rt);
     assert!(rt;
         desk.poller
-            .add_level(listener.as_raw_fd(), KEY, Interest::READ)
+            .add(listener.as_raw_fd(), KEY, level(Interest::READ))
             .is_ok()
     );
     let _first = TcpStream::connect(&rt, address).expect(&rt, "a stream");
@@ -420,23 +493,28 @@ impl<R: Net + AllocGlobal + MachineClock + Clone + Drop + Abort> Desk<R> {
 
 impl<R: MachineClock + Clone + Drop> Desk<R> {
     fn add(&mut self, key: u64, interest: Interest) -> io::Result<()> {
-        self.poller.add(self.io.as_raw_fd(), key, interest)
+        self.poller.add(self.io.as_raw_fd(), key, edge(interest))
     }
 
     fn modify(&mut self, key: u64, interest: Interest) -> io::Result<()> {
-        self.poller.modify(self.io.as_raw_fd(), key, interest)
+        self.poller.modify(self.io.as_raw_fd(), key, edge(interest))
     }
 
     fn add_level(&mut self, key: u64, interest: Interest) -> io::Result<()> {
-        self.poller.add_level(self.io.as_raw_fd(), key, interest)
+        self.poller.add(self.io.as_raw_fd(), key, level(interest))
     }
 
-    fn level(&mut self, key: u64, interest: Interest) -> io::Result<()> {
-        self.poller.modify_level(self.io.as_raw_fd(), key, interest)
+    fn modify_level(&mut self, key: u64, interest: Interest) -> io::Result<()> {
+        self.poller
+            .modify(self.io.as_raw_fd(), key, level(interest))
     }
 
-    fn rearms(&mut self, key: u64, interest: Interest) -> io::Result<()> {
-        self.poller.rearm_level(self.io.as_raw_fd(), key, interest)
+    fn rearm_level(&mut self, key: u64, interest: Interest) -> io::Result<()> {
+        self.poller.rearm(self.io.as_raw_fd(), key, level(interest))
+    }
+
+    fn rearm(&mut self, key: u64, interest: Interest) -> io::Result<()> {
+        self.poller.rearm(self.io.as_raw_fd(), key, edge(interest))
     }
 
     fn delete(&mut self) -> io::Result<()> {
@@ -521,6 +599,20 @@ impl<R: MachineClock + Clone + Drop> Desk<R> {
         };
         let answer = self.poller.wait(Some(timeout), 0, &mut told);
         fails(answer, io::ErrorKind::Interrupted) && told.is_empty()
+    }
+}
+
+fn edge(interest: Interest) -> Watched {
+    Watched {
+        interest,
+        mode: Mode::Edge,
+    }
+}
+
+fn level(interest: Interest) -> Watched {
+    Watched {
+        interest,
+        mode: Mode::Level,
     }
 }
 

@@ -8,6 +8,7 @@ use std::alloc::Global;
 use std::process::Abort;
 use std::sync::{Arc, Wait};
 use std::thread;
+use std::time::Duration;
 
 #[test]
 fn a_lock_lets_one_thread_in_at_a_time(rt: HostRuntime) {
@@ -66,6 +67,27 @@ fn the_highest_two_numbers_are_no_hints(rt: HostRuntime) {
     assert!(rt; !lock.has_hint(u64::MAX - 1) && !lock.has_hint(u64::MAX - 2));
     leave_hint(&rt, &lock, u64::MAX);
     assert!(rt; !lock.has_hint(u64::MAX));
+}
+
+// It hangs if who gives the lock up wakes nobody.
+#[test]
+fn who_sleeps_for_a_lock_has_it_once_it_is_given_up(rt: HostRuntime) {
+    for leaves_hint in [false, true] {
+        let its_rt = rt.clone().expect(&rt, "a runtime");
+        let lock = new_tally(&rt, rt.alloc());
+        let theirs = Arc::try_clone(&lock).expect(&rt, "a lock");
+        let mut held = lock.lock(&rt);
+        held.core().count = 7;
+        let spawned = thread::spawn(&rt, move || add(&its_rt, &theirs, 1));
+        thread::sleep(&rt, Duration::from_millis(30));
+        if leaves_hint {
+            held.unlock_with_hint(7);
+        } else {
+            held.unlock();
+        }
+        spawned.expect(&rt, "a thread").join(&rt);
+        assert_eq!(rt; count(&rt, &lock), 8);
+    }
 }
 
 // How often somebody had the lock, beside a cell, which alone can end what lies under one.

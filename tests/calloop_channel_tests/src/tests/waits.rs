@@ -1,6 +1,7 @@
 //! Threads that wait at one end of a channel until the other end does its part, or goes.
 use calloop::channel::{Channel, Sender, SyncSender, make_channel, sync_channel};
 use std::alloc::Global;
+use std::hint::spin_loop;
 use std::sync::atomic::{AtomicU32, Ordering};
 use std::sync::{Arc, Wait};
 use std::test::Fail;
@@ -18,6 +19,9 @@ const WENT: u32 = 10;
 const SURE: u64 = 30;
 
 const LONG: u64 = 5_000;
+
+// How often a wait is tried that begins as it ends.
+const TRIES: u32 = 500;
 
 #[test]
 fn a_send_that_waits_is_refused_once_its_channel_is_gone(rt: HostRuntime) -> Result<(), Fail> {
@@ -116,6 +120,36 @@ fn a_receiver_that_waits_ends_once_the_last_sender_with_a_bound_is_gone(
     Ok(())
 }
 
+#[test]
+fn a_receiver_that_begins_to_wait_as_the_last_sender_goes_ends(
+    rt: HostRuntime,
+) -> Result<(), Fail> {
+    for looks in 0..TRIES {
+        let (sender, channel): (Sender<u32, HostRuntime>, _) = make_channel(&rt, rt.alloc())?;
+        let (note, of_thread) = notes(rt.alloc())?;
+        let child = spawn(&rt, move || receives(channel, of_thread))?;
+        assert!(rt; begins(&note, looks));
+        drop(sender);
+        assert_eq!(rt; outcome(&rt, &note), GONE);
+        child.join(&rt);
+    }
+    Ok(())
+}
+
+#[test]
+fn a_send_that_begins_to_wait_as_its_channel_goes_is_refused(rt: HostRuntime) -> Result<(), Fail> {
+    for looks in 0..TRIES {
+        let (sender, channel) = sync_channel(&rt, rt.alloc(), 1)?;
+        let (note, of_thread) = notes(rt.alloc())?;
+        let child = spawn(&rt, move || sends_two(sender, of_thread))?;
+        assert!(rt; begins(&note, looks));
+        drop(channel);
+        assert_eq!(rt; outcome(&rt, &note), GONE);
+        child.join(&rt);
+    }
+    Ok(())
+}
+
 type Note = Arc<AtomicU32, Global>;
 
 // What is noted here and there.
@@ -123,6 +157,19 @@ fn notes(alloc: Global) -> Result<(Note, Note), Fail> {
     let note = Arc::new(alloc, AtomicU32::new(0))?;
     let again = Arc::try_clone(&note)?;
     Ok((note, again))
+}
+
+// Whether the thread begins to wait. It has looked once more modulo 32 times then.
+fn begins(note: &Note, looks: u32) -> bool {
+    for _ in 0..u32::MAX {
+        if note.load(Ordering::SeqCst) != 0 {
+            for _ in 0..looks % 32 {
+                spin_loop();
+            }
+            return true;
+        }
+    }
+    false
 }
 
 // Whether the thread begins to wait, and has surely done so.

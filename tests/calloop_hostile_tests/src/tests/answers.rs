@@ -1,9 +1,15 @@
 //! Pollers that answer anything.
 use super::desk::{Act, Why, plays};
-use calloop::Interest;
+use calloop::sys::Watched;
+use calloop::{Interest, Mode};
 use calloop_script::{ScriptCall, ScriptKind};
 
-const ADDED: ScriptCall = ScriptCall::Add(1, 0, Interest::READ);
+const ADDED: ScriptCall = ScriptCall::Add(1, 0, READS);
+
+const READS: Watched = Watched {
+    interest: Interest::READ,
+    mode: Mode::Edge,
+};
 
 // The key of the first version of the second slot.
 const SECOND: u64 = 1 << 40;

@@ -2,8 +2,8 @@
 use super::looks::answer;
 use calloop::futures::{Context, Executor, Future, Poll, Scheduler, make_executor};
 use calloop::{
-    Adapter, Async, Choice, Dispatcher, Error, EventDispatcher, Here, Instant, Keep, On, OneOf,
-    Readiness, RegistrationToken, Requests, ScriptLoop, Sources, There, TimeoutAction, Timer,
+    Adapter, Async, Choice, Dispatcher, Error, EventDispatcher, Here, Instant, LoopKeep, On, OneOf,
+    Readiness, RegistrationToken, ScriptLoop, Sources, There, TimeoutAction, Timer,
 };
 use calloop_script::{ScriptCall, ScriptClock, ScriptIo, ScriptKind, ScriptPoller};
 use std::alloc::Global;
@@ -34,6 +34,8 @@ pub enum Act<'a> {
     Dispatch(&'a [Word]),
     /// The poller has had these calls.
     Calls(&'a [ScriptCall]),
+    /// Whether the loop was woken since its last wait.
+    IsWoken(bool),
     /// `enable` and the like refuse the first slot.
     IsNamedByNoCall,
     Drop,
@@ -207,15 +209,7 @@ where
     D: EventDispatcher<ScriptPoller, ScriptClock, R, Data = Told<R>>,
     D: Choice<Executor<Looker<R>, R>, Keeps, There<Here>>,
     D: Choice<Timer, Silent, There<There<Here>>>,
-    D: Keep<
-        Adapter<ScriptIo, R>,
-        ScriptPoller,
-        ScriptClock,
-        R,
-        Told<R>,
-        Requests<D, <D as EventDispatcher<ScriptPoller, ScriptClock, R>>::Idle>,
-        Here,
-    >,
+    D: LoopKeep<Adapter<ScriptIo, R>, ScriptPoller, ScriptClock, R, Here>,
     R: Wait + Clone + Drop,
 {
     fn new(rt: &R, alloc: Global) -> Option<Desk<D, R>> {
@@ -274,6 +268,9 @@ where
             }
             Act::Dispatch(said) => self.dispatch(said),
             Act::Calls(calls) => { so(self.event_loop.handle().poller_mut().calls() == calls) }
+            Act::IsWoken(is_woken) => {
+                so(self.event_loop.handle().poller_mut().is_woken() == is_woken)
+            }
             Act::IsNamedByNoCall => self.is_named_by_no_call(),
             Act::Drop => so(self.told.io.take().is_some()),
             Act::Empty => self.empty(),
@@ -391,15 +388,7 @@ where
     D: EventDispatcher<ScriptPoller, ScriptClock, R, Data = Told<R>>,
     D: Choice<Executor<Looker<R>, R>, Keeps, There<Here>>,
     D: Choice<Timer, Silent, There<There<Here>>>,
-    D: Keep<
-        Adapter<ScriptIo, R>,
-        ScriptPoller,
-        ScriptClock,
-        R,
-        Told<R>,
-        Requests<D, <D as EventDispatcher<ScriptPoller, ScriptClock, R>>::Idle>,
-        Here,
-    >,
+    D: LoopKeep<Adapter<ScriptIo, R>, ScriptPoller, ScriptClock, R, Here>,
     R: Wait + Clone + Drop,
 {
     let made: Option<Desk<D, R>> = Desk::new(rt, alloc);

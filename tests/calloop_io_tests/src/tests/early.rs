@@ -1,4 +1,5 @@
 //! A poll of an adapter that was asked for, before it comes into its loop.
+use super::TO_READ;
 use super::looks::{READABLE, answer};
 use calloop::futures::{Context, Executor, Future, Poll, Waker, make_executor};
 use calloop::ping::make_ping;
@@ -6,7 +7,6 @@ use calloop::{
     Adapter, Async, Callback, Choice, Dispatcher, EventDispatcher, Here, On, OneOf, PingSource,
     Place, Requests, ScriptLoop, Sources, There,
 };
-use calloop_poll::sys::Interest;
 use calloop_script::{ScriptCall, ScriptClock, ScriptIo, ScriptPoller};
 use std::alloc::Global;
 use std::sync::{Arc, Mutex, Wait};
@@ -148,7 +148,7 @@ where
     go_on(rt, &mut event_loop, &mut given)?;
     let mut handle = event_loop.handle();
     let is_added = handle.poller_mut().calls()
-        == [ScriptCall::Add(1, KEY, Interest::READ)].as_slice();
+        == [ScriptCall::Add(1, KEY, TO_READ)].as_slice();
     Some(is_early && is_added && given.woken == 1)
 }
 

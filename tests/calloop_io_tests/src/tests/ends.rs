@@ -1,8 +1,8 @@
 //! A peer that closes, and one that resets.
 use calloop::futures::{Context, Executor, Future, Poll, make_executor};
 use calloop::{
-    Adapter, Async, Choice, Dispatcher, EventDispatcher, Here, Keep, MioIo, MioPoller, On, OneOf,
-    Requests, Sources, SystemClock, SystemLoop, There,
+    Adapter, Async, Choice, Dispatcher, EventDispatcher, Here, LoopKeep, MioIo, MioPoller, On,
+    OneOf, Sources, SystemClock, SystemLoop, There,
 };
 use mio::net::UnixStream;
 use std::alloc::Global;
@@ -64,15 +64,7 @@ fn ends<D, R>(rt: &R, alloc: Global, sent: &[u8]) -> Option<(Option<End>, Option
 where
     D: EventDispatcher<MioPoller<SystemClock<R>>, SystemClock<R>, R, Data = Option<End>>,
     D: Choice<Executor<Reader<R>, R>, Keeps, There<Here>>,
-    D: Keep<
-        Adapter<MioIo, R>,
-        MioPoller<SystemClock<R>>,
-        SystemClock<R>,
-        R,
-        Option<End>,
-        Requests<D, <D as EventDispatcher<MioPoller<SystemClock<R>>, SystemClock<R>, R>>::Idle>,
-        Here,
-    >,
+    D: LoopKeep<Adapter<MioIo, R>, MioPoller<SystemClock<R>>, SystemClock<R>, R, Here>,
     R: Wait + Net + RuntimeClock + Clone + Drop,
 {
     let mut event_loop: SystemLoop<D, R> = SystemLoop::system(rt, alloc).ok()?;
@@ -88,15 +80,7 @@ fn ends_in<D, R>(
 where
     D: EventDispatcher<MioPoller<SystemClock<R>>, SystemClock<R>, R, Data = Option<End>>,
     D: Choice<Executor<Reader<R>, R>, Keeps, There<Here>>,
-    D: Keep<
-        Adapter<MioIo, R>,
-        MioPoller<SystemClock<R>>,
-        SystemClock<R>,
-        R,
-        Option<End>,
-        Requests<D, <D as EventDispatcher<MioPoller<SystemClock<R>>, SystemClock<R>, R>>::Idle>,
-        Here,
-    >,
+    D: LoopKeep<Adapter<MioIo, R>, MioPoller<SystemClock<R>>, SystemClock<R>, R, Here>,
     R: Wait + Net + RuntimeClock + Clone + Drop,
 {
     let far = begins(rt, alloc, event_loop, sent)?;
@@ -118,15 +102,7 @@ fn begins<D, R>(
 where
     D: EventDispatcher<MioPoller<SystemClock<R>>, SystemClock<R>, R, Data = Option<End>>,
     D: Choice<Executor<Reader<R>, R>, Keeps, There<Here>>,
-    D: Keep<
-        Adapter<MioIo, R>,
-        MioPoller<SystemClock<R>>,
-        SystemClock<R>,
-        R,
-        Option<End>,
-        Requests<D, <D as EventDispatcher<MioPoller<SystemClock<R>>, SystemClock<R>, R>>::Idle>,
-        Here,
-    >,
+    D: LoopKeep<Adapter<MioIo, R>, MioPoller<SystemClock<R>>, SystemClock<R>, R, Here>,
     R: Wait + Net + RuntimeClock + Clone + Drop,
 {
     let (mut near, far) = UnixStream::pair(rt).ok()?;
@@ -142,15 +118,7 @@ fn reads<D, R>(rt: &R, alloc: Global, event_loop: &mut SystemLoop<D, R>, near: M
 where
     D: EventDispatcher<MioPoller<SystemClock<R>>, SystemClock<R>, R, Data = Option<End>>,
     D: Choice<Executor<Reader<R>, R>, Keeps, There<Here>>,
-    D: Keep<
-        Adapter<MioIo, R>,
-        MioPoller<SystemClock<R>>,
-        SystemClock<R>,
-        R,
-        Option<End>,
-        Requests<D, <D as EventDispatcher<MioPoller<SystemClock<R>>, SystemClock<R>, R>>::Idle>,
-        Here,
-    >,
+    D: LoopKeep<Adapter<MioIo, R>, MioPoller<SystemClock<R>>, SystemClock<R>, R, Here>,
     R: Wait + Net + RuntimeClock + Clone + Drop,
 {
     let Ok(io) = event_loop.handle().adapt_io(rt, alloc, near) else {

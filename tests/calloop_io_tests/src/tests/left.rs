@@ -2,8 +2,8 @@
 use super::desk::Silent;
 use super::looks::{Adapted, Held, look, new_adapted};
 use calloop::{
-    Adapter, Choice, Dispatcher, Error, EventDispatcher, Here, Instant, Keep, RegistrationToken,
-    Requests, ScriptLoop, There, Timer,
+    Adapter, Choice, Dispatcher, Error, EventDispatcher, Here, Instant, LoopKeep, RegistrationToken,
+    ScriptLoop, There, Timer,
 };
 use calloop_script::{ScriptClock, ScriptIo, ScriptKind, ScriptPoller};
 use std::alloc::Global;
@@ -38,15 +38,7 @@ enum Cause {
 fn register_new<D, R>(rt: &R, alloc: Global) -> Option<Adapted<D, R>>
 where
     D: EventDispatcher<ScriptPoller, ScriptClock, R, Data = ()>,
-    D: Keep<
-        Adapter<ScriptIo, R>,
-        ScriptPoller,
-        ScriptClock,
-        R,
-        (),
-        Requests<D, <D as EventDispatcher<ScriptPoller, ScriptClock, R>>::Idle>,
-        Here,
-    >,
+    D: LoopKeep<Adapter<ScriptIo, R>, ScriptPoller, ScriptClock, R, Here>,
     R: Wait + Clone + Drop,
 {
     let (mut event_loop, io): Adapted<D, R> = new_adapted(rt, alloc, 1)?;
@@ -58,15 +50,7 @@ where
 fn finds_no_socket<D, R>(rt: &R, alloc: Global) -> Option<bool>
 where
     D: EventDispatcher<ScriptPoller, ScriptClock, R, Data = ()>,
-    D: Keep<
-        Adapter<ScriptIo, R>,
-        ScriptPoller,
-        ScriptClock,
-        R,
-        (),
-        Requests<D, <D as EventDispatcher<ScriptPoller, ScriptClock, R>>::Idle>,
-        Here,
-    >,
+    D: LoopKeep<Adapter<ScriptIo, R>, ScriptPoller, ScriptClock, R, Here>,
     R: Wait + Clone + Drop,
 {
     let (mut event_loop, io): (ScriptLoop<D, R>, _) = register_new(rt, alloc)?;
@@ -89,15 +73,7 @@ where
 fn leaves_with_a_warning<D, R>(rt: &R, alloc: Global, cause: Cause) -> Option<bool>
 where
     D: EventDispatcher<ScriptPoller, ScriptClock, R, Data = ()>,
-    D: Keep<
-        Adapter<ScriptIo, R>,
-        ScriptPoller,
-        ScriptClock,
-        R,
-        (),
-        Requests<D, <D as EventDispatcher<ScriptPoller, ScriptClock, R>>::Idle>,
-        Here,
-    >,
+    D: LoopKeep<Adapter<ScriptIo, R>, ScriptPoller, ScriptClock, R, Here>,
     D: Choice<Timer, Silent, There<Here>>,
     R: Wait + Clone + Drop,
 {

@@ -2,7 +2,7 @@
 use super::desk::Silent;
 use calloop::futures::{Context, Future, Poll};
 use calloop::{
-    Adapter, Async, Dispatcher, EventDispatcher, Here, Instant, Keep, OneOf, Readiness, Requests,
+    Adapter, Async, Dispatcher, EventDispatcher, Here, Instant, LoopKeep, OneOf, Readiness,
     ScriptLoop, Sources, Timer,
 };
 use calloop_script::{
@@ -21,15 +21,7 @@ pub(super) type Adapted<D, R> = (ScriptLoop<D, R>, Async<ScriptIo, R>);
 pub(super) fn new_adapted<D, R>(rt: &R, alloc: Global, number: RawFd) -> Option<Adapted<D, R>>
 where
     D: EventDispatcher<ScriptPoller, ScriptClock, R, Data = ()>,
-    D: Keep<
-        Adapter<ScriptIo, R>,
-        ScriptPoller,
-        ScriptClock,
-        R,
-        (),
-        Requests<D, <D as EventDispatcher<ScriptPoller, ScriptClock, R>>::Idle>,
-        Here,
-    >,
+    D: LoopKeep<Adapter<ScriptIo, R>, ScriptPoller, ScriptClock, R, Here>,
     R: Wait + Clone + Drop,
 {
     let mut event_loop: ScriptLoop<D, R> = ScriptLoop::with_script(rt, alloc).ok()?;

@@ -3,8 +3,8 @@
 //! The kit's unproved run has one allocation refused: `rt try --test --fail-alloc N`.
 use calloop::futures::{Context, Executor, Future, Poll, ScheduleError, Scheduler, make_executor};
 use calloop::{
-    Adapter, Async, Choice, Dispatcher, Error, EventDispatcher, Here, InsertError, Instant, Keep,
-    On, OneOf, Readiness, RegistrationToken, Requests, ScriptLoop, Sources, There, TokenFactory,
+    Adapter, Async, Choice, Dispatcher, Error, EventDispatcher, Here, InsertError, Instant,
+    LoopKeep, On, OneOf, Readiness, RegistrationToken, ScriptLoop, Sources, There, TokenFactory,
 };
 use calloop_script::{
     ScriptAnswer, ScriptClock, ScriptEnd, ScriptEvents, ScriptIo, ScriptPoller,
@@ -12,6 +12,8 @@ use calloop_script::{
 use std::alloc::Global;
 use std::sync::Wait;
 use std::time::Duration;
+
+mod marks;
 
 #[test]
 fn want_of_memory_loses_no_wait_and_no_socket(rt: HostRuntime) {
@@ -66,15 +68,7 @@ fn comes_back<D, R>(rt: &R, alloc: Global) -> Option<i32>
 where
     D: EventDispatcher<ScriptPoller, ScriptClock, R, Data = Back<R>>,
     D: Choice<Executor<Waits<R>, R>, Keeps, There<Here>>,
-    D: Keep<
-        Adapter<ScriptIo, R>,
-        ScriptPoller,
-        ScriptClock,
-        R,
-        Back<R>,
-        Requests<D, <D as EventDispatcher<ScriptPoller, ScriptClock, R>>::Idle>,
-        Here,
-    >,
+    D: LoopKeep<Adapter<ScriptIo, R>, ScriptPoller, ScriptClock, R, Here>,
     R: Wait + Clone + Drop,
 {
     let mut event_loop: ScriptLoop<D, R> = loop_of(rt, alloc)?;

@@ -1,10 +1,10 @@
 //! Two adapters in one loop.
+use super::TO_READ;
 use calloop::futures::{Context, Executor, Future, Poll, make_executor};
 use calloop::{
-    Adapter, Async, Choice, Dispatcher, EventDispatcher, Here, Keep, On, OneOf, Requests,
-    ScriptLoop, Sources, There,
+    Adapter, Async, Choice, Dispatcher, EventDispatcher, Here, LoopKeep, On, OneOf, ScriptLoop,
+    Sources, There,
 };
-use calloop_poll::sys::Interest;
 use calloop_script::{ScriptCall, ScriptClock, ScriptIo, ScriptPoller};
 use std::alloc::Global;
 use std::sync::Wait;
@@ -53,15 +53,7 @@ fn adds_both<D, R>(rt: &R, alloc: Global) -> Option<bool>
 where
     D: EventDispatcher<ScriptPoller, ScriptClock, R, Data = u32>,
     D: Choice<Executor<Waits<R>, R>, Counts, There<Here>>,
-    D: Keep<
-        Adapter<ScriptIo, R>,
-        ScriptPoller,
-        ScriptClock,
-        R,
-        u32,
-        Requests<D, <D as EventDispatcher<ScriptPoller, ScriptClock, R>>::Idle>,
-        Here,
-    >,
+    D: LoopKeep<Adapter<ScriptIo, R>, ScriptPoller, ScriptClock, R, Here>,
     R: Wait + Clone + Drop,
 {
     let mut event_loop: ScriptLoop<D, R> = ScriptLoop::with_script(rt, alloc).ok()?;
@@ -87,8 +79,8 @@ where
     let mut handle = event_loop.handle();
     let calls = handle.poller_mut().calls();
     let wanted = [
-        ScriptCall::Add(1, 0, Interest::READ),
-        ScriptCall::Add(2, 1 << 40, Interest::READ),
+        ScriptCall::Add(1, 0, TO_READ),
+        ScriptCall::Add(2, 1 << 40, TO_READ),
     ];
     Some(count == 0 && calls == wanted.as_slice())
 }

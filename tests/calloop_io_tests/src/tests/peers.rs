@@ -1,8 +1,8 @@
 //! Two ends of a connection, which are read and written by futures.
 use calloop::futures::{Context, Executor, Future, Poll, Scheduler, make_executor};
 use calloop::{
-    Adapter, Async, Choice, Dispatcher, EventDispatcher, Here, Keep, MioIo, MioPoller, On, OneOf,
-    Requests, Sources, SystemClock, SystemLoop, There,
+    Adapter, Async, Choice, Dispatcher, EventDispatcher, Here, LoopKeep, MioIo, MioPoller, On,
+    OneOf, Sources, SystemClock, SystemLoop, There,
 };
 use mio::net::UnixStream;
 use std::alloc::Global;
@@ -138,15 +138,7 @@ fn greet<D, R>(rt: &R, alloc: Global) -> Option<(u32, u32)>
 where
     D: EventDispatcher<MioPoller<SystemClock<R>>, SystemClock<R>, R, Data = u32>,
     D: Choice<Executor<Mover<R>, R>, Counts, There<Here>>,
-    D: Keep<
-        Adapter<MioIo, R>,
-        MioPoller<SystemClock<R>>,
-        SystemClock<R>,
-        R,
-        u32,
-        Requests<D, <D as EventDispatcher<MioPoller<SystemClock<R>>, SystemClock<R>, R>>::Idle>,
-        Here,
-    >,
+    D: LoopKeep<Adapter<MioIo, R>, MioPoller<SystemClock<R>>, SystemClock<R>, R, Here>,
     R: Wait + Net + RuntimeClock + Clone + Drop,
 {
     let mut event_loop: SystemLoop<D, R> = SystemLoop::system(rt, alloc).ok()?;
@@ -157,15 +149,7 @@ fn greet_in<D, R>(rt: &R, alloc: Global, event_loop: &mut SystemLoop<D, R>) -> O
 where
     D: EventDispatcher<MioPoller<SystemClock<R>>, SystemClock<R>, R, Data = u32>,
     D: Choice<Executor<Mover<R>, R>, Counts, There<Here>>,
-    D: Keep<
-        Adapter<MioIo, R>,
-        MioPoller<SystemClock<R>>,
-        SystemClock<R>,
-        R,
-        u32,
-        Requests<D, <D as EventDispatcher<MioPoller<SystemClock<R>>, SystemClock<R>, R>>::Idle>,
-        Here,
-    >,
+    D: LoopKeep<Adapter<MioIo, R>, MioPoller<SystemClock<R>>, SystemClock<R>, R, Here>,
     R: Wait + Net + RuntimeClock + Clone + Drop,
 {
     let scheduler = executes(rt, alloc, event_loop)?;
@@ -187,15 +171,7 @@ fn executes<D, R>(
 where
     D: EventDispatcher<MioPoller<SystemClock<R>>, SystemClock<R>, R, Data = u32>,
     D: Choice<Executor<Mover<R>, R>, Counts, There<Here>>,
-    D: Keep<
-        Adapter<MioIo, R>,
-        MioPoller<SystemClock<R>>,
-        SystemClock<R>,
-        R,
-        u32,
-        Requests<D, <D as EventDispatcher<MioPoller<SystemClock<R>>, SystemClock<R>, R>>::Idle>,
-        Here,
-    >,
+    D: LoopKeep<Adapter<MioIo, R>, MioPoller<SystemClock<R>>, SystemClock<R>, R, Here>,
     R: Wait + Net + RuntimeClock + Clone + Drop,
 {
     let (executor, scheduler) = make_executor(rt, alloc).ok()?;
@@ -215,15 +191,7 @@ fn adapts<D, R>(
 where
     D: EventDispatcher<MioPoller<SystemClock<R>>, SystemClock<R>, R, Data = u32>,
     D: Choice<Executor<Mover<R>, R>, Counts, There<Here>>,
-    D: Keep<
-        Adapter<MioIo, R>,
-        MioPoller<SystemClock<R>>,
-        SystemClock<R>,
-        R,
-        u32,
-        Requests<D, <D as EventDispatcher<MioPoller<SystemClock<R>>, SystemClock<R>, R>>::Idle>,
-        Here,
-    >,
+    D: LoopKeep<Adapter<MioIo, R>, MioPoller<SystemClock<R>>, SystemClock<R>, R, Here>,
     R: Wait + Net + RuntimeClock + Clone + Drop,
 {
     let (near, far) = UnixStream::pair(rt).ok()?;

@@ -1,13 +1,13 @@
 //! What a poll of a socket waits for, and what it is answered.
 use super::desk::{Act, How, Word, plays};
-use calloop_poll::sys::Interest;
+use super::{TO_READ, TO_WRITE};
 use calloop_script::{ScriptCall, ScriptKind};
 
-const READS: ScriptCall = ScriptCall::Add(1, 0, Interest::READ);
+const READS: ScriptCall = ScriptCall::Add(1, 0, TO_READ);
 
-const WRITES: ScriptCall = ScriptCall::Add(1, 0, Interest::WRITE);
+const WRITES: ScriptCall = ScriptCall::Add(1, 0, TO_WRITE);
 
-const WRITES_ANEW: ScriptCall = ScriptCall::Modify(1, 0, Interest::WRITE);
+const WRITES_ANEW: ScriptCall = ScriptCall::Modify(1, 0, TO_WRITE);
 
 #[test]
 fn a_read_waits_to_read_and_a_write_to_write(rt: HostRuntime) {

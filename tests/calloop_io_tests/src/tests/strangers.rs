@@ -1,6 +1,8 @@
 //! Two loops, and adapters of the one that are given back to the other.
 use super::looks::{Adapted, Held, look, new_adapted};
-use calloop::{Adapter, Async, Error, EventDispatcher, Here, Keep, Requests, ScriptLoop, Sources};
+use calloop::{
+    Adapter, Async, Error, EventDispatcher, Here, LoopKeep, ScriptLoop, Sources,
+};
 use calloop_script::{ScriptIo, ScriptClock, ScriptKind, ScriptPoller};
 use std::alloc::Global;
 use std::sync::Wait;
@@ -57,15 +59,7 @@ enum Own {
 fn refuses_a_stranger<D, R>(rt: &R, alloc: Global, own: Own) -> Option<bool>
 where
     D: EventDispatcher<ScriptPoller, ScriptClock, R, Data = ()>,
-    D: Keep<
-        Adapter<ScriptIo, R>,
-        ScriptPoller,
-        ScriptClock,
-        R,
-        (),
-        Requests<D, <D as EventDispatcher<ScriptPoller, ScriptClock, R>>::Idle>,
-        Here,
-    >,
+    D: LoopKeep<Adapter<ScriptIo, R>, ScriptPoller, ScriptClock, R, Here>,
     R: Wait + Clone + Drop,
 {
     let (mut here, first): Adapted<D, R> = new_adapted(rt, alloc, 1)?;

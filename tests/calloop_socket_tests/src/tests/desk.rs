@@ -4,6 +4,7 @@ use super::table::Table;
 use calloop::generic::Generic;
 use calloop::loop_logic::EventLoop;
 use calloop::ping::{Ping, make_ping};
+use calloop::sys::Watched;
 use calloop::{
     Asking, Choice, Dispatcher, Error, EventDispatcher, Here, Hold, IdleCallback, InsertError,
     Instant, Interest, Mode, OneOf, PingSource, PostAction, Readiness, RegistrationToken, Requests,
@@ -27,6 +28,11 @@ pub const GOES_ON: Option<PostAction> = Some(PostAction::Continue);
 pub const KEY: u64 = 0;
 
 pub const SECOND: u64 = 1 << 40;
+
+pub const READ_LEVEL: Watched = Watched {
+    interest: Interest::READ,
+    mode: Mode::Level,
+};
 
 /// What a test does at a desk, or looks for. A socket goes by its place among those that came into the loop, and a ping by its place among the pings.
 #[derive(Clone, Copy)]

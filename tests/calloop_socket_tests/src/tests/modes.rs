@@ -1,7 +1,23 @@
 //! How often a socket hears of what it is ready for.
-use super::desk::{Act, GOES_ON, KEY, SECOND, plays};
+use super::desk::{Act, GOES_ON, KEY, READ_LEVEL, SECOND, plays};
+use calloop::sys::Watched;
 use calloop::{Interest, Mode};
 use calloop_script::ScriptCall::{Add, Delete, Modify};
+
+const READ_ONCE: Watched = Watched {
+    interest: Interest::READ,
+    mode: Mode::OneShot,
+};
+
+const READ_EDGE: Watched = Watched {
+    interest: Interest::READ,
+    mode: Mode::Edge,
+};
+
+const BOTH_EDGE: Watched = Watched {
+    interest: Interest::BOTH,
+    mode: Mode::Edge,
+};
 
 // What a test does at a new desk, and what is to come of it.
 const CASES: &[(&str, &[Act<'static>])] = &[
@@ -12,9 +28,9 @@ const CASES: &[(&str, &[Act<'static>])] = &[
             Act::Hears(KEY, &[1]),
             Act::Hears(KEY, &[1]),
             Act::Called(&[
-                Add(1, KEY, Interest::READ),
-                Modify(1, KEY, Interest::READ),
-                Modify(1, KEY, Interest::READ),
+                Add(1, KEY, READ_LEVEL),
+                Modify(1, KEY, READ_LEVEL),
+                Modify(1, KEY, READ_LEVEL),
             ]),
         ],
     ),
@@ -43,6 +59,7 @@ const CASES: &[(&str, &[Act<'static>])] = &[
             Act::Update(0),
             Act::Hears(KEY, &[1]),
             Act::Hears(KEY, &[]),
+            Act::Called(&[Add(1, KEY, READ_ONCE), Modify(1, KEY, READ_ONCE)]),
         ],
     ),
     (
@@ -71,7 +88,7 @@ const CASES: &[(&str, &[Act<'static>])] = &[
             Act::Socket(Interest::READ, Mode::Edge, GOES_ON),
             Act::Hears(KEY, &[1]),
             Act::Hears(KEY, &[1]),
-            Act::Called(&[Add(1, KEY, Interest::READ)]),
+            Act::Called(&[Add(1, KEY, READ_EDGE)]),
         ],
     ),
     (
@@ -84,7 +101,7 @@ const CASES: &[(&str, &[Act<'static>])] = &[
             Act::SetInterest(0, Interest::EMPTY),
             Act::Update(0),
             Act::Remove(0),
-            Act::Called(&[Add(1, KEY, Interest::READ), Delete(1)]),
+            Act::Called(&[Add(1, KEY, READ_LEVEL), Delete(1)]),
         ],
     ),
     (
@@ -92,9 +109,9 @@ const CASES: &[(&str, &[Act<'static>])] = &[
         &[
             Act::Socket(Interest::READ, Mode::Edge, GOES_ON),
             Act::SetInterest(0, Interest::BOTH),
-            Act::Called(&[Add(1, KEY, Interest::READ)]),
+            Act::Called(&[Add(1, KEY, READ_EDGE)]),
             Act::Update(0),
-            Act::Called(&[Add(1, KEY, Interest::READ), Modify(1, KEY, Interest::BOTH)]),
+            Act::Called(&[Add(1, KEY, READ_EDGE), Modify(1, KEY, BOTH_EDGE)]),
         ],
     ),
     (
@@ -124,7 +141,7 @@ const CASES: &[(&str, &[Act<'static>])] = &[
             Act::Hears(KEY + 1, &[]),
             Act::Hears(1 << 16, &[]),
             Act::Hears(SECOND, &[]),
-            Act::Called(&[Add(1, KEY, Interest::READ)]),
+            Act::Called(&[Add(1, KEY, READ_LEVEL)]),
         ],
     ),
 ];

@@ -1,11 +1,17 @@
 //! What is refused for a socket, and what stays then.
-use super::desk::{Act, GOES_ON, KEY, SECOND, plays};
+use super::desk::{Act, GOES_ON, KEY, READ_LEVEL, SECOND, plays};
 use calloop::generic::Generic;
+use calloop::sys::Watched;
 use calloop::{Interest, Mode};
 use calloop_script::ScriptCall::{Add, Delete, Modify};
 use calloop_script::{ScriptIo, ScriptKind};
 use std::io;
 use std::io::ErrorKind;
+
+const WRITE_LEVEL: Watched = Watched {
+    interest: Interest::WRITE,
+    mode: Mode::Level,
+};
 
 // What a test does at a new desk, and what is to come of it.
 const CASES: &[(&str, &[Act<'static>])] = &[
@@ -31,7 +37,7 @@ const CASES: &[(&str, &[Act<'static>])] = &[
             Act::Disable(0),
             Act::NotUpdated(0, ErrorKind::NotFound),
             Act::NotDisabled(0, ErrorKind::NotFound),
-            Act::Called(&[Add(1, KEY, Interest::READ), Delete(1)]),
+            Act::Called(&[Add(1, KEY, READ_LEVEL), Delete(1)]),
         ],
     ),
     (
@@ -41,7 +47,7 @@ const CASES: &[(&str, &[Act<'static>])] = &[
             Act::NoSocket(Interest::READ, Mode::Level),
             Act::Socket(Interest::READ, Mode::Level, GOES_ON),
             Act::IsAt(0, 0, 1),
-            Act::Called(&[Add(1, KEY, Interest::READ), Add(1, 1 << 16, Interest::READ)]),
+            Act::Called(&[Add(1, KEY, READ_LEVEL), Add(1, 1 << 16, READ_LEVEL)]),
         ],
     ),
     (
@@ -66,10 +72,10 @@ const CASES: &[(&str, &[Act<'static>])] = &[
             Act::NotDisabled(0, ErrorKind::Other),
             Act::Hears(KEY, &[1]),
             Act::Called(&[
-                Add(1, KEY, Interest::READ),
-                Modify(1, KEY, Interest::WRITE),
+                Add(1, KEY, READ_LEVEL),
+                Modify(1, KEY, WRITE_LEVEL),
                 Delete(1),
-                Modify(1, KEY, Interest::WRITE),
+                Modify(1, KEY, WRITE_LEVEL),
             ]),
         ],
     ),

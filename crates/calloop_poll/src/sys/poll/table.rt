@@ -26,18 +26,16 @@ fn call_poller<P: Poller>(
     key: u64,
     watched: Watched,
 ) -> io::Result<()>
-    ensures sockets { CalledFor P.sockets poller.old fd (call_for known key watched.interest)
+    ensures sockets { CalledFor P.sockets poller.old fd (call_for known key watched)
         result poller.new }
-    ensures calls { Called P.outside poller.old (call_for known key watched.interest)
+    ensures calls { Called P.outside poller.old (call_for known key watched)
         result poller.new }
 {
-    let Watched { interest, mode } = watched;
-    if interest.asks() {
-        match (known, mode) {
-            (true, Mode::Level) => poller.modify_level(fd, key, interest),
-            (true, Mode::OneShot | Mode::Edge) => poller.modify(fd, key, interest),
-            (false, Mode::Level) => poller.add_level(fd, key, interest),
-            (false, Mode::OneShot | Mode::Edge) => poller.add(fd, key, interest),
+    if watched.interest.asks() {
+        if known {
+            poller.modify(fd, key, watched)
+        } else {
+            poller.add(fd, key, watched)
         }
     } else if known {
         poller.delete(fd)
@@ -46,7 +44,7 @@ fn call_poller<P: Poller>(
     }
 }
 
-// The same behind a callback: the poller may trust what it knows of a socket that each wait tells of.
+// The same behind a callback: the poller may trust what it knows of the socket.
 #[inline(always)]
 fn rearm_in<P: Poller>(
     poller: &mut P,
@@ -55,13 +53,13 @@ fn rearm_in<P: Poller>(
     key: u64,
     watched: Watched,
 ) -> io::Result<()>
-    ensures sockets { CalledFor P.sockets poller.old fd (call_for known key watched.interest)
+    ensures sockets { CalledFor P.sockets poller.old fd (call_for known key watched)
         result poller.new }
-    ensures calls { Called P.outside poller.old (call_for known key watched.interest)
+    ensures calls { Called P.outside poller.old (call_for known key watched)
         result poller.new }
 {
-    if known && watched.mode == Mode::Level && watched.interest.asks() {
-        return poller.rearm_level(fd, key, watched.interest);
+    if known && watched.interest.asks() {
+        return poller.rearm(fd, key, watched);
     }
     call_poller(poller, fd, known, key, watched)
 }
@@ -190,7 +188,7 @@ impl<P: Poller, C, R: Wait + Drop> Poll<P, C, R> {
     }
 
     /// The same behind a callback of the source, for the token that the socket was registered with. Under `Mode::Level` the poller may
-    /// trust what it knows of the descriptor, and call no system (`Poller::rearm_level`). Only a fault is answered, of kind `NotFound` if
+    /// trust what it knows of the descriptor, and call no system (`Poller::rearm`). Only a fault is answered, of kind `NotFound` if
     /// the key isn't in the table, or the poller's. Each leaves the table as it was.
     #[inline(always)]
     pub fn rearm(

@@ -15,14 +15,14 @@ pub returns-in-Ok-clause-edit : goal.returns-in-Ok-clause-edit
 returns-in-Ok-clause-edit g c =
     let stood : watched_at (key_of c.args.token) (poll_view c.args.self.now).table ≡ Some c.in-Some.stood = ap (λ k. watched_at k (poll_view c.args.self.now).table) (sym c.key-key.ensures) ∙ sym c.get.ensures ∙ c.in-Some.is in
     let same : nat_eq (key_of c.args.token) (key_of c.args.token) ≡ true = grind (arith) in
-    let call : call_for c.asks.result c.key-key.result c.args.interest ≡ call_for (is_known (watched_at (key_of c.args.token) (poll_view c.args.self.now).table)) (key_of c.args.token) c.args.interest =
-    ap (λ b. call_for b c.key-key.result c.args.interest) (c.asks.ensures ∙ sym (ap is_known stood)) ∙ ap (λ k. call_for (is_known (watched_at (key_of c.args.token) (poll_view c.args.self.now).table)) k c.args.interest) c.key-key.ensures in
+    let call : call_for c.asks.result c.key-key.result (record { interest = c.args.interest; mode = c.args.mode }) ≡ call_for (is_known (watched_at (key_of c.args.token) (poll_view c.args.self.now).table)) (key_of c.args.token) (record { interest = c.args.interest; mode = c.args.mode }) =
+    ap (λ b. call_for b c.key-key.result (record { interest = c.args.interest; mode = c.args.mode })) (c.asks.ensures ∙ sym (ap is_known stood)) ∙ ap (λ k. call_for (is_known (watched_at (key_of c.args.token) (poll_view c.args.self.now).table)) k (record { interest = c.args.interest; mode = c.args.mode })) c.key-key.ensures in
     let can : cannot (Change c.args.token c.args.token (record { interest = c.args.interest; mode = c.args.mode })) (poll_view c.args.self.now).table ≡ None = can_change _ _ (ap is_some stood) (ap (λ b. not b && is_in (key_of c.args.token) (poll_view c.args.self.now).table) same) in
     let edit : after_edit (Change c.args.token c.args.token (record { interest = c.args.interest; mode = c.args.mode })) (poll_view c.args.self.now).table ≡ with_key (key_of c.args.token) (record { interest = c.args.interest; mode = c.args.mode }) (poll_view c.args.self.now).table =
     ap (λ b. if b then with_key (key_of c.args.token) (record { interest = c.args.interest; mode = c.args.mode }) (poll_view c.args.self.now).table else without_key (key_of c.args.token) (with_key (key_of c.args.token) (record { interest = c.args.interest; mode = c.args.mode }) (poll_view c.args.self.now).table)) same in
     let table : c.replace.new.self ≡ with_key (key_of c.args.token) (record { interest = c.args.interest; mode = c.args.mode }) (poll_view c.args.self.now).table =
     c.replace.ensures ∙ ap (λ k. with_key k (record { interest = c.args.interest; mode = c.args.mode }) (poll_view c.args.self.now).table) c.key-key.ensures in
-    let told : CalledFor g.P.Poller.sockets c.args.self.now.poller c.args.fd (call_for c.asks.result c.key-key.result c.args.interest) (Ok tt) c.rearm_in.new.poller = search rules in
+    let told : CalledFor g.P.Poller.sockets c.args.self.now.poller c.args.fd (call_for c.asks.result c.key-key.result (record { interest = c.args.interest; mode = c.args.mode })) (Ok tt) c.rearm_in.new.poller = search rules in
     made g.P.Poller.outside g.P.Poller.sockets (poll_view c.args.self.now) (Change c.args.token c.args.token (record { interest = c.args.interest; mode = c.args.mode })) c.args.fd c.rearm_in.new.poller _ can
     (subst (λ k. CalledFor g.P.Poller.sockets c.args.self.now.poller c.args.fd k (Ok tt) c.rearm_in.new.poller) call told)
     (subst (λ k. Called g.P.Poller.outside c.args.self.now.poller k (Ok tt) c.rearm_in.new.poller) call c.in-Ok.ensures.calls)
@@ -32,10 +32,10 @@ pub returns-in-Err-clause-edit : goal.returns-in-Err-clause-edit
 returns-in-Err-clause-edit g c =
     let stood : watched_at (key_of c.args.token) (poll_view c.args.self.now).table ≡ Some c.in-Some.stood = ap (λ k. watched_at k (poll_view c.args.self.now).table) (sym c.key-key.ensures) ∙ sym c.get.ensures ∙ c.in-Some.is in
     let same : nat_eq (key_of c.args.token) (key_of c.args.token) ≡ true = grind (arith) in
-    let call : call_for c.asks.result c.key-key.result c.args.interest ≡ call_for (is_known (watched_at (key_of c.args.token) (poll_view c.args.self.now).table)) (key_of c.args.token) c.args.interest =
-    ap (λ b. call_for b c.key-key.result c.args.interest) (c.asks.ensures ∙ sym (ap is_known stood)) ∙ ap (λ k. call_for (is_known (watched_at (key_of c.args.token) (poll_view c.args.self.now).table)) k c.args.interest) c.key-key.ensures in
+    let call : call_for c.asks.result c.key-key.result (record { interest = c.args.interest; mode = c.args.mode }) ≡ call_for (is_known (watched_at (key_of c.args.token) (poll_view c.args.self.now).table)) (key_of c.args.token) (record { interest = c.args.interest; mode = c.args.mode }) =
+    ap (λ b. call_for b c.key-key.result (record { interest = c.args.interest; mode = c.args.mode })) (c.asks.ensures ∙ sym (ap is_known stood)) ∙ ap (λ k. call_for (is_known (watched_at (key_of c.args.token) (poll_view c.args.self.now).table)) k (record { interest = c.args.interest; mode = c.args.mode })) c.key-key.ensures in
     let can : cannot (Change c.args.token c.args.token (record { interest = c.args.interest; mode = c.args.mode })) (poll_view c.args.self.now).table ≡ None = can_change _ _ (ap is_some stood) (ap (λ b. not b && is_in (key_of c.args.token) (poll_view c.args.self.now).table) same) in
-    let told : CalledFor g.P.Poller.sockets c.args.self.now.poller c.args.fd (call_for c.asks.result c.key-key.result c.args.interest) (Err c.in-Err.cause) c.rearm_in.new.poller = search rules in
+    let told : CalledFor g.P.Poller.sockets c.args.self.now.poller c.args.fd (call_for c.asks.result c.key-key.result (record { interest = c.args.interest; mode = c.args.mode })) (Err c.in-Err.cause) c.rearm_in.new.poller = search rules in
     faulted g.P.Poller.outside g.P.Poller.sockets (poll_view c.args.self.now) (Change c.args.token c.args.token (record { interest = c.args.interest; mode = c.args.mode })) c.args.fd c.in-Err.cause c.rearm_in.new.poller _ can
     (subst (λ k. CalledFor g.P.Poller.sockets c.args.self.now.poller c.args.fd k (Err c.in-Err.cause) c.rearm_in.new.poller) call told)
     (subst (λ k. Called g.P.Poller.outside c.args.self.now.poller k (Err c.in-Err.cause) c.rearm_in.new.poller) call c.in-Err.ensures.calls)

@@ -1,0 +1,3 @@
+mod ExchangeLemmas
+mod FieldLemmas
+mod RequestLemmas

@@ -1,0 +1,105 @@
+//! A connection without its socket: bytes that come in, bytes that are to go out, and whether it is to be closed.
+ghost use Rattle.std.specs.Prelude.{◌≡◌, ◌<◌, ◌≤◌, true, false, [], length, take, IfOk, OnOk};
+ghost use Rattle.httparse.specs.Grammar.{HasNoRequest};
+ghost use Rattle.http_hello.specs.Exchanges.{Exchanged, Exchanges, unread_of, unsent_of};
+
+use crate::answer::Answer;
+use crate::request::{Front, read_request};
+use std::alloc::{AllocError, Global};
+
+/// The state of a connection.
+#[derive(Drop)]
+pub struct Connection {
+    // What came and isn't read yet: less than a head.
+    received: Vec<u8>,
+    // What is answered and isn't sent yet.
+    unsent: Vec<u8>,
+    is_closing: bool,
+}
+
+impl Connection {
+    /// A connection that nothing came from yet.
+    pub fn new(alloc: Global) -> Connection
+        ensures { Exchanged [] [] result }
+    {
+        Connection {
+            received: Vec::new(alloc),
+            unsent: Vec::new(alloc),
+            is_closing: false,
+        }
+    }
+
+    /// A connection that is turned away: 503 is to be sent, and then it is to be closed.
+    pub fn turned_away(alloc: Global) -> Result<Connection, AllocError>
+        ensures { IfOk result (Exchanged [] []) }
+    {
+        let mut unsent = Vec::new(alloc);
+        Answer::Unavailable.write_to(&mut unsent, true)?;
+        Ok(Connection {
+            received: Vec::new(alloc),
+            unsent,
+            is_closing: true,
+        })
+    }
+
+    /// Returns what is to be sent next.
+    pub fn unsent(&self) -> &[u8]
+        ensures { result.now ≡ unsent_of self.now }
+    {
+        &self.unsent
+    }
+
+    /// True once nothing is to be read any more: when all is sent, the connection is to be closed.
+    pub fn is_closing(&self) -> bool
+        ensures { result ≡ self.now.is_closing }
+    {
+        self.is_closing
+    }
+
+    /// Takes the first `count` bytes out of `unsent`: they are sent.
+    pub fn sent(&mut self, count: usize)
+        requires { count ≤ length (unsent_of self.old) }
+        ensures { Exchanges [] (take count (unsent_of self.old)) self.old self.new }
+    {
+        self.unsent.drain(..count);
+    }
+
+    /// Takes bytes that came, and answers each request that is whole now, in order, up to the first one that closes. After an error, which
+    /// is want of memory, the connection is to be dropped.
+    pub fn receive(&mut self, bytes: &[u8]) -> Result<(), AllocError>
+        requires { self.old.is_closing ≡ false }
+        ensures exchanged { OnOk result (Exchanges bytes.now [] self.old self.new) }
+        ensures all_answered { OnOk result (self.new.is_closing ≡ false
+            → HasNoRequest (unread_of self.new)) }
+    {
+        self.received.extend_from_slice(bytes)?;
+        while self.answer_next()? {}
+        Ok(())
+    }
+
+    // Answers the first request, if it is whole. True if another one may follow.
+    fn answer_next(&mut self) -> Result<bool, AllocError>
+        requires { self.old.is_closing ≡ false }
+        ensures exchanged { OnOk result (Exchanges [] [] self.old self.new) }
+        ensures goes_on { result ≡ Ok true → self.new.is_closing ≡ false }
+        ensures shorter { result ≡ Ok true
+            → length (unread_of self.new) < length (unread_of self.old) }
+        ensures all_answered { result ≡ Ok false → self.new.is_closing ≡ false
+            → HasNoRequest (unread_of self.new) }
+    {
+        match read_request(&self.received) {
+            Front::Whole(request) => {
+                request.answer.write_to(&mut self.unsent, request.closes)?;
+                self.received.drain(..request.len);
+                self.is_closing = request.closes;
+                Ok(!request.closes)
+            }
+            Front::Partial => Ok(false),
+            Front::Bad => {
+                Answer::Bad.write_to(&mut self.unsent, true)?;
+                self.is_closing = true;
+                Ok(false)
+            }
+        }
+    }
+}
