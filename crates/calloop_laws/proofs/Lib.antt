@@ -13,4 +13,5 @@ pub mod Freshness
 pub mod Histories
 pub mod Handing
 pub mod Tying
+pub mod Calling
 pub mod Refuting

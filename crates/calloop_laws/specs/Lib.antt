@@ -13,4 +13,6 @@ pub mod RearmedRun
 pub mod Histories
 pub mod Handed
 pub mod Tied
+pub mod Called
+pub mod Rung
 pub mod Examples

@@ -48,6 +48,13 @@ use calloop_sources::callbacks::QuietDispatch;
 use calloop_sources::idles::QuietIdle;
 use std::sync::Wait;
 
+mod turns;
+
+pub use turns::{
+    a_posted_channel_opens_its_turn, a_posted_executor_opens_its_turn,
+    a_posted_stream_opens_its_turn, a_rung_ping_is_called, call_of_a_ring_that_there_is,
+};
+
 /// Over every run of the machine, from any state: each event that is cut goes to just the source that its token names
 /// at that moment, or to none; a token that named a registration names a later one of its slot only where the
 /// reuse count is greater by a positive multiple of `VERSIONS`; and a registration that was given up stays so.

@@ -32,10 +32,14 @@ unsent_of connection = connection.unsent.items
 abbrev pub unread_of : Connection → List ℕ
 unread_of connection = connection.received.items
 
+-- whether it is to be closed once all is sent
+abbrev pub is_over : Connection → Bool
+is_over connection = connection.is_closing
+
 -- This came and that was sent: with what is unsent it is what was to be answered.
 abbrev pub Exchanged : (input sent : List ℕ) → Connection → Type 0
 Exchanged input sent connection =
-    Exchange input (sent ++ unsent_of connection) (unread_of connection) connection.is_closing
+    Exchange input (sent ++ unsent_of connection) (unread_of connection) (is_over connection)
 
 -- from any exchange up to the old connection there is one up to the new one, with so many more bytes in and out
 abbrev pub Exchanges : (bytes gone : List ℕ) (old new : Connection) → Type 0

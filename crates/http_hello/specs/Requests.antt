@@ -3,7 +3,7 @@ use Rattle.std.specs.Prelude.{◌≡◌, ℕ, ◌<◌, ◌≤◌, ◌⊎◌, Boo
 use Rattle.std.specs.List.{list_any}
 use Rattle.std.specs.Char.{to_ascii_lowercase}
 use Rattle.std.specs.Cmp.Lexicographic.{pointwise}
-use Rattle.httparse.specs.Grammar.{RequestHead, ReadsRequest, HasNoRequest, print_request}
+use Rattle.httparse.specs.Grammar.{RequestHead, ReadsRequest, HasNoRequest, MayBecomeRequest, print_request}
 use Rattle.httparse.specs.Spans.{name_and_value}
 use Rattle.http_hello.specs.declared.answer.Answer.{Answer}
 use Rattle.http_hello.specs.declared.answer.Answer.TheVariants.{Page, NotFound, NotAllowed}
@@ -53,8 +53,14 @@ NeverFits buffer =
     (more : List ℕ) (head : RequestHead) (rest : List ℕ) → ReadsRequest (buffer ++ more) head rest
     → (4096 < length (print_request head)) ⊎ (64 < length head.fields)
 
+-- no whole head is there, more bytes can make one, and there are fewer than 4,096
+pub record IsUnfinished (buffer : List ℕ) : Type 0 where
+  pub none : HasNoRequest buffer
+  pub may_become : MayBecomeRequest buffer
+  pub few : length buffer < 4096
+
 -- what is read at the front of a buffer
 abbrev pub IsFront : List ℕ → Front → Type 0
 IsFront buffer (Whole request) = (head : RequestHead) × IsRead buffer request head
-IsFront buffer Partial = HasNoRequest buffer
+IsFront buffer Partial = IsUnfinished buffer
 IsFront buffer Bad = NeverFits buffer

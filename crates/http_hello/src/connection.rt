@@ -1,7 +1,9 @@
 //! A connection without its socket: bytes that come in, bytes that are to go out, and whether it is to be closed.
 ghost use Rattle.std.specs.Prelude.{◌≡◌, ◌<◌, ◌≤◌, true, false, [], length, take, IfOk, OnOk};
-ghost use Rattle.httparse.specs.Grammar.{HasNoRequest};
-ghost use Rattle.http_hello.specs.Exchanges.{Exchanged, Exchanges, unread_of, unsent_of};
+ghost use Rattle.http_hello.specs.declared.answer.Answer.TheVariants.{Unavailable};
+ghost use Rattle.http_hello.specs.Answers.{bytes_of};
+ghost use Rattle.http_hello.specs.Requests.{IsUnfinished};
+ghost use Rattle.http_hello.specs.Exchanges.{Exchanged, Exchanges, is_over, unread_of, unsent_of};
 
 use crate::answer::Answer;
 use crate::request::{Front, read_request};
@@ -20,7 +22,9 @@ pub struct Connection {
 impl Connection {
     /// A connection that nothing came from yet.
     pub fn new(alloc: Global) -> Connection
-        ensures { Exchanged [] [] result }
+        ensures exchanged { Exchanged [] [] result }
+        ensures unsent { unsent_of result ≡ [] }
+        ensures open { is_over result ≡ false }
     {
         Connection {
             received: Vec::new(alloc),
@@ -31,7 +35,9 @@ impl Connection {
 
     /// A connection that is turned away: 503 is to be sent, and then it is to be closed.
     pub fn turned_away(alloc: Global) -> Result<Connection, AllocError>
-        ensures { IfOk result (Exchanged [] []) }
+        ensures exchanged { IfOk result (Exchanged [] []) }
+        ensures unsent { IfOk result (λ c. unsent_of c ≡ bytes_of Unavailable true) }
+        ensures closing { IfOk result (λ c. is_over c ≡ true) }
     {
         let mut unsent = Vec::new(alloc);
         Answer::Unavailable.write_to(&mut unsent, true)?;
@@ -51,7 +57,7 @@ impl Connection {
 
     /// True once nothing is to be read any more: when all is sent, the connection is to be closed.
     pub fn is_closing(&self) -> bool
-        ensures { result ≡ self.now.is_closing }
+        ensures { result ≡ is_over self.now }
     {
         self.is_closing
     }
@@ -67,10 +73,10 @@ impl Connection {
     /// Takes bytes that came, and answers each request that is whole now, in order, up to the first one that closes. After an error, which
     /// is want of memory, the connection is to be dropped.
     pub fn receive(&mut self, bytes: &[u8]) -> Result<(), AllocError>
-        requires { self.old.is_closing ≡ false }
+        requires { is_over self.old ≡ false }
         ensures exchanged { OnOk result (Exchanges bytes.now [] self.old self.new) }
-        ensures all_answered { OnOk result (self.new.is_closing ≡ false
-            → HasNoRequest (unread_of self.new)) }
+        ensures all_answered { OnOk result (is_over self.new ≡ false
+            → IsUnfinished (unread_of self.new)) }
     {
         self.received.extend_from_slice(bytes)?;
         while self.answer_next()? {}
@@ -79,13 +85,13 @@ impl Connection {
 
     // Answers the first request, if it is whole. True if another one may follow.
     fn answer_next(&mut self) -> Result<bool, AllocError>
-        requires { self.old.is_closing ≡ false }
+        requires { is_over self.old ≡ false }
         ensures exchanged { OnOk result (Exchanges [] [] self.old self.new) }
-        ensures goes_on { result ≡ Ok true → self.new.is_closing ≡ false }
+        ensures goes_on { result ≡ Ok true → is_over self.new ≡ false }
         ensures shorter { result ≡ Ok true
             → length (unread_of self.new) < length (unread_of self.old) }
-        ensures all_answered { result ≡ Ok false → self.new.is_closing ≡ false
-            → HasNoRequest (unread_of self.new) }
+        ensures all_answered { result ≡ Ok false → is_over self.new ≡ false
+            → IsUnfinished (unread_of self.new) }
     {
         match read_request(&self.received) {
             Front::Whole(request) => {

@@ -3,4 +3,5 @@ mod answers;
 mod desk;
 mod keys;
 mod memory;
+mod rings;
 mod stops;

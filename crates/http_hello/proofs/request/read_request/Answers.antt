@@ -12,3 +12,8 @@ pub returns-then-bytes-ge-LONGEST_HEAD : goal.returns-then-bytes-ge-LONGEST_HEAD
 returns-then-bytes-ge-LONGEST_HEAD c =
     let ensures = rw c.in-Ok-Partial.field-0-is at c.in-Ok-Partial.ensures in
     NeverFits-partial _ c.if-bytes-ge-LONGEST_HEAD.true ensures.partial
+
+pub returns-else-bytes-ge-LONGEST_HEAD : goal.returns-else-bytes-ge-LONGEST_HEAD
+returns-else-bytes-ge-LONGEST_HEAD c =
+    let ensures = rw c.in-Ok-Partial.field-0-is at c.in-Ok-Partial.ensures in
+    record { none = ensures.partial; may_become = ensures.unfinished; few = c.if-bytes-ge-LONGEST_HEAD.false }

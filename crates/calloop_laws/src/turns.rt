@@ -1,0 +1,122 @@
+//! From what is posted to the turn that it leads to: of every dispatch that answers `Ok`, and of every history of its board from where nothing has
+//! happened, as in `what_is_posted_is_served`.
+//!
+//! Of a cell that is at rest as the dispatch takes keys: no turn of it is open, and no pass of its key is held. Where the event of its key is
+//! handed out to its source, which `what_is_posted_is_served` says of a posted key, and nobody changed the registration since, the source's
+//! turn is one that the cell opens.
+//!
+//! That the turn is a step of the history, and that the source's tally counts it if the cell opens it, is what the contract of the cell's
+//! `open_turn` and its lock give: a premise here, as for the notes of the watch.
+ghost use Rattle.std.specs.Prelude.{◌≡◌, Ok, None};
+ghost use Rattle.logbook.specs.Pages.{Book};
+ghost use Rattle.calloop_poll.specs.sys.Polls.{posted_event};
+ghost use Rattle.calloop_ends.specs.channel.Channels.{ChannelOpens, channel_tally};
+ghost use Rattle.calloop_ends.specs.futures.Executors.{ComesOf, ExecutorOpens, executor_tally};
+ghost use Rattle.calloop_ends.specs.ping.Pings.{PingOpens, ping_tally};
+ghost use Rattle.calloop_ends.specs.stream.Streams.{StreamOpens, stream_tally};
+ghost use Rattle.calloop_loop.specs.Rules.{DispatchedBy};
+ghost use Rattle.calloop_laws.specs.ExampleRun.{quiet_poller};
+ghost use Rattle.calloop_laws.specs.Handed.{OverEachDispatch, IsHandedOut};
+ghost use Rattle.calloop_laws.specs.Called.{OpensEachTurn, IsOpened, CallsEachRing, IsCalledBack};
+ghost use Rattle.calloop_laws.specs.Rung.{ringing, unknown, no_idles, calls_anything, is_never_called, opens_none, asks_anything, itself, ping_before, with_a_ping, of_a_call};
+
+use calloop::channel::{Channel, Event};
+use calloop::futures::{Executor, Future};
+use calloop::stream::{Stream, StreamSource};
+use calloop::{Asking, Callback, EventDispatcher, LoopHold, PingSource, Requests};
+use calloop_poll::sys::{Clock, Poller};
+use std::sync::Wait;
+
+/// A ping that is rung as the dispatch takes keys has its callback called in this turn, once.
+pub fn a_rung_ping_is_called<D, F, N, P: Poller, C: Clock, R: Wait + Drop>()
+where
+    D: LoopHold<PingSource<R>, F, P, C, R, N>,
+    F: Callback<
+        (),
+        (),
+        (),
+        <D as EventDispatcher<P, C, R>>::Data,
+        Requests<D, <D as EventDispatcher<P, C, R>>::Idle>,
+    >,
+    ensures { OverEachDispatch D.means D.Idle.runs P.outside (CallsEachRing F.may
+        ⟦<Requests<D, <D as EventDispatcher<P, C, R>>::Idle> as Asking>⟧.reaches D.held D.means) }
+{}
+
+/// A channel's turn is opened: its callback is called with the messages that it pops, in order, up to a pop that finds none, or
+/// as many as a turn may.
+pub fn a_posted_channel_opens_its_turn<D, T: Drop, F, N, P: Poller, C: Clock, R: Wait + Drop>()
+where
+    D: LoopHold<Channel<T, R>, F, P, C, R, N>,
+    F: Callback<
+        Event<T>,
+        (),
+        (),
+        <D as EventDispatcher<P, C, R>>::Data,
+        Requests<D, <D as EventDispatcher<P, C, R>>::Idle>,
+    >,
+    ensures { OverEachDispatch D.means D.Idle.runs P.outside
+        (OpensEachTurn channel_tally ChannelOpens F.may
+        ⟦<Requests<D, <D as EventDispatcher<P, C, R>>::Idle> as Asking>⟧.reaches D.held D.means) }
+{}
+
+/// An executor's turn is opened: it polls at most 1,024 tasks, and its callback is called with what their futures give.
+pub fn a_posted_executor_opens_its_turn<
+    D,
+    Fut: Future<R>,
+    F,
+    N,
+    P: Poller,
+    C: Clock,
+    R: Wait + Drop,
+>()
+where
+    D: LoopHold<Executor<Fut, R>, F, P, C, R, N>,
+    F: Callback<
+        Fut::Output,
+        (),
+        (),
+        <D as EventDispatcher<P, C, R>>::Data,
+        Requests<D, <D as EventDispatcher<P, C, R>>::Idle>,
+    >,
+    ensures { OverEachDispatch D.means D.Idle.runs P.outside
+        (OpensEachTurn executor_tally (ExecutorOpens (ComesOf Fut.gives Fut.polls)) F.may
+        ⟦<Requests<D, <D as EventDispatcher<P, C, R>>::Idle> as Asking>⟧.reaches D.held D.means) }
+{}
+
+/// The turn of a stream's source is opened, which reads the stream if its ping was rung.
+pub fn a_posted_stream_opens_its_turn<D, S: Stream<R>, F, N, P: Poller, C: Clock, R: Wait + Drop>()
+where
+    D: LoopHold<StreamSource<S, R>, F, P, C, R, N>,
+    F: Callback<
+        Option<S::Item>,
+        (),
+        (),
+        <D as EventDispatcher<P, C, R>>::Data,
+        Requests<D, <D as EventDispatcher<P, C, R>>::Idle>,
+    >,
+    ensures { OverEachDispatch D.means D.Idle.runs P.outside
+        (OpensEachTurn stream_tally (StreamOpens S.polls) F.may
+        ⟦<Requests<D, <D as EventDispatcher<P, C, R>>::Idle> as Asking>⟧.reaches D.held D.means) }
+{}
+
+/// A dispatch that there is, of a loop of pings, which with the history of `dispatch_of_a_ring_that_there_is` meets the premises of
+/// `a_rung_ping_is_called`, so that the callback is called in it, and those of the laws of turns; and the same dispatch of a callback that is
+/// never called, and of a source whose turns no cell opens, which the laws rule out.
+pub fn call_of_a_ring_that_there_is()
+    ensures dispatch { (name : Book) → DispatchedBy ringing no_idles quiet_poller
+        None tt (Ok tt) tt (with_a_ping name) (of_a_call name) }
+    ensures called { (name : Book) → OverEachDispatch ringing no_idles quiet_poller
+        (CallsEachRing calls_anything asks_anything itself ringing)
+        → (h : IsHandedOut ringing (with_a_ping name) (of_a_call name) (posted_event 0))
+        × IsCalledBack calls_anything asks_anything itself ringing (with_a_ping name)
+        (of_a_call name) (posted_event 0) h (ping_before name) }
+    ensures opened { (name : Book) → OverEachDispatch ringing no_idles quiet_poller
+        (OpensEachTurn ping_tally PingOpens calls_anything asks_anything itself ringing)
+        → (h : IsHandedOut ringing (with_a_ping name) (of_a_call name) (posted_event 0))
+        × IsOpened PingOpens calls_anything asks_anything itself ringing (with_a_ping name)
+        (of_a_call name) (posted_event 0) h (ping_before name) }
+    ensures unopened { (name : Book) → ¬ OpensEachTurn ping_tally opens_none calls_anything
+        asks_anything itself unknown (with_a_ping name) (of_a_call name) }
+    ensures silent { (name : Book) → ¬ CallsEachRing is_never_called asks_anything itself unknown
+        (with_a_ping name) (of_a_call name) }
+{}
