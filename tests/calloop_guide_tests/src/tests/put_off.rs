@@ -1,0 +1,100 @@
+//! A timer that is put off.
+use calloop::channel::{Channel, Event, make_channel};
+use calloop::{
+    Callback, Choice, Clock, Dispatcher, Error, EventDispatcher, Here, Instant, LoopHold, On, OneOf,
+    Requests, Result, ScriptLoop, Sources, There, TimeoutAction, Timer,
+};
+use calloop_script::{ScriptClock, ScriptPoller};
+use std::alloc::Global;
+use std::sync::Wait;
+use std::test::Fail;
+use std::time::Duration;
+
+#[test]
+fn a_burst_ends_a_while_after_its_last_message(rt: HostRuntime) -> std::result::Result<(), Fail> {
+    let lengths = lengths::<Held<HostRuntime>, HostRuntime>(&rt, rt.alloc());
+    assert!(rt; lengths.is_ok_and(|lengths| lengths.as_slice() == [3u32, 1].as_slice()));
+    Ok(())
+}
+
+/// What a dispatch lends: the burst so far, when it ends, and how long the earlier ones were.
+#[derive(Drop)]
+struct Bursts<C: Clock> {
+    clock: C,
+    count: u32,
+    ends: Instant,
+    lengths: Vec<u32>,
+}
+
+/// Counts messages, each of which puts the end of the burst off. The first one asks for a timer.
+#[derive(Drop)]
+struct Counts;
+
+impl<C, D> Callback<Event<()>, (), (), Bursts<C>, Requests<D>> for Counts
+where
+    C: Clock,
+    D: Choice<Timer, Notes, There<Here>> + Drop,
+{
+    fn call(
+        &mut self,
+        event: Event<()>,
+        _: &mut (),
+        bursts: &mut Bursts<C>,
+        requests: &mut Requests<D>,
+    ) {
+        let Event::Msg(()) = event else { return };
+        bursts.ends = bursts.clock.now().after(Duration::from_millis(50));
+        if bursts.count == 0 {
+            let _ticket = requests.insert_source(Timer::from_deadline(bursts.ends), Notes);
+        }
+        bursts.count = bursts.count.saturating_add(1);
+    }
+}
+
+/// Notes the length of the burst, if its end has come. Else it waits on.
+#[derive(Drop)]
+struct Notes;
+
+impl<C: Clock> On<Instant, Bursts<C>, TimeoutAction> for Notes {
+    fn on(&mut self, deadline: Instant, bursts: &mut Bursts<C>) -> TimeoutAction {
+        if deadline < bursts.ends {
+            return TimeoutAction::ToInstant(bursts.ends);
+        }
+        let _failed = bursts.lengths.push(bursts.count);
+        bursts.count = 0;
+        TimeoutAction::Drop
+    }
+}
+
+type Held<R> = Sources<
+    OneOf<Dispatcher<Channel<(), R>, Counts>, Dispatcher<Timer, Notes>>,
+    Bursts<ScriptClock>,
+>;
+
+fn lengths<D, R>(rt: &R, alloc: Global) -> Result<Vec<u32>>
+where
+    D: EventDispatcher<ScriptPoller, ScriptClock, R, Data = Bursts<ScriptClock>, Idle = ()>,
+    D: Choice<Timer, Notes, There<Here>>,
+    D: LoopHold<Channel<(), R>, Counts, ScriptPoller, ScriptClock, R, Here>,
+    R: Wait + Clone + Drop,
+{
+    let mut event_loop: ScriptLoop<D, R> = ScriptLoop::with_script(rt, alloc)?;
+    let (sender, channel) = make_channel(rt, alloc)?;
+    event_loop.handle().insert_source(channel, Counts)?;
+    let mut bursts = Bursts {
+        clock: event_loop.clock().clone()?,
+        count: 0,
+        ends: Instant::from_millis(0),
+        lengths: Vec::new(alloc),
+    };
+    // Three messages within 40 milliseconds, and one behind their burst.
+    for pause in [10, 10, 1000, 1000] {
+        if sender.send(()).is_err() {
+            return Err(Error::OutOfMemory);
+        }
+        for millis in [0, pause, pause] {
+            event_loop.dispatch(rt, Some(Duration::from_millis(millis)), &mut bursts)?;
+        }
+    }
+    Ok(bursts.lengths)
+}
