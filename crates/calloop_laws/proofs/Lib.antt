@@ -14,4 +14,5 @@ pub mod Histories
 pub mod Handing
 pub mod Tying
 pub mod Calling
+pub mod Sent
 pub mod Refuting

@@ -15,4 +15,5 @@ pub mod Handed
 pub mod Tied
 pub mod Called
 pub mod Rung
+pub mod Sent
 pub mod Examples

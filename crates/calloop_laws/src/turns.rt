@@ -7,7 +7,7 @@
 //!
 //! That the turn is a step of the history, and that the source's tally counts it if the cell opens it, is what the contract of the cell's
 //! `open_turn` and its lock give: a premise here, as for the notes of the watch.
-ghost use Rattle.std.specs.Prelude.{◌≡◌, Ok, None};
+ghost use Rattle.std.specs.Prelude.{ℕ, [], ◌∷◌, Ok, None};
 ghost use Rattle.logbook.specs.Pages.{Book};
 ghost use Rattle.calloop_poll.specs.sys.Polls.{posted_event};
 ghost use Rattle.calloop_ends.specs.channel.Channels.{ChannelOpens, channel_tally};
@@ -17,7 +17,14 @@ ghost use Rattle.calloop_ends.specs.stream.Streams.{StreamOpens, stream_tally};
 ghost use Rattle.calloop_loop.specs.Rules.{DispatchedBy};
 ghost use Rattle.calloop_laws.specs.ExampleRun.{quiet_poller};
 ghost use Rattle.calloop_laws.specs.Handed.{OverEachDispatch, IsHandedOut};
-ghost use Rattle.calloop_laws.specs.Called.{OpensEachTurn, IsOpened, CallsEachRing, IsCalledBack};
+ghost use Rattle.calloop_laws.specs.Called.{world_behind_it, OpensEachTurn, IsOpened, CallsEachRing, IsCalledBack};
+ghost use Rattle.calloop_laws.specs.Examples.{SmallHistory};
+ghost use Rattle.calloop_laws.specs.Histories.{IsHistory};
+ghost use Rattle.calloop_laws.specs.Sent.{WhatWasSentIsGiven, FindsNone, HasGivenAll, history_of_a_message};
+ghost use Rattle.calloop_laws.specs.Tied.{Taking};
+ghost use Rattle.calloop_wake_laws.specs.Lost.{of_channels};
+ghost use Rattle.calloop_wake_laws.specs.Kinds.{Born, every_kind, new_cell};
+ghost use Rattle.calloop_wake_laws.specs.Wakes.{start};
 ghost use Rattle.calloop_laws.specs.Rung.{ringing, unknown, no_idles, calls_anything, is_never_called, opens_none, asks_anything, itself, ping_before, with_a_ping, of_a_call};
 
 use calloop::channel::{Channel, Event};
@@ -57,6 +64,20 @@ where
     ensures { OverEachDispatch D.means D.Idle.runs P.outside
         (OpensEachTurn channel_tally ChannelOpens F.may
         ⟦<Requests<D, <D as EventDispatcher<P, C, R>>::Idle> as Asking>⟧.reaches D.held D.means) }
+{}
+
+/// In every history of a board: by a pop of a channel that finds no message all that had been put into it as keys were taken before was handed
+/// out, in order. So a channel's turn that isn't at its bound has handed out each message that was sent before the dispatch took keys.
+/// A history that meets this, and accounts that it rules out: of a message that isn't handed out, and of two in another order.
+pub fn what_was_sent_is_given()
+    ensures given { (born : ℕ → Born) (hs : SmallHistory)
+        → IsHistory every_kind (start (λ n. new_cell (born n))) hs
+        → WhatWasSentIsGiven born hs }
+    ensures history { IsHistory every_kind of_channels history_of_a_message }
+    ensures met { (t : Taking [] history_of_a_message)
+        × FindsNone (world_behind_it every_kind of_channels history_of_a_message t) t.behind 0 }
+    ensures left_out { ¬ HasGivenAll (3 ∷ []) [] }
+    ensures backwards { ¬ HasGivenAll (3 ∷ 4 ∷ []) (4 ∷ 3 ∷ []) }
 {}
 
 /// An executor's turn is opened: it polls at most 1,024 tasks, and its callback is called with what their futures give.

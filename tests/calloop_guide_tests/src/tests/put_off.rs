@@ -1,10 +1,10 @@
 //! A timer that is put off.
 use calloop::channel::{Channel, Event, make_channel};
 use calloop::{
-    Callback, Choice, Clock, Dispatcher, Error, EventDispatcher, Here, Instant, LoopHold, On, OneOf,
-    Requests, Result, ScriptLoop, Sources, There, TimeoutAction, Timer,
+    Callback, Clock, Dispatcher, Error, Instant, On, OneOf, Requests, Result, ScriptLoop, Sources,
+    TimeoutAction, Timer,
 };
-use calloop_script::{ScriptClock, ScriptPoller};
+use calloop_script::ScriptClock;
 use std::alloc::Global;
 use std::sync::Wait;
 use std::test::Fail;
@@ -12,15 +12,15 @@ use std::time::Duration;
 
 #[test]
 fn a_burst_ends_a_while_after_its_last_message(rt: HostRuntime) -> std::result::Result<(), Fail> {
-    let lengths = lengths::<Held<HostRuntime>, HostRuntime>(&rt, rt.alloc());
+    let lengths = lengths(&rt, rt.alloc());
     assert!(rt; lengths.is_ok_and(|lengths| lengths.as_slice() == [3u32, 1].as_slice()));
     Ok(())
 }
 
 /// What a dispatch lends: the burst so far, when it ends, and how long the earlier ones were.
 #[derive(Drop)]
-struct Bursts<C: Clock> {
-    clock: C,
+struct Bursts {
+    clock: ScriptClock,
     count: u32,
     ends: Instant,
     lengths: Vec<u32>,
@@ -30,17 +30,13 @@ struct Bursts<C: Clock> {
 #[derive(Drop)]
 struct Counts;
 
-impl<C, D> Callback<Event<()>, (), (), Bursts<C>, Requests<D>> for Counts
-where
-    C: Clock,
-    D: Choice<Timer, Notes, There<Here>> + Drop,
-{
+impl<R: Wait + Drop> Callback<Event<()>, (), (), Bursts, Requests<Held<R>>> for Counts {
     fn call(
         &mut self,
         event: Event<()>,
         _: &mut (),
-        bursts: &mut Bursts<C>,
-        requests: &mut Requests<D>,
+        bursts: &mut Bursts,
+        requests: &mut Requests<Held<R>>,
     ) {
         let Event::Msg(()) = event else { return };
         bursts.ends = bursts.clock.now().after(Duration::from_millis(50));
@@ -55,8 +51,8 @@ where
 #[derive(Drop)]
 struct Notes;
 
-impl<C: Clock> On<Instant, Bursts<C>, TimeoutAction> for Notes {
-    fn on(&mut self, deadline: Instant, bursts: &mut Bursts<C>) -> TimeoutAction {
+impl On<Instant, Bursts, TimeoutAction> for Notes {
+    fn on(&mut self, deadline: Instant, bursts: &mut Bursts) -> TimeoutAction {
         if deadline < bursts.ends {
             return TimeoutAction::ToInstant(bursts.ends);
         }
@@ -68,17 +64,11 @@ impl<C: Clock> On<Instant, Bursts<C>, TimeoutAction> for Notes {
 
 type Held<R> = Sources<
     OneOf<Dispatcher<Channel<(), R>, Counts>, Dispatcher<Timer, Notes>>,
-    Bursts<ScriptClock>,
+    Bursts,
 >;
 
-fn lengths<D, R>(rt: &R, alloc: Global) -> Result<Vec<u32>>
-where
-    D: EventDispatcher<ScriptPoller, ScriptClock, R, Data = Bursts<ScriptClock>, Idle = ()>,
-    D: Choice<Timer, Notes, There<Here>>,
-    D: LoopHold<Channel<(), R>, Counts, ScriptPoller, ScriptClock, R, Here>,
-    R: Wait + Clone + Drop,
-{
-    let mut event_loop: ScriptLoop<D, R> = ScriptLoop::with_script(rt, alloc)?;
+fn lengths<R: Wait + Clone + Drop>(rt: &R, alloc: Global) -> Result<Vec<u32>> {
+    let mut event_loop: ScriptLoop<Held<R>, R> = ScriptLoop::with_script(rt, alloc)?;
     let (sender, channel) = make_channel(rt, alloc)?;
     event_loop.handle().insert_source(channel, Counts)?;
     let mut bursts = Bursts {
