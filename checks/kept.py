@@ -1,4 +1,5 @@
-"""What earlier runs of the checks came to on this machine, each by a sum of all that it rests on, so that it never goes stale.
+"""What earlier runs of the checks came to on this machine, each by a sum of all that it rests on, so that it never goes
+stale.
 
 Nothing here is of the repository: a clone on another machine tries all.
 """
@@ -16,7 +17,8 @@ COMMENTS = {".rt": b"//", ".antt": b"--"}
 
 
 def crates_of(root, file="crates.txt"):
-    """What crates.txt names at the top of a repository, or another such file of it: each crate with the names behind its own, lowest first."""
+    """What crates.txt names at the top of a repository, or another such file of it: each crate with the names behind
+    its own, lowest first."""
     with open(f"{root}/{file}", encoding="utf-8") as it:
         lines = [line.partition(":") for line in it if line.strip() and not line.startswith("#")]
     return {head.split()[0]: (head, rest.split()) for head, _, rest in lines}
@@ -37,7 +39,8 @@ def logic():
 class Kept:
     """The results of one script over the crates of a copy of the repository, whose files stay as they are meanwhile.
 
-    By is what they rest on beside those files. It and the paths within the copy are all that goes into a sum, so that a sum is the same in each clone.
+    By is what they rest on beside those files. It and the paths within the copy are all that goes into a sum, so that a
+    sum is the same in each clone.
     """
 
     def __init__(self, root, *by):
@@ -52,7 +55,12 @@ class Kept:
         """The same without its lines of comments, and however it is laid out."""
         comment = COMMENTS.get(os.path.splitext(path)[1])
         with open(f"{self.root}/{path}", "rb") as it:
-            words = [word for line in it.read().split(b"\n") if not (comment and line.lstrip().startswith(comment)) for word in line.split()]
+            words = [
+                word
+                for line in it.read().split(b"\n")
+                if not (comment and line.lstrip().startswith(comment))
+                for word in line.split()
+            ]
         return repr((path, hashlib.sha256(b" ".join(words)).digest())).encode()
 
     def part(self, crate, part, seen=None):
@@ -75,11 +83,15 @@ class Kept:
         return hashlib.sha256(repr((self.by, crate, self.sum_of(crate), tried)).encode()).hexdigest()
 
     def sum_about(self, crate, tried, files):
-        """The sum of what was tried in a crate and of what that is about, in hex digits: these files of it, and its specs/, without
-        comments and layout. It stays where proofs, other files, or crates below change."""
+        """The sum of what was tried in a crate and of what that is about, in hex digits: these files of it, and its
+        specs/, without comments and layout. It stays where proofs, other files, or crates below change."""
         if crate not in self.stated:
             self.stated[crate] = [*self.part(crate, "specs", self.code)]
-        found = [self.code(f"crates/{crate}/{it}") for it in sorted(files) if os.path.isfile(f"{self.root}/crates/{crate}/{it}")]
+        found = [
+            self.code(f"crates/{crate}/{it}")
+            for it in sorted(files)
+            if os.path.isfile(f"{self.root}/crates/{crate}/{it}")
+        ]
         return hashlib.sha256(repr((self.by, crate, self.stated[crate], found, tried)).encode()).hexdigest()
 
     def get(self, sum):

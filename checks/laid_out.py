@@ -1,7 +1,8 @@
 """The repository with the crates of tests/ among the others, laid out in a folder of its own.
 
-rt ci proves each crate that crates.txts names, tests included, and refuses a source file that none of them reads. So what is only to be run stands
-in tests/: its files under other endings, and its lines of crates.txt in tests/lines.txt. rt takes it where both are turned back.
+rt ci proves each crate that crates.txts names, tests included, and refuses a source file that none of them reads. So
+what is only to be run stands in tests/: its files under other endings, and its lines of crates.txt in tests/lines.txt.
+rt takes it where both are turned back.
 """
 import contextlib
 import glob
@@ -43,7 +44,8 @@ def copy(crate, to, endings):
 
 
 def lay_out(folder):
-    """Lays the repository out there as it stands, also what isn't committed. The out/ of what was laid out there before stays."""
+    """Lays the repository out there as it stands, also what isn't committed. The out/ of what was laid out there before
+    stays."""
     unlisted = {it.split("/")[-2] for it in glob.glob(f"{ROOT}/tests/*/src")} - {*of_tests()}
     if unlisted:
         sys.exit(f"{LINES} has no line of {', '.join(sorted(unlisted))}")
@@ -67,7 +69,8 @@ def bring_back(folder):
 
 @contextlib.contextmanager
 def laid_out():
-    """Lays the repository out in a new folder, and gives that. It is gone at the end, also where an interrupt or a signal to end comes."""
+    """Lays the repository out in a new folder, and gives that. It is gone at the end, also where an interrupt or a
+    signal to end comes."""
     for it in (signal.SIGTERM, signal.SIGHUP):
         if signal.getsignal(it) is signal.SIG_DFL:
             signal.signal(it, lambda number, _: sys.exit(128 + number))

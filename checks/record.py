@@ -1,8 +1,9 @@
 """The record of the wrong bodies that were refused: a file of the repository, with a line for each.
 
-A line is 'CRATE NAME SUM COMMIT WHY': SUM is of what the refusal is about, shortened, COMMIT that of the checkout where it was tried last, and
-WHY the goal, its place and how it was refused. The lines stand in the order of crate and name. A line is a claim of whoever wrote it: it
-holds as long as its sum is that of what stands in the repository, and whoever doubts it tries the body again.
+A line is 'CRATE NAME SUM COMMIT WHY': SUM is of what the refusal is about, shortened, COMMIT that of the checkout where
+it was tried last, and WHY the goal, its place and how it was refused. The lines stand in the order of crate and name. A
+line is a claim of whoever wrote it: it holds as long as its sum is that of what stands in the repository, and whoever
+doubts it tries the body again.
 """
 import collections
 import os
@@ -15,7 +16,8 @@ Line = collections.namedtuple("Line", "sum at why")
 
 
 class Record:
-    """The lines of a record, by crate and name, and what is at fault with it over the sums of the bodies that there are."""
+    """The lines of a record, by crate and name, and what is at fault with it over the sums of the bodies that there
+    are."""
 
     def __init__(self, path, sums):
         self.path, self.sums = path, {body: sum[:DIGITS] for body, sum in sums.items()}
@@ -57,15 +59,22 @@ class Record:
             self.lines[body] = Line(self.sums[body], at, " ".join(why.split()))
 
     def write(self):
-        """Writes the lines that hold, in order; no other run meets half of them, and what a run that was cut off wrote stays whole.
+        """Writes the lines that hold, in order; no other run meets half of them, and what a run that was cut off wrote
+        stays whole.
 
         What another run wrote meanwhile stays, but for what this one came to.
         """
         others = {body: line for body, line in Record(self.path, self.sums).lines.items() if body not in self.tried}
         mine = {body: line for body, line in self.lines.items() if body in self.tried}
         self.lines = {**others, **mine}
-        text = "".join(f"{' '.join(it)} {self.sums[it]} {self.lines[it].at} {why}\n" for it in sorted(self.lines) if (why := self.why(*it)))
-        with tempfile.NamedTemporaryFile("w", dir=os.path.dirname(self.path), prefix="refused-", delete=False, encoding="utf-8", newline="\n") as it:
+        text = "".join(
+            f"{' '.join(it)} {self.sums[it]} {self.lines[it].at} {why}\n"
+            for it in sorted(self.lines)
+            if (why := self.why(*it))
+        )
+        with tempfile.NamedTemporaryFile(
+            "w", dir=os.path.dirname(self.path), prefix="refused-", delete=False, encoding="utf-8", newline="\n"
+        ) as it:
             it.write(text)
         os.chmod(it.name, 0o644)
         os.replace(it.name, self.path)

@@ -8,9 +8,9 @@ HEAD_OF_TYPE = re.compile(r"(?:pub(?:\([^)]*\))? )?(?:struct|enum) (\w+)")
 NAME = re.compile(r"'?[A-Za-z_][\w:]*")
 
 # Of `file`, its lines from `first` to `last`, counted from 1: one function, or one line outside of functions, and then
-# `name` is None. `of` is the name of its impl's type, `trait` that of its trait, and `by` those of the trait's types, without parameters
-# of the impl. Of a function of a trait itself `of` is the trait's name, and `trait` is empty. Without a trait, `by` has the types for which alone
-# the impl is: `+Core+R` of `impl<R> End<Core, R>`.
+# `name` is None. `of` is the name of its impl's type, `trait` that of its trait, and `by` those of the trait's types,
+# without parameters of the impl. Of a function of a trait itself `of` is the trait's name, and `trait` is empty.
+# Without a trait, `by` has the types for which alone the impl is: `+Core+R` of `impl<R> End<Core, R>`.
 Place = collections.namedtuple("Place", "file first last name of trait by")
 
 
@@ -29,7 +29,9 @@ class Source:
             elif line == "}":
                 of = trait = by = None
             if head:
-                self.functions.append(Place(file, self.begin(at) + 1, self.end(at, head[1]) + 1, head[2], of, trait, by))
+                self.functions.append(
+                    Place(file, self.begin(at) + 1, self.end(at, head[1]) + 1, head[2], of, trait, by)
+                )
 
     def head(self, first):
         """What stands from an `impl` on to the brace that opens it, in one line."""
@@ -83,14 +85,19 @@ def brackets(text):
 
 
 def parts_of_impl(head):
-    """Of the head of an impl the name of its type, that of its trait, if it is of one, and those of the trait's types."""
+    """Of the head of an impl the name of its type, that of its trait, if it is of one, and those of the trait's
+    types."""
     parameters, rest = brackets(head.removeprefix("impl"))
     own = set(re.findall(r"(?:^|, )(?:const )?('?\w+)", re.sub(r"<.*?>", "", parameters)))
     trait = NAME.match(rest.lstrip())
     types, behind = brackets(rest.lstrip()[trait.end() :])
     if not behind.lstrip().startswith("for "):
         named = NAME.findall(types)
-        by = "".join(f"+{in_one_word(it)}" for it in named) if any(it not in own and not it.startswith("'") for it in named) else None
+        by = (
+            "".join(f"+{in_one_word(it)}" for it in named)
+            if any(it not in own and not it.startswith("'") for it in named)
+            else None
+        )
         return in_one_word(trait[0]), None, by
     of = NAME.match(behind.lstrip().removeprefix("for "))
     named = [it for it in NAME.findall(types) if it not in own and not it.startswith("'")]
