@@ -10,7 +10,7 @@ use std::ops::Range;
 use std::sync::Wait;
 use std::time::Duration;
 
-/// What is said where the close is told.
+/// What is said when the close is told.
 pub const CLOSED: u32 = u32::MAX;
 
 /// Says each message, and the close.
@@ -233,7 +233,7 @@ where
         poller.keep_waits(8).is_ok() && same
     }
 
-    // Whether the token names the channel, where nothing else goes wrong.
+    // Whether the token names the channel, if nothing else goes wrong.
     fn disable(&mut self) -> Option<bool> {
         let token = self.token?;
         is_named(&self.event_loop.handle().disable(&token))
@@ -266,7 +266,7 @@ pub fn both_ends<R: Wait + Clone + Drop>(
 /// What a loop of channels holds.
 pub type Held<R> = Sources<Dispatcher<Channel<u32, R>, Reader>, Vec<u32>>;
 
-/// Plays at a new desk: the place of the first act that isn't as it is wanted, or one behind the last where no desk can be made. What names the types
+/// Plays at a new desk: the place of the first act that isn't as it is wanted, or one behind the last if no desk can be made. What names the types
 /// of a loop makes one call and owns none: a call on a loop whose types are written out costs the prover as much as a whole test.
 pub fn plays<R: Wait + Clone + Drop>(rt: &R, alloc: Global, acts: &[Act<'_>]) -> Option<usize> {
     plays_over::<Held<R>, R>(rt, alloc, acts)

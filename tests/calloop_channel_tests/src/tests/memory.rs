@@ -1,4 +1,4 @@
-//! Channels where memory is wanting: what was refused comes back, and goes through once there is memory.
+//! Channels when memory is short: what was refused comes back, and goes through once there is memory.
 use calloop::Error;
 use calloop::channel::{Channel, SendError, Sender, SyncSender, make_channel, sync_channel};
 use std::alloc::Global;
@@ -11,7 +11,7 @@ fn want_of_memory_loses_no_message(rt: HostRuntime) {
     assert_eq!(rt; tries_all(&rt, rt.alloc()), Some(true));
 }
 
-// A channel, where the first or the second try makes one.
+// A channel, if the first or the second try makes one.
 fn make<R: Wait + Clone + Drop>(
     rt: &R,
     alloc: Global,

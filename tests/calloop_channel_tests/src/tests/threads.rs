@@ -56,7 +56,7 @@ enum Trial {
     Room,
 }
 
-// Whether it goes as it is to. None where memory is short. This alone knows of which types the loop is.
+// Whether it goes as it is to. None if memory is short. This alone knows of which types the loop is.
 fn goes<R>(rt: &R, alloc: Global, trial: Trial) -> Option<bool>
 where
     R: Threads + Wait + Clone + Drop + Send + Sync + 'static,

@@ -246,7 +246,7 @@ where
         poller.keep_waits(8).is_ok() && same
     }
 
-    // Whether the token names the executor, where nothing else goes wrong.
+    // Whether the token names the executor, if nothing else goes wrong.
     fn disable(&mut self) -> Option<bool> {
         let token = self.token?;
         is_named(&self.event_loop.handle().disable(&token))
@@ -261,7 +261,7 @@ where
 /// What a loop of executors holds.
 type Held<R> = Sources<Dispatcher<Executor<Job<R>, R>, Reader>, Vec<u32>>;
 
-/// Plays at a new desk: the place of the first act that isn't as it is wanted, or one behind the last where no desk can be made. This and `goes` alone
+/// Plays at a new desk: the place of the first act that isn't as it is wanted, or one behind the last if no desk can be made. This and `goes` alone
 /// know of which types it is, and call nothing else: a call on a loop whose types are written out costs the prover as much as a whole test.
 pub fn plays<R: Wait + Clone + Drop>(rt: &R, alloc: Global, acts: &[Act<'_>]) -> Option<usize> {
     plays_over::<Held<R>, R>(rt, alloc, acts)
@@ -298,7 +298,7 @@ pub enum Trial {
     RunWithoutMemory,
 }
 
-/// Whether it goes as it is to. None where memory is short.
+/// Whether it goes as it is to. None if memory is short.
 pub fn goes<R>(rt: &R, alloc: Global, trial: Trial) -> Option<bool>
 where
     R: Threads + Wait + Clone + Drop + Send + Sync + 'static,

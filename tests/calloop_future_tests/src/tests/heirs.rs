@@ -42,7 +42,7 @@ enum Ends {
     Unpolled,
 }
 
-/// Schedules a future that gives 2 where it is dropped, and counts how that ends.
+/// Schedules a future that gives 2 when it is dropped, and counts how that ends.
 struct Heir<R: Wait + Clone + Drop> {
     scheduler: Scheduler<Task<R>, R>,
     outcome: Arc<AtomicU32, Global>,

@@ -51,7 +51,7 @@ impl<R: Wait + Drop> Outbox<R> {
     }
 }
 
-/// Counts where it is dropped.
+/// Counts when it is dropped.
 pub struct Faller {
     pub fallen: Arc<AtomicU32, Global>,
 }

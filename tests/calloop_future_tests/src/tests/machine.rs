@@ -55,7 +55,7 @@ enum Trial {
     RunsInStep,
 }
 
-// Whether the wakes are seen. None where memory is short. This alone knows of which types the loop is.
+// Whether the wakes are seen. None if memory is short. This alone knows of which types the loop is.
 fn goes<R>(rt: &R, alloc: Global, trial: Trial) -> Option<bool>
 where
     R: Net + MachineClock + Threads + Wait + Clone + Drop + Send + Sync + 'static,
@@ -226,7 +226,7 @@ where
     false
 }
 
-// What a loop that runs for a future gives, which a thread wakes. None where the thread had to stop the loop.
+// What a loop that runs for a future gives, which a thread wakes. None if the thread had to stop the loop.
 fn gives_in_block_on<D, R>(rt: &R, alloc: Global) -> Option<Option<u32>>
 where
     D: EventDispatcher<MioPoller<SystemClock<R>>, SystemClock<R>, R, Data = Vec<u32>>,
@@ -262,7 +262,7 @@ where
     Some(went && answer.ok()? == Some(WAKES))
 }
 
-// Wakes the future that a loop runs for, each time once it was polled after the wake before. The loop is stopped where it isn't.
+// Wakes the future that a loop runs for, each time once it was polled after the wake before. The loop is stopped when it isn't.
 fn wakes_in_step<R>(rt: &R, tally: &Tally<R>, signal: &LoopSignal) -> bool
 where
     R: MachineClock + Wait + Drop,
@@ -278,7 +278,7 @@ where
     went
 }
 
-// Wakes the future that a loop runs for, once that has handed its waker out. The loop is stopped where the last wake isn't seen.
+// Wakes the future that a loop runs for, once that has handed its waker out. The loop is stopped when the last wake isn't seen.
 fn wakes_or_stops<R>(rt: &R, tally: &Tally<R>, signal: &LoopSignal)
 where
     R: MachineClock + Wait + Drop,

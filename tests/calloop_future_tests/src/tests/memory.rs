@@ -1,4 +1,4 @@
-//! Futures and streams where memory is wanting: what was refused leaves nothing made, comes back, and goes through at the second try.
+//! Futures and streams when memory is short: what was refused leaves nothing made, comes back, and goes through at the second try.
 //!
 //! The kit's unproved run has one allocation refused: `rt try --test --fail-alloc N`.
 use super::desk::{self, Trial, are_all, goes};
@@ -166,7 +166,7 @@ where
     }
 }
 
-// Whether a loop that runs for a future, or for a second one where there was no memory, gives what it gives.
+// Whether a loop that runs for a future, or for a second one if there was no memory, gives what it gives.
 pub fn gives_in_block_on<D, R>(rt: &R, alloc: Global) -> Option<bool>
 where
     D: EventDispatcher<ScriptPoller, ScriptClock, R, Data = Vec<u32>>,

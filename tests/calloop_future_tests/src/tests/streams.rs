@@ -11,7 +11,7 @@ use std::alloc::Global;
 use std::sync::{Arc, Wait};
 use std::time::Duration;
 
-// What is said where the end is told.
+// What is said when the end is told.
 const ENDED: u32 = u32::MAX;
 
 #[test]
@@ -38,7 +38,7 @@ enum Trial {
     Woken,
 }
 
-// Whether it is read as it is to. None where memory is short. This alone knows of which types the loop is.
+// Whether it is read as it is to. None if memory is short. This alone knows of which types the loop is.
 fn goes<R: Wait + Clone + Drop>(rt: &R, alloc: Global, trial: Trial) -> Option<bool> {
     tries::<Held<R>, R>(rt, alloc, trial)
 }

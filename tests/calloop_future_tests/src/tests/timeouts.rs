@@ -182,7 +182,7 @@ where
     }
 }
 
-// Plays at a new loop: the place of the first act that isn't as it is wanted, or one behind the last where no loop can be made. This alone knows of
+// Plays at a new loop: the place of the first act that isn't as it is wanted, or one behind the last if no loop can be made. This alone knows of
 // which types the loop is.
 fn plays<R: Wait + Clone + Drop>(rt: &R, alloc: Global, acts: &[Act<'_>]) -> Option<usize> {
     plays_over::<Held<R>, R>(rt, alloc, acts)

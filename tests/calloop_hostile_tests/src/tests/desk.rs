@@ -357,7 +357,7 @@ fn so(is: bool) -> Option<()> {
     if is { Some(()) } else { None }
 }
 
-/// Plays at a new desk: the place of the first act that isn't as it is wanted, or one behind the last where no desk can be made.
+/// Plays at a new desk: the place of the first act that isn't as it is wanted, or one behind the last if no desk can be made.
 pub fn plays<R: Wait + Clone + Drop>(rt: &R, alloc: Global, acts: &[Act<'_>]) -> Option<usize> {
     let made: Option<Desk<Held<R>, R>> = Desk::new(rt, alloc);
     match made {

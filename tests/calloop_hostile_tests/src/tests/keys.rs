@@ -148,7 +148,7 @@ fn rings<R: Wait + Drop>(ping: Ping<R>, raised: Number, ends: Arc<AtomicBool, Gl
     true
 }
 
-/// Notes the last message, where it follows the one before.
+/// Notes the last message, if it follows the one before.
 #[derive(Drop)]
 struct Follows;
 

@@ -1,4 +1,4 @@
-//! Loops where memory is wanting: what was refused has changed nothing, comes back, and goes through at the second try.
+//! Loops when memory is short: what was refused has changed nothing, comes back, and goes through at the second try.
 //!
 //! `checks/memory` runs these with each allocation refused in turn, and `what_takes_no_memory_succeeds` with all from there on.
 use super::desk::Note;
@@ -146,7 +146,7 @@ fn given_back<T: Drop>(refused: InsertError<T>) -> Option<T> {
     Some(inserted)
 }
 
-// Also where the scripted poller wants it, which notes its calls.
+// Also if the scripted poller wants it, which notes its calls.
 fn wants_memory(error: &Error) -> bool {
     match error {
         Error::OutOfMemory => true,
@@ -342,7 +342,7 @@ where
     Some(were_asked(&mut event_loop, &[20, 10]))
 }
 
-// A socket that the poller fails to delete leaves its slot, with a warning or, where that was refused, without one.
+// A socket that the poller fails to delete leaves its slot, with a warning or, if that was refused, without one.
 fn loses_a_warning<D, R>(rt: &R, alloc: Global) -> Option<bool>
 where
     D: EventDispatcher<ScriptPoller, ScriptClock, R, Data = Vec<u32>>,

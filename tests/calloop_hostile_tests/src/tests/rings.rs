@@ -87,7 +87,7 @@ impl Script {
     }
 }
 
-// The first round in which a ping isn't called as the model says. None where memory is short, or a thread can't be had.
+// The first round in which a ping isn't called as the model says. None if memory is short, or a thread can't be had.
 fn first_wrong_round<D, R>(rt: &R, alloc: Global, seed: u64) -> Option<Option<u32>>
 where
     D: EventDispatcher<ScriptPoller, ScriptClock, R, Data = Each<u32>>,

@@ -377,7 +377,7 @@ fn so(is: bool) -> Option<()> {
     if is { Some(()) } else { None }
 }
 
-/// Plays at a new desk: the place of the first act that isn't as it is wanted, or one behind the last where no desk can be made. This alone knows of
+/// Plays at a new desk: the place of the first act that isn't as it is wanted, or one behind the last if no desk can be made. This alone knows of
 /// which types it is, and calls nothing else: a call on a loop whose types are written out costs the prover as much as a whole test.
 pub fn plays<R: Wait + Clone + Drop>(rt: &R, alloc: Global, acts: &[Act<'_>]) -> Option<usize> {
     plays_over::<Held<R>, R>(rt, alloc, acts)

@@ -1,4 +1,4 @@
-//! Sockets as futures where memory is wanting: what was refused goes through at the second try.
+//! Sockets as futures when memory is short: what was refused goes through at the second try.
 //!
 //! The kit's unproved run has one allocation refused: `rt try --test --fail-alloc N`.
 use calloop::futures::{Context, Executor, Future, Poll, ScheduleError, Scheduler, make_executor};
@@ -147,7 +147,7 @@ fn schedule<R: Wait + Clone + Drop>(
     }
 }
 
-// The next wait finds the socket readable, under its first registration, or under its second one where the first was refused.
+// The next wait finds the socket readable, under its first registration, or under its second one if the first was refused.
 fn answer<D, R>(event_loop: &mut ScriptLoop<D, R>, alloc: Global) -> Option<()>
 where
     D: EventDispatcher<ScriptPoller, ScriptClock, R, Data = Back<R>>,

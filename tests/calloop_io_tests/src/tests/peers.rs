@@ -121,7 +121,7 @@ fn reader<R: Wait + RuntimeClock + Clone + Drop>(io: Socket<R>, alloc: Global) -
     }
 }
 
-// Says the greeting, where there is memory for it.
+// Says the greeting, if there is memory for it.
 fn writer<R: Wait + RuntimeClock + Clone + Drop>(io: Socket<R>, alloc: Global) -> Mover<R> {
     let mut left = Vec::new(alloc);
     let _failed = left.extend_from_slice(GREETING);

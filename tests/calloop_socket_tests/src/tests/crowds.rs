@@ -25,7 +25,7 @@ impl<R: Net + Wait + Drop + Abort> Scene<R> for AWaitTellsOf1024SocketsAndTheNex
     fn play<S: Square<R> + Drop>(self, rt: &R, alloc: Global) {
         for count in [1024usize, 1025] {
             let mut square = S::new(rt, alloc);
-            // Fewer where the machine gives no more descriptors.
+            // Fewer if the machine gives no more descriptors.
             let peers = crowd(rt, alloc, &mut square, count);
             let there = peers.len();
             assert_eq!(rt; square.writable(), there.min(1024));

@@ -79,7 +79,7 @@ pub enum Act<'a> {
     ComesAgain(usize, u32),
     /// It has another interest from its next registration on.
     SetInterest(usize, Interest),
-    /// It is removed while the poller doesn't give it up, and hands itself back where it is unwrapped.
+    /// It is removed while the poller doesn't give it up, and hands itself back when it is unwrapped.
     KeepsItsSocket(usize),
 }
 
@@ -88,7 +88,7 @@ pub trait Seen {
     // Sets the interest of a socket. False of anything else.
     fn interests(&mut self, interest: Interest) -> bool;
 
-    // Whether it is a socket that hands itself back where it is unwrapped.
+    // Whether it is a socket that hands itself back when it is unwrapped.
     fn keeps_its_socket(self) -> bool;
 }
 
@@ -351,7 +351,7 @@ where
     }
 }
 
-/// Plays at a new desk: the place of the first act that isn't as it is wanted, or one behind the last where no desk can be made. This alone knows of
+/// Plays at a new desk: the place of the first act that isn't as it is wanted, or one behind the last if no desk can be made. This alone knows of
 /// which types it is, and calls nothing else: a call on a loop whose types are written out costs the prover as much as a whole test.
 pub fn plays<R: Wait + Clone + Drop>(rt: &R, alloc: Global, acts: &[Act<'_>]) -> Option<usize> {
     plays_over::<Held<R>, R>(rt, alloc, acts)

@@ -40,7 +40,7 @@ pub trait Square<R: Wait + Drop>: Sized {
     // Gives a socket another interest, and updates it.
     fn updates(&mut self, token: RegistrationToken, interest: Interest) -> bool;
 
-    // The source that a token names leaves the loop: its socket, where it is one that is registered no more.
+    // The source that a token names leaves the loop: its socket, if it is one that is registered no more.
     fn takes_out(&mut self, token: RegistrationToken) -> Option<MioIo>;
 
     // How many streams can be written to, by a dispatch without a wait.
@@ -58,7 +58,7 @@ pub trait Choice {
     // Sets the interest of a socket. False of a ping.
     fn interests(&mut self, interest: Interest) -> bool;
 
-    // Its socket, where it is one that is registered no more.
+    // Its socket, if it is one that is registered no more.
     fn socket(self) -> Option<MioIo>;
 
     // The one who connected last to it.

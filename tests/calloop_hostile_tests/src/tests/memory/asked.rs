@@ -1,4 +1,4 @@
-//! What a callback asks for where memory is wanting, and answers that a refused dispatch leaves.
+//! What a callback asks for when memory is short, and answers that a refused dispatch leaves.
 ghost use Rattle.calloop.specs.loop_logic.Askings.{OnlyAsks};
 
 use super::super::desk::Note;
@@ -31,7 +31,7 @@ fn a_refused_dispatch_leaves_the_answers(rt: HostRuntime) {
     );
 }
 
-/// Asks for each thing that can be asked for, by two tries each, and says 1; or 99 where it can't.
+/// Asks for each thing that can be asked for, by two tries each, and says 1; or 99 if it can't.
 #[derive(Drop)]
 struct Asker<R: Wait + Drop> {
     // A ping that is to come in, once.

@@ -1,4 +1,4 @@
-//! What takes no memory, where there is none.
+//! What takes no memory, when there is none.
 use super::super::desk::Note;
 use calloop::channel::{Channel, SyncSender, sync_channel};
 use calloop::futures::{Context, Executor, Future, Poll, Waker, make_executor};

@@ -64,7 +64,7 @@ impl<R: Wait + Clone + Drop> Desk<R> {
         }
     }
 
-    // Whether it was refused for want of tokens, where it was.
+    // Whether it was refused for want of tokens, if it was.
     fn registers(&mut self, factory: &mut TokenFactory) -> std::result::Result<(), bool> {
         let Desk { poll, adapter, io: _ } = self;
         let mut failure = Error::InvalidToken;
