@@ -8,8 +8,8 @@ use calloop_laws::{
     call_of_a_ring_that_there_is, dispatch_of_a_ring_that_there_is, each_dispatch_serves_all,
     histories_are_schedules, once, once_where_nothing_is_asked, run_that_there_is,
     runs_that_go_wrong_late, unserved_dispatches_are_ruled_out, unserved_keys_are_ruled_out,
-    what_is_posted_is_served, what_was_sent_is_given, wrong_histories_are_ruled_out,
-    wrong_runs_are_ruled_out,
+    what_is_posted_is_served, what_was_queued_is_popped, what_was_sent_is_given,
+    wrong_histories_are_ruled_out, wrong_runs_are_ruled_out,
 };
 use calloop_script::{ScriptClock, ScriptPoller};
 use calloop_wake_laws::{
@@ -153,5 +153,6 @@ fn the_laws_of_turns_rule_a_silent_callback_out(_rt: HostRuntime) {
         HostRuntime,
     >();
     what_was_sent_is_given();
+    what_was_queued_is_popped();
     call_of_a_ring_that_there_is();
 }

@@ -15,4 +15,5 @@ pub mod Handing
 pub mod Tying
 pub mod Calling
 pub mod Sent
+pub mod Queued
 pub mod Refuting

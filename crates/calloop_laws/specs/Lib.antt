@@ -16,4 +16,5 @@ pub mod Tied
 pub mod Called
 pub mod Rung
 pub mod Sent
+pub mod Queued
 pub mod Examples

@@ -53,7 +53,7 @@ mod turns;
 pub use turns::{
     a_posted_channel_opens_its_turn, a_posted_executor_opens_its_turn,
     a_posted_stream_opens_its_turn, a_rung_ping_is_called, call_of_a_ring_that_there_is,
-    what_was_sent_is_given,
+    what_was_queued_is_popped, what_was_sent_is_given,
 };
 
 /// Over every run of the machine, from any state: each event that is cut goes to just the source that its token names

@@ -7,7 +7,7 @@
 //!
 //! That the turn is a step of the history, and that the source's tally counts it if the cell opens it, is what the contract of the cell's
 //! `open_turn` and its lock give: a premise here, as for the notes of the watch.
-ghost use Rattle.std.specs.Prelude.{ℕ, [], ◌∷◌, Ok, None};
+ghost use Rattle.std.specs.Prelude.{◌≡◌, ℕ, [], ◌∷◌, Ok, None};
 ghost use Rattle.logbook.specs.Pages.{Book};
 ghost use Rattle.calloop_poll.specs.sys.Polls.{posted_event};
 ghost use Rattle.calloop_ends.specs.channel.Channels.{ChannelOpens, channel_tally};
@@ -22,7 +22,8 @@ ghost use Rattle.calloop_laws.specs.Examples.{SmallHistory};
 ghost use Rattle.calloop_laws.specs.Histories.{IsHistory};
 ghost use Rattle.calloop_laws.specs.Sent.{WhatWasSentIsGiven, FindsNone, HasGivenAll, history_of_a_message};
 ghost use Rattle.calloop_laws.specs.Tied.{Taking};
-ghost use Rattle.calloop_wake_laws.specs.Lost.{of_channels};
+ghost use Rattle.calloop_laws.specs.Queued.{WhatWasQueuedIsPopped, FindsNoTask, popped_in, history_of_a_task};
+ghost use Rattle.calloop_wake_laws.specs.Lost.{of_channels, of_executors};
 ghost use Rattle.calloop_wake_laws.specs.Kinds.{Born, every_kind, new_cell};
 ghost use Rattle.calloop_wake_laws.specs.Wakes.{start};
 ghost use Rattle.calloop_laws.specs.Rung.{ringing, unknown, no_idles, calls_anything, is_never_called, opens_none, asks_anything, itself, ping_before, with_a_ping, of_a_call};
@@ -102,6 +103,20 @@ where
     ensures { OverEachDispatch D.means D.Idle.runs P.outside
         (OpensEachTurn executor_tally (ExecutorOpens (ComesOf Fut.gives Fut.polls)) F.may
         ⟦<Requests<D, <D as EventDispatcher<P, C, R>>::Idle> as Asking>⟧.reaches D.held D.means) }
+{}
+
+/// In every history of a board: by a pop of an executor that finds no task each task that was queued as keys were taken before was popped, in
+/// order, if nobody changed the executor's registration. So an executor's turn that isn't at its bound has popped each task that was woken or
+/// scheduled before the dispatch took keys. A history that meets this.
+pub fn what_was_queued_is_popped()
+    ensures popped { (born : ℕ → Born) (hs : SmallHistory)
+        → IsHistory every_kind (start (λ n. new_cell (born n))) hs
+        → WhatWasQueuedIsPopped born hs }
+    ensures history { IsHistory every_kind of_executors history_of_a_task }
+    ensures met { (t : Taking [] history_of_a_task)
+        × (pop : FindsNoTask (world_behind_it every_kind of_executors history_of_a_task t) t.behind 0)
+        × (popped_in 0 (world_behind_it every_kind of_executors history_of_a_task t) pop.earlier
+        ≡ 2 ∷ []) }
 {}
 
 /// The turn of a stream's source is opened, which reads the stream if its ping was rung.
