@@ -114,7 +114,8 @@ pub fn what_was_queued_is_popped()
         → WhatWasQueuedIsPopped born hs }
     ensures history { IsHistory every_kind of_executors history_of_a_task }
     ensures met { (t : Taking [] history_of_a_task)
-        × (pop : FindsNoTask (world_behind_it every_kind of_executors history_of_a_task t) t.behind 0)
+        × (pop : FindsNoTask
+        (world_behind_it every_kind of_executors history_of_a_task t) t.behind 0)
         × (popped_in 0 (world_behind_it every_kind of_executors history_of_a_task t) pop.earlier
         ≡ 2 ∷ []) }
 {}
