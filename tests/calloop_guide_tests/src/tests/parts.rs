@@ -1,7 +1,7 @@
 //! Two sources as one.
 use calloop::{
-    Both, Dispatcher, Instant, Movable, On, PingSource, Result, ScriptLoop,
-    Sources, TimeoutAction, Timer, make_ping,
+    Both, Dispatcher, Instant, Movable, On, PingSource, Result, ScriptLoop, Sources, TimeoutAction,
+    Timer, make_ping,
 };
 use std::alloc::Global;
 use std::sync::Wait;
@@ -33,10 +33,7 @@ impl On<Instant, String, TimeoutAction> for Says {
 }
 
 type Held<R> = Sources<
-    Both<
-        Dispatcher<Movable<PingSource<R>>, Says>,
-        Dispatcher<Movable<Timer>, Says>,
-    >,
+    Both<Dispatcher<Movable<PingSource<R>>, Says>, Dispatcher<Movable<Timer>, Says>>,
     String,
 >;
 

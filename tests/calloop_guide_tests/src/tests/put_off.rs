@@ -62,10 +62,7 @@ impl On<Instant, Bursts, TimeoutAction> for Notes {
     }
 }
 
-type Held<R> = Sources<
-    OneOf<Dispatcher<Channel<(), R>, Counts>, Dispatcher<Timer, Notes>>,
-    Bursts,
->;
+type Held<R> = Sources<OneOf<Dispatcher<Channel<(), R>, Counts>, Dispatcher<Timer, Notes>>, Bursts>;
 
 fn lengths<R: Wait + Clone + Drop>(rt: &R, alloc: Global) -> Result<Vec<u32>> {
     let mut event_loop: ScriptLoop<Held<R>, R> = ScriptLoop::with_script(rt, alloc)?;

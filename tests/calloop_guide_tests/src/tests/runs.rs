@@ -1,8 +1,8 @@
 //! Runs and their end.
 use calloop::futures::{Context, Future, Poll};
 use calloop::{
-    Dispatcher, EventDispatcher, Here, Instant, LoopHold, LoopSignal, On, Result, ScriptLoop, Sources,
-    TimeoutAction, Timer,
+    Dispatcher, EventDispatcher, Here, Instant, LoopHold, LoopSignal, On, Result, ScriptLoop,
+    Sources, TimeoutAction, Timer,
 };
 use calloop_script::{ScriptClock, ScriptPoller};
 use std::alloc::Global;
@@ -10,7 +10,9 @@ use std::sync::Wait;
 use std::test::Fail;
 
 #[test]
-fn a_run_ends_by_a_stop_and_another_gives_what_a_future_gives(rt: HostRuntime) -> std::result::Result<(), Fail> {
+fn a_run_ends_by_a_stop_and_another_gives_what_a_future_gives(
+    rt: HostRuntime,
+) -> std::result::Result<(), Fail> {
     let gave = both::<Held, HostRuntime>(&rt, rt.alloc());
     assert!(rt; gave.is_ok_and(|gave| gave == (1, Some(7))));
     Ok(())

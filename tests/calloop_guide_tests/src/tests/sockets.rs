@@ -1,7 +1,7 @@
 //! Sockets as sources.
 use calloop::{
-    Dispatcher, EventDispatcher, Generic, Here, Interest, LoopHold, MioPoller, Mode,
-    NoIoDrop, OnWith, PostAction, Readiness, Result, Sources, SystemClock, SystemLoop,
+    Dispatcher, EventDispatcher, Generic, Here, Interest, LoopHold, MioPoller, Mode, NoIoDrop,
+    OnWith, PostAction, Readiness, Result, Sources, SystemClock, SystemLoop,
 };
 use mio::net::UnixStream;
 use std::alloc::Global;

@@ -1,8 +1,8 @@
 //! Futures that wait for a moment.
 use calloop::futures::{Context, Executor, Future, Poll, make_executor};
 use calloop::{
-    Clock, Dispatcher, Error, EventDispatcher, Here, Instant, LoopHold, LoopKeep, On, OneOf, Result,
-    ScriptLoop, Sources, There, TimeoutFuture, TimeoutTimer,
+    Clock, Dispatcher, Error, EventDispatcher, Here, Instant, LoopHold, LoopKeep, On, OneOf,
+    Result, ScriptLoop, Sources, There, TimeoutFuture, TimeoutTimer,
 };
 use calloop_script::{ScriptClock, ScriptPoller};
 use std::alloc::Global;
@@ -10,7 +10,9 @@ use std::sync::Wait;
 use std::test::Fail;
 
 #[test]
-fn a_future_gives_its_number_once_its_moment_has_come(rt: HostRuntime) -> std::result::Result<(), Fail> {
+fn a_future_gives_its_number_once_its_moment_has_come(
+    rt: HostRuntime,
+) -> std::result::Result<(), Fail> {
     let sum = sum::<Held<ScriptClock, HostRuntime>, HostRuntime>(&rt, rt.alloc());
     assert!(rt; sum.is_ok_and(|sum| sum == (0, 9)));
     Ok(())
@@ -52,14 +54,7 @@ type Held<C, R> = Sources<
 fn sum<D, R>(rt: &R, alloc: Global) -> Result<(u64, u64)>
 where
     D: EventDispatcher<ScriptPoller, ScriptClock, R, Data = u64, Idle = ()>,
-    D: LoopHold<
-        Executor<Sleeper<ScriptClock, R>, R>,
-        Adds,
-        ScriptPoller,
-        ScriptClock,
-        R,
-        Here,
-    >,
+    D: LoopHold<Executor<Sleeper<ScriptClock, R>, R>, Adds, ScriptPoller, ScriptClock, R, Here>,
     D: LoopKeep<TimeoutTimer<R>, ScriptPoller, ScriptClock, R, There<Here>>,
     R: Wait + Clone + Drop,
 {

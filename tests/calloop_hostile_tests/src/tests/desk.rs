@@ -9,11 +9,11 @@ use calloop_script::{
     ScriptAnswer, ScriptCall, ScriptClock, ScriptEnd, ScriptEvents, ScriptIo, ScriptKind,
     ScriptPoller,
 };
+use calloop_slots::widths::{MOST_SLOTS, VERSIONS};
 use calloop_test_sources::attendant::Attendant;
 use calloop_test_sources::greedy::Greedy;
 use calloop_test_sources::source::{Counter, Listener, Teller};
 use calloop_test_sources::visitor::Visitor;
-use calloop_slots::widths::{MOST_SLOTS, VERSIONS};
 use std::alloc::Global;
 use std::sync::Wait;
 use std::time::Duration;

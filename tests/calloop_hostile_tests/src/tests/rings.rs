@@ -10,7 +10,9 @@ use std::thread::{JoinHandle, Threads, spawn};
 use std::time::Duration;
 
 const PINGS: usize = 6;
+
 const THREADS: u64 = 3;
+
 const ROUNDS: u32 = 150;
 
 #[test]
@@ -110,7 +112,11 @@ where
         let (opened, ready) = (Arc::try_clone(&opened).ok()?, Arc::try_clone(&ready).ok()?);
         let script = Script::new(seed, thread);
         let of_thread = rt.clone().ok()?;
-        let child = spawn(rt, move || rings(&of_thread, &again, script, &opened, &ready)).ok()?;
+        let child = spawn(
+            rt,
+            move || rings(&of_thread, &again, script, &opened, &ready),
+        )
+        .ok()?;
         children.push(child).ok()?;
     }
     let mut model = Model::new(seed);
