@@ -45,10 +45,7 @@ where
     }
 }
 
-type Held<R> = Sources<
-    OneOf<Dispatcher<PingSource<R>, Asker<R>>, Adapter<ScriptIo, R>>,
-    Given<R>,
->;
+type Held<R> = Sources<OneOf<Dispatcher<PingSource<R>, Asker<R>>, Adapter<ScriptIo, R>>, Given<R>>;
 
 // Which slot the adapter has whose socket is asked to be adapted in a turn of the first slot, and the socket's number.
 fn asks_in_a_turn<D, R>(rt: &R, alloc: Global) -> Option<(u32, i32)>

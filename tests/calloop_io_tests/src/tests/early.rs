@@ -147,8 +147,7 @@ where
     go_on(rt, &mut event_loop, &mut given)?;
     go_on(rt, &mut event_loop, &mut given)?;
     let mut handle = event_loop.handle();
-    let is_added = handle.poller_mut().calls()
-        == [ScriptCall::Add(1, KEY, TO_READ)].as_slice();
+    let is_added = handle.poller_mut().calls() == [ScriptCall::Add(1, KEY, TO_READ)].as_slice();
     Some(is_early && is_added && given.woken == 1)
 }
 

@@ -2,8 +2,8 @@
 use super::desk::Silent;
 use super::looks::{Adapted, Held, look, new_adapted};
 use calloop::{
-    Adapter, Choice, Dispatcher, Error, EventDispatcher, Here, Instant, LoopKeep, RegistrationToken,
-    ScriptLoop, There, Timer,
+    Adapter, Choice, Dispatcher, Error, EventDispatcher, Here, Instant, LoopKeep,
+    RegistrationToken, ScriptLoop, There, Timer,
 };
 use calloop_script::{ScriptClock, ScriptIo, ScriptKind, ScriptPoller};
 use std::alloc::Global;

@@ -5,9 +5,7 @@ use calloop::{
     Adapter, Async, Dispatcher, EventDispatcher, Here, Instant, LoopKeep, OneOf, Readiness,
     ScriptLoop, Sources, Timer,
 };
-use calloop_script::{
-    ScriptAnswer, ScriptClock, ScriptEnd, ScriptEvents, ScriptIo, ScriptPoller,
-};
+use calloop_script::{ScriptAnswer, ScriptClock, ScriptEnd, ScriptEvents, ScriptIo, ScriptPoller};
 use std::alloc::Global;
 use std::os::fd::RawFd;
 use std::sync::Wait;

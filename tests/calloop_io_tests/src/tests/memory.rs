@@ -6,9 +6,7 @@ use calloop::{
     Adapter, Async, Choice, Dispatcher, Error, EventDispatcher, Here, InsertError, Instant,
     LoopKeep, On, OneOf, Readiness, RegistrationToken, ScriptLoop, Sources, There, TokenFactory,
 };
-use calloop_script::{
-    ScriptAnswer, ScriptClock, ScriptEnd, ScriptEvents, ScriptIo, ScriptPoller,
-};
+use calloop_script::{ScriptAnswer, ScriptClock, ScriptEnd, ScriptEvents, ScriptIo, ScriptPoller};
 use std::alloc::Global;
 use std::sync::Wait;
 use std::time::Duration;

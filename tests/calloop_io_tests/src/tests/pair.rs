@@ -43,10 +43,7 @@ impl On<bool, u32, ()> for Counts {
     }
 }
 
-type Held<R> = Sources<
-    OneOf<Adapter<ScriptIo, R>, Dispatcher<Executor<Waits<R>, R>, Counts>>,
-    u32,
->;
+type Held<R> = Sources<OneOf<Adapter<ScriptIo, R>, Dispatcher<Executor<Waits<R>, R>, Counts>>, u32>;
 
 // Whether both of two sockets are added in one dispatch, the first slot's first, though they are polled in the other order.
 fn adds_both<D, R>(rt: &R, alloc: Global) -> Option<bool>

@@ -106,10 +106,7 @@ impl On<bool, u32, ()> for Counts {
     }
 }
 
-type Held<R> = Sources<
-    OneOf<Adapter<MioIo, R>, Dispatcher<Executor<Mover<R>, R>, Counts>>,
-    u32,
->;
+type Held<R> = Sources<OneOf<Adapter<MioIo, R>, Dispatcher<Executor<Mover<R>, R>, Counts>>, u32>;
 
 // Hears as many bytes.
 fn reader<R: Wait + RuntimeClock + Clone + Drop>(io: Socket<R>, alloc: Global) -> Mover<R> {

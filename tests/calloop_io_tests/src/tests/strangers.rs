@@ -1,9 +1,7 @@
 //! Two loops, and adapters of the one that are given back to the other.
 use super::looks::{Adapted, Held, look, new_adapted};
-use calloop::{
-    Adapter, Async, Error, EventDispatcher, Here, LoopKeep, ScriptLoop, Sources,
-};
-use calloop_script::{ScriptIo, ScriptClock, ScriptKind, ScriptPoller};
+use calloop::{Adapter, Async, Error, EventDispatcher, Here, LoopKeep, ScriptLoop, Sources};
+use calloop_script::{ScriptClock, ScriptIo, ScriptKind, ScriptPoller};
 use std::alloc::Global;
 use std::sync::Wait;
 use std::time::Duration;
@@ -36,7 +34,11 @@ fn an_adapter_of_another_loop_is_refused_where_the_own_one_was_dropped(rt: HostR
 
 #[test]
 fn a_loop_whose_last_kind_is_an_adapter_takes_one(rt: HostRuntime) {
-    let refused = refuses_a_stranger::<Alone<HostRuntime>, HostRuntime>(&rt, rt.alloc(), Own::Stays);
+    let refused = refuses_a_stranger::<Alone<HostRuntime>, HostRuntime>(
+        &rt,
+        rt.alloc(),
+        Own::Stays,
+    );
     assert_eq!(rt; refused, Some(true));
 }
 

@@ -14,9 +14,9 @@ use calloop_script::{
     ScriptAnswer, ScriptCall, ScriptClock, ScriptEnd, ScriptEvents, ScriptIo, ScriptKind,
     ScriptPoller,
 };
+use calloop_slots::widths::{MOST_SLOTS, VERSIONS};
 use calloop_test_sources::source::{Teller, Waker};
 use calloop_test_sources::visitor::Visitor;
-use calloop_slots::widths::{MOST_SLOTS, VERSIONS};
 use std::alloc::Global;
 use std::io::ErrorKind;
 use std::sync::Wait;

@@ -5,8 +5,8 @@ use calloop::{
     Readiness, Requests, Sources, SystemClock, SystemLoop,
 };
 use std::alloc::Global;
-use std::io::{self, PipeReader, Read, Write};
 use std::fs::Files;
+use std::io::{self, PipeReader, Read, Write};
 use std::net::Net;
 use std::process::Abort;
 use std::sync::Wait;

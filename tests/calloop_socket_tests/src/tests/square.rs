@@ -92,16 +92,7 @@ impl<D, R> Square<R> for Table<D, Machine<R>, SystemClock<R>, R>
 where
     D: EventDispatcher<Machine<R>, SystemClock<R>, R, Data = Vec<u32>, Idle = ()> + Choice,
     D: Hold<PingSource<R>, Teller, Machine<R>, SystemClock<R>, R, Vec<u32>, Requests<D>, Here>,
-    D: Hold<
-        Generic<MioIo>,
-        Reader,
-        Machine<R>,
-        SystemClock<R>,
-        R,
-        Vec<u32>,
-        Requests<D>,
-        Second,
-    >,
+    D: Hold<Generic<MioIo>, Reader, Machine<R>, SystemClock<R>, R, Vec<u32>, Requests<D>, Second>,
     R: Net + MachineClock + Wait + Clone + Drop + Abort,
 {
     fn new(rt: &R, alloc: Global) -> Table<D, Machine<R>, SystemClock<R>, R> {

@@ -1,8 +1,6 @@
 //! The room for an adapter's mark: one that left, or was refused, has given it up.
 use calloop::io::make_ends;
-use calloop::{
-    Adapter, Async, Dispatch, Error, Poll, RegistrationToken, Result, TokenFactory,
-};
+use calloop::{Adapter, Async, Dispatch, Error, Poll, RegistrationToken, Result, TokenFactory};
 use calloop_script::{ScriptClock, ScriptIo, ScriptPoller};
 use std::alloc::Global;
 use std::sync::Wait;
@@ -66,7 +64,11 @@ impl<R: Wait + Clone + Drop> Desk<R> {
 
     // Whether it was refused for want of tokens, if it was.
     fn registers(&mut self, factory: &mut TokenFactory) -> std::result::Result<(), bool> {
-        let Desk { poll, adapter, io: _ } = self;
+        let Desk {
+            poll,
+            adapter,
+            io: _,
+        } = self;
         let mut failure = Error::InvalidToken;
         match Dispatch::<ScriptPoller, ScriptClock, R, (), ()>::register(
             adapter,
@@ -87,9 +89,16 @@ impl<R: Wait + Clone + Drop> Desk<R> {
         if self.registers(&mut factory()).is_err() || self.io.begin_leaving().is_none() {
             return false;
         }
-        let Desk { poll, adapter, io: _ } = self;
+        let Desk {
+            poll,
+            adapter,
+            io: _,
+        } = self;
         let mut failure = Error::InvalidToken;
-        Dispatch::<ScriptPoller, ScriptClock, R, (), ()>::unregister(adapter, poll, &mut failure)
-            .is_ok()
+        Dispatch::<ScriptPoller, ScriptClock, R, (), ()>::unregister(
+            adapter,
+            poll,
+            &mut failure,
+        ).is_ok()
     }
 }
