@@ -1,5 +1,5 @@
 -- A cell that is at rest as a dispatch takes keys opens the turn of its event; and a ring that stands then stands until that turn, which calls back.
-use Rattle.std.proofs.Common.{◌≡◌, ◌≢◌, ℕ, ◌+◌, ◌-◌, ◌<◌, ◌≤◌, Bool, true, false, ◌&&◌, not, if◌then◌else◌, ◌⊎◌, inl, inr, Option, Some, None, Result, Ok, Err, List, [], ◌∷◌, ◌++◌, nat_eq, nat_lt, refl, sym, ◌∙◌, ap, subst, arith}
+use Rattle.std.proofs.Common.{◌≡◌, ◌≢◌, ℕ, ◌+◌, ◌-◌, ◌<◌, ◌≤◌, Bool, true, false, ◌&&◌, not, if◌then◌else◌, ◌⊎◌, inl, inr, Option, Some, None, Result, Ok, Err, List, [], ◌∷◌, ◌++◌, nat_eq, nat_lt, refl, sym, ◌∙◌, ap, subst, arith, append_assoc}
 use Rattle.std.proofs.lemmas.Bool.Decides.{nat_tests}
 use Rattle.calloop_slots.specs.declared.error.Error.{Error}
 use Rattle.calloop_slots.specs.declared.list.Content.{Content}
@@ -23,7 +23,7 @@ use Rattle.calloop_wake_laws.proofs.BothLawful.{every_lawful}
 use Rattle.calloop_wake_laws.proofs.Schedules.{with_cell_cases}
 use Rattle.calloop_sources.specs.declared.sources.dispatch.Dispatcher.{Dispatcher}
 use Rattle.calloop_sources.specs.declared.sources.source.PostAction.{PostAction}
-use Rattle.calloop_sources.specs.sources.Calls.{CallbackCall, Calling, Went, Becomes}
+use Rattle.calloop_sources.specs.sources.Calls.{CallbackCall, Calling, Becomes}
 use Rattle.calloop_sources.specs.sources.Deeds.{Lent, Turned, lend}
 use Rattle.calloop_sources.specs.sources.Meanings.{Meaning, IsHeld, with_callback}
 use Rattle.calloop_poll.specs.declared.sys.poll.Pending.{Pending}
@@ -37,7 +37,7 @@ use Rattle.calloop_loop.specs.Rules.{Serving, CutTo, after_changes}
 use Rattle.calloop_laws.specs.Handed.{IsHandedOut}
 use Rattle.calloop_laws.specs.Histories.{Happening, Unseen, Noted, IsHistory, end_of, notes_of}
 use Rattle.calloop_laws.specs.Tied.{IsRung, Taking, world_at}
-use Rattle.calloop_laws.specs.Called.{KeepsKey, IsAsked, IsTurnIn, IsPingsTurnIn, IsAtRest, IsOpened, world_behind_it, PingCalling, IsCalledBack}
+use Rattle.calloop_laws.specs.Called.{KeepsKey, IsAsked, IsPingsTurnIn, IsOpened, OpensEachTurn, CallsEachRing, world_behind_it, PingCalling}
 use Rattle.calloop_laws.proofs.Histories.{history-append}
 
 -- Worlds of every kind of cells.
@@ -250,10 +250,6 @@ one-few : (b : Bool) → one b ≤ 1
 one-few true = omega arith
 one-few false = omega arith
 
-append_assoc : {A : Type 0} (a b c : List A) → (a ++ b) ++ c ≡ a ++ (b ++ c)
-append_assoc [] b c = refl
-append_assoc (x ∷ xs) b c = rw (append_assoc xs b c) refl
-
 -- the history behind a taking begins where its keys are taken
 behind_it : (w : Worlds) (before : List Note) (hs : History) (t : Taking before hs) → IsHistory every_kind w hs
     → IsHistory every_kind (world_behind_it every_kind w hs t) t.behind
@@ -341,16 +337,8 @@ module _ {D I P X S F E M T Cause : Type 0} (tally : S → Tally) (Same : S → 
       }
 
   -- of a cell at rest, whose turn is in the history
-  pub rest_opened : (born : ℕ → Born) (v : View D I P) (css : List (List (Change D I P))) (hs : List (Happening every_kind.Own))
-      → IsHistory every_kind (start (λ n. new_cell (born n))) hs
-      → (t : Taking v.poll.watch.notes hs) (n k : ℕ) → IsAtRest (world_at every_kind (start (λ n. new_cell (born n))) hs t) n k
-      → (h : IsHandedOut L v css (posted_event k)) (before : Dispatcher S F)
-      → content_at (after_changes v h.ahead).slots (registration_of (posted_event k).token) ≡ Source (held before)
-      → ((after : Dispatcher S F) (answer : Result PostAction Error) (x : X)
-      → h.next ≡ Serving (registration_of (posted_event k).token) (held after) answer x
-      → IsTurnIn (world_behind_it every_kind (start (λ n. new_cell (born n))) hs t) t.behind n k (tally before.source) (tally after.source))
-      → IsOpened Opens may reaches held L v css (posted_event k) h before
-  rest_opened born v css hs is t n k rest h before stood told =
+  pub rest_opened : (v : View D I P) (css : List (List (Change D I P))) → OpensEachTurn tally Opens may reaches held L v css
+  rest_opened v css born hs is t n k rest h before stood told =
       let w = start (λ n. new_cell (born n)) in
       let u = world_at every_kind (start (λ n. new_cell (born n))) hs t in
       opened v css (posted_event k) h before stood (λ after answer x next.
@@ -422,31 +410,9 @@ module _ {D I P X F : Type 0} (may : PingCalling F X (Asks D I)) (reaches : Asks
       ready_counted k ((end_of every_kind (world_behind_it every_kind (start (λ n. new_cell (born n))) hs t) turn.asked.earlier).cells n)
       before after turn.core there turn.there turn.counted
 
-  pub ring_called : (born : ℕ → Born) (v : View D I P) (css : List (List (Change D I P))) (hs : List (Happening every_kind.Own))
-      → IsHistory every_kind (start (λ n. new_cell (born n))) hs
-      → (t : Taking v.poll.watch.notes hs) (n k : ℕ) (rung : IsRung (world_at every_kind (start (λ n. new_cell (born n))) hs t) n k)
-      → rung.ping.rung ≡ true
-      → (h : IsHandedOut L v css (posted_event k)) (before : Dispatcher Tally F)
-      → content_at (after_changes v h.ahead).slots (registration_of (posted_event k).token) ≡ Source (held before)
-      → ((after : Dispatcher Tally F) (answer : Result PostAction Error) (x : X)
-      → h.next ≡ Serving (registration_of (posted_event k).token) (held after) answer x
-      → IsPingsTurnIn (world_behind_it every_kind (start (λ n. new_cell (born n))) hs t) t.behind n k before.source after.source)
-      → IsCalledBack may reaches held L v css (posted_event k) h before
-  ring_called born v css hs is t n k rung rings h before stood told =
-      let e = posted_event k in
-      let view = after_changes v h.ahead in
+  pub ring_called : (v : View D I P) (css : List (List (Change D I P))) → CallsEachRing may reaches held L v css
+  ring_called v css born hs is t n k rung rings h before stood told =
       let turn = opened ping_tally SamePing PingOpens may reaches becomes held L means v css (posted_event k) h before stood
       (λ after answer x next. (both_counted born v.poll.watch.notes hs is t n k rung rings before.source after.source (told after answer x next)).turns) in
       let counted = both_counted born v.poll.watch.notes hs is t n k rung rings before.source turn.after.source (told turn.after (Ok turn.action) turn.x turn.next) in
-      let calls : turn.calls ≡ calls_of true =
-      ring_calls turn.opened.0 before.source.number turn.after.source.number turn.calls turn.opened.2 (ap (λ (x : Tally). x.number) turn.opened.4) counted.number in
-      record {
-        after = turn.after;
-        action = turn.action;
-        x = turn.x;
-        asked = turn.asked;
-        next = turn.next;
-        went =
-            subst (λ (l : PingCalls). Went may reaches before.callback h.x (of_turn (registration_of e.token) view.held.asks) l turn.after.callback turn.x turn.asked)
-            calls turn.went;
-      }
+      (turn, ring_calls turn.opened.0 before.source.number turn.after.source.number turn.calls turn.opened.2 (ap (λ (x : Tally). x.number) turn.opened.4) counted.number)

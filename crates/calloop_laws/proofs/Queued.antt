@@ -1,5 +1,5 @@
 -- The tasks that are queued are popped in their order, up to the first pop that finds none.
-use Rattle.std.proofs.Common.{◌≡◌, ◌≢◌, ℕ, Bool, true, false, if◌then◌else◌, Option, Some, None, List, [], ◌∷◌, ◌++◌, nat_eq, refl, sym, ◌∙◌, ap, subst, arith}
+use Rattle.std.proofs.Common.{◌≡◌, ◌≢◌, ℕ, Bool, true, false, if◌then◌else◌, Option, Some, None, List, [], ◌∷◌, ◌++◌, nat_eq, refl, sym, ◌∙◌, ap, subst, arith, append_assoc}
 use Rattle.std.proofs.lemmas.Bool.Decides.{nat_tests}
 use Rattle.std.proofs.lemmas.List.{append-nil}
 use Rattle.calloop_wake.specs.Boards.{bound}
@@ -14,17 +14,13 @@ use Rattle.calloop_wake_laws.proofs.Schedules.{with_cell_cases}
 use Rattle.calloop_laws.specs.Called.{KeepsKey, world_behind_it}
 use Rattle.calloop_laws.specs.Histories.{Happening, Unseen, Noted, end_of}
 use Rattle.calloop_laws.specs.Queued.{popped_by, popped_in, first_of, WhatWasQueuedIsPopped}
-use Rattle.calloop_laws.specs.Sent.{HasGivenAll}
+use Rattle.calloop_laws.specs.Sent.{IsBeginningOf}
 
 abbrev Worlds : Type 0
 Worlds = WakeWorld every_kind.Cell
 
 abbrev History : Type 0
 History = List (Happening every_kind.Own)
-
-append_assoc : {A : Type 0} (a b c : List A) → (a ++ b) ++ c ≡ a ++ (b ++ c)
-append_assoc [] b c = refl
-append_assoc (x ∷ xs) b c = rw (append_assoc xs b c) refl
 
 -- the cell is an executor whose queue begins with these
 record IsQueued (left : List ℕ) (c : every_kind.Cell) : Type 0 where
@@ -128,17 +124,17 @@ none_left x xs c q finished h is none =
     let l = longer_so (x ∷ xs) h.more q.now finished queue in
     (let f : ◌≡◌ {A = List ℕ} [] (x ∷ (xs ++ l.more)) = sym none ∙ l.is in cc)
 
-all_of : (given : List ℕ) → HasGivenAll [] given
+all_of : (given : List ℕ) → IsBeginningOf [] given
 all_of given = record { more = given; is = refl }
 
-then_more : (x : ℕ) (xs popped given : List ℕ) → popped ≡ x ∷ [] → HasGivenAll xs given → HasGivenAll (x ∷ xs) (popped ++ given)
+then_more : (x : ℕ) (xs popped given : List ℕ) → popped ≡ x ∷ [] → IsBeginningOf xs given → IsBeginningOf (x ∷ xs) (popped ++ given)
 then_more x xs popped given one h = record { more = h.more; is = rw one (ap (λ (l : List ℕ). x ∷ l) h.is) }
 
-as_before : (x : ℕ) (xs popped given : List ℕ) → popped ≡ [] → HasGivenAll (x ∷ xs) given → HasGivenAll (x ∷ xs) (popped ++ given)
+as_before : (x : ℕ) (xs popped given : List ℕ) → popped ≡ [] → IsBeginningOf (x ∷ xs) given → IsBeginningOf (x ∷ xs) (popped ++ given)
 as_before x xs popped given none h = rw none h
 
 popped_so : (left : List ℕ) (w : Worlds) (hs : History) (n : ℕ) (q : ExecutorPast) (finished : Bool) → KeepsKey n hs → IsQueued left (w.cells n)
-    → (end_of every_kind w hs).cells n ≡ Second (Second q) → (after_poll finished q.now).queue ≡ [] → HasGivenAll left (popped_in n w hs)
+    → (end_of every_kind w hs).cells n ≡ Second (Second q) → (after_poll finished q.now).queue ≡ [] → IsBeginningOf left (popped_in n w hs)
 popped_so [] w hs n q finished keeps h there none = all_of (popped_in n w hs)
 popped_so (x ∷ xs) w [] n q finished keeps h there none = absurd (none_left x xs (w.cells n) q finished h there none)
 popped_so (x ∷ xs) w (Unseen (At m s) ∷ hs) n q finished keeps h there none =

@@ -1,5 +1,5 @@
 -- What was put into a channel stays put, and is handed out where the queue is empty.
-use Rattle.std.proofs.Common.{◌≡◌, ℕ, Bool, true, false, if◌then◌else◌, List, [], ◌∷◌, ◌++◌, refl, sym, ◌∙◌, ap, subst}
+use Rattle.std.proofs.Common.{◌≡◌, ℕ, Bool, true, false, if◌then◌else◌, List, [], ◌∷◌, ◌++◌, refl, sym, ◌∙◌, ap, subst, append_assoc}
 use Rattle.std.proofs.lemmas.List.{append-nil}
 use Rattle.calloop_wake.specs.Boards.{bound}
 use Rattle.calloop_wake.specs.Channels.{is_item, popped_of, pop_answer, tells_close}
@@ -9,7 +9,7 @@ use Rattle.calloop_wake_laws.specs.Kinds.{First, Second, Born, every_kind, new_c
 use Rattle.calloop_wake_laws.specs.Wakes.{WakeWorld, At, ClearKey, SetKey, OpenTurn, OpenPlace, ClosePlace, Post, Back, Unpost, Look, Wakeup, Sleep, Return, after, start, with_cell}
 use Rattle.calloop_wake_laws.proofs.Schedules.{with_cell_cases}
 use Rattle.calloop_laws.specs.Histories.{Happening, Unseen, Noted, IsHistory, end_of}
-use Rattle.calloop_laws.specs.Sent.{HasGivenAll, WhatWasSentIsGiven}
+use Rattle.calloop_laws.specs.Sent.{IsBeginningOf, WhatWasSentIsGiven}
 use Rattle.calloop_laws.specs.Tied.{world_at}
 use Rattle.calloop_laws.specs.Called.{world_behind_it}
 use Rattle.calloop_laws.proofs.Histories.{history-append, end-append}
@@ -20,10 +20,6 @@ Worlds = WakeWorld every_kind.Cell
 
 abbrev History : Type 0
 History = List (Happening every_kind.Own)
-
-append_assoc : {A : Type 0} (a b c : List A) → (a ++ b) ++ c ≡ a ++ (b ++ c)
-append_assoc [] b c = refl
-append_assoc (x ∷ xs) b c = rw (append_assoc xs b c) refl
 
 -- the cell is a channel into which these were put, and then more
 record IsGrown (put : List ℕ) (c : every_kind.Cell) : Type 0 where
@@ -112,7 +108,7 @@ all_given q stands none =
     sym (stands.in_order ∙ ap (λ (l : List ℕ). q.given ++ l) empty ∙ append-nil q.given)
 
 given_so : (put : List ℕ) (q : ChannelPast) → IsGrown put (Second (First q)) → IsStandingPast q → is_item (pop_answer q.now) ≡ false
-    → HasGivenAll put q.given
+    → IsBeginningOf put q.given
 given_so put q h stands none =
     let same : h.channel ≡ q = same_channel h.channel q (sym h.is) in
     record { more = h.more; is = all_given q stands none ∙ ap (λ (c : ChannelPast). c.taken) (sym same) ∙ h.taken }

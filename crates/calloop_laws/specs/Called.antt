@@ -19,7 +19,7 @@ use Rattle.calloop_sources.specs.sources.Meanings.{Meaning}
 use Rattle.calloop_poll.specs.declared.sys.poll.Pending.{Pending}
 use Rattle.calloop_poll.specs.sys.Polls.{posted_event}
 use Rattle.calloop_ends.specs.cell.CellSources.{OpenTurns}
-use Rattle.calloop_ends.specs.ping.Pings.{calls_of}
+use Rattle.calloop_ends.specs.ping.Pings.{PingOpens, calls_of}
 use Rattle.calloop_loop.specs.Askings.{Asks, of_turn}
 use Rattle.calloop_loop.specs.Machine.{View, Change}
 use Rattle.calloop_loop.specs.Rules.{Serving, after_changes}
@@ -80,7 +80,7 @@ pub record IsAtRest (w : WakeWorld every_kind.Cell) (cell key : ℕ) : Type 0 wh
   pub no_turn : every_kind.draining (w.cells cell) ≡ false
   pub no_pass : w.passes key ≡ 0
 
--- Of each cell that is at rest as the dispatch takes keys: where its event is handed out to a source with this meaning, and the turn that follows is
+-- Of each cell that is at rest as the dispatch takes keys: if its event is handed out to a source with this meaning, and the turn that follows is
 -- the turn of this cell, the cell opens it.
 abbrev pub OpensEachTurn : {D I P X S F E M T : Type 0} → (tally : S → Tally) → OpenTurns S E M T → Calling F E M T X (Asks D I)
     → (reaches : Asks D I → Asks D I → Type 0) → (held : Dispatcher S F → D) → Meaning D P (Lent X (Asks D I)) → View D I P
@@ -99,20 +99,14 @@ OpensEachTurn {D} {I} {P} {X} {S} {F} tally Opens may reaches held L v css =
 abbrev pub PingCalling : (F X Q : Type 0) → Type 1
 PingCalling F X Q = Calling F (Unit {0}) (Unit {0}) (Unit {0}) X Q
 
--- In the turn of an event that was handed out to a ping's source with this callback, just one call went to the callback; and what is to be
--- served behind it is the source with the callback as that call left it.
-pub record IsCalledBack {D I P X F : Type 0} (may : PingCalling F X (Asks D I)) (reaches : Asks D I → Asks D I → Type 0)
-    (held : Dispatcher Tally F → D) (M : Meaning D P (Lent X (Asks D I))) (v : View D I P) (css : List (List (Change D I P))) (e : Pending)
-    (h : IsHandedOut M v css e) (before : Dispatcher Tally F) : Type 0 where
-  pub after : Dispatcher Tally F
-  pub action : PostAction
-  pub x : X
-  pub asked : Asks D I
-  pub next : h.next ≡ Serving (registration_of e.token) (held after) (Ok action) x
-  pub went : Went may reaches before.callback h.x (of_turn (registration_of e.token) (after_changes v h.ahead).held.asks) (calls_of true)
-      after.callback x asked
+-- The turn of an event that was handed out to a ping's source with this callback is one that the cell opened, and just one call went to the callback.
+abbrev pub IsCalledBack : {D I P X F : Type 0} → PingCalling F X (Asks D I) → (reaches : Asks D I → Asks D I → Type 0)
+    → (held : Dispatcher Tally F → D) → (L : Meaning D P (Lent X (Asks D I))) → (v : View D I P) → (css : List (List (Change D I P)))
+    → (e : Pending) → IsHandedOut L v css e → Dispatcher Tally F → Type 0
+IsCalledBack may reaches held L v css e h before =
+    (turn : IsOpened PingOpens may reaches held L v css e h before) × (turn.calls ≡ calls_of true)
 
--- Of each ping that is rung as the dispatch takes keys: where its event is handed out to a source with a callback, and the turn that follows is the
+-- Of each ping that is rung as the dispatch takes keys: if its event is handed out to a source with a callback, and the turn that follows is the
 -- turn of this ping's cell, the callback is called in that turn, once.
 abbrev pub CallsEachRing : {D I P X F : Type 0} → PingCalling F X (Asks D I) → (reaches : Asks D I → Asks D I → Type 0)
     → (held : Dispatcher Tally F → D) → Meaning D P (Lent X (Asks D I)) → View D I P → List (List (Change D I P)) → Type 0

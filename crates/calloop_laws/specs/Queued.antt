@@ -9,7 +9,7 @@ use Rattle.calloop_wake_laws.specs.Kinds.{Second, Born, every_kind, new_cell}
 use Rattle.calloop_wake_laws.specs.Wakes.{WakeWorld, At, SetKey, OpenTurn, OpenPlace, Post, Wakeup, after, start}
 use Rattle.calloop_laws.specs.Called.{KeepsKey, world_behind_it}
 use Rattle.calloop_laws.specs.Histories.{Happening, Unseen, Noted, world_behind, end_of}
-use Rattle.calloop_laws.specs.Sent.{HasGivenAll}
+use Rattle.calloop_laws.specs.Sent.{IsBeginningOf}
 use Rattle.calloop_laws.specs.Tied.{Taking, world_at}
 
 abbrev pub first_of : List ℕ → List ℕ
@@ -46,7 +46,7 @@ WhatWasQueuedIsPopped born hs =
     (before : List Note) (t : Taking before hs) (n : ℕ) (p : ExecutorPast)
     → (world_at every_kind (start (λ n. new_cell (born n))) hs t).cells n ≡ Second (Second p)
     → (pop : FindsNoTask (world_behind_it every_kind (start (λ n. new_cell (born n))) hs t) t.behind n)
-    → HasGivenAll p.now.queue (popped_in n (world_behind_it every_kind (start (λ n. new_cell (born n))) hs t) pop.earlier)
+    → IsBeginningOf p.now.queue (popped_in n (world_behind_it every_kind (start (λ n. new_cell (born n))) hs t) pop.earlier)
 
 -- A history that there is: a task is put into slot 2 before keys are taken; the turn behind that pops it, and then finds none.
 

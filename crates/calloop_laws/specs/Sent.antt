@@ -12,7 +12,7 @@ use Rattle.calloop_laws.specs.Tied.{Taking, world_at}
 use Rattle.calloop_laws.specs.Called.{world_behind_it}
 
 -- a pop of the channel of this number in a history from this world on, as it stood then, which finds no message
-pub record FindsNone (w : WakeWorld every_kind.Cell) (hs : List (Happening every_kind.Own)) (cell : ℕ) : Type 0 where
+pub record FindsNoMessage (w : WakeWorld every_kind.Cell) (hs : List (Happening every_kind.Own)) (cell : ℕ) : Type 0 where
   pub earlier : List (Happening every_kind.Own)
   pub later : List (Happening every_kind.Own)
   pub is : hs ≡ earlier ++ Unseen (At cell (Second (First Pop))) ∷ later
@@ -20,10 +20,10 @@ pub record FindsNone (w : WakeWorld every_kind.Cell) (hs : List (Happening every
   pub there : (end_of every_kind w earlier).cells cell ≡ Second (First channel)
   pub none : is_item (pop_answer channel.now) ≡ false
 
--- what was handed out begins with all that had been put
-pub record HasGivenAll (put given : List ℕ) : Type 0 where
+-- a list begins with these
+pub record IsBeginningOf (front whole : List ℕ) : Type 0 where
   pub more : List ℕ
-  pub is : given ≡ put ++ more
+  pub is : whole ≡ front ++ more
 
 -- Of every history of a board from where nothing has happened, each taking of keys in it, each channel as it stood then, and each pop of it
 -- behind the taking that finds no message: by then all that had been put as the keys were taken was handed out, in its order.
@@ -31,8 +31,8 @@ abbrev pub WhatWasSentIsGiven : (born : ℕ → Born) → List (Happening every_
 WhatWasSentIsGiven born hs =
     (before : List Note) (t : Taking before hs) (n : ℕ) (p : ChannelPast)
     → (world_at every_kind (start (λ n. new_cell (born n))) hs t).cells n ≡ Second (First p)
-    → (pop : FindsNone (world_behind_it every_kind (start (λ n. new_cell (born n))) hs t) t.behind n)
-    → HasGivenAll p.taken pop.channel.given
+    → (pop : FindsNoMessage (world_behind_it every_kind (start (λ n. new_cell (born n))) hs t) t.behind n)
+    → IsBeginningOf p.taken pop.channel.given
 
 -- A history that there is: message 3 is put before keys are taken; the turn behind that pops it, and then finds none.
 

@@ -1,7 +1,7 @@
 //! From what is posted to the turn that it leads to: of every dispatch that answers `Ok`, and of every history of its board from where nothing has
 //! happened, as in `what_is_posted_is_served`.
 //!
-//! Of a cell that is at rest as the dispatch takes keys: no turn of it is open, and no pass of its key is held. Where the event of its key is
+//! Of a cell that is at rest as the dispatch takes keys: no turn of it is open, and no pass of its key is held. If the event of its key is
 //! handed out to its source, which `what_is_posted_is_served` says of a posted key, and nobody changed the registration since, the source's
 //! turn is one that the cell opens.
 //!
@@ -20,7 +20,7 @@ ghost use Rattle.calloop_laws.specs.Handed.{OverEachDispatch, IsHandedOut};
 ghost use Rattle.calloop_laws.specs.Called.{world_behind_it, OpensEachTurn, IsOpened, CallsEachRing, IsCalledBack};
 ghost use Rattle.calloop_laws.specs.Examples.{SmallHistory};
 ghost use Rattle.calloop_laws.specs.Histories.{IsHistory};
-ghost use Rattle.calloop_laws.specs.Sent.{WhatWasSentIsGiven, FindsNone, HasGivenAll, history_of_a_message};
+ghost use Rattle.calloop_laws.specs.Sent.{WhatWasSentIsGiven, FindsNoMessage, IsBeginningOf, history_of_a_message};
 ghost use Rattle.calloop_laws.specs.Tied.{Taking};
 ghost use Rattle.calloop_laws.specs.Queued.{WhatWasQueuedIsPopped, FindsNoTask, popped_in, history_of_a_task};
 ghost use Rattle.calloop_wake_laws.specs.Lost.{of_channels, of_executors};
@@ -68,7 +68,7 @@ where
 {}
 
 /// In every history of a board: by a pop of a channel that finds no message all that had been put into it as keys were taken before was handed
-/// out, in order. So a channel's turn that isn't at its bound has handed out each message that was sent before the dispatch took keys.
+/// out, in order. That the pops of a channel's turn are steps of the history is what the contract of each pop and the lock give; no law says it.
 /// A history that meets this, and accounts that it rules out: of a message that isn't handed out, and of two in another order.
 pub fn what_was_sent_is_given()
     ensures given { (born : ℕ → Born) (hs : SmallHistory)
@@ -76,9 +76,11 @@ pub fn what_was_sent_is_given()
         → WhatWasSentIsGiven born hs }
     ensures history { IsHistory every_kind of_channels history_of_a_message }
     ensures met { (t : Taking [] history_of_a_message)
-        × FindsNone (world_behind_it every_kind of_channels history_of_a_message t) t.behind 0 }
-    ensures left_out { ¬ HasGivenAll (3 ∷ []) [] }
-    ensures backwards { ¬ HasGivenAll (3 ∷ 4 ∷ []) (4 ∷ 3 ∷ []) }
+        × (pop : FindsNoMessage
+        (world_behind_it every_kind of_channels history_of_a_message t) t.behind 0)
+        × (pop.channel.given ≡ 3 ∷ []) }
+    ensures left_out { ¬ IsBeginningOf (3 ∷ []) [] }
+    ensures backwards { ¬ IsBeginningOf (3 ∷ 4 ∷ []) (4 ∷ 3 ∷ []) }
 {}
 
 /// An executor's turn is opened: it polls at most 1,024 tasks, and its callback is called with what their futures give.
@@ -106,8 +108,8 @@ where
 {}
 
 /// In every history of a board: by a pop of an executor that finds no task each task that was queued as keys were taken before was popped, in
-/// order, if nobody changed the executor's registration. So an executor's turn that isn't at its bound has popped each task that was woken or
-/// scheduled before the dispatch took keys. A history that meets this.
+/// order, if nobody changed the executor's registration. Here too no law says that a turn's pops are steps of the history. A history that meets
+/// this.
 pub fn what_was_queued_is_popped()
     ensures popped { (born : ℕ → Born) (hs : SmallHistory)
         → IsHistory every_kind (start (λ n. new_cell (born n))) hs

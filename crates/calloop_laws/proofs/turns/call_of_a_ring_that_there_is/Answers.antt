@@ -11,8 +11,9 @@ use Rattle.calloop_wake.specs.Watches.{with_note}
 use Rattle.calloop_wake.specs.declared.notes.Note.TheVariants.{Counted, Looked, Marked}
 use Rattle.calloop_sources.specs.declared.sources.source.PostAction.{PostAction}
 use Rattle.calloop_sources.specs.declared.sources.source.PostAction.TheVariants.{Continue}
+use Rattle.calloop_sources.specs.sources.Calls.{Went}
 use Rattle.calloop_poll.specs.sys.Polls.{TakePass, posted_event}
-use Rattle.calloop_ends.specs.ping.Pings.{calls_of}
+use Rattle.calloop_ends.specs.ping.Pings.{PingCalls, calls_of}
 use Rattle.calloop_loop.specs.Rules.{Doing, CutTo, Settling, Sleeping, Waiting, Gathering, Noticing, Cutting, Serving, Ending, Returning, Idling, RunningIdles, Leaving, after_changes}
 use Rattle.calloop_laws.specs.Wrong.{first_registration}
 use Rattle.calloop_laws.specs.Examples.{history_of_a_ring, turn_in_it}
@@ -20,7 +21,7 @@ use Rattle.calloop_laws.specs.Handed.{IsHandedOut}
 use Rattle.calloop_laws.specs.Histories.{IsHistory}
 use Rattle.calloop_laws.specs.Tied.{Taking, IsRung, world_at}
 use Rattle.calloop_laws.specs.Called.{IsTurnIn, IsPingsTurnIn, IsAtRest, world_behind_it}
-use Rattle.calloop_laws.specs.Rung.{Rings, ringing, unknown, ping_before, ping_after, with_a_ping, of_a_call, up_to_its_turn, its_turn, behind_its_turn}
+use Rattle.calloop_laws.specs.Rung.{Rings, RingAsks, is_never_called, asks_anything, ringing, unknown, ping_before, ping_after, with_a_ping, of_a_call, up_to_its_turn, its_turn, behind_its_turn}
 use Rattle.calloop_laws.proofs.Refuting.{taking_of_a_ring}
 use Rattle.calloop_laws.proofs.turns.call_of_a_ring_that_there_is.Goals as goal
 
@@ -171,9 +172,15 @@ returns-clause-called c = λ name law. (
       (handed_out name) (ping_before name) refl (told name),
 )
 
+-- no call of it can have gone to the callback
+never : (q r : RingAsks) (f g x y : Unit {0}) (calls : PingCalls) → calls ≡ calls_of true → Went is_never_called asks_anything f x q calls g y r → ⊥
+never q r f g x y calls one went =
+    (subst (λ (l : PingCalls). Went is_never_called asks_anything f x q l g y r) one went).3
+
 pub returns-clause-silent : goal.returns-clause-silent
 returns-clause-silent c = λ name law.
-    (law (λ _. APing) history_of_a_ring history (its_taking name) 0 0 (rung name) refl (handed_out_unknown name) (ping_before name) refl (told name)).went.3
+    let called = law (λ _. APing) history_of_a_ring history (its_taking name) 0 0 (rung name) refl (handed_out_unknown name) (ping_before name) refl (told name) in
+    never _ _ _ _ _ _ called.0.calls called.1 called.0.went
 
 at_rest : (name : Book) → IsAtRest (world_at every_kind of_pings history_of_a_ring (its_taking name)) 0 0
 at_rest name = record { keyed = refl; no_turn = refl; no_pass = refl }

@@ -74,6 +74,7 @@ returns-clause-met c = (
     there = refl;
     none = refl;
   },
+  refl,
 )
 
 pub returns-clause-left_out : goal.returns-clause-left_out
