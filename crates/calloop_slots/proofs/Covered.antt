@@ -6,7 +6,7 @@ use Rattle.calloop_slots.specs.Vacancies.{place, AreEnough, IsCovered, grown}
 use Rattle.calloop_slots.proofs.Levels.{place-step, same-count}
 use Rattle.calloop_slots.proofs.Told.{length-grown}
 
--- levels of as many words are covered alike
+-- levels with the same numbers of words cover the same slots
 covered-same : (most : ℕ) (ls ls' : List (List ℕ)) → map length ls' ≡ map length ls → IsCovered most ls → IsCovered most ls'
 covered-same most [] [] e h = tt
 covered-same most [] (ws' ∷ below') e h = cc
@@ -49,13 +49,13 @@ enough-grown slot ls small enough =
     let within : place ls slot < 1 = subst (λ n. slot / 2 ^ (6 * n) < 1) (sym enough.0) (omega arith) in
     (length-grown slot ls ∙ enough.0, covered-grown slot 1 1 ls (omega arith) (λ far. absurd (omega arith)) enough.1)
 
--- they grew, or stayed where there was no memory
+-- they grew, or stayed if there was no memory
 pub enough-after : {T E : Type 0} (r : Result T E) (slot : ℕ) (ls ls' : List (List ℕ)) → slot < most_slots → AreEnough ls
     → OnOk r (ls' ≡ grown slot ls) → OnErr r (ls' ≡ ls) → AreEnough ls'
 enough-after (Ok x) slot ls ls' small enough ok err = subst (λ (l : List (List ℕ)). AreEnough l) (sym ok) (enough-grown slot ls small enough)
 enough-after (Err e) slot ls ls' small enough ok err = subst (λ (l : List (List ℕ)). AreEnough l) (sym err) enough
 
--- Where the lowest level has the word over a slot, nothing grows.
+-- If the lowest level has the word over a slot, nothing grows.
 
 nothing-grows : (n slot most : ℕ) (d : List ℕ) (ls : List (List ℕ)) → length ls ≡ suc n → IsCovered most ls → slot / 64 < length (get_or ls n d) → (grown slot ls ≡ ls) × (place ls slot < most)
 nothing-grows n slot most d [] long h has = cc

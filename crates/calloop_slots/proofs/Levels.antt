@@ -13,7 +13,7 @@ use Rattle.calloop_slots.specs.Widths.{most_slots, most_words}
 use Rattle.calloop_slots.specs.Vacancies.{word_at, is_set, is_filled, bit_above, place, AreLevels, HasBits, Takes, IsFirst, AreEnough, with_slot}
 use Rattle.calloop_slots.specs.declared.vacancies.Taken.{Taken}
 
--- A word that is written.
+-- A written word.
 
 word_at-set : (ws : List ℕ) (p w i : ℕ) → p < length ws → word_at (set ws p w) i ≡ (if nat_eq i p then w else word_at ws i)
 word_at-set ws p w i h =
@@ -27,7 +27,7 @@ is_filled-set ws p w h i =
     ap (λ x. not (nat_eq x 0)) (word_at-set ws p w i h)
     ∙ elim (nat_eq i p) as (λ b. not (nat_eq (if b then w else word_at ws i) 0) ≡ (if b then not (nat_eq w 0) else is_filled ws i)) [ true ↦ refl | false ↦ refl ]
 
--- of one word only a bit is as v says
+-- in one word only the bit changes, to v
 abbrev IsWith : (v : Bool) → (k w w' : ℕ) → Type 0
 IsWith v k w w' = (j : ℕ) → j < 64 → nat_eq (bit_at w' j) 1 ≡ (if nat_eq j k then v else nat_eq (bit_at w j) 1)
 
@@ -76,7 +76,7 @@ is_filled-marked : (ws : List ℕ) (b : ℕ) → b / 64 < length ws → (i : ℕ
 is_filled-marked ws b h i =
     is_filled-set ws (b / 64) _ h i ∙ ap (λ v. with_slot (b / 64) v (is_filled ws) i) (marked-filled (word_at ws (b / 64)) (b % 64) (omega arith))
 
--- the bit is set in a word that was read so
+-- the bit is set if it was in the word that was read
 pub bit-set : (ws : List ℕ) (b w : ℕ) → b / 64 < length ws → w ≡ get_or ws (b / 64) w → (i : ℕ) → is_set (set ws (b / 64) (bit_or w (1 * 2 ^ (b % 64) % 2 ^ 64))) i ≡ with_slot b true (is_set ws) i
 bit-set ws b w h e i =
     subst (λ (x : ℕ). is_set (set ws (b / 64) (bit_or x (1 * 2 ^ (b % 64) % 2 ^ 64))) i ≡ with_slot b true (is_set ws) i) (sym (e ∙ get_or_default_zero ws (b / 64) w h)) (is_set-marked ws b h i)
@@ -133,7 +133,7 @@ least_bit-least ws p some fits words i lt =
     let t = bit_at-trailing_zeros w64 (word_at ws p) some fits in
     below-unset ws p (trailing_zeros w64 (word_at ws p)) i t.0 t.2 words lt (nat_lt (i / 64) p) refl
 
--- What is taken out of a level.
+-- What a take leaves of a level.
 
 pub takes-slot : (vacant : ℕ → Bool) (slot : ℕ) (ls : List (List ℕ)) → length ls ≡ 0 → Takes vacant slot (record { slot = slot; emptied = true }) ls ls
 takes-slot vacant slot [] h = record { there = λ h. absurd (omega arith); found = λ h. h; least = λ h. h; levels = λ h. tt; above = λ h q. refl }
@@ -246,7 +246,7 @@ takes-first vacant t ls ls' enough T = record { found = T.found (T.there (some-l
 pub takes-levels : (vacant : ℕ → Bool) (t : Taken) (ls ls' : List (List ℕ)) → AreEnough ls → Takes vacant 0 t ls ls' → AreLevels (with_slot t.slot false vacant) ls'
 takes-levels vacant t ls ls' enough T = T.levels (T.there (some-levels ls enough))
 
--- Where the bits of a slot stand.
+-- The positions of a slot's bits.
 
 pow-step : (n : ℕ) → 2 ^ (6 * n) * 64 ≡ 2 ^ (6 * suc n)
 pow-step n = let six : 6 * n + 6 ≡ 6 * suc n = omega arith in sym (pow-add 2 (6 * n) 6) ∙ ap (λ k. 2 ^ k) six

@@ -8,13 +8,13 @@ use Rattle.calloop_slots.specs.declared.list.Content.TheVariants.{Vacant, Source
 use Rattle.calloop_slots.specs.declared.list.Slot.{Slot}
 use Rattle.calloop_slots.specs.Slots.{content_at, with_change, with_content, is_empty, is_in_turn, after_turn, content_under, source_of}
 
--- nothing but a vacant slot is empty
+-- only a vacant slot is empty
 pub empty_is : {S : Type 0} (c : Content S) → is_empty c ≡ true → c ≡ Vacant
 empty_is Vacant e = refl
 empty_is (Source s) e = cc
 empty_is InTurn e = cc
 
--- a source is no vacant slot
+-- a slot with a source isn't vacant
 pub source_filled : {S : Type 0} (c : Content S) → is_some (source_of c) ≡ true → is_empty c ≡ false
 source_filled Vacant e = cc
 source_filled (Source s) e = refl
@@ -30,24 +30,24 @@ under v None e = cc
 under {S} v (Some s) e =
     elim (nat_eq s.version v) as (λ b. nat_eq s.version v ≡ b → is_empty (if b then s.content else Vacant) ≡ false → (s' : Slot S) × (◌≡◌ {A = Option (Slot S)} (Some s) (Some s')) × (nat_eq s'.version v ≡ true) × ((if b then s.content else Vacant) ≡ s'.content)) [ true ↦ λ same h. (s, refl, same, refl) | false ↦ λ _ h. cc ] refl e
 
--- a token that names something stands for what is in its slot
+-- a token that names a source stands for the content of its slot
 pub named_slot : {S : Type 0} (xs : List (Slot S)) (t : RegistrationToken) → is_empty (content_at xs t) ≡ false → (s : Slot S) × (slice_get xs t.slot ≡ Some s) × (nat_eq s.version t.version ≡ true) × (content_at xs t ≡ s.content)
 named_slot xs t e = under t.version (slice_get xs t.slot) e
 
 pub named_within : {S : Type 0} (xs : List (Slot S)) (t : RegistrationToken) → is_empty (content_at xs t) ≡ false → t.slot < length xs
 named_within xs t e = let s = named_slot xs t e in slice_get_within xs t.slot s.0 s.1
 
--- what a token names is what stands in its slot
+-- a token names what its slot holds
 pub named_at : {S : Type 0} (xs : List (Slot S)) (t : RegistrationToken) (x : Slot S) → is_empty (content_at xs t) ≡ false → x ≡ get_or xs t.slot x → content_at xs t ≡ x.content
 named_at xs t x e at = let s = named_slot xs t e in s.3 ∙ ap (λ y. y.content) (sym (get_some xs t.slot s.0 x s.1) ∙ sym at)
 
--- what is in its turn is no vacant slot
+-- a slot in its turn isn't vacant
 pub turn_filled : {S : Type 0} (c : Content S) → is_in_turn c ≡ true → is_empty c ≡ false
 turn_filled Vacant e = cc
 turn_filled (Source s) e = cc
 turn_filled InTurn e = refl
 
--- what is put into the slot that a token names is what it names then
+-- after a write to the slot of a token, the token names what was written
 pub named_changed : {S : Type 0} (xs : List (Slot S)) (t : RegistrationToken) (c : Content S) → is_empty (content_at xs t) ≡ false → content_at (with_change (with_content c) xs t.slot) t ≡ c
 named_changed xs t c e =
     let s = named_slot xs t e in
@@ -59,7 +59,7 @@ turn_ended xs t c e =
     let ys = with_change (with_content InTurn) xs t.slot in
     ap (λ x. if is_in_turn x then with_change (with_content c) ys t.slot else ys) (named_changed xs t InTurn e)
 
--- a token of the slot's version names what stands there
+-- a token of the slot's version names the slot's content
 pub named_read : {S : Type 0} (xs : List (Slot S)) (t : RegistrationToken) (i : ℕ) (s : Slot S)
     → i ≡ t.slot → i < length xs → s ≡ get_or xs i s → s.version ≡ t.version → content_at xs t ≡ s.content
 named_read xs t i s same within at version =

@@ -28,7 +28,7 @@ same_counter k d e = grind (arith, nat_tests)
 same_due : (k d : Due) → k.deadline ≡ d.deadline → k.counter ≡ d.counter → is_eq (due_cmp k d) ≡ true
 same_due k d e f = grind (arith, nat_tests)
 
--- What a new pair does.
+-- After a new pair.
 
 insert_at : (k : Due) (t : Token) (p : Due × Token) (ps : List (Due × Token)) → nat_eq p.0.counter k.counter ≡ false → entries_of (insert_entry due_cmp ps k t) ≡ after_insert (entry_at (k, t)) (entries_of ps)
     → entries_of (insert_entry due_cmp (p ∷ ps) k t) ≡ after_insert (entry_at (k, t)) (entries_of (p ∷ ps))
@@ -56,7 +56,7 @@ deadline_of-inserted q e (x ∷ xs) free =
       | false ↦ refl
     ]
 
--- What stands under a counter.
+-- The entry of a counter.
 
 pub is_some-deadline_of : (q : ℕ) (xs : List Entry) → is_some (deadline_of q xs) ≡ has_counter q xs
 is_some-deadline_of q [] = refl
@@ -117,7 +117,7 @@ free_inserted e (x ∷ xs) free =
           ∙ ap (λ b. cond (not b) (x ∷ without_counter e.counter xs) (without_counter e.counter xs)) apart ∙ ap (λ l. x ∷ l) k
     ]
 
--- what was entered leaves again
+-- removing what was entered restores the maps
 pub same-back : (m n o : List (ℕ × Instant)) (e : Entry) (xs : List Entry) → has_counter e.counter xs ≡ false → NameTheSame xs m
     → ((q : ℕ) → at q n ≡ cond (nat_eq e.counter q) (Some e.deadline) (at q m))
     → ((q : ℕ) → at q o ≡ cond (nat_eq e.counter q) None (at q n)) → NameTheSame xs o

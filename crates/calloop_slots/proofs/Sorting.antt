@@ -1,4 +1,4 @@
--- The order of the wheel is kept.
+-- The wheel stays sorted.
 use Rattle.std.proofs.Common.{◌≡◌, ◌≢◌, ℕ, ◌<◌, ◌≤◌, Bool, true, false, cond, if◌then◌else◌, List, [], ◌∷◌, filter, refl, sym, arith}
 use Rattle.std.proofs.lemmas.Bool.Decides.{nat_tests}
 use Rattle.calloop_slots.specs.Deadlines.{is_before, after_insert, has_counter, is_due, after_first_due, IsAhead, IsSorted, AllBelow}
@@ -55,7 +55,7 @@ IsAhead-inserted y e (x ∷ xs) b ne h =
       | false ↦ (b, ne, (h.0, h.1, h.2))
     ]
 
--- ahead of what the one behind it is ahead of, where it has another counter than each
+-- an entry comes before all that the next one comes before, if its counter differs from each
 IsAhead-over : (e x : Entry) (xs : List Entry) → is_before e x ≡ true → IsAhead x xs → has_counter e.counter xs ≡ false → IsAhead e xs
 IsAhead-over e x [] b h free = tt
 IsAhead-over e x (y ∷ ys) b h free =

@@ -1,4 +1,4 @@
--- Which slots are vacant, and the levels that say so.
+-- The vacant slots, and the levels that list them.
 use Rattle.std.proofs.Common.{◌≡◌, ℕ, zero, suc, ◌+◌, ◌-◌, ◌*◌, ◌/◌, ◌%◌, ◌^◌, ◌<◌, ◌≤◌, Bool, true, false, not, if◌then◌else◌, nat_eq, nat_lt, List, [], ◌∷◌, ◌++◌, length, slice_get, Some, refl, sym, ◌∙◌, ap, subst, arith, eqb-true, length-append}
 use Rattle.std.proofs.lemmas.Bool.Decides.{nat_tests}
 use Rattle.std.proofs.lemmas.List.{get_or_past}
@@ -156,7 +156,7 @@ added-bits ss ls T i false e le =
     let same : length ss ≡ i = omega arith in
     subst (λ (k : ℕ). HasBits (grown (length ss) ls) k) same (bits-grown (length ss) ls T.bits)
 
--- What each call of the list does.
+-- The effect of each call of the list.
 
 none-said : (S : Type 0) (n i : ℕ) → bit_above (is_vacant_in {S = S} []) (no_words n) i ≡ false
 none-said S zero i = refl
@@ -180,7 +180,7 @@ claimed-long ss i first =
     let within : i < length ss = first-within ss i first in
     ap (λ l. length l) (claimed_within ss (omega arith)) ∙ length-changed taken_up ss (first_vacant ss)
 
--- the first vacant slot is taken up
+-- the first vacant slot is taken
 pub told-taken_up : {S : Type 0} (ss : List (Slot S)) (ls ls' : List (List ℕ)) (i : ℕ) → TellVacant ss ls → IsFirst (is_vacant_in ss) i → ((j : ℕ) → HasBits ls j → HasBits ls' j)
     → AreLevels (with_slot i false (is_vacant_in ss)) ls' → TellVacant (after_claim ss) ls'
 told-taken_up ss ls ls' i T first bits are =
@@ -201,7 +201,7 @@ told-added {S} ss ls T h =
       told = levels-same (is_vacant_in ss) (is_vacant_in (ss ++ s ∷ [])) (grown (length ss) ls) (λ j. sym (vacant-added s ss refl j)) (levels-grown (is_vacant_in ss) (length ss) ls T.told);
     }
 
--- a slot that isn't vacant changes, and isn't vacant then
+-- a slot that isn't vacant changes, and still isn't
 pub told-kept : {S : Type 0} (ss : List (Slot S)) (ls : List (List ℕ)) (c : Content S) (t : RegistrationToken) → TellVacant ss ls → is_empty (content_at ss t) ≡ false → is_empty c ≡ false
     → TellVacant (with_change (with_content c) ss t.slot) ls
 told-kept ss ls c t T filled h =

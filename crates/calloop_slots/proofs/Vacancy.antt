@@ -7,7 +7,7 @@ use Rattle.calloop_slots.specs.declared.list.Content.TheVariants.{InTurn}
 use Rattle.calloop_slots.specs.declared.list.Slot.{Slot}
 use Rattle.calloop_slots.specs.Slots.{with_change, first_vacant, next_version, after_claim, taken_up, is_vacant, next_registration}
 
--- a vacant slot is taken up
+-- a vacant slot is taken
 pub claimed_within : {S : Type 0} (ss : List (Slot S)) → first_vacant ss < length ss → after_claim ss ≡ with_change taken_up ss (first_vacant ss)
 claimed_within [] h = absurd (omega arith)
 claimed_within {S} (s ∷ ss) h =
@@ -19,7 +19,7 @@ version_within [] d h = absurd (omega arith)
 version_within {S} (s ∷ ss) d h =
     elim (is_vacant s) as (λ b. (if b then 0 else suc (first_vacant ss)) < suc (length ss) → (if b then (s.version + 1) % versions else next_version ss) ≡ ((get_or (s ∷ ss) (if b then 0 else suc (first_vacant ss)) d).version + 1) % versions) [ true ↦ λ _. refl | false ↦ λ h'. version_within ss d (omega arith) ] h
 
--- with none a new one is added
+-- if none is vacant, a new one is added
 pub claimed_past : {S : Type 0} (ss : List (Slot S)) → first_vacant ss ≡ length ss → after_claim ss ≡ ss ++ record { version = 0; content = InTurn } ∷ []
 claimed_past [] h = refl
 claimed_past {S} (s ∷ ss) h =
@@ -44,7 +44,7 @@ added {S} xs place e h =
     let h' : first_vacant xs ≡ length xs = omega arith in
     rw e (ap (λ v. record { slot = first_vacant xs; version = v }) (sym (version_past xs h')), sym (claimed_past xs h'))
 
--- the slot that is claimed is in its turn, under its next version
+-- the claimed slot is in its turn, under its next version
 pub slice_get-claimed_at : {S : Type 0} (ss : List (Slot S)) → slice_get (after_claim ss) (first_vacant ss) ≡ Some (record { version = next_version ss; content = InTurn })
 slice_get-claimed_at [] = refl
 slice_get-claimed_at {S} (s ∷ ss) =

@@ -1,5 +1,5 @@
 -- The armed deadlines of timers. calloop's wheel is a heap, whose entries are found again by counter; here it is a list
--- in the order in which they come due, and what a heap leaves open (which of one deadline comes first) is decided.
+-- sorted by when they come due, which also fixes what a heap leaves open: the order of equal deadlines.
 use Rattle.std.specs.Prelude.{
   ◌≡◌,
   ◌≢◌,
@@ -42,29 +42,29 @@ use Rattle.calloop_slots.specs.declared.wheel.ArmRefusal.TheVariants.{
 use Rattle.calloop_slots.specs.declared.wheel.Entry.{Entry}
 use Rattle.calloop_slots.specs.declared.wheel.Instant.{Instant}
 
--- the moment that is so much later, where it fits 64 bits of nanoseconds: in calloop Instant's checked_add
+-- the moment that much later, if it fits 64 bits of nanoseconds: calloop has Instant's checked_add
 abbrev pub moment_after : Instant → Duration → Option Instant
 moment_after moment time =
     if nat_lt (moment.nanos + as_nanos time) (2 ^ 64) then Some (record { nanos = moment.nanos + as_nanos time })
     else None
 
--- the entries in their order, and the counter that the next new one gets; that of calloop's TimerWheel has 32 bits, and
--- runs over
+-- the entries in order, and the counter that the next new one gets; calloop's TimerWheel has a counter of 32 bits that
+-- wraps
 pub record Deadlines : Type 0 where
   pub entries : List Entry
   pub next : ℕ
 
--- by deadline, and by counter where the deadlines are one
+-- by deadline; equal deadlines by counter
 abbrev pub is_before : Entry → Entry → Bool
 is_before x y =
     nat_lt x.deadline.nanos y.deadline.nanos || (nat_eq x.deadline.nanos y.deadline.nanos && nat_lt x.counter y.counter)
 
--- a list with one more, behind the front of what comes before it
+-- a list with another element, behind the longest front of what comes before it
 abbrev pub put_behind : {A : Type 0} → (comes_before : A → Bool) → A → List A → List A
 put_behind comes_before a [] = a ∷ []
 put_behind comes_before a (x ∷ xs) = if comes_before x then x ∷ put_behind comes_before a xs else a ∷ x ∷ xs
 
--- the longest front that passes, and what is left behind it
+-- the longest front of elements that pass, and the rest
 abbrev pub front : {A : Type 0} → (A → Bool) → List A → List A
 front passes [] = []
 front passes (x ∷ xs) = if passes x then x ∷ front passes xs else []
@@ -73,7 +73,7 @@ abbrev pub behind_front : {A : Type 0} → (A → Bool) → List A → List A
 behind_front passes [] = []
 behind_front passes (x ∷ xs) = if passes x then behind_front passes xs else x ∷ xs
 
--- with one more, in its place
+-- with another entry, in its place
 abbrev pub after_insert : Entry → List Entry → List Entry
 after_insert e entries = put_behind (λ x. is_before x e) e entries
 
@@ -83,11 +83,11 @@ entry_of counter deadline token = record { deadline = deadline; counter = counte
 abbrev pub with_entries : List Entry → Deadlines → Deadlines
 with_entries entries d = record { entries = entries; next = d.next }
 
--- with one more, under a new counter, as calloop's insert
+-- with another entry, under a new counter: calloop's insert
 abbrev pub with_new : (deadline : Instant) → Token → Deadlines → Deadlines
 with_new deadline token d = record { entries = after_insert (entry_of d.next deadline token) d.entries; next = d.next + 1 }
 
--- with one more, under a counter that was given before, as calloop's insert_reuse
+-- with another entry, under a counter that was given out before: calloop's insert_reuse
 abbrev pub with_again : (counter : ℕ) → (deadline : Instant) → Token → Deadlines → Deadlines
 with_again counter deadline token d = with_entries (after_insert (entry_of counter deadline token) d.entries) d
 
@@ -97,7 +97,7 @@ is_other counter e = not (nat_eq e.counter counter)
 abbrev pub without_counter : (counter : ℕ) → List Entry → List Entry
 without_counter counter entries = filter (is_other counter) entries
 
--- without the entries of this counter; where the first entry is one, calloop's cancel takes out that alone
+-- without the entries of this counter; calloop's cancel takes out the first entry alone if that is one
 abbrev pub after_cancel : (counter : ℕ) → Deadlines → Deadlines
 after_cancel counter d = with_entries (without_counter counter d.entries) d
 
@@ -118,7 +118,7 @@ first_deadline (e ∷ es) = Some e.deadline
 abbrev pub is_due : (now : ℕ) → Entry → Bool
 is_due now e = nat_le e.deadline.nanos now
 
--- the first entry where it is due, and what is left then: calloop's next_expired
+-- the first entry if it is due, and what is left then: calloop's next_expired
 abbrev pub first_due : (now : ℕ) → List Entry → Option Entry
 first_due now [] = None
 first_due now (e ∷ es) = if is_due now e then Some e else None
@@ -127,7 +127,7 @@ abbrev pub after_first_due : (now : ℕ) → List Entry → List Entry
 after_first_due now [] = []
 after_first_due now (e ∷ es) = if is_due now e then es else e ∷ es
 
--- those that are due, and what is left behind them
+-- the due entries, and the rest
 abbrev pub due : (now : ℕ) → List Entry → List Entry
 due now entries = front (is_due now) entries
 
@@ -139,12 +139,12 @@ abbrev pub IsAhead : Entry → List Entry → Type 0
 IsAhead x [] = Unit {0}
 IsAhead x (y ∷ ys) = (is_before x y ≡ true) × (x.counter ≢ y.counter) × IsAhead x ys
 
--- sorted, and no counter twice
+-- sorted, and every counter at most once
 abbrev pub IsSorted : List Entry → Type 0
 IsSorted [] = Unit {0}
 IsSorted (x ∷ xs) = IsAhead x xs × IsSorted xs
 
--- each counter is below this one
+-- every counter is below this one
 abbrev pub AllBelow : ℕ → List Entry → Type 0
 AllBelow n [] = Unit {0}
 AllBelow n (x ∷ xs) = (x.counter < n) × AllBelow n xs
@@ -153,7 +153,7 @@ pub record IsOrdered (d : Deadlines) : Type 0 where
   pub sorted : IsSorted d.entries
   pub below : AllBelow d.next d.entries
 
--- a refusal of an arming, as an error of the loop
+-- why an arming failed, as an error of the loop
 abbrev pub arm_error : ArmRefusal → Error
 arm_error TooMany = TooManyTimers
 arm_error Unknown = InvalidToken
@@ -163,6 +163,6 @@ arm_error NoMemory = OutOfMemory
 abbrev pub CannotArm : (next : ℕ) → Error → Type 0
 CannotArm next e = ((next ≡ 2 ^ 64 - 1) × (e ≡ TooManyTimers)) ⊎ ((next < 2 ^ 64 - 1) × (e ≡ OutOfMemory))
 
--- why a counter can't be armed again: this wheel never gave it, or there is no memory
+-- why a counter can't be armed again: this wheel never gave it out, or there is no memory
 abbrev pub CannotArmAgain : (counter : ℕ) → Deadlines → Error → Type 0
 CannotArmAgain counter d e = ((d.next ≤ counter) × (e ≡ InvalidToken)) ⊎ ((counter < d.next) × (e ≡ OutOfMemory))

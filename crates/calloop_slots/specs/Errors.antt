@@ -1,4 +1,4 @@
--- What the conversions of a refusal give.
+-- How errors are converted.
 use Rattle.std.specs.Prelude.{◌≡◌}
 use Rattle.std.specs.IoError.{error_kind}
 use Rattle.std.specs.declared.io.Error.{Error as IoErr}
@@ -17,8 +17,8 @@ use Rattle.calloop_slots.specs.declared.error.Error.TheVariants.{
   NoRendezvous,
 }
 
--- the io::Error made of a refusal, as in calloop's error.rs, where it keeps the cause of an OtherError: the content, or
--- one of this kind
+-- the io::Error of an error, as in calloop's error.rs, which keeps the cause of an OtherError: the content, or one of
+-- this kind
 abbrev pub AsIo : Error → IoErr → Type 0
 AsIo (IoError cause) made = made ≡ cause
 AsIo InvalidToken made = error_kind made ≡ InvalidInput

@@ -1,4 +1,4 @@
--- What a source list ends as, where a `&mut` to one of its sources is returned.
+-- The state of a source list at the end of a `&mut` borrow of one of its sources.
 use Rattle.std.specs.Prelude.{List, Result}
 use Rattle.std.specs.Borrow.{LendsIfOk, MutBor, Fml, RattleType}
 use Rattle.calloop_slots.specs.declared.error.Error.{Error}
@@ -11,7 +11,7 @@ use Rattle.calloop_slots.specs.contracts.list.SourceList as list
 use Rattle.calloop_slots.specs.Slots.{with_change, with_content}
 
 module _ (S : RattleType) where
-  -- once the borrow r ends, the content is the last source written through r, and after a refusal it is as it was
+  -- once the borrow r ends, the content is the last source written through r; after a failure it is unchanged
   abbrev pub LendsSource : MutBor (Content S.Denot) → Result (MutBor S.Denot) Error → Fml
   LendsSource c r = LendsIfOk (content.the_row S) S c r (λ w. Source w) c.now
 

@@ -1,4 +1,4 @@
--- What contracts see of tokens: their numbers. These can be any; those of a token that there is fit their widths.
+-- Tokens as contracts see them: numbers of any size. Those of an actual token fit their widths.
 use Rattle.std.specs.Prelude.{ℕ}
 
 -- a token: calloop's TokenInner

@@ -1,5 +1,5 @@
--- How a wheel holds the armed deadlines: in a tree from deadline and counter to the token, and in a table from the counter
--- to the deadline. calloop has a heap alone, and walks it to cancel.
+-- How a wheel stores the armed deadlines: a tree from deadline and counter to the token, and a table from the counter
+-- to the deadline. calloop has only a heap, and walks it to cancel.
 use Rattle.std.specs.Prelude.{◌≡◌, ℕ, nat_eq, ◌∷◌, [], List, map, if◌then◌else◌, Option, None, Some}
 use Rattle.std.specs.Map.{lookup}
 use Rattle.calloop_slots.specs.declared.token.Token.{Token}
@@ -23,12 +23,12 @@ abbrev pub deadline_of : (counter : ℕ) → List Entry → Option Instant
 deadline_of counter [] = None
 deadline_of counter (e ∷ es) = if is_of counter e then Some e.deadline else deadline_of counter es
 
--- the second map has for each counter the deadline of its entry
+-- the second map has the deadline of each counter's entry
 abbrev pub NameTheSame : List Entry → (by_counter : List (ℕ × Instant)) → Type 0
 NameTheSame entries by_counter =
     (counter : ℕ) → lookup (nat_eq counter) by_counter ≡ deadline_of counter entries
 
--- both tables have the same deadline for each counter, as before and after one is made smaller
+-- both tables have the same deadline for each counter, as before and after one is shrunk
 abbrev pub HaveTheSame : (old new : List (ℕ × Instant)) → Type 0
 HaveTheSame old new = (counter : ℕ) → lookup (nat_eq counter) new ≡ lookup (nat_eq counter) old
 

@@ -1,6 +1,6 @@
--- How many bits the numbers of a token have, and what follows from that. All definitions and proofs go by these names, and
--- the code by the constants of src/widths.rt: another width is another number here and there.
--- `widths_are_the_contracts` says that both are the same.
+-- The number of bits in each part of a token, and what follows from it. Definitions and proofs use these names, and the
+-- code uses the constants of src/widths.rt: to change a width, change its number here and there.
+-- `widths_are_the_contracts` says that both agree.
 use Rattle.std.specs.Prelude.{ℕ, ◌+◌, ◌/◌, ◌^◌}
 
 -- the bits of a slot's number, of a version and of a sub-id: calloop's TokenInner has 32, 16 and 16. A key has 64
@@ -17,7 +17,7 @@ part_bits = 16
 abbrev pub most_slots : ℕ
 most_slots = 2 ^ slot_bits
 
--- after so many further uses a slot has the same version again
+-- after this many further uses a slot has the same version again
 abbrev pub versions : ℕ
 versions = 2 ^ version_bits
 

@@ -1,4 +1,4 @@
-//! Why a call refused. From calloop's `error.rs`.
+//! Errors of the loop's calls. From calloop's `error.rs`.
 ghost use Rattle.std.specs.Prelude.{◌≡◌, OnOk};
 ghost use Rattle.calloop_slots.specs.Failures.{with_error};
 ghost use Rattle.calloop_slots.specs.declared.error.Error.TheVariants.{IoError, OtherError, OutOfMemory};
@@ -7,14 +7,14 @@ use std::alloc::{AllocError, AllocFailed};
 use std::{fmt, io};
 use thiserror::Error as ThisError;
 
-/// Why a call refused.
+/// Why a call failed.
 ///
-/// Calloop panics or aborts where this crate answers `OutOfMemory`, `TooManySources` and
-/// `TooManyTokens`, and its counters of timers run over where this crate answers `TooManyTimers`. It has no tickets, and
-/// it panics where a source is registered in its own turn, and has channels of bound 0.
+/// Calloop panics or aborts in the cases of `OutOfMemory`, `TooManySources` and `TooManyTokens`, and its counters of
+/// timers wrap in the case of `TooManyTimers`. It has no tickets, it panics if a source is registered in its own turn,
+/// and it has channels of bound 0.
 #[derive(Debug, Drop, ThisError)]
 pub enum Error {
-    /// The token names no source, as after the source was removed.
+    /// The token names no source, for example because the source was removed.
     #[error("invalid token provided to internal function")]
     InvalidToken,
     /// A call of the system failed.
@@ -23,10 +23,10 @@ pub enum Error {
     /// Another failure, mostly of a source's own code.
     #[error("other error during loop operation: {0}")]
     OtherError(anyhow::Error),
-    /// No memory was left.
+    /// There was no memory left.
     #[error("out of memory")]
     OutOfMemory,
-    /// All slots that there can be are full.
+    /// All possible slots are full.
     #[error("too many event sources")]
     TooManySources,
     /// A factory has given out all 65,535 tokens of its registration.
@@ -35,18 +35,18 @@ pub enum Error {
     /// The wheel has given out all 2^64 - 1 counters of timers.
     #[error("too many timers")]
     TooManyTimers,
-    /// The requests of a loop have been given all 2^64 - 1 tickets.
+    /// The requests of a loop have got all 2^64 - 1 tickets.
     #[error("too many requests")]
     TooManyTickets,
-    /// A source can't be registered in its own turn: it is.
+    /// A source can't be registered in its own turn, since it is registered already.
     #[error("the source is in its turn")]
     OwnTurn,
-    /// A channel of bound 0, which would hand over messages without a queue, can't be had.
+    /// A channel of bound 0, which would hand over messages without a queue, isn't supported.
     #[error("a channel of bound 0 is not supported")]
     NoRendezvous,
 }
 
-/// What a call of the loop answers.
+/// The result of the loop's calls.
 pub type Result<T> = std::result::Result<T, Error>;
 
 impl From<io::Error> for Error {
@@ -79,7 +79,7 @@ impl From<AllocError> for Error {
 impl<T: Drop> From<AllocFailed<T>> for Error {
     ghost from_gives = { λ _ made. made ≡ OutOfMemory };
 
-    /// Always `OutOfMemory`; the value that was not stored is dropped.
+    /// Always `OutOfMemory`; the value that couldn't be stored is dropped.
     fn from(_cause: AllocFailed<T>) -> Error {
         Error::OutOfMemory
     }
@@ -90,7 +90,7 @@ impl From<Error> for io::Error {
 
     ghost from_gives = { AsIo };
 
-    /// The content of an `IoError`; else an error of the kind that calloop gives it, with the same text, but for the cause of an `OtherError`.
+    /// The content of an `IoError`. Any other error becomes one with calloop's kind and text, without the cause of an `OtherError`.
     fn from(refusal: Error) -> io::Error {
         match refusal {
             Error::IoError(cause) => cause,
@@ -110,8 +110,8 @@ impl From<Error> for io::Error {
     }
 }
 
-/// A call failed, and its error stands in the place that its caller lent for it. An `Error` has room for the texts of its causes, so
-/// a `Result` with one costs more to hand on than most calls of the loop.
+/// A failure whose error stands in the place that the caller lent for it. An `Error` has room for the texts of its causes,
+/// so a `Result` with one costs more to return than most calls of the loop.
 #[derive(Clone, Copy, Debug)]
 pub struct Failed;
 
@@ -124,7 +124,7 @@ impl From<AllocError> for Failed {
     }
 }
 
-/// Leaves the error of an answer in this place, which stays as it is where there is none.
+/// Moves the error of a result into this place. Without an error the place stays unchanged.
 pub fn store_error<T>(answer: Result<T>, failure: &mut Error) -> std::result::Result<T, Failed>
     ensures answer { with_error result failure.new ≡ answer }
     ensures same { OnOk result (failure.new ≡ failure.old) }
@@ -138,7 +138,7 @@ pub fn store_error<T>(answer: Result<T>, failure: &mut Error) -> std::result::Re
     }
 }
 
-/// The answer of a call that left its error in a place, with that error.
+/// The result of a call that left its error in a place, with that error.
 pub fn with_error<T>(answer: std::result::Result<T, Failed>, failure: Error) -> Result<T>
     ensures { result ≡ with_error answer failure }
 {
@@ -148,17 +148,17 @@ pub fn with_error<T>(answer: std::result::Result<T, Failed>, failure: Error) -> 
     }
 }
 
-/// Why a source was not put into the loop, with the source.
+/// Why a source wasn't inserted into the loop, with the source.
 #[derive(Drop)]
 pub struct InsertError<T> {
-    /// The source that was not inserted.
+    /// The source that wasn't inserted.
     pub inserted: T,
-    /// Why.
+    /// The reason.
     pub error: Error,
 }
 
 impl<T> fmt::Debug for InsertError<T> {
-    /// That of the refusal alone, as in calloop.
+    /// The text of the error alone, as in calloop.
     fn fmt<W: fmt::Write>(&self, f: &mut fmt::Formatter<W>) -> fmt::Result {
         write!(f, "{:?}", self.error)
     }
@@ -175,7 +175,7 @@ impl<T: Drop> std::error::Error for InsertError<T> {}
 impl<T: Drop> From<InsertError<T>> for Error {
     ghost from_gives = { λ refused made. made ≡ refused.error };
 
-    /// The refusal; the source is dropped.
+    /// The error; the source is dropped.
     fn from(refused: InsertError<T>) -> Error {
         let InsertError { inserted: _, error } = refused;
         error

@@ -19,32 +19,32 @@ use std::alloc::{AllocError, Global};
 use std::marker::Model;
 use std::mem;
 
-/// What stands in a slot.
+/// The content of a slot.
 #[derive(Drop)]
 pub enum Content<S> {
     /// Nothing, so the slot can be used again.
     Vacant,
     /// A source.
     Source(S),
-    /// A source that is taken out, for its turn or to be registered.
+    /// A source that is taken out, for its turn or while it is registered.
     InTurn,
 }
 
 /// A slot of the list.
 #[derive(Drop)]
 pub struct Slot<S> {
-    /// How often the slot was used again, modulo `VERSIONS`.
+    /// How many times the slot was used again, modulo `VERSIONS`.
     pub version: u32,
-    /// What stands in it.
+    /// The content.
     pub content: Content<S>,
 }
 
 /// Why no slot could be claimed.
 #[derive(Clone, Copy, Debug, PartialEq, Eq)]
 pub enum ClaimRefusal {
-    /// There are `MOST_SLOTS` slots, and all are full.
+    /// There are `MOST_SLOTS` slots, all full.
     TooManySources,
-    /// No memory was left for a new slot.
+    /// There was no memory left for a new slot.
     OutOfMemory,
 }
 
@@ -75,11 +75,11 @@ impl From<ClaimRefusal> for Error {
     }
 }
 
-/// The slots of the loop's sources. It never shrinks, as in calloop.
+/// The slots of the loop's sources. Never shrinks, as in calloop.
 #[derive(Drop)]
 pub struct SourceList<S> {
     slots: Vec<Slot<S>>,
-    // Which of them are vacant.
+    // The vacant ones among them.
     vacancies: Vacancies,
 }
 
@@ -96,7 +96,7 @@ impl<S> Model for SourceList<S> {
     ghost invariant = { λ l. TellVacant l.slots.items l.vacancies };
 }
 
-// Whether the token names a source that is not in its turn.
+// True if the token names a source that isn't in its turn.
 fn has_source<S>(slots: &[Slot<S>], token: RegistrationToken) -> bool
     ensures { result ≡ is_some (source_of (content_at slots.now token)) }
 {
@@ -106,7 +106,7 @@ fn has_source<S>(slots: &[Slot<S>], token: RegistrationToken) -> bool
     }
 }
 
-// Whether the source of the slot that the token names is taken out.
+// True if the source of the slot that the token names is taken out.
 fn is_in_turn<S>(slots: &[Slot<S>], token: RegistrationToken) -> bool
     ensures { result ≡ is_in_turn (content_at slots.now token) }
 {
@@ -116,7 +116,7 @@ fn is_in_turn<S>(slots: &[Slot<S>], token: RegistrationToken) -> bool
     }
 }
 
-// Takes up the first vacant slot, which is at this place.
+// Takes the first vacant slot, which has this index.
 fn take_up<S: Drop>(slots: &mut Vec<Slot<S>>, place: usize) -> RegistrationToken
     requires first { place ≡ first_vacant slots.old.items }
     requires within { (place < length slots.old.items) × (place < most_slots) }
@@ -129,7 +129,7 @@ fn take_up<S: Drop>(slots: &mut Vec<Slot<S>>, place: usize) -> RegistrationToken
     RegistrationToken::new(place as u32, slot.version)
 }
 
-// Adds a slot, where none is vacant. All memory that it takes comes first.
+// Adds a slot if none is vacant. All memory is taken first.
 fn add<S: Drop>(
     slots: &mut Vec<Slot<S>>,
     vacancies: &mut Vacancies,
@@ -185,7 +185,7 @@ fn claim<S: Drop>(
     }
 }
 
-// Puts this into the slot, and gives what stood there.
+// Puts this into the slot, and returns the content before.
 fn put<S>(slots: &mut Vec<Slot<S>>, place: usize, content: Content<S>) -> Content<S>
     requires { place < length slots.old.items }
     ensures items { slots.new.items ≡ with_change (with_content content) slots.old.items place }
@@ -195,7 +195,7 @@ fn put<S>(slots: &mut Vec<Slot<S>>, place: usize, content: Content<S>) -> Conten
     mem::replace(&mut slot.content, content)
 }
 
-// The source of a slot's content.
+// The source in a slot's content.
 fn source<S>(content: &Content<S>) -> Option<&S>
     ensures some { IfSome result (λ s. content.now ≡ Source s.now) }
     ensures none { IsNone result ↔ (source_of content.now ≡ None) }
@@ -206,7 +206,7 @@ fn source<S>(content: &Content<S>) -> Option<&S>
     }
 }
 
-// The source of a slot's content.
+// The source in a slot's content.
 fn source_mut<S>(content: &mut Content<S>) -> Result<&mut S>
     ensures* writes_back { sem 𝓛 (LendsSource S.row content.entry result) }
     ensures ok { IfOk result (λ s. content.old ≡ Source s.now) }
@@ -220,7 +220,7 @@ fn source_mut<S>(content: &mut Content<S>) -> Result<&mut S>
 }
 
 impl<S: Drop> SourceList<S> {
-    /// A list with no slot. It allocates nothing yet.
+    /// A list with no slot. Allocates nothing yet.
     pub fn new(alloc: Global) -> SourceList<S>
         ensures { result ≡ [] }
     {
@@ -230,7 +230,7 @@ impl<S: Drop> SourceList<S> {
         }
     }
 
-    /// The source that the token names: none, as after it was removed, or while it is in its turn.
+    /// The source that the token names; `None` if it was removed or is in its turn.
     pub fn get(&self, token: RegistrationToken) -> Option<&S>
         ensures some { IfSome result (λ s. content_at self.now token ≡ Source s.now) }
         ensures none { IsNone result ↔ (source_of (content_at self.now token) ≡ None) }
@@ -243,7 +243,7 @@ impl<S: Drop> SourceList<S> {
 
     /// The source that the token names, to be changed.
     ///
-    /// It refuses with `InvalidToken` exactly where `get` gives none, and the list is then as it was.
+    /// Fails with `InvalidToken` exactly if `get` returns `None`; the list is then unchanged.
     pub fn get_mut(&mut self, token: RegistrationToken) -> Result<&mut S>
         ensures* writes_back { sem 𝓛 (LendsNamed S.row self.entry token result) }
         ensures ok { IfOk result (λ s. content_at self.old token ≡ Source s.now) }
@@ -257,13 +257,13 @@ impl<S: Drop> SourceList<S> {
         source_mut(&mut slot.content)
     }
 
-    /// Claims the first vacant slot, or a new one, under its next version, and gives its name. It counts as full, as while
-    /// its source has a turn, until `end_turn` puts the source there, or `vacate` gives it up.
+    /// Claims the first vacant slot, or a new one, under its next version, and returns its name. The slot counts as full, as
+    /// during a turn of its source, until `end_turn` puts the source there or `vacate` frees it.
     ///
-    /// It refuses with `TooManySources` exactly where `MOST_SLOTS` slots are there, and all are full, and with `OutOfMemory`
-    /// only where a new slot is to be added. After a refusal the list is as it was. Calloop panics or aborts there.
+    /// Fails with `TooManySources` exactly if there are `MOST_SLOTS` slots, all full, and with `OutOfMemory` only if a new
+    /// slot has to be added. On failure the list is unchanged. Calloop panics or aborts there.
     ///
-    /// It reads at most one word of each level to find the slot, however many there are. Calloop walks its slots.
+    /// Reads at most one word of each level to find the slot, however many there are. Calloop walks its slots.
     pub fn vacant_entry(
         &mut self,
         steps: &mut Steps,
@@ -280,9 +280,9 @@ impl<S: Drop> SourceList<S> {
         claim(&mut self.slots, &mut self.vacancies, steps)
     }
 
-    /// Takes out the source that the token names, for its turn, and leaves the slot in its turn.
+    /// Takes out the source that the token names, for its turn, and marks the slot as in its turn.
     ///
-    /// It gives `None`, and the list stays as it is, where the token names none, or where the source is in its turn.
+    /// Returns `None`, and leaves the list unchanged, if the token names none or the source is in its turn.
     pub fn begin_turn(&mut self, token: RegistrationToken) -> Option<S>
         ensures value { result ≡ source_of (content_at self.old token) }
         ensures list { self.new ≡ (if is_some result
@@ -300,7 +300,7 @@ impl<S: Drop> SourceList<S> {
 
     /// Puts a source that was taken out into its slot.
     ///
-    /// Where the slot isn't in its turn under this version, it hands the source back, and the list stays as it is.
+    /// If the slot isn't in its turn under this version, returns the source and leaves the list unchanged.
     pub fn end_turn(&mut self, token: RegistrationToken, source: S) -> Option<S>
         ensures value { result ≡ (if is_in_turn (content_at self.old token)
             then None else Some source) }
@@ -317,16 +317,16 @@ impl<S: Drop> SourceList<S> {
         None
     }
 
-    /// Whether the source of the slot that the token names is taken out, for its turn.
+    /// True if the source of the slot that the token names is taken out, for its turn.
     pub fn is_in_turn(&self, token: RegistrationToken) -> bool
         ensures { result ≡ is_in_turn (content_at self.now token) }
     {
         is_in_turn(&self.slots, token)
     }
 
-    /// Gives up the slot of a source that was taken out: it is vacant, under the same version.
+    /// Frees the slot of a source that was taken out: the slot is vacant, under the same version.
     ///
-    /// Where the slot isn't in its turn under this version, the list stays as it is.
+    /// If the slot isn't in its turn under this version, the list is unchanged.
     pub fn vacate(&mut self, token: RegistrationToken)
         ensures { self.new ≡ after_turn Vacant token self.old }
     {

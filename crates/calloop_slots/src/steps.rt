@@ -1,9 +1,9 @@
-//! How often a call looked something up, for those who lend it a counter.
+//! A counter of look-ups that a caller can lend to a call.
 ghost use Rattle.std.specs.Prelude.{◌≡◌, ◌+◌, ◌-◌, ◌<◌, ◌^◌};
 
 use std::marker::Model;
 
-/// A count of what a call looked up: each look-up of the call that it is lent to ticks it. It begins at 0.
+/// A count of look-ups: each look-up of the call that borrows it ticks it. Begins at 0.
 #[derive(Debug, Drop)]
 pub struct Steps {
     count: u64,
@@ -18,21 +18,21 @@ impl Model for Steps {
 }
 
 impl Steps {
-    /// None yet.
+    /// A count of 0.
     pub fn new() -> Steps
         ensures { result ≡ 0 }
     {
         Steps { count: 0 }
     }
 
-    /// How many there were.
+    /// The number of look-ups.
     pub fn count(&self) -> u64
         ensures { result ≡ self.now }
     {
         self.count
     }
 
-    // One more.
+    // Adds 1.
     pub fn tick(&mut self)
         requires { self.old < 2 ^ 64 - 1 }
         ensures { self.new ≡ self.old + 1 }

@@ -10,10 +10,10 @@ use crate::error::{Error, Result};
 use crate::widths::{PARTS, VERSIONS};
 use std::marker::Model;
 
-// One less than there are sub-ids, so that no token has the poller's own key.
+// One less than the number of sub-ids, so that no token has the poller's own key.
 const MOST_TOKENS: u16 = (PARTS - 1) as u16;
 
-// What one slot counts in a key.
+// The distance in a key between two neighbouring slots.
 const PER_SLOT: u64 = VERSIONS * PARTS;
 
 /// The slot of the token of a word.
@@ -23,7 +23,7 @@ pub fn slot_of_key(key: u64) -> usize
     (key / PER_SLOT) as usize
 }
 
-/// Which registration an event is for, and which part of its source.
+/// Names the registration that an event is for, and the part of its source.
 #[derive(Clone, Copy, Debug, PartialEq, Eq)]
 pub struct Token {
     slot: u32,
@@ -46,14 +46,14 @@ impl Model for Token {
 }
 
 impl Token {
-    /// The token as one word, by which the poller names it: the bits of the slot, of the version and of the sub-id.
+    /// The token as one word, the poller's name for it: the bits of the slot, of the version and of the sub-id.
     pub fn key(self) -> u64
         ensures { result ≡ key_of self }
     {
         self.slot as u64 * PER_SLOT + self.version as u64 * PARTS + self.sub_id as u64
     }
 
-    /// The token of a word. The greatest word is the poller's own key, and no token's.
+    /// The token of a word. The greatest word is the poller's own key, which no token has.
     pub fn from_key(key: u64) -> Token
         requires { key ≢ 2 ^ 64 - 1 }
         ensures value { result ≡ token_of key }
@@ -67,7 +67,7 @@ impl Token {
         }
     }
 
-    /// The registration that the token is a part of.
+    /// The registration that the token belongs to.
     pub fn registration(self) -> RegistrationToken
         ensures { result ≡ registration_of self }
     {
@@ -78,7 +78,7 @@ impl Token {
     }
 }
 
-/// Which use of which slot: it names one source, and nothing once that source is gone. In order by slot, then by version.
+/// A use of a slot: names one source, and nothing once that source is gone. Ordered by slot, then by version.
 #[derive(Clone, Copy, Debug, PartialEq, Eq, PartialOrd, Ord)]
 pub struct RegistrationToken {
     slot: u32,
@@ -100,7 +100,7 @@ impl Model for RegistrationToken {
 }
 
 impl RegistrationToken {
-    /// The registration of this slot under this version. These are less than `MOST_SLOTS` and `VERSIONS`.
+    /// The registration of this slot and version, which are below `MOST_SLOTS` and `VERSIONS`.
     pub fn new(slot: u32, version: u32) -> RegistrationToken
         requires slot { slot < most_slots }
         requires version { version < versions }
@@ -116,7 +116,7 @@ impl RegistrationToken {
         self.slot
     }
 
-    /// How often the slot was used again, modulo `VERSIONS`.
+    /// How many times the slot was used again, modulo `VERSIONS`.
     pub fn version(self) -> u32
         ensures { result ≡ self.version }
     {
@@ -124,7 +124,7 @@ impl RegistrationToken {
     }
 }
 
-/// Gives a source the tokens of its registration, each once: it can't be copied.
+/// Gives a source the tokens of its registration, each once: a factory can't be copied.
 #[derive(Debug, Drop)]
 pub struct TokenFactory {
     registration: RegistrationToken,
@@ -132,7 +132,7 @@ pub struct TokenFactory {
 }
 
 impl TokenFactory {
-    /// A factory that has given no token yet.
+    /// A factory that has given out no token yet.
     pub fn new(registration: RegistrationToken) -> TokenFactory
         ensures { result ≡ record { registration = registration; given = 0 } }
     {
@@ -142,14 +142,14 @@ impl TokenFactory {
         }
     }
 
-    /// The registration that its tokens are of.
+    /// The registration of its tokens.
     pub fn registration(&self) -> RegistrationToken
         ensures { result ≡ self.now.registration }
     {
         self.registration
     }
 
-    /// How many tokens it gave, at most 65,535.
+    /// How many tokens it has given out, at most 65,535.
     pub fn tokens_given(&self) -> u16
         ensures { result ≡ self.now.given }
     {
@@ -158,7 +158,7 @@ impl TokenFactory {
 
     /// The next token: sub-ids 0 to 65,534 in order.
     ///
-    /// After these it refuses with `TooManyTokens`, each time, and stays as it is. Calloop panics there.
+    /// After these it fails with `TooManyTokens` every time, and stays unchanged. Calloop panics there.
     pub fn token(&mut self) -> Result<Token>
         ensures ok { IfOk result (λ t. (t ≡ next_token self.old)
             × (self.new ≡ after_token self.old)) }
@@ -184,7 +184,7 @@ pub fn keys_differ()
     ensures { (a b : Token) → IsToken a → IsToken b → key_of a ≡ key_of b → a ≡ b }
 {}
 
-/// Tokens that factories of one registration give at different counts differ, and so do their keys.
+/// Tokens that factories of one registration give out at different counts differ, and so do their keys.
 pub fn factory_tokens_differ()
     ensures { (f g : TokenFactory) → f.registration ≡ g.registration
         → f.given < most_tokens → g.given < most_tokens → f.given ≢ g.given

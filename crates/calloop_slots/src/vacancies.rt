@@ -1,4 +1,4 @@
-//! The set of the vacant slots. Its least one is found without a walk.
+//! The set of vacant slots. Finds the lowest one without a walk.
 ghost use Rattle.std.specs.Prelude.{ℕ, Bool, ◌≡◌, ◌+◌, ◌-◌, ◌*◌, ◌/◌, ◌%◌, ◌^◌, ◌<◌, ◌≤◌, List, [], ◌∷◌, ◌++◌, map, length, not, true, false, nat_lt, None, OnOk, OnErr, IfOk, IfSome, IfNone};
 ghost use Rattle.calloop_slots.specs.Vacancies.{word_at, is_set, is_filled, bit_above, place, AreLevels, HasBits, Takes, with_slot, with_place, grown, IsFirst, AreEnough, no_words};
 ghost use Rattle.calloop_slots.specs.Widths.{most_slots, most_words, level_count};
@@ -9,7 +9,7 @@ use crate::widths::LEVEL_COUNT;
 use std::alloc::{AllocError, Global};
 use std::marker::Model;
 
-/// Words of 64 bits, at most those with the bits of all slots. The one call that tells of a word ticks.
+/// Words of 64 bits, at most as many as the bits of all slots need. Only the call that tests a word ticks the counter.
 #[derive(Drop)]
 struct Words {
     words: Vec<u64>,
@@ -35,7 +35,7 @@ impl Words {
         }
     }
 
-    // The word at this place, 0 past the last.
+    // The word at this index; 0 past the last.
     fn read(&self, place: usize, steps: &mut Steps) -> u64
         requires { steps.old < 2 ^ 64 - 1 }
         ensures value { result ≡ word_at self.now place }
@@ -49,7 +49,7 @@ impl Words {
         }
     }
 
-    // Whether there is a word at this place.
+    // True if there is a word at this index.
     fn has(&self, place: usize) -> bool
         ensures { result ≡ nat_lt place (length self.now) }
     {
@@ -64,7 +64,7 @@ impl Words {
         self.words[place] = word;
     }
 
-    // Appends a word, which is 0, where the words end at this place or before. Whether it did.
+    // Appends a 0 if the words end at this index or before. True if it did.
     fn extend(&mut self, place: usize) -> Result<bool, AllocError>
         requires { place < most_words }
         ensures ok { IfOk result (λ b. (b ≡ not (nat_lt place (length self.old)))
@@ -97,15 +97,15 @@ impl Words {
     }
 }
 
-// What was taken out of the levels below a word.
+// The slot that was taken out below a word.
 #[derive(Drop)]
 struct Taken {
     slot: usize,
-    // Whether the word has become 0.
+    // True if the word has become 0.
     emptied: bool,
 }
 
-// Takes out the first vacant slot below the word at this place. The highest level comes first.
+// Takes out the first vacant slot below the word at this index. The highest level comes first.
 fn take(levels: &mut [Words], place: usize, steps: &mut Steps) -> Option<Taken>
     requires { steps.old + length levels.old < 2 ^ 64 }
     ensures none { IfNone result ((levels.new ≡ levels.old)
@@ -158,7 +158,7 @@ fn mark(levels: &mut [Words], slot: usize)
     }
 }
 
-// Gives each level the word over a slot, where it has none yet. With no memory for one, all are as they were.
+// Adds the word over a slot to each level that lacks it. Without memory for one, all are unchanged.
 fn grow(levels: &mut [Words], slot: usize) -> Result<(), AllocError>
     requires few { length levels.old ≤ level_count }
     requires small { slot < most_slots }
@@ -176,8 +176,8 @@ fn grow(levels: &mut [Words], slot: usize) -> Result<(), AllocError>
     grew
 }
 
-/// Which slots are vacant: levels of words, the highest first, as many as all slots need. Bit i of the lowest is set where slot i is vacant,
-/// and bit i of another where word i of the level below isn't 0.
+/// The vacant slots: levels of words, the highest first, as many as all slots need. Bit i of the lowest is set if slot i is
+/// vacant, and bit i of another if word i of the level below isn't 0.
 #[derive(Drop)]
 pub(crate) struct Vacancies {
     levels: [Words; LEVEL_COUNT],
@@ -195,7 +195,7 @@ impl Model for Vacancies {
 }
 
 impl Vacancies {
-    /// No vacant slot, and bits of none. It allocates nothing yet.
+    /// No vacant slot, and bits for none. Allocates nothing yet.
     pub(crate) fn new(alloc: Global) -> Vacancies
         ensures { result ≡ no_words level_count }
     {
@@ -209,7 +209,7 @@ impl Vacancies {
         }
     }
 
-    /// Takes out the first vacant slot, where one is. It reads a word of each level at most.
+    /// Takes out the first vacant slot, if there is one. Reads at most one word of each level.
     pub(crate) fn take_first(&mut self, steps: &mut Steps) -> Option<usize>
         requires { steps.old ≡ 0 }
         ensures none { IfNone result ((self.new ≡ self.old)
@@ -227,7 +227,7 @@ impl Vacancies {
         Some(taken.slot)
     }
 
-    /// Makes a slot vacant. It decides by no word, and takes no memory.
+    /// Makes a slot vacant. Tests no word, and takes no memory.
     pub(crate) fn insert(&mut self, slot: usize)
         requires { HasBits self.old slot }
         ensures levels { (vacant : ℕ → Bool) → AreLevels vacant self.old
@@ -237,13 +237,13 @@ impl Vacancies {
         mark(&mut self.levels, slot);
     }
 
-    /// Gives a slot its bits, by which it isn't vacant. With no memory for them, the set is as it was.
+    /// Adds the bits of a slot, which isn't vacant yet. Without memory for them, the set is unchanged.
     pub(crate) fn grow(&mut self, slot: usize) -> Result<(), AllocError>
         requires { slot < most_slots }
         ensures ok { OnOk result (self.new ≡ grown slot self.old) }
         ensures err { OnErr result (self.new ≡ self.old) }
     {
-        // Where the lowest level has the word over the slot, each does.
+        // If the lowest level has the word over the slot, each does.
         if self.levels[LEVEL_COUNT - 1].has(slot / 64) {
             return Ok(());
         }

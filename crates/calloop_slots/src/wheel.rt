@@ -1,4 +1,4 @@
-//! Moments of the loop's clock, and the deadlines that are armed. From calloop's `TimerWheel` in `timer.rs`.
+//! Moments of the loop's clock, and the armed deadlines. From calloop's `TimerWheel` in `timer.rs`.
 ghost use Rattle.std.specs.Prelude.{◌≡◌, ◌↔◌, ◌+◌, ◌-◌, ◌*◌, ◌^◌, ◌≤◌, ◌<◌, min, [], ◌∷◌, false, true, length, IfSome, IfNone, IfOk, IfErr, OnOk, OnErr, IsErrOf};
 ghost use Rattle.std.specs.Duration.{as_nanos};
 ghost use Rattle.calloop_slots.specs.Deadlines.{moment_after, after_insert, has_counter, without_counter, with_new, with_again, after_cancel, is_armed, first_deadline, first_due, after_first_due, with_entries, IsOrdered, IsSorted, arm_error, CannotArm, CannotArmAgain};
@@ -12,21 +12,21 @@ use std::collections::{BTreeMap, HashMap};
 use std::marker::Model;
 use std::time::Duration;
 
-/// A moment of a clock, in nanoseconds from its beginning.
+/// A moment of a clock, in nanoseconds since the clock's start.
 #[derive(Clone, Copy, Debug, PartialEq, Eq, PartialOrd, Ord)]
 pub struct Instant {
     pub nanos: u64,
 }
 
 impl Instant {
-    /// The moment of so many nanoseconds.
+    /// The moment after this many nanoseconds.
     pub fn from_nanos(nanos: u64) -> Instant
         ensures { result.nanos ≡ nanos }
     {
         Instant { nanos }
     }
 
-    /// The moment of so many milliseconds, at most 2^64 - 1 nanoseconds.
+    /// The moment after this many milliseconds, at most 2^64 - 1 nanoseconds.
     pub fn from_millis(millis: u64) -> Instant
         ensures { result.nanos ≡ min (millis * 1000000) (2 ^ 64 - 1) }
     {
@@ -35,7 +35,7 @@ impl Instant {
         }
     }
 
-    /// The moment that is so much later, at most 2^64 - 1 nanoseconds.
+    /// The moment that much later, at most 2^64 - 1 nanoseconds.
     pub fn after(self, time: Duration) -> Instant
         ensures { result.nanos ≡ min (self.nanos + as_nanos time) (2 ^ 64 - 1) }
     {
@@ -48,7 +48,7 @@ impl Instant {
         }
     }
 
-    /// The moment that is so much later, or none past 2^64 - 1 nanoseconds.
+    /// The moment that much later, or `None` past 2^64 - 1 nanoseconds.
     pub fn checked_add(self, time: Duration) -> Option<Instant>
         ensures { result ≡ moment_after self time }
     {
@@ -62,20 +62,20 @@ impl Instant {
 #[derive(Clone, Copy, Debug, PartialEq, Eq)]
 pub struct Entry {
     pub deadline: Instant,
-    /// Under which it was armed.
+    /// The counter under which it was armed.
     pub counter: u64,
-    /// For which source.
+    /// The token of its source.
     pub token: Token,
 }
 
 /// Why a deadline could not be armed.
 #[derive(Clone, Copy, Debug, PartialEq, Eq)]
 pub enum ArmRefusal {
-    /// All 2^64 - 1 counters were given.
+    /// All 2^64 - 1 counters were given out.
     TooManyTimers,
-    /// The counter that was to be armed again was never given.
+    /// The counter to arm again was never given out.
     UnknownCounter,
-    /// No memory was left for an entry.
+    /// There was no memory left for an entry.
     OutOfMemory,
 }
 
@@ -97,7 +97,7 @@ impl From<ArmRefusal> for Error {
 
     ghost from_gives = { λ refusal made. made ≡ arm_error refusal };
 
-    /// The error of the same name; `InvalidToken` for a counter that was never given.
+    /// The error of the same name; `InvalidToken` for a counter that was never given out.
     fn from(refusal: ArmRefusal) -> Error {
         match refusal {
             ArmRefusal::TooManyTimers => Error::TooManyTimers,
@@ -107,16 +107,16 @@ impl From<ArmRefusal> for Error {
     }
 }
 
-/// When a deadline comes due: by deadline, then by counter.
+/// The place of a deadline in the order: by deadline, then by counter.
 #[derive(Clone, Copy, Debug, PartialEq, Eq, PartialOrd, Ord)]
 struct Due {
     pub deadline: Instant,
-    /// Under which it was armed.
+    /// The counter under which it was armed.
     pub counter: u64,
 }
 
-/// The armed deadlines, in the order in which they come due: by deadline, then by counter. Calloop keeps a heap, in
-/// which those of one deadline come in any order, and counters of 32 bits, which run out in silence.
+/// The armed deadlines, in the order in which they come due: by deadline, then by counter. Calloop keeps a heap, which
+/// leaves the order of equal deadlines open, and counters of 32 bits, which wrap silently.
 #[derive(Drop)]
 pub struct TimerWheel {
     by_due: BTreeMap<Due, Token>,
@@ -136,7 +136,7 @@ impl Model for TimerWheel {
     ghost invariant = { λ w. IsWheel w.by_due.entries w.by_counter.entries w.counter };
 }
 
-// Enters a deadline in both maps, or in none where there is no memory.
+// Adds a deadline to both maps, or to neither if there is no memory.
 fn enter(
     by_due: &mut BTreeMap<Due, Token>,
     by_counter: &mut HashMap<u64, Instant>,
@@ -160,7 +160,7 @@ fn enter(
     }
 }
 
-// Gives memory back where the table holds few deadlines for its size.
+// Frees memory if the table holds few deadlines for its size.
 fn trim(by_counter: &mut HashMap<u64, Instant>)
     ensures { HaveTheSame by_counter.old.entries by_counter.new.entries }
 {
@@ -184,7 +184,7 @@ fn leave(by_due: &mut BTreeMap<Due, Token>, by_counter: &mut HashMap<u64, Instan
     }
 }
 
-// When the first deadline comes due.
+// The place in the order of the first deadline.
 fn next_due(by_due: &BTreeMap<Due, Token>) -> Option<Due>
     ensures { result ≡ first_key by_due.now.entries }
 {
@@ -215,7 +215,7 @@ fn take_first(
 }
 
 impl TimerWheel {
-    /// No deadline, and the counters from 0 on. It allocates nothing yet.
+    /// No deadline, and all counters from 0 unused. Allocates nothing yet.
     pub fn new(alloc: Global) -> TimerWheel
         ensures { result ≡ record { entries = []; next = 0 } }
     {
@@ -226,24 +226,24 @@ impl TimerWheel {
         }
     }
 
-    /// How many deadlines are armed.
+    /// The number of armed deadlines.
     pub fn len(&self) -> usize
         ensures { result ≡ length self.now.entries }
     {
         self.by_due.len()
     }
 
-    /// Shows that the deadlines are sorted, that no counter stands twice, and that the next one is above all of them.
+    /// Shows that the deadlines are sorted, that every counter stands at most once, and that the next one is above all.
     pub fn keeps_order(&self)
         ensures { IsOrdered self.now }
     {
         let _ = &self.by_due;
     }
 
-    /// Arms a deadline under the next counter, which it gives.
+    /// Arms a deadline under the next counter, and returns the counter.
     ///
-    /// It refuses with `TooManyTimers` exactly where the counter would be 2^64 - 1, and else with `OutOfMemory` where
-    /// there is no memory for an entry. After a refusal the wheel is as it was.
+    /// Fails with `TooManyTimers` exactly if the counter would be 2^64 - 1, and otherwise with `OutOfMemory` if there is no
+    /// memory for an entry. On failure the wheel is unchanged.
     pub fn insert(&mut self, deadline: Instant, token: Token) -> Result<u64, ArmRefusal>
         ensures ok { IfOk result (λ c. (c ≡ self.old.next)
             × (self.new ≡ with_new deadline token self.old)) }
@@ -263,8 +263,8 @@ impl TimerWheel {
 
     /// Arms a deadline under a counter that has none now.
     ///
-    /// It refuses with `UnknownCounter` exactly where this wheel never gave that counter, and else with `OutOfMemory`
-    /// where there is no memory for an entry. After a refusal the wheel is as it was.
+    /// Fails with `UnknownCounter` exactly if this wheel never gave out that counter, and otherwise with `OutOfMemory` if
+    /// there is no memory for an entry. On failure the wheel is unchanged.
     pub fn insert_reuse(
         &mut self,
         counter: u64,
@@ -285,14 +285,14 @@ impl TimerWheel {
         Ok(())
     }
 
-    /// Takes out the deadline of this counter, where it has one.
+    /// Takes out the deadline of this counter, if it has one.
     pub fn cancel(&mut self, counter: u64)
         ensures { self.new ≡ after_cancel counter self.old }
     {
         leave(&mut self.by_due, &mut self.by_counter, counter);
     }
 
-    /// Whether the counter has a deadline now.
+    /// True if the counter has a deadline now.
     pub fn is_armed(&self, counter: u64) -> bool
         ensures { result ≡ is_armed counter self.now }
     {
@@ -307,7 +307,7 @@ impl TimerWheel {
         Some(due.deadline)
     }
 
-    /// Takes the first deadline out where it isn't later than `now`.
+    /// Takes out the first deadline if it isn't later than `now`.
     pub fn next_expired(&mut self, now: Instant) -> Option<Entry>
         ensures first { result ≡ first_due now.nanos self.old.entries }
         ensures rest { self.new

@@ -1,4 +1,4 @@
-//! How many bits the numbers of a token have, and what follows from that: nothing else in the code says a number of these.
+//! The number of bits in each part of a token, and what follows from it. No other code has a number of these.
 ghost use Rattle.std.specs.Prelude.{◌≡◌};
 ghost use Rattle.calloop_slots.specs.Widths.{most_slots, versions, parts, level_count};
 
@@ -11,19 +11,19 @@ pub const VERSION_BITS: u32 = 24;
 /// The bits of a sub-id.
 pub const PART_BITS: u32 = 16;
 
-/// How many slots a list has at most: each slot's number is less.
+/// The maximum number of slots in a list: each slot's number is less.
 pub const MOST_SLOTS: u64 = 1 << SLOT_BITS;
 
-/// After so many further uses a slot has the same version again: each version is less.
+/// After this many further uses a slot has the same version again: each version is less.
 pub const VERSIONS: u64 = 1 << VERSION_BITS;
 
-/// How many sub-ids there are: each is less.
+/// The number of sub-ids: each is less.
 pub const PARTS: u64 = 1 << PART_BITS;
 
 /// How many levels of words of 64 bits lead from one word to the bits of all slots.
 pub(crate) const LEVEL_COUNT: usize = (SLOT_BITS as usize + 5) / 6;
 
-/// These are the numbers that contracts go by.
+/// These are the numbers that contracts use.
 pub fn widths_are_the_contracts() -> (u64, u64, u64, usize)
     ensures { result ≡ (most_slots, versions, parts, level_count) }
 {

@@ -1,4 +1,4 @@
--- What each step of the board does to the keys that are open and to those that are marked.
+-- The effect of each step of the board on the open keys and on the marked ones.
 use Rattle.std.proofs.Common.{◌≡◌, ◌≢◌, ℕ, zero, suc, ◌-◌, ◌^◌, ◌<◌, ◌≤◌, Bool, true, false, ◌&&◌, ◌||◌, not, cond, if◌then◌else◌, ◌⊎◌, inl, List, [], ◌∷◌, nat_eq, nat_lt, map, filter, length, refl, sym, ◌∙◌, ap, arith, ltb-true, ltb-false, le-ltb, false-eqb}
 use Rattle.std.proofs.lemmas.Bool.Decides.{nat_tests}
 use Rattle.calloop_wake.specs.Boards.{place, is_open, is_marked, any_marked, after_open_place, after_close_place, after_post, wakes, after_unpost, is_taken, bound, keys_within, taken_keys, AllAbove, IsAscending, AllGreater, IsRising}
@@ -36,7 +36,7 @@ pub is_marked-after_unpost : (j b : ℕ) (ps : List Place) → is_marked j (afte
 is_marked-after_unpost j b [] = refl
 is_marked-after_unpost j b (p ∷ ps) = let h = is_marked-after_unpost j b ps in grind (arith, nat_tests)
 
--- a mark that a post sets anew wakes
+-- a post that sets a new mark wakes
 pub marked-after_post : (j k : ℕ) (ps : List Place) → is_marked j (after_post k ps) ≡ true → (is_marked j ps ≡ true) ⊎ (wakes k ps ≡ true)
 marked-after_post j k [] h = inl h
 marked-after_post j k (p ∷ ps) h = let ih = marked-after_post j k ps in grind (arith, nat_tests)
@@ -108,7 +108,7 @@ and-false : (a : Bool) → (a && false) ≡ false
 and-false true = refl
 and-false false = refl
 
--- no key below another one is taken from the places above that
+-- no key below a bound is taken from the places above it
 none-below : (b : ℕ) (ps : List Place) → AllAbove b ps → length (taken_keys b ps) ≡ 0
 none-below b [] h = refl
 none-below b (p ∷ ps) h =
@@ -130,7 +130,7 @@ within-at zero k true ps above rest =
     rw e (omega (arith, none))
 within-at (suc room) k true ps above rest = one-more (bound room ps) (record { key = k; marked = true }) ps (nat_lt k (bound room ps)) room (rest room)
 
--- no more keys are taken than there is room for
+-- at most as many keys are taken as there is room for
 pub keys-within : (room : ℕ) (ps : List Place) → IsAscending ps → length (keys_within room ps) ≤ room
 keys-within room [] h = omega arith
 keys-within room (p ∷ ps) h = within-at room p.key p.marked ps h.0 (λ n. keys-within n ps h.1)
@@ -143,6 +143,6 @@ pub keys-rising : (ps : List Place) → IsAscending ps → IsRising (map (λ p. 
 keys-rising [] h = tt
 keys-rising (p ∷ ps) h = (keys-greater p.key ps h.0, keys-rising ps h.1)
 
--- the keys that are taken rise
+-- the taken keys ascend
 pub taken_keys-rising : (b : ℕ) (ps : List Place) → IsAscending ps → IsRising (taken_keys b ps)
 taken_keys-rising b ps h = keys-rising (filter (is_taken b) ps) (IsAscending-filter (is_taken b) ps h)

@@ -1,4 +1,4 @@
--- What the slots of a board have of its keys, beside the map.
+-- What the slots of a board store of its keys, beside the map.
 use Rattle.std.proofs.Common.{rules, ◌≡◌, ℕ, zero, suc, ◌≤◌, true, false, cond, subst, if◌then◌else◌, List, [], ◌∷◌, get_or, set, nat_eq, Option, None, Some, is_some, IsSome, refl, sym, ◌∙◌, ap, arith, false-eqb, eqb-true}
 use Rattle.std.proofs.lemmas.Bool.Decides.{nat_tests}
 use Rattle.std.proofs.lemmas.List.{get_or-set_other}
@@ -20,7 +20,7 @@ Slots = List (Option SlotKey)
 abbrev pub Entries : Type 0
 Entries = List (ℕ × Option ℕ)
 
--- what stands at a key, by what its slot has of it
+-- the entry of a key, by what its slot stores
 abbrev pub standing_by : Option (Option ℕ) → Option (Option ℕ) → Option (Option ℕ)
 standing_by here o = option_map (λ (at : Option ℕ). or_by_map here at) o
 
@@ -36,7 +36,7 @@ pub keys-with : (slots : Slots) (es : Entries) → keys_of (with_slots slots es)
 keys-with slots [] = refl
 keys-with slots (e ∷ es) = ap (λ (l : List ℕ). e.0 ∷ l) (keys-with slots es)
 
--- Slots that have the same of all keys but one.
+-- Slots that agree on all keys but one.
 
 abbrev pub Agree : ℕ → Slots → Slots → Type 0
 Agree k slots slots' = (q : ℕ) → nat_eq q k ≡ false → by_slot_at q slots' ≡ by_slot_at q slots
@@ -98,7 +98,7 @@ remove-with k slots slots' (e ∷ es) sorted agree =
           ∙ ap (λ (l : Entries). (e.0, or_by_map (by_slot_at e.0 slots) e.1) ∷ l) (remove-with k slots slots' es sorted.1 agree)
     ] refl
 
--- a change of the map, and of what the slots have of its key
+-- a change of the map, and of what the slots store of its key
 pub changed-with : (k : ℕ) (to to' : Option (Option ℕ)) (slots slots' : Slots) (es fs : Entries) → Changes k to' es fs → Agree k slots slots' → standing_by (by_slot_at k slots') to' ≡ to
     → Changes k to (with_slots slots es) (with_slots slots' fs)
 changed-with k to to' slots slots' es fs changes agree is q =
@@ -109,7 +109,7 @@ changed-with k to to' slots slots' es fs changes agree is q =
           ap (λ (h : Option (Option ℕ)). standing_by h (standing_at q es)) (agree q other) ∙ sym (standing-with q slots es))
     ] refl
 
--- What is put at a slot.
+-- A write to a slot.
 
 set-or : (P : Option SlotKey → Type 0) (slots : Slots) (s : ℕ) (here : Option SlotKey) → P here → P None → P (get_or (set slots s here) s None)
 set-or P [] s here h n = n
@@ -121,7 +121,7 @@ set-there [] s x here is = cc
 set-there (y ∷ ys) zero x here is = refl
 set-there (y ∷ ys) (suc s) x here is = set-there ys s x here is
 
--- it is of this key
+-- the slot stores this key
 abbrev pub IsOf : ℕ → Option SlotKey → Type 0
 IsOf k None = Unit {0}
 IsOf k (Some here) = here.key ≡ k
@@ -148,7 +148,7 @@ found k (Some x) at is =
       | false ↦ λ e n. absurd (cc)
     ] refl is
 
--- a key that its slot has is alone there
+-- a key that its slot stores isn't in the map
 pub free-found : (k : ℕ) (slots : Slots) (at : Option ℕ) → by_slot_at k slots ≡ Some at → IsFree k slots
 free-found k slots at is q other same =
     let x = found k (get_or slots (slot_of_key k) None) at is in
@@ -160,7 +160,7 @@ put-there k slots before at is =
     ap (λ (o : Option SlotKey). of_key k o) (set-there slots (slot_of_key k) x.0 (Some (record { key = k; at = at })) x.1)
     ∙ (let own : nat_eq k k ≡ true = grind (arith, nat_tests) in ap (λ b. if b then Some at else None) own)
 
--- a slot that has nothing of its key, or that it isn't posted
+-- a slot that stores nothing of its key, or that it isn't posted
 abbrev pub IsQuietHere : Option (Option ℕ) → Type 0
 IsQuietHere o = or_by_map o None ≡ None
 
@@ -172,7 +172,7 @@ put-quiet k slots =
 pub put-none : (k : ℕ) (slots : Slots) → by_slot_at k (set slots (slot_of_key k) None) ≡ None
 put-none k slots = set-or (λ (o : Option SlotKey). of_key k o ≡ None) slots (slot_of_key k) None refl refl
 
--- Which keys are open.
+-- The open keys.
 
 pub open-changed : (k : ℕ) (to : Option (Option ℕ)) (slots slots' : Slots) (es fs : Entries) → AreOpen slots es → Changes k to es fs → Agree k slots slots'
     → (is_some (by_slot_at k slots') ≡ true → is_some to ≡ true) → AreOpen slots' fs
@@ -183,20 +183,20 @@ open-changed k to slots slots' es fs are changes agree here q is =
       | false ↦ λ e. (let other : nat_eq q k ≡ false = grind (arith, nat_tests) in are q (ap (λ (o : Option (Option ℕ)). is_some o) (sym (agree q other)) ∙ is))
     ] refl
 
--- what stands at a key that its slot has
+-- the entry of a key that its slot stores
 pub standing-found : (k : ℕ) (slots : Slots) (es : Entries) (at : Option ℕ) → AreOpen slots es → by_slot_at k slots ≡ Some at → standing_at k (with_slots slots es) ≡ Some at
 standing-found k slots es at are is =
     let there : is_some (standing_at k es) ≡ true = are k (ap (λ (o : Option (Option ℕ)). is_some o) is) in
     standing-with k slots es ∙ ap (λ (h : Option (Option ℕ)). standing_by h (standing_at k es)) is
     ∙ elim (standing_at k es) as (λ o. is_some o ≡ true → standing_by (Some at) o ≡ Some at) [ None ↦ λ e. absurd (cc) | Some x ↦ λ e. refl ] there
 
--- what stands at a key that its slot hasn't
+-- the entry of a key that its slot doesn't store
 pub standing-other : (k : ℕ) (slots : Slots) (es : Entries) → by_slot_at k slots ≡ None → standing_at k (with_slots slots es) ≡ standing_at k es
 standing-other k slots es is =
     standing-with k slots es ∙ ap (λ (h : Option (Option ℕ)). standing_by h (standing_at k es)) is
     ∙ elim (standing_at k es) as (λ o. standing_by None o ≡ o) [ None ↦ refl | Some x ↦ refl ]
 
--- the same map, with another number of a key that its slot has
+-- the same map, with another number for a key that its slot stores
 pub unchanged-at : (k : ℕ) (es : Entries) → Changes k (standing_at k es) es es
 unchanged-at k es q =
     elim (nat_eq k q) as (λ b. nat_eq k q ≡ b → standing_at q es ≡ (if b then standing_at k es else standing_at q es)) [
@@ -204,7 +204,7 @@ unchanged-at k es q =
       | false ↦ λ e. refl
     ] refl
 
--- What each call makes of the places.
+-- The places after each call.
 
 the_some : (o : Option (Option ℕ)) → is_some o ≡ true → (at : Option ℕ) × (o ≡ Some at)
 the_some None is = absurd (cc)
@@ -221,11 +221,11 @@ standing_some : (o : Option (Option ℕ)) (at : Option ℕ) → is_some o ≡ tr
 standing_some None at is = absurd (cc)
 standing_some (Some x) at is = refl
 
--- what the map says of a change of one key
+-- the map after a change of one key
 pub changes-from : (k : ℕ) (to : Option (Option ℕ)) (es fs : Entries) → ((q : ℕ) → standing_at q fs ≡ cond (is_at (nat_cmp k) q) to (standing_at q es)) → Changes k to es fs
 changes-from k to es fs updates q = updates q ∙ ap (λ b. cond b to (standing_at q es)) (at_eq k q)
 
--- slots that reach farther
+-- more slots
 pub reached : (slots slots' : Slots) (es : Entries) → ((s : ℕ) → get_or slots' s None ≡ get_or slots s None) → with_slots slots' es ≡ with_slots slots es
 reached slots slots' [] same = refl
 reached slots slots' (e ∷ es) same =
@@ -256,7 +256,7 @@ module _ (k : ℕ) (slots : Slots) (es old : Entries) (are : AreOpen slots es) (
         open-changed k (Some at) slots slots es fs are changes (λ q _. refl) (λ _. refl),
       )
 
-  -- what stands in the map, where the slot has nothing of the key
+  -- the entry in the map, if the slot stores nothing of the key
   pub standing_in_map : is_some (by_slot_at k slots) ≡ false → standing_at k old ≡ standing_at k es
   standing_in_map is = ap (λ (l : Entries). standing_at k l) (sym view) ∙ standing-other k slots es (the_none (by_slot_at k slots) is)
 
@@ -268,7 +268,7 @@ module _ (k : ℕ) (slots : Slots) (es old : Entries) (are : AreOpen slots es) (
         | Some at ↦ λ is. absurd (let no : true ≡ is_some {T = Option ℕ} None = sym (are k (ap (λ (o : Option (Option ℕ)). is_some o) is)) ∙ ap (λ (o : Option (Option ℕ)). is_some o) none in cc)
       ] refl
 
-  -- a key that its slot has is open
+  -- a key that its slot stores is open
   pub is_there : is_some (by_slot_at k slots) ≡ true → is_some (standing_at k old) ≡ true
   is_there is =
       let x = the_some (by_slot_at k slots) is in
@@ -281,7 +281,7 @@ module _ (k : ℕ) (slots : Slots) (es old : Entries) (are : AreOpen slots es) (
   standing_by_slot at is = ap (λ (l : Entries). standing_at k l) (sym view) ∙ standing-found k slots es at are is
 
   module _ (fs : Entries) (sorted : IsStrictlySortedBy nat_cmp (keys_of es)) where
-    -- the slot agrees of all others, and has nothing of the key any more
+    -- the slot agrees on all others, and no longer stores the key
     closed_as : (slots' : Slots) → Agree k slots slots' → by_slot_at k slots' ≡ None → fs ≡ remove_entry (is_at (nat_cmp k)) es → Changes k None es fs
         → (with_slots slots' fs ≡ remove_entry (is_at (nat_cmp k)) old) × Changes k None old (with_slots slots' fs) × AreOpen slots' fs
     closed_as slots' agree gone is changes = (

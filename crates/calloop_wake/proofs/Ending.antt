@@ -1,4 +1,4 @@
--- Whether a turn of an executor goes on, and that it ends where it doesn't.
+-- A turn of an executor either goes on, or ends.
 use Rattle.std.proofs.Common.{◌≡◌, ℕ, nat_lt, ◌<◌, ◌≤◌, Bool, true, false, ◌&&◌, not, ◌⊎◌, inl, inr, refl, arith, ltb-true}
 use Rattle.std.proofs.lemmas.Bool.Decides.{nat_tests}
 

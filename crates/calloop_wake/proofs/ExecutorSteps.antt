@@ -13,12 +13,12 @@ use Rattle.calloop_wake.specs.Tasks.{phase_if, phase_at, after_step, is_idle, is
 use Rattle.calloop_wake.specs.Executors.{ExecutorCell, IsAwake, fresh_executor, with_slot, after_put, after_wake, after_poll, after_poll_of, taken_of, after_pop, after_end, after_end_turn, opens, in_turn, after_clear_key, is_empty, AreQueued, ArePolled, AreSorted, IsKeepingTasks, IsStandingExecutor, in_its_poll, key_in}
 use Rattle.calloop_wake.proofs.Sorted.{with_slot_cases, numbered-kept, numbered-gone, numbered-new, queued-add, queued-keep, queued-take, polled-keep, polled-mark, polled-pend, polled-take}
 
--- writing what is there changes nothing
+-- writing the present value changes nothing
 with_slot-same : (slot : ℕ) (o : Option Task) (tasks : ℕ → Option Task) → o ≡ tasks slot → with_slot slot o tasks ≡ tasks
 with_slot-same slot o tasks e = fun_ext (λ other.
     with_slot_cases (λ x. x ≡ tasks other) slot other o tasks (λ here. e ∙ sym (ap tasks here)) (λ there. refl))
 
--- a key that names a task, in words: which task it names, or that a step on it changes nothing
+-- a key that names a task, as used below: which task it names, or that a step on it changes nothing
 pub data Found (key : TaskKey) (tasks : ℕ → Option Task) : Type 0 where
   Nobody : phase_at key tasks ≡ None → ((f : Phase → Phase) → after_step f key.number (tasks key.slot) ≡ tasks key.slot) → Found key tasks
   Somebody : (task : Task) → tasks key.slot ≡ Some task → task.number ≡ key.number → phase_at key tasks ≡ Some task.phase
@@ -62,7 +62,7 @@ woken-in Queued h = h
 woken-in Polling h = absurd (cc)
 woken-in Woken h = refl
 
--- the task of a number is in a poll
+-- the task of this number is in a poll
 in_poll-of : (n : ℕ) (task : Task) → task.number ≡ n → in_poll (Some task.phase) ≡ true → in_poll (phase_if n (Some task)) ≡ true
 in_poll-of n task e h =
     elim (eqb_tells task.number n) [
@@ -77,7 +77,7 @@ in_poll-is n task h =
       | inr f ↦ absurd (true≢false (sym h ∙ ap (λ (b : Bool). in_poll (if b then Some task.phase else None)) f.0))
     ]
 
--- a polled task stays polled, where the written slot holds it in a poll, if it held it
+-- a polled task stays polled, if the written slot still has it in a poll
 in_poll-kept : (key : TaskKey) (slot : ℕ) (o : Option Task) (tasks : ℕ → Option Task)
     → (in_poll (phase_if key.number (tasks slot)) ≡ true → in_poll (phase_if key.number o) ≡ true)
     → in_poll (phase_at key tasks) ≡ true → in_poll (phase_at key (with_slot slot o tasks)) ≡ true
@@ -126,7 +126,7 @@ awake-stays Queued h = (refl, refl)
 awake-stays Polling h = absurd (true≢false (sym h))
 awake-stays Woken h = (refl, refl)
 
--- a wake of a task that will be polled changes nothing, whichever slot its key says: no other task has its number
+-- a wake of a task that will be polled changes nothing, whatever slot its key names: no other task has its number
 pub awake : (key : TaskKey) (c : ExecutorCell) → IsKeepingTasks c → is_awake (phase_at key c.tasks) ≡ true → IsAwake key.number c
 awake key c k due slot = let other : TaskKey = record { slot = slot; number = key.number } in
     elim (found key c.tasks) [
@@ -208,7 +208,7 @@ wake-keeps key c k =
           ] refl
     ]
 
--- where the task is that a turn has popped
+-- the phase of the task that a turn has popped
 pub data InPoll (key : TaskKey) (tasks : ℕ → Option Task) : Type 0 where
   IsPolled : (task : Task) → tasks key.slot ≡ Some task → task.number ≡ key.number → task.phase ≡ Polling → phase_at key tasks ≡ Some Polling
       → after_step phase_after_pending key.number (tasks key.slot) ≡ Some (record task { phase = phase_after_pending task.phase }) → InPoll key tasks
@@ -228,7 +228,7 @@ in_poll-cases key tasks h =
           ] refl
     ]
 
--- what the end of a poll leaves besides what the cell keeps
+-- what the end of a poll leaves, besides what the cell keeps
 pub record EndsPoll (c d : ExecutorCell) : Type 0 where
   pub keeps : IsKeepingTasks d
   pub polled : d.progress.polled ≡ None
@@ -325,7 +325,7 @@ ends_poll-at (Some key) false c is k = pend-ends_poll key c is k
 pub ends_poll : (finished : Bool) (c : ExecutorCell) → IsKeepingTasks c → EndsPoll c (after_poll finished c)
 ends_poll finished c k = ends_poll-at c.progress.polled finished c refl k
 
--- a pop of an empty queue
+-- a pop from an empty queue
 pub take-none : (c : ExecutorCell) → c.queue ≡ [] → c.progress.polled ≡ None → IsKeepingTasks c → IsKeepingTasks (taken_of [] c)
 take-none c empty none k =
     record {
@@ -401,7 +401,7 @@ put-keeps slot home c free k =
       );
     }
 
--- steps that all kinds have
+-- steps that all kinds of cells have
 
 pub key-keeps : (k : Option ℕ) (c : ExecutorCell) → IsKeepingTasks c → IsKeepingTasks (record c { key = k })
 key-keeps k c h =

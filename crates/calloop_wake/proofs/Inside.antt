@@ -1,4 +1,4 @@
--- What the steps of an executor's cell keep, said of the fields of its core.
+-- What the steps of an executor's cell keep, stated for the fields of its core.
 use Rattle.std.proofs.Common.{◌≡◌, ℕ, ◌+◌, ◌++◌, Bool, true, false, ◌||◌, List, [], ◌∷◌, Option, Some, None, refl, sym, ◌∙◌, ap, subst, true≢false}
 use Rattle.calloop_wake.specs.declared.tasks.Phase.TheVariants.{Queued, Polling}
 use Rattle.calloop_wake.specs.declared.tasks.Task.{Task}
@@ -9,7 +9,7 @@ use Rattle.calloop_wake.specs.Cells.{Cell}
 use Rattle.calloop_wake.specs.Executors.{with_slot, inside_cell, IsKeepingTasks, ExecutorCell, AreQueued, ArePolled, AreNumbered, in_its_poll, key_in}
 use Rattle.calloop_wake.proofs.ExecutorSteps.{wake-keeps, put-keeps, ends_poll-at, take-none, take-some}
 
--- the same with what a bell has of it, whatever its key and its senders are
+-- the same for what a bell stores of it, whatever its key and its senders are
 pub of-bell : (o : Option TaskTable) (next results : ℕ) (pinged draining : Bool) (progress : Progress) (k : Option ℕ) (senders : ℕ) (bell : Cell)
     → bell.pinged ≡ pinged → bell.draining ≡ draining → IsKeepingTasks (inside_cell o next results pinged draining progress k senders)
     → IsKeepingTasks (inside_cell o next results bell.pinged bell.draining progress bell.key bell.senders)

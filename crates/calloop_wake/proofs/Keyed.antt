@@ -4,12 +4,12 @@ use Rattle.logbook.specs.Pages.{Book}
 use Rattle.calloop_wake.specs.Passes.{Keyed, Taken, AreOf, on}
 use Rattle.calloop_wake.specs.Boards.{fresh_pass}
 
--- what has a key of this board is of it, and there was a key
+-- a value with a key of this board belongs to it, and there was a key
 pub of-on : (board : Book) (key : Option ℕ) (k : Keyed) → on board key ≡ Some k → (k.board ≡ board) × (is_some key ≡ true)
 of-on board None k h = absurd (cc)
 of-on board (Some n) k h = let same : record { key = n; board = board } ≡ k = cc in (sym (ap (λ (x : Keyed). x.board) same), refl)
 
--- passes of this board, with those of more of its keys
+-- passes of this board, with those of further keys of it
 pub are_of-taken : (board : Book) (passes : List Taken) (keys : List ℕ) → AreOf board passes → AreOf board (passes ++ map (fresh_pass board) keys)
 are_of-taken board [] [] h = tt
 are_of-taken board [] (k ∷ ks) h = (refl, are_of-taken board [] ks tt)

@@ -34,7 +34,7 @@ module _ {S : Type 0} (fits : S → Type 0) (hints : ℕ → S → Type 0) where
   without_hint [] t = absurd t.0
   without_hint (x ∷ xs) t = (t.0, (t.1, λ n e. absurd (omega arith)))
 
-  -- the word is that of the hint, or of none
+  -- the word is that of the hint, or of no hint
   pub told : (number word : ℕ) → (word ≡ number + 2) ⊎ (word ≡ 0) → (taken : List (ℕ × S)) → IsTaken (λ content. fits content × hints number content) taken
       → IsTaken (λ content. fits content × IsHinted fits hints word content) taken
   told number word is [] t = absurd t.0
@@ -42,7 +42,7 @@ module _ {S : Type 0} (fits : S → Type 0) (hints : ℕ → S → Type 0) where
   told number word (inr is) (x ∷ xs) t = (t.0, (t.1.0, λ n e. absurd (omega arith)))
 
 module _ {S V : Type 0} (fits : S → Type 0) (hints : ℕ → S → Type 0) where
-  -- the content comes back under a word whose hint is so
+  -- the content comes back under a word whose hint holds
   pub gives_back : (id word : ℕ) (m : Me S V) → IsTaken (λ content. fits content × IsHinted fits hints word content) m.1
       → Allows (IsLock fits hints) 1 id m 0 (λ _. word) (λ _ _. Unit {0})
   gives_back id word (v, []) out = absurd out.0
@@ -56,14 +56,14 @@ module _ {S V : Type 0} (fits : S → Type 0) (hints : ℕ → S → Type 0) whe
       (λ held. (v, keeps, tt, (length-set s.words 0 1 ∙ long, λ e. absurd (e one)), λ e. absurd (e held)))
       (λ free. let t = g.1 free in (v, takes 0 t.0, t.1, (length-set s.words 0 1 ∙ long, λ e. absurd (e one)), λ _. (refl, t.2)))
 
-  -- what is found is as it says
+  -- the content found is as the word says
   pub says : (s : State S V) → IsLock fits hints s → WasHintedBy fits hints (get_or s.words 0 0)
   says s g n e = let t = g.1 (λ held. absurd (omega arith)) in (t.0, t.2, t.3 n e)
 
   pub looks : (n : ℕ) (v : V) → Enters (IsLock fits hints) n 0 (λ r w. (w ≡ v) × WasHintedBy fits hints r)
   looks n v s g wide _ = (v, g, (refl, says s g))
 
--- writing the word as it is changes nothing
+-- writing the word unchanged changes nothing
 pub looks_again : {S V : Type 0} (fits : V → S → Type 0) (hints : ℕ → S → Type 0) (slots id word : ℕ) (m : Me S V) (key : V) → m.0 ≡ key
     → Allows (IsLock (fits key) hints) slots id m 0 (λ n. either (n == word) word n)
     (λ r new. (new.0 ≡ m.0) × WasHintedBy (fits m.0) hints r)

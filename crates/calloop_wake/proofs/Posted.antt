@@ -23,7 +23,7 @@ use Rattle.calloop_wake.specs.declared.board.Place.{Place}
 pub at_eq : (c q : ℕ) → is_at (nat_cmp c) q ≡ nat_eq c q
 at_eq c q = grind (arith, nat_tests)
 
--- The places, and what stands at a key.
+-- The places, and the entry of a key.
 
 above_unmarked : (j k : ℕ) (ps : List Place) → j ≤ k → AllAbove k ps → is_marked j ps ≡ false
 above_unmarked j k [] le h = refl
@@ -101,7 +101,7 @@ later_marks q p ps h =
 same_place : (x y : Place) → x.key ≡ y.key → x.marked ≡ y.marked → x ≡ y
 same_place x y k m = ap {A = ℕ} {B = Place} (λ n. record { key = n; marked = x.marked }) k ∙ ap {A = Bool} {B = Place} (λ b. record { key = y.key; marked = b }) m
 
--- places with the same keys and the same marks are the same
+-- places with the same keys and the same marks are equal
 pub places_equal : (xs ys : List Place) → map (λ (p : Place). p.key) xs ≡ map (λ (p : Place). p.key) ys → IsAscending xs → IsAscending ys
     → ((q : ℕ) → is_marked q xs ≡ is_marked q ys) → xs ≡ ys
 places_equal [] [] e h g marks = refl
@@ -114,7 +114,7 @@ places_equal (x ∷ xs) (y ∷ ys) e h g marks =
     let rest = places_equal xs ys s.1 h.1 g.1 (λ q. later_marks q x xs h.0 ∙ ap (λ b. b && not (nat_eq x.key q)) (marks q) ∙ ap (λ k. is_marked q (y ∷ ys) && not (nat_eq k q)) s.0 ∙ sym (later_marks q y ys g.0)) in
     ap (λ (p : Place). p ∷ xs) one ∙ ap (λ l. y ∷ l) rest
 
--- A place more, or less.
+-- Another place, or one less.
 
 insert_at : (k : ℕ) (e : ℕ × Option ℕ) (es : List (ℕ × Option ℕ)) → nat_eq e.0 k ≡ false → places_of (insert_entry nat_cmp es k None) ≡ after_open_place k (places_of es)
     → places_of (insert_entry nat_cmp (e ∷ es) k None) ≡ after_open_place k (places_of (e ∷ es))
@@ -156,7 +156,7 @@ places_of-remove k (e ∷ es) h =
 marked_or : (k q : ℕ) (to : Option ℕ) (es : List (ℕ × Option ℕ)) → IsAscending (places_of es) → is_standing (if nat_eq k q then Some to else standing_at q es) ≡ (if nat_eq k q then is_some to else is_marked q (places_of es))
 marked_or k q to es h = elim (nat_eq k q) as (λ b. is_standing (if b then Some to else standing_at q es) ≡ (if b then is_some to else is_marked q (places_of es))) [ true ↦ refl | false ↦ sym (is_marked-places q es h) ]
 
--- what was changed at one key, in the places
+-- a change at one key, in the places
 pub places_changed : (k : ℕ) (to : Option ℕ) (es fs : List (ℕ × Option ℕ)) (ps : List Place) → IsAscending (places_of es) → keys_of fs ≡ keys_of es → Changes k (Some to) es fs
     → map (λ (p : Place). p.key) ps ≡ keys_of es → ((q : ℕ) → is_marked q ps ≡ (if nat_eq k q then is_some to else is_marked q (places_of es))) → places_of fs ≡ ps
 places_changed k to es fs ps h keys changes same marks =
@@ -222,7 +222,7 @@ member_at [] i x d lt is = absurd (omega arith)
 member_at (y ∷ ys) zero x d lt is = let same : nat_eq x y ≡ true = grind (arith, nat_tests) in grind (arith, nat_tests)
 member_at (y ∷ ys) (suc i) x d lt is = let rest = member_at ys i x d (omega arith) is in grind (arith, nat_tests)
 
--- what leaves the list of posted keys, and where the others stand then
+-- the posted key that leaves the list, and the positions of the others then
 pub record IsOut (ps qs : List ℕ) (i k : ℕ) : Type 0 where
   pub within : i < length ps
   pub here : (d : ℕ) → get_or ps i d ≡ k
@@ -270,7 +270,7 @@ closed_posted k i es fs ps qs cap b o is =
           ∙ sym (is_marked-after_close q k (places_of es)) ∙ ap (λ l. is_marked q l) (sym view),
     )
 
--- another posted key stands where it stood, unless it was the last
+-- another posted key keeps its position, unless it was the last
 stays : (k i q j : ℕ) (es fs : List (ℕ × Option ℕ)) (ps qs : List ℕ) (cap : ℕ) → IsBoard es ps cap → IsOut ps qs i k → Changes k None es fs → standing_at q fs ≡ Some (Some j)
     → (j + 1 ≡ length ps → ⊥) → (j < length qs) × ((d : ℕ) → get_or qs j d ≡ q)
 stays k i q j es fs ps qs cap b o changes h before =
@@ -463,7 +463,7 @@ room_left k es ps cap b quiet =
     let n = length_push ps k in
     omega arith
 
--- Where keys stand in a list.
+-- Positions of keys in a list.
 
 pub list_any-posted : (q : ℕ) (ps : List Place) → list_any (nat_eq q) (posted_keys ps) ≡ is_marked q ps
 list_any-posted q [] = refl
@@ -516,7 +516,7 @@ list_any-index q (x ∷ xs) =
 index_none : (q : ℕ) (xs : List ℕ) → list_any (nat_eq q) xs ≡ false → index_of q xs ≡ None
 index_none q xs h = none_is (index_of q xs) (sym (list_any-index q xs) ∙ h)
 
--- where it is found
+-- the position at which it is found
 pub index_is : (q i d : ℕ) (xs : List ℕ) → index_of q xs ≡ Some i → (i < length xs) × (get_or xs i d ≡ q)
 index_is q i d [] h = absurd (cc)
 index_is q i d (x ∷ xs) h =
@@ -526,7 +526,7 @@ index_is q i d (x ∷ xs) h =
           (omega arith, ap (λ n. get_or (x ∷ xs) n d) (sym up) ∙ r.1))
     ] refl h
 
--- with one more
+-- with another key
 pub index_of-push : (q k : ℕ) (xs : List ℕ) → index_of q (xs ++ k ∷ []) ≡ found_or (index_of q xs) (if nat_eq k q then Some (length xs) else None)
 index_of-push q k [] = elim (nat_eq k q) as (λ b. ◌≡◌ {A = Option ℕ} (if b then Some 0 else None) (if b then Some 0 else None)) [ true ↦ refl | false ↦ refl ]
 index_of-push q k (x ∷ xs) =
@@ -545,7 +545,7 @@ fresh_at (x ∷ xs) (suc i) d h lt =
     let apart : nat_eq x (get_or xs i d) ≡ false = other_at x xs i d (omega arith) gone in
     ap (λ b. if b then Some 0 else option_map (λ i. suc i) (index_of (get_or xs i d) (take i xs))) apart ∙ ap (λ o. option_map (λ i. suc i) o) rest
 
--- one more is noted
+-- another key is noted
 pub noted_more : (gone i q d : ℕ) (at : Option ℕ) (xs : List ℕ) (before : Option (Option ℕ)) → IsDistinct nat_eq xs → i < length xs → at ≡ left_at gone i
     → (if nat_eq (get_or xs i d) q then Some at else place_after gone (index_of q (take i xs)) before) ≡ place_after gone (index_of q (take (i + 1) xs)) before
 noted_more gone i q d at xs before once lt is =
@@ -564,7 +564,7 @@ pub left_by : (r : Option ℕ) (gone i : ℕ) → SomeIff r (gone ≤ i) (i - go
 left_by None gone i h = (let lt : nat_lt i gone ≡ true = lt-ltb i gone (omega (arith, h)) in sym (ap (λ b. if b then None else Some (i - gone)) lt))
 left_by (Some x) gone i h = (let le : nat_lt i gone ≡ false = le-ltb i gone h.0 in ap (λ o. Some o) h.1 ∙ sym (ap (λ b. if b then None else Some (i - gone)) le))
 
--- What a taking leaves.
+-- What is left after keys are taken.
 
 bound_above : (room k : ℕ) (ps : List Place) → AllAbove k ps → k < bound room ps
 bound_above room k [] h = h
@@ -602,7 +602,7 @@ take_none : (ks : List ℕ) → take 0 ks ≡ []
 take_none [] = refl
 take_none (k ∷ ks) = refl
 
--- of the posted keys the first are taken
+-- the first of the posted keys are taken
 taken_at : (room k : ℕ) (m : Bool) (ps : List Place) → AllAbove k ps → ((n : ℕ) → keys_within n ps ≡ take n (posted_keys ps)) → keys_within room (record { key = k; marked = m } ∷ ps) ≡ take room (posted_keys (record { key = k; marked = m } ∷ ps))
 taken_at zero k false ps h rest = rest zero
 taken_at (suc room) k false ps h rest = rest (suc room)
@@ -664,7 +664,7 @@ sorted_is es ps s cap b moves sorted =
     btree_set_from_contains nat_cmp_total (record { keys = s }) (record { keys = keys }) up rising
     (λ q. same_any q s ∙ sym (list_any-IsPermutation (nat_eq q) ps s moves) ∙ b.same q ∙ sym (list_any-posted q (places_of es)) ∙ sym (same_any q keys)) exact_unsigned
 
--- What is left of it.
+-- The rest of it.
 
 distinct_drop : (n : ℕ) (ks : List ℕ) → IsDistinct nat_eq ks → IsDistinct nat_eq (drop n ks)
 distinct_drop zero [] h = h

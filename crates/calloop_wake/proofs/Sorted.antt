@@ -9,7 +9,7 @@ use Rattle.calloop_wake.specs.declared.tasks.TaskKey.{TaskKey}
 use Rattle.calloop_wake.specs.Tasks.{in_poll}
 use Rattle.calloop_wake.specs.Executors.{with_slot, AreQueued, ArePolled, AreNumbered}
 
--- what holds of the slot that was written, and of the others
+-- what holds of the written slot, and of the others
 pub with_slot_cases : (P : Option Task → Type 0) (slot other : ℕ) (o : Option Task) (tasks : ℕ → Option Task)
     → (other ≡ slot → P o) → (other ≢ slot → P (tasks other)) → P (with_slot slot o tasks other)
 with_slot_cases P slot other o tasks here there =
@@ -180,7 +180,7 @@ module _ (tasks : ℕ → Option Task) where
       ∙ ap (λ n. Some (record { slot = s; number = n })) m)
       (λ there e i. p s t e i)
 
-  -- the polled task is polled no more
+  -- the polled task is no longer polled
   pub polled-pend : (key : TaskKey) (o : Option Task)
       → ((task : Task) → o ≡ Some task → in_poll (Some task.phase) ≢ true)
       → ArePolled tasks (Some key) → ArePolled (with_slot key.slot o tasks) None

@@ -13,6 +13,6 @@ written old new slot task here there = fun_ext (λ other.
       | inr h ↦ there other h.1 ∙ sym (ap (λ (b : Bool). if b then task else old other) h.0)
     ])
 
--- where nothing is written, nothing changes
+-- if nothing is written, nothing changes
 pub unwritten : (old new : ℕ → Option Task) → ((slot : ℕ) → new slot ≡ old slot) → new ≡ old
 unwritten old new same = fun_ext same

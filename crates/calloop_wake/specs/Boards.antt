@@ -48,7 +48,7 @@ abbrev pub after_open_place : ℕ → List Place → List Place
 after_open_place k [] = place k ∷ []
 after_open_place k (p ∷ ps) = if nat_lt k p.key then place k ∷ p ∷ ps else p ∷ after_open_place k ps
 
--- the place goes, with its mark; calloop's Poll::unregister deletes a descriptor
+-- the place is removed, with its mark; calloop's Poll::unregister deletes a descriptor
 abbrev pub after_close_place : ℕ → List Place → List Place
 after_close_place k ps = filter (λ p. not (nat_eq p.key k)) ps
 
@@ -60,8 +60,8 @@ marked_at k p = record { key = p.key; marked = p.marked || nat_eq p.key k }
 abbrev pub after_post : ℕ → List Place → List Place
 after_post k ps = map (marked_at k) ps
 
--- posting this key sets a mark anew: it has a place without a mark. In calloop a write wakes the kernel's wait, which
--- tells of the descriptor; here the post gives a wakeup that wakes it
+-- posting this key sets a new mark: the key has a place without one. In calloop a write wakes the kernel's wait, which
+-- reports the descriptor; here the post returns a wakeup that wakes it
 abbrev pub wakes : ℕ → List Place → Bool
 wakes k ps = list_any (λ p. nat_eq p.key k && not p.marked) ps
 
@@ -69,30 +69,30 @@ wakes k ps = list_any (λ p. nat_eq p.key k && not p.marked) ps
 abbrev pub is_taken : (below : ℕ) → Place → Bool
 is_taken below p = p.marked && nat_lt p.key below
 
--- the place, with no mark where its key is taken
+-- the place, without its mark if its key is taken
 abbrev pub without_mark : (below : ℕ) → Place → Place
 without_mark below p = record { key = p.key; marked = p.marked && not (nat_lt p.key below) }
 
--- no place below this bound is marked; calloop's poller takes the events likewise
+-- no place below this bound is marked; calloop's poller takes the events in the same way
 abbrev pub after_unpost : (below : ℕ) → List Place → List Place
 after_unpost below ps = map (without_mark below) ps
 
--- the marked keys below this bound, ascending; the kernel gives its events in no promised order
+-- the marked keys below this bound, ascending; the kernel promises no order of its events
 abbrev pub taken_keys : (below : ℕ) → List Place → List ℕ
 taken_keys below ps = map (λ p. p.key) (filter (is_taken below) ps)
 
--- below which keys there is room for all that are posted: the first posted key for which there is none, or else the
--- poller's own
+-- the bound below which there is room for all posted keys: the first posted key without room, or otherwise the poller's
+-- own key
 abbrev pub bound : (room : ℕ) → List Place → ℕ
 bound room [] = 2 ^ 64 - 1
 bound zero (p ∷ ps) = if p.marked then p.key else bound zero ps
 bound (suc room) (p ∷ ps) = if p.marked then bound room ps else bound (suc room) ps
 
--- as many of the posted keys, the lowest, as there is room for; in calloop that is the room of the poller's buffer
+-- the lowest posted keys, as many as there is room for; in calloop that is the room of the poller's buffer
 abbrev pub keys_within : (room : ℕ) → List Place → List ℕ
 keys_within room ps = taken_keys (bound room ps) ps
 
--- the pass of a key that was taken just now from the board of this name
+-- the pass of a key that was just taken from the board of this name
 abbrev pub fresh_pass : Book → ℕ → Taken
 fresh_pass board k = record { key = k; board = board; refused = None }
 

@@ -1,4 +1,4 @@
--- The cell of a ping and its steps: for each step the cell after it, and what it gives.
+-- The cell of a ping and its steps: for each step the cell after it, and its result.
 use Rattle.std.specs.Prelude.{
   ◌≡◌,
   ℕ,
@@ -30,11 +30,11 @@ use Rattle.calloop_wake.specs.declared.ping.OpenedTurn.{OpenedTurn}
 
 -- what the ends of a ping share; in calloop's ping.rs it is the state of an eventfd or a pipe
 pub record Cell : Type 0 where
-  -- somebody rang since the last turn was opened
+  -- the ping was rung since the last turn was opened
   pub rung : Bool
-  -- the key is posted, or is to be
+  -- the key is posted, or about to be
   pub pinged : Bool
-  -- a turn stands open
+  -- a turn is open
   pub draining : Bool
   -- the last sender is gone
   pub closed : Bool
@@ -42,12 +42,12 @@ pub record Cell : Type 0 where
   pub told : Bool
   -- the receiving end is gone
   pub gone : Bool
-  -- under which key the loop knows it
+  -- the key under which the loop knows it
   pub key : Option ℕ
-  -- how many senders there are
+  -- the number of senders
   pub senders : ℕ
 
--- a cell to which nothing has happened yet, and which has no sender
+-- a new cell without senders
 abbrev pub fresh : Cell
 fresh =
     record {
@@ -61,23 +61,23 @@ fresh =
       senders = 0;
     }
 
--- the next turn has something to tell: a ring, or a close that no turn told yet
+-- the next turn has something to tell: a ring, or a close that no turn has told yet
 abbrev pub is_due : Cell → Bool
 is_due c = c.rung || (c.closed && not c.told)
 
--- what is due is pinged, whenever nobody is within a step; calloop rests on the kernel for it
+-- what is due is pinged, between any two steps; calloop relies on the kernel for it
 abbrev pub IsLit : Cell → Type 0
 IsLit c = is_due c ≡ true → c.pinged ≡ true
 
--- no ring and no close is lost: what is due is pinged, or a turn stands open
+-- no ring and no close is lost: what is due is pinged, or a turn is open
 abbrev pub IsStanding : Cell → Type 0
 IsStanding c = is_due c ≡ true → (c.pinged || c.draining) ≡ true
 
--- only a close is told
+-- a close is told only once it has happened
 abbrev pub IsTold : Cell → Type 0
 IsTold c = c.told ≡ true → c.closed ≡ true
 
--- the debt that pinging the cell gives: of its key, where it was not pinged
+-- the debt of pinging the cell: its key, if it wasn't pinged
 abbrev pub debt_of : Cell → Option ℕ
 debt_of c = if c.pinged then None else c.key
 
@@ -89,19 +89,19 @@ after_ring c = record c { rung = true; pinged = true }
 abbrev pub after_close : Cell → Cell
 after_close c = record c { senders = 0; closed = true; pinged = true }
 
--- one sender more, as by the clone of a Ping; calloop counts them by an Arc
+-- another sender, as when a Ping is cloned; calloop counts them by an Arc
 abbrev pub after_add_sender : Cell → Cell
 after_add_sender c = record c { senders = c.senders + 1 }
 
--- a sender beside the one that goes is there
+-- there is a sender beside the one that is dropped
 abbrev pub has_others : Cell → Bool
 has_others c = nat_lt 1 c.senders
 
--- one sender less, and a close where it is the last
+-- one sender less, and a close if it was the last
 abbrev pub after_drop_sender : Cell → Cell
 after_drop_sender c = if has_others c then record c { senders = c.senders - 1 } else after_close c
 
--- the debt that a sender's drop gives
+-- the debt of a sender's drop
 abbrev pub owed_by_drop : Cell → Option ℕ
 owed_by_drop c = if has_others c then None else debt_of c
 
@@ -109,11 +109,11 @@ owed_by_drop c = if has_others c then None else debt_of c
 abbrev pub after_set_key : ℕ → Cell → Cell
 after_set_key k c = record c { key = Some k }
 
--- calloop takes the descriptor out of the poller, at the latest by the drop of the receiving end
+-- calloop takes the descriptor out of the poller, at the latest when the receiving end is dropped
 abbrev pub after_clear_key : (by_drop : Bool) → Cell → Cell
 after_clear_key by_drop c = record c { key = None; gone = by_drop || c.gone }
 
--- the debt that setting the key gives: the poller tells at once of a descriptor that was written before
+-- the debt of setting the key: the poller reports at once a descriptor that was written before
 abbrev pub owed_at : ℕ → Cell → Option ℕ
 owed_at k c = if c.pinged then Some k else None
 
@@ -126,7 +126,7 @@ is_own k (Some own) = nat_eq k own
 abbrev pub opens : ℕ → Cell → Bool
 opens k c = is_own k c.key && not c.draining
 
--- a turn stands open, which tells what was due
+-- a turn is open, which tells what was due
 abbrev pub in_turn : Cell → Cell
 in_turn c = record c { pinged = false; draining = true; rung = false; told = c.closed || c.told }
 
@@ -143,22 +143,22 @@ abbrev pub one : Bool → ℕ
 one true = 1
 one false = 0
 
--- a cell, and what contracts alone see of it: its name, and numbers that calloop keeps nowhere
+-- a cell, and what only contracts see of it: its name, and numbers that calloop keeps nowhere
 pub record CoreView : Type 0 where
   pub cell : Cell
   -- no other cell has it
   pub name : Book
-  -- the name of the board of its key; where it has no key, this means nothing
+  -- the name of the board of its key; means nothing without a key
   pub board : Book
-  -- how often anybody rang
+  -- how many rings there were
   pub rings : ℕ
-  -- how often anybody had rung when the last turn was opened
+  -- how many rings there were when the last turn was opened
   pub seen : ℕ
   -- how many turns took a ring
   pub taken : ℕ
 
--- a ring stands exactly where somebody rang since the last turn was opened; and those that turns took, with the one
--- that stands, are at most the rings
+-- a ring is pending exactly if there was one since the last turn was opened; the rings that turns took, and the pending
+-- one, are at most all rings
 pub record IsSince (c : CoreView) : Type 0 where
   pub rung : c.cell.rung ≡ true → c.seen < c.rings
   pub quiet : c.cell.rung ≡ false → c.seen ≡ c.rings
@@ -194,12 +194,12 @@ core_after_open_turn k c =
 abbrev pub closes_by_turn : ℕ → Cell → ℕ
 closes_by_turn k c = one (opens k c && (c.closed && not c.told))
 
--- the receiving end of the cell of this name, which gave it no key yet and counted nothing; its misses, the tasks that
--- were popped before their futures came, are an executor's alone
+-- the receiving end of the cell of this name, which has set no key yet and counted nothing; its misses, the tasks that
+-- were popped before their futures came, belong to executors alone
 abbrev pub fresh_tally : Book → Tally
 fresh_tally name = record { name = name; key = None; turns = 0; number = 0; closes = 0; misses = 0 }
 
--- a receiving end that gave its cell no key yet, and opened no turn
+-- a receiving end that has set no key yet, and opened no turn
 abbrev pub tally_of : CoreView → Tally
 tally_of c = fresh_tally c.name
 
@@ -212,7 +212,7 @@ tally_after_open_turn k c tally =
       closes = tally.closes + closes_by_turn k c.cell;
     }
 
--- what opening a turn gives: the turn of this cell with what was due, or the pass back, marked as refused by it
+-- the result of opening a turn: the turn of this cell with what was due, or the pass back, marked as refused by the cell
 abbrev pub turn_of : Taken → CoreView → Result OpenedTurn Taken
 turn_of p c =
     if opens p.key c.cell

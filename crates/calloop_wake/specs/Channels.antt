@@ -1,4 +1,4 @@
--- The cell of a channel and its steps: for each step the cell after it, and what it gives.
+-- The cell of a channel and its steps: for each step the cell after it, and its result.
 use Rattle.std.specs.Prelude.{
   ◌≡◌,
   ℕ,
@@ -48,15 +48,15 @@ pub record ChannelCell (T : Type 0) : Type 0 where
   pub cell : Cell
   -- the messages that were put and not yet handed out
   pub queue : List T
-  -- how many it holds at most; it never changes
+  -- the most that it holds; never changes
   pub bound : Option ℕ
-  -- what the turn's last pop gave
+  -- the result of the turn's last pop
   pub last : LastPop
 
 abbrev pub fresh_channel : {T : Type 0} → Option ℕ → ChannelCell T
 fresh_channel bound = record { cell = fresh; queue = []; bound = bound; last = NoPop }
 
--- the channel with another bell: after a ring, a close, and where its key is set or cleared
+-- the channel with another bell: after a ring, a close, and a change of its key
 abbrev pub with_bell : {T : Type 0} → Cell → ChannelCell T → ChannelCell T
 with_bell b c = record { cell = b; queue = c.queue; bound = c.bound; last = c.last }
 
@@ -64,7 +64,7 @@ abbrev pub is_below : ℕ → Option ℕ → Bool
 is_below n None = true
 is_below n (Some bound) = nat_lt n bound
 
--- a message finds room
+-- there is room for a message
 abbrev pub has_room : {T : Type 0} → ChannelCell T → Bool
 has_room c = is_below (length c.queue) c.bound
 
@@ -77,13 +77,13 @@ handed_back (Gone x) = x
 handed_back (Full x) = x
 handed_back (OutOfMemory x) = x
 
--- only a channel with a bound is full, and memory can run out only in one without
+-- only a channel with a bound can be full, and memory can run out only in one without
 abbrev pub FitsBound : {T : Type 0} → Option ℕ → PutError T → Type 0
 FitsBound bound (Gone x) = Unit {0}
 FitsBound bound (Full x) = IsSome bound
 FitsBound bound (OutOfMemory x) = bound ≡ None
 
--- how many pops a turn may make; as calloop's process_events
+-- the most pops of a turn; as calloop's process_events
 abbrev pub pops : Option ℕ → ℕ
 pops None = 1024
 pops (Some bound) = min (bound + 1) 1024
@@ -101,7 +101,7 @@ abbrev pub popped_of : {T : Type 0} → List T → (tells : Bool) → Popped T
 popped_of (x ∷ xs) tells = Item x
 popped_of [] tells = if tells then Closed else Empty
 
--- what a pop gives
+-- the result of a pop
 abbrev pub pop_answer : {T : Type 0} → ChannelCell T → Popped T
 pop_answer c = popped_of c.queue (tells_close c.cell)
 
@@ -112,7 +112,7 @@ after_pop_of [] c = record { cell = after_tell_close c.cell; queue = []; bound =
 abbrev pub after_pop : {T : Type 0} → ChannelCell T → ChannelCell T
 after_pop c = after_pop_of c.queue c
 
--- what is popped outside of a turn, which is only where there is a message
+-- the result of a pop outside of a turn, which happens only if there is a message
 abbrev pub front : {T : Type 0} → List T → Option T
 front [] = None
 front (x ∷ xs) = Some x
@@ -143,23 +143,23 @@ is_early NoItem = false
 abbrev pub after_end_turn : {T : Type 0} → ChannelCell T → ChannelCell T
 after_end_turn c = record { cell = after_end (is_early c.last) c.cell; queue = c.queue; bound = c.bound; last = c.last }
 
--- there is nothing to be handed out or told, or it is pinged
+-- nothing is left to hand out or tell, or the cell is pinged
 pub record IsPingedIfDue {T : Type 0} (c : ChannelCell T) : Type 0 where
   pub queue : 0 < length c.queue → c.cell.pinged ≡ true
   pub close : tells_close c.cell ≡ true → c.cell.pinged ≡ true
 
--- What mustn't be lost is pinged, at rest, and in a turn whose last pop found nothing. Calloop has no word for it: a turn
--- that stops early rings its own ping.
+-- Messages and closes keep the cell pinged, between turns, and in a turn whose last pop found nothing. Calloop has no
+-- word for it: a turn that stops early rings its own ping.
 pub record IsLitChannel {T : Type 0} (c : ChannelCell T) : Type 0 where
   pub at_rest : c.cell.draining ≡ false → IsPingedIfDue c
   pub in_turn : is_early c.last ≡ false → IsPingedIfDue c
 
--- only a close is told, and it holds no more than its bound
+-- a close is told only once it has happened, and the channel holds at most its bound
 pub record IsSoundChannel {T : Type 0} (c : ChannelCell T) : Type 0 where
   pub told : c.cell.told ≡ true → c.cell.closed ≡ true
   pub room : IfSome c.bound (λ bound. length c.queue ≤ bound)
 
--- no message and no close is lost: it is pinged, or a turn stands open
+-- no message and no close is lost: the cell is pinged, or a turn is open
 pub record IsStandingChannel {T : Type 0} (c : ChannelCell T) : Type 0 where
   pub queue : 0 < length c.queue → (c.cell.pinged || c.cell.draining) ≡ true
   pub close : tells_close c.cell ≡ true → (c.cell.pinged || c.cell.draining) ≡ true
@@ -181,12 +181,12 @@ queue_after_pop_of [] q = q
 abbrev pub queue_after_pop : {T : Type 0} → QueueView T → QueueView T
 queue_after_pop q = queue_after_pop_of q.items q
 
--- a channel's cell, and what contracts alone see of it: its name, and numbers that calloop keeps nowhere
+-- a channel's cell, and what only contracts see of it: its name, and numbers that calloop keeps nowhere
 pub record ChannelView (T : Type 0) : Type 0 where
   pub state : ChannelCell T
   -- no other cell has it
   pub name : Book
-  -- the name of the board of its key; where it has no key, this means nothing
+  -- the name of the board of its key; means nothing without a key
   pub board : Book
   -- how many messages were put
   pub puts : ℕ
@@ -250,7 +250,7 @@ view_after_take c =
       given = c.given + one (is_there c.state.queue);
     }
 
--- the receiving end counts the messages that it was handed, and the closes that it was told
+-- the receiving end counts the messages that it got, and the closes that it was told
 abbrev pub tally_after_pop : {T : Type 0} → Popped T → Tally → Tally
 tally_after_pop p tally =
     record tally { number = tally.number + one (is_item p); closes = tally.closes + one (is_close p) }
@@ -266,7 +266,7 @@ tally_after_open k c tally = record tally { turns = tally.turns + one (opens k c
 abbrev pub turn_after_pop : {T : Type 0} → Popped T → ChannelTurn → ChannelTurn
 turn_after_pop p turn = record { name = turn.name; left = turn.left - 1; done = not (is_item p) }
 
--- what opening a turn gives: the turn of this cell, or the pass back, marked as refused by it
+-- the result of opening a turn: the turn of this cell, or the pass back, marked as refused by the cell
 abbrev pub turn_of : {T : Type 0} → Taken → ChannelView T → Result ChannelTurn Taken
 turn_of p c =
     if opens p.key c.state.cell

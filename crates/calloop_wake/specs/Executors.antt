@@ -1,5 +1,5 @@
 -- The cell of an executor and its steps: for each step the cell after it. In calloop's futures.rs it is a slab of wakers, a
--- channel of runnables, a flag that tells whether the executor was woken, and a ping.
+-- channel of runnables, a flag that says that the executor was woken, and a ping.
 use Rattle.std.specs.Prelude.{◌≡◌, ℕ, ◌+◌, ◌<◌, ◌++◌, Bool, true, false, not, ◌&&◌, ◌||◌, if◌then◌else◌, List, [], ◌∷◌, Option, Some, None, is_some, nat_eq}
 use Rattle.logbook.specs.Pages.{Book}
 use Rattle.futures.specs.LinkedLists.{IsIn, IsApart}
@@ -10,31 +10,31 @@ use Rattle.calloop_wake.specs.declared.executor.Progress.{Progress}
 use Rattle.calloop_wake.specs.Cells.{is_own}
 use Rattle.calloop_wake.specs.Tasks.{TaskTable, no_tasks, task_at, count, phase_at, after_step, is_idle, is_woken, in_poll, woken_phase, phase_after_pending, slot_if}
 
--- a turn that popped nothing yet
+-- a turn that has popped nothing yet
 abbrev pub at_start : Progress
 at_start = record { pops = 0; dry = false; polled = None }
 
--- what an executor shares with its schedulers and wakers; the futures lie elsewhere
+-- what an executor shares with its schedulers and wakers; the futures are elsewhere
 pub record ExecutorCell : Type 0 where
   -- the tasks that aren't finished, by slot
   pub tasks : ℕ → Option Task
-  -- the slots of those that are to be polled, the first one first
+  -- the slots of the queued tasks, the first one first
   pub queue : List ℕ
   -- how many tasks were ever put: the number of the next one
   pub next : ℕ
   -- how many results were handed out
   pub results : ℕ
-  -- the key is posted, or is to be
+  -- the key is posted, or about to be
   pub pinged : Bool
-  -- a turn stands open
+  -- a turn is open
   pub draining : Bool
   -- the executor was dropped
   pub gone : Bool
-  -- how far that turn has come
+  -- the progress of that turn
   pub progress : Progress
-  -- under which key the loop knows it
+  -- the key under which the loop knows it
   pub key : Option ℕ
-  -- how many schedulers there are
+  -- the number of schedulers
   pub senders : ℕ
 
 -- nothing was scheduled yet
@@ -67,7 +67,7 @@ after_put slot home c =
       pinged = true;
     }
 
--- A wake: an idle task is queued last, one that is polled is marked, and else nothing changes. In calloop the wake of a task
+-- A wake: an idle task is queued last, a polled one is marked, and otherwise nothing changes. In calloop the wake of a task
 -- puts its runnable into the channel, once until it is polled.
 abbrev pub after_wake : TaskKey → ExecutorCell → ExecutorCell
 after_wake key c =
@@ -77,12 +77,12 @@ after_wake key c =
       pinged = is_idle (phase_at key c.tasks) || c.pinged;
     }
 
--- A wake of the task of this number changes nothing, whichever slot its key says. Calloop's async_task sees in one word that a task
--- is scheduled, and lets its wake be.
+-- A wake of the task of this number changes nothing, whatever slot its key names. Calloop's async_task sees in one word that
+-- a task is scheduled, and then does nothing.
 abbrev pub IsAwake : ℕ → ExecutorCell → Type 0
 IsAwake number c = (slot : ℕ) → after_wake (record { slot = slot; number = number }) c ≡ c
 
--- the task that was popped last is finished, or idle, or queued last where it was woken in its poll
+-- the task that was popped last is finished, or idle, or queued last if it was woken during its poll
 abbrev pub after_poll_of : Option TaskKey → (finished : Bool) → ExecutorCell → ExecutorCell
 after_poll_of None finished c = c
 after_poll_of (Some key) true c =
@@ -98,7 +98,7 @@ after_poll_of (Some key) false c =
       progress = record c.progress { polled = None };
     }
 
--- the same of the task that the turn popped last
+-- the same for the task that the turn popped last
 abbrev pub after_poll : (finished : Bool) → ExecutorCell → ExecutorCell
 after_poll finished c = after_poll_of c.progress.polled finished c
 
@@ -112,7 +112,7 @@ abbrev pub in_its_poll : Option Task → Option Task
 in_its_poll None = None
 in_its_poll (Some task) = Some (record task { phase = Polling })
 
--- the first task of the queue is polled from now on, where there is one
+-- the first task of the queue, if there is one, enters its poll
 abbrev pub taken_of : List ℕ → ExecutorCell → ExecutorCell
 taken_of [] c = record c { progress = record { pops = c.progress.pops + 1; dry = true; polled = None } }
 taken_of (slot ∷ rest) c =
@@ -122,7 +122,7 @@ taken_of (slot ∷ rest) c =
       progress = record { pops = c.progress.pops + 1; dry = false; polled = key_in slot (c.tasks slot) };
     }
 
--- the same, of the queue that there is
+-- the same, for the present queue
 abbrev pub after_take : ExecutorCell → ExecutorCell
 after_take c = taken_of c.queue c
 
@@ -130,7 +130,7 @@ after_take c = taken_of c.queue c
 abbrev pub after_pop : (finished : Bool) → ExecutorCell → ExecutorCell
 after_pop finished c = after_take (after_poll finished c)
 
--- the turn is over, and pings where its last pop gave a task; calloop's process_events rings its own Ping after 1,024
+-- the turn is over, and pings if its last pop returned a task; calloop's process_events rings its own Ping after 1,024
 abbrev pub after_end : ExecutorCell → ExecutorCell
 after_end c = record c { draining = false; pinged = c.pinged || not c.progress.dry; progress = at_start }
 
@@ -142,7 +142,7 @@ after_end_turn finished c = after_end (after_poll finished c)
 abbrev pub opens : ℕ → ExecutorCell → Bool
 opens k c = is_own k c.key && not c.draining
 
--- a turn stands open, which popped nothing yet
+-- a turn is open, which has popped nothing yet
 abbrev pub in_turn : ExecutorCell → ExecutorCell
 in_turn c = record c { pinged = false; draining = true; progress = at_start }
 
@@ -154,8 +154,8 @@ after_open_turn k c = if opens k c then in_turn c else c
 abbrev pub after_set_key : ℕ → ExecutorCell → ExecutorCell
 after_set_key k c = record c { key = Some k }
 
--- The key is taken back. The executor's drop finishes each task besides: calloop's wakes them all, and drops what the channel
--- has.
+-- The key is taken back. The executor's drop also finishes each task: calloop's wakes them all, and drops the content of
+-- the channel.
 abbrev pub after_clear_key : (by_drop : Bool) → ExecutorCell → ExecutorCell
 after_clear_key true c =
     record c { key = None; gone = true; tasks = λ _. None; queue = []; progress = record c.progress { polled = None } }
@@ -170,62 +170,62 @@ abbrev pub is_empty : List ℕ → Bool
 is_empty [] = true
 is_empty (x ∷ xs) = false
 
--- the tasks in the queue are those that say so, each once
+-- the queue has exactly the tasks whose phase is queued, each once
 pub record AreQueued (tasks : ℕ → Option Task) (queue : List ℕ) : Type 0 where
   pub once : IsApart queue
   pub only : (slot : ℕ) → IsIn slot queue → (task : Task) × (tasks slot ≡ Some task) × (task.phase ≡ Queued)
   pub all : (slot : ℕ) (task : Task) → tasks slot ≡ Some task → task.phase ≡ Queued → IsIn slot queue
 
--- the one task that is polled is the one that was popped last
+-- the only polled task is the one that was popped last
 abbrev pub ArePolled : (ℕ → Option Task) → Option TaskKey → Type 0
 ArePolled tasks polled =
     (slot : ℕ) (task : Task) → tasks slot ≡ Some task → in_poll (Some task.phase) ≡ true
     → polled ≡ Some (record { slot = slot; number = task.number })
 
--- no two tasks have one number, and none has one that is still to come
+-- no two tasks have the same number, and none has a number that is still to come
 pub record AreNumbered (tasks : ℕ → Option Task) (next : ℕ) : Type 0 where
   pub below : (slot : ℕ) (task : Task) → tasks slot ≡ Some task → task.number < next
   pub apart : (slot other : ℕ) (task that : Task) → tasks slot ≡ Some task → tasks other ≡ Some that
       → task.number ≡ that.number → slot ≡ other
 
--- the tasks, the queue and the next number, whenever nobody is within a step: each task is idle, queued once, polled, or finished
+-- the tasks, the queue and the next number, between any two steps: each task is idle, queued once, polled, or finished
 pub record AreSorted (c : ExecutorCell) : Type 0 where
   pub queued : AreQueued c.tasks c.queue
   pub polled : ArePolled c.tasks c.progress.polled
   pub numbered : AreNumbered c.tasks c.next
 
--- what is to be polled is pinged, or a turn stands open that will pop it
+-- tasks to be polled keep the cell pinged, or a turn is open that will pop them
 abbrev pub IsLitExecutor : ExecutorCell → Type 0
 IsLitExecutor c = is_empty c.queue ≡ false → (c.pinged || (c.draining && not c.progress.dry)) ≡ true
 
--- a task is polled in a turn alone, and it is there
+-- a task is polled only in a turn, and it is there
 abbrev pub IsRunning : ExecutorCell → Type 0
 IsRunning c = (key : TaskKey) → c.progress.polled ≡ Some key
     → (c.draining ≡ true) × (c.progress.dry ≡ false) × (in_poll (phase_at key c.tasks) ≡ true)
 
--- what the cell keeps, whenever nobody is within a step
+-- what the cell keeps, between any two steps
 pub record IsKeepingTasks (c : ExecutorCell) : Type 0 where
   pub sorted : AreSorted c
   pub lit : IsLitExecutor c
   pub running : IsRunning c
 
--- No wake is lost: a queued task, and one that was woken in its poll, is pinged, or a turn stands open. And each task is
--- where it says.
+-- No wake is lost: with a queued task, or one that was woken during its poll, the cell is pinged, or a turn is open. And each
+-- task is in the state that its phase says.
 pub record IsStandingExecutor (c : ExecutorCell) : Type 0 where
   pub queued : is_empty c.queue ≡ false → (c.pinged || c.draining) ≡ true
   pub woken : (slot : ℕ) (task : Task) → c.tasks slot ≡ Some task → is_woken (Some task.phase) ≡ true
       → (c.pinged || c.draining) ≡ true
   pub sorted : AreSorted c
 
--- the debt of a step that leads from this cell to that: of the key, where the step pings anew
+-- the debt of a step from this cell to that one: the key, if the step pings anew
 abbrev pub debt_between : (before after : ExecutorCell) → Option ℕ
 debt_between c d = if c.pinged then None else if d.pinged then d.key else None
 
--- the debt that setting the key gives
+-- the debt of setting the key
 abbrev pub owed_at : ℕ → ExecutorCell → Option ℕ
 owed_at k c = if c.pinged then Some k else None
 
--- no tasks, where the executor is gone
+-- no tasks, if the executor is gone
 abbrev pub table_of : Option TaskTable → TaskTable
 table_of None = no_tasks
 table_of (Some table) = table
@@ -246,7 +246,7 @@ inside_cell tasks next results pinged draining progress key senders =
       senders = senders;
     }
 
--- what is seen of a core: its tasks, and the rest of its cell
+-- the view of a core: its tasks, and the rest of its cell
 pub record ExecutorView : Type 0 where
   pub table : TaskTable
   pub next : ℕ
@@ -259,7 +259,7 @@ pub record ExecutorView : Type 0 where
   pub senders : ℕ
   -- no other cell has it
   pub name : Book
-  -- the name of the board of its key; where it has no key, this means nothing
+  -- the name of the board of its key; means nothing without a key
   pub board : Book
 
 -- the cell in it
@@ -277,6 +277,6 @@ cell_of v = record {
   senders = v.senders;
 }
 
--- each task that was ever put gave its result or is there, until the executor is dropped
+-- each task that was ever put has returned its result or is there, until the executor is dropped
 abbrev pub IsBalanced : ExecutorView → Type 0
 IsBalanced v = v.gone ≡ false → v.next ≡ v.results + count v.table

@@ -1,15 +1,15 @@
--- Where the futures of an executor are. In calloop async_task keeps each with its task.
+-- The places of an executor's futures. In calloop async_task keeps each with its task.
 use Rattle.std.specs.Prelude.{ℕ, Bool, List, [], Option, Some, None, slice_index_or}
 use Rattle.logbook.specs.Pages.{Book}
 use Rattle.slab.specs.Slab.{Slab}
 use Rattle.calloop_wake.specs.declared.homes.Place.{Place}
 
--- the places, each with what stands there, where it is given out
+-- the places, each with its content if it is in use
 pub record HomesView (F : Type 0) : Type 0 where
   pub places : List (Option (Place F))
   -- the executor was dropped, and its futures with it
   pub gone : Bool
-  -- that of the executor's cell
+  -- the name of the executor's cell
   pub name : Book
 
 abbrev pub place_in : {F : Type 0} → HomesView F → ℕ → Option (Place F)

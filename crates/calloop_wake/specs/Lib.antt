@@ -1,4 +1,4 @@
--- What the contracts of `wake` cite.
+-- What the contracts of this crate use.
 pub mod Passes
 pub mod Cells
 pub mod Bells

@@ -1,4 +1,4 @@
--- What who has taken a lock has once its content was lent.
+-- What the holder of a lock has after its content was lent.
 use Rattle.atomic_table.specs.Lent.{seat_with}
 use Rattle.calloop_wake.specs.declared.locked.Held.{Held}
 

@@ -1,5 +1,5 @@
--- What holds of a lock between any two steps, and what who has taken it has. A lock is a table with one word and one slot.
--- The `tag` of a Locked is seen as the tag that it was made under.
+-- What holds of a lock between any two steps, and of its holder. A lock is a table with one word and one slot. A contract
+-- sees a Locked as the tag that it was made under.
 use Rattle.std.specs.Prelude.{◌≡◌, ℕ, ◌+◌, ◌∷◌, [], List, slice_index, length}
 use mathlib.Core.Option.{some}
 use lib.ListN.{get_elem?}
@@ -15,29 +15,29 @@ module _ {S : Type 0} where
   IsOut [] = ⊥
   IsOut (x ∷ xs) = x.0 ≡ 0
 
-  -- what was taken last is such
+  -- what was taken last satisfies this
   abbrev pub OfContent : (S → Type 0) → List (ℕ × S) → Type 0
   OfContent P [] = ⊥
   OfContent P (x ∷ xs) = P x.1
 
-  -- the content is out, and is such
+  -- the content is taken, and satisfies this
   abbrev pub IsTaken : (S → Type 0) → List (ℕ × S) → Type 0
   IsTaken P taken = IsOut taken × OfContent P taken
 
 module _ {S : Type 0} (fits : S → Type 0) (hints : ℕ → S → Type 0) where
-  -- the word n + 2 of a free lock says the hint n of its content; the word 0 says nothing
+  -- the word n + 2 of a free lock is the hint n of its content; the word 0 is no hint
   abbrev pub IsHinted : (word : ℕ) → S → Type 0
   IsHinted word content = (n : ℕ) → word ≡ n + 2 → hints n content
 
-  -- while nobody had the lock, the hint was so of its content
+  -- while nobody held the lock, the hint was true of its content
   abbrev pub WasHinted : ℕ → Type 0
   WasHinted n = (content : S) × fits content × hints n content
 
-  -- the same of the hint of a word that was found
+  -- the same for the hint of a word that was found
   abbrev pub WasHintedBy : (word : ℕ) → Type 0
   WasHintedBy word = (n : ℕ) → word ≡ n + 2 → WasHinted n
 
-  -- where the word isn't 1, the content is at home, fits, and is as the hint says
+  -- if the word isn't 1, the content is in the lock, fits, and satisfies the word's hint
   abbrev pub IsLock : {V : Type 0} → State S V → Type 0
   IsLock {V} s = (length s.words ≡ 1)
       × (¬ (slice_index s.words 0 ≡ 1) → (content : S) × (get_elem? s.homes 0 ≡ some (some content))

@@ -3,10 +3,10 @@ use Rattle.std.specs.Prelude.{ℕ, List}
 use Rattle.logbook.specs.Pages.{Book}
 use Rattle.calloop_slots.specs.declared.token.RegistrationToken.{RegistrationToken}
 
--- which adapters ask to be settled, in the order in which they were marked
+-- the adapters that ask to be settled, in the order in which they were marked
 pub record MarksView : Type 0 where
   pub marked : List RegistrationToken
-  -- for how many adapters there is to be room: those that are in the loop, each of which is marked once at most
+  -- the number of adapters that need room: those in the loop, each of which is marked at most once
   pub adapters : ℕ
-  -- that of the board of their loop
+  -- the name of their loop's board
   pub name : Book

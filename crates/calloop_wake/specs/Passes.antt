@@ -1,5 +1,5 @@
--- What clients see of the values that carry a key: each has the name of the board of its key, so it is spent there.
--- A name is seen as a Book of the kit's logbook, of which nothing is known but whether it is another name's.
+-- Values that carry a key, as clients see them: each has the name of the board of its key, so it is spent there.
+-- A name is a Book of the kit's logbook, of which only one thing is known: whether it is another's name.
 use Rattle.std.specs.Prelude.{◌≡◌, ℕ, List, [], ◌∷◌, Option, Some, None}
 use Rattle.logbook.specs.Pages.{Book}
 
@@ -9,12 +9,12 @@ pub record Keyed : Type 0 where
   pub key : ℕ
   pub board : Book
 
--- the key of this board, where there is one
+-- the key of this board, if there is one
 abbrev pub on : Book → Option ℕ → Option Keyed
 on board None = None
 on board (Some k) = Some (record { key = k; board = board })
 
--- a TakenPass: a key that was taken from the board; calloop's poller gives such keys as events, which can be dropped
+-- a TakenPass: a key that was taken from the board; calloop's poller returns such keys as events, which can be dropped
 pub record Taken : Type 0 where
   pub key : ℕ
   pub board : Book

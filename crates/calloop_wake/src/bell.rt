@@ -1,4 +1,4 @@
-//! The bell of a cell: what each kind of cell has of a ping.
+//! The bell of a cell: what each kind of cell shares with a ping.
 ghost use Rattle.std.specs.Prelude.{◌≡◌, ◌+◌, ◌-◌, ◌<◌, ◌^◌, ◌&&◌, ◌||◌, not, true, false, None, Some, IfOk, IfErr, if◌then◌else◌};
 ghost use Rattle.calloop_wake.specs.Cells.{fresh_tally, fresh, one, opens, debt_of, owed_at, owed_by_drop, after_close, after_add_sender, after_drop_sender, after_set_key, after_clear_key};
 ghost use Rattle.calloop_wake.specs.Bells.{bell_with, after_ping, after_drain, after_end, owed_if, after_tell_close};
@@ -9,7 +9,7 @@ use super::{ClosePermit, Debt, OpenedPass, ReceivingRight, Sender, Tally};
 use std::alloc::AllocError;
 use std::marker::Model;
 
-/// Whether its key is posted, who has it, and under which key its loop is told of it.
+/// The state that every cell has: whether its key is posted, its ends, and the key by which the loop knows it.
 pub(crate) struct Bell {
     pinged: bool,
     draining: bool,
@@ -19,7 +19,7 @@ pub(crate) struct Bell {
     key: Option<u64>,
     senders: u64,
     name: Name,
-    // The board of its key; its own name, where it had none yet.
+    // The board of its key; its own name if it never had one.
     board: Name,
 }
 
@@ -37,7 +37,7 @@ impl Model for Bell {
 }
 
 impl Bell {
-    /// A bell that was not rung, without a key and without senders, and its name.
+    /// A bell that wasn't rung, without a key and without senders, and its name.
     pub(super) fn new() -> (Bell, Name)
         ensures { result.0 ≡ record { cell = fresh; name = result.1; board = result.1 } }
     {
@@ -56,7 +56,7 @@ impl Bell {
         (bell, name)
     }
 
-    /// It ends.
+    /// Drops the bell: its fields are plain.
     pub(super) fn dissolve(self) {
         let Bell {
             pinged: _,
@@ -90,14 +90,14 @@ impl Bell {
         self.gone
     }
 
-    /// Whether a turn stands open.
+    /// True if a turn is open.
     pub(super) fn is_draining(&self) -> bool
         ensures { result ≡ self.now.cell.draining }
     {
         self.draining
     }
 
-    // The debt that pinging gives.
+    // The debt of pinging.
     fn debt(&self) -> Option<Debt>
         ensures { result ≡ on self.now.board (debt_of self.now.cell) }
     {
@@ -113,7 +113,7 @@ impl Bell {
         }
     }
 
-    /// Its key is posted, or is to be.
+    /// The key is posted, or about to be.
     pub(super) fn ping(&mut self) -> Option<Debt>
         ensures bell { self.new ≡ bell_with (after_ping self.old.cell) self.old }
         ensures gives { result ≡ on self.old.board (debt_of self.old.cell) }
@@ -173,7 +173,7 @@ impl Bell {
         }
     }
 
-    /// One sender less, and no close where it was the last.
+    /// One sender less, and no close even if it was the last.
     pub(super) fn drop_without_close(&mut self, sender: Sender)
         ensures { self.new
             ≡ bell_with (record self.old.cell { senders = self.old.cell.senders - 1 }) self.old }
@@ -237,14 +237,14 @@ impl Bell {
         self.take_key()
     }
 
-    /// Whether a pass of this key opens a turn.
+    /// True if a pass of this key opens a turn.
     pub(super) fn opens(&self, key: u64) -> bool
         ensures { result ≡ opens key self.now.cell }
     {
         self.key == Some(key) && !self.draining
     }
 
-    /// A turn stands open.
+    /// A turn is open.
     pub(super) fn open(&mut self)
         ensures { self.new ≡ bell_with (after_drain self.old.cell) self.old }
     {
@@ -252,7 +252,7 @@ impl Bell {
         self.draining = true;
     }
 
-    /// A close is told, and whether it was not before.
+    /// A close is told. Returns true if it wasn't before.
     pub(super) fn tell_close(&mut self) -> bool
         ensures bell { self.new ≡ bell_with (after_tell_close self.old.cell) self.old }
         ensures gives { result ≡ (self.old.cell.closed && not self.old.cell.told) }
@@ -262,7 +262,7 @@ impl Bell {
         tells
     }
 
-    /// The turn is over, and pings where it stopped early.
+    /// The turn is over, and pings if it stopped early.
     pub(super) fn end(&mut self, early: bool) -> Option<Debt>
         ensures bell { self.new ≡ bell_with (after_end early self.old.cell) self.old }
         ensures gives { result ≡ on self.old.board (owed_if early self.old.cell) }

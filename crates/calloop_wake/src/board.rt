@@ -1,5 +1,5 @@
-//! The board: one place for each open key, which is marked while the key is posted. Each look at it and each taking of its keys is noted
-//! in its watch.
+//! The board: one place for each open key, marked while the key is posted. Its watch notes each look at it and each taking of
+//! its keys.
 ghost use Rattle.std.specs.Prelude.{ℕ, nat_eq, IsSome, drop, ◌≡◌, ◌≤◌, ◌+◌, ◌++◌, ◌∷◌, ◌<◌, ◌-◌, ◌^◌, [], false, true, not, map, length, is_ok, is_some, Err, OnOk, IfErr, MatchResult, if◌then◌else◌};
 ghost use Rattle.std.specs.VecDeque.{deque_len, deque_capacity};
 ghost use Rattle.std.specs.Vec.{vec_capacity};
@@ -29,24 +29,24 @@ use std::marker::Model;
 pub struct Place {
     /// The key.
     pub key: u64,
-    /// Whether the key is posted.
+    /// True if the key is posted.
     pub marked: bool,
 }
 
-/// Why a place could not be opened.
+/// Why a place couldn't be opened.
 #[derive(Clone, Copy, Debug, PartialEq, Eq)]
 pub enum OpenRefusal {
     /// The key has a place already.
     AlreadyExists,
-    /// No memory was left for a place.
+    /// There was no memory left for a place.
     OutOfMemory,
 }
 
-/// The open places and the posted keys, under the name that the board shares with its watch. In calloop the kernel's poller keeps such a
-/// table. It has no `Drop`: it lies under a lock, whose last drop ends it.
+/// The open places and the posted keys, under the name that the board shares with its watch. In calloop the kernel's poller keeps
+/// such a table. Has no `Drop`: the lock around a board ends it at its last drop.
 pub struct Board {
     places: Places,
-    // In no order, with room for all keys that have a place.
+    // Unordered, with room for all keys that have a place.
     posted: Vec<u64>,
     name: Name,
 }
@@ -82,7 +82,7 @@ impl Core for Board {
     }
 }
 
-// Makes room for so many posted keys.
+// Makes room for this many posted keys.
 fn make_room(posted: &mut Vec<u64>, keys: usize) -> Result<(), OpenRefusal>
     ensures items { posted.new.items ≡ posted.old.items }
     ensures capacity { vec_capacity posted.old ≤ vec_capacity posted.new }
@@ -109,7 +109,7 @@ fn close(places: &mut Places, posted: &mut Vec<u64>, key: u64)
     }
 }
 
-// Marks the place of a key, if it has one, and takes no memory. Whether that set a mark anew.
+// Marks the place of a key, if it has one, and takes no memory. True if that set a new mark.
 fn mark(places: &mut Places, posted: &mut Vec<u64>, key: u64) -> bool
     requires { IsBoard places.old posted.old.items (vec_capacity posted.old) }
     ensures wakes { result ≡ wakes key (places_of places.old) }
@@ -126,7 +126,7 @@ fn mark(places: &mut Places, posted: &mut Vec<u64>, key: u64) -> bool
     true
 }
 
-// Notes where each posted key stands once so many of the first are gone, by one look-up each.
+// Notes the new position of each posted key once so many of the first are gone, with one look-up each.
 fn renumber(places: &mut Places, posted: &[u64], gone: usize, steps: &mut Steps)
     requires fresh { steps.old ≡ 0 }
     requires open { (key : ℕ) → list_any (nat_eq key) posted.now ≡ true
@@ -162,7 +162,7 @@ fn give(keys: &[u64], name: &Name, passes: &mut VecDeque<TakenPass>)
     }
 }
 
-// Takes so many of the first out.
+// Takes out this many of the first.
 fn drop_first(posted: &mut Vec<u64>, gone: usize)
     requires { gone ≤ length posted.old.items }
     ensures items { posted.new.items ≡ drop gone posted.old.items }
@@ -172,7 +172,7 @@ fn drop_first(posted: &mut Vec<u64>, gone: usize)
 }
 
 impl Board {
-    /// A board with no place, its watch, the name of both, and the right to the marks under that name. It allocates nothing yet.
+    /// A board with no place, its watch, the name of both, and the right to the marks under that name. Allocates nothing yet.
     pub fn new(alloc: Global) -> (Board, Watch, Name, MarkingRight)
         ensures board { result.0 ≡ record { places = []; name = result.2 } }
         ensures watch { result.1 ≡ record { name = result.2; notes = [] } }
@@ -192,7 +192,7 @@ impl Board {
         (board, watch, name, right)
     }
 
-    /// How many places are open now.
+    /// The number of open places.
     pub fn places(&self) -> OpenPlaces
         ensures { result ≡ record { number = length self.now.places; name = self.now.name } }
     {
@@ -204,8 +204,8 @@ impl Board {
 
     /// Opens a place for the key of a token, not marked, as calloop adds a descriptor to the poller.
     ///
-    /// It refuses with `AlreadyExists` exactly where the key has a place, and with `OutOfMemory` where there is no
-    /// memory for one. After a refusal the board is as it was.
+    /// Fails with `AlreadyExists` exactly if the key has a place, and with `OutOfMemory` if there is no memory for one. On
+    /// failure the board is unchanged.
     pub fn open_place(&mut self, key: u64) -> Result<OpenedPass, OpenRefusal>
         requires { key < 2 ^ 64 - 1 }
         ensures board { self.new ≡ with_places
@@ -227,7 +227,7 @@ impl Board {
         })
     }
 
-    /// Closes the place of a key of this board that no cell has any more, with its mark.
+    /// Closes the place of a key of this board that no cell has any more, and removes its mark.
     pub fn close_place(&mut self, permit: ClosePermit)
         requires { permit.board ≡ self.old.name }
         ensures { self.new ≡ with_places (after_close_place permit.key self.old.places) self.old }
@@ -236,8 +236,8 @@ impl Board {
         close(&mut self.places, &mut self.posted, key);
     }
 
-    /// Marks the key of a debt to this board, where its place is open, and gives a wakeup exactly where that set a mark anew.
-    /// The debt of a key with no place is spent all the same.
+    /// Marks the key of a debt to this board if its place is open, and returns a wakeup exactly if that set a new mark. The debt
+    /// of a key without a place is spent all the same.
     pub fn post(&mut self, debt: Debt) -> Option<Wakeup>
         requires { debt.board ≡ self.old.name }
         ensures board { self.new ≡ with_places (after_post debt.key self.old.places) self.old }
@@ -251,14 +251,14 @@ impl Board {
         }
     }
 
-    // Whether some key is marked.
+    // True if some key is marked.
     fn any_marked(&self) -> bool
         ensures { result ≡ any_marked self.now.places }
     {
         !self.posted.is_empty()
     }
 
-    /// Looks whether a key is marked, which the watch notes: the permit to sleep, where none is.
+    /// Looks whether a key is marked, which the watch notes. Returns the permit to sleep if none is.
     pub fn look(&self, watch: &mut Watch) -> Option<SleepPermit>
         requires { watch.old.name ≡ self.now.name }
         ensures gives { is_some result ≡ not (any_marked self.now.places) }
@@ -272,7 +272,7 @@ impl Board {
         }
     }
 
-    /// Where no key is marked, has the watch note that none was taken, with room for so many. Else nothing changes.
+    /// If no key is marked, has the watch note that none was taken, with this much room. Otherwise changes nothing.
     pub fn unpost_none(&self, room: usize, watch: &mut Watch) -> bool
         requires { watch.old.name ≡ self.now.name }
         ensures gives { result ≡ not (any_marked self.now.places) }
@@ -286,8 +286,8 @@ impl Board {
         none
     }
 
-    /// Takes the marked keys, ascending, as many as there is room for, appends a pass for each, and has the watch note them. It looks
-    /// up as many places as there were marked keys.
+    /// Takes the marked keys, ascending, as many as there is room for, appends a pass for each, and has the watch note them. Looks
+    /// up one place for each marked key.
     pub fn unpost(
         &mut self,
         room: usize,

@@ -1,4 +1,4 @@
-//! The cell of a channel, which its ends share.
+//! The cell of a channel, shared by its ends.
 ghost use Rattle.std.specs.Prelude.{◌≡◌, ◌≤◌, ◌<◌, ◌+◌, ◌^◌, ◌⊎◌, IfSome, IfOk, IfErr, MatchResult, is_ok, true, false, None, Some, Err, [], if◌then◌else◌};
 ghost use Rattle.calloop_wake.specs.Cells.{debt_of, owed_at, owed_by_drop, after_add_sender, after_drop_sender, after_clear_key};
 ghost use Rattle.calloop_wake.specs.Bells.{after_ping, owed_if};
@@ -19,46 +19,46 @@ use counted_slot::Fits;
 use std::alloc::{AllocError, Global};
 use std::marker::Model;
 
-/// What the last pop of a turn gave.
+/// The result of a turn's last pop.
 #[derive(Clone, Copy, Debug, PartialEq, Eq)]
 pub enum LastPop {
-    /// The turn made none yet.
+    /// The turn has made no pop yet.
     NoPop,
     AnItem,
     NoItem,
 }
 
-/// What a pop gives.
+/// The result of a pop.
 #[derive(Drop)]
 pub enum Popped<T> {
     Item(T),
-    /// No message is there now.
+    /// There is no message now.
     Empty,
-    /// No message will come any more. It is told once.
+    /// No message will ever come. Returned once.
     Closed,
 }
 
-/// Why a message was not put. It comes back.
+/// Why a message wasn't put. The message comes back.
 #[derive(Drop)]
 pub enum PutError<T> {
     /// The receiving end is gone.
     Gone(T),
-    /// As many messages are there as its bound says.
+    /// The channel holds as many messages as its bound says.
     Full(T),
     OutOfMemory(T),
 }
 
-/// What never changes of a channel's cell: its name, and how many messages it holds at most.
+/// What never changes of a channel's cell: its name, and the most messages that it holds.
 #[derive(Drop)]
 pub struct Label {
     pub(crate) name: Name,
     pub(crate) bound: Option<usize>,
 }
 
-/// What the ends of a channel share. Calloop has the queue of std's `mpsc` and a ping here.
+/// The state that the ends of a channel share. Calloop has the queue of std's `mpsc` and a ping here.
 ///
-/// What mustn't be lost, a message or a close that no turn told, is pinged, or a turn stands open. It has no `Drop`: it lies
-/// under a lock, whose last drop ends it.
+/// With a message, or a close that no turn has told, the cell is pinged, or a turn is open. Has no `Drop`: the lock around a
+/// cell ends it at its last drop.
 pub struct ChannelCore<T> {
     bell: Bell,
     queue: Queue<T>,
@@ -99,8 +99,8 @@ impl<T: Drop> Core for ChannelCore<T> {
 }
 
 impl<T> ChannelCore<T> {
-    /// A cell without messages, without a key and without senders, its label, and the right to its receiving end. One with a
-    /// bound has room for that many messages.
+    /// A cell without messages, without a key and without senders, its label, and the right to its receiving end. With a bound it
+    /// has room for that many messages.
     pub fn new(
         alloc: Global,
         bound: Option<usize>,
@@ -128,8 +128,8 @@ impl<T> ChannelCore<T> {
         Ok((core, Label { name, bound }, right))
     }
 
-    /// Shows that no message and no close is lost: it is pinged, or a turn stands open. Only a close is told, and there are no
-    /// more messages than the bound says.
+    /// Shows that no message and no close is lost: the cell is pinged, or a turn is open. A close is told only once it has
+    /// happened, and the messages are at most the bound.
     pub fn stands(&self)
         ensures standing { IsStandingChannel self.now.state }
         ensures sound { IsSoundChannel self.now.state }
@@ -137,8 +137,8 @@ impl<T> ChannelCore<T> {
         let _ = &self.last;
     }
 
-    /// Appends a message: its receipt, and a debt where the cell has a key and was not pinged. At a refusal the cell is as it
-    /// was.
+    /// Appends a message. Returns its receipt, and a debt if the cell has a key and wasn't pinged. On failure the cell is
+    /// unchanged.
     pub fn put(&mut self, message: T) -> Result<(Receipt, Option<Debt>), PutError<T>>
         ensures core { self.new
             ≡ (if is_ok result then view_after_put message self.old else self.old) }
@@ -172,7 +172,7 @@ impl<T> ChannelCore<T> {
         }
     }
 
-    // Appends where there is room.
+    // Appends if there is room.
     fn append(&mut self, message: T) -> Result<Option<Debt>, T>
         requires { has_room self.old.state ≡ true }
         ensures core { self.new
@@ -196,18 +196,18 @@ impl<T> ChannelCore<T> {
         self.bell.ping()
     }
 
-    /// Whether the last sender is gone.
+    /// True if the last sender is gone.
     pub fn is_closed(&self) -> bool
         ensures { result ≡ self.now.state.cell.closed }
     {
         self.bell.is_closed()
     }
 
-    /// Opens a turn with a pass of the cell's own key; the tally counts it. The turn may make as many pops as the bound, and one
-    /// more, and at most 1,024.
+    /// Opens a turn with a pass of the cell's own key; the tally counts it. The turn may make one pop more than the bound, and
+    /// at most 1,024.
     ///
-    /// It refuses a pass of another key, and any pass while a turn stands open: the pass comes back marked as
-    /// refused by this cell, and the cell stays as it is.
+    /// Refuses a pass of another key, and any pass while a turn is open: the pass comes back marked as refused by this cell, and
+    /// the cell is unchanged.
     pub fn open_turn(
         &mut self,
         pass: TakenPass,
@@ -262,7 +262,7 @@ impl<T> ChannelCore<T> {
         }
     }
 
-    /// A pop of a turn, which counts it: the first message; or that there is none now; or, once, that none will come.
+    /// A pop of a turn, which counts it. Returns the first message; or that there is none now; or, once, that none will come.
     pub fn pop(&mut self, turn: &mut ChannelTurn, tally: &mut Tally) -> Popped<T>
         requires left { 0 < turn.old.left }
         requires turn { turn.old.name ≡ self.old.name }
@@ -287,7 +287,7 @@ impl<T> ChannelCore<T> {
         }
     }
 
-    // A pop of the turn finds no message: whether it tells the close.
+    // A pop of the turn finds no message. True if it tells the close.
     fn stop(&mut self) -> bool
         requires { self.old.state.queue ≡ [] }
         ensures core { self.new ≡ view_with (after_pop_of [] self.old.state) self.old }
@@ -297,7 +297,7 @@ impl<T> ChannelCore<T> {
         self.bell.tell_close()
     }
 
-    /// The first message, where there is one, outside of a turn. It never tells the close.
+    /// The first message, if there is one, outside of a turn. Never tells the close.
     pub fn take(&mut self, tally: &mut Tally) -> Option<T>
         requires { tally.old.name ≡ self.old.name }
         ensures core { self.new ≡ view_after_take self.old }
@@ -310,8 +310,8 @@ impl<T> ChannelCore<T> {
         Some(message)
     }
 
-    /// Ends the turn, which has to be one of this cell. Its last pop found nothing, or it made all the pops that it may; then the
-    /// cell is pinged.
+    /// Ends the turn, which has to be one of this cell. Either its last pop found nothing, or it made all pops that it may make,
+    /// and then the cell is pinged.
     pub fn end_turn(&mut self, turn: ChannelTurn) -> Option<Debt>
         requires turn { turn.name ≡ self.old.name }
         requires over { (turn.left ≡ 0) ⊎ (turn.done ≡ true) }

@@ -1,4 +1,4 @@
-//! The cell of an executor, which its schedulers and its wakers share.
+//! The cell of an executor, shared by its schedulers and its wakers.
 ghost use Rattle.std.specs.Prelude.{if◌then◌else◌, ◌≡◌, nat_lt, Err, ◌+◌, ◌-◌, ◌<◌, ◌≤◌, ◌^◌, ◌&&◌, ◌⊎◌, not, true, false, None, Some, IsSome, IfOk, IfErr, OnErr, IfSome, IfNone};
 ghost use Rattle.calloop_wake.specs.Cells.{one};
 ghost use Rattle.calloop_wake.specs.Passes.{on};
@@ -16,33 +16,33 @@ use counted_slot::Fits;
 use std::alloc::{AllocError, Global};
 use std::marker::Model;
 
-/// The most that one turn pops.
+/// The most pops of one turn.
 pub const MOST_TASKS: u32 = 1024;
 
-/// How far a turn has come.
+/// The progress of a turn.
 #[derive(Clone, Copy, Debug, PartialEq, Eq)]
 pub struct Progress {
-    /// How often it popped.
+    /// How many pops it made.
     pub pops: u32,
-    /// Its last pop gave no task.
+    /// Its last pop returned no task.
     pub dry: bool,
-    /// The task that it popped last, until its poll is over.
+    /// The task that it popped last, until the poll of that is over.
     pub polled: Option<TaskKey>,
 }
 
-// Of a turn that popped nothing yet.
+// A turn that has popped nothing yet.
 const AT_START: Progress = Progress {
     pops: 0,
     dry: false,
     polled: None,
 };
 
-/// What an executor shares with its schedulers and its wakers. The futures lie elsewhere.
+/// The state that an executor shares with its schedulers and its wakers. The futures are elsewhere.
 ///
-/// A queued task, and one that was woken in its poll, is pinged, or a turn stands open. It has no `Drop`: it lies under a lock,
-/// whose last drop ends it.
+/// With a queued task, or one that was woken during its poll, the cell is pinged, or a turn is open. Has no `Drop`: the lock
+/// around a cell ends it at its last drop.
 pub struct ExecutorCore {
-    // None once the executor is gone.
+    // `None` once the executor is gone.
     tasks: Option<Tasks>,
     next: u64,
     bell: Bell,
@@ -106,7 +106,7 @@ impl Core for ExecutorCore {
     }
 }
 
-/// A turn of an executor's cell stands open, and has come so far. It has the name of the cell, so it can't be ended on another.
+/// An open turn of an executor's cell, and its progress. Has the name of the cell, so it can't be ended on another.
 #[must_use]
 pub struct TaskTurn {
     pub(crate) name: Name,
@@ -114,7 +114,7 @@ pub struct TaskTurn {
 }
 
 impl TaskTurn {
-    /// Whether it may make one more pop, and its last one gave a task.
+    /// True if it may make another pop, and its last one returned a task.
     pub fn goes_on(&self) -> bool
         ensures { result ≡ (not self.now.progress.dry && nat_lt self.now.progress.pops most_tasks) }
     {
@@ -124,14 +124,14 @@ impl TaskTurn {
 
 /// A task that was put.
 pub struct PutTask {
-    /// By which it is woken.
+    /// The key by which it is woken.
     pub key: TaskKey,
-    /// What gives a receipt, once its future is kept.
+    /// Returns a receipt once its future is kept.
     pub due: DueReceipt,
     pub debt: Option<Debt>,
 }
 
-/// Why a task isn't put.
+/// Why a task wasn't put.
 #[derive(Clone, Copy, Debug, PartialEq, Eq)]
 pub enum PutRefusal {
     /// The executor is gone.
@@ -177,7 +177,7 @@ impl ExecutorCore {
     }
 
     /// Shows what the cell keeps: no wake is lost; each task is idle, queued once, polled, or finished; and each that was ever
-    /// put gave its result or is there, until the executor is gone.
+    /// put has returned its result or is there, until the executor is gone.
     pub fn stands(&self)
         ensures keeping { IsKeepingTasks (cell_of self.now) }
         ensures balanced { IsBalanced self.now }
@@ -185,10 +185,10 @@ impl ExecutorCore {
         let _ = &self.next;
     }
 
-    /// A new task, which is queued last, what gives its receipt, and a debt where the cell has a key and was not pinged.
+    /// Puts a new task, queued last. Returns what makes its receipt, and a debt if the cell has a key and wasn't pinged.
     ///
-    /// It is `Gone` where the executor is, and else `OutOfMemory` where there is no memory for it, or no number is left; then nothing
-    /// changes.
+    /// Fails with `Gone` if the executor is, and otherwise with `OutOfMemory` if there is no memory for it or no number is left;
+    /// then nothing changes.
     pub fn put(&mut self, home: usize) -> Result<PutTask, PutRefusal>
         ensures vacant { IfOk result (λ put. (self.old.gone ≡ false)
             × (task_at self.old.table put.key.slot ≡ None)) }
@@ -230,10 +230,9 @@ impl ExecutorCore {
         })
     }
 
-    /// A wake: an idle task is queued, and one that is polled is marked; of others nothing changes. It takes no memory.
+    /// A wake: an idle task is queued, and a polled one is marked; others don't change. Takes no memory.
     ///
-    /// It gives a debt where a task is queued, the cell has a key and was not pinged. In calloop a wake sends the task's
-    /// runnable.
+    /// Returns a debt if a task is queued, the cell has a key and wasn't pinged. In calloop a wake sends the task's runnable.
     pub fn wake(&mut self, key: TaskKey) -> Option<Debt>
         ensures cell { cell_of self.new ≡ after_wake key (cell_of self.old) }
         ensures names { (self.new.name ≡ self.old.name) × (self.new.board ≡ self.old.board) }
@@ -250,7 +249,7 @@ impl ExecutorCore {
         }
     }
 
-    /// Whether the task of this key is queued, or was woken in its poll. Then a wake of it changes nothing.
+    /// True if the task of this key is queued, or was woken during its poll. Then a wake of it changes nothing.
     pub fn is_awake(&self, key: TaskKey) -> bool
         ensures value { result ≡ is_awake (phase_at key (task_at self.now.table)) }
         ensures hint { result ≡ true → IsAwake key.number (cell_of self.now) }
@@ -261,7 +260,7 @@ impl ExecutorCore {
         }
     }
 
-    /// Whether the turn is the one that stands open here, and has come as far as it says.
+    /// True if the turn is the one that is open here, with the same progress.
     pub fn is_at(&self, turn: &TaskTurn) -> bool
         ensures { result ≡ true
             → (self.now.draining ≡ true) × (turn.now.progress ≡ self.now.progress) }
@@ -269,7 +268,7 @@ impl ExecutorCore {
         self.bell.is_draining() && self.progress == turn.progress
     }
 
-    // The task that was popped last is finished, or idle, or queued last where it was woken meanwhile.
+    // The task that was popped last is finished, or idle, or queued last if it was woken meanwhile.
     fn end_poll(&mut self, finished: bool)
         requires { finished ≡ true → IsSome self.old.progress.polled }
         ensures cell { cell_of self.new ≡ after_poll finished (cell_of self.old) }
@@ -307,7 +306,7 @@ impl ExecutorCore {
         self.progress.polled = None;
     }
 
-    // The first of the queue is polled from now on.
+    // The first task of the queue enters its poll.
     fn take(&mut self) -> Option<(TaskKey, usize)>
         requires ended { self.old.progress.polled ≡ None }
         requires opened { self.old.draining ≡ true }
@@ -345,8 +344,8 @@ impl ExecutorCore {
 
     /// Opens a turn with a pass of the cell's own key; the tally counts it.
     ///
-    /// It refuses a pass of another key, and any pass while a turn stands open: the pass comes back marked as
-    /// refused by this cell, and the cell stays as it is.
+    /// Refuses a pass of another key, and any pass while a turn is open: the pass comes back marked as refused by this cell, and
+    /// the cell is unchanged.
     pub fn open_turn(&mut self, pass: TakenPass, tally: &mut Tally) -> Result<TaskTurn, TakenPass>
         requires { tally.old.name ≡ self.old.name }
         ensures ok { IfOk result (λ turn.
@@ -392,9 +391,9 @@ impl ExecutorCore {
         self.progress = AT_START;
     }
 
-    /// A pop of the turn. The poll of the task that was popped before is over: it is finished, where its poll gave the result, and else it
-    /// is idle, or queued last where it was woken meanwhile. Then the first of the queue is polled from now on, where there is
-    /// one, and told with where its future is. The tally counts a result that was handed out.
+    /// A pop of the turn. It ends the poll of the task that was popped before: that task is finished if its poll returned the
+    /// result, and otherwise idle, or queued last if it was woken meanwhile. Then the first task of the queue, if there is one,
+    /// enters its poll, and is returned with the place of its future. The tally counts a result that was handed out.
     pub fn pop(
         &mut self,
         turn: &mut TaskTurn,
@@ -427,8 +426,8 @@ impl ExecutorCore {
         })
     }
 
-    /// Ends the turn, whose last pop gave no task or was its 1,024th: the poll of the task that was popped last is over, and after 1,024
-    /// the cell pings itself.
+    /// Ends the turn, whose last pop returned no task or was its 1,024th: the poll of the task that was popped last is over, and
+    /// after 1,024 pops the cell pings itself.
     pub fn end_turn(&mut self, turn: TaskTurn, tally: &mut Tally, finished: bool) -> Option<Debt>
         requires names { (turn.name ≡ self.old.name) × (tally.old.name ≡ self.old.name) }
         requires at { (self.old.draining ≡ true) × (turn.progress ≡ self.old.progress) }

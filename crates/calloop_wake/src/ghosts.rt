@@ -1,4 +1,4 @@
-//! Names, numbers and notes that contracts alone see. They have no bytes.
+//! Names, numbers and notes that only contracts see. They have no bytes.
 ghost use Rattle.std.specs.Prelude.{◌≡◌, ◌+◌, ◌++◌, ◌∷◌, []};
 ghost use Rattle.calloop_wake.specs.Cells.{one};
 
@@ -25,7 +25,7 @@ impl<E> Rule<E, u64> for Anything {
     ghost moves = { λ ask before after answer. Unit {0} };
 }
 
-/// The name of one cell, one board or one loop's signal. Each fresh one is that of a new book.
+/// The name of one cell, one board or one loop's signal. Each fresh name is that of a new book.
 #[derive(Drop)]
 pub struct Name {
     seen: Seen<u64, u64, Anything>,
@@ -40,13 +40,13 @@ impl Model for Name {
 }
 
 impl Name {
-    /// A name that nothing has yet. No clause says so: nothing is promised of it, so it can't be shown to be another's.
+    /// A fresh name. Its contract says nothing of it, so nobody can show that it is another's.
     pub fn fresh() -> Name {
         let (seen, ..) = Seen::open(Start::alone(), 0, 0);
         Name { seen }
     }
 
-    /// The same name once more.
+    /// The same name again.
     pub fn again(&self) -> Name
         ensures { result ≡ self.now }
     {
@@ -69,7 +69,7 @@ impl Model for Count {
     ghost view = { λ c. length c.seen.log };
 }
 
-// One more.
+// Adds 1.
 struct Next;
 
 impl Opening<Count, u64> for Next {
@@ -79,7 +79,7 @@ impl Opening<Count, u64> for Next {
 }
 
 impl Count {
-    /// None.
+    /// 0.
     pub fn zero() -> Count
         ensures { result ≡ 0 }
     {
@@ -87,7 +87,7 @@ impl Count {
         Count { seen }
     }
 
-    /// One more.
+    /// Adds 1.
     pub fn next(&self) -> Count
         ensures { result ≡ self.now + 1 }
     {
@@ -95,14 +95,14 @@ impl Count {
         Count { seen }
     }
 
-    /// One more, where this holds.
+    /// Adds 1 if this holds.
     pub fn and_one_if(&self, holds: bool) -> Count
         ensures { result ≡ self.now + one holds }
     {
         if holds { self.next() } else { self.again() }
     }
 
-    /// The same number once more.
+    /// The same number again.
     pub fn again(&self) -> Count
         ensures { result ≡ self.now }
     {
@@ -141,7 +141,7 @@ impl<N> Opening<(), N> for NoNote {
     ghost log = { λ words x. [] };
 }
 
-// One note more.
+// Another note.
 struct AndNote;
 
 impl<N, L: LentNote<N>> Opening<(&Notes<N>, L), N> for AndNote {
@@ -159,7 +159,7 @@ impl<N> Notes<N> {
         Notes { seen }
     }
 
-    /// These notes, with one behind them.
+    /// These notes, with another one behind them.
     pub fn and<L: LentNote<N> + Copy>(&self, note: L) -> Notes<N>
         ensures { result ≡ self.now ++ L.note note ∷ [] }
     {

@@ -1,5 +1,5 @@
-//! Where the futures of an executor are, under a lock of their own that has the name of its cell. A future may keep a waker, which reaches
-//! the cell, so they lie apart from it.
+//! The places of an executor's futures, under a lock of their own that has the name of its cell. A future may keep a waker, which
+//! reaches the cell, so the futures are kept apart from it.
 ghost use Rattle.std.specs.Prelude.{◌≡◌, ◌≢◌, ◌+◌, [], ℕ, None, Some, IfOk, IfErr, IfSome, IfNone, is_some, true, false};
 ghost use Rattle.slab.specs.Slab.{get as value_at};
 ghost use Rattle.calloop_wake.specs.Homes.{place_in, places_of};
@@ -15,7 +15,7 @@ use std::alloc::{AllocError, Global};
 use std::marker::Model;
 use std::mem;
 
-/// The right to the places of the futures of the executor of this name. There is one for each, made with its cell, and it can't be cloned.
+/// The right to the places of the futures of the executor of this name. One is made with each cell, and it can't be cloned.
 #[derive(Drop)]
 pub struct KeepingRight {
     pub(crate) name: Name,
@@ -30,7 +30,7 @@ pub struct DueReceipt {
     pub(crate) home: usize,
 }
 
-/// A task that was popped from the cell of this name, whose future is to be polled.
+/// A task that was popped from the cell of this name; its future is to be polled.
 #[must_use]
 pub struct PoppedTask {
     pub(crate) name: Name,
@@ -47,7 +47,7 @@ impl PoppedTask {
     }
 }
 
-/// A place that was reserved for a future, of the executor of this name. It has no `Drop`: `keep` fills it, or `free` gives it up.
+/// A place that was reserved for a future, of the executor of this name. Has no `Drop`: `keep` fills it, or `free` frees it.
 #[must_use]
 pub struct ReservedPlace {
     pub(crate) name: Name,
@@ -55,7 +55,7 @@ pub struct ReservedPlace {
 }
 
 impl ReservedPlace {
-    /// Its number.
+    /// The number of the place.
     pub fn home(&self) -> usize
         ensures { result ≡ self.now.home }
     {
@@ -66,9 +66,9 @@ impl ReservedPlace {
 /// The place of one future.
 #[derive(Drop)]
 pub enum Place<F> {
-    /// It is to come, or in its poll.
+    /// The future is to come, or in its poll.
     Empty,
-    /// It is to come, and a turn has looked for it.
+    /// The future is to come, and a turn has looked for it.
     Missed,
     /// The future of the task of this key.
     Here(TaskKey, F),
@@ -81,9 +81,9 @@ pub struct TakenFuture<F> {
     pub task: PoppedTask,
 }
 
-/// The places of an executor's futures. It has no `Drop`: it lies under a lock, whose last drop ends it.
+/// The places of an executor's futures. Has no `Drop`: the lock around it ends it at its last drop.
 pub struct Homes<F: Drop> {
-    // None once the executor is gone.
+    // `None` once the executor is gone.
     places: Option<Slab<Place<F>>>,
     name: Name,
 }
@@ -112,7 +112,7 @@ impl<F: Drop> Core for Homes<F> {
     }
 }
 
-// Puts this into the place: what stood there before. Where there is no such place, it comes back.
+// Puts this into the place, and returns the content before. If there is no such place, this comes back.
 fn exchange<F: Drop>(
     places: &mut Slab<Place<F>>,
     home: usize,
@@ -145,7 +145,7 @@ impl<F: Drop> Homes<F> {
         (homes, name)
     }
 
-    /// A place for a future that is to come. It is refused if the executor is gone, or for lack of memory; then nothing changes.
+    /// A place for a future that is to come. Fails if the executor is gone, or for lack of memory; then nothing changes.
     pub fn reserve(&mut self) -> Option<Result<ReservedPlace, AllocError>>
         ensures gone { (result ≡ None) → (self.old.gone ≡ true) }
         ensures none { IfNone result (self.new ≡ self.old) }
@@ -171,7 +171,7 @@ impl<F: Drop> Homes<F> {
         }
     }
 
-    // Puts this into the place: what stood there before, or this itself, where there is no such place.
+    // Puts this into the place, and returns the content before, or this itself if there is no such place.
     fn put(&mut self, home: usize, next: Place<F>) -> Result<Place<F>, Place<F>>
         ensures was { IfOk result (λ before. place_in self.old home ≡ Some before) }
         ensures is { IfOk result (λ before. place_in self.new home ≡ Some next) }
@@ -186,8 +186,8 @@ impl<F: Drop> Homes<F> {
         }
     }
 
-    /// Keeps the future of a task that was put, in its place; then there is a receipt of the task. Where the executor is gone, and with it
-    /// its places, the future comes back. The first answer says whether a turn has looked for it before.
+    /// Keeps the future of a task that was put, in its place, and returns a receipt of the task. If the executor is gone, and with it
+    /// its places, the future comes back. The first part of the result is true if a turn has looked for it before.
     pub fn keep(
         &mut self,
         due: DueReceipt,
@@ -217,7 +217,7 @@ impl<F: Drop> Homes<F> {
         (Receipt { name, number }, before)
     }
 
-    /// Takes the future of a task that was popped out of its place, for its poll. If it isn't there, the place keeps that a turn has looked
+    /// Takes the future of a popped task out of its place, for its poll. If it isn't there, the place notes that a turn has looked
     /// for it, and the tally counts that.
     pub fn take(&mut self, popped: PoppedTask, tally: &mut Tally) -> Option<TakenFuture<F>>
         requires { (popped.name ≡ self.old.name) × (tally.old.name ≡ self.old.name) }
@@ -262,7 +262,7 @@ impl<F: Drop> Homes<F> {
         }
     }
 
-    // The future of a task that was popped is still to come.
+    // The future of a popped task is still to come.
     fn miss(&mut self, popped: PoppedTask, tally: &mut Tally)
         ensures tally { tally.new ≡ record tally.old { misses = tally.old.misses + 1 } }
         ensures trace { is_some (place_in self.old popped.home) ≡ true
@@ -281,7 +281,7 @@ impl<F: Drop> Homes<F> {
         tally.misses = tally.misses.next();
     }
 
-    /// Puts a future back into its place after a poll that was pending. If that place is gone, as with the executor, it comes back.
+    /// Puts a future back into its place after a pending poll. If that place is gone, with the executor for example, it comes back.
     pub fn put_back(&mut self, taken: TakenFuture<F>) -> Result<Place<F>, Place<F>>
         requires { taken.task.name ≡ self.old.name }
         ensures kept { IfOk result (λ before.
@@ -298,7 +298,7 @@ impl<F: Drop> Homes<F> {
         self.put(home, Place::Here(key, future))
     }
 
-    /// Gives the place of a task up whose future gave its result.
+    /// Frees the place of a task whose future returned its result.
     pub fn finish(&mut self, task: PoppedTask) -> Option<Place<F>>
         requires { task.name ≡ self.old.name }
         ensures gives { result ≡ place_in self.old task.home }
@@ -315,7 +315,7 @@ impl<F: Drop> Homes<F> {
         self.vacate(home)
     }
 
-    /// Gives a place up that was reserved for a task which wasn't put.
+    /// Frees a place that was reserved for a task which wasn't put.
     pub fn free(&mut self, place: ReservedPlace) -> Option<Place<F>>
         requires { place.name ≡ self.old.name }
         ensures gives { result ≡ place_in self.old place.home }
@@ -328,7 +328,7 @@ impl<F: Drop> Homes<F> {
         self.vacate(home)
     }
 
-    // From now on nothing stands there, and the place can be given out again.
+    // From now on the place is empty, and can be given out again.
     fn vacate(&mut self, home: usize) -> Option<Place<F>>
         ensures gives { result ≡ place_in self.old home }
         ensures freed { place_in self.new home ≡ None }
@@ -342,7 +342,7 @@ impl<F: Drop> Homes<F> {
         }
     }
 
-    /// The executor is gone: its futures come out, to be dropped outside of the lock.
+    /// The executor is gone: its futures are returned, to be dropped outside of the lock.
     pub fn close(&mut self) -> Option<Slab<Place<F>>>
         ensures gives { places_of result ≡ self.old.places }
         ensures gone { self.new.gone ≡ true }

@@ -2,8 +2,8 @@
 //! of the posted keys.
 //!
 //! In calloop the kernel does this work, through an eventfd or a pipe for each ping and the poller; a channel has a ping there.
-//! The values of this module have no `Drop`, but for a receipt and the right to a receiving end: who has one has to hand it on or to
-//! spend it.
+//! Most types here have no `Drop`: their holder must hand them on or spend them (the compiler refuses to drop them). A receipt and the
+//! right to a receiving end can be dropped.
 #![tactic(auto)]
 
 ghost use Rattle.std.specs.Prelude.{◌≡◌, ◌&&◌, not, nat_lt, is_some, None};
@@ -30,7 +30,7 @@ pub(crate) mod sleepers;
 pub mod tasks;
 pub mod watch;
 
-/// A key that must be posted on its board. Whoever holds it owes the post.
+/// A key that must be posted on its board. Its holder owes the post.
 #[must_use]
 pub struct Debt {
     key: u64,
@@ -46,7 +46,7 @@ impl Model for Debt {
     ghost view = { λ d. record { key = d.key; board = d.board } };
 }
 
-/// A key whose place was opened on its board, so that one cell may take it now.
+/// A key whose place was opened on its board, so that one cell can take it now.
 #[must_use]
 pub struct OpenedPass {
     key: u64,
@@ -62,7 +62,7 @@ impl Model for OpenedPass {
     ghost view = { λ p. record { key = p.key; board = p.board } };
 }
 
-/// A key that its cell gave up, so that the place on its board may be closed.
+/// A key that its cell gave up, so that the place on its board can be closed.
 #[must_use]
 pub struct ClosePermit {
     key: u64,
@@ -78,11 +78,11 @@ impl Model for ClosePermit {
     ghost view = { λ l. record { key = l.key; board = l.board } };
 }
 
-/// A key that was taken from its board. It opens a turn of its cell, or goes back there as a debt.
+/// A key that was taken from its board. Opens a turn of its cell, or goes back there as a debt.
 #[must_use]
 pub struct TakenPass {
     key: u64,
-    // The board that it was taken from.
+    // The board from which it was taken.
     board: Name,
     // The cell that refused it.
     refused: Option<Name>,
@@ -104,14 +104,14 @@ impl TakenPass {
         self.key
     }
 
-    /// Whether a cell refused to open a turn with it.
+    /// True if a cell refused to open a turn with it.
     pub fn is_refused(&self) -> bool
         ensures { result ≡ is_some self.now.refused }
     {
         self.refused.is_some()
     }
 
-    /// Gives the key back to its board, as a debt.
+    /// Returns the key to its board, as a debt.
     pub fn back(self) -> Debt
         ensures { result ≡ given_back self }
     {
@@ -124,14 +124,14 @@ impl TakenPass {
     }
 }
 
-/// A turn of a ping's cell stands open. It has the name of the cell, so it can't be ended on another.
+/// An open turn of a ping's cell. Has the name of the cell, so it can't be ended on another.
 #[must_use]
 pub struct PingTurn {
     pub(crate) name: Name,
 }
 
-/// A turn of a channel's cell stands open: how many pops it may still make, and whether its last one found no message. It has the
-/// name of the cell, so it can't be ended on another.
+/// An open turn of a channel's cell: how many pops it may still make, and whether its last one found no message. Has the name
+/// of the cell, so it can't be ended on another.
 #[must_use]
 pub struct ChannelTurn {
     pub(crate) name: Name,
@@ -140,7 +140,7 @@ pub struct ChannelTurn {
 }
 
 impl ChannelTurn {
-    /// Whether it may make one more pop, and its last one found a message.
+    /// True if it may make another pop, and its last one found a message.
     pub fn goes_on(&self) -> bool
         ensures { result ≡ (nat_lt 0 self.now.left && not self.now.done) }
     {
@@ -148,7 +148,7 @@ impl ChannelTurn {
     }
 }
 
-/// A proof that the cell of this name was rung, or that a message or a task was put into it: how many were so before.
+/// A proof that the cell of this name was rung, or that a message or a task was put into it, with the number of those before.
 #[derive(Drop)]
 pub struct Receipt {
     pub(crate) name: Name,
@@ -161,15 +161,15 @@ pub struct Sender {
     pub(crate) name: Name,
 }
 
-/// The right to the receiving end of the cell of this name. There is one for each cell, made with it, and it can't be cloned.
+/// The right to the receiving end of the cell of this name. One is made with each cell, and it can't be cloned.
 #[derive(Drop)]
 pub struct ReceivingRight {
     pub(crate) name: Name,
 }
 
-/// The receiving end of the cell of this name: the key that it gave the cell, how many turns it opened, how often it told the close,
-/// and, in `number`, how many of a ping's turns took a ring, or how many messages of a channel or results of tasks were handed out. It is spent where the
-/// cell is abandoned.
+/// The receiving end of the cell of this name: the key that it set for the cell, how many turns it opened, how often it told the close,
+/// and, in `number`, how many of a ping's turns took a ring, or how many messages of a channel or results of tasks were handed out.
+/// It is spent when the cell is abandoned.
 #[must_use]
 pub struct Tally {
     pub(crate) name: Name,
@@ -182,7 +182,7 @@ pub struct Tally {
 }
 
 impl Tally {
-    // A receiving end that gave its cell no key yet and opened no turn.
+    // A receiving end that has set no key for its cell yet and opened no turn.
     fn new(right: ReceivingRight) -> Tally
         ensures { result ≡ fresh_tally right.name }
     {
@@ -207,7 +207,7 @@ impl Tally {
         } = self;
     }
 
-    /// The key that this end last gave the cell, where it didn't take it back.
+    /// The key that this end last set for the cell, if it didn't take it back.
     pub fn key(&self) -> Option<u64>
         ensures { result ≡ self.now.key }
     {
@@ -215,40 +215,40 @@ impl Tally {
     }
 }
 
-/// The right to end what lies under a lock, which only its last drop has.
+/// The right to end the content of a lock, which only the lock's last drop has.
 #[must_use]
 pub struct Last {
     pub(crate) of_wake: (),
 }
 
 impl Last {
-    /// Spends it, by the end of what lay under the lock.
+    /// Spends it, when the content of the lock ends.
     pub fn end(self) {
         let Last { of_wake: _ } = self;
     }
 }
 
-/// A loop that must be woken where it waits, since a mark was set anew on its board.
+/// A loop that must be woken if it waits, since a new mark was set on its board.
 #[must_use]
 pub struct Wakeup {
     of_wake: (),
 }
 
-/// What wakes a loop that waits. Calloop's `Notifier` does it for the poller.
+/// Wakes a loop that waits, as calloop's `Notifier` does for the poller.
 pub trait Notify {
-    /// Wakes the loop where it waits, and else has its next wait end at once. A fault of it is ignored.
+    /// Ends the current wait, or makes the next one return at once. OS errors are ignored.
     fn notify(&self);
 }
 
 impl Wakeup {
-    /// Spends the wakeup: the notifier is notified once. No contract sees what that makes of it.
+    /// Spends the wakeup: the notifier is notified once. No contract says what that does.
     pub fn spend<N: Notify>(self, notifier: &N) {
         let Wakeup { of_wake: _ } = self;
         notifier.notify();
     }
 }
 
-/// The permit to wait once, of a loop on whose board no key was marked.
+/// The permit to wait once, for a loop on whose board no key was marked.
 #[must_use]
 pub struct SleepPermit {
     of_wake: (),

@@ -1,4 +1,4 @@
-//! A lock whose content keeps to one tag for good, and is changed where it lies.
+//! A lock whose content keeps one tag for good, and is changed in place.
 ghost use Rattle.std.specs.Prelude.{ℕ, ◌≡◌, ◌+◌, ◌<◌, ◌⊎◌, ◌∷◌, [], true, IfSome, IfOk};
 ghost use Rattle.calloop_wake.specs.Locks.{HasOneSlot, IsTaken, WasHinted};
 
@@ -13,17 +13,16 @@ use std::sync::Wait;
 
 mod lends;
 
-/// What lies under a lock. It has no `Drop`: it ends where the lock ends.
+/// The content of a lock. Has no `Drop`: it ends when the lock ends.
 pub trait Core: Fits {
-    // What a number says of the content, where who gives the lock up leaves it as a hint.
+    // What a number says of the content, if the releasing holder leaves it as a hint.
     ghost hints: { ℕ → Self → Type 0 } = { λ _ _. ⊥ };
 
-    /// Ends it, once nobody has the lock any more.
+    /// Ends it, once nobody holds the lock any more.
     fn dissolve(self, last: Last);
 }
 
-// The words of a lock: its content is at home, somebody has it, or it is at home and the number 0 is a hint of it. Higher ones are
-// further hints.
+// The words of a lock: free, held, or free with the hint 0 of its content. Higher ones are further hints.
 const FREE: u64 = 0;
 
 const HELD: u64 = 1;
@@ -37,10 +36,10 @@ fn with_hint(number: u64) -> u64
     number.checked_add(FIRST_HINT).unwrap_or(FREE)
 }
 
-// How often who finds the lock held looks again before it sleeps.
+// How many times a contended lock is looked at again before its thread sleeps.
 const LOOKS: u32 = 100;
 
-/// What holds of a lock between any two steps: where it is free, its content is at home, fits its tag, and is as the hint says.
+/// What holds of a lock between any two steps: if it is free, the content is in it, fits its tag, and satisfies the hint.
 pub struct Keeps<X> {
     marker: PhantomData<X>,
 }
@@ -53,7 +52,7 @@ impl<X: Core> TableRule<X, X::Tag, X::Tag> for Keeps<X> {
     ghost first = { λ tag. tag };
 }
 
-// An exchange: who finds the lock free has its content.
+// An exchange: whoever finds the lock free has its content.
 struct Takes<X> {
     marker: PhantomData<X>,
 }
@@ -77,14 +76,14 @@ impl<X: Core> Play<X, X::Tag> for Looks<X> {
     ghost then = { λ _ me found new. (new.0 ≡ me.0) × WasHintedBy (X.fits me.0) X.hints found };
 }
 
-// A store: who has the content gives it back.
+// A store: the holder puts the content back.
 struct GivesBack;
 
 impl<S, V> Play<S, V> for GivesBack {
     ghost then = { λ _ _ _ _. Unit {0} };
 }
 
-/// The content with its word. In a clause it is the tag.
+/// The content with its word. In a contract it is the tag.
 struct Tagged<X: Core> {
     table: Table<X, X::Tag, X::Tag, Keeps<X>, Global>,
 }
@@ -141,16 +140,16 @@ impl<X: Core> Drop for Tagged<X> {
     }
 }
 
-/// What who has a lock may wait for.
+/// What the holder of a lock can wait for.
 #[derive(Clone, Copy, Debug, PartialEq, Eq)]
 pub enum Awaited {
-    /// Something is put in, or nothing will come any more.
+    /// Something was put in, or nothing will come any more.
     Content,
-    /// Something is taken out, or nobody will take it any more.
+    /// Something was taken out, or nobody will take it any more.
     Room,
 }
 
-// Those that wait for a lock, and those that wait until its content was changed.
+// The threads that wait for a lock, and those that wait until its content was changed.
 #[derive(Drop)]
 struct Queues {
     entering: Sleepers,
@@ -175,7 +174,7 @@ impl Queues {
     }
 }
 
-/// A lock, under the tag of its content. In a clause `tag` is that tag; in code it is the content with its word.
+/// A lock, under the tag of its content. In a contract `tag` is that tag; in code it is the content with its word.
 ///
 /// Calloop's ends share an eventfd or a pipe, and the kernel keeps its state.
 #[derive(Drop)]
@@ -185,7 +184,7 @@ pub struct Locked<X: Core> {
 }
 
 impl<X: Core> Locked<X> {
-    /// A lock that is free. Where there is no memory for it, its content is ended.
+    /// A free lock. Without memory for it, its content is ended.
     pub fn new(alloc: Global, core: X, tag: &X::Tag) -> Result<Locked<X>, AllocError>
         requires { X.fits tag.now core }
         ensures { IfOk result (λ lock. lock.tag ≡ tag.now) }
@@ -196,7 +195,7 @@ impl<X: Core> Locked<X> {
         })
     }
 
-    /// Takes the lock, and what lies under it. It waits while another has it.
+    /// Takes the lock, and its content. Waits while another thread holds it.
     pub fn lock<R: Wait>(&self, rt: &R) -> Held<'_, X>
         ensures { (result.shared.now.key ≡ self.now.tag)
             × (result.seat.table_id ≡ result.shared.now.table_id)
@@ -206,10 +205,10 @@ impl<X: Core> Locked<X> {
         lock(rt, self.tag.as_shared(), &self.queues)
     }
 
-    /// Whether who gave the lock up last left this number as a hint of its content, and nobody has had it since.
+    /// True if the previous holder left `number` as a hint of the content, and nobody has held the lock since.
     ///
-    /// Where it is so, the word is written as it was: so who takes the lock next sees all that was written before this call, as if this had
-    /// been a section of the lock. `async-task` does the same for a wake of what is scheduled.
+    /// If true, the word is written unchanged: so the next holder sees all that was written before this call, as if this had been
+    /// a section of the lock. `async-task` does the same for a wake of a task that is scheduled.
     pub fn has_hint(&self, number: u64) -> bool
         ensures { result ≡ true → WasHinted (X.fits self.now.tag) X.hints number }
     {
@@ -224,26 +223,26 @@ impl<X: Core> Locked<X> {
         shared.compare_exchange::<Looks<X>>(&mut seat, 0, word, word) == word
     }
 
-    /// Wakes one of those that wait for this: it has come. Who changed the core so has given the lock up before. It is enough where
-    /// what came is for one of them.
+    /// Wakes one of the threads that wait for this change. The caller has changed the core, and released the lock since. Enough if
+    /// the change serves one thread.
     pub fn notify_one(&self, awaited: Awaited) {
         self.queues.of(awaited).notify_one();
     }
 
-    /// Wakes all that wait for this: it has come. Who changed the core so has given the lock up before.
+    /// Wakes all threads that wait for this change. The caller has changed the core, and released the lock since.
     pub fn notify_all(&self, awaited: Awaited) {
         self.queues.of(awaited).notify_all();
     }
 }
 
-/// What lies under a lock, for who has taken it.
+/// The content of a lock, for its holder.
 pub struct Held<'a, X: Core> {
     seat: Seat<X, X::Tag>,
     shared: &'a Shared<X, X::Tag, X::Tag, Keeps<X>>,
     queues: &'a Queues,
 }
 
-// Takes the lock, where it is free.
+// Takes the lock if it is free.
 fn take<'a, X: Core>(
     shared: &'a Shared<X, X::Tag, X::Tag, Keeps<X>>,
     queues: &'a Queues,
@@ -312,7 +311,7 @@ fn take_late<'a, X: Core, R: Wait>(
     unreachable!()
 }
 
-// Takes the lock. It waits while another has it.
+// Takes the lock. Waits while another thread holds it.
 fn lock<'a, X: Core, R: Wait>(
     rt: &R,
     shared: &'a Shared<X, X::Tag, X::Tag, Keeps<X>>,
@@ -334,7 +333,7 @@ fn lock<'a, X: Core, R: Wait>(
 }
 
 impl<'a, X: Core> Held<'a, X> {
-    /// Gives the lock up, once what lies under it fits its tag again.
+    /// Releases the lock, once the content fits its tag again.
     pub fn unlock(self)
         requires { (self.seat.table_id ≡ self.shared.now.table_id)
             × HasOneSlot self.shared.now.table_id
@@ -349,7 +348,7 @@ impl<'a, X: Core> Held<'a, X> {
         queues.entering.notify_one();
     }
 
-    /// Gives the lock up, and leaves this number as a hint of what lies under it, which is so. The highest two numbers leave none.
+    /// Releases the lock, and leaves this number as a hint, which has to be true of the content. The highest two numbers leave none.
     pub fn unlock_with_hint(self, number: u64)
         requires { (self.seat.table_id ≡ self.shared.now.table_id)
             × HasOneSlot self.shared.now.table_id
@@ -365,7 +364,7 @@ impl<'a, X: Core> Held<'a, X> {
         queues.entering.notify_one();
     }
 
-    /// Gives the lock up, and sleeps until it is called because this has come, or for less. Then it has the lock again.
+    /// Releases the lock, and sleeps until it is called for this change, or wakes earlier. Then it holds the lock again.
     pub fn wait<R: Wait>(self, rt: &R, awaited: Awaited) -> Held<'a, X>
         requires { (self.seat.table_id ≡ self.shared.now.table_id)
             × HasOneSlot self.shared.now.table_id

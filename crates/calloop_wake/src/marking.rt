@@ -1,5 +1,5 @@
-//! The marks of a loop's adapters: which of them ask to be settled. They lie under a lock that has the name of the loop's board, so each
-//! taking of them is noted in its watch.
+//! The marks of a loop's adapters: those that ask to be settled. They are under a lock that has the name of the loop's board, so
+//! their watch notes each taking of them.
 ghost use Rattle.std.specs.Prelude.{◌≡◌, ◌+◌, ◌-◌, ◌++◌, ◌∷◌, [], OnOk, OnErr, if◌then◌else◌, true};
 ghost use Rattle.calloop_wake.specs.Watches.{with_note};
 ghost use Rattle.calloop_wake.specs.declared.notes.Note.TheVariants.{Marked};
@@ -15,13 +15,13 @@ use std::alloc::{AllocError, Global};
 use std::marker::Model;
 use std::mem;
 
-/// The right to the marks of the board of this name. There is one for each board, made with it, and it can't be cloned.
+/// The right to the marks of the board of this name. One is made with each board, and it can't be cloned.
 #[derive(Drop)]
 pub struct MarkingRight {
     pub(crate) name: Name,
 }
 
-/// The marked adapters, and an empty list that takes their place while they are settled. It has no `Drop`: it lies under a lock.
+/// The marked adapters, and an empty list that replaces theirs while they are settled. Has no `Drop`: it is under a lock.
 pub struct Marks {
     alloc: Global,
     adapters: usize,
@@ -67,7 +67,7 @@ impl Core for Marks {
 }
 
 impl Marks {
-    /// None, of the board of this name. It allocates nothing yet.
+    /// No marks, of the board of this name. Allocates nothing yet.
     pub fn new(alloc: Global, right: MarkingRight) -> (Marks, Name)
         ensures marks { result.0 ≡ record {
           marked = [];
@@ -87,7 +87,7 @@ impl Marks {
         (marks, name)
     }
 
-    /// Makes room for the mark of one adapter more. Running out of memory leaves the marks as they were.
+    /// Makes room for the mark of another adapter. Without memory the marks are unchanged.
     pub fn open(&mut self) -> Result<(), AllocError>
         ensures ok { OnOk result
             (self.new ≡ record self.old { adapters = self.old.adapters + 1 }) }
@@ -101,15 +101,15 @@ impl Marks {
         Ok(())
     }
 
-    /// Gives the room of one adapter up, if there is any: it is gone, or it was refused.
+    /// Frees the room of an adapter, if there is any: the adapter is gone, or it was refused.
     pub fn close(&mut self)
         ensures { self.new ≡ record self.old { adapters = self.old.adapters - 1 } }
     {
         self.adapters = self.adapters.saturating_sub(1);
     }
 
-    /// Marks an adapter, behind those that are marked. Where each adapter is marked once until it is taken, there is room; else want of
-    /// memory is possible, and marks nothing. It gives a wakeup.
+    /// Marks an adapter, behind those that are marked, and returns a wakeup. There is room if each adapter is marked once until its
+    /// mark is taken; otherwise memory can run out, and nothing is marked.
     pub fn mark(&mut self, token: RegistrationToken) -> Result<Wakeup, AllocError>
         ensures ok { OnOk result
             (self.new ≡ record self.old { marked = self.old.marked ++ token ∷ [] }) }
@@ -121,7 +121,7 @@ impl Marks {
         }
     }
 
-    /// Where nothing is marked, has the watch note that nothing was taken. Else nothing changes.
+    /// If nothing is marked, has the watch note that nothing was taken. Otherwise changes nothing.
     pub fn take_none(&self, watch: &mut Watch) -> bool
         requires { watch.old.name ≡ self.now.name }
         ensures none { result ≡ true → self.now.marked ≡ [] }
@@ -135,7 +135,7 @@ impl Marks {
         none
     }
 
-    /// Takes all that are marked, in the order in which they were, and has the watch note them.
+    /// Takes all marks, in the order in which they were set, and has the watch note them.
     pub fn take(&mut self, watch: &mut Watch) -> Vec<RegistrationToken>
         requires { watch.old.name ≡ self.old.name }
         ensures gives { result.items ≡ self.old.marked }
@@ -147,7 +147,7 @@ impl Marks {
         mem::replace(&mut self.marked, spare)
     }
 
-    /// Takes a list back once it was settled, for the room that it has.
+    /// Takes a list back after it was settled, to reuse its room.
     pub fn give_back(&mut self, settled: Vec<RegistrationToken>)
         ensures { self.new ≡ self.old }
     {

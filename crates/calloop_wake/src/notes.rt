@@ -1,4 +1,4 @@
-//! What was done to a board for its loop, as contracts alone see it. It has no bytes.
+//! Notes of what was done to a board for its loop, which only contracts see. They have no bytes.
 use super::board::Board;
 use super::ghosts::{Anything, LentNote};
 use calloop_slots::token::RegistrationToken;
@@ -34,12 +34,12 @@ impl Model for Registrations {
     ghost view = { λ r. r.seen.log };
 }
 
-/// What was done to a board for its loop.
+/// Something that was done to a board for its loop.
 #[derive(Drop)]
 pub enum Note {
-    /// Its open places were counted: how many there were.
+    /// Its open places were counted: their number.
     Counted(usize),
-    /// It was looked at: whether a key was posted.
+    /// It was looked at: true if a key was posted.
     Looked(bool),
     /// Posted keys were taken, with room for so many: these.
     Unposted(usize, Keys),
@@ -47,7 +47,7 @@ pub enum Note {
     Marked(Registrations),
 }
 
-/// What was done to a board, lent.
+/// Something that was done to a board, lent.
 #[derive(Clone, Copy)]
 pub(crate) enum LentBoardNote<'a> {
     Counted(usize),

@@ -1,4 +1,4 @@
-//! The cell of a ping, which its ends share.
+//! The cell of a ping, shared by its ends.
 ghost use Rattle.std.specs.Prelude.{◌≡◌, ◌+◌, ◌<◌, ◌^◌, ◌&&◌, not, true, false, None, Some, IfOk, IfErr};
 ghost use Rattle.calloop_wake.specs.Cells.{fresh, one, opens, IsLit, IsStanding, IsTold, IsSince, debt_of, owed_at, owed_by_drop, after_add_sender, after_drop_sender, after_clear_key, after_end_turn, in_turn, core_with, core_after_set_key, core_after_ring, core_after_open_turn, tally_after_open_turn, receipt_of, turn_of};
 ghost use Rattle.calloop_wake.specs.Passes.{on};
@@ -15,10 +15,10 @@ use counted_slot::Fits;
 use std::alloc::AllocError;
 use std::marker::Model;
 
-/// What the ends of a ping share. Calloop has the state of an eventfd or a pipe here.
+/// The state that the ends of a ping share. Calloop has the state of an eventfd or a pipe here.
 ///
-/// What is due, a ring or a close that no turn told, is pinged: its key is posted, owed or taken, or the cell has none yet.
-/// It has no `Drop`: it lies under a lock, whose last drop ends it.
+/// What is due, a ring or a close that no turn has told, is pinged: its key is posted, owed or taken, or the cell has none yet.
+/// Has no `Drop`: the lock around a cell ends it at its last drop.
 pub struct PingCore {
     bell: Bell,
     rung: bool,
@@ -74,16 +74,16 @@ impl Core for PingCore {
 
 /// A turn that was opened.
 pub struct OpenedTurn {
-    /// By which it is ended.
+    /// The turn to end.
     pub turn: PingTurn,
-    /// Somebody rang since the last turn was opened.
+    /// The ping was rung since the last turn was opened.
     pub rung: bool,
-    /// The last sender is gone, and no turn told it before.
+    /// The last sender is gone, and no turn has told it before.
     pub told: bool,
 }
 
 impl PingCore {
-    /// A cell that nobody rang, without a key and without senders, its name, and the right to its receiving end.
+    /// A cell that wasn't rung, without a key and without senders, its name, and the right to its receiving end.
     pub fn new() -> (PingCore, Name, ReceivingRight)
         ensures core { result.0 ≡ record
             { cell = fresh; name = result.1; board = result.1; rings = 0; seen = 0; taken = 0 } }
@@ -101,9 +101,8 @@ impl PingCore {
         (core, name, right)
     }
 
-    /// Shows that no ring and no close is lost: what is due is pinged, or a turn stands open. A ring stands exactly where
-    /// somebody rang since the last turn was opened; and the rings that turns took, with the one that stands, are at most those
-    /// that came.
+    /// Shows that no ring and no close is lost: what is due is pinged, or a turn is open. A ring is pending exactly if there was
+    /// one since the last turn was opened; the rings that turns took, and the pending one, are at most all rings.
     pub fn stands(&self)
         ensures lit { IsLit self.now.cell }
         ensures standing { IsStanding self.now.cell }
@@ -113,7 +112,7 @@ impl PingCore {
         let _ = &self.rung;
     }
 
-    /// Rings: the receipt of it, and a debt where the cell has a key and was not pinged. Calloop writes to the descriptor.
+    /// Rings. Returns the receipt, and a debt if the cell has a key and wasn't pinged. Calloop writes to the descriptor.
     pub fn ring(&mut self) -> (Receipt, Option<Debt>)
         ensures core { self.new ≡ core_after_ring self.old }
         ensures receipt { result.0 ≡ receipt_of self.old }
@@ -130,8 +129,8 @@ impl PingCore {
 
     /// Opens a turn with a pass of the cell's own key, and takes what is due; the tally counts it.
     ///
-    /// It refuses a pass of another key, and any pass while a turn stands open: the pass comes back marked as
-    /// refused by this cell, and the cell stays as it is.
+    /// Refuses a pass of another key, and any pass while a turn is open: the pass comes back marked as refused by this cell, and
+    /// the cell is unchanged.
     pub fn open_turn(&mut self, pass: TakenPass, tally: &mut Tally) -> Result<OpenedTurn, TakenPass>
         requires { tally.old.name ≡ self.old.name }
         ensures core { self.new ≡ core_after_open_turn pass.key self.old }
@@ -154,7 +153,7 @@ impl PingCore {
         Ok(self.begin_turn(tally))
     }
 
-    // Nothing is due any more; the turn, a ring that it takes and a close that it tells are counted.
+    // Nothing is due any more; the tally counts the turn, a ring that it takes and a close that it tells.
     fn begin_turn(&mut self, tally: &mut Tally) -> OpenedTurn
         ensures core { self.new ≡ record self.old {
           cell = in_turn self.old.cell;

@@ -1,4 +1,4 @@
-//! The open places of a board, which are found by their keys.
+//! The open places of a board, found by their keys.
 ghost use Rattle.std.specs.Prelude.{◌≡◌, ◌+◌, ◌-◌, ◌<◌, ◌≤◌, ◌^◌, [], ℕ, None, Some, is_some, IsSome, true, false, length, OnOk, IfErr, slice_set, slice_index_or};
 ghost use Rattle.std.specs.Ordering.{nat_cmp};
 ghost use Rattle.std.specs.BTreeMap.{insert_entry, is_at};
@@ -14,19 +14,19 @@ use std::alloc::{AllocError, Global};
 use std::collections::BTreeMap;
 use std::marker::Model;
 
-// An open key, and where it stands among those that are posted, if it does.
+// An open key, and its position among the posted ones, if it is posted.
 #[derive(Clone, Copy, Debug)]
 struct SlotKey {
     key: u64,
     at: Option<usize>,
 }
 
-/// For each open key, where it stands among the keys that are posted, if it is. No call walks them, and each that finds one
-/// without a change of which are open ticks. One key of each slot is found there, without a search.
+/// For each open key, its position among the posted keys, if it is posted. No call walks them, and each that finds one without a
+/// change of the open keys ticks. One key of each slot is stored by its slot, and found without a search.
 #[derive(Drop)]
 pub(crate) struct Places {
     by_key: BTreeMap<u64, Option<usize>>,
-    // Up to the highest slot that had an open key so far. What it has of a key counts, and not what the map has.
+    // Up to the highest slot that had an open key so far. The entry here counts, and not the map's.
     by_slot: Vec<Option<SlotKey>>,
 }
 
@@ -41,7 +41,7 @@ impl Model for Places {
     ghost invariant = { λ p. AreOpen p.by_slot.items p.by_key.entries };
 }
 
-// What the slot of a key has of it.
+// The entry of a key at its slot.
 fn by_slot_at(by_slot: &Vec<Option<SlotKey>>, key: u64) -> Option<Option<usize>>
     ensures { result ≡ by_slot_at key by_slot.now.items }
 {
@@ -51,7 +51,7 @@ fn by_slot_at(by_slot: &Vec<Option<SlotKey>>, key: u64) -> Option<Option<usize>>
     }
 }
 
-// Puts this at the slot of a key, where the slots reach as far.
+// Writes this at the slot of a key, if the slots reach that far.
 fn put(by_slot: &mut Vec<Option<SlotKey>>, key: u64, here: Option<SlotKey>)
     ensures { by_slot.new.items ≡ slice_set by_slot.old.items (slot_of_key key) here }
 {
@@ -73,7 +73,7 @@ fn reach(by_slot: &mut Vec<Option<SlotKey>>, key: u64) -> Result<(), AllocError>
     Ok(())
 }
 
-// Whether the slot of a key has no other one.
+// True if the slot of a key stores no other one.
 fn is_free(by_slot: &Vec<Option<SlotKey>>, key: u64) -> bool
     ensures free { result ≡ true → IsFree key by_slot.now.items }
     ensures taken { result ≡ false → by_slot_at key by_slot.now.items ≡ None }
@@ -101,7 +101,7 @@ impl Places {
         self.by_key.len()
     }
 
-    /// Opens a place for a key that has none. With no memory for it all stays as it was.
+    /// Opens a place for a key that has none. Without memory all is unchanged.
     pub(crate) fn open(&mut self, key: u64) -> Result<(), OpenRefusal>
         ensures ok { OnOk result ((self.new ≡ insert_entry nat_cmp self.old key None)
             × Changes key (Some None) self.old self.new) }
@@ -120,7 +120,7 @@ impl Places {
         Ok(())
     }
 
-    /// Closes the place of a key, and gives where the key stood among those that are posted.
+    /// Closes the place of a key, and returns its position among the posted keys.
     pub(crate) fn close(&mut self, key: u64) -> Option<usize>
         ensures value { result ≡ posted_at (standing_at key self.old) }
         ensures entries { self.new ≡ remove_entry (is_at (nat_cmp key)) self.old }
@@ -139,7 +139,7 @@ impl Places {
         }
     }
 
-    /// Whether a key has a place.
+    /// True if a key has a place.
     pub(crate) fn is_open(&self, key: u64, steps: &mut Steps) -> bool
         requires { steps.old < 2 ^ 64 - 1 }
         ensures value { result ≡ is_some (standing_at key self.now) }
@@ -149,7 +149,7 @@ impl Places {
         by_slot_at(&self.by_slot, key).is_some() || self.by_key.contains_key(&key)
     }
 
-    /// Whether a key has a place and isn't posted.
+    /// True if a key has a place and isn't posted.
     pub(crate) fn is_quiet(&self, key: u64, steps: &mut Steps) -> bool
         requires { steps.old < 2 ^ 64 - 1 }
         ensures value { result ≡ is_quiet (standing_at key self.now) }
@@ -165,7 +165,7 @@ impl Places {
         }
     }
 
-    /// Notes at the place of a key where it stands among those that are posted.
+    /// Notes the position of a key among the posted ones at its place.
     pub(crate) fn note(&mut self, key: u64, at: Option<usize>, steps: &mut Steps)
         requires { steps.old < 2 ^ 64 - 1 }
         ensures updates { IsSome (standing_at key self.old)

@@ -7,9 +7,9 @@ use std::alloc::{AllocError, AllocFailed, Global};
 use std::collections::VecDeque;
 use std::marker::Model;
 
-/// The messages that were put and not yet handed out, in order. As many were put as were handed out and are there.
+/// The messages that were put and not yet handed out, in order. The number put is the number handed out and those here.
 ///
-/// One with a bound has room for that many, so a put takes no memory there.
+/// With a bound there is room for that many, so a put takes no memory.
 pub(crate) struct Queue<T> {
     items: VecDeque<T>,
     bound: Option<usize>,
@@ -33,7 +33,7 @@ impl<T> Model for Queue<T> {
 }
 
 impl<T> Queue<T> {
-    /// No message, with room for as many as its bound says.
+    /// No message, with room for the bound.
     pub(super) fn new(alloc: Global, bound: Option<usize>) -> Result<Queue<T>, AllocError>
     where
         T: Drop,
@@ -51,7 +51,7 @@ impl<T> Queue<T> {
         })
     }
 
-    /// It ends, with the messages that nobody took.
+    /// Drops the queue, with the messages that nobody took.
     pub(super) fn dissolve(self)
     where
         T: Drop,
@@ -64,21 +64,21 @@ impl<T> Queue<T> {
         } = self;
     }
 
-    /// How many it holds at most.
+    /// The most messages that it holds.
     pub(super) fn bound(&self) -> Option<usize>
         ensures { result ≡ self.now.bound }
     {
         self.bound
     }
 
-    /// How many were put.
+    /// The number of messages that were put.
     pub(super) fn puts(&self) -> Count
         ensures { result ≡ self.now.puts }
     {
         self.puts.again()
     }
 
-    /// Whether a message finds room. Without a bound each does.
+    /// True if there is room for a message. Without a bound there always is.
     pub(super) fn has_room(&self) -> bool
         ensures room { result ≡ is_below (length self.now.items) self.now.bound }
         ensures full { result ≡ false → IsSome self.now.bound }
@@ -89,7 +89,7 @@ impl<T> Queue<T> {
         }
     }
 
-    /// Appends a message where it finds room. Without a bound that can fail for lack of memory, and then nothing changes.
+    /// Appends a message if there is room. Without a bound this can fail for lack of memory, and then nothing changes.
     pub(super) fn put(&mut self, message: T) -> Result<(), AllocFailed<T>>
         requires { is_below (length self.old.items) self.old.bound ≡ true }
         ensures queue { self.new
@@ -102,7 +102,7 @@ impl<T> Queue<T> {
         Ok(())
     }
 
-    /// The first message, where there is one.
+    /// Takes out the first message, if there is one.
     pub(super) fn pop(&mut self) -> Option<T>
         ensures queue { self.new ≡ queue_after_pop self.old }
         ensures gives { result ≡ front self.old.items }

@@ -2,9 +2,9 @@
 use std::sync::Wait;
 use std::sync::atomic::{AtomicU64, Ordering};
 
-/// Those that wait for something to happen, and how often they were called because it did. One that waits joins them, looks how often
-/// they were called, looks whether it has to wait, and sleeps unless they were called since. So none sleeps through what happens
-/// after it joined, and who calls them looks at one word where nobody waits.
+/// The threads that wait for an event, and the number of calls because it happened. A thread that waits joins them, reads that
+/// number, looks whether it has to wait, and sleeps unless there was a call since. So no thread sleeps through what happens after
+/// it joined, and a caller looks at one word if nobody waits.
 #[derive(Drop)]
 pub(crate) struct Sleepers {
     joined: AtomicU64,
@@ -12,7 +12,7 @@ pub(crate) struct Sleepers {
 }
 
 impl Sleepers {
-    /// Nobody.
+    /// No threads.
     pub(crate) fn none() -> Sleepers {
         Sleepers {
             joined: AtomicU64::new(0),
@@ -20,22 +20,22 @@ impl Sleepers {
         }
     }
 
-    /// One more waits.
+    /// Another thread waits.
     pub(crate) fn join(&self) {
         self.joined.fetch_add(1, Ordering::SeqCst);
     }
 
-    /// One has waited.
+    /// A thread has waited.
     pub(crate) fn leave(&self) {
         self.joined.fetch_sub(1, Ordering::SeqCst);
     }
 
-    /// How often they were called, up to now.
+    /// The number of calls up to now.
     pub(crate) fn calls(&self) -> u64 {
         self.calls.load(Ordering::SeqCst)
     }
 
-    /// Sleeps, unless they were called more often than this. It may end for no reason.
+    /// Sleeps, unless there were more calls than this. Can return for no reason.
     pub(crate) fn sleep<R: Wait>(&self, rt: &R, calls: u64) {
         self.calls.park(rt, (calls & 0xffff_ffff) as u32);
     }
@@ -54,7 +54,7 @@ impl Sleepers {
         }
     }
 
-    // Counts that they are called, where there are any.
+    // Counts a call, if any thread waits.
     fn count(&self) -> bool {
         let some = self.joined.load(Ordering::SeqCst) != 0;
         if some {

@@ -1,4 +1,4 @@
-//! The tasks of an executor: each is idle, queued once, or in a poll, and a finished one is gone. Calloop has a slab of wakers and
+//! The tasks of an executor: each is idle, queued once, or in a poll, and a finished one is removed. Calloop has a slab of wakers and
 //! a channel of runnables here.
 ghost use Rattle.std.specs.Prelude.{◌≡◌, ◌≢◌, ℕ, ◌+◌, ◌<◌, ◌++◌, ◌∷◌, [], true, false, Some, None, option_map, IsSome, IsNone, IfSome, IfNone, IfOk, OnErr, is_some, count_by};
 ghost use Rattle.slab.specs.Slab.{ContainsKey, Updates, get as value_at};
@@ -12,40 +12,40 @@ use slab::Slab;
 use std::alloc::{AllocError, Global};
 use std::marker::Model;
 
-/// Where a task is.
+/// The phase of a task.
 #[derive(Clone, Copy, Debug, PartialEq, Eq)]
 pub enum Phase {
-    /// It waits for a wake.
+    /// Waits for a wake.
     Idle,
-    /// It stands in the queue.
+    /// In the queue.
     Queued,
-    /// It is polled.
+    /// Polled.
     Polling,
-    /// It is polled, and was woken meanwhile.
+    /// Polled, and woken meanwhile.
     Woken,
 }
 
 /// A task that isn't finished.
 #[derive(Clone, Copy, Debug, PartialEq, Eq)]
 pub struct Task {
-    /// No other task of its executor ever has it.
+    /// Its number, which no other task of its executor ever has.
     pub number: u64,
-    /// Where it is.
+    /// Its phase.
     pub phase: Phase,
-    /// Where its future is.
+    /// The place of its future.
     pub home: usize,
 }
 
-/// Names a task for good: its slot, which another may have later, and its number, which none has.
+/// Names a task for good: its slot, which another task may have later, and its number, which none has.
 #[derive(Clone, Copy, Debug, PartialEq, Eq)]
 pub struct TaskKey {
-    /// Its place among the tasks.
+    /// Its slot.
     pub slot: usize,
     /// Its number.
     pub number: u64,
 }
 
-/// The tasks that aren't finished, and the queue of those that are to be polled.
+/// The unfinished tasks, and the queue of those to be polled.
 #[derive(Drop)]
 pub struct Tasks {
     slab: Slab<Task>,
@@ -63,7 +63,7 @@ impl Model for Tasks {
 
     ghost view = { λ t. record { slots = t.slab.slots; queue = items t.queue 0 } };
 
-    // A task stands in the queue exactly where its phase says so, and a wake takes no memory.
+    // The queue has a task exactly if its phase is queued, and a wake takes no memory.
     ghost invariant = { λ t.
         ((slot : ℕ) → list_of t.queue slot ≡ place_of (get t.slab slot))
         × ((slot : ℕ) (task : Task) → get t.slab slot ≡ Some task → slot < key_limit t.queue)
@@ -84,7 +84,7 @@ fn set_phase(slab: &mut Slab<Task>, slot: usize, phase: Phase)
 }
 
 impl Tasks {
-    /// No task.
+    /// No tasks.
     pub fn new(alloc: Global) -> Result<Tasks, AllocError>
         ensures { IfOk result (λ table. table ≡ no_tasks) }
     {
@@ -93,7 +93,7 @@ impl Tasks {
         Ok(Tasks { slab, queue })
     }
 
-    /// Shows that the queue holds each task once, and no other than those that are queued.
+    /// Shows that the queue holds each queued task once, and no other.
     pub fn queued_once(&self, slot: usize)
         ensures once { IsApart (self.now.queue) }
         ensures only { IsIn slot (self.now.queue) → place_of (task_at self.now slot) ≡ Some 0 }
@@ -102,7 +102,7 @@ impl Tasks {
         let _place = self.queue.list_of(slot);
     }
 
-    // Where the task of this key is, if it isn't finished.
+    // The phase of the task of this key, if it isn't finished.
     fn phase(&self, key: TaskKey) -> Option<Phase>
         ensures { result ≡ phase_at key (task_at self.now) }
     {
@@ -114,16 +114,14 @@ impl Tasks {
         }
     }
 
-    /// Whether the task of this key is queued, or was woken in its poll.
+    /// True if the task of this key is queued, or was woken during its poll.
     pub fn is_awake(&self, key: TaskKey) -> bool
         ensures { result ≡ is_awake (phase_at key (task_at self.now)) }
     {
         matches!(self.phase(key), Some(Phase::Queued | Phase::Woken))
     }
 
-    /// A wake: an idle task is queued, and one in a poll is marked. It takes no memory.
-    ///
-    /// Whether it was queued by it.
+    /// A wake: an idle task is queued, and one in a poll is marked. Takes no memory. Returns true if the task was queued by it.
     #[tactic(auto, using(crate::proofs::Written::written, crate::proofs::Written::unwritten))]
     pub fn wake(&mut self, key: TaskKey) -> bool
         ensures result { result ≡ is_idle (phase_at key (task_at self.old)) }
@@ -146,7 +144,7 @@ impl Tasks {
         }
     }
 
-    /// A new task, queued last. Running out of memory changes nothing.
+    /// Puts a new task, queued last. Without memory nothing changes.
     #[tactic(auto, using(crate::proofs::Written::written, crate::proofs::Written::unwritten))]
     pub fn put(&mut self, number: u64, home: usize) -> Result<usize, AllocError>
         ensures vacant { IfOk result (λ slot. task_at self.old slot ≡ None) }
@@ -171,7 +169,7 @@ impl Tasks {
         Ok(slot)
     }
 
-    /// The end of a pending poll: the task is idle, or queued last where it was woken meanwhile. It takes no memory.
+    /// The end of a pending poll: the task is idle, or queued last if it was woken meanwhile. Takes no memory.
     #[tactic(auto, using(crate::proofs::Written::written, crate::proofs::Written::unwritten))]
     pub fn pend(&mut self, key: TaskKey)
         ensures tasks { task_at self.new ≡ with_slot key.slot
@@ -191,7 +189,7 @@ impl Tasks {
         }
     }
 
-    /// A task that was polled is finished.
+    /// A polled task is finished.
     #[tactic(auto, using(crate::proofs::Written::written, crate::proofs::Written::unwritten))]
     pub fn finish(&mut self, key: TaskKey)
         requires { in_poll (phase_at key (task_at self.old)) ≡ true }
@@ -202,7 +200,7 @@ impl Tasks {
         self.slab.remove(key.slot);
     }
 
-    /// The task that was queued first is polled from now on. It has to be there.
+    /// The task that was queued first enters its poll. There has to be one.
     #[tactic(auto, using(crate::proofs::Written::written, crate::proofs::Written::unwritten))]
     pub fn take(&mut self) -> Option<(TaskKey, usize)>
         ensures first { IfSome result (λ (key, home). self.old.queue ≡ key.slot ∷ self.new.queue) }

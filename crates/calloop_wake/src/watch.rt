@@ -1,4 +1,4 @@
-//! The watch of a board, in which each look at the board and each taking of its keys is noted.
+//! The watch of a board, which notes each look at the board and each taking of its keys.
 ghost use Rattle.std.specs.Prelude.{◌≡◌};
 ghost use Rattle.calloop_wake.specs.Watches.{with_note};
 ghost use Rattle.calloop_wake.specs.declared.notes.Note.TheVariants.{Counted};
@@ -6,8 +6,8 @@ ghost use Rattle.calloop_wake.specs.declared.notes.Note.TheVariants.{Counted};
 use super::ghosts::{Name, Notes};
 use super::notes::{LentBoardNote, Note};
 
-/// The loop's end of the board of this name: what was done to the board for it, in order. There is one for each board,
-/// and it can't be cloned.
+/// The loop's end of the board of this name: the notes of what was done to the board for it, in order. One is made with each
+/// board, and it can't be cloned.
 #[derive(Drop)]
 pub struct Watch {
     pub(crate) name: Name,
@@ -24,7 +24,7 @@ impl Watch {
     }
 }
 
-/// How many places of the board of this name were open when they were counted. Only the board gives it.
+/// How many places of the board of this name were open when they were counted. Only the board makes one.
 #[derive(Drop)]
 pub struct OpenPlaces {
     pub(crate) number: usize,
@@ -32,7 +32,7 @@ pub struct OpenPlaces {
 }
 
 impl OpenPlaces {
-    /// How many there were.
+    /// The number of places.
     pub fn number(&self) -> usize
         ensures { result ≡ self.now.number }
     {

@@ -1,4 +1,4 @@
-//! How who has taken a lock is lent its content. It has a file of its own, since its clause names the row of `Held`.
+//! Lends the content of a lock to its holder. It is a file of its own, since its contract names a field of `Held`.
 ghost use Rattle.std.specs.Prelude.{◌≡◌, ◌∷◌, []};
 ghost use Rattle.std.specs.Borrow.{sem, follows};
 ghost use mir.Syntax.{named};
@@ -10,7 +10,7 @@ ghost use Rattle.calloop_wake.specs.LockLendings.{held_with};
 use super::{Core, Held};
 
 impl<'a, X: Core> Held<'a, X> {
-    /// What lies under the lock, where it lies.
+    /// The content, in place.
     pub fn core(&mut self) -> &mut X
         requires { (self.old.seat.table_id ≡ self.old.shared.now.table_id)
             × IsOut self.old.seat.me.1 }

@@ -12,7 +12,7 @@ marked : (p : Taken) (core : CoreView) (n : Book) → opens p.key core.cell ≡ 
     → ◌≡◌ {A = Result OpenedTurn Taken} (Err (record p { refused = Some n })) (turn_of p core)
 marked p core n shut is = rw (shut, is)
 
--- what is the name of the content is that of the cell
+-- the name of the content is the name of the cell
 same_name : (core : CoreView) (n : Book) (i : Inside) → the_view i ≡ core → n ≡ i.bell.name → n ≡ core.name
 same_name core n i seen is = is ∙ ap (λ (v : CoreView). v.name) seen
 

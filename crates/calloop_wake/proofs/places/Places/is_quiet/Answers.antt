@@ -3,7 +3,7 @@ use Rattle.calloop_wake.specs.Posts.{is_quiet, by_slot_at}
 use Rattle.calloop_wake.proofs.BySlot.{standing_by_slot, standing_in_map, standing_nowhere}
 use Rattle.calloop_wake.proofs.places.Places.is_quiet.Goals as goal
 
--- whether a place is quiet, by whether something stands there
+-- a place is quiet or not, by its entry
 quiet : (b : Bool) (at : Option ℕ) (o : Option (Option ℕ)) → o ≡ Some at → is_some at ≡ not b → b ≡ is_quiet o
 quiet true at o is e = sym (ap is_quiet is ∙ ap (λ b. not b) e)
 quiet false at o is e = sym (ap is_quiet is ∙ ap (λ b. not b) e)
