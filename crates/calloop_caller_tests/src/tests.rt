@@ -150,7 +150,7 @@ type Held<R> = Sources<
     Told<R>,
 >;
 
-// Whether it goes as it is to. None where memory is short. This alone knows of which types the loop is.
+// True if it goes as it should. `None` without memory. Only this knows the types of the loop.
 fn goes<R: Wait + Clone + Drop>(rt: &R, alloc: Global, trial: Trial) -> Option<bool> {
     tries::<Held<R>, R>(rt, alloc, trial)
 }

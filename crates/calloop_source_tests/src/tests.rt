@@ -693,7 +693,7 @@ fn register<Q: Wait, R: Wait + Drop>(rt: &Q, bell: &mut Bell<R>, token: Token) -
     Ok(())
 }
 
-// Rings the cell, and posts its key where that is owed.
+// Rings the cell, and posts its key if that is owed.
 fn ring<Q: Wait, R: Wait + Drop>(rt: &Q, bell: &Bell<R>) {
     let mut held = bell.lock.lock(rt);
     let cell = held.core();

@@ -1025,7 +1025,7 @@ fn has_due(wheel: &mut TimerWheel, now: u64, wanted: &[(u64, u64)]) -> bool {
     wheel.next_expired(at(now)).is_none()
 }
 
-// Arms the counter again, where it isn't armed.
+// Arms the counter again, if it isn't armed.
 fn arm_again(wheel: &mut TimerWheel, counter: u64, deadline: u64) -> Result<(), ArmRefusal> {
     if wheel.is_armed(counter) {
         return Ok(());

@@ -298,7 +298,7 @@ fn what_is_refused_stands_as_far_as_it_came(rt: HostRuntime) {
     }
 }
 
-// The state after a call that a source refuses. None where it succeeds.
+// The state after a call that a source refuses. `None` if it succeeds.
 fn shape_after_refusal<R: Wait + Clone + Drop>(
     rt: &R,
     alloc: Global,
@@ -319,7 +319,7 @@ fn the_last_replacement_counts(rt: HostRuntime) {
     assert_eq!(rt; replaced_twice(&rt, rt.alloc()), Some(Shape::Kept(true)));
 }
 
-// The state after two replacements and a registration anew, where what is asked then is as it has to be.
+// The state after two replacements and a registration anew, if what is asked then is as it has to be.
 fn replaced_twice<R: Wait + Clone + Drop>(rt: &R, alloc: Global) -> Option<Shape> {
     let mut bench = Bench::new(rt, alloc, Shape::Kept(true))?;
     bench.asks(Call::Replace(2, None))?;
@@ -584,7 +584,7 @@ fn a_batch_goes_in_its_order_up_to_the_first_error(rt: HostRuntime) {
     }
 }
 
-// Whether a batch of three of which this is refused answers `Ok`, where just this was asked.
+// True if a batch of three of which this is refused answers `Ok`, and just this was asked.
 fn run_batch<R: Wait + Clone + Drop>(
     rt: &R,
     alloc: Global,

@@ -43,7 +43,7 @@ impl<R: Wait + Clock + Clone + Drop> End<R> {
         Ok(End::Client(io, lines, Vec::new(alloc)))
     }
 
-    // Writes where something is left, or else reads.
+    // Writes if something is left, and otherwise reads.
     fn step(&mut self, cx: &mut Context<'_, R>) -> Poll<io::Result<usize>> {
         match self {
             End::Server(io, left) if left.is_empty() => read(io, cx, left),

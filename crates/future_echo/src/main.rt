@@ -58,7 +58,7 @@ where
     }
 }
 
-// What the client heard, where both futures end within ten seconds. The client's end is closed by its drop, which ends the server. The loop is over any
+// What the client heard, if both futures end within ten seconds. The client's end is closed by its drop, which ends the server. The loop is over any
 // choice of sources that holds those of the session: what a call does to a loop whose types are written out costs the prover far more.
 fn talk<D, R>(rt: &R, alloc: Global) -> Result<Option<Vec<u8>>>
 where

@@ -64,7 +64,7 @@ impl<R: MachineClock + Clone + Drop> Server<R> {
         true
     }
 
-    // A client comes: its place, where there is memory for it.
+    // A client comes. Returns its place, if there is memory for it.
     fn enter(&mut self) -> Option<usize> {
         let client = Client {
             token: None,
@@ -167,7 +167,7 @@ where
     D: Drop,
     R: MachineClock + Clone + Drop,
 {
-    /// Drops one client. Where one was dropped, it looks again at once.
+    /// Drops one client. If one was dropped, it looks again at once.
     fn call(
         &mut self,
         _deadline: Instant,

@@ -15,7 +15,7 @@ use looptrace::laws::timers_are_called_in_time;
 use std::sync::Wait;
 
 /// Calls of a script that there are, and what the law of the timers of scripts rules out: a second call that exchanges a source, an
-/// insertion of a timer that is registered, and runs from where nothing has happened that end with a timer which was called early,
+/// insertion of a timer that is registered, and runs from the beginning that end with a timer which was called early,
 /// or twice for one arming.
 pub fn wrong_scripts_are_ruled_out<R: Wait + Clone + Drop>()
     ensures law { OverEveryRun source_meaning no_idles script_outside (FromTheStart IsInTime) }

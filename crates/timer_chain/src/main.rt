@@ -1,4 +1,4 @@
-//! A loop in which each timer asks for the next one: the law of armings, where callbacks ask for insertions.
+//! A loop in which each timer asks for the next one: the law of armings, with callbacks that ask for insertions.
 #![tactic(auto)]
 
 ghost use Rattle.calloop_laws.specs.EveryRun.{OverEveryRun, FromTheStart, ArmingsAreKept};
@@ -58,7 +58,7 @@ where
 /// What the loop holds: timers that ask for the next one. A dispatch lends the number of calls.
 type Chain = Sources<Dispatcher<Timer, Again>, u64>;
 
-/// Whatever calls a loop over this chain gets from its beginning, and whatever poller and clock answer: where each timer that is inserted
+/// Whatever calls a loop over this chain gets from its beginning, and whatever poller and clock answer: if each timer that is inserted
 /// by a call was never registered, and none is exchanged for one that holds more, no timer is called early, nor twice for one
 /// arming. That the callbacks ask for such timers alone, their relation says.
 pub fn no_timer_is_early<P: Poller, C: Clock, R: Wait + Drop>()

@@ -45,7 +45,7 @@ impl On<Event<u64>, String, ()> for Report {
     }
 }
 
-// Sends a number to the other loop. Where that is gone, its own function says why.
+// Sends a number to the other loop. If that is gone, its own function says why.
 fn tell<R: Wait + Drop>(sender: &Sender<u64, R>, number: u64) -> Result<()> {
     match sender.send(number) {
         Ok(_receipt) => Ok(()),

@@ -221,7 +221,7 @@ fn write<D: Choice<Counter, Asker, Third> + Drop>(
     said.ticket(ticket);
 }
 
-// Says the slot and the version of the source in whose turn this is, where there is one.
+// Says the slot and the version of the source whose turn this is, if there is one.
 fn own<D: Choice<Counter, Asker, Third> + Drop>(said: &mut Said, requests: &Requests<D, Note>) {
     if let Some(token) = requests.own_token() {
         said.number(token.slot());

@@ -28,7 +28,7 @@ pub enum Act<'a> {
     Ping(u32, &'a [Wish]),
     /// A timer likewise, of this deadline in milliseconds.
     Timer(u64, u32, &'a [Wish]),
-    /// A counter likewise, which can be registered eight times. Its turns end so, or fail where there is nothing.
+    /// A counter likewise, which can be registered eight times. Its turns end so, or fail if there is nothing.
     Counter(Option<PostAction>, u32, &'a [Wish]),
     /// An idle that no callback asks for. It may cancel the one in a place, and ask for one more.
     Idle(u32, Option<usize>),
@@ -265,7 +265,7 @@ where
         handle.poller_mut().script(answer).is_ok()
     }
 
-    // Whether a dispatch succeeds, where these numbers are said in it.
+    // True if a dispatch succeeds, and these numbers are said in it.
     fn dispatch(&mut self, timeout: Option<u64>, numbers: &[u32]) -> Option<bool> {
         self.said.numbers.clear();
         let answer = self
@@ -329,7 +329,7 @@ impl<R: Wait + Drop> Counted for Held<R> {
     }
 }
 
-/// Plays at a new stand: the place of the first act that isn't as it is wanted, or one behind the last where no stand can be made. This alone
+/// Plays at a new stand. Returns the index of the first act that isn't as wanted, or one behind the last if no stand can be made. Only this
 /// knows of which types the loop is.
 pub fn plays<R: Wait + Clone + Drop>(rt: &R, alloc: Global, acts: &[Act<'_>]) -> Option<usize> {
     plays_over::<Held<R>, R>(rt, alloc, acts)

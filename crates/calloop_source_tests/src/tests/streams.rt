@@ -116,7 +116,7 @@ fn writes<S: Write>(socket: &mut S, bytes: &[u8]) -> bool {
     matches!(socket.write(bytes), Ok(count) if count == bytes.len()) && socket.flush().is_ok()
 }
 
-// Whether just these bytes come next. It tries again where nothing has come.
+// True if just these bytes come next. Tries again if nothing has come.
 fn reads<S: Read>(socket: &mut S, wanted: &[u8]) -> bool {
     let mut buf = [0u8; 16];
     for _ in 0..1000u32 {

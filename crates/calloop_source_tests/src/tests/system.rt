@@ -582,7 +582,7 @@ impl<R: MachineClock + Clone + Drop> Desk<R> {
         self.poller.wait(Some(timeout), left, &mut told).is_ok() && are(&told, wanted)
     }
 
-    // Whether one of many such waits is interrupted: where a test has to wait for a processor, a wait's time may be over first.
+    // True if one of many such waits is interrupted: if a test has to wait for a processor, a wait's time may be over first.
     fn comes_to_be_interrupted(&mut self, timeout: Duration) -> bool {
         for _ in 0..500u32 {
             if self.is_interrupted(timeout) {
@@ -664,7 +664,7 @@ where
     tellings
 }
 
-// A listener and where it listens.
+// A listener and its address.
 fn new_listener<R: Net + Abort>(rt: &R) -> (MioIo, SocketAddr) {
     let any = SocketAddr::from((Ipv4Addr::LOCALHOST, 0));
     let listener = TcpListener::bind(rt, any).expect(rt, "a listener");

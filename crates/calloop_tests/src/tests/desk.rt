@@ -20,7 +20,7 @@ use std::sync::Wait;
 use std::time::Duration;
 
 /// What a test does, or looks for. A source goes by its place among those that came into the loop, and a ping by its place among the pings. Times
-/// are in milliseconds, where nothing else is said.
+/// are in milliseconds, if nothing else is said.
 #[derive(Clone, Copy)]
 pub enum Act<'a> {
     /// A ping's source, whose callback says this number.
@@ -507,7 +507,7 @@ where
     }
 }
 
-// Plays at a new desk over this choice: the place of the first act that isn't as it is wanted, or one behind the last where no desk can be made.
+// Plays at a new desk over this choice. Returns the index of the first act that isn't as wanted, or one behind the last if no desk can be made.
 fn plays_over<D, R>(rt: &R, alloc: Global, acts: &[Act<'_>]) -> Option<usize>
 where
     D: EventDispatcher<ScriptPoller, ScriptClock, R, Data = Vec<u32>, Idle = ()> + Seen,

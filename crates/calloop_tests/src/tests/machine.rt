@@ -103,7 +103,7 @@ enum Trial {
     Timeout,
 }
 
-// Whether it goes as it is to. None where memory is short. This alone knows of which types the loop is.
+// True if it goes as it should. `None` without memory. Only this knows the types of the loop.
 fn goes<R>(rt: &R, alloc: Global, trial: Trial) -> Option<bool>
 where
     R: Net + MachineClock + Threads + Wait + Clone + Drop + Send + Sync + 'static,

@@ -36,7 +36,7 @@ impl<R: Wait + Drop> Placed for Twice<R> {
     }
 }
 
-// Whether a ping in each place is called for its own ring. None where memory is short.
+// True if a ping in each place is called for its own ring. `None` without memory.
 fn is_each_called<D, R>(rt: &R, alloc: Global) -> Option<bool>
 where
     D: EventDispatcher<ScriptPoller, ScriptClock, R, Data = Vec<u32>, Idle = ()> + Placed,

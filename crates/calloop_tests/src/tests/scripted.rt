@@ -62,7 +62,7 @@ enum Trial {
 /// Pings that say their numbers.
 pub type Pings<R> = Sources<Dispatcher<PingSource<R>, Teller>, Vec<u32>>;
 
-// Whether it goes as it is to. None where memory is short. This alone knows of which types the loop is.
+// True if it goes as it should. `None` without memory. Only this knows the types of the loop.
 fn goes<R>(rt: &R, alloc: Global, trial: Trial) -> Option<bool>
 where
     R: Threads + Wait + Clone + Drop + Send + Sync + 'static,
@@ -242,7 +242,7 @@ fn rings_once<R: Wait + Clone + Drop>(ping: Ping<R>) -> bool {
     true
 }
 
-// Clones, rings and drops the ping a thousand times, and then drops it. False where it could not be cloned.
+// Clones, rings and drops the ping a thousand times, and then drops it. False if it couldn't be cloned.
 fn rings_by_clones<R: Wait + Clone + Drop>(ping: Ping<R>) -> bool {
     for _ in 0..1000u64 {
         let Ok(again) = ping.clone() else {

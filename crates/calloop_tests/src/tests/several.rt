@@ -356,7 +356,7 @@ fn after(seed: u64) -> u64 {
     (seed % 2_147_483_648 * 1_103_515_245 + 12_345) % 2_147_483_648
 }
 
-// Plays at a new desk: the place of the first act that isn't as it is wanted, or one behind the last where no desk can be made. This alone knows of
+// Plays at a new desk. Returns the index of the first act that isn't as wanted, or one behind the last if no desk can be made. Only this knows
 // which types it is, and calls nothing else.
 fn plays<R: Wait + Clone + Drop>(rt: &R, alloc: Global, acts: &[Act<'_>]) -> Option<usize> {
     plays_over::<Severals<R>, R>(rt, alloc, acts)

@@ -540,7 +540,7 @@ struct Inbox {
     ghost tied: { tally.name ≡ (arc_value lock).tag.name },
 }
 
-// Where messages are put into it.
+// The sending end.
 #[derive(Drop)]
 struct Slit {
     lock: SharedLock,

@@ -146,7 +146,7 @@ fn wakes(key: TaskKey) -> Polled {
     }
 }
 
-// What came of a put: the task's key, and whether it set a mark anew, where it was put.
+// What came of a put: the task's key and whether it set a new mark, if it was put.
 #[derive(Drop)]
 struct Put {
     key: TaskKey,

@@ -90,7 +90,7 @@ fn calls_a_board<R: Wait + Abort>(rt: &R, alloc: Global, in_a_slot: u64) -> Resu
     Ok(())
 }
 
-// The key of one of a hundred cells, where so many have keys in one slot.
+// The key of one of a hundred cells, if so many have keys in one slot.
 fn key_of_cell(cell: u64, in_a_slot: u64) -> u64
     requires cell { cell < 100 }
     requires slot { 0 < in_a_slot }
@@ -264,7 +264,7 @@ fn makes_one_call(wheel: &mut TimerWheel, armed: &mut Vec<(u64, u64)>, draws: &m
     }
 }
 
-// Whether the wheel gives the least of the list, where that is due by now; both lose it.
+// True if the wheel returns the least of the list when that is due by now; both lose it.
 fn gives_the_first(wheel: &mut TimerWheel, armed: &mut Vec<(u64, u64)>, now: u64) -> bool {
     let first = armed.iter().min().copied();
     let is_known = wheel.next_deadline() == first.map(|pair| at(pair.0));

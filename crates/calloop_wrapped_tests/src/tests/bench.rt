@@ -138,7 +138,7 @@ impl<R: Wait + Clone + Drop> Bench<R> {
         answers.then_some(())
     }
 
-    // Its turn where its source ends so. None where it fails.
+    // Its turn if its source ends so. `None` if it fails.
     fn turn(&mut self, end: PostAction) -> Option<PostAction> {
         self.notebook.ends(end);
         let mut factory = TokenFactory::new(RegistrationToken::new(0, 0));
@@ -195,7 +195,7 @@ impl<R: Wait + Clone + Drop> Bench<R> {
         }
     }
 
-    // The state of one that stays: it is unregistered where it is registered.
+    // The state of one that stays: it is unregistered if it is registered.
     fn kept_shape(mut self) -> Option<Shape> {
         self.asks(Call::Unregister)?;
         match (self.notebook.first(), self.sources()) {

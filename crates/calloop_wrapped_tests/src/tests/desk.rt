@@ -42,7 +42,7 @@ where
     token: RegistrationToken,
 }
 
-/// Plays the acts in a new loop of this source. None where the loop can't be made, or refuses the source.
+/// Plays the acts in a new loop of this source. `None` if the loop can't be made, or refuses the source.
 pub fn plays<D, R>(
     rt: &R,
     alloc: Global,

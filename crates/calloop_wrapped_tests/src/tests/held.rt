@@ -13,7 +13,7 @@ use calloop_test_sources::source::{Listener, Teller, Waker};
 use std::alloc::Global;
 use std::sync::Wait;
 
-/// What is said where a channel's close is told.
+/// What is said when a channel's close is told.
 pub const CLOSED: u32 = u32::MAX;
 
 type Held<A> = Sources<A, Vec<u32>>;
@@ -218,7 +218,7 @@ where
     Some(plays(rt, alloc, held, Vec::new(alloc), acts)?.acts)
 }
 
-/// Whether two pings as one source ask the loop for nothing, where their callbacks don't, as their types say.
+/// True if two pings as one source ask the loop for nothing when their callbacks don't, as their types say.
 pub fn quiet_pings<R>(rt: &R, alloc: Global) -> Option<bool>
 where
     R: Wait + Clone + Drop,

@@ -1,4 +1,4 @@
-//! Sources made of sources where memory runs out.
+//! Sources made of sources, when memory runs out.
 //!
 //! The kit's unproved run has one allocation refused: `rt try --test --fail-alloc N`.
 use calloop::transient::TransientSource;
@@ -96,7 +96,7 @@ where
     Some(Dispatcher::new(Movable::from(source), Teller { number }))
 }
 
-// A ping's source. The ping goes to the others, where there is room.
+// A ping's source. The ping goes to the others, if there is room.
 fn ping<R>(rt: &R, alloc: Global, bells: &mut Vec<Ping<R>>) -> Option<PingSource<R>>
 where
     R: Wait + Clone + Drop,

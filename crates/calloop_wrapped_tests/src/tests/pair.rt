@@ -20,7 +20,7 @@ pub struct Row<'a> {
     /// How turns of the parts end.
     pub ends: PostAction,
     pub asked: &'a [(u32, Asked)],
-    /// What a turn answers, and `Continue` where another call succeeds.
+    /// The answer of a turn, and `Continue` if another call succeeds.
     pub answer: Option<PostAction>,
 }
 
@@ -53,7 +53,7 @@ fn part(notebook: &Notebook, number: u32) -> Option<Dispatcher<Movable<Noting>, 
     Some(Dispatcher::new(source, Silent))
 }
 
-// What it answers to this call. None where that fails.
+// The answer to this call. `None` if that fails.
 fn answer<D, R>(both: &mut D, poll: &mut Scripted<R>, call: Asked) -> Option<PostAction>
 where
     D: Dispatch<ScriptPoller, ScriptClock, R, (), ()>,

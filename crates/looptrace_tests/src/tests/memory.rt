@@ -1,4 +1,4 @@
-//! A run over a script where memory runs out: it ends with that, or a line says that its call was refused; and what was written up to there
+//! A run over a script when memory runs out: it ends with that, or a line says that its call was refused; and what was written up to there
 //! is what would have been written.
 //!
 //! `checks/memory` runs this with each allocation refused in turn.
@@ -19,7 +19,7 @@ const REFUSED: &[u8] = b"refused OutOfMemory\n";
 
 #[test]
 fn a_run_that_wants_memory_has_written_a_beginning(rt: HostRuntime) {
-    // Where there is no room for what is written there is nothing to run.
+    // Without room for what is written there is nothing to run.
     if let Ok(output) = Vec::with_capacity(rt.alloc(), 400) {
         assert!(rt; begins(&rt, rt.alloc(), output));
     }
