@@ -1,10 +1,10 @@
--- How a wait of the machine's poller is cut into portions. calloop's poller has the system wait to the nanosecond.
+-- How a wait of the OS poller is cut into portions. calloop's poller has the system wait to the nanosecond.
 use Rattle.std.specs.Prelude.{◌≡◌, ℕ, ◌+◌, ◌≤◌, Option, Some, None}
 use Rattle.std.specs.Duration.{as_nanos}
 use Rattle.calloop_mio.specs.declared.portions.Portion.{Portion}
 use Rattle.calloop_poll.specs.sys.Pollers.{nanos_of}
 
--- of a wait for this time: no longer than that
+-- a portion of a wait for this time: no longer than that
 abbrev pub IsPortionOf : (time : ℕ) → Portion → Type 0
 IsPortionOf time p = (waiting : ℕ) × (nanos_of p.waiting ≡ Some waiting) × (as_nanos p.asleep + waiting ≤ time)
 

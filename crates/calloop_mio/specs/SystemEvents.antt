@@ -1,4 +1,4 @@
--- What the loop is told of the events that the machine found, as calloop's poller tells of its own.
+-- What the loop is told of the events that the OS found, as calloop's poller tells of its own.
 use Rattle.std.specs.Prelude.{ℕ, ◌||◌, List, map}
 use Rattle.std.specs.List.{filter}
 use Rattle.mio.specs.declared.event.event.Event.{Event}
@@ -6,7 +6,7 @@ use Rattle.mio.specs.Event as found
 use Rattle.calloop_poll.specs.declared.sys.Readiness.{Readiness}
 use Rattle.calloop_poll.specs.sys.Polls.{is_for_a_token}
 
--- one that failed, or whose peer hung up, is ready for both, to an error or an end, as in calloop, which doesn't tell
+-- a socket that failed, or whose peer hung up, is ready for both, to an error or an end, as in calloop, which doesn't tell
 -- of an error
 abbrev pub readiness_of : Event → Readiness
 readiness_of event = record {
@@ -18,6 +18,6 @@ readiness_of event = record {
 abbrev pub told_event : Event → ℕ × Readiness
 told_event event = ((found.event_token event).0, readiness_of event)
 
--- the events of sockets, in the machine's order; that of the poller's own waker is none
+-- the events of sockets, in the OS order; the event of the poller's own waker is left out
 abbrev pub told_events : List Event → List (ℕ × Readiness)
 told_events events = filter is_for_a_token (map told_event events)

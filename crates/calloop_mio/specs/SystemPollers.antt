@@ -1,5 +1,5 @@
--- What the calls of the machine's poller do, as far as a contract can see: which sockets it waits on, and what becomes
--- ready, is the machine's. calloop's poller is that of the crate polling, which makes the same calls of the system.
+-- What the OS poller's calls do, as far as a contract can see: which sockets it waits on, and what becomes ready, is up to
+-- the OS. calloop's poller is that of the crate polling, which makes the same system calls.
 use Rattle.std.specs.Prelude.{◌≡◌, ℕ, Bool, true, false, List, [], Result, Err, OnErr}
 use Rattle.std.specs.declared.io.Error.{Error as IoError}
 use Rattle.std.specs.IoError.{error_kind}
@@ -10,19 +10,19 @@ use Rattle.calloop_mio.specs.declared.MioPoller.{MioPoller}
 use Rattle.calloop_poll.specs.sys.Pollers.{Outside, Sockets, PollerCall, Add, Modify, Delete, asks, failure_of}
 use Rattle.calloop_mio.specs.SystemEvents.{told_events}
 
--- whether a call asks for something that can be waited for
+-- true if a call asks for something that can be waited for
 abbrev pub can_ask : PollerCall → Bool
 can_ask (Add key watched) = asks watched.interest
 can_ask (Modify key watched) = asks watched.interest
 can_ask Delete = true
 
--- one call for a socket: an empty interest is refused; calloop hands it to its poller
+-- one call for a socket: fails if its interest is empty; calloop passes an empty interest to its poller
 pub record SystemCalled {C : Type 0} (p : MioPoller C) (call : PollerCall) (answer : Result (Unit {0}) IoError)
     (q : MioPoller C) : Type 0 where
   pub refused : can_ask call ≡ false → (cause : IoError) × (answer ≡ Err cause) × (error_kind cause ≡ InvalidInput)
   pub poller : q ≡ record p { faults = q.faults }
 
--- one wait: it gives what the machine found then, and nothing where it failed; it fails where the machine's wait did, with an error
+-- one wait: it returns what the OS found then, and nothing if it failed; it fails if the wait of the OS did, with an error
 -- of that kind
 pub record SystemWaited {C : Type 0} (p : MioPoller C) (answer : Result (Unit {0}) IoError)
     (given : List (ℕ × Readiness)) (q : MioPoller C) : Type 0 where

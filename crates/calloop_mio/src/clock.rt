@@ -1,4 +1,4 @@
-//! The machine's clock.
+//! The OS clock.
 ghost use Rattle.std.specs.Prelude.{◌≡◌};
 ghost use Rattle.calloop_mio.specs.Clocks.{nanos_between};
 
@@ -8,8 +8,8 @@ use std::alloc::AllocError;
 use std::thread;
 use std::time::{Clock as MachineClock, Duration, Instant as Reading};
 
-/// Shows the nanoseconds since it was made, at most 2^64 - 1, and 0 where the machine's clock can't be read. Its clones count from
-/// the same moment. It keeps a clone of the runtime, by which it reads.
+/// Shows the nanoseconds since it was made, at most 2^64 - 1, and 0 if the OS clock can't be read. Its clones count from
+/// the same moment. It keeps a clone of the runtime, to read the OS clock.
 #[derive(Drop)]
 pub struct SystemClock<R> {
     rt: R,
@@ -17,7 +17,7 @@ pub struct SystemClock<R> {
 }
 
 impl<R: MachineClock + Clone + Drop> SystemClock<R> {
-    /// A clock that shows 0 now. Where the machine's clock can't be read now, it shows 0 for good.
+    /// Makes a clock that shows 0 now. If the OS clock can't be read now, it shows 0 for good.
     pub fn new(rt: &R) -> Result<SystemClock<R>, AllocError> {
         Ok(SystemClock {
             rt: rt.clone()?,
@@ -42,7 +42,7 @@ impl<R: MachineClock + Clone + Drop> Clock for SystemClock<R> {
     ghost use Rattle.std.specs.declared.time.Instant.{Instant};
     ghost use Rattle.calloop_mio.specs.Clocks.{nanos_between};
 
-    // What is read is the machine's choice.
+    // What is read is up to the OS.
     ghost shows = { λ clock now. (read : Option Instant) × (now ≡ nanos_between clock.start read) };
 
     fn now(&self) -> Instant {
@@ -54,7 +54,7 @@ impl<R: MachineClock + Clone + Drop> Clock for SystemClock<R> {
     }
 }
 
-// From one reading to another.
+// The time from one reading to another.
 fn between(start: Option<Reading>, read: Option<Reading>) -> Instant
     ensures { result.nanos ≡ nanos_between start read }
 {

@@ -1,4 +1,4 @@
-//! The events of a wait of the machine.
+//! The events of a wait of the OS.
 ghost use Rattle.std.specs.Prelude.{◌≡◌, ◌+◌, ◌≤◌, ◌++◌, true, [], Some, length, vec_len, vec_capacity, OnErr};
 ghost use Rattle.std.specs.IoError.{error_kind};
 ghost use Rattle.std.specs.declared.io.ErrorKind.TheVariants.{Interrupted};
@@ -15,23 +15,23 @@ use std::alloc::{AllocError, Global};
 use std::io;
 use std::time::Duration;
 
-// In nanoseconds: how long behind what was served more is awaited without a sleep.
+// In nanoseconds: how long after events were served the wait for further ones doesn't sleep.
 const BUSY: u64 = 100_000;
 
-/// What the machine found in the last wait, at most 1,024 events; or how that failed.
+/// What the OS found in the last wait, at most 1,024 events; or how that wait failed.
 #[derive(Drop)]
 pub struct Found {
     events: Events,
     // The kind of the last wait's error.
     failed: Option<io::ErrorKind>,
-    // When what was found last was served.
+    // When the events found last were served.
     served: Option<Instant>,
     ghost room: { events_capacity events ≤ events_per_wait },
     ghost few: { length (items events) ≤ events_per_wait },
 }
 
 impl Found {
-    /// Nothing yet. All its memory is taken now.
+    /// Makes an empty one. All its memory is taken now.
     pub fn new(alloc: Global) -> Result<Found, AllocError> {
         Ok(Found {
             events: Events::with_capacity(alloc, EVENTS_PER_WAIT)?,
@@ -40,7 +40,7 @@ impl Found {
         })
     }
 
-    /// The next wait begins now: what the last one found, if it found anything, was served until now.
+    /// Notes that the next wait begins now: the events of the last one, if there were any, were served until now.
     pub fn note_served(&mut self, now: Instant)
         ensures { self.new ≡ record self.old { served = self.new.served } }
     {
@@ -49,7 +49,7 @@ impl Found {
         }
     }
 
-    /// Whether something was served so short a time ago that more is likely to come at once.
+    /// True if events were served so recently that further ones are likely to come at once.
     pub fn is_busy(&self, now: Instant) -> bool {
         match self.served {
             Some(served) => now < served.after(Duration::from_nanos(BUSY)),
@@ -57,7 +57,7 @@ impl Found {
         }
     }
 
-    /// Waits. Where that fails nothing was found, and the kind of the error is kept.
+    /// Waits. If that fails, nothing was found, and the kind of the error is kept.
     pub fn wait(&mut self, poll: &mut Poll, timeout: Option<Duration>) -> io::Result<()>
         ensures events { OnErr result (items self.new.events ≡ []) }
         ensures failed { failure_of result ≡ self.new.failed }
@@ -70,7 +70,7 @@ impl Found {
         answer
     }
 
-    /// Nothing, as after a wait that found none.
+    /// Forgets the events, as after a wait that found none.
     pub fn clear(&mut self)
         ensures events { items self.new.events ≡ [] }
         ensures failed { self.new.failed ≡ None }
@@ -79,14 +79,14 @@ impl Found {
         self.failed = None;
     }
 
-    /// Whether the last wait found nothing, nor ended by the poller's own waker.
+    /// True if the last wait found nothing and wasn't ended by the poller's own waker.
     pub fn is_empty(&self) -> bool
         ensures { result ≡ true → items self.now.events ≡ [] }
     {
         self.events.is_empty()
     }
 
-    /// A wait that found nothing was interrupted: its error, whose kind is kept.
+    /// Takes a wait that found nothing as interrupted: returns its error, whose kind is kept.
     pub fn interruption(&mut self) -> io::Error
         ensures kind { error_kind result ≡ Interrupted }
         ensures failed { self.new ≡ record self.old { failed = Some Interrupted } }
@@ -95,7 +95,7 @@ impl Found {
         io::Error::from(io::ErrorKind::Interrupted)
     }
 
-    /// Appends what the loop is told.
+    /// Appends the events that the loop is told of.
     pub fn append_to(&self, events: &mut Vec<(u64, Readiness)>)
         requires { vec_len events.old + events_per_wait ≤ vec_capacity events.old }
         ensures items { events.new.items ≡ events.old.items ++ told_events (items self.now.events) }
@@ -116,7 +116,7 @@ fn readiness_of(event: &Event) -> Readiness
     }
 }
 
-// What the loop is told of these.
+// Appends the events that the loop is told of, of those found.
 fn append(found: &[Event], events: &mut Vec<(u64, Readiness)>)
     requires { vec_len events.old + length found.now ≤ vec_capacity events.old }
     ensures items { events.new.items ≡ events.old.items ++ told_events found.now }

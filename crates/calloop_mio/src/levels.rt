@@ -1,7 +1,7 @@
-//! Which sockets the machine tells of in each wait.
+//! Which sockets the OS tells of in each wait.
 //!
-//! `mio` registers a socket so that it is told of when it becomes ready. A source under `Mode::Level` hears of its socket as long as that is ready:
-//! so that is registered by a call of the system without `EPOLLET`, as calloop's poller does, and needs no further one while it stays so.
+//! `mio` registers a socket so that its events come when it becomes ready. A source under `Mode::Level` is told of its socket as
+//! long as it's ready: a system call without `EPOLLET` registers it, as in calloop's poller, and no other is needed meanwhile.
 ghost use Rattle.std.specs.Prelude.{◌≡◌};
 
 use calloop_poll::sys::Interest;
@@ -19,8 +19,8 @@ struct Level {
     interest: Interest,
 }
 
-/// What is known of the sockets that are told of in each wait, by their descriptors. A descriptor that isn't noted is registered otherwise, or
-/// there was no memory for it.
+/// What is known of the sockets that are told of in each wait, by their descriptors. A descriptor that isn't noted is registered
+/// otherwise, or there was no memory for it.
 #[derive(Drop)]
 pub struct Levels {
     noted: Vec<Option<Level>>,
@@ -32,20 +32,20 @@ impl Model for Levels {
     ghost view = { λ _. tt };
 }
 
-// Its place among those that are noted. None is negative.
+// The place of a descriptor among those that are noted. No descriptor is negative.
 fn place_of(descriptor: RawFd) -> usize {
     usize::try_from(descriptor).unwrap_or(usize::MAX)
 }
 
 impl Levels {
-    /// Of no socket.
+    /// Makes one that knows of no socket.
     pub fn new(alloc: Global) -> Levels {
         Levels {
             noted: Vec::new(alloc),
         }
     }
 
-    /// Whether this descriptor is registered so.
+    /// True if this descriptor is registered so.
     pub fn has(&self, descriptor: RawFd, key: u64, interest: Interest) -> bool {
         match self.noted.get(place_of(descriptor)) {
             Some(Some(level)) => *level == Level { key, interest },
@@ -53,7 +53,7 @@ impl Levels {
         }
     }
 
-    /// It is registered so. Running out of memory notes nothing.
+    /// Notes that it is registered so. Running out of memory notes nothing.
     pub fn note(
         &mut self,
         descriptor: RawFd,
@@ -72,7 +72,7 @@ impl Levels {
         Ok(())
     }
 
-    /// It is registered otherwise, or not at all.
+    /// Notes that it is registered otherwise, or not at all.
     pub fn clear(&mut self, descriptor: RawFd)
         ensures { self.new ≡ self.old }
     {
@@ -93,7 +93,7 @@ fn flags_of(interest: Interest) -> u32 {
     flags
 }
 
-/// Whether a socket is registered for the first time, or stands in the poller.
+/// Whether a socket is registered for the first time, or is in the poller already.
 #[derive(Clone, Copy, Debug)]
 pub enum Registering {
     First,
@@ -101,7 +101,7 @@ pub enum Registering {
 }
 
 impl Registering {
-    /// Has each wait tell of a socket from now on, under this key, as long as it is ready for that.
+    /// Makes each wait tell of a socket from now on, under this key, while it is ready for this interest.
     pub fn register(
         self,
         poll: &Poll,

@@ -37,17 +37,17 @@ pub use clock::SystemClock;
 pub use portions::Precision;
 pub use sockets::MioIo;
 
-// No socket is told of under this key: the poller's own waker has it.
+// No socket is told of under this key, because it is that of the poller's own waker.
 const OWN_KEY: Token = Token(usize::MAX);
 
-/// Waits on the sockets of the machine by epoll. Its clock is the one that it was given. A socket is told of when it becomes ready, and
-/// again by `modify`; under `Mode::Level` in each wait as long as it is ready. One under the key 2^64 - 1 is never told of: that is
-/// its own waker's.
+/// Waits on the OS sockets by epoll, with the clock that `new` gets. A socket is told of when it becomes ready, and again by
+/// `modify`; under `Mode::Level` in each wait as long as it is ready. One under the key 2^64 - 1 is never told of: that is the
+/// key of the poller's own waker.
 ///
 /// While an event of an earlier wait is left, a wait finds none: so what stays ready isn't told twice.
 ///
-/// A wait that ends with nothing found before its time is over by that clock is an interruption, after which the loop waits anew: as
-/// when the process gets a signal, and after each portion of a wait (`Precision`). By a clock that stood still meanwhile it is over.
+/// A wait that ends with nothing found before its time is over by that clock is an interruption, after which the loop waits anew:
+/// e.g. when the process gets a signal, and after each portion of a wait (`Precision`). If that clock stood still, it's over.
 #[derive(Drop)]
 pub struct MioPoller<C> {
     poll: Poll,
@@ -60,7 +60,7 @@ pub struct MioPoller<C> {
 }
 
 impl<C: Drop> MioPoller<C> {
-    /// Over this clock, with no socket. What the machine refuses is `IoError`, and running out of memory is `OutOfMemory`.
+    /// Makes a poller over this clock, with no socket. An OS error is `IoError`, and running out of memory is `OutOfMemory`.
     pub fn new<R: Net>(rt: &R, alloc: Global, clock: C) -> LoopResult<MioPoller<C>>
         ensures ok { IfOk result (λ made. (made.clock ≡ clock) × (made.faults.count ≡ 0)
             × (made.precision ≡ Microseconds)) }
@@ -83,14 +83,14 @@ impl<C: Drop> MioPoller<C> {
 }
 
 impl<C> MioPoller<C> {
-    /// How exactly its waits end from now on. It is made with `Precision::Microseconds`.
+    /// Sets how exactly the poller's waits end from now on. It starts with `Precision::Microseconds`.
     pub fn set_precision(&mut self, precision: Precision)
         ensures { self.new ≡ record self.old { precision = precision } }
     {
         self.precision = precision;
     }
 
-    // A wait that could sleep doesn't, where somebody notified since the last one.
+    // How long to sleep: not at all if somebody notified since the last wait.
     fn time_to_sleep(&self, timeout: Option<Duration>) -> Option<Duration> {
         if timeout == Some(Duration::ZERO) || self.waker.fall_asleep() {
             timeout
@@ -99,7 +99,7 @@ impl<C> MioPoller<C> {
         }
     }
 
-    // A refusal is one more fault.
+    // Counts a failure as another fault.
     fn note_fault(&mut self, answer: io::Result<()>) -> io::Result<()>
         ensures same { result ≡ answer }
         ensures poller { self.new ≡ record self.old { faults = self.new.faults } }
@@ -113,7 +113,7 @@ impl<C> MioPoller<C> {
 }
 
 impl<C> MioPoller<C> {
-    // Has waits tell of a socket in its mode, where the interest is one in anything.
+    // Makes waits tell of a socket in its mode. Fails if its interest is empty.
     fn register(
         &mut self,
         how: Registering,
@@ -135,7 +135,7 @@ impl<C> MioPoller<C> {
         }
     }
 
-    // Each wait tells of it as long as it is ready.
+    // Makes each wait tell of a socket as long as it is ready.
     fn register_level(
         &mut self,
         how: Registering,
@@ -146,12 +146,12 @@ impl<C> MioPoller<C> {
         ensures { self.new ≡ self.old }
     {
         how.register(&self.poll, fd, key, interest)?;
-        // Where it isn't noted, the next call asks the system again.
+        // If it isn't noted, the next call asks the system again.
         let _noted = self.levels.note(fd, key, interest);
         Ok(())
     }
 
-    // It is told of when it becomes ready.
+    // Makes waits tell of a socket when it becomes ready.
     fn register_edge(
         &self,
         how: Registering,
@@ -174,8 +174,8 @@ impl<C> MioPoller<C> {
 }
 
 impl<C: Clock> MioPoller<C> {
-    // Waits for what the machine finds, for a portion of the time where that isn't over then; not at all where events of earlier waits are
-    // left.
+    // Waits for the OS to find events, for a portion of the time if the time isn't over then; not at all if events of earlier
+    // waits are left.
     fn find(&mut self, timeout: Option<Duration>, left: usize) -> io::Result<()>
         ensures events { OnErr result (items self.new.found.events ≡ []) }
         ensures failed { failure_of result ≡ self.new.found.failed }
@@ -204,7 +204,7 @@ impl<C: Clock> MioPoller<C> {
         Ok(())
     }
 
-    // Whether this time is over, counted from the start, or the clock stands still.
+    // True if this time is over, counted from the start, or the clock stands still.
     fn is_over(&self, start: Instant, timeout: Option<Duration>) -> bool {
         let Some(timeout) = timeout else {
             return false;
@@ -214,7 +214,7 @@ impl<C: Clock> MioPoller<C> {
     }
 }
 
-// The interest as `mio` has it, where it is one in anything.
+// The interest as `mio` has it, if it isn't empty.
 fn mio_interest(interest: Interest) -> Option<mio::Interest>
     ensures some { is_some result ≡ asks interest }
     ensures value { IfSome result (λ asked. (is_readable asked ≡ interest.readable)
@@ -241,20 +241,20 @@ impl<C: Clock> Poller for MioPoller<C> {
 
     ghost sockets = { system_sockets };
 
-    /// An empty interest is refused with an error of kind `InvalidInput`, and counted.
+    /// Fails with kind `InvalidInput` if the interest is empty, which counts as a fault.
     fn add(&mut self, fd: RawFd, key: u64, watched: Watched) -> io::Result<()> {
         let answer = self.register(Registering::First, fd, key, watched);
         self.note_fault(answer)
     }
 
-    /// An empty interest is refused with an error of kind `InvalidInput`, and counted; the socket stays as it was added. The system is
-    /// always called: the descriptor may be another socket's by now.
+    /// Fails with kind `InvalidInput` if the interest is empty, which counts as a fault; the socket stays as it was added. The
+    /// system is always called: the descriptor may be another socket's by now.
     fn modify(&mut self, fd: RawFd, key: u64, watched: Watched) -> io::Result<()> {
         let answer = self.register(Registering::Again, fd, key, watched);
         self.note_fault(answer)
     }
 
-    /// An empty interest is refused as by `modify`. The system isn't called if the descriptor was registered so last, under `Mode::Level`.
+    /// Fails as `modify` does. Makes no system call if the descriptor was last registered so, under `Mode::Level`.
     fn rearm(&mut self, fd: RawFd, key: u64, watched: Watched) -> io::Result<()> {
         let Watched { interest, mode } = watched;
         if mode == Mode::Level && interest.asks() && self.levels.has(fd, key, interest) {

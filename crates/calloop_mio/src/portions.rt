@@ -1,4 +1,4 @@
-//! How a wait of the machine's poller is cut into portions, so that it ends when its time is over: `mio` waits for whole milliseconds,
+//! How a wait of the OS poller is cut into portions, so that it ends when its time is over: `mio` waits for whole milliseconds,
 //! and rounds them up.
 ghost use Rattle.std.specs.Prelude.{◌≡◌, ◌-◌, ◌%◌, ◌^◌, min};
 ghost use Rattle.std.specs.Duration.{as_nanos};
@@ -7,10 +7,10 @@ ghost use Rattle.calloop_mio.specs.Portions.{IsPortion, IsPortionOf};
 
 use std::time::Duration;
 
-// In nanoseconds: what is left behind the whole milliseconds at least. A wait of these ends so much late at most.
+// In nanoseconds: at least this much is left after a wait of whole milliseconds, which ends at most this late.
 const MARGIN: u64 = 150_000;
 
-// In nanoseconds: for less than this the machine is asked again and again, since a sleep may end so much late.
+// In nanoseconds: for less than this the OS is asked again and again, since a sleep may end this late.
 const SPIN: u64 = 80_000;
 
 // In nanoseconds: the longest sleep, in which no event is seen.
@@ -18,13 +18,13 @@ const NAP: u64 = 100_000;
 
 const MILLISECOND: u32 = 1_000_000;
 
-/// How exactly a wait ends by its timeout, as one for the next timer does.
+/// How exactly a wait ends by its timeout, e.g. a wait for the next timer.
 #[derive(Clone, Copy, Debug, PartialEq, Eq)]
 pub enum Precision {
     /// Up to a millisecond late. An event ends the wait at once.
     Milliseconds,
-    /// Some microseconds late. In the last 1.15 milliseconds it sleeps for 0.1 at a time, so that an event waits so long, and in the last 0.08
-    /// it asks the machine again and again. It also does that for 0.1 behind each event that was served, so that traffic isn't delayed.
+    /// Some microseconds late. In the last 1.15 milliseconds it sleeps for 0.1 at a time, so an event can wait so long. In the last
+    /// 0.08 it asks the OS again and again, and also for 0.1 after each event that was served, so traffic isn't delayed.
     Microseconds,
 }
 
@@ -36,7 +36,7 @@ pub(super) struct Portion {
 }
 
 impl Precision {
-    /// The next portion of a wait for so long.
+    /// The next portion of a wait for this timeout.
     pub(super) fn portion(self, timeout: Option<Duration>) -> Portion
         ensures { IsPortion (nanos_of timeout) result }
     {
@@ -50,7 +50,7 @@ impl Precision {
     }
 }
 
-// One that ends before so much time is over, or a bit behind it.
+// A portion that ends before so much time is over, or shortly after it.
 fn short_of(time: Duration) -> Portion
     ensures { IsPortionOf (as_nanos time) result }
 {

@@ -1,4 +1,4 @@
-//! The sockets of the machine that its poller waits on.
+//! The OS sockets that a poller waits on.
 ghost use Rattle.std.specs.Prelude.{◌≡◌, false, IsErrAnd};
 ghost use Rattle.std.specs.Io.{ReadsAtMost, WritesAtMost};
 ghost use Rattle.std.specs.Io.KnownBytes.{ReadConsumes, WriteAppends, Keeps};
@@ -12,7 +12,7 @@ use std::io;
 use std::io::{Read, Write};
 use std::os::fd::{AsRawFd, RawFd};
 
-/// A socket of the machine. It is non-blocking.
+/// An OS socket. It is non-blocking.
 #[derive(Drop)]
 pub enum MioIo {
     TcpListener(TcpListener),
@@ -91,8 +91,8 @@ impl Read for MioIo {
 
     ghost remaining = { known_bytes };
 
-    /// Reads from a stream, and answers as that does: with an error of kind `WouldBlock` where nothing has come. A listener and a UDP socket
-    /// refuse with an error of kind `Unsupported`, and leave the buffer as it was. The socket is the same after each answer.
+    /// Reads from a stream, with the result of the stream: an error of kind `WouldBlock` if nothing has come. On a listener and a
+    /// UDP socket fails with kind `Unsupported`, and leaves the buffer unchanged. The socket is the same after each result.
     fn read(&mut self, buf: &mut [u8]) -> io::Result<usize>
         ensures bound { ReadsAtMost result buf.new }
         ensures bytes { ReadConsumes (known_bytes self.old) (known_bytes self.new) result buf.new }
@@ -116,8 +116,8 @@ impl Write for MioIo {
 
     ghost contents = { known_bytes };
 
-    /// Writes to a stream, and answers as that does: with an error of kind `WouldBlock` where it has no room. A listener and a UDP socket refuse
-    /// with an error of kind `Unsupported`, and nothing is written. The socket is the same after each answer.
+    /// Writes to a stream, with the result of the stream: an error of kind `WouldBlock` if it has no room. On a listener and a
+    /// UDP socket fails with kind `Unsupported`, and nothing is written. The socket is the same after each result.
     fn write(&mut self, buf: &[u8]) -> io::Result<usize>
         ensures bound { WritesAtMost result buf.now }
         ensures bytes { WriteAppends (known_bytes self.old) (known_bytes self.new) result buf.now }
@@ -134,8 +134,8 @@ impl Write for MioIo {
         }
     }
 
-    /// Flushes a stream, and answers as that does. A listener and a UDP socket refuse with an error of kind `Unsupported`. The socket is the
-    /// same after each answer.
+    /// Flushes a stream, with the result of the stream. On a listener and a UDP socket fails with kind `Unsupported`. The socket
+    /// is the same after each result.
     fn flush(&mut self) -> io::Result<()>
         ensures bytes { Keeps (known_bytes self.old) (known_bytes self.new) }
         ensures same { self.new ≡ self.old }

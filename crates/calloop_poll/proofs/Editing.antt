@@ -1,4 +1,4 @@
--- What a call for a socket did, by how it ended.
+-- What a call for a socket did, by its result.
 use Rattle.std.proofs.Common.{◌≡◌, ◌∷◌, [], inl, inr, ℕ, ℤ, true, false, Bool, Option, None, Some, Ok, Err, refl, sym, ◌∙◌, ap, subst, arith, if◌then◌else◌}
 use Rattle.std.specs.declared.io.Error.{Error as Cause}
 use Rattle.std.specs.declared.io.ErrorKind.{ErrorKind}
@@ -46,7 +46,7 @@ can_change there taken e f = ap (λ b. if b then unless_in taken else Some NotFo
 same_key : (k : ℕ) → nat_cmp k k ≡ Equal
 same_key k = grind (arith)
 
--- what was entered leaves again
+-- a key that was entered is removed again
 pub left_again : (k : ℕ) (w : Watched) (t : Table) → watched_at k t ≡ None → without_key k (with_key k w t) ≡ t
 left_again k w [] none = ap (λ o. if is_eq o then [] else (k, w) ∷ []) (same_key k)
 left_again k w (e ∷ es) none =
@@ -56,7 +56,7 @@ left_again k w (e ∷ es) none =
       | Greater ↦ λ n is. ap (λ o. if is_eq o then with_key k w es else e ∷ without_key k (with_key k w es)) is ∙ ap (λ l. e ∷ l) (left_again k w es n)
     ] none refl
 
--- nothing stands under a key that is less than all keys
+-- nothing is found under a key that is less than all keys
 below_all : (k j : ℕ) (t : Table) → nat_cmp k j ≡ Less → AllByRecursion (λ y. nat_cmp j y ≡ Less) (keys_of t) → watched_at k t ≡ None
 below_all k j [] lt above = refl
 below_all k j (e ∷ es) lt above =
@@ -65,7 +65,7 @@ below_all k j (e ∷ es) lt above =
     let less : nat_cmp k e.0 ≡ Less = grind arith in
     ap (λ o. if is_eq o then Some e.1 else watched_at k es) less ∙ rest
 
--- what stands under a key changes nothing as it is entered again
+-- entering again what is already under a key changes nothing
 pub entered_again : (k : ℕ) (w : Watched) (t : Table) → IsStrictlySortedBy nat_cmp (keys_of t) → watched_at k t ≡ Some w → with_key k w t ≡ t
 unfolding IsStrictlySortedBy
 entered_again k w [] sorted is = cc

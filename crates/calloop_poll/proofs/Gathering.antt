@@ -1,4 +1,4 @@
--- The keys of the passes that an unpost gave, and of the events that a gathering appends.
+-- The keys of the passes that an unpost returned, and of the events that a gathering appends.
 use Rattle.std.proofs.Common.{◌≡◌, ℕ, zero, suc, ◌<◌, ◌-◌, ◌^◌, get_or, ◌≤◌, arith, List, [], ◌∷◌, ◌++◌, length, length-append, map, filter, drop, refl, ap, sym, append-nil, ◌∙◌}
 use Rattle.std.proofs.lemmas.List.{map-append}
 use Rattle.std.proofs.lemmas.List.Elements.{filter-append}
@@ -27,7 +27,7 @@ below-own : (k : ℕ) (ks : List ℕ) → AllGreater k ks → k < 2 ^ 64 - 1
 below-own k [] h = h
 below-own k (j ∷ js) h = below-own k js h.1
 
--- of rising keys the first is a token's, and the others rise
+-- of ascending keys the first is a token's, and the others ascend
 pub rising-at : (passes : List Taken) (i : ℕ) (d : Taken) → i < length passes → IsRising (map key_of_pass (drop i passes)) → ((get_or passes i d).key < 2 ^ 64 - 1) × IsRising (map key_of_pass (drop (suc i) passes))
 rising-at [] i d lt h = absurd (omega arith)
 rising-at (p ∷ ps) zero d lt h = (below-own p.key (map key_of_pass ps) h.0, h.1)
@@ -79,22 +79,22 @@ events-gathered board e₀ e₁ e₂ e₃ before after keys n given entries firs
     let posted = keys-new board before after keys n first is in
     rw (three, two, one, posted) refl
 
--- and those up to the last one of the poller
+-- and the same up to the last event of the poller
 pub events-polled : (board : Book) (e₀ e₁ e₂ : List Pending) (before after : List Taken) (keys : List ℕ) (n : ℕ) (given : List (ℕ × Readiness)) → n ≡ length before → after ≡ before ++ map (fresh_pass board) keys
     → e₁ ≡ e₀ ++ posted_events (map key_of_pass (drop n after)) → e₂ ≡ e₁ ++ polled_events given → e₂ ≡ (e₀ ++ posted_events keys) ++ polled_events given
 events-polled board e₀ e₁ e₂ before after keys n given first is one two = let posted = keys-new board before after keys n first is in rw (two, one, posted) refl
 
--- which is among those that wait
+-- the poller's last event is among the waiting events
 pub last_within : (before : ℕ) (given : List (ℕ × Readiness)) (events posted polled due : List Pending) → before ≤ length events → last_polled before given (length ((events ++ posted) ++ polled)) ≤ length (((events ++ posted) ++ polled) ++ due)
 last_within before [] events posted polled due h = rw (length-append ((events ++ posted) ++ polled) due, length-append (events ++ posted) polled, length-append events posted) (omega arith)
 last_within before (g ∷ gs) events posted polled due h = rw (length-append ((events ++ posted) ++ polled) due) (omega arith)
 
--- no event for which a source asks is posted
+-- no event that a source asks for is posted
 own_posts_none : (given : List (Readiness × Token)) → posted_keys (own_events given) ≡ []
 own_posts_none [] = refl
 own_posts_none (e ∷ es) = own_posts_none es
 
--- so the batch stays in step where they join it
+-- so the batch stays in step when such events join it
 pub joined_in_step : (events : List Pending) (passes : List Taken) (given : List (Readiness × Token)) → IsInStep events passes → IsInStep (events ++ own_events given) passes
 joined_in_step events passes given h =
     h ∙ sym (posted_keys-append events (own_events given) ∙ ap (λ l. posted_keys events ++ l) (own_posts_none given) ∙ append-nil (posted_keys events))

@@ -35,7 +35,7 @@ the k w = record { key = k; watched = w }
 same_parts : (k q : ℕ) (w v : Watched) → Some (the k w) ≡ Some (the q v) → (k ≡ q) × (w ≡ v)
 same_parts k q w v h = let one : the k w ≡ the q v = cc in (ap (λ (x : Indexed). x.key) one, ap (λ (x : Indexed). x.watched) one)
 
--- what is put under a key
+-- an entry put under a key
 pub index-with : (k : ℕ) (w : Watched) (index : List (Option Indexed)) (t : Table) → IsIndexOf index t → IsIndexOf (set index (slot_of_key k) (Some (record { key = k; watched = w }))) (with_key k w t)
 index-with k w index t h q v at =
     elim (nat_eq (slot_of_key q) (slot_of_key k)) as (λ b. nat_eq (slot_of_key q) (slot_of_key k) ≡ b → watched_at q (with_key k w t) ≡ Some v) [
@@ -48,7 +48,7 @@ index-with k w index t h q v at =
           entered_elsewhere k q w t apart ∙ h q v (sym (set_keeps index (slot_of_key k) (slot_of_key q) (Some (the k w)) e) ∙ at)
     ] refl
 
--- what is taken from a key
+-- an entry taken from a key
 pub index-without : (k : ℕ) (index : List (Option Indexed)) (t : Table) → IsIndexOf index t → IsIndexOf (set index (slot_of_key k) None) (without_key k t)
 index-without k index t h q v at =
     elim (nat_eq (slot_of_key q) (slot_of_key k)) as (λ b. nat_eq (slot_of_key q) (slot_of_key k) ≡ b → watched_at q (without_key k t) ≡ Some v) [
@@ -58,6 +58,6 @@ index-without k index t h q v at =
           left_elsewhere k q t apart ∙ h q v (sym (set_keeps index (slot_of_key k) (slot_of_key q) None e) ∙ at)
     ] refl
 
--- what it has is in the table
+-- what the index has is in the table
 pub index-tells : (index : List (Option Indexed)) (t : Table) → IsIndexOf index t → (k : ℕ) (e : Indexed) → e.key ≡ k → indexed_at (slot_of_key k) index ≡ Some e → watched_at k t ≡ Some e.watched
 index-tells index t h k e is at = h k e.watched (at ∙ ap (λ (j : ℕ). Some (record { key = j; watched = e.watched })) is)

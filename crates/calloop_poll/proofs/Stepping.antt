@@ -1,4 +1,4 @@
--- Steps one after the other.
+-- Steps one after another.
 use Rattle.std.proofs.Common.{◌≡◌, List, [], ◌∷◌, ◌++◌, ap, subst, ◌∙◌}
 use Rattle.calloop_poll.specs.sys.Pollers.{Outside}
 use Rattle.calloop_poll.specs.sys.Polls.{PollView, PollStep, poll_after, polls_after, Allowed, AllAllowed, AllStepped}

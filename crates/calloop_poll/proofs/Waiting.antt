@@ -1,4 +1,4 @@
--- One wait after the other.
+-- One wait after another.
 use Rattle.std.proofs.Common.{◌≡◌, ℕ, List, [], ◌∷◌, true, false, Bool, Option, Result, Ok, Err, refl}
 use Rattle.std.specs.declared.io.Error.{Error as Cause}
 use Rattle.calloop_poll.specs.declared.sys.Readiness.{Readiness}

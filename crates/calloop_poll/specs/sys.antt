@@ -1,4 +1,4 @@
--- What the contracts of `sys` cite.
+-- Definitions that the contracts of `sys` cite.
 pub mod Pollers
 pub mod Tables
 pub mod Batches

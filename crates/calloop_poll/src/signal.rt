@@ -1,4 +1,4 @@
-//! What ends a loop's waits and its runs, from anywhere. From calloop's `loop_logic.rs`.
+//! Signals that end a loop's waits and its runs, from any thread. From calloop's `loop_logic.rs`.
 ghost use Rattle.std.specs.Prelude.{◌≡◌, IfOk};
 ghost use Rattle.std.specs.Arc.{arc_value};
 ghost use Rattle.calloop_poll.specs.Signals.{AreOfOneLoop};
@@ -11,7 +11,7 @@ use std::marker::Model;
 use std::sync::Arc;
 use std::sync::atomic::{AtomicBool, Ordering};
 
-// What a loop and its signals share, under a name, which contracts alone see.
+// The name, seen by contracts alone, that a loop and its signals share.
 #[derive(Drop)]
 struct Shared {
     name: Name,
@@ -26,13 +26,13 @@ pub struct LoopSignal {
 }
 
 impl LoopSignal {
-    /// Lets the run that is under way end after its dispatch, and begin no other one. It is one store: it takes no lock and no
-    /// memory, and ends no wait. A run that begins later forgets it.
+    /// Lets the current run end after its dispatch, and begin no other one. It is one store: it takes no lock and no memory, and
+    /// ends no wait. A run that begins later forgets it.
     pub fn stop(&self) {
         self.shared.stopped.store(true, Ordering::SeqCst);
     }
 
-    /// Ends the wait that is under way, or else the next one, of the poller that the loop was made with.
+    /// Ends the current wait, or else the next one, of the poller that the loop was made with.
     pub fn wakeup(&self) {
         self.shared.notifier.notify();
     }
@@ -43,7 +43,7 @@ impl Clone for LoopSignal {
 
     ghost is_clone = { AreOfOneLoop };
 
-    /// One more signal of the same loop. At 2^63 of them it is refused.
+    /// Returns another signal of the same loop. Fails if there are 2^63 of them.
     fn clone(&self) -> Result<LoopSignal, AllocError> {
         Ok(LoopSignal {
             shared: Arc::try_clone(&self.shared)?,
@@ -51,7 +51,7 @@ impl Clone for LoopSignal {
     }
 }
 
-/// A loop's own signal: the loop alone has it, and so it alone looks for a stop, and forgets one. In a clause it is that signal.
+/// A loop's own signal. Only the loop has it, so only the loop looks for a stop, and forgets one. In a clause it is that signal.
 #[derive(Drop)]
 pub struct OwnSignal {
     signal: LoopSignal,
@@ -66,7 +66,7 @@ impl Model for OwnSignal {
 }
 
 impl OwnSignal {
-    /// Of a loop over the poller of this notifier, which nobody stopped yet.
+    /// Makes the signal of a loop over this notifier's poller. Nobody has stopped the loop yet.
     pub fn new(alloc: Global, notifier: Notifier) -> Result<OwnSignal, AllocError>
         ensures { IfOk result (λ own. (arc_value own.shared).notifier ≡ notifier) }
     {
@@ -82,19 +82,19 @@ impl OwnSignal {
         })
     }
 
-    /// A signal of this loop for others. At 2^63 of them it is refused.
+    /// Returns a signal of this loop for others. Fails if there are 2^63 of them.
     pub fn share(&self) -> Result<LoopSignal, AllocError>
         ensures { IfOk result (AreOfOneLoop self.now) }
     {
         self.signal.clone()
     }
 
-    /// Whether a signal of this loop stopped it since it last forgot a stop.
+    /// True if a signal of this loop stopped it since the last `forget_stop`.
     pub fn is_stopped(&self) -> bool {
         self.signal.shared.stopped.load(Ordering::SeqCst)
     }
 
-    /// A stop of before counts no more, as when a run begins.
+    /// Forgets earlier stops, as when a run begins.
     pub fn forget_stop(&self) {
         self.signal.shared.stopped.store(false, Ordering::SeqCst);
     }

@@ -17,7 +17,7 @@ pub mod notifier;
 pub mod poll;
 pub mod synthetic;
 
-/// The most events that one wait gives.
+/// The most events that one wait returns.
 pub const EVENTS_PER_WAIT: usize = 1024;
 
 /// What a source was found ready for, as in calloop.
@@ -44,7 +44,7 @@ impl Readiness {
     };
 }
 
-/// What a source wants to hear of, as in calloop.
+/// What a source wants to be told of, as in calloop.
 #[derive(Clone, Copy, Debug, PartialEq, Eq)]
 pub struct Interest {
     pub readable: bool,
@@ -52,31 +52,31 @@ pub struct Interest {
 }
 
 impl Interest {
-    /// In nothing: a socket with it is in no poller.
+    /// No interest: a socket with it is in no poller.
     pub const EMPTY: Interest = Interest {
         readable: false,
         writable: false,
     };
 
-    /// In whether it can be read.
+    /// Interest in readable.
     pub const READ: Interest = Interest {
         readable: true,
         writable: false,
     };
 
-    /// In whether it can be written.
+    /// Interest in writable.
     pub const WRITE: Interest = Interest {
         readable: false,
         writable: true,
     };
 
-    /// In both.
+    /// Interest in both.
     pub const BOTH: Interest = Interest {
         readable: true,
         writable: true,
     };
 
-    /// Whether it is an interest in anything.
+    /// True if the interest isn't empty.
     pub fn asks(self) -> bool
         ensures { result ≡ asks self }
     {
@@ -84,41 +84,41 @@ impl Interest {
     }
 }
 
-/// How often a socket's source hears of what it is ready for, as in calloop. The source keeps it, and a poller is told of `Level`.
+/// How often a source is told that its socket is ready, as in calloop. The source keeps it, and a poller is told of `Level`.
 #[derive(Clone, Copy, Debug, PartialEq, Eq)]
 pub enum Mode {
     /// Once, until it is registered anew.
     OneShot,
-    /// In each wait, as long as it is ready.
+    /// In each wait while it is ready.
     Level,
     /// When it becomes ready.
     Edge,
 }
 
-/// What is waited for under a key.
+/// What is waited for under a key: interest and mode.
 #[derive(Clone, Copy, Debug, PartialEq, Eq)]
 pub struct Watched {
     pub interest: Interest,
     pub mode: Mode,
 }
 
-/// Tells the moment. Which ones it may show is its own relation; the loop is proved for any, also for one that is smaller than an
-/// earlier one.
+/// A clock. The relation `shows` says which moments it may show; the loop is proved for any, also for one that is smaller than
+/// an earlier one.
 pub trait Clock: Clone + Drop {
     ghost use Rattle.std.specs.Prelude.{ℕ};
 
-    /// Which moments it may show, in nanoseconds.
+    /// The moments that the clock may show, in nanoseconds.
     ghost shows: { Self → (now : ℕ) → Type 0 };
 
     fn now(&self) -> Instant
         ensures { shows self.now result.nanos };
 
-    /// Lets about so much time pass, where it is the machine's. By default none does: then a poller that waits by this clock asks
-    /// the machine again and again.
+    /// Sleeps for about this time, if the clock is the OS clock. By default it doesn't sleep: then a poller that waits by this
+    /// clock calls the OS again and again.
     fn sleep(&self, _time: Duration) {}
 }
 
-/// Waits for events, and tells the moment. The loop is proved for every answer that a poller may give.
+/// Waits for events, and tells the moment. The loop is proved for every result that a poller may return.
 pub trait Poller: Drop {
     ghost use Rattle.std.specs.Prelude.{◌≡◌, ℕ, ◌+◌, ◌≤◌, ◌++◌, List, length, vec_len, vec_capacity};
     ghost use Rattle.std.specs.Prelude.{IfErr};
@@ -126,29 +126,29 @@ pub trait Poller: Drop {
     ghost use Rattle.calloop_poll.specs.sys.Pollers.{Outside, Sockets, Add, Modify, Delete, IsCounted, faults_of, nanos_of, events_per_wait};
     ghost use Rattle.calloop_poll.specs.declared.sys.Readiness.{Readiness};
 
-    /// What its calls may do.
+    /// What the poller's calls may do.
     ghost outside: { Outside Self };
 
-    /// What its calls for a descriptor may do.
+    /// What the poller's calls for a descriptor may do.
     ghost sockets: { Sockets Self };
 
-    /// From now on a wait gives the events of this descriptor, under this key. Under `Mode::Level` each wait may tell of it as long as it is
-    /// ready, without a further call. An `Err` is a fault, and is counted.
+    /// From now on a wait returns the events of this descriptor, under this key. Under `Mode::Level` each wait may tell of it
+    /// while it is ready, without a further call. An `Err` is a fault, and is counted.
     fn add(&mut self, fd: RawFd, key: u64, watched: Watched) -> io::Result<()>
         ensures sockets { sockets self.old fd (Add key watched) result self.new }
         ensures calls { outside.calls self.old (Add key watched) result self.new }
         ensures faults { outside.faults self.new ≡ outside.faults self.old + faults_of result };
 
-    /// A descriptor that was added has another key, interest or mode, and what it is ready for is told anew. It is an explicit registration
-    /// anew, so the descriptor may name another socket than before: a poller that keeps notes of sockets asks the system all the
-    /// same. An `Err` is a fault, and is counted.
+    /// Changes the key, interest or mode of a descriptor that was added, and its readiness is told anew. It is an explicit
+    /// registration anew, so the descriptor may name another socket than before: a poller that keeps notes of sockets calls the
+    /// OS all the same. An `Err` is a fault, and is counted.
     fn modify(&mut self, fd: RawFd, key: u64, watched: Watched) -> io::Result<()>
         ensures sockets { sockets self.old fd (Modify key watched) result self.new }
         ensures calls { outside.calls self.old (Modify key watched) result self.new }
         ensures faults { outside.faults self.new ≡ outside.faults self.old + faults_of result };
 
-    /// As `modify`, behind a callback of the source, when nothing but the interest is likely to be another. A poller in which each
-    /// wait tells of this descriptor under this key and for this interest already has nothing to do. By default it is `modify`.
+    /// As `modify`, after a callback of the source, when probably only the interest changed. A poller in which each wait tells
+    /// of this descriptor under this key and for this interest already has nothing to do. By default it is `modify`.
     fn rearm(&mut self, fd: RawFd, key: u64, watched: Watched) -> io::Result<()>
         ensures sockets { sockets self.old fd (Modify key watched) result self.new }
         ensures calls { outside.calls self.old (Modify key watched) result self.new }
@@ -157,7 +157,7 @@ pub trait Poller: Drop {
         self.modify(fd, key, watched)
     }
 
-    /// A wait gives no event of this descriptor any more. An `Err` is a fault, and is counted.
+    /// From now on no wait returns an event of this descriptor. An `Err` is a fault, and is counted.
     fn delete(&mut self, fd: RawFd) -> io::Result<()>
         ensures sockets { sockets self.old fd Delete result self.new }
         ensures calls { outside.calls self.old Delete result self.new }
@@ -168,13 +168,13 @@ pub trait Poller: Drop {
         ensures reads { outside.reads self.old result.nanos self.new }
         ensures faults { outside.faults self.new ≡ outside.faults self.old };
 
-    /// Waits, at most for `timeout`, and appends at most 1,024 events to `events`, whose room the caller
-    /// reserved: each is the key of a token and what was found. Without a timeout it may wait for ever.
-    /// An `Err` gives no event that is handed out. One of kind `Interrupted` is an interruption, after which the loop
-    /// waits anew; any other is a fault, and is counted.
+    /// Waits, at most for `timeout`, and appends at most 1,024 events to `events`, for which the caller reserved room: each is
+    /// the key of a token and the readiness found. Without a timeout it may wait for ever. After an `Err` none of its events is
+    /// handed out. One of kind `Interrupted` is an interruption, after which the loop waits anew; any other is a fault, and is
+    /// counted.
     ///
-    /// `left` is how many events wait for their turn since an earlier dispatch failed, up to the last one that this poller gave. One that
-    /// tells of a socket anew while it is ready may tell of nothing beside them, so that no event is told twice.
+    /// `left` is how many events wait for their turn since an earlier dispatch failed, up to this poller's last one. A poller
+    /// that tells of a socket anew while it is ready may tell of nothing beside them, so that no event is told twice.
     fn wait(
         &mut self,
         timeout: Option<Duration>,
@@ -188,7 +188,7 @@ pub trait Poller: Drop {
         ensures room { vec_capacity events.old ≤ vec_capacity events.new }
         ensures faults { IsCounted (outside.faults self.old) result (outside.faults self.new) };
 
-    /// What ends its wait from another thread. No contract says that it does; running out of memory is `OutOfMemory`.
+    /// Returns what ends a wait from another thread. No contract says that it does; running out of memory is `OutOfMemory`.
     fn notifier(&self) -> LoopResult<Notifier>
         ensures { IfErr result (λ e. e ≡ OutOfMemory) };
 }

@@ -1,5 +1,5 @@
 -- The calls for a socket that a scripted poller notes, and which of them are to fail: for tests, which calloop makes
--- with descriptors of the machine.
+-- with descriptors of the OS.
 use Rattle.std.specs.Prelude.{◌≡◌, ℤ, Bool, true, false, Result, Ok, Err}
 use Rattle.std.specs.declared.io.Error.{Error as IoError}
 use Rattle.std.specs.IoError.{error_kind}
@@ -41,7 +41,7 @@ with_failing AddKind fails f = record f { add = fails }
 with_failing ModifyKind fails f = record f { modify = fails }
 with_failing DeleteKind fails f = record f { delete = fails }
 
--- what a call answers, by whether it was to fail
+-- the result of a call, by whether it was to fail
 abbrev pub CallAnswered : (fails : Bool) → Result (Unit {0}) IoError → Type 0
 CallAnswered true answer = (cause : IoError) × (answer ≡ Err cause) × (error_kind cause ≡ Other)
 CallAnswered false answer = answer ≡ Ok tt

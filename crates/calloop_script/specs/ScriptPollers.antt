@@ -40,14 +40,14 @@ abbrev pub clock_after : ℕ → (asked : Option ℕ) → ℕ
 clock_after moment None = moment
 clock_after moment (Some nanos) = min (moment + nanos) (2 ^ 64 - 1)
 
--- what a wait answers and gives, by how its script ends it
+-- the result and the events of a wait, by how its script ends it
 abbrev pub Ended : ScriptEnd → Result (Unit {0}) IoError → (given : List (ℕ × Readiness)) → Type 0
 Ended (Events events) answer given = (answer ≡ Ok tt) × (given ≡ events.events.items)
 Ended Interruption answer given =
     (cause : IoError) × (answer ≡ Err cause) × (error_kind cause ≡ Interrupted) × (given ≡ [])
 Ended Fault answer given = (cause : IoError) × (answer ≡ Err cause) × (error_kind cause ≡ Other) × (given ≡ [])
 
--- the answer and the events of a wait, the moment after it and the answers that are left, by the answers that there
+-- the result and the events of a wait, the moment after it and the answers that are left, by the answers that there
 -- were
 abbrev pub WaitAnswered : List ScriptAnswer → ℕ → (asked : Option ℕ) → Result (Unit {0}) IoError
     → (given : List (ℕ × Readiness)) → ℕ → List ScriptAnswer → Type 0
@@ -56,7 +56,7 @@ WaitAnswered [] moment asked answer given after left =
 WaitAnswered (first ∷ answers) moment asked answer given after left =
     Ended first.end answer given × (after ≡ first.moment.nanos) × (left ≡ answers)
 
--- one scripted wait; it notes what was asked
+-- one scripted wait; the poller notes how long it was to be
 pub record ScriptWaits (p : ScriptPoller) (asked : Option ℕ) (answer : Result (Unit {0}) IoError)
     (given : List (ℕ × Readiness)) (q : ScriptPoller) : Type 0 where
   pub answered : WaitAnswered p.answers.items p.moment.nanos asked answer given q.moment.nanos q.answers.items
@@ -69,7 +69,7 @@ pub record ScriptWaits (p : ScriptPoller) (asked : Option ℕ) (answer : Result 
   pub shown : q.shown ≡ p.shown
   pub signal : q.signal ≡ p.signal
 
--- it is noted, also where it fails as it was told to; or there is no memory to note it, which is a fault too
+-- the call is noted, also if it fails as it was told to; or there is no memory to note it, which is a fault too
 abbrev pub IsNoted : ScriptPoller → ScriptCall → Result (Unit {0}) IoError → ScriptPoller → Type 0
 IsNoted p call answer q =
     ((q.calls.items ≡ p.calls.items ++ call ∷ []) × (q.failing ≡ with_failing (kind_of call) false p.failing)

@@ -15,7 +15,7 @@ use std::io;
 use std::io::{Read, Write};
 use std::os::fd::{AsRawFd, RawFd};
 
-/// A socket that isn't there: the number of its descriptor.
+/// A socket that doesn't exist: the number of its descriptor.
 #[derive(Debug, Drop)]
 pub struct ScriptIo {
     pub number: RawFd,
@@ -32,7 +32,7 @@ impl AsRawFd for ScriptIo {
 impl Read for ScriptIo {
     ghost remaining = { λ _. Some [] };
 
-    /// Nothing comes: an error of kind `WouldBlock`, with the buffer and the socket as they were.
+    /// Reads nothing: fails with kind `WouldBlock`, with the buffer and the socket unchanged.
     fn read(&mut self, buf: &mut [u8]) -> io::Result<usize>
         ensures bound { ReadsAtMost result buf.new }
         ensures bytes { ReadConsumes (Some []) (Some []) result buf.new }
@@ -47,7 +47,7 @@ impl Read for ScriptIo {
 impl Write for ScriptIo {
     ghost contents = { λ _. Some [] };
 
-    /// There is no room: an error of kind `WouldBlock`, with nothing written and the socket as it was.
+    /// Writes nothing: fails with kind `WouldBlock`, with the socket unchanged.
     fn write(&mut self, buf: &[u8]) -> io::Result<usize>
         ensures bound { WritesAtMost result buf.now }
         ensures bytes { WriteAppends (Some []) (Some []) result buf.now }
@@ -57,7 +57,7 @@ impl Write for ScriptIo {
         Err(io::Error::new(io::ErrorKind::WouldBlock, "no room"))
     }
 
-    /// It succeeds, and the socket is as it was.
+    /// Succeeds, and leaves the socket unchanged.
     fn flush(&mut self) -> io::Result<()>
         ensures bytes { Keeps (Some []) (Some []) }
         ensures ok { IsOk result }
@@ -77,7 +77,7 @@ pub enum ScriptCall {
 }
 
 impl ScriptCall {
-    /// Which call it is.
+    /// Returns which kind of call this is.
     pub fn kind(self) -> ScriptKind
         ensures { result ≡ kind_of self }
     {
@@ -89,7 +89,7 @@ impl ScriptCall {
     }
 }
 
-/// Which calls for a socket are meant.
+/// The kind of a call for a socket.
 #[derive(Clone, Copy, Debug, PartialEq, Eq)]
 pub enum ScriptKind {
     Add,
@@ -106,7 +106,7 @@ pub struct ScriptFaults {
 }
 
 impl ScriptFaults {
-    /// None.
+    /// No call is to fail.
     pub const NONE: ScriptFaults = ScriptFaults {
         add: false,
         modify: false,
@@ -135,21 +135,21 @@ impl ScriptFaults {
 }
 
 impl ScriptPoller {
-    /// The calls for sockets, in order, those that failed too.
+    /// The calls for sockets, in order, including those that failed.
     pub fn calls(&self) -> &[ScriptCall]
         ensures { result.now ≡ self.now.calls.items }
     {
         self.calls.as_slice()
     }
 
-    /// The next call of this kind fails, with an error of kind `Other`.
+    /// Makes the next call of this kind fail, with an error of kind `Other`.
     pub fn fail(&mut self, kind: ScriptKind)
         ensures { self.new ≡ record self.old { failing = with_failing kind true self.old.failing } }
     {
         self.failing.set(kind, true);
     }
 
-    // Whether the next call of this kind was to fail; from now on it isn't.
+    // Returns whether the next call of this kind was to fail; from now on it isn't.
     fn take_failing(&mut self, kind: ScriptKind) -> bool
         ensures fails { result ≡ is_to_fail kind self.old.failing }
         ensures poller { self.new
@@ -160,7 +160,7 @@ impl ScriptPoller {
         fails
     }
 
-    // One more fault.
+    // Counts another fault.
     fn fault<T>(&mut self, cause: io::Error) -> io::Result<T>
         ensures err { result ≡ Err cause }
         ensures faults { self.new.faults.count ≡ self.old.faults.count + 1 }
@@ -176,7 +176,7 @@ impl ScriptPoller {
         Err(cause)
     }
 
-    // Notes a call, and answers it. Running out of memory is a fault of kind `OutOfMemory`.
+    // Notes a call, and returns its result. Running out of memory is a fault of kind `OutOfMemory`.
     pub(super) fn call(&mut self, call: ScriptCall) -> io::Result<()>
         ensures called { ScriptCalled self.old call result self.new }
         ensures faults { self.new.faults.count ≡ self.old.faults.count + faults_of result }

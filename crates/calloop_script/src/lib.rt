@@ -1,4 +1,4 @@
-//! A poller that answers what it was told to, with a clock of its own: for tests and for recorded answers.
+//! A poller that replays scripted answers, with a clock of its own: for tests and for recorded answers.
 #![tactic(auto)]
 
 ghost use Rattle.std.specs.Prelude.{◌≡◌, ℕ, ◌+◌, ◌≤◌, ◌++◌, [], ◌∷◌, List, length, nat_le, false, Option, vec_len, vec_capacity, IsOk, OnOk, OnErr, IfOk, IfErr, is_ok, if◌then◌else◌};
@@ -32,7 +32,7 @@ pub struct ScriptEvents {
 }
 
 impl ScriptEvents {
-    /// No events.
+    /// Makes an empty list.
     pub fn new(alloc: Global) -> ScriptEvents
         ensures { result.events.items ≡ [] }
     {
@@ -41,14 +41,14 @@ impl ScriptEvents {
         }
     }
 
-    /// Whether there are 1,024, so that no more fits.
+    /// True if there are 1,024 events, so that no other fits.
     pub fn is_full(&self) -> bool
         ensures { result ≡ nat_le events_per_wait (length self.now.events.items) }
     {
         self.events.len() >= EVENTS_PER_WAIT
     }
 
-    /// Adds an event. The 1,025th is handed back, and one for which there is no memory too; then nothing changes.
+    /// Adds an event. The 1,025th is handed back, and so is one for which there is no memory; then nothing changes.
     pub fn push(&mut self, key: u64, readiness: Readiness) -> Result<(), (u64, Readiness)>
         ensures ok { OnOk result
             (self.new.events.items ≡ self.old.events.items ++ (key, readiness) ∷ []) }
@@ -76,7 +76,7 @@ impl Clone for ScriptEvents {
     }
 }
 
-/// What a scripted wait ends with.
+/// How a scripted wait ends.
 #[derive(Drop)]
 pub enum ScriptEnd {
     Events(ScriptEvents),
@@ -86,15 +86,15 @@ pub enum ScriptEnd {
     Fault,
 }
 
-/// What a scripted wait gives next, and the moment that the clock then shows.
+/// What the next scripted wait returns, and the moment that the clock then shows.
 #[derive(Drop)]
 pub struct ScriptAnswer {
     pub moment: Instant,
     pub end: ScriptEnd,
 }
 
-/// Answers what it was told to. With no answer left a wait gives no event and moves the clock by the asked
-/// wait, at most to 2^64 - 1 nanoseconds; a wait without limit then moves nothing.
+/// Replays scripted answers. When none is left, a wait returns no events and advances the clock by its timeout, at most to
+/// 2^64 - 1 nanoseconds; a wait without a timeout then doesn't move the clock.
 #[derive(Drop)]
 pub struct ScriptPoller {
     moment: Instant,
@@ -132,7 +132,7 @@ impl Clock for ScriptClock {
 }
 
 impl ScriptPoller {
-    /// With the clock at 0, no answer, and no room for asked waits.
+    /// Makes a poller with the clock at 0, no answers, and no room for requested waits.
     pub fn new(alloc: Global) -> Result<ScriptPoller, AllocError>
         ensures { IfOk result (λ made. (made.moment.nanos ≡ 0)
             × (made.answers.items ≡ [])
@@ -154,14 +154,14 @@ impl ScriptPoller {
         })
     }
 
-    /// A clock that follows this poller's. At 2^63 of them one more is refused.
+    /// Returns a clock that follows this poller's. Fails if there are 2^63 of them.
     pub fn clock(&self) -> Result<ScriptClock, AllocError> {
         Ok(ScriptClock {
             shown: Arc::try_clone(&self.shown)?,
         })
     }
 
-    /// The moment that the clock shows.
+    /// Returns the moment that the clock shows.
     pub fn moment(&self) -> Instant
         ensures { result ≡ self.now.moment }
     {
@@ -176,7 +176,7 @@ impl ScriptPoller {
         self.shown.store(moment.nanos, Ordering::SeqCst);
     }
 
-    /// Adds the answer of one more wait, behind those that are there.
+    /// Adds the answer of another wait, behind those that are there.
     pub fn script(&mut self, answer: ScriptAnswer) -> Result<(), AllocFailed<ScriptAnswer>>
         ensures answers { self.new.answers.items ≡ (if is_ok result
             then self.old.answers.items ++ answer ∷ [] else self.old.answers.items) }
@@ -209,8 +209,8 @@ impl ScriptPoller {
         first
     }
 
-    /// Empties the list of asked waits, and makes room for `n` at least. Running out of memory leaves the list as it was;
-    /// where there is room for `n` already, it takes no memory.
+    /// Empties the list of requested waits, and makes room for at least `n`. Running out of memory leaves the list unchanged;
+    /// if there is room for `n` already, it takes no memory.
     pub fn keep_waits(&mut self, n: usize) -> Result<(), AllocError>
         ensures waits { self.new.waits.items ≡ (if is_ok result then [] else self.old.waits.items) }
         ensures room { OnOk result (n ≤ vec_capacity self.new.waits) }
@@ -229,14 +229,14 @@ impl ScriptPoller {
         Ok(())
     }
 
-    /// The waits that were asked since `keep_waits`, in order, as far as the room goes.
+    /// Returns the waits that were requested since `keep_waits`, in order, as far as the room goes.
     pub fn waits(&self) -> &[Option<Duration>]
         ensures { result.now ≡ self.now.waits.items }
     {
         self.waits.as_slice()
     }
 
-    /// Whether a wakeup came since the last wait.
+    /// True if a wakeup came since the last wait.
     pub fn is_woken(&self) -> bool {
         self.signal.load(Ordering::SeqCst)
     }

@@ -13,11 +13,11 @@ pub record BatchView : Type 0 where
   pub events : List Pending
   pub passes : List Taken
   pub pass : Option Taken
-  -- how many events wait, up to the last one that the poller gave
+  -- how many events wait, up to the poller's last one
   pub polled : ℕ
   -- what the loop did to the board
   pub watch : Watch
-  -- for how many more events there is room, and for how many more passes
+  -- the free room for further events and for further passes
   pub room : ℕ
   pub pass_room : ℕ
 
@@ -32,8 +32,8 @@ posted_keys events = map (λ e. key_of e.token) (filter (λ e. e.posted) events)
 abbrev pub IsInStep : List Pending → List Taken → Type 0
 IsInStep events passes = map key_of_pass passes ≡ posted_keys events
 
--- what has to be true of a batch over the board of this name: it is in step, and its passes, with that of the event
--- whose turn it is, are of that board; the last one of the poller is among the events that wait
+-- what must be true of a batch over the board of this name: it is in step, and its passes, with that of the event whose
+-- turn it is, are of that board; the poller's last event is among the events that wait
 pub record IsBatchOf (board : Book) (events : List Pending) (passes : List Taken) (pass : Option Taken) (polled : ℕ)
     : Type 0 where
   pub in_step : IsInStep events passes
@@ -41,11 +41,11 @@ pub record IsBatchOf (board : Book) (events : List Pending) (passes : List Taken
   pub own_turn : IfSome pass (λ p. p.board ≡ board)
   pub within : polled ≤ length events
 
--- up to where the events of the poller go among those that wait, once it gave these behind so many others
+-- up to which place the poller's events go among those that wait, after it appended `given` behind `before` others
 abbrev pub last_polled : (before : ℕ) → (given : List (ℕ × Readiness)) → (waiting : ℕ) → ℕ
 last_polled before [] waiting = before
 last_polled before (_ ∷ _) waiting = waiting
 
--- the keys that one gathering may take from a board of which so many places were counted; calloop's poller hands out any
+-- the keys that one gathering may take from a board whose places were counted as `places`; calloop's poller hands out any
 abbrev pub ArePosted : (places : ℕ) → List ℕ → Type 0
 ArePosted places posted = IsRising posted × (length posted ≤ places)

@@ -1,4 +1,4 @@
--- The events of one registration, which a source is told of after a wait. calloop's `EventIterator` gives the events of
+-- The events of one registration that a source is told of after a wait. calloop's `EventIterator` yields the events of
 -- the poller and the timers; here posted keys come first.
 use Rattle.std.specs.Prelude.{List, map, filter, drop, Bool, ◌&&◌, nat_eq}
 use Rattle.calloop_slots.specs.declared.token.Token.{Token}
@@ -16,6 +16,6 @@ event_given e = (e.readiness, e.token)
 abbrev pub events_of : RegistrationToken → List Pending → List (Readiness × Token)
 events_of registration batch = map event_given (filter (is_event_of registration) batch)
 
--- what an iterator still gives
+-- the events that an iterator has still to yield
 abbrev pub events_left : EventIterator → List (Readiness × Token)
 events_left i = events_of (record { slot = i.slot; version = i.version }) (drop i.at i.batch.now.items)

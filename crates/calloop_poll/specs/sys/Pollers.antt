@@ -1,4 +1,4 @@
--- What the calls of a poller may do. A poller is seen from outside: the loop is proved for all of its answers.
+-- What a poller's calls may do. A poller is seen from outside: the loop is proved for all of its answers.
 use Rattle.std.specs.Prelude.{◌≡◌, ℕ, ℤ, ◌+◌, Bool, ◌||◌, List, Option, Some, None, Result, Ok, Err}
 use Rattle.std.specs.Duration.{as_nanos}
 use Rattle.std.specs.declared.time.Duration.{Duration}
@@ -10,22 +10,22 @@ use Rattle.calloop_poll.specs.declared.sys.Readiness.{Readiness}
 use Rattle.calloop_poll.specs.declared.sys.Interest.{Interest}
 use Rattle.calloop_poll.specs.declared.sys.Watched.{Watched}
 
--- a time in nanoseconds, where there is one
+-- a duration in nanoseconds, if there is one
 abbrev pub nanos_of : Option Duration → Option ℕ
 nanos_of None = None
 nanos_of (Some d) = Some (as_nanos d)
 
--- the most events that one wait gives, as in calloop
+-- the most events that one wait returns, as in calloop
 abbrev pub events_per_wait : ℕ
 events_per_wait = 1024
 
--- an interest in anything
+-- the interest isn't empty
 abbrev pub asks : Interest → Bool
 asks interest = interest.readable || interest.writable
 
--- A call for a socket: from now on a wait gives its events under this key, for this interest and in this mode; its key, its
--- interest or its mode is another; a wait gives none of its events any more. As calloop's, a poller names a socket by its
--- descriptor, which it gets beside the call.
+-- A call for a socket: `Add` has waits return its events under this key, for this interest and in this mode; `Modify`
+-- changes its key, interest or mode; after `Delete` no wait returns its events. As calloop's, a poller names a socket by
+-- its descriptor, which it gets beside the call.
 pub data PollerCall : Type 0 where
   Add : (key : ℕ) (watched : Watched) → PollerCall
   Modify : (key : ℕ) (watched : Watched) → PollerCall
@@ -35,17 +35,17 @@ pub data PollerCall : Type 0 where
 abbrev pub Sockets : (P : Type 0) → Type 1
 Sockets P = P → (fd : ℤ) → PollerCall → Result (Unit {0}) IoError → P → Type 0
 
--- the poller before, what it was given, what it answered, and the poller after
+-- the poller before, its arguments, its result, and the poller after
 pub record Outside (P : Type 0) : Type 1 where
   pub reads : P → (now : ℕ) → P → Type 0
-  -- the asked wait in nanoseconds, and the events: keys of tokens with what was found
+  -- the requested wait in nanoseconds, and the events: keys of tokens with the readiness found
   pub waits : P → (asked : Option ℕ) → Result (Unit {0}) IoError → (given : List (ℕ × Readiness)) → P → Type 0
   -- a call for some socket
   pub calls : P → PollerCall → Result (Unit {0}) IoError → P → Type 0
-  -- how many faults there were
+  -- how many faults there were so far
   pub faults : P → ℕ
 
--- by how much an answer counts: a fault is one more
+-- by how much a result raises the count of faults: by 1 if it is an error
 abbrev pub faults_of : {A : Type 0} → Result A IoError → ℕ
 faults_of (Ok a) = 0
 faults_of (Err cause) = 1
@@ -55,7 +55,7 @@ abbrev pub failure_of : {A : Type 0} → Result A IoError → Option ErrorKind
 failure_of (Ok a) = None
 failure_of (Err cause) = Some (error_kind cause)
 
--- each wait with a fault is counted, and an interruption is none
+-- each wait with a fault is counted; an interruption isn't a fault
 abbrev pub IsCounted : ℕ → Result (Unit {0}) IoError → ℕ → Type 0
 IsCounted before (Ok u) after = after ≡ before
 IsCounted before (Err cause) after =

@@ -1,6 +1,6 @@
--- What a source reads of `Poll`, and what it can do to it; and what the loop does with the batch.
--- calloop's `Poll` stands on the machine's poller and on files for its pings; here pings have a board, which lies under
--- a lock and isn't seen, and the loop owns the batch that calloop hands out from a buffer.
+-- What a source can read of `Poll` and do to it, and what the loop does with the batch.
+-- calloop's `Poll` uses the OS poller, and files for its pings; here pings have a board, which is behind a lock and
+-- isn't seen, and the loop owns the batch that calloop hands out from a buffer.
 use Rattle.std.specs.Prelude.{
   ◌≡◌,
   ℕ,
@@ -73,7 +73,7 @@ pub record PollView (P : Type 0) : Type 0 where
   pub batch : List Pending
   pub passes : List Taken
   pub pass : Option Taken
-  -- how many keys had places on the board when they were counted last
+  -- how many keys had places on the board at the last count
   pub places : ℕ
   -- what the loop did to its board
   pub watch : Watch
@@ -91,7 +91,7 @@ poll_view p =
       watch = p.batch.watch;
     }
 
--- another pass, or none, for the event whose turn it is; the one before goes back to the board
+-- the event whose turn it is gets this pass, or none; the pass before goes back to the board
 abbrev pub with_pass : {P : Type 0} → Option Taken → PollView P → PollView P
 with_pass pass v = record v { pass = pass }
 
@@ -112,18 +112,18 @@ after_count places v = record v { places = places; watch = with_note (Counted pl
 abbrev pub marks_taken : {P : Type 0} → List RegistrationToken → PollView P → PollView P
 marks_taken taken v = record v { watch = with_note (Marked taken) v.watch }
 
--- what a source can do; what it does under the locks of the board and of a ping's cell isn't seen
+-- what a source can do; its actions under the locks of the board and of a ping's cell aren't seen
 pub data PollStep (P : Type 0) : Type 0 where
   TakePass : PollStep P
   PutBack : (pass : Taken) → PollStep P
-  -- a deadline under a new counter, under one that was given before, and none under this one any more
+  -- a deadline is armed under a new counter, or under one that was used before, or this counter's deadline is cancelled
   Arm : (deadline : Instant) (token : Token) → PollStep P
   ArmAgain : (counter : ℕ) (deadline : Instant) (token : Token) → PollStep P
   Cancel : (counter : ℕ) → PollStep P
   -- the callback of the timer of this counter is called with this deadline
   Call : (counter : ℕ) (deadline : Instant) → PollStep P
   ReadClock : (now : ℕ) (after : P) → PollStep P
-  -- the table of sockets is edited, and the poller told of it where it has to be
+  -- the table of sockets is edited, and the poller is told if it has to know
   Socket : (edit : Edit) (after : P) → PollStep P
   -- the poller refused a call for a socket
   Fault : (call : PollerCall) (cause : Cause) (after : P) → PollStep P
@@ -143,7 +143,7 @@ abbrev pub polls_after : {P : Type 0} → PollView P → List (PollStep P) → P
 polls_after v [] = v
 polls_after v (s ∷ ss) = polls_after (poll_after v s) ss
 
--- when a step can be made; a counter is armed again, or its callback is called, only while it has no deadline
+-- when a step is possible; a counter is armed again, or its callback is called, only while it has no deadline
 abbrev pub Allowed : {P : Type 0} → Outside P → PollView P → PollStep P → Type 0
 Allowed O v TakePass = Unit {0}
 Allowed O v (PutBack pass) = Unit {0}
@@ -159,7 +159,7 @@ abbrev pub AllAllowed : {P : Type 0} → Outside P → PollView P → List (Poll
 AllAllowed O v [] = Unit {0}
 AllAllowed O v (s ∷ ss) = Allowed O v s × AllAllowed O (poll_after v s) ss
 
--- these steps can be made, and lead there
+-- these steps are possible, and lead to this state
 abbrev pub AllStepped : {P : Type 0} → Outside P → PollView P → List (PollStep P) → PollView P → Type 0
 AllStepped O v steps v' = AllAllowed O v steps × (v' ≡ polls_after v steps)
 
@@ -170,7 +170,7 @@ own_key = 2 ^ 64 - 1
 abbrev pub is_tokens : ℕ → Bool
 is_tokens key = not (nat_eq key own_key)
 
--- found ready to be read, and nothing else
+-- readable, and nothing else
 abbrev pub ready_to_read : Readiness
 ready_to_read = record { readable = true; writable = false; error = false }
 
@@ -183,7 +183,7 @@ polled_event given = record { readiness = given.1; token = token_of given.0; pos
 abbrev pub is_for_a_token : ℕ × Readiness → Bool
 is_for_a_token given = is_tokens given.0
 
--- the events of posted keys, all of which are tokens', and those that the poller gave; the poller's own key names none
+-- the events of posted keys, all of which are tokens' keys, and the poller's events; its own key is no token's
 abbrev pub posted_events : List ℕ → List Pending
 posted_events keys = map posted_event keys
 
@@ -196,23 +196,23 @@ timer_event entry = record { readiness = ready_to_read; token = entry.token; pos
 abbrev pub timer_events : List Entry → List Pending
 timer_events entries = map timer_event entries
 
--- an event that a source asks for before a wait; in calloop it stands in synthetic_events
+-- an event that a source asks for before a wait; in calloop it is in synthetic_events
 abbrev pub own_event : Readiness × Token → Pending
 own_event given = record { readiness = given.0; token = given.1; posted = false }
 
 abbrev pub own_events : List (Readiness × Token) → List Pending
 own_events given = map own_event given
 
--- these events, for which a source asks before a wait, wait for their turn after those that wait, each in its place
+-- these events, which a source asks for before a wait, are put in the batch in order, behind those that wait already
 abbrev pub with_events : {P : Type 0} → List (Readiness × Token) → PollView P → PollView P
 with_events given v = record v { batch = v.batch ++ own_events given }
 
--- this event waits for its turn after those that wait
+-- this event is put in the batch, behind those that wait already
 abbrev pub with_event : {P : Type 0} → Pending → PollView P → PollView P
 with_event e v = record v { batch = v.batch ++ e ∷ [] }
 
--- the posted keys, as far as there is room, and the deadlines that are due are taken, and the batch is what was left
--- over, then the posted keys, then what the poller gave, then the timers; calloop's Poll::poll gives the last two
+-- the posted keys, as far as there is room, and the due deadlines are taken; the batch is then what was left over, the
+-- posted keys, the poller's events, and the timers; calloop's Poll::poll gives the last two
 abbrev pub after_gather : {P : Type 0} → (posted : List ℕ) → (given : List (ℕ × Readiness)) → (now : ℕ) → PollView P
     → PollView P
 after_gather posted given now v =
@@ -250,19 +250,19 @@ cut_from (e ∷ es) v = with_turn_of e v
 abbrev pub after_cut : {P : Type 0} → PollView P → PollView P
 after_cut v = cut_from v.batch v
 
--- a posted event's pass is there, and of the key of its token
+-- a posted event has its pass, and the pass is of the key of its token
 abbrev pub IsPassOf : Pending → Option Taken → Type 0
 IsPassOf e pass = e.posted ≡ true → option_map key_of_pass pass ≡ Some (key_of e.token)
 
--- an error of the system of this kind
+-- an OS error of this kind
 abbrev pub IsOfKind : ErrorKind → Error → Type 0
 IsOfKind kind e = (cause : Cause) × (e ≡ IoError cause) × (error_kind cause ≡ kind)
 
--- why a place can't be opened: the key has one, or no memory was left; calloop's poller refuses a descriptor it has
+-- why opening a place fails: the key has one, or no memory was left; calloop's poller refuses a descriptor it has
 abbrev pub CannotOpen : Error → Type 0
 CannotOpen e = IsOfKind AlreadyExists e ⊎ (e ≡ OutOfMemory)
 
--- there is room for what one poll can gather, and for so many events more
+-- there is room for all that one poll can gather, and for `more` further events
 pub record IsReady {P C R : Type 0} (more : ℕ) (p : Poll P C R) : Type 0 where
   pub batch : more + (p.places + (events_per_wait + length p.wheel.entries)) ≤ p.batch.room
   pub passes : p.places ≤ p.batch.pass_room

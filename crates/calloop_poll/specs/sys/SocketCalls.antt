@@ -1,5 +1,5 @@
--- What the three calls of `Poll` for a socket do. calloop's poller is called at once and refuses by descriptor; here
--- the table refuses first, by key, then running out of memory, then the poller; after a refusal the table is as it was.
+-- What the three calls of `Poll` for a socket do. calloop calls its poller at once, which refuses by descriptor; here the
+-- table refuses first, by key; then memory may run out; then the poller may fail; on failure the table is unchanged.
 use Rattle.std.specs.Prelude.{◌≡◌, ◌⊎◌, ◌∷◌, [], List, ℤ, true, Option, None, Some, Result, Ok, Err}
 use Rattle.std.specs.declared.io.Error.{Error as Cause}
 use Rattle.std.specs.declared.io.ErrorKind.{ErrorKind}
@@ -14,7 +14,7 @@ abbrev pub as_loop : Result (Unit {0}) Cause → Result (Unit {0}) Error
 as_loop (Ok u) = Ok u
 as_loop (Err cause) = Err (IoError cause)
 
--- the poller refused its call, which is the one step
+-- the poller's call failed, which is the only step
 pub record IsFaulted
     {P : Type 0} (sockets : Sockets P) (v : PollView P) (edit : Edit) (fd : ℤ) (e : Error)
     (steps : List (PollStep P)) : Type 0 where
@@ -26,8 +26,8 @@ pub record IsFaulted
   pub called : sockets v.poller fd call (Err cause) after
   pub stepped : steps ≡ Fault call cause after ∷ []
 
--- what the table doesn't refuse is done, by one step; or there is no memory for a key that is new, and no poller was
--- called
+-- an edit that the table doesn't refuse is done, by one step; or there is no memory for a key that is new, and no poller
+-- was called
 abbrev pub Tried : {P : Type 0} → Sockets P → PollView P → Edit → (fd : ℤ)
     → Result (Unit {0}) Error → List (PollStep P) → Type 0
 Tried {P} sockets v edit fd (Ok u) steps =
@@ -36,7 +36,7 @@ Tried {P} sockets v edit fd (Ok u) steps =
 Tried sockets v edit fd (Err e) steps =
     ((grows edit ≡ true) × (e ≡ OutOfMemory) × (steps ≡ [])) ⊎ IsFaulted sockets v edit fd e steps
 
--- by why the table refuses
+-- the result, by the table's reason to refuse, if it has one
 abbrev pub TriedUnless : {P : Type 0} → Option ErrorKind → Sockets P → PollView P → Edit → (fd : ℤ)
     → Result (Unit {0}) Error → List (PollStep P) → Type 0
 TriedUnless None sockets v edit fd answer steps = Tried sockets v edit fd answer steps

@@ -1,5 +1,5 @@
--- The table of sockets: under which key what is waited for. calloop's poller keeps it, by descriptor; here `Poll` does,
--- by key.
+-- The table of sockets: what is waited for under each key. calloop's poller keeps it, by descriptor; here `Poll` does, by
+-- key.
 use Rattle.std.specs.Prelude.{
   ◌≡◌,
   ℕ,
@@ -33,7 +33,7 @@ use Rattle.calloop_poll.specs.declared.sys.Watched.{Watched}
 use Rattle.calloop_poll.specs.declared.sys.poll.socket_table.Indexed.{Indexed}
 use Rattle.calloop_poll.specs.sys.Pollers.{Outside, Sockets, PollerCall, Add, Modify, Delete, asks, faults_of}
 
--- the keys ascend, each stands once
+-- the keys ascend, and each occurs once
 abbrev pub Table : Type 0
 Table = List (ℕ × Watched)
 
@@ -49,19 +49,19 @@ with_key key watched table = insert_entry nat_cmp table key watched
 abbrev pub without_key : (key : ℕ) → Table → Table
 without_key key table = remove_entry (is_at (nat_cmp key)) table
 
--- what an index has at a slot
+-- the index's entry at a slot
 abbrev pub indexed_at : (slot : ℕ) → List (Option Indexed) → Option Indexed
 indexed_at slot index = slice_index_or index slot None
 
--- an index by slot: what it has of a key at that key's slot stands in the table
+-- an index by slot: the entry of a key at that key's slot is in the table
 abbrev pub IsIndexOf : List (Option Indexed) → Table → Type 0
 IsIndexOf index table =
     (key : ℕ) (watched : Watched) → indexed_at (slot_of_key key) index ≡ Some (record { key = key; watched = watched })
     → watched_at key table ≡ Some watched
 
--- what is asked of the table for a socket: it enters under a token; from one token to another, or the same; it leaves; and what
--- stands there under a token is dropped, of which no poller is told. The first three are calloop's register, reregister
--- and unregister of `Poll`.
+-- an edit of the table for a socket: enter it under a token; move it from one token to another, or the same; remove it; and
+-- drop the entry of a token without telling a poller. The first three are calloop's register, reregister and unregister of
+-- `Poll`.
 pub data Edit : Type 0 where
   Enter : (token : Token) (watched : Watched) → Edit
   Change : (before token : Token) (watched : Watched) → Edit
@@ -78,7 +78,7 @@ after_edit (Change before token watched) table = moved_to (key_of before) (key_o
 after_edit (Leave token) table = without_key (key_of token) table
 after_edit (Discard token) table = without_key (key_of token) table
 
--- why the table refuses, before any memory is taken and before the poller is called
+-- why the table refuses, before memory is reserved and before the poller is called
 abbrev pub unless_in : Bool → Option ErrorKind
 unless_in true = Some AlreadyExists
 unless_in false = None
@@ -92,20 +92,20 @@ cannot (Change before token watched) table =
 cannot (Leave token) table = if is_in (key_of token) table then None else Some NotFound
 cannot (Discard token) table = None
 
--- whether it brings a key that wasn't there, for which memory may run out
+-- the edit brings a key that wasn't in the table, for which memory may run out
 abbrev pub grows : Edit → Bool
 grows (Enter token watched) = true
 grows (Change before token watched) = not (nat_eq (key_of before) (key_of token))
 grows (Leave token) = false
 grows (Discard token) = false
 
--- Of the poller: a socket with an empty interest stands in the table alone.
+-- About the poller: a socket with an empty interest is in the table alone.
 
 abbrev pub is_known : Option Watched → Bool
 is_known None = false
 is_known (Some watched) = asks watched.interest
 
--- the call of the poller, by whether it knows the socket; calloop's is always add, modify or delete, as the edit is
+-- the poller call, by whether it knows the socket; calloop always calls add, modify or delete, as the edit is
 abbrev pub deleted_if : (known : Bool) → Option PollerCall
 deleted_if known = if known then Some Delete else None
 

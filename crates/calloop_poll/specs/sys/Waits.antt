@@ -1,7 +1,6 @@
--- How long the loop waits, and what ends a wait. calloop asks for the lesser of its timeout and the first deadline too.
--- After an interruption it waits again, but takes the time since the start off what it had left by then, and where
--- nothing is left it returns without the timers that are due; here the time that is left is counted from the start each
--- time.
+-- How long the loop waits, and what ends a wait. calloop too requests the lesser of its timeout and the first deadline.
+-- After an interruption it waits again, but subtracts the time since the start from what was left by then, and if nothing
+-- is left it returns without the timers that are due; here the time that is left is counted from the start each time.
 use Rattle.std.specs.Prelude.{
   ◌≡◌,
   ℕ,
@@ -50,7 +49,7 @@ lesser None b = b
 lesser (Some a) None = Some a
 lesser (Some a) (Some b) = Some (min a b)
 
--- zero where an event was left over or the look at the board found a posted key, else the lesser of what is left of the
+-- zero if an event was left over or the look at the board found a posted key, else the lesser of what is left of the
 -- caller's timeout and the time to the first deadline; no limit without either
 abbrev pub asked_for : {P : Type 0} → PollView P → (posted : Bool) → (timeout : Option ℕ) → (start now : ℕ) → Option ℕ
 asked_for v posted timeout start now =
@@ -64,8 +63,8 @@ is_zero (Some time) = nat_eq time 0
 abbrev pub IsInterruption : Cause → Type 0
 IsInterruption cause = error_kind cause ≡ Interrupted
 
--- a wait that was interrupted: its error, the events of which none is handed out, the poller then, the moment that was
--- read after it, and whether the look at the board then found a posted key
+-- an interrupted wait: its error, its events (none of which is handed out), the poller then, the moment that was read
+-- after it, and whether the look at the board then found a posted key
 pub record Interruption (P : Type 0) : Type 0 where
   pub cause : Cause
   pub given : List (ℕ × Readiness)
@@ -74,9 +73,9 @@ pub record Interruption (P : Type 0) : Type 0 where
   pub read : P
   pub posted : Bool
 
--- with this wait asked first, and with these interruptions: the moment of the gathering or a fault, the events, and the
--- poller then. The clock is read after each interruption and after the last answer. An interruption looks at the board
--- and asks anew, and counts as an empty answer where nothing is left to wait for.
+-- with this wait requested first, and with these interruptions: the moment of the gathering or a fault, the events, and
+-- the poller then. The clock is read after each interruption and after the last result. After an interruption the board
+-- is looked at and the wait requested anew; it counts as a wait without events if nothing is left to wait for.
 abbrev pub Waits : {P : Type 0} → Outside P → PollView P → (timeout : Option ℕ) → (start : ℕ) → (asked : Option ℕ) → P
     → List (Interruption P) → Result ℕ Cause → List (ℕ × Readiness) → P → Type 0
 Waits {P} O v timeout start asked p [] (Ok later) given q =
@@ -93,8 +92,8 @@ abbrev pub after_looks : {P : Type 0} → List (Interruption P) → Watch → Wa
 after_looks [] w = w
 after_looks (i ∷ is) w = after_looks is (with_note (Looked i.posted) w)
 
--- a whole wait: the clock is read once at the start, and the board is looked at; the watch notes this look and one for
--- each interruption, and no more; a fault is one more in the poller's count, and nothing else is
+-- a whole wait: the clock is read once at the start, and the board is looked at; the watch notes this look and another for
+-- each interruption, and no more; a fault adds 1 to the poller's count, and nothing else does
 abbrev pub Waited : {P : Type 0} → Outside P → PollView P → (timeout : Option ℕ) → Result ℕ Cause → List (ℕ × Readiness)
     → P → Watch → Type 0
 Waited {P} O v timeout answer given q w =
@@ -102,8 +101,8 @@ Waited {P} O v timeout answer given q w =
     × Waits O v timeout start (asked_for v posted timeout start start) p interruptions answer given q
     × (w ≡ after_looks interruptions (with_note (Looked posted) v.watch)) × (O.faults q ≡ O.faults v.poller + faults_of answer)
 
--- a wait and, where it had no fault, the gathering, of the keys that the board then gives, ascending; calloop's
--- Poll::poll, and the loop around it in dispatch_events
+-- a wait and, if it had no fault, the gathering, of the keys that the board then returns, ascending; calloop's Poll::poll,
+-- and the loop around it in dispatch_events
 abbrev pub Polled : {P : Type 0} → Outside P → (timeout : Option ℕ) → Result (Unit {0}) Cause → PollView P → PollView P
     → Type 0
 Polled {P} O timeout (Ok u) v v' =

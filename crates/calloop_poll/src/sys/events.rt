@@ -7,19 +7,19 @@ use super::poll::Pending;
 use calloop_slots::token::{RegistrationToken, Token};
 use std::collections::VecDeque;
 
-/// Gives the events of one registration in the order in which the loop hands them out: posted keys, what the poller gave, and
-/// due timers. What was left over before the wait, or came of `before_sleep`, isn't among them.
+/// Yields the events of one registration in the order in which the loop hands them out: posted keys, the poller's events, and
+/// due timers. Events that were left over before the wait, or came of `before_sleep`, aren't among them.
 #[derive(Clone, Copy)]
 pub struct EventIterator<'a> {
     batch: &'a VecDeque<Pending>,
     at: usize,
-    // The registration by its numbers: what holds a token isn't copied where it is handed on.
+    // The registration by its numbers: a token's content isn't copied when the token is handed on.
     slot: u32,
     version: u32,
 }
 
 impl<'a> EventIterator<'a> {
-    // Of the events from this place on.
+    // Only the events from this place on.
     pub(crate) fn new(
         batch: &'a VecDeque<Pending>,
         from: usize,

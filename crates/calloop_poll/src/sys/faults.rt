@@ -4,7 +4,7 @@ ghost use Rattle.std.specs.Borrow.{ftrue};
 
 use std::marker::Model;
 
-/// How many faults a poller had. It takes no bytes, and its count has no limit.
+/// A ghost counter of a poller's faults: zero-sized and without a limit.
 #[derive(Drop)]
 pub struct FaultCount {
     pub ghost count: { ℕ },
@@ -22,7 +22,7 @@ impl FaultCount {
         FaultCount {}
     }
 
-    /// One more than were counted before.
+    /// One more than `_before`.
     pub fn after(_before: &FaultCount) -> FaultCount
         ensures { result.count ≡ _before.now.count + 1 }
     {

@@ -1,4 +1,4 @@
-//! The board of posted keys and the marks of adapters, each under its lock, with what wakes the poller that looks at them.
+//! The board of posted keys and the marks of adapters, each under its lock, with the notifier that wakes their poller.
 ghost use Rattle.std.specs.Prelude.{◌≡◌, ◌≢◌, ◌+◌, ◌-◌, ◌^◌, ◌≤◌, [], true, false, IfOk, IfErr, IfSome, IfNone, is_none, if◌then◌else◌};
 ghost use Rattle.std.specs.Arc.{arc_value};
 ghost use Rattle.std.specs.VecDeque.{deque_len, deque_capacity};
@@ -24,14 +24,14 @@ use std::io;
 use std::marker::Model;
 use std::sync::{Arc, Wait};
 
-/// The board, which the ends of pings and their loop share. Each call is one section of its lock, within which nothing
-/// else is locked and nobody is called. In calloop the kernel's poller is shared so.
+/// The board, shared by the ends of pings and their loop. Each call is one section of its lock, in which nothing else is locked
+/// and no caller's code runs. In calloop the kernel's poller is shared like this.
 ///
 /// In a clause it is the name that the board shares with its watch.
 #[derive(Drop)]
 pub struct Hub {
     board: Locked<Board>,
-    // Which adapters are to be settled before the next wait.
+    // The adapters that are to be settled before the next wait.
     marks: Locked<Marks>,
     notifier: Notifier,
 }
@@ -50,7 +50,7 @@ impl Model for Hub {
 /// A hub with several owners.
 pub type SharedHub = Arc<Hub, Global>;
 
-/// One more owner. It waits while there are as many as can be, 2^63 - 1.
+/// Adds an owner. It waits while there are 2^63 - 1, the most that there can be.
 pub fn share<R: Wait, T: Drop>(rt: &R, owner: &Arc<T, Global>) -> Arc<T, Global>
     ensures { arc_value result ≡ arc_value owner.now }
 {
@@ -63,7 +63,7 @@ pub fn share<R: Wait, T: Drop>(rt: &R, owner: &Arc<T, Global>) -> Arc<T, Global>
 }
 
 impl Hub {
-    /// With an empty board, and the watch of that.
+    /// Makes a hub with an empty board, and that board's watch.
     pub fn new(alloc: Global, notifier: Notifier) -> std::result::Result<(Hub, Watch), AllocError>
         ensures { IfOk result (λ made. made.1 ≡ record { name = made.0; notes = [] }) }
     {
@@ -78,8 +78,8 @@ impl Hub {
         Ok((hub, watch))
     }
 
-    /// Opens the place of a token's key. An open one is `IoError` of kind `AlreadyExists`, and running out of memory is
-    /// `OutOfMemory`; after a refusal the board is as it was.
+    /// Opens the place of a token's key. Fails with `IoError` of kind `AlreadyExists` if it is open, and with `OutOfMemory` if
+    /// memory runs out; on failure the board is unchanged.
     pub fn open_place<R: Wait>(&self, rt: &R, token: Token) -> Result<OpenedPass>
         requires { key_of token ≢ 2 ^ 64 - 1 }
         ensures ok { IfOk result (λ pass. pass ≡ record { key = key_of token; board = self.now }) }
@@ -98,7 +98,7 @@ impl Hub {
         }
     }
 
-    /// Closes the place of a key of this board that no cell has any more.
+    /// Closes the place of a key of this board that has no cell any more.
     pub fn close_place<R: Wait>(&self, rt: &R, permit: ClosePermit)
         requires { permit.board ≡ self.now }
     {
@@ -108,7 +108,7 @@ impl Hub {
         held.unlock();
     }
 
-    /// Posts the key of a debt to this board, and spends the wakeup that this gives, outside the lock. It takes no memory.
+    /// Posts the key of a debt to this board, and spends the wakeup that this returns, outside the lock. It takes no memory.
     pub fn post<R: Wait>(&self, rt: &R, debt: Debt)
         requires { debt.board ≡ self.now }
     {
@@ -121,7 +121,7 @@ impl Hub {
         }
     }
 
-    /// Makes room for the mark of one adapter more. Running out of memory changes nothing.
+    /// Makes room for the mark of another adapter. Running out of memory changes nothing.
     pub fn open_mark<R: Wait>(&self, rt: &R) -> std::result::Result<(), AllocError> {
         let mut held = self.marks.lock(rt);
         let opened = held.core().open();
@@ -129,15 +129,15 @@ impl Hub {
         opened
     }
 
-    /// An adapter is gone, and needs no room for its mark any more.
+    /// Returns the room for the mark of an adapter that is gone.
     pub fn close_mark<R: Wait>(&self, rt: &R) {
         let mut held = self.marks.lock(rt);
         held.core().close();
         held.unlock();
     }
 
-    /// Marks an adapter, which is to be settled before the next wait, and spends the wakeup that this gives, outside the lock. Running out of
-    /// memory marks nothing.
+    /// Marks an adapter, which is to be settled before the next wait, and spends the wakeup that this returns, outside the lock.
+    /// Running out of memory marks nothing.
     pub fn mark<R: Wait>(
         &self,
         rt: &R,
@@ -150,7 +150,7 @@ impl Hub {
         Ok(())
     }
 
-    // Where nothing is marked, has the watch note that nothing was taken. Else nothing changes.
+    // If nothing is marked, has the watch note that nothing was taken. Else nothing changes.
     fn take_no_marks<R: Wait>(&self, rt: &R, watch: &mut Watch) -> bool
         requires { watch.old.name ≡ self.now }
         ensures none { result ≡ true → watch.new ≡ with_note (Marked []) watch.old }
@@ -178,7 +178,7 @@ impl Hub {
         Some(taken)
     }
 
-    /// Takes a list of marks back once it was settled, for the room that it has.
+    /// Takes a list of marks back once it was settled, to reuse its memory.
     pub fn give_marks_back<R: Wait>(&self, rt: &R, settled: Vec<RegistrationToken>) {
         let mut held = self.marks.lock(rt);
         held.core().give_back(settled);
@@ -208,7 +208,7 @@ impl Model for WatchedHub {
 }
 
 impl WatchedHub {
-    /// With an empty board. Running out of memory is `OutOfMemory`.
+    /// Makes a hub with an empty board. Running out of memory is `OutOfMemory`.
     pub fn new(alloc: Global, notifier: Notifier) -> Result<WatchedHub>
         ensures ok { IfOk result (λ made. made.notes ≡ []) }
         ensures err { IfErr result (λ e. e ≡ MemoryError) }
@@ -222,14 +222,14 @@ impl WatchedHub {
         })
     }
 
-    /// The hub, to share.
+    /// Returns the hub, to share.
     pub fn hub(&self) -> &SharedHub
         ensures { arc_value result.now ≡ self.now.name }
     {
         &self.hub
     }
 
-    /// Looks whether a key is posted: the permit to sleep, where none is.
+    /// Looks whether a key is posted. Returns the permit to sleep if none is.
     pub fn look<R: Wait>(&mut self, rt: &R) -> Option<SleepPermit>
         ensures { self.new ≡ with_note (Looked (is_none result)) self.old }
     {
@@ -240,7 +240,7 @@ impl WatchedHub {
         permit
     }
 
-    /// How many places are open now.
+    /// Returns how many places are open now.
     pub fn places<R: Wait>(&self, rt: &R) -> OpenPlaces
         ensures { result.name ≡ self.now.name }
     {
@@ -266,7 +266,7 @@ impl WatchedHub {
         self.hub.take_marks(rt, &mut self.watch)
     }
 
-    // Where no key is posted, notes that none was taken, with room for so many. Else nothing changes.
+    // If no key is posted, notes that none was taken, with this room. Else nothing changes.
     fn unpost_none<R: Wait>(&mut self, rt: &R, room: usize) -> bool
         ensures { self.new ≡ (if result then with_note (Unposted room []) self.old else self.old) }
     {
@@ -276,7 +276,7 @@ impl WatchedHub {
         none
     }
 
-    /// Takes the posted keys, ascending, as many as there is room for, and appends a pass for each.
+    /// Takes the posted keys, ascending, at most as many as there is room for, and appends a pass for each.
     pub fn unpost<R: Wait>(&mut self, rt: &R, room: usize, passes: &mut VecDeque<TakenPass>)
         requires room { deque_len passes.old + room ≤ deque_capacity passes.old }
         ensures keys { HasUnposted room self.old self.new

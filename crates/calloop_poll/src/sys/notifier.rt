@@ -1,4 +1,4 @@
-//! What wakes a poller that waits.
+//! Wakers of a waiting poller.
 use calloop_wake::Notify;
 use mio::Waker;
 use std::alloc::Global;
@@ -13,8 +13,8 @@ const ASLEEP: u64 = 1;
 
 const NOTIFIED: u64 = 2;
 
-/// The waker of the machine's poller. It writes only where that may be asleep, since a poller that is awake looks here before it sleeps:
-/// so a notification of a loop that is at work costs no call of the system. calloop writes to an eventfd each time.
+/// The waker of the OS poller. It writes only if that may be asleep, since a poller that is awake looks here before it sleeps:
+/// so notifying a busy loop costs no system call. calloop writes to an eventfd each time.
 #[derive(Drop)]
 pub struct LazyWaker {
     waker: Waker,
@@ -22,7 +22,7 @@ pub struct LazyWaker {
 }
 
 impl LazyWaker {
-    /// Of a poller that is awake.
+    /// Makes the waker of a poller that is awake.
     pub fn new(waker: Waker) -> LazyWaker {
         LazyWaker {
             waker,
@@ -30,22 +30,22 @@ impl LazyWaker {
         }
     }
 
-    /// Ends a wait, or has the next one not sleep. A fault of the machine is ignored: the wait ends by its timeout then.
+    /// Ends the current wait, or makes the next one return at once. OS errors are ignored: the wait ends by its timeout then.
     pub fn wake(&self) {
         if self.state.swap(NOTIFIED, Ordering::SeqCst) == ASLEEP {
             let _failed = self.waker.wake();
         }
     }
 
-    /// Whether a wait that begins now may sleep: nobody notified since the last one.
+    /// True if a wait that begins now may sleep: nobody notified since the last one.
     pub fn fall_asleep(&self) -> bool {
         self.state
             .compare_exchange(AWAKE, ASLEEP, Ordering::SeqCst, Ordering::SeqCst)
             .is_ok()
     }
 
-    /// A wait has ended with this answer. One that succeeded answers all notifications until now; after one that failed a notification stays
-    /// for the next wait, which then doesn't sleep.
+    /// Notes that a wait has ended with this result. A successful wait answers all notifications until now; after a failed one a
+    /// notification stays for the next wait, which then doesn't sleep.
     pub fn end_wait(&self, answer: &io::Result<()>) {
         if answer.is_ok() {
             self.get_up();
@@ -67,18 +67,18 @@ impl LazyWaker {
     }
 }
 
-/// Wakes the poller that it is of, from any thread: a wait of the machine's ends, or else its next one does at once. A scripted one
-/// only notes it, as `ScriptPoller::is_woken` shows.
+/// Wakes its poller, from any thread: a wait of the OS poller ends, or else its next one returns at once. A scripted one only
+/// notes it, as `ScriptPoller::is_woken` shows.
 #[derive(Drop)]
 pub enum Notifier {
-    /// That of a scripted poller: its signal.
+    /// The scripted poller's: its signal.
     Script(Arc<AtomicBool, Global>),
-    /// That of the machine's poller.
+    /// The OS poller's.
     Mio(Arc<LazyWaker, Global>),
 }
 
 impl Notify for Notifier {
-    /// A fault of the machine is ignored: the wait ends by its timeout then.
+    /// OS errors are ignored: the wait ends by its timeout then.
     fn notify(&self) {
         match self {
             Notifier::Script(signal) => signal.store(true, Ordering::SeqCst),

@@ -35,7 +35,7 @@ mod waiting;
 pub struct Pending {
     pub readiness: Readiness,
     pub token: Token,
-    /// It came from the board, so a pass lies behind it.
+    /// True if the event came from the board, so it has a pass.
     pub posted: bool,
 }
 
@@ -48,7 +48,7 @@ pub struct Poll<P, C, R: Wait + Drop> {
     table: SocketTable,
     batch: Batch,
     wheel: TimerWheel,
-    // How many keys had places when they were counted last, to reserve room for what they give.
+    // How many keys had places at the last count, to reserve room for their events.
     places: usize,
     events: Vec<(u64, Readiness)>,
 }
@@ -69,7 +69,7 @@ impl<P: Drop, C: Drop, R: Wait + Drop> Drop for Poll<P, C, R> {
     }
 }
 
-// The same marks, in the order of their slots.
+// Sorts the marks by slot.
 fn by_slot(marked: Vec<RegistrationToken>) -> Vec<RegistrationToken>
     ensures same { IsPermutation marked.items result.items }
     ensures order { IsInSlotOrder result.items }
@@ -80,7 +80,7 @@ fn by_slot(marked: Vec<RegistrationToken>) -> Vec<RegistrationToken>
 }
 
 impl<P: Poller, C: Drop, R: Wait + Drop> Poll<P, C, R> {
-    /// Over this poller, with no socket, an empty board, no deadline and an empty batch. Running out of memory is `OutOfMemory`.
+    /// A `Poll` over this poller: no socket or deadline, empty board and batch. Running out of memory is `OutOfMemory`.
     pub fn new(rt: R, alloc: Global, poller: P, clock: C) -> Result<Poll<P, C, R>>
         ensures ok { IfOk result (λ made. poll_view made ≡ record {
           poller = poller;
@@ -110,15 +110,15 @@ impl<P: Poller, C: Drop, R: Wait + Drop> Poll<P, C, R> {
 }
 
 impl<P: Poller, C, R: Wait + Drop> Poll<P, C, R> {
-    /// The clock for callers that tell time.
+    /// The clock, for callers that tell time.
     pub fn clock(&self) -> &C
         ensures { result.now ≡ self.now.clock }
     {
         &self.clock
     }
 
-    /// The poller itself, as to give a scripted one its answers. Pings wake the poller that `new` was given: another one in
-    /// its place hears of them only at its next wait.
+    /// The poller itself, e.g. to give a scripted one its answers. Pings wake the poller that `new` got: another one put in its
+    /// place learns of them only at its next wait.
     pub fn poller_mut(&mut self) -> &mut P
         ensures* writes_back { sem 𝓛 (Lends (the_row P.row C.row R.row) P.row self.entry result
             (λ w. with_poller w self.old)) }
@@ -134,7 +134,7 @@ impl<P: Poller, C, R: Wait + Drop> Poll<P, C, R> {
         self.batch.hub()
     }
 
-    /// Takes the marks of the adapters that are to be settled, in the order of their slots, which the watch notes.
+    /// Takes the marks of the adapters that are to be settled, in the order of their slots, and has the watch note them.
     pub fn take_marks(&mut self) -> Option<Vec<RegistrationToken>>
         ensures none { IfNone result (poll_view self.new ≡ marks_taken [] (poll_view self.old)) }
         ensures some { IfSome result (λ marked.
@@ -147,12 +147,12 @@ impl<P: Poller, C, R: Wait + Drop> Poll<P, C, R> {
         Some(by_slot(taken))
     }
 
-    /// Takes a list of marks back once it was settled, for the room that it has.
+    /// Takes a list of marks back once it was settled, to reuse its memory.
     pub fn give_marks_back(&self, settled: Vec<RegistrationToken>) {
         self.batch.hub().give_marks_back(&self.rt, settled);
     }
 
-    /// Takes the pass of the event whose turn it is, where one lies behind it and wasn't taken yet.
+    /// Takes the pass of the event whose turn it is, if it has one that wasn't taken yet.
     pub fn take_pass(&mut self) -> Option<TakenPass>
         ensures pass { result ≡ (poll_view self.old).pass }
         ensures own { IfSome result (λ pass. pass.board ≡ (poll_view self.old).watch.name) }
@@ -161,7 +161,7 @@ impl<P: Poller, C, R: Wait + Drop> Poll<P, C, R> {
         self.batch.take_pass()
     }
 
-    /// Puts back a pass of the loop's board that a cell refused. One that lay there goes back to the board.
+    /// Puts back a pass of the loop's board that a cell refused. A pass that is there already goes back to the board.
     pub fn put_back(&mut self, pass: TakenPass)
         requires { pass.board ≡ (poll_view self.old).watch.name }
         ensures { poll_view self.new ≡ poll_after (poll_view self.old) (PutBack pass) }
@@ -169,7 +169,7 @@ impl<P: Poller, C, R: Wait + Drop> Poll<P, C, R> {
         self.batch.replace_pass(&self.rt, Some(pass));
     }
 
-    // How many events one `poll` can gather at most, with this many posted keys, and so many more.
+    // The most events that one `poll` can gather with this many posted keys, plus `more`. `None` if that overflows.
     fn room(&self, places: usize, more: usize) -> Option<usize>
         ensures { IfSome result (λ n.
             n ≡ more + (places + (events_per_wait + length self.now.wheel.entries))) }
@@ -180,8 +180,8 @@ impl<P: Poller, C, R: Wait + Drop> Poll<P, C, R> {
             .checked_add(more)
     }
 
-    /// Counts the places on the board, and reserves what one `poll` can gather, and `more` events besides. Running out of memory changes
-    /// nothing.
+    /// Counts the places on the board, and reserves room for what one `poll` can gather, and for `more` further events. Running
+    /// out of memory changes nothing.
     pub fn reserve(&mut self, more: usize) -> std::result::Result<(), AllocError>
         ensures ok { OnOk result ((places : ℕ)
             × (poll_view self.new ≡ after_count places (poll_view self.old))) }
@@ -201,7 +201,7 @@ impl<P: Poller, C, R: Wait + Drop> Poll<P, C, R> {
         Ok(())
     }
 
-    /// The events that a source asks for before a wait join the batch in their order, in the room that was reserved besides.
+    /// Appends the events that a source asks for before a wait to the batch in their order, in the room reserved by `more`.
     pub fn join(&mut self, given: &[(Readiness, Token)])
         requires { IsReady (length given.now) self.old }
         ensures view { poll_view self.new ≡ with_events given.now (poll_view self.old) }
@@ -211,14 +211,14 @@ impl<P: Poller, C, R: Wait + Drop> Poll<P, C, R> {
         self.batch.join(given);
     }
 
-    /// How many events wait for their turn.
+    /// Returns how many events wait for their turn.
     pub fn events_waiting(&self) -> usize
         ensures { result ≡ length (poll_view self.now).batch }
     {
         self.batch.len()
     }
 
-    /// Those of one registration among the events that wait for their turn, without the first `from` of them.
+    /// Yields the events of one registration among those that wait, without the first `from` of all.
     pub fn events(&self, from: usize, registration: RegistrationToken) -> EventIterator<'_>
         ensures { events_left result
             ≡ events_of registration (drop from (poll_view self.now).batch) }
@@ -226,7 +226,7 @@ impl<P: Poller, C, R: Wait + Drop> Poll<P, C, R> {
         self.batch.events(from, registration)
     }
 
-    /// The first event of the batch leaves it for its turn, a posted one with its pass, which is of the key of its token.
+    /// Takes the first event out of the batch for its turn, a posted one with its pass, which is of the key of its token.
     pub fn next_event(&mut self) -> Option<Pending>
         ensures event { result ≡ head_of (poll_view self.old).batch }
         ensures pass { IfSome result (λ e. IsPassOf e (poll_view self.new).pass) }
@@ -235,7 +235,7 @@ impl<P: Poller, C, R: Wait + Drop> Poll<P, C, R> {
         self.batch.next_event(&self.rt)
     }
 
-    /// The turn of an event is over: a pass that is unspent goes back, and its key is posted again.
+    /// Ends the turn of an event: an unspent pass goes back, and its key is posted again.
     pub fn end_event(&mut self)
         ensures { poll_view self.new ≡ with_pass None (poll_view self.old) }
     {

@@ -7,8 +7,8 @@ use calloop_slots::token::Token;
 use std::alloc::{AllocError, Global};
 use std::marker::Model;
 
-/// What `before_sleep` is lent: it takes as many events as the source may ask for before one wait. They are handed out in
-/// their order, before anything that the wait brings. calloop's `before_sleep` answers one event instead.
+/// The argument of `before_sleep`: it takes as many events as the source may ask for before one wait. They are handed out in
+/// their order, before anything that the wait brings. calloop's `before_sleep` returns one event instead.
 #[derive(Debug, Drop)]
 pub struct Synthetic {
     given: Vec<(Readiness, Token)>,
@@ -27,7 +27,7 @@ impl Model for Synthetic {
 }
 
 impl Synthetic {
-    /// One that takes no event, and has room for none.
+    /// Makes one that takes no event, and has room for none.
     pub fn new(alloc: Global) -> Synthetic
         ensures { result ≡ record { given = []; limit = 0; room = result.room } }
     {
@@ -37,7 +37,7 @@ impl Synthetic {
         }
     }
 
-    /// Makes room for so many events, and takes none. Running out of memory leaves the room as it was.
+    /// Makes room for so many events, but takes none yet. Running out of memory leaves the room unchanged.
     pub fn reserve(&mut self, events: usize) -> Result<(), AllocError>
         ensures ok { OnOk result (events ≤ self.new.room) }
         ensures others { self.new ≡ record { given = []; limit = 0; room = self.new.room } }
@@ -47,7 +47,7 @@ impl Synthetic {
         self.given.reserve(events)
     }
 
-    /// Takes so many events from now on, and none is given yet.
+    /// Takes up to `limit` events from now on; none is asked for yet.
     pub fn lend(&mut self, limit: u16)
         requires { limit ≤ self.old.room }
         ensures { self.new ≡ record self.old { given = []; limit = limit } }
@@ -56,8 +56,8 @@ impl Synthetic {
         self.limit = usize::from(limit);
     }
 
-    /// Asks for an event of this token, after those that were asked for before. It takes no memory. Where the limit of the source is
-    /// reached, both are handed back.
+    /// Asks for an event of this token, behind those that were asked for before. It takes no memory. If the limit of the source
+    /// is reached, both are handed back.
     pub fn push(&mut self, readiness: Readiness, token: Token) -> Result<(), (Readiness, Token)>
         ensures pushed { Pushed self.old (readiness, token) result self.new }
         ensures lent { self.new ≡ record self.old { given = self.new.given } }
@@ -70,7 +70,7 @@ impl Synthetic {
         Ok(())
     }
 
-    /// What was asked for, in order.
+    /// Returns the events asked for, in order.
     pub fn events(&self) -> &[(Readiness, Token)]
         ensures { result.now ≡ self.now.given }
     {

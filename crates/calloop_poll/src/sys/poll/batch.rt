@@ -29,13 +29,13 @@ use std::sync::Wait;
 const OWN_KEY: u64 = u64::MAX;
 
 /// The events that wait for their turn, a pass for each posted one among them, and the pass of the event whose turn it is,
-/// with the hub of the board that gave them.
+/// with the hub of the board that they came from.
 pub struct Batch {
     hub: WatchedHub,
     events: VecDeque<Pending>,
     passes: VecDeque<TakenPass>,
     pass: Option<TakenPass>,
-    // How many events wait, up to the last one of the poller.
+    // How many events wait, up to the poller's last one.
     polled: usize,
 }
 
@@ -102,7 +102,7 @@ fn timer_event(entry: Entry) -> Pending
     }
 }
 
-// The events of the passes from the first new one on.
+// Appends the events of the passes from the first new one on.
 fn append_posted(batch: &mut VecDeque<Pending>, passes: &VecDeque<TakenPass>, first: usize)
     requires first { first ≤ deque_len passes.now }
     requires tokens { IsRising (map key_of_pass (drop first passes.now.items)) }
@@ -117,7 +117,7 @@ fn append_posted(batch: &mut VecDeque<Pending>, passes: &VecDeque<TakenPass>, fi
     }
 }
 
-// The events that a source asks for before a wait.
+// Appends the events that a source asks for before a wait.
 fn append_own(batch: &mut VecDeque<Pending>, given: &[(Readiness, Token)])
     requires { deque_len batch.old + length given.now ≤ deque_capacity batch.old }
     ensures items { batch.new.items ≡ batch.old.items ++ own_events given.now }
@@ -134,7 +134,7 @@ fn append_own(batch: &mut VecDeque<Pending>, given: &[(Readiness, Token)])
     }
 }
 
-// The events that the poller gave.
+// Appends the poller's events.
 fn append_polled(batch: &mut VecDeque<Pending>, events: &[(u64, Readiness)])
     requires { deque_len batch.old + length events.now ≤ deque_capacity batch.old }
     ensures items { batch.new.items ≡ batch.old.items ++ polled_events events.now }
@@ -149,7 +149,7 @@ fn append_polled(batch: &mut VecDeque<Pending>, events: &[(u64, Readiness)])
     }
 }
 
-// The events of the deadlines that are due, which leave the wheel.
+// Takes the due deadlines off the wheel, and appends their events.
 fn append_due(batch: &mut VecDeque<Pending>, wheel: &mut TimerWheel, now: Instant)
     requires { deque_len batch.old + length wheel.old.entries ≤ deque_capacity batch.old }
     ensures items { batch.new.items ≡ batch.old.items
@@ -161,7 +161,7 @@ fn append_due(batch: &mut VecDeque<Pending>, wheel: &mut TimerWheel, now: Instan
     }
 }
 
-// Up to where the events of the poller go, once these are in the batch.
+// Up to which place the poller's events go, once these are in the batch.
 fn last_polled(before: usize, given: &[(u64, Readiness)], batch: &VecDeque<Pending>) -> usize
     ensures { result ≡ last_polled before given.now (length batch.now.items) }
 {
@@ -173,7 +173,7 @@ fn last_polled(before: usize, given: &[(u64, Readiness)], batch: &VecDeque<Pendi
 }
 
 impl Batch {
-    /// No event, over this hub. It allocates nothing yet.
+    /// Makes an empty batch over this hub. It allocates nothing yet.
     pub fn new(alloc: Global, hub: WatchedHub) -> Batch
         ensures { result ≡ record {
           events = [];
@@ -209,14 +209,14 @@ impl Batch {
         give_all_back(rt, hub.hub(), passes);
     }
 
-    /// The hub, to share.
+    /// Returns the hub, to share.
     pub fn hub(&self) -> &SharedHub
         ensures { arc_value result.now ≡ self.now.watch.name }
     {
         self.hub.hub()
     }
 
-    /// How many events wait, up to the last one that the poller gave.
+    /// Returns how many events wait, up to the poller's last one.
     pub fn polled_end(&self) -> usize
         ensures value { result ≡ self.now.polled }
         ensures within { result ≤ length self.now.events }
@@ -224,21 +224,21 @@ impl Batch {
         self.polled
     }
 
-    /// How many events wait.
+    /// Returns how many events wait.
     pub fn len(&self) -> usize
         ensures { result ≡ length self.now.events }
     {
         self.events.len()
     }
 
-    /// Those of one registration, without the first `from` of all.
+    /// Yields the events of one registration, without the first `from` of all.
     pub fn events(&self, from: usize, registration: RegistrationToken) -> EventIterator<'_>
         ensures { events_left result ≡ events_of registration (drop from self.now.events) }
     {
         EventIterator::new(&self.events, from, registration)
     }
 
-    /// Events that aren't posted come after those that wait, in their order.
+    /// Appends events that aren't posted, in their order.
     pub fn join(&mut self, given: &[(Readiness, Token)])
         requires { length given.now ≤ self.old.room }
         ensures others { self.new ≡ record self.old {
@@ -250,14 +250,14 @@ impl Batch {
         append_own(&mut self.events, given);
     }
 
-    /// Whether no event waits.
+    /// True if no event waits.
     pub fn is_empty(&self) -> bool
         ensures { result ≡ not (is_filled self.now.events) }
     {
         self.events.is_empty()
     }
 
-    /// Looks whether a key is posted: the permit to sleep, where none is.
+    /// Looks whether a key is posted. Returns the permit to sleep if none is.
     pub fn look<R: Wait>(&mut self, rt: &R) -> Option<SleepPermit>
         ensures watch { self.new.watch ≡ with_note (Looked (is_none result)) self.old.watch }
         ensures others { self.new ≡ record self.old { watch = self.new.watch } }
@@ -265,7 +265,7 @@ impl Batch {
         self.hub.look(rt)
     }
 
-    /// How many places are open now.
+    /// Returns how many places are open now.
     pub fn places<R: Wait>(&self, rt: &R) -> OpenPlaces
         ensures { result.name ≡ self.now.watch.name }
     {
@@ -292,7 +292,7 @@ impl Batch {
         self.hub.take_marks(rt)
     }
 
-    /// Makes room for so many more events and passes. Running out of memory leaves the events and the passes as they were.
+    /// Makes room for so many further events and passes. Running out of memory leaves the events and the passes unchanged.
     pub fn reserve(&mut self, events: usize, passes: usize) -> Result<(), AllocError>
         ensures room { OnOk result (events ≤ self.new.room) }
         ensures pass_room { OnOk result (passes ≤ self.new.pass_room) }
@@ -305,7 +305,7 @@ impl Batch {
         self.passes.reserve(passes)
     }
 
-    /// Another pass of this board, or none, for the event whose turn it is. The one before goes back to the board.
+    /// Gives the event whose turn it is this pass, or none. The pass before goes back to the board.
     pub fn replace_pass<R: Wait>(&mut self, rt: &R, pass: Option<TakenPass>)
         requires { IfSome pass (λ p. p.board ≡ self.old.watch.name) }
         ensures { self.new ≡ record self.old { pass = pass } }
@@ -324,7 +324,7 @@ impl Batch {
         self.pass.take()
     }
 
-    /// The first event leaves for its turn, a posted one with its pass.
+    /// Takes out the first event for its turn, a posted one with its pass.
     pub fn next_event<R: Wait>(&mut self, rt: &R) -> Option<Pending>
         ensures event { result ≡ head_of self.old.events }
         ensures pass { IfSome result (λ e. IsPassOf e self.new.pass) }
@@ -351,7 +351,7 @@ impl Batch {
         Some(event)
     }
 
-    /// Takes the posted keys, and appends their events, those that the poller gave, and those of the deadlines that are due.
+    /// Takes the posted keys, and appends their events, the poller's events, and those of the due deadlines.
     pub fn gather<R: Wait>(
         &mut self,
         rt: &R,

@@ -1,4 +1,4 @@
-//! What is waited for under which key.
+//! What is waited for under each key.
 ghost use Rattle.std.specs.Prelude.{◌≡◌, [], ℕ, Some, OnOk, OnErr, slice_set};
 ghost use Rattle.calloop_poll.specs.sys.Tables.{watched_at, is_in, with_key, without_key, indexed_at};
 ghost use Rattle.calloop_slots.specs.Tokens.{slot_of_key};
@@ -9,15 +9,15 @@ use std::alloc::{AllocError, Global};
 use std::collections::BTreeMap;
 use std::marker::Model;
 
-// What stands under a key.
+// The entry of a key.
 #[derive(Clone, Copy, Debug)]
 struct Indexed {
     key: u64,
     watched: Watched,
 }
 
-/// What is waited for under which key, in the order of the keys. The one of each slot that came last is found without a search.
-/// For that there is an index up to the highest slot that had a socket so far. It never shrinks.
+/// What is waited for under each key, in the order of the keys. The newest entry of each slot is found without a search, by an
+/// index up to the highest slot that had a socket so far. The index never shrinks.
 #[derive(Drop)]
 pub struct SocketTable {
     by_key: BTreeMap<u64, Watched>,
@@ -34,7 +34,7 @@ impl Model for SocketTable {
     ghost invariant = { λ t. IsIndexOf t.by_slot.items t.by_key.entries };
 }
 
-// Puts this at the slot, where the index reaches as far.
+// Puts this at the slot, if the index reaches so far.
 fn put(by_slot: &mut Vec<Option<Indexed>>, slot: usize, indexed: Option<Indexed>)
     ensures { by_slot.new.items ≡ slice_set by_slot.old.items slot indexed }
 {
@@ -43,7 +43,7 @@ fn put(by_slot: &mut Vec<Option<Indexed>>, slot: usize, indexed: Option<Indexed>
     }
 }
 
-// Makes the index reach as far as this slot.
+// Makes the index reach up to this slot.
 fn reach(by_slot: &mut Vec<Option<Indexed>>, slot: usize) -> Result<(), AllocError>
     ensures same { (other : ℕ)
         → indexed_at other by_slot.new.items ≡ indexed_at other by_slot.old.items }
@@ -55,7 +55,7 @@ fn reach(by_slot: &mut Vec<Option<Indexed>>, slot: usize) -> Result<(), AllocErr
 }
 
 impl SocketTable {
-    /// Of nothing. It allocates nothing yet.
+    /// Makes an empty table. It allocates nothing yet.
     pub fn new(alloc: Global) -> SocketTable
         ensures { result ≡ [] }
     {
@@ -65,7 +65,7 @@ impl SocketTable {
         }
     }
 
-    /// What is waited for under this key.
+    /// Returns what is waited for under this key.
     pub fn get(&self, key: u64) -> Option<Watched>
         ensures { result ≡ watched_at key self.now }
     {
@@ -75,14 +75,14 @@ impl SocketTable {
         }
     }
 
-    /// Whether anything is waited for under this key.
+    /// True if anything is waited for under this key.
     pub fn contains_key(&self, key: u64) -> bool
         ensures { result ≡ is_in key self.now }
     {
         self.get(key).is_some()
     }
 
-    /// This stands under the key from now on. Running out of memory leaves the table as it was.
+    /// Enters this under the key. Running out of memory leaves the table unchanged.
     pub fn insert(&mut self, key: u64, watched: Watched) -> Result<(), AllocError>
         ensures ok { OnOk result (self.new ≡ with_key key watched self.old) }
         ensures err { OnErr result (self.new ≡ self.old) }
@@ -94,7 +94,7 @@ impl SocketTable {
         Ok(())
     }
 
-    /// This in place of what stood under the key so far. It takes no memory, and what isn't another isn't entered again.
+    /// Puts `watched` in place of `stood`, the key's entry so far. It takes no memory, and an equal entry isn't entered again.
     pub fn replace(&mut self, key: u64, stood: Watched, watched: Watched)
         requires { watched_at key self.old ≡ Some stood }
         ensures { self.new ≡ with_key key watched self.old }
@@ -113,7 +113,7 @@ impl SocketTable {
         }
     }
 
-    /// Nothing stands under this key from now on.
+    /// Removes the entry of this key.
     pub fn remove(&mut self, key: u64)
         ensures { self.new ≡ without_key key self.old }
     {

@@ -17,7 +17,7 @@ use std::io;
 use std::os::fd::RawFd;
 use std::sync::Wait;
 
-// Tells the poller of a socket, where it knows it or is to know it.
+// Tells the poller of a socket, if it knows it or is to know it.
 #[inline(always)]
 fn call_poller<P: Poller>(
     poller: &mut P,
@@ -44,7 +44,7 @@ fn call_poller<P: Poller>(
     }
 }
 
-// The same behind a callback: the poller may trust what it knows of the socket.
+// As `call_poller`, after a callback: the poller may trust what it knows of the socket.
 #[inline(always)]
 fn rearm_in<P: Poller>(
     poller: &mut P,
@@ -65,9 +65,9 @@ fn rearm_in<P: Poller>(
 }
 
 impl<P: Poller, C, R: Wait + Drop> Poll<P, C, R> {
-    /// Enters a descriptor under the key of this token, and adds it to the poller, unless the interest is empty. Refusals, in this
-    /// order: `IoError` of kind `AlreadyExists`, where the key is in the table; `OutOfMemory`; and `IoError` with the poller's
-    /// fault. Each leaves the table as it was, and before the last no poller is called.
+    /// Enters a descriptor under the key of this token, and adds it to the poller, unless the interest is empty. Errors, in this
+    /// order: `IoError` of kind `AlreadyExists`, if the key is in the table; `OutOfMemory`; and `IoError` with the poller's
+    /// fault. Each leaves the table unchanged, and before the last no poller is called.
     pub fn register(
         &mut self,
         fd: RawFd,
@@ -95,7 +95,7 @@ impl<P: Poller, C, R: Wait + Drop> Poll<P, C, R> {
         }
     }
 
-    // Under the key that it has.
+    // Changes a socket under the key that it has.
     fn change(
         &mut self,
         fd: RawFd,
@@ -120,7 +120,7 @@ impl<P: Poller, C, R: Wait + Drop> Poll<P, C, R> {
         }
     }
 
-    // Under another key, which isn't there.
+    // Moves a socket to another key, which isn't in the table.
     fn change_key(
         &mut self,
         fd: RawFd,
@@ -152,9 +152,9 @@ impl<P: Poller, C, R: Wait + Drop> Poll<P, C, R> {
     }
 
     /// Gives a socket that was registered with `before` this interest, this mode and the key of `token`, which may be the same.
-    /// The poller is always told of it, by an `add` or `delete` if the interest was empty or becomes so. Refusals, in this order:
-    /// `IoError` of kind `NotFound`, where the key of `before` isn't in the table, and of kind `AlreadyExists`, where another key of
-    /// `token` is; `OutOfMemory`, for another key alone; and `IoError` with the poller's fault. Each leaves the table as it was.
+    /// Always tells the poller, by an `add` or `delete` if the interest was empty or becomes so. Errors, in this order: `IoError`
+    /// of kind `NotFound`, if the key of `before` isn't in the table, and of kind `AlreadyExists`, if a different key of `token`
+    /// is; `OutOfMemory`, only for a different key; and `IoError` with the poller's fault. Each leaves the table unchanged.
     pub fn reregister(
         &mut self,
         fd: RawFd,
@@ -187,9 +187,9 @@ impl<P: Poller, C, R: Wait + Drop> Poll<P, C, R> {
         self.change_key(fd, known, before, token, watched)
     }
 
-    /// The same behind a callback of the source, for the token that the socket was registered with. Under `Mode::Level` the poller may
-    /// trust what it knows of the descriptor, and call no system (`Poller::rearm`). Only a fault is answered, of kind `NotFound` if
-    /// the key isn't in the table, or the poller's. Each leaves the table as it was.
+    /// As `reregister`, after a callback of the source, for the token that the socket was registered with. Under `Mode::Level`
+    /// the poller may trust what it knows of the descriptor, and make no system call (`Poller::rearm`). Fails only with a fault:
+    /// of kind `NotFound` if the key isn't in the table, or the poller's. Each leaves the table unchanged.
     #[inline(always)]
     pub fn rearm(
         &mut self,
@@ -217,8 +217,8 @@ impl<P: Poller, C, R: Wait + Drop> Poll<P, C, R> {
         }
     }
 
-    /// Takes a socket out, and from the poller, unless its interest is empty. A token whose key isn't in the table is refused
-    /// with `IoError` of kind `NotFound`, and a fault of the poller is one; each leaves the table as it was.
+    /// Takes a socket out of the table, and from the poller, unless its interest is empty. Fails with `IoError` of kind
+    /// `NotFound` if the token's key isn't in the table, and with the poller's fault; each leaves the table unchanged.
     pub fn unregister(&mut self, fd: RawFd, token: Token) -> Result<()>
         ensures edit { DidEdit P.outside P.sockets (Leave token)
             (poll_view self.old) fd result (poll_view self.new) }
@@ -241,8 +241,8 @@ impl<P: Poller, C, R: Wait + Drop> Poll<P, C, R> {
         }
     }
 
-    /// Drops what stands under the key of this token, if anything does, and tells no poller: for a socket that is gone, or that the
-    /// poller refused to delete.
+    /// Drops the entry of this token's key, if there is one, and tells no poller: for a socket that is gone, or that the poller
+    /// failed to delete.
     pub fn discard(&mut self, token: Token)
         ensures edit { AllStepped P.outside (poll_view self.old)
             (Socket (Discard token) (poll_view self.old).poller ∷ []) (poll_view self.new) }
@@ -252,7 +252,7 @@ impl<P: Poller, C, R: Wait + Drop> Poll<P, C, R> {
     }
 }
 
-/// The steps of one registration leave alone what every key of another waits for.
+/// The steps of one registration don't change what any key of another waits for.
 #[tactic(auto, using(crate::proofs::Frames::stepped_elsewhere))]
 pub fn other_keys_stay<P>()
     ensures { (registration : RegistrationToken) (key : ℕ)
@@ -261,8 +261,8 @@ pub fn other_keys_stay<P>()
         → watched_at key (polls_after v steps).table ≡ watched_at key v.table }
 {}
 
-/// A case that this rules out: a socket that is entered under a key of the second slot. It doesn't act for the registration in the
-/// first one, and that key waits for something then.
+/// A case that this rules out: a socket is entered under a key of the second slot. That step doesn't act for the registration
+/// in the first slot, and that key waits for something then.
 pub fn wrong_steps_are_ruled_out<P>()
     ensures elsewhere { (after : P) → ¬ AllActFor first_registration (enters_second after) }
     ensures changed { (v : PollView P) (after : P) → v.table ≡ []

@@ -10,7 +10,7 @@ use calloop_slots::wheel::{ArmRefusal, Instant};
 use std::sync::Wait;
 
 impl<P: Poller, C, R: Wait + Drop> Poll<P, C, R> {
-    /// Arms a deadline under the next counter, which it gives. The refusals are those of `TimerWheel::insert`, and change
+    /// Arms a deadline under the next counter, and returns the counter. Fails as `TimerWheel::insert` does, and then changes
     /// nothing.
     pub fn insert_timer(&mut self, deadline: Instant, token: Token) -> Result<u64, ArmRefusal>
         ensures ok { IfOk result (λ counter. (counter ≡ (poll_view self.old).deadlines.next)
@@ -21,7 +21,7 @@ impl<P: Poller, C, R: Wait + Drop> Poll<P, C, R> {
         self.wheel.insert(deadline, token)
     }
 
-    /// Arms a deadline under a counter that has none now. The refusals are those of `TimerWheel::insert_reuse`, and change
+    /// Arms a deadline under a counter that has none now. Fails as `TimerWheel::insert_reuse` does, and then changes
     /// nothing.
     pub fn insert_timer_again(
         &mut self,
@@ -41,14 +41,14 @@ impl<P: Poller, C, R: Wait + Drop> Poll<P, C, R> {
         self.wheel.insert_reuse(counter, deadline, token)
     }
 
-    /// Takes out the deadline of this counter, where it has one.
+    /// Takes out the deadline of this counter, if it has one.
     pub fn cancel_timer(&mut self, counter: u64)
         ensures { poll_view self.new ≡ poll_after (poll_view self.old) (Cancel counter) }
     {
         self.wheel.cancel(counter);
     }
 
-    /// Whether the counter has a deadline now.
+    /// True if the counter has a deadline now.
     pub fn is_armed(&self, counter: u64) -> bool
         ensures { result ≡ is_armed counter (poll_view self.now).deadlines }
     {

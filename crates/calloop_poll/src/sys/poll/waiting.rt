@@ -54,7 +54,7 @@ impl<P, C, R: Wait + Drop> Poll<P, C, R> {
         Some(Duration::from_nanos(first.nanos.saturating_sub(now.nanos)))
     }
 
-    // How long to wait. It spends the permit to sleep, without which a posted key stands and the wait is zero.
+    // Returns how long to wait. It spends the permit to sleep; without one a key is posted, and the wait is zero.
     fn timeout_for(
         &self,
         permit: Option<SleepPermit>,
@@ -81,7 +81,7 @@ impl<P, C, R: Wait + Drop> Poll<P, C, R> {
 }
 
 impl<P: Poller, C, R: Wait + Drop> Poll<P, C, R> {
-    // Waits until the poller answers or nothing is left to wait for, and gives the moment of the gathering.
+    // Waits until the poller answers or nothing is left to wait for. Returns the moment of the gathering.
     fn wait<Q: Wait>(&mut self, rt: &Q, timeout: Option<Duration>) -> io::Result<Instant>
         requires events { self.old.events.items ≡ [] }
         requires room { events_per_wait ≤ vec_capacity self.old.events }
@@ -120,12 +120,12 @@ impl<P: Poller, C, R: Wait + Drop> Poll<P, C, R> {
         unreachable!()
     }
 
-    /// Waits for events, at most for `timeout`, at most until the first deadline, and not at all where an event was left
-    /// over or a posted key stands. Then it puts the batch together: what was left over, the posted keys in ascending
-    /// order, what the poller gave in its order, and the timers that are due, by deadline and counter.
+    /// Waits for events, at most for `timeout`, at most until the first deadline, and not at all if an event was left over or a
+    /// key is posted. Then it puts the batch together: what was left over, the posted keys in ascending order, the poller's
+    /// events in its order, and the due timers, by deadline and counter.
     ///
-    /// An interruption asks anew, for what is left of the timeout since the start. A fault of the wait is its error; then
-    /// the batch, the posted keys and the deadlines are as they were.
+    /// After an interruption it waits anew, for what is left of the timeout since the start. Fails with the fault of the wait;
+    /// then the batch, the posted keys and the deadlines are unchanged.
     pub fn poll<Q: Wait>(&mut self, rt: &Q, timeout: Option<Duration>) -> io::Result<()>
         requires { IsReady 0 self.old }
         ensures { Polled P.outside (nanos_of timeout) result

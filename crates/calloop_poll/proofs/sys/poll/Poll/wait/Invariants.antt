@@ -7,7 +7,7 @@ use Rattle.calloop_poll.specs.sys.Waits.{Interruption, Waits, Waited, after_look
 use Rattle.calloop_poll.specs.sys.Pollers.{faults_of}
 use Rattle.calloop_poll.proofs.sys.poll.Poll.wait.Given as goal
 
--- what the waits from now on end with, the whole wait ends with
+-- the result of the remaining waits is the result of the whole wait
 abbrev pub invariant-loop : goal.invariant-loop
 invariant-loop g l = record {
   can : (goal.iterator-loop g).can_next l.iterator';
