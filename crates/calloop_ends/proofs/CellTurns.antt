@@ -16,7 +16,7 @@ module _ (S P E M T Cause : Type 0) (tally : S → Tally) (Opens : OpenTurns S E
   pub turn_without : is_own (key_of token) (tally s).key ≡ true → pass ≡ None → CellTurn {P = P} tally Opens {Cause = Cause} s token pass [] (Ok Continue) (TakePass ∷ []) s
   turn_without own none = rw (own, none) (refl, refl, refl, refl)
 
-  -- an event with one
+  -- an event with a pass
   pub turn_with : (p : Taken) (calls : List (CallbackCall E M T)) (action : PostAction) (steps : List (PollStep P)) (t : S) → is_own (key_of token) (tally s).key ≡ true → pass ≡ Some p
       → TurnWith tally Opens (Some p) s calls action steps t → CellTurn tally Opens {Cause = Cause} s token pass calls (Ok action) steps t
   turn_with p calls action steps t own some h = rw (own, some) h

@@ -14,7 +14,7 @@ pub own_by_equal : (n : ℕ) (k : Option ℕ) → option_eq nat_eq k (Some n) �
 own_by_equal n None = refl
 own_by_equal n (Some own) = search rules
 
--- what a place that is opened, or can't be, makes of a registration
+-- the outcome of a registration whose place is opened, or can't be
 pub registers : (P : Type 0) (tally : Tally) (f g : TokenFactory) (token : Token) (answer : Result (Unit {0}) Error) (after : Tally) → token ≡ next_token f → g ≡ after_token f → IfOk answer (λ _. after ≡ record tally { key = Some (key_of token) }) → IfErr answer (λ e. CannotOpen e × (after ≡ tally)) → tally.key ≡ None → Registers {P = P} tally f answer [] after g
 registers P tally f g token (Ok u) after is_next is_after ok err none = (none, refl, subst (λ t. after ≡ record tally { key = Some (key_of t) }) is_next ok, is_after)
 registers P tally f g token (Err e) after is_next is_after ok err none = (refl, err.1, NoPlace none err.0 is_after)

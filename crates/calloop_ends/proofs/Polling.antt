@@ -35,8 +35,8 @@ module _ {O : Type 0} where
   given_more given (o ∷ ps) p so h = (so.0, given_more given ps p so.1 h)
 
 module _ {F O X Q : Type 0} (given : OfPop O → Type 0) (may : Calling F O (Unit {0}) (Unit {0}) X Q) (reaches : Q → Q → Type 0) (f : F) (x : X) (q : Q) where
-  -- what came of the pops so far: how many there were, how many gave results and of how many the future was still to come, and that the
-  -- callback was called for just these
+  -- the outcomes of the pops so far: how many there were, how many gave results, for how many the future was still to come, and
+  -- that the callback was called for just these
   pub record Polled (polled : List (OfPop O)) (count results misses : ℕ) (g : F) (y : X) (r : Q) : Type 0 where
     pub count_is : count ≡ length polled
     pub results_is : results ≡ results_of polled
@@ -77,7 +77,7 @@ some_of : (o : Option Keyed) (P : Keyed → Type 0) → ((place : Keyed) → o �
 some_of None P h = tt
 some_of (Some place) P h = h place refl
 
--- what is owed is of the key that the cell had
+-- the debt is of the key that the cell had
 pub owed_place : (board : Book) (c d : ExecutorCell) (P : Keyed → Type 0) → ((place : Keyed) → on board c.key ≡ Some place → P place) → d.key ≡ c.key → IfSome (on board (debt_between c d)) P
 owed_place board c d P h same =
     elim c.pinged as (λ b. IfSome (on board (if b then None else if d.pinged then d.key else None)) P) [

@@ -49,7 +49,7 @@ module _ {F T X Q : Type 0} (may : Calling F (Event T) (Unit {0}) (Unit {0}) X Q
   pub handed_none : Handed {T = T} may reaches turn tally f x q [] turn tally false f x q
   handed_none = record { are = tt; turn_is = refl; tally_is = refl; told_is = refl; went = (refl, refl, refl) }
 
-  -- one pop more
+  -- another pop
   pub handed_more : (ps : List (Popped T)) (p : Popped T) (turn' turn'' : ChannelTurn) (tally' tally'' : Tally) (told told' : Bool) (g h : F) (y z : X) (r s : Q)
       → Handed may reaches turn tally f x q ps turn' tally' told g y r → 0 < turn'.left → turn'.done ≡ false
       → turn'' ≡ turn_after_pop p turn' → tally'' ≡ tally_after_pop p tally' → told' ≡ (told || is_close p) → Went may reaches g y r (call_of p) h z s
@@ -62,7 +62,7 @@ module _ {F T X Q : Type 0} (may : Calling F (Event T) (Unit {0}) (Unit {0}) X Q
     went = subst (λ (cs : List (CallbackCall (Event T) (Unit {0}) (Unit {0}))). Went may reaches f x q cs h z s) (sym (calls_more ps p)) (went_on may reaches f g h x y z q r s (calls_of ps) (call_of p) so.went went);
   }
 
--- Whether a turn goes on.
+-- When a turn goes on.
 both_left : (a b : Bool) → (a && b) ≡ true → a ≡ true
 both_left true b h = refl
 both_left false b h = h

@@ -1,4 +1,4 @@
--- What the contracts of `cell` cite.
+-- The definitions that the contracts of `cell` cite.
 pub mod CellEnds
 pub mod CellSources
 pub mod CellKeeping

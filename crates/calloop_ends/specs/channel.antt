@@ -1,4 +1,4 @@
--- What the contracts of `channel` cite.
+-- The definitions that the contracts of `channel` cite.
 pub mod Sends
 pub mod Channels
 pub mod ChannelKeeping

@@ -1,4 +1,4 @@
--- What the contracts of `futures` cite.
+-- The definitions that the contracts of `futures` cite.
 pub mod Polled
 pub mod Executors
 pub mod ExecutorKeeping

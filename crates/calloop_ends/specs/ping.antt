@@ -1,3 +1,3 @@
--- What the contracts of `ping` cite.
+-- The definitions that the contracts of `ping` cite.
 pub mod Pings
 pub mod PingKeeping

@@ -1,4 +1,4 @@
--- What the contracts of `stream` cite.
+-- The definitions that the contracts of `stream` cite.
 pub mod StreamReads
 pub mod Streams
 pub mod StreamKeeping

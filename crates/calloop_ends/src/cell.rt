@@ -1,5 +1,5 @@
-//! A cell with the board of its key, under one lock, and the sections of that lock that every kind of cell has. No other lock
-//! is taken and nobody is called within one: what a section owes to the board is posted after it.
+//! A cell with the board of its key, under one lock, and the sections of that lock that every kind of cell has. A section takes
+//! no other lock and calls nobody: a debt to the board is posted after it.
 ghost use Rattle.std.specs.Prelude.{◌≡◌, ◌≢◌, ◌-◌, ◌^◌, None, Some, IfOk, IfErr, IfSome};
 ghost use Rattle.calloop_wake.specs.Cells.{fresh_tally};
 ghost use Rattle.std.specs.Option.{option_map};
@@ -20,7 +20,8 @@ use std::sync::{Arc, Wait};
 
 pub(crate) mod source;
 
-/// What the ends of a cell share: its core, and a hub. What fits a tag has the hub of the very board on which its key has a place.
+/// What the ends of a cell share: its core, and a hub. If it fits a tag, the hub is that of the board on which its key has a
+/// place.
 pub struct Cell<K: CellCore> {
     pub(crate) core: K,
     hub: Option<SharedHub>,
@@ -60,7 +61,7 @@ impl<K: CellCore> Cell<K> {
         Locked::new(alloc, Cell { core, hub: None }, tag)
     }
 
-    /// The debt with the board on which it is posted, outside the lock.
+    /// Pairs the debt with the board on which it is posted, outside the lock.
     pub(crate) fn with_hub<R: Wait>(&self, rt: &R, debt: Option<Debt>) -> Option<(Debt, SharedHub)>
         requires { IfSome debt (λ d. option_map arc_value self.now.hub ≡ Some d.board) }
         ensures { IfSome result (λ owed. owed.0.board ≡ arc_value owed.1) }
@@ -73,7 +74,7 @@ impl<K: CellCore> Cell<K> {
     }
 }
 
-/// Posts the key of a debt, where there is one.
+/// Posts the key of a debt, if there is one.
 pub(crate) fn post<R: Wait>(rt: &R, owed: Option<(Debt, SharedHub)>)
     requires { IfSome owed (λ owed. owed.0.board ≡ arc_value owed.1) }
 {
@@ -82,7 +83,7 @@ pub(crate) fn post<R: Wait>(rt: &R, owed: Option<(Debt, SharedHub)>)
     }
 }
 
-// Closes the place of a key that the cell has no more.
+// Closes the place of a key that the cell no longer has.
 fn close_place<R: Wait>(rt: &R, hub: &Option<SharedHub>, permit: Option<ClosePermit>)
     requires { IfSome permit (λ l. option_map arc_value hub.now ≡ Some l.board) }
 {
@@ -95,7 +96,7 @@ fn close_place<R: Wait>(rt: &R, hub: &Option<SharedHub>, permit: Option<ClosePer
     }
 }
 
-/// The receiving end of a cell. Its drop clears the key of the cell, and then closes the place of that.
+/// The receiving end of a cell. Its drop clears the cell's key, and then closes the place of that key.
 ///
 /// In a clause it is its tally, and the tag of its cell.
 pub(crate) struct ReceivingEnd<K: CellCore, R: Wait + Drop> {
@@ -117,7 +118,7 @@ impl<K: CellCore, R: Wait + Drop> Model for ReceivingEnd<K, R> {
 }
 
 impl<K: CellCore, R: Wait + Drop> ReceivingEnd<K, R> {
-    /// The receiving end of a cell. There is one, since there is one right to it.
+    /// Makes the receiving end of a cell. There is only one, since there is only one right to it.
     pub(crate) fn new(rt: R, shared: SharedCell<K>, right: ReceivingRight) -> ReceivingEnd<K, R>
         requires { right.name ≡ K.named_by (arc_value shared).tag }
         ensures tally { result.tally ≡ fresh_tally (K.named_by (arc_value shared).tag) }
@@ -163,7 +164,7 @@ impl<K: CellCore, R: Wait + Drop> ReceivingEnd<K, R> {
         close_place(&self.rt, &hub, permit);
     }
 
-    /// Ends it, and hands its runtime back: clears the cell's key, closes the place of that, and wakes all that wait for room.
+    /// Drops the end, and hands its runtime back: clears the cell's key, closes its place, and wakes all that wait for room.
     pub(crate) fn abandon(self) -> R {
         let ReceivingEnd { rt, shared, tally } = self;
         let mut held = shared.lock(&rt);
@@ -183,7 +184,7 @@ impl<K: CellCore, R: Wait + Drop> Drop for ReceivingEnd<K, R> {
     }
 }
 
-/// A sending end of a cell, which counts as one of its senders. There can be 2^64 - 1; the drop of the last one closes the cell.
+/// A sending end of a cell, counted among its senders. There can be 2^64 - 1; dropping the last one closes the cell.
 ///
 /// In a clause it is the tag of its cell.
 pub(crate) struct SendingEnd<K: CellCore, R: Wait + Drop> {
@@ -204,7 +205,7 @@ impl<K: CellCore, R: Wait + Drop> Model for SendingEnd<K, R> {
 }
 
 impl<K: CellCore, R: Wait + Drop> SendingEnd<K, R> {
-    /// Another sending end of the cell. It fails if there are 2^64 - 1.
+    /// Makes another sending end of the cell. Fails if there are 2^64 - 1.
     pub(crate) fn new(rt: R, shared: SharedCell<K>) -> Result<SendingEnd<K, R>, AllocError>
         ensures { IfOk result (λ end. end ≡ (arc_value shared).tag) }
     {
@@ -239,7 +240,7 @@ impl<K: CellCore, R: Wait + Drop> Drop for SendingEnd<K, R> {
     }
 }
 
-/// Both ends of a cell to which nothing has happened yet.
+/// Makes both ends of a cell to which nothing has happened yet.
 pub(crate) fn make_ends<K: CellCore, R: Wait + Clone + Drop>(
     rt: &R,
     alloc: Global,

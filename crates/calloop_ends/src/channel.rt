@@ -21,7 +21,7 @@ mod source;
 
 pub use errors::{RecvError, SendError, TryRecvError, TrySendError};
 
-/// What a channel's callback is called with.
+/// The argument of a channel's callback.
 #[derive(Debug, Drop)]
 pub enum Event<T> {
     /// A message.
@@ -30,12 +30,12 @@ pub enum Event<T> {
     Closed,
 }
 
-/// Why a channel's turn could fail. No turn of this crate's channels does: all that they need was reserved.
+/// Why a channel's turn could fail. This crate's own channels never fail: their memory is reserved up front.
 #[derive(Debug, Drop, ThisError)]
 #[error("{0}")]
 pub struct ChannelError(pub PingError);
 
-/// Sends to its channel, from any thread. As many as are cloned send to the same channel, and the drop of the last one closes it.
+/// Sends to its channel, from any thread. Clones send to the same channel; dropping the last one closes it.
 ///
 /// In a clause it is the name of the cell to which it sends.
 #[derive(Drop)]
@@ -54,7 +54,7 @@ impl<T: Drop, R: Wait + Drop> Model for Sender<T, R> {
     ghost invariant = { λ s. s.end.bound ≡ None };
 }
 
-/// Sends to its channel, which holds as many messages as its bound says. A send can wait for room.
+/// Sends to its channel, which holds at most as many messages as its bound. A send can wait for room.
 ///
 /// In a clause it is the name of the cell to which it sends, and the bound.
 #[derive(Drop)]
@@ -117,7 +117,7 @@ impl<T: Drop, R: Wait + Drop> SyncSender<T, R> {
         self.end.put_waiting(message, self.limit)
     }
 
-    /// Appends a message, where there is room. Where there is none, the channel is pinged. It takes no memory.
+    /// Appends a message, if there is room. If there is none, the channel is pinged. It takes no memory.
     pub fn try_send(&self, message: T) -> Result<Receipt, TrySendError<T>>
         ensures ok { IfOk result (λ r. r.name ≡ self.now.name) }
         ensures err { IfErr result (λ e. message_back e ≡ message) }
@@ -155,7 +155,7 @@ impl<T: Drop, R: Wait + Clone + Drop> Clone for SyncSender<T, R> {
 }
 
 impl<T: Drop, R: Wait + Drop> Channel<T, R> {
-    /// The first message. It waits while there is none and a sender is there.
+    /// Takes the first message. Waits while there is none and a sender is there.
     pub fn recv(&mut self) -> Result<T, RecvError>
         ensures ok { IfOk result (λ _. self.new ≡ with_message self.old) }
         ensures err { IfErr result (λ _. self.new ≡ self.old) }
@@ -163,7 +163,7 @@ impl<T: Drop, R: Wait + Drop> Channel<T, R> {
         self.end.take_waiting()
     }
 
-    /// The first message, where there is one.
+    /// Takes the first message, if there is one.
     pub fn try_recv(&mut self) -> Result<T, TryRecvError>
         ensures ok { IfOk result (λ _. self.new ≡ with_message self.old) }
         ensures err { IfErr result (λ _. self.new ≡ self.old) }
@@ -172,7 +172,7 @@ impl<T: Drop, R: Wait + Drop> Channel<T, R> {
     }
 }
 
-// Both ends of a cell to which nothing has happened yet.
+// Makes both ends of a cell to which nothing has happened yet.
 fn ends<T: Drop, R: Wait + Clone + Drop>(
     rt: &R,
     alloc: Global,
@@ -188,10 +188,10 @@ fn ends<T: Drop, R: Wait + Clone + Drop>(
     Ok((sending, Channel { end: receiving }))
 }
 
-/// A sender and its channel, which holds any number of messages and is registered nowhere. `rt` is the runtime by which they lock
-/// what they share. Calloop has it under the name `channel`.
+/// Makes a sender and its channel, which holds any number of messages and isn't registered yet. They lock what they share by the
+/// runtime `rt`. In calloop its name is `channel`.
 ///
-/// Running out of memory is `OutOfMemory`.
+/// Fails with `OutOfMemory` if memory runs out.
 pub fn make_channel<T: Drop, R: Wait + Clone + Drop>(
     rt: &R,
     alloc: Global,
@@ -204,10 +204,10 @@ pub fn make_channel<T: Drop, R: Wait + Clone + Drop>(
     Ok((Sender { end }, channel))
 }
 
-/// A sender and its channel, which holds at most `bound` messages and is registered nowhere. The queue has room for them from the
-/// beginning.
+/// Makes a sender and its channel, which holds at most `bound` messages and isn't registered yet. The queue has room for them
+/// from the beginning.
 ///
-/// A bound of 0, which would hand over messages without a queue, is `NoRendezvous`, and running out of memory `OutOfMemory`.
+/// A bound of 0, which would hand over messages without a queue, fails with `NoRendezvous`; without memory it is `OutOfMemory`.
 pub fn sync_channel<T: Drop, R: Wait + Clone + Drop>(
     rt: &R,
     alloc: Global,

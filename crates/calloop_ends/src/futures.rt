@@ -1,7 +1,7 @@
-//! Futures that run in the loop: an executor is a source, and what a future gives is an event.
+//! Futures that run in the loop: an executor is a source, and the result of a future is an event.
 //!
-//! From calloop's `sources/futures.rs`. Its futures are those of the standard library; these are of this module, since a wake is a
-//! step of the executor's own cell.
+//! From calloop's `sources/futures.rs`. calloop's futures are those of the standard library; these are of this module, since a
+//! wake is a step of the executor's own cell.
 ghost use Rattle.std.specs.Prelude.{◌≡◌, None, IfOk, IfErr};
 ghost use Rattle.calloop_wake.specs.Cells.{fresh_tally};
 ghost use Rattle.calloop_slots.specs.declared.error.Error.TheVariants.{OutOfMemory};
@@ -28,7 +28,7 @@ pub use errors::{ExecutorDestroyed, ExecutorError, ScheduleError};
 pub use scheduler::Scheduler;
 pub use task::{Blocked, Context, Future, Poll, Waker};
 
-/// Runs futures in the loop, as a source. What a future gives is an event.
+/// Runs futures in the loop, as a source. The result of a future is an event.
 ///
 /// Its drop, as by the drop of the loop that it is registered with, takes its registration back and drops its futures.
 ///
@@ -50,10 +50,10 @@ impl<Fut: Drop, R: Wait + Drop> Model for Executor<Fut, R> {
     ghost invariant = { λ e. (arc_value e.homes).tag ≡ e.end.tally.name };
 }
 
-/// An executor, which is registered nowhere, and a scheduler that hands it futures. `rt` is the runtime by which they lock what they
-/// share. Calloop has it under the name `executor`.
+/// Makes an executor, which isn't registered yet, and a scheduler that hands it futures. They lock what they share by the runtime
+/// `rt`. In calloop its name is `executor`.
 ///
-/// Running out of memory is `OutOfMemory`.
+/// Fails with `OutOfMemory` if memory runs out.
 pub fn make_executor<Fut: Future<R>, R: Wait + Clone + Drop>(
     rt: &R,
     alloc: Global,

@@ -16,7 +16,7 @@ pub(crate) mod source;
 
 pub use source::{PingError, is_registered_by_its_calls};
 
-/// Rings its source, from any thread. As many as are cloned ring the same source, and the drop of the last one closes it.
+/// Rings its source, from any thread. Clones ring the same source; dropping the last one closes it.
 ///
 /// In a clause it is the name of the cell that it rings.
 #[derive(Drop)]
@@ -36,7 +36,7 @@ impl<R: Wait + Drop> Model for Ping<R> {
 ///
 /// Its drop, as by the drop of the loop that it is registered with, takes its registration back.
 ///
-/// In a clause it is the tally: the name of its cell, the key that it gave that, and what was counted.
+/// In a clause it is the tally: the name of its cell, the key that it gave the cell, and what was counted.
 #[derive(Drop)]
 pub struct PingSource<R: Wait + Drop> {
     pub(crate) end: ReceivingEnd<PingCore, R>,
@@ -50,9 +50,9 @@ impl<R: Wait + Drop> Model for PingSource<R> {
     ghost view = { λ s. s.end.tally };
 }
 
-/// A ping that nobody rang, and its source, which is registered nowhere. `rt` is the runtime by which they lock what they share.
+/// Makes a ping that nobody rang, and its source, which isn't registered yet. They lock what they share by the runtime `rt`.
 ///
-/// Running out of memory is `OutOfMemory`.
+/// Fails with `OutOfMemory` if memory runs out.
 pub fn make_ping<R: Wait + Clone + Drop>(
     rt: &R,
     alloc: Global,
@@ -68,7 +68,7 @@ pub fn make_ping<R: Wait + Clone + Drop>(
 impl<R: Wait + Drop> Ping<R> {
     /// Rings its source, which is called back once for all rings before its turn. The receipt is of a ring of this very ping.
     ///
-    /// Where the source is registered and nothing was due, its key is posted on the board of its loop, and the loop is woken.
+    /// If the source is registered and nothing was due, its key is posted on the board of its loop, and the loop is woken.
     pub fn ping(&self) -> Receipt
         ensures { result.name ≡ self.now }
     {

@@ -1,7 +1,7 @@
-//! Streams as sources: what a stream gives is an event.
+//! Streams as sources: each item of a stream is an event.
 //!
-//! From calloop's `sources/stream.rs`. Its streams are those of the crate `futures`; these are of this module, as the futures of
-//! `futures` are.
+//! From calloop's `sources/stream.rs`. calloop's streams are those of the crate `futures`; these are of this module, as the
+//! futures of `futures` are.
 ghost use Rattle.std.specs.Prelude.{◌≡◌, IfOk, IfErr};
 ghost use Rattle.calloop_ends.specs.stream.Streams.{fresh_stream};
 ghost use Rattle.calloop_slots.specs.declared.error.Error.TheVariants.{OutOfMemory};
@@ -33,7 +33,7 @@ pub struct StreamSource<S: Stream<R>, R: Wait + Drop> {
     ping: Ping<R>,
     // None once the end was told.
     stream: Option<Readable<S, R>>,
-    // Of the ring by which its last turn asked for another one.
+    // The receipt of the ring by which its last turn asked for another one.
     own: Option<Receipt>,
 }
 
@@ -49,9 +49,9 @@ impl<S: Stream<R>, R: Wait + Drop> Model for StreamSource<S, R> {
 }
 
 impl<S: Stream<R>, R: Wait + Clone + Drop> StreamSource<S, R> {
-    /// A source of what the stream gives, which is registered nowhere. It is polled in the first turn after its registration.
+    /// Makes a source of the stream's items, not registered yet. The stream is polled in the first turn after its registration.
     ///
-    /// Running out of memory is `OutOfMemory`, and hands the stream back.
+    /// Fails with `OutOfMemory` if memory runs out, and hands the stream back.
     pub fn new(rt: &R, alloc: Global, stream: S) -> Result<StreamSource<S, R>, InsertError<S>>
         ensures ok { IfOk result (λ made. made ≡ fresh_stream stream made.tally.name) }
         ensures err { IfErr result (λ e. (e.inserted ≡ stream) × (e.error ≡ OutOfMemory)) }

@@ -1,4 +1,4 @@
--- Where an adapter leaves.
+-- When an adapter leaves.
 use Rattle.std.proofs.Common.{◌≡◌, ◌++◌, refl, subst, [], true, false, List, Option, Some, None, Result, Ok, Err, inl, inr}
 use Rattle.std.specs.declared.io.ErrorKind.TheVariants.{NotFound}
 use Rattle.calloop_slots.specs.declared.error.Error.{Error}

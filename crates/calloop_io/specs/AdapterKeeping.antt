@@ -1,4 +1,4 @@
--- An adapter acts under keys of its own registration alone, on no counter, asks the loop for nothing, and its turn never fails.
+-- An adapter acts only under keys of its own registration, on no counter, asks the loop for nothing, and its turn never fails.
 -- The impls cite these proofs, so they stand here.
 use Rattle.std.proofs.Common.{inl, inr, List, Bool, true, false, Option, None, Some, Result, Ok, Err, refl, ℕ}
 use Rattle.calloop_slots.specs.declared.error.Error.{Error}

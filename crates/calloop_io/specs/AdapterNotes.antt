@@ -1,4 +1,4 @@
--- What each end of an adapter notes of what it does under the adapter's lock.
+-- The notes that each end of an adapter makes of what it does under the adapter's lock.
 use Rattle.std.specs.Prelude.{◌++◌, ◌∷◌, []}
 use Rattle.calloop_io.specs.declared.notes.PollNote.{PollNote}
 use Rattle.calloop_io.specs.declared.notes.PollNote.TheVariants.{Answered, Refused, Waits, Tried, Flushed}
@@ -11,14 +11,14 @@ use Rattle.calloop_io.specs.declared.notes.LentSlotNote.TheVariants.{Heard as Le
 use Rattle.calloop_io.specs.declared.state.PollTally.{PollTally}
 use Rattle.calloop_io.specs.declared.state.SlotTally.{SlotTally}
 
--- with one note more
+-- with another note
 abbrev pub with_poll_note : PollNote → PollTally → PollTally
 with_poll_note note tally = record tally { notes = tally.notes ++ note ∷ [] }
 
 abbrev pub with_slot_note : SlotNote → SlotTally → SlotTally
 with_slot_note note tally = record tally { notes = tally.notes ++ note ∷ [] }
 
--- the note that a lent one stands for
+-- the note behind a lent one
 abbrev pub poll_note_of : LentPollNote → PollNote
 poll_note_of (LentAnswered answer) = Answered answer.now
 poll_note_of (LentRefused error) = Refused error.now

@@ -1,5 +1,5 @@
--- What the two ends of an adapter know of it. From calloop's `IoDispatcher`, which calls the poller at once: here what a
--- poll waits for, and its drop, are marked, and the loop takes them up before its next wait.
+-- What the two ends of an adapter know of it. From calloop's `IoDispatcher`, which calls the poller at once: here what a poll
+-- waits for, and its drop, are marked, and the loop takes them up before its next wait.
 use Rattle.std.specs.Prelude.{Bool, true, false, ◌&&◌, ◌||◌, if◌then◌else◌, is_some, Option, Some, None, Result, Ok, Err}
 use Rattle.calloop_slots.specs.declared.error.Error.{Error}
 use Rattle.calloop_poll.specs.declared.sys.Interest.{Interest}
@@ -12,14 +12,14 @@ use Rattle.calloop_io.specs.declared.notes.Settled.{Settled}
 use Rattle.calloop_io.specs.declared.notes.Settled.TheVariants.{Stays, Registers, Leaves}
 use Rattle.logbook.specs.Pages.{Book}
 
--- what was found answers a wait for this
+-- the readiness found answers a wait for this interest
 abbrev pub suits : Interest → Readiness → Bool
 suits wanted found = (wanted.readable && found.readable) || ((wanted.writable && found.writable) || found.error)
 
 abbrev pub nothing_found : Readiness
 nothing_found = record { readable = false; writable = false; error = false }
 
--- a poll's answer: first a refusal that was kept, and then what was found
+-- a poll's answer: first a kept refusal, and then the readiness found
 abbrev pub answer_of : Option Refusal → Interest → Readiness → Option (Result (Unit {0}) Error)
 answer_of (Some kept) wanted found = Some (Err kept.error)
 answer_of None wanted found = if suits wanted found then Some (Ok tt) else None
@@ -32,7 +32,7 @@ left_of None found = nothing_found
 abbrev pub after_answer : {R : Type 0} → State R → State R
 after_answer s = record s { refusal = None; readiness = left_of s.refusal s.readiness }
 
--- what the loop is to do with one, by its marks and by what it waits for
+-- what the loop is to do with an adapter, by its marks and by what it waits for
 abbrev pub waiting_for : Option Interest → Settled
 waiting_for None = Stays
 waiting_for (Some interest) = Registers interest
@@ -60,15 +60,15 @@ fresh_state name =
       name = name;
     }
 
--- a poll waits for this, in the place of an older one, and the adapter is marked where it is in a loop
+-- a poll waits for this interest, in place of an older one, and the adapter is marked if it is in a loop
 abbrev pub after_wait : {R : Type 0} → Interest → Waker R → State R → State R
 after_wait wanted waker s =
     record s { interest = Some wanted; waker = Some waker; marked = s.marked || is_some s.home }
 
--- it comes into a loop, and is marked there
+-- an adapter comes into a loop, and is marked there
 abbrev pub after_coming : {R : Type 0} → Home → State R → State R
 after_coming home s = record s { home = Some home; marked = true }
 
--- its other end is gone, and it is marked where it is in a loop
+-- its other end is gone, and the adapter is marked if it is in a loop
 abbrev pub after_drop : {R : Type 0} → State R → State R
 after_drop s = record s { dropped = true; marked = s.marked || is_some s.home }

@@ -1,5 +1,5 @@
 -- An adapter in its slot: its registration, its settling and its turn. From calloop's `IoDispatcher`, which registers and
--- unregisters at once; this one is told by its loop when to. Its socket lies under a lock, so what it is, each relation leaves open.
+-- unregisters at once; here the loop says when. The socket is under a lock, so each relation leaves open which one it is.
 use Rattle.std.specs.Prelude.{◌≡◌, ◌⊎◌, ℤ, List, [], ◌∷◌, ◌++◌, Bool, true, false, Option, Some, None, Result, Ok, Err}
 use Rattle.std.specs.declared.io.ErrorKind.TheVariants.{AlreadyExists, NotFound}
 use Rattle.calloop_slots.specs.declared.error.Error.{Error}
@@ -27,17 +27,17 @@ use Rattle.calloop_io.specs.declared.notes.Settled.TheVariants.{Stays, Registers
 use Rattle.calloop_io.specs.AdapterNotes.{with_slot_note}
 use Rattle.calloop_io.specs.TakingUp.{taking_up}
 
--- the key is dropped, where the socket wasn't taken out
+-- the key is dropped, if the socket wasn't taken out
 abbrev pub discards : {P : Type 0} → Result (Unit {0}) Error → Token → P → List (PollStep P)
 discards (Ok u) own p = []
 discards (Err e) own p = Socket (Discard own) p ∷ []
 
--- refused, and nothing was done
+-- the call failed, and nothing was done
 abbrev pub IsRefusedSo : {P S : Type 0} → S → Result (Unit {0}) Error → (Error → Type 0) → List (PollStep P) → S → Type 0
 IsRefusedSo s answer Why steps t = (e : Error) × (answer ≡ Err e) × Why e × (steps ≡ []) × (t ≡ s)
 
 module _ {P : Type 0} (sockets : Sockets P) where
-  -- Its socket is taken out of the table where it was entered, else no poller is called. It may not be there.
+  -- If its socket was entered in the table, it is taken out; if not, no poller is called. The socket may not be there.
   abbrev pub TakenOut : (entered : Bool) → Token → PollView P → Result (Unit {0}) Error → List (PollStep P) → Type 0
   TakenOut false own v answer steps = (answer ≡ Ok tt) × (steps ≡ [])
   TakenOut true own v answer steps =
@@ -52,7 +52,7 @@ module _ {F R : Type 0} where
   registered_nowhere s = record s { token = None; entered = false }
 
 module _ {P F R : Type 0} where
-  -- It gets its token, and no poller is called; calloop's is registered with an empty interest.
+  -- The adapter gets its token, and no poller is called; calloop's is registered with an empty interest.
   abbrev pub ComesIn : Option Token → Adapter F R → TokenFactory → Result (Unit {0}) Error → List (PollStep P)
       → Adapter F R → TokenFactory → Type 0
   ComesIn (Some own) s f answer steps t g = IsRefusedSo s answer (IsOfKind AlreadyExists) steps t × (g ≡ f)
@@ -65,22 +65,22 @@ module _ {F R : Type 0} where
   left_so (Ok u) s = registered_nowhere s
   left_so (Err e) s = s
 
-  -- what it did under its lock besides
+  -- with another note of what it did under its lock
   abbrev pub and_did : SlotNote → Adapter F R → Adapter F R
   and_did note s = record s { end = with_slot_note note s.end }
 
-  -- its registration succeeded, or is kept as refused
+  -- its registration succeeded, or its failure is kept
   abbrev pub told_so : Result (Unit {0}) Error → Adapter F R → Adapter F R
   told_so (Ok u) s = record s { entered = true }
   told_so (Err e) s = and_did (Kept e) s
 
-  -- an event of its own token is kept, and wakes who waits
+  -- an event of its own token is kept, and wakes the waiting poll
   abbrev pub HearsSo : Option Token → Token → Readiness → Adapter F R → Adapter F R → Type 0
   HearsSo own token found s t =
       ((own ≡ Some token) × (t ≡ and_did (Heard found) s)) ⊎ ((own ≡ Some token → ⊥) × (t ≡ s))
 
 module _ {P F R : Type 0} (sockets : Sockets P) where
-  -- It is registered for this, where its socket is there; a refusal, which it keeps, leaves its registration as it was.
+  -- If its socket is there, it is registered for this; on failure the adapter keeps the error, and its registration is unchanged.
   abbrev pub Registers : Interest → Option Token → Adapter F R → PollView P → List (PollStep P) → Adapter F R → Type 0
   Registers interest None s v steps t = (steps ≡ []) × (t ≡ s)
   Registers interest (Some token) s v steps t =
@@ -95,11 +95,11 @@ module _ {P F R : Type 0} (sockets : Sockets P) where
   SettlesTo (RegistersFor interest) s v steps t = Registers interest s.token s v steps t
   SettlesTo IsToLeave s v steps t = ⊥
 
-  -- it is settled: what that found is what its state holds, as the tally notes
+  -- the adapter is settled: what its settling found is what its state holds, as the tally notes
   abbrev pub SettlesSo : Adapter F R → PollView P → List (PollStep P) → Adapter F R → Type 0
   SettlesSo s v steps t = (found : Settled) × SettlesTo found (and_did (SettledSo found) s) v steps t
 
-  -- One that isn't being given back doesn't leave.
+  -- An adapter that isn't being given back doesn't leave.
   abbrev pub Leaves : Option Token → Adapter F R → PollView P → Result (Unit {0}) Error → List (PollStep P)
       → Adapter F R → Type 0
   Leaves None s v answer steps t = IsRefusedSo s answer (IsOfKind NotFound) steps t
@@ -107,8 +107,8 @@ module _ {P F R : Type 0} (sockets : Sockets P) where
       IsRefusedSo (and_did (Asked false) s) answer (λ e. e ≡ InvalidToken) steps t
       ⊎ (TakenOut sockets s.entered own v answer steps × (t ≡ left_so answer (and_did (Asked true) s)))
 
-  -- Its other end is gone: it is in no loop any more, and its key goes, also where its socket can't be taken out. In
-  -- calloop the drop calls kill, which drops a refusal.
+  -- Its other end is gone: it is in no loop any more, and its key is dropped, even if its socket can't be taken out. In calloop
+  -- the drop calls kill, which ignores an error.
   abbrev pub Goes : Option Token → Adapter F R → PollView P → Result (Unit {0}) Error → List (PollStep P)
       → Adapter F R → Type 0
   Goes None s v told steps t = (told ≡ Ok tt) × (steps ≡ []) × (t ≡ s)
@@ -116,7 +116,7 @@ module _ {P F R : Type 0} (sockets : Sockets P) where
       (out : List (PollStep P)) × TakenOut sockets s.entered own v told out
       × (steps ≡ out ++ discards told own (polls_after v out).poller) × (t ≡ registered_nowhere s)
 
-  -- Its loop settles it: it leaves exactly if its state says that its other end is gone, and else stays. Calloop has no such step.
+  -- Its loop settles it: it leaves exactly if its state says that its other end is gone, else it stays. Calloop has no such step.
   abbrev pub IsSettled : Outside P → Adapter F R → PollView P → Option (Result (Unit {0}) Error) → PollView P
       → Adapter F R → Type 0
   IsSettled O s v None w t = (steps : List (PollStep P)) × SettlesSo s v steps t × AllStepped O v steps w
@@ -124,7 +124,7 @@ module _ {P F R : Type 0} (sockets : Sockets P) where
       (steps : List (PollStep P)) × Goes s.token (and_did (SettledSo IsToLeave) s) v told steps t × AllStepped O v steps w
 
   module _ {X Q : Type 0} where
-    -- its turn keeps what was found, which lies under a lock, and calls nobody but who waits for it
+    -- its turn keeps the readiness found, which is under a lock, and calls nobody but the waiting poll's waker
     abbrev pub IsAdapter : Adapter F R → PollView P → Deed (Lent X Q) → List (PollStep P) → Adapter F R → Type 0
     IsAdapter s v (Registered f answer g) steps t = ComesIn s.token s f answer steps t g
     IsAdapter s v (Reregistered f (Ok u) g) steps t = (g ≡ f) × SettlesSo s v steps t

@@ -15,7 +15,7 @@ use Rattle.calloop_slots.specs.declared.error.Error.TheVariants.{
   NoRendezvous,
 }
 
--- what the registration of a socket can be refused with: a fault of the poller, or a refusal of the table, or running out of memory
+-- the possible errors of a socket's registration: an error of the poller or of the table, or running out of memory
 abbrev pub of_registration : Error → Bool
 of_registration (IoError cause) = true
 of_registration OutOfMemory = true
@@ -28,6 +28,6 @@ of_registration TooManyTickets = false
 of_registration OwnTurn = false
 of_registration NoRendezvous = false
 
--- what a wait for a socket is answered: it is ready, or its registration was refused so
+-- the answer to a wait for a socket: it is ready, or its registration failed so
 abbrev pub IsAnswer : Result (Unit {0}) Error → Type 0
 IsAnswer answer = IfErr answer (λ e. of_registration e ≡ true)

@@ -1,4 +1,4 @@
-//! The loop's end of an adapter: what stands in a slot.
+//! The loop's end of an adapter, which has a slot.
 ghost use Rattle.std.specs.Prelude.{◌≡◌, None, false, List, ℕ};
 ghost use Rattle.calloop_poll.specs.sys.Polls.{PollStep, poll_view, AllStepped, IsReady};
 ghost use Rattle.calloop_io.specs.Adapters.{Registers, TakenOut, Leaves, Goes, IsSettled, left_so, registered_nowhere};
@@ -19,16 +19,16 @@ use std::io;
 use std::os::fd::AsRawFd;
 use std::sync::Wait;
 
-/// The loop's end of an adapter, whose other end is an `Async`. A loop of adapters has a place for it among its sources. No call of a handle
-/// names it.
+/// The loop's end of an adapter, whose other end is an `Async`. A loop of adapters has a place for it among its sources. No call
+/// of a handle names it.
 ///
 /// In a clause `end` is what it did.
 #[derive(Drop)]
 pub struct Adapter<F: AsRawFd + Drop, R: Wait + Drop> {
     end: SlotEnd<F, R>,
-    // The key that its events come under, once it is in a loop.
+    // The key of its events, once it is in a loop.
     token: Option<Token>,
-    // Whether its socket stands in the table of the loop.
+    // True if its socket is in the table of the loop.
     entered: bool,
 }
 
@@ -43,7 +43,7 @@ impl<F: AsRawFd + Drop, R: Wait + Drop> Adapter<F, R> {
         }
     }
 
-    // Registers its socket for this, and keeps a refusal.
+    // Registers its socket for this interest, and keeps a refusal.
     fn take_up<P: Poller, C>(&mut self, interest: Interest, poll: &mut Poll<P, C, R>)
         ensures steps { (steps : List (PollStep P))
             × Registers P.sockets interest self.old.token self.old (poll_view poll.old) steps
@@ -77,7 +77,7 @@ impl<F: AsRawFd + Drop, R: Wait + Drop> Adapter<F, R> {
         }
     }
 
-    // It is in no loop any more, and needs no mark.
+    // Leaves its loop, and needs no mark any more.
     fn come_out(&mut self, hub: &SharedHub)
         ensures { self.new ≡ registered_nowhere self.old }
     {
@@ -100,7 +100,7 @@ impl<F: AsRawFd + Drop, R: Wait + Drop> Adapter<F, R> {
         Ok(())
     }
 
-    // Takes its registration back, where it is being given back.
+    // Takes its registration back, if it is being given back.
     fn give_back<P: Poller, C>(&mut self, poll: &mut Poll<P, C, R>) -> LoopResult<()>
         ensures steps { (steps : List (PollStep P))
             × Leaves P.sockets self.old.token self.old (poll_view poll.old) result steps self.new
@@ -116,7 +116,7 @@ impl<F: AsRawFd + Drop, R: Wait + Drop> Adapter<F, R> {
         self.leave(token, poll)
     }
 
-    // Its `Async` is gone: it takes its registration back. Where that fails, its key goes all the same.
+    // Takes its registration back, since its `Async` is gone. If that fails, its key is dropped all the same.
     fn go<P: Poller, C>(&mut self, poll: &mut Poll<P, C, R>) -> LoopResult<()>
         ensures steps { (steps : List (PollStep P))
             × Goes P.sockets self.old.token self.old (poll_view poll.old) result steps self.new
@@ -147,10 +147,10 @@ impl<F: AsRawFd + Drop, P: Poller, C, R: Wait + Drop, X, Q: Asking> Dispatch<P, 
 
     ghost means = { adapter_meaning P.sockets };
 
-    /// It gets its token, and room for its mark; no poller is called. What was polled until then is taken up by the next dispatch.
+    /// Sets its token, and makes room for its mark; calls no poller. The next dispatch takes up what was polled until then.
     ///
-    /// Where it is in a loop already the answer is `IoError` of kind `AlreadyExists`; a factory without tokens is `TooManyTokens`,
-    /// and running out of memory `OutOfMemory`. A refusal leaves all as it was.
+    /// Fails with `IoError` of kind `AlreadyExists` if it is in a loop already, with `TooManyTokens` if the factory has no token
+    /// left, and with `OutOfMemory` if memory runs out. On failure nothing changes.
     fn register(
         &mut self,
         poll: &mut Poll<P, C, R>,
@@ -179,8 +179,7 @@ impl<F: AsRawFd + Drop, P: Poller, C, R: Wait + Drop, X, Q: Asking> Dispatch<P, 
         }
     }
 
-    /// Nobody asks for this: it takes up what its last poll waits for where its loop settles it. The answer is `InvalidToken`, and nothing
-    /// changes.
+    /// Never called: an adapter's interest is updated when its loop settles it. Fails with `InvalidToken`, and nothing changes.
     fn reregister(
         &mut self,
         _poll: &mut Poll<P, C, R>,
@@ -191,13 +190,13 @@ impl<F: AsRawFd + Drop, P: Poller, C, R: Wait + Drop, X, Q: Asking> Dispatch<P, 
         Err(Failed)
     }
 
-    /// Takes its socket out, where it is being given back. Any other refuses with `InvalidToken`, and one that is in no
-    /// loop with `IoError` of kind `NotFound`. A fault of the poller is `IoError`, and leaves it registered as it was.
+    /// Takes its socket out, if it is being given back. Fails with `InvalidToken` if it isn't, and with `IoError` of kind
+    /// `NotFound` if it is in no loop. An error of the poller is `IoError`, and leaves it registered as it was.
     fn unregister(&mut self, poll: &mut Poll<P, C, R>, failure: &mut Error) -> Result<(), Failed> {
         store_error(self.give_back(poll), failure)
     }
 
-    /// Keeps what was found, where the token is its own, and wakes who waits for it. No poller is called.
+    /// Keeps the readiness found, if the token is its own, and wakes the waiting poll. No poller is called.
     fn process_events(
         &mut self,
         readiness: Readiness,
@@ -225,8 +224,9 @@ impl<F: AsRawFd + Drop, P: Poller, C, R: Wait + Drop, X, Q: Asking> Dispatch<P, 
         Role::Adapter
     }
 
-    /// Takes up what its last poll waits for, and keeps a refusal of that for the next one. It leaves exactly if its state says that its
-    /// `Async` was dropped. A fault of the poller, or a socket that was taken out, is answered then, and its key goes all the same.
+    /// Registers what its last poll waits for, and keeps a refusal for the next. It leaves exactly if its state says that its
+    /// `Async` was dropped; then an error of the poller, or a socket that was taken out, is the answer, and its key is dropped
+    /// all the same.
     fn settle(
         &mut self,
         token: RegistrationToken,

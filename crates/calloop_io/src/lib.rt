@@ -1,7 +1,7 @@
 //! Sockets as futures. From calloop's `io.rs`.
 //!
-//! An adapter has two ends. The loop's stands in a slot; an `Async` is the other one, which polls the socket. What a poll waits for is
-//! registered by the loop, at the beginning of its next dispatch; calloop registers it at once.
+//! An adapter has two ends. The loop's end has a slot; the other end is an `Async`, which polls the socket. What a poll waits for
+//! is registered by the loop, at the beginning of its next dispatch; calloop registers it at once.
 #![tactic(auto)]
 
 ghost use Rattle.std.specs.Prelude.{◌≡◌, ◌⊎◌, [], None, false, OnOk, IfOk, IfErr};
@@ -37,7 +37,7 @@ pub use ready::{Readable, Writable};
 
 /// A socket that is polled as a future, with its end in a loop. Its drop takes the adapter out of the loop, at the beginning of the next
 /// dispatch; `LoopHandle::into_inner` does so at once, and hands the socket back.
-///
+/// In a clause it is its tally: the name of its adapter, and what it did. Each poll adds its notes, and nothing else adds any.
 /// In a clause it is its tally: the name of its adapter, and what it did. Each poll adds its notes, and nothing else makes one.
 pub struct Async<F: AsRawFd + Drop, R: Wait + Drop> {
     end: PollEnd<F, R>,
@@ -58,8 +58,8 @@ impl<F: AsRawFd + Drop, R: Wait + Drop> Drop for Async<F, R> {
     }
 }
 
-/// Both ends of an adapter that is in no loop yet, and its socket, which is in neither: `LoopHandle::adapt_io` begins with them. Running out
-/// of memory is `OutOfMemory`, and hands the socket back.
+/// Makes both ends of an adapter that is in no loop yet. The socket is in neither: `LoopHandle::adapt_io` begins with them. If
+/// memory runs out it fails with `OutOfMemory`, and hands the socket back.
 pub fn make_ends<F: AsRawFd + Drop, R: Wait + Clone + Drop>(
     rt: &R,
     alloc: Global,
@@ -82,45 +82,46 @@ pub fn make_ends<F: AsRawFd + Drop, R: Wait + Clone + Drop>(
 }
 
 impl<F: AsRawFd + Drop, R: Wait + Drop> Async<F, R> {
-    /// The socket comes in, as the loop has its adapter. One that was there is dropped.
+    /// Puts the socket in, once the loop has its adapter. A socket that was there is dropped.
     pub fn put(&self, io: F) {
         *self.end.io() = Some(io);
     }
 
-    /// The socket goes out, as its adapter has left the loop. `None` if it was taken out before.
+    /// Takes the socket out, once its adapter has left the loop. `None` if it was taken out before.
     pub fn take(&self) -> Option<F> {
         self.end.io().take()
     }
 
-    /// Its registration, if it is in a loop: from now on the loop may take it out. What begins so ends with `stay`, or as the adapter leaves.
+    /// Returns its registration, if in a loop: from now on the loop may take it out, until `stay` is called or the adapter
+    /// leaves.
     pub fn begin_leaving(&self) -> Option<RegistrationToken> {
         self.end.begin_leaving()
     }
 
-    /// It stays in its loop, if it is in one, as its leaving was refused.
+    /// Keeps it in its loop, if it is in one, since its leaving failed.
     pub fn stay(&self) {
         self.end.stay();
     }
 
-    /// The socket, to be changed. It is there until it is taken out; while this is held, a dispatch of the loop that settles the adapter
-    /// waits. Calloop answers a reference.
+    /// Lends the socket, to be changed. It is there until it is taken out. While the guard is held, a dispatch of the loop that
+    /// settles the adapter waits. Calloop returns a reference.
     pub fn get_mut(&mut self) -> MutexGuard<'_, Option<F>> {
         self.end.io()
     }
 }
 
 impl<F: AsRawFd + Drop, R: Wait + Clone + Drop> Async<F, R> {
-    /// A future that is ready once the socket can be read, or is in error.
+    /// Makes a future that is ready once the socket can be read, or is in error.
     pub fn readable(&mut self) -> Readable<'_, F, R> {
         Readable::of(self)
     }
 
-    /// A future that is ready once the socket can be written, or is in error.
+    /// Makes a future that is ready once the socket can be written, or is in error.
     pub fn writable(&mut self) -> Writable<'_, F, R> {
         Writable::of(self)
     }
 
-    // A poll for this readiness.
+    // Polls for this readiness.
     pub(crate) fn poll_for(
         &mut self,
         cx: &mut Context<'_, R>,
@@ -140,7 +141,7 @@ impl<F: AsRawFd + Drop, R: Wait + Clone + Drop> Async<F, R> {
         }
     }
 
-    // It waits for this.
+    // Waits for this interest.
     fn wait(&mut self, waker: &Waker<R>, wanted: Interest) -> LoopResult<()>
         ensures ok { OnOk result (self.new ≡ with_poll_note (Waits wanted) self.old) }
         ensures err { IfErr result (λ e. (e ≡ OutOfMemory)
@@ -152,7 +153,7 @@ impl<F: AsRawFd + Drop, R: Wait + Clone + Drop> Async<F, R> {
         Ok(())
     }
 
-    // The answer of a call of the socket, unless it would block: then it waits for this.
+    // The answer of a call of the socket, unless it would block: then the poll waits for this interest.
     fn answer<T>(
         &mut self,
         cx: &mut Context<'_, R>,
@@ -172,8 +173,8 @@ impl<F: AsRawFd + Drop, R: Wait + Clone + Drop> Async<F, R> {
         }
     }
 
-    /// Reads. Where the socket has nothing yet, it waits until the socket can be read. A refusal of a registration comes first, once;
-    /// without memory to wait the answer is an error of kind `Other`, and without a socket one of kind `NotFound`.
+    /// Reads. If the socket has nothing yet, it waits until the socket can be read. A registration error comes first, once. If
+    /// there is no memory to wait, it fails with an error of kind `Other`, and without a socket with one of kind `NotFound`.
     pub fn poll_read(&mut self, cx: &mut Context<'_, R>, buf: &mut [u8]) -> Poll<io::Result<usize>>
     where
         F: Read,
@@ -187,7 +188,7 @@ impl<F: AsRawFd + Drop, R: Wait + Clone + Drop> Async<F, R> {
         self.answer(cx, Interest::READ, read)
     }
 
-    /// Writes. Where the socket takes nothing yet, it waits until the socket can be written. Refusals are those of `poll_read`.
+    /// Writes. If the socket takes nothing yet, it waits until the socket can be written. It fails as `poll_read` does.
     pub fn poll_write(&mut self, cx: &mut Context<'_, R>, buf: &[u8]) -> Poll<io::Result<usize>>
     where
         F: Write,
@@ -201,7 +202,7 @@ impl<F: AsRawFd + Drop, R: Wait + Clone + Drop> Async<F, R> {
         self.answer(cx, Interest::WRITE, written)
     }
 
-    /// Flushes what was written. Refusals are those of `poll_read`.
+    /// Flushes what was written. It fails as `poll_read` does.
     pub fn poll_flush(&mut self, cx: &mut Context<'_, R>) -> Poll<io::Result<()>>
     where
         F: Write,

@@ -1,4 +1,4 @@
-//! What was done to an adapter by each of its ends, as contracts alone see it. It has no bytes.
+//! What each end of an adapter did, as contracts alone see it. It has no bytes.
 use calloop_poll::sys::{Interest, Readiness};
 use calloop_slots::error::{Error, Result as LoopResult};
 use calloop_wake::ghosts::LentNote;
@@ -12,14 +12,14 @@ pub enum Settled {
     Leaves,
 }
 
-/// What an `Async` did.
+/// An action of an `Async`.
 #[derive(Drop)]
 pub enum PollNote {
-    /// A wait was answered so: by a refusal that was kept, or by what an event found.
+    /// A wait was answered so: by a kept refusal, or by what an event found.
     Answered(LoopResult<()>),
-    /// Where a refusal was kept, it was taken.
+    /// If a refusal was kept, it was taken.
     Refused(Option<Error>),
-    /// It waits for this, and the adapter is marked.
+    /// A poll waits for this, and the adapter is marked.
     Waits(Interest),
     /// Its socket was read or written, with this answer.
     Tried(io::Result<usize>),
@@ -27,18 +27,18 @@ pub enum PollNote {
     Flushed(io::Result<()>),
 }
 
-/// What the end in a slot did.
+/// An action of the end in a slot.
 #[derive(Drop)]
 pub enum SlotNote {
-    /// An event was kept, and who waits was woken.
+    /// An event was kept, and the waiting poll was woken.
     Heard(Readiness),
     /// What the loop is to do with the adapter, which was marked.
     Settled(Settled),
-    /// A registration was refused so, and who waits was woken.
+    /// A registration failed so, and the waiting poll was woken.
     Kept(Error),
-    /// Whether it is being given back.
+    /// True if it is being given back.
     Asked(bool),
-    /// Whether its socket was there, to be registered.
+    /// True if its socket was there, to be registered.
     Reached(bool),
 }
 

@@ -1,4 +1,4 @@
-//! Futures of what a socket is ready for. Each gives that it is ready, or a refusal of its registration.
+//! Futures of a socket's readiness. Each one's result is that the socket is ready, or an error of its registration.
 ghost use Rattle.calloop_io.specs.Refusals.{IsAnswer};
 
 use super::Async;
@@ -8,7 +8,7 @@ use calloop_slots::error::Result as LoopResult;
 use std::os::fd::AsRawFd;
 use std::sync::Wait;
 
-/// Is ready once the socket can be read, or is in error. A refusal of a registration comes first, once.
+/// A future that is ready once the socket can be read, or is in error. A registration error comes first, once.
 #[derive(Drop)]
 pub struct Readable<'a, F: AsRawFd + Drop, R: Wait + Drop> {
     io: &'a mut Async<F, R>,
@@ -25,13 +25,14 @@ impl<'a, F: AsRawFd + Drop, R: Wait + Clone + Drop> Future<R> for Readable<'a, F
 
     ghost gives = { λ _ answer. IsAnswer answer };
 
-    /// Takes the readiness that an event left. Where that isn't one to read, it waits; without memory for that it is ready with `OutOfMemory`.
+    /// Takes the readiness that an event left. If not one to read, it waits; without memory for that it is ready with
+    /// `OutOfMemory`.
     fn poll(&mut self, cx: &mut Context<'_, R>) -> Poll<LoopResult<()>> {
         self.io.poll_for(cx, Interest::READ)
     }
 }
 
-/// Is ready once the socket can be written, or is in error. A refusal of a registration comes first, once.
+/// A future that is ready once the socket can be written, or is in error. A registration error comes first, once.
 #[derive(Drop)]
 pub struct Writable<'a, F: AsRawFd + Drop, R: Wait + Drop> {
     io: &'a mut Async<F, R>,
@@ -48,8 +49,8 @@ impl<'a, F: AsRawFd + Drop, R: Wait + Clone + Drop> Future<R> for Writable<'a, F
 
     ghost gives = { λ _ answer. IsAnswer answer };
 
-    /// Takes the readiness that an event left. Where that isn't one to write, it waits; without memory for that it is ready with
-    /// `OutOfMemory`.
+    /// Takes the readiness that an event left. If that isn't one to write, it waits; if there is no memory for that it is ready
+    /// with `OutOfMemory`.
     fn poll(&mut self, cx: &mut Context<'_, R>) -> Poll<LoopResult<()>> {
         self.io.poll_for(cx, Interest::WRITE)
     }

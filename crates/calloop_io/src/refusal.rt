@@ -11,7 +11,7 @@ pub(crate) struct Refusal {
 }
 
 impl Refusal {
-    // Of a registration that was refused so.
+    // Makes the refusal of a registration that failed with this error.
     pub(crate) fn new(error: Error) -> Refusal
         requires { of_registration error ≡ true }
         ensures { result.error ≡ error }

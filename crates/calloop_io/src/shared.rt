@@ -1,5 +1,5 @@
-//! What the two ends of an adapter share: its state and its socket, each under a lock of its own, of which none is taken within
-//! the other. Each end has its own tally with it, which notes what it did.
+//! What the two ends of an adapter share: its state and its socket, each under a lock of its own; neither is taken within the
+//! other. Each end has its own tally besides, which notes what that end did.
 ghost use Rattle.std.specs.Prelude.{◌≡◌, [], ℕ, ℤ, true, is_some, IfOk, IfErr, IfSome, IfNone, OnErr};
 ghost use Rattle.std.specs.Io.{ReadsAtMost, WritesAtMost};
 ghost use Rattle.std.specs.Arc.{arc_value};
@@ -35,7 +35,7 @@ pub(crate) struct Shared<F: AsRawFd + Drop, R: Wait + Drop> {
     io: Mutex<Option<F>>,
 }
 
-/// What an `Async` has of its adapter. In a clause it is the tally.
+/// An `Async`'s part of its adapter. In a clause it is the tally.
 pub(crate) struct PollEnd<F: AsRawFd + Drop, R: Wait + Drop> {
     rt: R,
     shared: Arc<Shared<F, R>, Global>,
@@ -54,7 +54,7 @@ impl<F: AsRawFd + Drop, R: Wait + Drop> Model for PollEnd<F, R> {
     ghost invariant = { λ e. e.tally.name ≡ (arc_value e.shared).state.tag };
 }
 
-/// What the end in a slot has of its adapter. In a clause it is the tally.
+/// The part of an adapter that its end in a slot has. In a clause it is the tally.
 #[derive(Drop)]
 pub(crate) struct SlotEnd<F: AsRawFd + Drop, R: Wait + Drop> {
     rt: R,
@@ -74,7 +74,7 @@ impl<F: AsRawFd + Drop, R: Wait + Drop> Model for SlotEnd<F, R> {
     ghost invariant = { λ e. e.tally.name ≡ (arc_value e.shared).state.tag };
 }
 
-/// Both ends of an adapter that is in no loop yet, without its socket. Running out of memory is `OutOfMemory`.
+/// Makes both ends of an adapter that is in no loop yet, without its socket. Fails with `OutOfMemory` if memory runs out.
 pub(crate) fn make_ends<F: AsRawFd + Drop, R: Wait + Clone + Drop>(
     rt: &R,
     alloc: Global,
@@ -104,7 +104,7 @@ pub(crate) fn make_ends<F: AsRawFd + Drop, R: Wait + Clone + Drop>(
     Ok((slot, poll))
 }
 
-// Puts an adapter among the marks of its loop. Without memory it isn't there.
+// Puts an adapter among the marks of its loop. If there is no memory it isn't among them.
 fn put_mark<R: Wait + Drop>(
     rt: &R,
     state: &Locked<State<R>>,
@@ -125,12 +125,12 @@ fn put_mark<R: Wait + Drop>(
 }
 
 impl<F: AsRawFd + Drop, R: Wait + Drop> PollEnd<F, R> {
-    /// The socket, if it is there, under its lock.
+    /// Locks the socket, if it is there.
     pub(crate) fn io(&self) -> MutexGuard<'_, Option<F>> {
         self.shared.io.lock(&self.rt)
     }
 
-    /// A refusal that is kept, once.
+    /// Takes a kept refusal, once.
     pub(crate) fn take_refusal(&mut self) -> Option<Error>
         ensures refused { IfSome result (λ e. of_registration e ≡ true) }
         ensures tally { self.new ≡ with_poll_note (Refused result) self.old }
@@ -141,7 +141,7 @@ impl<F: AsRawFd + Drop, R: Wait + Drop> PollEnd<F, R> {
         error
     }
 
-    /// What a poll is answered; else it waits, and the loop is woken.
+    /// Answers a poll. If there is no answer, the poll waits, and the loop is woken.
     pub(crate) fn answer_or_wait(
         &mut self,
         wanted: Interest,
@@ -167,7 +167,7 @@ impl<F: AsRawFd + Drop, R: Wait + Drop> PollEnd<F, R> {
         Ok(None)
     }
 
-    /// A poll waits, and the loop is woken.
+    /// Lets a poll wait, and wakes the loop.
     pub(crate) fn wait(&mut self, wanted: Interest, waker: Waker<R>) -> Result<(), AllocError>
         ensures { self.new ≡ with_poll_note (Waits wanted) self.old }
     {
@@ -210,7 +210,7 @@ impl<F: AsRawFd + Drop, R: Wait + Drop> PollEnd<F, R> {
         self.tally.try_flush(&mut *held)
     }
 
-    // Its registration, if it is in a loop, from where it may be taken out from now on, or not.
+    // Returns its registration, if it is in a loop, and sets whether the loop may take it out from now on.
     fn set_leaving(&self, leaving: bool) -> Option<RegistrationToken> {
         let mut held = self.shared.state.lock(&self.rt);
         let state = held.core();
@@ -220,29 +220,29 @@ impl<F: AsRawFd + Drop, R: Wait + Drop> PollEnd<F, R> {
         token
     }
 
-    /// Its registration, if it is in a loop, from where it may be taken out now.
+    /// Returns its registration, if it is in a loop, which may take it out from now on.
     pub(crate) fn begin_leaving(&self) -> Option<RegistrationToken> {
         self.set_leaving(true)
     }
 
-    /// It stays in its loop, if it is in one.
+    /// Keeps it in its loop, if it is in one.
     pub(crate) fn stay(&self) {
         let _token = self.set_leaving(false);
     }
 
-    /// The `Async` is gone.
+    /// Drops the `Async`'s end.
     pub(crate) fn let_go(self) {
         let PollEnd { rt, shared, tally } = self;
         let mut held = shared.state.lock(&rt);
         let debt = held.core().let_go(&rt, tally);
         held.unlock();
-        // Without memory for the mark, the adapter leaves with its loop.
+        // If there is no memory for the mark, the adapter leaves with its loop.
         let _failed = put_mark(&rt, &shared.state, debt);
     }
 }
 
 impl<F: AsRawFd + Drop, R: Wait + Drop> SlotEnd<F, R> {
-    /// Registers the socket for this, if it is there, first or anew.
+    /// Registers the socket for this interest, if it is there, first or anew.
     pub(crate) fn register<P: Poller, C>(
         &mut self,
         entered: bool,
@@ -269,22 +269,22 @@ impl<F: AsRawFd + Drop, R: Wait + Drop> SlotEnd<F, R> {
         }
     }
 
-    /// The socket, if it is there, under its lock.
+    /// Locks the socket, if it is there.
     pub(crate) fn io(&self) -> MutexGuard<'_, Option<F>> {
         self.shared.io.lock(&self.rt)
     }
 
-    /// Makes room for its mark in this loop. Running out of memory changes nothing.
+    /// Makes room for its mark in this loop. If memory runs out, nothing changes.
     pub(crate) fn open_mark(&self, hub: &SharedHub) -> Result<(), AllocError> {
         hub.open_mark(&self.rt)
     }
 
-    /// It needs no room for its mark any more.
+    /// Gives up the room for its mark.
     pub(crate) fn close_mark(&self, hub: &SharedHub) {
         hub.close_mark(&self.rt);
     }
 
-    /// It comes into a loop, where what was asked of it until then is taken up.
+    /// Enters a loop, which takes up what was asked of it until then.
     pub(crate) fn come_into(&self, hub: &SharedHub, token: RegistrationToken) {
         let home = Home {
             hub: share(&self.rt, hub),
@@ -296,14 +296,14 @@ impl<F: AsRawFd + Drop, R: Wait + Drop> SlotEnd<F, R> {
         let _failed = put_mark(&self.rt, &self.shared.state, debt);
     }
 
-    /// It leaves its loop.
+    /// Leaves its loop.
     pub(crate) fn leave(&self) {
         let mut held = self.shared.state.lock(&self.rt);
         held.core().leave(&self.tally);
         held.unlock();
     }
 
-    /// Whether it is being given back.
+    /// True if it is being given back.
     pub(crate) fn is_leaving(&mut self) -> bool
         ensures { self.new ≡ with_slot_note (Asked result) self.old }
     {
@@ -313,7 +313,7 @@ impl<F: AsRawFd + Drop, R: Wait + Drop> SlotEnd<F, R> {
         leaving
     }
 
-    /// What the loop is to do with it.
+    /// Returns what the loop is to do with it.
     pub(crate) fn settle(&mut self) -> Settled
         ensures { self.new ≡ with_slot_note (SettledSo result) self.old }
     {
@@ -323,7 +323,7 @@ impl<F: AsRawFd + Drop, R: Wait + Drop> SlotEnd<F, R> {
         settled
     }
 
-    /// Keeps a refusal, and wakes who waits.
+    /// Keeps a refusal, and wakes the waiting poll.
     pub(crate) fn refuse(&mut self, refusal: Refusal)
         ensures { self.new ≡ with_slot_note (Kept refusal.error) self.old }
     {
@@ -333,7 +333,7 @@ impl<F: AsRawFd + Drop, R: Wait + Drop> SlotEnd<F, R> {
         waking.wake();
     }
 
-    /// Keeps what was found, and wakes who waits.
+    /// Keeps the readiness found, and wakes the waiting poll.
     pub(crate) fn hear(&mut self, found: Readiness)
         ensures { self.new ≡ with_slot_note (Heard found) self.old }
     {

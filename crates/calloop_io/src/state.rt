@@ -1,5 +1,5 @@
-//! What the two ends of an adapter know of it, beside its socket, under a lock with its name. What an end does there it notes in a value that
-//! nobody else has, its tally: so its contracts say what it did.
+//! What the two ends of an adapter know of it, besides its socket, under a lock with its name. Each end notes what it does there
+//! in its tally, a value that nobody else has: so its contracts say what it did.
 ghost use Rattle.std.specs.Prelude.{◌≡◌, ◌++◌, ◌∷◌, [], None, Some, true, false, is_some, not, ◌&&◌, ◌||◌, IfSome, IfNone, option_map};
 ghost use Rattle.std.specs.Io.{ReadsAtMost, WritesAtMost};
 ghost use Rattle.calloop_io.specs.AdapterStates.{suits, fresh_state, error_of, answer_of, after_answer, after_wait, after_coming, after_drop, settled_by};
@@ -24,14 +24,14 @@ use std::io::{Read, Write};
 use std::sync::Wait;
 use std::{io, mem};
 
-/// Which adapter of which loop it is.
+/// Says which adapter of which loop it is.
 #[derive(Drop)]
 pub(crate) struct Home {
     pub(crate) hub: SharedHub,
     pub(crate) token: RegistrationToken,
 }
 
-/// What the `Async` of the adapter of this name did. There is one for each adapter, and it is spent where the `Async` is let go.
+/// What the `Async` of the adapter of this name did. There is one for each adapter, and it is spent when the `Async` is dropped.
 #[must_use]
 pub struct PollTally {
     name: Name,
@@ -45,13 +45,13 @@ pub struct SlotTally {
     notes: Notes<SlotNote>,
 }
 
-/// The right to what the `Async` of the adapter of this name has. There is one for each, made with it, and it can't be cloned.
+/// The right to the `Async`'s part of the adapter of this name. There is one for each, made with it, and it can't be cloned.
 #[derive(Drop)]
 pub(crate) struct PollRight {
     name: Name,
 }
 
-/// The right to what the end in a slot of the adapter of this name has. There is one for each, made with it, and it can't be cloned.
+/// The right to the slot's part of the adapter of this name. There is one for each, made with it, and it can't be cloned.
 #[derive(Drop)]
 pub(crate) struct SlotRight {
     name: Name,
@@ -70,7 +70,7 @@ pub(crate) struct NotMarked {
 }
 
 impl MarkDebt {
-    /// Spends it: the adapter is among the marks of its loop, which is woken.
+    /// Spends the debt: the adapter is among the marks of its loop, which is woken.
     pub(crate) fn mark<R: Wait>(self, rt: &R) -> Result<(), NotMarked> {
         let MarkDebt { home } = self;
         match home.hub.mark(rt, home.token) {
@@ -80,14 +80,14 @@ impl MarkDebt {
     }
 }
 
-/// Who waits, and is to be woken, where somebody does.
+/// The waker of the waiting poll, to be woken, if there is one.
 #[must_use]
 pub(crate) struct Waking<R: Wait + Drop> {
     waker: Option<Waker<R>>,
 }
 
 impl<R: Wait + Drop> Waking<R> {
-    /// Spends it, outside of every lock.
+    /// Spends the value and wakes, outside of every lock.
     pub(crate) fn wake(self) {
         let Waking { waker } = self;
         if let Some(waker) = waker {
@@ -96,23 +96,23 @@ impl<R: Wait + Drop> Waking<R> {
     }
 }
 
-/// A poll waits: the waker of the one before, and what is owed for the mark.
+/// The outcome of a wait: the waker of the poll before, and the debt for the mark.
 pub(crate) struct Waiting<R: Wait + Drop> {
     pub(crate) older: Option<Waker<R>>,
     pub(crate) debt: Option<MarkDebt>,
 }
 
-/// What both ends share, as it lies under the lock. It has no `Drop`.
+/// What both ends share, under the lock. It has no `Drop`.
 pub(crate) struct State<R: Wait + Drop> {
     // What the last poll waits for.
     interest: Option<Interest>,
     readiness: Readiness,
     waker: Option<Waker<R>>,
     refusal: Option<Refusal>,
-    // It is among the marks of its loop, or that is owed.
+    // True if the adapter is among the marks of its loop, or that is owed.
     marked: bool,
     dropped: bool,
-    // It is being given back.
+    // True if the adapter is being given back.
     leaving: bool,
     home: Option<Home>,
     name: Name,
@@ -143,7 +143,7 @@ impl<R: Wait + Drop> Core for State<R> {
     }
 }
 
-// Whether what was found answers a wait for this.
+// True if the readiness found answers a wait for this interest.
 fn suits(wanted: Interest, found: Readiness) -> bool
     ensures { result ≡ suits wanted found }
 {
@@ -155,7 +155,7 @@ fn not_there() -> io::Error {
 }
 
 impl PollRight {
-    /// The tally, which did nothing yet.
+    /// Makes the tally, which did nothing yet.
     pub(crate) fn into_tally(self) -> PollTally
         ensures { result ≡ record { name = self.name; notes = [] } }
     {
@@ -168,7 +168,7 @@ impl PollRight {
 }
 
 impl SlotRight {
-    /// The tally, which did nothing yet.
+    /// Makes the tally, which did nothing yet.
     pub(crate) fn into_tally(self) -> SlotTally
         ensures { result ≡ record { name = self.name; notes = [] } }
     {
@@ -181,7 +181,7 @@ impl SlotRight {
 }
 
 impl PollTally {
-    /// Reads the socket, where it is there, and notes the answer.
+    /// Reads the socket, if it is there, and notes the answer.
     pub(crate) fn try_read<Io: Read>(
         &mut self,
         io: &mut Option<Io>,
@@ -198,7 +198,7 @@ impl PollTally {
         answer
     }
 
-    /// Writes to the socket, where it is there, and notes the answer.
+    /// Writes to the socket, if it is there, and notes the answer.
     pub(crate) fn try_write<Io: Write>(
         &mut self,
         io: &mut Option<Io>,
@@ -215,7 +215,7 @@ impl PollTally {
         answer
     }
 
-    /// Flushes the socket, where it is there, and notes the answer.
+    /// Flushes the socket, if it is there, and notes the answer.
     pub(crate) fn try_flush<Io: Write>(&mut self, io: &mut Option<Io>) -> io::Result<()>
         ensures tally { self.new ≡ with_poll_note (Flushed result) self.old }
     {
@@ -229,7 +229,7 @@ impl PollTally {
 }
 
 impl SlotTally {
-    /// Notes whether the socket is there.
+    /// Notes if the socket is there.
     pub(crate) fn reach<Io>(&mut self, io: &Option<Io>)
         ensures { self.new ≡ with_slot_note (Reached (is_some io.now)) self.old }
     {
@@ -238,7 +238,7 @@ impl SlotTally {
 }
 
 impl<R: Wait + Drop> State<R> {
-    /// Of an adapter that is in no loop yet, its name, and the rights of its ends.
+    /// Makes the state of an adapter that is in no loop yet, its name, and the rights of its ends.
     pub(crate) fn new() -> (State<R>, Name, PollRight, SlotRight)
         ensures state { result.0 ≡ fresh_state result.1 }
         ensures poll { result.2.name ≡ result.1 }
@@ -261,7 +261,7 @@ impl<R: Wait + Drop> State<R> {
         (state, name, poll, slot)
     }
 
-    /// The refusal that is kept, once.
+    /// Takes the kept refusal, once.
     pub(crate) fn take_refusal(&mut self, tally: &mut PollTally) -> Option<Error>
         requires { tally.old.name ≡ self.old.name }
         ensures gives { result ≡ option_map error_of self.old.refusal }
@@ -277,7 +277,7 @@ impl<R: Wait + Drop> State<R> {
         error
     }
 
-    // What a poll that waits for this is answered.
+    // The answer to a poll that waits for this interest.
     fn answer_to(&mut self, wanted: Interest) -> Option<LoopResult<()>>
         ensures answer { result ≡ answer_of self.old.refusal wanted self.old.readiness }
         ensures refused { IfSome result IsAnswer }
@@ -294,7 +294,7 @@ impl<R: Wait + Drop> State<R> {
         }
     }
 
-    /// What a poll that waits for this is answered, once: a kept refusal first, and then what was found.
+    /// The answer to a poll that waits for this interest, once: a kept refusal first, and then the readiness found.
     pub(crate) fn answer(
         &mut self,
         tally: &mut PollTally,
@@ -312,7 +312,7 @@ impl<R: Wait + Drop> State<R> {
         Some(answer)
     }
 
-    // What is owed for its mark, where it is in a loop and isn't marked.
+    // Sets the mark and returns the debt to post it, if the adapter is in a loop and isn't marked yet.
     fn mark<S: Wait>(&mut self, rt: &S) -> Option<MarkDebt>
         ensures owes { is_some result ≡ (is_some self.old.home && not self.old.marked) }
         ensures state { self.new
@@ -332,7 +332,7 @@ impl<R: Wait + Drop> State<R> {
         Some(debt)
     }
 
-    /// A poll has to wait for this.
+    /// Lets a poll wait for this interest.
     pub(crate) fn wait(
         &mut self,
         rt: &R,
@@ -353,7 +353,7 @@ impl<R: Wait + Drop> State<R> {
         Waiting { older, debt }
     }
 
-    /// There was no memory for its mark.
+    /// Takes the mark back, since there was no memory for it.
     pub(crate) fn unmark(&mut self, failed: NotMarked) -> AllocError
         ensures { self.new ≡ record self.old { marked = false } }
     {
@@ -362,7 +362,7 @@ impl<R: Wait + Drop> State<R> {
         AllocError
     }
 
-    /// Its registration, where it is in a loop.
+    /// The adapter's registration, if it is in a loop.
     pub(crate) fn registration(&self) -> Option<RegistrationToken>
         ensures { is_some result ≡ is_some self.now.home }
     {
@@ -372,7 +372,7 @@ impl<R: Wait + Drop> State<R> {
         }
     }
 
-    /// It comes into a loop, where what was asked of it until then is taken up.
+    /// Enters a loop, which takes up what was asked of the adapter until then.
     pub(crate) fn come_into(&mut self, rt: &R, tally: &SlotTally, home: Home) -> Option<MarkDebt>
         requires { tally.now.name ≡ self.old.name }
         ensures owes { is_some result ≡ true }
@@ -384,7 +384,7 @@ impl<R: Wait + Drop> State<R> {
         self.mark(rt)
     }
 
-    /// It leaves its loop.
+    /// Leaves its loop.
     pub(crate) fn leave(&mut self, tally: &SlotTally)
         requires { tally.now.name ≡ self.old.name }
         ensures { self.new ≡ record self.old { home = None; marked = false } }
@@ -394,7 +394,7 @@ impl<R: Wait + Drop> State<R> {
         self.marked = false;
     }
 
-    /// It was taken from the marks: what the loop is to do.
+    /// Returns what the loop is to do with the adapter, which was taken from the marks.
     pub(crate) fn settle(&mut self, tally: &mut SlotTally) -> Settled
         requires { tally.old.name ≡ self.old.name }
         ensures settled { result ≡ settled_by self.old.marked self.old.dropped self.old.interest }
@@ -422,7 +422,7 @@ impl<R: Wait + Drop> State<R> {
         }
     }
 
-    /// Its registration was refused. Who waits is to be woken.
+    /// Keeps the refusal of its registration. The waiting poll is to be woken.
     pub(crate) fn refuse(&mut self, tally: &mut SlotTally, refusal: Refusal) -> Waking<R>
         requires { tally.old.name ≡ self.old.name }
         ensures wakes { result.waker ≡ self.old.waker }
@@ -438,7 +438,7 @@ impl<R: Wait + Drop> State<R> {
         }
     }
 
-    /// An event came. Who waits is to be woken.
+    /// Keeps what an event found. The waiting poll is to be woken.
     pub(crate) fn hear(&mut self, tally: &mut SlotTally, found: Readiness) -> Waking<R>
         requires { tally.old.name ≡ self.old.name }
         ensures wakes { result.waker ≡ self.old.waker }
@@ -454,7 +454,7 @@ impl<R: Wait + Drop> State<R> {
         }
     }
 
-    /// It is being given back, or that was refused.
+    /// Sets that the adapter is being given back, or isn't any more since that failed.
     pub(crate) fn set_leaving(&mut self, tally: &PollTally, leaving: bool)
         requires { tally.now.name ≡ self.old.name }
         ensures { self.new ≡ record self.old { leaving = leaving } }
@@ -463,7 +463,7 @@ impl<R: Wait + Drop> State<R> {
         self.leaving = leaving;
     }
 
-    /// Whether it is being given back.
+    /// True if the adapter is being given back.
     pub(crate) fn is_leaving(&self, tally: &mut SlotTally) -> bool
         requires { tally.old.name ≡ self.now.name }
         ensures answer { result ≡ self.now.leaving }
@@ -474,7 +474,7 @@ impl<R: Wait + Drop> State<R> {
         leaving
     }
 
-    /// Its other end is gone, whose tally is spent.
+    /// Notes that its other end is gone, and spends that end's tally.
     pub(crate) fn let_go(&mut self, rt: &R, tally: PollTally) -> Option<MarkDebt>
         requires { tally.name ≡ self.old.name }
         ensures owes { is_some result ≡ (is_some self.old.home && not self.old.marked) }

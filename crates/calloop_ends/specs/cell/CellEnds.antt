@@ -1,4 +1,4 @@
--- What is seen of the receiving end of a cell.
+-- The view of the receiving end of a cell.
 use Rattle.calloop_wake.specs.declared.Tally.{Tally}
 
 -- its tally, and the tag of its cell, which never changes

@@ -1,5 +1,5 @@
--- The receiving end of a cell holds no counter of a timer, makes no step of one, and stays at home, where its turns do. The impls
--- cite these proofs, so they stand here.
+-- The receiving end of a cell holds no counter of a timer, makes no step of a timer, and stays at home, as its turns do. The
+-- impls cite these proofs, so they stand here.
 use Rattle.std.proofs.Common.{refl}
 use Rattle.std.specs.Prelude.{◌≡◌, ℕ, List, Bool, true, false, Option, Some, None, Result, Ok, Err}
 use Rattle.std.proofs.Common.{inl, inr, ap, sym, ◌∙◌}
@@ -27,7 +27,7 @@ pub record IsQuietTurn {P : Type 0} (before after : Tally) (steps : List (PollSt
   pub counters : (next : ℕ) → Keeps holds_none next steps holds_none
   pub own : (r : RegistrationToken) → AllActFor r steps
 
--- what a turn does that the cell opens leaves the key as it is
+-- a turn that the cell opens leaves the key as it is
 abbrev pub OpensQuietly : {S E M T : Type 0} → (tally : S → Tally) → OpenTurns S E M T → Type 0
 OpensQuietly {S} {E} {M} {T} tally Opens =
     (s t : S) (calls : List (CallbackCall E M T)) (action : PostAction) → Opens s calls action t

@@ -1,4 +1,4 @@
--- What a channel means as a source. Its registrations are those of a ping.
+-- A channel as a source. Its registrations are those of a ping.
 use Rattle.std.specs.Prelude.{◌≡◌, ℕ, ◌+◌, ◌<◌, ◌⊎◌, Bool, true, false, ◌||◌, List, [], ◌∷◌, ◌++◌, Option}
 use Rattle.logbook.specs.Pages.{Book}
 use Rattle.calloop_wake.specs.declared.Tally.{Tally}
@@ -16,17 +16,17 @@ use Rattle.calloop_ends.specs.declared.channel.ChannelError.{ChannelError}
 use Rattle.calloop_ends.specs.cell.CellSources.{OpenTurns, cell_meaning}
 use Rattle.calloop_ends.specs.ping.Pings.{action_of}
 
--- what is seen of a channel: its tally, and how many messages it holds at most
+-- the view of a channel: its tally, and how many messages it holds at most
 pub record ReceivingEnd : Type 0 where
   pub tally : Tally
   pub bound : Option ℕ
 
--- what is seen of a sender whose channel has a bound: the name of the cell to which it sends, and the bound
+-- the view of a sender of a bounded channel: the name of the cell to which it sends, and the bound
 pub record BoundedEnd : Type 0 where
   pub name : Book
   pub bound : ℕ
 
--- one message more was handed out
+-- another message was handed out
 abbrev pub with_message : ReceivingEnd → ReceivingEnd
 with_message c = record c { tally = record c.tally { number = c.tally.number + 1 } }
 
@@ -37,7 +37,7 @@ ChannelCalls T = List (CallbackCall (Event T) (Unit {0}) (Unit {0}))
 abbrev pub calls_with : {T : Type 0} → Event T → ChannelCalls T
 calls_with e = record { event = e; before = tt; after = tt; answer = tt } ∷ []
 
--- what a pop's answer is called with: a message, the close, or nothing
+-- the call for a pop's answer: with a message, with the close, or none
 abbrev pub call_of : {T : Type 0} → Popped T → ChannelCalls T
 call_of (Item x) = calls_with (Msg x)
 call_of Empty = []
@@ -51,7 +51,7 @@ calls_of (p ∷ ps) = call_of p ++ calls_of ps
 abbrev pub turn_at_start : Label → ChannelTurn
 turn_at_start label = record { name = label.name; left = pops label.bound; done = false }
 
--- a turn with what its pops gave, in order
+-- a turn with the answers of its pops, in order
 abbrev pub turn_after : {T : Type 0} → List (Popped T) → ChannelTurn → ChannelTurn
 turn_after [] turn = turn
 turn_after (p ∷ ps) turn = turn_after ps (turn_after_pop p turn)
@@ -60,12 +60,12 @@ abbrev pub tally_after : {T : Type 0} → List (Popped T) → Tally → Tally
 tally_after [] tally = tally
 tally_after (p ∷ ps) tally = tally_after ps (tally_after_pop p tally)
 
--- each pop is made by a turn that may make one more, and whose last one found a message
+-- each pop is made by a turn that may make another one, and whose last pop found a message
 abbrev pub ArePops : {T : Type 0} → List (Popped T) → ChannelTurn → Type 0
 ArePops [] turn = Unit {0}
 ArePops (p ∷ ps) turn = (0 < turn.left) × (turn.done ≡ false) × ArePops ps (turn_after_pop p turn)
 
--- a turn ends at a pop that finds no message, or where it made all that it may
+-- a turn ends at a pop that finds no message, or after as many pops as it may make
 abbrev pub IsOver : ChannelTurn → Type 0
 IsOver turn = (turn.left ≡ 0) ⊎ (turn.done ≡ true)
 
@@ -74,8 +74,8 @@ abbrev pub told_in : {T : Type 0} → List (Popped T) → Bool
 told_in [] = false
 told_in (p ∷ ps) = is_close p || told_in ps
 
--- what a turn did: the pops that it made and what they gave, what became of it and of the tally, whether the close was told, and
--- that the callback was called for just these
+-- what a turn did: its pops and their answers, what became of the turn and of the tally, whether the close was told, and that the
+-- callback was called for just these
 pub record Handed
     {F T X Q : Type 0}
     (may : Calling F (Event T) (Unit {0}) (Unit {0}) X Q)
@@ -93,13 +93,13 @@ pub record Handed
 abbrev pub fresh_turn : LabelView → ChannelTurn
 fresh_turn label = record { name = label.name; left = pops label.bound; done = false }
 
--- what never changes of a channel's cell
+-- the part of a channel's cell that never changes
 abbrev pub label_of : ReceivingEnd → LabelView
 label_of c = record { name = c.tally.name; bound = c.bound }
 
--- A turn makes pops up to one that finds no message, or all that it may. The callback is called with their messages in order, and then
--- with the close where it is told, which removes the source; the tally counts just these. calloop's process_events is this loop over
--- its queue.
+-- A turn pops until a pop finds no message, or until its limit. The callback is called with the messages in order, and then with
+-- the close if it is told, which removes the source; the tally counts just these. calloop's process_events is this loop over its
+-- queue.
 abbrev pub ChannelOpens : {T : Type 0} → OpenTurns ReceivingEnd (Event T) (Unit {0}) (Unit {0})
 ChannelOpens {T} c calls action after =
     (popped : List (Popped T)) × ArePops popped (fresh_turn (label_of c)) × IsOver (turn_after popped (fresh_turn (label_of c)))

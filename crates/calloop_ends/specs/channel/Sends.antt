@@ -1,4 +1,4 @@
--- What a send hands back that is refused.
+-- The message that a failed send hands back.
 use Rattle.calloop_ends.specs.declared.channel.errors.SendError as sent
 use Rattle.calloop_ends.specs.declared.channel.errors.SendError.TheVariants.{Disconnected, OutOfMemory}
 use Rattle.calloop_ends.specs.declared.channel.errors.TrySendError as tried

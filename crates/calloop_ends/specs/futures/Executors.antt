@@ -1,4 +1,4 @@
--- What an executor means as a source. Its registrations are those of every cell.
+-- An executor as a source. Its registrations are those of every cell.
 use Rattle.std.specs.Prelude.{◌≡◌, ℕ, ◌+◌, ◌≤◌, Bool, true, false, List, [], ◌∷◌, ◌++◌, length}
 use Rattle.calloop_wake.specs.declared.Tally.{Tally}
 use Rattle.calloop_wake.specs.Cells.{one}
@@ -12,17 +12,17 @@ use Rattle.calloop_ends.specs.declared.futures.task.Poll.{Poll}
 use Rattle.calloop_ends.specs.declared.futures.task.Poll.TheVariants.{Ready, Pending}
 use Rattle.calloop_ends.specs.cell.CellSources.{OpenTurns, cell_meaning}
 
--- the calls of an executor's callback, by what its futures give
+-- the calls of an executor's callback, with the results of its futures
 abbrev pub ResultCalls : Type 0 → Type 0
 ResultCalls O = List (CallbackCall O (Unit {0}) (Unit {0}))
 
--- what came of one pop of a turn
+-- the outcome of one pop of a turn
 pub data OfPop (O : Type 0) : Type 0 where
-  -- its task's future was polled, and gave this
+  -- its task's future was polled, and gave this result
   Gave : (x : O) → OfPop O
-  -- it was polled, and is pending
+  -- the future was polled, and is pending
   Pends : OfPop O
-  -- it is still to come, so nothing was polled
+  -- the future is still to come, so nothing was polled
   Lacks : OfPop O
 
 abbrev pub gave : {O : Type 0} → OfPop O → Bool
@@ -35,13 +35,13 @@ lacks (Gave x) = false
 lacks Pends = false
 lacks Lacks = true
 
--- the call of one pop: with what the future gave, or none
+-- the call of one pop: with the future's result, or none
 abbrev pub call_of : {O : Type 0} → OfPop O → ResultCalls O
 call_of (Gave x) = record { event = x; before = tt; after = tt; answer = tt } ∷ []
 call_of Pends = []
 call_of Lacks = []
 
--- what the polls of a turn gave, in order: their calls
+-- the calls for the polls of a turn, in order
 abbrev pub calls_of : {O : Type 0} → List (OfPop O) → ResultCalls O
 calls_of [] = []
 calls_of (p ∷ ps) = call_of p ++ calls_of ps
@@ -51,18 +51,18 @@ abbrev pub results_of : {O : Type 0} → List (OfPop O) → ℕ
 results_of [] = 0
 results_of (p ∷ ps) = one (gave p) + results_of ps
 
--- of how many of them the future was still to come
+-- for how many of them the future was still to come
 abbrev pub misses_of : {O : Type 0} → List (OfPop O) → ℕ
 misses_of [] = 0
 misses_of (p ∷ ps) = one (lacks p) + misses_of ps
 
--- What comes of a future of the executor's type: a result that it may give, by a poll that it may make; or it is pending after such a one.
+-- The outcome of a future of the executor's type: a result that it may give, by a poll that it may make; or pending after one.
 abbrev pub ComesOf : {F O : Type 0} → (gives : F → O → Type 0) → (polls : F → Poll O → F → Type 0) → OfPop O → Type 0
 ComesOf {F} gives polls (Gave x) = (future : F) × (after : F) × polls future (Ready x) after × gives future x
 ComesOf {F} gives polls Pends = (future : F) × (after : F) × polls future Pending after
 ComesOf gives polls Lacks = Unit {0}
 
--- what came of the pops of a turn, where each is so
+-- the outcomes of the pops of a turn, if each is so
 abbrev pub AllGiven : {O : Type 0} → (given : OfPop O → Type 0) → List (OfPop O) → Type 0
 AllGiven given [] = Unit {0}
 AllGiven given (p ∷ ps) = given p × AllGiven given ps

@@ -1,21 +1,21 @@
--- What a poll gives, and what a scheduler answers that refuses a future.
+-- The answer of a poll, and the error of a scheduler that refuses a future.
 use Rattle.std.specs.Prelude.{◌≡◌}
 use Rattle.calloop_ends.specs.declared.futures.task.Poll.{Poll}
 use Rattle.calloop_ends.specs.declared.futures.task.Poll.TheVariants.{Ready, Pending}
 use Rattle.calloop_ends.specs.declared.futures.errors.ScheduleError.{ScheduleError}
 use Rattle.calloop_ends.specs.declared.futures.errors.ScheduleError.TheVariants.{Destroyed, OutOfMemory}
 
--- where it is ready, this holds of its value
+-- if the poll is ready, this holds of its value
 abbrev pub IfReady : {T : Type 0} → Poll T → (T → Type 0) → Type 0
 IfReady (Ready x) P = P x
 IfReady Pending P = Unit {0}
 
--- where it is pending, this holds
+-- if the poll is pending, this holds
 abbrev pub OnPending : {T : Type 0} → Poll T → Type 0 → Type 0
 OnPending (Ready x) P = Unit {0}
 OnPending Pending P = P
 
--- a refusal for lack of memory hands this very future back; one of an executor that is gone drops it, as calloop's does
+-- on failure for lack of memory this very future comes back; if the executor is gone it is dropped, as in calloop
 abbrev pub IsRefusalOf : {F : Type 0} → F → ScheduleError F → Type 0
 IsRefusalOf future (Destroyed e) = Unit {0}
 IsRefusalOf future (OutOfMemory back) = back ≡ future

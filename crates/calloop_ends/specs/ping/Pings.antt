@@ -1,6 +1,6 @@
--- A ping as a source: its registration and its turn. calloop's ping is a file that is written and read; here it is a
--- cell under its lock and a place on the board under another, so what they hold isn't seen: what the cell answers to
--- a pass comes from outside. What is seen of a source is its tally, which has the key that it gave the cell.
+-- A ping as a source: its registration and its turn. calloop's ping is a file that is written and read. Here it is a cell under
+-- its lock and a place on the board under another, so their content isn't seen: the cell's answer to a pass comes from outside.
+-- The view of a source is its tally, which has the key that it gave the cell.
 use Rattle.std.specs.Prelude.{◌≡◌, ℕ, ◌+◌, List, [], ◌∷◌, Bool, true, false, if◌then◌else◌}
 use Rattle.calloop_wake.specs.declared.Tally.{Tally}
 use Rattle.calloop_wake.specs.Cells.{one}
@@ -17,13 +17,12 @@ use Rattle.calloop_ends.specs.declared.ping.source.PingError.{PingError}
 abbrev pub PingCalls : Type 0
 PingCalls = List (CallbackCall (Unit {0}) (Unit {0}) (Unit {0}))
 
--- one call where a ping stood, and else none
+-- one call if the source was rung, and else none
 abbrev pub calls_of : (rang : Bool) → PingCalls
 calls_of true = record { event = tt; before = tt; after = tt; answer = tt } ∷ []
 calls_of false = []
 
--- what a turn answers: a close that it tells removes the source; calloop answers so where it reads the mark of a
--- close
+-- the answer of a turn: a close that it tells removes the source; calloop answers so when it reads the mark of a close
 abbrev pub action_of : (told : Bool) → PostAction
 action_of told = if told then Remove else Continue
 
@@ -32,14 +31,14 @@ abbrev pub tally_opened : (rung told : Bool) → Tally → Tally
 tally_opened rung told tally =
     record tally { turns = tally.turns + 1; number = tally.number + one rung; closes = tally.closes + one told }
 
--- A turn takes the ring and the close that stood: the source is called where it took a ring, and removed where it tells the close.
+-- A turn takes the ring and the close that were due: the source is called if it took a ring, and removed if it tells the close.
 -- In calloop process_events reads the descriptor empty.
 abbrev pub PingOpens : OpenTurns Tally (Unit {0}) (Unit {0}) (Unit {0})
 PingOpens tally calls action after =
     (rung : Bool) × (told : Bool) × (calls ≡ calls_of rung) × (action ≡ action_of told)
     × (after ≡ tally_opened rung told tally)
 
--- a ping's source is seen as its tally
+-- the view of a ping's source is its tally
 abbrev pub ping_tally : Tally → Tally
 ping_tally tally = tally
 
@@ -51,7 +50,7 @@ abbrev pub IsPing : {P : Type 0} → Tally → PollView P → Deed (Heard (Unit 
     → List (PollStep P) → Tally → Type 0
 IsPing before v deed steps after = IsCell ping_tally SamePing PingOpens before v deed steps after
 
--- the key that it gave its cell
+-- the key that the source gave its cell
 abbrev pub ping_keys : Tally → (key : ℕ) → Type 0
 ping_keys tally key = cell_keys ping_tally tally key
 

@@ -1,4 +1,4 @@
--- What a stream means as a source. Its registrations are those of the ping that its waker rings. calloop's StreamSource polls without a
+-- A stream as a source. Its registrations are those of the ping that its waker rings. calloop's StreamSource polls without a
 -- limit, and may tell the end again.
 use Rattle.std.specs.Prelude.{◌≡◌, ℕ, ◌<◌, List, [], ◌∷◌, length, Bool, true, false, Option, None, Some}
 use Rattle.logbook.specs.Pages.{Book}
@@ -41,7 +41,7 @@ abbrev pub calls_of : {I : Type 0} → List I → Ending → StreamCalls I
 calls_of [] ending = end_calls ending
 calls_of (x ∷ xs) ending = call_with (Some x) ∷ calls_of xs ending
 
--- a turn ends where the stream is pending or at its end, or after so many items
+-- a turn ends when the stream is pending or at its end, or after so many items
 abbrev pub EndsSo : (items : ℕ) → Ending → Type 0
 EndsSo items AtPending = items < most_items
 EndsSo items AtEnd = items < most_items
@@ -53,28 +53,28 @@ action_of AtEnd = Remove
 action_of AtPending = Continue
 action_of AtLimit = Continue
 
--- it rings its own ping at the limit, of which it keeps the receipt
+-- at the limit a stream rings its own ping, and keeps the receipt
 abbrev pub RingsItself : (name : Book) → Ending → Option Receipt → Type 0
 RingsItself name AtLimit (Some r) = r.name ≡ name
 RingsItself name AtLimit None = ⊥
 RingsItself name AtPending receipt = receipt ≡ None
 RingsItself name AtEnd receipt = receipt ≡ None
 
--- what is seen of a stream's source: the stream, until its end was told, and the receipt of its own ring
+-- the view of what a source reads: the stream, until its end was told, and the receipt of its own ring
 pub record Reading (S : Type 0) : Type 0 where
   pub stream : Option S
   pub own : Option Receipt
 
--- what is seen of a stream's source: its tally, as that of a ping, and what it reads
+-- the view of a stream's source: its tally, as that of a ping, and what it reads
 pub record StreamEnd (S : Type 0) : Type 0 where
   pub tally : Tally
   pub reading : Reading S
 
--- one that is registered nowhere and wasn't polled
+-- a source that isn't registered and wasn't polled
 abbrev pub fresh_stream : {S : Type 0} → S → (name : Book) → StreamEnd S
 fresh_stream stream name = record { tally = fresh_tally name; reading = record { stream = Some stream; own = None } }
 
--- the same by the parts
+-- what a source reads, made from the parts
 abbrev pub reading_of : {S R I : Type 0} → Option (Readable S R I) → Option Receipt → Reading S
 reading_of stream own = record { stream = option_map (λ r. r.stream) stream; own = own }
 
@@ -99,7 +99,7 @@ StreamOpens {S} {I} polls s calls action after =
 abbrev pub stream_tally : {S : Type 0} → StreamEnd S → Tally
 stream_tally s = s.tally
 
--- its cell stays the same one, and what it reads
+-- its cell stays the same one, and what it reads stays
 abbrev pub SameStream : {S : Type 0} → (before after : StreamEnd S) → Type 0
 SameStream before after = (after.tally.name ≡ before.tally.name) × (after.reading ≡ before.reading)
 

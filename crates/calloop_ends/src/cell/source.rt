@@ -1,5 +1,5 @@
-//! The receiving end of a cell as a source of the loop, for every kind of cell: its turn, and what registers, moves and takes back its
-//! key.
+//! The receiving end of a cell as a source of the loop, for every kind of cell: its turn, and what registers, moves and takes
+//! back its key.
 ghost use Rattle.std.specs.Prelude.{◌≡◌, List, []};
 ghost use Rattle.calloop_slots.specs.Tokens.{key_of};
 ghost use Rattle.calloop_wake.specs.Cells.{is_own};
@@ -18,14 +18,14 @@ use calloop_wake::{TakenPass, Tally};
 use std::io;
 use std::sync::Wait;
 
-/// A source that is the receiving end of a cell: what its kind of cell does in a turn. All else of a turn is `take_turn`.
+/// A source that is the receiving end of a cell: what its kind of cell does in a turn. The rest of a turn is `take_turn`.
 pub(crate) trait CellSource {
     ghost use Rattle.std.specs.Prelude.{◌≡◌, List, [], Some, IfOk, IfErr};
     ghost use Rattle.calloop_wake.specs.declared.Tally.{Tally};
     ghost use Rattle.calloop_sources.specs.sources.Calls.{CallbackCall, Went};
     ghost use Rattle.calloop_ends.specs.cell.CellSources.{OpenTurns};
 
-    /// What its callback is called with.
+    /// The argument of its callback.
     type Event;
 
     ghost tally_of: { Self → Tally };
@@ -36,7 +36,7 @@ pub(crate) trait CellSource {
     fn tally(&self) -> &Tally
         ensures { result.now ≡ tally_of self.now };
 
-    /// A turn of its cell, from its opening to its end. The pass comes back as refused where the cell opens none.
+    /// A turn of its cell, from its opening to its end. If the cell opens none, the pass comes back as refused.
     fn open_turn<F, X, Q>(
         &mut self,
         pass: TakenPass,
@@ -59,8 +59,8 @@ pub(crate) trait CellSource {
             callback.new «data».new requests.new) };
 }
 
-/// Its turn, for an event of this token. An event of another token, or without a posted key behind it, does nothing, and a pass
-/// that the cell refuses is put back.
+/// The source's turn, for an event of this token. An event of another token, or without a posted key behind it, does nothing. A
+/// pass that the cell refuses is put back.
 pub(crate) fn take_turn<K, E, P, C, R, F, X, Q>(
     source: &mut K,
     token: Token,
@@ -96,7 +96,7 @@ where
     }
 }
 
-/// Whether the cell has the key of this token.
+/// True if the cell has the key of this token.
 fn is_mine(tally: &Tally, token: Token) -> bool
     ensures { result ≡ is_own (key_of token) tally.now.key }
 {
@@ -110,10 +110,10 @@ impl<K: CellCore, R: Wait + Drop> ReceivingEnd<K, R> {
         &self.tally
     }
 
-    /// Registers the cell under the factory's next token. What stands in it is posted at once.
+    /// Registers the cell under the factory's next token. What is due in it is posted at once.
     ///
-    /// If it is registered already the answer is `IoError` of kind `AlreadyExists`; a factory without tokens is `TooManyTokens`,
-    /// and running out of memory `OutOfMemory`. A refusal leaves the cell and the board as they were.
+    /// Fails with `IoError` of kind `AlreadyExists` if it is registered already, with `TooManyTokens` if the factory has no token
+    /// left, and with `OutOfMemory` if memory runs out. On failure the cell and the board are unchanged.
     pub(crate) fn register<P: Poller, C>(
         &mut self,
         poll: &Poll<P, C, R>,
@@ -131,12 +131,12 @@ impl<K: CellCore, R: Wait + Drop> ReceivingEnd<K, R> {
         self.attach(poll.hub(), token)
     }
 
-    /// Moves the registration to the factory's next token; under the same key it does nothing. What stands in the cell is posted under
-    /// the new key.
+    /// Moves the registration to the factory's next token; under the same key it does nothing. What is due in the cell is posted
+    /// under the new key.
     ///
-    /// If it isn't registered the answer is `IoError` of kind `NotFound`; a factory without tokens is `TooManyTokens`, an open place
-    /// of the new key `IoError` of kind `AlreadyExists`, and running out of memory `OutOfMemory`. A refusal leaves the cell and the board
-    /// as they were.
+    /// Fails with `IoError` of kind `NotFound` if it isn't registered, with `TooManyTokens` if the factory has no token left,
+    /// with `IoError` of kind `AlreadyExists` if the place of the new key is open already, and with `OutOfMemory` if memory runs
+    /// out. On failure the cell and the board are unchanged.
     pub(crate) fn reregister<P: Poller, C>(
         &mut self,
         poll: &Poll<P, C, R>,
@@ -157,8 +157,8 @@ impl<K: CellCore, R: Wait + Drop> ReceivingEnd<K, R> {
         self.attach(poll.hub(), next)
     }
 
-    /// Takes the registration back. What stands in the cell is told after the next registration. If it isn't registered the answer is
-    /// `IoError` of kind `NotFound`, and nothing changes.
+    /// Takes the registration back. What is due in the cell is told after the next registration. Fails with `IoError` of kind
+    /// `NotFound` if it isn't registered, and then nothing changes.
     pub(crate) fn unregister<P: Poller, C>(&mut self, _poll: &Poll<P, C, R>) -> LoopResult<()>
         ensures tag { self.new.tag ≡ self.old.tag }
         ensures unregisters { Unregisters {P = P} self.old.tally result [] self.new.tally }

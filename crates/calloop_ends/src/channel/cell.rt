@@ -18,7 +18,7 @@ use std::sync::Wait;
 /// What the ends of a channel share.
 pub type ChannelCell<T> = Cell<ChannelCore<T>>;
 
-/// A cell to which nothing has happened yet, under its lock, and the right to its receiving end.
+/// Makes a cell to which nothing has happened yet, under its lock, and the right to its receiving end.
 pub fn new_locked<T: Drop>(
     alloc: Global,
     bound: Option<usize>,
@@ -94,7 +94,7 @@ impl<T: Drop, R: Wait + Drop> SendingEnd<ChannelCore<T>, R> {
 }
 
 impl<T: Drop, R: Wait + Drop> ReceivingEnd<ChannelCore<T>, R> {
-    /// The first message, if there is one.
+    /// Takes the first message, if there is one.
     pub(crate) fn take(&mut self) -> Result<T, TryRecvError>
         ensures tag { self.new.tag ≡ self.old.tag }
         ensures ok { IfOk result
@@ -116,7 +116,7 @@ impl<T: Drop, R: Wait + Drop> ReceivingEnd<ChannelCore<T>, R> {
         }
     }
 
-    /// The first message. It waits while there is none and a sender is there.
+    /// Takes the first message. Waits while there is none and a sender is there.
     pub(crate) fn take_waiting(&mut self) -> Result<T, RecvError>
         ensures tag { self.new.tag ≡ self.old.tag }
         ensures ok { IfOk result

@@ -1,7 +1,7 @@
 //! Why a message was not sent or received, in the words of the standard library's channels.
 use std::fmt;
 
-/// Why a message was not sent. It comes back.
+/// Why a message was not sent. The message comes back.
 #[derive(Drop)]
 pub enum SendError<T> {
     /// The channel is gone.
@@ -9,10 +9,10 @@ pub enum SendError<T> {
     OutOfMemory(T),
 }
 
-/// Why a message was not sent at once. It comes back.
+/// Why a message was not sent at once. The message comes back.
 #[derive(Drop)]
 pub enum TrySendError<T> {
-    /// As many messages are there as the channel holds.
+    /// The channel is full: it holds as many messages as its bound.
     Full(T),
     /// The channel is gone.
     Disconnected(T),
@@ -22,10 +22,10 @@ pub enum TrySendError<T> {
 #[derive(Clone, Copy, Debug, PartialEq, Eq)]
 pub struct RecvError;
 
-/// Why no message is there.
+/// Why no message was received.
 #[derive(Clone, Copy, Debug, PartialEq, Eq)]
 pub enum TryRecvError {
-    /// None is there now.
+    /// There is no message now.
     Empty,
     /// The last sender is gone, and every message was handed out.
     Disconnected,

@@ -36,7 +36,7 @@ impl IntoError for ChannelError {
 }
 
 impl<T: Drop, R: Wait + Drop> ReceivingEnd<ChannelCore<T>, R> {
-    // One pop of the turn, and its call. Whether it tells the close.
+    // One pop of the turn, and its call. True if it tells the close.
     fn step<F, X, Q>(
         &mut self,
         turn: &mut ChannelTurn,
@@ -68,7 +68,7 @@ impl<T: Drop, R: Wait + Drop> ReceivingEnd<ChannelCore<T>, R> {
         }
     }
 
-    // The pops of a turn up to one that finds no message, or as many as it may make. Whether the close was told.
+    // The pops of a turn, up to one that finds no message or to the turn's limit. True if the close was told.
     fn hand_out<F, X, Q>(
         &mut self,
         turn: ChannelTurn,
@@ -142,9 +142,9 @@ impl<T: Drop, P: Poller, C, R: Wait + Drop> EventSource<P, C, R> for Channel<T, 
 
     ghost means = { channel_meaning };
 
-    /// Its turn: calls back with the messages in order, at most as many as the bound says and one more, and at most 1,024. Where
-    /// the last sender is gone and no message is left, it calls back with `Closed`, once, and removes the source. An event of
-    /// another token, or without a posted key behind it, calls nothing.
+    /// The channel's turn: calls back with the messages in order, at most one more than the bound, and at most 1,024. If the last
+    /// sender is gone and no message is left, it calls back with `Closed`, once, and removes the source. An event of another
+    /// token, or without a posted key behind it, calls nothing.
     fn process_events<F, X, Q>(
         &mut self,
         _readiness: Readiness,
@@ -163,18 +163,18 @@ impl<T: Drop, P: Poller, C, R: Wait + Drop> EventSource<P, C, R> for Channel<T, 
 
     /// Registers the channel under the factory's next token. One that holds a message or was closed before is posted at once.
     ///
-    /// Where it is registered already the answer is `IoError` of kind `AlreadyExists`; a factory without tokens is
-    /// `TooManyTokens`, and running out of memory `OutOfMemory`. A refusal leaves the channel and the board as they were.
+    /// Fails with `IoError` of kind `AlreadyExists` if the channel is registered already, with `TooManyTokens` if the factory has
+    /// no token left, and with `OutOfMemory` if memory runs out. On failure the channel and the board are unchanged.
     fn register(&mut self, poll: &mut Poll<P, C, R>, factory: &mut TokenFactory) -> LoopResult<()> {
         self.end.register(poll, factory)
     }
 
-    /// Moves the registration to the factory's next token; under the same key it does nothing. What stands is posted
-    /// under the new key.
+    /// Moves the registration to the factory's next token; under the same key it does nothing. What is due is posted under the
+    /// new key.
     ///
-    /// Where the channel isn't registered the answer is `IoError` of kind `NotFound`; a factory without tokens is
-    /// `TooManyTokens`, an open place of the new key `IoError` of kind `AlreadyExists`, and running out of memory `OutOfMemory`.
-    /// A refusal leaves the channel and the board as they were.
+    /// Fails with `IoError` of kind `NotFound` if the channel isn't registered, with `TooManyTokens` if the factory has no token
+    /// left, with `IoError` of kind `AlreadyExists` if the place of the new key is open already, and with `OutOfMemory` if memory
+    /// runs out. On failure the channel and the board are unchanged.
     fn reregister(
         &mut self,
         poll: &mut Poll<P, C, R>,
@@ -183,13 +183,13 @@ impl<T: Drop, P: Poller, C, R: Wait + Drop> EventSource<P, C, R> for Channel<T, 
         self.end.reregister(poll, factory)
     }
 
-    /// Takes the registration back. What stands is told after the next registration. Where the channel isn't registered
-    /// the answer is `IoError` of kind `NotFound`, and nothing changes.
+    /// Takes the registration back. What is due is told after the next registration. Fails with `IoError` of kind `NotFound` if
+    /// the channel isn't registered, and then nothing changes.
     fn unregister(&mut self, poll: &mut Poll<P, C, R>) -> LoopResult<()> {
         self.end.unregister(poll)
     }
 
-    /// It isn't told of waits.
+    /// Returns false: a channel isn't told of waits.
     fn needs_extra_lifecycle_events() -> bool {
         false
     }

@@ -21,7 +21,7 @@ use std::sync::Wait;
 /// What an executor shares with its schedulers and its wakers.
 pub type TaskCell = Cell<ExecutorCore>;
 
-/// A cell without tasks, under its lock, and the rights to its receiving end and to the places of its futures.
+/// Makes a cell without tasks, under its lock, and the rights to its receiving end and to the places of its futures.
 pub fn new_locked(alloc: Global) -> LoopResult<(Locked<TaskCell>, ReceivingRight, KeepingRight)>
     ensures right { IfOk result (λ made. made.1.name ≡ made.0.tag) }
     ensures keeping { IfOk result (λ made. made.2.name ≡ made.0.tag) }
@@ -32,7 +32,7 @@ pub fn new_locked(alloc: Global) -> LoopResult<(Locked<TaskCell>, ReceivingRight
 }
 
 impl<R: Wait + Drop> SendingEnd<ExecutorCore, R> {
-    /// A new task, which is queued, and what gives its receipt once its future is kept.
+    /// Makes a new task and queues it. The second value returns its receipt once its future is kept.
     pub(crate) fn put(&self, home: usize) -> Result<(TaskKey, DueReceipt), PutRefusal>
         ensures name { IfOk result (λ put. put.1.name ≡ self.now) }
         ensures home { IfOk result (λ put. put.1.home ≡ home) }
@@ -55,7 +55,7 @@ impl<R: Wait + Drop> SendingEnd<ExecutorCore, R> {
     }
 }
 
-/// Wakes a task. If it is known to be awake by the lock's hint, that would change nothing, and the lock isn't taken.
+/// Wakes a task. If the lock's hint says that it is awake already, a wake would change nothing, and the lock isn't taken.
 pub fn wake<R: Wait>(rt: &R, shared: &Locked<TaskCell>, key: TaskKey) {
     if shared.has_hint(key.number) {
         return;
@@ -72,7 +72,7 @@ pub fn wake<R: Wait>(rt: &R, shared: &Locked<TaskCell>, key: TaskKey) {
     post(rt, owed);
 }
 
-// Takes the lock, once the turn is the one that stands open in the cell. It is so at once: who has the turn alone moves it on.
+// Takes the lock, once the turn is the one open in the cell. That is so at once: only the holder of the turn moves it on.
 fn lock_at<'a, R: Wait>(rt: &R, shared: &'a Locked<TaskCell>, turn: &TaskTurn) -> Held<'a, TaskCell>
     ensures lock { (result.shared.now.key ≡ shared.now.tag)
         × (result.seat.table_id ≡ result.shared.now.table_id)
@@ -112,8 +112,8 @@ impl<R: Wait + Drop> ReceivingEnd<ExecutorCore, R> {
         opened
     }
 
-    /// A pop of the turn, which first ends the poll of the task that it popped before. Only the turn that stands open in the cell pops
-    /// there: another would wait for ever.
+    /// A pop of the turn, which first ends the poll of the task that it popped before. Only the turn that is open in the cell
+    /// pops there: any other turn would wait for ever.
     pub(crate) fn pop(&mut self, turn: &mut TaskTurn, finished: bool) -> Option<PoppedTask>
         requires name { turn.old.name ≡ self.old.tally.name }
         requires more { (turn.old.progress.dry ≡ false) × (turn.old.progress.pops < most_tasks) }

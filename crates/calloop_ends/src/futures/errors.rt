@@ -12,9 +12,9 @@ pub struct ExecutorDestroyed;
 /// Why a future is not scheduled.
 #[derive(Drop)]
 pub enum ScheduleError<Fut> {
-    /// Its executor is gone, and the future with it.
+    /// The executor is gone, and the future with it.
     Destroyed(ExecutorDestroyed),
-    /// There is no memory for it. It comes back.
+    /// There is no memory for the future. It comes back.
     OutOfMemory(Fut),
 }
 
@@ -39,7 +39,7 @@ impl<Fut> fmt::Display for ScheduleError<Fut> {
 
 impl<Fut: Drop> std::error::Error for ScheduleError<Fut> {}
 
-/// Why an executor's turn could fail. No turn of this crate's executors does: all that they need was reserved.
+/// Why an executor's turn could fail. This crate's own executors never fail: their memory is reserved up front.
 #[derive(Debug, Drop, ThisError)]
 pub enum ExecutorError {
     #[error("error adding new futures: {0}")]

@@ -1,4 +1,4 @@
-//! The sections of the lock under which the futures of an executor are. It is another than that of its cell, which its wakers reach; within it
+//! The sections of the lock that guards an executor's futures. This isn't the lock of its cell, which its wakers reach. Within it
 //! no future is polled or dropped.
 ghost use Rattle.std.specs.Prelude.{◌≡◌, ◌+◌, IfOk, IfSome, IfNone};
 
@@ -14,7 +14,7 @@ use std::sync::{Arc, Wait};
 /// The places of an executor's futures, under their lock. In a clause `tag` is the name of its cell.
 pub(crate) type SharedHomes<Fut, R> = Arc<Locked<Homes<Pollable<Fut, R>>>, Global>;
 
-/// A place for a future that is to come.
+/// Reserves a place for a future that is to come.
 pub(crate) fn reserve<Fut: Drop, R: Wait + Drop>(
     rt: &R,
     homes: &Locked<Homes<Pollable<Fut, R>>>,
@@ -31,8 +31,8 @@ pub(crate) fn reserve<Fut: Drop, R: Wait + Drop>(
     }
 }
 
-/// Keeps the future of a task that was put, which gives the receipt of it, and says whether a turn has looked for it before. Where the
-/// executor is gone, the future is dropped.
+/// Keeps the future of a task that was put, which yields the task's receipt, and says whether a turn has looked for the future
+/// before. If the executor is gone, the future is dropped.
 pub(crate) fn keep<Fut: Drop, R: Wait + Drop>(
     rt: &R,
     homes: &Locked<Homes<Pollable<Fut, R>>>,
@@ -56,7 +56,7 @@ pub(crate) fn keep<Fut: Drop, R: Wait + Drop>(
 }
 
 impl<R: Wait + Drop> ReceivingEnd<ExecutorCore, R> {
-    /// Takes the future of a task that was popped, for its poll. If it is still to come, its scheduler is told so by `keep`, and the
+    /// Takes the future of a popped task, for its poll. If the future is still to come, `keep` tells its scheduler so, and the
     /// tally counts that.
     pub(crate) fn take_future<Fut: Drop>(
         &mut self,
@@ -78,7 +78,7 @@ impl<R: Wait + Drop> ReceivingEnd<ExecutorCore, R> {
     }
 }
 
-/// Puts a future back whose poll was pending.
+/// Puts back a future that is still pending after its poll.
 pub(crate) fn put_back<Fut: Drop, R: Wait + Drop>(
     rt: &R,
     homes: &Locked<Homes<Pollable<Fut, R>>>,
@@ -92,7 +92,7 @@ pub(crate) fn put_back<Fut: Drop, R: Wait + Drop>(
     drop(before);
 }
 
-/// Gives the place of a task up whose future gave its result.
+/// Frees the place of a finished task.
 pub(crate) fn finish<Fut: Drop, R: Wait + Drop>(
     rt: &R,
     homes: &Locked<Homes<Pollable<Fut, R>>>,
@@ -106,7 +106,7 @@ pub(crate) fn finish<Fut: Drop, R: Wait + Drop>(
     drop(before);
 }
 
-/// Gives a place up that was reserved for a task which wasn't put.
+/// Frees a place that was reserved for a task which wasn't put.
 pub(crate) fn free<Fut: Drop, R: Wait + Drop>(
     rt: &R,
     homes: &Locked<Homes<Pollable<Fut, R>>>,
@@ -120,7 +120,7 @@ pub(crate) fn free<Fut: Drop, R: Wait + Drop>(
     drop(before);
 }
 
-/// The executor is gone: its futures are dropped.
+/// Drops all futures, since the executor is gone.
 pub(crate) fn close<Fut: Drop, R: Wait + Drop>(rt: &R, homes: &Locked<Homes<Pollable<Fut, R>>>) {
     let mut places = homes.lock(rt);
     let left = places.core().close();

@@ -1,4 +1,4 @@
-//! What hands futures to an executor.
+//! The handle that hands futures to an executor.
 ghost use Rattle.std.specs.Prelude.{◌≡◌, IfOk, IfErr};
 ghost use Rattle.std.specs.Arc.{arc_value};
 ghost use Rattle.calloop_ends.specs.futures.Polled.{IsRefusalOf, IsDestroyed};
@@ -15,8 +15,7 @@ use std::alloc::AllocError;
 use std::marker::Model;
 use std::sync::{Arc, Wait};
 
-/// Hands futures to its executor, from any thread. As many as are cloned hand them to the same one, and the drop of the last closes
-/// nothing.
+/// Hands futures to its executor, from any thread. Clones hand them to the same executor. Dropping the last one closes nothing.
 ///
 /// In a clause it is the name of its executor's cell.
 #[derive(Drop)]
@@ -64,10 +63,10 @@ impl<Fut: Drop, R: Wait + Drop> Scheduler<Fut, R> {
 }
 
 impl<Fut: Future<R>, R: Wait + Clone + Drop> Scheduler<Fut, R> {
-    /// Hands a future over, which is polled in a later turn of the executor. The receipt is of a task of this very executor.
+    /// Hands a future over, to be polled in a later turn of the executor. The receipt is of a task of this very executor.
     ///
-    /// Where the executor is gone, the answer is `Destroyed`, and the future is dropped. Running out of memory hands it back; later wakes
-    /// of the task take none.
+    /// If the executor is gone, it fails with `Destroyed`, and the future is dropped. Without memory it fails and hands the
+    /// future back; later wakes of the task take no memory.
     pub fn schedule(&self, future: Fut) -> Result<Receipt, ScheduleError<Fut>>
         ensures ok { IfOk result (λ r. r.name ≡ self.now) }
         ensures err { IfErr result (IsRefusalOf future) }

@@ -38,7 +38,7 @@ impl IntoError for ExecutorError {
 }
 
 impl<Fut: Future<R>, R: Wait + Drop> Executor<Fut, R> {
-    // Polls a task outside of every lock, and calls back if it gives its result: whether it did.
+    // Polls a task outside of every lock, and calls back if its future is ready. True if it is.
     fn poll_task<F, X, Q>(
         &mut self,
         popped: PoppedTask,
@@ -74,7 +74,7 @@ impl<Fut: Future<R>, R: Wait + Drop> Executor<Fut, R> {
         true
     }
 
-    // The pops of a turn up to one that finds no task, or 1,024, each with its poll.
+    // The pops of a turn, each with its poll, up to one that finds no task, or 1,024.
     fn run_tasks<F, X, Q>(
         &mut self,
         turn: TaskTurn,
@@ -153,9 +153,9 @@ impl<Fut: Future<R>, P: Poller, C, R: Wait + Drop> EventSource<P, C, R> for Exec
 
     ghost means = { executor_meaning (ComesOf Fut.gives Fut.polls) };
 
-    /// Its turn: polls the queued tasks in their order, at most 1,024, each outside of every lock, and calls back with each result.
-    /// After 1,024 it is posted again. A task that is woken in its poll is queued once more, and one that gave its result isn't
-    /// polled any more. An event of another token, or without a posted key behind it, polls nothing.
+    /// The executor's turn: polls the queued tasks in order, at most 1,024, each outside of every lock, and calls back with each
+    /// result. After 1,024 the executor is posted again. A task that is woken in its poll is queued once more, and one whose
+    /// future was ready isn't polled again. An event of another token, or without a posted key behind it, polls nothing.
     fn process_events<F, X, Q>(
         &mut self,
         _readiness: Readiness,
@@ -174,18 +174,18 @@ impl<Fut: Future<R>, P: Poller, C, R: Wait + Drop> EventSource<P, C, R> for Exec
 
     /// Registers the executor under the factory's next token. One with queued tasks is posted at once.
     ///
-    /// Where it is registered already the answer is `IoError` of kind `AlreadyExists`; a factory without tokens is
-    /// `TooManyTokens`, and running out of memory `OutOfMemory`. A refusal leaves the executor and the board as they were.
+    /// Fails with `IoError` of kind `AlreadyExists` if the executor is registered already, with `TooManyTokens` if the factory
+    /// has no token left, and with `OutOfMemory` if memory runs out. On failure the executor and the board are unchanged.
     fn register(&mut self, poll: &mut Poll<P, C, R>, factory: &mut TokenFactory) -> LoopResult<()> {
         self.end.register(poll, factory)
     }
 
-    /// Moves the registration to the factory's next token; under the same key it does nothing. What is queued is posted
-    /// under the new key.
+    /// Moves the registration to the factory's next token; under the same key it does nothing. What is queued is posted under the
+    /// new key.
     ///
-    /// Where the executor isn't registered the answer is `IoError` of kind `NotFound`; a factory without tokens is
-    /// `TooManyTokens`, an open place of the new key `IoError` of kind `AlreadyExists`, and running out of memory `OutOfMemory`.
-    /// A refusal leaves the executor and the board as they were.
+    /// Fails with `IoError` of kind `NotFound` if the executor isn't registered, with `TooManyTokens` if the factory has no token
+    /// left, with `IoError` of kind `AlreadyExists` if the place of the new key is open already, and with `OutOfMemory` if memory
+    /// runs out. On failure the executor and the board are unchanged.
     fn reregister(
         &mut self,
         poll: &mut Poll<P, C, R>,
@@ -194,13 +194,13 @@ impl<Fut: Future<R>, P: Poller, C, R: Wait + Drop> EventSource<P, C, R> for Exec
         self.end.reregister(poll, factory)
     }
 
-    /// Takes the registration back. What is queued is polled after the next registration. Where the executor isn't registered
-    /// the answer is `IoError` of kind `NotFound`, and nothing changes.
+    /// Takes the registration back. What is queued is polled after the next registration. Fails with `IoError` of kind `NotFound`
+    /// if the executor isn't registered, and then nothing changes.
     fn unregister(&mut self, poll: &mut Poll<P, C, R>) -> LoopResult<()> {
         self.end.unregister(poll)
     }
 
-    /// It isn't told of waits.
+    /// Returns false: an executor isn't told of waits.
     fn needs_extra_lifecycle_events() -> bool {
         false
     }

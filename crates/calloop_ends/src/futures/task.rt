@@ -1,4 +1,4 @@
-//! What a future is, what its poll is given, and what wakes it.
+//! Futures, the argument of their polls, and the wakers that wake them.
 ghost use Rattle.std.specs.Prelude.{⊤, IfOk, IfErr};
 ghost use Rattle.calloop_ends.specs.declared.futures.task.Poll.{Poll};
 ghost use Rattle.calloop_ends.specs.declared.futures.task.Poll.TheVariants.{Ready, Pending};
@@ -15,17 +15,17 @@ use std::alloc::{AllocError, Global};
 use std::sync::atomic::{AtomicBool, Ordering};
 use std::sync::{Arc, Wait};
 
-/// What a poll gives.
+/// The answer of a poll.
 #[derive(Debug, Drop, PartialEq, Eq)]
 pub enum Poll<T> {
-    /// It is done, with this.
+    /// The future is done, with this result.
     Ready(T),
-    /// It waits for a wake.
+    /// The future waits for a wake.
     Pending,
 }
 
-/// Wakes what is polled with it, from any thread, as often as one likes: a task of an executor, a stream, or the future of `block_on`.
-/// It may outlive that, and then does nothing.
+/// Wakes what is polled with it, from any thread, any number of times: a task of an executor, a stream, or the future of
+/// `block_on`. It may outlive that, and then does nothing.
 #[derive(Drop)]
 pub struct Waker<R: Wait + Drop> {
     wakes: Wakes<R>,
@@ -43,7 +43,7 @@ enum Wakes<R: Wait + Drop> {
     Blocked(Arc<Blocked, Global>),
 }
 
-/// What a loop that runs until its future is done looks at: whether that was woken.
+/// What a loop that runs until its future is done looks at: a flag that says if the future was woken.
 #[derive(Drop)]
 pub struct Blocked {
     woken: AtomicBool,
@@ -51,7 +51,7 @@ pub struct Blocked {
 }
 
 impl Blocked {
-    /// Of a future that nobody woke yet. A wake ends the wait of this signal's loop.
+    /// Makes the flag of a future that nobody woke yet. A wake ends the wait of this signal's loop.
     pub fn new(signal: LoopSignal) -> Blocked {
         Blocked {
             woken: AtomicBool::new(false),
@@ -59,7 +59,7 @@ impl Blocked {
         }
     }
 
-    /// Whether the future was woken since this was asked last.
+    /// True if the future was woken since the last call.
     pub fn is_woken(&self) -> bool {
         self.woken.swap(false, Ordering::SeqCst)
     }
@@ -77,23 +77,23 @@ impl<R: Wait + Drop> Waker<R> {
         }
     }
 
-    /// Of a stream whose source this rings.
+    /// Makes the waker of a stream whose source this ping rings.
     pub(crate) fn of_ping(ping: Ping<R>) -> Waker<R> {
         Waker {
             wakes: Wakes::Stream(ping),
         }
     }
 
-    /// Of the future that a loop runs for.
+    /// Makes the waker of the future that a loop runs for.
     pub fn of_blocked(blocked: Arc<Blocked, Global>) -> Waker<R> {
         Waker {
             wakes: Wakes::Blocked(blocked),
         }
     }
 
-    /// Has it polled once more. It takes no memory, and each lock is given up before the next is taken.
+    /// Has the woken future polled again. It takes no memory, and each lock is given up before the next is taken.
     ///
-    /// A task that is queued already stays where it is. One that is woken in its poll is queued behind it.
+    /// Waking a queued task has no effect. Waking a task during its poll queues it again, behind the others.
     pub fn wake(&self) {
         match &self.wakes {
             Wakes::Task { rt, shared, key } => cell::wake(rt, shared, *key),
@@ -127,36 +127,36 @@ impl<R: Wait + Clone + Drop> Clone for Waker<R> {
     }
 }
 
-/// What a poll is given.
+/// The argument of `Future::poll`: carries the waker.
 #[derive(Drop)]
 pub struct Context<'a, R: Wait + Drop> {
     waker: &'a Waker<R>,
 }
 
 impl<'a, R: Wait + Drop> Context<'a, R> {
-    /// A poll that is followed by another one once this waker is woken.
+    /// Makes the argument of a poll that is followed by another poll once this waker is woken.
     pub fn from_waker(waker: &'a Waker<R>) -> Context<'a, R> {
         Context { waker }
     }
 
-    /// What wakes it. A clone of it keeps, and moves to other threads.
+    /// The waker of this poll. A clone of it keeps, and moves to other threads.
     pub fn waker(&self) -> &Waker<R> {
         self.waker
     }
 }
 
-/// A value that comes later. It is polled on the loop's thread until it is ready, at first and then once for each wake, or for
-/// several that came meanwhile. It isn't polled after that.
+/// A value that comes later. It is polled on the loop's thread until it is ready: at first, and then once for each wake, or once
+/// for several wakes that came meanwhile. It isn't polled after that.
 pub trait Future<R: Wait + Drop>: Drop {
     type Output: Drop;
 
-    // The outputs that it may give.
+    // The outputs that the future may have.
     ghost gives: { Self → Self.Output → Type 0 } = { λ _ _. ⊤ };
 
-    // What a poll may answer, and what it may make of the future. Of a future that isn't known no such thing can be shown but by a poll.
+    // What a poll may answer, and what it may make of the future. For an unknown future that can't be shown except by a poll.
     ghost polls: { Self → Poll Self.Output → Self → Type 0 } = { λ _ _ _. ⊤ };
 
-    /// Polls it. Where it is pending, it has kept the waker, by a clone, or has woken it.
+    /// Polls the future. If it is pending, it has kept a clone of the waker, or has woken the waker.
     fn poll(&mut self, cx: &mut Context<'_, R>) -> Poll<Self::Output>
         ensures value { IfReady result (gives self.old) }
         ensures same { OnPending result ((x : _) → gives self.new x → gives self.old x) }
@@ -171,7 +171,7 @@ pub(crate) struct Pollable<Fut: Drop, R: Wait + Drop> {
 }
 
 impl<Fut: Future<R>, R: Wait + Drop> Pollable<Fut, R> {
-    /// One poll: what the future gives, or the future back.
+    /// Polls once: returns the future's result, or the future back.
     pub(crate) fn poll(self) -> Result<Fut::Output, Pollable<Fut, R>>
         ensures gives { IfOk result (Fut.gives self.future) }
         ensures ready { IfOk result (λ output. (after : Fut)

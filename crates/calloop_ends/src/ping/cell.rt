@@ -14,7 +14,7 @@ use std::sync::Wait;
 /// What the ends of a ping share.
 pub type PingCell = Cell<PingCore>;
 
-/// A cell to which nothing has happened yet, under its lock, and the right to its receiving end.
+/// Makes a cell to which nothing has happened yet, under its lock, and the right to its receiving end.
 pub fn new_locked(alloc: Global) -> LoopResult<(Locked<PingCell>, ReceivingRight)>
     ensures right { IfOk result (λ made. made.1.name ≡ made.0.tag) }
     ensures err { IfErr result (λ e. e ≡ OutOfMemory) }
@@ -38,7 +38,7 @@ impl<R: Wait + Drop> SendingEnd<PingCore, R> {
     }
 }
 
-/// What a turn of the cell took.
+/// The events that a turn of the cell consumed.
 #[derive(Clone, Copy, Debug, PartialEq, Eq)]
 pub struct Due {
     /// Somebody rang since the last turn.

@@ -17,7 +17,7 @@ use calloop_wake::{TakenPass, Tally};
 use std::sync::Wait;
 use thiserror::Error as ThisError;
 
-/// Why a ping's turn could fail. No turn of this crate's pings does: all that they need was reserved.
+/// Why a ping's turn could fail. This crate's own pings never fail: their memory is reserved up front.
 #[derive(Debug, Drop, ThisError)]
 pub enum PingError {
     #[error("out of memory")]
@@ -39,7 +39,7 @@ impl IntoError for PingError {
     }
 }
 
-// Calls back, where a ping stood.
+// Calls back, if the source was rung.
 fn call_if<F, X, Q>(rang: bool, callback: &mut F, data: &mut X, requests: &mut Q)
 where
     Q: Asking,
@@ -63,8 +63,8 @@ pub(crate) fn action_of(told: bool) -> PostAction
     }
 }
 
-/// A ping is registered from a registration that succeeds until one is taken back, as its tally's key shows. So the law
-/// `at_most_one_is_registered` holds of a wrapper of pings.
+/// A ping is registered from a registration that succeeds until one is taken back, as its tally's key shows. So a wrapper of
+/// pings keeps the law `at_most_one_is_registered`.
 pub fn is_registered_by_its_calls<P: Poller, R: Wait + Drop>()
     ensures { IsRegisteredBy (ping_meaning {P = P}) (λ tally. is_some tally.key) }
 {}
@@ -82,7 +82,7 @@ impl<R: Wait + Drop> CellSource for PingSource<R> {
         self.end.tally()
     }
 
-    /// Calls back once where a ping stands, and removes the source where the last `Ping` is gone.
+    /// Calls back once if a ring is due, and removes the source if the last `Ping` is gone.
     fn open_turn<F, X, Q>(
         &mut self,
         pass: TakenPass,
@@ -114,8 +114,8 @@ impl<P: Poller, C, R: Wait + Drop> EventSource<P, C, R> for PingSource<R> {
 
     ghost means = { ping_meaning };
 
-    /// Its turn: calls back once where a ping stands, and removes the source where the last `Ping` is gone. An event of
-    /// another token, or without a posted key behind it, calls nothing.
+    /// The ping's turn: calls back once if a ring is due, and removes the source if the last `Ping` is gone. An event of another
+    /// token, or without a posted key behind it, calls nothing.
     fn process_events<F, X, Q>(
         &mut self,
         _readiness: Readiness,
@@ -134,18 +134,18 @@ impl<P: Poller, C, R: Wait + Drop> EventSource<P, C, R> for PingSource<R> {
 
     /// Registers the ping under the factory's next token. One that was rung or closed before is posted at once.
     ///
-    /// Where it is registered already the answer is `IoError` of kind `AlreadyExists`; a factory without tokens is
-    /// `TooManyTokens`, and running out of memory `OutOfMemory`. A refusal leaves the ping and the board as they were.
+    /// Fails with `IoError` of kind `AlreadyExists` if the ping is registered already, with `TooManyTokens` if the factory has no
+    /// token left, and with `OutOfMemory` if memory runs out. On failure the ping and the board are unchanged.
     fn register(&mut self, poll: &mut Poll<P, C, R>, factory: &mut TokenFactory) -> LoopResult<()> {
         self.end.register(poll, factory)
     }
 
-    /// Moves the registration to the factory's next token; under the same key it does nothing. What stands is posted
-    /// under the new key.
+    /// Moves the registration to the factory's next token; under the same key it does nothing. What is due is posted under the
+    /// new key.
     ///
-    /// Where the ping isn't registered the answer is `IoError` of kind `NotFound`; a factory without tokens is
-    /// `TooManyTokens`, an open place of the new key `IoError` of kind `AlreadyExists`, and running out of memory `OutOfMemory`.
-    /// A refusal leaves the ping and the board as they were.
+    /// Fails with `IoError` of kind `NotFound` if the ping isn't registered, with `TooManyTokens` if the factory has no token
+    /// left, with `IoError` of kind `AlreadyExists` if the place of the new key is open already, and with `OutOfMemory` if memory
+    /// runs out. On failure the ping and the board are unchanged.
     fn reregister(
         &mut self,
         poll: &mut Poll<P, C, R>,
@@ -154,13 +154,13 @@ impl<P: Poller, C, R: Wait + Drop> EventSource<P, C, R> for PingSource<R> {
         self.end.reregister(poll, factory)
     }
 
-    /// Takes the registration back. What stands is told after the next registration. Where the ping isn't registered
-    /// the answer is `IoError` of kind `NotFound`, and nothing changes.
+    /// Takes the registration back. What is due is told after the next registration. Fails with `IoError` of kind `NotFound` if
+    /// the ping isn't registered, and then nothing changes.
     fn unregister(&mut self, poll: &mut Poll<P, C, R>) -> LoopResult<()> {
         self.end.unregister(poll)
     }
 
-    /// It isn't told of waits.
+    /// Returns false: a ping isn't told of waits.
     fn needs_extra_lifecycle_events() -> bool {
         false
     }

@@ -1,4 +1,4 @@
-//! What a stream is, and one poll of it.
+//! Streams, and one poll of a stream.
 ghost use Rattle.std.specs.Prelude.{⊤, Option};
 ghost use Rattle.calloop_ends.specs.declared.futures.task.Poll.{Poll};
 ghost use Rattle.calloop_ends.specs.stream.StreamReads.{IsNext};
@@ -6,14 +6,14 @@ ghost use Rattle.calloop_ends.specs.stream.StreamReads.{IsNext};
 use crate::futures::{Context, Poll, Waker};
 use std::sync::Wait;
 
-/// Values that come one after the other. It is polled on the loop's thread, until it gives `None`, and not after that.
+/// Values that come one after the other. A stream is polled on the loop's thread, until it gives `None`, and not after that.
 pub trait Stream<R: Wait + Drop>: Drop {
     type Item: Drop;
 
-    // What a poll may do: the stream before it, what it gives, and the stream after it.
+    // What a poll may do: the stream before it, its answer, and the stream after it.
     ghost polls: { Self → Poll (Option Self.Item) → Self → Type 0 } = { λ _ _ _. ⊤ };
 
-    /// Polls it for its next item: `None` is its end. Where it is pending, it has kept the waker, by a clone, or has woken it.
+    /// Polls for the next item: `None` is the end. If pending, the stream has kept a clone of the waker, or has woken the waker.
     fn poll_next(&mut self, cx: &mut Context<'_, R>) -> Poll<Option<Self::Item>>
         ensures { polls self.old result self.new };
 }
@@ -21,11 +21,11 @@ pub trait Stream<R: Wait + Drop>: Drop {
 /// How a turn of a stream ended.
 #[derive(Clone, Copy, Debug, PartialEq, Eq)]
 pub enum Ending {
-    /// It waits for a wake.
+    /// The stream waits for a wake.
     AtPending,
-    /// Its end was told.
+    /// The stream's end was told.
     AtEnd,
-    /// It gave as many items as a turn takes.
+    /// The stream gave as many items as a turn takes.
     AtLimit,
 }
 
@@ -36,7 +36,7 @@ pub(crate) struct Readable<S: Stream<R>, R: Wait + Drop> {
     pub(crate) waker: Waker<R>,
 }
 
-/// What one poll gave, with the stream where that is not at its end.
+/// The answer of one poll, with the stream if that isn't at its end.
 #[derive(Drop)]
 pub(crate) enum Read<S: Stream<R>, R: Wait + Drop> {
     Item(S::Item, Readable<S, R>),
@@ -45,7 +45,7 @@ pub(crate) enum Read<S: Stream<R>, R: Wait + Drop> {
 }
 
 impl<S: Stream<R>, R: Wait + Drop> Readable<S, R> {
-    /// One poll.
+    /// Polls once.
     pub(crate) fn next(self) -> Read<S, R>
         ensures { IsNext S.polls self.stream result }
     {

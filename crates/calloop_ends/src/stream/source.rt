@@ -24,7 +24,7 @@ use std::sync::Wait;
 // The most items of one turn.
 const MOST_ITEMS: u32 = 1024;
 
-// Polls the stream and calls back with each item, and with its end: the stream, unless it ended, and how this ended.
+// Polls the stream and calls back with each item, and with its end. Returns the stream, unless it ended, and how the turn ended.
 fn read<S, R, F, X, Q>(
     stream: Readable<S, R>,
     callback: &mut F,
@@ -62,7 +62,7 @@ where
     (Some(stream), Ending::AtLimit)
 }
 
-// The receipt of a ring by which the source asks for another turn, where it stopped at the limit.
+// The receipt of a ring by which the source asks for another turn, if it stopped at the limit.
 fn ring_at_limit<R: Wait + Drop>(ping: &Ping<R>, ending: Ending) -> Option<Receipt>
     ensures { RingsItself ping.now ending result }
 {
@@ -127,7 +127,7 @@ impl<S: Stream<R>, R: Wait + Drop> CellSource for StreamSource<S, R> {
         self.source.tally()
     }
 
-    /// Reads the stream, where its ping stands.
+    /// Reads the stream, if its ping was rung.
     fn open_turn<F, X, Q>(
         &mut self,
         pass: TakenPass,
@@ -159,9 +159,9 @@ impl<S: Stream<R>, P: Poller, C, R: Wait + Drop> EventSource<P, C, R> for Stream
 
     ghost means = { stream_meaning S.polls };
 
-    /// Its turn: where its ping stands, polls the stream and calls back with each item, until it is pending, or at most 1,024 times; then
-    /// it asks for another turn. The end is called back as `None`, once, and removes the source. An event of another token, or without a
-    /// posted key behind it, polls nothing.
+    /// The stream's turn: if its ping was rung, polls the stream and calls back with each item, until the stream is pending, or
+    /// at most 1,024 times; then it asks for another turn. The end is called back as `None`, once, and removes the source. An
+    /// event of another token, or without a posted key behind it, polls nothing.
     fn process_events<F, X, Q>(
         &mut self,
         _readiness: Readiness,
@@ -180,16 +180,16 @@ impl<S: Stream<R>, P: Poller, C, R: Wait + Drop> EventSource<P, C, R> for Stream
 
     /// Registers the stream under the factory's next token. One that was woken before is posted at once.
     ///
-    /// The refusals are those of `PingSource::register`; each leaves the stream and the board as they were.
+    /// It fails as `PingSource::register` does. On failure the stream and the board are unchanged.
     fn register(&mut self, poll: &mut Poll<P, C, R>, factory: &mut TokenFactory) -> LoopResult<()> {
         let source = &mut self.source;
         source.end.register(poll, factory)
     }
 
-    /// Moves the registration to the factory's next token; under the same key it does nothing. What stands is posted
-    /// under the new key.
+    /// Moves the registration to the factory's next token; under the same key it does nothing. What is due is posted under the
+    /// new key.
     ///
-    /// The refusals are those of `PingSource::reregister`; each leaves the stream and the board as they were.
+    /// It fails as `PingSource::reregister` does. On failure the stream and the board are unchanged.
     fn reregister(
         &mut self,
         poll: &mut Poll<P, C, R>,
@@ -199,14 +199,14 @@ impl<S: Stream<R>, P: Poller, C, R: Wait + Drop> EventSource<P, C, R> for Stream
         source.end.reregister(poll, factory)
     }
 
-    /// Takes the registration back. A wake that stands is told after the next registration. Where the stream isn't registered
-    /// the answer is `IoError` of kind `NotFound`, and nothing changes.
+    /// Takes the registration back. A wake that is due is told after the next registration. Fails with `IoError` of kind
+    /// `NotFound` if the stream isn't registered, and then nothing changes.
     fn unregister(&mut self, poll: &mut Poll<P, C, R>) -> LoopResult<()> {
         let source = &mut self.source;
         source.end.unregister(poll)
     }
 
-    /// It isn't told of waits.
+    /// Returns false: a stream isn't told of waits.
     fn needs_extra_lifecycle_events() -> bool {
         false
     }
