@@ -84,7 +84,7 @@ class Kept:
 
     def sum_about(self, crate, tried, files):
         """The sum of what was tried in a crate and of what that is about, in hex digits: these files of it, and its
-        specs/, without comments and layout. It stays where proofs, other files, or crates below change."""
+        specs/, without comments and layout. It stays if proofs, other files, or crates below change."""
         if crate not in self.stated:
             self.stated[crate] = [*self.part(crate, "specs", self.code)]
         found = [

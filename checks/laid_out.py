@@ -2,7 +2,7 @@
 
 rt ci proves each crate that crates.txts names, tests included, and refuses a source file that none of them reads. So
 what is only to be run stands in tests/: its files under other endings, and its lines of crates.txt in tests/lines.txt.
-rt takes it where both are turned back.
+rt takes it once both are turned back.
 """
 import contextlib
 import glob
@@ -69,7 +69,7 @@ def bring_back(folder):
 
 @contextlib.contextmanager
 def laid_out():
-    """Lays the repository out in a new folder, and gives that. It is gone at the end, also where an interrupt or a
+    """Lays the repository out in a new folder, and gives that. It is gone at the end, also if an interrupt or a
     signal to end comes."""
     for it in (signal.SIGTERM, signal.SIGHUP):
         if signal.getsignal(it) is signal.SIG_DFL:

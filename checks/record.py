@@ -35,7 +35,7 @@ class Record:
                 self.lines[body] = Line(found[3], found[4], found[5])
 
     def read(self):
-        """Its lines; none where there is no such file."""
+        """Its lines; none if there is no such file."""
         try:
             with open(self.path, encoding="utf-8", errors="replace", newline="\n") as it:
                 text = it.read()
@@ -47,12 +47,12 @@ class Record:
         self.faults.append(f"{os.path.basename(self.path)}: line {number} {why}")
 
     def why(self, *body):
-        """Why this body was refused, where its line has the sum of what stands in the repository."""
+        """Why this body was refused, if its line has the sum of what stands in the repository."""
         line = self.lines.get(body)
         return line.why if line and line.sum == self.sums[body] else None
 
     def put(self, *body, at, why):
-        """Has the record say why this body was refused, at that commit, or nothing of it where it wasn't."""
+        """Has the record say why this body was refused, at that commit, or nothing of it if it wasn't."""
         self.tried.add(body)
         self.lines.pop(body, None)
         if why:

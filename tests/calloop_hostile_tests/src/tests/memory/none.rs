@@ -15,7 +15,7 @@ use std::time::Duration;
 
 #[test]
 fn what_takes_no_memory_succeeds(rt: HostRuntime) {
-    // Where it can't be set up there is nothing to try.
+    // If it can't be set up there is nothing to try.
     if let Some(desk) = Desk::<Held<HostRuntime>, HostRuntime>::new(&rt, rt.alloc()) {
         assert!(rt; desk.goes_on());
     }

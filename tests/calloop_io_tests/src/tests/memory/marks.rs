@@ -7,7 +7,7 @@ use std::sync::Wait;
 
 #[test]
 fn an_adapter_that_comes_again_takes_no_memory(rt: HostRuntime) {
-    // Where it can't be set up there is nothing to try.
+    // If it can't be set up there is nothing to try.
     let Ok(mut desk) = Desk::new(&rt, rt.alloc()) else {
         return;
     };
