@@ -23,8 +23,8 @@ const MILLISECOND: u32 = 1_000_000;
 pub enum Precision {
     /// Up to a millisecond late. An event ends the wait at once.
     Milliseconds,
-    /// Some microseconds late. In the last 1.15 milliseconds it sleeps for 0.1 at a time, so an event can wait so long. In the last
-    /// 0.08 it asks the OS again and again, and also for 0.1 after each event that was served, so traffic isn't delayed.
+    /// Some microseconds late. In the last 1.15 milliseconds it sleeps for 0.1 at a time, so an event can wait so long. In
+    /// the last 0.08 it asks the OS again and again, and also for 0.1 after each event that was served, so traffic isn't delayed.
     Microseconds,
 }
 

@@ -1,4 +1,4 @@
--- The calls of a callback, one list behind another.
+-- The calls of a callback, one list after another.
 use Rattle.std.proofs.Common.{List, [], ◌∷◌, ◌++◌, subst}
 use Rattle.calloop_sources.specs.sources.Calls.{CallbackCall, Calling, Went}
 

@@ -118,7 +118,7 @@ module _ {S P E M T Cause : Type 0} (m : Meaning S P (Heard E M T Cause)) (regis
   kept_marked (Ok RemoveIt) x b a t is h = rw h.1 is
   kept_marked (Err e) x b a t is h = rw h.1 is
 
-  -- a turn within that succeeded, or the whole's failed
+  -- the inner source's turn succeeded, or the whole's failed
   told_of : (told : Result PostAction Cause) (x : S) (b : Bool) (a : Result PostAction Cause) (t : State S)
       (action : PostAction) → a ≡ Ok action → KeptBy told x b a t → (inner : PostAction) × (told ≡ Ok inner)
   told_of (Ok inner) x b a t action ok h = (inner, refl)
@@ -137,7 +137,7 @@ module _ {S P E M T Cause : Type 0} (m : Meaning S P (Heard E M T Cause)) (regis
   turned_marked (Replace new old b) t v readiness token turn l action is ok h = rw h.3 is
   turned_marked Empty t v readiness token turn l action is ok h = rw h.3 tt
 
-  -- what a turn that succeeds answers
+  -- the result of a turn that succeeds
   kept_answer : (told : Result PostAction Cause) (x : S) (b : Bool) (a : Result PostAction Cause) (t : State S)
       (action : PostAction) → a ≡ Ok action → KeptBy told x b a t → (action ≡ Continue) ⊎ (action ≡ Reregister)
   kept_answer (Ok Continue) x b a t action ok h =

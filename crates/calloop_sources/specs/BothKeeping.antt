@@ -1,4 +1,4 @@
--- Two sources with their callbacks as one keep to the laws where both do. The impl cites these proofs, so they stand here.
+-- Two sources with their callbacks as one keep the laws if both do. The impl cites these proofs, so they are here.
 use Rattle.std.specs.Prelude.{◌≡◌, ◌<◌, ◌++◌, [], ◌∷◌, List, Option, None, Some, Result, Ok, Err}
 use Rattle.std.proofs.Common.{inl, inr, refl, sym, ap, ◌∙◌}
 use Rattle.calloop_slots.specs.Widths.{parts}
@@ -52,7 +52,7 @@ polls_append v (s ∷ ss) k = polls_append (polls_after v (s ∷ [])) ss k
 
 module _ {A B P X Q : Type 0} (m : Meaning A P (Lent X Q)) (n : Meaning B P (Lent X Q))
     (j : IsKeeping m) (k : IsKeeping n) where
-  -- what a row of calls keeps
+  -- what a sequence of calls keeps
   pub record IsRow (s : Both A B) (v : PollView P) (l : List (PollStep P)) (t : Both A B) : Type 0 where
     pub fits : both_fits m n t
     pub keeps : Keeps (both_holds m n s) v.deadlines.next l (both_holds m n t)
@@ -162,7 +162,7 @@ module _ {A B P X Q : Type 0} (m : Meaning A P (Lent X Q)) (n : Meaning B P (Len
         let y = may_home s.second t.second (polls_after v h.one) second h.more may h.may in
         ((x.0, y.0), λ home. rw h.steps_are (acts_then r h.one h.more (x.1 home.0) (y.1 home.1)))
 
-    -- a part is registered with this answer, where the whole is with that
+    -- a part's registration returns this if the whole's returns that
     begins_first : (home : Type 0) (f h g : TokenFactory) (told a : Result (Unit {0}) Error)
         (second : Option (Deed (Lent X Q)))
         → (a ≡ Ok tt → told ≡ Ok tt) → BeginsIn {T = Lent X Q} home r (Registered f a g)
@@ -319,6 +319,6 @@ module _ {A B P X Q : Type 0} (m : Meaning A P (Lent X Q)) (n : Meaning B P (Len
   failing_both x y s t v readiness token turn l h e is =
       fails_turn x y h.0.answer s t v readiness token h.0 turn h.1 l refl h.2 h.3 e is
 
-  -- a turn asks for nothing where neither part's does
+  -- a turn asks for nothing if neither part's turn does
   pub quiet_both : IsQuiet m → IsQuiet n → IsQuiet (both_meaning m n)
   quiet_both x y = asking_both (λ q r. r ≡ q) (λ q r s first then. then ∙ first) x y

@@ -1,5 +1,5 @@
 -- A socket's source acts under keys of its own registration alone, and on no counter. The impl cites these proofs, so
--- they stand here.
+-- they are here.
 use Rattle.std.proofs.Common.{◌≡◌, inl, inr, List, Option, None, Some, Result, Ok, Err, refl, ℕ, ℤ}
 use Rattle.std.specs.declared.io.Error.{Error as Cause}
 use Rattle.std.specs.declared.io.ErrorKind.{ErrorKind}
@@ -162,7 +162,7 @@ module _ {P F E : Type 0} (sockets : Sockets P) (raw_fd : F → Option ℤ) (giv
       takes_home r (λ token. Enter token (watched_by s)) s t v f g a l (own_key r f is) is home h
   registered_home r (Some own) s t v f g a l is home h = rw (h.0.3, h.0.4) (home, tt)
 
-  -- what succeeds had no token
+  -- a source whose registration succeeds had no token
   first_home : (r : RegistrationToken) (own : Option Token) (s t : Generic F E) (v : PollView P) (f g : TokenFactory)
       (l : List (PollStep P))
       → s.token ≡ own → IsFactoryOf r f

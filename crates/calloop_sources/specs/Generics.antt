@@ -29,22 +29,22 @@ use Rattle.calloop_poll.specs.sys.Keys.{no_key}
 use Rattle.calloop_sources.specs.declared.sources.dispatch.Role.TheVariants.{Caller}
 use Rattle.calloop_sources.specs.sources.Meanings.{Meaning}
 
--- a descriptor of this, where it says which it has
+-- a descriptor of this value, if its type says which it has
 abbrev pub IsFdOf : {F : Type 0} → (raw_fd : F → Option ℤ) → F → (fd : ℤ) → Type 0
 IsFdOf raw_fd io fd = IfSome (raw_fd io) (λ own. fd ≡ own)
 
--- the key of its token, where it is registered
+-- the key of the source's token, if it is registered
 abbrev pub under_token : Option Token → (key : ℕ) → Type 0
 under_token None = no_key
 under_token (Some token) = λ key. key ≡ key_of token
 
--- whether it hears no more events, after one
+-- whether the source takes no further events after one
 abbrev pub heard_in : Mode → (heard : Bool) → Bool
 heard_in OneShot heard = true
 heard_in Level heard = heard
 heard_in Edge heard = heard
 
--- what its turn takes and gives: the calls of its callback, with the socket, and its answer
+-- the input and output of a turn: the calls of the callback, with the socket, and its result
 abbrev pub GenericCalls : (F E : Type 0) → Type 0
 GenericCalls F E = List (CallbackCall Readiness (NoIoDrop F) (Result PostAction E))
 
@@ -52,32 +52,32 @@ module _ {F E : Type 0} where
   abbrev pub watched_by : Generic F E → Watched
   watched_by s = record { interest = s.interest; mode = s.mode }
 
-  -- the event's token is its own, and it didn't hear its one event yet
+  -- the event's token is the source's, and the source didn't take its one event yet
   abbrev pub Hears : Token → Generic F E → Type 0
   Hears token s = (s.token ≡ Some token) × (s.mode ≡ OneShot → s.heard ≡ false)
 
-  -- with what its callback made of the socket; under one shot this was its one event
+  -- the socket as the callback left it; under one shot this was the source's one event
   abbrev pub after_call : NoIoDrop F → Generic F E → Generic F E
   after_call io s = record s { io = io; heard = heard_in s.mode s.heard }
 
-  -- registered under this token, where that succeeded
+  -- registered under this token, if that succeeded
   abbrev pub entered_as : Result (Unit {0}) Error → Token → Generic F E → Generic F E
   entered_as (Ok u) token s = record s { token = Some token; heard = false }
   entered_as (Err e) token s = s
 
-  -- registered no more, where that succeeded
+  -- no longer registered, if that succeeded
   abbrev pub left_as : Result (Unit {0}) Error → Generic F E → Generic F E
   left_as (Ok u) s = record s { token = None }
   left_as (Err e) s = s
 
 module _ {P F E : Type 0} where
-  -- refused with an error of this kind, and nothing was done
+  -- fails with an error of this kind, and nothing was done
   abbrev pub IsRefused : ErrorKind → Generic F E → Result (Unit {0}) Error → List (PollStep P) → Generic F E
       → Type 0
   IsRefused kind s answer steps t = (e : Error) × (answer ≡ Err e) × IsOfKind kind e × (steps ≡ []) × (t ≡ s)
 
 module _ {P F E : Type 0} (sockets : Sockets P) (raw_fd : F → Option ℤ) where
-  -- its socket goes by the factory's next token, where there is one
+  -- the socket gets the factory's next token, if there is one
   abbrev pub TakesToken : (Token → Edit) → Generic F E → PollView P → TokenFactory
       → Result (Unit {0}) Error → List (PollStep P) → Generic F E → TokenFactory → Type 0
   TakesToken edit s v f answer steps t g =
@@ -85,7 +85,7 @@ module _ {P F E : Type 0} (sockets : Sockets P) (raw_fd : F → Option ℤ) wher
       ⊎ ((fd : ℤ) × IsFdOf raw_fd s.io.io fd × Edits sockets v (edit (next_token f)) fd answer steps
       × (t ≡ entered_as answer (next_token f) s) × (g ≡ after_token f))
 
-  -- by the token that it has
+  -- by the token that the source has
   abbrev pub RegisteredFrom : Option Token → Generic F E → PollView P → TokenFactory
       → Result (Unit {0}) Error → List (PollStep P) → Generic F E → TokenFactory → Type 0
   RegisteredFrom None s v f answer steps t g = TakesToken (λ token. Enter token (watched_by s)) s v f answer steps t g
@@ -104,13 +104,13 @@ module _ {P F E : Type 0} (sockets : Sockets P) (raw_fd : F → Option ℤ) wher
       (fd : ℤ) × IsFdOf raw_fd s.io.io fd × Edits sockets v (Leave own) fd answer steps × (t ≡ left_as answer s)
 
   module _ (gives : Cause → E → Type 0) where
-    -- a refusal of arming again is the turn's error
+    -- if arming again fails, that is the turn's error
     abbrev pub ArmedAnswer : Result (Unit {0}) Error → PostAction → Result PostAction E → Type 0
     ArmedAnswer (Ok u) action answer = answer ≡ Ok action
     ArmedAnswer (Err e) action answer =
         (cause : Cause) × (error : E) × AsIo e cause × gives cause error × (answer ≡ Err error)
 
-    -- after a callback that succeeded: level tells the poller of the socket again, under the token that it has
+    -- after a callback that succeeded: `Level` tells the poller of the socket again, under the token that it has
     abbrev pub ArmedBy : Mode → Token → Generic F E → PollView P → PostAction
         → Result PostAction E → List (PollStep P) → Generic F E → Type 0
     ArmedBy OneShot token s v action answer steps t = (answer ≡ Ok action) × (steps ≡ []) × (t ≡ s)
@@ -126,7 +126,7 @@ module _ {P F E : Type 0} (sockets : Sockets P) (raw_fd : F → Option ℤ) wher
     AnsweredBy (Ok action) token s v answer steps t = ArmedBy s.mode token s v action answer steps t
     AnsweredBy (Err error) token s v answer steps t = (answer ≡ Err error) × (steps ≡ []) × (t ≡ s)
 
-    -- one call, with what was found and the socket, for an event that it hears
+    -- one call, with the readiness found and the socket, for an event that the source takes
     pub record IsCalled
         (s : Generic F E) (v : PollView P) (readiness : Readiness) (token : Token) (calls : GenericCalls F E)
         (answer : Result PostAction E) (steps : List (PollStep P)) (t : Generic F E) : Type 0 where

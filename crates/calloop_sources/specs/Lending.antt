@@ -1,4 +1,4 @@
--- What a dispatcher becomes where its source was lent, and a socket's source where its socket was.
+-- What a dispatcher becomes when its source is lent, and a socket's source when its socket is.
 use Rattle.calloop_sources.specs.declared.sources.dispatch.Dispatcher.{Dispatcher}
 use Rattle.calloop_sources.specs.declared.generic.Generic.{Generic}
 

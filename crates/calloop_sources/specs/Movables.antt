@@ -1,5 +1,5 @@
--- A source whose registration can be taken back and made again by a registration anew. Calloop has none: there the parts of a source are
--- registered anew one by one, each beside what the others still have.
+-- A source whose registration can be taken back, and made again by `reregister`. calloop has none: there the parts of a source
+-- are registered anew one by one, each beside what the others still have.
 use Rattle.std.proofs.Common.{refl}
 use Rattle.std.specs.Prelude.{true, false, List, Result, Ok, Err}
 use Rattle.calloop_slots.specs.declared.error.Error.{Error}
@@ -15,12 +15,12 @@ use Rattle.calloop_sources.specs.sources.Lawful.{keeping_seen, silent}
 use Rattle.calloop_sources.specs.Transients.{Moves, RegisteredAs, ReregisteredAs, coming, state_holds, state_keys, state_fits}
 use Rattle.calloop_sources.specs.TransientKeeping.{state_keeps, by_registering}
 
--- one that comes with the first registration
+-- a source that is registered by the first registration
 abbrev pub coming_again : {S : Type 0} → S → Movable S
 coming_again source = record { source = coming source }
 
 module _ {S P E M T Cause : Type 0} (m : Meaning S P (Heard E M T Cause)) where
-  -- what is to stay and isn't registered is registered
+  -- a source that is to stay and isn't registered is registered
   abbrev pub ReturnsAs : State S → PollView P → TokenFactory → Result (Unit {0}) Error
       → List (PollStep P) → State S → TokenFactory → Type 0
   ReturnsAs (Keep s false) v f answer steps t g = RegisteredAs m (Keep s false) v f answer steps t g
@@ -31,7 +31,7 @@ module _ {S P E M T Cause : Type 0} (m : Meaning S P (Heard E M T Cause)) where
   ReturnsAs (Replace new old marked) v f answer steps t g = ReregisteredAs m (Replace new old marked) v f answer steps t g
   ReturnsAs Empty v f answer steps t g = ReregisteredAs m Empty v f answer steps t g
 
-  -- all else is as of a source that comes and goes
+  -- all else is as for a transient source
   abbrev pub MovesAgain : State S → PollView P → Deed (Heard E M T Cause) → List (PollStep P) → State S → Type 0
   MovesAgain state v (Reregistered f answer g) steps t = ReturnsAs state v f answer steps t g
   MovesAgain state v (Registered f answer g) steps t = Moves m state v (Registered f answer g) steps t
@@ -47,7 +47,7 @@ module _ {S P E M T Cause : Type 0} (m : Meaning S P (Heard E M T Cause)) where
   abbrev pub movable_meaning : Meaning (Movable S) P (Heard E M T Cause)
   movable_meaning = seen_as (λ s. s.source.state) again_meaning
 
--- It keeps to the laws where the source within does. The impl cites these proofs, so they stand here.
+-- A movable source keeps the laws if the inner source does. The impl cites these proofs, so they are here.
 
 module _ {S P E M T Cause : Type 0} (m : Meaning S P (Heard E M T Cause)) (k : IsKeeping m) where
   again_counts : KeepsCounters (again_meaning m)

@@ -1,5 +1,5 @@
--- A timer makes steps of its own counter alone, calls at most once for each arming, and stays at home. The impl cites
--- these proofs, so they stand here.
+-- A timer makes steps of its own counter alone, calls at most once for each arming, and keeps its keys in its registration.
+-- The impl cites these proofs, so they are here.
 use Rattle.std.proofs.Common.{◌≡◌, ◌≢◌, inl, inr, ℕ, ◌++◌, List, Option, None, Some, Result, Ok, Err, refl, sym, ◌∙◌}
 use Rattle.std.proofs.Common.{ap, true, false, Bool, nat_eq, if◌then◌else◌, arith}
 use Rattle.std.proofs.lemmas.Bool.Decides.{nat_tests}
@@ -30,7 +30,7 @@ within_same Free = tt
 within_same Spent = refl
 within_same (Standing deadline) = refl
 
--- what holds one counter, within what holds it too
+-- whatever holds one counter, if it is within what holds it too
 within_one : (counter n : ℕ) (h : Holding) (held : ℕ → Holding)
     → IsWithin (if nat_eq counter n then h else Free) (with_hold n h held counter)
 within_one counter n h held =

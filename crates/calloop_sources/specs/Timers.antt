@@ -1,5 +1,5 @@
--- A timer as a source: its registration and its turn. As calloop's, but the deadline that is handed out is the armed
--- one, an arming is called for once, and an older arming is taken back.
+-- A timer as a source: its registration and its turn. As calloop's, but the callback gets the armed deadline, each arming is
+-- called for once, and an older arming is taken back.
 use Rattle.std.specs.Prelude.{◌≡◌, ◌⊎◌, ℕ, ◌++◌, ◌∷◌, [], List, nat_eq, if◌then◌else◌, true, false}
 use Rattle.std.specs.Prelude.{Option, None, Some, Result, Ok, Err}
 use Rattle.calloop_slots.specs.declared.error.Error.{Error}
@@ -31,7 +31,7 @@ fresh_timer deadline = record { registration = None; deadline = deadline }
 abbrev pub registered_as : Registration → (deadline : Option Instant) → Timer
 registered_as r deadline = record { registration = Some r; deadline = deadline }
 
--- its arming was called for
+-- the callback was called for the registration's arming
 abbrev pub with_call : Registration → Registration
 with_call r = record r { spent = true }
 
@@ -60,17 +60,17 @@ timer_keys t = registered_under t.registration
 abbrev pub TimerCalls : Type 0
 TimerCalls = List (CallbackCall Instant (Unit {0}) TimeoutAction)
 
--- what takes the older arming back
+-- the step that takes the older arming back
 abbrev pub releases : {P : Type 0} → Option Registration → List (PollStep P)
 releases None = []
 releases (Some r) = Cancel r.counter ∷ []
 
--- why a timer can't be armed: the factory has no more tokens, or the wheel refuses
+-- why a timer can't be armed: the factory has no more tokens, or the wheel fails
 abbrev pub RefusedTimer : TokenFactory → (next : ℕ) → Error → TokenFactory → Type 0
 RefusedTimer f next e g =
     ((e ≡ TooManyTokens) × (f.given ≡ most_tokens) × (g ≡ f)) ⊎ (CannotArm next e × (g ≡ after_token f))
 
--- armed for its deadline under the next counter, where it has one
+-- armed for its deadline under the next counter, if it has a deadline
 abbrev pub Armed : {P : Type 0} → (deadline : Option Instant) → (next : ℕ) → TokenFactory
     → Result (Unit {0}) Error → List (PollStep P) → Timer → TokenFactory → Type 0
 Armed None next f answer steps t g = (answer ≡ Ok tt) × (steps ≡ []) × (t ≡ fresh_timer None) × (g ≡ f)
@@ -90,20 +90,20 @@ IsTimerReg {P} s v f answer steps t g =
 abbrev pub IsTimerUnreg : {P : Type 0} → Timer → Result (Unit {0}) Error → List (PollStep P) → Timer → Type 0
 IsTimerUnreg s answer steps t = (answer ≡ Ok tt) × (steps ≡ releases s.registration) × (t ≡ fresh_timer s.deadline)
 
--- armed again under its counter, or refused for memory: then it is unarmed, with the asked deadline
+-- armed again under its counter, or out of memory: then it is unarmed, with the requested deadline
 abbrev pub ArmedAgain : {P : Type 0} → Registration → (deadline : Instant)
     → Result PostAction TimerError → List (PollStep P) → Timer → Type 0
 ArmedAgain r at (Ok action) steps t =
     (action ≡ Continue) × (steps ≡ ArmAgain r.counter at r.token ∷ []) × (t ≡ registered_as (armed_for at r) (Some at))
 ArmedAgain r at (Err e) steps t = (steps ≡ []) × (t ≡ fresh_timer (Some at))
 
--- armed again for this moment, or removed without a deadline where there is none
+-- armed again for this moment, or removed without a deadline if there is none
 abbrev pub ArmedFor : {P : Type 0} → Registration → (moment : Option Instant)
     → Result PostAction TimerError → List (PollStep P) → Timer → Type 0
 ArmedFor r (Some at) answer steps t = ArmedAgain r at answer steps t
 ArmedFor r None answer steps t = (answer ≡ Ok Remove) × (steps ≡ []) × (t ≡ registered_as (with_call r) None)
 
--- what follows from the answer of a call
+-- the effect of the callback's result
 abbrev pub FollowsFrom : {P : Type 0} → Timer → Registration → TimeoutAction
     → Result PostAction TimerError → List (PollStep P) → Timer → Type 0
 FollowsFrom s r Drop answer steps t = (answer ≡ Ok Remove) × (steps ≡ []) × (t ≡ registered_as (with_call r) s.deadline)
@@ -112,7 +112,7 @@ FollowsFrom {P} s r (ToDuration time) answer steps t =
     (now : Instant) × (after : P) × (more : List (PollStep P)) × (steps ≡ ReadClock now.nanos after ∷ more)
     × ArmedFor r (moment_after now time) answer more t
 
--- one call, with the armed deadline, and what follows from its answer
+-- one call, with the armed deadline, and the effect of its result
 pub record IsCalled
     {P : Type 0} (s : Timer) (token : Token) (v : PollView P) (calls : TimerCalls)
     (answer : Result PostAction TimerError) (steps : List (PollStep P)) (t : Timer) (r : Registration) : Type 0 where

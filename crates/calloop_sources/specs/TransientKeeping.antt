@@ -1,5 +1,4 @@
--- A source that comes and goes keeps to the laws where the source within does. The impl cites these proofs, so they stand
--- here.
+-- A transient source keeps the laws if the inner source does. The impl cites these proofs, so they are here.
 use Rattle.std.proofs.Common.{refl}
 use Rattle.std.proofs.Common.{◌≡◌, inl, inr, ℕ, ◌++◌, [], List, Bool, true, false, Result, Ok, Err}
 use Rattle.calloop_slots.specs.declared.error.Error.{Error}
@@ -40,7 +39,7 @@ use Rattle.calloop_sources.specs.sources.Beside.{
 use Rattle.calloop_sources.specs.Transients.{Rests, Enters, EntersAnew, LeavesState, ThenEnters, Replaces, RegisteredAs, ReregisteredAs, UnregisteredAs, KeptBy, Ignores, TurnedAs, state_holds, state_keys, state_fits, state_meaning, transient_meaning}
 
 module _ {S P E M T Cause : Type 0} (m : Meaning S P (Heard E M T Cause)) (k : IsKeeping m) where
-  -- a state with no more than this source has
+  -- a state that has at most what this source has
   pub record IsOf (x : S) (state : State S) : Type 0 where
     pub fits : m.fits x → state_fits m state
     pub holds : (h : ℕ → Holding) (next : ℕ) (l : List (PollStep P)) → Keeps h next l (m.holds x)
@@ -116,7 +115,7 @@ module _ {S P E M T Cause : Type 0} (m : Meaning S P (Heard E M T Cause)) (k : I
       rw (h.1, h.2)
       (is.fits fits, is.holds (m.holds s) v.deadlines.next [] (λ c. within_itself (m.holds s c)))
 
-  -- of a new one beside the old one
+  -- for a new source beside the old one
   abbrev Beside : (old new : S) → ℕ → Holding
   Beside old new = beside (m.holds old) (m.holds new)
 

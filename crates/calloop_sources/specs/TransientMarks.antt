@@ -1,4 +1,4 @@
--- What the mark of a source that comes and goes says, where nobody else registers the source within.
+-- What the mark of a transient source says, if nobody else registers the inner source.
 use Rattle.std.specs.Prelude.{◌≡◌, ◌+◌, ℕ, List, Bool, true, false, Ok, if◌then◌else◌}
 use Rattle.calloop_sources.specs.declared.sources.source.PostAction.{PostAction}
 use Rattle.calloop_sources.specs.declared.transient.State.{State}
@@ -25,7 +25,7 @@ Succeeds (Slept given answer) = Unit {0}
 Succeeds (Noticed events) = Unit {0}
 
 module _ {S P E M T Cause : Type 0} (m : Meaning S P (Heard E M T Cause)) where
-  -- it is registered and unregistered by these calls alone
+  -- the source is registered and unregistered by these calls alone
   abbrev pub IsRegisteredBy : (S → Bool) → Type 0
   IsRegisteredBy registered =
       (s t : S) (v : PollView P) (deed : Deed (Heard E M T Cause)) (steps : List (PollStep P))
@@ -35,7 +35,7 @@ abbrev pub as_many : Bool → ℕ
 as_many b = if b then 1 else 0
 
 module _ {S : Type 0} (registered : S → Bool) where
-  -- the mark says whether the source within is registered, and a new one isn't
+  -- the mark says whether the inner source is registered, and a new one isn't
   abbrev pub IsMarked : State S → Type 0
   IsMarked (Keep s marked) = registered s ≡ marked
   IsMarked (Register s) = registered s ≡ false
@@ -44,7 +44,7 @@ module _ {S : Type 0} (registered : S → Bool) where
   IsMarked (Replace new old marked) = (registered old ≡ marked) × (registered new ≡ false)
   IsMarked Empty = Unit {0}
 
-  -- how many sources within are registered
+  -- how many inner sources are registered
   abbrev pub registered_within : State S → ℕ
   registered_within (Keep s marked) = as_many (registered s)
   registered_within (Register s) = as_many (registered s)

@@ -1,4 +1,4 @@
--- A source that comes and goes within another one. calloop's `TransientSource`, but a mark says whether the source within is
+-- A source that can come and go inside another one. calloop's `TransientSource`, but a mark says whether the inner source is
 -- registered, so that nothing is unregistered that isn't, and no registration is lost.
 use Rattle.std.specs.Prelude.{◌≡◌, ◌⊎◌, ℕ, ◌++◌, [], List, Bool, true, false, not, Option, None, Some, Result, Ok, Err}
 use Rattle.calloop_slots.specs.declared.error.Error.{Error}
@@ -23,13 +23,13 @@ use Rattle.calloop_sources.specs.sources.Beside.{IsApart, beside}
 use Rattle.calloop_sources.specs.declared.sources.dispatch.Role.TheVariants.{Caller}
 use Rattle.calloop_sources.specs.sources.Meanings.{Meaning, seen_as}
 
--- the one where a call succeeded, the other where it was refused
+-- the first if a call succeeded, the second if it failed
 abbrev pub after : {A : Type 0} → Result (Unit {0}) Error → A → A → A
 after (Ok u) a b = a
 after (Err e) a b = b
 
 module _ {S Cause : Type 0} where
-  -- what the turn of a kept source comes to
+  -- the effect of the turn of a kept source
   abbrev pub KeptBy : Result PostAction Cause → S → (marked : Bool) → Result PostAction Cause → State S → Type 0
   KeptBy (Ok Continue) s marked answer t = (answer ≡ Ok Continue) × (t ≡ Keep s marked)
   KeptBy (Ok Reregister) s marked answer t = (answer ≡ Ok Reregister) × (t ≡ Keep s marked)
@@ -38,29 +38,29 @@ module _ {S Cause : Type 0} where
   KeptBy (Err cause) s marked answer t = (answer ≡ Err cause) × (t ≡ Keep s marked)
 
 module _ {S P E M T Cause : Type 0} (m : Meaning S P (Heard E M T Cause)) where
-  -- nothing is asked of the source within
+  -- the inner source isn't called
   abbrev pub Rests : State S → Result (Unit {0}) Error → List (PollStep P) → State S → Type 0
   Rests state answer steps t = (answer ≡ Ok tt) × (steps ≡ []) × (t ≡ state)
 
-  -- it is registered, and kept then; else it stands as it stood
+  -- the source is registered, and kept then; on failure the state is as `stood` says
   abbrev pub Enters : (stood : S → State S) → S → PollView P → TokenFactory → Result (Unit {0}) Error
       → List (PollStep P) → State S → TokenFactory → Type 0
   Enters stood s v f answer steps t g =
       (s' : S) × m.does s v (Registered f answer g) steps s' × (t ≡ after answer (Keep s' true) (stood s'))
 
-  -- what is kept is registered anew; where that is refused, its mark stays
+  -- the kept source is registered anew; on failure its mark stays
   abbrev pub EntersAnew : S → (marked : Bool) → PollView P → TokenFactory → Result (Unit {0}) Error
       → List (PollStep P) → State S → TokenFactory → Type 0
   EntersAnew s marked v f answer steps t g =
       (s' : S) × m.does s v (Reregistered f answer g) steps s' × (t ≡ after answer (Keep s' true) (Keep s' marked))
 
-  -- it is unregistered, and left then; else it stands as it stood
+  -- the source is unregistered, and the state is as `left` says; on failure it is as `stood` says
   abbrev pub LeavesState : (left stood : S → State S) → S → PollView P → Result (Unit {0}) Error → List (PollStep P)
       → State S → Type 0
   LeavesState left stood s v answer steps t =
       (s' : S) × m.does s v (Unregistered answer) steps s' × (t ≡ after answer (left s') (stood s'))
 
-  -- after the old one was asked to leave, with this answer
+  -- after the old source was unregistered, with this result
   abbrev pub ThenEnters : (told : Result (Unit {0}) Error) → (new old : S) → PollView P → TokenFactory
       → Result (Unit {0}) Error → List (PollStep P) → State S → TokenFactory → Type 0
   ThenEnters (Ok u) new old v f answer steps t g = Enters (λ n. Replace n old false) new v f answer steps t g
@@ -68,7 +68,7 @@ module _ {S P E M T Cause : Type 0} (m : Meaning S P (Heard E M T Cause)) where
       (answer ≡ Err e) × (steps ≡ []) × (t ≡ Replace new old true) × (g ≡ f)
 
   -- the old one is unregistered, and then the new one registered; calloop's register drops the old one without that,
-  -- and its reregister unregisters it again where the new one was refused
+  -- and its reregister unregisters it again if the new one's registration failed
   pub record Replaces
       (new old : S) (v : PollView P) (f : TokenFactory) (answer : Result (Unit {0}) Error)
       (steps : List (PollStep P)) (t : State S) (g : TokenFactory) : Type 0 where
@@ -80,7 +80,7 @@ module _ {S P E M T Cause : Type 0} (m : Meaning S P (Heard E M T Cause)) where
     pub then : ThenEnters told new left (polls_after v first) f answer more t g
     pub steps_are : steps ≡ first ++ more
 
-  -- by the state and its mark: what is asked of the source within, and the state after it; calloop's have no mark
+  -- by the state and its mark: the call of the inner source, and the state after it; calloop's states have no mark
   abbrev pub RegisteredAs : State S → PollView P → TokenFactory → Result (Unit {0}) Error
       → List (PollStep P) → State S → TokenFactory → Type 0
   RegisteredAs (Keep s marked) v f answer steps t g = Enters (λ s'. Keep s' marked) s v f answer steps t g
@@ -139,11 +139,11 @@ module _ {S P E M T Cause : Type 0} (m : Meaning S P (Heard E M T Cause)) where
   Moves state v (Reregistered f answer g) steps t = ReregisteredAs state v f answer steps t g
   Moves state v (Unregistered answer) steps t = UnregisteredAs state v answer steps t
   Moves state v (Turned readiness token turn) steps t = TurnedAs state v readiness token turn steps t
-  -- it isn't told of waits
+  -- a transient source isn't told of waits
   Moves state v (Slept given answer) steps t = SaysNothing given answer × (steps ≡ []) × (t ≡ state)
   Moves state v (Noticed events) steps t = (steps ≡ []) × (t ≡ state)
 
-  -- both where one replaces the other
+  -- both sources' counters if one replaces the other
   abbrev pub state_holds : State S → ℕ → Holding
   state_holds (Keep s marked) = m.holds s
   state_holds (Register s) = m.holds s
@@ -184,7 +184,7 @@ module _ {S : Type 0} where
   abbrev pub without_source : TransientSource S
   without_source = record { state = Empty }
 
-  -- it is to stay, and isn't registered
+  -- the source is to stay, and isn't registered
   abbrev pub is_given_up : State S → Bool
   is_given_up (Keep s marked) = not marked
   is_given_up (Register s) = false
@@ -201,7 +201,7 @@ module _ {S : Type 0} where
   is_empty (Remove s marked) = false
   is_empty (Replace new old marked) = false
 
-  -- it is to leave; a new one that was to come is dropped, where calloop drops the old one, which may be registered
+  -- the source is to leave; a new one that was to come is dropped; calloop drops the old one instead, which may be registered
   abbrev pub removed_from : State S → State S
   removed_from (Keep s marked) = Remove s marked
   removed_from (Register s) = Remove s false
@@ -210,7 +210,7 @@ module _ {S : Type 0} where
   removed_from (Replace new old marked) = Remove old marked
   removed_from Empty = Empty
 
-  -- another one is to come in its place, and one that was to come before is dropped, where calloop drops the old one
+  -- another one is to come in its place, and one that was to come before is dropped; calloop drops the old one instead
   abbrev pub replaced_by : S → State S → State S
   replaced_by n (Keep s marked) = Replace n s marked
   replaced_by n (Register s) = Replace n s false
@@ -219,7 +219,7 @@ module _ {S : Type 0} where
   replaced_by n (Replace new old marked) = Replace n old marked
   replaced_by n Empty = Empty
 
-  -- which has no place in an empty wrapper; calloop drops it
+  -- a new source that an empty wrapper hands back; calloop drops it
   abbrev pub refused_by : State S → S → Option S
   refused_by Empty n = Some n
   refused_by (Keep s marked) n = None
@@ -228,7 +228,7 @@ module _ {S : Type 0} where
   refused_by (Remove s marked) n = None
   refused_by (Replace new old marked) n = None
 
-  -- the source within that is to stay or to come, if any, went so
+  -- the inner source that is to stay or to come, if any, changed so
   abbrev pub MappedBy : {U : Type 0} → (S → U → S → Type 0) → State S → Option U → State S → Type 0
   MappedBy {U} R (Keep s marked) answer t =
       (u : U) × (s' : S) × R s u s' × (answer ≡ Some u) × (t ≡ Keep s' marked)
@@ -241,7 +241,7 @@ module _ {S : Type 0} where
   MappedBy R (Remove s marked) answer t = (answer ≡ None) × (t ≡ Remove s marked)
   MappedBy R Empty answer t = (answer ≡ None) × (t ≡ Empty)
 
-  -- the same of the wrapper
+  -- true if the wrapper has no inner source
   abbrev pub is_without_source : TransientSource S → Bool
   is_without_source s = is_empty s.state
 

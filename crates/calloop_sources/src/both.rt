@@ -17,8 +17,8 @@ use calloop_slots::error::{Error, Failed, Result as LoopResult};
 use calloop_slots::token::{RegistrationToken, Token, TokenFactory};
 use std::sync::Wait;
 
-/// A part of a `Both`: it knows whether it is registered, so that it can be taken back and registered again at any time. A
-/// source becomes one by `Movable::from`.
+/// A part of a `Both`: it knows whether it is registered, so that it can be taken back and registered again at any time.
+/// `Movable::from` makes one of a source.
 pub trait Part {}
 
 impl<S, F> Part for Dispatcher<Movable<S>, F> {}
@@ -26,10 +26,10 @@ impl<S, F> Part for Dispatcher<Movable<S>, F> {}
 impl<A: Part, B: Part> Part for Both<A, B> {}
 
 /// Two sources, each with its callback, as one source. They are registered together, with tokens of one factory, and each
-/// event is for one of them. More than two are a `Both` of a `Both`. Nothing is to be proved of it.
+/// event is for one of them. More than two are a `Both` of a `Both`. The user has nothing to prove.
 ///
-/// `Disable` and `Remove` of a part touch that part alone, also where both answer it: the part rests or is gone, and the whole
-/// stays in the loop. calloop has its users write such a source by hand.
+/// `Disable` and `Remove` of a part affect that part alone, also if both return it: the part rests or is gone, and the whole
+/// stays in the loop. calloop's users write such a source by hand.
 #[derive(Drop)]
 pub struct Both<A, B> {
     pub first: A,
@@ -43,7 +43,7 @@ fn count_fits(factory: &TokenFactory)
     let _given = factory.tokens_given();
 }
 
-// Both are registered anew, up to the first error.
+// Registers both anew, up to the first error.
 fn come_again<P: Poller, C, R: Wait + Drop, X, Q: Asking, A, B>(
     both: &mut Both<A, B>,
     poll: &mut Poll<P, C, R>,
@@ -72,7 +72,7 @@ where
     }
 }
 
-// Both are unregistered, up to the first error.
+// Unregisters both, up to the first error.
 fn take_back<P: Poller, C, R: Wait + Drop, X, Q: Asking, A, B>(
     both: &mut Both<A, B>,
     poll: &mut Poll<P, C, R>,
@@ -102,8 +102,8 @@ where
 
     ghost means = { both_meaning A.Dispatch.means B.Dispatch.means };
 
-    /// Registers the first part, and then the second one. An error of the first one ends it; what was registered until then stays
-    /// so. A first part that leaves a factory of another registration is refused with `InvalidToken`.
+    /// Registers the first part, and then the second one. Returns an error of the first one at once; what was registered until
+    /// then stays so. Fails with `InvalidToken` if the first part leaves a factory of another registration.
     fn register(
         &mut self,
         poll: &mut Poll<P, C, R>,
@@ -124,8 +124,8 @@ where
         }
     }
 
-    /// Unregisters both parts, and then registers both anew: so neither meets a key that the other still has. The first error
-    /// ends it; what was done until then stays so, and the same call goes on from there.
+    /// Unregisters both parts, and then registers both anew: so neither meets a key that the other still has. Returns the first
+    /// error at once; what was done until then stays so, and the same call goes on from there.
     fn reregister(
         &mut self,
         poll: &mut Poll<P, C, R>,
@@ -138,13 +138,13 @@ where
         }
     }
 
-    /// Unregisters the first part, and then the second one. An error of the first one ends it.
+    /// Unregisters the first part, and then the second one. Returns an error of the first one at once.
     fn unregister(&mut self, poll: &mut Poll<P, C, R>, failure: &mut Error) -> Result<(), Failed> {
         take_back::<P, C, R, X, Q, A, B>(self, poll, failure)
     }
 
-    /// A turn of the first part, and then of the second one; each ignores an event of another token. The whole answers
-    /// `Continue` where both do, and else `Reregister`. An error of the first one ends it.
+    /// A turn of the first part, and then of the second one; each ignores an event of another token. Returns `Continue` if both
+    /// do, and else `Reregister`. Returns an error of the first one at once.
     fn process_events(
         &mut self,
         readiness: Readiness,
@@ -169,7 +169,7 @@ where
         }
     }
 
-    /// It isn't told of waits, as its parts aren't.
+    /// False: the parts aren't told of waits either.
     fn needs_extra_lifecycle_events(&self) -> bool {
         false
     }

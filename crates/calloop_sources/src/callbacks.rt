@@ -3,18 +3,18 @@ use crate::sources::{Asking, Callback, Dispatch, Dispatcher, EventSource, OneOf}
 use calloop_poll::sys::Poller;
 use std::sync::Wait;
 
-/// A callback that neither asks the loop for anything nor looks at what its source lends beside the event. It is a `Callback` by
-/// that, with nothing to prove. `E` is the event, `X` the data that a dispatch lends, and `T` what the source is told.
+/// A callback that neither asks the loop for anything nor looks at what its source lends beside the event. This makes it a
+/// `Callback`, with nothing to prove. `E` is the event, `X` the data that a dispatch lends, and `T` the result for the source.
 pub trait On<E, X, T> {
     /// Called with an event.
     fn on(&mut self, event: E, data: &mut X) -> T;
 }
 
-/// A callback that asks the loop for nothing, and is lent what its source lends beside the event, as a `Generic` its socket. It is a
-/// `Callback` by that, with nothing to prove. Each `On` is one. `E` is the event, `M` the metadata, `X` the data that a dispatch lends,
-/// and `T` what the source is told.
+/// A callback that asks the loop for nothing, and gets what its source lends beside the event, as a `Generic` its socket. This
+/// makes it a `Callback`, with nothing to prove. Each `On` is one. `E` is the event, `M` the metadata, `X` the data that a
+/// dispatch lends, and `T` the result for the source.
 pub trait OnWith<E, M, X, T> {
-    /// What the metadata may be after a call. One without a relation of its own may do anything to it.
+    /// What the metadata may be after a call. A callback without a relation of its own may do anything to it.
     ghost changes: { M → M → Type 0 } = { λ _ _. Unit {0} };
 
     /// Called with an event.
@@ -53,7 +53,7 @@ impl<E, M: Drop, T, X, Q: Asking, F: OnWith<E, M, X, T>> QuietCallback<E, M, T, 
     ghost quiet = { λ f g e m n x y q r t h. h.1 };
 }
 
-/// A choice of sources whose callbacks ask the loop for nothing, so that no turn of it does.
+/// A choice of sources whose callbacks ask the loop for nothing, so that no turn of the choice does.
 pub trait QuietDispatch<P: Poller, C, R: Wait + Drop, X, Q: Asking>: Dispatch<P, C, R, X, Q> {
     ghost use Rattle.calloop_sources.specs.sources.Quiet.{IsQuiet};
 

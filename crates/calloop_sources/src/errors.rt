@@ -1,4 +1,4 @@
-//! What fails in a source of one's own, as an error of the loop.
+//! Errors of a caller's own source, as errors of the loop.
 use crate::sources::IntoError;
 use calloop_slots::error::Error;
 use std::io;
@@ -11,7 +11,7 @@ impl IntoError for io::Error {
 
     ghost of_source = { io_of_source };
 
-    /// `OutOfMemory` where it is of that kind, and else an `OtherError` with its text.
+    /// `OutOfMemory` if the error is of that kind, and else an `OtherError` with its text.
     fn into_error(self) -> Error {
         match self.kind() {
             io::ErrorKind::OutOfMemory => Error::OutOfMemory,
@@ -28,7 +28,7 @@ impl IntoError for Error {
 
     ghost of_source = { as_of_source };
 
-    /// An `OtherError` and running out of memory stay what they are. Each other one, which is the loop's own, becomes an `OtherError`
+    /// `OtherError` and `OutOfMemory` stay what they are. Any other error, which is the loop's own, becomes an `OtherError`
     /// with its text.
     fn into_error(self) -> Error {
         match self {

@@ -1,4 +1,4 @@
-//! Sources behind a box or a lent reference. Each call goes to the one within, whose answers and errors are handed on. From
+//! Sources behind a box or a lent reference. Each call goes to the inner source, whose results and errors are handed on. From
 //! calloop's `sources/mod.rs`.
 use crate::sources::{Asking, Callback, EventSource, PostAction};
 use calloop_poll::sys::events::EventIterator;

@@ -28,8 +28,8 @@ pub struct NoIoDrop<T> {
 }
 
 impl<T> NoIoDrop<T> {
-    /// The socket, to be changed. One that is changed while it is registered can make a later call of the poller fail, or stay
-    /// unheard of, and nothing worse; calloop has this call as an unsafe one.
+    /// The socket, to be changed. Changing it while it is registered can make a later poller call fail, or leave the socket's
+    /// events unheard, and nothing worse; in calloop this call is unsafe.
     pub fn get_mut(&mut self) -> &mut T
         ensures* writes_back { sem 𝓛 (Lends (lent_row T.row) T.row self.entry result
             (λ io. record { io = io })) }
@@ -61,26 +61,26 @@ impl<T> Deref for NoIoDrop<T> {
     }
 }
 
-/// What has a descriptor as a source: a socket, a pipe, a child's output, a terminal. Its callback gets what was found, and what has
-/// the descriptor. `E` is the error of the callback, of which a fault of the poller in this source's turn becomes one.
+/// A value that has a descriptor, as a source: a socket, a pipe, a child's output, a terminal. Its callback gets the readiness
+/// found, and that value. `E` is the error of the callback; a fault of the poller in this source's turn becomes an `E`.
 ///
-/// Its drop calls no poller: one that is dropped while it is registered leaves its key in the loop's table, where calloop's takes its
+/// Its drop calls no poller: if it is dropped while it is registered, its key stays in the loop's table. calloop's takes its
 /// descriptor out.
 #[derive(Drop)]
 pub struct Generic<F, E = io::Error> {
     io: NoIoDrop<F>,
-    /// What it is registered for, from its next registration on; `Level` takes it up after each call.
+    /// The interest that it is registered for, from its next registration on; `Level` takes it up after each call.
     pub interest: Interest,
-    /// How often it hears of that.
+    /// How often it is told of that.
     pub mode: Mode,
     token: Option<Token>,
-    // An event came under `OneShot` since it was registered.
+    // True if an event came under `OneShot` since it was registered.
     heard: bool,
     error: PhantomData<E>,
 }
 
 impl<F, E> Generic<F, E> {
-    /// Not registered yet.
+    /// Makes a source that isn't registered yet.
     pub fn new_with_error(io: F, interest: Interest, mode: Mode) -> Generic<F, E>
         ensures io { result.io.io ≡ io }
         ensures interest { result.interest ≡ interest }
@@ -98,7 +98,7 @@ impl<F, E> Generic<F, E> {
         }
     }
 
-    /// The socket, where it isn't registered. Else this very source.
+    /// Returns the socket if it isn't registered, else this very source.
     pub fn unwrap(self) -> Result<F, Generic<F, E>>
         ensures ok { IfOk result (λ io. (io ≡ self.io.io) × (self.token ≡ None)) }
         ensures err { IfErr result (λ source. (source ≡ self) × IsSome self.token) }
@@ -118,8 +118,8 @@ impl<F, E> Generic<F, E> {
         &self.io.io
     }
 
-    /// The socket, to be changed. One that is changed while it is registered can make a later call of the poller fail, or stay
-    /// unheard of, and nothing worse; calloop has this call as an unsafe one.
+    /// The socket, to be changed. Changing it while it is registered can make a later poller call fail, or leave the socket's
+    /// events unheard, and nothing worse; in calloop this call is unsafe.
     pub fn get_mut(&mut self) -> &mut F
         ensures* writes_back { sem 𝓛 (Lends (the_row F.row E.row) F.row self.entry
             result (λ io. with_socket io self.old)) }
@@ -130,7 +130,7 @@ impl<F, E> Generic<F, E> {
 }
 
 impl<F> Generic<F, io::Error> {
-    /// Not registered yet, with a callback that fails with what a call of the system fails with.
+    /// Makes a source that isn't registered yet, with a callback that fails with the errors of system calls.
     pub fn new(io: F, interest: Interest, mode: Mode) -> Generic<F, io::Error>
         ensures io { result.io.io ≡ io }
         ensures interest { result.interest ≡ interest }
@@ -143,7 +143,7 @@ impl<F> Generic<F, io::Error> {
 }
 
 impl<F, E> Generic<F, E> {
-    // Whether an event of this token is for its callback.
+    // True if an event of this token is for the callback.
     fn hears(&self, token: Token) -> bool
         ensures { MatchBool result (Hears token self.now) (¬ Hears token self.now) }
     {
@@ -156,7 +156,7 @@ impl<F, E> Generic<F, E> {
         }
     }
 
-    // Whether it hears no more events, once it has heard this one.
+    // True if no further event is for the callback, once it got this one.
     fn is_heard(&self) -> bool
         ensures { result ≡ heard_in self.now.mode self.now.heard }
     {
@@ -168,7 +168,7 @@ impl<F, E> Generic<F, E> {
 }
 
 impl<F: AsRawFd, E: From<io::Error>> Generic<F, E> {
-    // Under `Level` the poller is asked to tell of the socket again.
+    // Under `Level`, asks the poller to tell of the socket again.
     #[inline(always)]
     fn arm_again<P: Poller, C, R: Wait + Drop>(
         &mut self,
@@ -209,9 +209,9 @@ where
 
     ghost means = { generic_meaning P.sockets F.raw_fd E.from_gives };
 
-    /// Calls back with what was found, where the token is its own; under `OneShot` for one event alone. After a callback that
-    /// succeeded, `Level` asks the poller to tell of the socket again, with the interest as it is now, and a refusal of that is the
-    /// turn's error. The machine's poller needs a call of the system for it only where the interest is another.
+    /// Calls back with the readiness found if the token is the source's; under `OneShot` for one event alone. After a callback
+    /// that succeeded, `Level` asks the poller to tell of the socket again, with the interest as it is now, and if that fails, so
+    /// does the turn. The OS poller needs a system call for it only if the interest is another.
     fn process_events<K, X, Q>(
         &mut self,
         readiness: Readiness,
@@ -235,8 +235,8 @@ where
         }
     }
 
-    /// Enters the socket under the factory's next token. What is registered is refused with `IoError` of kind `AlreadyExists`; a
-    /// refusal leaves the source as it was.
+    /// Enters the socket under the factory's next token. Fails with `IoError` of kind `AlreadyExists` if it is registered; on
+    /// failure the source is unchanged.
     fn register(&mut self, poll: &mut Poll<P, C, R>, factory: &mut TokenFactory) -> LoopResult<()> {
         if let Some(_) = self.token {
             return Err(Error::IoError(io::Error::from(io::ErrorKind::AlreadyExists)));
@@ -248,8 +248,8 @@ where
         Ok(())
     }
 
-    /// Under the factory's next token, with the interest and the mode as they are now. What isn't registered is refused with
-    /// `IoError` of kind `NotFound`; a refusal leaves the source registered as it was.
+    /// Registers anew under the factory's next token, with the interest and the mode as they are now. Fails with `IoError` of
+    /// kind `NotFound` if it isn't registered; on failure the source stays registered as it was.
     fn reregister(
         &mut self,
         poll: &mut Poll<P, C, R>,
@@ -265,7 +265,7 @@ where
         Ok(())
     }
 
-    /// Takes the socket out. What isn't registered is refused with `IoError` of kind `NotFound`; after a refusal it is registered
+    /// Takes the socket out. Fails with `IoError` of kind `NotFound` if it isn't registered; on failure it stays registered
     /// as it was.
     fn unregister(&mut self, poll: &mut Poll<P, C, R>) -> LoopResult<()> {
         let Some(own) = self.token else {
@@ -276,7 +276,7 @@ where
         Ok(())
     }
 
-    /// It isn't told of waits.
+    /// False: it isn't told of waits.
     fn needs_extra_lifecycle_events() -> bool {
         false
     }

@@ -1,21 +1,21 @@
-//! What a loop is asked to do once, when nothing else is left to do.
+//! Idle callbacks: run once, when nothing else is left to do.
 ghost use Rattle.std.specs.Prelude.{◌≡◌};
 
 use crate::sources::Asking;
 
 /// Called once, with the data that a dispatch lends. `Q` takes its requests. calloop takes a closure.
 pub trait IdleCallback<X, Q: Asking> {
-    /// The callback, the data and the requests before the call, and these two after it. A callback without a relation of its own may
-    /// do anything.
+    /// The callback, the data and the requests before the call, and the latter two after it. A callback without a relation of its
+    /// own may do anything.
     ghost runs: { Self → X → Q → X → Q → Type 0 } = { λ _ _ _ _ _. Unit {0} };
 
-    /// What is done. The callback is spent.
+    /// Runs the callback, which is spent.
     fn run(self, data: &mut X, requests: &mut Q)
         ensures runs { runs self «data».old requests.old «data».new requests.new }
         ensures asks { Q.reaches requests.old requests.new };
 }
 
-/// One whose relation says that it asks the loop for nothing.
+/// An idle callback whose relation says that it asks the loop for nothing.
 pub trait QuietIdle<X, Q: Asking>: IdleCallback<X, Q> {
     ghost use Rattle.calloop_sources.specs.sources.Quiet.{IsQuietRun};
 
@@ -26,7 +26,7 @@ impl<X, Q: Asking> QuietIdle<X, Q> for () {
     ghost quiet = { λ i x y q r h. h.1 };
 }
 
-/// Nothing to do, as in a loop that is asked for nothing of the kind.
+/// Does nothing: for a loop without idle callbacks.
 impl<X, Q: Asking> IdleCallback<X, Q> for () {
     ghost use Rattle.std.specs.Prelude.{◌≡◌};
 

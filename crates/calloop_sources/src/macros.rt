@@ -1,7 +1,7 @@
-//! Several sources registered in a row, up to the first error. From calloop's `macros.rs`.
+//! Several sources registered one after another, up to the first error. From calloop's `macros.rs`.
 pub use calloop_slots::error::Error;
 
-/// Registers the sources in the order listed. The first error is returned from the function that has this; what was registered
+/// Registers the sources in the order listed. The function that uses this returns the first error; what was registered
 /// until then stays so.
 #[macro_export]
 macro_rules! batch_register {
@@ -11,7 +11,7 @@ macro_rules! batch_register {
     }};
 }
 
-/// Registers the sources anew, in the order listed. The first error is returned from the function that has this; what was
+/// Registers the sources anew, in the order listed. The function that uses this returns the first error; what was
 /// registered anew until then stays so.
 #[macro_export]
 macro_rules! batch_reregister {
@@ -21,7 +21,7 @@ macro_rules! batch_reregister {
     }};
 }
 
-/// Unregisters the sources in the order listed. The first error is returned from the function that has this; what was
+/// Unregisters the sources in the order listed. The function that uses this returns the first error; what was
 /// unregistered until then stays so.
 #[macro_export]
 macro_rules! batch_unregister {

@@ -1,4 +1,4 @@
-//! A source whose registration can be taken back and made again within one of the whole.
+//! A source whose registration can be taken back and made again within a registration of the whole.
 use crate::sources::{Asking, Callback, EventSource, PostAction};
 use crate::transient::TransientSource;
 use calloop_poll::sys::events::EventIterator;
@@ -9,9 +9,9 @@ use calloop_slots::error::Result as LoopResult;
 use calloop_slots::token::{Token, TokenFactory};
 use std::sync::Wait;
 
-/// A `TransientSource` that `reregister` registers, too, where it is to stay and isn't registered: so a source that is made of several
-/// can unregister all its parts, and then call `reregister` of each, and no part meets a key that another still has. One that rests goes on
-/// to rest by that. Calloop has none.
+/// A `TransientSource` that `reregister` registers, too, if it is to stay and isn't registered: so a source made of several can
+/// unregister all its parts, and then call `reregister` of each, and no part meets a key that another still has. A part that
+/// rests stays at rest then. calloop has none.
 #[derive(Debug, Drop)]
 pub struct Movable<T> {
     pub source: TransientSource<T>,
@@ -23,7 +23,7 @@ impl<T> From<T> for Movable<T> {
 
     ghost from_gives = { λ source movable. movable ≡ coming_again source };
 
-    /// It comes with the first registration.
+    /// Makes one whose source is registered by the first registration.
     fn from(source: T) -> Movable<T> {
         Movable {
             source: TransientSource::from(source),
@@ -68,7 +68,7 @@ where
         self.source.register(poll, factory)
     }
 
-    /// Registers the source within where it is to stay and isn't registered. All else is as of a `TransientSource`.
+    /// Registers the inner source if it is to stay and isn't registered. All else is as for a `TransientSource`.
     fn reregister(
         &mut self,
         poll: &mut Poll<P, C, R>,
@@ -85,7 +85,7 @@ where
         self.source.unregister(poll)
     }
 
-    /// It isn't told of waits, whatever the source within is.
+    /// False: it isn't told of waits, whatever the inner source is.
     fn needs_extra_lifecycle_events() -> bool {
         false
     }

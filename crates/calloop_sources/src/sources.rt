@@ -1,4 +1,4 @@
-//! Sources of events, and what a user hands to the loop beside one: a callback for its events.
+//! Sources of events, and what a user hands to the loop beside a source: a callback for its events.
 mod callback;
 mod choice;
 mod dispatch;

@@ -20,14 +20,14 @@ use std::sync::Wait;
 use std::time::Duration;
 use thiserror::Error as ThisError;
 
-/// What a timer's callback answers.
+/// The result of a timer's callback.
 #[derive(Clone, Copy, Debug)]
 pub enum TimeoutAction {
     /// The timer leaves the loop.
     Drop,
     /// It is armed again, for this moment.
     ToInstant(Instant),
-    /// It is armed again, for so much later than the poller's clock shows. Past 2^64 - 1 nanoseconds it leaves the loop.
+    /// It is armed again, for the poller's clock plus this duration. Past 2^64 - 1 nanoseconds it leaves the loop.
     ToDuration(Duration),
 }
 
@@ -35,7 +35,7 @@ pub enum TimeoutAction {
 #[derive(Debug, Drop, ThisError)]
 pub enum TimerError {
     /// There was no memory to arm it again, or its turn was on a `Poll` that never gave its counter, which no loop does. It is
-    /// unarmed then, with the asked deadline.
+    /// unarmed then, with the requested deadline.
     #[error("out of memory")]
     OutOfMemory,
 }
@@ -49,7 +49,7 @@ impl IntoError for TimerError {
 
     ghost of_source = { λ _ e is. memory_of_source e is };
 
-    /// `OutOfMemory`.
+    /// Becomes `OutOfMemory`.
     fn into_error(self) -> Error {
         Error::OutOfMemory
     }
@@ -64,7 +64,7 @@ pub struct Registration {
     spent: bool,
 }
 
-/// A source that is called when its deadline has come, with that deadline. Calloop hands out the deadline as it is set
+/// A source that is called when its deadline has come, with that deadline. calloop passes the deadline as it is set
 /// by then, and arms a timer twice that is registered twice.
 #[derive(Debug, Drop)]
 pub struct Timer {
@@ -73,7 +73,7 @@ pub struct Timer {
 }
 
 impl Timer {
-    /// Due at once, by this clock.
+    /// Makes a timer that is due at once, by this clock.
     pub fn immediate<C: Clock>(clock: &C) -> Timer
         ensures { (now : Instant) × C.shows clock.now now.nanos
             × (result ≡ fresh_timer (Some now)) }
@@ -81,7 +81,7 @@ impl Timer {
         Timer::from_deadline(clock.now())
     }
 
-    /// Due so much later than this clock shows. Past 2^64 - 1 nanoseconds it has no deadline.
+    /// Makes a timer that is due this long after the clock's moment. Past 2^64 - 1 nanoseconds it has no deadline.
     pub fn from_duration<C: Clock>(clock: &C, duration: Duration) -> Timer
         ensures { (now : Instant) × C.shows clock.now now.nanos
             × (result ≡ fresh_timer (moment_after now duration)) }
@@ -92,7 +92,7 @@ impl Timer {
         }
     }
 
-    /// Due at this moment.
+    /// Makes a timer that is due at this moment.
     pub fn from_deadline(deadline: Instant) -> Timer
         ensures { result ≡ fresh_timer (Some deadline) }
     {
@@ -109,7 +109,7 @@ impl Timer {
         self.deadline = Some(deadline);
     }
 
-    /// Sets the deadline to so much later than this clock shows. Past 2^64 - 1 nanoseconds it has none. It counts from the
+    /// Sets the deadline to this long after the clock's moment. Past 2^64 - 1 nanoseconds it has none. It counts from the
     /// next registration on.
     pub fn set_duration<C: Clock>(&mut self, clock: &C, duration: Duration)
         ensures { (now : Instant) × C.shows clock.now now.nanos
@@ -118,7 +118,7 @@ impl Timer {
         self.deadline = clock.now().checked_add(duration);
     }
 
-    /// The deadline, which is not always the armed one.
+    /// Returns the deadline, which is not always the armed one.
     pub fn current_deadline(&self) -> Option<Instant>
         ensures { result ≡ self.now.deadline }
     {
@@ -139,7 +139,7 @@ impl Timer {
         }
     }
 
-    // Arms what isn't armed, where it has a deadline.
+    // Arms a timer that isn't armed, if it has a deadline.
     #[inline(always)]
     fn arm<P: Poller, C, R: Wait + Drop>(
         &mut self,
@@ -197,7 +197,7 @@ impl Timer {
         }
     }
 
-    // One call, and what follows from its answer.
+    // Calls back once, and does what the result asks for.
     fn call<P: Poller, C, R: Wait + Drop, F, X, Q>(
         &mut self,
         registration: Registration,
@@ -249,7 +249,7 @@ impl<P: Poller, C, R: Wait + Drop> EventSource<P, C, R> for Timer {
 
     ghost means = { timer_meaning };
 
-    /// Calls back once with the armed deadline, where the token is the timer's, that arming wasn't called for, and no
+    /// Calls back once with the armed deadline, if the token is the timer's, that arming wasn't called for, and no
     /// deadline of its counter is armed. Else the event is ignored.
     fn process_events<F, X, Q>(
         &mut self,
@@ -276,15 +276,15 @@ impl<P: Poller, C, R: Wait + Drop> EventSource<P, C, R> for Timer {
         self.call(registration, poll, callback, data, requests)
     }
 
-    /// Takes an older arming back, and arms the timer for its deadline under the factory's next token, where it has one.
-    /// A refusal leaves it unarmed, with its deadline.
+    /// Takes an older arming back, and arms the timer for its deadline under the factory's next token, if it has one.
+    /// On failure it is unarmed, with its deadline.
     #[inline(always)]
     fn register(&mut self, poll: &mut Poll<P, C, R>, factory: &mut TokenFactory) -> LoopResult<()> {
         self.release(poll);
         self.arm(poll, factory)
     }
 
-    /// As a registration: the older arming is taken back, and the deadline is armed anew.
+    /// As `register`: takes the older arming back, and arms the deadline anew.
     fn reregister(
         &mut self,
         poll: &mut Poll<P, C, R>,
@@ -293,13 +293,13 @@ impl<P: Poller, C, R: Wait + Drop> EventSource<P, C, R> for Timer {
         self.register(poll, factory)
     }
 
-    /// Takes the arming back, where there is one. It never fails.
+    /// Takes the arming back, if there is one. It never fails.
     fn unregister(&mut self, poll: &mut Poll<P, C, R>) -> LoopResult<()> {
         self.release(poll);
         Ok(())
     }
 
-    /// It isn't told of waits.
+    /// False: it isn't told of waits.
     fn needs_extra_lifecycle_events() -> bool {
         false
     }

@@ -1,4 +1,4 @@
-//! A source that comes and goes within another one. From calloop's `sources/transient.rs`.
+//! A source that can come and go inside another one. From calloop's `sources/transient.rs`.
 ghost use Rattle.std.specs.Prelude.{◌≡◌, ◌⊎◌, ◌≤◌, List, Bool, true, false, Ok};
 ghost use Rattle.std.specs.Fn.{FnOnceReturnsAtMut};
 ghost use Rattle.calloop_slots.specs.declared.token.Token.{Token};
@@ -24,34 +24,34 @@ use calloop_slots::token::{Token, TokenFactory};
 use std::mem;
 use std::sync::Wait;
 
-// What becomes of the source within, and whether it is registered.
+// What becomes of the inner source, and whether it is registered.
 #[derive(Debug, Drop)]
 enum State<T> {
     // It stays.
     Keep { source: T, registered: bool },
     // It isn't registered, and comes with the next registration.
     Register(T),
-    // It rests from the next registration anew on.
+    // It rests from the next `reregister` on.
     Disable { source: T, registered: bool },
     // It leaves with the next registration.
     Remove { source: T, registered: bool },
-    // The old one leaves with the next registration, and the new one comes. The mark is of the old one.
+    // The old one leaves with the next registration, and the new one comes. The mark is the old one's.
     Replace { new: T, old: T, registered: bool },
     Empty,
 }
 
 /// A source that can be disabled, removed or replaced while the source that it is a part of stays in the loop. Its turns
-/// answer `Continue` or `Reregister` alone; what it needs happens as the whole is registered anew.
+/// return `Continue` or `Reregister` alone; the needed changes happen when the whole is registered anew.
 ///
-/// It notes whether the source within is registered, which calloop's doesn't: so nothing is unregistered that isn't
-/// registered, and no registration is lost. An error of the source within is handed on, and what it did before that stands:
-/// the same call goes on from there. It isn't told of waits, whatever the source within needs.
+/// It notes whether the inner source is registered, which calloop's doesn't: so nothing is unregistered that isn't registered,
+/// and no registration is lost. An error of the inner source is handed on, and what it did before that stays:
+/// the same call goes on from there. It isn't told of waits, whatever the inner source needs.
 #[derive(Debug, Drop)]
 pub struct TransientSource<T> {
     state: State<T>,
 }
 
-// It leaves for good, where it is registered after being unregistered.
+// The source leaves for good; if it is registered, it is unregistered first.
 fn remove_state<P: Poller, C, R: Wait + Drop, T>(
     mut source: T,
     registered: bool,
@@ -72,7 +72,7 @@ where
     }
 }
 
-// It is registered, and stays.
+// The source is registered, and stays.
 fn keep_state<T>(source: T) -> (State<T>, LoopResult<()>)
     ensures { result ≡ (Keep source true, Ok tt) }
 {
@@ -83,7 +83,7 @@ fn keep_state<T>(source: T) -> (State<T>, LoopResult<()>)
     (state, Ok(()))
 }
 
-// The new source is registered, where the old one isn't.
+// Registers the new source, when the old one isn't registered.
 fn enter_state<P: Poller, C, R: Wait + Drop, T>(
     mut new: T,
     old: T,
@@ -109,7 +109,7 @@ where
     }
 }
 
-// The old source is unregistered, and then the new one registered.
+// Unregisters the old source, and then registers the new one.
 fn replace_state<P: Poller, C, R: Wait + Drop, T>(
     new: T,
     mut old: T,
@@ -135,7 +135,7 @@ where
     }
 }
 
-// A registration of the whole.
+// `register` of the whole.
 fn register_state<P: Poller, C, R: Wait + Drop, T>(
     state: State<T>,
     poll: &mut Poll<P, C, R>,
@@ -181,7 +181,7 @@ where
     }
 }
 
-// A registration anew.
+// `reregister` of the whole.
 fn reregister_state<P: Poller, C, R: Wait + Drop, T>(
     state: State<T>,
     poll: &mut Poll<P, C, R>,
@@ -205,7 +205,7 @@ where
     }
 }
 
-// It rests.
+// The source rests.
 fn disable_state<P: Poller, C, R: Wait + Drop, T>(
     mut source: T,
     registered: bool,
@@ -232,7 +232,7 @@ where
     }
 }
 
-// The registration of the whole is taken back.
+// `unregister` of the whole.
 fn unregister_state<P: Poller, C, R: Wait + Drop, T>(
     state: State<T>,
     poll: &mut Poll<P, C, R>,
@@ -284,7 +284,7 @@ where
     }
 }
 
-// What the turn of a kept source comes to.
+// The effect of the turn of a kept source.
 fn kept_by<T, E>(
     told: Result<PostAction, E>,
     source: T,
@@ -316,7 +316,7 @@ impl<T> From<T> for TransientSource<T> {
 
     ghost from_gives = { λ source wrapped. wrapped ≡ coming source };
 
-    /// It comes with the first registration.
+    /// Makes one whose source is registered by the first registration.
     fn from(source: T) -> TransientSource<T> {
         TransientSource {
             state: State::Register(source),
@@ -330,7 +330,7 @@ impl<T> Default for TransientSource<T> {
 
     ghost is_default = { λ wrapped. wrapped ≡ without_source };
 
-    /// Without a source.
+    /// Makes one without a source.
     fn default() -> TransientSource<T> {
         TransientSource {
             state: State::Empty,
@@ -339,7 +339,7 @@ impl<T> Default for TransientSource<T> {
 }
 
 impl<T> TransientSource<T> {
-    /// Whether there is no source within.
+    /// True if there is no inner source.
     pub fn is_none(&self) -> bool
         ensures { result ≡ is_without_source self.now }
     {
@@ -349,7 +349,7 @@ impl<T> TransientSource<T> {
         }
     }
 
-    /// Whether the source within is to stay, and isn't registered.
+    /// True if the inner source is to stay, and isn't registered.
     pub fn is_given_up(&self) -> bool
         ensures { result ≡ is_given_up self.now.state }
     {
@@ -362,8 +362,8 @@ impl<T> TransientSource<T> {
         )
     }
 
-    /// What `f` makes of the source within, or of the one that is to come in its place. `None`, without a call, where it is to
-    /// leave, or there is none.
+    /// Returns what `f` makes of the inner source, or of the one that is to come in its place. Returns `None`, without a call, if
+    /// it is to leave, or there is none.
     pub fn map<F, U>(&mut self, f: F) -> Option<U>
     where
         F: FnOnce(&mut T) -> U,
@@ -381,7 +381,7 @@ impl<T> TransientSource<T> {
     }
 }
 
-// It is to leave.
+// The source is to leave.
 fn state_leaving<T: Drop>(state: State<T>) -> State<T>
     ensures { result ≡ removed_from state }
 {
@@ -405,7 +405,7 @@ fn state_leaving<T: Drop>(state: State<T>) -> State<T>
     }
 }
 
-// Another one is to come, where there is one.
+// Another source is to come in place of this one, if there is one.
 fn state_giving_way<T: Drop>(state: State<T>, new: T) -> State<T>
     ensures { result ≡ replaced_by new state }
 {
@@ -444,7 +444,7 @@ fn state_giving_way<T: Drop>(state: State<T>, new: T) -> State<T>
 }
 
 impl<T: Drop> TransientSource<T> {
-    /// The source within leaves as the whole is registered anew. One that was to come in its place is dropped.
+    /// The inner source leaves when the whole is registered anew. One that was to come in its place is dropped.
     pub fn remove(&mut self)
         ensures { self.new ≡ leaving self.old }
     {
@@ -452,8 +452,8 @@ impl<T: Drop> TransientSource<T> {
         self.state = state_leaving(state);
     }
 
-    /// The new source comes in the place of the one within, as the whole is registered anew. One that was to come before it is
-    /// dropped. Where there is none within, it is handed back; calloop drops it.
+    /// The new source takes the place of the inner one when the whole is registered anew. One that was to come before is dropped.
+    /// If there is no inner source, the new one is handed back; calloop drops it.
     pub fn replace(&mut self, new: T) -> Option<T>
         ensures new { self.new ≡ giving_way_to new self.old }
         ensures back { result ≡ handed_back_by self.old new }
@@ -484,9 +484,9 @@ where
 
     ghost means = { transient_meaning T.EventSource.means };
 
-    /// The turn of the source within, where it stays. After `Disable` it rests, and after `Remove` it leaves, as the whole is
-    /// registered anew: the answer is `Reregister`. After an error it stays. One that rests, is to leave or to come isn't called,
-    /// and the answer is `Continue`.
+    /// The turn of the inner source, if it stays. After `Disable` it rests, and after `Remove` it leaves, when the whole is
+    /// registered anew: this returns `Reregister`. After an error it stays. A source that rests, is to leave or to come isn't
+    /// called, and this returns `Continue`.
     fn process_events<F, X, Q>(
         &mut self,
         readiness: Readiness,
@@ -517,8 +517,8 @@ where
         }
     }
 
-    /// Registers the source within, also one that rests, or the one that is to come in its place, once the old one is
-    /// unregistered. One that is to leave is unregistered, where it is registered.
+    /// Registers the inner source, also one that rests, or the one that is to come in its place, once the old one is
+    /// unregistered. One that is to leave is unregistered, if it is registered.
     fn register(&mut self, poll: &mut Poll<P, C, R>, factory: &mut TokenFactory) -> LoopResult<()> {
         let state = mem::replace(&mut self.state, State::Empty);
         let (state, answer) = register_state(state, poll, factory);
@@ -526,7 +526,7 @@ where
         answer
     }
 
-    /// Registers the source within anew where it stays, and unregisters one that is to rest. All else is as in `register`.
+    /// Registers the inner source anew if it stays, and unregisters one that is to rest. All else is as in `register`.
     fn reregister(
         &mut self,
         poll: &mut Poll<P, C, R>,
@@ -538,7 +538,7 @@ where
         answer
     }
 
-    /// Unregisters the source within, where it is registered. One that is to leave is gone then, and one that is to come in its
+    /// Unregisters the inner source, if it is registered. One that is to leave is gone then, and one that is to come in its
     /// place is there.
     fn unregister(&mut self, poll: &mut Poll<P, C, R>) -> LoopResult<()> {
         let state = mem::replace(&mut self.state, State::Empty);
@@ -547,7 +547,7 @@ where
         answer
     }
 
-    /// It isn't told of waits, whatever the source within is.
+    /// False: it isn't told of waits, whatever the inner source is.
     fn needs_extra_lifecycle_events() -> bool {
         false
     }
@@ -565,9 +565,9 @@ where
     ghost keeps = { transient_keeps T.EventSource.means T.EventSource.keeps };
 }
 
-/// Where nobody else registers the source within, and its calls succeed, at most one source within is registered after each
-/// call, as the mark says; and a turn that succeeds answers `Continue` or `Reregister`. `registered` says of a source whether
-/// it is registered: a registration that succeeds makes it so, an unregistration ends it, and turns leave it.
+/// If nobody else registers the inner source, and its calls succeed, at most one inner source is registered after each
+/// call, as the mark says; and a turn that succeeds returns `Continue` or `Reregister`. `registered` says of a source whether
+/// it is registered: a registration that succeeds makes it so, an unregistration ends it, and turns leave it unchanged.
 #[tactic(auto, using(crate::proofs::Marked::one_registered, crate::proofs::Marked::always_marked, crate::proofs::Marked::turned_answer, crate::proofs::Marked::removed_marked, crate::proofs::Marked::replaced_marked))]
 pub fn at_most_one_is_registered<P: Poller, C, R: Wait + Drop, T>()
 where
@@ -589,8 +589,8 @@ where
         → (action ≡ Continue) ⊎ (action ≡ Reregister) }
 {}
 
-/// Marks that the law rules out, where a source is a word that says whether it is registered: an old one and a new one that
-/// are both registered, a registration that was lost, and one that is there no more.
+/// Marks that the law rules out, if a source is a word that says whether it is registered: an old one and a new one that
+/// are both registered, a registration that was lost, and one that is no longer there.
 pub fn wrong_marks_are_ruled_out()
     ensures both { ¬ IsMarked (λ source. source) (Replace true true true) }
     ensures two { registered_within (λ source. source) (Replace true true true) ≡ 2 }

@@ -25,7 +25,7 @@ use Rattle.calloop_test_sources.specs.declared.source.Broken.{Broken}
 use Rattle.calloop_test_sources.specs.declared.trio.Part.{Part}
 use Rattle.calloop_test_sources.specs.declared.trio.Trio.{Trio}
 
--- what a part did in a call of the whole, by steps that can be made
+-- what a part did in a call of the whole, by steps that are possible
 pub record DidPart {S P U : Type 0} (O : Outside P) (whole : Deed OfTrio) (m : Meaning S P U) (s : S) (v : PollView P) (t : S)
     (w : PollView P) : Type 0 where
   pub deed : Option (Deed U)
@@ -136,7 +136,7 @@ pub timer_passes_anew : {P : Type 0} (s t : Timer) (v : PollView P) (f g : Token
     → timer_meaning.does s v (Reregistered f a g) l t → Passed f g
 timer_passes_anew s t v f g a l h = armed_passes s.deadline v.deadlines.next f g a h.0 t h.2
 
--- a call that fails may stop, and nothing is asked of its parts
+-- a call that fails may stop before any of its parts is called
 pub stops : (f g : TokenFactory) (answer : Result (Unit {0}) Error) → IsErr answer → MayStop {T = OfTrio} (Registered f answer g)
 stops f g (Ok u) h = cc
 stops f g (Err e) h = tt

@@ -1,4 +1,4 @@
--- What the ping behind a guard means: what the ping does, where it is reached, and else nothing.
+-- What the ping behind a guard means: what the ping does, if the call reaches it, and else nothing.
 use Rattle.std.proofs.Common.{refl}
 use Rattle.std.specs.Prelude.{◌≡◌, ◌⊎◌, [], List, Result, Ok, Err, IsErr, false}
 use Rattle.std.proofs.Common.{inl, inr}
@@ -15,7 +15,7 @@ use Rattle.calloop_ends.specs.ping.PingKeeping.{ping_keeps}
 use Rattle.calloop_test_sources.specs.declared.guarded.Guarded.{Guarded}
 use Rattle.calloop_test_sources.specs.declared.source.Broken.{Broken}
 
--- a turn or an unregistration may end before the ping is reached: then nobody is called, and the ping stays as it is
+-- a turn or an unregistration may end before it reaches the ping: then nobody is called, and the ping is unchanged
 abbrev pub Guards : {P R : Type 0} → Guarded R → PollView P → Deed (Heard (Unit {0}) (Unit {0}) (Unit {0}) Broken)
     → List (PollStep P) → Guarded R → Type 0
 Guards s v (Registered f answer g) steps t = IsPing s.ping v (Registered f answer g) steps t.ping

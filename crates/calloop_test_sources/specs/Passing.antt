@@ -1,5 +1,5 @@
--- What a source of the tests' own with one source in it means: that one is asked each time, and is all that has counters and
--- keys; what a turn hands out, and how it ends, is the source's own.
+-- What a source of the tests with one inner source means: the inner source is called each time, and it alone has counters and
+-- keys; what a turn hands out, and how it ends, is up to the outer source.
 use Rattle.std.proofs.Common.{refl}
 use Rattle.std.specs.Prelude.{◌≡◌, ℕ, [], ◌∷◌, List, Bool, true, false, Ok, Err}
 use Rattle.calloop_poll.specs.sys.Polls.{PollView, PollStep}

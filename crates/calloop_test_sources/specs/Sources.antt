@@ -15,7 +15,7 @@ use Rattle.calloop_test_sources.specs.declared.source.Broken.{Broken}
 abbrev pub IsOther : Error → Type 0
 IsOther e = (cause : Cause) × (e ≡ OtherError cause)
 
--- a turn hands out how many there were, and nothing else changes that number
+-- a turn hands out how many turns there were, and nothing else changes that number
 abbrev pub Counts : {P : Type 0} → Counter → PollView P → Deed (Heard ℕ (Unit {0}) (Unit {0}) Broken) → Counter → Type 0
 Counts s v (Registered f answer g) t = t.turns ≡ s.turns
 Counts s v (Reregistered f answer g) t = t.turns ≡ s.turns
@@ -36,7 +36,7 @@ Attends s v (Noticed events) t = t.waits ≡ s.waits
 Attends s v (Turned readiness token turn) t =
     (turn.calls ≡ record { event = s.waits; before = tt; after = tt; answer = tt } ∷ []) × (t.waits ≡ s.waits)
 
--- a turn hands out its number
+-- a turn hands out the source's number
 abbrev pub HandsOut : {P : Type 0} → Noting → PollView P → Deed (Heard ℕ (Unit {0}) (Unit {0}) Broken) → Noting → Type 0
 HandsOut s v (Registered f answer g) t = Unit {0}
 HandsOut s v (Reregistered f answer g) t = Unit {0}
@@ -46,7 +46,7 @@ HandsOut s v (Noticed events) t = Unit {0}
 HandsOut s v (Turned readiness token turn) t =
     turn.calls ≡ record { event = s.number; before = tt; after = tt; answer = tt } ∷ []
 
--- whatever it does
+-- the source may do anything
 abbrev pub Anything : {D P T : Type 0} → D → PollView P → Deed T → D → Type 0
 Anything s v deed t = Unit {0}
 

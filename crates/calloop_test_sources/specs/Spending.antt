@@ -1,5 +1,5 @@
--- What a source of the tests' own means that takes tokens for itself before the source within is registered: that one gets
--- the factory as it is then, or isn't asked where the tokens have run out. All else is passed on.
+-- What a source of the tests means that takes tokens for itself before the inner source is registered: the inner source gets
+-- the factory as it is then, or isn't called if the tokens have run out. All else is passed on.
 use Rattle.std.proofs.Common.{inl, inr, refl, ◌∙◌}
 use Rattle.std.specs.Prelude.{◌≡◌, ◌⊎◌, ◌<◌, [], List, false, Result, Ok, Err}
 use Rattle.calloop_slots.specs.Widths.{parts}
@@ -14,14 +14,14 @@ use Rattle.calloop_sources.specs.declared.sources.dispatch.Role.TheVariants.{Cal
 use Rattle.calloop_sources.specs.sources.Meanings.{Meaning, IsKeeping, KeepsCounters, KeepsHome}
 use Rattle.calloop_sources.specs.sources.Beside.{within_itself}
 
--- of the same registration, and its count fits its width where it did
+-- of the same registration, and its count fits its width if it did before
 abbrev pub Spends : (before after : TokenFactory) → Type 0
 Spends before after = (after.registration ≡ before.registration) × (before.given < parts → after.given < parts)
 
 spent_of : (r : RegistrationToken) (f g : TokenFactory) → IsFactoryOf r f → Spends f g → IsFactoryOf r g
 spent_of r f g is spends = (spends.0 ∙ is.0, spends.1 is.1)
 
--- the tokens had run out before the one within was asked
+-- the tokens had run out before the inner source was called
 abbrev pub IsNotAsked : {D S P : Type 0} → (see : D → S) → D → Result (Unit {0}) Error → List (PollStep P) → D → Type 0
 IsNotAsked see s answer steps t = (e : Error) × (answer ≡ Err e) × (steps ≡ []) × (see t ≡ see s)
 

@@ -1,4 +1,4 @@
--- What a source of a ping and two timers means: its parts are asked one after the other, the ping first.
+-- What a source of a ping and two timers means: its parts are called one after another, the ping first.
 use Rattle.std.specs.Prelude.{◌≡◌, ◌⊎◌, ℕ, ◌<◌, ◌++◌, List, [], ◌∷◌, Option, None, Some, Result, Ok, Err, false}
 use Rattle.std.proofs.Common.{inl, inr, refl, ◌∙◌}
 use Rattle.calloop_slots.specs.Widths.{parts}
@@ -42,7 +42,7 @@ use Rattle.calloop_test_sources.specs.declared.trio.Trio.{Trio}
 abbrev pub IsFrom : TokenFactory → TokenFactory → Type 0
 IsFrom f f' = (f'.registration ≡ f.registration) × (f'.given < parts)
 
--- the same call of two sources: a registration, with a factory of the same one, which succeeds where the whole does; a
+-- the same call of two sources: a registration, with a factory of the same one, which succeeds if the whole does; a
 -- turn, for the same event
 abbrev pub IsAlike : {T U : Type 0} → Deed T → Deed U → Type 0
 IsAlike (Registered f answer g) (Registered f' answer' g') = IsFrom f f' × (answer ≡ Ok tt → answer' ≡ Ok tt)
@@ -63,7 +63,7 @@ abbrev pub MayDo : {S P T U : Type 0} → Deed T → Meaning S P U → S → Pol
 MayDo whole m s v None steps t = MayStop whole × (steps ≡ []) × (t ≡ s)
 MayDo whole m s v (Some deed) steps t = IsAlike whole deed × m.does s v deed steps t
 
--- what a turn of the whole took and gave, and what one of a part did
+-- what a turn of the whole took and returned, and what a turn of a part did
 abbrev pub OfTrio : Type 0
 OfTrio = Heard Part (Unit {0}) (Unit {0}) Broken
 
@@ -110,7 +110,7 @@ part_heard None (Some deadline) second = Some (First deadline)
 part_heard None None (Some deadline) = Some (Second deadline)
 part_heard None None None = None
 
--- one call for that part, and the source stays in the loop; where a part fails, nobody is called
+-- one call for that part, and the source stays in the loop; if a part fails, nobody is called
 abbrev pub EndsSo : Option Part → List (CallbackCall Part (Unit {0}) (Unit {0})) → Result PostAction Broken → Type 0
 EndsSo part calls (Ok action) = (calls ≡ calls_of part) × (action ≡ Continue)
 EndsSo part calls (Err cause) = calls ≡ []

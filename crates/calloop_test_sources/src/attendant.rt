@@ -1,4 +1,4 @@
-//! A source of the tests' own that is told of waits.
+//! A source of the tests that is told of waits.
 ghost use Rattle.std.specs.Prelude.{◌≡◌};
 
 use crate::source::{Broken, Listener, Teller};
@@ -9,8 +9,8 @@ use calloop::{
 use std::io;
 use std::sync::Wait;
 
-/// Before a wait it asks for an event of its own, as long as it has one to ask for, and fails before one wait. It counts the
-/// waits, and the events that it is told of. A turn says how many waits there were.
+/// Before a wait it asks for an event for itself, as long as it has one to ask for, and fails before one wait. It counts the
+/// waits, and the events that it is told of. A turn reports how many waits there were.
 #[derive(Debug, Drop)]
 pub struct Attendant {
     pub token: Option<Token>,
@@ -23,7 +23,7 @@ pub struct Attendant {
 }
 
 impl Attendant {
-    /// One that asks for this many events, stays in the loop, and never fails.
+    /// Makes one that asks for this many events, stays in the loop, and never fails.
     pub fn new(asks: u32) -> Attendant {
         Attendant {
             token: None,
@@ -126,7 +126,7 @@ impl<P: Poller, C, R: Wait + Drop> EventSource<P, C, R> for Attendant {
     ghost keeps = { keeping_attentive Attends };
 }
 
-/// The sources of a test of waits: one that says how many there were, and pings.
+/// The sources of a test of waits: one that reports how many there were, and pings.
 pub type Attended<R> = Sources<
     OneOf<Dispatcher<Attendant, Listener>, Dispatcher<PingSource<R>, Teller>>,
     Vec<u32>,

@@ -1,4 +1,4 @@
-//! Three sources that are registered in a row by the batch macros.
+//! Three sources that are registered one after another by the batch macros.
 use crate::noting::{Notebook, Noting};
 use crate::source::Broken;
 use calloop::{
@@ -9,7 +9,7 @@ use calloop_sources::{batch_register, batch_reregister, batch_unregister};
 use std::alloc::AllocError;
 use std::sync::Wait;
 
-/// Three sources, whose calls it notes. Its turns do nothing.
+/// Three sources that note their calls. Its own turns do nothing.
 #[derive(Drop)]
 pub struct Batch {
     first: Noting,
@@ -18,7 +18,7 @@ pub struct Batch {
 }
 
 impl Batch {
-    /// Of sources 1, 2 and 3.
+    /// Makes one of sources 1, 2 and 3.
     pub fn new(notebook: &Notebook) -> std::result::Result<Batch, AllocError> {
         Ok(Batch {
             first: notebook.source(1)?,

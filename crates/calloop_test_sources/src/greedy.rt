@@ -7,7 +7,7 @@ use calloop::{
 };
 use std::sync::Wait;
 
-/// A ping that is to be registered anew behind each turn, for which it takes all tokens before its ping does.
+/// A ping that is to be registered anew after each turn, and then takes all tokens before its ping takes one.
 #[derive(Drop)]
 pub struct Greedy<R: Wait + Drop> {
     pub ping: PingSource<R>,

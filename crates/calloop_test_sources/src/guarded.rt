@@ -1,4 +1,4 @@
-//! A source of the tests' own with a ping in it, which can fail before it asks the ping.
+//! A source of the tests with a ping in it, which can fail before it calls the ping.
 use crate::source::{Broken, Teller};
 use calloop::{
     Asking, Callback, Dispatcher, Error, EventIterator, EventSource, OneOf, PingSource, Poll,
@@ -7,8 +7,8 @@ use calloop::{
 use std::io;
 use std::sync::Wait;
 
-/// A ping behind a guard. So many turns fail before they reach the ping, and where it is stuck each unregistration
-/// does.
+/// A ping behind a guard. So many turns fail before they reach the ping, and if it is stuck, so does each
+/// unregistration.
 #[derive(Drop)]
 pub struct Guarded<R: Wait + Drop> {
     pub ping: PingSource<R>,

@@ -1,4 +1,4 @@
-//! A source that notes what is asked of it, in order, beside others.
+//! A source that notes its calls, in order, beside others.
 use crate::source::Broken;
 use calloop::{
     Asking, Callback, Error, EventIterator, EventSource, Poll, Poller, PostAction, Readiness,
@@ -9,7 +9,7 @@ use std::cell::{Cell, RefCell};
 use std::rc::Rc;
 use std::sync::Wait;
 
-/// What is asked of a source.
+/// The calls of a source.
 #[derive(Clone, Copy, Debug, PartialEq, Eq)]
 pub enum Asked {
     Register,
@@ -18,7 +18,7 @@ pub enum Asked {
     Turn,
 }
 
-/// What was asked of which source, and what is answered.
+/// Which calls of which source were made, and what they return.
 #[derive(Drop)]
 struct Notes {
     asked: RefCell<Vec<(u32, Asked)>>,
@@ -32,7 +32,7 @@ pub struct Notebook {
     notes: Rc<Notes>,
 }
 
-/// Notes what is asked of it. Its turns hand out its number.
+/// A source that notes its calls. Its turns hand out its number.
 #[derive(Drop)]
 pub struct Noting {
     pub number: u32,
@@ -40,7 +40,7 @@ pub struct Noting {
 }
 
 impl Notebook {
-    /// Without notes. Turns end with `Continue`, and nothing is refused.
+    /// Makes an empty notebook. Turns end with `Continue`, and no call fails.
     pub fn new(alloc: Global) -> std::result::Result<Notebook, AllocError> {
         let notes = Notes {
             asked: RefCell::new(Vec::new(alloc)),
@@ -52,7 +52,7 @@ impl Notebook {
         })
     }
 
-    /// A source of this number.
+    /// Makes a source of this number.
     pub fn source(&self, number: u32) -> std::result::Result<Noting, AllocError> {
         Ok(Noting {
             number,
@@ -60,17 +60,17 @@ impl Notebook {
         })
     }
 
-    /// From now on turns end so.
+    /// From now on turns end with this action.
     pub fn ends(&self, action: PostAction) {
         self.notes.ends.set(action);
     }
 
-    /// From now on this is refused, where anything is.
+    /// From now on this call fails, if there is one here.
     pub fn refuses(&self, refused: Option<(u32, Asked)>) {
         self.notes.refused.set(refused);
     }
 
-    /// Whether this was asked, in this order, since this was called last.
+    /// True if these calls were made, in this order, since this was called last.
     pub fn was_asked(&self, wanted: &[(u32, Asked)]) -> bool {
         match self.notes.asked.try_borrow_mut() {
             Ok(mut asked) => {
@@ -82,21 +82,21 @@ impl Notebook {
         }
     }
 
-    /// What was asked first since `asked` was called last.
+    /// Returns the first call since `asked` was called last.
     pub fn first(&self) -> Option<Asked> {
         let asked = self.notes.asked.try_borrow().ok()?;
         let (_, first) = asked.first()?;
         Some(*first)
     }
 
-    /// How many sources there are that note here.
+    /// Returns how many sources note here.
     pub fn sources(&self) -> usize {
         Rc::strong_count(&self.notes).saturating_sub(1)
     }
 }
 
 impl Noting {
-    // Notes it. Whether it is refused.
+    // Notes the call. True if it is to fail.
     fn note(&self, asked: Asked) -> bool {
         if let Ok(mut list) = self.notes.asked.try_borrow_mut() {
             let _failed = list.push((self.number, asked));

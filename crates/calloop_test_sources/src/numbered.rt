@@ -1,4 +1,4 @@
-//! A ping of the tests' own, with a number that rises.
+//! A ping of the tests, with a number that rises.
 ghost use Rattle.calloop_sources.specs.sources.Calls.{Went};
 ghost use Rattle.calloop_test_sources.specs.Passing.{numbered_calls};
 
@@ -14,12 +14,12 @@ use std::sync::Wait;
 pub enum Ending {
     /// With `Disable`.
     Disable,
-    /// With `Remove` where the number is above this one, and else with `Continue`.
+    /// With `Remove` if the number is above this one, and else with `Continue`.
     RemoveAbove(u32),
 }
 
-/// A ping whose number begins at 0, and rises at each registration, each one anew, and each turn. A turn hands it out where
-/// the ping rang, and ends by it, before it rises.
+/// A ping whose number begins at 0, and rises at each registration, each one anew, and each turn. A turn hands the number out if
+/// the ping rang, and its ending depends on the number, before the number rises.
 #[derive(Drop)]
 pub struct Numbered<R: Wait + Drop> {
     pub ping: PingSource<R>,
@@ -39,7 +39,7 @@ impl<Q: Asking> Callback<(), (), (), (), Q> for Rang {
     }
 }
 
-// Calls back where the ping rang.
+// Calls back if the ping rang.
 fn call_if<F, X, Q>(rang: bool, number: u32, callback: &mut F, data: &mut X, requests: &mut Q)
 where
     Q: Asking,
@@ -53,7 +53,7 @@ where
 }
 
 impl<R: Wait + Drop> Numbered<R> {
-    /// Of number 0.
+    /// Makes one with number 0.
     pub fn new(ping: PingSource<R>, ending: Ending) -> Numbered<R> {
         Numbered {
             ping,

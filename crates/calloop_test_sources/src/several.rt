@@ -1,4 +1,4 @@
-//! A source of the tests' own that asks for several events before a wait.
+//! A source of the tests that asks for several events before a wait.
 ghost use Rattle.std.specs.Prelude.{◌≡◌, ◌^◌, ◌<◌};
 
 use crate::source::{Broken, Listener, Teller, Waker};
@@ -8,8 +8,8 @@ use calloop::{
 };
 use std::sync::Wait;
 
-/// Before a wait it asks for an event of each of its tokens, in order, and forgets them. It is registered under none of its own. It may ask for
-/// `LIMIT`, and counts the events that were handed back as they were. A turn says slot and sub-id of its token.
+/// Before a wait it asks for an event of each of its tokens, in order, and forgets them. It is registered under none of its
+/// own. It may ask for `LIMIT`, and counts the events handed back unchanged. A turn reports slot and sub-id of its token.
 #[derive(Drop)]
 pub struct Several<const LIMIT: u16> {
     pub tokens: Vec<Token>,
@@ -19,7 +19,7 @@ pub struct Several<const LIMIT: u16> {
 }
 
 impl<const LIMIT: u16> Several<LIMIT> {
-    /// One that asks for an event of each of these.
+    /// Makes one that asks for an event of each of these.
     pub fn new(tokens: Vec<Token>) -> Several<LIMIT> {
         Several {
             tokens,
@@ -30,7 +30,7 @@ impl<const LIMIT: u16> Several<LIMIT> {
     }
 }
 
-// Ten times the slot, and the sub-id.
+// Returns ten times the slot, plus the sub-id.
 fn number_of(token: Token) -> u32 {
     let sub_id = token.key() % 65_536;
     token
@@ -114,7 +114,7 @@ impl<P: Poller, C, R: Wait + Drop, const LIMIT: u16> EventSource<P, C, R> for Se
     ghost keeps = { keeping_attentive_to LIMIT Anything };
 }
 
-/// The sources of a test of several events: such as may ask for three, for one, and for none, pings and timers.
+/// The sources of a test of several events: some that may ask for three, for one, and for none, pings and timers.
 pub type Severals<R> = Sources<
     OneOf<
         Dispatcher<Several<3>, Listener>,

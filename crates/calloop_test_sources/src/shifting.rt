@@ -1,4 +1,4 @@
-//! A source that has the factory's first token, and its second one, by turns.
+//! A source that alternates between the factory's first token and its second one.
 ghost use Rattle.std.specs.Prelude.{◌≡◌, IfErr};
 ghost use Rattle.calloop_slots.specs.declared.error.Error.TheVariants.{TooManyTokens};
 ghost use Rattle.calloop_test_sources.specs.Spending.{Spends};
@@ -9,7 +9,7 @@ use calloop::{
 };
 use std::sync::Wait;
 
-/// Each registration moves the source within from sub-id 0 to sub-id 1, or back.
+/// Each registration moves the inner source from sub-id 0 to sub-id 1, or back.
 #[derive(Drop)]
 pub struct Shifting<T> {
     pub source: T,
@@ -17,7 +17,7 @@ pub struct Shifting<T> {
 }
 
 impl<T> Shifting<T> {
-    /// Its first registration has sub-id 0.
+    /// Makes one whose first registration has sub-id 0.
     pub fn new(source: T) -> Shifting<T> {
         Shifting {
             source,

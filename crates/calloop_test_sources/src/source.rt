@@ -1,4 +1,4 @@
-//! Sources for tests: pings and timers with callbacks that say their number, and a source of the tests' own.
+//! Sources for tests: pings and timers with callbacks that report their number, and a source of the tests' own.
 ghost use Rattle.std.specs.Prelude.{◌≡◌};
 
 use calloop::{
@@ -9,7 +9,7 @@ use calloop::{
 use std::io;
 use std::sync::Wait;
 
-/// Says its number.
+/// A callback that reports its number.
 #[derive(Drop)]
 pub struct Teller {
     pub number: u32,
@@ -21,7 +21,7 @@ impl On<(), Vec<u32>, ()> for Teller {
     }
 }
 
-/// Says its number, and answers with its action.
+/// A callback that reports its number, and returns its action.
 #[derive(Drop)]
 pub struct Waker {
     pub number: u32,
@@ -35,7 +35,7 @@ impl On<Instant, Vec<u32>, TimeoutAction> for Waker {
     }
 }
 
-/// Says how many turns its source had.
+/// A callback that reports how many turns its source had.
 #[derive(Drop)]
 pub struct Listener;
 
@@ -45,8 +45,8 @@ impl On<u32, Vec<u32>, ()> for Listener {
     }
 }
 
-/// A source that counts what is done with it. Each turn ends with the same answer, or fails where there is none; a
-/// registration beyond the limit is refused.
+/// A source that counts its calls. Each turn ends with the same action, or fails if there is none; a registration beyond the
+/// limit fails.
 #[derive(Debug, Drop)]
 pub struct Counter {
     pub turns: u32,
@@ -57,7 +57,7 @@ pub struct Counter {
 }
 
 impl Counter {
-    /// One that is registered nowhere.
+    /// Makes one that is registered nowhere.
     pub fn new(limit: u32, ends: Option<PostAction>) -> Counter {
         Counter {
             turns: 0,
@@ -79,7 +79,7 @@ impl Counter {
     }
 }
 
-/// Why a turn of such a source failed.
+/// Why a turn of a `Counter` failed.
 #[derive(Debug, Drop)]
 pub struct Broken;
 

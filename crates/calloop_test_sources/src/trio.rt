@@ -1,4 +1,4 @@
-//! A source of the tests' own that is made of a ping and two timers.
+//! A source of the tests that is made of a ping and two timers.
 ghost use Rattle.std.specs.Prelude.{◌≡◌, ◌<◌};
 ghost use Rattle.calloop_slots.specs.Widths.{parts};
 ghost use Rattle.calloop_sources.specs.sources.Calls.{Went};
@@ -19,8 +19,8 @@ pub enum Part {
     Second(Instant),
 }
 
-/// A ping and two timers, which are registered together, and of which each event is for one. A timer is called for once
-/// in each registration, and the source stays in the loop.
+/// A ping and two timers, registered together; each event is for one of them. A timer is called for once in each
+/// registration, and the source stays in the loop.
 #[derive(Drop)]
 pub struct Trio<R: Wait + Drop> {
     pub bell: PingSource<R>,
@@ -84,7 +84,7 @@ fn count_fits(factory: &TokenFactory)
     let _given = factory.tokens_given();
 }
 
-// Calls back, where a part had an event.
+// Calls back if a part had an event.
 fn call_if<F, X, Q>(part: Option<Part>, callback: &mut F, data: &mut X, requests: &mut Q)
 where
     Q: Asking,
@@ -189,7 +189,7 @@ impl<P: Poller, C, R: Wait + Drop> EventSource<P, C, R> for Trio<R> {
     ghost keeps = { trio_keeps };
 }
 
-/// Says the number of the part: 1 for the ping, 2 and 3 for the timers.
+/// A callback that reports the number of the part: 1 for the ping, 2 and 3 for the timers.
 #[derive(Drop)]
 pub struct Announcer;
 

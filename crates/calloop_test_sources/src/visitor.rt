@@ -1,4 +1,4 @@
-//! Callbacks for sockets: those of a script, and those of the machine.
+//! Callbacks for sockets: those of a script, and those of the OS.
 use calloop::generic::NoIoDrop;
 use calloop::{Asking, Callback, On, PostAction, Readiness};
 use calloop_mio::MioIo;
@@ -8,7 +8,7 @@ use std::alloc::Global;
 use std::io;
 use std::io::Read;
 
-/// Says its number, and answers with its end; without one it fails.
+/// A callback that reports its number, and returns its end; without one it fails.
 #[derive(Drop)]
 pub struct Visitor {
     pub number: u32,
@@ -25,8 +25,8 @@ impl On<Readiness, Vec<u32>, io::Result<PostAction>> for Visitor {
     }
 }
 
-/// Says each byte that it reads, up to eight in a call; that a stream has ended; that it can be written; that somebody connected, or
-/// couldn't be let in.
+/// A callback that reports each byte that it reads, up to eight in a call; that a stream has ended; that it can be written; that
+/// somebody connected, or that accepting failed.
 #[derive(Drop)]
 pub struct Reader {
     /// Who connected.
@@ -42,14 +42,14 @@ pub const REFUSED: u32 = 1002;
 pub const WRITABLE: u32 = 1003;
 
 impl Reader {
-    /// Nobody connected yet.
+    /// Makes one to which nobody connected yet.
     pub fn new(alloc: Global) -> Reader {
         Reader {
             guests: Vec::new(alloc),
         }
     }
 
-    // Lets one in.
+    // Accepts a connection.
     fn accept(&mut self, listener: &TcpListener, said: &mut Vec<u32>) -> io::Result<PostAction> {
         match listener.accept() {
             Ok((guest, _)) => {
@@ -63,7 +63,7 @@ impl Reader {
     }
 }
 
-// The source leaves where its stream has ended.
+// Reads; the source leaves if its stream has ended.
 fn read<S: Read>(stream: &mut S, said: &mut Vec<u32>) -> io::Result<PostAction> {
     let mut bytes = [0u8; 8];
     let read = stream.read(&mut bytes)?;

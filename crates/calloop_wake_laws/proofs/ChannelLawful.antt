@@ -1,4 +1,4 @@
--- The cells of channels are a lawful kind: each step keeps what mustn't be lost pinged, the messages in order, and the tellings
+-- The cells of channels are a lawful kind: each step keeps pinged what mustn't be lost, the messages in order, and the tellings
 -- counted.
 use Rattle.std.proofs.Common.{◌≡◌, ℕ, ◌+◌, ◌<◌, ◌≤◌, Bool, true, false, ◌&&◌, ◌||◌, not, List, [], ◌∷◌, ◌++◌, length, Option, Some, None, IfSome, refl, sym, ◌∙◌, ap, subst, arith, ltb-true, length-append, append_assoc, append-nil}
 use Rattle.std.proofs.Math.Bool.{or-true}
@@ -161,7 +161,7 @@ lit-popped : (p : ChannelPast) (queue : List ℕ) (is : Bool) → p.now.queue �
 lit-popped p [] is none told l = lit-empty p is none told l
 lit-popped p (x ∷ xs) is some told l = lit-found p x xs is some l
 
--- a call receives, where there is a message
+-- a call receives, if there is a message
 lit-taken : (p : ChannelPast) (queue : List ℕ) (is : Bool) → p.now.queue ≡ queue → 0 < length queue → IsLitPast p → IsLitPast (record p { now = after_take_of queue p.now; given = p.given ++ item_of (popped_of queue is) })
 lit-taken p [] is none some l = absurd (omega arith)
 lit-taken p (x ∷ xs) is found some l =

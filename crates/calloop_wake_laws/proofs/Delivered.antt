@@ -1,4 +1,4 @@
--- The kinds of cells that there are can be delivered.
+-- The existing kinds of cells can be delivered.
 use Rattle.std.proofs.Common.{◌≡◌, ℕ, zero, suc, ◌+◌, ◌-◌, ◌≤◌, Bool, true, false, ◌&&◌, ◌||◌, not, inl, inr, List, [], ◌∷◌, length, Option, Some, None, refl, ◌∙◌, ap, arith, eq-eqb}
 use Rattle.std.proofs.Math.Bool.{or-true}
 use Rattle.calloop_wake.specs.declared.tasks.TaskKey.{TaskKey}
@@ -22,7 +22,7 @@ use Rattle.calloop_wake_laws.proofs.BothLawful.{either_lawful, first_lit, second
 use Rattle.calloop_wake_laws.proofs.Schedules.{IsLawful, kept-after_all, kept-start}
 use Rattle.calloop_wake_laws.proofs.Delivery.{own_all, AllMet, AllOfTurn, CanEnd, one_step, more_steps, IsDelivered, delivered}
 
--- a cell's own key opens a turn where none stands open
+-- a cell's own key opens a turn if none is open
 opens-own : (k : ℕ) (o : Option ℕ) (draining : Bool) → o ≡ Some k → draining ≡ false → (is_own k o && not draining) ≡ true
 opens-own k o draining is quiet =
     ap (λ d. is_own k o && not d) quiet ∙ (ap (λ x. is_own k x && true) is ∙ ap (λ b. b && true) (eq-eqb k k refl))
@@ -64,7 +64,7 @@ channel_pinged channel.Take p h = take-pinged p.now.queue p.now ∙ h
 channel_pinged channel.EndTurn p h = ap (λ b. is_early p.now.last || b) h ∙ or-true (is_early p.now.last)
 channel_pinged (channel.Put x) p h = refl
 
--- it ends where its last pop found no message; else it makes one more, as long as it may
+-- the turn ends if its last pop found no message; else it makes another one, as long as it may
 channel_ends : (n : ℕ) (p : ChannelPast) → p.turn.left ≡ n → p.now.cell.draining ≡ true → CanEnd channel_kind (suc n) p
 channel_ends zero p left stands = one_step channel_kind channel.EndTurn p 1 (omega arith) tt (stands, inl left) refl
 channel_ends (suc n) p left stands =

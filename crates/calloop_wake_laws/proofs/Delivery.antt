@@ -1,4 +1,4 @@
--- From every world that is kept, what is pinged can be delivered.
+-- From every world that is kept, a pinged cell can be delivered.
 use Rattle.std.proofs.Common.{◌≡◌, ◌≢◌, ℕ, zero, suc, ◌+◌, ◌<◌, ◌≤◌, nat_eq, nat_lt, Bool, true, false, ◌&&◌, ◌||◌, if◌then◌else◌, ◌⊎◌, inl, inr, List, [], ◌∷◌, ◌++◌, length, Some, refl, sym, ◌∙◌, ap, subst, arith, length-append, eq-eqb}
 use Rattle.std.proofs.lemmas.Bool.Decides.{nat_tests}
 use Rattle.std.proofs.Math.Bool.{or-true}
@@ -27,7 +27,7 @@ module _ (K : Kind) where
   AllOfTurn [] = Unit {0}
   AllOfTurn (s ∷ ss) = K.OfTurn s × AllOfTurn ss
 
-  -- the turn that stands open can be ended, by at most so many steps
+  -- the open turn can be ended, by at most so many steps
   pub record CanEnd (most : ℕ) (c : K.Cell) : Type 0 where
     pub steps : List K.Own
     pub of_turn : AllOfTurn steps
@@ -42,7 +42,7 @@ module _ (K : Kind) where
   more_steps s c most turn need e =
       record { steps = s ∷ e.steps; of_turn = (turn, e.of_turn); few = (let f = e.few in omega arith); met = (need, e.met); over = e.over }
 
--- what a kind has to keep besides: its own steps leave it pinged, a turn that stands open can be ended, and where none does, its key opens one
+-- what else a kind has to keep: its own steps leave it pinged, an open turn can be ended, and if none is open, its key opens one
 pub record IsDelivered (K : Kind) (law : IsLawful K) : Type 1 where
   pub own_pinged : (s : K.Own) (c : K.Cell) → K.pinged c ≡ true → K.pinged (K.after s c) ≡ true
   pub opens_it : (k : ℕ) (c : K.Cell) → K.key c ≡ Some k → K.draining c ≡ false → K.opens k c ≡ true
@@ -58,7 +58,7 @@ module _ (K : Kind) (law : IsLawful K) (more : IsDelivered K law) where
   owed-append n k [] ts h g = g
   owed-append n k (s ∷ ss) ts h g = (h.0, owed-append n k ss ts h.1 g)
 
-  -- steps that are owed lead from this world to one that is so, at most so many
+  -- steps that are owed, at most so many, lead from this world to one with this property
   record Leads (n k most : ℕ) (w : WakeWorld K.Cell) (P : WakeWorld K.Cell → Type 0) : Type 0 where
     pub steps : List (WakeStep K.Own)
     pub are_owed : AllOwed K n k steps
@@ -101,7 +101,7 @@ module _ (K : Kind) (law : IsLawful K) (more : IsDelivered K law) where
   with_cell-same : (n : ℕ) (c : K.Cell) (cells : ℕ → K.Cell) → with_cell n c cells n ≡ c
   with_cell-same n c cells = ap (λ b. if b then c else cells n) (eq-eqb n n refl)
 
-  -- A turn that stands open is ended.
+  -- An open turn is ended.
 
   at_cell : (w : WakeWorld K.Cell) (n : ℕ) (s : K.Own) → (after K w (At n s)).cells n ≡ K.after s (w.cells n)
   at_cell w n s = with_cell-same n (K.after s (w.cells n)) w.cells

@@ -1,4 +1,4 @@
--- The cells of executors are a lawful kind: each step keeps what the cell keeps, and the results handed out of tasks that are no more.
+-- The cells of executors are a lawful kind: each step keeps the cell's invariant, and results are of gone tasks.
 use Rattle.std.proofs.Common.{◌≡◌, ℕ, ◌+◌, ◌<◌, ◌≤◌, ◌++◌, Bool, true, false, not, if◌then◌else◌, inl, inr, List, [], ◌∷◌, Option, Some, None, refl, sym, ◌∙◌, ap, subst, arith, append-nil}
 use Rattle.std.proofs.lemmas.Bool.Decides.{eqb_tells}
 use Rattle.std.proofs.lemmas.Option.{none-some, same_Some}
@@ -21,13 +21,13 @@ own-keeps (Wake key) c need k = wake-keeps key c k
 own-keeps (Pop finished) c need k = pop-keeps finished c need.0 k
 own-keeps (EndTurn finished) c need k = end-keeps finished c k
 
--- whose results were handed out: nobody's twice, nobody's who is still to come, and nobody's who is there
+-- tasks whose results were handed out: none twice, none that is still to come, and none that is there
 pub record AreGiven (given : List ℕ) (tasks : ℕ → Option Task) (next : ℕ) : Type 0 where
   pub once : IsApart given
   pub below : (n : ℕ) → IsIn n given → n < next
   pub finished : (slot : ℕ) (task : Task) → tasks slot ≡ Some task → ¬ IsIn task.number given
 
--- a slot's task is as it was, but for its phase
+-- a slot's task is unchanged, except for its phase
 abbrev IsSameIn : Option Task → Option Task → Type 0
 IsSameIn was now = (task : Task) → now ≡ Some task → (that : Task) × (was ≡ Some that) × (that.number ≡ task.number)
 

@@ -30,7 +30,7 @@ pub record IsFresh (K : Kind) (law : IsLawful K) (c : K.Cell) : Type 0 where
   pub quiet : K.pinged c ≡ false
   pub unkeyed : K.key c ≡ None
 
--- what holds of every cell but one, and of what stands in its place
+-- what holds of every cell but one, and of the cell that takes that one's place
 pub with_cell_cases : {C : Type 0} (P : C → Type 0) (n j : ℕ) (c : C) (cells : ℕ → C) → (j ≡ n → P c) → (j ≢ n → P (cells j)) → P (with_cell n c cells j)
 with_cell_cases {C} P n j c cells here there =
     elim (eqb_tells j n) [
@@ -42,11 +42,11 @@ with_cell_cases {C} P n j c cells here there =
 abbrev pub IsPingedKnown : (K : Kind) → (ℕ → K.Cell) → List Place → Bag → Bag → Type 0
 IsPingedKnown K cells board debts passes = (n k : ℕ) → (K.pinged (cells n)) ≡ true → (K.key (cells n)) ≡ Some k → 0 < one (is_marked k board) + debts k + passes k
 
--- where the loop has looked, a mark is heard
+-- if the loop has looked, it is told of a mark
 abbrev pub IsHeard : List Place → ℕ → Bool → Loop → Type 0
 IsHeard board wakeups signal loop = (k : ℕ) → loop ≢ Awake → is_marked k board ≡ true → (0 < wakeups) ⊎ (signal ≡ true)
 
--- each open place has at most one holder: the cell with its key, the pass of the opened place, or the permit to close it. Nothing else is held
+-- each open place has at most one holder: its key's cell, the opened place's pass, or the close permit. Nothing else is held
 pub record IsPlaced (K : Kind) (cells : ℕ → K.Cell) (board : List Place) (opened permits : Bag) : Type 0 where
   pub alone : (m n k : ℕ) → (K.key (cells m)) ≡ Some k → (K.key (cells n)) ≡ Some k → m ≡ n
   pub only : (n k : ℕ) → (K.key (cells n)) ≡ Some k → opened k + permits k ≡ 0
@@ -113,7 +113,7 @@ module _ (K : Kind) (law : IsLawful K) where
 
   -- Pings.
 
-  -- a step of one cell that takes no pass: where the cell is pinged after it, it was so under the same key, or its key is owed
+  -- a step of one cell that takes no pass: if the cell is pinged after it, it was so under the same key, or its key is owed
   pub known-cell : (w : WakeWorld K.Cell) (n : ℕ) (c : K.Cell) (o : Option ℕ) → IsPingedKnown K w.cells w.board w.debts w.passes
       → ((K.pinged c) ≡ true → ((K.pinged (w.cells n)) ≡ true) × ((K.key c) ≡ (K.key (w.cells n))) ⊎ (o ≡ (K.key c)))
       → IsPingedKnown K (with_cell n c w.cells) w.board (and_any o w.debts) w.passes
@@ -127,7 +127,7 @@ module _ (K : Kind) (law : IsLawful K) where
       ])
       (λ _ p q. let h = known j k p q in omega arith)
 
-  -- a step of its own that leaves the cell pinged gives a debt of its key, or it was pinged
+  -- a step of its own that leaves the cell pinged returns a debt of its key, or the cell was pinged before
   pub fresh-owed : (c d : K.Cell) → K.key d ≡ K.key c → K.pinged d ≡ true → (K.pinged c ≡ true) × (K.key d ≡ K.key c) ⊎ (owed_by K c d ≡ K.key d)
   fresh-owed c d same is = elim (K.pinged c) as (λ b. (b ≡ true) × (K.key d ≡ K.key c) ⊎ ((if b then None else if K.pinged d then K.key d else None) ≡ K.key d)) [ true ↦ inl (refl, same) | false ↦ inr (ap (λ b. if b then K.key d else None) is) ]
 
@@ -212,7 +212,7 @@ module _ (K : Kind) (law : IsLawful K) where
       with_cell_cases P n j c w.cells (λ e. same ∙ ap (λ m. (K.key (w.cells m))) (sym e)) (λ _. refl))
       p
 
-  -- the cell's key is cleared, and the permit to close its place given
+  -- the cell's key is cleared, and the permit to close its place is returned
   pub placed-clear : (w : WakeWorld K.Cell) (n : ℕ) (c : K.Cell) → (K.key c) ≡ None → IsPlaced K w.cells w.board w.opened w.permits
       → IsPlaced K (with_cell n c w.cells) w.board w.opened (and_any (K.key (w.cells n)) w.permits)
   placed-clear w n c none p =

@@ -36,7 +36,7 @@ executor_met w p s is h = subst (λ (c : every_kind.Cell). either_needs ping_kin
 executor_done : (w : WakeWorld every_kind.Cell) (p : ExecutorPast) (s : ExecutorStep) → w.cells 0 ≡ Second (Second p) → (after every_kind w (At 0 (Second (Second s)))).cells 0 ≡ Second (Second (past_after s p))
 executor_done w p s is = ap (λ (c : every_kind.Cell). either_after ping_kind (either_kind channel_kind executor_kind) (Second (Second s)) c) is
 
--- a turn stands open that may make so many pops yet, and message 5 is there
+-- an open turn that may make so many further pops, and message 5 is there
 pub record HasFive (left : ℕ) (p : ChannelPast) : Type 0 where
   pub draining : p.now.cell.draining ≡ true
   pub gone : p.now.cell.gone ≡ false
@@ -80,7 +80,7 @@ rounds_of_pops (suc n) w p is h =
 first_task : TaskKey
 first_task = record { slot = 3; number = 0 }
 
--- a turn stands open that popped so often, last the first task, which was woken in its poll
+-- an open turn that popped so often, last the first task, which was woken in its poll
 pub record IsPolled (pops : ℕ) (c : ExecutorCell) : Type 0 where
   pub draining : c.draining ≡ true
   pub dry : c.progress.dry ≡ false

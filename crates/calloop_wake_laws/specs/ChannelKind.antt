@@ -1,6 +1,6 @@
--- The cells of channels as a kind of the wake machine: a ring, the close that the last sender's drop makes, a put, a turn's pop, the
--- pop of a call that receives, and the end of a turn. Messages are numbers here. The machine also keeps how far the turn that stands
--- open has come, what was put and handed out, and each telling of the close.
+-- The cells of channels as a kind of the wake machine: a ring, the close by the last sender's drop, a put, a turn's pop, the
+-- pop of a call that receives, and the end of a turn. Messages are numbers here. The machine also keeps how far the open turn
+-- has come, what was put and handed out, and each telling of the close.
 use Rattle.std.specs.Prelude.{◌≡◌, ℕ, ◌-◌, ◌<◌, ◌≤◌, ◌⊎◌, not, Bool, true, false, Option, List, [], ◌∷◌, ◌++◌, length}
 use Rattle.calloop_wake.specs.Cells.{Cell, after_close, after_set_key, after_clear_key, opens}
 use Rattle.calloop_wake.specs.Bells.{after_ping, after_drain}
@@ -15,8 +15,8 @@ pub record Telling : Type 0 where
   pub closed : Bool
   pub left : ℕ
 
--- how far a turn has come: how many pops it has left, and whether its last one found no message, as its own value says. calloop's
--- process_events counts its loop
+-- how far a turn has come: how many pops it has left, and whether its last one found no message, as the pop's result says.
+-- calloop's process_events counts its loop
 pub record Progress : Type 0 where
   pub left : ℕ
   pub done : Bool
@@ -25,11 +25,11 @@ pub record Progress : Type 0 where
 abbrev pub at_start : Option ℕ → Progress
 at_start bound = record { left = pops bound; done = false }
 
--- and behind a pop
+-- and after a pop
 abbrev pub behind_pop : Popped ℕ → Progress → Progress
 behind_pop p turn = record { left = turn.left - 1; done = not (is_item p) }
 
--- a channel's cell, and what came of it: the turn that was opened last, the messages that were put, those that were handed out, in
+-- a channel's cell, and its past: the turn that was opened last, the messages that were put, those that were handed out, in
 -- order, and the tellings of the close. calloop keeps none of it
 pub record ChannelPast : Type 0 where
   pub now : ChannelCell ℕ
@@ -52,9 +52,9 @@ pub data ChannelStep : Type 0 where
   Ring Close Pop Take EndTurn : ChannelStep
   Put : (message : ℕ) → ChannelStep
 
--- A message is put where the receiving end is there and finds room. The last sender goes once. A turn that stands open pops as often as
--- it may, and is ended where its last pop found no message, or where it may make no more. A call that receives takes a message where
--- there is one; that none stands within a turn isn't asked for.
+-- A message is put if the receiving end is there and has room. The last sender goes once. An open turn pops as often as it
+-- may, and is ended when its last pop found no message, or when it may make no further one. A call that receives takes a
+-- message if there is one; it may do so within a turn too.
 abbrev pub channel_needs : ChannelStep → ChannelPast → Type 0
 channel_needs Ring p = Unit {0}
 channel_needs Close p = p.now.cell.closed ≡ false
@@ -85,18 +85,18 @@ channel_after Pop p =
       given = p.given ++ item_of (pop_answer p.now);
       tellings = p.tellings ++ told_by (is_close (pop_answer p.now)) p.now;
     }
--- it tells no close
+-- a receiving call tells no close
 channel_after Take p = record p { now = after_take p.now; given = p.given ++ item_of (pop_answer p.now) }
 channel_after EndTurn p = past_with (after_end_turn p.now) p
 channel_after (Put x) p = record p { now = after_put x p.now; taken = p.taken ++ x ∷ [] }
 
--- every close was told of a cell that is closed and empty
+-- at every telling of the close the cell was closed and empty
 abbrev pub AllOfEmpty : List Telling → Type 0
 AllOfEmpty [] = Unit {0}
 AllOfEmpty (t ∷ ts) = (t.closed ≡ true) × (t.left ≡ 0) × AllOfEmpty ts
 
--- What stands of a channel: no message and no close is lost; what was put is what was handed out, and then the queue; the close
--- is told at most once, and only of a cell that is closed and empty; and a turn makes no more pops than it may.
+-- What holds of a channel: no message and no close is lost; what was put is what was handed out, and then the queue; the close
+-- is told at most once, and only when the cell is closed and empty; and a turn makes at most the pops that it may.
 pub record IsStandingPast (p : ChannelPast) : Type 0 where
   pub standing : IsStandingChannel p.now
   pub sound : IsSoundChannel p.now

@@ -1,4 +1,4 @@
--- What is pinged can be delivered: steps that are owed lead to a turn of its cell. In calloop the kernel does them.
+-- A pinged cell can be delivered: steps that are owed lead to its turn. In calloop the kernel does them.
 use Rattle.std.specs.Prelude.{◌≡◌, ℕ, ◌+◌, ◌≤◌, true, if◌then◌else◌, ◌⊎◌, List, [], ◌∷◌, length}
 use Rattle.calloop_wake_laws.specs.Wakes.{
   Kind,
@@ -22,7 +22,7 @@ use Rattle.calloop_wake_laws.specs.Wakes.{
   after_all,
 }
 
--- Steps that somebody owes, for a turn of this cell under this key: the turn that stands open goes on, or ends; a pass of the key goes
+-- Steps that somebody owes, for a turn of this cell under this key: the open turn goes on, or ends; a pass of the key goes
 -- back, a debt of it is posted, a wakeup is spent. None of them rings, puts, wakes, or moves a key.
 abbrev pub IsOwed : (K : Kind) → (cell key : ℕ) → WakeStep K.Own → Type 0
 IsOwed K n k (At m s) = (m ≡ n) × K.OfTurn s
@@ -49,14 +49,14 @@ steps_to_a_turn K n k = Return ∷ Unpost (k + 1) ∷ OpenTurn n k ∷ []
 
 -- from here on a turn of this cell can be opened under this key
 pub record CanBeDelivered (K : Kind) (w : WakeWorld K.Cell) (n k : ℕ) : Type 0 where
-  -- by steps that are owed, at most three where no turn of the cell stands open, and else as many more as that turn needs
+  -- by steps that are owed, at most three if no turn of the cell is open, and else as many more as that turn needs
   pub owed : List (WakeStep K.Own)
   pub are_owed : AllOwed K n k owed
   pub few : length owed ≤ (if K.draining (w.cells n) then 1028 else 3)
   pub met : IsSchedule K w owed
-  -- behind which the loop is awake, or its wait is told
+  -- after which the loop is awake, or its wait is told
   pub told : ((after_all K w owed).loop ≡ Awake) ⊎ ((after_all K w owed).signal ≡ true)
-  -- and by the loop's own
+  -- and by the loop's own steps
   pub taken : IsSchedule K (after_all K w owed) (steps_to_a_turn K n k)
   pub opens : K.opens k ((after_all K w owed).cells n) ≡ true
   pub opened : K.draining ((after_all K (after_all K w owed) (steps_to_a_turn K n k)).cells n) ≡ true

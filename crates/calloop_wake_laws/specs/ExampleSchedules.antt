@@ -1,4 +1,4 @@
--- Schedules that there are, with each kind of step at the moments that matter: so the needs of the steps rule none of these out. And
+-- Possible schedules, with each kind of step at the moments that matter: so the needs of the steps rule none of these out. And
 -- schedules that the needs rule out.
 use Rattle.std.specs.Prelude.{ℕ, zero, suc, ◌+◌, ◌-◌, ◌^◌, List, [], ◌∷◌, ◌++◌, true, false, if◌then◌else◌, nat_eq, Some, None}
 use Rattle.calloop_wake.specs.Cells.{Cell, fresh}
@@ -52,7 +52,7 @@ pops = At 0 (Second (First channel.Pop))
 abbrev takes : WakeStep every_kind.Own
 takes = At 0 (Second (First channel.Take))
 
--- as a send that finds the channel full does
+-- as by a send that finds the channel full
 abbrev rings_channel : WakeStep every_kind.Own
 rings_channel = At 0 (Second (First channel.Ring))
 
@@ -72,7 +72,7 @@ wakes = At 0 (Second (Second (executor.Wake (record { slot = 3; number = 0 }))))
 abbrev pops_task : WakeStep every_kind.Own
 pops_task = At 0 (Second (Second (executor.Pop false)))
 
--- it gave its result
+-- the task finished
 abbrev pops_behind_result : WakeStep every_kind.Own
 pops_behind_result = At 0 (Second (Second (executor.Pop true)))
 
@@ -84,16 +84,16 @@ abbrev pub ring_in_a_wait : Schedule
 ring_in_a_wait =
     OpenPlace 7 ∷ SetKey 0 7 ∷ Look ∷ Sleep ∷ rings ∷ Post 7 ∷ Wakeup ∷ Return ∷ Unpost 8 ∷ OpenTurn 0 7 ∷ []
 
--- a key is posted behind a look that found none, before the sleep
+-- a key is posted after a look that found none, before the sleep
 abbrev pub post_between_look_and_sleep : Schedule
 post_between_look_and_sleep =
     OpenPlace 7 ∷ SetKey 0 7 ∷ Look ∷ rings ∷ Post 7 ∷ Sleep ∷ Wakeup ∷ Return ∷ Unpost 8 ∷ OpenTurn 0 7 ∷ ends ∷ []
 
--- a ring comes while a turn stands open: it is for the next turn
+-- a ring comes while a turn is open: it is for the next turn
 abbrev pub ring_in_a_turn : Schedule
 ring_in_a_turn = OpenPlace 7 ∷ SetKey 0 7 ∷ rings ∷ Post 7 ∷ Unpost 8 ∷ OpenTurn 0 7 ∷ rings ∷ ends ∷ Post 7 ∷ []
 
--- the last sender goes while a turn stands open: the next turn tells it
+-- the last sender goes while a turn is open: the next turn tells it
 abbrev pub close_in_a_turn : Schedule
 close_in_a_turn =
     OpenPlace 7
@@ -131,7 +131,7 @@ key_that_moves =
     ∷ OpenTurn 0 9
     ∷ []
 
--- the key is taken back where a ring stands, and the cell gets another one
+-- the key is taken back while a ring is pending, and the cell gets another key
 abbrev pub key_that_is_cleared : Schedule
 key_that_is_cleared =
     OpenPlace 7
@@ -147,15 +147,15 @@ key_that_is_cleared =
     ∷ OpenTurn 0 9
     ∷ []
 
--- the receiving end goes in its turn
+-- the receiving end is dropped in its turn
 abbrev pub drop_in_a_turn : Schedule
 drop_in_a_turn = OpenPlace 7 ∷ SetKey 0 7 ∷ rings ∷ Post 7 ∷ Unpost 8 ∷ OpenTurn 0 7 ∷ ClearKey 0 true ∷ ClosePlace 7 ∷ ends ∷ []
 
--- a wait returns without having slept, and the loop looks again behind a look
+-- a wait returns without having slept, and the loop looks again after a look
 abbrev pub wait_without_a_sleep : Schedule
 wait_without_a_sleep = Look ∷ Return ∷ Look ∷ Look ∷ Sleep ∷ Return ∷ Return ∷ []
 
--- message 6 is sent while a turn hands out 5, which then hands out that too, and stops where it finds none
+-- message 6 is sent while a turn hands out 5; the turn then hands out 6 too, and stops when it finds none
 abbrev pub message_in_a_turn : Schedule
 message_in_a_turn =
     OpenPlace 7
@@ -172,7 +172,7 @@ message_in_a_turn =
     ∷ Post 7
     ∷ []
 
--- the last sender goes behind message 5: the turn hands it out, tells the close, and then nothing more
+-- the last sender goes after message 5: the turn hands it out, tells the close, and then nothing more
 abbrev pub close_behind_a_message : Schedule
 close_behind_a_message =
     OpenPlace 7
@@ -188,7 +188,7 @@ close_behind_a_message =
     ∷ ends_pops
     ∷ []
 
--- A task is scheduled, polled, and woken in its poll: so it is queued once more, and the same turn polls it again. It is done then;
+-- A task is scheduled, polled, and woken in its poll: so it is queued again, and the same turn polls it again. It is done then;
 -- a wake that comes later changes nothing.
 abbrev pub task_in_a_turn : Schedule
 task_in_a_turn =
@@ -225,7 +225,7 @@ wake_in_a_wait =
     ∷ Post 7
     ∷ []
 
--- the executor goes with a task that is queued, which a wake doesn't queue any more
+-- the executor is dropped with a queued task, which a wake no longer queues
 abbrev pub executor_that_goes : Schedule
 executor_that_goes = OpenPlace 7 ∷ SetKey 0 7 ∷ schedules ∷ Post 7 ∷ ClearKey 0 true ∷ wakes ∷ ClosePlace 7 ∷ []
 
@@ -260,7 +260,7 @@ close_in_a_channels_turn =
     ∷ Post 7
     ∷ []
 
--- it goes behind the pop that found none, and the next turn tells the close
+-- the last sender goes after the pop that found none, and the next turn tells the close
 abbrev pub close_behind_the_last_pop : Schedule
 close_behind_the_last_pop =
     OpenPlace 7
@@ -295,7 +295,7 @@ message_outside_of_a_turn =
     ∷ ends_pops
     ∷ []
 
--- A channel that holds one message is full, and is rung. Its turn hands out two, since there was room again, and ends there: it pings.
+-- A channel that holds one message is full, and is rung. Its turn hands out two, as there was room again, and ends: it pings.
 abbrev pub bounded_channel : Schedule
 bounded_channel =
     OpenPlace 7
@@ -312,7 +312,7 @@ bounded_channel =
     ∷ Post 7
     ∷ []
 
--- message 6 is put though the last sender is gone: the close is told behind it
+-- message 6 is put though the last sender is gone: the close is told after it
 abbrev pub message_behind_the_close : Schedule
 message_behind_the_close =
     OpenPlace 7
@@ -399,7 +399,7 @@ second_task_in_a_slot =
     ∷ ends_tasks
     ∷ []
 
--- these steps so many times over, and then those
+-- these steps repeated so many times, and then those
 abbrev pub repeat : ℕ → Schedule → Schedule → Schedule
 repeat zero round rest = rest
 repeat (suc n) round rest = round ++ repeat n round rest
@@ -411,7 +411,7 @@ opens_channel = OpenPlace 7 ∷ SetKey 0 7 ∷ puts 5 ∷ Post 7 ∷ Unpost 8 �
 abbrev pub opens_executor : Schedule
 opens_executor = OpenPlace 7 ∷ SetKey 0 7 ∷ schedules ∷ Post 7 ∷ Unpost 8 ∷ OpenTurn 0 7 ∷ pops_task ∷ wakes ∷ []
 
--- behind each message that a turn hands out another one is sent: so it ends after its 1,024th pop
+-- after each message that a turn hands out another one is sent: so it ends after its 1,024th pop
 abbrev pub turn_of_1024_pops : Schedule
 turn_of_1024_pops = opens_channel ++ repeat 1024 (pops ∷ puts 5 ∷ []) (ends_pops ∷ [])
 
@@ -438,7 +438,7 @@ pops_there = At 1 (Second (First channel.Pop))
 abbrev ends_there : WakeStep every_kind.Own
 ends_there = At 1 (Second (First channel.EndTurn))
 
--- both keys are taken at once, and both turns stand open at a time
+-- both keys are taken at once, and both turns are open at the same time
 abbrev pub two_turns_at_once : Schedule
 two_turns_at_once =
     OpenPlace 7
@@ -460,7 +460,7 @@ two_turns_at_once =
     ∷ Post 7
     ∷ []
 
--- One of two posted keys is taken, and a turn of it is over; the look then finds the other, and that is taken. The wakeups are
+-- One of two posted keys is taken, and its turn ends; the look then finds the other, and that is taken. The wakeups are
 -- spent while the loop is awake.
 abbrev pub unpost_in_part : Schedule
 unpost_in_part =
@@ -517,8 +517,8 @@ key_without_a_place =
     ∷ OpenTurn 0 7
     ∷ []
 
--- All that befalls a ping under a key: its place is opened; it is rung, and its key posted, taken, put back, and posted and taken
--- once more; it has its turn. Then its key is taken back and its place closed, it gets the key anew, and its receiving end goes.
+-- The whole life of a ping under a key: its place is opened; it is rung, and its key posted, taken, put back, posted and taken
+-- again; it has its turn. Then its key is taken back and its place closed, it gets the key anew, and its receiving end goes.
 abbrev pub life : (cell key : ℕ) → Schedule
 life n k =
     OpenPlace k
@@ -546,13 +546,13 @@ life_past_a_look = Look ∷ life 0 7
 abbrev pub life_in_a_wait : Schedule
 life_in_a_wait = Look ∷ Sleep ∷ life 0 7 ++ Wakeup ∷ Return ∷ []
 
--- the third cell has it under the greatest key that a token has
+-- the third cell has this life under the greatest key that a token has
 abbrev pub life_of_the_third_cell : Schedule
 life_of_the_third_cell = life 2 (2 ^ 64 - 2)
 
--- Schedules that there aren't.
+-- Impossible schedules.
 
--- a turn ends behind a message, where it may make more pops; or it made none
+-- a turn ends after a message, when it may make more pops; or after no pop
 abbrev pub turn_that_stops : Schedule
 turn_that_stops = OpenPlace 7 ∷ SetKey 0 7 ∷ puts 5 ∷ Post 7 ∷ Unpost 8 ∷ OpenTurn 0 7 ∷ pops ∷ ends_pops ∷ []
 
@@ -568,7 +568,7 @@ pop_too_many =
 abbrev pub close_twice : Schedule
 close_twice = hangs_up ∷ hangs_up ∷ []
 
--- a call receives where no message is there, or a turn's pop comes where none stands open
+-- a call receives when no message is there, or a turn's pop comes when no turn is open
 abbrev pub take_of_nothing : Schedule
 take_of_nothing = puts 5 ∷ takes ∷ takes ∷ []
 
@@ -579,12 +579,12 @@ pop_without_a_turn = puts 5 ∷ pops ∷ []
 abbrev pub put_past_the_bound : Schedule
 put_past_the_bound = puts 5 ∷ puts 6 ∷ []
 
--- an executor's turn ends behind a task, where it may pop more
+-- an executor's turn ends after a task, when it may pop more
 abbrev pub turn_that_stops_behind_a_task : Schedule
 turn_that_stops_behind_a_task =
     OpenPlace 7 ∷ SetKey 0 7 ∷ schedules ∷ Post 7 ∷ Unpost 8 ∷ OpenTurn 0 7 ∷ pops_task ∷ ends_tasks ∷ []
 
--- Where these end: the cell that they are of.
+-- The final states of these: the cell that they are of.
 
 abbrev pub of_key_seven : Cell
 of_key_seven = record fresh { key = Some 7 }
@@ -675,7 +675,7 @@ after_task_in_a_turn =
       given = 0 ∷ [];
     }
 
--- two tasks were there, both gave their results, and behind the second one nothing was popped
+-- two tasks were there, both finished, and after the second one nothing was popped
 abbrev pub after_second_task_in_a_slot : executor.ExecutorPast
 after_second_task_in_a_slot =
     record {

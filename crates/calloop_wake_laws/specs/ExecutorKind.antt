@@ -1,5 +1,5 @@
--- The cells of executors as a kind of the wake machine: a put, a wake, a pop, and the end of a turn. The machine also keeps whose
--- results were handed out.
+-- The cells of executors as a kind of the wake machine: a put, a wake, a pop, and the end of a turn. The machine also keeps the
+-- tasks whose results were handed out.
 use Rattle.std.specs.Prelude.{◌≡◌, ℕ, ◌<◌, Bool, true, false, ◌⊎◌, List, [], ◌∷◌, ◌++◌, Option, Some, None, IsSome}
 use Rattle.futures.specs.LinkedLists.{IsIn, IsApart}
 use Rattle.calloop_wake.specs.declared.tasks.Task.{Task}
@@ -36,11 +36,11 @@ past_with c p = record p { now = c }
 pub data ExecutorStep : Type 0 where
   Put : (slot home : ℕ) → ExecutorStep
   Wake : TaskKey → ExecutorStep
-  -- whether the poll of the task that was popped before gave its result
+  -- whether the poll of the task that was popped before finished it
   Pop EndTurn : (finished : Bool) → ExecutorStep
 
--- A task is put where the executor is there, into a slot that is vacant. A turn pops until a pop gives no task, and at most 1,024
--- times, and there it ends. What is finished was popped.
+-- A task is put into a vacant slot if the executor is there. A turn pops until a pop returns no task, and at most 1,024
+-- times, and then it ends. A task that finishes was popped before.
 abbrev pub executor_needs : ExecutorStep → ExecutorCell → Type 0
 executor_needs (Put slot home) c = (c.gone ≡ false) × (c.tasks slot ≡ None)
 executor_needs (Wake key) c = Unit {0}
@@ -57,13 +57,13 @@ executor_after (Wake key) c = after_wake key c
 executor_after (Pop finished) c = after_pop finished c
 executor_after (EndTurn finished) c = after_end_turn finished c
 
--- the number of the task that was polled, where it is finished
+-- the number of the task that was polled, if it is finished
 abbrev pub given_of : Option TaskKey → (finished : Bool) → List ℕ
 given_of None finished = []
 given_of (Some key) true = key.number ∷ []
 given_of (Some key) false = []
 
--- whose result a step hands out
+-- the task whose result a step hands out
 abbrev pub given_by : ExecutorStep → ExecutorCell → List ℕ
 given_by (Put slot home) c = []
 given_by (Wake key) c = []
@@ -73,8 +73,8 @@ given_by (EndTurn finished) c = given_of c.progress.polled finished
 abbrev pub past_after : ExecutorStep → ExecutorPast → ExecutorPast
 past_after s p = record { now = executor_after s p.now; given = p.given ++ given_by s p.now }
 
--- What stands of an executor: no wake is lost, each task is where it says, the result of no task is handed out twice, and a task
--- whose result was is there no more.
+-- What holds of an executor: no wake is lost, each task is in the place that it says, no task's result is handed out twice,
+-- and a task whose result was handed out is gone.
 pub record IsStandingPast (p : ExecutorPast) : Type 0 where
   pub standing : IsStandingExecutor p.now
   pub once : IsApart p.given

@@ -1,4 +1,4 @@
--- Two kinds of cells as one, so that cells of both share a board. The cells that there are: pings, channels and executors.
+-- Two kinds of cells as one, so that cells of both share a board. The existing kinds: pings, channels and executors.
 use Rattle.std.specs.Prelude.{ℕ, Bool, Option}
 use Rattle.calloop_wake.specs.Cells.{fresh}
 use Rattle.calloop_wake_laws.specs.Wakes.{Kind}
@@ -83,10 +83,10 @@ module _ (K L : Kind) where
 abbrev pub every_kind : Kind
 every_kind = either_kind ping_kind (either_kind channel_kind executor_kind)
 
--- what a cell is made as
+-- the kind that a cell is made as
 pub data Born : Type 0 where
   APing : Born
-  -- with how many messages it holds at most
+  -- the most messages that it holds
   AChannel : (bound : Option ℕ) → Born
   AnExecutor : Born
 

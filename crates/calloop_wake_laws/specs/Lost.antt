@@ -31,11 +31,11 @@ of_this_channel p = record of_channels { cells = λ _. Second (First p) }
 abbrev pub of_this_executor : ExecutorPast → WakeWorld every_kind.Cell
 of_this_executor p = record of_executors { cells = λ _. Second (Second p) }
 
--- a ring stands, and isn't pinged
+-- a ring is pending, and the cell isn't pinged
 abbrev pub with_a_ring_unseen : WakeWorld every_kind.Cell
 with_a_ring_unseen = of_this_ping (record fresh { rung = true })
 
--- a ping was closed, and isn't pinged
+-- a ping was closed, and the cell isn't pinged
 abbrev pub with_a_close_unseen : WakeWorld every_kind.Cell
 with_a_close_unseen = of_this_ping (record fresh { closed = true })
 
@@ -43,15 +43,15 @@ with_a_close_unseen = of_this_ping (record fresh { closed = true })
 abbrev pub with_a_key_forgotten : WakeWorld every_kind.Cell
 with_a_key_forgotten = of_this_ping (record fresh { rung = true; pinged = true; key = Some 7 })
 
--- the loop looked before key 7 was posted, and nobody tells it
+-- the loop looked before key 7 was posted, and nobody wakes it
 abbrev pub with_nobody_told : WakeWorld every_kind.Cell
 with_nobody_told = record of_pings { board = record { key = 7; marked = true } ∷ []; loop = Looked }
 
--- the same of a loop in its wait
+-- the same with a loop in its wait
 abbrev pub with_nobody_told_in_a_wait : WakeWorld every_kind.Cell
 with_nobody_told_in_a_wait = record of_pings { board = record { key = 7; marked = true } ∷ []; loop = Asleep }
 
--- a cell of key 7 is pinged, and its key is posted; but the loop sleeps, and nobody tells it
+-- a cell of key 7 is pinged, and its key is posted; but the loop sleeps, and nobody wakes it
 abbrev pub with_a_sleeper_left_alone : WakeWorld every_kind.Cell
 with_a_sleeper_left_alone =
     record of_pings {
@@ -114,7 +114,7 @@ with_a_message_too_many =
       taken = 5 ∷ 6 ∷ [];
     })
 
--- a turn may make more pops than the messages of a full channel, and one
+-- a turn may make more pops than one plus the messages of a full channel
 abbrev pub with_too_long_a_turn : WakeWorld every_kind.Cell
 with_too_long_a_turn =
     of_this_channel (record (unused_channel (Some 1)) { turn = record { left = 3; done = false } })
@@ -137,7 +137,7 @@ with_a_task_queued_twice =
     of_this_executor
     (record unused_executor { now = record (with_queue (Some queued_task) (3 ∷ 3 ∷ [])) { pinged = true } })
 
--- a finished task stands in the queue
+-- a finished task is in the queue
 abbrev pub with_a_finished_task_queued : WakeWorld every_kind.Cell
 with_a_finished_task_queued =
     of_this_executor (record { now = record (with_queue None (3 ∷ [])) { pinged = true; results = 1 }; given = 0 ∷ [] })
@@ -156,7 +156,7 @@ with_a_result_of_a_task_that_runs =
 abbrev in_its_poll : (woken : Bool) → Task
 in_its_poll woken = record { number = 0; phase = if woken then Woken else Polling; home = 0 }
 
--- an executor that popped it in a turn, which isn't open any more
+-- an executor that popped it in a turn that is no longer open
 abbrev having_popped : Task → Option TaskKey → ExecutorCell
 having_popped task polled =
     record (with_queue (Some task) []) { progress = record { pops = 1; dry = false; polled = polled } }
@@ -189,18 +189,18 @@ abbrev pub with_the_next_number : WakeWorld every_kind.Cell
 with_the_next_number =
     of_this_executor (record unused_executor { now = record (with_queue (Some queued_task) (3 ∷ [])) { pinged = true; next = 0 } })
 
--- Here what is wrong is in the second cell, or under a second key, and all else is right: so no clause speaks of the first alone.
+-- Here the error is in the second cell, or under a second key, and all else is right: so no clause speaks of the first alone.
 
 -- the second cell is this ping's
 abbrev pub with_a_second_ping : Cell → WakeWorld every_kind.Cell
 with_a_second_ping c = record of_pings { cells = with_cell 1 (First c) of_pings.cells }
 
--- a ring stands there, and isn't pinged
+-- a ring is pending there, and the cell isn't pinged
 abbrev pub with_a_ring_unseen_in_the_second_cell : WakeWorld every_kind.Cell
 with_a_ring_unseen_in_the_second_cell = with_a_second_ping (record fresh { rung = true })
 
--- It is pinged under key 9, which has a place; somebody holds that key as one of a place without a cell, and to close that place,
--- and key 7 is posted, owed and held as a pass. But key 9 is none of these.
+-- The second cell is pinged under key 9, which has a place; somebody holds key 9 as opened for a new cell, and as a permit to
+-- close its place, and key 7 is posted, owed and held as a pass. But key 9 is none of these.
 abbrev pub with_the_second_key_forgotten : WakeWorld every_kind.Cell
 with_the_second_key_forgotten =
     record (with_a_second_ping (record fresh { rung = true; pinged = true; key = Some 9 })) {
@@ -211,7 +211,7 @@ with_the_second_key_forgotten =
       permits = and_one 9 no_value;
     }
 
--- key 9 is posted, and owed and held as a pass once more; but the loop sleeps, and nobody tells it
+-- key 9 is posted, and is also owed and held as a pass; but the loop sleeps, and nobody wakes it
 abbrev pub with_nobody_told_of_the_second_key : WakeWorld every_kind.Cell
 with_nobody_told_of_the_second_key =
     record of_pings {
@@ -221,7 +221,7 @@ with_nobody_told_of_the_second_key =
       loop = Asleep;
     }
 
--- the close was told before the last sender went, which is gone now
+-- the close was told before the last sender went, who is gone now
 abbrev pub with_a_close_told_before_it_came : WakeWorld every_kind.Cell
 with_a_close_told_before_it_came =
     of_this_channel
@@ -230,9 +230,9 @@ with_a_close_told_before_it_came =
       tellings = record { closed = false; left = 0 } ∷ [];
     })
 
--- Of these nothing is lost in the cell, but there is no turn under key 7.
+-- In these worlds nothing is lost in the cell, but no turn under key 7 is possible.
 
--- its key is another one
+-- the cell's key is another one
 abbrev pub with_another_key : WakeWorld every_kind.Cell
 with_another_key =
     record of_pings {
@@ -245,7 +245,7 @@ abbrev pub messages : ℕ → List ℕ
 messages zero = []
 messages (suc n) = 5 ∷ messages n
 
--- a turn of it stands open, which is over after 1,028 pops, and its end
+-- an open turn of it is over only after 1,028 pops and its end
 abbrev pub with_an_endless_turn : WakeWorld every_kind.Cell
 with_an_endless_turn =
     record

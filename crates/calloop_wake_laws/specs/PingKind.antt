@@ -1,5 +1,5 @@
--- The cells of pings as a kind of the wake machine, with the steps that only they have: a ring, the close that the last
--- sender's drop makes, and the end of a turn.
+-- The cells of pings as a kind of the wake machine, with the steps that only they have: a ring, the close by the last sender's
+-- drop, and the end of a turn.
 use Rattle.std.specs.Prelude.{◌≡◌, true}
 use Rattle.calloop_wake.specs.Cells.{
   Cell,
@@ -17,7 +17,7 @@ use Rattle.calloop_wake_laws.specs.Wakes.{Kind}
 pub data PingStep : Type 0 where
   Ring Close EndTurn : PingStep
 
--- a turn is ended where one stands open
+-- a turn can be ended if one is open
 abbrev pub ping_needs : PingStep → Cell → Type 0
 ping_needs Ring c = Unit {0}
 ping_needs Close c = Unit {0}

@@ -1,13 +1,13 @@
--- The machine's steps in the words of the cells' own: what the core of a cell gives is what the step gives.
+-- The machine's steps in terms of the cells' own: what the core of a cell returns is what the step returns.
 use Rattle.std.specs.Prelude.{ℕ, Option, Some}
 use Rattle.calloop_wake.specs.Cells.{Cell, fresh}
 use Rattle.calloop_wake_laws.specs.Wakes.{WakeWorld, and_any, and_one, less_one, no_value, start, with_cell}
 
--- cell n becomes this, and this debt comes
+-- cell n becomes this, and this debt is added
 abbrev pub with_step : {C : Type 0} → ℕ → C → Option ℕ → WakeWorld C → WakeWorld C
 with_step n c debt w = record w { cells = with_cell n c w.cells; debts = and_any debt w.debts }
 
--- and this permit to close
+-- and this permit to close is added
 abbrev pub with_permit : {C : Type 0} → Option ℕ → WakeWorld C → WakeWorld C
 with_permit permit w = record w { permits = and_any permit w.permits }
 

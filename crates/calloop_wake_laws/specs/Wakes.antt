@@ -36,7 +36,7 @@ use Rattle.calloop_wake.specs.Boards.{
 }
 use Rattle.calloop_wake.specs.declared.board.Place.{Place}
 
--- a kind of cells, as the cells of pings: what the machine reads of a cell, and what its steps do to one
+-- a kind of cells, e.g. the cells of pings: what the machine reads of a cell, and what its steps do to one
 pub record Kind : Type 1 where
   pub Cell : Type 0
   -- the steps of this kind alone, which take neither key nor pass
@@ -45,23 +45,23 @@ pub record Kind : Type 1 where
   pub pinged : Cell → Bool
   pub Needs : Own → Cell → Type 0
   pub after : Own → Cell → Cell
-  -- its key is set, or taken away, which the drop of its receiving end does for good
+  -- its key is set, or taken away; the drop of its receiving end takes it away for good
   pub keyed : (key : ℕ) → Cell → Cell
   pub unkeyed : (by_drop : Bool) → Cell → Cell
-  -- the pass of this key opens a turn, and the cell in its turn
+  -- whether the pass of this key opens a turn, and the cell in its turn
   pub opens : (key : ℕ) → Cell → Bool
   pub opened : Cell → Cell
-  -- a turn stands open; and the steps of this kind alone that are such a turn's, its pops and its end
+  -- whether a turn is open; and the steps of this kind alone that belong to such a turn, its pops and its end
   pub draining : Cell → Bool
   pub OfTurn : Own → Type 0
-  -- what mustn't be lost is seen: it is pinged, or a turn stands open
+  -- what mustn't be lost is seen: the cell is pinged, or a turn is open
   pub IsStanding : Cell → Type 0
 
--- the debt that a step of its own gives: of the key, where the step pings anew
+-- the debt that a step of its own returns: of the key, if the step pings anew
 abbrev pub owed_by : (K : Kind) → K.Cell → K.Cell → Option ℕ
 owed_by K c d = if K.pinged c then None else if K.pinged d then K.key d else None
 
--- the debt that setting a key gives, where the cell is pinged
+-- the debt that setting a key returns, if the cell is pinged
 abbrev pub owed_at : (K : Kind) → ℕ → K.Cell → Option ℕ
 owed_at K k c = if K.pinged c then Some k else None
 
@@ -73,24 +73,24 @@ Bag = ℕ → ℕ
 abbrev pub no_value : Bag
 no_value k = 0
 
--- with one more of this key
+-- with another one of this key
 abbrev pub and_one : ℕ → Bag → Bag
 and_one k bag j = bag j + one (nat_eq j k)
 
--- with one more, where there is a key
+-- with another one, if there is a key
 abbrev pub and_any : Option ℕ → Bag → Bag
 and_any None bag = bag
 and_any (Some k) bag = and_one k bag
 
--- with one of this key less
+-- with one fewer of this key
 abbrev pub less_one : ℕ → Bag → Bag
 less_one k bag j = bag j - one (nat_eq j k)
 
--- where the loop is: at work, past a look that found no mark, or in its wait; in calloop, in dispatch_events
+-- the loop's state: at work, past a look that found no mark, or in its wait; in calloop, in dispatch_events
 pub data Loop : Type 0 where
   Awake Looked Asleep : Loop
 
--- all that the steps change; a turn that stands open is in its cell, as `draining`
+-- all that the steps change; an open turn is in its cell, as `draining`
 pub record WakeWorld (C : Type 0) : Type 0 where
   -- a cell for each number; one that nobody uses is fresh
   pub cells : ℕ → C
@@ -141,7 +141,7 @@ pub data WakeStep (O : Type 0) : Type 0 where
 abbrev pub with_cell : {C : Type 0} → ℕ → C → (ℕ → C) → ℕ → C
 with_cell n c cells j = if nat_eq j n then c else cells j
 
--- What a step needs: the value that it spends, and of the loop its place. A place is opened where the key has none.
+-- What a step needs: the value that it spends, and the loop's state. A place is opened if the key has none.
 -- The loop sleeps after a look that found no mark, and a loop that sleeps doesn't look. A wait can return without
 -- having slept: a wait of zero has no look before it, and one that is interrupted may count as an empty answer.
 -- calloop's kernel asks for none of these.
@@ -179,7 +179,7 @@ after K w (ClearKey n by_drop) =
       cells = with_cell n (K.unkeyed by_drop (w.cells n)) w.cells;
       permits = and_any (K.key (w.cells n)) w.permits;
     }
--- a pass that is refused stays where it is
+-- a pass that is refused stays with its holder
 after K w (OpenTurn n k) =
     record w {
       cells = with_cell n (if K.opens k (w.cells n) then K.opened (w.cells n) else w.cells n) w.cells;
@@ -191,7 +191,7 @@ after K w (ClosePlace k) = record w { board = after_close_place k w.board; permi
 after K w (Post k) =
     record w { board = after_post k w.board; debts = less_one k w.debts; wakeups = w.wakeups + one (wakes k w.board) }
 after K w (Back k) = record w { passes = less_one k w.passes; debts = and_one k w.debts }
--- the permit to sleep is given where no key is marked
+-- the permit to sleep is returned if no key is marked
 after K w Look = record w { loop = if any_marked w.board then Awake else Looked }
 after K w (Unpost below) =
     record w {
@@ -200,10 +200,10 @@ after K w (Unpost below) =
     }
 after K w Wakeup = record w { wakeups = w.wakeups - 1; signal = true }
 after K w Sleep = record w { loop = Asleep }
--- the wait returns, and takes the signal with it
+-- the wait returns, and consumes the signal
 after K w Return = record w { signal = false; loop = Awake }
 
--- a schedule: any list of steps, by any number of parties, where each finds what it needs
+-- a schedule: any list of steps, by any number of parties, in which each finds what it needs
 abbrev pub IsSchedule : (K : Kind) → WakeWorld K.Cell → List (WakeStep K.Own) → Type 0
 IsSchedule K w [] = Unit {0}
 IsSchedule K w (s ∷ ss) = Needs K w s × IsSchedule K (after K w s) ss
@@ -217,11 +217,11 @@ after_all K w (s ∷ ss) = after_all K (after K w s) ss
 abbrev pub IsKnown : {C : Type 0} → WakeWorld C → ℕ → Type 0
 IsKnown w k = (is_marked k w.board ≡ true) ⊎ (0 < w.debts k) ⊎ (0 < w.passes k)
 
--- nothing that a cell was given is lost; calloop rests on the kernel for all three
+-- nothing that was given to a cell is lost; calloop relies on the kernel for all three
 pub record IsCovered (K : Kind) (w : WakeWorld K.Cell) : Type 0 where
-  -- what mustn't be lost in a cell is pinged, or a turn of the cell stands open
+  -- what mustn't be lost in a cell is pinged, or a turn of the cell is open
   pub standing : (n : ℕ) → K.IsStanding (w.cells n)
   -- a pinged cell's key is known
   pub pinged : (n k : ℕ) → K.pinged (w.cells n) ≡ true → K.key (w.cells n) ≡ Some k → IsKnown w k
-  -- a key that is posted behind a look that found none is told: a wakeup is owed, or the signal stands
+  -- a key that is posted after a look that found none is told: a wakeup is owed, or the signal is set
   pub told : (k : ℕ) → w.loop ≢ Awake → is_marked k w.board ≡ true → (0 < w.wakeups) ⊎ (w.signal ≡ true)

@@ -1,5 +1,5 @@
-//! What holds of every schedule of the wake machine, whose steps are those of `calloop_wake`'s contracts: laws, schedules that there are, and
-//! wrong ones that the laws rule out. Nothing of `calloop_wake` stands on them.
+//! What holds of every schedule of the wake machine, whose steps are those of `calloop_wake`'s contracts: laws, possible
+//! schedules, and wrong ones that the laws rule out. Nothing of `calloop_wake` depends on them.
 #![tactic(auto)]
 
 ghost use Rattle.std.specs.Prelude.{◌≡◌, ◌+◌, ◌&&◌, nat_lt, ℕ, List, Bool, true, false, None, Some, if◌then◌else◌};
@@ -27,23 +27,23 @@ ghost use Rattle.calloop_wake_laws.specs.ExampleSchedules.{after_channel_that_is
 ghost use Rattle.calloop_wake_laws.specs.ExampleSchedules.{of_both, two_turns_at_once, unpost_in_part, unpost_in_a_wait, key_without_a_place, life_past_a_look, life_in_a_wait, life_of_the_third_cell};
 ghost use Rattle.calloop_wake_laws.specs.ExampleSchedules.{turn_that_stops, turn_without_a_pop, pop_too_many, close_twice, take_of_nothing, pop_without_a_turn, put_past_the_bound, turn_that_stops_behind_a_task};
 
-/// Over every schedule of the wake machine, by any number of cells of pings, channels and executors, from the state in which nothing
-/// has happened: what mustn't be lost, a ring, a message, a close that no turn told or a wake, is pinged or a turn stands open; a
-/// pinged cell's key is posted, owed or held as a pass; where the loop has looked and found no mark, a posted key is told to it by a
-/// wakeup that is owed or by the signal. And a channel's messages are handed out in the order in which they were put, its close is
-/// told at most once, and only where it is closed and empty; its turn pops as often as it may, and ends where its last pop found no
-/// message, or where it may pop no more. And each task of an executor is idle, queued once, in a poll, or
-/// finished; its result is handed out at most once, and then it is in no queue.
+/// Over every schedule of the wake machine, by any number of cells of pings, channels and executors, from the state in which
+/// nothing has happened: what mustn't be lost, a ring, a message, a close that no turn told or a wake, is pinged or a turn is
+/// open; a pinged cell's key is posted, owed or held as a pass; if the loop has looked and found no mark, it is told of a posted
+/// key by a wakeup that is owed or by the signal. And a channel's messages are handed out in the order in which they were put,
+/// its close is told at most once, and only when it is closed and empty; its turn pops as often as it may, and ends when its last
+/// pop found no message, or when it may pop no more. And each task of an executor is idle, queued once, in a poll, or finished;
+/// its result is handed out at most once, and then it is in no queue.
 pub fn nothing_is_lost()
     ensures { (born : ℕ → Born) (steps : List (WakeStep every_kind.Own))
         → IsSchedule every_kind (start (λ n. new_cell (born n))) steps
         → IsCovered every_kind (after_all every_kind (start (λ n. new_cell (born n))) steps) }
 {}
 
-/// From the end of every schedule, each cell that is pinged under a key can get its turn: there are steps of those who owe something, at most
-/// three where no turn of it stands open, each with its needs met, behind which the loop is awake or its wait is told, and then the loop's
-/// own three open a turn. So nothing is beyond reach: no step of anybody has to be made that isn't owed. It isn't said that these steps
-/// come.
+/// From the end of every schedule, each cell that is pinged under a key can get its turn: there are steps of those who owe
+/// something, at most three if no turn of it is open, each with its needs met, after which the loop is awake or its wait is told,
+/// and then the loop's own three open a turn. So nothing is beyond reach: no step has to be made that isn't owed. The law doesn't
+/// say that these steps come.
 pub fn can_be_delivered()
     ensures { (born : ℕ → Born) (steps : List (WakeStep every_kind.Own))
         → IsSchedule every_kind (start (λ n. new_cell (born n))) steps → (n k : ℕ)
@@ -55,8 +55,8 @@ pub fn can_be_delivered()
         (after_all every_kind (start (λ m. new_cell (born m))) steps) n k }
 {}
 
-/// Small states from which nobody can be delivered: a key that is nowhere, a loop that sleeps and that nobody tells of a posted key, and a
-/// cell that has another key. And one from which it takes more steps than there may be: a turn that ends behind 1,028 pops.
+/// Small states from which no cell can be delivered: a key that is nowhere, a loop that sleeps and that nobody tells of a posted
+/// key, and a cell that has another key. And one from which it takes more steps than allowed: a turn that ends after 1,028 pops.
 pub fn out_of_reach()
     ensures key { ¬ CanBeDelivered every_kind with_a_key_forgotten 0 7 }
     ensures sleeper { ¬ CanBeDelivered every_kind with_a_sleeper_left_alone 0 7 }
@@ -64,13 +64,13 @@ pub fn out_of_reach()
     ensures endless { ¬ CanBeDelivered every_kind with_an_endless_turn 0 7 }
 {}
 
-/// Small states that `nothing_is_lost` rules out: a ring, a close or a message that no mark shows, a pinged cell whose key is nowhere, a
-/// posted key of which nobody tells a loop past its look, a message that is lost or handed out of order, a close that is told
-/// twice, before the last message, or of an open channel; a message past the bound, and a turn that may pop past it; a task that no mark
-/// shows, which is queued or was woken in its poll, one that is queued twice or though it is finished, or in a poll of nobody, or has
-/// another's number, or that of the next one, and a result that was handed out twice or of a task that still runs. And what is wrong in
-/// the second cell alone, or under a second key: a ring, a pinged cell's key, and one of which nobody tells the loop; and a close that was
-/// told of a channel before it was closed.
+/// Small states that `nothing_is_lost` rules out: a ring, a close or a message that no mark shows, a pinged cell whose key is
+/// nowhere, a posted key of which nobody tells a loop past its look, a message that is lost or handed out of order, a close that
+/// is told twice, before the last message, or of an open channel; a message past the bound, and a turn that may pop past it; a
+/// task that no mark shows, which is queued or was woken in its poll, one that is queued twice or though it is finished, or in a
+/// poll of nobody, or has another's number, or that of the next one, and a result that was handed out twice or of a task that
+/// still runs. And errors in the second cell alone, or under a second key: a ring, a pinged cell's key, and one of which nobody
+/// tells the loop; and a close that was told of a channel before it was closed.
 pub fn lost_is_not_covered()
     ensures ring { ¬ IsCovered every_kind with_a_ring_unseen }
     ensures close { ¬ IsCovered every_kind with_a_close_unseen }
@@ -100,7 +100,7 @@ pub fn lost_is_not_covered()
     ensures before_it_came { ¬ IsCovered every_kind with_a_close_told_before_it_came }
 {}
 
-/// Schedules that there are, with each kind of step at the moments that matter, and the cell that each leaves.
+/// Possible schedules, with each kind of step at the moments that matter, and the cell that each leaves.
 pub fn schedules_that_there_are()
     ensures wait { IsSchedule every_kind of_pings ring_in_a_wait }
     ensures waited { (after_all every_kind of_pings ring_in_a_wait).cells 0
@@ -140,7 +140,7 @@ pub fn schedules_that_there_are()
     ensures goes { IsSchedule every_kind of_executors executor_that_goes }
 {}
 
-/// Schedules of channels and of executors that there are, and the cell that most of them leave.
+/// Possible schedules of channels and of executors, and the cell that most of them leave.
 pub fn schedules_of_queues_that_there_are()
     ensures rung { IsSchedule every_kind of_channels channel_that_is_rung }
     ensures was_rung { (after_all every_kind of_channels channel_that_is_rung).cells 0
@@ -165,8 +165,8 @@ pub fn schedules_of_queues_that_there_are()
         ≡ Second (Second after_second_task_in_a_slot) }
 {}
 
-/// Schedules of a ping and a channel on one board, and of a key that moves or is taken while the loop waits; and all that befalls a ping
-/// under a key, while the loop is past its look, in its wait, and of a third cell under the greatest key.
+/// Schedules of a ping and a channel on one board, and of a key that moves or is taken while the loop waits; and the whole life
+/// of a ping under a key, while the loop is past its look, in its wait, and of a third cell under the greatest key.
 pub fn schedules_of_one_board_that_there_are()
     ensures turns { IsSchedule every_kind of_both two_turns_at_once }
     ensures in_part { IsSchedule every_kind of_both unpost_in_part }
@@ -179,14 +179,14 @@ pub fn schedules_of_one_board_that_there_are()
     ensures third_cell { IsSchedule every_kind of_pings life_of_the_third_cell }
 {}
 
-/// Turns that end since they may pop no more, of a channel without a bound and of an executor.
+/// Turns that end because they may pop no more, of a channel without a bound and of an executor.
 pub fn turns_that_end_at_their_bound()
     ensures pops { IsSchedule every_kind of_channels turn_of_1024_pops }
     ensures polls { IsSchedule every_kind of_executors turn_of_1024_polls }
 {}
 
-/// Schedules that there aren't: a turn that ends behind a message, behind a task, or without a pop, where it may pop more; a pop more than
-/// a turn may make, or without a turn; a call that receives where no message is; a close that comes twice; a message past the bound.
+/// Impossible schedules: a turn that ends after a message, a task, or no pop, when it may pop more; a pop more than a turn may
+/// make, or without a turn; a call that receives when there is no message; a close that comes twice; a message past the bound.
 pub fn schedules_that_there_are_not()
     ensures stops { ¬ IsSchedule every_kind of_channels turn_that_stops }
     ensures no_pop { ¬ IsSchedule every_kind of_channels turn_without_a_pop }
@@ -198,8 +198,8 @@ pub fn schedules_that_there_are_not()
     ensures task { ¬ IsSchedule every_kind of_executors turn_that_stops_behind_a_task }
 {}
 
-/// Small steps that aren't the machine's, each at its own core's step: a ring that changes the cell beside; one that owes nothing, though the cell
-/// has a key and wasn't pinged; a key that goes and gives no permit to close its place; and a key that is given whose place counts as opened still.
+/// Wrong steps, each at its own core's step: a ring that changes the next cell, or owes nothing though the cell has a key and was
+/// not pinged; a key that goes and returns no close permit; and a key that is set whose place still counts as opened.
 pub fn steps_that_are_not_the_machines()
     ensures other_cell { ¬ (after ping_kind with_key_7 (At 0 Ring)
         ≡ with_step 1 (after_ring (with_key_7.cells 1)) (debt_of (with_key_7.cells 1)) with_key_7) }
@@ -212,8 +212,8 @@ pub fn steps_that_are_not_the_machines()
         with_place_9_opened)) }
 {}
 
-/// What the core of a ping, of a channel or of an executor gives by a step is what the machine's step gives: the cell after it, the debt, and the permit
-/// to close a place. And what a step of the board gives: its places after it, the wakeup of a post, the permit to sleep of a look, the passes that are taken.
+/// A step of a ping's, channel's or executor's core returns what the machine's step does: the cell after it, the debt, the close
+/// permit. And so does a step of the board: its places after it, a post's wakeup, a look's permit to sleep, the passes taken.
 pub fn steps_are_the_machines()
     ensures ring { (w : WakeWorld Cell) (n : ℕ) → after ping_kind w (At n Ring)
         ≡ with_step n (after_ring (w.cells n)) (debt_of (w.cells n)) w }

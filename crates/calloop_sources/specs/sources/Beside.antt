@@ -1,5 +1,5 @@
--- What holds of one source's steps beside another source's counters, and of steps one after the other. The proofs for a
--- source that is made of sources; they define nothing but what two sources hold together, and the impl cites them.
+-- What holds of one source's steps beside another source's counters, and of steps one after another. The proofs for a
+-- source made of sources; they define nothing but what two sources hold together, and the impl cites them.
 use Rattle.std.proofs.Common.{◌≡◌, ◌≢◌, ◌⊎◌, inl, inr, ℕ, ◌+◌, ◌<◌, ◌++◌, List, [], ◌∷◌, refl, sym, ◌∙◌}
 use Rattle.std.proofs.Common.{ap, true, false, nat_eq, if◌then◌else◌, arith}
 use Rattle.std.proofs.lemmas.Bool.Decides.{nat_tests}
@@ -240,7 +240,7 @@ within_twice Free y z h k = tt
 within_twice Spent y z h k = within_is y z Spent (λ e. cc) k h
 within_twice (Standing deadline) y z h k = within_is y z (Standing deadline) (λ e. cc) k h
 
--- what holds more can make the same steps
+-- a source that holds more can make the same steps
 keeps_more : {P : Type 0} (next : ℕ) (l : List (PollStep P)) (g f h : ℕ → Holding) → ((c : ℕ) → IsWithin (g c) (f c))
     → Keeps g next l h → Keeps f next l h
 keeps_more next [] g f h w k = λ c. within_twice (h c) (g c) (f c) (k c) (w c)
@@ -267,7 +267,7 @@ keeps_more next (ReadClock now after ∷ ss) g f h w k = keeps_more next ss g f 
 keeps_more next (Socket edit after ∷ ss) g f h w k = keeps_more next ss g f h w k
 keeps_more next (Fault call cause after ∷ ss) g f h w k = keeps_more next ss g f h w k
 
--- steps, and then others from where those led
+-- steps, and then others from the holding that those led to
 pub keeps_then : {P : Type 0} (next : ℕ) (l m : List (PollStep P)) (f g h : ℕ → Holding) → Keeps f next l g → Keeps g
     (next_after next l) m h → Keeps f next (l ++ m) h
 keeps_then next [] m f g h a b = keeps_more next m g f h a b
@@ -296,7 +296,7 @@ right_held (Standing deadline) k held = λ e. cc
 pub apart_sym : (h k : ℕ → Holding) → IsApart h k → IsApart k h
 apart_sym h k a c = elim (a c) [ inl e ↦ inr e | inr e ↦ inl e ]
 
--- what holds less after these steps is led to as well
+-- these steps also lead to any holding that is less
 pub keeps_less : {P : Type 0} (next : ℕ) (l : List (PollStep P)) (f g h : ℕ → Holding) → ((c : ℕ) → IsWithin (h c) (g c))
     → Keeps f next l g → Keeps f next l h
 keeps_less next [] f g h w k = λ c. within_twice (h c) (g c) (f c) (w c) (k c)

@@ -1,4 +1,4 @@
--- Which counters of timers a source holds. calloop's timers keep theirs in their registration, and nothing says there
+-- Which timer counters a source holds. calloop's timers keep theirs in their registration, and nothing there says
 -- that no other source uses it.
 use Rattle.std.specs.Prelude.{◌≡◌, ◌≢◌, ℕ, ◌+◌, ◌<◌, List, [], ◌∷◌, nat_eq, if◌then◌else◌}
 use Rattle.calloop_slots.specs.declared.wheel.Instant.{Instant}
@@ -21,7 +21,7 @@ with_hold counter h held c = if nat_eq c counter then h else held c
 abbrev pub IsBelow : (next : ℕ) → (ℕ → Holding) → Type 0
 IsBelow next held = (counter : ℕ) → held counter ≢ Free → counter < next
 
--- no more than this is held: a counter may be forgotten
+-- at most this is held: a counter may be forgotten
 abbrev pub IsWithin : Holding → Holding → Type 0
 IsWithin Free h = Unit {0}
 IsWithin Spent h = h ≡ Spent

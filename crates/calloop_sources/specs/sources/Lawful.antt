@@ -1,5 +1,5 @@
 -- Proofs that the dispatchers of the library meet the laws of `Meanings`. They define nothing; impls cite them, so
--- they stand here. A caller's own may cite `other_of_source`, `memory_of_source`, `keeping_still`, `keeping_attentive`.
+-- they are here. A caller's own may cite `other_of_source`, `memory_of_source`, `keeping_still`, `keeping_attentive`.
 use Rattle.std.specs.Prelude.{◌≡◌, ◌↔◌, ◌≤◌, ℕ, List, [], ◌∷◌, length, true, false, Result, Ok, Err}
 use Rattle.std.proofs.Common.{refl, sym, ap, subst, ◌∙◌, inl, inr, arith}
 use Rattle.anyhow.specs.declared.error.Error.{Error as Cause}
@@ -71,7 +71,7 @@ pub next_is_own : (f : TokenFactory) (r : RegistrationToken) (key : ℕ) → IsF
     → IsKeyOf r key
 next_is_own f r key is e = subst (λ x. IsKeyOf x key) is.0 (f.given, is.1, e)
 
--- Of what acts under keys of its registration alone, wherever it was before.
+-- Of what acts under keys of its registration alone, whatever keys it had before.
 
 abbrev pub StaysHome : {D P T : Type 0} → Meaning D P T → Type 0
 StaysHome {D} {P} {T} m =
@@ -196,7 +196,7 @@ keeping_with_callback m may reaches becomes k =
           };
     }
 
--- what many calls ask for is reached too
+-- the requests after many calls are reached too
 went_reaches : {F E M T X Q : Type 0} (may : Calling F E M T X Q) (reaches : Q → Q → Type 0)
     → ((q : Q) → reaches q q) → ((q r s : Q) → reaches q r → reaches r s → reaches q s)
     → (f g : F) (x y : X) (q r : Q) (cs : List (CallbackCall E M T)) → Went may reaches f x q cs g y r → reaches q r

@@ -1,5 +1,5 @@
--- What a source or a dispatcher means: a relation between what it is before a call, what the call read of `Poll`,
--- what was done, the steps that it made there, and what it is after it. calloop's `EventSource` and
+-- What a source or a dispatcher means: a relation between its state before a call, what the call read of `Poll`,
+-- what was done, the steps that it made there, and its state after the call. calloop's `EventSource` and
 -- `EventDispatcher`, seen from outside; calloop promises nothing of them.
 use Rattle.std.specs.Prelude.{◌≡◌, ◌↔◌, ◌≤◌, ℕ, List, [], length, Bool, true, false, Option, None, Some, Result, Ok, Err}
 use Rattle.calloop_slots.specs.declared.error.Error.{Error}
@@ -20,40 +20,40 @@ use Rattle.calloop_sources.specs.sources.Deeds.{Heard, Lent}
 use Rattle.calloop_sources.specs.sources.Holdings.{Holding, Keeps, IsBelow, holds_none}
 use Rattle.calloop_poll.specs.sys.Keys.{IsKeyOf, IsFactoryOf, AllActFor, no_key}
 
--- D is the source or dispatcher, P the poller, T what a turn takes and gives
+-- D is the source or dispatcher, P the poller, T what a turn takes and returns
 pub record Meaning (D P T : Type 0) : Type 1 where
-  -- the counters of timers that it holds
+  -- the timer counters that it holds
   pub holds : D → ℕ → Holding
   -- the keys that it is registered under
   pub keys : D → ℕ → Type 0
-  -- what has to be true of it besides, as that two timers within it hold different counters
+  -- other conditions on its state, e.g. that two timers within it hold different counters
   pub fits : D → Type 0
   -- whether it is told of waits: before each, and after each
   pub needs : D → Bool
   -- for how many events it may ask before one wait
   pub limit : D → ℕ
-  -- whose it is: the caller's, or the loop's own
+  -- its owner: the caller, or the loop itself
   pub role : D → Role
   pub does : D → PollView P → Deed T → List (PollStep P) → D → Type 0
 
--- it did this, by steps that can be made
+-- it did this, by steps that are possible
 abbrev pub Does : {D P T : Type 0} → Outside P → Meaning D P T → D → PollView P → Deed T → D → PollView P → Type 0
 Does {D} {P} {T} outside m s v deed t w =
     (steps : List (PollStep P)) × m.does s v deed steps t × AllStepped outside v steps w
 
--- a factory that has given no token
+-- a factory that has made no token
 abbrev pub fresh_factory : RegistrationToken → TokenFactory
 fresh_factory t = record { registration = t; given = 0 }
 
--- what the loop takes up of an adapter: its interest is registered anew, of which a refusal is kept by the adapter itself; or
--- it was dropped, and its registration is taken back, with this answer
+-- what the loop does for an adapter: its interest is registered anew, and the adapter itself keeps the error if that fails; or
+-- it was dropped, and its registration is taken back, with this result
 abbrev pub SettledAs : {D P T : Type 0} → Outside P → Meaning D P T → RegistrationToken
     → (left : Option (Result (Unit {0}) Error)) → D → PollView P → D → PollView P → Type 0
 SettledAs outside m token None s v t w =
     (f : TokenFactory) × Does outside m s v (Reregistered (fresh_factory token) (Ok tt) f) t w
 SettledAs outside m token (Some answer) s v t w = Does outside m s v (Unregistered answer) t w
 
--- all others do nothing
+-- for every other role the loop does nothing
 abbrev pub Settles : {D P T : Type 0} → Role → Outside P → Meaning D P T → RegistrationToken
     → (left : Option (Result (Unit {0}) Error)) → D → PollView P → D → PollView P → Type 0
 Settles Caller outside m token left s v t w = (left ≡ None) × (t ≡ s) × (w ≡ v)
@@ -72,8 +72,8 @@ KeepsCounters {D} {P} {T} m =
 abbrev pub IsAtHome : {D P T : Type 0} → Meaning D P T → RegistrationToken → D → Type 0
 IsAtHome m registration s = (key : ℕ) → m.keys s key → IsKeyOf registration key
 
--- where a deed begins: at home, with a factory of that registration where one is lent; a registration that succeeds may
--- begin anywhere
+-- the condition before a deed: at home, with a factory of that registration if one is lent; a registration that succeeds
+-- may begin anywhere
 abbrev pub BeginsIn : {T : Type 0} → (at_home : Type 0) → RegistrationToken → Deed T → Type 0
 BeginsIn at_home registration (Registered f (Ok u) g) = IsFactoryOf registration f
 BeginsIn at_home registration (Registered f (Err e) g) = at_home × IsFactoryOf registration f
@@ -83,16 +83,16 @@ BeginsIn at_home registration (Turned readiness token turn) = at_home
 BeginsIn at_home registration (Slept given answer) = at_home
 BeginsIn at_home registration (Noticed events) = at_home
 
--- each deed that begins in a registration leaves it at home there, and where it was at home it acts under keys of that
--- registration alone; one that comes from elsewhere may take what it had there back as it is registered
+-- each deed that begins in a registration leaves it at home there, and if it was at home it acts under keys of that
+-- registration alone; if it comes from another registration it may take back what it had there as it is registered
 abbrev pub KeepsHome : {D P T : Type 0} → Meaning D P T → Type 0
 KeepsHome {D} {P} {T} m =
     (registration : RegistrationToken) (s t : D) (v : PollView P) (deed : Deed T) (steps : List (PollStep P))
     → BeginsIn (IsAtHome m registration s) registration deed → m.does s v deed steps t
     → IsAtHome m registration t × (IsAtHome m registration s → AllActFor registration steps)
 
--- Its limit is its own for good, whatever it does; before a wait it asks for no more events than that; and what isn't told of
--- waits may ask for none. calloop's sources answer one at most.
+-- A source's event limit never changes; before a wait it asks for at most that many events; and one that isn't told of waits
+-- may ask for none. calloop's sources return at most one.
 pub record KeepsLimit {D P T : Type 0} (m : Meaning D P T) : Type 0 where
   pub same : (s t : D) (v : PollView P) (deed : Deed T) (steps : List (PollStep P))
       → m.does s v deed steps t → m.limit t ≡ m.limit s
@@ -100,19 +100,19 @@ pub record KeepsLimit {D P T : Type 0} (m : Meaning D P T) : Type 0 where
       (steps : List (PollStep P)) → m.does s v (Slept given answer) steps t → length given ≤ m.limit s
   pub untold : (s : D) → m.needs s ≡ false → m.limit s ≡ 0
 
--- what is promised of every source
+-- the laws that every source keeps
 pub record IsKeeping {D P T : Type 0} (m : Meaning D P T) : Type 0 where
   pub counters : KeepsCounters m
   pub home : KeepsHome m
   pub limit : KeepsLimit m
 
--- what a turn asks for is reached from what was asked before it
+-- the requests after a turn are reached from those before it
 abbrev pub IsAsking : {D P X Q : Type 0} → (Q → Q → Type 0) → Meaning D P (Lent X Q) → Type 0
 IsAsking {D} {P} {X} {Q} reaches m =
     (s t : D) (v : PollView P) (readiness : Readiness) (token : Token) (turn : Lent X Q) (steps : List (PollStep P))
     → m.does s v (Turned readiness token turn) steps t → reaches turn.asked_before turn.asked_after
 
--- a turn fails with no error but those of a source
+-- a turn fails only with a source's errors
 abbrev pub FailsAsSource : {D P X Q : Type 0} → Meaning D P (Lent X Q) → Type 0
 FailsAsSource {D} {P} {X} {Q} m =
     (s t : D) (v : PollView P) (readiness : Readiness) (token : Token) (turn : Lent X Q) (steps : List (PollStep P))
@@ -164,7 +164,7 @@ with_callback m may reaches becomes =
       does = dispatcher_means m may reaches becomes;
     }
 
--- what is true of the one that is there
+-- a property of the side that is there
 abbrev pub of_either {ℓ} : {A B : Type 0} {C : Type ℓ} → (A → C) → (B → C) → OneOf A B → C
 of_either f g (First a) = f a
 of_either f g (Other b) = g b
@@ -189,7 +189,7 @@ one_of m n =
       does = λ s v deed steps t. on_both (λ a b. m.does a v deed steps b) (λ a b. n.does a v deed steps b) s t;
     }
 
--- the meaning of what is seen as another value
+-- the meaning of a value that is seen as another value
 abbrev pub seen_as : {D A P T : Type 0} → (D → A) → Meaning A P T → Meaning D P T
 seen_as see m =
     record {
@@ -202,11 +202,11 @@ seen_as see m =
       does = λ s v deed steps t. m.does (see s) v deed steps (see t);
     }
 
--- the same thing, of this role
+-- the same meaning, with this role
 abbrev pub in_role : {D P T : Type 0} → Role → Meaning D P T → Meaning D P T
 in_role role m = record m { role = λ s. role }
 
--- what is asked for before a wait is no more than so much
+-- at most so many events are asked for before a wait
 abbrev pub IsWithin : {T : Type 0} → (limit : ℕ) → Deed T → Type 0
 IsWithin limit (Registered f answer g) = Unit {0}
 IsWithin limit (Reregistered f answer g) = Unit {0}
@@ -215,7 +215,7 @@ IsWithin limit (Turned readiness token turn) = Unit {0}
 IsWithin limit (Slept given answer) = length given ≤ limit
 IsWithin limit (Noticed events) = Unit {0}
 
--- what holds no counter and no key, does nothing to `Poll`, and isn't told of waits
+-- the meaning of one that holds no counter and no key, does nothing to `Poll`, and isn't told of waits
 abbrev pub still : {D P T : Type 0} → (D → PollView P → Deed T → D → Type 0) → Meaning D P T
 still does =
     record {
@@ -241,7 +241,7 @@ attentive_to limit does =
 abbrev pub attentive : {D P T : Type 0} → (D → PollView P → Deed T → D → Type 0) → Meaning D P T
 attentive does = attentive_to 1 does
 
--- what is held means what the part means: it goes just where the part goes, and is held again
+-- a held part keeps its meaning: the whole goes exactly as the part goes, and then holds the part again
 pub record IsHeld {A D P T : Type 0} (held : A → D) (m : Meaning A P T) (n : Meaning D P T) : Type 0 where
   pub holds : (s : A) → n.holds (held s) ≡ m.holds s
   pub keys : (s : A) (key : ℕ) → n.keys (held s) key ↔ m.keys s key

@@ -1,5 +1,5 @@
--- Callbacks and dispatchers that ask the loop for nothing. calloop's closures may hold a handle of their loop, so nothing of this can
--- be said there.
+-- Callbacks and dispatchers that ask the loop for nothing. calloop's closures may hold a handle of their loop, so nothing of
+-- this can be said there.
 use Rattle.std.specs.Prelude.{◌≡◌, List, [], ◌∷◌}
 use Rattle.std.proofs.Common.{◌∙◌}
 use Rattle.calloop_slots.specs.declared.error.Error.{Error}
@@ -11,18 +11,18 @@ use Rattle.calloop_sources.specs.sources.Calls.{Calling, CallbackCall, Went}
 use Rattle.calloop_sources.specs.sources.Deeds.{Turned, Lent, Heard}
 use Rattle.calloop_sources.specs.sources.Meanings.{Meaning, with_callback, one_of, seen_as}
 
--- a call leaves the requests as they are
+-- a call leaves the requests unchanged
 abbrev pub IsQuietCall : {F E M T X Q : Type 0} → Calling F E M T X Q → Type 0
 IsQuietCall {F} {E} {M} {T} {X} {Q} may =
     (f g : F) (e : E) (m n : M) (x y : X) (q r : Q) (t : T) → may f e m x q t g n y r → r ≡ q
 
--- a turn leaves them so
+-- a turn leaves the requests unchanged
 abbrev pub IsQuiet : {D P X Q : Type 0} → Meaning D P (Lent X Q) → Type 0
 IsQuiet {D} {P} {X} {Q} m =
     (s t : D) (v : PollView P) (readiness : Readiness) (token : Token) (turn : Lent X Q) (steps : List (PollStep P))
     → m.does s v (Turned readiness token turn) steps t → turn.asked_after ≡ turn.asked_before
 
--- so does what runs at the end of a dispatch
+-- so does an idle callback, which runs at the end of a dispatch
 abbrev pub IsQuietRun : {I X Q : Type 0} → (I → X → Q → X → Q → Type 0) → Type 0
 IsQuietRun {I} {X} {Q} runs = (i : I) (x y : X) (q r : Q) → runs i x q y r → r ≡ q
 

@@ -1,7 +1,7 @@
-//! Callbacks, and where they put their requests.
-/// Where a callback puts its requests to the loop. It can add requests, and never take one back (`reaches`).
+//! Callbacks, and the requests that they make.
+/// A callback's requests to the loop. A callback can add requests, and never take one back (`reaches`).
 pub trait Asking {
-    /// What the requests can become by further ones.
+    /// What the requests can become when further ones are added.
     ghost reaches: { Self → Self → Type 0 };
 
     ghost stays: { (q : Self) → reaches q q };
@@ -19,10 +19,10 @@ impl Asking for () {
 }
 
 /// Called with the events of a source, as calloop's closures are: a value of a named type, whose clauses say what a call
-/// may do. `E` is the event, `M` the metadata, `T` what the source is told, `X` the data that a dispatch lends, and `Q`
-/// takes the requests. One that asks the loop for nothing is simpler as an `On`.
+/// may do. `E` is the event, `M` the metadata, `T` the result for the source, `X` the data that a dispatch lends, and `Q`
+/// takes the requests. A callback that asks the loop for nothing is simpler as an `On`.
 pub trait Callback<E, M, T, X, Q: Asking> {
-    /// The callback, the event, the metadata, the data and the requests before a call, its answer, and all but the event
+    /// The callback, the event, the metadata, the data and the requests before a call, its result, and all but the event
     /// after it. A callback without a relation of its own may do anything.
     ghost may: { Self → E → M → X → Q → T → Self → M → X → Q → Type 0 } = { λ _ _ _ _ _ _ _ _ _ _. Unit {0} };
 

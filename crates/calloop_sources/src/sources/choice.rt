@@ -11,7 +11,7 @@ use calloop_slots::token::{RegistrationToken, Token, TokenFactory};
 use std::marker::PhantomData;
 use std::sync::Wait;
 
-/// One of two kinds of source: a source with its callback, or another such choice. So a loop over three kinds is one over
+/// One of two kinds of source: a source with its callback, or another such choice. So a loop over three kinds is a loop over
 /// `OneOf<A, OneOf<B, C>>`.
 #[derive(Drop)]
 pub enum OneOf<A, B> {
@@ -140,7 +140,7 @@ pub struct There<N> {
     of: PhantomData<N>,
 }
 
-/// A choice that can hold a source `S` with a callback `F`, in the place `N`. The compiler infers `N` where the two types have one place.
+/// A choice that can hold a source `S` with a callback `F`, at position `N` (inferred if the two types have one position).
 pub trait Choice<S, F, N>: Sized {
     ghost use Rattle.std.specs.Prelude.{◌≡◌};
     ghost use Rattle.calloop_sources.specs.declared.sources.dispatch.Dispatcher.{Dispatcher};
@@ -192,7 +192,7 @@ where
     }
 }
 
-/// It has a place for a source `S` with a callback `F`, and what is held there means just what the source with its callback
+/// A choice that can hold a source `S` with a callback `F` so that it means exactly what the source with its callback
 /// means.
 pub trait Hold<S, F, P: Poller, C, R: Wait + Drop, X, Q, N>: Dispatch<P, C, R, X, Q>
     + Choice<S, F, N>
@@ -249,8 +249,8 @@ where
         (held_other A.means ⟦<B as Dispatch<P, C, R, X, Q>>⟧.means) };
 }
 
-/// A choice that can hold a `T`, which is no source with a callback, in the place `N`: an adapter is such a thing. The compiler infers `N`
-/// where the two types have one place.
+/// A choice that can hold a `T` that isn't a source with a callback, e.g. an adapter, at position `N`. The compiler infers `N`
+/// if the two types have one position.
 pub trait Place<T, N>: Sized {
     ghost use Rattle.std.specs.Prelude.{◌≡◌};
 
@@ -289,7 +289,7 @@ where
     }
 }
 
-/// It has a place for a `T`, and what is placed there means just what that means.
+/// A choice that can hold a `T` so that it means exactly what the `T` means.
 pub trait Keep<T, P: Poller, C, R: Wait + Drop, X, Q, N>: Dispatch<P, C, R, X, Q> + Place<T, N>
 where
     Q: Asking,

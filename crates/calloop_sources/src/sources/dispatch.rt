@@ -1,4 +1,4 @@
-//! What a loop calls: a source with its callback, or what is the loop's own.
+//! What a loop calls: a source with its callback, or an entry of the loop's own.
 ghost use Rattle.std.specs.Prelude.{◌≡◌};
 
 use super::callback::{Asking, Callback};
@@ -11,10 +11,10 @@ use calloop_slots::error::{Error, Failed, Result as LoopResult, store_error};
 use calloop_slots::token::{RegistrationToken, Token, TokenFactory};
 use std::sync::Wait;
 
-/// Whose a thing in a slot is: the caller's, or the loop's own. The calls of a handle name the caller's alone.
+/// Who owns a slot's entry: the caller, or the loop itself. The calls of a handle reach the caller's alone.
 #[derive(Clone, Copy, Debug, PartialEq, Eq)]
 pub enum Role {
-    /// A source of the caller's, with its callback.
+    /// A source of the caller, with its callback.
     Caller,
     /// The socket behind an `Async`.
     Adapter,
@@ -35,7 +35,7 @@ impl<S, F> Dispatcher<S, F> {
     ghost use Rattle.calloop_sources.specs.Lending.{with_source};
     ghost use Rattle.calloop_sources.specs.contracts.sources.dispatch.Dispatcher.{the_row};
 
-    /// A source with the callback for its events.
+    /// Makes a dispatcher of a source and the callback for its events.
     pub fn new(source: S, callback: F) -> Dispatcher<S, F>
         ensures { result ≡ record { source = source; callback = callback } }
     {
@@ -58,7 +58,7 @@ impl<S, F> Dispatcher<S, F> {
         &mut self.source
     }
 
-    /// The source; its callback is dropped.
+    /// Returns the source, and drops its callback.
     pub fn into_source_inner(self) -> S
     where
         F: Drop,
@@ -73,7 +73,7 @@ impl<S, F> Dispatcher<S, F> {
 }
 
 /// What a loop calls: a source with its callback, or a choice of such. `X` is the data that a dispatch lends, and `Q` takes
-/// the requests of callbacks. The error of a call that answers `Failed` stands in `failure`.
+/// the requests of callbacks. If a call returns `Failed`, its error is in `failure`.
 pub trait Dispatch<P: Poller, C, R: Wait + Drop, X, Q: Asking> {
     ghost use Rattle.std.specs.Prelude.{◌≡◌, ℕ, []};
     ghost use Rattle.calloop_poll.specs.sys.Polls.{PollView, IsReady, poll_view};
@@ -107,7 +107,7 @@ pub trait Dispatch<P: Poller, C, R: Wait + Drop, X, Q: Asking> {
             (Reregistered factory.old (with_error result failure.new) factory.new)
             self.new (poll_view poll.new) };
 
-    /// Takes its registration back.
+    /// Takes the source's registration back.
     fn unregister(&mut self, poll: &mut Poll<P, C, R>, failure: &mut Error) -> Result<(), Failed>
         ensures { Does P.outside means self.old (poll_view poll.old)
             (Unregistered (with_error result failure.new)) self.new (poll_view poll.new) };
@@ -127,20 +127,20 @@ pub trait Dispatch<P: Poller, C, R: Wait + Drop, X, Q: Asking> {
             (lend «data».old requests.old (with_error result failure.new) «data».new requests.new))
             self.new (poll_view poll.new) };
 
-    /// Whether the source is told of waits.
+    /// True if the source is told of waits.
     fn needs_extra_lifecycle_events(&self) -> bool
         ensures { result ≡ means.needs self.now };
 
-    /// For how many events the source may ask before one wait.
+    /// The most events that the source may ask for before one wait.
     fn synthetic_limit(&self) -> u16
         ensures { result ≡ means.limit self.now };
 
-    /// Whose it is.
+    /// Who owns it.
     fn role(&self) -> Role
         ensures { result ≡ means.role self.now };
 
-    /// The loop takes up what was asked of an adapter since, which is registered under this token. Where it was dropped, the answer
-    /// is that of its unregistration, and else `None`. All others do nothing. The room that was reserved for a wait stays.
+    /// Does what was asked of an adapter since, which is registered under this token. If it was dropped, returns the result of
+    /// its unregistration, and else `None`. Does nothing for all others. The room that was reserved for a wait stays.
     fn settle(
         &mut self,
         token: RegistrationToken,
@@ -150,25 +150,25 @@ pub trait Dispatch<P: Poller, C, R: Wait + Drop, X, Q: Asking> {
             self.old (poll_view poll.old) self.new (poll_view poll.new) }
         ensures ready { (more : ℕ) → IsReady more poll.old → IsReady more poll.new };
 
-    /// The source is told of the wait that comes, and may ask for events.
+    /// Tells the source of the coming wait; the source may ask for events.
     fn before_sleep(&mut self, out: &mut Synthetic) -> LoopResult<()>
         ensures lend { out.new ≡ record out.old { given = out.new.given } }
         ensures slept { (v : PollView P) → IsLent (means.limit self.old) out.old
             → means.does self.old v (Slept out.new.given result) [] self.new };
 
-    /// The source is told of the events that a wait brought for its registration.
+    /// Tells the source of the events that a wait brought for its registration.
     fn before_handle_events(&mut self, events: EventIterator<'_>)
         ensures { (v : PollView P)
             → means.does self.old v (Noticed (events_left events.entry)) [] self.new };
 
-    /// Three laws. It touches no timer's counter of another source, and calls at most once for each arming of its own. It uses
-    /// only keys of its own registration, from a registration that succeeded on. And it asks for no more events than its limit, which stays.
+    /// Three laws. It touches no timer counter of another source, and calls at most once for each arming of its own. It uses only
+    /// keys of its own registration, from a registration that succeeded on. It asks for at most its limit of events, which stays.
     ghost keeps: { IsKeeping means };
 
-    /// What a turn asks for is reached from what was asked for before it.
+    /// The requests after a turn are reached from those before it.
     ghost asks: { IsAsking Q.reaches means };
 
-    /// A turn fails with `OtherError` or `OutOfMemory` alone.
+    /// A turn fails only with `OtherError` or `OutOfMemory`.
     ghost fails: { FailsAsSource means };
 }
 

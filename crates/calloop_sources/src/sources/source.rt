@@ -19,7 +19,7 @@ use std::sync::Wait;
 pub enum PostAction {
     /// It stays as it is.
     Continue,
-    /// It is registered anew, with a factory that has given no token.
+    /// It is registered anew, with a factory that has made no token.
     Reregister,
     /// Its registration is taken back, and it stays in the loop.
     Disable,
@@ -35,7 +35,7 @@ impl BitOr for PostAction {
 
     ghost bitor_gives = { λ left right both. both ≡ either left right };
 
-    /// What becomes of a source that is made of two: what both ask for, else it is registered anew.
+    /// The action for a source made of two: the action that both ask for, else `Reregister`.
     fn bitor(self, other: PostAction) -> PostAction {
         if self == other {
             self
@@ -56,7 +56,7 @@ impl BitOrAssign for PostAction {
     }
 }
 
-/// In whatever order post actions are joined by `|`, and however often, the same comes of it; with `Reregister` it is that.
+/// Joining post actions by `|` gives the same in any order, and however often; joining with `Reregister` gives that.
 pub fn joining_has_no_order()
     ensures order { (a b : PostAction) → either a b ≡ either b a }
     ensures grouping { (a b c : PostAction) → either (either a b) c ≡ either a (either b c) }
@@ -72,15 +72,15 @@ pub trait IntoError: Drop {
     /// Which error a cause becomes.
     ghost becomes: { Self → Error → Type 0 };
 
-    /// `OtherError` or `OutOfMemory`: each other error is the loop's own.
+    /// Only `OtherError` or `OutOfMemory`: all other errors are the loop's own.
     ghost of_source: { (cause : Self) (e : Error) → becomes cause e → IsOfSource e };
 
     fn into_error(self) -> Error
         ensures { becomes self result };
 }
 
-/// A source of events. `means` says what each call may do: the source before it, `Poll`, the call with its answer, the steps that it
-/// makes on `Poll`, and the source after it.
+/// A source of events. `means` says what each call may do: the source before it, `Poll`, the call with its result, the steps that
+/// it makes on `Poll`, and the source after it.
 pub trait EventSource<P: Poller, C, R: Wait + Drop> {
     ghost use Rattle.std.specs.Prelude.{◌≡◌, List, []};
     ghost use Rattle.calloop_poll.specs.sys.Polls.{PollView, poll_view};
@@ -90,16 +90,16 @@ pub trait EventSource<P: Poller, C, R: Wait + Drop> {
     ghost use Rattle.calloop_sources.specs.sources.Deeds.{Registered, Reregistered, Unregistered, Turned, Slept, Noticed, Heard, new_heard};
     ghost use Rattle.calloop_sources.specs.sources.Meanings.{Meaning, Does, IsKeeping};
 
-    /// What its callback is called with.
+    /// The argument of its callback.
     type Event;
 
-    /// What is lent to its callback beside the event.
+    /// The value lent to its callback beside the event.
     type Metadata;
 
-    /// What its callback answers.
+    /// The result of its callback.
     type Ret;
 
-    /// Why a turn of it can fail.
+    /// The error of its turns.
     type Error: IntoError;
 
     ghost means: { Meaning Self P (Heard Self.Event Self.Metadata Self.Ret Self.Error) };
@@ -138,28 +138,28 @@ pub trait EventSource<P: Poller, C, R: Wait + Drop> {
         ensures { Does P.outside means self.old (poll_view poll.old) (Unregistered result)
             self.new (poll_view poll.new) };
 
-    /// Whether it is told of waits: by `before_sleep` before each, and by `before_handle_events` after each. calloop has a
+    /// True if it is told of waits: by `before_sleep` before each, and by `before_handle_events` after each. calloop has a
     /// constant of this name.
     fn needs_extra_lifecycle_events() -> bool
         ensures { (source : Self) → means.needs source ≡ result };
 
-    /// For how many events it may ask before one wait; 0 where it isn't told of waits.
+    /// The most events that it may ask for before one wait; 0 if it isn't told of waits.
     fn max_synthetic() -> u16
         ensures { (source : Self) → means.limit source ≡ result };
 
-    /// Called before each wait. The events that it asks for join the batch in their order, and then the wait asks for no time. Its
+    /// Called before each wait. The events that it asks for join the batch in their order, and then the wait takes no time. Its
     /// error ends the dispatch; then none of this call's events joins, and what joined the batch before stays in it.
     fn before_sleep(&mut self, out: &mut Synthetic) -> LoopResult<()>
         ensures lent { out.new ≡ record out.old { given = out.new.given } }
         ensures slept { (v : PollView P) → IsLent (means.limit self.old) out.old
             → means.does self.old v (Slept out.new.given result) [] self.new };
 
-    /// Called after each wait, before any turn, with the events that it brought for this source's registration.
+    /// Called after each wait, before any turn, with the events that the wait brought for this source's registration.
     fn before_handle_events(&mut self, events: EventIterator<'_>)
         ensures { (v : PollView P)
             → means.does self.old v (Noticed (events_left events.entry)) [] self.new };
 
-    /// Three laws. It touches no timer's counter of another source, and calls at most once for each arming of its own. It uses
-    /// only keys of its own registration, from a registration that succeeded on. And it asks for no more events than its limit, which stays.
+    /// Three laws. It touches no timer counter of another source, and calls at most once for each arming of its own. It uses only
+    /// keys of its own registration, from a registration that succeeded on. It asks for at most its limit of events, which stays.
     ghost keeps: { IsKeeping means };
 }

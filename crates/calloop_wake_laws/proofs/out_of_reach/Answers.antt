@@ -18,7 +18,7 @@ not_true e = cc
 none_less : 0 < 0 → ⊥
 none_less h = omega arith
 
--- a world of pings alone in which no turn stands open, and nobody owes anything
+-- a world of pings alone in which no turn is open, and nobody owes anything
 record IsStuck (w : WakeWorld every_kind.Cell) : Type 0 where
   pub cell : Cell
   pub cells : (m : ℕ) → w.cells m ≡ First cell
@@ -79,7 +79,7 @@ returns-clause-other_key c = λ d.
     let none = nothing_owed with_another_key other_is d.owed d.are_owed d.met in
     not_true (subst (λ ss. every_kind.opens 7 ((after_all every_kind with_another_key ss).cells 0) ≡ true) none d.opens)
 
--- a turn of this channel stands open, and behind so many pops it still has messages, and may make more pops
+-- a turn of this channel is open, and after so many pops it still has messages, and may make further pops
 record IsOpenFor (n : ℕ) (p : ChannelPast) : Type 0 where
   pub draining : p.now.cell.draining ≡ true
   pub more : p.turn.done ≡ false
